@@ -1,0 +1,22 @@
+//! Where bytes come from and go to: the traits `Source` and `Sink`, ends in memory that fail where they are told to,
+//! and ends over a reader or a writer of the standard library.
+#![tactic(auto)]
+
+mod count;
+mod limited;
+mod memory_sink;
+mod memory_source;
+mod sink;
+mod source;
+mod std_sink;
+mod std_source;
+#[cfg(test)]
+mod tests;
+
+pub use limited::{ReadRefusal, read_limited};
+pub use memory_sink::MemorySink;
+pub use memory_source::MemorySource;
+pub use sink::Sink;
+pub use source::{Failed, Source};
+pub use std_sink::StdSink;
+pub use std_source::StdSource;

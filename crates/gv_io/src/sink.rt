@@ -1,0 +1,27 @@
+ghost use Rattle.std.specs.Prelude.{◌≡◌, ℕ, ◌≤◌, List, Option, OnOk, OnErr};
+ghost use Rattle.gv_io.specs.Streams.{appended, AppendsPrefix};
+ghost use Rattle.gv_io.specs.Faults.{HasRisen};
+
+use crate::source::Failed;
+
+/// Where bytes go.
+pub trait Sink {
+    // The bytes that were written, where they are told.
+    ghost written: { Self → Option (List ℕ) };
+
+    // How many calls have failed. It stands still at the last value of 64 bits.
+    ghost faults: { Self → ℕ };
+
+    /// Appends all the bytes. Where it fails, it appends a prefix of them.
+    fn write_all(&mut self, bytes: &[u8]) -> Result<(), Failed>
+        ensures ok { OnOk result (written self.new ≡ appended (written self.old) bytes.now) }
+        ensures err { OnErr result (AppendsPrefix (written self.old) (written self.new) bytes.now) }
+        ensures never_falls { faults self.old ≤ faults self.new }
+        ensures failed { OnErr result (HasRisen (faults self.old) (faults self.new)) };
+
+    /// Hands on what is kept back. Nothing is appended.
+    fn flush(&mut self) -> Result<(), Failed>
+        ensures same { written self.new ≡ written self.old }
+        ensures never_falls { faults self.old ≤ faults self.new }
+        ensures failed { OnErr result (HasRisen (faults self.old) (faults self.new)) };
+}

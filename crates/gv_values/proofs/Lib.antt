@@ -1,0 +1,4 @@
+mod NameFits
+mod Equality
+pub mod Fronts
+pub mod Decimals

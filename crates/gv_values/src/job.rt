@@ -1,0 +1,40 @@
+use crate::fault::FaultKind;
+
+/// What a native thread computes of its integer.
+#[derive(Clone, Copy, Debug, PartialEq, Eq)]
+pub enum Job {
+    /// The sum of 1 to n.
+    Sum(i64),
+    /// The steps of the Collatz sequence from n to 1.
+    Collatz(i64),
+    /// The fault `Error` with this number.
+    Fail(i64),
+    /// The integer itself.
+    Echo(i64),
+}
+
+/// How a job ended.
+#[derive(Clone, Copy, Debug, PartialEq, Eq)]
+pub enum JobOutcome {
+    Int(i64),
+    Fault(FaultKind),
+}
+
+/// What the world answers to a question of the hub, and its moment then, in milliseconds.
+#[derive(Clone, Copy, Debug, PartialEq, Eq)]
+pub enum Answer {
+    /// The job of this number has ended.
+    Done {
+        number: u32,
+        outcome: JobOutcome,
+        at: u64,
+    },
+    /// The moment that was waited for has come.
+    Elapsed {
+        at: u64,
+    },
+    /// No job has ended.
+    Nothing {
+        at: u64,
+    },
+}

@@ -1,0 +1,23 @@
+//! Values and faults of greenlets, names, jobs, and their arithmetic and texts.
+#![tactic(auto)]
+
+mod arith;
+pub mod arithmetic;
+mod fault;
+mod job;
+mod list;
+mod name;
+mod scalar;
+#[cfg(test)]
+mod tests;
+mod texts;
+mod value;
+
+pub use arith::Arith;
+pub use fault::{Class, FaultKind};
+pub use job::{Answer, Job, JobOutcome};
+pub use list::{LIST_LIMIT, List, PushRefusal};
+pub use name::Name;
+pub use scalar::Scalar;
+pub use texts::{decimal_text, fault_text, int_text, outcome_text, value_text, whom_text};
+pub use value::{Outcome, Value, Whom};
