@@ -1,0 +1,18 @@
+mod Atoms
+mod BareLaws
+mod Begun
+mod BlockLaws
+pub mod Complete
+mod ExpressionLaws
+mod InWords
+mod Lines
+mod Parts
+mod PhraseLaws
+pub mod Placed
+pub mod Printing
+pub mod Refused
+mod RefusedRows
+pub mod Sound
+mod SpeltRows
+mod Words
+mod WordsBack

@@ -1,0 +1,111 @@
+-- Tokens: what the words of a line are, and how the parts of a tree are written.
+use Rattle.std.specs.Prelude.{ℕ, ◌^◌, ℤ, pos, negsuc, Bool, true, false, ◌&&◌, ◌||◌, not, nat_le, nat_lt, ◌==◌, if◌then◌else◌, List, [], ◌∷◌, ◌++◌, Option, Some, None}
+use Rattle.std.specs.List.{list_all}
+use Rattle.std.specs.Option.{is_none}
+use Rattle.std.specs.Fmt.{signed_decimal}
+use Rattle.std.specs.Str.Parse.{signed_digits_value}
+use Rattle.gv_values.specs.Names.{is_name, is_digit}
+use Rattle.gv_values.specs.declared.name.Name.{Name}
+use Rattle.scenario_grammar.specs.declared.keyword.Keyword.{Keyword}
+use Rattle.scenario_grammar.specs.declared.token.Token.{Token}
+use Rattle.scenario_grammar.specs.declared.token.Token.TheVariants as token
+use Rattle.scenario_grammar.specs.Keywords.{spelling, keyword_of}
+use Rattle.scenario_grammar.specs.Layout.{Word}
+
+-- how a token is written; only those of the first three kinds are
+abbrev pub token_word : Token → Word
+token_word (token.Fixed k) = spelling k
+token_word (token.Name n) = n
+token_word (token.Number z) = signed_decimal z
+token_word token.Oversized = []
+token_word token.Misspelled = []
+token_word token.Unknown = []
+
+-- a name that is no fixed word
+abbrev pub is_free : Word → Bool
+is_free w = is_name w && is_none (keyword_of w)
+
+-- from -(2 ^ 63) to 2 ^ 63 - 1
+abbrev pub in_64_bits : ℤ → Bool
+in_64_bits (pos n) = nat_lt n (2 ^ 63)
+in_64_bits (negsuc n) = nat_lt n (2 ^ 63)
+
+-- What a part of a tree is written as: a list, or none where it has no text.
+abbrev pub Written : Type 0 → Type 0
+Written A = Option (List A)
+
+infixl 10 ◌⊕◌
+abbrev pub ◌⊕◌ : {A : Type 0} → Written A → Written A → Written A
+(Some x) ⊕ (Some y) = Some (x ++ y)
+(Some x) ⊕ None = None
+None ⊕ y = None
+
+-- one after another
+abbrev pub each : {A B : Type 0} → (A → Written B) → List A → Written B
+each f [] = Some []
+each f (x ∷ xs) = f x ⊕ each f xs
+
+-- nothing, where a part may be left out
+abbrev pub perhaps : {A B : Type 0} → (A → Written B) → Option A → Written B
+perhaps f None = Some []
+perhaps f (Some x) = f x
+
+-- no text where the test fails
+abbrev pub only_if : {A : Type 0} → Bool → Written A → Written A
+only_if true w = w
+only_if false w = None
+
+-- a fixed word alone
+abbrev pub fixed : Keyword → Written Token
+fixed k = Some (token.Fixed k ∷ [])
+
+-- a fixed word, and what stands behind it
+infixr 5 ◌▹◌
+abbrev pub ◌▹◌ : Keyword → Written Token → Written Token
+k ▹ None = None
+k ▹ (Some ts) = Some (token.Fixed k ∷ ts)
+
+-- a NAME
+unfoldable pub name : Name → Written Token
+name n = only_if (is_free n) (Some (token.Name n ∷ []))
+
+-- an integer of 64 bits
+abbrev pub integer : ℤ → Written Token
+integer z = only_if (in_64_bits z) (Some (token.Number z ∷ []))
+
+-- from least to greatest
+abbrev pub number : ℕ → ℕ → ℕ → Written Token
+number least greatest n = only_if (nat_le least n && nat_le n greatest) (Some (token.Number (pos n) ∷ []))
+
+-- `0`, or digits that begin with another
+abbrev pub is_plain_number : Word → Bool
+is_plain_number [] = false
+is_plain_number (b ∷ []) = is_digit b
+is_plain_number (b ∷ c ∷ bs) = nat_le 49 b && nat_le b 57 && list_all is_digit (c ∷ bs)
+
+abbrev pub begins_with_zero : Word → Bool
+begins_with_zero [] = false
+begins_with_zero (b ∷ bs) = b == 48
+
+-- `-` and a number that is not 0, or a number
+abbrev pub is_integer : Word → Bool
+is_integer [] = false
+is_integer (b ∷ bs) = if b == 45 then is_plain_number bs && not (begins_with_zero bs) else is_plain_number (b ∷ bs)
+
+-- as a number begins: a digit, or `-` and more
+abbrev pub begins_number : Word → Bool
+begins_number [] = false
+begins_number (b ∷ []) = is_digit b
+begins_number (b ∷ c ∷ bs) = is_digit b || b == 45
+
+-- an integer in its one spelling, or none
+abbrev pub number_token : Word → Token
+number_token w = if is_integer w then (if in_64_bits (signed_digits_value 10 w) then token.Number (signed_digits_value 10 w) else token.Oversized) else token.Misspelled
+
+-- what a word is that is no fixed word
+abbrev pub loose_token : Word → Token
+loose_token w = if is_name w then token.Name w else (if begins_number w then number_token w else token.Unknown)
+
+-- what a word is by itself
+unfoldable pub token_of : Word → Token
+token_of w = elim (keyword_of w) [ Some k ↦ token.Fixed k | None ↦ loose_token w ]

@@ -1,0 +1,41 @@
+//! Laws of the definitions: each function only says that its clauses hold.
+ghost use Rattle.std.specs.Prelude.{◌≡◌, ◌↔◌, ◌≤◌, ℕ, List, length, IsTrue, Some, None, Ok, Err};
+ghost use Rattle.scenario_tree.specs.declared.tree.Scenario.{Scenario};
+ghost use Rattle.scenario_grammar.specs.declared.place.Place.{Place};
+ghost use Rattle.scenario_grammar.specs.Bare.{bare};
+ghost use Rattle.scenario_grammar.specs.Layout.{most_bytes};
+ghost use Rattle.scenario_grammar.specs.Parsed.{reading};
+ghost use Rattle.scenario_grammar.specs.Places.{place};
+ghost use Rattle.scenario_grammar.specs.Printed.{printed};
+ghost use Rattle.scenario_grammar.specs.Refusals.{is_text_reason};
+ghost use Rattle.scenario_grammar.specs.Spells.{Spells};
+
+/// A text that a tree spells is read as that tree.
+pub fn spelt_texts_are_read()
+    ensures { (s : Scenario) (bytes : List ℕ) → Spells s bytes → reading bytes ≡ Ok s }
+{}
+
+/// What a text is read as spells it.
+pub fn read_texts_are_spelt()
+    ensures { (s : Scenario) (bytes : List ℕ) → reading bytes ≡ Ok s → Spells s bytes }
+{}
+
+/// A text is that of one tree at most.
+pub fn texts_have_one_tree()
+    ensures { (s t : Scenario) (bytes : List ℕ) → Spells s bytes → Spells t bytes → s ≡ t }
+{}
+
+/// A text is refused at its place, for a reason of a text, and has none exactly where some tree
+/// spells it.
+pub fn texts_without_a_place_are_spelt()
+    ensures refused { (bytes : List ℕ) (p : Place) → reading bytes ≡ Err p → place bytes ≡ Some p }
+    ensures reason { (bytes : List ℕ) (p : Place) → reading bytes ≡ Err p → IsTrue (is_text_reason p.reason) }
+    ensures spelt { (bytes : List ℕ) → (place bytes ≡ None) ↔ ((s : Scenario) × Spells s bytes) }
+{}
+
+/// The printed form of a tree that has a text, where it is no longer than a text may be, is a text
+/// of the tree but for the numbers of its lines.
+pub fn printed_forms_are_spelt()
+    ensures { (s : Scenario) (bytes : List ℕ) → Spells s bytes → length (printed s) ≤ most_bytes
+        → (t : Scenario) × Spells t (printed s) × (bare s ≡ bare t) }
+{}

@@ -1,0 +1,6 @@
+mod Carried
+mod Fronts
+mod Last
+mod Laws
+mod Marked
+mod Scan

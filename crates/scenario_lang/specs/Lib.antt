@@ -1,0 +1,4 @@
+pub mod Builders
+pub mod Lines
+pub mod ReasonTexts
+pub mod Roles

@@ -1,0 +1,234 @@
+//! Reading a text.
+ghost use Rattle.std.specs.Prelude.{◌≡◌, ◌+◌, ◌-◌, ◌≤◌, ◌<◌, ◌^◌, None, OnOk, count_by, length, max};
+ghost use Rattle.scenario_grammar.specs.Layout.{is_end, most_bytes};
+ghost use Rattle.scenario_grammar.specs.Parsed.{nothing_yet, read_words, reading};
+ghost use Rattle.scenario_grammar.specs.Places.{line_at};
+ghost use Rattle.scenario_lang.specs.Builders.{building};
+ghost use Rattle.scenario_lang.specs.Lines.{IsRefused, IsSpelt, Parses, Takes, after_line, carries, ended_at, line_text, outcome, placed, state_of};
+
+use crate::builder::Builder;
+use crate::role::line_role;
+use scenario_grammar::{Place, Token, read_texts_are_spelt, texts_without_a_place_are_spelt};
+use scenario_tree::Scenario;
+use scenario_words::{
+    BLANK_OUT_OF_PLACE, Front, LineRefusal, cut_at, first_line, line_tokens, read_phrase,
+    skip_blanks,
+};
+use std::alloc::{AllocError, Global};
+
+/// How many bytes a text has at most.
+pub const MOST_BYTES: usize = 1_048_576;
+
+const TOO_LARGE: u8 = 1;
+
+const NOT_PRINTABLE: u8 = 2;
+
+const NOT_ENDED: u8 = 3;
+
+/// Why a text gives no scenario.
+#[derive(Clone, Copy, Debug, PartialEq, Eq)]
+pub enum ParseRefusal {
+    /// No scenario has this text; the first place that shows it.
+    Refused(Place),
+    /// Memory ran out.
+    Memory,
+}
+
+impl From<AllocError> for ParseRefusal {
+    ghost use Rattle.std.specs.Prelude.{◌≡◌};
+    ghost use Rattle.scenario_lang.specs.declared.text.ParseRefusal.TheVariants.{Memory};
+
+    ghost from_gives = { λ _ e. e ≡ Memory };
+
+    fn from(_: AllocError) -> ParseRefusal {
+        ParseRefusal::Memory
+    }
+}
+
+/// The tokens of a line, and what they make of the tree.
+fn take_words(
+    alloc: Global,
+    builder: &mut Builder,
+    line: u32,
+    tokens: &[Token],
+) -> Result<(), LineRefusal>
+    ensures { Takes (read_words (building builder.old) line tokens.now) result builder.new }
+{
+    if let Some(reason) = builder.misplaced(line_role(tokens)) {
+        return Err(LineRefusal::Reason(reason));
+    }
+    let phrase = read_phrase(alloc, tokens)?;
+    builder.step(alloc, line, phrase.into_inner())?;
+    Ok(())
+}
+
+/// A line of this number with this text.
+fn take_line(
+    alloc: Global,
+    builder: &mut Builder,
+    line: u32,
+    text: &[u8],
+) -> Result<(), LineRefusal>
+    ensures { Takes (line_text (building builder.old) line text.now) result builder.new }
+{
+    let words = skip_blanks(text);
+    if !carries_words(words) {
+        return Ok(());
+    }
+    match line_tokens(alloc, words)? {
+        None => Err(BLANK_OUT_OF_PLACE),
+        Some(tokens) => take_words(alloc, builder, line, tokens.as_slice()),
+    }
+}
+
+/// Whether what stands past a line's leading blanks is to be read.
+fn carries_words(text: &[u8]) -> bool
+    ensures { result ≡ carries text.now }
+{
+    match text {
+        [] => false,
+        [first, ..] => *first != b'#',
+    }
+}
+
+/// A text that is read line by line.
+#[derive(Drop)]
+struct Reader {
+    builder: Builder,
+    /// The number of the next line.
+    line: u32,
+    /// The first line that was refused.
+    fault: Option<Place>,
+}
+
+impl Reader {
+    fn new(alloc: Global) -> Reader
+        ensures line { result.line ≡ 1 }
+        ensures state { state_of result ≡ Ok nothing_yet }
+    {
+        Reader {
+            builder: Builder::new(alloc),
+            line: 1,
+            fault: None,
+        }
+    }
+
+    /// Takes the next line.
+    fn take(&mut self, alloc: Global, text: &[u8]) -> Result<(), AllocError>
+        requires { self.old.line < 2 ^ 32 - 1 }
+        ensures line { OnOk result (self.new.line ≡ self.old.line + 1) }
+        ensures state { OnOk result (state_of self.new ≡ after_line self.old.line (state_of self.old) text.now) }
+    {
+        if self.fault.is_none() {
+            self.judge(alloc, text)?;
+        }
+        self.line += 1;
+        Ok(())
+    }
+
+    /// Takes the next line, where none was refused before.
+    fn judge(&mut self, alloc: Global, text: &[u8]) -> Result<(), AllocError>
+        requires { self.old.fault ≡ None }
+        ensures line { self.new.line ≡ self.old.line }
+        ensures state { OnOk result (state_of self.new ≡ placed self.old.line (line_text (building self.old.builder) self.old.line text.now)) }
+    {
+        match take_line(alloc, &mut self.builder, self.line, text) {
+            Ok(()) => Ok(()),
+            Err(LineRefusal::Memory) => Err(AllocError),
+            Err(LineRefusal::Reason(reason)) => {
+                self.fault = Some(Place {
+                    line: self.line,
+                    reason,
+                });
+                Ok(())
+            }
+        }
+    }
+
+    /// The end of the text.
+    fn finish(self) -> Result<Scenario, ParseRefusal>
+        requires { 1 ≤ self.line }
+        ensures { Parses (ended_at (max 1 (self.line - 1)) (state_of self)) result }
+    {
+        let Reader {
+            builder,
+            line,
+            fault,
+        } = self;
+        match fault {
+            Some(place) => Err(ParseRefusal::Refused(place)),
+            None => match builder.finish((line - 1).max(1)) {
+                Ok(scenario) => Ok(scenario),
+                Err(place) => Err(ParseRefusal::Refused(place)),
+            },
+        }
+    }
+}
+
+fn read_text(alloc: Global, bytes: &[u8]) -> Result<Scenario, ParseRefusal>
+    requires { length bytes.now ≤ most_bytes }
+    ensures { Parses (outcome 1 (Ok nothing_yet) bytes.now) result }
+{
+    let mut reader = Reader::new(alloc);
+    let mut rest = bytes;
+    while !rest.is_empty() {
+        match first_line(rest) {
+            Front::Line(at) => {
+                let (text, more) = cut_at(rest, at);
+                reader.take(alloc, text)?;
+                rest = more;
+            }
+            Front::NotPrintable => return Err(refused(reader.line, NOT_PRINTABLE)),
+            Front::NotEnded => return Err(refused(reader.line, NOT_ENDED)),
+        }
+    }
+    reader.finish()
+}
+
+fn refused(line: u32, reason: u8) -> ParseRefusal
+    ensures { result ≡ ParseRefusal.Refused (record { line = line; reason = reason }) }
+{
+    ParseRefusal::Refused(Place { line, reason })
+}
+
+/// The scenario that has this text.
+///
+/// # Errors
+///
+/// `Refused` exactly where no scenario has it, with the first line that shows it and the reason;
+/// `Memory` where memory ran out.
+pub fn parse(alloc: Global, bytes: &[u8]) -> Result<Scenario, ParseRefusal>
+    ensures read { Parses (reading bytes.now) result }
+    ensures spelt { IsSpelt bytes.now result }
+    ensures refused { IsRefused bytes.now result }
+{
+    read_texts_are_spelt();
+    texts_without_a_place_are_spelt();
+    read_bytes(alloc, bytes)
+}
+
+fn read_bytes(alloc: Global, bytes: &[u8]) -> Result<Scenario, ParseRefusal>
+    ensures { Parses (reading bytes.now) result }
+{
+    if bytes.len() > MOST_BYTES {
+        return Err(refused(line_behind(bytes, MOST_BYTES), TOO_LARGE));
+    }
+    read_text(alloc, bytes)
+}
+
+/// The line of the byte that stands behind so many.
+fn line_behind(bytes: &[u8], count: usize) -> u32
+    requires within { count < length bytes.now }
+    requires small { count < 2 ^ 31 }
+    ensures { result ≡ line_at count bytes.now }
+{
+    count_ends(&bytes[..count]) + 1
+}
+
+fn count_ends(bytes: &[u8]) -> u32
+    requires { length bytes.now < 2 ^ 31 }
+    ensures count { result ≡ count_by is_end bytes.now }
+    ensures bound { result < 2 ^ 31 }
+{
+    bytes.iter().filter(|b| **b == b'\n').count() as u32
+}

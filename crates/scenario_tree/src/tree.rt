@@ -1,0 +1,211 @@
+use gv_values::{Arith, Class, FaultKind, Name};
+use sqlite_items::{Boxed, Items};
+
+/// An operator of two operands, which are both evaluated.
+#[derive(Clone, Copy, Debug, PartialEq, Eq)]
+pub enum Binary {
+    Arithmetic(Arith),
+    Equal,
+    NotEqual,
+    Less,
+    AtMost,
+    Push,
+    At,
+}
+
+#[derive(Clone, Copy, Debug, PartialEq, Eq)]
+pub enum Unary {
+    Not,
+    Length,
+    Ready,
+    Successful,
+    Value,
+    Exception,
+}
+
+/// What is asked of an object by its name.
+#[derive(Clone, Copy, Debug, PartialEq, Eq)]
+pub enum Query {
+    IsSet,
+    Counter,
+    QueueSize,
+    Unfinished,
+    Members,
+}
+
+#[derive(Drop)]
+pub enum Expression {
+    Nothing,
+    Bool(bool),
+    Int(i64),
+    Local(Name),
+    /// `self`, the current greenlet.
+    Current,
+    Fault(FaultKind),
+    Unary(Unary, Boxed<Expression>),
+    Binary(Binary, Boxed<Expression>, Boxed<Expression>),
+    /// The second operand is not evaluated where the first decides.
+    And(Boxed<Expression>, Boxed<Expression>),
+    Or(Boxed<Expression>, Boxed<Expression>),
+    List(Items<Expression>),
+    Query(Query, Name),
+}
+
+/// How long a statement waits: until it is served, at most so long, or not at all.
+#[derive(Clone, Copy, Debug, PartialEq, Eq)]
+pub enum Wait {
+    Block,
+    Within(u64),
+    Now,
+}
+
+/// A statement of one line that gives no value. `Option<u64>` is a time of `within`.
+#[derive(Drop)]
+pub enum Command {
+    Print(Expression),
+    Let(Name, Expression),
+    Return(Expression),
+    Raise(Expression),
+    Start(Expression),
+    Sleep(u64),
+    Join(Expression, Option<u64>),
+    /// The fault stands after `with`.
+    Kill(Expression, Option<Expression>, Wait),
+    KillAll(Expression, Option<Expression>, Wait),
+    Unlink(Expression),
+    Set(Name),
+    Clear(Name),
+    ResultSet(Name, Expression),
+    ResultFail(Name, Expression),
+    Release(Name),
+    QueuePut(Name, Expression, Wait),
+    QueueDone(Name),
+    GroupJoin(Name, Option<u64>),
+    /// The fault, and whether `now` stands there.
+    GroupKill(Name, Option<Expression>, bool),
+    SetParent(Expression, Expression),
+}
+
+#[derive(Clone, Copy, Debug, PartialEq, Eq)]
+pub enum LinkKind {
+    Any,
+    Value,
+    Fault,
+}
+
+#[derive(Clone, Copy, Debug, PartialEq, Eq)]
+pub enum JobKind {
+    Sum,
+    Collatz,
+    Fail,
+    Echo,
+}
+
+/// A statement of one line that gives a value, which a name may take.
+#[derive(Drop)]
+pub enum Giving {
+    Spawn(Name, Items<Expression>),
+    SpawnLater(u64, Name, Items<Expression>),
+    New(Name, Items<Expression>),
+    Get(Expression, Wait),
+    /// The number stands after `count`.
+    JoinAll(Expression, Option<u64>, Option<u64>),
+    Link(LinkKind, Expression, Name),
+    LinkMark(Expression, u64),
+    LinkSet(Expression, Name),
+    WaitEvent(Name, Option<u64>),
+    ResultGet(Name, Wait),
+    ResultWait(Name, Option<u64>),
+    Acquire(Name, Wait),
+    QueueGet(Name, Wait),
+    QueuePeek(Name, Wait),
+    QueueJoin(Name, Option<u64>),
+    GroupSpawn(Name, Name, Items<Expression>),
+    Map(Name, Name, Expression),
+    /// The time stands after `takes`.
+    NativeSpawn(Name, JobKind, Expression, Option<u64>),
+    /// The greenlet stands after `under`.
+    Raw(Name, Option<Expression>),
+    Switch(Expression, Expression),
+    /// The fault stands after `with`.
+    Throw(Expression, Option<Expression>),
+}
+
+/// The lines of a body or of a block.
+pub type Block = Items<Statement>;
+
+#[cycle(statements)]
+#[derive(Drop)]
+pub struct Statement {
+    pub line: u32,
+    pub action: Action,
+}
+
+#[cycle(statements)]
+#[derive(Drop)]
+pub enum Action {
+    Command(Command),
+    /// The name stands before `<-`.
+    Giving(Option<Name>, Giving),
+    If(Expression, Items<Statement>, Option<Items<Statement>>),
+    While(Expression, Items<Statement>),
+    /// The body, the excepts and the finally.
+    Try(Items<Statement>, Items<Except>, Option<Items<Statement>>),
+    /// The time, none where it never fires, and whether it is silent.
+    Timeout(Option<u64>, bool, Items<Statement>),
+}
+
+#[cycle(statements)]
+#[derive(Drop)]
+pub struct Except {
+    pub line: u32,
+    pub class: Class,
+    pub name: Option<Name>,
+    pub body: Items<Statement>,
+}
+
+#[derive(Clone, Copy, Debug, PartialEq, Eq)]
+pub enum QueueKind {
+    Fifo,
+    Lifo,
+    Priority,
+    Join,
+}
+
+#[derive(Clone, Copy, Debug, PartialEq, Eq)]
+pub enum Object {
+    Event,
+    Result,
+    Semaphore(u64),
+    BoundedSemaphore(u64),
+    Lock,
+    /// The size, none where it has no bound.
+    Queue(QueueKind, Option<u64>),
+    Group,
+    Pool(u64),
+    Native(u64),
+}
+
+#[derive(Clone, Copy, Debug, PartialEq, Eq)]
+pub struct Declaration {
+    pub line: u32,
+    pub name: Name,
+    pub object: Object,
+}
+
+#[derive(Drop)]
+pub struct Function {
+    pub line: u32,
+    /// Whether it is a body of raw greenlets.
+    pub is_raw: bool,
+    pub name: Name,
+    pub parameters: Items<Name>,
+    pub body: Block,
+}
+
+#[derive(Drop)]
+pub struct Scenario {
+    pub profile: u8,
+    pub objects: Items<Declaration>,
+    pub functions: Items<Function>,
+}

@@ -1,0 +1,4 @@
+mod Counted
+mod Numbers
+mod Spaced
+mod Whole

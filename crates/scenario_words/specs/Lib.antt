@@ -1,0 +1,4 @@
+pub mod Reads
+pub mod Rows
+pub mod Fronts
+pub mod Numbers

@@ -1,0 +1,23 @@
+//! The words of a scenario's lines: from bytes to what a line says.
+#![tactic(auto)]
+
+mod cursor;
+mod expression;
+mod giving;
+mod head;
+mod keyword;
+mod layout;
+mod phrase;
+mod refusal;
+mod row;
+mod token;
+
+pub use cursor::Cursor;
+pub use expression::read_expression;
+pub use giving::read_giving;
+pub use head::expression_head;
+pub use keyword::{find_keyword, keyword_text};
+pub use layout::{Front, cut_at, first_line, line_tokens, skip_blanks};
+pub use phrase::{is_given_line, read_phrase};
+pub use refusal::{BLANK_OUT_OF_PLACE, LineRefusal};
+pub use token::read_token;
