@@ -1,0 +1,9 @@
+//! The abstract machine of hub, greenlets, items, waits, turns and trace.
+//!
+//! The definitions stand in `specs/`; here are the types of the parts of its state.
+#![tactic(auto)]
+
+pub mod items;
+pub mod laws;
+pub mod state;
+pub mod steps;

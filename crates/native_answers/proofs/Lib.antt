@@ -1,0 +1,3 @@
+pub mod JobEnds
+pub mod Logs
+pub mod CollatzSteps

@@ -1,0 +1,10 @@
+//! The lines of the trace of a run, and their texts.
+#![tactic(auto)]
+
+mod line;
+#[cfg(test)]
+mod tests;
+mod write;
+
+pub use line::{Awaited, Blocked, Line, LinkCall, Resumed, StopCause};
+pub use write::write_line;
