@@ -1,0 +1,168 @@
+-- From the parts of the call to its verdict.
+use Rattle.std.proofs.Common.{◌≡◌, ℕ, Bool, true, false, List, [], ◌++◌, take, drop, Option, Some, None, refl, ap, sym, subst, ◌∙◌, unwrap_or, IfSome, take-append-drop}
+use Rattle.std.proofs.lemmas.List.{append_cancel_left}
+use Rattle.trace_text.specs.LineTexts.{text_of}
+use Rattle.trace_text.specs.declared.line.StopCause.{StopCause}
+use Rattle.scenario_tree.specs.declared.tree.Scenario.{Scenario}
+use Rattle.gv_io.specs.Streams.{appended, prepended, AppendsPrefix}
+use Rattle.gv_io.proofs.StreamLaws.{appended-nothing, AppendsPrefix-all, AppendsPrefix-nothing}
+use Rattle.hub_machine.specs.Run.{Ran, End as RunEnd}
+use Rattle.hub_engine.specs.declared.run.End.{End}
+use Rattle.hub_engine.specs.Ends.{end_of, end_of_run}
+use Rattle.gv_top.specs.declared.status.Verdict.{Verdict}
+use Rattle.gv_top.specs.Answers.{Answer, answer_to, answer_of_run, first_form_of, most_read, no_first_form, run_of, status, status_of_cause, err_line, err_of_cause, usage}
+use Rattle.gv_top.specs.Verdicts.{number_of, line_of}
+use Rattle.gv_top.specs.Top.{RanTo, Decided, HasRead, IsOfRun}
+
+-- ---- the run
+
+-- out has the whole trace at the end of a run
+pub ran_whole : (end : End) (r : Ran) (old new : Option (List ℕ)) → new ≡ appended old (text_of r.lines) → Some end ≡ end_of_run r.end → RanTo end r old new
+ran_whole End.WriteFault r old new w e = AppendsPrefix-all old new (text_of r.lines) w
+ran_whole End.Memory r old new w e = AppendsPrefix-all old new (text_of r.lines) w
+ran_whole End.MainValue r old new w e = (w, e)
+ran_whole (End.MainFault f) r old new w e = (w, e)
+ran_whole End.NoTurns r old new w e = (w, e)
+ran_whole End.NoMoves r old new w e = (w, e)
+ran_whole End.NoGreenlets r old new w e = (w, e)
+ran_whole End.NoLinks r old new w e = (w, e)
+ran_whole End.NoKills r old new w e = (w, e)
+
+is_write_fault : Option End → Bool
+is_write_fault (Some End.WriteFault) = true
+is_write_fault o = false
+
+no_cause_is_a_write : (cause : StopCause) → is_write_fault (Some (end_of cause)) ≡ false
+unfolding is_write_fault
+no_cause_is_a_write (StopCause.Value v) = refl
+no_cause_is_a_write (StopCause.Fault f) = refl
+no_cause_is_a_write StopCause.NoTurns = refl
+no_cause_is_a_write StopCause.NoMoves = refl
+no_cause_is_a_write StopCause.NoGreenlets = refl
+no_cause_is_a_write StopCause.NoLinks = refl
+no_cause_is_a_write StopCause.NoKills = refl
+
+no_run_ends_so : (e : RunEnd) → is_write_fault (end_of_run e) ≡ false
+unfolding is_write_fault
+no_run_ends_so (RunEnd.Stopped cause) = no_cause_is_a_write cause
+no_run_ends_so RunEnd.Asking = refl
+
+write_is_one : is_write_fault (Some End.WriteFault) ≡ true
+unfolding is_write_fault
+write_is_one = refl
+
+true_is_not_false : (b : Bool) → b ≡ true → b ≡ false → ⊥
+true_is_not_false true e f = cc
+true_is_not_false false e f = cc
+
+-- no run of the machine ends by a write fault
+pub no_run_ends_by_a_write : (e : RunEnd) → Some End.WriteFault ≡ end_of_run e → ⊥
+no_run_ends_by_a_write e h = true_is_not_false _ write_is_one (ap is_write_fault h ∙ no_run_ends_so e)
+
+-- ---- the verdict of a run
+
+status_of_end : (cause : StopCause) → number_of (Verdict.Ran (end_of cause)) ≡ status_of_cause cause
+status_of_end (StopCause.Value v) = refl
+status_of_end (StopCause.Fault f) = refl
+status_of_end StopCause.NoTurns = refl
+status_of_end StopCause.NoMoves = refl
+status_of_end StopCause.NoGreenlets = refl
+status_of_end StopCause.NoLinks = refl
+status_of_end StopCause.NoKills = refl
+
+line_of_end : (cause : StopCause) → line_of (Verdict.Ran (end_of cause)) ≡ err_of_cause cause
+line_of_end (StopCause.Value v) = refl
+line_of_end (StopCause.Fault f) = refl
+line_of_end StopCause.NoTurns = refl
+line_of_end StopCause.NoMoves = refl
+line_of_end StopCause.NoGreenlets = refl
+line_of_end StopCause.NoLinks = refl
+line_of_end StopCause.NoKills = refl
+
+same_end : (end : End) (cause : StopCause) → Some end ≡ Some (end_of cause) → end ≡ end_of cause
+same_end end cause e = ap (λ (o : Option End). unwrap_or o end) e
+
+none_is_none : (end : End) → Some end ≡ None → ⊥
+none_is_none end e = cc
+
+number_is : (end : End) (e : RunEnd) → Some end ≡ end_of_run e → number_of (Verdict.Ran end) ≡ status e
+number_is end (RunEnd.Stopped cause) h = ap (λ (x : End). number_of (Verdict.Ran x)) (same_end end cause h) ∙ status_of_end cause
+number_is end RunEnd.Asking h = absurd (none_is_none end h)
+
+line_is : (end : End) (e : RunEnd) → Some end ≡ end_of_run e → line_of (Verdict.Ran end) ≡ err_line e
+line_is end (RunEnd.Stopped cause) h = ap (λ (x : End). line_of (Verdict.Ran x)) (same_end end cause h) ∙ line_of_end cause
+line_is end RunEnd.Asking h = absurd (none_is_none end h)
+
+-- the verdict of a run is the answer of that run
+pub run_decided : (end : End) (r : Ran) (old new : Option (List ℕ)) → RanTo end r old new → Decided (Verdict.Ran end) (answer_of_run r) old new
+run_decided End.WriteFault r old new h = h
+run_decided End.Memory r old new h = h
+run_decided End.MainValue r old new h = (h.0, number_is _ r.end h.1, line_is _ r.end h.1)
+run_decided (End.MainFault f) r old new h = (h.0, number_is _ r.end h.1, line_is _ r.end h.1)
+run_decided End.NoTurns r old new h = (h.0, number_is _ r.end h.1, line_is _ r.end h.1)
+run_decided End.NoMoves r old new h = (h.0, number_is _ r.end h.1, line_is _ r.end h.1)
+run_decided End.NoGreenlets r old new h = (h.0, number_is _ r.end h.1, line_is _ r.end h.1)
+run_decided End.NoLinks r old new h = (h.0, number_is _ r.end h.1, line_is _ r.end h.1)
+run_decided End.NoKills r old new h = (h.0, number_is _ r.end h.1, line_is _ r.end h.1)
+
+-- ---- the verdict on bytes
+
+-- what is answered where this was read
+abbrev answer_read : Option Scenario → Answer
+answer_read o = elim o as (λ x. Answer) [ None ↦ no_first_form | Some s ↦ answer_of_run (run_of s) ]
+
+pub text_decided : (bytes : List ℕ) (s : Scenario) (end : End) (old new : Option (List ℕ)) → Some s ≡ first_form_of bytes → RanTo end (run_of s) old new
+    → Decided (Verdict.Ran end) (answer_to true bytes) old new
+text_decided bytes s end old new e h =
+    let P : Answer → Type 0 = λ a. Decided (Verdict.Ran end) a old new in subst P (ap answer_read e) (run_decided end (run_of s) old new h)
+
+pub refusal_decided : (bytes : List ℕ) (old : Option (List ℕ)) → None ≡ first_form_of bytes → Decided Verdict.NoFirstForm (answer_to true bytes) old old
+refusal_decided bytes old e =
+    let P : Answer → Type 0 = λ a. Decided Verdict.NoFirstForm a old old in subst P (ap answer_read e) (sym (appended-nothing old), refl, refl)
+
+pub usage_decided : (runs : Bool) (bytes : List ℕ) (old : Option (List ℕ)) → runs ≡ false → Decided Verdict.Usage (answer_to runs bytes) old old
+usage_decided runs bytes old e =
+    let P : Bool → Type 0 = λ b. Decided Verdict.Usage (answer_to b bytes) old old in subst P (sym e) (sym (appended-nothing old), refl, refl)
+
+-- ---- what was read
+
+rest_of : (left items rest : List ℕ) → items ≡ take most_read left → left ≡ items ++ rest → rest ≡ drop most_read left
+rest_of left items rest e h =
+    append_cancel_left items rest (drop most_read left) (sym h ∙ sym (take-append-drop most_read left) ∙ ap (λ xs. xs ++ drop most_read left) (sym e))
+
+some_left : (a b : List ℕ) → Some a ≡ Some b → a ≡ b
+some_left a b e = ap (λ (o : Option (List ℕ)). unwrap_or o a) e
+
+none_read : (items : List ℕ) (left : List ℕ) → prepended items None ≡ Some left → None ≡ Some (drop most_read left)
+unfolding prepended
+none_read items left e = cc
+
+some_read : (items rest left : List ℕ) → Some left ≡ prepended items (Some rest) → left ≡ items ++ rest
+unfolding prepended
+some_read items rest left e = some_left left (items ++ rest) e
+
+read_first : (left items : List ℕ) (old : Option (List ℕ)) → old ≡ Some left → IfSome old (λ all. items ≡ take most_read all) → items ≡ take most_read left
+read_first left items None e f = cc
+read_first left items (Some all) e f = f ∙ ap (take most_read) (some_left all left e)
+
+-- what is left of the input is what stands behind the bytes that were read
+pub left_behind : (left items : List ℕ) (old new : Option (List ℕ)) → old ≡ Some left → IfSome old (λ all. items ≡ take most_read all) → old ≡ prepended items new
+    → new ≡ Some (drop most_read left)
+left_behind left items old None told first next = none_read items left (sym next ∙ told)
+left_behind left items old (Some rest) told first next =
+    ap Some (rest_of left items rest (read_first left items old told first) (some_read items rest left (sym told ∙ next)))
+
+-- with a verdict on a text or a run the input was read
+pub has_read : (v : Verdict) (left : List ℕ) (new : Option (List ℕ)) → IsOfRun v → new ≡ Some (drop most_read left) → HasRead v left new
+has_read Verdict.Usage left new k e = absurd k
+has_read Verdict.ReadFault left new k e = absurd k
+has_read Verdict.NoFirstForm left new k e = e
+has_read (Verdict.Ran End.MainValue) left new k e = e
+has_read (Verdict.Ran (End.MainFault f)) left new k e = e
+has_read (Verdict.Ran End.NoTurns) left new k e = e
+has_read (Verdict.Ran End.NoMoves) left new k e = e
+has_read (Verdict.Ran End.NoGreenlets) left new k e = e
+has_read (Verdict.Ran End.NoLinks) left new k e = e
+has_read (Verdict.Ran End.NoKills) left new k e = e
+has_read (Verdict.Ran End.WriteFault) left new k e = e
+has_read (Verdict.Ran End.Memory) left new k e = tt

@@ -1,0 +1,69 @@
+-- What the call leaves behind.
+use Rattle.std.specs.Prelude.{◌≡◌, ◌≢◌, ◌⊎◌, ℕ, List, Option, Some, drop}
+use Rattle.trace_text.specs.LineTexts.{text_of}
+use Rattle.gv_io.specs.Faults.{HasRisen}
+use Rattle.gv_io.specs.Streams.{appended, AppendsPrefix}
+use Rattle.hub_machine.specs.Run.{Ran}
+use Rattle.hub_engine.specs.declared.run.End.{End}
+use Rattle.gv_top.specs.declared.status.Verdict.{Verdict}
+use Rattle.gv_top.specs.Answers.{Answer, most_read, memory_line, read_fault_line}
+use Rattle.hub_engine.specs.Ends.{end_of_run}
+use Rattle.gv_top.specs.Verdicts.{number_of, line_of}
+
+-- out has the whole trace and the end is that of the run, or out has a prefix of the trace
+abbrev pub RanTo : End → Ran → Option (List ℕ) → Option (List ℕ) → Type 0
+RanTo End.WriteFault r old new = AppendsPrefix old new (text_of r.lines)
+RanTo End.Memory r old new = AppendsPrefix old new (text_of r.lines)
+RanTo end r old new = (new ≡ appended old (text_of r.lines)) × (Some end ≡ end_of_run r.end)
+
+-- the verdict is the answer's, and out has its whole text
+abbrev pub Fits : Verdict → Answer → Option (List ℕ) → Option (List ℕ) → Type 0
+Fits v a old new = (new ≡ appended old a.out) × (number_of v ≡ a.status) × (line_of v ≡ a.err)
+
+abbrev pub Decided : Verdict → Answer → Option (List ℕ) → Option (List ℕ) → Type 0
+Decided Verdict.ReadFault a old new = AppendsPrefix old new a.out
+Decided (Verdict.Ran End.WriteFault) a old new = AppendsPrefix old new a.out
+Decided (Verdict.Ran End.Memory) a old new = AppendsPrefix old new a.out
+Decided v a old new = Fits v a old new
+
+-- a verdict of a run or of a text
+abbrev pub IsOfRun : Verdict → Type 0
+IsOfRun Verdict.Usage = ⊥
+IsOfRun Verdict.ReadFault = ⊥
+IsOfRun v = Unit {0}
+
+abbrev pub TellsFault : Verdict → ℕ → ℕ → Type 0
+TellsFault (Verdict.Ran End.WriteFault) old new = HasRisen old new
+TellsFault v old new = Unit {0}
+
+-- the input was read to its end or to the most that is read
+abbrev pub HasRead : Verdict → List ℕ → Option (List ℕ) → Type 0
+HasRead Verdict.Usage left new = Unit {0}
+HasRead Verdict.ReadFault left new = Unit {0}
+HasRead (Verdict.Ran End.Memory) left new = Unit {0}
+HasRead v left new = new ≡ Some (drop most_read left)
+
+-- err has the verdict's line and its status is answered; or the line of want of memory with 7; or a prefix of one of the two with 5
+abbrev pub HasLine : ℕ → Verdict → Option (List ℕ) → Option (List ℕ) → Type 0
+HasLine n v old new =
+    ((n ≡ number_of v) × (new ≡ appended old (line_of v)))
+    ⊎ ((n ≡ 7) × (new ≡ appended old memory_line))
+    ⊎ ((n ≡ 5) × (AppendsPrefix old new (line_of v) ⊎ AppendsPrefix old new memory_line))
+
+-- another status than the verdict's and 7 comes only where the count has risen
+abbrev pub FailsLine : ℕ → Verdict → ℕ → ℕ → Type 0
+FailsLine n v old new = (n ≡ number_of v) ⊎ (n ≡ 7) ⊎ HasRisen old new
+
+-- what the call leaves where the input is told: out has a prefix of the answer's text, and with a status
+-- that tells no fault and no want of memory the status, out and err are the answer's
+pub record IsAnswered (n : ℕ) (a : Answer) (out0 out1 err0 err1 : Option (List ℕ)) : Type 0 where
+  pub prefix : AppendsPrefix out0 out1 a.out
+  pub status : n ≢ 4 → n ≢ 5 → n ≢ 7 → n ≡ a.status
+  pub out : n ≢ 4 → n ≢ 5 → n ≢ 7 → out1 ≡ appended out0 a.out
+  pub err : n ≢ 4 → n ≢ 5 → n ≢ 7 → err1 ≡ appended err0 a.err
+
+-- the line that err has with a status of a fault or of want of memory, whole but with 5
+pub record HasFaultLine (n : ℕ) (err0 err1 : Option (List ℕ)) : Type 0 where
+  pub read : n ≡ 4 → err1 ≡ appended err0 read_fault_line
+  pub memory : n ≡ 7 → err1 ≡ appended err0 memory_line
+  pub write : n ≡ 5 → (v : Verdict) × (AppendsPrefix err0 err1 (line_of v))

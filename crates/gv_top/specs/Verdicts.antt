@@ -1,0 +1,33 @@
+-- The statuses and lines of the ways in which a call ends.
+use Rattle.std.specs.Prelude.{ℕ, List, [], ◌++◌, codes}
+use Rattle.hub_engine.specs.declared.run.End.{End}
+use Rattle.gv_top.specs.declared.status.Verdict.{Verdict}
+use Rattle.gv_top.specs.Answers.{line, ending_text, usage, no_first_form, read_fault_line, write_fault_line, memory_line}
+
+abbrev pub number_of : Verdict → ℕ
+number_of Verdict.Usage = 2
+number_of Verdict.ReadFault = 4
+number_of Verdict.NoFirstForm = 3
+number_of (Verdict.Ran End.MainValue) = 0
+number_of (Verdict.Ran (End.MainFault f)) = 1
+number_of (Verdict.Ran End.NoTurns) = 6
+number_of (Verdict.Ran End.NoMoves) = 6
+number_of (Verdict.Ran End.NoGreenlets) = 8
+number_of (Verdict.Ran End.NoLinks) = 8
+number_of (Verdict.Ran End.NoKills) = 8
+number_of (Verdict.Ran End.WriteFault) = 5
+number_of (Verdict.Ran End.Memory) = 7
+
+abbrev pub line_of : Verdict → List ℕ
+line_of Verdict.Usage = usage.err
+line_of Verdict.ReadFault = read_fault_line
+line_of Verdict.NoFirstForm = no_first_form.err
+line_of (Verdict.Ran End.MainValue) = []
+line_of (Verdict.Ran (End.MainFault f)) = line (codes "main ended by " ++ ending_text f)
+line_of (Verdict.Ran End.NoTurns) = line (codes "budget of turns spent")
+line_of (Verdict.Ran End.NoMoves) = line (codes "budget of moves spent")
+line_of (Verdict.Ran End.NoGreenlets) = line (codes "limit of greenlets")
+line_of (Verdict.Ran End.NoLinks) = line (codes "limit of links")
+line_of (Verdict.Ran End.NoKills) = line (codes "limit of kills")
+line_of (Verdict.Ran End.WriteFault) = write_fault_line
+line_of (Verdict.Ran End.Memory) = memory_line

@@ -1,0 +1,14 @@
+pub mod Actions
+pub mod Binds
+pub mod Blind
+pub mod Delivering
+pub mod Leasts
+pub mod Leaving
+pub mod Meanings
+pub mod Moved
+pub mod Operand
+pub mod Passing
+pub mod PhaseSets
+pub mod Removals
+pub mod Running
+pub mod Sounds

@@ -1,0 +1,44 @@
+-- What keeps the items in order of making.
+use Rattle.std.proofs.Common.{ℕ, ◌+◌, ◌≤◌, Bool, true, false, cond, List, [], ◌∷◌, ◌++◌, None, arith}
+use Rattle.std.specs.Prelude.{filter}
+use Rattle.hub_machine.specs.declared.items.Item.{Item}
+use Rattle.hub_machine.specs.declared.items.Delivery.{Delivery}
+use Rattle.hub_machine.specs.Settle.{settled, number_after}
+use Rattle.hub_engine.specs.Sound.{AscendTo, IsSound}
+
+pub lower : (low high next : ℕ) (items : List Item) → low ≤ high → AscendTo high next items → AscendTo low next items
+lower low high next [] h a = omega arith
+lower low high next (i ∷ items) h a = record { above = let b = a.above in omega arith; rest = a.rest }
+
+more : (low next : ℕ) (d : Delivery) (items : List Item) → AscendTo low next items →
+    AscendTo low (next + 1) (items ++ record { since = next; delivery = d; ready = None } ∷ [])
+more low next d [] a = record { above = a; rest = omega arith }
+more low next d (i ∷ items) a = record { above = a.above; rest = more (i.since + 1) next d items a.rest }
+
+kept : (p : Item → Bool) (low next : ℕ) (items : List Item) → AscendTo low next items → AscendTo low next (filter p items)
+kept p low next [] a = a
+kept p low next (i ∷ items) a = by (p i) (kept p (i.since + 1) next items a.rest)
+  where
+    by : (b : Bool) → AscendTo (i.since + 1) next (filter p items) → AscendTo low next (cond b (i ∷ filter p items) (filter p items))
+    by true r = record { above = a.above; rest = r }
+    by false r = lower low (i.since + 1) next (filter p items) (let b = a.above in omega arith) r
+
+numbered : (hs : List Bool) (n low next : ℕ) (items : List Item) → AscendTo low next items → AscendTo low next (settled hs n items)
+numbered [] n low next items a = a
+numbered (h ∷ hs) n low next [] a = a
+numbered (h ∷ hs) n low next (i ∷ items) a = record { above = a.above; rest = numbered hs (number_after h i.ready n) (i.since + 1) next items a.rest }
+
+-- ---- as the invariant has them
+
+pub sound_none : (next : ℕ) → IsSound next []
+sound_none next = record { ascends = omega arith }
+
+pub sound_more : (next : ℕ) (d : Delivery) (items : List Item) → IsSound next items →
+    IsSound (next + 1) (items ++ record { since = next; delivery = d; ready = None } ∷ [])
+sound_more next d items s = record { ascends = more 0 next d items s.ascends }
+
+pub sound_filter : (p : Item → Bool) (next : ℕ) (items : List Item) → IsSound next items → IsSound next (filter p items)
+sound_filter p next items s = record { ascends = kept p 0 next items s.ascends }
+
+pub sound_settled : (hs : List Bool) (n next : ℕ) (items : List Item) → IsSound next items → IsSound next (settled hs n items)
+sound_settled hs n next items s = record { ascends = numbered hs n 0 next items s.ascends }

@@ -1,0 +1,10 @@
+pub mod Ends
+pub mod Frames
+pub mod Gone
+pub mod Phases
+pub mod Places
+pub mod Queues
+pub mod Sound
+pub mod Steps
+pub mod Went
+pub mod Written
