@@ -1,0 +1,315 @@
+//! The greenlets of a run, and the links on their ends.
+ghost use Rattle.std.specs.Prelude.{◌≡◌, ◌≢◌, ℕ, ◌+◌, ◌-◌, ◌<◌, ◌≤◌, [], ◌∷◌, ◌++◌, length, Err, IsSome, IsSomeAnd, IfSome, IfNone, IfOk, OnOk, OnErr, ◌↔◌, position};
+ghost use Rattle.std.specs.Option.{option_copied, option_map};
+ghost use Rattle.greenlet_life.specs.declared.records.Phase.TheVariants.{New, Live, Parked, Done};
+ghost use Rattle.greenlet_life.specs.declared.records.Stage.{Stage as Level};
+ghost use Rattle.greenlet_life.specs.declared.records.LinkState.{LinkState as State};
+ghost use Rattle.greenlet_life.specs.Ends.{kept};
+ghost use Rattle.greenlet_life.specs.Lives.{life, greenlet_at, link_at, outcome_of, phase_of, born, made, with_stage, with_outcome, with_state, staged, stated, handed_out, is_due, is_pending, pending_item};
+
+use crate::records::{Greenlet, Link, LinkKind, LinkState, Phase, Stage, is_fitting};
+use gv_values::{FaultKind, Outcome, Value};
+use std::alloc::{AllocError, Global};
+use std::marker::Model;
+use thiserror::Error;
+
+/// Why no greenlet or link was made.
+#[derive(Clone, Copy, PartialEq, Eq, Debug, Error)]
+pub enum LifeRefusal {
+    /// The limit of 20000 greenlets, or that of 100000 links, is reached.
+    #[error("too many")]
+    TooMany,
+    /// There is no memory.
+    #[error("out of memory")]
+    Memory,
+}
+
+/// How many greenlets there may be.
+const MOST_GREENLETS: usize = 20_000;
+
+/// How many links may be made.
+const MOST_LINKS: usize = 100_000;
+
+/// The greenlets by number, from 0 on, and the links by number, from 1 on.
+#[derive(Drop)]
+pub struct Life {
+    greenlets: Vec<Greenlet>,
+    // The outcome of each greenlet, once it has ended.
+    outcomes: Vec<Option<Outcome>>,
+    links: Vec<Link>,
+}
+
+impl Model for Life {
+    ghost use Rattle.std.specs.Prelude.{◌≡◌, ◌≤◌, length};
+    ghost use Rattle.greenlet_life.specs.Lives.{SeenLife, life};
+
+    ghost Value = { SeenLife };
+
+    ghost view = { λ l. life l.greenlets.items l.outcomes.items l.links.items };
+
+    ghost invariant = { λ l. (length l.outcomes.items ≡ length l.greenlets.items) × (length l.links.items ≤ 100000) };
+}
+
+// What is kept of an end: `GreenletExit` as a value, all else as it is.
+fn kept_outcome(outcome: Outcome) -> Outcome
+    ensures { result ≡ kept outcome }
+{
+    match outcome {
+        Outcome::Fault(FaultKind::GreenletExit) => Outcome::Value(Value::Fault(
+            FaultKind::GreenletExit,
+        )),
+        other => other,
+    }
+}
+
+// A greenlet that has come to a stage.
+fn set_stage(greenlets: &mut [Greenlet], g: u32, stage: Stage)
+    requires { g < length greenlets.old }
+    ensures { greenlets.new ≡ staged greenlets.old g stage }
+{
+    greenlets[g as usize].stage = stage;
+}
+
+impl Life {
+    /// No greenlet and no link.
+    pub fn new(alloc: Global) -> Self
+        ensures { result ≡ life [] [] [] }
+    {
+        Life {
+            greenlets: Vec::new(alloc),
+            outcomes: Vec::new(alloc),
+            links: Vec::new(alloc),
+        }
+    }
+
+    /// Makes a greenlet, which is new, and gives its number: the next one.
+    pub fn create(&mut self, raw: bool, function: u32) -> Result<u32, LifeRefusal>
+        ensures number { IfOk result (λ g. g ≡ length self.old.greenlets) }
+        ensures born { OnOk result (self.new ≡ life (self.old.greenlets ++ born raw function ∷ [])
+            (self.old.outcomes ++ None ∷ []) self.old.links) }
+        ensures too_many { (result ≡ Err LifeRefusal.TooMany) ↔ (20000 ≤ length self.old.greenlets) }
+        ensures err { OnErr result (self.new ≡ self.old) }
+    {
+        let number = self.greenlets.len();
+        if number >= MOST_GREENLETS {
+            return Err(LifeRefusal::TooMany);
+        }
+        if self.greenlets.reserve(1).is_err() || self.outcomes.reserve(1).is_err() {
+            return Err(LifeRefusal::Memory);
+        }
+        self.greenlets.push_reserved(Greenlet {
+            raw,
+            function,
+            stage: Stage::New,
+        });
+        self.outcomes.push_reserved(None);
+        Ok(number as u32)
+    }
+
+    // How a greenlet ended, once it has.
+    fn outcome_at(&self, g: u32) -> Option<&Outcome>
+        ensures { option_copied result ≡ outcome_of self.now g }
+    {
+        match self.outcomes.get(g as usize) {
+            Some(Some(outcome)) => Some(outcome),
+            _ => None,
+        }
+    }
+
+    /// The phase of a greenlet.
+    pub fn phase(&self, g: u32) -> Phase
+        requires { g < length self.now.greenlets }
+        ensures { result ≡ phase_of self.now g }
+    {
+        if self.outcome_at(g).is_some() {
+            return Phase::Done;
+        }
+        match self.greenlets[g as usize].stage {
+            Stage::New => Phase::New,
+            Stage::Live => Phase::Live,
+            Stage::Parked => Phase::Parked,
+        }
+    }
+
+    /// Whether a greenlet is a raw one.
+    pub fn is_raw(&self, g: u32) -> bool
+        requires { g < length self.now.greenlets }
+        ensures { result ≡ (greenlet_at self.now g).raw }
+    {
+        self.greenlets[g as usize].raw
+    }
+
+    /// The function that is a greenlet's body.
+    pub fn function(&self, g: u32) -> u32
+        requires { g < length self.now.greenlets }
+        ensures { result ≡ (greenlet_at self.now g).function }
+    {
+        self.greenlets[g as usize].function
+    }
+
+    /// How a greenlet ended; `None` exactly where it is not done.
+    pub fn outcome(&self, g: u32) -> Option<&Outcome>
+        requires { g < length self.now.greenlets }
+        ensures value { option_copied result ≡ outcome_of self.now g }
+        ensures done { IsSome result ↔ (phase_of self.now g ≡ Done) }
+    {
+        self.outcome_at(g)
+    }
+
+    /// A new greenlet begins to run.
+    pub fn started(&mut self, g: u32)
+        requires there { g < length self.old.greenlets }
+        requires new { phase_of self.old g ≡ New }
+        ensures { self.new ≡ with_stage self.old g Level.Live }
+    {
+        set_stage(&mut self.greenlets, g, Stage::Live);
+    }
+
+    /// A greenlet that runs begins to wait.
+    pub fn park(&mut self, g: u32)
+        requires there { g < length self.old.greenlets }
+        requires live { phase_of self.old g ≡ Live }
+        ensures { self.new ≡ with_stage self.old g Level.Parked }
+    {
+        set_stage(&mut self.greenlets, g, Stage::Parked);
+    }
+
+    /// A greenlet that waits goes on.
+    pub fn unpark(&mut self, g: u32)
+        requires there { g < length self.old.greenlets }
+        requires parked { phase_of self.old g ≡ Parked }
+        ensures { self.new ≡ with_stage self.old g Level.Live }
+    {
+        set_stage(&mut self.greenlets, g, Stage::Live);
+    }
+
+    /// A greenlet ends, once. Its outcome is kept, a `GreenletExit` fault as a value; links that don't fit it are
+    /// dropped.
+    pub fn end(&mut self, g: u32, outcome: Outcome)
+        requires there { g < length self.old.greenlets }
+        requires once { phase_of self.old g ≢ Done }
+        ensures { self.new ≡ with_outcome self.old g (kept outcome) }
+    {
+        self.outcomes[g as usize] = Some(kept_outcome(outcome));
+    }
+
+    /// Makes a link on the end of a greenlet, and gives its number: the next one. On a greenlet that is done it waits
+    /// to be handed out at once, or is dropped where it doesn't fit.
+    pub fn link(
+        &mut self,
+        g: u32,
+        kind: LinkKind,
+        function: u32,
+        item: u32,
+    ) -> Result<u32, LifeRefusal>
+        requires { g < length self.old.greenlets }
+        ensures number { IfOk result (λ n. n ≡ length self.old.links + 1) }
+        ensures made { OnOk result (self.new ≡ life self.old.greenlets self.old.outcomes
+            (self.old.links ++ made g kind function item ∷ [])) }
+        ensures too_many { (result ≡ Err LifeRefusal.TooMany) ↔ (100000 ≤ length self.old.links) }
+        ensures err { OnErr result (self.new ≡ self.old) }
+    {
+        let made = self.links.len();
+        if made >= MOST_LINKS {
+            return Err(LifeRefusal::TooMany);
+        }
+        let link = Link {
+            greenlet: g,
+            kind,
+            function,
+            item,
+            state: LinkState::Waiting,
+        };
+        match self.links.push(link) {
+            Ok(()) => Ok(made as u32 + 1),
+            Err(_) => Err(LifeRefusal::Memory),
+        }
+    }
+
+    /// The link of a number, if one was made.
+    pub fn link_of(&self, link: u32) -> Option<Link>
+        ensures { result ≡ link_at self.now link }
+    {
+        if link == 0 {
+            return None;
+        }
+        self.links.get(link as usize - 1).copied()
+    }
+
+    // Whether a link is still to be called.
+    fn is_to_be_called(&self, link: Link) -> bool
+        ensures { result ≡ is_pending (outcome_of self.now link.greenlet) link }
+    {
+        let outcome = self.outcome_at(link.greenlet);
+        match link.state {
+            LinkState::Waiting => outcome.is_none() || is_fitting(link.kind, outcome),
+            LinkState::HandedOut => outcome.is_some(),
+            LinkState::Called | LinkState::Removed => false,
+        }
+    }
+
+    /// Takes a link away that is still to be called, and gives its item; `None` exactly where it was called, dropped or
+    /// taken away, or never made.
+    pub fn unlink(&mut self, link: u32) -> Option<u32>
+        ensures item { result ≡ pending_item self.old (link_at self.old link) }
+        ensures removed { IfSome result (λ _. self.new ≡ with_state self.old (link - 1) State.Removed) }
+        ensures kept { IfNone result (self.new ≡ self.old) }
+    {
+        let entry = self.link_of(link)?;
+        if !self.is_to_be_called(entry) {
+            return None;
+        }
+        set_state(&mut self.links, link as usize - 1, LinkState::Removed);
+        Some(entry.item)
+    }
+
+    /// Hands out the next link of a greenlet that is done, in order of making, that fits its end and wasn't handed out;
+    /// `None` exactly where the greenlet is not done or no such link is left.
+    pub fn next_link(&mut self, g: u32) -> Option<u32>
+        requires { g < length self.old.greenlets }
+        ensures link { result ≡ option_map (λ k. k + 1) (position (is_due (outcome_of self.old g) g) self.old.links) }
+        ensures handed { self.new ≡ handed_out self.old (position (is_due (outcome_of self.old g) g) self.old.links) }
+    {
+        let outcome = self.outcome_at(g);
+        let place = first_due(&self.links, g, outcome)?;
+        set_state(&mut self.links, place, LinkState::HandedOut);
+        Some(place as u32 + 1)
+    }
+
+    /// A link that was handed out is called.
+    pub fn called(&mut self, link: u32)
+        requires { IsSomeAnd (link_at self.old link) (λ l. l.state ≡ State.HandedOut) }
+        ensures { self.new ≡ with_state self.old (link - 1) State.Called }
+    {
+        set_state(&mut self.links, link as usize - 1, LinkState::Called);
+    }
+}
+
+// A link comes to another state.
+fn set_state(links: &mut [Link], place: usize, state: LinkState)
+    requires { place < length links.old }
+    ensures { links.new ≡ stated links.old place state }
+{
+    links[place].state = state;
+}
+
+// Whether a link is one of the greenlet and to be handed out after this end.
+fn may_go(link: Link, g: u32, outcome: Option<&Outcome>) -> bool
+    ensures { result ≡ is_due (option_copied outcome.entry) g link }
+{
+    link.greenlet == g && link.state == LinkState::Waiting && is_fitting(link.kind, outcome)
+}
+
+// The place of the first link of the greenlet that is to be handed out.
+fn first_due(links: &[Link], g: u32, outcome: Option<&Outcome>) -> Option<usize>
+    ensures first { result ≡ position (is_due (option_copied outcome.entry) g) links.now }
+    ensures within { IfSome result (λ place. place < length links.now) }
+{
+    for place in 0..links.len() {
+        let link = links[place];
+        if may_go(link, g, outcome) {
+            return Some(place);
+        }
+    }
+    None
+}

@@ -1,0 +1,26 @@
+use crate::Targets;
+use gv_values::Whom;
+use std::test::*;
+
+#[test]
+fn each_place_of_a_target_counts(rt: HostRuntime) -> Result<(), Fail> {
+    let mut targets = Targets::new(rt.alloc());
+    let pending = [Whom::Greenlet(1), Whom::Greenlet(1), Whom::Job(1)];
+    targets.add(4, &pending, 2)?;
+    assert_eq!(rt; targets.next_ready(), None);
+    targets.done(Whom::Job(2));
+    assert_eq!(rt; targets.next_ready(), None);
+    targets.done(Whom::Greenlet(1));
+    assert_eq!(rt; targets.next_ready(), Some(4));
+    assert_eq!(rt; targets.next_ready(), None);
+    Ok(())
+}
+
+#[test]
+fn a_cancelled_wait_is_gone(rt: HostRuntime) -> Result<(), Fail> {
+    let mut targets = Targets::new(rt.alloc());
+    targets.add(9, &[], 0)?;
+    targets.cancel(9);
+    assert_eq!(rt; targets.next_ready(), None);
+    Ok(())
+}
