@@ -1,0 +1,6 @@
+pub mod Moves
+pub mod StepsKeep
+pub mod PassesKeep
+pub mod Sweeping
+pub mod MadeKeep
+pub mod TakenLaw

@@ -1,0 +1,19 @@
+use gv_values::{Job, JobOutcome};
+
+/// A job's number and what it came to.
+#[derive(Clone, Copy, Debug, PartialEq, Eq)]
+pub struct Finished {
+    pub number: u32,
+    pub outcome: JobOutcome,
+}
+
+/// What a worker found in its cell.
+#[derive(Clone, Copy, Debug, PartialEq, Eq)]
+pub enum Looked {
+    /// A job, with its number.
+    Posted { number: u32, job: Job },
+    /// Nothing that is new to it.
+    NotYet,
+    /// That it is to end.
+    Stop,
+}

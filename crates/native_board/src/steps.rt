@@ -1,0 +1,173 @@
+//! The single steps on a cell's words.
+ghost use Rattle.std.specs.Prelude.{◌≡◌, ℕ, ◌+◌, ◌<◌, [], length};
+ghost use Rattle.native_board.specs.declared.views.HubCell.TheVariants.{Vacant, Ordered, Filled, Sent, Taking, Stopped};
+ghost use Rattle.native_board.specs.declared.views.Stage.TheVariants.{Idle, Asked, Numbered, Holds, Valued, Owes};
+ghost use Rattle.native_board.specs.declared.views.View.TheVariants.{Hub, Worker};
+ghost use Rattle.native_board.specs.declared.views.CellState.TheVariants.{Done};
+ghost use Rattle.native_board.specs.declared.views.Ended.{Ended};
+ghost use Rattle.gv_values.specs.declared.job.Job.{Job};
+ghost use Rattle.native_board.specs.Rows.{hub_cell};
+ghost use Rattle.native_board.specs.Words.{state_in, number_in, kind_in, signed_in, kind_of, job_of, ended_of, value_of};
+ghost use Rattle.native_answers.specs.Jobs.{eval};
+ghost use Rattle.native_board.specs.Plays.{asked, saw, IsJob};
+ghost use Rattle.native_board.specs.Passes.{hub_of, worker_of, lowers, BecomesHub, HoldsOf, ValuedOf, IsValuedOf, IsHubAt, IsMarked, IsSent, IsWorkerAt, IsStaged, HasLooked};
+
+use crate::rule::{
+    BoardRule, LoadArgument, LoadNext, LoadOrder, LoadState, LoadValue, StoreArgument, StoreDone,
+    StoreFree, StoreOrder, StorePosted, StoreStop, StoreValue, SwapHigh, SwapLow,
+};
+use crate::views::{CellState, Kind, View};
+use crate::words::{
+    argument_of, done_word, ended_of, job_of, kind_in, number_in, order_word, signed_in,
+    signed_word, state_in, value_of,
+};
+use atomic_table::{Seat, Shared};
+use gv_values::{Job, JobOutcome};
+
+pub(crate) type Top = Shared<(), View, u32, BoardRule>;
+
+pub(crate) fn store_order(top: &Top, hub: &mut Seat<(), View>, cell: usize, number: u32, kind: Kind)
+    requires board { hub.old.table_id ≡ top.now.table_id }
+    requires vacant { IsHubAt hub.old cell Vacant }
+    ensures { IsMarked hub.old hub.new cell (Ordered number kind) }
+{
+    top.store::<StoreOrder>(hub, 4 * cell + 2, order_word(number, kind));
+}
+
+pub(crate) fn store_argument(
+    top: &Top,
+    hub: &mut Seat<(), View>,
+    cell: usize,
+    number: u32,
+    job: Job,
+)
+    requires board { hub.old.table_id ≡ top.now.table_id }
+    requires ordered { IsHubAt hub.old cell (Ordered number (kind_of job)) }
+    ensures { IsMarked hub.old hub.new cell (Filled number job) }
+{
+    top.store::<StoreArgument>(hub, 4 * cell + 3, signed_word(argument_of(job)));
+}
+
+pub(crate) fn store_posted(top: &Top, hub: &mut Seat<(), View>, cell: usize, number: u32, job: Job)
+    requires board { hub.old.table_id ≡ top.now.table_id }
+    requires filled { IsHubAt hub.old cell (Filled number job) }
+    ensures { IsSent hub.old hub.new cell number job }
+{
+    let _ = number;
+    let _ = job;
+    top.store::<StorePosted>(hub, 4 * cell + 1, 1);
+}
+
+pub(crate) fn store_stop(top: &Top, hub: &mut Seat<(), View>, cell: usize)
+    requires board { hub.old.table_id ≡ top.now.table_id }
+    requires vacant { IsHubAt hub.old cell Vacant }
+    ensures { IsMarked hub.old hub.new cell Stopped }
+{
+    top.store::<StoreStop>(hub, 4 * cell + 1, 2);
+}
+
+pub(crate) fn load_state(top: &Top, worker: &mut Seat<(), View>, cell: usize) -> CellState
+    requires board { worker.old.table_id ≡ top.now.table_id }
+    requires idle { IsWorkerAt worker.old cell Idle }
+    ensures { HasLooked worker.old worker.new result }
+{
+    state_in(top.load::<LoadState>(worker, 4 * cell + 1))
+}
+
+pub(crate) fn load_order(top: &Top, worker: &mut Seat<(), View>, cell: usize) -> (u32, Kind)
+    requires board { worker.old.table_id ≡ top.now.table_id }
+    requires asked { IsWorkerAt worker.old cell Asked }
+    ensures { IsStaged worker.old worker.new (Numbered result.0 result.1) }
+{
+    let order = top.load::<LoadOrder>(worker, 4 * cell + 2);
+    (number_in(order), kind_in(order))
+}
+
+pub(crate) fn load_argument(
+    top: &Top,
+    worker: &mut Seat<(), View>,
+    cell: usize,
+    number: u32,
+    kind: Kind,
+) -> Job
+    requires board { worker.old.table_id ≡ top.now.table_id }
+    requires numbered { IsWorkerAt worker.old cell (Numbered number kind) }
+    ensures { IsStaged worker.old worker.new (Holds number result) }
+{
+    let _ = number;
+    job_of(
+        kind,
+        signed_in(top.load::<LoadArgument>(worker, 4 * cell + 3)),
+    )
+}
+
+pub(crate) fn store_value(top: &Top, worker: &mut Seat<(), View>, cell: usize, outcome: JobOutcome)
+    requires board { worker.old.table_id ≡ top.now.table_id }
+    requires holds { HoldsOf worker.old cell outcome }
+    ensures { ValuedOf worker.old worker.new outcome }
+{
+    top.store::<StoreValue>(worker, 4 * cell + 4, signed_word(value_of(outcome)));
+}
+
+pub(crate) fn store_done(top: &Top, worker: &mut Seat<(), View>, cell: usize, outcome: JobOutcome)
+    requires board { worker.old.table_id ≡ top.now.table_id }
+    requires valued { IsValuedOf worker.old cell outcome }
+    ensures { IsStaged worker.old worker.new Owes }
+{
+    top.store::<StoreDone>(worker, 4 * cell + 1, done_word(ended_of(outcome)));
+}
+
+/// Whether the signal was low.
+pub(crate) fn swap_high(top: &Top, worker: &mut Seat<(), View>, cell: usize) -> bool
+    requires board { worker.old.table_id ≡ top.now.table_id }
+    requires owes { IsWorkerAt worker.old cell Owes }
+    ensures { IsStaged worker.old worker.new Idle }
+{
+    let _ = cell;
+    top.swap::<SwapHigh>(worker, 0, 1) == 0
+}
+
+pub(crate) fn swap_low(top: &Top, hub: &mut Seat<(), View>)
+    requires board { hub.old.table_id ≡ top.now.table_id }
+    requires hub { (hub.old.me ≡ (Hub (hub_of hub.old), [])) × (0 < hub.old.table_id.words) }
+    ensures { BecomesHub hub.old hub.new (lowers (hub_of hub.old)) }
+{
+    top.swap::<SwapLow>(hub, 0, 0);
+}
+
+pub(crate) fn load_next(top: &Top, hub: &mut Seat<(), View>, cell: usize) -> CellState
+    requires board { hub.old.table_id ≡ top.now.table_id }
+    requires next { IsHubAt hub.old cell (hub_cell (hub_of hub.old) cell) × (cell ≡ length (hub_of hub.old).seen) }
+    ensures seat { BecomesHub hub.old hub.new (saw (hub_of hub.old) result) }
+    ensures job { (e : Ended) → result ≡ Done e → IsJob (hub_cell (hub_of hub.old) cell) }
+    ensures ended { (k : ℕ) (j : Job) (e : Ended) → hub_cell (hub_of hub.old) cell ≡ Sent k j → result ≡ Done e → e ≡ ended_of (eval j) }
+{
+    state_in(top.load::<LoadNext>(hub, 4 * cell + 1))
+}
+
+pub(crate) fn load_value(
+    top: &Top,
+    hub: &mut Seat<(), View>,
+    cell: usize,
+    number: u32,
+    job: Job,
+) -> i64
+    requires board { hub.old.table_id ≡ top.now.table_id }
+    requires taking { IsHubAt hub.old cell (Taking number job) }
+    ensures seat { BecomesHub hub.old hub.new (hub_of hub.old) }
+    ensures value { result ≡ value_of (eval job) }
+{
+    let _ = number;
+    let _ = job;
+    signed_in(top.load::<LoadValue>(hub, 4 * cell + 4))
+}
+
+pub(crate) fn store_free(top: &Top, hub: &mut Seat<(), View>, cell: usize, number: u32, job: Job)
+    requires board { hub.old.table_id ≡ top.now.table_id }
+    requires taking { IsHubAt hub.old cell (Taking number job) }
+    ensures { IsMarked hub.old hub.new cell Vacant }
+{
+    let _ = number;
+    let _ = job;
+    top.store::<StoreFree>(hub, 4 * cell + 1, 0);
+}

@@ -1,0 +1,102 @@
+//! What was posted to a pool and what it answered.
+ghost use Rattle.std.specs.Prelude.{◌≡◌, ◌<◌, ◌≤◌, ◌^◌, ◌++◌, ◌∷◌, [], OnOk, OnErr, IsTrue, ◌↔◌, vec_len, vec_capacity, min, max};
+ghost use Rattle.native_answers.specs.Legal.{posted, moment_of, last_moment_of, Answers};
+
+use gv_values::{Answer, Job};
+use std::alloc::{AllocError, Global};
+use world::{PostedJob, Question, is_answer};
+
+/// The greatest moment.
+pub(crate) const LAST_MOMENT: u64 = (1 << 62) - 1;
+
+/// The posts and answers of a pool since it began, and its moment, which is not before the last answer.
+#[derive(Drop)]
+pub struct History {
+    pub(crate) posts: Vec<PostedJob>,
+    pub(crate) answers: Vec<Answer>,
+    pub(crate) moment: u64,
+    ghost timely: { last_moment_of answers.items ≤ moment },
+    ghost fits: { moment < 2 ^ 62 },
+}
+
+impl History {
+    /// Nothing was posted or answered.
+    pub(crate) fn new(alloc: Global) -> History {
+        History {
+            posts: Vec::new(alloc),
+            answers: Vec::new(alloc),
+            moment: 0,
+        }
+    }
+
+    /// Forgets all posts and answers.
+    pub(crate) fn restart(&mut self)
+        ensures posts { self.new.posts.items ≡ [] }
+        ensures answers { self.new.answers.items ≡ [] }
+        ensures moment { self.new.moment ≡ 0 }
+    {
+        self.answers.clear();
+        self.posts.clear();
+        self.moment = 0;
+    }
+
+    /// Goes on to a moment, if that is later.
+    pub(crate) fn advance(&mut self, moment: u64)
+        ensures posts { self.new.posts ≡ self.old.posts }
+        ensures answers { self.new.answers ≡ self.old.answers }
+        ensures moment { self.new.moment ≡ max self.old.moment (min moment 4611686018427387903) }
+        ensures fits { self.new.moment < 2 ^ 62 }
+    {
+        self.moment = self.moment.max(moment.min(LAST_MOMENT));
+    }
+
+    /// Makes room for a post.
+    pub(crate) fn reserve_post(&mut self) -> Result<(), AllocError>
+        ensures room { OnOk result (vec_len self.new.posts < vec_capacity self.new.posts) }
+        ensures posts { self.new.posts.items ≡ self.old.posts.items }
+        ensures answers { self.new.answers.items ≡ self.old.answers.items }
+        ensures moment { self.new.moment ≡ self.old.moment }
+    {
+        self.posts.reserve(1)?;
+        Ok(())
+    }
+
+    /// Adds a posted job. Room was made for it.
+    pub(crate) fn add(&mut self, number: u32, job: Job)
+        requires { vec_len self.old.posts < vec_capacity self.old.posts }
+        ensures posts { self.new.posts.items ≡ self.old.posts.items ++ posted number job ∷ [] }
+        ensures answers { self.new.answers.items ≡ self.old.answers.items }
+        ensures moment { self.new.moment ≡ self.old.moment }
+    {
+        self.posts.push_reserved(PostedJob { number, job });
+    }
+
+    /// Makes room for an answer.
+    pub(crate) fn reserve(&mut self) -> Result<(), AllocError>
+        ensures room { OnOk result (vec_len self.new.answers < vec_capacity self.new.answers) }
+        ensures posts { self.new.posts.items ≡ self.old.posts.items }
+        ensures answers { self.new.answers.items ≡ self.old.answers.items }
+        ensures moment { self.new.moment ≡ self.old.moment }
+    {
+        self.answers.reserve(1)?;
+        Ok(())
+    }
+
+    /// Whether an answer fits the question now.
+    pub(crate) fn allows(&self, question: Question, answer: Answer) -> bool
+        ensures { IsTrue result ↔ Answers self.now.posts.items self.now.answers.items question answer }
+    {
+        is_answer(&self.posts, &self.answers, question, answer)
+    }
+
+    /// Stores an answer that was given at this moment. Room was made for it.
+    pub(crate) fn store(&mut self, answer: Answer)
+        requires room { vec_len self.old.answers < vec_capacity self.old.answers }
+        requires at { moment_of answer ≡ self.old.moment }
+        ensures answers { self.new.answers.items ≡ self.old.answers.items ++ answer ∷ [] }
+        ensures posts { self.new.posts.items ≡ self.old.posts.items }
+        ensures moment { self.new.moment ≡ self.old.moment }
+    {
+        self.answers.push_reserved(answer);
+    }
+}

@@ -1,0 +1,3 @@
+pub mod Filtered
+pub mod Sound
+pub mod Listing

@@ -1,0 +1,5 @@
+pub mod Worlds
+pub mod Ruled
+pub mod Kept
+pub mod Logged
+pub mod Listed

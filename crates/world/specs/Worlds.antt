@@ -1,0 +1,48 @@
+-- What a world means to those that use it, and what each call does to that.
+use Rattle.std.specs.Prelude.{◌≡◌, ℕ, ◌^◌, ◌<◌, ◌≤◌, Bool, true, List, [], ◌∷◌, ◌++◌}
+use Rattle.gv_values.specs.declared.job.Job.{Job}
+use Rattle.gv_values.specs.declared.job.Answer.{Answer}
+use Rattle.native_answers.specs.declared.question.PostedJob.{PostedJob}
+use Rattle.native_answers.specs.Legal.{posted, moment_of}
+
+-- the jobs posted since the world began, in order; the answers since then; its moment; its number of workers; what its rule rests on, a tick and a list of answers; and whether it runs
+pub record Meaning : Type 0 where
+  pub posts : List PostedJob
+  pub answers : List Answer
+  pub moment : ℕ
+  pub workers : ℕ
+  pub tick : ℕ
+  pub listed : List Answer
+  pub runs : Bool
+
+-- a world that begins: nothing was posted, asked or answered. Its rule keeps its tick
+pub record Begins (v w : Meaning) (workers : ℕ) : Type 0 where
+  pub posts : w.posts ≡ []
+  pub answers : w.answers ≡ []
+  pub moment : w.moment ≡ 0
+  pub workers_are : w.workers ≡ workers
+  pub tick : w.tick ≡ v.tick
+  pub runs : w.runs ≡ true
+
+-- what stays the same while a world runs
+pub record GoesOn (v w : Meaning) : Type 0 where
+  pub workers : w.workers ≡ v.workers
+  pub tick : w.tick ≡ v.tick
+  pub listed : w.listed ≡ v.listed
+  pub runs : w.runs ≡ v.runs
+
+-- a job more was posted; the moment doesn't fall
+pub record Posts (v w : Meaning) (number : ℕ) (job : Job) : Type 0 where
+  pub posts : w.posts ≡ v.posts ++ posted number job ∷ []
+  pub answers : w.answers ≡ v.answers
+  pub moment : v.moment ≤ w.moment
+  pub fits : w.moment < 2 ^ 62
+  pub rest : GoesOn v w
+
+-- an answer more was given and stored, at the moment that it names, which doesn't fall
+pub record Stores (v w : Meaning) (answer : Answer) : Type 0 where
+  pub posts : w.posts ≡ v.posts
+  pub answers : w.answers ≡ v.answers ++ answer ∷ []
+  pub at : w.moment ≡ moment_of answer
+  pub moment : v.moment ≤ w.moment
+  pub rest : GoesOn v w

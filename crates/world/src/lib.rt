@@ -1,0 +1,16 @@
+//! The world outside of the hub, to which jobs are posted and questions are asked, and two worlds that answer by a rule.
+#![tactic(auto)]
+
+mod due;
+mod legal;
+mod list;
+mod outside;
+mod script;
+#[cfg(test)]
+mod tests;
+
+pub use legal::is_answer;
+pub use list::ListWorld;
+pub use native_answers::{DueJob, LogEntry, PostedJob, Question, eval};
+pub use outside::World;
+pub use script::ScriptWorld;

@@ -1,0 +1,98 @@
+//! A world that answers from a list.
+ghost use Rattle.std.specs.Prelude.{◌≡◌};
+ghost use Rattle.world.specs.Kept.{script_meaning};
+
+use crate::legal::is_legal;
+use crate::outside::World;
+use crate::script::ScriptWorld;
+use gv_values::{Answer, Job};
+use native_answers::Question;
+use std::alloc::{AllocError, Global};
+use std::snapshot::Snapshot;
+
+/// A world that gives the first answer of its list, where that is legal, and takes it off. Else it answers as a script that doesn't tick, and the list stays.
+#[derive(Drop)]
+pub struct ListWorld {
+    script: ScriptWorld,
+    listed: Vec<Answer>,
+    // The list with which it began, which exists in proofs alone.
+    begun_with: Snapshot<Vec<Answer>>,
+    ghost no_tick: { (script_meaning script).tick ≡ 0 },
+}
+
+impl ListWorld {
+    ghost use Rattle.std.specs.Prelude.{◌∷◌, List, false, MatchOption};
+    ghost use Rattle.native_answers.specs.Legal.{IsLegal};
+    ghost use Rattle.native_answers.specs.declared.question.Question.{Question};
+    ghost use Rattle.gv_values.specs.declared.job.Answer.{Answer};
+    ghost use Rattle.world.specs.Listed.{list_meaning, FirstLegal};
+
+    /// A world that doesn't run yet, with these answers.
+    pub fn new(alloc: Global, answers: Vec<Answer>) -> ListWorld
+        ensures tick { (list_meaning result).tick ≡ 0 }
+        ensures listed { result.listed.items ≡ answers.items }
+        ensures stopped { (list_meaning result).runs ≡ false }
+    {
+        let begun_with = Snapshot::of(&answers);
+        ListWorld {
+            script: ScriptWorld::new(alloc, 0),
+            listed: answers,
+            begun_with,
+        }
+    }
+
+    // The first answer of the list, where that is legal.
+    fn first_legal(&self, question: Question) -> Option<Answer>
+        ensures { FirstLegal self.now question result }
+    {
+        if self.listed.is_empty() {
+            return None;
+        }
+        let first = self.listed[0];
+        if self.script.is_legal(question, first) {
+            Some(first)
+        } else {
+            None
+        }
+    }
+}
+
+impl World for ListWorld {
+    ghost use Rattle.world.specs.Listed.{list_meaning, list_log, list_log_is};
+
+    ghost meaning = { list_meaning };
+
+    ghost stands_for = { list_log };
+
+    ghost log_is = { list_log_is };
+
+    fn begin(&mut self, workers: u32) -> Result<(), AllocError> {
+        self.script.restart(workers);
+        self.begun_with = Snapshot::of(&self.listed);
+        Ok(())
+    }
+
+    fn post(&mut self, number: u32, job: Job, takes: u64) -> Result<(), AllocError> {
+        self.script.add(number, job, takes)?;
+        Ok(())
+    }
+
+    fn ask(&mut self, question: Question) -> Result<Answer, AllocError> {
+        match self.first_legal(question) {
+            Some(answer) => {
+                self.script.store(question, answer)?;
+                self.listed.remove(0);
+                Ok(answer)
+            }
+            None => {
+                let answer = self.script.by_script(question);
+                self.script.store(question, answer)?;
+                Ok(answer)
+            }
+        }
+    }
+
+    fn finish(&mut self) {
+        self.script.stop();
+    }
+}

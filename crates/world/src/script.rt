@@ -1,0 +1,142 @@
+//! A world that answers by a script.
+ghost use Rattle.world.specs.Ruled.{IsSound};
+
+use crate::due::{due_at, moment_of, scripted, take_off};
+use crate::legal::is_legal;
+use crate::outside::World;
+use gv_values::{Answer, Job};
+use native_answers::{DueJob, PostedJob, Question};
+use std::alloc::{AllocError, Global};
+
+/// A world without threads, in which a job is done so long after its post as it takes, and whose moment grows by a tick at each Poll.
+#[derive(Drop)]
+pub struct ScriptWorld {
+    tick: u64,
+    workers: u32,
+    running: bool,
+    moment: u64,
+    posts: Vec<PostedJob>,
+    answers: Vec<Answer>,
+    jobs: Vec<DueJob>,
+    ghost sound: { IsSound posts.items answers.items jobs.items moment },
+}
+
+impl ScriptWorld {
+    ghost use Rattle.std.specs.Prelude.{◌≡◌, ◌≤◌, ◌↔◌, IsTrue, List, [], true, false, OnOk, OnErr};
+    ghost use Rattle.gv_values.specs.declared.job.Answer.{Answer};
+    ghost use Rattle.native_answers.specs.Legal.{is_posted, IsLegal, MayAsk};
+    ghost use Rattle.native_answers.specs.Script.{start, after_post, after_answer, scripted};
+    ghost use Rattle.world.specs.Kept.{script_meaning, rule_state, SameSetting, SameScript};
+
+    /// A world that doesn't run yet, whose moment grows by so many milliseconds at each Poll.
+    pub fn new(alloc: Global, tick: u64) -> ScriptWorld
+        ensures tick { (script_meaning result).tick ≡ tick }
+        ensures stopped { (script_meaning result).runs ≡ false }
+    {
+        ScriptWorld {
+            tick,
+            workers: 0,
+            running: false,
+            moment: 0,
+            posts: Vec::new(alloc),
+            answers: Vec::new(alloc),
+            jobs: Vec::new(alloc),
+        }
+    }
+
+    /// Forgets all posts and answers, and begins anew.
+    pub(crate) fn restart(&mut self, workers: u32)
+        ensures state { (listed : List Answer) → rule_state self.new listed ≡ start listed }
+        ensures setting { (self.new.tick ≡ self.old.tick) × (self.new.workers ≡ workers) × (self.new.running ≡ true) }
+    {
+        self.posts.clear();
+        self.answers.clear();
+        self.jobs.clear();
+        self.moment = 0;
+        self.workers = workers;
+        self.running = true;
+    }
+
+    /// Runs no longer.
+    pub(crate) fn stop(&mut self)
+        ensures { self.new ≡ record self.old { running = false } }
+    {
+        self.running = false;
+    }
+
+    /// Adds a job, which is due so long after the moment as it takes.
+    pub(crate) fn add(&mut self, number: u32, job: Job, takes: u64) -> Result<(), AllocError>
+        requires new { is_posted number self.old.posts.items ≡ false }
+        ensures state { OnOk result ((listed : List Answer) → rule_state self.new listed ≡ after_post (rule_state self.old listed) number job takes) }
+        ensures setting { OnOk result (SameSetting self.old self.new) }
+        ensures refused { OnErr result (SameScript self.old self.new) }
+    {
+        self.posts.reserve(1)?;
+        let due = due_at(self.moment, takes);
+        self.jobs.push(DueJob { number, job, due })?;
+        self.posts.push_reserved(PostedJob { number, job });
+        Ok(())
+    }
+
+    /// What the script answers, which is legal where the question may be asked.
+    pub(crate) fn by_script(&self, question: Question) -> Answer
+        requires { MayAsk self.now.posts.items self.now.answers.items question }
+        ensures script { result ≡ scripted self.now.tick self.now.jobs.items self.now.moment question }
+        ensures legal { IsLegal self.now.posts.items self.now.answers.items question result }
+    {
+        scripted(self.tick, &self.jobs, self.moment, question)
+    }
+
+    /// Whether an answer to the question is legal now.
+    pub(crate) fn is_legal(&self, question: Question, answer: Answer) -> bool
+        ensures { IsTrue result ↔ IsLegal self.now.posts.items self.now.answers.items question answer }
+    {
+        is_legal(&self.posts, &self.answers, self.moment, question, answer)
+    }
+
+    /// Stores a legal answer to the question.
+    pub(crate) fn store(&mut self, question: Question, answer: Answer) -> Result<(), AllocError>
+        requires { IsLegal self.old.posts.items self.old.answers.items question answer }
+        ensures state { OnOk result ((old later : List Answer) → rule_state self.new later ≡ after_answer (rule_state self.old old) later answer) }
+        ensures moment { OnOk result (self.old.moment ≤ self.new.moment) }
+        ensures setting { OnOk result (SameSetting self.old self.new) }
+        ensures refused { OnErr result (SameScript self.old self.new) }
+    {
+        let _ = question;
+        self.answers.push(answer)?;
+        take_off(&mut self.jobs, answer);
+        self.moment = moment_of(answer);
+        Ok(())
+    }
+}
+
+impl World for ScriptWorld {
+    ghost use Rattle.world.specs.Kept.{script_meaning, script_log};
+    ghost use Rattle.world.specs.Logged.{script_log_is};
+
+    ghost meaning = { script_meaning };
+
+    ghost stands_for = { script_log };
+
+    ghost log_is = { script_log_is };
+
+    fn begin(&mut self, workers: u32) -> Result<(), AllocError> {
+        self.restart(workers);
+        Ok(())
+    }
+
+    fn post(&mut self, number: u32, job: Job, takes: u64) -> Result<(), AllocError> {
+        self.add(number, job, takes)?;
+        Ok(())
+    }
+
+    fn ask(&mut self, question: Question) -> Result<Answer, AllocError> {
+        let answer = self.by_script(question);
+        self.store(question, answer)?;
+        Ok(answer)
+    }
+
+    fn finish(&mut self) {
+        self.stop();
+    }
+}
