@@ -1,0 +1,12 @@
+pub mod BodyLaws
+pub mod BodySteps
+pub mod ChunkLaws
+pub mod CutLaws
+pub mod CutReads
+pub mod EnvironLaws
+pub mod HeadLaws
+pub mod HeadReads
+pub mod JudgeLaws
+pub mod RequestLaws
+pub mod RequestSteps
+pub mod ScanLaws

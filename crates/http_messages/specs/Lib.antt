@@ -1,0 +1,9 @@
+pub mod Bodies
+pub mod Cuts
+pub mod Environs
+pub mod Fields
+pub mod Heads
+pub mod Laws
+pub mod Readings
+pub mod Requests
+pub mod Scans

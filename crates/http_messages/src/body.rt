@@ -1,0 +1,144 @@
+//! Bodies.
+ghost use Rattle.std.specs.Prelude.{◌≡◌, ◌<◌, ◌≤◌, ℕ, length, option_map, IfOk};
+ghost use Rattle.httparse.specs.Grammar.{chunk_size};
+ghost use Rattle.http_messages.specs.Bodies.{awaited_by, chunk_line};
+ghost use Rattle.http_messages.specs.Readings.{FindsBody, StepsBody};
+
+use crate::found::{BodyFound, BodyStep};
+use crate::judge::MOST_BODY;
+use crate::queue::ByteQueue;
+use crate::refusal::Refusal;
+use crate::request::{Awaited, Bytes, Framing};
+use httparse::{Status, parse_chunk_size};
+use sequences::Sequence;
+use std::alloc::{AllocError, Global};
+
+/// The most bytes that a chunk line may have.
+const CHUNK_LINE_LIMIT: usize = 1024;
+
+/// The most bytes that the lines after the last chunk may have.
+const TRAILERS_LIMIT: usize = 8192;
+
+/// The body before its first byte.
+pub fn awaited_by(alloc: Global, framing: Framing) -> Awaited
+    ensures { result ≡ awaited_by framing }
+{
+    match framing {
+        Framing::Sized(n) => Awaited::Counted(n),
+        Framing::Chunked => Awaited::InChunks(Sequence::new(alloc)),
+    }
+}
+
+/// The size that this line tells, if it is wholly a chunk line.
+fn read_chunk_line(line: &[u8]) -> Option<u64>
+    ensures { result ≡ option_map chunk_size (chunk_line line.now) }
+{
+    match parse_chunk_size(line) {
+        Ok(Status::Complete(found)) => {
+            if found.0 == line.len() {
+                Some(found.1)
+            } else {
+                None
+            }
+        }
+        Ok(Status::Partial) => None,
+        Err(_) => None,
+    }
+}
+
+/// Reads a body of `size` bytes.
+fn read_counted(alloc: Global, size: usize, kept: &mut ByteQueue) -> Result<BodyFound, AllocError>
+    ensures { IfOk result (λ found. FindsBody (Awaited.Counted size) found kept.old kept.new) }
+{
+    if kept.len() < size {
+        return Ok(BodyFound::BodyWaits(Awaited::Counted(size)));
+    }
+    let mut body = Sequence::new(alloc);
+    body.extend_from_slice(&kept.items()[..size])?;
+    kept.skip(size);
+    Ok(BodyFound::BodyWhole(body))
+}
+
+/// Reads the line of the next chunk, after the chunks that came.
+fn read_size(body: Bytes, kept: &mut ByteQueue) -> BodyStep
+    ensures { StepsBody (Awaited.InChunks body) result kept.old kept.new }
+{
+    let Some(end) = kept.line_end(CHUNK_LINE_LIMIT) else {
+        return if kept.len() < CHUNK_LINE_LIMIT {
+            BodyStep::Stops(BodyFound::BodyWaits(Awaited::InChunks(body)))
+        } else {
+            BodyStep::Stops(BodyFound::BodyRefused(Refusal::BadRequest))
+        };
+    };
+    let Some(size) = read_chunk_line(&kept.items()[..end]) else {
+        return BodyStep::Stops(BodyFound::BodyRefused(Refusal::BadRequest));
+    };
+    if size.saturating_add(body.len() as u64) > MOST_BODY as u64 {
+        return BodyStep::Stops(BodyFound::BodyRefused(Refusal::TooLarge));
+    }
+    kept.skip(end);
+    if size == 0 {
+        BodyStep::GoesOn(Awaited::InTrailers(body))
+    } else {
+        BodyStep::GoesOn(Awaited::InChunk(body, size as usize))
+    }
+}
+
+/// Reads a chunk of `size` bytes with its line end, after the chunks that came.
+fn read_chunk(mut body: Bytes, size: usize, kept: &mut ByteQueue) -> Result<BodyStep, AllocError>
+    ensures { IfOk result (λ step. StepsBody (Awaited.InChunk body size) step kept.old kept.new) }
+{
+    if kept.len() < 2 || kept.len() - 2 < size {
+        return Ok(BodyStep::Stops(BodyFound::BodyWaits(Awaited::InChunk(body, size))));
+    }
+    let bytes = kept.items();
+    if bytes[size] != b'\r' || bytes[size + 1] != b'\n' {
+        return Ok(BodyStep::Stops(BodyFound::BodyRefused(Refusal::BadRequest)));
+    }
+    body.extend_from_slice(&bytes[..size])?;
+    kept.skip(size + 2);
+    Ok(BodyStep::GoesOn(Awaited::InChunks(body)))
+}
+
+/// Drops the lines after the last chunk.
+fn read_trailers(body: Bytes, kept: &mut ByteQueue) -> BodyFound
+    ensures { FindsBody (Awaited.InTrailers body) result kept.old kept.new }
+{
+    match kept.empty_line_end(TRAILERS_LIMIT) {
+        Some(end) => {
+            kept.skip(end);
+            BodyFound::BodyWhole(body)
+        }
+        None if kept.len() < TRAILERS_LIMIT => BodyFound::BodyWaits(Awaited::InTrailers(body)),
+        None => BodyFound::BodyRefused(Refusal::BadRequest),
+    }
+}
+
+/// Reads the next part of what is left of a body.
+fn read_part(alloc: Global, awaited: Awaited, kept: &mut ByteQueue) -> Result<BodyStep, AllocError>
+    ensures { IfOk result (λ step. StepsBody awaited step kept.old kept.new) }
+{
+    match awaited {
+        Awaited::Counted(size) => Ok(BodyStep::Stops(read_counted(alloc, size, kept)?)),
+        Awaited::InChunks(body) => Ok(read_size(body, kept)),
+        Awaited::InChunk(body, size) => read_chunk(body, size, kept),
+        Awaited::InTrailers(body) => Ok(BodyStep::Stops(read_trailers(body, kept))),
+    }
+}
+
+/// Reads what is left of a body, and takes the bytes that it read.
+pub fn read_body(
+    alloc: Global,
+    awaited: Awaited,
+    kept: &mut ByteQueue,
+) -> Result<BodyFound, AllocError>
+    ensures { IfOk result (λ found. FindsBody awaited found kept.old kept.new) }
+{
+    let mut left = awaited;
+    loop {
+        match read_part(alloc, left, kept)? {
+            BodyStep::Stops(found) => return Ok(found),
+            BodyStep::GoesOn(next) => left = next,
+        }
+    }
+}

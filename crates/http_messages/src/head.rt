@@ -1,0 +1,105 @@
+//! Heads: where they end, and what they are.
+ghost use Rattle.std.specs.Prelude.{◌≡◌, ◌<◌, ◌≤◌, ℕ, List, length, drop, Some, IfOk, IfSome, IfNone};
+ghost use Rattle.httparse.specs.Grammar.{RequestHead};
+ghost use Rattle.httparse.specs.Spans.{IsRequestAt, IsRequestWithin};
+ghost use Rattle.http_messages.specs.Cuts.{drop_empty_lines, empty_line};
+ghost use Rattle.http_messages.specs.Heads.{request_head};
+ghost use Rattle.http_messages.specs.Readings.{Finds, Sees};
+ghost use Rattle.http_messages.specs.Requests.{head_at, request_at};
+
+use crate::found::{Found, Sight};
+use crate::judge::request_of_head;
+use crate::queue::ByteQueue;
+use crate::refusal::Refusal;
+use crate::request::Request;
+use crate::scan::empty_line;
+use httparse::Status;
+use httparse::spans::{HeaderSpan, RequestSpans, parse_request};
+use std::alloc::{AllocError, Global};
+
+/// The most bytes that the first line may have, with its end.
+const LINE_LIMIT: usize = 8191;
+
+/// The most bytes that a head may have.
+const HEAD_LIMIT: usize = 32768;
+
+/// The length of the empty lines at the front.
+fn empty_lines_len(bytes: &[u8]) -> usize
+    ensures within { result ≤ length bytes.now }
+    ensures rest { drop result bytes.now ≡ drop_empty_lines bytes.now }
+    ensures line { empty_line (drop result bytes.now) ≡ 0 }
+{
+    let mut at = 0;
+    loop {
+        let len = empty_line(&bytes[at..]);
+        if len == 0 {
+            return at;
+        }
+        at += len;
+    }
+}
+
+/// Where the head at the front ends.
+fn head_end(kept: &mut ByteQueue) -> Sight
+    ensures sees { Sees result kept.old (head_at kept.old) }
+    ensures same { kept.new ≡ kept.old }
+{
+    let Some(_) = kept.line_end(LINE_LIMIT) else {
+        return if kept.len() > LINE_LIMIT {
+            Sight::Excluded(Refusal::TooLong)
+        } else {
+            Sight::Unseen
+        };
+    };
+    match kept.empty_line_end(HEAD_LIMIT) {
+        Some(end) => Sight::Ends(end),
+        None if kept.len() >= HEAD_LIMIT => Sight::Excluded(Refusal::BadRequest),
+        None => Sight::Unseen,
+    }
+}
+
+/// The parts of the head that these bytes are, if it is a head of the grammar with at most 64 fields.
+pub fn read_head(head: &[u8], headers: &mut [HeaderSpan]) -> Option<RequestSpans>
+    requires room { length headers.old ≡ 64 }
+    requires begun { empty_line head.now ≡ 0 }
+    ensures found { IfSome result (λ spans. (h : RequestHead) × (request_head head.now ≡ Some h)
+        × (length h.fields ≤ 64) × IsRequestAt head.now headers.new spans h) }
+    ensures within { IfSome result (λ spans. IsRequestWithin head.now headers.new spans) }
+    ensures none { IfNone result ((h : RequestHead) → request_head head.now ≡ Some h → 64 < length h.fields) }
+{
+    match parse_request(head, headers) {
+        Ok(Status::Complete(spans)) => {
+            if spans.len == head.len() {
+                Some(spans)
+            } else {
+                None
+            }
+        }
+        Ok(Status::Partial) => None,
+        Err(_) => None,
+    }
+}
+
+/// Reads the request at the front up to its body, and takes its bytes. Empty lines before it are taken
+/// in any case.
+pub fn read_request(
+    alloc: Global,
+    port: u16,
+    kept: &mut ByteQueue,
+) -> Result<Found<Request>, AllocError>
+    ensures { IfOk result (λ found. Finds (request_at port) found kept.old kept.new) }
+{
+    let blank = empty_lines_len(kept.items());
+    kept.skip(blank);
+    match head_end(kept) {
+        Sight::Unseen => Ok(Found::Waits),
+        Sight::Excluded(reason) => Ok(Found::Refused(reason)),
+        Sight::Ends(end) => match request_of_head(alloc, port, &kept.items()[..end])? {
+            Ok(request) => {
+                kept.skip(end);
+                Ok(Found::Whole(request))
+            }
+            Err(reason) => Ok(Found::Refused(reason)),
+        },
+    }
+}

@@ -1,0 +1,324 @@
+//! What a head asks for.
+ghost use Rattle.std.specs.Prelude.{◌≡◌, ◌==◌, ◌&&◌, [], ◌∷◌, ◌++◌, All, IfOk, None, OnOk, Some, codes, length, reverse, if◌then◌else◌};
+ghost use Rattle.std.specs.List.{list_any};
+ghost use Rattle.std.specs.Str.{bytes_eq};
+ghost use Rattle.std.specs.Str.Parse.{digits_value};
+ghost use Rattle.httparse.specs.Grammar.{is_ows, skip_ows, trim_ows};
+ghost use Rattle.httparse.specs.Spans.{IsHeaderWithin, header_bytes};
+ghost use Rattle.http_messages.specs.Cuts.{empty_line};
+ghost use Rattle.http_messages.specs.Fields.{fields_at};
+ghost use Rattle.http_messages.specs.Heads.{request_head};
+ghost use Rattle.http_messages.specs.Requests.{announces_body, coded_by, does_persist, expects, framing_by, framing_of, has_member, is_allowed_target, is_length, judged, on_framing, request_of, sized_by, values};
+
+use crate::environ::environ_of;
+use crate::head::read_head;
+use crate::refusal::Refusal;
+use crate::request::{Bytes, Framing, Request};
+use crate::scan::{eq_any_case, find_byte};
+use httparse::spans::{EMPTY_HEADER_SPAN, HeaderSpan};
+use sequences::Sequence;
+use std::alloc::{AllocError, Global};
+
+/// The most fields that a head may have.
+const MOST_FIELDS: usize = 64;
+
+/// The most bytes that a body may have.
+pub const MOST_BODY: usize = 1048576;
+
+/// The most digits of a length.
+const MOST_DIGITS: usize = 19;
+
+/// The values of the fields of this name, in any case and in order.
+fn values(
+    alloc: Global,
+    head: &[u8],
+    headers: &[HeaderSpan],
+    name: &[u8],
+) -> Result<Sequence<Bytes>, AllocError>
+    requires { All (IsHeaderWithin (length head.now)) headers.now }
+    ensures { IfOk result (λ found. found ≡ values name.now (fields_at head.now headers.now)) }
+{
+    let mut found = Sequence::new(alloc);
+    for header in headers {
+        push_value(alloc, &mut found, head, *header, name)?;
+    }
+    Ok(found)
+}
+
+/// Appends the value of the field if it has this name, in any case.
+fn push_value(
+    alloc: Global,
+    found: &mut Sequence<Bytes>,
+    head: &[u8],
+    header: HeaderSpan,
+    name: &[u8],
+) -> Result<(), AllocError>
+    requires { IsHeaderWithin (length head.now) header }
+    ensures { OnOk result (found.new ≡ found.old ++ values name.now (header_bytes head.now header ∷ [])) }
+{
+    if !header.name.of(head).eq_ignore_ascii_case(name) {
+        return Ok(());
+    }
+    let mut value = Sequence::new(alloc);
+    value.extend_from_slice(header.value.of(head))?;
+    found.push(value)
+}
+
+/// The number that 1 to 19 digits write; `None` exactly where the bytes are none.
+pub fn parse_length(digits: &[u8]) -> Option<u64>
+    ensures { result ≡ (if is_length digits.now then Some (digits_value 10 digits.now) else None) }
+{
+    if digits.is_empty() || digits.len() > MOST_DIGITS {
+        return None;
+    }
+    let mut value: u64 = 0;
+    for digit in digits {
+        if !digit.is_ascii_digit() {
+            return None;
+        }
+        value = value * 10 + u64::from(*digit - b'0');
+    }
+    Some(value)
+}
+
+/// How a Content-Length frames the body.
+fn sized_by(digits: &[u8]) -> Result<Framing, Refusal>
+    ensures { result ≡ sized_by digits.now }
+{
+    match parse_length(digits) {
+        None => Err(Refusal::BadRequest),
+        Some(length) if length <= MOST_BODY as u64 => Ok(Framing::Sized(length as usize)),
+        Some(_) => Err(Refusal::TooLarge),
+    }
+}
+
+/// How a Transfer-Encoding frames the body.
+fn coded_by(minor: u8, coding: &[u8]) -> Result<Framing, Refusal>
+    ensures { result ≡ coded_by minor coding.now }
+{
+    if minor == 1 && coding.eq_ignore_ascii_case(b"chunked") {
+        Ok(Framing::Chunked)
+    } else {
+        Err(Refusal::BadRequest)
+    }
+}
+
+/// How the values of Content-Length and Transfer-Encoding frame the body.
+fn framing_by(
+    minor: u8,
+    lengths: &Sequence<Bytes>,
+    codings: &Sequence<Bytes>,
+) -> Result<Framing, Refusal>
+    ensures { result ≡ framing_by minor lengths.now codings.now }
+{
+    match (lengths.items(), codings.items()) {
+        ([], []) => Ok(Framing::Sized(0)),
+        ([digits], []) => sized_by(digits.items()),
+        ([], [coding]) => coded_by(minor, coding.items()),
+        _ => Err(Refusal::BadRequest),
+    }
+}
+
+/// Whether the byte is a blank.
+fn is_ows(byte: u8) -> bool
+    ensures { result ≡ is_ows byte }
+{
+    byte == b' ' || byte == b'\t'
+}
+
+/// The bytes from the first that is no blank.
+fn skip_ows(bytes: &[u8]) -> &[u8]
+    ensures { result.now ≡ skip_ows bytes.now }
+{
+    for at in 0..bytes.len() {
+        if !is_ows(bytes[at]) {
+            return &bytes[at..];
+        }
+    }
+    b""
+}
+
+/// The bytes up to the last that is no blank.
+fn skip_ows_back(bytes: &[u8]) -> &[u8]
+    ensures { result.now ≡ reverse (skip_ows (reverse bytes.now)) }
+{
+    let mut end = bytes.len();
+    while end > 0 && is_ows(bytes[end - 1]) {
+        end -= 1;
+    }
+    &bytes[..end]
+}
+
+/// The bytes without the blanks at both ends.
+fn trim_ows(bytes: &[u8]) -> &[u8]
+    ensures { result.now ≡ trim_ows bytes.now }
+{
+    skip_ows_back(skip_ows(bytes))
+}
+
+/// Whether the list that this value is has the option, in any case.
+fn has_member(option: &[u8], value: &[u8]) -> bool
+    ensures { result ≡ has_member option.now value.now }
+{
+    let mut rest = value;
+    loop {
+        let end = find_byte(rest, b',');
+        if eq_any_case(trim_ows(&rest[..end]), option) {
+            return true;
+        }
+        if end == rest.len() {
+            return false;
+        }
+        rest = &rest[end + 1..];
+    }
+}
+
+/// Whether a list among the values has the option, in any case.
+fn has_option(option: &[u8], values: &Sequence<Bytes>) -> bool
+    ensures { result ≡ list_any (has_member option.now) values.now }
+{
+    values
+        .items()
+        .iter()
+        .any(|value| has_member(option, value.items()))
+}
+
+/// Whether a head may have this target.
+fn is_allowed_target(target: &[u8]) -> bool
+    ensures { result ≡ is_allowed_target target.now }
+{
+    target == b"*".as_slice() || target.starts_with(b"/") || target.starts_with(b"http://")
+}
+
+/// Whether a body of at least one byte, or of chunks, is announced.
+fn announces_body(framing: Framing) -> bool
+    ensures { result ≡ announces_body framing }
+{
+    match framing {
+        Framing::Sized(length) => length > 0,
+        Framing::Chunked => true,
+    }
+}
+
+/// Whether the client wants the connection to stay.
+fn does_persist(
+    alloc: Global,
+    minor: u8,
+    head: &[u8],
+    headers: &[HeaderSpan],
+) -> Result<bool, AllocError>
+    requires { All (IsHeaderWithin (length head.now)) headers.now }
+    ensures { IfOk result (λ persists. persists ≡ does_persist minor (fields_at head.now headers.now)) }
+{
+    let options = values(alloc, head, headers, b"Connection")?;
+    if minor == 1 {
+        Ok(!has_option(b"close", &options))
+    } else {
+        Ok(has_option(b"keep-alive", &options))
+    }
+}
+
+/// Whether a field expects `100 Continue`.
+fn expects(alloc: Global, head: &[u8], headers: &[HeaderSpan]) -> Result<bool, AllocError>
+    requires { All (IsHeaderWithin (length head.now)) headers.now }
+    ensures { IfOk result (λ expected. expected ≡ expects (fields_at head.now headers.now)) }
+{
+    let expectations = values(alloc, head, headers, b"Expect")?;
+    Ok(expectations.items().iter().any(|value| value.items().eq_ignore_ascii_case(b"100-continue")))
+}
+
+/// Whether `100 Continue` is sent before the body is read.
+fn does_continue(framing: Framing, minor: u8, expected: bool) -> bool
+    ensures { result ≡ (minor == 1 && announces_body framing && expected) }
+{
+    minor == 1 && announces_body(framing) && expected
+}
+
+/// Whether the method is HEAD.
+fn is_head(method: &[u8]) -> bool
+    ensures { result ≡ bytes_eq method.now (codes "HEAD") }
+{
+    method == b"HEAD".as_slice()
+}
+
+/// The request of a head with these parts, whose target is allowed.
+fn framed_request(
+    alloc: Global,
+    port: u16,
+    method: &[u8],
+    target: &[u8],
+    minor: u8,
+    head: &[u8],
+    headers: &[HeaderSpan],
+) -> Result<Result<Request, Refusal>, AllocError>
+    requires { All (IsHeaderWithin (length head.now)) headers.now }
+    ensures { IfOk result (λ judged. judged ≡ on_framing port method.now target.now minor
+        (fields_at head.now headers.now) (framing_of minor (fields_at head.now headers.now))) }
+{
+    let lengths = values(alloc, head, headers, b"Content-Length")?;
+    let codings = values(alloc, head, headers, b"Transfer-Encoding")?;
+    match framing_by(minor, &lengths, &codings) {
+        Err(reason) => Ok(Err(reason)),
+        Ok(framing) => {
+            let persists = does_persist(alloc, minor, head, headers)?;
+            let expected = expects(alloc, head, headers)?;
+            let environ = environ_of(alloc, port, method, target, minor, head, headers)?;
+            Ok(Ok(Request {
+                environ,
+                is_head: is_head(method),
+                minor,
+                persists,
+                continues: does_continue(framing, minor, expected),
+                framing,
+            }))
+        }
+    }
+}
+
+/// The request of a head with these parts.
+fn request_of(
+    alloc: Global,
+    port: u16,
+    method: &[u8],
+    target: &[u8],
+    minor: u8,
+    head: &[u8],
+    headers: &[HeaderSpan],
+) -> Result<Result<Request, Refusal>, AllocError>
+    requires { All (IsHeaderWithin (length head.now)) headers.now }
+    ensures { IfOk result (λ judged. judged ≡ request_of port method.now target.now minor (fields_at head.now headers.now)) }
+{
+    if is_allowed_target(target) {
+        framed_request(alloc, port, method, target, minor, head, headers)
+    } else {
+        Ok(Err(Refusal::BadRequest))
+    }
+}
+
+/// The request of the head that these bytes are.
+pub fn request_of_head(
+    alloc: Global,
+    port: u16,
+    head: &[u8],
+) -> Result<Result<Request, Refusal>, AllocError>
+    requires { empty_line head.now ≡ 0 }
+    ensures { IfOk result (λ found. found ≡ judged port (request_head head.now)) }
+{
+    let mut headers = [EMPTY_HEADER_SPAN; MOST_FIELDS];
+    match read_head(head, &mut headers) {
+        None => Ok(Err(Refusal::BadRequest)),
+        Some(spans) => {
+            let method = spans.method.of(head);
+            let target = spans.path.of(head);
+            request_of(
+                alloc,
+                port,
+                method,
+                target,
+                spans.version,
+                head,
+                &headers[..spans.headers],
+            )
+        }
+    }
+}

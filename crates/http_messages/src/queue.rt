@@ -1,0 +1,119 @@
+//! Bytes in the order in which they came.
+ghost use Rattle.std.specs.Prelude.{◌≡◌, ◌<◌, ◌≤◌, [], ◌++◌, length, take, drop, true, IfSome, OnOk, OnErr};
+ghost use Rattle.http_messages.specs.Cuts.{line_end, empty_line_end};
+
+use crate::scan::{LinePlace, scan_empty_line, scan_line};
+use std::alloc::{AllocError, Global};
+use std::marker::Model;
+
+/// Bytes that are appended at the end and taken off the front, which contracts see as their list. A
+/// search for a line's end goes on where the last one stopped, and a byte is moved at most once for
+/// each byte before it that was taken, so neither costs more where the bytes come in small pieces.
+#[derive(Drop)]
+pub struct ByteQueue {
+    bytes: Vec<u8>,
+    start: usize,
+    line: usize,
+    empty: usize,
+    place: LinePlace,
+}
+
+impl Model for ByteQueue {
+    ghost use Rattle.std.specs.Prelude.{ℕ, List, drop};
+    ghost use Rattle.http_messages.specs.Scans.{IsScanned};
+
+    ghost Value = { List ℕ };
+
+    ghost view = { λ s. drop s.start s.bytes.items };
+
+    ghost invariant = { λ s. IsScanned s.bytes.items s.start s.line s.empty s.place };
+}
+
+impl ByteQueue {
+    /// No bytes.
+    pub fn new(alloc: Global) -> ByteQueue
+        ensures { result ≡ [] }
+    {
+        ByteQueue {
+            bytes: Vec::new(alloc),
+            start: 0,
+            line: 0,
+            empty: 0,
+            place: LinePlace::Start,
+        }
+    }
+
+    /// The bytes in order.
+    pub fn items(&self) -> &[u8]
+        ensures { result.now ≡ self.now }
+    {
+        &self.bytes[self.start..]
+    }
+
+    /// The number of bytes.
+    pub fn len(&self) -> usize
+        ensures { result ≡ length self.now }
+    {
+        self.bytes.len() - self.start
+    }
+
+    /// Appends a piece. After an `Err` nothing has changed.
+    pub fn append(&mut self, piece: &[u8]) -> Result<(), AllocError>
+        ensures ok { OnOk result (self.new ≡ self.old ++ piece.now) }
+        ensures err { OnErr result (self.new ≡ self.old) }
+    {
+        self.bytes.extend_from_slice(piece)?;
+        Ok(())
+    }
+
+    /// Takes bytes off the front.
+    pub fn skip(&mut self, n: usize)
+        requires { n ≤ length self.old }
+        ensures { self.new ≡ drop n self.old }
+    {
+        if n > 0 {
+            self.start += n;
+            self.line = 0;
+            self.empty = 0;
+            self.place = LinePlace::Start;
+            if self.start > self.bytes.len() - self.start {
+                self.bytes.drain(..self.start);
+                self.start = 0;
+            }
+        }
+    }
+
+    /// Where the first line ends, if it does within the first `most` bytes.
+    pub fn line_end(&mut self, most: usize) -> Option<usize>
+        ensures end { result ≡ line_end (take most self.old) }
+        ensures within { IfSome result (λ n. (0 < n) × (n ≤ length self.old)) }
+        ensures same { self.new ≡ self.old }
+    {
+        let limit = most.min(self.bytes.len() - self.start);
+        let bytes = &self.bytes[self.start..self.start + limit];
+        let end = scan_line(bytes, self.line.min(limit));
+        self.line = match end {
+            Some(n) => n - 1,
+            None => limit,
+        };
+        end
+    }
+
+    /// Where the first empty line ends, if it does within the first `most` bytes.
+    pub fn empty_line_end(&mut self, most: usize) -> Option<usize>
+        ensures end { result ≡ empty_line_end true (take most self.old) }
+        ensures within { IfSome result (λ n. (0 < n) × (n ≤ length self.old)) }
+        ensures same { self.new ≡ self.old }
+    {
+        let limit = most.min(self.bytes.len() - self.start);
+        if self.empty > limit {
+            self.empty = 0;
+            self.place = LinePlace::Start;
+        }
+        let bytes = &self.bytes[self.start..self.start + limit];
+        let scanned = scan_empty_line(bytes, self.empty, self.place);
+        self.empty = scanned.scanned;
+        self.place = scanned.place;
+        scanned.end
+    }
+}

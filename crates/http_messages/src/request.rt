@@ -1,0 +1,48 @@
+//! Requests without their bodies.
+use crate::environ::Environ;
+use sequences::Sequence;
+
+/// Bytes that contracts see as their list.
+pub type Bytes = Sequence<u8>;
+
+/// Names and their values, in order.
+pub type Headers = Sequence<(Bytes, Bytes)>;
+
+/// How the bytes of a body are counted.
+#[derive(Clone, Copy, Debug, Drop)]
+pub enum Framing {
+    /// By Content-Length, in bytes.
+    Sized(usize),
+    /// By chunks.
+    Chunked,
+}
+
+/// What a head asks for.
+#[derive(Drop)]
+pub struct Request {
+    /// What an application is handed.
+    pub environ: Environ,
+    /// Whether the method is HEAD.
+    pub is_head: bool,
+    /// The minor version of HTTP/1.
+    pub minor: u8,
+    /// Whether the client wants the connection to stay.
+    pub persists: bool,
+    /// Whether the client waits for `100 Continue` before it sends the body.
+    pub continues: bool,
+    /// How the body is counted.
+    pub framing: Framing,
+}
+
+/// What is left of a body.
+#[derive(Drop)]
+pub enum Awaited {
+    /// So many bytes.
+    Counted(usize),
+    /// Chunks after those that came.
+    InChunks(Bytes),
+    /// A chunk of so many bytes, its line end and what follows, after the chunks that came.
+    InChunk(Bytes, usize),
+    /// The lines after the last chunk; the body is whole.
+    InTrailers(Bytes),
+}

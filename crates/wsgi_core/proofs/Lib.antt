@@ -1,0 +1,4 @@
+pub mod AnswerLaws
+pub mod SessionLaws
+pub mod TalkLaws
+pub mod TalkSteps

@@ -1,0 +1,21 @@
+use Rattle.std.proofs.Common.{◌≡◌, ◌++◌, ◌∙◌, refl, sym, ap, ℕ, List}
+use Rattle.wsgi_core.specs.declared.session.Stage.TheVariants.{Asked}
+use Rattle.wsgi_core.specs.Answers.{answer}
+use Rattle.wsgi_core.specs.Steps.{talk_of}
+use Rattle.wsgi_core.proofs.TalkLaws.{talk_at}
+use Rattle.wsgi_core.proofs.TalkSteps.{open_where_asked, reply_there, at_asked}
+use Rattle.wsgi_core.proofs.session.Session.answer_asked.Goals as goal
+
+pub returns-clause-goes_on : goal.returns-clause-goes_on
+returns-clause-goes_on c =
+    let s = c.args.self.now in
+    let q = c.in-Asked.request in
+    let body = c.in-Asked.field-1 in
+    let is_open = open_where_asked s.closing s.stage c.requires in
+    let waits_for : s.stage ≡ Asked q body = sym c.replace.ensures.value ∙ c.in-Asked.is in
+    let bytes : c.append.new.self ≡ s.pending ++ (answer q c.args.reply).bytes =
+    c.in_ok-append-in-Asked.ensures.ok ∙ ap (λ (l : List ℕ). s.pending ++ l)
+    (c.deref.ensures.value ∙ c.in_ok-closes-in-Asked.ensures.sent ∙ ap (λ (l : List ℕ). l ++ (answer q c.args.reply).bytes) c.new-bytes.ensures.items) in
+    λ app is. at_asked app (talk_of s) (talk_at s.port c.replace.new.dest s.kept c.append.new.self c.in_ok-closes-in-Asked.closes) is_open
+    q body c.args.reply waits_for (reply_there app s.closing s.stage q body c.args.reply is_open waits_for is)
+    refl c.replace.ensures.after refl bytes c.in_ok-closes-in-Asked.ensures.closes

@@ -1,0 +1,464 @@
+//! Answers as bytes.
+ghost use Rattle.std.specs.Prelude.{◌≡◌, ◌<◌, ◌-◌, ◌++◌, IsTrue, OnOk, IfOk, length as list_length, take};
+ghost use Rattle.std.specs.List.{concat, flat_map, list_all};
+ghost use Rattle.std.specs.Char.{is_ascii_digit};
+ghost use Rattle.wsgi_core.specs.Answers.{answer, begins_with_code, body_bytes, chunk, coding_line, connection_line, ending, falls_short, has_code, has_place, has_visible_ends, head_bytes, header_line, is_empty, is_faulty, is_header, is_hop_by_hop, is_reason, is_reason_byte, is_status, is_visible, is_wrong, length_of, says_close, sent_by, server_error, stated, stated_after, status_line};
+
+use crate::reply::{Pieces, Reply};
+use http_messages::{Bytes, Headers, Request, eq_any_case, parse_length};
+use httparse::{is_header_value, is_token};
+use std::alloc::{AllocError, Global};
+
+/// What the headers state as the body's length.
+#[derive(Clone, Copy, Debug, PartialEq, Eq)]
+pub enum Stated {
+    /// Nothing.
+    Nothing,
+    /// So many bytes.
+    Length(u64),
+    /// Something that can't be sent.
+    Wrong,
+}
+
+/// How the end of a body is told.
+#[derive(Clone, Copy, Debug, PartialEq, Eq)]
+pub enum Ending {
+    /// By a length, in bytes.
+    Counted(u64),
+    /// By the last chunk.
+    InChunks,
+    /// By the connection's end.
+    AtClose,
+    /// The status has no body.
+    NoBody,
+}
+
+/// Whether the byte is a visible one of ASCII.
+fn is_visible(byte: u8) -> bool
+    ensures { result ≡ is_visible byte }
+{
+    32 < byte && byte < 127
+}
+
+/// Whether the byte may stand in a reason.
+fn is_reason_byte(byte: u8) -> bool
+    ensures { result ≡ is_reason_byte byte }
+{
+    is_visible(byte) || byte == b' '
+}
+
+/// Whether there are bytes, and the first and the last are visible.
+fn has_visible_ends(bytes: &[u8]) -> bool
+    ensures { result ≡ has_visible_ends bytes.now }
+{
+    !bytes.is_empty() && is_visible(bytes[0]) && is_visible(bytes[bytes.len() - 1])
+}
+
+/// Whether each byte may stand in a reason.
+fn are_reason_bytes(bytes: &[u8]) -> bool
+    ensures { result ≡ list_all is_reason_byte bytes.now }
+{
+    bytes.iter().all(|byte| is_reason_byte(*byte))
+}
+
+/// Whether the bytes are a reason.
+fn is_reason(bytes: &[u8]) -> bool
+    ensures { result ≡ is_reason bytes.now }
+{
+    has_visible_ends(bytes) && are_reason_bytes(bytes)
+}
+
+/// Whether each byte is a digit.
+fn are_digits(bytes: &[u8]) -> bool
+    ensures { result ≡ list_all is_ascii_digit bytes.now }
+{
+    bytes.iter().all(|byte| byte.is_ascii_digit())
+}
+
+/// Whether the bytes begin with a code, 200 to 999, and go on.
+fn begins_with_code(status: &[u8]) -> bool
+    ensures test { result ≡ begins_with_code status.now }
+    ensures within { IsTrue result → 4 < list_length status.now }
+{
+    status.len() > 4 && are_digits(&status[..3]) && status[0] >= b'2'
+}
+
+/// Whether the bytes are a status.
+fn is_status(status: &[u8]) -> bool
+    ensures { result ≡ is_status status.now }
+{
+    if !begins_with_code(status) {
+        return false;
+    }
+    status[3] == b' ' && is_reason(&status[4..])
+}
+
+/// Whether the status has this code.
+fn has_code(code: &[u8; 3], status: &[u8]) -> bool
+    ensures { result ≡ has_code code.now status.now }
+{
+    status.len() >= 3 && &status[..3] == code.as_slice()
+}
+
+/// Whether the status has a body.
+fn has_place(status: &[u8]) -> bool
+    ensures { result ≡ has_place status.now }
+{
+    !(has_code(b"204", status) || has_code(b"304", status))
+}
+
+/// Whether the name belongs to the connection and not to the reply.
+fn is_hop_by_hop(name: &[u8]) -> bool
+    ensures { result ≡ is_hop_by_hop name.now }
+{
+    eq_any_case(name, b"Connection")
+        || eq_any_case(name, b"Keep-Alive")
+        || eq_any_case(name, b"Proxy-Authenticate")
+        || eq_any_case(name, b"Proxy-Authorization")
+        || eq_any_case(name, b"TE")
+        || eq_any_case(name, b"Trailer")
+        || eq_any_case(name, b"Transfer-Encoding")
+        || eq_any_case(name, b"Upgrade")
+}
+
+/// Whether an application may send the header.
+fn is_header(name: &[u8], value: &[u8]) -> bool
+    ensures { result ≡ is_header (name.now, value.now) }
+{
+    is_token(name) && is_header_value(value) && !is_hop_by_hop(name)
+}
+
+/// Whether an application may send the headers.
+fn are_headers(headers: &Headers) -> bool
+    ensures { result ≡ list_all is_header headers.now }
+{
+    for header in headers.items() {
+        if !is_header(header.0.items(), header.1.items()) {
+            return false;
+        }
+    }
+    true
+}
+
+/// What one value of Content-Length states.
+fn length_of(value: &[u8]) -> Stated
+    ensures { result ≡ length_of value.now }
+{
+    match parse_length(value) {
+        Some(length) => Stated::Length(length),
+        None => Stated::Wrong,
+    }
+}
+
+/// What is stated after one more header.
+fn stated_after(stated: Stated, header: &(Bytes, Bytes)) -> Stated
+    ensures { result ≡ stated_after stated header.now }
+{
+    if !eq_any_case(header.0.items(), b"Content-Length") {
+        return stated;
+    }
+    match stated {
+        Stated::Nothing => length_of(header.1.items()),
+        Stated::Length(_) => Stated::Wrong,
+        Stated::Wrong => Stated::Wrong,
+    }
+}
+
+/// What the headers state as the length.
+fn stated_length(headers: &Headers) -> Stated
+    ensures { result ≡ stated headers.now }
+{
+    let mut stated = Stated::Nothing;
+    for header in headers.items() {
+        let next = stated_after(stated, header);
+        stated = next;
+    }
+    stated
+}
+
+/// Whether what is stated can't stand beside a status that has no body, or at all.
+fn is_wrong(no_content: bool, stated: Stated) -> bool
+    ensures { result ≡ is_wrong no_content stated }
+{
+    match stated {
+        Stated::Nothing => false,
+        Stated::Length(_) => no_content,
+        Stated::Wrong => true,
+    }
+}
+
+/// Whether every piece is empty.
+fn are_empty(pieces: &Pieces) -> bool
+    ensures { result ≡ list_all is_empty pieces.now }
+{
+    for piece in pieces.items() {
+        if !piece.is_empty() {
+            return false;
+        }
+    }
+    true
+}
+
+/// Whether the reply can't be sent.
+fn is_faulty(reply: &Reply) -> bool
+    ensures { result ≡ is_faulty reply.now }
+{
+    match reply {
+        Reply::Raised => true,
+        Reply::Started {
+            status,
+            headers,
+            pieces,
+            raised,
+        } => {
+            !is_status(status.items())
+                || !are_headers(headers)
+                || is_wrong(has_code(b"204", status.items()), stated_length(headers))
+                || (*raised && are_empty(pieces))
+        }
+    }
+}
+
+/// How the end of a reply's body is told.
+fn ending_of(request: &Request, status: &[u8], headers: &Headers) -> Ending
+    ensures { result ≡ ending request.now status.now headers.now }
+{
+    if !has_place(status) {
+        return Ending::NoBody;
+    }
+    match stated_length(headers) {
+        Stated::Length(length) => Ending::Counted(length),
+        _ if request.minor == 1 => Ending::InChunks,
+        _ => Ending::AtClose,
+    }
+}
+
+/// Whether the answer says that the connection closes.
+fn says_close(request: &Request, ending: Ending) -> bool
+    ensures { result ≡ says_close request.now ending }
+{
+    !request.persists || ending == Ending::AtClose
+}
+
+/// Appends the line on the connection.
+fn push_connection(out: &mut Vec<u8>, request: &Request, ending: Ending) -> Result<(), AllocError>
+    ensures { OnOk result (out.new.items ≡ out.old.items ++ connection_line request.now ending) }
+{
+    if says_close(request, ending) {
+        return out.extend_from_slice(b"Connection: close\r\n");
+    }
+    if request.minor == 0 {
+        return out.extend_from_slice(b"Connection: keep-alive\r\n");
+    }
+    Ok(())
+}
+
+/// Appends the headers as lines.
+fn push_headers(out: &mut Vec<u8>, headers: &Headers) -> Result<(), AllocError>
+    ensures { OnOk result (out.new.items ≡ out.old.items ++ flat_map header_line headers.now) }
+{
+    for header in headers.items() {
+        out.extend_from_slice(header.0.items())?;
+        out.extend_from_slice(b": ")?;
+        out.extend_from_slice(header.1.items())?;
+        out.extend_from_slice(b"\r\n")?;
+    }
+    Ok(())
+}
+
+/// Appends the line that tells that chunks follow, where they do.
+fn push_coding(out: &mut Vec<u8>, ending: Ending) -> Result<(), AllocError>
+    ensures { OnOk result (out.new.items ≡ out.old.items ++ coding_line ending) }
+{
+    if ending == Ending::InChunks {
+        return out.extend_from_slice(b"Transfer-Encoding: chunked\r\n");
+    }
+    Ok(())
+}
+
+/// Appends the line of the version and the status.
+fn push_status(alloc: Global, out: &mut Vec<u8>, minor: u8, status: &[u8]) -> Result<(), AllocError>
+    ensures { OnOk result (out.new.items ≡ out.old.items ++ status_line minor status.now) }
+{
+    let version = format!(in alloc; "HTTP/1.{minor} ")?;
+    out.extend_from_slice(version.as_bytes())?;
+    out.extend_from_slice(status)?;
+    out.extend_from_slice(b"\r\n")
+}
+
+/// Appends the head of an answer.
+fn push_head(
+    alloc: Global,
+    out: &mut Vec<u8>,
+    request: &Request,
+    ending: Ending,
+    status: &[u8],
+    headers: &Headers,
+) -> Result<(), AllocError>
+    ensures { OnOk result (out.new.items ≡ out.old.items ++ head_bytes request.now ending status.now headers.now) }
+{
+    push_status(alloc, out, request.minor, status)?;
+    push_headers(out, headers)?;
+    push_coding(out, ending)?;
+    push_connection(out, request, ending)?;
+    out.extend_from_slice(b"\r\n")
+}
+
+/// Appends a piece of a chunked body.
+fn push_chunk(alloc: Global, out: &mut Vec<u8>, piece: &[u8]) -> Result<(), AllocError>
+    ensures { OnOk result (out.new.items ≡ out.old.items ++ chunk piece.now) }
+{
+    if piece.is_empty() {
+        return Ok(());
+    }
+    let size = format!(in alloc; "{:x}", piece.len())?;
+    out.extend_from_slice(size.as_bytes())?;
+    out.extend_from_slice(b"\r\n")?;
+    out.extend_from_slice(piece)?;
+    out.extend_from_slice(b"\r\n")
+}
+
+/// Appends the pieces of a chunked body, and the last chunk unless the application raised.
+fn push_chunks(
+    alloc: Global,
+    out: &mut Vec<u8>,
+    pieces: &Pieces,
+    raised: bool,
+) -> Result<(), AllocError>
+    ensures { OnOk result (out.new.items ≡ out.old.items ++ body_bytes Ending.InChunks pieces.now raised) }
+{
+    for piece in pieces.items() {
+        push_chunk(alloc, out, piece.items())?;
+    }
+    if raised {
+        return Ok(());
+    }
+    out.extend_from_slice(b"0\r\n\r\n")
+}
+
+/// Appends the first `length` bytes of the pieces; answers how many of them are missing.
+fn push_counted(out: &mut Vec<u8>, length: u64, pieces: &Pieces) -> Result<u64, AllocError>
+    ensures sent { OnOk result (out.new.items ≡ out.old.items ++ take length (concat pieces.now)) }
+    ensures missing { IfOk result (λ missing. missing ≡ length - list_length (concat pieces.now)) }
+{
+    let mut left = length;
+    for piece in pieces.items() {
+        let bytes = piece.items();
+        let len = left.min(bytes.len() as u64);
+        out.extend_from_slice(&bytes[..len as usize])?;
+        left -= len;
+    }
+    Ok(left)
+}
+
+/// Appends the pieces.
+fn push_pieces(out: &mut Vec<u8>, pieces: &Pieces) -> Result<(), AllocError>
+    ensures { OnOk result (out.new.items ≡ out.old.items ++ concat pieces.now) }
+{
+    for piece in pieces.items() {
+        out.extend_from_slice(piece.items())?;
+    }
+    Ok(())
+}
+
+/// Appends a body; answers whether the pieces fall short of the stated length.
+fn push_body(
+    alloc: Global,
+    out: &mut Vec<u8>,
+    ending: Ending,
+    pieces: &Pieces,
+    raised: bool,
+) -> Result<bool, AllocError>
+    ensures sent { OnOk result (out.new.items ≡ out.old.items ++ body_bytes ending pieces.now raised) }
+    ensures short { IfOk result (λ short. short ≡ falls_short ending pieces.now) }
+{
+    match ending {
+        Ending::NoBody => Ok(false),
+        Ending::Counted(length) => {
+            let missing = push_counted(out, length, pieces)?;
+            Ok(missing > 0)
+        }
+        Ending::InChunks => {
+            push_chunks(alloc, out, pieces, raised)?;
+            Ok(false)
+        }
+        Ending::AtClose => {
+            push_pieces(out, pieces)?;
+            Ok(false)
+        }
+    }
+}
+
+/// Appends the answer that replaces a faulty reply.
+fn push_server_error(out: &mut Vec<u8>, request: &Request) -> Result<(), AllocError>
+    ensures { OnOk result (out.new.items ≡ out.old.items ++ (server_error request.now).bytes) }
+{
+    out.extend_from_slice(
+        b"HTTP/1.1 500 Internal Server Error\r\nContent-Type: text/plain\r\nConnection: close\r\nContent-Length: 21\r\n\r\n",
+    )?;
+    if request.is_head {
+        return Ok(());
+    }
+    out.extend_from_slice(b"Internal Server Error")
+}
+
+/// Appends the answer of a reply that can be sent; answers whether the session closes after it.
+fn push_started(
+    alloc: Global,
+    out: &mut Vec<u8>,
+    request: &Request,
+    status: &[u8],
+    headers: &Headers,
+    pieces: &Pieces,
+    raised: bool,
+) -> Result<bool, AllocError>
+    ensures sent { OnOk result (out.new.items ≡ out.old.items
+        ++ (sent_by request.now (ending request.now status.now headers.now) status.now headers.now pieces.now raised).bytes) }
+    ensures closes { IfOk result (λ closes. closes
+        ≡ (sent_by request.now (ending request.now status.now headers.now) status.now headers.now pieces.now raised).closes) }
+{
+    let ending = ending_of(request, status, headers);
+    push_head(alloc, out, request, ending, status, headers)?;
+    let closes = says_close(request, ending) || raised;
+    if request.is_head {
+        return Ok(closes);
+    }
+    let short = push_body(alloc, out, ending, pieces, raised)?;
+    Ok(closes || short)
+}
+
+/// Appends the answer to a request; answers whether the session closes after it.
+pub fn push_answer(
+    alloc: Global,
+    out: &mut Vec<u8>,
+    request: &Request,
+    reply: &Reply,
+) -> Result<bool, AllocError>
+    ensures sent { OnOk result (out.new.items ≡ out.old.items ++ (answer request.now reply.now).bytes) }
+    ensures closes { IfOk result (λ closes. closes ≡ (answer request.now reply.now).closes) }
+{
+    if is_faulty(reply) {
+        push_server_error(out, request)?;
+        return Ok(true);
+    }
+    match reply {
+        Reply::Raised => {
+            push_server_error(out, request)?;
+            Ok(true)
+        }
+        Reply::Started {
+            status,
+            headers,
+            pieces,
+            raised,
+        } => push_started(
+            alloc,
+            out,
+            request,
+            status.items(),
+            headers,
+            pieces,
+            *raised,
+        ),
+    }
+}

@@ -1,0 +1,21 @@
+//! What a connection is sent: the HTTP sessions of a server, as a function of all its bytes.
+#![tactic(auto)]
+
+mod answer;
+mod gateway;
+mod laws;
+mod reply;
+mod session;
+mod shipped;
+#[cfg(test)]
+mod tests;
+
+pub use answer::{Ending, Stated, push_answer};
+pub use gateway::{
+    WSGI_MULTIPROCESS, WSGI_MULTITHREAD, WSGI_RUN_ONCE, WSGI_URL_SCHEME, WSGI_VERSION,
+};
+pub use http_messages::{Bytes, Environ, Headers};
+pub use laws::sessions_never_take_back;
+pub use reply::{Application, Pieces, Reply};
+pub use session::{Session, SessionPhase, Stage};
+pub use shipped::{Route, ShippedApp};
