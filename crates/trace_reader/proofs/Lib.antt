@@ -1,3 +1,6 @@
 pub mod Readers
 pub mod ValueReaders
 pub mod LineReaders
+mod Words
+mod Lists
+mod Faults

@@ -19,7 +19,7 @@ use Rattle.trace_text.specs.LineTexts.{line_text, awaited_text, until_text, link
 use Rattle.trace_reader.specs.Ranges.{FaultFits, ValueFits, OutcomeFits, WhomFits, NameFits, AwaitedFits, UntilFits, LinkCallFits, JobFits, BlockedFits, JobOutcomeFits, AnswerFits, CauseFits, LineFits}
 use Rattle.trace_reader.specs.Fronts.{Front, and_then, after, or_else, strip, number_front, small_front, greenlet_front, job_front, int_front, name_front}
 use Rattle.trace_reader.specs.ValueFronts.{fault_front, starts_numeral, value_front, outcome_front}
-use Rattle.trace_reader.specs.LineFronts.{whom_front, awaited_front, queued_front, until_front, link_call_front, job_call_front, blocked_front, job_outcome_front, done_front, answer_front, cause_front, of_greenlet, start_front, print_front, park_front, throw_front, into_front, end_front, link_front, job_line_front, turn_front, stop_front, greenlet_line_front, line_front}
+use Rattle.trace_reader.specs.LineFronts.{whom_front, awaited_front, joined_front, named_front, queued_front, grouped_front, until_front, link_call_front, job_call_front, blocked_front, job_outcome_front, done_front, answer_front, cause_front, limit_front, of_greenlet, start_front, print_front, park_front, throw_front, into_front, end_front, link_front, job_line_front, turn_front, stop_front, greenlet_line_front, resumed_line_front, line_front}
 use Rattle.trace_reader.proofs.Readers.{Stops, Ends, and_then-is, number_read, small_read, greenlet_read, job_read, int_read, name_read, decimal_start}
 use Rattle.trace_reader.proofs.ValueReaders.{digit_starts, fault_read, value_read, outcome_read}
 
@@ -40,7 +40,7 @@ whom_read (Whom.Greenlet g) r h e = and_then-is (small_front (decimal g ++ r)) g
 whom_read (Whom.Job j) r h e = and_then-is (small_front (decimal j ++ r)) j r _ (small_read j r h e)
 
 awaited_read : (a : Awaited) (r : Text) → AwaitedFits a → Ends r → awaited_front (awaited_text a ++ r) ≡ Some (a, r)
-unfolding awaited_front queued_front or_else after strip
+unfolding awaited_front joined_front named_front queued_front grouped_front or_else after strip
 awaited_read Awaited.Sleep r h e = refl
 awaited_read (Awaited.Join w) r h e = and_then-is (whom_front (whom_text w ++ r)) w r _ (whom_read w r h (ends_stop r e))
 awaited_read (Awaited.Get w) r h e = and_then-is (whom_front (whom_text w ++ r)) w r _ (whom_read w r h (ends_stop r e))
@@ -113,7 +113,7 @@ answer_read (Answer.Elapsed at) h = and_then-is (number_front (decimal at ++ [])
 answer_read (Answer.Done j o at) h = ap done_front (spaced_twice (job_text j) (decimal at) (job_outcome_text o) []) ∙ done_read j o at h.0 h.1 h.2
 
 cause_read : (c : StopCause) (r : Text) → CauseFits c → Stops r → cause_front (cause_text c ++ r) ≡ Some (c, r)
-unfolding cause_front or_else after strip
+unfolding cause_front limit_front or_else after strip
 cause_read (StopCause.Value v) r h e = and_then-is (value_front (value_text v ++ r)) v r _ (value_read v r h e)
 cause_read (StopCause.Fault f) r h e = and_then-is (fault_front (fault_text f ++ r)) f r _ (fault_read f r h)
 cause_read StopCause.NoTurns r h e = refl
@@ -188,7 +188,7 @@ stop_spaced : (c t m : Text) →
 stop_spaced c t m = simp append_assoc
 
 read_of : (l : Line) → LineFits l → line_front (line_text l ++ []) ≡ Some (l, [])
-unfolding line_front greenlet_line_front or_else after strip
+unfolding line_front greenlet_line_front resumed_line_front or_else after strip
 read_of (Line.Start g n) h = ap (of_greenlet start_front) (spaced (greenlet_text g) n []) ∙ of_greenlet_read start_front g (n ++ []) h.0 ∙ start_read g n h.1
 read_of (Line.Print g v) h = ap (of_greenlet print_front) (spaced (greenlet_text g) (value_text v) []) ∙ of_greenlet_read print_front g (value_text v ++ []) h.0 ∙ print_read g v h.1
 read_of (Line.Park g a u) h =

@@ -141,6 +141,9 @@ abbrev pub Ends : Text → Type 0
 Ends [] = Unit {0}
 Ends (b ∷ bs) = b ≡ 32
 
+one_more : (m n : ℕ) → m ≡ n → 1 + m ≡ suc n
+one_more m n e = omega (arith, e)
+
 name_bytes : (bs r : Text) → list_all is_name_byte bs ≡ true → Ends r → word_length (bs ++ r) ≡ length bs
 name_bytes [] [] h e = refl
 name_bytes [] (b ∷ bs) h e = let test : b == 32 ≡ true = grind (arith, nat_tests) in rw (test, word_length)
@@ -148,7 +151,7 @@ name_bytes (b ∷ bs) r h e =
     let here : is_name_byte b ≡ true = grind (arith, nat_tests) in
     let rest : list_all is_name_byte bs ≡ true = grind (arith, nat_tests) in
     let test : b == 32 ≡ false = grind (arith, nat_tests) in
-    rw (test, word_length) (ap suc (name_bytes bs r rest e))
+    rw (test, word_length) (one_more (word_length (bs ++ r)) (length bs) (name_bytes bs r rest e))
 
 pub name_read : (name r : Text) → IsTrue (is_name name) → Ends r → name_front (name ++ r) ≡ Some (name, r)
 unfolding name_front

@@ -9,11 +9,11 @@ use Rattle.gv_values.specs.ValueTexts.{Text, decimal, int_text, fault_text, scal
 use Rattle.gv_values.specs.Values.{value_of_scalar}
 use Rattle.trace_reader.specs.Ranges.{FaultFits, ScalarFits, ScalarsFit, ValueFits, OutcomeFits}
 use Rattle.trace_reader.specs.Fronts.{and_then, after, or_else, strip, small_front, int_front}
-use Rattle.trace_reader.specs.ValueFronts.{closed, error_front, fault_front, starts_numeral, word_front, scalar_front, scalars_on, list_front, value_front, outcome_front}
+use Rattle.trace_reader.specs.ValueFronts.{closed, error_front, call_fault_front, timeout_front, fault_front, starts_numeral, word_front, scalar_front, scalars_on, list_front, value_front, outcome_front}
 use Rattle.trace_reader.proofs.Readers.{Stops, StartsDigit, and_then-is, or_else-none, small_read, int_read, decimal_start}
 
 pub fault_read : (f : FaultKind) (r : Text) → FaultFits f → fault_front (fault_text f ++ r) ≡ Some (f, r)
-unfolding fault_front error_front or_else after strip closed
+unfolding fault_front timeout_front call_fault_front error_front or_else after strip closed
 fault_read FaultKind.GreenletExit r h = refl
 fault_read (FaultKind.Timeout n) r h =
     ap (λ t. and_then (small_front t) (closed (λ n. FaultKind.Timeout n))) (append_assoc (decimal n) (codes ")") r)

@@ -1,7 +1,8 @@
 -- How the front of a text is read: a reader gives what it read and the rest of the text, or nothing.
-use Rattle.std.specs.Prelude.{◌==◌, ℕ, suc, ◌+◌, ◌*◌, ◌-◌, ◌^◌, true, false, ◌&&◌, nat_le, nat_lt, if◌then◌else◌, [], ◌∷◌, length, take, drop, Option, Some, None, ℤ, pos, negsuc, codes}
+use Rattle.std.specs.Prelude.{◌==◌, ℕ, ◌+◌, ◌*◌, ◌-◌, ◌^◌, true, false, ◌&&◌, nat_le, nat_lt, if◌then◌else◌, [], ◌∷◌, length, take, drop, Option, Some, None, ℤ, pos, negsuc, codes}
 use Rattle.std.specs.Cmp.Lexicographic.{pointwise}
 use Rattle.std.specs.Prelude.{nat_eq}
+use Rattle.std.specs.List.{position_or_len}
 use Rattle.gv_values.specs.Names.{is_digit, is_name}
 use Rattle.gv_values.specs.ValueTexts.{Text}
 
@@ -62,8 +63,7 @@ int_front text = or_else (strip (codes "-") text) (λ rest. and_then (number_fro
 
 -- how many bytes stand before the first blank
 abbrev pub word_length : Text → ℕ
-word_length [] = 0
-word_length (b ∷ bs) = elim (b == 32) [ true ↦ 0 | false ↦ suc (word_length bs) ]
+word_length text = position_or_len (λ b. b == 32) text
 
 -- a name, up to a blank or the end
 unfoldable pub name_front : Text → Front Text

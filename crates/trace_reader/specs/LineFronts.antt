@@ -25,33 +25,47 @@ of_whom kind rest = and_then (whom_front rest) (as_kind kind)
 abbrev pub of_name : (Text → Awaited) → Text → Front Awaited
 of_name kind rest = and_then (name_front rest) (as_kind kind)
 
--- a wait on queues, groups and pools
+-- a wait on groups and pools
+unfoldable pub grouped_front : Text → Front Awaited
+grouped_front text =
+    or_else (strip (codes "gspawn ") text) (of_name (λ n. Awaited.GroupSpawn n))
+    (or_else (strip (codes "gjoin ") text) (of_name (λ n. Awaited.GroupJoin n))
+    (or_else (strip (codes "gkill ") text) (of_name (λ n. Awaited.GroupKill n))
+    (or_else (strip (codes "map ") text) (of_name (λ n. Awaited.Map n))
+    (after (strip (codes "nspawn ") text) (of_name (λ n. Awaited.NativeSpawn n))))))
+
+-- a wait on queues, or on these
 unfoldable pub queued_front : Text → Front Awaited
 queued_front text =
     or_else (strip (codes "qput ") text) (of_name (λ n. Awaited.QueuePut n))
     (or_else (strip (codes "qget ") text) (of_name (λ n. Awaited.QueueGet n))
     (or_else (strip (codes "qpeek ") text) (of_name (λ n. Awaited.QueuePeek n))
     (or_else (strip (codes "qjoin ") text) (of_name (λ n. Awaited.QueueJoin n))
-    (or_else (strip (codes "gspawn ") text) (of_name (λ n. Awaited.GroupSpawn n))
-    (or_else (strip (codes "gjoin ") text) (of_name (λ n. Awaited.GroupJoin n))
-    (or_else (strip (codes "gkill ") text) (of_name (λ n. Awaited.GroupKill n))
-    (or_else (strip (codes "map ") text) (of_name (λ n. Awaited.Map n))
-    (after (strip (codes "nspawn ") text) (of_name (λ n. Awaited.NativeSpawn n))))))))))
+    (grouped_front text))))
 
--- a wait on greenlets, jobs, events, results and locks
+-- a wait on events, results and locks, or on these
+unfoldable pub named_front : Text → Front Awaited
+named_front text =
+    or_else (strip (codes "wait ") text) (of_name (λ n. Awaited.Wait n))
+    (or_else (strip (codes "rget ") text) (of_name (λ n. Awaited.ResultGet n))
+    (or_else (strip (codes "rwait ") text) (of_name (λ n. Awaited.ResultWait n))
+    (or_else (strip (codes "acquire ") text) (of_name (λ n. Awaited.Acquire n))
+    (queued_front text))))
+
+-- a wait on several greenlets, or on what has a name
+unfoldable pub joined_front : Text → Front Awaited
+joined_front text =
+    or_else (strip (codes "joinall") text) (is Awaited.JoinAll)
+    (or_else (strip (codes "killall") text) (is Awaited.KillAll)
+    (named_front text))
+
 unfoldable pub awaited_front : Text → Front Awaited
 awaited_front text =
     or_else (strip (codes "sleep") text) (is Awaited.Sleep)
     (or_else (strip (codes "join ") text) (of_whom (λ w. Awaited.Join w))
     (or_else (strip (codes "get ") text) (of_whom (λ w. Awaited.Get w))
     (or_else (strip (codes "kill ") text) (of_whom (λ w. Awaited.Kill w))
-    (or_else (strip (codes "joinall") text) (is Awaited.JoinAll)
-    (or_else (strip (codes "killall") text) (is Awaited.KillAll)
-    (or_else (strip (codes "wait ") text) (of_name (λ n. Awaited.Wait n))
-    (or_else (strip (codes "rget ") text) (of_name (λ n. Awaited.ResultGet n))
-    (or_else (strip (codes "rwait ") text) (of_name (λ n. Awaited.ResultWait n))
-    (or_else (strip (codes "acquire ") text) (of_name (λ n. Awaited.Acquire n))
-    (queued_front text))))))))))
+    (joined_front text))))
 
 unfoldable pub until_front : Text → Front (Option ℕ)
 until_front text = or_else (strip (codes " until ") text) (λ rest. and_then (number_front rest) (as_kind (λ t. Some t))) (Some (None, text))
@@ -94,15 +108,20 @@ answer_front text =
     (or_else (strip (codes "elapsed ") text) (λ rest. and_then (number_front rest) (as_kind (λ at. Answer.Elapsed at)))
     (after (strip (codes "done ") text) done_front))
 
+-- what there is no more of
+unfoldable pub limit_front : Text → Front StopCause
+limit_front text =
+    or_else (strip (codes "no-turns") text) (is StopCause.NoTurns)
+    (or_else (strip (codes "no-moves") text) (is StopCause.NoMoves)
+    (or_else (strip (codes "no-greenlets") text) (is StopCause.NoGreenlets)
+    (or_else (strip (codes "no-links") text) (is StopCause.NoLinks)
+    (after (strip (codes "no-kills") text) (is StopCause.NoKills)))))
+
 unfoldable pub cause_front : Text → Front StopCause
 cause_front text =
     or_else (strip (codes "value ") text) (λ rest. and_then (value_front rest) (as_kind (λ v. StopCause.Value v)))
     (or_else (strip (codes "fault ") text) (λ rest. and_then (fault_front rest) (as_kind (λ f. StopCause.Fault f)))
-    (or_else (strip (codes "no-turns") text) (is StopCause.NoTurns)
-    (or_else (strip (codes "no-moves") text) (is StopCause.NoMoves)
-    (or_else (strip (codes "no-greenlets") text) (is StopCause.NoGreenlets)
-    (or_else (strip (codes "no-links") text) (is StopCause.NoLinks)
-    (after (strip (codes "no-kills") text) (is StopCause.NoKills)))))))
+    (limit_front text))
 
 -- a greenlet and a blank, and what comes next of it
 abbrev pub of_greenlet : {B : Type 0} → (ℕ → Text → Front B) → Text → Front B
@@ -146,6 +165,14 @@ stop_front text =
     and_then (number_front rest) (λ t rest. after (strip (codes " moves ") rest) (λ rest.
     and_then (number_front rest) (λ m rest. Some (Line.Stop c t m, rest))))))
 
+-- a greenlet that goes on or ends
+unfoldable pub resumed_line_front : Text → Front Line
+resumed_line_front text =
+    or_else (strip (codes "late ") text) (λ rest. and_then (greenlet_front rest) (as_kind (λ g. Line.Resume g Resumed.Late)))
+    (or_else (strip (codes "throw ") text) (of_greenlet throw_front)
+    (or_else (strip (codes "into ") text) (of_greenlet into_front)
+    (after (strip (codes "end ") text) (of_greenlet end_front))))
+
 -- the lines of a greenlet
 unfoldable pub greenlet_line_front : Text → Front Line
 greenlet_line_front text =
@@ -153,10 +180,7 @@ greenlet_line_front text =
     (or_else (strip (codes "print ") text) (of_greenlet print_front)
     (or_else (strip (codes "park ") text) (of_greenlet park_front)
     (or_else (strip (codes "wake ") text) (λ rest. and_then (greenlet_front rest) (as_kind (λ g. Line.Resume g Resumed.Wake)))
-    (or_else (strip (codes "late ") text) (λ rest. and_then (greenlet_front rest) (as_kind (λ g. Line.Resume g Resumed.Late)))
-    (or_else (strip (codes "throw ") text) (of_greenlet throw_front)
-    (or_else (strip (codes "into ") text) (of_greenlet into_front)
-    (after (strip (codes "end ") text) (of_greenlet end_front))))))))
+    (resumed_line_front text))))
 
 unfoldable pub line_front : Text → Front Line
 line_front text =

@@ -26,16 +26,24 @@ error_front text =
     (or_else (strip (codes "Error(") text) (λ rest. and_then (int_front rest) (closed (λ z. FaultKind.Error z)))
     None)))))
 
-unfoldable pub fault_front : Text → Front FaultKind
-fault_front text =
-    or_else (strip (codes "GreenletExit") text) (is FaultKind.GreenletExit)
-    (or_else (strip (codes "Timeout(") text) (λ rest. and_then (small_front rest) (closed (λ n. FaultKind.Timeout n)))
-    (or_else (strip (codes "LoopExit") text) (is FaultKind.LoopExit)
-    (or_else (strip (codes "Empty") text) (is FaultKind.Empty)
+-- a fault of queues or of switches, or one named an error
+unfoldable pub call_fault_front : Text → Front FaultKind
+call_fault_front text =
+    or_else (strip (codes "Empty") text) (is FaultKind.Empty)
     (or_else (strip (codes "Full") text) (is FaultKind.Full)
     (or_else (strip (codes "ShutDown") text) (is FaultKind.ShutDown)
     (or_else (strip (codes "InvalidSwitch") text) (is FaultKind.InvalidSwitch)
-    (error_front text)))))))
+    (error_front text))))
+
+unfoldable pub timeout_front : Text → Front FaultKind
+timeout_front text = and_then (small_front text) (closed (λ n. FaultKind.Timeout n))
+
+unfoldable pub fault_front : Text → Front FaultKind
+fault_front text =
+    or_else (strip (codes "GreenletExit") text) (is FaultKind.GreenletExit)
+    (or_else (strip (codes "Timeout(") text) timeout_front
+    (or_else (strip (codes "LoopExit") text) (is FaultKind.LoopExit)
+    (call_fault_front text)))
 
 -- a digit or a minus comes next
 unfoldable pub starts_numeral : Text → Bool

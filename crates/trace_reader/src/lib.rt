@@ -1,6 +1,16 @@
-//! What the texts of lines tell of the lines: each is read of its text, and different lines have different texts.
+//! Lines of a trace read of their texts.
 #![tactic(auto)]
 
+mod cursor;
 mod laws;
+mod lines;
+mod parts;
+mod read;
+mod refusal;
+#[cfg(test)]
+mod tests;
+mod values;
 
 pub use laws::texts_tell_lines;
+pub use read::read_line;
+pub use refusal::LineRefusal;

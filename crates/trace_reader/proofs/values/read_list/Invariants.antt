@@ -1,0 +1,7 @@
+use Rattle.std.proofs.Common.{◌≡◌, ◌-◌}
+use Rattle.trace_reader.specs.ValueFronts.{scalars_on, list_front}
+use Rattle.trace_reader.specs.Ranges.{ScalarsFit}
+use Rattle.trace_reader.proofs.values.read_list.Given as goal
+
+abbrev pub invariant-loop : goal.invariant-loop
+invariant-loop l = (scalars_on l.list (64 - l.counter) l.cursor ≡ list_front l.fn.cursor) × ScalarsFit l.list
