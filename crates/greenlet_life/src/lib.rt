@@ -3,6 +3,7 @@
 #![tactic(auto)]
 
 mod life;
+mod queues;
 mod records;
 #[cfg(test)]
 mod tests;

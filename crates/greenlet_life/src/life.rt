@@ -7,8 +7,10 @@ ghost use Rattle.greenlet_life.specs.declared.records.LinkState.{LinkState as St
 ghost use Rattle.greenlet_life.specs.Ends.{kept};
 ghost use Rattle.greenlet_life.specs.Lives.{life, greenlet_at, link_at, outcome_of, phase_of, born, made, with_stage, with_outcome, with_state, staged, stated, handed_out, is_due, is_pending, pending_item};
 
+use crate::queues::{drop_link, next_fitting, queue_link};
 use crate::records::{Greenlet, Link, LinkKind, LinkState, Phase, Stage, is_fitting};
 use gv_values::{FaultKind, Outcome, Value};
+use item_rows::row::Row;
 use std::alloc::{AllocError, Global};
 use std::marker::Model;
 use thiserror::Error;
@@ -33,21 +35,25 @@ const MOST_LINKS: usize = 100_000;
 /// The greenlets by number, from 0 on, and the links by number, from 1 on.
 #[derive(Drop)]
 pub struct Life {
+    alloc: Global,
     greenlets: Vec<Greenlet>,
     // The outcome of each greenlet, once it has ended.
     outcomes: Vec<Option<Outcome>>,
     links: Vec<Link>,
+    // For each greenlet the places of its links that may still be handed out.
+    queues: Vec<Row>,
 }
 
 impl Model for Life {
-    ghost use Rattle.std.specs.Prelude.{◌≡◌, ◌≤◌, length};
+    ghost use Rattle.std.specs.Prelude.{length};
     ghost use Rattle.greenlet_life.specs.Lives.{SeenLife, life};
+    ghost use Rattle.greenlet_life.specs.Queues.{IsLife};
 
     ghost Value = { SeenLife };
 
     ghost view = { λ l. life l.greenlets.items l.outcomes.items l.links.items };
 
-    ghost invariant = { λ l. (length l.outcomes.items ≡ length l.greenlets.items) × (length l.links.items ≤ 100000) };
+    ghost invariant = { λ l. IsLife (length l.greenlets.items) l.outcomes.items l.links.items l.queues.items };
 }
 
 // What is kept of an end: `GreenletExit` as a value, all else as it is.
@@ -76,9 +82,11 @@ impl Life {
         ensures { result ≡ life [] [] [] }
     {
         Life {
+            alloc,
             greenlets: Vec::new(alloc),
             outcomes: Vec::new(alloc),
             links: Vec::new(alloc),
+            queues: Vec::new(alloc),
         }
     }
 
@@ -94,7 +102,10 @@ impl Life {
         if number >= MOST_GREENLETS {
             return Err(LifeRefusal::TooMany);
         }
-        if self.greenlets.reserve(1).is_err() || self.outcomes.reserve(1).is_err() {
+        if self.greenlets.reserve(1).is_err()
+            || self.outcomes.reserve(1).is_err()
+            || self.queues.reserve(1).is_err()
+        {
             return Err(LifeRefusal::Memory);
         }
         self.greenlets.push_reserved(Greenlet {
@@ -103,6 +114,7 @@ impl Life {
             stage: Stage::New,
         });
         self.outcomes.push_reserved(None);
+        self.queues.push_reserved(Row::new(self.alloc));
         Ok(number as u32)
     }
 
@@ -213,16 +225,21 @@ impl Life {
         if made >= MOST_LINKS {
             return Err(LifeRefusal::TooMany);
         }
-        let link = Link {
-            greenlet: g,
-            kind,
-            function,
-            item,
-            state: LinkState::Waiting,
-        };
-        match self.links.push(link) {
-            Ok(()) => Ok(made as u32 + 1),
+        if self.links.reserve(1).is_err() {
+            return Err(LifeRefusal::Memory);
+        }
+        match queue_link(&mut self.queues, g, made as u32) {
             Err(_) => Err(LifeRefusal::Memory),
+            Ok(()) => {
+                self.links.push_reserved(Link {
+                    greenlet: g,
+                    kind,
+                    function,
+                    item,
+                    state: LinkState::Waiting,
+                });
+                Ok(made as u32 + 1)
+            }
         }
     }
 
@@ -260,6 +277,7 @@ impl Life {
             return None;
         }
         set_state(&mut self.links, link as usize - 1, LinkState::Removed);
+        drop_link(&mut self.queues, entry.greenlet, link - 1);
         Some(entry.item)
     }
 
@@ -270,10 +288,13 @@ impl Life {
         ensures link { result ≡ option_map (λ k. k + 1) (position (is_due (outcome_of self.old g) g) self.old.links) }
         ensures handed { self.new ≡ handed_out self.old (position (is_due (outcome_of self.old g) g) self.old.links) }
     {
-        let outcome = self.outcome_at(g);
-        let place = first_due(&self.links, g, outcome)?;
-        set_state(&mut self.links, place, LinkState::HandedOut);
-        Some(place as u32 + 1)
+        match next_fitting(&mut self.queues, &self.links, &self.outcomes, g) {
+            None => None,
+            Some(place) => {
+                set_state(&mut self.links, place, LinkState::HandedOut);
+                Some(place as u32 + 1)
+            }
+        }
     }
 
     /// A link that was handed out is called.
@@ -286,30 +307,9 @@ impl Life {
 }
 
 // A link comes to another state.
-fn set_state(links: &mut [Link], place: usize, state: LinkState)
-    requires { place < length links.old }
-    ensures { links.new ≡ stated links.old place state }
+fn set_state(links: &mut Vec<Link>, place: usize, state: LinkState)
+    requires { place < length links.old.items }
+    ensures { links.new.items ≡ stated links.old.items place state }
 {
     links[place].state = state;
-}
-
-// Whether a link is one of the greenlet and to be handed out after this end.
-fn may_go(link: Link, g: u32, outcome: Option<&Outcome>) -> bool
-    ensures { result ≡ is_due (option_copied outcome.entry) g link }
-{
-    link.greenlet == g && link.state == LinkState::Waiting && is_fitting(link.kind, outcome)
-}
-
-// The place of the first link of the greenlet that is to be handed out.
-fn first_due(links: &[Link], g: u32, outcome: Option<&Outcome>) -> Option<usize>
-    ensures first { result ≡ position (is_due (option_copied outcome.entry) g) links.now }
-    ensures within { IfSome result (λ place. place < length links.now) }
-{
-    for place in 0..links.len() {
-        let link = links[place];
-        if may_go(link, g, outcome) {
-            return Some(place);
-        }
-    }
-    None
 }

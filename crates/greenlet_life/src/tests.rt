@@ -59,5 +59,12 @@ fn link_limit(rt: HostRuntime) -> Result<(), Fail> {
         life.link(5, LinkKind::Any, 0, 0),
         Err(LifeRefusal::TooMany)
     );
+    if life.phase(5) != Phase::Done {
+        life.end(5, Outcome::Value(Value::Nothing));
+    }
+    for number in 1..=100_000u32 {
+        assert_eq!(rt; life.next_link(5), Some(number));
+    }
+    assert_eq!(rt; life.next_link(5), None);
     Ok(())
 }

@@ -1,5 +1,5 @@
 -- Lists of items: what they have, how they differ, and what they are without one.
-use Rattle.std.proofs.Common.{◌≡◌, ◌≢◌, ℕ, zero, suc, ◌+◌, ◌-◌, ◌<◌, ◌==◌, true, false, not, List, [], ◌∷◌, ◌++◌, length, get_or, take, Some, refl, sym, inl, inr, ap, ◌∙◌, subst, arith, slice_get, Contains}
+use Rattle.std.proofs.Common.{Bool, cond, filter, ◌≡◌, ◌≢◌, ℕ, zero, suc, ◌+◌, ◌-◌, ◌<◌, ◌==◌, true, false, not, List, [], ◌∷◌, ◌++◌, length, get_or, take, Some, refl, sym, inl, inr, ap, ◌∙◌, subst, arith, slice_get, Contains}
 use Rattle.std.proofs.lemmas.Bool.Decides.{nat_tests}
 use Rattle.std.proofs.lemmas.Bool.{cases_eq}
 use Rattle.std.proofs.lemmas.Option.{slice_get_within, get_or_from_slice_get}
@@ -195,3 +195,19 @@ places_differ (y ∷ xs) zero (suc k) x d a b =
 places_differ (y ∷ xs) (suc j) zero x d a b =
     let same : y ≡ x = cc in absurd (absent_of_lacks y xs d.0 (subst (λ z. Contains xs z) (sym same) (contains_at xs j x a)))
 places_differ (y ∷ xs) (suc j) (suc k) x d a b = ap suc (places_differ xs j k x d.1 a b)
+
+-- what a filter leaves is in the list, and passes
+pub contains_of_filter : {A : Type 0} (p : A → Bool) (xs : List A) (x : A) → Contains (filter p xs) x → Contains xs x × (p x ≡ true)
+contains_of_filter p [] x h = absurd (omega (arith, h.1))
+contains_of_filter p (y ∷ xs) x h = by_test (p y) refl (contains_of_filter p xs x) h
+  where
+    later : Contains xs x × (p x ≡ true) → Contains (y ∷ xs) x × (p x ≡ true)
+    later q = ((suc q.0.0, omega (arith, q.0.1), q.0.2), q.1)
+
+    by_index : (Contains (filter p xs) x → Contains xs x × (p x ≡ true)) → p y ≡ true → (k : ℕ) → k < suc (length (filter p xs)) → get_or (y ∷ filter p xs) k x ≡ x → Contains (y ∷ xs) x × (p x ≡ true)
+    by_index more passes zero within found = ((zero, omega arith, found), ap p (sym found) ∙ passes)
+    by_index more passes (suc k) within found = later (more (k, omega arith, found))
+
+    by_test : (b : Bool) → p y ≡ b → (Contains (filter p xs) x → Contains xs x × (p x ≡ true)) → Contains (cond b (y ∷ filter p xs) (filter p xs)) x → Contains (y ∷ xs) x × (p x ≡ true)
+    by_test true e more q = by_index more e q.0 q.1 q.2
+    by_test false e more q = later (more q)

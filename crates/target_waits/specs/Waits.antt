@@ -1,5 +1,6 @@
 -- Waits on ends.
-use Rattle.std.specs.Prelude.{ℕ, ◌-◌, ◌==◌, ◌&&◌, not, Bool, true, false, List, [], Option, Some, None, map, filter, count_by, slice_index_or, slice_set}
+use Rattle.std.specs.Prelude.{◌≡◌, ℕ, ◌-◌, ◌==◌, ◌&&◌, not, Bool, true, false, List, [], ◌∷◌, map, filter, count_by, if◌then◌else◌}
+use Rattle.std.specs.List.{Contains}
 use Rattle.gv_values.specs.declared.value.Whom.{Whom}
 
 -- an item, the places of its targets that are still to end, how many of these must end, and whether it was answered
@@ -32,14 +33,15 @@ abbrev pub struck : Whom → Wait → Wait
 struck whom w =
     wait w.item (filter (λ t. not (whom_eq t whom)) w.targets) (w.need - count_by (λ t. whom_eq t whom) w.targets) w.answered
 
--- the wait at a place, and the waits with that one answered
-abbrev pub wait_at : List Wait → ℕ → Wait
-wait_at ws k = slice_index_or ws k (wait 0 [] 0 false)
+-- the waits with that of the item changed
+abbrev pub at_item : ℕ → (Wait → Wait) → List Wait → List Wait
+at_item i f ws = map (λ w. if w.item == i then f w else w) ws
 
-abbrev pub item_at : List Wait → Option ℕ → Option ℕ
-item_at ws None = None
-item_at ws (Some k) = Some (wait_at ws k).item
+-- the target struck out of the waits of these items, one after another
+abbrev pub struck_at_all : Whom → List ℕ → List Wait → List Wait
+struck_at_all whom [] ws = ws
+struck_at_all whom (i ∷ items) ws = struck_at_all whom items (at_item i (struck whom) ws)
 
-abbrev pub answered_at : List Wait → Option ℕ → List Wait
-answered_at ws None = ws
-answered_at ws (Some k) = slice_set ws k (answered (wait_at ws k))
+-- one of the waits is the item's, and it is ready
+abbrev pub IsReadyIn : List Wait → ℕ → Type 0
+IsReadyIn ws i = (w : Wait) × Contains ws w × (w.item ≡ i) × (is_ready w ≡ true)

@@ -46,11 +46,11 @@ impl Entry {
         }
     }
 
-    // The item that waits.
-    pub fn item(&self) -> u32
-        ensures { result ≡ self.now.item }
+    // Its targets that are still to end.
+    pub fn targets(&self) -> &[Whom]
+        ensures { result.now ≡ self.now.targets }
     {
-        self.item
+        &self.targets
     }
 
     // Whether enough targets have ended, and that was not answered yet.

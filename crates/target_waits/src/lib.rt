@@ -2,8 +2,11 @@
 #![tactic(auto)]
 
 mod entry;
+mod index;
+mod rows;
 mod targets;
 #[cfg(test)]
 mod tests;
+mod waits;
 
 pub use targets::Targets;

@@ -1,10 +1,14 @@
 //! All waits on ends.
-ghost use Rattle.std.specs.Prelude.{◌≡◌, ◌≤◌, ◌<◌, [], ◌∷◌, ◌++◌, ◌==◌, not, false, length, map, filter, OnOk, OnErr, IfSome, position};
-ghost use Rattle.std.specs.List.{Contains};
-ghost use Rattle.target_waits.specs.Waits.{wait, items_of, is_ready, struck, item_at, answered_at};
+ghost use Rattle.std.specs.Prelude.{◌≡◌, ◌≤◌, [], ◌∷◌, ◌++◌, ◌==◌, not, false, length, map, filter, OnOk, OnErr, IfSome, IfNone, None, ◌↔◌};
+ghost use Rattle.std.specs.List.{Contains, All};
+ghost use Rattle.item_rows.specs.Items.{Differ, items_of as row_items};
+ghost use Rattle.target_waits.specs.Waits.{wait, items_of, is_ready, struck, answered, at_item, struck_at_all, IsReadyIn};
 
 use crate::entry::Entry;
+use crate::index::Index;
+use crate::waits::Waits;
 use gv_values::Whom;
+use item_rows::row::Row;
 use std::alloc::{AllocError, Global};
 use std::marker::Model;
 
@@ -12,30 +16,37 @@ use std::marker::Model;
 #[derive(Drop)]
 pub struct Targets {
     alloc: Global,
-    entries: Vec<Entry>,
+    waits: Waits,
+    // For each target the items that wait for it.
+    index: Index,
 }
 
 impl Model for Targets {
     ghost use Rattle.std.specs.Prelude.{List};
     ghost use Rattle.target_waits.specs.Waits.{Wait};
+    ghost use Rattle.target_waits.specs.Indexed.{IsIndexed};
 
     ghost Value = { List Wait };
 
-    ghost view = { λ t. t.entries.items };
+    ghost view = { λ t. t.waits };
+
+    ghost invariant = { λ t. IsIndexed t.waits t.index };
 }
 
-// The place of the first wait that is ready.
-fn first_ready(entries: &[Entry]) -> Option<usize>
-    ensures first { result ≡ position is_ready entries.now }
-    ensures within { IfSome result (λ place. place < length entries.now) }
+// Each item of the row has one of its targets struck out.
+fn strike_each(waits: &mut Waits, named: &mut Row, whom: Whom)
+    ensures struck { waits.new ≡ struck_at_all whom (row_items named.old.entries) waits.old }
+    ensures differ { Differ (row_items named.old.entries) }
 {
-    for place in 0..entries.len() {
-        let entry = &entries[place];
-        if entry.is_ready() {
-            return Some(place);
+    for _step in 0..named.len() {
+        match named.first() {
+            None => return,
+            Some((item, _)) => {
+                named.remove(item);
+                waits.strike(item, whom);
+            }
         }
     }
-    None
 }
 
 impl Targets {
@@ -45,8 +56,17 @@ impl Targets {
     {
         Targets {
             alloc,
-            entries: Vec::new(alloc),
+            waits: Waits::new(alloc),
+            index: Index::new(alloc),
         }
+    }
+
+    /// How many items wait. No item waits twice.
+    pub fn len(&self) -> usize
+        ensures len { result ≡ length self.now }
+        ensures differ { Differ (items_of self.now) }
+    {
+        self.waits.len()
     }
 
     /// An item waits until `need` of the targets have ended. A target that stands there twice counts twice.
@@ -57,17 +77,28 @@ impl Targets {
         ensures err { OnErr result (self.new ≡ self.old) }
     {
         let targets = Vec::from_slice(self.alloc, pending)?;
-        self.entries.push(Entry::new(item, targets, need))?;
-        Ok(())
+        match self.index.enter_all(pending, item) {
+            Err(refusal) => {
+                self.index.leave_all(pending, item);
+                Err(refusal)
+            }
+            Ok(()) => match self.waits.add(item, Entry::new(item, targets, need)) {
+                Err(refusal) => {
+                    self.index.leave_all(pending, item);
+                    Err(refusal)
+                }
+                Ok(()) => Ok(()),
+            },
+        }
     }
 
     /// A greenlet or a job has ended: each of its places goes, and each wait needs as many less, not below 0.
     pub fn done(&mut self, whom: Whom)
         ensures { self.new ≡ map (struck whom) self.old }
     {
-        for place in 0..self.entries.len() {
-            let entry = &mut self.entries[place];
-            entry.strike(whom);
+        match self.index.take(whom) {
+            None => {}
+            Some(mut named) => strike_each(&mut self.waits, &mut named, whom),
         }
     }
 
@@ -76,17 +107,18 @@ impl Targets {
         requires { Contains (items_of self.old) item }
         ensures { self.new ≡ filter (λ w. not (w.item == item)) self.old }
     {
-        self.entries.retain(|entry| entry.item() != item);
+        if let Some(entry) = self.waits.cancel(item) {
+            self.index.leave_all(entry.targets(), item);
+        }
     }
 
-    /// Answers the first item that needs no more ends and wasn't answered; `None` exactly where there is none.
+    /// Answers an item that needs no more ends and wasn't answered; `None` exactly where there is none.
     pub fn next_ready(&mut self) -> Option<u32>
-        ensures item { result ≡ item_at self.old (position is_ready self.old) }
-        ensures answered { self.new ≡ answered_at self.old (position is_ready self.old) }
+        ensures none { (result ≡ None) ↔ All (λ w. is_ready w ≡ false) self.old }
+        ensures kept { IfNone result (self.new ≡ self.old) }
+        ensures ready { IfSome result (IsReadyIn self.old) }
+        ensures answered { IfSome result (λ item. self.new ≡ at_item item answered self.old) }
     {
-        let place = first_ready(&self.entries)?;
-        let entry = &mut self.entries[place];
-        entry.answer();
-        Some(entry.item())
+        self.waits.next_ready()
     }
 }

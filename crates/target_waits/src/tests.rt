@@ -24,3 +24,19 @@ fn a_cancelled_wait_is_gone(rt: HostRuntime) -> Result<(), Fail> {
     assert_eq!(rt; targets.next_ready(), None);
     Ok(())
 }
+
+#[test]
+fn each_end_strikes_its_own_waits(rt: HostRuntime) -> Result<(), Fail> {
+    let mut targets = Targets::new(rt.alloc());
+    for item in 0..100_000u32 {
+        targets.add(item, &[Whom::Greenlet(item), Whom::Job(item)], 1)?;
+    }
+    for i in 0..100_000u64 {
+        let number = (i * 7919 % 100_000) as u32;
+        targets.done(Whom::Job(number));
+        assert_eq!(rt; targets.next_ready(), Some(number));
+    }
+    assert_eq!(rt; targets.next_ready(), None);
+    assert_eq!(rt; targets.len(), 100_000);
+    Ok(())
+}

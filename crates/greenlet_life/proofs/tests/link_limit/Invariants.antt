@@ -6,3 +6,6 @@ invariant-loop-number g l = l.number-counter ≤ length l.life.greenlets
 
 abbrev pub invariant-loop-number-2 : goal.invariant-loop-number-2
 invariant-loop-number-2 g l = 20000 ≤ length l.life.greenlets
+
+abbrev pub invariant-loop-number-3 : goal.invariant-loop-number-3
+invariant-loop-number-3 g l = 20000 ≤ length l.life.greenlets

@@ -1,4 +1,4 @@
-use Rattle.std.proofs.Common.{◌≡◌, ◌≢◌, ℕ, Some, sym, ap, subst, set, length, ◌∙◌}
+use Rattle.std.proofs.Common.{◌≡◌, ◌≢◌, ℕ, Some, sym, subst, set}
 use Rattle.raw_greenlets.specs.declared.chain.Raw.{Raw}
 use Rattle.raw_greenlets.specs.declared.chain.RawPhase.{RawPhase}
 use Rattle.raw_greenlets.specs.Chains.{raw, raw_of, HasHost, NoChainCloses}

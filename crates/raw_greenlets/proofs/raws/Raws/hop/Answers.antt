@@ -1,7 +1,6 @@
 use Rattle.std.proofs.Common.{◌≡◌, Some, sym, ap, subst, ◌∙◌}
 use Rattle.raw_greenlets.specs.declared.chain.RawPhase.{RawPhase}
 use Rattle.raw_greenlets.specs.Chains.{raw_of, NoChainCloses}
-use Rattle.raw_greenlets.specs.Hosts.{IsHosted}
 use Rattle.raw_greenlets.proofs.ChainLemmas.{phase_written, none_closes}
 use Rattle.raw_greenlets.proofs.raws.Raws.hop.Goals as goal
 

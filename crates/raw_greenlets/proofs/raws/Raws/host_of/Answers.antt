@@ -1,4 +1,4 @@
-use Rattle.std.proofs.Common.{◌≡◌, ◌<◌, Some, length, get_or, sym, ap, subst, ◌∙◌, arith}
+use Rattle.std.proofs.Common.{◌≡◌, Some, get_or, sym, ap, subst, ◌∙◌}
 use Rattle.std.proofs.lemmas.List.{get_or_read}
 use Rattle.raw_greenlets.specs.Chains.{raw_of, HasHost}
 use Rattle.raw_greenlets.proofs.raws.Raws.host_of.Goals as goal
