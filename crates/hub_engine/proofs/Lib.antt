@@ -11,4 +11,5 @@ pub mod Passing
 pub mod PhaseSets
 pub mod Removals
 pub mod Running
+pub mod Soundly
 pub mod Sounds

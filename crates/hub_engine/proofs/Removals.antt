@@ -4,6 +4,7 @@ use Rattle.std.specs.Prelude.{remove}
 use Rattle.std.proofs.lemmas.Bool.Decides.{nat_tests}
 use Rattle.hub_machine.specs.declared.items.Item.{Item}
 use Rattle.hub_machine.specs.Deliveries.{without}
+use Rattle.hub_soundness.proofs.Singles.{single_removed}
 use Rattle.hub_engine.specs.Sound.{AscendTo, IsSound}
 use Rattle.hub_engine.proofs.Sounds.{lower}
 
@@ -37,7 +38,7 @@ pub taken : (next at : ℕ) (items : List Item) (d : Item) → IsSound next item
 taken next at items d s h = sym (without_at 0 next at items d s.ascends h)
 
 pub sound_taken : (next at : ℕ) (items : List Item) → IsSound next items → IsSound next (remove items at)
-sound_taken next at items s = record { ascends = kept_at 0 next at items s.ascends }
+sound_taken next at items s = record { ascends = kept_at 0 next at items s.ascends; single = single_removed at items s.single }
 
 pub got : (at : ℕ) (items : List Item) (d : Item) → at < length items → slice_get items at ≡ Some (get_or items at d)
 got at [] d h = grind arith

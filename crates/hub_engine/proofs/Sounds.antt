@@ -1,9 +1,11 @@
--- What keeps the items in order of making.
-use Rattle.std.proofs.Common.{ℕ, ◌+◌, ◌≤◌, Bool, true, false, cond, List, [], ◌∷◌, ◌++◌, None, arith}
+-- What keeps the items in order of making, no two of which say the same.
+use Rattle.std.proofs.Common.{◌≡◌, refl, ℕ, ◌+◌, ◌≤◌, Bool, true, false, cond, List, [], ◌∷◌, ◌++◌, None, arith}
 use Rattle.std.specs.Prelude.{filter}
 use Rattle.hub_machine.specs.declared.items.Item.{Item}
 use Rattle.hub_machine.specs.declared.items.Delivery.{Delivery}
 use Rattle.hub_machine.specs.Settle.{settled, number_after}
+use Rattle.hub_machine.specs.Soundness.{claim_of, is_unclaimed}
+use Rattle.hub_soundness.proofs.Singles.{single_filter, single_more, single_settled}
 use Rattle.hub_engine.specs.Sound.{AscendTo, IsSound}
 
 pub lower : (low high next : ℕ) (items : List Item) → low ≤ high → AscendTo high next items → AscendTo low next items
@@ -31,14 +33,14 @@ numbered (h ∷ hs) n low next (i ∷ items) a = record { above = a.above; rest 
 -- ---- as the invariant has them
 
 pub sound_none : (next : ℕ) → IsSound next []
-sound_none next = record { ascends = omega arith }
+sound_none next = record { ascends = omega arith; single = refl }
 
-pub sound_more : (next : ℕ) (d : Delivery) (items : List Item) → IsSound next items →
+pub sound_more : (next : ℕ) (d : Delivery) (items : List Item) → IsSound next items → is_unclaimed (claim_of d) items ≡ true →
     IsSound (next + 1) (items ++ record { since = next; delivery = d; ready = None } ∷ [])
-sound_more next d items s = record { ascends = more 0 next d items s.ascends }
+sound_more next d items s u = record { ascends = more 0 next d items s.ascends; single = single_more items _ u s.single }
 
 pub sound_filter : (p : Item → Bool) (next : ℕ) (items : List Item) → IsSound next items → IsSound next (filter p items)
-sound_filter p next items s = record { ascends = kept p 0 next items s.ascends }
+sound_filter p next items s = record { ascends = kept p 0 next items s.ascends; single = single_filter p items s.single }
 
 pub sound_settled : (hs : List Bool) (n next : ℕ) (items : List Item) → IsSound next items → IsSound next (settled hs n items)
-sound_settled hs n next items s = record { ascends = numbered hs n 0 next items s.ascends }
+sound_settled hs n next items s = record { ascends = numbered hs n 0 next items s.ascends; single = single_settled hs n items s.single }

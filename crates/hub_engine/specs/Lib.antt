@@ -1,6 +1,8 @@
 pub mod Ends
 pub mod Frames
+pub mod Fresh
 pub mod Gone
+pub mod Making
 pub mod Phases
 pub mod Places
 pub mod Queues

@@ -1,6 +1,5 @@
 -- What the code chooses for a greenlet's next move, and what comes of a request.
-use Rattle.std.specs.Prelude.{ℕ, List, [], ◌∷◌, Option}
-use Rattle.gv_values.specs.declared.value.Value.{Value}
+use Rattle.std.specs.Prelude.{ℕ, List, ◌∷◌}
 use Rattle.hub_machine.specs.declared.state.Frame.{Frame}
 use Rattle.hub_machine.specs.declared.state.Local.{Local}
 use Rattle.hub_machine.specs.declared.state.Todo.{Todo}

@@ -1,9 +1,10 @@
 //! The few operations that touch items and waits: one is made, some go, one is taken to be delivered.
-ghost use Rattle.std.specs.Prelude.{◌≡◌, ◌==◌, not, ◌<◌, length, filter, OnOk, IfSome, slice_get, Some};
+ghost use Rattle.std.specs.Prelude.{◌≡◌, ◌==◌, true, not, ◌<◌, length, filter, OnOk, IfSome, slice_get, Some};
 ghost use Rattle.std.specs.List.{list_any};
 ghost use Rattle.hub_machine.specs.State.{say};
 ghost use Rattle.hub_machine.specs.Life.{add_item, drop_items, is_wait_of, is_timeout_of, goes_at_end};
 ghost use Rattle.hub_machine.specs.Deliveries.{without_item};
+ghost use Rattle.hub_machine.specs.Soundness.{claim_of, is_unclaimed};
 ghost use Rattle.hub_engine.specs.Gone.{gone_of};
 
 use crate::Engine;
@@ -34,9 +35,9 @@ impl Engine {
         Ok(())
     }
 
-    /// One item more, the newest.
-    #[tactic(auto, using(crate::proofs::Sounds::sound_more))]
+    /// One item more, the newest, which says what no other says.
     pub fn add_item(&mut self, delivery: Delivery) -> Result<(), AllocError>
+        requires { is_unclaimed (claim_of delivery) self.old.items ≡ true }
         ensures { OnOk result (self.new ≡ add_item delivery self.old) }
     {
         let next = self.next_since.checked_add(1).ok_or(AllocError)?;
@@ -50,7 +51,6 @@ impl Engine {
     }
 
     /// The items that are to go go.
-    #[tactic(auto, using(crate::proofs::Sounds::sound_filter))]
     pub fn drop_items(&mut self, gone: &Gone)
         ensures { self.new ≡ drop_items (gone_of gone.now) self.old }
     {

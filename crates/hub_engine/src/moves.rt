@@ -2,11 +2,13 @@
 ghost use Rattle.std.specs.Prelude.{◌≡◌, ◌+◌, [], OnOk, IfOk};
 ghost use Rattle.hub_machine.specs.declared.state.Phase.{Phase as Stage};
 ghost use Rattle.hub_machine.specs.Raising.{unwind};
-ghost use Rattle.hub_machine.specs.Life.{lands, goes_on, with_phase};
+ghost use Rattle.hub_machine.specs.Life.{Next, lands, goes_on, with_phase};
 ghost use Rattle.hub_machine.specs.Settle.{settle};
 ghost use Rattle.hub_machine.specs.Moves.{move, performs, follows};
 ghost use Rattle.hub_machine.specs.Run.{next_at};
+ghost use Rattle.hub_soundness.specs.Going.{IsSoundAt};
 ghost use Rattle.hub_engine.specs.Steps.{frame_now, after_first, request_of};
+ghost use Rattle.hub_engine.specs.Making.{MayMake};
 
 use crate::Engine;
 use crate::chosen::{Chosen, Request};
@@ -84,6 +86,7 @@ impl Engine {
         }
     }
 
+    #[tactic(auto, using(crate::proofs::Soundly::may_make_on))]
     fn asks(
         &mut self,
         alloc: Global,
@@ -91,6 +94,7 @@ impl Engine {
         request: Request,
         name: Option<Name>,
     ) -> Result<At, AllocError>
+        requires { MayMake g self.old }
         ensures { IfOk result (λ at.
             follows g (performs (request_of request) g
             (with_phase g (Stage.Live (record { locals = (frame_now g self.old).locals; todo = after_first (frame_now g self.old).todo; gives = name })) self.old))
@@ -108,11 +112,17 @@ impl Engine {
         Ok(())
     }
 
-    /// The greenlet makes its next move.
-    #[tactic(auto, using(crate::proofs::Moved::move_is))]
+    /// The greenlet makes its next move. Raw greenlets are not run yet; they are answered as want of
+    /// memory.
+    #[tactic(auto, using(crate::proofs::Moved::move_is, crate::proofs::Soundly::may_make, crate::proofs::Soundly::move_sound))]
     pub fn make_move(&mut self, alloc: Global, g: u32) -> Result<At, AllocError>
-        ensures { IfOk result (λ at. move g self.old ≡ next_at at self.new) }
+        requires under_way { IsSoundAt (Next.Going g self.old) }
+        ensures moved { IfOk result (λ at. move g self.old ≡ next_at at self.new) }
+        ensures sound { IfOk result (λ at. IsSoundAt (next_at at self.new)) }
     {
+        if self.is_raw(g) {
+            return Err(AllocError);
+        }
         let chosen = self.chooses(alloc, g)?;
         self.counts_move()?;
         match chosen {

@@ -20,7 +20,6 @@ impl Engine {
     }
 
     /// Each item that holds and has no number gets the next, and each that doesn't hold loses its own.
-    #[tactic(auto, using(crate::proofs::Sounds::sound_settled))]
     pub fn settle(&mut self, alloc: Global) -> Result<(), AllocError>
         ensures { OnOk result (self.new ≡ settle self.old) }
     {

@@ -4,6 +4,7 @@ ghost use Rattle.hub_machine.specs.Moves.{performs, follows, makes, starts_at, p
 ghost use Rattle.hub_machine.specs.Frames.{Request as Asked};
 ghost use Rattle.hub_machine.specs.Run.{next_at};
 ghost use Rattle.hub_engine.specs.Steps.{request_of, performed_of};
+ghost use Rattle.hub_engine.specs.Making.{MayMake};
 
 use crate::Engine;
 use crate::chosen::Request;
@@ -26,16 +27,23 @@ pub enum Performed {
 }
 
 impl Engine {
-    /// A new greenlet of the function, with a start item.
-    fn spawns(&mut self, function: u32, arguments: Items<Value>) -> Result<Performed, AllocError>
+    /// The greenlet makes a new one of the function, with a start item.
+    #[tactic(auto, using(crate::proofs::Soundly::fresh_start))]
+    fn spawns(
+        &mut self,
+        g: u32,
+        function: u32,
+        arguments: Items<Value>,
+    ) -> Result<Performed, AllocError>
+        requires { MayMake g self.old }
         ensures { IfOk result (λ p. makes false 0 function arguments (starts_at None) self.old ≡ performed_of p self.new) }
     {
         if !self.has_greenlet_left() {
             return Ok(Performed::Stops(StopCause::NoGreenlets));
         }
-        let g = self.add_greenlet(false, 0, function, arguments)?;
-        self.add_item(Delivery::Start(g, None))?;
-        Ok(Performed::Answers(Outcome::Value(Value::Greenlet(g))))
+        let made = self.add_greenlet(false, 0, function, arguments)?;
+        self.add_item(Delivery::Start(made, None))?;
+        Ok(Performed::Answers(Outcome::Value(Value::Greenlet(made))))
     }
 
     /// The greenlet of the handle, if it isn't raw.
@@ -50,6 +58,7 @@ impl Engine {
 
     #[tactic(auto, unfolding(hub_machine::specs::Moves::performs))]
     fn joins(&mut self, g: u32, value: Value, how: Wait) -> Result<Performed, AllocError>
+        requires { MayMake g self.old }
         ensures { IfOk result (λ p. performs (Asked.Join value how) g self.old ≡ performed_of p self.new) }
     {
         match self.plain_greenlet(&value) {
@@ -60,6 +69,7 @@ impl Engine {
 
     #[tactic(auto, unfolding(hub_machine::specs::Moves::performs))]
     fn sleeps(&mut self, g: u32, time: u64) -> Result<Performed, AllocError>
+        requires { MayMake g self.old }
         ensures { IfOk result (λ p. performs (Asked.Sleep time) g self.old ≡ performed_of p self.new) }
     {
         let until = self.moment.checked_add(time).ok_or(AllocError)?;
@@ -69,6 +79,7 @@ impl Engine {
     #[tactic(auto, unfolding(hub_machine::specs::Moves::performs))]
     /// The effect of the request of the greenlet.
     pub fn performs(&mut self, request: Request, g: u32) -> Result<Performed, AllocError>
+        requires { MayMake g self.old }
         ensures { IfOk result (λ p. performs (request_of request) g self.old ≡ performed_of p self.new) }
     {
         match request {
@@ -76,7 +87,7 @@ impl Engine {
                 self.say(Line::Print { greenlet: g, value })?;
                 Ok(Performed::Answers(Outcome::Value(Value::Nothing)))
             }
-            Request::Spawn(function, arguments) => Ok(self.spawns(function, arguments)?),
+            Request::Spawn(function, arguments) => Ok(self.spawns(g, function, arguments)?),
             Request::Sleep(time) => Ok(self.sleeps(g, time)?),
             Request::Join(value, how) => Ok(self.joins(g, value, how)?),
         }

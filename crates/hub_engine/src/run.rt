@@ -1,18 +1,22 @@
 //! The run of the engine, whose trace is given out step by step.
-ghost use Rattle.std.specs.Prelude.{◌≡◌, ◌+◌, ◌<◌, ◌≤◌, ◌++◌, [], length, slice_get, OnOk, IfOk, Some};
+ghost use Rattle.std.specs.Prelude.{◌≡◌, ◌+◌, ◌<◌, ◌≤◌, ◌++◌, [], length, slice_get, OnOk, IfOk, Some, IsTrue};
+ghost use Rattle.std.specs.List.{list_all};
 ghost use Rattle.trace_text.specs.LineTexts.{text_of};
 ghost use Rattle.hub_machine.specs.Run.{next_at, came_to, silent, runs, runs_on, deliveries, turn, loop_exit, stopped, run_turns, script_run, first_state, Source as Script};
 ghost use Rattle.hub_machine.specs.Answers.{block_line};
 ghost use Rattle.hub_machine.specs.Deliveries.{deliver};
 ghost use Rattle.scenario_tree.specs.declared.tree.Scenario.{Scenario};
 ghost use Rattle.hub_machine.specs.declared.items.Item.{Item as AnyItem};
+ghost use Rattle.hub_soundness.specs.Going.{IsKept, IsSoundAt, is_plain};
 ghost use Rattle.hub_engine.specs.Ends.{answered, end_of, end_of_run};
+ghost use Rattle.hub_engine.specs.Fresh.{has_no_member, is_fresh};
 ghost use Rattle.hub_engine.specs.Written.{Gives, Tells};
 
 use crate::Engine;
 use crate::broken::Broken;
 use gv_io::Sink;
 use gv_values::FaultKind;
+use hub_machine::state::Object;
 use hub_machine::steps::{At, Came};
 use native_answers::Question;
 use scenario_tree::Items;
@@ -71,7 +75,7 @@ impl Engine {
         Ok(())
     }
 
-    #[tactic(auto, using(crate::proofs::Passing::passing, crate::proofs::Passing::goes, crate::proofs::Passing::came_to_rest, crate::proofs::Passing::came_to_end, crate::proofs::Passing::out_of_moves, crate::proofs::Passing::runs_broken, crate::proofs::Passing::given_up))]
+    #[tactic(auto, using(crate::proofs::Passing::passing, crate::proofs::Passing::goes, crate::proofs::Passing::came_to_rest, crate::proofs::Passing::came_to_end, crate::proofs::Passing::out_of_moves, crate::proofs::Passing::runs_broken, crate::proofs::Passing::given_up, crate::proofs::Soundly::kept_given_out))]
     /// The greenlet that is under way moves until it parks or ends, at most so many moves.
     fn runs<K: Sink>(
         &mut self,
@@ -80,6 +84,8 @@ impl Engine {
         at: At,
         moves: u64,
     ) -> Result<Came, Broken>
+        requires sound { IsSoundAt (next_at at self.old) }
+        ensures sound { OnOk result (IsKept self.new) }
         ensures written { Gives result (K.written sink.old) (K.written sink.new) (text_of (runs moves (next_at at self.old)).lines) }
         ensures next { IfOk result (λ came. (runs moves (next_at at self.old)).next ≡ came_to came self.new) }
         ensures posts { OnOk result ((runs moves (next_at at self.old)).posts ≡ []) }
@@ -114,6 +120,8 @@ impl Engine {
         budget: u64,
         most: usize,
     ) -> Result<Came, Broken>
+        requires sound { IsKept self.old }
+        ensures sound { OnOk result (IsKept self.new) }
         ensures written { Gives result (K.written sink.old) (K.written sink.new) (text_of (deliveries most budget mark self.old).lines) }
         ensures next { IfOk result (λ came. (deliveries most budget mark self.old).next ≡ came_to came self.new) }
         ensures posts { OnOk result ((deliveries most budget mark self.old).posts ≡ []) }
@@ -143,7 +151,9 @@ impl Engine {
         at: usize,
         budget: u64,
     ) -> Result<Came, Broken>
-        requires { at < length self.old.items }
+        requires there { at < length self.old.items }
+        requires sound { IsKept self.old }
+        ensures sound { OnOk result (IsKept self.new) }
         ensures written { (i : AnyItem) → slice_get self.old.items at ≡ Some i →
             Gives result (K.written sink.old) (K.written sink.new) (text_of (runs_on budget self.old (deliver i self.old)).lines) }
         ensures next { (i : AnyItem) → slice_get self.old.items at ≡ Some i →
@@ -158,9 +168,11 @@ impl Engine {
         Ok(self.runs(alloc, sink, next, left)?)
     }
 
-    #[tactic(auto, using(gv_io::proofs::StreamLaws::writes))]
+    #[tactic(auto, using(gv_io::proofs::StreamLaws::writes, crate::proofs::Soundly::kept_turn))]
     /// A turn: what has a number by its beginning is delivered.
     fn turn<K: Sink>(&mut self, alloc: Global, sink: &mut K, budget: u64) -> Result<Came, Broken>
+        requires sound { IsKept self.old }
+        ensures sound { OnOk result (IsKept self.new) }
         ensures written { Gives result (K.written sink.old) (K.written sink.new) (text_of (turn budget self.old).lines) }
         ensures next { IfOk result (λ came. (turn budget self.old).next ≡ came_to came self.new) }
         ensures posts { OnOk result ((turn budget self.old).posts ≡ []) }
@@ -202,9 +214,11 @@ impl Engine {
         Ok(())
     }
 
-    #[tactic(auto, using(gv_io::proofs::StreamLaws::writes))]
+    #[tactic(auto, using(gv_io::proofs::StreamLaws::writes, crate::proofs::Soundly::exit_sound))]
     /// LoopExit is thrown into main, after its block line.
     fn exits<K: Sink>(&mut self, alloc: Global, sink: &mut K, budget: u64) -> Result<Came, Broken>
+        requires sound { IsKept self.old }
+        ensures sound { OnOk result (IsKept self.new) }
         ensures written { Gives result (K.written sink.old) (K.written sink.new) (text_of (loop_exit budget (block_line self.old)).lines) }
         ensures next { IfOk result (λ came. (loop_exit budget (block_line self.old)).next ≡ came_to came self.new) }
         ensures posts { OnOk result ((loop_exit budget (block_line self.old)).posts ≡ []) }
@@ -245,6 +259,7 @@ impl Engine {
         turns: u64,
         moves: u64,
     ) -> Result<End, Broken>
+        requires sound { IsKept self.old }
         ensures written { Gives result (K.written sink.old) (K.written sink.new)
             (text_of (run_turns turns moves (Script.Scripted 0 []) self.old).lines) }
         ensures end { IfOk result (λ end. Some end ≡ end_of_run (run_turns turns moves (Script.Scripted 0 []) self.old).end) }
@@ -269,8 +284,27 @@ impl Engine {
         Ok(self.stops(alloc, sink, StopCause::NoTurns)?)
     }
 
+    /// Whether a run may begin: no items and no members are left of an earlier one.
+    #[tactic(auto, using(crate::proofs::Soundly::first_fresh))]
+    fn is_fresh(&self) -> bool
+        ensures fresh { result ≡ is_fresh self.now }
+        ensures first { (c : Scenario) → self.now ≡ first_state c → IsTrue result }
+    {
+        self.items.is_empty() && self.has_plain_main() && have_no_members(&self.objects)
+    }
+
+    fn has_plain_main(&self) -> bool
+        ensures { result ≡ is_plain self.now.greenlets 0 }
+    {
+        match self.greenlets.first() {
+            Some(main) => !main.raw,
+            None => false,
+        }
+    }
+
     #[tactic(auto, using(crate::proofs::Running::began_over, crate::proofs::Running::began_resting, crate::proofs::Running::began_broken, crate::proofs::Running::stopped_run, crate::proofs::Running::stop_broken, gv_io::proofs::StreamLaws::writes))]
-    /// The whole run under the rule of a script without ticks, within these budgets.
+    /// The whole run under the rule of a script without ticks, within these budgets. Where items or members
+    /// are left of an earlier run nothing is run, which is answered as want of memory.
     pub fn run<K: Sink>(
         &mut self,
         alloc: Global,
@@ -285,6 +319,9 @@ impl Engine {
         ensures never_falls { K.faults sink.old ≤ K.faults sink.new }
         ensures failed { Tells result (K.faults sink.old) (K.faults sink.new) }
     {
+        if !self.is_fresh() {
+            return Err(Broken::Memory);
+        }
         let arguments = Items::new(alloc);
         let at = self.begins(alloc, 0, arguments)?;
         match self.runs(alloc, sink, at, moves)? {
@@ -292,6 +329,21 @@ impl Engine {
             Came::ToRest => Ok(self.runs_turns(alloc, sink, turns, moves)?),
         }
     }
+}
+
+fn has_no_member(object: &Object) -> bool
+    ensures { result ≡ has_no_member object.now }
+{
+    match object {
+        Object::Crew(_, members) => members.len() == 0,
+        _ => true,
+    }
+}
+
+fn have_no_members(objects: &[Object]) -> bool
+    ensures { result ≡ list_all has_no_member objects.now }
+{
+    objects.iter().all(|object| has_no_member(object))
 }
 
 fn end_of(cause: &StopCause) -> End

@@ -3,6 +3,7 @@ ghost use Rattle.std.specs.Prelude.{◌≡◌, ℕ, None, IfOk, OnOk};
 ghost use Rattle.hub_machine.specs.Holds.{newcomer_completes};
 ghost use Rattle.hub_machine.specs.Waits.{parked, waits, completes, comes};
 ghost use Rattle.hub_engine.specs.Steps.{performed_of};
+ghost use Rattle.hub_engine.specs.Making.{MayMake};
 
 use crate::Engine;
 use crate::performs::Performed;
@@ -26,7 +27,9 @@ ghost use Rattle.hub_machine.specs.Waits.{until_of};
 
 impl Engine {
     /// The greenlet parks without a deadline of its own.
+    #[tactic(auto, using(hub_soundness::proofs::Singles::wake_unclaimed))]
     fn park(&mut self, g: u32, awaited: Awaited, waiting: Waiting) -> Result<(), AllocError>
+        requires { MayMake g self.old }
         ensures { OnOk result (self.new ≡ parked g awaited waiting None self.old) }
     {
         self.say(Line::Park {
@@ -46,6 +49,7 @@ impl Engine {
         waiting: Waiting,
         how: Wait,
     ) -> Result<Performed, AllocError>
+        requires { MayMake g self.old }
         ensures { IfOk result (λ p. waits g awaited waiting how self.old ≡ performed_of p self.new) }
     {
         match how {
@@ -89,6 +93,7 @@ impl Engine {
         waiting: Waiting,
         how: Wait,
     ) -> Result<Performed, AllocError>
+        requires { MayMake g self.old }
         ensures { IfOk result (λ p. comes g awaited waiting how self.old ≡ performed_of p self.new) }
     {
         if self.newcomer_completes(&waiting)? {

@@ -18,6 +18,7 @@ loop-left-preserved g c = (
   went_on _ _ _ _ c.loop-left.left c.args.budget c.args.mark c.in-Some.at _ c.loop-left.self _ c.loop-left-test.true c.loop-left.invariant.0 c.in-Some.ensures.within c.in-Some.ensures.least c.in-ToRest.is
       c.in_ok-delivers_one.ensures.next c.in_ok-delivers_one.ensures.posts c.in_ok-delivers_one.ensures.written,
   omega (arith, c.loop-left.invariant.1, c.delivers_one.ensures.never_falls),
+  c.in_ok-delivers_one.ensures.sound,
 )
 
 pub returns-in-ToAnEnd-clause-written : goal.returns-in-ToAnEnd-clause-written

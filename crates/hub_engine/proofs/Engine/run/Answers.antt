@@ -1,8 +1,16 @@
-use Rattle.std.proofs.Common.{rules, ◌≡◌, []}
+use Rattle.std.proofs.Common.{rules, ◌≡◌, ◌∙◌, sym, true, []}
 use Rattle.hub_machine.specs.Life.{starts, lands}
 use Rattle.hub_machine.specs.Run.{next_at, run_turns, script_run, Source}
 use Rattle.hub_engine.proofs.Running.{began_at_rest, began_at_end, rest_written, rest_broken, stopped_run, stop_broken}
+use Rattle.hub_engine.proofs.Soundly.{fresh_sound}
+use Rattle.hub_engine.specs.Fresh.{is_fresh}
 use Rattle.hub_engine.proofs.Engine.run.Goals as goal
+
+pub runs-requires : goal.runs-requires
+runs-requires g c =
+    let begun : starts lands 0 [] c.args.self.now ≡ next_at c.in_ok-at.at c.begins.new.self = search (rules, c.in_ok-at.ensures, c.new-arguments.ensures) in
+    let fresh : is_fresh c.args.self.now ≡ true = sym c.is_fresh.ensures.fresh ∙ c.if-not-is_fresh.false in
+    record { sound = fresh_sound c.in_ok-at.at c.args.self.now c.begins.new.self fresh begun }
 
 pub returns-in_err-stops-in-ToAnEnd-clause-written : goal.returns-in_err-stops-in-ToAnEnd-clause-written
 returns-in_err-stops-in-ToAnEnd-clause-written g c scenario first =

@@ -1,12 +1,13 @@
 use Rattle.std.proofs.Common.{◌≤◌}
 use Rattle.hub_machine.specs.Run.{runs, next_at}
+use Rattle.hub_soundness.specs.Going.{IsSoundAt}
 use Rattle.hub_engine.specs.Written.{IsPassing}
 use Rattle.hub_engine.proofs.Engine.runs.Given as goal
 
 abbrev pub invariant-loop-at : goal.invariant-loop-at
 invariant-loop-at g l =
     IsPassing (g.K.Sink.written l.initial.sink) (g.K.Sink.written l.sink) (runs l.moves (next_at l.fn.at l.initial.self)) (runs l.left (next_at l.at l.self))
-    × (g.K.Sink.faults l.initial.sink ≤ g.K.Sink.faults l.sink)
+    × (g.K.Sink.faults l.initial.sink ≤ g.K.Sink.faults l.sink) × IsSoundAt (next_at l.at l.self)
 
 abbrev pub decreases-loop-at : goal.decreases-loop-at
 decreases-loop-at g l = l.left

@@ -2,6 +2,7 @@ use Rattle.std.proofs.Common.{rules, ◌-◌, Some, None, arith}
 use Rattle.trace_text.specs.declared.line.StopCause.{StopCause}
 use Rattle.hub_machine.specs.Run.{run_turns}
 use Rattle.hub_engine.proofs.Running.{turned_broken, turned_to, turned_at_end, rest_else, asked_on, asked_broken, exited_broken, exited_at_rest, exited_at_end, stopped_run, stop_broken, stopped_end, out_of_turns}
+use Rattle.hub_engine.proofs.Soundly.{answered_sound}
 use Rattle.hub_engine.proofs.Engine.runs_turns.Goals as goal
 
 pub returns-in_err-cause-clause-written : goal.returns-in_err-cause-clause-written
@@ -34,6 +35,7 @@ loop-left-preserved-in_ok-asks_world-in-Some g c =
     c.in_ok-cause.ensures.posts c.in_ok-cause.ensures.next c.in_ok-cause.ensures.written c.in-Some.ensures in (
       asked_on _ _ _ _ (run_turns (c.loop-left.left - 1) c.args.moves) c.args.moves c.in-Some.question c.turn.new.self c.asks_world.new.self turn c.in_ok-asks_world-in-Some.ensures.written c.in_ok-asks_world-in-Some.ensures.next,
       omega (arith, c.loop-left.invariant.1, c.turn.ensures.never_falls, c.asks_world.ensures.never_falls),
+      answered_sound c.in-Some.question c.turn.new.self c.asks_world.new.self c.in_ok-asks_world-in-Some.ensures.next c.in_ok-cause.ensures.sound,
     )
 
 pub returns-in_err-asks_world-in-Some-clause-written : goal.returns-in_err-asks_world-in-Some-clause-written
@@ -81,6 +83,7 @@ loop-left-preserved g c =
     c.in_ok-cause.ensures.posts c.in_ok-cause.ensures.next c.in_ok-cause.ensures.written c.in-None.ensures in (
       exited_at_rest _ _ _ _ (run_turns (c.loop-left.left - 1) c.args.moves) c.args.moves _ c.turn.new.self c.exits.new.self turn (rest_else _ c.in_default-2.not-ToAnEnd) c.in_ok-cause-in-None.ensures.posts c.in_ok-cause-in-None.ensures.next c.in_ok-cause-in-None.ensures.written,
       omega (arith, c.loop-left.invariant.1, c.turn.ensures.never_falls, c.exits.ensures.never_falls),
+      c.in_ok-cause-in-None.ensures.sound,
     )
 
 pub returns-in_err-stops-2-clause-written : goal.returns-in_err-stops-2-clause-written
