@@ -1,0 +1,7 @@
+pub mod Actions
+pub mod Answered
+pub mod Binds
+pub mod Branches
+pub mod Meanings
+pub mod Moving
+pub mod Operands

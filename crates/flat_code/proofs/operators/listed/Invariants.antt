@@ -1,0 +1,7 @@
+use Rattle.std.proofs.Common.{◌≡◌, drop}
+use Rattle.hub_machine.specs.Expressions.{scalars}
+use Rattle.flat_code.proofs.Operands.{preceded}
+use Rattle.flat_code.proofs.operators.listed.Given as goal
+
+abbrev pub invariant-loop-value : goal.invariant-loop-value
+invariant-loop-value l = scalars l.values ≡ preceded l.list (scalars (drop l.value-index l.values))

@@ -1,0 +1,9 @@
+pub mod Answers
+pub mod AtMove
+pub mod Chosen
+pub mod Operators
+pub mod Places
+pub mod Requests
+pub mod Small
+pub mod Standings
+pub mod Unwinding

@@ -1,0 +1,83 @@
+use gv_values::{Outcome, Value};
+use scenario_tree::{Items, JobKind, LinkKind, Wait};
+
+/// What a body asks of its hub: one variant for each word, with its operands' values in order, objects and
+/// functions as their numbers.
+#[derive(Drop)]
+pub enum Request {
+    Print(Value),
+    /// A new greenlet of this function with these arguments; its handle is the answer.
+    Spawn(u32, Items<Value>),
+    /// The same, started after so many milliseconds.
+    SpawnLater(u64, u32, Items<Value>),
+    /// The same, not started.
+    New(u32, Items<Value>),
+    Start(Value),
+    Sleep(u64),
+    Join(Value, Wait),
+    Get(Value, Wait),
+    /// The fault stands after `with`.
+    Kill(Value, Option<Value>, Wait),
+    KillAll(Value, Option<Value>, Wait),
+    /// The number stands after `count`.
+    JoinAll(Value, Option<u64>, Wait),
+    /// The greenlet, the ends that fit, and the function that is called.
+    Link(Value, LinkKind, u32),
+    /// A link that writes this mark.
+    LinkMark(Value, u64),
+    /// A link that sets this event.
+    LinkSet(Value, u32),
+    Unlink(Value),
+    Set(u32),
+    Clear(u32),
+    WaitEvent(u32, Wait),
+    ResultSet(u32, Value),
+    ResultFail(u32, Value),
+    ResultGet(u32, Wait),
+    ResultWait(u32, Wait),
+    Acquire(u32, Wait),
+    Release(u32),
+    QueuePut(u32, Value, Wait),
+    QueueGet(u32, Wait),
+    QueuePeek(u32, Wait),
+    QueueDone(u32),
+    QueueJoin(u32, Wait),
+    /// The group or pool, the function, and its arguments.
+    GroupSpawn(u32, u32, Items<Value>),
+    GroupJoin(u32, Wait),
+    GroupKill(u32, Option<Value>, Wait),
+    /// The group or pool, the function, and the list of its arguments.
+    Map(u32, u32, Value),
+    /// The native pool, the job, its argument, and how many milliseconds it takes.
+    NativeSpawn(u32, JobKind, Value, u64),
+    /// The function, and the parent that stands after `under`.
+    Raw(u32, Option<Value>),
+    Switch(Value, Value),
+    /// The fault stands after `with`.
+    Throw(Value, Option<Value>),
+    SetParent(Value, Value),
+    /// A timeout block is entered, with its time if it has one, silent or not. The answer is its number as an integer.
+    EnterTimeout(Option<u64>, bool),
+    /// The timeout block of this number was left.
+    LeaveTimeout(u32),
+}
+
+/// What a body goes on with.
+#[derive(Drop)]
+pub enum Input {
+    /// It begins.
+    Begin,
+    /// Its request gave this value.
+    Value(Value),
+    /// Its request raised this fault.
+    Fault(gv_values::FaultKind),
+}
+
+/// What a step of a body comes to.
+#[derive(Drop)]
+pub enum Step {
+    Request(Request),
+    Ended(Outcome),
+    /// A move would begin, and none is left.
+    MovesOut,
+}
