@@ -1,10 +1,9 @@
 -- What a sweep leaves of the cells.
-use Rattle.std.proofs.Common.{◌≡◌, ℕ, zero, suc, ◌+◌, true, false, List, [], ◌∷◌, length, get_or, replicate, ap, refl}
-use Rattle.std.proofs.lemmas.Bool.{false≢true}
+use Rattle.std.proofs.Common.{◌≡◌, ℕ, zero, suc, true, false, List, [], ◌∷◌, length, get_or, replicate, ap, refl}
 use Rattle.native_board.specs.declared.views.CellState.{CellState}
-use Rattle.native_board.specs.declared.views.CellState.TheVariants.{Free, Posted, Stop, Done}
+use Rattle.native_board.specs.declared.views.CellState.TheVariants.{Done}
 use Rattle.native_board.specs.declared.views.HubCell.{HubCell}
-use Rattle.native_board.specs.declared.views.HubCell.TheVariants.{Vacant, Ordered, Filled, Sent, Taking, Stopped}
+use Rattle.native_board.specs.declared.views.HubCell.TheVariants.{Vacant, Sent}
 use Rattle.native_board.specs.Passes.{is_sent, swept_cell, after_sweep}
 
 -- a cell that has a job after a sweep had it before

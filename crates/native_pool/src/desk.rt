@@ -1,9 +1,13 @@
 //! The hub's side of a board: the jobs that wait, those in the cells of started workers, and the results that wait to be handed on.
-ghost use Rattle.std.specs.Prelude.{◌≡◌, ℕ, ◌≤◌, true, false, length, vec_capacity, slice_index_or};
+ghost use Rattle.std.specs.Prelude.{◌≡◌, ℕ, ◌<◌, ◌≤◌, ◌++◌, ◌∷◌, [], true, false, List, length, vec_len, vec_capacity, slice_index_or, IsNone, IfSome, OnOk, OnErr, IsTrue, ◌↔◌};
 ghost use Rattle.std.specs.Arc.{arc_value};
+ghost use Rattle.gv_values.specs.declared.job.Job.{Job};
+ghost use Rattle.native_answers.specs.Jobs.{eval};
+ghost use Rattle.native_answers.specs.Legal.{posted};
 ghost use Rattle.native_board.specs.Boards.{board_id, hub_board, hub_view};
 ghost use Rattle.native_board.specs.Rows.{hub_cell};
-ghost use Rattle.native_board.specs.Passes.{is_sent};
+ghost use Rattle.native_board.specs.Passes.{is_sent, Sweeps, finished};
+ghost use Rattle.native_pool.specs.Desks.{CanTake, has_workers, SameCells, Fills, Refills, Settles, Hands, HandsDue};
 
 use gv_values::Job;
 use native_board::{Board, Finished, HubPass};
@@ -33,8 +37,7 @@ pub struct Desk {
 }
 
 impl Desk {
-    ghost use Rattle.std.specs.Prelude.{[], ◌+◌};
-    ghost use Rattle.native_board.specs.Passes.{finished};
+    ghost use Rattle.native_pool.specs.Views.{desk_view};
 
     /// A desk at a new board, where these workers were started.
     pub(crate) fn new(
@@ -48,6 +51,7 @@ impl Desk {
         requires cells { length (hub_view pass).cells ≤ 16 }
         requires room { 16 ≤ vec_capacity held }
         requires unused { (i : ℕ) → is_sent (hub_cell (hub_view pass) i) ≡ false }
+        ensures { desk_view result ≡ record { hub = hub_view pass; started = started.items; waiting = []; held = held.items } }
     {
         Desk {
             board,
@@ -59,15 +63,29 @@ impl Desk {
     }
 
     /// Lets a job wait behind the others.
-    pub(crate) fn add(&mut self, number: u32, job: Job) -> Result<(), AllocError> {
+    pub(crate) fn add(&mut self, number: u32, job: Job) -> Result<(), AllocError>
+        ensures added { OnOk result (desk_view self.new ≡ record (desk_view self.old) { waiting = (desk_view self.old).waiting ++ posted number job ∷ [] }) }
+        ensures refused { OnErr result (desk_view self.new ≡ desk_view self.old) }
+    {
         self.waiting.push_back(PostedJob { number, job })?;
         Ok(())
     }
 
-    // Posts the oldest job that waits into the cell, where that is free and has a started worker.
-    fn fill_cell(&mut self, cell: u32) {
+    // Whether the cell has a started worker and is free.
+    fn can_take(&self, cell: u32) -> bool
+        ensures { IsTrue result ↔ CanTake (desk_view self.now) cell }
+    {
         let at = cell as usize;
-        if at >= self.started.len() || !self.started[at] || !self.pass.is_free(cell) {
+        at < self.started.len() && self.started[at] && self.pass.is_free(cell)
+    }
+
+    // Posts the oldest job that waits into the cell, where that is free and has a started worker.
+    fn fill_cell(&mut self, cell: u32)
+        requires made { (hub_view self.old.pass).made ≡ length (hub_view self.old.pass).cells }
+        ensures fills { Fills (desk_view self.old) (desk_view self.new) }
+        ensures used { CanTake (desk_view self.new) cell → (desk_view self.new).waiting ≡ [] }
+    {
+        if !self.can_take(cell) {
             return;
         }
         let Some(PostedJob { number, job }) = self.waiting.pop_front() else {
@@ -77,7 +95,11 @@ impl Desk {
     }
 
     /// Hands jobs that wait out to the free cells of started workers.
-    pub(crate) fn fill(&mut self) {
+    pub(crate) fn fill(&mut self)
+        requires made { (hub_view self.old.pass).made ≡ length (hub_view self.old.pass).cells }
+        ensures fills { Fills (desk_view self.old) (desk_view self.new) }
+        ensures full { (i : ℕ) → CanTake (desk_view self.new) i → (desk_view self.new).waiting ≡ [] }
+    {
         for cell in 0..MOST_CELLS {
             self.fill_cell(cell);
         }
@@ -87,23 +109,32 @@ impl Desk {
     fn sweep(&mut self)
         requires { self.old.held.items ≡ [] }
         ensures held { self.new.held.items ≡ finished (hub_view self.old.pass).cells (hub_view self.new.pass).seen }
-        ensures sweeps { (hub_view self.new.pass).sweeps ≡ (hub_view self.old.pass).sweeps + 1 }
+        ensures sweeps { Sweeps (hub_view self.old.pass) (hub_view self.new.pass) }
+        ensures started { self.new.started.items ≡ self.old.started.items }
+        ensures waiting { self.new.waiting.items ≡ self.old.waiting.items }
     {
         self.board.sweep(&mut self.pass, &mut self.held);
     }
 
-    /// The next result: the first of those held, after a sweep where none is; with no started worker, that of the oldest job.
-    pub(crate) fn next(&mut self) -> Option<Finished> {
-        if self.held.is_empty() {
-            self.sweep();
-            self.fill();
-        }
-        if !self.held.is_empty() {
-            return Some(self.held.remove(0));
-        }
-        if self.has_workers() {
-            return None;
-        }
+    // Hands on the first of the results that are held.
+    fn take_first(&mut self) -> Finished
+        requires { 0 < vec_len self.old.held }
+        ensures first { result ∷ self.new.held.items ≡ self.old.held.items }
+        ensures hub { hub_view self.new.pass ≡ hub_view self.old.pass }
+        ensures started { self.new.started.items ≡ self.old.started.items }
+        ensures waiting { self.new.waiting.items ≡ self.old.waiting.items }
+    {
+        self.held.remove(0)
+    }
+
+    // Evaluates the oldest job that waits.
+    fn evaluate_oldest(&mut self) -> Option<Finished>
+        ensures some { IfSome result (λ f. (job : Job) × (self.old.waiting.items ≡ posted f.number job ∷ self.new.waiting.items) × (f.outcome ≡ eval job)) }
+        ensures none { IsNone result → (self.old.waiting.items ≡ []) × (self.new.waiting.items ≡ []) }
+        ensures hub { hub_view self.new.pass ≡ hub_view self.old.pass }
+        ensures started { self.new.started.items ≡ self.old.started.items }
+        ensures held { self.new.held.items ≡ self.old.held.items }
+    {
         let PostedJob { number, job } = self.waiting.pop_front()?;
         Some(Finished {
             number,
@@ -111,8 +142,40 @@ impl Desk {
         })
     }
 
+    // Sweeps and fills the cells, where no result is held.
+    fn refill(&mut self)
+        requires made { (hub_view self.old.pass).made ≡ length (hub_view self.old.pass).cells }
+        requires none_held { self.old.held.items ≡ [] }
+        ensures refills { Refills (desk_view self.old) (desk_view self.new) }
+    {
+        self.sweep();
+        self.fill();
+    }
+
+    /// The next result: the first of those held, after a sweep where none is; with no started worker, that of the oldest job.
+    pub(crate) fn next(&mut self) -> Option<Finished>
+        requires made { (hub_view self.old.pass).made ≡ length (hub_view self.old.pass).cells }
+        ensures some { IfSome result (λ f. Hands (desk_view self.old) (desk_view self.new) f × SameCells (desk_view self.old) (desk_view self.new)) }
+        ensures jobs { IfSome result (λ f. HandsDue (desk_view self.old) (desk_view self.new) f) }
+        ensures none { IsNone result → Settles (desk_view self.old) (desk_view self.new) }
+    {
+        if !self.held.is_empty() {
+            return Some(self.take_first());
+        }
+        self.refill();
+        if !self.held.is_empty() {
+            return Some(self.take_first());
+        }
+        if self.has_workers() {
+            return None;
+        }
+        self.evaluate_oldest()
+    }
+
     // Whether a worker was started.
-    fn has_workers(&self) -> bool {
+    fn has_workers(&self) -> bool
+        ensures { result ≡ has_workers (desk_view self.now) }
+    {
         self.started.iter().any(|started| *started)
     }
 

@@ -1,10 +1,11 @@
 //! What was posted to a pool and what it answered.
-ghost use Rattle.std.specs.Prelude.{◌≡◌, ◌<◌, ◌≤◌, ◌^◌, ◌++◌, ◌∷◌, [], OnOk, OnErr, IsTrue, ◌↔◌, vec_len, vec_capacity, min, max};
-ghost use Rattle.native_answers.specs.Legal.{posted, moment_of, last_moment_of, Answers};
+ghost use Rattle.std.specs.Prelude.{◌≡◌, ◌<◌, ◌≤◌, ◌^◌, ◌++◌, ◌∷◌, [], OnOk, vec_len, vec_capacity, min};
+ghost use Rattle.native_answers.specs.Legal.{posted, moment_of, last_moment_of};
+ghost use Rattle.native_answers.specs.Script.{last_moment};
 
 use gv_values::{Answer, Job};
 use std::alloc::{AllocError, Global};
-use world::{PostedJob, Question, is_answer};
+use world::PostedJob;
 
 /// The greatest moment.
 pub(crate) const LAST_MOMENT: u64 = (1 << 62) - 1;
@@ -21,7 +22,9 @@ pub struct History {
 
 impl History {
     /// Nothing was posted or answered.
-    pub(crate) fn new(alloc: Global) -> History {
+    pub(crate) fn new(alloc: Global) -> History
+        ensures { result.moment ≡ 0 }
+    {
         History {
             posts: Vec::new(alloc),
             answers: Vec::new(alloc),
@@ -40,14 +43,14 @@ impl History {
         self.moment = 0;
     }
 
-    /// Goes on to a moment, if that is later.
-    pub(crate) fn advance(&mut self, moment: u64)
+    /// Goes on to the moment at which so many milliseconds have passed, or to the greatest one.
+    pub(crate) fn advance(&mut self, passed: u64)
+        requires { self.old.moment ≤ passed }
         ensures posts { self.new.posts ≡ self.old.posts }
         ensures answers { self.new.answers ≡ self.old.answers }
-        ensures moment { self.new.moment ≡ max self.old.moment (min moment 4611686018427387903) }
-        ensures fits { self.new.moment < 2 ^ 62 }
+        ensures moment { self.new.moment ≡ min passed last_moment }
     {
-        self.moment = self.moment.max(moment.min(LAST_MOMENT));
+        self.moment = passed.min(LAST_MOMENT);
     }
 
     /// Makes room for a post.
@@ -80,13 +83,6 @@ impl History {
     {
         self.answers.reserve(1)?;
         Ok(())
-    }
-
-    /// Whether an answer fits the question now.
-    pub(crate) fn allows(&self, question: Question, answer: Answer) -> bool
-        ensures { IsTrue result ↔ Answers self.now.posts.items self.now.answers.items question answer }
-    {
-        is_answer(&self.posts, &self.answers, question, answer)
     }
 
     /// Stores an answer that was given at this moment. Room was made for it.

@@ -1,9 +1,13 @@
 //! The world of native threads.
-ghost use Rattle.std.specs.Prelude.{◌≡◌, ◌<◌, ◌≤◌, ◌+◌, ◌++◌, ◌∷◌, [], vec_len, vec_capacity, length, IfSome, IfOk, is_some, false};
+ghost use Rattle.std.specs.Prelude.{◌≡◌, ◌<◌, ◌≤◌, ◌-◌, ◌++◌, ◌∷◌, [], vec_len, vec_capacity, length, map, min, IfSome, IfOk, IsNone, is_ok};
 ghost use Rattle.std.specs.Arc.{arc_value};
-ghost use Rattle.native_board.specs.Boards.{board_id};
-ghost use Rattle.native_board.specs.Given.{passes_board};
-ghost use Rattle.native_answers.specs.Legal.{moment_of, posts_of, answers_of, IsLegal};
+ghost use Rattle.native_board.specs.Boards.{board_id, hub_view, worker_view};
+ghost use Rattle.native_board.specs.Given.{passes_board, next_cell, passes_left};
+ghost use Rattle.native_answers.specs.Legal.{moment_of, IsLegal};
+ghost use Rattle.native_answers.specs.Script.{last_moment};
+ghost use Rattle.native_pool.specs.Desks.{Balances, SameCells, Rests, Settles, Gives, IsDue};
+ghost use Rattle.native_pool.specs.Pools.{told_cell, numbers_from, RefusedWhereRisen};
+ghost use Rattle.native_pool.specs.Views.{desk_view, start_cell};
 
 use crate::desk::{Desk, MOST_CELLS};
 use crate::edge::{Clock, Ear};
@@ -13,6 +17,7 @@ use crate::task::{Gate, WorkerTask};
 use gv_values::{Answer, Job};
 use native_board::{Bell, Board, Made, WorkerPasses};
 use std::alloc::{AllocError, Global};
+use std::marker::Model;
 use std::mem;
 use std::sync::{Arc, Wait};
 use world::{Question, World};
@@ -38,6 +43,19 @@ pub struct ThreadWorld<H, R, B: Bell + Drop, C: Clock, G: Gate + Drop, S: Spawne
     history: History,
 }
 
+impl<H, R, B: Bell + Drop, C: Clock, G: Gate + Drop, S: Spawner<B, G>> Model
+    for ThreadWorld<H, R, B, C, G, S> {
+    ghost use Rattle.std.specs.Prelude.{map};
+    ghost use Rattle.native_pool.specs.Pools.{Pool, IsSound};
+    ghost use Rattle.native_pool.specs.Views.{pool_of, start_cell};
+
+    ghost Value = { Pool };
+
+    ghost view = { λ w. pool_of w.desk w.history w.workers (C.reading w.clock) w.began (S.refusals w.spawner) (map (start_cell S.running_cell S.refused_cell) w.starts.items) };
+
+    ghost invariant = { λ w. IsSound (pool_of w.desk w.history w.workers (C.reading w.clock) w.began (S.refusals w.spawner) (map (start_cell S.running_cell S.refused_cell) w.starts.items)) };
+}
+
 impl<
     H: Wait + Drop,
     R: Ear + Drop,
@@ -46,6 +64,9 @@ impl<
     G: Gate + Drop,
     S: Spawner<B, G> + Drop,
 > ThreadWorld<H, R, B, C, G, S> {
+    ghost use Rattle.std.specs.Prelude.{false};
+    ghost use Rattle.native_pool.specs.Pools.{pool_meaning};
+
     /// A world that doesn't run yet. It keeps the handle, and shares bell and gate with the workers. `AllocError`: memory is wanting, and all that was handed in is given up.
     pub fn new(
         alloc: Global,
@@ -56,7 +77,7 @@ impl<
         gate: G,
         spawner: S,
     ) -> Result<ThreadWorld<H, R, B, C, G, S>, AllocError>
-        ensures stopped { IfOk result (λ world. is_some world.desk ≡ false) }
+        ensures stopped { IfOk result (λ world. (pool_meaning world).runs ≡ false) }
     {
         let bell = Arc::new(alloc, bell)?;
         let gate = Arc::new(alloc, gate)?;
@@ -80,19 +101,22 @@ impl<
 // The tasks of all workers, by cell.
 fn tasks<B: Bell + Drop, G: Gate + Drop>(
     alloc: Global,
+    workers: u32,
     board: &Arc<Board, Global>,
     mut passes: WorkerPasses,
     bell: &Arc<B, Global>,
     gate: &Arc<G, Global>,
 ) -> Result<Vec<WorkerTask<B, G>>, AllocError>
-    requires { passes_board passes ≡ board_id (arc_value board.now) }
-    ensures { IfOk result (λ tasks. vec_len tasks ≤ 16) }
+    requires board { passes_board passes ≡ board_id (arc_value board.now) }
+    requires all { (next_cell passes ≡ 0) × (passes_left passes ≡ workers) }
+    ensures cells { IfOk result (λ tasks. map (λ task. (worker_view task.pass).cell) tasks.items ≡ numbers_from 0 workers) }
+    ensures count { IfOk result (λ tasks. vec_len tasks ≡ workers) }
 {
     let mut tasks = Vec::new(alloc);
-    for cell in 0..MOST_CELLS {
+    for cell in 0..workers {
         let _ = cell;
         let Some(pass) = passes.next() else {
-            return Ok(tasks);
+            unreachable!()
         };
         let task = WorkerTask::new(
             Arc::try_clone(board)?,
@@ -112,8 +136,12 @@ fn start_all<B: Bell + Drop, G: Gate + Drop, S: Spawner<B, G>>(
     starts: &mut Vec<Result<S::Running, S::Refused>>,
     started: &mut Vec<bool>,
 )
-    requires starts { vec_len starts.old + vec_len tasks ≤ vec_capacity starts.old }
-    requires started { vec_len started.old + vec_len tasks ≤ vec_capacity started.old }
+    requires starts { vec_len tasks ≤ vec_capacity starts.old }
+    requires started { vec_len tasks ≤ vec_capacity started.old }
+    requires none { (starts.old.items ≡ []) × (started.old.items ≡ []) }
+    ensures cells { map told_cell (map (start_cell S.running_cell S.refused_cell) starts.new.items) ≡ map (λ task. (worker_view task.pass).cell) tasks.items }
+    ensures started { started.new.items ≡ map (λ start. is_ok start) (map (start_cell S.running_cell S.refused_cell) starts.new.items) }
+    ensures risen { RefusedWhereRisen (S.refusals spawner.old) (S.refusals spawner.new) (map (start_cell S.running_cell S.refused_cell) starts.new.items) }
 {
     while tasks.len() > 0 {
         let start = spawner.start(tasks.remove(0));
@@ -136,7 +164,12 @@ fn join_all<B: Bell + Drop, G: Gate + Drop, S: Spawner<B, G>>(
 
 // What may be answered now, at this moment.
 fn offered(desk: &mut Desk, question: Question, moment: u64) -> Option<Answer>
-    ensures { IfSome result (λ answer. moment_of answer ≡ moment) }
+    requires made { (hub_view desk.old.pass).made ≡ length (hub_view desk.old.pass).cells }
+    ensures at { IfSome result (λ answer. moment_of answer ≡ moment) }
+    ensures gives { IfSome result (λ answer. Gives (desk_view desk.old) (desk_view desk.new) answer) }
+    ensures due { IfSome result (λ answer. IsDue (desk_view desk.old) (desk_view desk.new) question answer) }
+    ensures same { SameCells (desk_view desk.old) (desk_view desk.new) }
+    ensures none { IsNone result → Settles (desk_view desk.old) (desk_view desk.new) }
 {
     if let Some(finished) = desk.next() {
         return Some(Answer::Done {
@@ -150,6 +183,37 @@ fn offered(desk: &mut Desk, question: Question, moment: u64) -> Option<Answer>
         Question::Wait(Some(until)) if until <= moment => Some(Answer::Elapsed { at: moment }),
         Question::Wait(_) => None,
     }
+}
+
+// Goes on to the moment that the clock says now, and stores what may be answered then, if anything. Room was made for it.
+fn try_answer<C: Clock>(
+    clock: &mut C,
+    began: u64,
+    desk: &mut Desk,
+    history: &mut History,
+    question: Question,
+) -> Option<Answer>
+    requires room { vec_len history.old.answers < vec_capacity history.old.answers }
+    requires made { (hub_view desk.old.pass).made ≡ length (hub_view desk.old.pass).cells }
+    requires jobs { Balances (desk_view desk.old) history.old.posts.items history.old.answers.items }
+    requires timely { history.old.moment ≤ C.reading clock.old - began }
+    ensures timely { history.new.moment ≡ min (C.reading clock.new - began) last_moment }
+    ensures later { history.old.moment ≤ history.new.moment }
+    ensures posts { history.new.posts.items ≡ history.old.posts.items }
+    ensures legal { IfSome result (λ answer. IsLegal history.old.posts.items history.old.answers.items question answer) }
+    ensures answers { IfSome result (λ answer. history.new.answers.items ≡ history.old.answers.items ++ answer ∷ []) }
+    ensures at { IfSome result (λ answer. history.new.moment ≡ moment_of answer) }
+    ensures gives { IfSome result (λ answer. Gives (desk_view desk.old) (desk_view desk.new) answer) }
+    ensures same { SameCells (desk_view desk.old) (desk_view desk.new) }
+    ensures jobs { Balances (desk_view desk.new) history.new.posts.items history.new.answers.items }
+    ensures none { IsNone result → Settles (desk_view desk.old) (desk_view desk.new) × (history.new.answers ≡ history.old.answers) }
+{
+    history.advance(clock.now().saturating_sub(began));
+    let Some(answer) = offered(desk, question, history.moment) else {
+        return None;
+    };
+    history.store(answer);
+    Some(answer)
 }
 
 // How long the hub may rest at this moment.
@@ -171,24 +235,25 @@ fn await_answer<H: Wait, R: Ear, C: Clock>(
     history: &mut History,
     question: Question,
 ) -> Answer
-    requires { vec_len history.old.answers < vec_capacity history.old.answers }
+    requires room { vec_len history.old.answers < vec_capacity history.old.answers }
+    requires made { (hub_view desk.old.pass).made ≡ length (hub_view desk.old.pass).cells }
+    requires jobs { Balances (desk_view desk.old) history.old.posts.items history.old.answers.items }
+    requires timely { history.old.moment ≤ C.reading clock.old - began }
+    ensures timely { history.new.moment ≡ min (C.reading clock.new - began) last_moment }
+    ensures later { history.old.moment ≤ history.new.moment }
+    ensures posts { history.new.posts.items ≡ history.old.posts.items }
     ensures legal { IsLegal history.old.posts.items history.old.answers.items question result }
     ensures answers { history.new.answers.items ≡ history.old.answers.items ++ result ∷ [] }
-    ensures posts { history.new.posts.items ≡ history.old.posts.items }
     ensures at { history.new.moment ≡ moment_of result }
-    ensures moment { history.old.moment ≤ history.new.moment }
+    ensures gives { Gives (desk_view desk.old) (desk_view desk.new) result }
+    ensures same { SameCells (desk_view desk.old) (desk_view desk.new) }
+    ensures jobs { Balances (desk_view desk.new) history.new.posts.items history.new.answers.items }
 {
     for _ in rt.forever() {
-        history.advance(clock.now().saturating_sub(began));
-        let moment = history.moment;
-        if let Some(answer) = offered(desk, question, moment) {
-            if history.allows(question, answer) {
-                history.store(answer);
-                return answer;
-            }
-        } else {
-            ear.rest(rest_of(question, moment));
+        if let Some(answer) = try_answer(clock, began, desk, history, question) {
+            return answer;
         }
+        ear.rest(rest_of(question, history.moment));
     }
     unreachable!()
 }
@@ -213,20 +278,39 @@ impl<
     G: Gate + Drop,
     S: Spawner<B, G> + Drop,
 > World for ThreadWorld<H, R, B, C, G, S> {
-    ghost meaning = { λ w. record { posts = w.history.posts.items; answers = w.history.answers.items; moment = w.history.moment; workers = w.workers; tick = 0; listed = []; runs = is_some w.desk } };
+    ghost use Rattle.std.specs.Prelude.{ℕ, ◌≤◌, ◌<◌, ◌↔◌, true, false, List, Option, OnOk, OnErr};
+    ghost use Rattle.native_answers.specs.declared.question.LogEntry.{LogEntry};
+    ghost use Rattle.native_answers.specs.declared.question.LogEntry.TheVariants as entry;
+    ghost use Rattle.native_answers.specs.Legal.{is_posted, MayAsk};
+    ghost use Rattle.world.specs.Worlds.{Begins, Posts, Stores};
+    ghost use Rattle.native_pool.specs.Pools.{pool_meaning, pool_log, IsTimely, HasCome, WhileRunning, Between, KeepsStarts};
 
-    ghost stands_for = { λ w log. (posts_of log ≡ w.history.posts.items) × (answers_of log ≡ w.history.answers.items) };
+    ghost meaning = { pool_meaning };
 
-    ghost log_is = { λ w log h. h };
+    ghost stands_for = { pool_log };
 
-    fn begin(&mut self, workers: u32) -> Result<(), AllocError> {
+    ghost log_is = { λ p log h. h };
+
+    fn begin(&mut self, workers: u32) -> Result<(), AllocError>
+        requires stopped { (pool_meaning self.old).runs ≡ false }
+        requires some { 0 < workers }
+        requires few { workers ≤ 16 }
+        ensures begins { OnOk result (Begins (pool_meaning self.old) (pool_meaning self.new) workers) }
+        ensures log { OnOk result (pool_log self.new []) }
+        ensures refused { OnErr result (pool_meaning self.new ≡ pool_meaning self.old) }
+        ensures refused_log { OnErr result ((log : List LogEntry) → pool_log self.old log ↔ pool_log self.new log) }
+        ensures starts { OnOk result (WhileRunning KeepsStarts self.new) }
+        ensures risen { OnOk result (RefusedWhereRisen self.old.refusals self.new.refusals self.new.starts) }
+        ensures began { OnOk result (self.new.began ≡ self.new.reading) }
+        ensures unchanged { OnErr result (self.new ≡ self.old) }
+    {
         let Made {
             board,
             hub,
             workers: passes,
         } = Board::new(self.alloc, workers)?;
         let board = Arc::new(self.alloc, board)?;
-        let tasks = tasks(self.alloc, &board, passes, &self.bell, &self.gate)?;
+        let tasks = tasks(self.alloc, workers, &board, passes, &self.bell, &self.gate)?;
         let mut started = Vec::with_capacity(self.alloc, MOST_CELLS as usize)?;
         let mut starts = Vec::with_capacity(self.alloc, MOST_CELLS as usize)?;
         let held = Vec::with_capacity(self.alloc, MOST_CELLS as usize)?;
@@ -239,7 +323,18 @@ impl<
         Ok(())
     }
 
-    fn post(&mut self, number: u32, job: Job, takes: u64) -> Result<(), AllocError> {
+    fn post(&mut self, number: u32, job: Job, takes: u64) -> Result<(), AllocError>
+        requires runs { (pool_meaning self.old).runs ≡ true }
+        requires new { is_posted number (pool_meaning self.old).posts ≡ false }
+        requires short { takes ≤ 1000000000 }
+        ensures posted { OnOk result (Posts (pool_meaning self.old) (pool_meaning self.new) number job) }
+        ensures log { OnOk result ((log : List LogEntry) → pool_log self.old log → pool_log self.new (log ++ entry.Post number job takes ∷ [])) }
+        ensures refused { OnErr result (pool_meaning self.new ≡ pool_meaning self.old) }
+        ensures refused_log { OnErr result ((log : List LogEntry) → pool_log self.old log ↔ pool_log self.new log) }
+        ensures moment { OnOk result (IsTimely self.new) }
+        ensures starts { OnOk result (WhileRunning KeepsStarts self.new) }
+        ensures same_starts { self.new.starts ≡ self.old.starts }
+    {
         let _ = takes;
         let Some(desk) = &mut self.desk else {
             unreachable!()
@@ -253,7 +348,20 @@ impl<
         Ok(())
     }
 
-    fn ask(&mut self, question: Question) -> Result<Answer, AllocError> {
+    fn ask(&mut self, question: Question) -> Result<Answer, AllocError>
+        requires runs { (pool_meaning self.old).runs ≡ true }
+        requires asks { MayAsk (pool_meaning self.old).posts (pool_meaning self.old).answers question }
+        ensures legal { IfOk result (λ answer. IsLegal (pool_meaning self.old).posts (pool_meaning self.old).answers question answer) }
+        ensures stored { IfOk result (λ answer. Stores (pool_meaning self.old) (pool_meaning self.new) answer) }
+        ensures log { IfOk result (λ answer. (log : List LogEntry) → pool_log self.old log → pool_log self.new (log ++ entry.Asked question answer ∷ [])) }
+        ensures refused { OnErr result (pool_meaning self.new ≡ pool_meaning self.old) }
+        ensures refused_log { OnErr result ((log : List LogEntry) → pool_log self.old log ↔ pool_log self.new log) }
+        ensures moment { OnOk result (IsTimely self.new) }
+        ensures come { IfOk result (λ answer. HasCome self.new question answer) }
+        ensures gives { IfOk result (λ answer. Between (λ d e. Gives d e answer) self.old.desk self.new.desk) }
+        ensures starts { OnOk result (WhileRunning KeepsStarts self.new) }
+        ensures same_starts { self.new.starts ≡ self.old.starts }
+    {
         let Some(desk) = &mut self.desk else {
             unreachable!()
         };
@@ -269,7 +377,12 @@ impl<
         ))
     }
 
-    fn finish(&mut self) {
+    fn finish(&mut self)
+        requires runs { (pool_meaning self.old).runs ≡ true }
+        ensures ended { pool_meaning self.new ≡ record (pool_meaning self.old) { runs = false } }
+        ensures log { (log : List LogEntry) → pool_log self.old log ↔ pool_log self.new log }
+        ensures starts { self.new.starts ≡ [] }
+    {
         if let Some(desk) = self.desk.take() {
             wind_down(&self.rt, &mut self.ear, desk);
         }

@@ -1,13 +1,35 @@
-use Rattle.std.proofs.Common.{[], ◌∷◌, ◌++◌, sym, ap, ◌∙◌}
-use Rattle.native_answers.specs.Legal.{posted}
+use Rattle.std.proofs.Common.{arith, ◌≡◌, ◌++◌, ◌∷◌, [], false, refl, sym, ap, ◌∙◌}
+use Rattle.std.proofs.lemmas.Grind.{common_steps}
+use Rattle.std.specs.Prelude.{option_map}
+use Rattle.native_answers.specs.Legal.{posted, is_posted}
 use Rattle.native_answers.proofs.Logs.{posts_of-post, answers_of-post}
+use Rattle.native_pool.specs.Views.{desk_view}
+use Rattle.native_pool.proofs.PoolSteps.{sound_post, sound_running, starts_of}
 use Rattle.native_pool.proofs.pool.ThreadWorldWorld.post.Goals as goal
 
+pub invariant_of-self-2 : goal.invariant_of-self-2
+invariant_of-self-2 g c =
+    let n = c.args.number in let j = c.args.job in let d = desk_view c.in-Some.desk in let was = c.self.invariant.running d (ap (option_map desk_view) c.in-Some.is) in
+    let new : is_posted n c.self.inside.history.posts.items ≡ false = ap (λ p. is_posted n p.posts) c.self.view_is ∙ c.requires.new in
+    let posts = ap (λ v. v.items) c.advance.ensures.posts ∙ (c.add-2.ensures.posts ∙ ap (λ l. l ++ posted n j ∷ []) c.in_ok-reserve_post.ensures.posts) in
+    let answers = ap (λ v. v.items) c.advance.ensures.answers ∙ (c.add-2.ensures.answers ∙ c.in_ok-reserve_post.ensures.answers) in
+    sound_running _ (desk_view c.fill.new.self) refl (grind (arith, common_steps))
+    (sound_post _ _ d (desk_view c.add.new.self) (desk_view c.fill.new.self) n j was new c.in_ok-add.ensures.added c.fill.ensures.fills posts answers refl refl)
+
 pub returns-clause-log : goal.returns-clause-log
-returns-clause-log g c = λ log h. (
-  posts_of-post log c.args.number c.args.job c.args.takes
-      ∙ (ap (λ l. l ++ posted c.args.number c.args.job ∷ []) h.0
-      ∙ (ap (λ l. l ++ posted c.args.number c.args.job ∷ []) (sym c.in_ok-reserve_post.ensures.posts) ∙ (sym c.add-2.ensures.posts ∙ sym (ap (λ v. v.items) c.advance.ensures.posts)))),
-  answers_of-post log c.args.number c.args.job c.args.takes
-      ∙ (h.1 ∙ (sym c.in_ok-reserve_post.ensures.answers ∙ (sym c.add-2.ensures.answers ∙ sym (ap (λ v. v.items) c.advance.ensures.answers)))),
-)
+returns-clause-log g c = λ log h.
+    let n = c.args.number in let j = c.args.job in
+    let posts = ap (λ v. v.items) c.advance.ensures.posts ∙ (c.add-2.ensures.posts ∙ ap (λ l. l ++ posted n j ∷ []) c.in_ok-reserve_post.ensures.posts) in
+    let answers = ap (λ v. v.items) c.advance.ensures.answers ∙ (c.add-2.ensures.answers ∙ c.in_ok-reserve_post.ensures.answers) in (
+      posts_of-post log n j c.args.takes ∙ (ap (λ l. l ++ posted n j ∷ []) (h.0 ∙ ap (λ p. p.posts) (sym c.self.view_is)) ∙ sym posts),
+      answers_of-post log n j c.args.takes ∙ (h.1 ∙ (ap (λ p. p.answers) (sym c.self.view_is) ∙ sym answers)),
+    )
+
+pub returns-clause-starts : goal.returns-clause-starts
+returns-clause-starts g c =
+    let n = c.args.number in let j = c.args.job in let d = desk_view c.in-Some.desk in let was = c.self.invariant.running d (ap (option_map desk_view) c.in-Some.is) in
+    let new : is_posted n c.self.inside.history.posts.items ≡ false = ap (λ p. is_posted n p.posts) c.self.view_is ∙ c.requires.new in
+    let posts = ap (λ v. v.items) c.advance.ensures.posts ∙ (c.add-2.ensures.posts ∙ ap (λ l. l ++ posted n j ∷ []) c.in_ok-reserve_post.ensures.posts) in
+    let answers = ap (λ v. v.items) c.advance.ensures.answers ∙ (c.add-2.ensures.answers ∙ c.in_ok-reserve_post.ensures.answers) in
+    starts_of _ (desk_view c.fill.new.self) refl
+    (sound_post _ _ d (desk_view c.add.new.self) (desk_view c.fill.new.self) n j was new c.in_ok-add.ensures.added c.fill.ensures.fills posts answers refl refl) c.fill.new.self.used
