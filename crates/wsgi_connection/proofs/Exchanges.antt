@@ -1,0 +1,336 @@
+-- A connection, piece by piece, and the whole of it.
+use Rattle.std.proofs.Common.{◌≡◌, ℕ, zero, suc, ◌+◌, ◌-◌, ◌<◌, ◌≤◌, Bool, true, false, ◌||◌, List, [], ◌∷◌, ◌++◌, length, take, min, ◌⊎◌, inl, inr, length-take-le, take-take, nat_le, Option, Some, None, IfSome, Result, Ok, Err, OnOk, OnErr, is_err, refl, sym, ap, ◌∙◌, subst, arith, append-nil, length-append, unwrap_or}
+use Rattle.std.proofs.lemmas.List.{append_cancel_left, take-append-le, take_all}
+use Rattle.gv_io.specs.Streams.{appended, prepended, AppendsPrefix}
+use Rattle.gv_io.proofs.StreamLaws.{appended-nothing, appended-appended, prepended-prepended, prepended-nothing, AppendsPrefix-after, AppendsPrefix-longer, AppendsPrefix-all}
+use Rattle.wsgi_core.specs.Answers.{Sent}
+use Rattle.wsgi_core.specs.Applications.{App}
+use Rattle.wsgi_core.specs.Sessions.{session, answers}
+use Rattle.wsgi_core.specs.Steps.{IsAt, pending_of, phase_by, said_bytes}
+use Rattle.wsgi_core.specs.declared.session.Session.{Session}
+use Rattle.wsgi_core.specs.declared.session.SessionPhase.{SessionPhase}
+use Rattle.wsgi_core.specs.Talks.{sent_from}
+use Rattle.wsgi_core.proofs.SessionLaws.{answers-before}
+use Rattle.wsgi_core.proofs.TalkLaws.{settled_begun}
+use Rattle.wsgi_connection.specs.declared.connection.ConnectionEnd.{ConnectionEnd}
+use Rattle.wsgi_connection.specs.declared.connection.ConnectionEnd.TheVariants.{Closed, TooLong, ReadFault, WriteFault, Memory}
+use Rattle.wsgi_connection.specs.Connections.{most_bytes, whole_session, Exchanged, IsServed, IsWhole, SentFor}
+use Rattle.wsgi_connection.specs.Pieces.{Breaks, Goes, IsAtRest, said}
+
+-- ---- results
+
+pub where_err : {T E : Type 0} (r : Result T E) (A P : Type 0) → OnErr r A → is_err r ≡ true → (A → P) → P
+where_err (Ok x) A P h e f = absurd (cc)
+where_err (Err x) A P h e f = f h
+
+pub where_ok : {T E : Type 0} (r : Result T E) (A P : Type 0) → OnOk r A → is_err r ≡ false → (A → P) → P
+where_ok (Ok x) A P h e f = f h
+where_ok (Err x) A P h e f = absurd (cc)
+
+or_true : (b : Bool) → b || true ≡ true
+or_true true = refl
+or_true false = refl
+
+-- ---- lists of bytes
+
+-- the first bytes of two lists in a row
+pub take-two : (n : ℕ) (xs ys : List ℕ) → take n (xs ++ ys) ≡ take n xs ++ take (n - length xs) ys
+take-two zero xs ys = let none : zero - length xs ≡ 0 = omega arith in rw none refl
+take-two (suc n) [] ys = let same : suc n - length {A = ℕ} [] ≡ suc n = omega arith in rw same refl
+take-two (suc n) (x ∷ xs) ys =
+    let less : suc n - suc (length xs) ≡ n - length xs = omega arith in
+    rw less (ap (λ (z : List ℕ). x ∷ z) (take-two n xs ys))
+
+take_nil : (n : ℕ) (xs : List ℕ) → xs ≡ [] → take n xs ≡ []
+take_nil n xs e = let none : length xs ≡ 0 = ap (λ (z : List ℕ). length z) e in take_all n xs (omega arith) ∙ e
+
+-- of the bytes that came, those that are looked at
+pub looked_at_piece : (came room : ℕ) (buf behind : List ℕ) → came ≤ length buf → take room (take came buf) ≡ take (min came room) (buf ++ behind)
+looked_at_piece came room buf behind fits = by (le_or_gt came room)
+  where
+    le_or_gt : (a b : ℕ) → (a ≤ b) ⊎ (b ≤ a)
+    le_or_gt a b = grind arith
+
+    by : (came ≤ room) ⊎ (room ≤ came) → take room (take came buf) ≡ take (min came room) (buf ++ behind)
+    by (inl few) =
+        let least : min came room ≡ came = omega arith in
+        let short : length (take came buf) ≤ room = omega (arith, length-take-le came buf fits) in
+        rw least (take_all room (take came buf) short ∙ sym (take-append-le came buf behind fits))
+    by (inr many) =
+        let least : min came room ≡ room = omega arith in
+        rw least (take-take room came buf many ∙ sym (take-append-le room buf behind (omega arith)))
+
+-- what is looked at grows by the piece
+pub looked_at_more : (read buf behind : List ℕ) (count came looked : ℕ) → length read ≡ count → came ≤ length buf → looked ≡ min came (most_bytes - count)
+    → take most_bytes (read ++ take came buf) ≡ take most_bytes read ++ take looked (buf ++ behind)
+looked_at_more read buf behind count came looked e fits f =
+    take-two most_bytes read (take came buf)
+    ∙ ap (λ (n : ℕ). take most_bytes read ++ take (most_bytes - n) (take came buf)) e
+    ∙ ap (λ (z : List ℕ). take most_bytes read ++ z) (looked_at_piece came (most_bytes - count) buf behind fits)
+    ∙ ap (λ (n : ℕ). take most_bytes read ++ take n (buf ++ behind)) (sym f)
+
+-- ---- what a session sends
+
+-- a session whose bytes were all taken has none pending, also once its input ended
+pub none_at_end : (app : App) (port : ℕ) (fed : List ℕ) (s : Session) → IsAt app port fed true (said app port fed) s → pending_of s ≡ []
+none_at_end app port fed s h =
+    let b = said app port fed in
+    append_cancel_left b (pending_of s) [] (said_bytes app port fed true b s h ∙ sym (append-nil b))
+
+-- after the pending bytes were taken all were
+pub rests : (app : App) (port : ℕ) (fed taken pending : List ℕ) (t : Session) → taken ++ pending ≡ said app port fed
+    → IsAt app port fed false (taken ++ pending) t → IsAtRest app port fed t
+rests app port fed taken pending t e h = let P : List ℕ → Type 0 = λ z. IsAt app port fed false z t in subst P e h
+
+-- the pending bytes were appended to those that were taken
+pub sends : (old mid new : Option (List ℕ)) (taken pending all : List ℕ) → mid ≡ appended old taken → new ≡ appended mid pending → taken ++ pending ≡ all
+    → new ≡ appended old all
+sends old mid new taken pending all e f g = f ∙ ap (λ m. appended m pending) e ∙ appended-appended old taken pending ∙ ap (appended old) g
+
+-- a prefix of them was
+pub sends_prefix : (old mid new : Option (List ℕ)) (taken pending tail all : List ℕ) → mid ≡ appended old taken → AppendsPrefix mid new pending
+    → all ≡ taken ++ pending ++ tail → AppendsPrefix old new all
+sends_prefix old mid new taken pending tail all e p g =
+    let P : List ℕ → Type 0 = λ z. AppendsPrefix old new z in
+    subst P (sym g) (AppendsPrefix-longer old new (taken ++ pending) tail (AppendsPrefix-after old mid new taken pending e p))
+
+pub is_closing : (b : Bool) → SessionPhase.Closing ≡ phase_by b → b ≡ true
+is_closing true e = refl
+is_closing false e = cc
+
+pub is_serving : (b : Bool) → SessionPhase.Serving ≡ phase_by b → b ≡ false
+is_serving true e = cc
+is_serving false e = refl
+
+-- nothing was appended
+pub appends_nothing : (old new : Option (List ℕ)) (text : List ℕ) → text ≡ [] → AppendsPrefix old new text → new ≡ old
+appends_nothing old new text e p = p.is ∙ ap (appended old) (take_nil p.count text e) ∙ appended-nothing old
+
+-- ---- a turn
+
+-- a read that failed took nothing
+pub read_failed : (app : App) (port count : ℕ) (in0 in1 in2 out0 out1 : Option (List ℕ)) (s : Session) → Goes app port count in0 in1 out0 out1 s
+    → count ≤ most_bytes → in2 ≡ in1 → Exchanged ReadFault app port in0 in2 out0 out1
+read_failed app port count in0 in1 in2 out0 out1 s h few e =
+    let short : length h.read ≤ most_bytes = omega (arith, h.is_long) in
+    let P : List ℕ → Type 0 = λ z. IsServed app port z out0 out1 in
+    record {
+      read = h.read;
+      is_read = h.is_read ∙ ap (prepended h.read) (sym e);
+      within = omega (arith, short);
+      sent = (short, subst P (take_all most_bytes h.read short) h.served);
+    }
+
+-- at the end of the input all is out
+pub input_ended : (app : App) (port count came : ℕ) (buf : List ℕ) (in0 in1 in2 out0 out1 out2 : Option (List ℕ)) (s : Session) (end : ConnectionEnd)
+    → Goes app port count in0 in1 out0 out1 s → count ≤ most_bytes → came ≡ 0 → in1 ≡ prepended (take came buf) in2 → IfSome in1 (λ left. left ≡ [])
+    → out2 ≡ out1 → (end ≡ Closed) ⊎ (end ≡ WriteFault) → Exchanged end app port in0 in2 out0 out2
+input_ended app port count came buf in0 in1 in2 out0 out1 out2 s end h few none e last same kind =
+    record {
+      read = h.read;
+      is_read = h.is_read ∙ ap (prepended h.read) unchanged;
+      within = omega (arith, h.is_long);
+      sent = by kind;
+    }
+  where
+    unchanged : in1 ≡ in2
+    unchanged = e ∙ ap (λ n. prepended (take n buf) in2) none ∙ prepended-nothing in2
+
+    Q : Option (List ℕ) → Type 0
+    Q o = IfSome o (λ (left : List ℕ). left ≡ [])
+
+    P : ConnectionEnd → Type 0
+    P w = SentFor w app port h.read in2 out0 out2
+
+    sent : out2 ≡ appended out0 (said app port (take most_bytes h.read))
+    sent = same ∙ h.served.sent
+
+    by : (end ≡ Closed) ⊎ (end ≡ WriteFault) → SentFor end app port h.read in2 out0 out2
+    by (inl c) = subst P (sym c) (record {
+      ended = true;
+      sent = sent;
+      closes = or_true (answers app port (take most_bytes h.read)).closes;
+      end = λ _. subst Q unchanged last;
+      within = λ _. omega (arith, h.is_long);
+    })
+    by (inr w) = subst P (sym w) (AppendsPrefix-all out0 out2 (said app port (take most_bytes h.read)) sent)
+
+-- the bytes that were read, with those of one more read
+pub read_on : (read chunk : List ℕ) (in0 in1 in2 : Option (List ℕ)) → in0 ≡ prepended read in1 → in1 ≡ prepended chunk in2 → in0 ≡ prepended (read ++ chunk) in2
+read_on read chunk in0 in1 in2 e f = e ∙ ap (prepended read) f ∙ prepended-prepended in2 read chunk
+
+-- the piece was not answered whole
+pub piece_cut : (app : App) (port count came : ℕ) (buf piece : List ℕ) (in0 in1 in2 out0 out1 out2 : Option (List ℕ)) (s : Session) (end : ConnectionEnd)
+    → (h : Goes app port count in0 in1 out0 out1 s) → came ≤ length buf → in1 ≡ prepended (take came buf) in2 → count + came ≤ most_bytes + 1
+    → take most_bytes (h.read ++ take came buf) ≡ take most_bytes h.read ++ piece → Breaks end app piece s out1 out2 → Exchanged end app port in0 in2 out0 out2
+piece_cut app port count came buf piece in0 in1 in2 out0 out1 out2 s end h long e fits more broke =
+    record {
+      read = h.read ++ take came buf;
+      is_read = read_on h.read (take came buf) in0 in1 in2 h.is_read e;
+      within = omega (arith, length-append h.read (take came buf), length-take-le came buf long, h.is_long, fits);
+      sent = by end broke;
+    }
+  where
+    P : List ℕ → Type 0
+    P z = AppendsPrefix out0 out2 (said app port z)
+
+    by : (w : ConnectionEnd) → Breaks w app piece s out1 out2 → SentFor w app port (h.read ++ take came buf) in2 out0 out2
+    by Closed b = absurd b
+    by TooLong b = absurd b
+    by ReadFault b = absurd b
+    by WriteFault b = subst P (sym more) (b port (take most_bytes h.read) out0 h.at_rest h.served.sent)
+    by Memory b = subst P (sym more) (b port (take most_bytes h.read) out0 h.at_rest h.served.sent)
+
+-- the piece was answered, and the session goes on
+pub piece_answered : (app : App) (port count came : ℕ) (buf piece : List ℕ) (in0 in1 in2 out0 out1 out2 : Option (List ℕ)) (s t : Session)
+    → (h : Goes app port count in0 in1 out0 out1 s) → came ≤ length buf → in1 ≡ prepended (take came buf) in2
+    → take most_bytes (h.read ++ take came buf) ≡ take most_bytes h.read ++ piece → IsAtRest app port (take most_bytes h.read ++ piece) t
+    → out2 ≡ appended out0 (said app port (take most_bytes h.read ++ piece)) → (session app port (take most_bytes h.read ++ piece) false).closes ≡ false
+    → Goes app port (count + came) in0 in2 out0 out2 t
+piece_answered app port count came buf piece in0 in1 in2 out0 out1 out2 s t h long e more rest sent serves =
+    let R : List ℕ → Type 0 = λ z. IsAtRest app port z t in
+    let P : List ℕ → Type 0 = λ z. IsServed app port z out0 out2 in
+    record {
+      read = h.read ++ take came buf;
+      is_read = read_on h.read (take came buf) in0 in1 in2 h.is_read e;
+      is_long = omega (arith, length-append h.read (take came buf), length-take-le came buf long, h.is_long);
+      at_rest = subst R (sym more) rest;
+      served = subst P (sym more) (record { sent = sent; serves = serves });
+    }
+
+-- the piece was answered, and the session closes
+pub piece_last : (app : App) (port count came : ℕ) (buf piece : List ℕ) (in0 in1 in2 out0 out1 out2 : Option (List ℕ)) (s : Session)
+    → (h : Goes app port count in0 in1 out0 out1 s) → came ≤ length buf → in1 ≡ prepended (take came buf) in2 → count + came ≤ most_bytes + 1
+    → take most_bytes (h.read ++ take came buf) ≡ take most_bytes h.read ++ piece
+    → out2 ≡ appended out0 (said app port (take most_bytes h.read ++ piece)) → (session app port (take most_bytes h.read ++ piece) false).closes ≡ true
+    → Exchanged Closed app port in0 in2 out0 out2
+piece_last app port count came buf piece in0 in1 in2 out0 out1 out2 s h long e fits more sent closes =
+    let P : List ℕ → Type 0 = λ z. out2 ≡ appended out0 (said app port z) in
+    let Q : List ℕ → Type 0 = λ z. (session app port z false).closes ≡ true in
+    record {
+      read = h.read ++ take came buf;
+      is_read = read_on h.read (take came buf) in0 in1 in2 h.is_read e;
+      within = omega (arith, length-append h.read (take came buf), length-take-le came buf long, h.is_long, fits);
+      sent = record {
+        ended = false;
+        sent = subst P (sym more) sent;
+        closes = subst Q (sym more) closes;
+        end = λ t. absurd (cc);
+        within = λ t. absurd (cc);
+      };
+    }
+
+-- ---- the whole
+
+-- the rest of the bytes that were left
+record Rest (left read : List ℕ) (in1 : Option (List ℕ)) : Type 0 where
+  rest : List ℕ
+  is : in1 ≡ Some rest
+  all : left ≡ read ++ rest
+
+rest_of : (left read : List ℕ) (in0 in1 : Option (List ℕ)) → in0 ≡ Some left → in0 ≡ prepended read in1 → Rest left read in1
+unfolding prepended
+rest_of left read in0 None told e = absurd (cc)
+rest_of left read in0 (Some rest) told e =
+    record { rest = rest; is = refl; all = ap (λ (o : Option (List ℕ)). unwrap_or o left) (sym told ∙ e) }
+
+-- what is looked at of all that was left begins with what is looked at of what was read
+looked_at : (left read : List ℕ) (in1 : Option (List ℕ)) (r : Rest left read in1) → take most_bytes left ≡ take most_bytes read ++ take (most_bytes - length read) r.rest
+looked_at left read in1 r = ap (take most_bytes) r.all ∙ take-two most_bytes read r.rest
+
+prefix_of_all : (app : App) (port : ℕ) (fed more all : List ℕ) (out0 out1 : Option (List ℕ)) → all ≡ fed ++ more → AppendsPrefix out0 out1 (said app port fed)
+    → AppendsPrefix out0 out1 (said app port all)
+prefix_of_all app port fed more all out0 out1 e p =
+    let b = answers-before app port fed more in
+    let P : List ℕ → Type 0 = λ z. AppendsPrefix out0 out1 z in
+    subst P (sym b.longer ∙ ap (λ z. said app port z) (sym e)) (AppendsPrefix-longer out0 out1 (said app port fed) b.tail p)
+
+-- a session that closed says no more
+closed_all : (app : App) (port : ℕ) (fed more all : List ℕ) → all ≡ fed ++ more → (answers app port fed).closes ≡ true → answers app port all ≡ answers app port fed
+closed_all app port fed more all e c = ap (answers app port) e ∙ (answers-before app port fed more).done c
+
+or_false : (b : Bool) → b || false ≡ b
+or_false true = refl
+or_false false = refl
+
+true_or : (a b : Bool) → a ≡ true → a || b ≡ true
+true_or true b e = refl
+true_or false b e = absurd (cc)
+
+le_true : (n m : ℕ) → n ≤ m → nat_le n m ≡ true
+le_true n m h = grind arith
+
+le_false : (n m : ℕ) → m < n → nat_le n m ≡ false
+le_false n m h = grind arith
+
+no_rest : (rest : List ℕ) (in1 : Option (List ℕ)) → in1 ≡ Some rest → IfSome in1 (λ left. left ≡ []) → rest ≡ []
+no_rest rest in1 e h = let P : Option (List ℕ) → Type 0 = λ o. IfSome o (λ left. left ≡ []) in subst P e h
+
+closed_whole : (app : App) (port : ℕ) (left read : List ℕ) (in1 out0 out1 : Option (List ℕ)) (r : Rest left read in1) (ended : Bool)
+    → out1 ≡ appended out0 (said app port (take most_bytes read)) → (session app port (take most_bytes read) ended).closes ≡ true
+    → (ended ≡ true → IfSome in1 (λ left. left ≡ [])) → (ended ≡ true → length read ≤ most_bytes) → IsWhole Closed (whole_session app port left) out0 out1
+closed_whole app port left read in1 out0 out1 r true sent closes end within =
+    let same : left ≡ read = r.all ∙ ap (λ (z : List ℕ). read ++ z) (no_rest r.rest in1 r.is (end refl)) ∙ append-nil read in
+    let few : length left ≤ most_bytes = omega (arith, ap (λ (z : List ℕ). length z) same, within refl) in
+    let x = (answers app port (take most_bytes left)).closes in
+    (sent ∙ ap (λ z. appended out0 (said app port (take most_bytes z))) (sym same), ap (λ b. x || b) (le_true (length left) most_bytes few) ∙ or_true x)
+closed_whole app port left read in1 out0 out1 r false sent closes end within =
+    let done : (answers app port (take most_bytes read)).closes ≡ true = sym (or_false _) ∙ closes in
+    let all = closed_all app port (take most_bytes read) (take (most_bytes - length read) r.rest) (take most_bytes left) (looked_at left read in1 r) done in
+    (sent ∙ ap (λ (s : Sent). appended out0 s.bytes) (sym all), true_or _ _ (ap (λ (s : Sent). s.closes) all ∙ done))
+
+long_whole : (app : App) (port : ℕ) (left read : List ℕ) (in1 out0 out1 : Option (List ℕ)) → Rest left read in1 → length read ≡ most_bytes + 1
+    → IsServed app port (take most_bytes read) out0 out1 → IsWhole TooLong (whole_session app port left) out0 out1
+long_whole app port left read in1 out0 out1 r long s =
+    let same : take most_bytes left ≡ take most_bytes read = ap (take most_bytes) r.all ∙ take-append-le most_bytes read r.rest (omega (arith, long)) in
+    let more : length left ≡ length read + length r.rest = ap (λ (z : List ℕ). length z) r.all ∙ length-append read r.rest in
+    let many : most_bytes < length left = omega (arith, more, long) in
+    let x = (answers app port (take most_bytes left)).closes in (
+      s.sent ∙ ap (λ z. appended out0 (said app port z)) (sym same),
+      ap (λ b. x || b) (le_false (length left) most_bytes many) ∙ ap (λ z. (session app port z false).closes) same ∙ s.serves,
+    )
+
+-- by all the bytes that were left
+pub whole_of : (end : ConnectionEnd) (app : App) (port : ℕ) (left : List ℕ) (in0 in1 out0 out1 : Option (List ℕ)) → in0 ≡ Some left
+    → Exchanged end app port in0 in1 out0 out1 → IsWhole end (whole_session app port left) out0 out1
+whole_of end app port left in0 in1 out0 out1 told x = by end x.sent
+  where
+    r : Rest left x.read in1
+    r = rest_of left x.read in0 in1 told x.is_read
+
+    cut : AppendsPrefix out0 out1 (said app port (take most_bytes x.read)) → AppendsPrefix out0 out1 (said app port (take most_bytes left))
+    cut p = prefix_of_all app port (take most_bytes x.read) (take (most_bytes - length x.read) r.rest) (take most_bytes left) out0 out1 (looked_at left x.read in1 r) p
+
+    P : List ℕ → Type 0
+    P z = AppendsPrefix out0 out1 (said app port z)
+
+    by : (w : ConnectionEnd) → SentFor w app port x.read in1 out0 out1 → IsWhole w (whole_session app port left) out0 out1
+    by Closed s = closed_whole app port left x.read in1 out0 out1 r s.ended s.sent s.closes s.end s.within
+    by TooLong s = long_whole app port left x.read in1 out0 out1 r s.0 s.1
+    by ReadFault s = cut (subst P (sym (take_all most_bytes x.read s.0)) (AppendsPrefix-all out0 out1 (said app port x.read) s.1.sent))
+    by WriteFault s = cut s
+    by Memory s = cut s
+
+-- ---- the first turn and the last
+
+-- nothing is sent for no bytes
+pub begins : (app : App) (port : ℕ) (s : Session) (in0 out0 : Option (List ℕ)) → IsAt app port [] false [] s → Goes app port 0 in0 in0 out0 out0 s
+unfolding sent_from
+begins app port s in0 out0 h =
+    let x = answers app port [] in
+    let e : record { bytes = x.bytes; closes = x.closes } ≡ record { bytes = []; closes = false } = settled_begun app port [] [] refl in
+    let none : x.bytes ≡ [] = ap (λ (t : Sent). t.bytes) e in
+    let P : List ℕ → Type 0 = λ z. IsAt app port [] false z s in
+    record {
+      read = [];
+      is_read = sym (prepended-nothing in0);
+      is_long = refl;
+      at_rest = subst P (sym none) h;
+      served = record { sent = sym (appended-nothing out0) ∙ ap (appended out0) (sym none); serves = or_false x.closes ∙ ap (λ (t : Sent). t.closes) e };
+    }
+
+-- one byte more than those that are looked at was read
+pub too_long : (app : App) (port count : ℕ) (in0 in1 out0 out1 : Option (List ℕ)) (s : Session) → Goes app port count in0 in1 out0 out1 s
+    → most_bytes < count → count ≤ most_bytes + 1 → Exchanged TooLong app port in0 in1 out0 out1
+too_long app port count in0 in1 out0 out1 s h many few =
+    record { read = h.read; is_read = h.is_read; within = omega (arith, h.is_long, few); sent = (omega (arith, h.is_long, many, few), h.served) }

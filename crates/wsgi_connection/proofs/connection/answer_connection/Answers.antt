@@ -1,0 +1,29 @@
+use Rattle.std.proofs.Common.{◌<◌, arith}
+use Rattle.wsgi_connection.specs.Connections.{most_bytes}
+use Rattle.wsgi_connection.proofs.Exchanges.{begins, too_long, whole_of}
+use Rattle.wsgi_connection.proofs.connection.answer_connection.Goals as goal
+
+pub loop-count-init : goal.loop-count-init
+loop-count-init g c = record {
+  goes = begins _ c.args.port _ _ _ (c.new-session.ensures (g.A.Application.answer_of c.args.app.now));
+  most = omega arith;
+  input_faults = omega arith;
+  out_faults = omega arith;
+}
+
+pub loop-count-preserved : goal.loop-count-preserved
+loop-count-preserved g c = record {
+  goes = c.in-Answered.ensures.leaves c.args.port _ _ c.loop-count.invariant.goes;
+  most = c.in-Answered.ensures.counts.1;
+  input_faults = omega (arith, c.loop-count.invariant.input_faults, c.exchange.ensures.input_never_falls);
+  out_faults = omega (arith, c.loop-count.invariant.out_faults, c.exchange.ensures.out_never_falls);
+}
+
+pub returns-in-Ended-clause-whole : goal.returns-in-Ended-clause-whole
+returns-in-Ended-clause-whole g c = λ left told.
+    whole_of c.in-Ended.end _ c.args.port left _ (g.S.Source.remaining c.exchange.new.input) _ _ told (c.in-Ended.ensures.leaves c.args.port _ _ c.loop-count.invariant.goes)
+
+pub returns-clause-whole : goal.returns-clause-whole
+returns-clause-whole g c = λ left told.
+    let many : most_bytes < c.loop-count.count = omega (arith, c.loop-count-test.false) in
+    whole_of _ _ c.args.port left _ _ _ _ told (too_long _ _ c.loop-count.count _ _ _ _ c.loop-count.session c.loop-count.invariant.goes many c.loop-count.invariant.most)

@@ -1,0 +1,16 @@
+use Rattle.std.proofs.Common.{◌≤◌, ◌+◌, ◌-◌}
+use Rattle.wsgi_connection.specs.Connections.{most_bytes}
+use Rattle.wsgi_connection.specs.Pieces.{Goes}
+use Rattle.wsgi_connection.proofs.connection.answer_connection.Given as goal
+
+abbrev pub invariant-loop-count : goal.invariant-loop-count
+invariant-loop-count g l = record {
+  goes : Goes (g.A.Application.answer_of l.app) l.port l.count (g.S.Source.remaining l.initial.input) (g.S.Source.remaining l.input)
+      (g.K.Sink.written l.initial.out) (g.K.Sink.written l.out) l.session;
+  most : l.count ≤ most_bytes + 1;
+  input_faults : g.S.Source.faults l.initial.input ≤ g.S.Source.faults l.input;
+  out_faults : g.K.Sink.faults l.initial.out ≤ g.K.Sink.faults l.out;
+}
+
+abbrev pub decreases-loop-count : goal.decreases-loop-count
+decreases-loop-count g l = (most_bytes + 1) - l.count
