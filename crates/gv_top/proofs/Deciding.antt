@@ -1,18 +1,25 @@
 -- From the parts of the call to its verdict.
-use Rattle.std.proofs.Common.{◌≡◌, ℕ, Bool, true, false, List, [], ◌++◌, take, drop, Option, Some, None, refl, ap, sym, subst, ◌∙◌, unwrap_or, IfSome, take-append-drop}
+use Rattle.std.proofs.Common.{◌≡◌, ◌≢◌, ℕ, Bool, true, false, List, ◌++◌, take, drop, Option, Some, None, Result, Ok, Err, refl, ap, sym, subst, ◌∙◌, unwrap_or, IfSome, take-append-drop}
 use Rattle.std.proofs.lemmas.List.{append_cancel_left}
 use Rattle.trace_text.specs.LineTexts.{text_of}
 use Rattle.trace_text.specs.declared.line.StopCause.{StopCause}
 use Rattle.scenario_tree.specs.declared.tree.Scenario.{Scenario}
-use Rattle.gv_io.specs.Streams.{appended, prepended, AppendsPrefix}
+use Rattle.gv_io.specs.Streams.{appended, prepended}
 use Rattle.gv_io.proofs.StreamLaws.{appended-nothing, AppendsPrefix-all, AppendsPrefix-nothing}
 use Rattle.hub_machine.specs.Run.{Ran, End as RunEnd}
 use Rattle.hub_engine.specs.declared.run.End.{End}
 use Rattle.hub_engine.specs.Ends.{end_of, end_of_run}
+use Rattle.gv_top.specs.declared.words.Command.{Command}
 use Rattle.gv_top.specs.declared.status.Verdict.{Verdict}
-use Rattle.gv_top.specs.Answers.{Answer, answer_to, answer_of_run, first_form_of, most_read, no_first_form, run_of, status, status_of_cause, err_line, err_of_cause, usage}
-use Rattle.gv_top.specs.Verdicts.{number_of, line_of}
-use Rattle.gv_top.specs.Top.{RanTo, Decided, HasRead, IsOfRun}
+use Rattle.scenario_grammar.specs.declared.place.Place.{Place}
+use Rattle.scenario_lang.specs.declared.text.ParseRefusal.{ParseRefusal}
+use Rattle.scenario_lang.specs.declared.text.ParseRefusal.TheVariants as parse
+use Rattle.scenario_lang.specs.Lines.{Parses}
+use Rattle.gv_top.specs.declared.words.TextCommand.{TextCommand}
+use Rattle.gv_top.proofs.ReadTexts.{answer_by, run_if}
+use Rattle.gv_top.specs.Answers.{Answer, answer_to, answer_to_scenario, answer_to_text, answer_of_run, has_first_form, judged, most_read, run_of, status, status_of_cause, err_line, err_of_cause}
+use Rattle.gv_top.specs.Verdicts.{IsExplained, IsRefusedWithReason, number_of, line_of, verdict_on}
+use Rattle.gv_top.specs.Top.{RanTo, Decided}
 
 -- ---- the run
 
@@ -105,24 +112,76 @@ run_decided End.NoGreenlets r old new h = (h.0, number_is _ r.end h.1, line_is _
 run_decided End.NoLinks r old new h = (h.0, number_is _ r.end h.1, line_is _ r.end h.1)
 run_decided End.NoKills r old new h = (h.0, number_is _ r.end h.1, line_is _ r.end h.1)
 
--- ---- the verdict on bytes
+-- ---- the verdict on a text
 
--- what is answered where this was read
-abbrev answer_read : Option Scenario → Answer
-answer_read o = elim o as (λ x. Answer) [ None ↦ no_first_form | Some s ↦ answer_of_run (run_of s) ]
+refused_decided : (command : TextCommand) (bytes : List ℕ) (p : Place) (old : Option (List ℕ)) → judged bytes ≡ Err p
+    → Decided (Verdict.Refused p) (answer_to_text command bytes) old old
+unfolding answer_to_text
+refused_decided command bytes p old e =
+    let P : Answer → Type 0 = λ a. Decided (Verdict.Refused p) a old old in subst P (sym (ap (answer_by command bytes) e)) (sym (appended-nothing old), refl, refl)
 
-pub text_decided : (bytes : List ℕ) (s : Scenario) (end : End) (old new : Option (List ℕ)) → Some s ≡ first_form_of bytes → RanTo end (run_of s) old new
-    → Decided (Verdict.Ran end) (answer_to true bytes) old new
-text_decided bytes s end old new e h =
-    let P : Answer → Type 0 = λ a. Decided (Verdict.Ran end) a old new in subst P (ap answer_read e) (run_decided end (run_of s) old new h)
+-- the text was judged so, and its scenario decided
+pub judged_decided : (command : TextCommand) (bytes : List ℕ) (t s : Scenario) (v : Verdict) (old new : Option (List ℕ)) → judged bytes ≡ Ok s → t ≡ s
+    → Decided v (answer_to_scenario command t) old new → Decided v (answer_to_text command bytes) old new
+unfolding answer_to_text
+judged_decided command bytes t s v old new e is h =
+    let P : Answer → Type 0 = λ a. Decided v a old new in
+    let Q : Scenario → Type 0 = λ x. Decided v (answer_to_scenario command x) old new in
+    subst P (sym (ap (answer_by command bytes) e)) (subst Q is h)
 
-pub refusal_decided : (bytes : List ℕ) (old : Option (List ℕ)) → None ≡ first_form_of bytes → Decided Verdict.NoFirstForm (answer_to true bytes) old old
-refusal_decided bytes old e =
-    let P : Answer → Type 0 = λ a. Decided Verdict.NoFirstForm a old old in subst P (ap answer_read e) (sym (appended-nothing old), refl, refl)
+pub refusal_decided : (command : TextCommand) (bytes : List ℕ) (e : ParseRefusal) (v : Verdict) (old : Option (List ℕ)) → v ≡ verdict_on e → Parses (judged bytes) (Err e)
+    → Decided v (answer_to_text command bytes) old old
+refusal_decided command bytes e v old is h = let P : Verdict → Type 0 = λ v. Decided v (answer_to_text command bytes) old old in subst P (sym is) (by e h)
+  where
+    by : (e : ParseRefusal) → Parses (judged bytes) (Err e) → Decided (verdict_on e) (answer_to_text command bytes) old old
+    by (parse.Refused p) h = refused_decided command bytes p old h
+    by parse.Memory h = AppendsPrefix-nothing old (answer_to_text command bytes).out
 
-pub usage_decided : (runs : Bool) (bytes : List ℕ) (old : Option (List ℕ)) → runs ≡ false → Decided Verdict.Usage (answer_to runs bytes) old old
-usage_decided runs bytes old e =
-    let P : Bool → Type 0 = λ b. Decided Verdict.Usage (answer_to b bytes) old old in subst P (sym e) (sym (appended-nothing old), refl, refl)
+-- such a verdict is of no command and of no fault
+pub refusal_number : (e : ParseRefusal) (v : Verdict) (n : ℕ) → v ≡ verdict_on e → number_of v ≡ n → n ≢ 3 → n ≢ 7 → ⊥
+refusal_number e v n is h h3 h7 = by e (sym (ap number_of is) ∙ h)
+  where
+    by : (e : ParseRefusal) → number_of (verdict_on e) ≡ n → ⊥
+    by (parse.Refused p) h = h3 (sym h)
+    by parse.Memory h = h7 (sym h)
+
+pub refusal_explained : (e : ParseRefusal) (v : Verdict) → v ≡ verdict_on e → IsRefusedWithReason e → IsExplained v
+refusal_explained e v is h = subst IsExplained (sym is) (by e h)
+  where
+    by : (e : ParseRefusal) → IsRefusedWithReason e → IsExplained (verdict_on e)
+    by (parse.Refused p) h = h
+    by parse.Memory h = tt
+
+pub first_form_decided : (s : Scenario) (end : End) (old new : Option (List ℕ)) → has_first_form s ≡ true → RanTo end (run_of s) old new
+    → Decided (Verdict.Ran end) (answer_to_scenario TextCommand.Run s) old new
+first_form_decided s end old new e h =
+    let P : Answer → Type 0 = λ a. Decided (Verdict.Ran end) a old new in subst P (sym (ap (run_if s) e)) (run_decided end (run_of s) old new h)
+
+pub other_form_decided : (s : Scenario) (old : Option (List ℕ)) → has_first_form s ≡ false
+    → Decided Verdict.NoFirstForm (answer_to_scenario TextCommand.Run s) old old
+other_form_decided s old e =
+    let P : Answer → Type 0 = λ a. Decided Verdict.NoFirstForm a old old in subst P (sym (ap (run_if s) e)) (sym (appended-nothing old), refl, refl)
+
+-- what is decided of `run` and a scenario is decided of a command and a scenario that are these
+pub run_of_these : (command : TextCommand) (t s : Scenario) (v : Verdict) (old new : Option (List ℕ)) → command ≡ TextCommand.Run → t ≡ s
+    → Decided v (answer_to_scenario TextCommand.Run t) old new → Decided v (answer_to_scenario command s) old new
+run_of_these command t s v old new is e h =
+    let P : Scenario → Type 0 = λ x. Decided v (answer_to_scenario TextCommand.Run x) old new in
+    let Q : TextCommand → Type 0 = λ d. Decided v (answer_to_scenario d s) old new in
+    subst Q (sym is) (subst P e h)
+
+-- ---- the verdict of a command
+
+pub usage_decided : (c : Option Command) (left : List ℕ) (old : Option (List ℕ)) → c ≡ None → Decided Verdict.Usage (answer_to c left) old old
+usage_decided c left old e =
+    let P : Option Command → Type 0 = λ d. Decided Verdict.Usage (answer_to d left) old old in subst P (sym e) (sym (appended-nothing old), refl, refl)
+
+-- another command than this one is named
+pub no_command : (c : Option Command) (d : Command) (P : Type 0) → c ≡ None → c ≡ Some d → P
+no_command c d P e f = absurd (none_is_some d (sym e ∙ f))
+  where
+    none_is_some : (d : Command) → None ≡ Some d → ⊥
+    none_is_some d h = cc
 
 -- ---- what was read
 
@@ -151,18 +210,3 @@ pub left_behind : (left items : List ℕ) (old new : Option (List ℕ)) → old 
 left_behind left items old None told first next = none_read items left (sym next ∙ told)
 left_behind left items old (Some rest) told first next =
     ap Some (rest_of left items rest (read_first left items old told first) (some_read items rest left (sym told ∙ next)))
-
--- with a verdict on a text or a run the input was read
-pub has_read : (v : Verdict) (left : List ℕ) (new : Option (List ℕ)) → IsOfRun v → new ≡ Some (drop most_read left) → HasRead v left new
-has_read Verdict.Usage left new k e = absurd k
-has_read Verdict.ReadFault left new k e = absurd k
-has_read Verdict.NoFirstForm left new k e = e
-has_read (Verdict.Ran End.MainValue) left new k e = e
-has_read (Verdict.Ran (End.MainFault f)) left new k e = e
-has_read (Verdict.Ran End.NoTurns) left new k e = e
-has_read (Verdict.Ran End.NoMoves) left new k e = e
-has_read (Verdict.Ran End.NoGreenlets) left new k e = e
-has_read (Verdict.Ran End.NoLinks) left new k e = e
-has_read (Verdict.Ran End.NoKills) left new k e = e
-has_read (Verdict.Ran End.WriteFault) left new k e = e
-has_read (Verdict.Ran End.Memory) left new k e = tt

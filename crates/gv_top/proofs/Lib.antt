@@ -3,3 +3,4 @@ pub mod Operands
 pub mod Tops
 pub mod ReadTexts
 pub mod Deciding
+pub mod Reasons

@@ -1,87 +1,102 @@
--- A text of the first form is answered as its scenario's run, and any other bytes with the line of a refusal.
-use Rattle.std.proofs.Common.{◌≡◌, ℕ, Bool, true, false, ◌&&◌, List, Option, Some, None, Result, Ok, Err, refl, ap, sym, subst, ◌∙◌, if◌then◌else◌}
+-- What is answered to a text: its scenario's run or printed form, or the place where it is refused.
+use Rattle.std.proofs.Common.{◌≡◌, ℕ, Bool, true, false, ◌⊎◌, inl, inr, ◌&&◌, List, Option, Some, None, Result, Ok, Err, refl, ap, sym, subst, ◌∙◌, take, if◌then◌else◌}
 use Rattle.scenario_tree.specs.declared.tree.Scenario.{Scenario}
 use Rattle.scenario_grammar.specs.declared.place.Place.{Place}
 use Rattle.scenario_grammar.specs.FirstForm.{is_first_form}
 use Rattle.scenario_grammar.specs.Parsed.{reading}
+use Rattle.scenario_grammar.specs.Spells.{Spells}
 use Rattle.scenario_grammar.proofs.Complete.{complete}
+use Rattle.scenario_grammar.proofs.Placed.{refused_there}
 use Rattle.scenario_grammar.proofs.Sound.{sound}
+use Rattle.scenario_rules.specs.Rules.{IsWellFormed, place_of}
+use Rattle.scenario_check.proofs.FirstPlace.{well_formed, not_well_formed}
 use Rattle.gv_top.specs.FirstNames.{are_named}
-use Rattle.gv_top.specs.Layouts.{is_first_layout}
-use Rattle.gv_top.specs.FirstTexts.{IsFirstText}
+use Rattle.gv_top.specs.FirstTexts.{IsFirstText, IsRefusedAt}
 use Rattle.gv_top.specs.Top.{IsAnswered}
-use Rattle.gv_top.specs.Answers.{Answer, answer_to, answer_of_run, first_form_of, run_of, no_first_form}
+use Rattle.gv_top.specs.Answers.{Answer, answer_to, answer_to_scenario, answer_to_text, answer_of_run, checked, formatted, has_first_form, judged, most_read, run_of, no_first_form, refusal}
+use Rattle.gv_top.specs.declared.words.Command.{Command}
+use Rattle.gv_top.specs.declared.words.TextCommand.{TextCommand}
 
--- the bytes and their scenario pass the tests
-abbrev passes : List ℕ → Scenario → Bool
-passes bytes s = is_first_form s && are_named s && is_first_layout bytes
+-- ---- what comes of the bytes
 
--- the answer to what passes, and to what does not
-abbrev answer_by : Bool → Scenario → Answer
-answer_by passed s = elim (if passed then Some s else None) as (λ o. Answer) [ None ↦ no_first_form | Some t ↦ answer_of_run (run_of t) ]
+abbrev judged_of : Result Scenario Place → Result Scenario Place
+judged_of r = elim r as (λ x. Result Scenario Place) [ Ok s ↦ checked s | Err place ↦ Err place ]
 
--- the answer to what was read
-abbrev answer_read : List ℕ → Result Scenario Place → Answer
-answer_read bytes (Ok s) = answer_by (passes bytes s) s
-answer_read bytes (Err place) = no_first_form
+abbrev checked_by : Scenario → Option Place → Result Scenario Place
+checked_by s o = elim o as (λ x. Result Scenario Place) [ None ↦ Ok s | Some place ↦ Err place ]
 
-read_so : (bytes : List ℕ) (r : Result Scenario Place) → reading bytes ≡ r → answer_to true bytes ≡ answer_read bytes r
-read_so bytes r e = by (reading bytes) r e
+pub judged_unread : (bytes : List ℕ) (p : Place) → reading bytes ≡ Err p → judged bytes ≡ Err p
+judged_unread bytes p e = ap judged_of e
+
+pub judged_read : (bytes : List ℕ) (s : Scenario) (o : Option Place) → reading bytes ≡ Ok s → place_of s ≡ o → judged bytes ≡ checked_by s o
+judged_read bytes s o e placed = ap judged_of e ∙ ap (checked_by s) placed
+
+-- a well-formed scenario has no place
+no_place : (s : Scenario) → IsWellFormed s → place_of s ≡ None
+no_place s w = by (place_of s) refl
   where
-    by : (q r : Result Scenario Place) → q ≡ r →
-        (elim (elim q as (λ x. Option Scenario) [ Ok s ↦ if passes bytes s then Some s else None | Err place ↦ None ]) as (λ o. Answer) [ None ↦ no_first_form | Some s ↦ answer_of_run (run_of s) ]) ≡ answer_read bytes r
-    by (Ok s) r e = ap (answer_read bytes) e
-    by (Err place) r e = ap (answer_read bytes) e
+    by : (o : Option Place) → place_of s ≡ o → place_of s ≡ None
+    by None e = e
+    by (Some p) e = absurd (not_well_formed s p e w)
 
-all_pass : (a b c : Bool) → a ≡ true → b ≡ true → c ≡ true → a && b && c ≡ true
-all_pass a b c x y z = rw x (rw y (rw z refl))
+spelt_is_judged : (s : Scenario) (bytes : List ℕ) → Spells s bytes → IsWellFormed s → judged bytes ≡ Ok s
+spelt_is_judged s bytes t w = judged_read bytes s None (complete s bytes t) (no_place s w)
+
+-- ---- what is answered to it
+
+abbrev pub answer_by : TextCommand → List ℕ → Result Scenario Place → Answer
+answer_by command bytes r = elim r as (λ x. Answer) [ Ok s ↦ answer_to_scenario command s | Err place ↦ refusal place ]
+
+-- a text of a well-formed scenario is answered as that scenario
+pub answered_as : (command : TextCommand) (s : Scenario) (bytes : List ℕ) → Spells s bytes → IsWellFormed s → answer_to_text command bytes ≡ answer_to_scenario command s
+unfolding answer_to_text
+answered_as command s bytes t w = ap (answer_by command bytes) (spelt_is_judged s bytes t w)
+
+abbrev pub run_if : Scenario → Bool → Answer
+run_if s first = if first then answer_of_run (run_of s) else no_first_form
+
+both_pass : (a b : Bool) → a ≡ true → b ≡ true → a && b ≡ true
+both_pass a b x y = rw x (rw y refl)
 
 -- a text of the first form is run
-pub runs_the_text : (s : Scenario) (bytes : List ℕ) → IsFirstText s bytes → answer_to true bytes ≡ answer_of_run (run_of s)
-runs_the_text s bytes t =
-    read_so bytes (Ok s) (complete s bytes t.text) ∙ ap (λ b. answer_by b s) (all_pass _ _ _ t.form t.names t.layout)
+pub runs_the_text : (s : Scenario) (bytes : List ℕ) → IsFirstText s bytes → answer_to_text TextCommand.Run bytes ≡ answer_of_run (run_of s)
+runs_the_text s bytes t = answered_as TextCommand.Run s bytes t.text t.well_formed ∙ ap (run_if s) (both_pass _ _ t.form t.names)
 
--- what was read and passes the tests is a text of the first form
-fails : (bytes : List ℕ) (s : Scenario) → reading bytes ≡ Ok s → (a b c : Bool) → is_first_form s ≡ a → are_named s ≡ b → is_first_layout bytes ≡ c
-    → ((t : Scenario) → IsFirstText t bytes → ⊥) → answer_by (a && b && c) s ≡ no_first_form
-fails bytes s e true true true form names layout other = absurd (other s (record { text = sound s bytes e; form = form; names = names; layout = layout }))
-fails bytes s e true true false form names layout other = refl
-fails bytes s e true false true form names layout other = refl
-fails bytes s e true false false form names layout other = refl
-fails bytes s e false true true form names layout other = refl
-fails bytes s e false true false form names layout other = refl
-fails bytes s e false false true form names layout other = refl
-fails bytes s e false false false form names layout other = refl
+-- a text of a well-formed scenario of another form is not
+pub runs_no_other : (s : Scenario) (bytes : List ℕ) → Spells s bytes → IsWellFormed s → (IsFirstText s bytes → ⊥) → answer_to_text TextCommand.Run bytes ≡ no_first_form
+runs_no_other s bytes t w other = answered_as TextCommand.Run s bytes t w ∙ by _ _ refl refl
+  where
+    by : (a b : Bool) → is_first_form s ≡ a → are_named s ≡ b → run_if s (has_first_form s) ≡ no_first_form
+    by true true form names = absurd (other (record { text = t; well_formed = w; form = form; names = names }))
+    by false b form names = ap (λ a. run_if s (a && are_named s)) form
+    by true false form names = ap (λ a. run_if s (a && are_named s)) form ∙ ap (run_if s) names
 
-refuses : (bytes : List ℕ) (r : Result Scenario Place) → reading bytes ≡ r → ((t : Scenario) → IsFirstText t bytes → ⊥) → answer_to true bytes ≡ no_first_form
-refuses bytes (Ok s) e other = read_so bytes (Ok s) e ∙ fails bytes s e _ _ _ refl refl refl other
-refuses bytes (Err place) e other = read_so bytes (Err place) e
+-- bytes that are no text of a well-formed scenario are refused at their place
+record Refused (command : TextCommand) (bytes : List ℕ) (p : Place) : Type 0 where
+  at : IsRefusedAt bytes p
+  answer : answer_to_text command bytes ≡ refusal p
 
--- bytes that are no text of the first form are refused
-pub refuses_the_rest : (bytes : List ℕ) → ((t : Scenario) → IsFirstText t bytes → ⊥) → answer_to true bytes ≡ no_first_form
-refuses_the_rest bytes other = refuses bytes (reading bytes) refl other
+refuses : (command : TextCommand) (bytes : List ℕ) (r : Result Scenario Place) → reading bytes ≡ r → ((s : Scenario) → Spells s bytes → IsWellFormed s → ⊥)
+    → (p : Place) × Refused command bytes p
+unfolding answer_to_text
+refuses command bytes (Err p) e none =
+    (p, record { at = inl (refused_there bytes p e); answer = ap (answer_by command bytes) (judged_unread bytes p e) })
+refuses command bytes (Ok s) e none = by (place_of s) refl
+  where
+    by : (o : Option Place) → place_of s ≡ o → (p : Place) × Refused command bytes p
+    by None placed = absurd (none s (sound s bytes e) (well_formed s placed))
+    by (Some p) placed =
+        (p, record { at = inr (s, sound s bytes e, placed); answer = ap (answer_by command bytes) (judged_read bytes s (Some p) e placed) })
 
--- what is left behind is said of the run
-pub answered_by_the_run : (n : ℕ) (runs : Bool) (s : Scenario) (bytes : List ℕ) (out0 out1 err0 err1 : Option (List ℕ)) →
-    runs ≡ true → IsFirstText s bytes → IsAnswered n (answer_to runs bytes) out0 out1 err0 err1 → IsAnswered n (answer_of_run (run_of s)) out0 out1 err0 err1
-answered_by_the_run n runs s bytes out0 out1 err0 err1 e t h =
-    let P : Answer → Type 0 = λ a. IsAnswered n a out0 out1 err0 err1 in subst P (ap (λ b. answer_to b bytes) e ∙ runs_the_text s bytes t) h
+pub refuses_the_rest : (command : TextCommand) (bytes : List ℕ) → ((s : Scenario) → Spells s bytes → IsWellFormed s → ⊥)
+    → (p : Place) × IsRefusedAt bytes p × (answer_to_text command bytes ≡ refusal p)
+refuses_the_rest command bytes none = let r = refuses command bytes (reading bytes) refl none in (r.0, r.1.at, r.1.answer)
 
--- what is left behind is said of the refusal
-pub answered_by_the_refusal : (n : ℕ) (runs : Bool) (bytes : List ℕ) (out0 out1 err0 err1 : Option (List ℕ)) →
-    runs ≡ true → ((s : Scenario) → IsFirstText s bytes → ⊥) → IsAnswered n (answer_to runs bytes) out0 out1 err0 err1 → IsAnswered n no_first_form out0 out1 err0 err1
-answered_by_the_refusal n runs bytes out0 out1 err0 err1 e other h =
-    let P : Answer → Type 0 = λ a. IsAnswered n a out0 out1 err0 err1 in subst P (ap (λ b. answer_to b bytes) e ∙ refuses_the_rest bytes other) h
+-- ---- what is left behind
 
--- ---- the reading of a scenario of the first form
-
--- the scenario of the first form among what was read
-abbrev form_read : List ℕ → Result Scenario Place → Option Scenario
-form_read bytes r = elim r as (λ x. Option Scenario) [ Ok s ↦ if is_first_form s && are_named s && is_first_layout bytes then Some s else None | Err place ↦ None ]
-
-pub refused_form : (bytes : List ℕ) (place : Place) → reading bytes ≡ Err place → None ≡ first_form_of bytes
-refused_form bytes place e = sym (ap (form_read bytes) e)
-
-pub tested_form : (bytes : List ℕ) (s : Scenario) (o : Option Scenario) → reading bytes ≡ Ok s →
-    o ≡ (if is_first_form s && are_named s && is_first_layout bytes then Some s else None) → o ≡ first_form_of bytes
-tested_form bytes s o e h = h ∙ sym (ap (form_read bytes) e)
+-- what is said of the answer to the command is said of this answer
+pub answered_so : (n : ℕ) (c : Option Command) (command : TextCommand) (a : Answer) (left : List ℕ) (out0 out1 err0 err1 : Option (List ℕ)) →
+    c ≡ Some (Command.Text command) → answer_to_text command (take most_read left) ≡ a → IsAnswered n (answer_to c left) out0 out1 err0 err1 →
+    IsAnswered n a out0 out1 err0 err1
+answered_so n c command a left out0 out1 err0 err1 e is h =
+    let P : Answer → Type 0 = λ a. IsAnswered n a out0 out1 err0 err1 in subst P (ap (λ d. answer_to d left) e ∙ is) h

@@ -1,14 +1,25 @@
 -- What the call answers: its status, what it writes to out, and its line on err.
-use Rattle.std.specs.Prelude.{ℕ, Bool, true, false, if◌then◌else◌, ◌&&◌, ◌==◌, List, [], ◌∷◌, ◌++◌, Option, Some, None, Result, Ok, Err, codes, length, bytes_eq}
+use Rattle.std.specs.Prelude.{ℕ, if◌then◌else◌, ◌&&◌, List, [], ◌∷◌, ◌++◌, Option, Some, None, Ok, Err, codes, take, bytes_eq, Bool, Result}
 use Rattle.gv_values.specs.declared.fault.FaultKind.{FaultKind}
 use Rattle.gv_values.specs.ValueTexts.{fault_text}
 use Rattle.trace_text.specs.declared.line.StopCause.{StopCause}
 use Rattle.trace_text.specs.LineTexts.{text_of}
+use Rattle.gv_values.specs.ValueTexts.{decimal}
 use Rattle.scenario_tree.specs.declared.tree.Scenario.{Scenario}
+use Rattle.scenario_grammar.specs.declared.place.Place.{Place}
 use Rattle.scenario_grammar.specs.Parsed.{reading}
+use Rattle.scenario_grammar.specs.Printed.{printed}
 use Rattle.scenario_grammar.specs.FirstForm.{is_first_form}
+use Rattle.scenario_lang.specs.ReasonTexts.{text_of as reason_text}
+use Rattle.scenario_rules.specs.Rules.{place_of}
+use Rattle.wsgi_core.specs.Answers.{Sent}
+use Rattle.wsgi_core.specs.Shipped.{shipped}
+use Rattle.wsgi_connection.specs.Connections.{whole_session}
+use Rattle.gv_top.specs.declared.words.Command.{Command}
+use Rattle.gv_top.specs.declared.words.Command.TheVariants.{Text, Wsgi}
+use Rattle.gv_top.specs.declared.words.TextCommand.{TextCommand}
+use Rattle.gv_top.specs.declared.words.TextCommand.TheVariants.{Run, Format}
 use Rattle.gv_top.specs.FirstNames.{are_named}
-use Rattle.gv_top.specs.Layouts.{is_first_layout}
 use Rattle.hub_machine.specs.Run.{Ran, End, script_run}
 
 -- a line on err
@@ -51,21 +62,40 @@ err_line End.Asking = []
 
 -- ---- the call
 
--- the tree of the first form that the bytes spell, if there is one
-abbrev pub first_form_of : List ℕ → Option Scenario
-first_form_of bytes = elim (reading bytes) [ Ok s ↦ if is_first_form s && are_named s && is_first_layout bytes then Some s else None | Err place ↦ None ]
+-- a scenario, unless it breaks a rule, or the first place where it does
+abbrev pub checked : Scenario → Result Scenario Place
+checked s = elim (place_of s) [ None ↦ Ok s | Some place ↦ Err place ]
+
+-- the well-formed scenario that the bytes spell, or the place where they are refused
+abbrev pub judged : List ℕ → Result Scenario Place
+judged bytes = elim (reading bytes) [ Ok s ↦ checked s | Err place ↦ Err place ]
+
+-- the scenario has the first form, and uses its names as that wants
+abbrev pub has_first_form : Scenario → Bool
+has_first_form s = is_first_form s && are_named s
 
 pub record Answer : Type 0 where
   pub status : ℕ
   pub out : List ℕ
   pub err : List ℕ
 
--- the words are another list than `run` alone
+-- the words name no command
 abbrev pub usage : Answer
 usage = record { status = 2; out = []; err = line (codes "usage: gvr run, fmt, wsgi, serve or storm") }
 
 abbrev pub no_first_form : Answer
 no_first_form = record { status = 3; out = []; err = line (codes "no scenario of the first form") }
+
+abbrev pub refusal_text : Place → List ℕ
+refusal_text place = codes "line " ++ decimal place.line ++ codes ": reason " ++ decimal place.reason ++ codes ": " ++ reason_text place.reason
+
+-- the text is refused at this place
+abbrev pub refusal : Place → Answer
+refusal place = record { status = 3; out = []; err = line (refusal_text place) }
+
+-- the printed form of the scenario
+abbrev pub formatted : Scenario → Answer
+formatted s = record { status = 0; out = printed s; err = [] }
 
 -- the default budgets
 abbrev pub most_turns : ℕ
@@ -80,19 +110,41 @@ run_of s = script_run s most_turns most_moves 0
 abbrev pub answer_of_run : Ran → Answer
 answer_of_run r = record { status = status r.end; out = text_of r.lines; err = err_line r.end }
 
--- what is answered where `run` is the only word or not, to these bytes, where nothing fails
-abbrev pub answer_to : Bool → List ℕ → Answer
-answer_to false bytes = usage
-answer_to true bytes = elim (first_form_of bytes) [ None ↦ no_first_form | Some s ↦ answer_of_run (run_of s) ]
+-- what is answered to a well-formed scenario
+abbrev pub answer_to_scenario : TextCommand → Scenario → Answer
+answer_to_scenario Run s = if has_first_form s then answer_of_run (run_of s) else no_first_form
+answer_to_scenario Format s = formatted s
 
--- the words are the one word `run`
-abbrev pub is_run : List (List ℕ) → Bool
-is_run (word ∷ []) = bytes_eq word (codes "run")
-is_run words = false
+-- what is answered to a text
+unfoldable pub answer_to_text : TextCommand → List ℕ → Answer
+answer_to_text command bytes = elim (judged bytes) [ Ok s ↦ answer_to_scenario command s | Err place ↦ refusal place ]
 
--- the most bytes of the input that are read: one more than a text may have
+-- what `wsgi` answers where a session sent this: one that did not close met the limit of the connection
+abbrev pub answer_of_session : Sent → Answer
+answer_of_session s = record {
+  status = if s.closes then 0 else 8;
+  out = s.bytes;
+  err = if s.closes then [] else line (codes "limit of the connection");
+}
+
+-- the command that the words name, if they name one
+abbrev pub command_of : List (List ℕ) → Option Command
+command_of (word ∷ []) = if bytes_eq word (codes "run") then Some (Text Run) else if bytes_eq word (codes "fmt") then Some (Text Format) else if bytes_eq word (codes "wsgi") then Some Wsgi else None
+command_of words = None
+
+-- the most bytes of a text that are read: one more than it may have
 abbrev pub most_read : ℕ
 most_read = 1048577
+
+-- the port of a session whose bytes come from the input
+abbrev pub no_port : ℕ
+no_port = 0
+
+-- what a command answers to an input of which these bytes are left, where nothing fails
+abbrev pub answer_to : Option Command → List ℕ → Answer
+answer_to None left = usage
+answer_to (Some (Text command)) left = answer_to_text command (take most_read left)
+answer_to (Some Wsgi) left = answer_of_session (whole_session shipped no_port left)
 
 abbrev pub read_fault_line : List ℕ
 read_fault_line = line (codes "read fault")

@@ -1,12 +1,15 @@
 -- What the call leaves behind.
-use Rattle.std.specs.Prelude.{◌≡◌, ◌≢◌, ◌⊎◌, ℕ, List, Option, Some, drop}
+use Rattle.std.specs.Prelude.{◌≡◌, ◌≢◌, ◌⊎◌, ℕ, List, Option, Some}
 use Rattle.trace_text.specs.LineTexts.{text_of}
 use Rattle.gv_io.specs.Faults.{HasRisen}
 use Rattle.gv_io.specs.Streams.{appended, AppendsPrefix}
 use Rattle.hub_machine.specs.Run.{Ran}
 use Rattle.hub_engine.specs.declared.run.End.{End}
+use Rattle.wsgi_core.specs.Shipped.{shipped}
+use Rattle.wsgi_connection.specs.Connections.{Exchanged}
+use Rattle.wsgi_connection.specs.declared.connection.ConnectionEnd.{ConnectionEnd}
 use Rattle.gv_top.specs.declared.status.Verdict.{Verdict}
-use Rattle.gv_top.specs.Answers.{Answer, most_read, memory_line, read_fault_line}
+use Rattle.gv_top.specs.Answers.{Answer, memory_line, no_port, read_fault_line}
 use Rattle.hub_engine.specs.Ends.{end_of_run}
 use Rattle.gv_top.specs.Verdicts.{number_of, line_of}
 
@@ -24,24 +27,16 @@ abbrev pub Decided : Verdict → Answer → Option (List ℕ) → Option (List �
 Decided Verdict.ReadFault a old new = AppendsPrefix old new a.out
 Decided (Verdict.Ran End.WriteFault) a old new = AppendsPrefix old new a.out
 Decided (Verdict.Ran End.Memory) a old new = AppendsPrefix old new a.out
+Decided (Verdict.Connection ConnectionEnd.ReadFault) a old new = AppendsPrefix old new a.out
+Decided (Verdict.Connection ConnectionEnd.WriteFault) a old new = AppendsPrefix old new a.out
+Decided (Verdict.Connection ConnectionEnd.Memory) a old new = AppendsPrefix old new a.out
 Decided v a old new = Fits v a old new
 
--- a verdict of a run or of a text
-abbrev pub IsOfRun : Verdict → Type 0
-IsOfRun Verdict.Usage = ⊥
-IsOfRun Verdict.ReadFault = ⊥
-IsOfRun v = Unit {0}
-
-abbrev pub TellsFault : Verdict → ℕ → ℕ → Type 0
-TellsFault (Verdict.Ran End.WriteFault) old new = HasRisen old new
-TellsFault v old new = Unit {0}
-
--- the input was read to its end or to the most that is read
-abbrev pub HasRead : Verdict → List ℕ → Option (List ℕ) → Type 0
-HasRead Verdict.Usage left new = Unit {0}
-HasRead Verdict.ReadFault left new = Unit {0}
-HasRead (Verdict.Ran End.Memory) left new = Unit {0}
-HasRead v left new = new ≡ Some (drop most_read left)
+-- the verdict is the end of the connection that the input and out are
+pub record IsOfConnection (v : Verdict) (in0 in1 out0 out1 : Option (List ℕ)) : Type 0 where
+  pub end : ConnectionEnd
+  pub is : v ≡ Verdict.Connection end
+  pub exchanged : Exchanged end shipped no_port in0 in1 out0 out1
 
 -- err has the verdict's line and its status is answered; or the line of want of memory with 7; or a prefix of one of the two with 5
 abbrev pub HasLine : ℕ → Verdict → Option (List ℕ) → Option (List ℕ) → Type 0
@@ -61,6 +56,13 @@ pub record IsAnswered (n : ℕ) (a : Answer) (out0 out1 err0 err1 : Option (List
   pub status : n ≢ 4 → n ≢ 5 → n ≢ 7 → n ≡ a.status
   pub out : n ≢ 4 → n ≢ 5 → n ≢ 7 → out1 ≡ appended out0 a.out
   pub err : n ≢ 4 → n ≢ 5 → n ≢ 7 → err1 ≡ appended err0 a.err
+
+-- The input and out are a connection that was answered by the shipped application, and the status is that of its end,
+-- unless its line failed or memory for the line ran out.
+pub record AnswersConnection (n : ℕ) (in0 in1 out0 out1 : Option (List ℕ)) : Type 0 where
+  pub end : ConnectionEnd
+  pub exchanged : Exchanged end shipped no_port in0 in1 out0 out1
+  pub status : (n ≡ number_of (Verdict.Connection end)) ⊎ (n ≡ 5) ⊎ (n ≡ 7)
 
 -- the line that err has with a status of a fault or of want of memory, whole but with 5
 pub record HasFaultLine (n : ℕ) (err0 err1 : Option (List ℕ)) : Type 0 where

@@ -1,13 +1,19 @@
 -- The statuses and lines of the ways in which a call ends.
-use Rattle.std.specs.Prelude.{ℕ, List, [], ◌++◌, codes}
+use Rattle.std.specs.Prelude.{ℕ, ◌≤◌, List, [], ◌++◌, codes}
+use Rattle.scenario_grammar.specs.declared.place.Place.{Place}
+use Rattle.scenario_lang.specs.declared.text.ParseRefusal.{ParseRefusal}
+use Rattle.scenario_lang.specs.declared.text.ParseRefusal.TheVariants as parse
 use Rattle.hub_engine.specs.declared.run.End.{End}
+use Rattle.wsgi_connection.specs.declared.connection.ConnectionEnd.{ConnectionEnd}
 use Rattle.gv_top.specs.declared.status.Verdict.{Verdict}
-use Rattle.gv_top.specs.Answers.{line, ending_text, usage, no_first_form, read_fault_line, write_fault_line, memory_line}
+use Rattle.gv_top.specs.Answers.{line, ending_text, usage, no_first_form, refusal, read_fault_line, write_fault_line, memory_line}
 
 abbrev pub number_of : Verdict → ℕ
 number_of Verdict.Usage = 2
 number_of Verdict.ReadFault = 4
+number_of (Verdict.Refused place) = 3
 number_of Verdict.NoFirstForm = 3
+number_of Verdict.Formatted = 0
 number_of (Verdict.Ran End.MainValue) = 0
 number_of (Verdict.Ran (End.MainFault f)) = 1
 number_of (Verdict.Ran End.NoTurns) = 6
@@ -17,11 +23,18 @@ number_of (Verdict.Ran End.NoLinks) = 8
 number_of (Verdict.Ran End.NoKills) = 8
 number_of (Verdict.Ran End.WriteFault) = 5
 number_of (Verdict.Ran End.Memory) = 7
+number_of (Verdict.Connection ConnectionEnd.Closed) = 0
+number_of (Verdict.Connection ConnectionEnd.TooLong) = 8
+number_of (Verdict.Connection ConnectionEnd.ReadFault) = 4
+number_of (Verdict.Connection ConnectionEnd.WriteFault) = 5
+number_of (Verdict.Connection ConnectionEnd.Memory) = 7
 
 abbrev pub line_of : Verdict → List ℕ
 line_of Verdict.Usage = usage.err
 line_of Verdict.ReadFault = read_fault_line
+line_of (Verdict.Refused place) = (refusal place).err
 line_of Verdict.NoFirstForm = no_first_form.err
+line_of Verdict.Formatted = []
 line_of (Verdict.Ran End.MainValue) = []
 line_of (Verdict.Ran (End.MainFault f)) = line (codes "main ended by " ++ ending_text f)
 line_of (Verdict.Ran End.NoTurns) = line (codes "budget of turns spent")
@@ -31,3 +44,26 @@ line_of (Verdict.Ran End.NoLinks) = line (codes "limit of links")
 line_of (Verdict.Ran End.NoKills) = line (codes "limit of kills")
 line_of (Verdict.Ran End.WriteFault) = write_fault_line
 line_of (Verdict.Ran End.Memory) = memory_line
+line_of (Verdict.Connection ConnectionEnd.Closed) = []
+line_of (Verdict.Connection ConnectionEnd.TooLong) = line (codes "limit of the connection")
+line_of (Verdict.Connection ConnectionEnd.ReadFault) = read_fault_line
+line_of (Verdict.Connection ConnectionEnd.WriteFault) = write_fault_line
+line_of (Verdict.Connection ConnectionEnd.Memory) = memory_line
+
+-- the place has one of the reasons, which are numbered from 1 to 22
+abbrev pub HasReason : Place → Type 0
+HasReason place = (1 ≤ place.reason) × (place.reason ≤ 22)
+
+-- a refusal has one of the reasons
+abbrev pub IsExplained : Verdict → Type 0
+IsExplained (Verdict.Refused place) = HasReason place
+IsExplained v = Unit {0}
+
+abbrev pub IsRefusedWithReason : ParseRefusal → Type 0
+IsRefusedWithReason (parse.Refused place) = HasReason place
+IsRefusedWithReason parse.Memory = Unit {0}
+
+-- the verdict on a text that no scenario was read of
+abbrev pub verdict_on : ParseRefusal → Verdict
+verdict_on (parse.Refused place) = Verdict.Refused place
+verdict_on parse.Memory = Verdict.Ran End.Memory

@@ -1,41 +1,51 @@
-//! Reading a scenario of the first form.
-ghost use Rattle.std.specs.Prelude.{◌≡◌, ◌&&◌, if◌then◌else◌, IfOk};
-ghost use Rattle.scenario_grammar.specs.FirstForm.{is_first_form};
-ghost use Rattle.gv_top.specs.Answers.{first_form_of};
-ghost use Rattle.gv_top.specs.FirstNames.{are_named};
-ghost use Rattle.gv_top.specs.Layouts.{is_first_layout};
+//! Reading a well-formed scenario, and whether it has the first form.
+ghost use Rattle.std.specs.Prelude.{◌≡◌, IfErr, Ok as Fine};
+ghost use Rattle.scenario_grammar.specs.Parsed.{reading};
+ghost use Rattle.scenario_lang.specs.Lines.{Parses};
+ghost use Rattle.gv_top.specs.Answers.{has_first_form, judged};
+ghost use Rattle.gv_top.specs.Verdicts.{IsRefusedWithReason};
 
 use crate::first_form::is_first_form;
-use crate::layout::is_first_layout;
 use crate::names::are_named;
-use scenario_lang::{ParseRefusal, parse};
-use scenario_tree::Scenario;
-use std::alloc::{AllocError, Global};
+use scenario_check::{Checked, check};
+use scenario_grammar::texts_without_a_place_are_spelt;
+use scenario_lang::{ParseRefusal, Scenario, parse};
+use scenario_rules::{rules_have_reasons, well_formed_scenarios_have_no_place};
+use scenario_tree::Scenario as Tree;
+use std::alloc::Global;
 
-/// The tree of the first form that the bytes spell, if there is one.
-pub fn first_form(alloc: Global, bytes: &[u8]) -> Result<Option<Scenario>, AllocError>
-    ensures { IfOk result (λ scenario. scenario ≡ first_form_of bytes.now) }
+/// The well-formed scenario that the bytes spell.
+///
+/// # Errors
+///
+/// `Refused` exactly where they spell none, with the place: that of the grammar, or else the first
+/// line that breaks a rule; `Memory` where memory ran out.
+pub fn read_scenario(alloc: Global, bytes: &[u8]) -> Result<Checked, ParseRefusal>
+    ensures judged { Parses (judged bytes.now) result }
+    ensures reason { IfErr result IsRefusedWithReason }
 {
+    texts_without_a_place_are_spelt();
     match parse(alloc, bytes) {
-        Err(ParseRefusal::Memory) => Err(AllocError),
-        Err(ParseRefusal::Refused(_)) => Ok(None),
-        Ok(scenario) => Ok(tested(scenario, bytes)),
+        Ok(scenario) => check_read(alloc, bytes, scenario),
+        Err(refusal) => Err(refusal),
     }
 }
 
-/// The scenario, where it and its text pass the tests of the first form.
-fn tested(scenario: Scenario, bytes: &[u8]) -> Option<Scenario>
-    ensures { result ≡ (if is_first_form scenario && are_named scenario && is_first_layout bytes.now then Some scenario else None) }
+/// The scenario that was read of these bytes, where it is well formed.
+fn check_read(alloc: Global, bytes: &[u8], scenario: Scenario) -> Result<Checked, ParseRefusal>
+    requires { reading bytes.now ≡ Fine scenario }
+    ensures judged { Parses (judged bytes.now) result }
+    ensures reason { IfErr result IsRefusedWithReason }
 {
-    if passes(&scenario, bytes) {
-        Some(scenario)
-    } else {
-        None
-    }
+    rules_have_reasons();
+    well_formed_scenarios_have_no_place();
+    let _ = bytes;
+    check(alloc, scenario)
 }
 
-fn passes(scenario: &Scenario, bytes: &[u8]) -> bool
-    ensures { result ≡ is_first_form scenario.now && are_named scenario.now && is_first_layout bytes.now }
+/// Whether the scenario has the first form.
+pub fn has_first_form(scenario: &Tree) -> bool
+    ensures { result ≡ has_first_form scenario.now }
 {
-    is_first_form(scenario) && are_named(scenario) && is_first_layout(bytes)
+    is_first_form(scenario) && are_named(scenario)
 }

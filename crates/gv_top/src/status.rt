@@ -1,10 +1,13 @@
 //! How a call ends: its status and its line on err.
 ghost use Rattle.std.specs.Prelude.{◌≡◌, List, OnOk, IfOk};
-ghost use Rattle.gv_top.specs.Verdicts.{number_of, line_of};
+ghost use Rattle.gv_top.specs.Verdicts.{HasReason, IsExplained, number_of, line_of};
 
-use gv_values::{FaultKind, fault_text};
+use gv_values::{FaultKind, decimal_text, fault_text};
 use hub_engine::End;
+use scenario_grammar::Place;
+use scenario_lang::reason_text;
 use std::alloc::{AllocError, Global};
+use wsgi_connection::ConnectionEnd;
 
 /// How a call ends.
 #[derive(Clone, Copy, Debug, PartialEq, Eq)]
@@ -15,8 +18,14 @@ pub enum Verdict {
     ReadFault,
     /// The input spells no scenario of the first form.
     NoFirstForm,
+    /// The input spells no well-formed scenario; where it is refused.
+    Refused(Place),
+    /// The printed form of the scenario is out.
+    Formatted,
     /// The run came to this end.
     Ran(End),
+    /// The connection came to this end.
+    Connection(ConnectionEnd),
 }
 
 impl Verdict {
@@ -27,7 +36,9 @@ impl Verdict {
         match self {
             Verdict::Usage => 2,
             Verdict::ReadFault => 4,
+            Verdict::Refused(_) => 3,
             Verdict::NoFirstForm => 3,
+            Verdict::Formatted => 0,
             Verdict::Ran(End::MainValue) => 0,
             Verdict::Ran(End::MainFault(_)) => 1,
             Verdict::Ran(End::NoTurns) => 6,
@@ -37,16 +48,24 @@ impl Verdict {
             Verdict::Ran(End::NoKills) => 8,
             Verdict::Ran(End::WriteFault) => 5,
             Verdict::Ran(End::Memory) => 7,
+            Verdict::Connection(ConnectionEnd::Closed) => 0,
+            Verdict::Connection(ConnectionEnd::TooLong) => 8,
+            Verdict::Connection(ConnectionEnd::ReadFault) => 4,
+            Verdict::Connection(ConnectionEnd::WriteFault) => 5,
+            Verdict::Connection(ConnectionEnd::Memory) => 7,
         }
     }
 
     /// The line on err, and nothing where it has none.
     pub fn line(self, alloc: Global) -> Result<Vec<u8>, AllocError>
+        requires { IsExplained self }
         ensures { IfOk result (λ line. line.items ≡ line_of self) }
     {
         match self {
             Verdict::Usage => line_with(alloc, b"usage: gvr run, fmt, wsgi, serve or storm"),
             Verdict::ReadFault => line_with(alloc, b"read fault"),
+            Verdict::Refused(place) => refusal_line(alloc, place),
+            Verdict::Formatted => Ok(Vec::new(alloc)),
             Verdict::NoFirstForm => line_with(alloc, b"no scenario of the first form"),
             Verdict::Ran(End::MainValue) => Ok(Vec::new(alloc)),
             Verdict::Ran(End::MainFault(kind)) => fault_line(alloc, kind),
@@ -57,12 +76,20 @@ impl Verdict {
             Verdict::Ran(End::NoKills) => line_with(alloc, b"limit of kills"),
             Verdict::Ran(End::WriteFault) => line_with(alloc, b"write fault"),
             Verdict::Ran(End::Memory) => line_with(alloc, b"out of memory"),
+            Verdict::Connection(ConnectionEnd::Closed) => Ok(Vec::new(alloc)),
+            Verdict::Connection(ConnectionEnd::TooLong) => line_with(
+                alloc,
+                b"limit of the connection",
+            ),
+            Verdict::Connection(ConnectionEnd::ReadFault) => line_with(alloc, b"read fault"),
+            Verdict::Connection(ConnectionEnd::WriteFault) => line_with(alloc, b"write fault"),
+            Verdict::Connection(ConnectionEnd::Memory) => line_with(alloc, b"out of memory"),
         }
     }
 }
 
 ghost use Rattle.std.specs.Prelude.{◌++◌, codes};
-ghost use Rattle.gv_top.specs.Answers.{line, ending_text};
+ghost use Rattle.gv_top.specs.Answers.{line, ending_text, refusal_text};
 
 fn line_with(alloc: Global, text: &[u8]) -> Result<Vec<u8>, AllocError>
     ensures { IfOk result (λ made. made.items ≡ line text.now) }
@@ -85,5 +112,19 @@ fn fault_line(alloc: Global, kind: FaultKind) -> Result<Vec<u8>, AllocError>
         }
         kind => fault_text(kind, &mut text)?,
     }
+    Ok(line_with(alloc, text.as_slice())?)
+}
+
+fn refusal_line(alloc: Global, place: Place) -> Result<Vec<u8>, AllocError>
+    requires { HasReason place }
+    ensures { IfOk result (λ made. made.items ≡ line (refusal_text place)) }
+{
+    let mut text = Vec::new(alloc);
+    text.extend_from_slice(b"line ")?;
+    decimal_text(u64::from(place.line), &mut text)?;
+    text.extend_from_slice(b": reason ")?;
+    decimal_text(u64::from(place.reason), &mut text)?;
+    text.extend_from_slice(b": ")?;
+    text.extend_from_slice(reason_text(place.reason).as_bytes())?;
     Ok(line_with(alloc, text.as_slice())?)
 }

@@ -84,13 +84,112 @@ fn read_fault(rt: HostRuntime) -> Result<(), Fail> {
 
 #[test]
 fn no_first_form(rt: HostRuntime) -> Result<(), Fail> {
-    let called = call(rt.alloc(), "run", "", 4096, &[], 1000)?;
+    let called = call(
+        rt.alloc(),
+        "run",
+        "def main\nprint + 1 2\nend\n",
+        4096,
+        &[],
+        1000,
+    )?;
     assert_eq!(rt; called.status, 3);
     assert_eq!(rt; called.out.bytes(), "".as_bytes());
     assert_eq!(rt;
         called.err.bytes(),
         "gvr: no scenario of the first form\n".as_bytes()
     );
+    Ok(())
+}
+
+#[test]
+fn refused_texts(rt: HostRuntime) -> Result<(), Fail> {
+    let table = [
+        ("", "gvr: line 1: reason 14: no main\n"),
+        (
+            "def main\nprint  1\nend\n",
+            "gvr: line 2: reason 4: blank out of place\n",
+        ),
+        (
+            "def main\nprint 1 \nend\n",
+            "gvr: line 2: reason 4: blank out of place\n",
+        ),
+        (
+            "def main\nfoo 1\nend\n",
+            "gvr: line 2: reason 5: unknown word\n",
+        ),
+        (
+            "def main\nprint\nend\n",
+            "gvr: line 2: reason 6: line too short\n",
+        ),
+        (
+            "def main\nprint 1 2\nend\n",
+            "gvr: line 2: reason 7: line too long\n",
+        ),
+        (
+            "def main\nprint 007\nend\n",
+            "gvr: line 2: reason 8: number not in its one spelling\n",
+        ),
+        (
+            "def main\nsleep 1000000001\nend\n",
+            "gvr: line 2: reason 9: number out of range\n",
+        ),
+        (
+            "def main\nlet Q 1\nend\n",
+            "gvr: line 2: reason 10: name not allowed\n",
+        ),
+        (
+            "def main\nprint x\nend\n",
+            "gvr: line 2: reason 15: undeclared name\n",
+        ),
+        (
+            "def main\nend\nend\n",
+            "gvr: line 3: reason 11: block word out of place\n",
+        ),
+    ];
+    for (text, line) in table {
+        for word in ["run", "fmt"] {
+            let called = call(rt.alloc(), word, text, 4096, &[], 1000)?;
+            assert_eq!(rt; called.status, 3);
+            assert_eq!(rt; called.out.bytes(), "".as_bytes());
+            assert_eq!(rt; called.err.bytes(), line.as_bytes());
+        }
+    }
+    Ok(())
+}
+
+#[test]
+fn printed_form(rt: HostRuntime) -> Result<(), Fail> {
+    let text = "# x\ndef main\n     print 1\n\nend\n";
+    let called = call(rt.alloc(), "fmt", text, 4096, &[], 1000)?;
+    assert_eq!(rt; called.status, 0);
+    assert_eq!(rt; called.out.bytes(), "def main\n  print 1\nend\n".as_bytes());
+    assert_eq!(rt; called.err.bytes(), "".as_bytes());
+    Ok(())
+}
+
+/// The text of one print, and a comment of so many bytes behind it.
+fn commented(alloc: Global, bytes: u32) -> Result<String, AllocError> {
+    let mut text = String::from_str(alloc, PRINTS_ONE)?;
+    text.push_str("#")?;
+    for _ in 0..bytes {
+        text.push_str("x")?;
+    }
+    text.push_str("\n")?;
+    Ok(text)
+}
+
+#[test]
+fn text_limit(rt: HostRuntime) -> Result<(), Fail> {
+    let text = commented(rt.alloc(), 1048553)?;
+    let called = call(rt.alloc(), "run", text.as_str(), 4096, &[], 1000)?;
+    assert_eq!(rt; called.status, 0);
+    let trace = "start g0 main\nprint g0 1\nend g0 value none\nstop value none turns 0 moves 1\n";
+    assert_eq!(rt; called.out.bytes(), trace.as_bytes());
+    let longer = commented(rt.alloc(), 1048554)?;
+    let refused = call(rt.alloc(), "run", longer.as_str(), 4096, &[], 1000)?;
+    assert_eq!(rt; refused.status, 3);
+    let line = "gvr: line 4: reason 1: text longer than 1048576 bytes\n";
+    assert_eq!(rt; refused.err.bytes(), line.as_bytes());
     Ok(())
 }
 

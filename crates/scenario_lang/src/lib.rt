@@ -5,9 +5,12 @@ mod builder;
 mod kind;
 mod reason;
 mod role;
+mod scenario;
 #[cfg(test)]
 mod tests;
 mod text;
 
 pub use reason::reason_text;
+pub use scenario::{Scenario, print};
+pub use scenario_print::spelt_trees_have_text;
 pub use text::{MOST_BYTES, ParseRefusal, parse};

@@ -1,4 +1,4 @@
-use crate::{MOST_BYTES, ParseRefusal, parse, reason_text};
+use crate::{ParseRefusal, parse, print, reason_text};
 use scenario_grammar::Place;
 use std::alloc::Global;
 use std::process::Abort;
@@ -57,9 +57,151 @@ fn whole_texts(rt: HostRuntime) -> Result<(), Fail> {
         ("x <- spawn w\n", (1, 13)),
         ("def main\nend\nevent e\n", (3, 13)),
         ("end\n", (1, 11)),
+        ("def main\ntry\nend\nend\n", (3, 11)),
+        ("def main\ntry\nfinally\nend\nend\n", (0, 0)),
+        ("print 1\ndef main\nend\n", (1, 13)),
+        ("def main\ndef f\nend\n", (2, 13)),
     ];
     for (text, expected) in table {
         assert_eq!(rt; place(rt.alloc(), text)?, expected);
+    }
+    Ok(())
+}
+
+/// The text with one part repeated before its middle and another one behind it.
+fn repeated(
+    alloc: Global,
+    (head, part, count, middle, tail, rest): (&str, &str, u32, &str, &str, &str),
+) -> Result<String, Fail> {
+    let mut text = String::from_str(alloc, head)?;
+    for _ in 0..count {
+        text.push_str(part)?;
+    }
+    text.push_str(middle)?;
+    for _ in 0..count {
+        text.push_str(tail)?;
+    }
+    text.push_str(rest)?;
+    Ok(text)
+}
+
+#[test]
+fn borders(rt: HostRuntime) -> Result<(), Fail> {
+    let table = [
+        (
+            ("def main\nprint 1\nend\n#", "x", 1048553, "\n", "", ""),
+            (0, 0),
+        ),
+        (
+            ("def main\nprint 1\nend\n#", "x", 1048554, "\n", "", ""),
+            (4, 1),
+        ),
+        (
+            ("def main\n", "if true\n", 31, "print 1\n", "end\n", "end\n"),
+            (0, 0),
+        ),
+        (
+            ("def main\n", "if true\n", 32, "print 1\n", "end\n", "end\n"),
+            (33, 21),
+        ),
+        (
+            ("def main\nprint ", "not ", 31, "true\nend\n", "", ""),
+            (0, 0),
+        ),
+        (
+            ("def main\nprint ", "not ", 32, "true\nend\n", "", ""),
+            (2, 21),
+        ),
+        (
+            ("def main\nprint list 64", " 1", 64, "\nend\n", "", ""),
+            (0, 0),
+        ),
+        (
+            ("def main\nprint list 65", " 1", 65, "\nend\n", "", ""),
+            (2, 9),
+        ),
+        (("def main\nlet ", "a", 24, " 1\nend\n", "", ""), (0, 0)),
+        (("def main\nlet ", "a", 25, " 1\nend\n", "", ""), (2, 10)),
+        (
+            (
+                "def main\nprint 9223372036854775807\nend\n",
+                "",
+                0,
+                "",
+                "",
+                "",
+            ),
+            (0, 0),
+        ),
+        (
+            (
+                "def main\nprint 9223372036854775808\nend\n",
+                "",
+                0,
+                "",
+                "",
+                "",
+            ),
+            (2, 9),
+        ),
+        (
+            (
+                "def main\nprint -9223372036854775808\nend\n",
+                "",
+                0,
+                "",
+                "",
+                "",
+            ),
+            (0, 0),
+        ),
+        (
+            (
+                "def main\nprint -9223372036854775809\nend\n",
+                "",
+                0,
+                "",
+                "",
+                "",
+            ),
+            (2, 9),
+        ),
+    ];
+    for (parts, expected) in table {
+        let text = repeated(rt.alloc(), parts)?;
+        assert_eq!(rt; place(rt.alloc(), text.as_str())?, expected);
+    }
+    Ok(())
+}
+
+/// The printed form of what the text is read as, behind a byte.
+fn printed_again(alloc: Global, text: &str) -> Result<Vec<u8>, Fail> {
+    let mut out = Vec::new(alloc);
+    out.push(b'>')?;
+    if let Ok(scenario) = parse(alloc, text.as_bytes()) {
+        print(&scenario, &mut out)?;
+    }
+    Ok(out)
+}
+
+#[test]
+fn printed_forms(rt: HostRuntime) -> Result<(), Fail> {
+    let table = [
+        (
+            "# x\ndef main\n     print 1\n\nend\n",
+            ">def main\n  print 1\nend\n",
+        ),
+        (
+            "event e\nqueue q join none\nrawdef r v\nend\ndef f p\nif < -5 at list 2 1 p 0\nx <- get self within 5\nelse\nkill x with Error 7 now\nend\ntry\nsleep 0\nexcept Timeout t\nfinally\ntimeout none silent\nspawn f not true\nend\nend\nend\ndef main\nend\n",
+            ">event e\nqueue q join none\nrawdef r v\nend\ndef f p\n  if < -5 at list 2 1 p 0\n    x <- get self within 5\n  else\n    kill x with Error 7 now\n  end\n  try\n    sleep 0\n  except Timeout t\n  finally\n    timeout none silent\n      spawn f not true\n    end\n  end\nend\ndef main\nend\n",
+        ),
+        ("x", ">"),
+    ];
+    for (text, expected) in table {
+        assert_eq!(rt;
+            printed_again(rt.alloc(), text)?.as_slice(),
+            expected.as_bytes()
+        );
     }
     Ok(())
 }

@@ -8,8 +8,10 @@ ghost use Rattle.scenario_lang.specs.Lines.{IsRefused, IsSpelt, Parses, Takes, a
 
 use crate::builder::Builder;
 use crate::role::line_role;
+use crate::scenario::Scenario;
 use scenario_grammar::{Place, Token, read_texts_are_spelt, texts_without_a_place_are_spelt};
-use scenario_tree::Scenario;
+use scenario_print::spelt_trees_have_text;
+use scenario_tree::Scenario as Tree;
 use scenario_words::{
     BLANK_OUT_OF_PLACE, Front, LineRefusal, cut_at, first_line, line_tokens, read_phrase,
     skip_blanks,
@@ -146,7 +148,7 @@ impl Reader {
     }
 
     /// The end of the text.
-    fn finish(self) -> Result<Scenario, ParseRefusal>
+    fn finish(self) -> Result<Tree, ParseRefusal>
         requires { 1 ≤ self.line }
         ensures { Parses (ended_at (max 1 (self.line - 1)) (state_of self)) result }
     {
@@ -165,7 +167,7 @@ impl Reader {
     }
 }
 
-fn read_text(alloc: Global, bytes: &[u8]) -> Result<Scenario, ParseRefusal>
+fn read_text(alloc: Global, bytes: &[u8]) -> Result<Tree, ParseRefusal>
     requires { length bytes.now ≤ most_bytes }
     ensures { Parses (outcome 1 (Ok nothing_yet) bytes.now) result }
 {
@@ -202,12 +204,25 @@ pub fn parse(alloc: Global, bytes: &[u8]) -> Result<Scenario, ParseRefusal>
     ensures spelt { IsSpelt bytes.now result }
     ensures refused { IsRefused bytes.now result }
 {
+    spelt_trees_have_text();
+    match parse_tree(alloc, bytes) {
+        Ok(tree) => Ok(Scenario::new(tree)),
+        Err(refusal) => Err(refusal),
+    }
+}
+
+/// The tree that the bytes spell.
+fn parse_tree(alloc: Global, bytes: &[u8]) -> Result<Tree, ParseRefusal>
+    ensures read { Parses (reading bytes.now) result }
+    ensures spelt { IsSpelt bytes.now result }
+    ensures refused { IsRefused bytes.now result }
+{
     read_texts_are_spelt();
     texts_without_a_place_are_spelt();
     read_bytes(alloc, bytes)
 }
 
-fn read_bytes(alloc: Global, bytes: &[u8]) -> Result<Scenario, ParseRefusal>
+fn read_bytes(alloc: Global, bytes: &[u8]) -> Result<Tree, ParseRefusal>
     ensures { Parses (reading bytes.now) result }
 {
     if bytes.len() > MOST_BYTES {

@@ -6,9 +6,9 @@ ghost use Rattle.gv_values.specs.Names.{is_digit};
 ghost use Rattle.scenario_grammar.specs.Tokens.{begins_number, is_integer, is_plain_number, number_token, loose_token, token_of};
 ghost use Rattle.scenario_words.specs.Numbers.{integer_token, minus_digits};
 
-use crate::keyword::find_keyword;
 use gv_values::Name;
 use scenario_grammar::Token;
+use scenario_keywords::find_keyword;
 
 /// What a word is by itself.
 #[tactic(auto, unfolding(scenario_grammar::specs::Tokens::token_of))]

@@ -1,0 +1,15 @@
+use Rattle.gv_top.proofs.ReadTexts.{answered_as, refuses_the_rest, runs_no_other, runs_the_text}
+use Rattle.gv_top.specs.declared.words.TextCommand.{TextCommand}
+use Rattle.gv_top.proofs.laws.texts_are_answered.Goals as goal
+
+pub returns-clause-run : goal.returns-clause-run
+returns-clause-run c = λ s bytes t. runs_the_text s bytes t
+
+pub returns-clause-other_form : goal.returns-clause-other_form
+returns-clause-other_form c = λ s bytes t w other. runs_no_other s bytes t w other
+
+pub returns-clause-formatted : goal.returns-clause-formatted
+returns-clause-formatted c = λ s bytes t w. answered_as TextCommand.Format s bytes t w
+
+pub returns-clause-refused : goal.returns-clause-refused
+returns-clause-refused c = λ command bytes none. refuses_the_rest command bytes none

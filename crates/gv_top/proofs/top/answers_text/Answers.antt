@@ -1,0 +1,21 @@
+use Rattle.std.proofs.Common.{arith}
+use Rattle.gv_top.proofs.Deciding.{judged_decided, refusal_decided, refusal_explained, refusal_number}
+use Rattle.gv_top.proofs.top.answers_text.Goals as goal
+
+pub returns-in-Err-clause-answer : goal.returns-in-Err-clause-answer
+returns-in-Err-clause-answer g c = refusal_decided c.args.command c.args.bytes.now _ _ _ c.verdict_on.ensures c.in-Err.ensures.judged
+
+pub returns-in-Err-clause-command : goal.returns-in-Err-clause-command
+returns-in-Err-clause-command g c = λ h. refusal_number _ _ 2 c.verdict_on.ensures h (λ e. omega arith) (λ e. omega arith)
+
+pub returns-in-Err-clause-read : goal.returns-in-Err-clause-read
+returns-in-Err-clause-read g c = λ h. refusal_number _ _ 4 c.verdict_on.ensures h (λ e. omega arith) (λ e. omega arith)
+
+pub returns-in-Err-clause-explained : goal.returns-in-Err-clause-explained
+returns-in-Err-clause-explained g c = refusal_explained _ _ c.verdict_on.ensures c.in-Err.ensures.reason
+
+pub returns-in-Err-clause-write_fault : goal.returns-in-Err-clause-write_fault
+returns-in-Err-clause-write_fault g c = λ h. absurd (refusal_number _ _ 5 c.verdict_on.ensures h (λ e. omega arith) (λ e. omega arith))
+
+pub returns-in-Ok-clause-answer : goal.returns-in-Ok-clause-answer
+returns-in-Ok-clause-answer g c = judged_decided c.args.command c.args.bytes.now _ _ _ _ _ c.in-Ok.ensures.judged c.into_scenario.ensures.same c.answers_scenario.ensures.answer

@@ -1,0 +1,12 @@
+use Rattle.std.proofs.Common.{◌++◌, ℕ, List, take, map}
+use Rattle.scenario_rules.specs.declared.declared.Declared.{Declared}
+use Rattle.scenario_rules.specs.declared.mention.Named.{Named}
+use Rattle.scenario_rules.specs.Declarations.{object_entry}
+use Rattle.scenario_check.specs.Tables.{Holds}
+use Rattle.scenario_check.proofs.lists.declare_objects.Given as goal
+
+abbrev named : ℕ → List ℕ → Named
+named line x = record { line = line; name = x }
+
+abbrev pub invariant-loop-object : goal.invariant-loop-object
+invariant-loop-object l = (ds : List (List ℕ × Declared)) → Holds l.fn.names ds → Holds l.names (ds ++ map object_entry (take l.object-index l.objects))

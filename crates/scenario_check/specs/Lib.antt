@@ -1,0 +1,4 @@
+pub mod Checks
+pub mod Sorting
+pub mod Tables
+pub mod Words

@@ -1,0 +1,66 @@
+//! Well-formed scenarios.
+ghost use Rattle.std.specs.Prelude.{◌≡◌, IfOk, OnOk};
+ghost use Rattle.scenario_rules.specs.Rules.{IsWellFormed};
+ghost use Rattle.scenario_check.specs.Checks.{IsPlaced};
+
+use crate::judge::place;
+use scenario_lang::{ParseRefusal, Scenario};
+use std::alloc::Global;
+use std::marker::Model;
+
+/// A scenario that is well formed. It is seen as its tree.
+#[derive(Drop)]
+pub struct Checked {
+    scenario: Scenario,
+}
+
+impl Model for Checked {
+    ghost use Rattle.scenario_tree.specs.declared.tree.Scenario.{Scenario as Tree};
+    ghost use Rattle.scenario_rules.specs.Rules.{IsWellFormed};
+    ghost use Rattle.scenario_tree.specs.contracts.tree.Action as a;
+    ghost use Rattle.scenario_tree.specs.contracts.tree.Expression as e;
+    ghost use Rattle.std.specs.Coded.{codes};
+
+    ghost Value = { Tree };
+
+    ghost coded = { Prim.hlevel (codes, a.the_row.coded, e.the_row.coded) };
+
+    ghost view = { λ c. c.scenario };
+
+    ghost invariant = { λ c. IsWellFormed c.scenario };
+}
+
+impl Checked {
+    /// The scenario.
+    pub fn scenario(&self) -> &Scenario
+        ensures same { result.now ≡ self.now }
+        ensures well_formed { IsWellFormed self.now }
+    {
+        &self.scenario
+    }
+
+    /// The scenario alone.
+    pub fn into_scenario(self) -> Scenario
+        ensures same { result ≡ self }
+        ensures well_formed { IsWellFormed self }
+    {
+        self.scenario
+    }
+}
+
+/// The scenario, where it is well formed.
+///
+/// # Errors
+///
+/// `Refused` exactly where it is not, with the first line that breaks a rule and the least reason
+/// there; `Memory` where memory ran out. The scenario is given up.
+pub fn check(alloc: Global, scenario: Scenario) -> Result<Checked, ParseRefusal>
+    ensures same { IfOk result (λ checked. checked ≡ scenario) }
+    ensures well_formed { OnOk result (IsWellFormed scenario) }
+    ensures refused { IsPlaced scenario result }
+{
+    match place(alloc, scenario.tree())? {
+        None => Ok(Checked { scenario }),
+        Some(place) => Err(ParseRefusal::Refused(place)),
+    }
+}

@@ -1,0 +1,43 @@
+//! Names in a table.
+ghost use Rattle.std.specs.Prelude.{◌≡◌, [], ◌∷◌, ◌++◌, List, OnOk, IfOk, ℕ};
+ghost use Rattle.std.specs.Option.{is_none};
+ghost use Rattle.scenario_check.specs.Tables.{found, Holds};
+
+use std::alloc::{AllocError, Global};
+use std::collections::BTreeMap;
+
+/// A value for each name: the first that it was given.
+#[derive(Drop)]
+pub(crate) struct Names<V> {
+    pub(crate) entries: BTreeMap<Vec<u8>, V>,
+}
+
+impl<V: Copy> Names<V> {
+    pub(crate) fn new(alloc: Global) -> Names<V>
+        ensures { Holds result [] }
+    {
+        Names {
+            entries: BTreeMap::new(alloc),
+        }
+    }
+
+    /// The value of the name.
+    pub(crate) fn find(&self, name: &[u8]) -> Option<V>
+        ensures { result ≡ found self.now name.now }
+    {
+        self.entries.get(name).copied()
+    }
+
+    /// Gives the name this value, where it has none yet; whether it had none.
+    pub(crate) fn give(&mut self, alloc: Global, name: &[u8], value: V) -> Result<bool, AllocError>
+        ensures was_new { IfOk result (λ was_new. was_new ≡ is_none (found self.old name.now)) }
+        ensures holds { (ds : List (List ℕ × V)) → Holds self.old ds → OnOk result (Holds self.new (ds ++ (name.now, value) ∷ [])) }
+    {
+        if self.entries.contains_key(name) {
+            return Ok(false);
+        }
+        let key = Vec::from_slice(alloc, name)?;
+        self.entries.insert(key, value)?;
+        Ok(true)
+    }
+}

@@ -1,0 +1,124 @@
+//! Why a word is refused.
+ghost use Rattle.std.specs.Prelude.{◌≡◌};
+ghost use Rattle.std.specs.Option.{is_some};
+ghost use Rattle.scenario_rules.specs.Declarations.{is_kind};
+ghost use Rattle.scenario_check.specs.Tables.{found};
+ghost use Rattle.scenario_check.specs.Words.{call_reason, give_reason, object_reason, run_reason, use_reason, word_reason};
+
+use crate::names::Names;
+use scenario_rules::{Declared, Says, Wanted};
+use scenario_tree::{Object, QueueKind};
+
+const UNDECLARED: u8 = 15;
+
+const WRONG_KIND: u8 = 17;
+
+pub(crate) const WRONG_COUNT: u8 = 18;
+
+const HUB_IN_RAW_BODY: u8 = 19;
+
+const TIMEOUTS_TOO_DEEP: u8 = 20;
+
+fn is_kind(kind: Wanted, object: Object) -> bool
+    ensures { result ≡ is_kind kind object }
+{
+    match kind {
+        Wanted::Event => matches!(object, Object::Event),
+        Wanted::Result => matches!(object, Object::Result),
+        Wanted::EventOrResult => matches!(object, Object::Event | Object::Result),
+        Wanted::Semaphore => {
+            matches!(object, Object::Semaphore(_) | Object::BoundedSemaphore(_))
+        }
+        Wanted::SemaphoreOrLock => matches!(
+            object,
+            Object::Semaphore(_) | Object::BoundedSemaphore(_) | Object::Lock
+        ),
+        Wanted::Queue => matches!(object, Object::Queue(_, _)),
+        Wanted::JoinQueue => matches!(object, Object::Queue(QueueKind::Join, _)),
+        Wanted::GroupOrPool => matches!(object, Object::Group | Object::Pool(_)),
+        Wanted::NativePool => matches!(object, Object::Native(_)),
+    }
+}
+
+fn use_reason(declared: Option<Declared>, is_local: bool) -> Option<u8>
+    ensures { result ≡ use_reason declared is_local }
+{
+    match declared {
+        Some(_) => Some(WRONG_KIND),
+        None => { if is_local { None } else { Some(UNDECLARED) } }
+    }
+}
+
+fn give_reason(declared: Option<Declared>) -> Option<u8>
+    ensures { result ≡ give_reason declared }
+{
+    match declared {
+        Some(_) => Some(WRONG_KIND),
+        None => None,
+    }
+}
+
+fn object_reason(kind: Wanted, declared: Option<Declared>) -> Option<u8>
+    ensures { result ≡ object_reason kind declared }
+{
+    match declared {
+        None => Some(UNDECLARED),
+        Some(Declared::Object(object)) => {
+            if is_kind(kind, object) {
+                None
+            } else {
+                Some(WRONG_KIND)
+            }
+        }
+        Some(_) => Some(WRONG_KIND),
+    }
+}
+
+fn call_reason(count: usize, declared: Option<Declared>) -> Option<u8>
+    ensures { result ≡ call_reason count declared }
+{
+    match declared {
+        None => Some(UNDECLARED),
+        Some(Declared::Function(parameters)) => {
+            if count == parameters {
+                None
+            } else {
+                Some(WRONG_COUNT)
+            }
+        }
+        Some(_) => Some(WRONG_KIND),
+    }
+}
+
+fn run_reason(declared: Option<Declared>) -> Option<u8>
+    ensures { result ≡ run_reason declared }
+{
+    match declared {
+        None => Some(UNDECLARED),
+        Some(Declared::RawBody) => None,
+        Some(_) => Some(WRONG_KIND),
+    }
+}
+
+/// Why a word of a function is refused, whose local names these are.
+pub(crate) fn word_reason(
+    names: &Names<Declared>,
+    locals: &Names<u32>,
+    is_raw: bool,
+    says: Says,
+) -> Option<u8>
+    ensures { result ≡ word_reason (found names.now) (λ x. is_some (found locals.now x)) is_raw says }
+{
+    match says {
+        Says::Uses(name) => use_reason(
+            names.find(name.bytes()),
+            locals.find(name.bytes()).is_some(),
+        ),
+        Says::Gives(name) => give_reason(names.find(name.bytes())),
+        Says::Object(kind, name) => object_reason(kind, names.find(name.bytes())),
+        Says::Calls(count, name) => call_reason(count, names.find(name.bytes())),
+        Says::Runs(name) => run_reason(names.find(name.bytes())),
+        Says::AsksHub => { if is_raw { Some(HUB_IN_RAW_BODY) } else { None } }
+        Says::NestsTooDeep => Some(TIMEOUTS_TOO_DEEP),
+    }
+}

@@ -1,0 +1,5 @@
+use Rattle.scenario_print.proofs.Words.{started}
+use Rattle.scenario_print.proofs.start.start_name.Goals as goal
+
+pub returns : goal.returns
+returns c = started c.in_ok-push_first.ensures c.push_name.ensures

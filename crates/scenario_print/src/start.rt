@@ -1,0 +1,107 @@
+//! The first words of a line, in the forms that several statements have.
+#![tactic(auto, using(crate::proofs::Words::through))]
+
+ghost use Rattle.std.specs.Prelude.{◌≡◌, ℕ};
+ghost use Rattle.gv_values.specs.Fronts.{BeginsWith};
+ghost use Rattle.scenario_grammar.specs.Expressions.{expression};
+ghost use Rattle.scenario_grammar.specs.Phrases.{timed, waits, with_fault};
+ghost use Rattle.scenario_grammar.specs.Tokens.{◌⊕◌, name};
+ghost use Rattle.scenario_grammar.specs.Tokens.{number as in_range};
+ghost use Rattle.scenario_print.specs.Written.{Started};
+
+use crate::expression::push_expression;
+use crate::part::{push_marked, push_timed, push_wait};
+use crate::word::{push_first, push_name, push_number};
+use gv_values::Name;
+use scenario_grammar::Keyword;
+use scenario_tree::{Expression, Wait};
+use std::alloc::AllocError;
+
+pub(crate) fn start_name(word: Keyword, n: &Name, out: &mut Vec<u8>) -> Result<(), AllocError>
+    ensures { Started out.old.items out.new.items result word (name n.now) }
+{
+    push_first(word, out)?;
+    push_name(n, out)
+}
+
+pub(crate) fn start_number(word: Keyword, number: u64, out: &mut Vec<u8>) -> Result<(), AllocError>
+    ensures words { (least greatest : ℕ) → Started out.old.items out.new.items result word (in_range least greatest number) }
+    ensures front { BeginsWith out.new.items out.old.items }
+{
+    push_first(word, out)?;
+    push_number(number, out)
+}
+
+pub(crate) fn start_expression(
+    word: Keyword,
+    e: &Expression,
+    out: &mut Vec<u8>,
+) -> Result<(), AllocError>
+    ensures { Started out.old.items out.new.items result word (expression e.now) }
+{
+    push_first(word, out)?;
+    push_expression(e, out)
+}
+
+pub(crate) fn start_expressions(
+    word: Keyword,
+    e: &Expression,
+    f: &Expression,
+    out: &mut Vec<u8>,
+) -> Result<(), AllocError>
+    ensures { Started out.old.items out.new.items result word (expression e.now ⊕ expression f.now) }
+{
+    start_expression(word, e, out)?;
+    push_expression(f, out)
+}
+
+pub(crate) fn start_name_expression(
+    word: Keyword,
+    n: &Name,
+    e: &Expression,
+    out: &mut Vec<u8>,
+) -> Result<(), AllocError>
+    ensures { Started out.old.items out.new.items result word (name n.now ⊕ expression e.now) }
+{
+    start_name(word, n, out)?;
+    push_expression(e, out)
+}
+
+pub(crate) fn start_name_wait(
+    word: Keyword,
+    n: &Name,
+    wait: Wait,
+    out: &mut Vec<u8>,
+) -> Result<(), AllocError>
+    ensures { Started out.old.items out.new.items result word (name n.now ⊕ waits wait) }
+{
+    start_name(word, n, out)?;
+    push_wait(wait, out)
+}
+
+pub(crate) fn start_name_timed(
+    word: Keyword,
+    n: &Name,
+    time: Option<u64>,
+    out: &mut Vec<u8>,
+) -> Result<(), AllocError>
+    ensures { Started out.old.items out.new.items result word (name n.now ⊕ timed time) }
+{
+    start_name(word, n, out)?;
+    push_timed(time, out)
+}
+
+/// A kill of what the expression names, with a fault or without.
+pub(crate) fn start_kill(
+    word: Keyword,
+    e: &Expression,
+    fault: &Option<Expression>,
+    wait: Wait,
+    out: &mut Vec<u8>,
+) -> Result<(), AllocError>
+    ensures { Started out.old.items out.new.items result word (expression e.now ⊕ with_fault fault.now ⊕ waits wait) }
+{
+    start_expression(word, e, out)?;
+    push_marked(Keyword::With, fault, out)?;
+    push_wait(wait, out)
+}

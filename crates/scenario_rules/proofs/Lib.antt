@@ -1,0 +1,3 @@
+pub mod Layers
+mod Rows
+mod RuleReasons

@@ -1,0 +1,107 @@
+-- Each place of a refusal has a reason of the rules.
+use Rattle.std.proofs.Common.{◌≡◌, refl, sym, ap, ◌∙◌, ℕ, Bool, true, false, ◌&&◌, if◌then◌else◌, List, [], ◌∷◌, ◌++◌, Option, Some, None}
+use Rattle.std.specs.List.{flat_map, list_all}
+use Rattle.std.proofs.lemmas.Bool.{false≢true}
+use Rattle.std.proofs.lemmas.List.Folds.{list_all-append}
+use Rattle.scenario_tree.specs.declared.tree.Function.{Function}
+use Rattle.scenario_tree.specs.declared.tree.Scenario.{Scenario}
+use Rattle.scenario_grammar.specs.declared.place.Place.{Place}
+use Rattle.scenario_rules.specs.declared.mention.Mention.{Mention}
+use Rattle.scenario_rules.specs.declared.mention.Named.{Named}
+use Rattle.scenario_rules.specs.Declarations.{different, given_names, named_functions, named_objects, parameters, repeated}
+use Rattle.scenario_rules.specs.Mentions.{mentions}
+use Rattle.scenario_rules.specs.Reasons.{declared_twice, hub_in_raw_body, is_rule_reason, timeouts_too_deep, too_many, undeclared, wrong_count, wrong_kind}
+use Rattle.scenario_rules.specs.Rules.{IsWellFormed, earlier, first_after, function_refusals, is_before, is_hub_in_raw_body, is_too_deep, is_undeclared, is_wrong_count, is_wrong_head, is_wrong_kind, most_functions, most_local_names, most_objects, most_parameters, past, place_of, refusals, refused, refused_names, word_refusals}
+
+-- the place has a reason of the rules
+abbrev is_by_rule : Place → Bool
+is_by_rule p = is_rule_reason p.reason
+
+abbrev are_by_rule : List Place → Bool
+are_by_rule ps = list_all is_by_rule ps
+
+-- each place has
+record AreByRule (ps : List Place) : Type 0 where
+  each : are_by_rule ps ≡ true
+
+both_by_rule : (xs ys : List Place) → AreByRule xs → AreByRule ys → AreByRule (xs ++ ys)
+both_by_rule xs ys hx hy = record { each = list_all-append is_by_rule xs ys ∙ ap (λ a. a && are_by_rule ys) hx.each ∙ hy.each }
+
+each_by_rule : {A : Type 0} (f : A → List Place) → ((x : A) → AreByRule (f x)) → (xs : List A) → AreByRule (flat_map f xs)
+each_by_rule f each [] = record { each = refl }
+each_by_rule f each (x ∷ xs) = both_by_rule (f x) (flat_map f xs) (each x) (each_by_rule f each xs)
+
+refused_by_rule : (reason line : ℕ) (so : Bool) → is_rule_reason reason ≡ true → AreByRule (refused reason line so)
+refused_by_rule reason line true h = record { each = ap (λ a. a && true) h }
+refused_by_rule reason line false h = record { each = refl }
+
+names_by_rule : (reason : ℕ) (names : List Named) → is_rule_reason reason ≡ true → AreByRule (refused_names reason names)
+names_by_rule reason names h = record { each = by names }
+  where
+    by : (names : List Named) → are_by_rule (refused_names reason names) ≡ true
+    by [] = refl
+    by (n ∷ names) = ap (λ a. a && are_by_rule (refused_names reason names)) h ∙ by names
+
+word_by_rule : (s : Scenario) (f : Function) (m : Mention) → AreByRule (word_refusals s f m)
+word_by_rule s f m =
+    both_by_rule _ (refused timeouts_too_deep m.line (is_too_deep s f m.says))
+    (both_by_rule _ (refused hub_in_raw_body m.line (is_hub_in_raw_body s f m.says))
+    (both_by_rule _ (refused wrong_count m.line (is_wrong_count s f m.says))
+    (both_by_rule (refused undeclared m.line (is_undeclared s f m.says)) (refused wrong_kind m.line (is_wrong_kind s f m.says))
+    (refused_by_rule undeclared m.line (is_undeclared s f m.says) refl) (refused_by_rule wrong_kind m.line (is_wrong_kind s f m.says) refl))
+    (refused_by_rule wrong_count m.line (is_wrong_count s f m.says) refl)) (refused_by_rule hub_in_raw_body m.line (is_hub_in_raw_body s f m.says) refl)) (refused_by_rule timeouts_too_deep m.line (is_too_deep s f m.says) refl)
+
+function_by_rule : (s : Scenario) (f : Function) → AreByRule (function_refusals s f)
+function_by_rule s f =
+    both_by_rule _ (flat_map (word_refusals s f) (mentions f))
+    (both_by_rule _ (refused_names too_many (past most_local_names (different (given_names f))))
+    (both_by_rule _ (refused_names too_many (past most_parameters (parameters f)))
+    (both_by_rule (refused_names declared_twice (repeated (parameters f))) (refused wrong_count f.line (is_wrong_head f))
+    (names_by_rule declared_twice (repeated (parameters f)) refl) (refused_by_rule wrong_count f.line (is_wrong_head f) refl))
+    (names_by_rule too_many (past most_parameters (parameters f)) refl))
+    (names_by_rule too_many (past most_local_names (different (given_names f))) refl))
+    (each_by_rule (word_refusals s f) (word_by_rule s f) (mentions f))
+
+all_by_rule : (s : Scenario) → AreByRule (refusals s)
+all_by_rule s =
+    both_by_rule _ (flat_map (function_refusals s) s.functions)
+    (both_by_rule _ (refused_names declared_twice (repeated (named_objects s ++ named_functions s)))
+    (both_by_rule (refused_names too_many (past most_objects (named_objects s))) (refused_names too_many (past most_functions (named_functions s)))
+    (names_by_rule too_many (past most_objects (named_objects s)) refl) (names_by_rule too_many (past most_functions (named_functions s)) refl))
+    (names_by_rule declared_twice (repeated (named_objects s ++ named_functions s)) refl))
+    (each_by_rule (function_refusals s) (function_by_rule s) s.functions)
+
+-- the earlier of two places is one of them
+earlier_by_rule : (p q : Place) → is_by_rule p ≡ true → is_by_rule q ≡ true → is_by_rule (earlier (Some p) q) ≡ true
+earlier_by_rule p q hp hq = by (is_before q p)
+  where
+    by : (b : Bool) → is_by_rule (if b then q else p) ≡ true
+    by true = hq
+    by false = hp
+
+-- of two that are one after the other both
+both_of : (a b : Bool) → a && b ≡ true → (a ≡ true) × (b ≡ true)
+both_of true b h = (refl, h)
+both_of false b h = absurd (false≢true h)
+
+abbrev reason_of : Option Place → Bool
+reason_of None = true
+reason_of (Some p) = is_by_rule p
+
+first_by_rule : (p : Place) (ps : List Place) → is_by_rule p ≡ true → are_by_rule ps ≡ true → reason_of (first_after (Some p) ps) ≡ true
+first_by_rule p [] hp all = hp
+first_by_rule p (q ∷ ps) hp all =
+    let b = both_of (is_by_rule q) (are_by_rule ps) all in
+    first_by_rule (earlier (Some p) q) ps (earlier_by_rule p q hp b.0) b.1
+
+pub place_by_rule : (s : Scenario) (p : Place) → place_of s ≡ Some p → is_rule_reason p.reason ≡ true
+unfolding place_of
+place_by_rule s p e = sym (ap reason_of e) ∙ by (refusals s) (all_by_rule s).each
+  where
+    by : (ps : List Place) → are_by_rule ps ≡ true → reason_of (first_after None ps) ≡ true
+    by [] all = refl
+    by (q ∷ ps) all = let b = both_of (is_by_rule q) (are_by_rule ps) all in first_by_rule q ps b.0 b.1
+
+pub no_place : (s : Scenario) → IsWellFormed s → place_of s ≡ None
+unfolding place_of IsWellFormed
+no_place s w = ap (first_after None) w

@@ -1,0 +1,12 @@
+//! The rules that a scenario keeps beyond its grammar: each name is declared, once, as what it is
+//! used for and with the right count; raw bodies leave the hub alone; timeout blocks and
+//! declarations keep their limits.
+#![tactic(auto)]
+
+mod declared;
+mod laws;
+mod mention;
+
+pub use declared::Declared;
+pub use laws::{rules_have_reasons, well_formed_scenarios_have_no_place};
+pub use mention::{Mention, Named, Says, Wanted};

@@ -1,7 +1,0 @@
-use Rattle.std.proofs.Common.{◌≡◌, drop}
-use Rattle.std.specs.List.{find}
-use Rattle.scenario_grammar.specs.Keywords.{is_spelled}
-use Rattle.scenario_words.proofs.keyword.first_spelled.Given as goal
-
-abbrev pub invariant-loop-keyword : goal.invariant-loop-keyword
-invariant-loop-keyword l = find (is_spelled l.word) (drop l.keyword-index l.keywords) ≡ find (is_spelled l.word) l.keywords
