@@ -1,5 +1,5 @@
 -- Each step can be answered.
-use Rattle.std.proofs.Common.{◌≡◌, subst, sym, ℕ, zero, suc, List, [], ◌∷◌, ℤ, pos, negsuc}
+use Rattle.std.proofs.Common.{◌≡◌, subst, sym, ℕ, zero, suc, List, [], ◌∷◌, pos, negsuc}
 use Rattle.gv_values.specs.declared.value.Outcome.{Outcome}
 use Rattle.gv_values.specs.declared.value.Value.{Value}
 use Rattle.hub_machine.specs.declared.state.Leaving.{Leaving}

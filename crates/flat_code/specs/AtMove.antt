@@ -1,5 +1,5 @@
 -- Where a body that goes on by itself stands.
-use Rattle.std.specs.Prelude.{List, [], ◌∷◌, ⊤}
+use Rattle.std.specs.Prelude.{List, ◌∷◌, ⊤}
 use Rattle.hub_machine.specs.declared.state.Todo.{Todo}
 use Rattle.hub_machine.specs.Bodies.{Body}
 use Rattle.hub_machine.specs.Raising.{Unwound}

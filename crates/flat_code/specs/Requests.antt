@@ -1,5 +1,4 @@
 -- What a step of the code stands for.
-use Rattle.scenario_tree.specs.declared.tree.LinkKind.{LinkKind as LinkWord}
 use Rattle.gv_values.specs.declared.value.Outcome.{Outcome}
 use Rattle.gv_values.specs.declared.value.Value.{Value}
 use Rattle.hub_machine.specs.declared.items.LinkKind.{LinkKind}

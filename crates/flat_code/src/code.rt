@@ -1,11 +1,11 @@
 ghost use Rattle.std.specs.Prelude.{◌≡◌, ◌<◌, ◌≤◌, ◌^◌, length, IfOk};
 ghost use Rattle.hub_machine.specs.Expressions.{object_number, function_number};
-ghost use Rattle.flat_code.specs.Small.{IsSmall};
 ghost use Rattle.flat_code.specs.Answers.{IsFunction, function_at};
 
 use crate::copies::copy_block;
 use crate::locals::name_eq;
 use gv_values::Name;
+use scenario_check::Checked;
 use scenario_tree::{Declaration, Function, Items, Scenario};
 use std::alloc::{AllocError, Global};
 use std::marker::Model;
@@ -35,10 +35,11 @@ impl Model for Code {
 }
 
 /// The code of a scenario.
-pub fn compile(alloc: Global, scenario: &Scenario) -> Result<Code, AllocError>
-    requires small { IsSmall scenario.now }
-    ensures { IfOk result (λ code. code ≡ scenario.now) }
+#[tactic(auto, using(crate::proofs::Limits::well_formed_is_small))]
+pub fn compile(alloc: Global, checked: &Checked) -> Result<Code, AllocError>
+    ensures { IfOk result (λ code. code ≡ checked.now) }
 {
+    let scenario = checked.scenario().tree();
     Ok(Code {
         scenario: Scenario {
             profile: scenario.profile,

@@ -1,12 +1,15 @@
 //! The operators of expressions, on values.
-ghost use Rattle.std.specs.Prelude.{◌≡◌, IfOk, Ok as Fine};
+ghost use Rattle.std.specs.Prelude.{◌≡◌, ◌<◌, length, IfOk, Ok as Fine};
+ghost use Rattle.gv_values.specs.declared.value.Outcome.{Outcome as Outcomes};
 ghost use Rattle.std.specs.Option.{option_copied};
 ghost use Rattle.scenario_tree.specs.declared.tree.Binary.{Binary as Operator};
 ghost use Rattle.hub_machine.specs.Expressions.{unary, binary, query, of_whom, listed, with_value};
 ghost use Rattle.flat_code.specs.Operators.{told};
 
 use crate::look::Look;
-use gv_values::{Arith, FaultKind, LIST_LIMIT, List, Outcome, Value, Whom, arithmetic};
+use gv_values::{
+    Arith, FaultKind, LIST_LIMIT, List, Outcome, PushRefusal, Value, Whom, arithmetic,
+};
 use scenario_tree::{Binary, Query, Unary};
 use std::alloc::{AllocError, Global};
 
@@ -154,13 +157,11 @@ fn push(a: Value, b: &Value) -> Result<Outcome, AllocError>
             let mut list = list;
             match b.scalar() {
                 None => Ok(Outcome::Fault(FaultKind::TypeError)),
-                Some(scalar) => {
-                    if list.scalars().len() >= LIST_LIMIT {
-                        return Ok(Outcome::Fault(FaultKind::ValueError));
-                    }
-                    list.push(scalar).map_err(|_| AllocError)?;
-                    Ok(Outcome::Value(Value::List(list)))
-                }
+                Some(scalar) => match list.push(scalar) {
+                    Ok(()) => Ok(Outcome::Value(Value::List(list))),
+                    Err(PushRefusal::Full) => Ok(Outcome::Fault(FaultKind::ValueError)),
+                    Err(PushRefusal::Memory) => Err(AllocError),
+                },
             }
         }
         _ => Ok(Outcome::Fault(FaultKind::TypeError)),
@@ -201,16 +202,37 @@ pub fn query<L: Look>(look: &L, question: Query, object: u32) -> Value
     }
 }
 
-/// The list of these values, none of which may be a list.
+/// The list of these values: none of them may be a list, and there may be no more than a list holds.
 pub fn listed(alloc: Global, values: &[Value]) -> Result<Outcome, AllocError>
     ensures { IfOk result (λ o. o ≡ listed (Fine values.now)) }
 {
+    if values.len() > LIST_LIMIT {
+        return Ok(Outcome::Fault(refusal_of_many(values)));
+    }
     let mut list = List::new(alloc);
     for value in values {
-        match value.scalar() {
-            Some(scalar) => list.push(scalar).map_err(|_| AllocError)?,
-            None => return Ok(Outcome::Fault(FaultKind::TypeError)),
+        let Some(scalar) = value.scalar() else {
+            return Ok(Outcome::Fault(FaultKind::TypeError));
+        };
+        match list.push(scalar) {
+            Ok(()) => {}
+            Err(PushRefusal::Memory) => return Err(AllocError),
+            Err(PushRefusal::Full) => unreachable!(),
         }
     }
     Ok(Outcome::Value(Value::List(list)))
+}
+
+/// Why more values than a list holds are no list: a list among them comes before their number.
+#[tactic(auto, using(crate::proofs::Operands::listed_mixed, crate::proofs::Operands::stays_some))]
+fn refusal_of_many(values: &[Value]) -> FaultKind
+    requires { 64 < length values.now }
+    ensures { Outcomes.Fault result ≡ listed (Fine values.now) }
+{
+    for value in values {
+        if value.scalar().is_none() {
+            return FaultKind::TypeError;
+        }
+    }
+    FaultKind::ValueError
 }

@@ -1,14 +1,18 @@
 -- From the parts of the call to its verdict.
-use Rattle.std.proofs.Common.{◌≡◌, ◌≢◌, ℕ, Bool, true, false, List, ◌++◌, take, drop, Option, Some, None, Result, Ok, Err, refl, ap, sym, subst, ◌∙◌, unwrap_or, IfSome, take-append-drop}
+use Rattle.std.proofs.Common.{◌≡◌, ◌≢◌, ℕ, List, ◌++◌, take, drop, Option, Some, None, Ok, Err, refl, ap, sym, subst, ◌∙◌, unwrap_or, IfSome, take-append-drop}
 use Rattle.std.proofs.lemmas.List.{append_cancel_left}
 use Rattle.trace_text.specs.LineTexts.{text_of}
 use Rattle.trace_text.specs.declared.line.StopCause.{StopCause}
 use Rattle.scenario_tree.specs.declared.tree.Scenario.{Scenario}
-use Rattle.gv_io.specs.Streams.{appended, prepended}
+use Rattle.gv_io.specs.Streams.{prepended, AppendsPrefix}
 use Rattle.gv_io.proofs.StreamLaws.{appended-nothing, AppendsPrefix-all, AppendsPrefix-nothing}
-use Rattle.hub_machine.specs.Run.{Ran, End as RunEnd}
+use Rattle.built_forms.specs.Built.{first_unbuilt}
+use Rattle.hub_machine.specs.Run.{Ran, End as RunEnd, script_run}
+use Rattle.hub_machine.specs.Status.{status, err_line}
+use Rattle.hub_engine.specs.declared.run.Budgets.{Budgets}
 use Rattle.hub_engine.specs.declared.run.End.{End}
-use Rattle.hub_engine.specs.Ends.{end_of, end_of_run}
+use Rattle.hub_engine.specs.Ends.{RanTo, end_of, end_of_run}
+use Rattle.hub_engine.specs.Prepared.{Prepared}
 use Rattle.gv_top.specs.declared.words.Command.{Command}
 use Rattle.gv_top.specs.declared.status.Verdict.{Verdict}
 use Rattle.scenario_grammar.specs.declared.place.Place.{Place}
@@ -17,58 +21,36 @@ use Rattle.scenario_lang.specs.declared.text.ParseRefusal.TheVariants as parse
 use Rattle.scenario_lang.specs.Lines.{Parses}
 use Rattle.gv_top.specs.declared.words.TextCommand.{TextCommand}
 use Rattle.gv_top.proofs.ReadTexts.{answer_by, run_if}
-use Rattle.gv_top.specs.Answers.{Answer, answer_to, answer_to_scenario, answer_to_text, answer_of_run, has_first_form, judged, most_read, run_of, status, status_of_cause, err_line, err_of_cause}
+use Rattle.gv_top.specs.Answers.{Answer, answer_to, answer_to_scenario, answer_to_text, answer_of_run, err_of, judged, most_read, run_of, status_of}
 use Rattle.gv_top.specs.Verdicts.{IsExplained, IsRefusedWithReason, number_of, line_of, verdict_on}
-use Rattle.gv_top.specs.Top.{RanTo, Decided}
+use Rattle.gv_top.specs.Top.{Decided}
 
 -- ---- the run
 
--- out has the whole trace at the end of a run
-pub ran_whole : (end : End) (r : Ran) (old new : Option (List ℕ)) → new ≡ appended old (text_of r.lines) → Some end ≡ end_of_run r.end → RanTo end r old new
-ran_whole End.WriteFault r old new w e = AppendsPrefix-all old new (text_of r.lines) w
-ran_whole End.Memory r old new w e = AppendsPrefix-all old new (text_of r.lines) w
-ran_whole End.MainValue r old new w e = (w, e)
-ran_whole (End.MainFault f) r old new w e = (w, e)
-ran_whole End.NoTurns r old new w e = (w, e)
-ran_whole End.NoMoves r old new w e = (w, e)
-ran_whole End.NoGreenlets r old new w e = (w, e)
-ran_whole End.NoLinks r old new w e = (w, e)
-ran_whole End.NoKills r old new w e = (w, e)
+-- out has a prefix of the trace, whatever the end
+pub prefix_of_trace : (end : End) (r : Ran) (old new : Option (List ℕ)) → RanTo end r old new → AppendsPrefix old new (text_of r.lines)
+prefix_of_trace End.WriteFault r old new h = h
+prefix_of_trace End.Memory r old new h = h
+prefix_of_trace End.MainValue r old new h = AppendsPrefix-all old new (text_of r.lines) h.0
+prefix_of_trace (End.MainFault f) r old new h = AppendsPrefix-all old new (text_of r.lines) h.0
+prefix_of_trace End.NoTurns r old new h = AppendsPrefix-all old new (text_of r.lines) h.0
+prefix_of_trace End.NoMoves r old new h = AppendsPrefix-all old new (text_of r.lines) h.0
+prefix_of_trace End.NoGreenlets r old new h = AppendsPrefix-all old new (text_of r.lines) h.0
+prefix_of_trace End.NoLinks r old new h = AppendsPrefix-all old new (text_of r.lines) h.0
+prefix_of_trace End.NoKills r old new h = AppendsPrefix-all old new (text_of r.lines) h.0
 
-is_write_fault : Option End → Bool
-is_write_fault (Some End.WriteFault) = true
-is_write_fault o = false
-
-no_cause_is_a_write : (cause : StopCause) → is_write_fault (Some (end_of cause)) ≡ false
-unfolding is_write_fault
-no_cause_is_a_write (StopCause.Value v) = refl
-no_cause_is_a_write (StopCause.Fault f) = refl
-no_cause_is_a_write StopCause.NoTurns = refl
-no_cause_is_a_write StopCause.NoMoves = refl
-no_cause_is_a_write StopCause.NoGreenlets = refl
-no_cause_is_a_write StopCause.NoLinks = refl
-no_cause_is_a_write StopCause.NoKills = refl
-
-no_run_ends_so : (e : RunEnd) → is_write_fault (end_of_run e) ≡ false
-unfolding is_write_fault
-no_run_ends_so (RunEnd.Stopped cause) = no_cause_is_a_write cause
-no_run_ends_so RunEnd.Asking = refl
-
-write_is_one : is_write_fault (Some End.WriteFault) ≡ true
-unfolding is_write_fault
-write_is_one = refl
-
-true_is_not_false : (b : Bool) → b ≡ true → b ≡ false → ⊥
-true_is_not_false true e f = cc
-true_is_not_false false e f = cc
-
--- no run of the machine ends by a write fault
-pub no_run_ends_by_a_write : (e : RunEnd) → Some End.WriteFault ≡ end_of_run e → ⊥
-no_run_ends_by_a_write e h = true_is_not_false _ write_is_one (ap is_write_fault h ∙ no_run_ends_so e)
+-- where out could not be handed on after the run, it has a prefix of the trace
+pub cut_at_the_flush : (end : End) (engine : Prepared) (budgets : Budgets) (s : Scenario) (old middle new : Option (List ℕ))
+    → engine ≡ record { scenario = s; turns = budgets.turns; moves = budgets.moves } → RanTo end (script_run engine.scenario engine.turns engine.moves 0) old middle
+    → new ≡ middle → RanTo End.WriteFault (run_of budgets s) old new
+cut_at_the_flush end engine budgets s old middle new e h is =
+    let P : Prepared → Type 0 = λ x. RanTo end (script_run x.scenario x.turns x.moves 0) old middle in
+    let Q : Option (List ℕ) → Type 0 = λ x. AppendsPrefix old x (text_of (run_of budgets s).lines) in
+    subst Q (sym is) (prefix_of_trace end (run_of budgets s) old middle (subst P e h))
 
 -- ---- the verdict of a run
 
-status_of_end : (cause : StopCause) → number_of (Verdict.Ran (end_of cause)) ≡ status_of_cause cause
+status_of_end : (cause : StopCause) → number_of (Verdict.Ran (end_of cause)) ≡ status cause
 status_of_end (StopCause.Value v) = refl
 status_of_end (StopCause.Fault f) = refl
 status_of_end StopCause.NoTurns = refl
@@ -77,7 +59,7 @@ status_of_end StopCause.NoGreenlets = refl
 status_of_end StopCause.NoLinks = refl
 status_of_end StopCause.NoKills = refl
 
-line_of_end : (cause : StopCause) → line_of (Verdict.Ran (end_of cause)) ≡ err_of_cause cause
+line_of_end : (cause : StopCause) → line_of (Verdict.Ran (end_of cause)) ≡ err_line cause
 line_of_end (StopCause.Value v) = refl
 line_of_end (StopCause.Fault f) = refl
 line_of_end StopCause.NoTurns = refl
@@ -92,11 +74,11 @@ same_end end cause e = ap (λ (o : Option End). unwrap_or o end) e
 none_is_none : (end : End) → Some end ≡ None → ⊥
 none_is_none end e = cc
 
-number_is : (end : End) (e : RunEnd) → Some end ≡ end_of_run e → number_of (Verdict.Ran end) ≡ status e
+number_is : (end : End) (e : RunEnd) → Some end ≡ end_of_run e → number_of (Verdict.Ran end) ≡ status_of e
 number_is end (RunEnd.Stopped cause) h = ap (λ (x : End). number_of (Verdict.Ran x)) (same_end end cause h) ∙ status_of_end cause
 number_is end RunEnd.Asking h = absurd (none_is_none end h)
 
-line_is : (end : End) (e : RunEnd) → Some end ≡ end_of_run e → line_of (Verdict.Ran end) ≡ err_line e
+line_is : (end : End) (e : RunEnd) → Some end ≡ end_of_run e → line_of (Verdict.Ran end) ≡ err_of e
 line_is end (RunEnd.Stopped cause) h = ap (λ (x : End). line_of (Verdict.Ran x)) (same_end end cause h) ∙ line_of_end cause
 line_is end RunEnd.Asking h = absurd (none_is_none end h)
 
@@ -121,13 +103,10 @@ refused_decided command bytes p old e =
     let P : Answer → Type 0 = λ a. Decided (Verdict.Refused p) a old old in subst P (sym (ap (answer_by command bytes) e)) (sym (appended-nothing old), refl, refl)
 
 -- the text was judged so, and its scenario decided
-pub judged_decided : (command : TextCommand) (bytes : List ℕ) (t s : Scenario) (v : Verdict) (old new : Option (List ℕ)) → judged bytes ≡ Ok s → t ≡ s
-    → Decided v (answer_to_scenario command t) old new → Decided v (answer_to_text command bytes) old new
+pub judged_decided : (command : TextCommand) (bytes : List ℕ) (s : Scenario) (v : Verdict) (old new : Option (List ℕ)) → judged bytes ≡ Ok s
+    → Decided v (answer_to_scenario command s) old new → Decided v (answer_to_text command bytes) old new
 unfolding answer_to_text
-judged_decided command bytes t s v old new e is h =
-    let P : Answer → Type 0 = λ a. Decided v a old new in
-    let Q : Scenario → Type 0 = λ x. Decided v (answer_to_scenario command x) old new in
-    subst P (sym (ap (answer_by command bytes) e)) (subst Q is h)
+judged_decided command bytes s v old new e h = let P : Answer → Type 0 = λ a. Decided v a old new in subst P (sym (ap (answer_by command bytes) e)) h
 
 pub refusal_decided : (command : TextCommand) (bytes : List ℕ) (e : ParseRefusal) (v : Verdict) (old : Option (List ℕ)) → v ≡ verdict_on e → Parses (judged bytes) (Err e)
     → Decided v (answer_to_text command bytes) old old
@@ -152,23 +131,22 @@ refusal_explained e v is h = subst IsExplained (sym is) (by e h)
     by (parse.Refused p) h = h
     by parse.Memory h = tt
 
-pub first_form_decided : (s : Scenario) (end : End) (old new : Option (List ℕ)) → has_first_form s ≡ true → RanTo end (run_of s) old new
-    → Decided (Verdict.Ran end) (answer_to_scenario TextCommand.Run s) old new
-first_form_decided s end old new e h =
-    let P : Answer → Type 0 = λ a. Decided (Verdict.Ran end) a old new in subst P (sym (ap (run_if s) e)) (run_decided end (run_of s) old new h)
+-- a scenario all of whose forms are run is run
+pub built_decided : (budgets : Budgets) (s : Scenario) (end : End) (old new : Option (List ℕ)) → first_unbuilt s ≡ None → RanTo end (run_of budgets s) old new
+    → Decided (Verdict.Ran end) (answer_to_scenario (TextCommand.Run budgets) s) old new
+built_decided budgets s end old new e h =
+    let P : Answer → Type 0 = λ a. Decided (Verdict.Ran end) a old new in subst P (sym (ap (run_if budgets s) e)) (run_decided end (run_of budgets s) old new h)
 
-pub other_form_decided : (s : Scenario) (old : Option (List ℕ)) → has_first_form s ≡ false
-    → Decided Verdict.NoFirstForm (answer_to_scenario TextCommand.Run s) old old
-other_form_decided s old e =
-    let P : Answer → Type 0 = λ a. Decided Verdict.NoFirstForm a old old in subst P (sym (ap (run_if s) e)) (sym (appended-nothing old), refl, refl)
+-- another is not
+pub unbuilt_decided : (budgets : Budgets) (s : Scenario) (n : ℕ) (old : Option (List ℕ)) → first_unbuilt s ≡ Some n
+    → Decided (Verdict.NotBuilt n) (answer_to_scenario (TextCommand.Run budgets) s) old old
+unbuilt_decided budgets s n old e =
+    let P : Answer → Type 0 = λ a. Decided (Verdict.NotBuilt n) a old old in subst P (sym (ap (run_if budgets s) e)) (sym (appended-nothing old), refl, refl)
 
--- what is decided of `run` and a scenario is decided of a command and a scenario that are these
-pub run_of_these : (command : TextCommand) (t s : Scenario) (v : Verdict) (old new : Option (List ℕ)) → command ≡ TextCommand.Run → t ≡ s
-    → Decided v (answer_to_scenario TextCommand.Run t) old new → Decided v (answer_to_scenario command s) old new
-run_of_these command t s v old new is e h =
-    let P : Scenario → Type 0 = λ x. Decided v (answer_to_scenario TextCommand.Run x) old new in
-    let Q : TextCommand → Type 0 = λ d. Decided v (answer_to_scenario d s) old new in
-    subst Q (sym is) (subst P e h)
+-- what is decided of a command is decided of one that is the same
+pub decided_of_this : (command given : TextCommand) (s : Scenario) (v : Verdict) (old new : Option (List ℕ)) → command ≡ given
+    → Decided v (answer_to_scenario given s) old new → Decided v (answer_to_scenario command s) old new
+decided_of_this command given s v old new is h = let Q : TextCommand → Type 0 = λ d. Decided v (answer_to_scenario d s) old new in subst Q (sym is) h
 
 -- ---- the verdict of a command
 

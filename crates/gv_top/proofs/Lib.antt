@@ -1,6 +1,5 @@
-pub mod Bodies
-pub mod Operands
 pub mod Tops
 pub mod ReadTexts
 pub mod Deciding
 pub mod Reasons
+pub mod Budgets

@@ -1,8 +1,7 @@
 -- What is answered to a text: its scenario's run or printed form, or the place where it is refused.
-use Rattle.std.proofs.Common.{◌≡◌, ℕ, Bool, true, false, ◌⊎◌, inl, inr, ◌&&◌, List, Option, Some, None, Result, Ok, Err, refl, ap, sym, subst, ◌∙◌, take, if◌then◌else◌}
+use Rattle.std.proofs.Common.{◌≡◌, ℕ, inl, inr, List, Option, Some, None, Result, Ok, Err, refl, ap, subst, ◌∙◌, take}
 use Rattle.scenario_tree.specs.declared.tree.Scenario.{Scenario}
 use Rattle.scenario_grammar.specs.declared.place.Place.{Place}
-use Rattle.scenario_grammar.specs.FirstForm.{is_first_form}
 use Rattle.scenario_grammar.specs.Parsed.{reading}
 use Rattle.scenario_grammar.specs.Spells.{Spells}
 use Rattle.scenario_grammar.proofs.Complete.{complete}
@@ -10,10 +9,11 @@ use Rattle.scenario_grammar.proofs.Placed.{refused_there}
 use Rattle.scenario_grammar.proofs.Sound.{sound}
 use Rattle.scenario_rules.specs.Rules.{IsWellFormed, place_of}
 use Rattle.scenario_check.proofs.FirstPlace.{well_formed, not_well_formed}
-use Rattle.gv_top.specs.FirstNames.{are_named}
-use Rattle.gv_top.specs.FirstTexts.{IsFirstText, IsRefusedAt}
+use Rattle.built_forms.specs.Built.{first_unbuilt}
+use Rattle.hub_engine.specs.declared.run.Budgets.{Budgets}
+use Rattle.gv_top.specs.Refusals.{IsRefusedAt}
 use Rattle.gv_top.specs.Top.{IsAnswered}
-use Rattle.gv_top.specs.Answers.{Answer, answer_to, answer_to_scenario, answer_to_text, answer_of_run, checked, formatted, has_first_form, judged, most_read, run_of, no_first_form, refusal}
+use Rattle.gv_top.specs.Answers.{Answer, answer_to, answer_to_scenario, answer_to_text, answer_of_run, checked, judged, most_read, not_built, run_of, refusal}
 use Rattle.gv_top.specs.declared.words.Command.{Command}
 use Rattle.gv_top.specs.declared.words.TextCommand.{TextCommand}
 
@@ -52,24 +52,19 @@ pub answered_as : (command : TextCommand) (s : Scenario) (bytes : List ℕ) → 
 unfolding answer_to_text
 answered_as command s bytes t w = ap (answer_by command bytes) (spelt_is_judged s bytes t w)
 
-abbrev pub run_if : Scenario → Bool → Answer
-run_if s first = if first then answer_of_run (run_of s) else no_first_form
+-- what `run` answers to a scenario of which this is the first line that is not run
+abbrev pub run_if : Budgets → Scenario → Option ℕ → Answer
+run_if budgets s o = elim o as (λ x. Answer) [ Some n ↦ not_built n | None ↦ answer_of_run (run_of budgets s) ]
 
-both_pass : (a b : Bool) → a ≡ true → b ≡ true → a && b ≡ true
-both_pass a b x y = rw x (rw y refl)
+-- a text all of whose forms are run is run
+pub runs_the_text : (budgets : Budgets) (s : Scenario) (bytes : List ℕ) → Spells s bytes → IsWellFormed s → first_unbuilt s ≡ None
+    → answer_to_text (TextCommand.Run budgets) bytes ≡ answer_of_run (run_of budgets s)
+runs_the_text budgets s bytes t w e = answered_as (TextCommand.Run budgets) s bytes t w ∙ ap (run_if budgets s) e
 
--- a text of the first form is run
-pub runs_the_text : (s : Scenario) (bytes : List ℕ) → IsFirstText s bytes → answer_to_text TextCommand.Run bytes ≡ answer_of_run (run_of s)
-runs_the_text s bytes t = answered_as TextCommand.Run s bytes t.text t.well_formed ∙ ap (run_if s) (both_pass _ _ t.form t.names)
-
--- a text of a well-formed scenario of another form is not
-pub runs_no_other : (s : Scenario) (bytes : List ℕ) → Spells s bytes → IsWellFormed s → (IsFirstText s bytes → ⊥) → answer_to_text TextCommand.Run bytes ≡ no_first_form
-runs_no_other s bytes t w other = answered_as TextCommand.Run s bytes t w ∙ by _ _ refl refl
-  where
-    by : (a b : Bool) → is_first_form s ≡ a → are_named s ≡ b → run_if s (has_first_form s) ≡ no_first_form
-    by true true form names = absurd (other (record { text = t; well_formed = w; form = form; names = names }))
-    by false b form names = ap (λ a. run_if s (a && are_named s)) form
-    by true false form names = ap (λ a. run_if s (a && are_named s)) form ∙ ap (run_if s) names
+-- a text that has others is not
+pub runs_no_other : (budgets : Budgets) (s : Scenario) (bytes : List ℕ) (n : ℕ) → Spells s bytes → IsWellFormed s → first_unbuilt s ≡ Some n
+    → answer_to_text (TextCommand.Run budgets) bytes ≡ not_built n
+runs_no_other budgets s bytes n t w e = answered_as (TextCommand.Run budgets) s bytes t w ∙ ap (run_if budgets s) e
 
 -- bytes that are no text of a well-formed scenario are refused at their place
 record Refused (command : TextCommand) (bytes : List ℕ) (p : Place) : Type 0 where

@@ -1,12 +1,13 @@
--- Each refusal has one of the reasons that have a text.
-use Rattle.std.proofs.Common.{◌≡◌, ◌≤◌, refl, ap, sym, ◌∙◌, ℕ, Bool, true, false, ◌||◌, ◌&&◌, ◌==◌, List, Option, Some, None, Result, Ok, Err, IfErr, nat_le, nat_eq, arith}
+-- What was read and checked: it is spelt, and each refusal has one of the reasons that have a text.
+use Rattle.std.proofs.Common.{◌≡◌, ℕ, true, List, Some, Result, Ok, Err, IfErr, IfOk, sym, subst, arith}
 use Rattle.scenario_tree.specs.declared.tree.Scenario.{Scenario}
 use Rattle.scenario_grammar.specs.declared.place.Place.{Place}
 use Rattle.scenario_grammar.specs.Parsed.{reading}
 use Rattle.scenario_grammar.specs.Refusals.{is_text_reason}
 use Rattle.scenario_lang.specs.declared.text.ParseRefusal.{ParseRefusal}
 use Rattle.scenario_lang.specs.declared.text.ParseRefusal.TheVariants as parse
-use Rattle.scenario_lang.specs.Lines.{Parses}
+use Rattle.scenario_grammar.specs.Spells.{Spells}
+use Rattle.scenario_lang.specs.Lines.{IsSpelt, Parses}
 use Rattle.scenario_check.specs.Checks.{IsPlaced}
 use Rattle.scenario_rules.specs.Reasons.{is_rule_reason}
 use Rattle.scenario_rules.specs.Rules.{place_of}
@@ -28,3 +29,8 @@ pub placed_has_reason : ((s : Scenario) (p : Place) → place_of s ≡ Some p �
 placed_has_reason law s (Ok c) h = tt
 placed_has_reason law s (Err (parse.Refused p)) h = rule_reason p (law s p h.0)
 placed_has_reason law s (Err parse.Memory) h = tt
+
+-- the scenario that was checked is the one that the bytes spell
+pub still_spelt : (bytes : List ℕ) (s : Scenario) (r : Result Scenario ParseRefusal) → Spells s bytes → IfOk r (λ c. c ≡ s) → IsSpelt bytes r
+still_spelt bytes s (Ok c) t e = let P : Scenario → Type 0 = λ x. Spells x bytes in subst P (sym e) t
+still_spelt bytes s (Err e) t h = tt

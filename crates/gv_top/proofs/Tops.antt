@@ -19,7 +19,7 @@ decided : (v : Verdict) (a : Answer) (old new : Option (List ℕ)) → Decided v
 decided Verdict.Usage a old new d = inl d
 decided Verdict.ReadFault a old new d = inr (record { prefix = d; number = inl refl })
 decided (Verdict.Refused place) a old new d = inl d
-decided Verdict.NoFirstForm a old new d = inl d
+decided (Verdict.NotBuilt n) a old new d = inl d
 decided Verdict.Formatted a old new d = inl d
 decided (Verdict.Ran End.MainValue) a old new d = inl d
 decided (Verdict.Ran (End.MainFault f)) a old new d = inl d
@@ -77,7 +77,7 @@ line_of_read : (v : Verdict) → number_of v ≡ 4 → line_of v ≡ read_fault_
 line_of_read Verdict.Usage e = absurd (omega arith)
 line_of_read Verdict.ReadFault e = refl
 line_of_read (Verdict.Refused place) e = absurd (omega arith)
-line_of_read Verdict.NoFirstForm e = absurd (omega arith)
+line_of_read (Verdict.NotBuilt n) e = absurd (omega arith)
 line_of_read Verdict.Formatted e = absurd (omega arith)
 line_of_read (Verdict.Ran End.MainValue) e = absurd (omega arith)
 line_of_read (Verdict.Ran (End.MainFault f)) e = absurd (omega arith)
@@ -98,7 +98,7 @@ line_of_memory : (v : Verdict) → number_of v ≡ 7 → line_of v ≡ memory_li
 line_of_memory Verdict.Usage e = absurd (omega arith)
 line_of_memory Verdict.ReadFault e = absurd (omega arith)
 line_of_memory (Verdict.Refused place) e = absurd (omega arith)
-line_of_memory Verdict.NoFirstForm e = absurd (omega arith)
+line_of_memory (Verdict.NotBuilt n) e = absurd (omega arith)
 line_of_memory Verdict.Formatted e = absurd (omega arith)
 line_of_memory (Verdict.Ran End.MainValue) e = absurd (omega arith)
 line_of_memory (Verdict.Ran (End.MainFault f)) e = absurd (omega arith)

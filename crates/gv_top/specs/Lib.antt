@@ -1,5 +1,5 @@
 pub mod Answers
-pub mod FirstNames
+pub mod Refusals
 pub mod Top
 pub mod Verdicts
-pub mod FirstTexts
+pub mod Words

@@ -1,23 +1,14 @@
 -- What the call leaves behind.
-use Rattle.std.specs.Prelude.{◌≡◌, ◌≢◌, ◌⊎◌, ℕ, List, Option, Some}
-use Rattle.trace_text.specs.LineTexts.{text_of}
+use Rattle.std.specs.Prelude.{◌≡◌, ◌≢◌, ◌⊎◌, ℕ, List, Option}
 use Rattle.gv_io.specs.Faults.{HasRisen}
 use Rattle.gv_io.specs.Streams.{appended, AppendsPrefix}
-use Rattle.hub_machine.specs.Run.{Ran}
 use Rattle.hub_engine.specs.declared.run.End.{End}
 use Rattle.wsgi_core.specs.Shipped.{shipped}
 use Rattle.wsgi_connection.specs.Connections.{Exchanged}
 use Rattle.wsgi_connection.specs.declared.connection.ConnectionEnd.{ConnectionEnd}
 use Rattle.gv_top.specs.declared.status.Verdict.{Verdict}
 use Rattle.gv_top.specs.Answers.{Answer, memory_line, no_port, read_fault_line}
-use Rattle.hub_engine.specs.Ends.{end_of_run}
 use Rattle.gv_top.specs.Verdicts.{number_of, line_of}
-
--- out has the whole trace and the end is that of the run, or out has a prefix of the trace
-abbrev pub RanTo : End → Ran → Option (List ℕ) → Option (List ℕ) → Type 0
-RanTo End.WriteFault r old new = AppendsPrefix old new (text_of r.lines)
-RanTo End.Memory r old new = AppendsPrefix old new (text_of r.lines)
-RanTo end r old new = (new ≡ appended old (text_of r.lines)) × (Some end ≡ end_of_run r.end)
 
 -- the verdict is the answer's, and out has its whole text
 abbrev pub Fits : Verdict → Answer → Option (List ℕ) → Option (List ℕ) → Type 0

@@ -1,26 +1,28 @@
 -- The statuses and lines of the ways in which a call ends.
-use Rattle.std.specs.Prelude.{ℕ, ◌≤◌, List, [], ◌++◌, codes}
+use Rattle.std.specs.Prelude.{ℕ, ◌≤◌, List, [], codes}
+use Rattle.trace_text.specs.declared.line.StopCause.{StopCause}
 use Rattle.scenario_grammar.specs.declared.place.Place.{Place}
 use Rattle.scenario_lang.specs.declared.text.ParseRefusal.{ParseRefusal}
 use Rattle.scenario_lang.specs.declared.text.ParseRefusal.TheVariants as parse
+use Rattle.hub_machine.specs.Status.{status, err_line}
 use Rattle.hub_engine.specs.declared.run.End.{End}
 use Rattle.wsgi_connection.specs.declared.connection.ConnectionEnd.{ConnectionEnd}
 use Rattle.gv_top.specs.declared.status.Verdict.{Verdict}
-use Rattle.gv_top.specs.Answers.{line, ending_text, usage, no_first_form, refusal, read_fault_line, write_fault_line, memory_line}
+use Rattle.gv_top.specs.Answers.{line, usage, not_built, refusal, read_fault_line, write_fault_line, memory_line}
 
 abbrev pub number_of : Verdict → ℕ
 number_of Verdict.Usage = 2
 number_of Verdict.ReadFault = 4
 number_of (Verdict.Refused place) = 3
-number_of Verdict.NoFirstForm = 3
+number_of (Verdict.NotBuilt n) = 3
 number_of Verdict.Formatted = 0
 number_of (Verdict.Ran End.MainValue) = 0
-number_of (Verdict.Ran (End.MainFault f)) = 1
-number_of (Verdict.Ran End.NoTurns) = 6
-number_of (Verdict.Ran End.NoMoves) = 6
-number_of (Verdict.Ran End.NoGreenlets) = 8
-number_of (Verdict.Ran End.NoLinks) = 8
-number_of (Verdict.Ran End.NoKills) = 8
+number_of (Verdict.Ran (End.MainFault f)) = status (StopCause.Fault f)
+number_of (Verdict.Ran End.NoTurns) = status StopCause.NoTurns
+number_of (Verdict.Ran End.NoMoves) = status StopCause.NoMoves
+number_of (Verdict.Ran End.NoGreenlets) = status StopCause.NoGreenlets
+number_of (Verdict.Ran End.NoLinks) = status StopCause.NoLinks
+number_of (Verdict.Ran End.NoKills) = status StopCause.NoKills
 number_of (Verdict.Ran End.WriteFault) = 5
 number_of (Verdict.Ran End.Memory) = 7
 number_of (Verdict.Connection ConnectionEnd.Closed) = 0
@@ -33,15 +35,15 @@ abbrev pub line_of : Verdict → List ℕ
 line_of Verdict.Usage = usage.err
 line_of Verdict.ReadFault = read_fault_line
 line_of (Verdict.Refused place) = (refusal place).err
-line_of Verdict.NoFirstForm = no_first_form.err
+line_of (Verdict.NotBuilt n) = (not_built n).err
 line_of Verdict.Formatted = []
 line_of (Verdict.Ran End.MainValue) = []
-line_of (Verdict.Ran (End.MainFault f)) = line (codes "main ended by " ++ ending_text f)
-line_of (Verdict.Ran End.NoTurns) = line (codes "budget of turns spent")
-line_of (Verdict.Ran End.NoMoves) = line (codes "budget of moves spent")
-line_of (Verdict.Ran End.NoGreenlets) = line (codes "limit of greenlets")
-line_of (Verdict.Ran End.NoLinks) = line (codes "limit of links")
-line_of (Verdict.Ran End.NoKills) = line (codes "limit of kills")
+line_of (Verdict.Ran (End.MainFault f)) = err_line (StopCause.Fault f)
+line_of (Verdict.Ran End.NoTurns) = err_line StopCause.NoTurns
+line_of (Verdict.Ran End.NoMoves) = err_line StopCause.NoMoves
+line_of (Verdict.Ran End.NoGreenlets) = err_line StopCause.NoGreenlets
+line_of (Verdict.Ran End.NoLinks) = err_line StopCause.NoLinks
+line_of (Verdict.Ran End.NoKills) = err_line StopCause.NoKills
 line_of (Verdict.Ran End.WriteFault) = write_fault_line
 line_of (Verdict.Ran End.Memory) = memory_line
 line_of (Verdict.Connection ConnectionEnd.Closed) = []

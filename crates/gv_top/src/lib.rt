@@ -1,15 +1,14 @@
 //! The call that the program makes: the words, the input, the command, the status.
 #![tactic(auto)]
 
-mod first_form;
 mod laws;
-mod names;
+mod options;
 mod reading;
 mod status;
 mod top;
 mod words;
 
-pub use laws::texts_are_answered;
+pub use laws::{budgets_are_in_range, texts_are_answered};
 pub use top::gvr;
 
 #[cfg(test)]

@@ -1,17 +1,15 @@
-//! Reading a well-formed scenario, and whether it has the first form.
+//! Reading a well-formed scenario.
 ghost use Rattle.std.specs.Prelude.{◌≡◌, IfErr, Ok as Fine};
 ghost use Rattle.scenario_grammar.specs.Parsed.{reading};
-ghost use Rattle.scenario_lang.specs.Lines.{Parses};
-ghost use Rattle.gv_top.specs.Answers.{has_first_form, judged};
+ghost use Rattle.scenario_grammar.specs.Spells.{Spells};
+ghost use Rattle.scenario_lang.specs.Lines.{IsSpelt, Parses};
+ghost use Rattle.gv_top.specs.Answers.{judged};
 ghost use Rattle.gv_top.specs.Verdicts.{IsRefusedWithReason};
 
-use crate::first_form::is_first_form;
-use crate::names::are_named;
 use scenario_check::{Checked, check};
 use scenario_grammar::texts_without_a_place_are_spelt;
 use scenario_lang::{ParseRefusal, Scenario, parse};
 use scenario_rules::{rules_have_reasons, well_formed_scenarios_have_no_place};
-use scenario_tree::Scenario as Tree;
 use std::alloc::Global;
 
 /// The well-formed scenario that the bytes spell.
@@ -22,6 +20,7 @@ use std::alloc::Global;
 /// line that breaks a rule; `Memory` where memory ran out.
 pub fn read_scenario(alloc: Global, bytes: &[u8]) -> Result<Checked, ParseRefusal>
     ensures judged { Parses (judged bytes.now) result }
+    ensures spelt { IsSpelt bytes.now result }
     ensures reason { IfErr result IsRefusedWithReason }
 {
     texts_without_a_place_are_spelt();
@@ -33,19 +32,14 @@ pub fn read_scenario(alloc: Global, bytes: &[u8]) -> Result<Checked, ParseRefusa
 
 /// The scenario that was read of these bytes, where it is well formed.
 fn check_read(alloc: Global, bytes: &[u8], scenario: Scenario) -> Result<Checked, ParseRefusal>
-    requires { reading bytes.now ≡ Fine scenario }
+    requires read { reading bytes.now ≡ Fine scenario }
+    requires spelt { Spells scenario bytes.now }
     ensures judged { Parses (judged bytes.now) result }
+    ensures spelt { IsSpelt bytes.now result }
     ensures reason { IfErr result IsRefusedWithReason }
 {
     rules_have_reasons();
     well_formed_scenarios_have_no_place();
     let _ = bytes;
     check(alloc, scenario)
-}
-
-/// Whether the scenario has the first form.
-pub fn has_first_form(scenario: &Tree) -> bool
-    ensures { result ≡ has_first_form scenario.now }
-{
-    is_first_form(scenario) && are_named(scenario)
 }

@@ -9,6 +9,9 @@ use scenario_lang::reason_text;
 use std::alloc::{AllocError, Global};
 use wsgi_connection::ConnectionEnd;
 
+/// The reason of a form that is not run yet.
+const NOT_BUILT: u8 = 23;
+
 /// How a call ends.
 #[derive(Clone, Copy, Debug, PartialEq, Eq)]
 pub enum Verdict {
@@ -16,10 +19,10 @@ pub enum Verdict {
     Usage,
     /// The input could not be read.
     ReadFault,
-    /// The input spells no scenario of the first form.
-    NoFirstForm,
     /// The input spells no well-formed scenario; where it is refused.
     Refused(Place),
+    /// The scenario has a form on this line that is not run yet.
+    NotBuilt(u32),
     /// The printed form of the scenario is out.
     Formatted,
     /// The run came to this end.
@@ -37,7 +40,7 @@ impl Verdict {
             Verdict::Usage => 2,
             Verdict::ReadFault => 4,
             Verdict::Refused(_) => 3,
-            Verdict::NoFirstForm => 3,
+            Verdict::NotBuilt(_) => 3,
             Verdict::Formatted => 0,
             Verdict::Ran(End::MainValue) => 0,
             Verdict::Ran(End::MainFault(_)) => 1,
@@ -65,8 +68,8 @@ impl Verdict {
             Verdict::Usage => line_with(alloc, b"usage: gvr run, fmt, wsgi, serve or storm"),
             Verdict::ReadFault => line_with(alloc, b"read fault"),
             Verdict::Refused(place) => refusal_line(alloc, place),
+            Verdict::NotBuilt(line) => place_line(alloc, line, NOT_BUILT, b"not built yet"),
             Verdict::Formatted => Ok(Vec::new(alloc)),
-            Verdict::NoFirstForm => line_with(alloc, b"no scenario of the first form"),
             Verdict::Ran(End::MainValue) => Ok(Vec::new(alloc)),
             Verdict::Ran(End::MainFault(kind)) => fault_line(alloc, kind),
             Verdict::Ran(End::NoTurns) => line_with(alloc, b"budget of turns spent"),
@@ -88,8 +91,9 @@ impl Verdict {
     }
 }
 
-ghost use Rattle.std.specs.Prelude.{◌++◌, codes};
-ghost use Rattle.gv_top.specs.Answers.{line, ending_text, refusal_text};
+ghost use Rattle.hub_machine.specs.Status.{err_line};
+ghost use Rattle.trace_text.specs.declared.line.StopCause.{StopCause};
+ghost use Rattle.gv_top.specs.Answers.{line, place_text, refusal};
 
 fn line_with(alloc: Global, text: &[u8]) -> Result<Vec<u8>, AllocError>
     ensures { IfOk result (λ made. made.items ≡ line text.now) }
@@ -102,7 +106,7 @@ fn line_with(alloc: Global, text: &[u8]) -> Result<Vec<u8>, AllocError>
 }
 
 fn fault_line(alloc: Global, kind: FaultKind) -> Result<Vec<u8>, AllocError>
-    ensures { IfOk result (λ made. made.items ≡ line (codes "main ended by " ++ ending_text kind)) }
+    ensures { IfOk result (λ made. made.items ≡ err_line (StopCause.Fault kind)) }
 {
     let mut text = Vec::new(alloc);
     text.extend_from_slice(b"main ended by ")?;
@@ -117,14 +121,25 @@ fn fault_line(alloc: Global, kind: FaultKind) -> Result<Vec<u8>, AllocError>
 
 fn refusal_line(alloc: Global, place: Place) -> Result<Vec<u8>, AllocError>
     requires { HasReason place }
-    ensures { IfOk result (λ made. made.items ≡ line (refusal_text place)) }
+    ensures { IfOk result (λ made. made.items ≡ (refusal place).err) }
 {
-    let mut text = Vec::new(alloc);
-    text.extend_from_slice(b"line ")?;
-    decimal_text(u64::from(place.line), &mut text)?;
-    text.extend_from_slice(b": reason ")?;
-    decimal_text(u64::from(place.reason), &mut text)?;
-    text.extend_from_slice(b": ")?;
-    text.extend_from_slice(reason_text(place.reason).as_bytes())?;
-    Ok(line_with(alloc, text.as_slice())?)
+    place_line(
+        alloc,
+        place.line,
+        place.reason,
+        reason_text(place.reason).as_bytes(),
+    )
+}
+
+fn place_line(alloc: Global, number: u32, reason: u8, text: &[u8]) -> Result<Vec<u8>, AllocError>
+    ensures { IfOk result (λ made. made.items ≡ line (place_text number reason text.now)) }
+{
+    let mut made = Vec::new(alloc);
+    made.extend_from_slice(b"line ")?;
+    decimal_text(u64::from(number), &mut made)?;
+    made.extend_from_slice(b": reason ")?;
+    decimal_text(u64::from(reason), &mut made)?;
+    made.extend_from_slice(b": ")?;
+    made.extend_from_slice(text)?;
+    line_with(alloc, made.as_slice())
 }

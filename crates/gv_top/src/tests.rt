@@ -13,10 +13,19 @@ struct Called {
     err: MemorySink,
 }
 
-/// Calls with one word over these bytes, in pieces of so many, with a sink of so much room.
+/// The words of a line, which single blanks part.
+fn words_of(alloc: Global, line: &str) -> Result<Vec<String>, AllocError> {
+    let mut words = Vec::new(alloc);
+    for word in line.split_whitespace() {
+        words.push(String::from_str(alloc, word)?)?;
+    }
+    Ok(words)
+}
+
+/// Calls with the words of a line over these bytes, in pieces of so many, with a sink of so much room.
 fn call(
     alloc: Global,
-    word: &str,
+    line: &str,
     text: &str,
     piece: usize,
     failing: &[u64],
@@ -24,8 +33,7 @@ fn call(
 ) -> Result<Called, AllocError>
     requires { 0 < piece }
 {
-    let mut words = Vec::new(alloc);
-    words.push(String::from_str(alloc, word)?)?;
+    let words = words_of(alloc, line)?;
     let bytes = Vec::from_slice(alloc, text.as_bytes())?;
     let mut input = MemorySource::new(bytes, piece, Vec::from_slice(alloc, failing)?);
     let mut out = MemorySink::new(alloc, room)?;
@@ -41,6 +49,12 @@ const TWO_SLEEPERS: &str =
 
 const TRACE_OF_TWO_SLEEPERS: &str =
     "start g0 main\npark g0 join g1\nstart g1 w\nprint g1 1\npark g1 sleep until 0\nstart g2 w\nprint g2 2\npark g2 sleep until 0\nturn 1 nothing 0\nwake g1\nprint g1 1\nend g1 value none\nwake g2\nprint g2 2\nend g2 value none\nturn 2 nothing 0\nwake g0\nend g0 value none\nstop value none turns 3 moves 10\n";
+
+const TWO_SLEEPERS_JOINED: &str =
+    "def w n\nprint n\nsleep 0\nprint + n 10\nend\ndef main\na <- spawn w 1\nb <- spawn w 2\njoin a\njoin b\nend\n";
+
+const TRACE_OF_TWO_SLEEPERS_JOINED: &str =
+    "start g0 main\npark g0 join g1\nstart g1 w\nprint g1 1\npark g1 sleep until 0\nstart g2 w\nprint g2 2\npark g2 sleep until 0\nturn 1 nothing 0\nwake g1\nprint g1 11\nend g1 value none\nwake g2\nprint g2 12\nend g2 value none\nturn 2 nothing 0\nwake g0\nend g0 value none\nstop value none turns 3 moves 10\n";
 
 #[test]
 fn prints_one(rt: HostRuntime) -> Result<(), Fail> {
@@ -62,6 +76,106 @@ fn two_sleepers_first_form(rt: HostRuntime) -> Result<(), Fail> {
 }
 
 #[test]
+fn two_sleepers_joined(rt: HostRuntime) -> Result<(), Fail> {
+    for line in [
+        "run",
+        "run --turns 3",
+        "run --moves=10 --turns 3",
+        "run --turns=10000000 --moves 100000000",
+    ] {
+        let called = call(rt.alloc(), line, TWO_SLEEPERS_JOINED, 4096, &[], 10000)?;
+        assert_eq!(rt; called.status, 0);
+        assert_eq!(rt; called.out.bytes(), TRACE_OF_TWO_SLEEPERS_JOINED.as_bytes());
+        assert_eq!(rt; called.err.bytes(), "".as_bytes());
+    }
+    Ok(())
+}
+
+#[test]
+fn budgets(rt: HostRuntime) -> Result<(), Fail> {
+    let table = [
+        (
+            "run --turns 2",
+            "start g0 main\npark g0 join g1\nstart g1 w\nprint g1 1\npark g1 sleep until 0\nstart g2 w\nprint g2 2\npark g2 sleep until 0\nturn 1 nothing 0\nwake g1\nprint g1 11\nend g1 value none\nwake g2\nprint g2 12\nend g2 value none\nturn 2 nothing 0\nstop no-turns turns 2 moves 9\n",
+            "gvr: budget of turns spent\n",
+        ),
+        (
+            "run --moves 9",
+            "start g0 main\npark g0 join g1\nstart g1 w\nprint g1 1\npark g1 sleep until 0\nstart g2 w\nprint g2 2\npark g2 sleep until 0\nturn 1 nothing 0\nwake g1\nprint g1 11\nend g1 value none\nwake g2\nprint g2 12\nend g2 value none\nturn 2 nothing 0\nwake g0\nstop no-moves turns 3 moves 9\n",
+            "gvr: budget of moves spent\n",
+        ),
+    ];
+    for (line, trace, err) in table {
+        let called = call(rt.alloc(), line, TWO_SLEEPERS_JOINED, 4096, &[], 10000)?;
+        assert_eq!(rt; called.status, 6);
+        assert_eq!(rt; called.out.bytes(), trace.as_bytes());
+        assert_eq!(rt; called.err.bytes(), err.as_bytes());
+    }
+    Ok(())
+}
+
+#[test]
+fn faults_of_main(rt: HostRuntime) -> Result<(), Fail> {
+    let table = [
+        // arithmetic at its edges
+        (
+            "def main\nprint / -7 2\nprint % -7 2\nlet x + 9223372036854775807 1\nend\n",
+            "start g0 main\nprint g0 -4\nprint g0 1\nend g0 fault OverflowError\nstop fault OverflowError turns 0 moves 3\n",
+            "gvr: main ended by OverflowError\n",
+        ),
+        // a list of 65 items
+        (
+            "def main\nlet l list 0\nlet i 0\nwhile < i 65\nlet l push l i\nlet i + i 1\nend\nend\n",
+            "start g0 main\nend g0 fault ValueError\nstop fault ValueError turns 0 moves 196\n",
+            "gvr: main ended by ValueError\n",
+        ),
+        // a greenlet that waits for its own end
+        (
+            "def main\njoin self\nend\n",
+            "start g0 main\npark g0 join g0\nblock none\nthrow g0 LoopExit\nend g0 fault LoopExit\nstop fault LoopExit turns 1 moves 1\n",
+            "gvr: main ended by LoopExit: This operation would block forever\n",
+        ),
+    ];
+    for (text, trace, err) in table {
+        let called = call(rt.alloc(), "run", text, 4096, &[], 10000)?;
+        assert_eq!(rt; called.status, 1);
+        assert_eq!(rt; called.out.bytes(), trace.as_bytes());
+        assert_eq!(rt; called.err.bytes(), err.as_bytes());
+    }
+    Ok(())
+}
+
+#[test]
+fn greenlet_limit(rt: HostRuntime) -> Result<(), Fail> {
+    let text = "def w\nend\ndef main\nwhile true\nspawn w\nend\nend\n";
+    let called = call(rt.alloc(), "run", text, 4096, &[], 1000)?;
+    assert_eq!(rt; called.status, 8);
+    let trace = "start g0 main\nstop no-greenlets turns 0 moves 40000\n";
+    assert_eq!(rt; called.out.bytes(), trace.as_bytes());
+    assert_eq!(rt; called.err.bytes(), "gvr: limit of greenlets\n".as_bytes());
+    Ok(())
+}
+
+#[test]
+fn not_built_yet(rt: HostRuntime) -> Result<(), Fail> {
+    let text = "event e\ndef main\nprint 1\nend\n";
+    let called = call(rt.alloc(), "run", text, 4096, &[], 1000)?;
+    assert_eq!(rt; called.status, 3);
+    assert_eq!(rt; called.out.bytes(), "".as_bytes());
+    assert_eq!(rt;
+        called.err.bytes(),
+        "gvr: line 1: reason 23: not built yet\n".as_bytes()
+    );
+    let printed = call(rt.alloc(), "fmt", text, 4096, &[], 1000)?;
+    assert_eq!(rt; printed.status, 0);
+    assert_eq!(rt;
+        printed.out.bytes(),
+        "event e\ndef main\n  print 1\nend\n".as_bytes()
+    );
+    Ok(())
+}
+
+#[test]
 fn sink_room_29(rt: HostRuntime) -> Result<(), Fail> {
     let called = call(rt.alloc(), "run", PRINTS_ONE, 4096, &[], 29)?;
     assert_eq!(rt; called.status, 5);
@@ -79,25 +193,6 @@ fn read_fault(rt: HostRuntime) -> Result<(), Fail> {
     assert_eq!(rt; called.status, 4);
     assert_eq!(rt; called.out.bytes(), "".as_bytes());
     assert_eq!(rt; called.err.bytes(), "gvr: read fault\n".as_bytes());
-    Ok(())
-}
-
-#[test]
-fn no_first_form(rt: HostRuntime) -> Result<(), Fail> {
-    let called = call(
-        rt.alloc(),
-        "run",
-        "def main\nprint + 1 2\nend\n",
-        4096,
-        &[],
-        1000,
-    )?;
-    assert_eq!(rt; called.status, 3);
-    assert_eq!(rt; called.out.bytes(), "".as_bytes());
-    assert_eq!(rt;
-        called.err.bytes(),
-        "gvr: no scenario of the first form\n".as_bytes()
-    );
     Ok(())
 }
 
@@ -194,11 +289,31 @@ fn text_limit(rt: HostRuntime) -> Result<(), Fail> {
 }
 
 #[test]
-fn other_words(rt: HostRuntime) -> Result<(), Fail> {
-    let called = call(rt.alloc(), "walk", PRINTS_ONE, 4096, &[], 1000)?;
-    assert_eq!(rt; called.status, 2);
-    assert_eq!(rt; called.out.bytes(), "".as_bytes());
-    let usage = "gvr: usage: gvr run, fmt, wsgi, serve or storm\n";
-    assert_eq!(rt; called.err.bytes(), usage.as_bytes());
+fn words_that_are_no_command(rt: HostRuntime) -> Result<(), Fail> {
+    for line in [
+        "",
+        "walk",
+        "help",
+        "fmt x",
+        "run -h",
+        "run --",
+        "run --turns",
+        "run --turns=",
+        "run --turns 0",
+        "run --turns=05",
+        "run --turns +5",
+        "run --turns 10000001",
+        "run --moves 100000001",
+        "run --turns 99999999999999999999",
+        "run --turn 5",
+        "run --turns=5 --turns 5",
+        "run --tick 1 --native 1",
+    ] {
+        let called = call(rt.alloc(), line, PRINTS_ONE, 4096, &[], 1000)?;
+        assert_eq!(rt; called.status, 2);
+        assert_eq!(rt; called.out.bytes(), "".as_bytes());
+        let usage = "gvr: usage: gvr run, fmt, wsgi, serve or storm\n";
+        assert_eq!(rt; called.err.bytes(), usage.as_bytes());
+    }
     Ok(())
 }

@@ -1,27 +1,29 @@
 //! The call that the program makes.
-ghost use Rattle.std.specs.Prelude.{◌≡◌, ◌≢◌, ◌≤◌, ◌⊎◌, ◌↔◌, ℕ, List, Some, None, map, take, drop, string_bytes, OnOk, OnErr, IfOk};
-ghost use Rattle.trace_text.specs.LineTexts.{text_of};
+ghost use Rattle.std.specs.Prelude.{◌≡◌, ◌≢◌, ◌≤◌, ◌⊎◌, ◌↔◌, ℕ, List, Some, None, map, take, drop, string_bytes, OnOk, OnErr};
 ghost use Rattle.gv_io.specs.Faults.{HasRisen};
 ghost use Rattle.gv_io.specs.Streams.{appended, AppendsPrefix};
-ghost use Rattle.gv_top.specs.Answers.{answer_of_run, answer_to, answer_to_scenario, answer_to_text, command_of, formatted, memory_line, most_read, no_first_form, refusal, run_of};
 ghost use Rattle.scenario_grammar.specs.declared.place.Place.{Place};
-ghost use Rattle.scenario_grammar.specs.Printed.{printed};
 ghost use Rattle.scenario_grammar.specs.Spells.{Spells};
 ghost use Rattle.scenario_rules.specs.Rules.{IsWellFormed};
-ghost use Rattle.gv_top.specs.FirstTexts.{IsFirstText, IsRefusedAt};
 ghost use Rattle.scenario_tree.specs.declared.tree.Scenario.{Scenario as AnyScenario};
-ghost use Rattle.hub_engine.specs.Ends.{end_of_run};
-ghost use Rattle.hub_engine.specs.Written.{Gives, Tells};
-ghost use Rattle.gv_top.specs.Top.{RanTo, Decided, AnswersConnection, IsAnswered, IsOfConnection, HasLine, FailsLine, HasFaultLine};
+ghost use Rattle.built_forms.specs.Built.{IsBuilt, first_unbuilt};
+ghost use Rattle.hub_runnable.specs.Laws.{HasMain};
+ghost use Rattle.hub_engine.specs.Ends.{RanTo};
+ghost use Rattle.hub_engine.specs.declared.run.Budgets.{Budgets as AnyBudgets};
+ghost use Rattle.gv_top.specs.Answers.{answer_of_run, answer_to, answer_to_scenario, answer_to_text, formatted, memory_line, most_read, not_built, refusal, run_of};
+ghost use Rattle.gv_top.specs.Refusals.{IsRefusedAt};
+ghost use Rattle.gv_top.specs.Top.{Decided, AnswersConnection, IsAnswered, IsOfConnection, HasLine, FailsLine, HasFaultLine};
 ghost use Rattle.gv_top.specs.Verdicts.{IsExplained, number_of, verdict_on};
+ghost use Rattle.gv_top.specs.Words.{command_of};
 
-use crate::reading::{has_first_form, read_scenario};
+use crate::reading::read_scenario;
 use crate::status::Verdict;
 use crate::words::{Command, TextCommand, command_of};
 use gv_io::{Failed, ReadRefusal, Sink, Source, read_limited};
-use hub_engine::{Broken, End, Engine};
+use hub_engine::{Budgets, End, Engine};
+use hub_runnable::main_is_numbered;
+use scenario_check::Checked;
 use scenario_lang::{ParseRefusal, Scenario, print};
-use scenario_tree::Scenario as Tree;
 use std::alloc::Global;
 use wsgi_connection::answer_connection;
 use wsgi_core::ShippedApp;
@@ -32,39 +34,24 @@ const MOST_BYTES: usize = 1048576;
 /// The port of a session whose bytes come from the input.
 const NO_PORT: u16 = 0;
 
-/// The default budget of turns.
-const MOST_TURNS: u64 = 1000000;
-
-/// The default budget of moves.
-const MOST_MOVES: u64 = 10000000;
-
-#[tactic(auto, using(gv_io::proofs::StreamLaws::writes))]
-fn runs_to_end<K: Sink>(alloc: Global, scenario: Tree, out: &mut K) -> Result<End, Broken>
-    ensures written { Gives result (K.written out.old) (K.written out.new) (text_of (run_of scenario).lines) }
-    ensures end { IfOk result (λ end. Some end ≡ end_of_run (run_of scenario).end) }
-    ensures never_falls { K.faults out.old ≤ K.faults out.new }
-    ensures failed { Tells result (K.faults out.old) (K.faults out.new) }
-{
-    let Ok(mut engine) = Engine::new(alloc, scenario) else {
-        return Err(Broken::Memory);
-    };
-    let end = engine.run(alloc, out, MOST_TURNS, MOST_MOVES)?;
-    if out.flush().is_err() {
-        return Err(Broken::Write);
-    }
-    Ok(end)
-}
-
-/// Runs the scenario, and writes its trace to out.
-fn run_scenario<K: Sink>(alloc: Global, scenario: Tree, out: &mut K) -> End
-    ensures written { RanTo result (run_of scenario) (K.written out.old) (K.written out.new) }
+/// Runs the scenario, all of whose forms are run, and writes its trace to out.
+fn run_scenario<K: Sink>(alloc: Global, checked: Checked, budgets: Budgets, out: &mut K) -> End
+    requires built { IsBuilt checked }
+    requires main { HasMain checked }
+    ensures written { RanTo result (run_of budgets checked) (K.written out.old) (K.written out.new) }
     ensures never_falls { K.faults out.old ≤ K.faults out.new }
     ensures failed { result ≡ End.WriteFault → HasRisen (K.faults out.old) (K.faults out.new) }
 {
-    match runs_to_end(alloc, scenario, out) {
-        Ok(end) => end,
-        Err(Broken::Memory) => End::Memory,
-        Err(Broken::Write) => End::WriteFault,
+    let Ok(engine) = Engine::new(alloc, checked, budgets) else {
+        return End::Memory;
+    };
+    let end = engine.run(alloc, out).end;
+    if matches!(end, End::WriteFault | End::Memory) {
+        return end;
+    }
+    match out.flush() {
+        Ok(()) => end,
+        Err(_) => End::WriteFault,
     }
 }
 
@@ -130,9 +117,10 @@ fn answers_text<K: Sink>(alloc: Global, command: TextCommand, bytes: &[u8], out:
     ensures write_fault { number_of result ≡ 5 → HasRisen (K.faults out.old) (K.faults out.new) }
     ensures never_falls { K.faults out.old ≤ K.faults out.new }
 {
+    main_is_numbered();
     match read_scenario(alloc, bytes) {
         Err(refusal) => verdict_on(refusal),
-        Ok(checked) => { answers_scenario(alloc, command, checked.into_scenario(), out) }
+        Ok(checked) => answers_scenario(alloc, command, checked, out),
     }
 }
 
@@ -150,10 +138,11 @@ fn verdict_on(refusal: ParseRefusal) -> Verdict
 fn answers_scenario<K: Sink>(
     alloc: Global,
     command: TextCommand,
-    scenario: Scenario,
+    checked: Checked,
     out: &mut K,
 ) -> Verdict
-    ensures answer { Decided result (answer_to_scenario command scenario) (K.written out.old) (K.written out.new) }
+    requires { HasMain checked }
+    ensures answer { Decided result (answer_to_scenario command checked) (K.written out.old) (K.written out.new) }
     ensures command { number_of result ≢ 2 }
     ensures read { number_of result ≢ 4 }
     ensures explained { IsExplained result }
@@ -161,28 +150,29 @@ fn answers_scenario<K: Sink>(
     ensures never_falls { K.faults out.old ≤ K.faults out.new }
 {
     match command {
-        TextCommand::Run => runs_first_form(alloc, scenario.into_tree(), out),
-        TextCommand::Format => formats(alloc, &scenario, out),
+        TextCommand::Run(budgets) => runs_within(alloc, checked, budgets, out),
+        TextCommand::Format => formats(alloc, checked.scenario(), out),
     }
 }
 
-/// Runs the scenario, if it has the first form.
-fn runs_first_form<K: Sink>(alloc: Global, scenario: Tree, out: &mut K) -> Verdict
-    ensures answer { Decided result (answer_to_scenario TextCommand.Run scenario) (K.written out.old) (K.written out.new) }
+/// Runs the scenario within these budgets, unless it has a form that is not run yet.
+fn runs_within<K: Sink>(alloc: Global, checked: Checked, budgets: Budgets, out: &mut K) -> Verdict
+    requires { HasMain checked }
+    ensures answer { Decided result (answer_to_scenario (TextCommand.Run budgets) checked) (K.written out.old) (K.written out.new) }
     ensures command { number_of result ≢ 2 }
     ensures read { number_of result ≢ 4 }
     ensures explained { IsExplained result }
     ensures write_fault { number_of result ≡ 5 → HasRisen (K.faults out.old) (K.faults out.new) }
     ensures never_falls { K.faults out.old ≤ K.faults out.new }
 {
-    if has_first_form(&scenario) {
-        Verdict::Ran(run_scenario(alloc, scenario, out))
-    } else {
-        Verdict::NoFirstForm
+    match Engine::unbuilt(&checked) {
+        Some(line) => Verdict::NotBuilt(line),
+        None => Verdict::Ran(run_scenario(alloc, checked, budgets, out)),
     }
 }
 
 /// Writes the printed form of the scenario to out.
+#[tactic(auto, using(gv_io::proofs::StreamLaws::writes))]
 fn formats<K: Sink>(alloc: Global, scenario: &Scenario, out: &mut K) -> Verdict
     ensures answer { Decided result (formatted scenario.now) (K.written out.old) (K.written out.new) }
     ensures command { number_of result ≢ 2 }
@@ -191,36 +181,26 @@ fn formats<K: Sink>(alloc: Global, scenario: &Scenario, out: &mut K) -> Verdict
     ensures write_fault { number_of result ≡ 5 → HasRisen (K.faults out.old) (K.faults out.new) }
     ensures never_falls { K.faults out.old ≤ K.faults out.new }
 {
-    match writes_printed(alloc, scenario, out) {
+    let mut text = Vec::new(alloc);
+    let Ok(()) = print(scenario, &mut text) else {
+        return Verdict::Ran(End::Memory);
+    };
+    match sends(out, text.as_slice()) {
         Ok(()) => Verdict::Formatted,
-        Err(Broken::Memory) => Verdict::Ran(End::Memory),
-        Err(Broken::Write) => Verdict::Ran(End::WriteFault),
+        Err(_) => Verdict::Ran(End::WriteFault),
     }
 }
 
+/// Writes the bytes to the sink, and hands them on.
 #[tactic(auto, using(gv_io::proofs::StreamLaws::writes))]
-fn writes_printed<K: Sink>(alloc: Global, scenario: &Scenario, out: &mut K) -> Result<(), Broken>
-    ensures written { Gives result (K.written out.old) (K.written out.new) (printed scenario.now) }
-    ensures never_falls { K.faults out.old ≤ K.faults out.new }
-    ensures failed { Tells result (K.faults out.old) (K.faults out.new) }
+fn sends<K: Sink>(sink: &mut K, bytes: &[u8]) -> Result<(), Failed>
+    ensures ok { OnOk result (K.written sink.new ≡ appended (K.written sink.old) bytes.now) }
+    ensures cut { OnErr result (AppendsPrefix (K.written sink.old) (K.written sink.new) bytes.now) }
+    ensures failed { OnErr result (HasRisen (K.faults sink.old) (K.faults sink.new)) }
+    ensures never_falls { K.faults sink.old ≤ K.faults sink.new }
 {
-    let mut text = Vec::new(alloc);
-    print(scenario, &mut text)?;
-    out.write_all(text.as_slice())?;
-    out.flush()?;
-    Ok(())
-}
-
-/// Writes the line to err, and hands it on.
-#[tactic(auto, using(gv_io::proofs::StreamLaws::writes))]
-fn says<E: Sink>(err: &mut E, line: &[u8]) -> Result<(), Failed>
-    ensures ok { OnOk result (E.written err.new ≡ appended (E.written err.old) line.now) }
-    ensures cut { OnErr result (AppendsPrefix (E.written err.old) (E.written err.new) line.now) }
-    ensures failed { OnErr result (HasRisen (E.faults err.old) (E.faults err.new)) }
-    ensures never_falls { E.faults err.old ≤ E.faults err.new }
-{
-    err.write_all(line)?;
-    err.flush()?;
+    sink.write_all(bytes)?;
+    sink.flush()?;
     Ok(())
 }
 
@@ -239,21 +219,36 @@ fn tells<E: Sink>(alloc: Global, verdict: Verdict, err: &mut E) -> u8
     ensures never_falls { E.faults err.old ≤ E.faults err.new }
 {
     match verdict.line(alloc) {
-        Ok(line) => match says(err, line.as_slice()) {
+        Ok(line) => match sends(err, line.as_slice()) {
             Ok(()) => verdict.number(),
             Err(_) => 5,
         },
-        Err(_) => match says(err, memory_line()) {
+        Err(_) => match sends(err, memory_line()) {
             Ok(()) => 7,
             Err(_) => 5,
         },
     }
 }
 
-/// Does what the words name over these streams, and answers its status. `run` reads a scenario of
-/// the first form, runs it, and writes its trace to out. `fmt` reads a scenario, and writes its
-/// printed form to out. `wsgi` reads the bytes of one connection, and writes the answers of the
-/// shipped application to out.
+/// Does what the words name over these streams, and answers its status.
+///
+/// `run` reads a scenario, runs it within its budgets of turns and moves, and writes its trace to out. `fmt` reads a
+/// scenario, and writes its printed form to out. `wsgi` reads the bytes of one connection, and writes the answers of
+/// the shipped application to out.
+///
+/// The statuses, of which 4, 5 and 7 (want of memory) come before every other:
+///
+/// - 0: the run's main ended with a value, or `fmt` or `wsgi` came to its end.
+/// - 1: the run's main ended by a fault.
+/// - 2: the words are no command.
+/// - 3: the input spells no well-formed scenario, or under `run` one that has a form that is not run yet.
+/// - 4: the input could not be read.
+/// - 5: out or err could not be written.
+/// - 6: the run would begin one more turn or move than its budget.
+/// - 8: the run would pass a limit, or the connection did.
+///
+/// Which of 0, 1, 3, 6 and 8 it is, is said by `answer`, by one equation: the status is that of the answer to the
+/// words and the input. So each comes exactly where the answer has it, and its line on err with it.
 pub fn gvr<S: Source, K: Sink, E: Sink>(
     alloc: Global,
     words: &[String],
@@ -261,14 +256,14 @@ pub fn gvr<S: Source, K: Sink, E: Sink>(
     out: &mut K,
     err: &mut E,
 ) -> u8
-    // A text of the first form is run: out has the text of the one run's lines, the status and the line on err are those of its end.
-    ensures trace { (s : AnyScenario) (left : List ℕ) → command_of (map string_bytes words.now) ≡ Some (Command.Text TextCommand.Run) →
-        S.remaining input.old ≡ Some left → IsFirstText s (take most_read left) →
-        IsAnswered result (answer_of_run (run_of s)) (K.written out.old) (K.written out.new) (E.written err.old) (E.written err.new) }
-    // A text of a well-formed scenario that has not the first form is not run.
-    ensures other_form { (s : AnyScenario) (left : List ℕ) → command_of (map string_bytes words.now) ≡ Some (Command.Text TextCommand.Run) →
-        S.remaining input.old ≡ Some left → Spells s (take most_read left) → IsWellFormed s → (IsFirstText s (take most_read left) → ⊥) →
-        IsAnswered result no_first_form (K.written out.old) (K.written out.new) (E.written err.old) (E.written err.new) }
+    // A text of a well-formed scenario all of whose forms are run is run: out has the text of the one run's lines, the status and the line on err are those of its end.
+    ensures trace { (budgets : AnyBudgets) (s : AnyScenario) (left : List ℕ) → command_of (map string_bytes words.now) ≡ Some (Command.Text (TextCommand.Run budgets)) →
+        S.remaining input.old ≡ Some left → Spells s (take most_read left) → IsWellFormed s → first_unbuilt s ≡ None →
+        IsAnswered result (answer_of_run (run_of budgets s)) (K.written out.old) (K.written out.new) (E.written err.old) (E.written err.new) }
+    // One that has a form that is not run yet is not run: err has the first line that has one.
+    ensures not_built { (budgets : AnyBudgets) (s : AnyScenario) (left : List ℕ) (n : ℕ) → command_of (map string_bytes words.now) ≡ Some (Command.Text (TextCommand.Run budgets)) →
+        S.remaining input.old ≡ Some left → Spells s (take most_read left) → IsWellFormed s → first_unbuilt s ≡ Some n →
+        IsAnswered result (not_built n) (K.written out.old) (K.written out.new) (E.written err.old) (E.written err.new) }
     // A text of a well-formed scenario is printed: out has its printed form.
     ensures formatted { (s : AnyScenario) (left : List ℕ) → command_of (map string_bytes words.now) ≡ Some (Command.Text TextCommand.Format) →
         S.remaining input.old ≡ Some left → Spells s (take most_read left) → IsWellFormed s →

@@ -1,12 +1,15 @@
 //! The words after the program's name.
-ghost use Rattle.std.specs.Prelude.{◌≡◌, ◌∷◌, [], map, string_bytes, bytes_eq};
-ghost use Rattle.gv_top.specs.Answers.{command_of};
+ghost use Rattle.std.specs.Prelude.{◌≡◌, map, string_bytes, bytes_eq};
+ghost use Rattle.gv_top.specs.Words.{command_of, plain_command, run_command};
+
+use crate::options::{Said, budgets_of, options};
+use hub_engine::Budgets;
 
 /// What is done with the scenario that the input spells.
 #[derive(Clone, Copy, Debug, PartialEq, Eq)]
 pub enum TextCommand {
-    /// Run it.
-    Run,
+    /// Run it within these budgets.
+    Run(Budgets),
     /// Write its printed form.
     Format,
 }
@@ -20,7 +23,7 @@ pub enum Command {
     Wsgi,
 }
 
-fn same_bytes(a: &[u8], b: &[u8]) -> bool
+pub fn same_bytes(a: &[u8], b: &[u8]) -> bool
     ensures { result ≡ bytes_eq a.now b.now }
 {
     a == b
@@ -31,22 +34,42 @@ pub fn command_of(words: &[String]) -> Option<Command>
     ensures { result ≡ command_of (map string_bytes words.now) }
 {
     match words {
-        [word] => named(word.as_bytes()),
-        _ => None,
+        [] => None,
+        [name, options @ ..] => {
+            if same_bytes(name.as_bytes(), b"run") {
+                run_command(options)
+            } else {
+                plain_command(name.as_bytes(), options)
+            }
+        }
     }
 }
 
-/// The command of this name.
-fn named(word: &[u8]) -> Option<Command>
-    ensures { result ≡ command_of (word.now ∷ []) }
+/// `run` with these options.
+fn run_command(words: &[String]) -> Option<Command>
+    ensures { result ≡ run_command (map string_bytes words.now) }
 {
-    if same_bytes(word, b"run") {
-        return Some(Command::Text(TextCommand::Run));
+    let nothing = Said {
+        turns: None,
+        moves: None,
+    };
+    match options(words, nothing) {
+        Some(said) => Some(Command::Text(TextCommand::Run(budgets_of(said)))),
+        None => None,
     }
-    if same_bytes(word, b"fmt") {
+}
+
+/// The command of this name, which takes no options.
+fn plain_command(name: &[u8], options: &[String]) -> Option<Command>
+    ensures { result ≡ plain_command name.now (map string_bytes options.now) }
+{
+    if !options.is_empty() {
+        return None;
+    }
+    if same_bytes(name, b"fmt") {
         return Some(Command::Text(TextCommand::Format));
     }
-    if same_bytes(word, b"wsgi") {
+    if same_bytes(name, b"wsgi") {
         return Some(Command::Wsgi);
     }
     None

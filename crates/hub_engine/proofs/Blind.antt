@@ -11,6 +11,8 @@ use Rattle.hub_machine.specs.Settle.{settle}
 use Rattle.hub_machine.specs.State.{State, say}
 use Rattle.hub_machine.specs.Raising.{Unwound, unwind}
 use Rattle.hub_machine.specs.Life.{Next, Landing, nobody, greenlet, function_of, with_phase, ended, kept, stop_of, after_end, goes_on, resumes, starts, given, leaving_of, outcome_of_leaving, drop_items, goes_at_end, is_timeout_of, without_member}
+use Rattle.hub_bodies.specs.Places.{Place}
+use Rattle.hub_engine.specs.Stands.{goes_to}
 
 -- the greenlet of this number, with this phase
 abbrev pub phased : List Greenlet → ℕ → Phase → Greenlet
@@ -66,8 +68,15 @@ pub goes_on_blind : (up : Landing) (g : ℕ) (u : Unwound) (p : Phase) (s : Stat
 goes_on_blind up g (Unwound.Runs left locals todo) p s = rw (phase_twice s.greenlets g p (Phase.Live (record { locals = locals; todo = todo; gives = None })))
 goes_on_blind up g (Unwound.Out left how) p s = after_end_blind up g (outcome_of_leaving how) p (drop_items (is_timeout_of g left) s)
 
+pub goes_to_blind : (up : Landing) (g : ℕ) (place : Place) (p : Phase) (s : State) → goes_to up g place (with_phase g p s) ≡ goes_to up g place s
+goes_to_blind up g (Place.AtMove left body) p s = rw (phase_twice s.greenlets g p (Phase.Live body))
+goes_to_blind up g (Place.AtEnd left o) p s = after_end_blind up g o p (drop_items (is_timeout_of g left) s)
+
 pub resumes_blind : (up : Landing) (g : ℕ) (frame : Frame) (o : Outcome) (p : Phase) (s : State) → resumes up g frame o (with_phase g p s) ≡ resumes up g frame o s
 resumes_blind up g frame o p s = goes_on_blind up g (unwind frame.todo [] (leaving_of o) (given frame o)) p s
+
+pub function_blind : (g : ℕ) (p : Phase) (s : State) → (greenlet g (with_phase g p s)).function ≡ (greenlet g s).function
+function_blind g p s = same_function s.greenlets g p
 
 pub starts_blind : (up : Landing) (g : ℕ) (args : List Value) (p : Phase) (s : State) → starts up g args (with_phase g p s) ≡ starts up g args s
 starts_blind up g args p s = rw (same_function s.greenlets g p) (goes_on_blind up g _ p (say (Line.Start g (function_of (greenlet g s).function s).name) s))

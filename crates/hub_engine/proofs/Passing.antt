@@ -6,13 +6,18 @@ use Rattle.trace_text.specs.declared.line.StopCause.{StopCause}
 use Rattle.trace_text.specs.LineTexts.{text_of, line_text}
 use Rattle.gv_io.specs.Streams.{appended, AppendsPrefix}
 use Rattle.gv_io.proofs.StreamLaws.{appended-nothing, appended-appended, AppendsPrefix-whole, AppendsPrefix-after, AppendsPrefix-longer}
-use Rattle.hub_machine.specs.declared.steps.At.{At}
-use Rattle.hub_machine.specs.declared.steps.Came.{Came}
+use Rattle.hub_engine.specs.declared.stand.Came.{Came}
 use Rattle.hub_machine.specs.State.{State}
 use Rattle.hub_machine.specs.Life.{Next}
 use Rattle.hub_machine.specs.Moves.{move}
-use Rattle.hub_machine.specs.Run.{Passed, passed, said, silent, runs, next_at, came_to}
-use Rattle.hub_engine.specs.Written.{IsPartWritten, IsPassing}
+use Rattle.hub_machine.specs.Run.{Passed, passed, said, silent, runs}
+use Rattle.hub_machine.specs.declared.state.Frame.{Frame}
+use Rattle.hub_machine.specs.declared.state.Phase.{Phase}
+use Rattle.hub_machine.specs.Life.{with_phase}
+use Rattle.hub_engine.specs.Stands.{next_at}
+use Rattle.hub_soundness.proofs.States.{length-phased}
+use Rattle.hub_engine.specs.Written.{AreLike, CameTo, HasPassed, IsPartWritten, IsPassing}
+use Rattle.hub_engine.specs.declared.stand.Stand.{Stand}
 
 pub text_of_append : (xs ys : List Line) → text_of (xs ++ ys) ≡ text_of xs ++ text_of ys
 text_of_append [] ys = refl
@@ -74,18 +79,16 @@ onward old now new p q r ls w e f h n =
       next = w.next ∙ h;
     }
 
--- what a part left, where all of it was written
-pub record HasPassed (old new : Option (List ℕ)) (p : Passed) (to : Next) : Type 0 where
-  pub text : new ≡ appended old (text_of p.lines)
-  pub next : p.next ≡ to
-  pub posts : p.posts ≡ []
+-- a state is like itself
+pub like : (s : State) → AreLike s s
+like s = record { greenlets = refl; turns = refl; moves = refl; moment = refl }
 
-pub over : (old now new : Option (List ℕ)) (p q : Passed) (ls : List Line) (next : Next) → IsPassing old now p q →
-    q.lines ≡ ls → q.posts ≡ [] → q.next ≡ next → new ≡ appended now (text_of ls) → HasPassed old new p next
-over old now new p q ls next w e f h n =
+pub over : (old now new : Option (List ℕ)) (p q : Passed) (ls : List Line) (came : Came) (s : State) → IsPassing old now p q →
+    q.lines ≡ ls → q.posts ≡ [] → CameTo came q.next s → new ≡ appended now (text_of ls) → HasPassed old new p came s
+over old now new p q ls came s w e f h n =
     record {
       text = whole_written old new (text_of p.lines) (more_written old now new (text_of p.lines) (text_of q.lines) (text_of ls) [] w.text (ap text_of e ∙ sym (append-nil (text_of ls))) n);
-      next = w.next ∙ h;
+      next = subst (λ (x : Next). CameTo came x s) (sym w.next) h;
       posts = w.posts ∙ f;
     }
 
@@ -110,56 +113,70 @@ goes old now new p n g s h w e f =
     onward old now new p (said s r) r s.lines (rw (runs_step n g s h) at w) refl (ap (λ z. z ++ r.posts) e) refl f
 
 pub came_to_rest : (old now new : Option (List ℕ)) (p : Passed) (n : ℕ) (s : State) → IsPassing old now p (runs n (Next.Resting s)) →
-    s.posts ≡ [] → new ≡ appended now (text_of s.lines) → HasPassed old new p (Next.Resting (silent s))
-came_to_rest old now new p zero s w e f = over old now new p (passed s Next.Resting) s.lines (Next.Resting (silent s)) w refl e refl f
-came_to_rest old now new p (suc n) s w e f = over old now new p (passed s Next.Resting) s.lines (Next.Resting (silent s)) w refl e refl f
+    s.posts ≡ [] → new ≡ appended now (text_of s.lines) → HasPassed old new p Came.ToRest (silent s)
+came_to_rest old now new p zero s w e f = over old now new p (passed s Next.Resting) s.lines Came.ToRest (silent s) w refl e refl f
+came_to_rest old now new p (suc n) s w e f = over old now new p (passed s Next.Resting) s.lines Came.ToRest (silent s) w refl e refl f
 
 pub came_to_end : (old now new : Option (List ℕ)) (p : Passed) (n : ℕ) (c : StopCause) (s : State) → IsPassing old now p (runs n (Next.Over c s)) →
-    s.posts ≡ [] → new ≡ appended now (text_of s.lines) → HasPassed old new p (Next.Over c (silent s))
-came_to_end old now new p zero c s w e f = over old now new p (passed s (Next.Over c)) s.lines (Next.Over c (silent s)) w refl e refl f
-came_to_end old now new p (suc n) c s w e f = over old now new p (passed s (Next.Over c)) s.lines (Next.Over c (silent s)) w refl e refl f
+    s.posts ≡ [] → new ≡ appended now (text_of s.lines) → HasPassed old new p (Came.ToAnEnd c) (silent s)
+came_to_end old now new p zero c s w e f = over old now new p (passed s (Next.Over c)) s.lines (Came.ToAnEnd c) (silent s) w refl e (silent s, refl, like (silent s)) f
+came_to_end old now new p (suc n) c s w e f = over old now new p (passed s (Next.Over c)) s.lines (Came.ToAnEnd c) (silent s) w refl e (silent s, refl, like (silent s)) f
 
-pub out_of_moves : (old now new : Option (List ℕ)) (p : Passed) (g : ℕ) (s : State) → IsPassing old now p (runs 0 (Next.Going g s)) →
-    s.posts ≡ [] → new ≡ appended now (text_of s.lines) → HasPassed old new p (Next.Over StopCause.NoMoves (silent s))
-out_of_moves old now new p g s w e f = over old now new p (passed s (Next.Over StopCause.NoMoves)) s.lines (Next.Over StopCause.NoMoves (silent s)) w refl e refl f
+pub out_of_moves : (old now new : Option (List ℕ)) (p : Passed) (g : ℕ) (body : Frame) (s : State) → IsPassing old now p (runs 0 (Next.Going g (with_phase g (Phase.Live body) s))) →
+    s.posts ≡ [] → new ≡ appended now (text_of s.lines) → HasPassed old new p (Came.ToAnEnd StopCause.NoMoves) (silent s)
+out_of_moves old now new p g body s w e f =
+    let t = with_phase g (Phase.Live body) s in
+    let as' : AreLike (silent t) (silent s) = record { greenlets = length-phased g (Phase.Live body) s; turns = refl; moves = refl; moment = refl } in
+    over old now new p (passed t (Next.Over StopCause.NoMoves)) s.lines (Came.ToAnEnd StopCause.NoMoves) (silent s) w refl e (silent t, refl, as') f
 
 -- the same, where it is known what the hub came to
-pub rested : (old now new : Option (List ℕ)) (p : Passed) (n : ℕ) (at : At) (s : State) → at ≡ At.Resting → IsPassing old now p (runs n (next_at at s)) →
-    s.posts ≡ [] → new ≡ appended now (text_of s.lines) → HasPassed old new p (Next.Resting (silent s))
-rested old now new p n at s k w e f = came_to_rest old now new p n s (subst (λ (x : At). IsPassing old now p (runs n (next_at x s))) k w) e f
+pub rested : (old now new : Option (List ℕ)) (p : Passed) (n : ℕ) (at : Stand) (s : State) → at ≡ Stand.Resting → IsPassing old now p (runs n (next_at at s)) →
+    s.posts ≡ [] → new ≡ appended now (text_of s.lines) → HasPassed old new p Came.ToRest (silent s)
+rested old now new p n at s k w e f = came_to_rest old now new p n s (subst (λ (x : Stand). IsPassing old now p (runs n (next_at x s))) k w) e f
 
-pub ended : (old now new : Option (List ℕ)) (p : Passed) (n : ℕ) (at : At) (c : StopCause) (s : State) → at ≡ At.Over c → IsPassing old now p (runs n (next_at at s)) →
-    s.posts ≡ [] → new ≡ appended now (text_of s.lines) → HasPassed old new p (Next.Over c (silent s))
-ended old now new p n at c s k w e f = came_to_end old now new p n c s (subst (λ (x : At). IsPassing old now p (runs n (next_at x s))) k w) e f
+pub ended : (old now new : Option (List ℕ)) (p : Passed) (n : ℕ) (at : Stand) (c : StopCause) (s : State) → at ≡ Stand.Over c → IsPassing old now p (runs n (next_at at s)) →
+    s.posts ≡ [] → new ≡ appended now (text_of s.lines) → HasPassed old new p (Came.ToAnEnd c) (silent s)
+ended old now new p n at c s k w e f = came_to_end old now new p n c s (subst (λ (x : Stand). IsPassing old now p (runs n (next_at x s))) k w) e f
 
-pub out_of_budget : (old now new : Option (List ℕ)) (p : Passed) (n : ℕ) (at : At) (g : ℕ) (s : State) → n ≡ 0 → at ≡ At.Going g → IsPassing old now p (runs n (next_at at s)) →
-    s.posts ≡ [] → new ≡ appended now (text_of s.lines) → HasPassed old new p (Next.Over StopCause.NoMoves (silent s))
-out_of_budget old now new p n at g s z k w e f =
-    out_of_moves old now new p g s
-    (subst (λ (m : ℕ). IsPassing old now p (runs m (Next.Going g s))) z (subst (λ (x : At). IsPassing old now p (runs n (next_at x s))) k w)) e f
+pub out_of_budget : (old now new : Option (List ℕ)) (p : Passed) (n : ℕ) (at : Stand) (g : ℕ) (body : Frame) (s : State) → n ≡ 0 → at ≡ Stand.Going g body → IsPassing old now p (runs n (next_at at s)) →
+    s.posts ≡ [] → new ≡ appended now (text_of s.lines) → HasPassed old new p (Came.ToAnEnd StopCause.NoMoves) (silent s)
+out_of_budget old now new p n at g body s z k w e f =
+    out_of_moves old now new p g body s
+    (subst (λ (m : ℕ). IsPassing old now p (runs m (Next.Going g (with_phase g (Phase.Live body) s)))) z (subst (λ (x : Stand). IsPassing old now p (runs n (next_at x s))) k w)) e f
 
-pub move_given_up : (old now new : Option (List ℕ)) (p : Passed) (n : ℕ) (at : At) (g : ℕ) (s : State) → 0 < n → at ≡ At.Going g → IsPassing old now p (runs n (next_at at s)) →
+pub move_given_up : (old now new : Option (List ℕ)) (p : Passed) (n : ℕ) (at : Stand) (g : ℕ) (body : Frame) (s : State) → 0 < n → at ≡ Stand.Going g body → IsPassing old now p (runs n (next_at at s)) →
     s.posts ≡ [] → new ≡ appended now (text_of s.lines) → AppendsPrefix old new (text_of p.lines)
-move_given_up old now new p n at g s h k w e f =
-    given_up old new p (runs (n - 1) (move g (silent s))) (goes old now new p n g s h (subst (λ (x : At). IsPassing old now p (runs n (next_at x s))) k w) e f)
+move_given_up old now new p n at g body s h k w e f =
+    let t = with_phase g (Phase.Live body) s in
+    given_up old new p (runs (n - 1) (move g (silent t))) (goes old now new p n g t h (subst (λ (x : Stand). IsPassing old now p (runs n (next_at x s))) k w) e f)
+
+-- a move was made from where the step under way was given out
+pub moved_on : (old now new : Option (List ℕ)) (p : Passed) (n : ℕ) (at to : Stand) (g : ℕ) (body : Frame) (s t u : State) → 0 < n → at ≡ Stand.Going g body →
+    IsPassing old now p (runs n (next_at at s)) → s.posts ≡ [] → new ≡ appended now (text_of s.lines) → t ≡ silent s →
+    move g (with_phase g (Phase.Live body) t) ≡ next_at to u → IsPassing old new p (runs (n - 1) (next_at to u))
+moved_on old now new p n at to g body s t u h z w e f k m =
+    let x = with_phase g (Phase.Live body) s in
+    let here : move g (silent x) ≡ next_at to u = subst (λ (y : State). move g (with_phase g (Phase.Live body) y) ≡ next_at to u) k m in
+    subst (λ (y : Next). IsPassing old new p (runs (n - 1) y)) here
+    (goes old now new p n g x h (subst (λ (y : Stand). IsPassing old now p (runs n (next_at y s))) z w) e f)
 
 -- the lines of the step under way come first
-runs_lines : (n : ℕ) (at : At) (s : State) → (rest : List Line) × ((runs n (next_at at s)).lines ≡ s.lines ++ rest)
-runs_lines zero (At.Going g) s = ([], sym (append-nil s.lines))
-runs_lines (suc n) (At.Going g) s = ((runs n (move g (silent s))).lines, refl)
-runs_lines zero At.Resting s = ([], sym (append-nil s.lines))
-runs_lines (suc n) At.Resting s = ([], sym (append-nil s.lines))
-runs_lines zero (At.Over c) s = ([], sym (append-nil s.lines))
-runs_lines (suc n) (At.Over c) s = ([], sym (append-nil s.lines))
+runs_lines : (n : ℕ) (at : Stand) (s : State) → (rest : List Line) × ((runs n (next_at at s)).lines ≡ s.lines ++ rest)
+runs_lines zero (Stand.Going g body) s = ([], sym (append-nil s.lines))
+runs_lines (suc n) (Stand.Going g body) s = ((runs n (move g (silent (with_phase g (Phase.Live body) s)))).lines, refl)
+runs_lines zero Stand.Resting s = ([], sym (append-nil s.lines))
+runs_lines (suc n) Stand.Resting s = ([], sym (append-nil s.lines))
+runs_lines zero (Stand.Over c) s = ([], sym (append-nil s.lines))
+runs_lines (suc n) (Stand.Over c) s = ([], sym (append-nil s.lines))
 
-pub runs_broken : (old now new : Option (List ℕ)) (p : Passed) (n : ℕ) (at : At) (s : State) → IsPassing old now p (runs n (next_at at s)) →
+pub runs_broken : (old now new : Option (List ℕ)) (p : Passed) (n : ℕ) (at : Stand) (s : State) → IsPassing old now p (runs n (next_at at s)) →
     AppendsPrefix now new (text_of s.lines) → AppendsPrefix old new (text_of p.lines)
 runs_broken old now new p n at s w e = let r = runs_lines n at s in broken old now new p (runs n (next_at at s)) s.lines r.0 w r.1 e
 
 -- ---- what a part came to
 
-pub at_rest : (came : Came) (next : Next) (s : State) → came ≡ Came.ToRest → next ≡ came_to came s → next ≡ Next.Resting s
-at_rest came next s k e = subst (λ (x : Came). next ≡ came_to x s) k e
+pub at_rest : (came : Came) (next : Next) (s : State) → came ≡ Came.ToRest → CameTo came next s → next ≡ Next.Resting s
+at_rest came next s k e = subst (λ (x : Came). CameTo x next s) k e
 
-pub at_an_end : (came : Came) (c : StopCause) (next : Next) (s : State) → came ≡ Came.ToAnEnd c → next ≡ came_to came s → next ≡ Next.Over c s
-at_an_end came c next s k e = subst (λ (x : Came). next ≡ came_to x s) k e
+pub at_an_end : (came : Came) (c : StopCause) (next : Next) (s : State) → came ≡ Came.ToAnEnd c → CameTo came next s → CameTo (Came.ToAnEnd c) next s
+at_an_end came c next s k e = subst (λ (x : Came). CameTo x next s) k e

@@ -1,12 +1,7 @@
+pub mod Asking
 pub mod Ends
-pub mod Frames
-pub mod Fresh
-pub mod Gone
 pub mod Making
-pub mod Phases
-pub mod Places
-pub mod Queues
-pub mod Sound
-pub mod Steps
-pub mod Went
+pub mod Prepared
+pub mod Ready
+pub mod Stands
 pub mod Written

@@ -1,151 +1,107 @@
-//! The delivery of items: which is next, and what it does.
-ghost use Rattle.std.specs.Prelude.{◌≡◌, ◌<◌, length, slice_get, Some, IfOk, IfSome, not, IsTrue};
+//! The delivery of items.
+ghost use Rattle.std.specs.Prelude.{◌≡◌, ◌<◌, ℕ, true, length, slice_get, Some, IfOk};
+ghost use Rattle.flat_code.specs.Answers.{IsFunction};
 ghost use Rattle.hub_machine.specs.declared.items.Item.{Item as AnyItem};
-ghost use Rattle.hub_machine.specs.State.{State};
+ghost use Rattle.hub_machine.specs.declared.items.Delivery.TheVariants as delivery;
+ghost use Rattle.hub_machine.specs.declared.items.Waiting.{Waiting};
 ghost use Rattle.hub_machine.specs.Life.{starts, lands, greenlet};
-ghost use Rattle.hub_machine.specs.Run.{next_at, least_below, with_this};
-ghost use Rattle.hub_machine.specs.Deliveries.{deliver, delivers, interrupts, without_item, arguments};
-ghost use Rattle.hub_engine.specs.Places.{item_at};
+ghost use Rattle.hub_machine.specs.Deliveries.{deliver, delivers, interrupts, arguments, without_wait};
+ghost use Rattle.hub_machine.specs.Moves.{follows};
+ghost use Rattle.hub_machine.specs.State.{say};
+ghost use Rattle.hub_machine.specs.Waits.{Performed, nothing};
+ghost use Rattle.hub_runnable.specs.Runnable.{is_runnable_delivery};
+ghost use Rattle.trace_text.specs.declared.line.Line.TheVariants as line;
+ghost use Rattle.trace_text.specs.declared.line.Resumed.TheVariants as resumed;
+ghost use Rattle.hub_engine.specs.Ready.{IsReady, IsReadyAt};
+ghost use Rattle.hub_engine.specs.Stands.{next_at};
 
-use crate::Engine;
-use crate::items::Gone;
-use gv_values::{FaultKind, Outcome};
-use hub_machine::items::{Delivery, Item};
-use hub_machine::steps::At;
+use crate::life::{answered, begins};
+use crate::stand::Stand;
+use gv_values::{FaultKind, Outcome, Value};
+use hub_machine::items::{Delivery, Item, Waiting};
+use hub_state::{Gone, Hub};
 use std::alloc::{AllocError, Global};
 use trace_text::{Line, Resumed};
 
-/// Of this item, where it has a number below the mark, and the best of those after it, the one with
-/// the lower number.
-fn nearer(items: &[Item], mark: u64, at: usize, best: Option<usize>) -> Option<usize>
-    requires here { at < length items.now }
-    requires there { IfSome best (λ other. other < length items.now) }
-    ensures within { IfSome result (λ best. best < length items.now) }
-    ensures nearer { (i : AnyItem) → slice_get items.now at ≡ Some i →
-        item_at result items.now ≡ with_this i mark i.ready (item_at best items.now) }
+/// A fault arrives at the statement of the greenlet.
+#[tactic(auto, unfolding(hub_machine::specs::Deliveries::interrupts))]
+pub fn interrupts(
+    alloc: Global,
+    hub: &mut Hub,
+    g: u32,
+    kind: FaultKind,
+) -> Result<Stand, AllocError>
+    ensures { IfOk result (λ at. interrupts g kind hub.old ≡ next_at at hub.new) }
 {
-    match items[at].ready {
-        None => best,
-        Some(number) => {
-            if number >= mark {
-                return best;
-            }
-            match best {
-                None => Some(at),
-                Some(other) => match items[other].ready {
-                    None => Some(at),
-                    Some(least) => {
-                        if least < number {
-                            Some(other)
-                        } else {
-                            Some(at)
-                        }
-                    }
-                },
-            }
-        }
+    hub.drop_items(&Gone::WaitOf(g));
+    hub.say(Line::Throw {
+        greenlet: g,
+        fault: kind,
+    })?;
+    hub.settle(alloc)?;
+    Ok(answered(alloc, hub, g, Outcome::Fault(kind))?)
+}
+
+/// The greenlet starts with the arguments that it was made with.
+#[tactic(auto, using(crate::proofs::Blind::starts_blind, crate::proofs::Blind::function_blind))]
+fn start(alloc: Global, hub: &mut Hub, g: u32) -> Result<Stand, AllocError>
+    requires declared { IsFunction hub.old.scenario (greenlet g hub.old).function }
+    ensures { IfOk result (λ at. starts lands g (arguments (greenlet g hub.old).phase) hub.old ≡ next_at at hub.new) }
+{
+    let arguments = hub.take_arguments(alloc, g);
+    Ok(begins(alloc, hub, g, arguments)?)
+}
+
+/// The wait of the greenlet is over, and is answered with none.
+fn resumes(alloc: Global, hub: &mut Hub, g: u32) -> Result<Stand, AllocError>
+    ensures { IfOk result (λ at. follows g (Performed.Answers nothing (without_wait g (say (line.Resume g resumed.Wake) hub.old))) ≡ next_at at hub.new) }
+{
+    hub.say(Line::Resume {
+        greenlet: g,
+        by: Resumed::Wake,
+    })?;
+    hub.drop_items(&Gone::WaitOf(g));
+    hub.settle(alloc)?;
+    Ok(answered(alloc, hub, g, Outcome::Value(Value::Nothing))?)
+}
+
+/// The wait of the greenlet is over.
+fn wakes(alloc: Global, hub: &mut Hub, g: u32, waiting: Waiting) -> Result<Stand, AllocError>
+    requires is_run { is_runnable_delivery (delivery.Wake g waiting) ≡ true }
+    ensures { IfOk result (λ at. delivers (delivery.Wake g waiting) hub.old ≡ next_at at hub.new) }
+{
+    match waiting {
+        Waiting::Sleep(_) => Ok(resumes(alloc, hub, g)?),
+        Waiting::Join(_) => Ok(resumes(alloc, hub, g)?),
+        _ => unreachable!(),
     }
 }
 
-/// The place of the item with the least number below the mark.
-fn least_below(items: &[Item], mark: u64) -> Option<usize>
-    ensures within { IfSome result (λ best. best < length items.now) }
-    ensures least { item_at result items.now ≡ least_below mark items.now }
+/// What the item delivers, where it is gone.
+fn delivers(alloc: Global, hub: &mut Hub, delivery: Delivery) -> Result<Stand, AllocError>
+    requires is_run { is_runnable_delivery delivery ≡ true }
+    requires declared { (g : ℕ) → IsFunction hub.old.scenario (greenlet g hub.old).function }
+    ensures { IfOk result (λ at. delivers delivery hub.old ≡ next_at at hub.new) }
 {
-    let mut best = None;
-    let mut left = items.len();
-    while left > 0 {
-        left -= 1;
-        best = nearer(items, mark, left, best);
+    match delivery {
+        Delivery::Start(g, None) => Ok(start(alloc, hub, g)?),
+        Delivery::Wake(g, waiting) => Ok(wakes(alloc, hub, g, waiting)?),
+        _ => unreachable!(),
     }
-    best
 }
 
-impl Engine {
-    /// The place of the item with the least number below the mark.
-    pub fn next_below(&self, mark: u64) -> Option<usize>
-        ensures within { IfSome result (λ best. best < length self.now.items) }
-        ensures least { item_at result self.now.items ≡ least_below mark self.now.items }
-    {
-        least_below(&self.items, mark)
-    }
-
-    #[tactic(auto, unfolding(hub_machine::specs::Deliveries::deliver))]
-    fn is_late(&self, at: usize) -> bool
-        requires { at < length self.now.items }
-        ensures { IsTrue (not result) → (i : AnyItem) → slice_get self.now.items at ≡ Some i → (s : State) → deliver i s ≡ delivers i.delivery (without_item i s) }
-    {
-        matches!(self.items[at].delivery, Delivery::Late(_, _, _))
-    }
-
-    /// Takes the item away.
-    #[tactic(auto, using(crate::proofs::Removals::taken, crate::proofs::Removals::sound_taken))]
-    fn take_item(&mut self, at: usize) -> Item
-        requires { at < length self.old.items }
-        ensures item { slice_get self.old.items at ≡ Some result }
-        ensures gone { self.new ≡ without_item result self.old }
-    {
-        self.items.remove(at)
-    }
-
-    /// A fault arrives at the statement of the greenlet.
-    #[tactic(auto, unfolding(hub_machine::specs::Deliveries::interrupts))]
-    pub fn interrupts(&mut self, alloc: Global, g: u32, kind: FaultKind) -> Result<At, AllocError>
-        ensures { IfOk result (λ at. interrupts g kind self.old ≡ next_at at self.new) }
-    {
-        self.drop_items(&Gone::WaitOf(g));
-        self.say(Line::Throw {
-            greenlet: g,
-            fault: kind,
-        })?;
-        self.settle(alloc)?;
-        Ok(self.answered(alloc, g, Outcome::Fault(kind))?)
-    }
-
-    #[tactic(auto, using(crate::proofs::Blind::starts_blind))]
-    fn start(&mut self, alloc: Global, g: u32) -> Result<At, AllocError>
-        ensures { IfOk result (λ at. starts lands g (arguments (greenlet g self.old).phase) self.old ≡ next_at at self.new) }
-    {
-        let arguments = self.take_arguments(alloc, g);
-        Ok(self.begins(alloc, g, arguments)?)
-    }
-
-    /// What the item delivers, where it is gone. Lates and links are not run yet; they are answered
-    /// as want of memory.
-    fn delivers(&mut self, alloc: Global, delivery: Delivery) -> Result<At, AllocError>
-        ensures { IfOk result (λ at. delivers delivery self.old ≡ next_at at self.new) }
-    {
-        match delivery {
-            Delivery::Start(g, _) => Ok(self.start(alloc, g)?),
-            Delivery::Wake(g, waiting) => {
-                self.say(Line::Resume {
-                    greenlet: g,
-                    by: Resumed::Wake,
-                })?;
-                self.drop_items(&Gone::WaitOf(g));
-                let performed = self.completes(waiting)?;
-                Ok(self.follows(alloc, g, performed)?)
-            }
-            Delivery::Timeout(g, n, _) => Ok(self.interrupts(alloc, g, FaultKind::Timeout(n))?),
-            Delivery::Kill(g, kind) => Ok(self.interrupts(alloc, g, kind)?),
-            _ => Err(AllocError),
-        }
-    }
-
-    /// The item goes and is delivered.
-    pub fn deliver(&mut self, alloc: Global, at: usize) -> Result<At, AllocError>
-        requires { at < length self.old.items }
-        ensures { IfOk result (λ next. (i : AnyItem) → slice_get self.old.items at ≡ Some i → deliver i self.old ≡ next_at next self.new) }
-    {
-        if self.is_late(at) {
-            return Err(AllocError);
-        }
-        let item = self.take_item(at);
-        let Item {
-            since: _,
-            delivery,
-            ready: _,
-        } = item;
-        Ok(self.delivers(alloc, delivery)?)
-    }
+/// The item goes and is delivered.
+#[tactic(auto, using(crate::proofs::Delivered::run_item, crate::proofs::Delivered::declared_without, crate::proofs::Delivered::delivered_as, crate::proofs::Readily::ready_delivered))]
+pub fn deliver(alloc: Global, hub: &mut Hub, at: usize) -> Result<Stand, AllocError>
+    requires there { at < length hub.old.items }
+    requires ready { IsReady hub.old }
+    ensures delivered { IfOk result (λ next. (i : AnyItem) → slice_get hub.old.items at ≡ Some i → deliver i hub.old ≡ next_at next hub.new) }
+    ensures ready { IfOk result (λ next. IsReadyAt (next_at next hub.new)) }
+{
+    let Item {
+        since: _,
+        delivery,
+        ready: _,
+    } = hub.take_item(at);
+    Ok(delivers(alloc, hub, delivery)?)
 }

@@ -1,15 +1,17 @@
-//! Waiting: how a greenlet parks, and what the completion of a wait gives.
-ghost use Rattle.std.specs.Prelude.{◌≡◌, ℕ, None, IfOk, OnOk};
-ghost use Rattle.hub_machine.specs.Holds.{newcomer_completes};
-ghost use Rattle.hub_machine.specs.Waits.{parked, waits, completes, comes};
-ghost use Rattle.hub_engine.specs.Steps.{performed_of};
+//! Waiting: how a greenlet parks.
+ghost use Rattle.std.specs.Prelude.{◌≡◌, None, IfOk, OnOk};
+ghost use Rattle.scenario_tree.specs.declared.tree.Wait.TheVariants as wait;
+ghost use Rattle.hub_machine.specs.declared.items.Waiting.TheVariants as waiting;
+ghost use Rattle.gv_values.specs.declared.value.Whom.TheVariants as whom;
+ghost use Rattle.trace_text.specs.declared.line.Awaited.TheVariants as awaited;
+ghost use Rattle.hub_machine.specs.Waits.{parked, comes, until_of};
 ghost use Rattle.hub_engine.specs.Making.{MayMake};
+ghost use Rattle.hub_engine.specs.Stands.{performed_of};
 
-use crate::Engine;
 use crate::performs::Performed;
-use gv_values::{Outcome, Value};
+use gv_values::{Outcome, Value, Whom};
 use hub_machine::items::{Delivery, Waiting};
-use scenario_tree::Wait;
+use hub_state::Hub;
 use std::alloc::AllocError;
 use trace_text::{Awaited, Line};
 
@@ -23,83 +25,43 @@ fn until_of(waiting: &Waiting) -> Option<u64>
     }
 }
 
-ghost use Rattle.hub_machine.specs.Waits.{until_of};
+/// The greenlet parks without a deadline of its own.
+#[tactic(auto, using(hub_soundness::proofs::Singles::wake_unclaimed))]
+fn park(hub: &mut Hub, g: u32, awaited: Awaited, waiting: Waiting) -> Result<(), AllocError>
+    requires { MayMake g hub.old }
+    ensures { OnOk result (hub.new ≡ parked g awaited waiting None hub.old) }
+{
+    hub.say(Line::Park {
+        greenlet: g,
+        awaited,
+        until: until_of(&waiting),
+    })?;
+    hub.add_item(Delivery::Wake(g, waiting))?;
+    Ok(())
+}
 
-impl Engine {
-    /// The greenlet parks without a deadline of its own.
-    #[tactic(auto, using(hub_soundness::proofs::Singles::wake_unclaimed))]
-    fn park(&mut self, g: u32, awaited: Awaited, waiting: Waiting) -> Result<(), AllocError>
-        requires { MayMake g self.old }
-        ensures { OnOk result (self.new ≡ parked g awaited waiting None self.old) }
-    {
-        self.say(Line::Park {
-            greenlet: g,
-            awaited,
-            until: until_of(&waiting),
-        })?;
-        self.add_item(Delivery::Wake(g, waiting))?;
-        Ok(())
-    }
+/// The greenlet sleeps until the moment.
+pub fn sleeps(hub: &mut Hub, g: u32, until: u64) -> Result<Performed, AllocError>
+    requires { MayMake g hub.old }
+    ensures { IfOk result (λ p. comes g awaited.Sleep (waiting.Sleep until) wait.Block hub.old ≡ performed_of p hub.new) }
+{
+    park(hub, g, Awaited::Sleep, Waiting::Sleep(until))?;
+    Ok(Performed::Parks)
+}
 
-    /// The wait begins. One with a time or `now` is not run yet; it is answered as want of memory.
-    fn waits(
-        &mut self,
-        g: u32,
-        awaited: Awaited,
-        waiting: Waiting,
-        how: Wait,
-    ) -> Result<Performed, AllocError>
-        requires { MayMake g self.old }
-        ensures { IfOk result (λ p. waits g awaited waiting how self.old ≡ performed_of p self.new) }
-    {
-        match how {
-            Wait::Block => {
-                self.park(g, awaited, waiting)?;
-                Ok(Performed::Parks)
-            }
-            _ => Err(AllocError),
-        }
+/// The greenlet waits for the end of another, unless that has ended.
+pub fn joins(hub: &mut Hub, g: u32, other: u32) -> Result<Performed, AllocError>
+    requires { MayMake g hub.old }
+    ensures { IfOk result (λ p. comes g (awaited.Join (whom.Greenlet other)) (waiting.Join other) wait.Block hub.old ≡ performed_of p hub.new) }
+{
+    if hub.is_done(other) {
+        return Ok(Performed::Answers(Outcome::Value(Value::Nothing)));
     }
-
-    /// Whether the wait of a greenlet that comes now is over at once. Waits other than sleeps and
-    /// joins are not run yet; they are answered as want of memory.
-    fn newcomer_completes(&self, waiting: &Waiting) -> Result<bool, AllocError>
-        ensures { (g : ℕ) → IfOk result (λ b. b ≡ newcomer_completes self.now g waiting.now) }
-    {
-        match waiting {
-            Waiting::Sleep(_) => Ok(false),
-            Waiting::Join(_) => Ok(self.wait_holds(self.next_since, waiting)),
-            _ => Err(AllocError),
-        }
-    }
-
-    /// What the completion of the wait gives. Waits other than sleeps and joins are not run yet;
-    /// they are answered as want of memory.
-    pub fn completes(&mut self, waiting: Waiting) -> Result<Performed, AllocError>
-        ensures { (g : ℕ) → IfOk result (λ p. completes g waiting self.old ≡ performed_of p self.new) }
-    {
-        match waiting {
-            Waiting::Sleep(_) => Ok(Performed::Answers(Outcome::Value(Value::Nothing))),
-            Waiting::Join(_) => Ok(Performed::Answers(Outcome::Value(Value::Nothing))),
-            _ => Err(AllocError),
-        }
-    }
-
-    /// The wait completes at once, or the greenlet waits.
-    pub fn comes(
-        &mut self,
-        g: u32,
-        awaited: Awaited,
-        waiting: Waiting,
-        how: Wait,
-    ) -> Result<Performed, AllocError>
-        requires { MayMake g self.old }
-        ensures { IfOk result (λ p. comes g awaited waiting how self.old ≡ performed_of p self.new) }
-    {
-        if self.newcomer_completes(&waiting)? {
-            Ok(self.completes(waiting)?)
-        } else {
-            Ok(self.waits(g, awaited, waiting, how)?)
-        }
-    }
+    park(
+        hub,
+        g,
+        Awaited::Join(Whom::Greenlet(other)),
+        Waiting::Join(other),
+    )?;
+    Ok(Performed::Parks)
 }

@@ -44,7 +44,7 @@ use Rattle.hub_soundness.proofs.Performs.{follows-soundly}
 
 -- ---- an item is taken
 
-all-without : (p : Item → Bool) (n : ℕ) (items : List Item) → list_all p items ≡ true → list_all p (without n items) ≡ true
+pub all-without : (p : Item → Bool) (n : ℕ) (items : List Item) → list_all p items ≡ true → list_all p (without n items) ≡ true
 all-without p n [] h = refl
 all-without p n (i ∷ items) h = by (i.since == n) (all-without p n items (right (p i) _ h))
   where

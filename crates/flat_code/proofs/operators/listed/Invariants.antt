@@ -1,7 +1,10 @@
-use Rattle.std.proofs.Common.{◌≡◌, drop}
+use Rattle.std.proofs.Common.{◌≡◌, drop, length}
 use Rattle.hub_machine.specs.Expressions.{scalars}
 use Rattle.flat_code.proofs.Operands.{preceded}
 use Rattle.flat_code.proofs.operators.listed.Given as goal
 
 abbrev pub invariant-loop-value : goal.invariant-loop-value
-invariant-loop-value l = scalars l.values ≡ preceded l.list (scalars (drop l.value-index l.values))
+invariant-loop-value l = record {
+  same : scalars l.values ≡ preceded l.list (scalars (drop l.value-index l.values));
+  count : length l.list ≡ l.value-index;
+}

@@ -3,10 +3,10 @@ use Rattle.gv_top.specs.declared.words.TextCommand.{TextCommand}
 use Rattle.gv_top.proofs.laws.texts_are_answered.Goals as goal
 
 pub returns-clause-run : goal.returns-clause-run
-returns-clause-run c = λ s bytes t. runs_the_text s bytes t
+returns-clause-run c = λ budgets s bytes t w e. runs_the_text budgets s bytes t w e
 
-pub returns-clause-other_form : goal.returns-clause-other_form
-returns-clause-other_form c = λ s bytes t w other. runs_no_other s bytes t w other
+pub returns-clause-not_built : goal.returns-clause-not_built
+returns-clause-not_built c = λ budgets s bytes n t w e. runs_no_other budgets s bytes n t w e
 
 pub returns-clause-formatted : goal.returns-clause-formatted
 returns-clause-formatted c = λ s bytes t w. answered_as TextCommand.Format s bytes t w

@@ -5,12 +5,14 @@ use Rattle.gv_top.proofs.Tops.{answered, answers_connection, by_status, fault_li
 use Rattle.gv_top.proofs.top.gvr.Goals as goal
 
 pub returns-clause-trace : goal.returns-clause-trace
-returns-clause-trace g c = λ s left runs told text.
-    answered_so _ _ TextCommand.Run _ left _ _ _ _ runs (runs_the_text s _ text) (answered _ _ _ _ _ _ _ (c.decides-verdict.ensures.answer left told) c.tells.ensures.line)
+returns-clause-trace g c = λ budgets s left runs told text well built.
+    answered_so _ _ (TextCommand.Run budgets) _ left _ _ _ _ runs (runs_the_text budgets s _ text well built)
+    (answered _ _ _ _ _ _ _ (c.decides-verdict.ensures.answer left told) c.tells.ensures.line)
 
-pub returns-clause-other_form : goal.returns-clause-other_form
-returns-clause-other_form g c = λ s left runs told text well other.
-    answered_so _ _ TextCommand.Run _ left _ _ _ _ runs (runs_no_other s _ text well other) (answered _ _ _ _ _ _ _ (c.decides-verdict.ensures.answer left told) c.tells.ensures.line)
+pub returns-clause-not_built : goal.returns-clause-not_built
+returns-clause-not_built g c = λ budgets s left n runs told text well other.
+    answered_so _ _ (TextCommand.Run budgets) _ left _ _ _ _ runs (runs_no_other budgets s _ n text well other)
+    (answered _ _ _ _ _ _ _ (c.decides-verdict.ensures.answer left told) c.tells.ensures.line)
 
 pub returns-clause-formatted : goal.returns-clause-formatted
 returns-clause-formatted g c = λ s left formats told text well.

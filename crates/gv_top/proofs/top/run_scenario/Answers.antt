@@ -1,9 +1,9 @@
-use Rattle.std.proofs.Common.{Some, ap, sym, ◌∙◌}
-use Rattle.gv_top.proofs.Deciding.{ran_whole, no_run_ends_by_a_write}
+use Rattle.gv_io.proofs.StreamLaws.{AppendsPrefix-nothing}
+use Rattle.gv_top.proofs.Deciding.{cut_at_the_flush}
 use Rattle.gv_top.proofs.top.run_scenario.Goals as goal
 
-pub returns-in-Ok-clause-written : goal.returns-in-Ok-clause-written
-returns-in-Ok-clause-written g c = ran_whole _ _ _ _ c.in-Ok.ensures.written c.in-Ok.ensures.end
+pub returns-in_default-clause-written : goal.returns-in_default-clause-written
+returns-in_default-clause-written g c = AppendsPrefix-nothing _ _
 
-pub returns-in-Ok-clause-failed : goal.returns-in-Ok-clause-failed
-returns-in-Ok-clause-failed g c = λ e. absurd (no_run_ends_by_a_write _ (ap Some (sym e) ∙ c.in-Ok.ensures.end))
+pub returns-in-Err-clause-written : goal.returns-in-Err-clause-written
+returns-in-Err-clause-written g c = cut_at_the_flush c.run-end.result.end c.in-Ok.engine c.args.budgets c.args.checked _ _ _ c.in-Ok.ensures c.run-end.ensures.written c.flush.ensures.same

@@ -1,4 +1,4 @@
-use Rattle.std.proofs.Common.{◌≡◌, ◌∙◌, ap}
+use Rattle.std.proofs.Common.{◌∙◌, ap}
 use Rattle.scenario_tree.specs.declared.tree.Expression.{Expression}
 use Rattle.hub_machine.specs.Bodies.{around}
 use Rattle.hub_machine.specs.Expressions.{meaning}

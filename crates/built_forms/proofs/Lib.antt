@@ -1,0 +1,4 @@
+pub mod ByForm
+pub mod FirstLine
+pub mod Layers
+mod Rows

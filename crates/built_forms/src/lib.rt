@@ -1,0 +1,12 @@
+//! Which forms of the language are run so far, and the first line of a scenario that has another.
+#![tactic(auto)]
+
+mod blocks;
+mod commands;
+mod expressions;
+mod lines;
+#[cfg(test)]
+mod tests;
+mod whole;
+
+pub use whole::unbuilt;

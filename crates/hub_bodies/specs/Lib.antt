@@ -1,0 +1,5 @@
+pub mod Going
+pub mod Held
+pub mod Places
+pub mod Standings
+pub mod Timeouts

@@ -1,0 +1,189 @@
+-- A move of a greenlet whose body stands with the step of the hub.
+use Rattle.std.proofs.Common.{◌≡◌, refl, ap, sym, ◌∙◌, subst, ℕ, zero, suc, ◌+◌, ◌<◌, ◌==◌, Bool, true, false, List, [], ◌∷◌, map, Option, Some, None, slice_get, slice_set, unwrap_or, if◌then◌else◌, arith}
+use Rattle.std.proofs.lemmas.Bool.Decides.{nat_tests}
+use Rattle.std.proofs.Math.Path.{fun_ext}
+use Rattle.std.specs.Prelude.{is_some, nat_le, count_by, ◌^◌}
+use Rattle.std.specs.List.{list_all}
+use Rattle.gv_values.specs.declared.value.Outcome.{Outcome}
+use Rattle.gv_values.specs.declared.value.Whom.{Whom}
+use Rattle.scenario_tree.specs.declared.tree.Scenario.{Scenario}
+use Rattle.hub_machine.specs.declared.items.Delivery.{Delivery}
+use Rattle.hub_machine.specs.declared.items.Item.{Item}
+use Rattle.hub_machine.specs.declared.items.Waiting.{Waiting}
+use Rattle.hub_machine.specs.declared.state.Frame.{Frame}
+use Rattle.hub_machine.specs.declared.state.Greenlet.{Greenlet}
+use Rattle.hub_machine.specs.declared.state.Local.{Local}
+use Rattle.hub_machine.specs.declared.state.Object.{Object}
+use Rattle.hub_machine.specs.declared.state.Phase.{Phase}
+use Rattle.hub_machine.specs.Bodies.{Step, around}
+use Rattle.hub_machine.specs.Expressions.{Look}
+use Rattle.hub_machine.specs.Frames.{Did, body_move}
+use Rattle.hub_machine.specs.Holds.{delivery_holds, holds, link_holds, outcome_of, outcome_of_phase, phase_of, wait_holds}
+use Rattle.hub_machine.specs.Life.{Next, frame_of, greenlet, lands, no_frame, nobody, with_phase}
+use Rattle.hub_machine.specs.Moves.{does, follows, look, move}
+use Rattle.hub_machine.specs.Raising.{unwind}
+use Rattle.hub_machine.specs.Settle.{numbers_after, settle, settled}
+use Rattle.hub_machine.specs.Soundness.{is_under_way}
+use Rattle.hub_machine.specs.State.{State}
+use Rattle.hub_soundness.specs.Going.{IsSoundAt, next_did}
+use Rattle.hub_soundness.proofs.Lists.{left}
+use Rattle.hub_runnable.specs.Runnable.{IsRunnable, is_runnable_did, is_runnable_rest}
+use Rattle.hub_runnable.proofs.Bodies.{next-runnable}
+use Rattle.hub_bodies.specs.Places.{Came, Place, came_by}
+use Rattle.hub_state.specs.Sights.{AreCounted, look_of, outcome_seen}
+use Rattle.hub_engine.specs.Asking.{does_came, is_run}
+use Rattle.hub_engine.specs.Stands.{goes_to, next_at, performs_step}
+use Rattle.hub_engine.specs.declared.stand.Stand.{Stand}
+use Rattle.hub_engine.proofs.Blind.{goes_to_blind, phased, with_phase_twice}
+use Rattle.hub_engine.proofs.Bodies.{goes_as_placed}
+
+-- ---- what the body may ask of the hub
+
+counted-none : AreCounted []
+counted-none o = (omega arith, omega arith)
+
+-- there is nothing to count yet
+pub counted : (g : ℕ) (body : Frame) (s : State) → IsRunnable (with_phase g (Phase.Live body) s) → AreCounted s.objects
+counted g body s r = subst AreCounted (sym r.objects) counted-none
+
+-- what the greenlet at this place has ended with
+abbrev ended_at : List Greenlet → ℕ → Option Outcome
+ended_at gs h = elim (slice_get gs h) [ None ↦ None | Some x ↦ outcome_of_phase x.phase ]
+
+ended-here : (gs : List Greenlet) (g : ℕ) (x : Greenlet) → outcome_of_phase x.phase ≡ None → ended_at (slice_set gs g x) g ≡ None
+ended-here [] g x e = refl
+ended-here (y ∷ gs) zero x e = e
+ended-here (y ∷ gs) (suc g) x e = ended-here gs g x e
+
+ended-other : (gs : List Greenlet) (g h : ℕ) (x : Greenlet) → (g ≡ h → ⊥) → ended_at (slice_set gs g x) h ≡ ended_at gs h
+ended-other [] g h x n = refl
+ended-other (y ∷ gs) zero zero x n = absurd (n refl)
+ended-other (y ∷ gs) zero (suc h) x n = refl
+ended-other (y ∷ gs) (suc g) zero x n = refl
+ended-other (y ∷ gs) (suc g) (suc h) x n = ended-other gs g h x (λ e. n (ap suc e))
+
+seen-at : (gs : List Greenlet) (g h : ℕ) (x : Greenlet) → outcome_of_phase x.phase ≡ None → ended_at (slice_set gs g x) h ≡ (if h == g then None else ended_at gs h)
+seen-at gs g h x e = by (h == g) refl
+  where
+    by : (b : Bool) → (h == g) ≡ b → ended_at (slice_set gs g x) h ≡ (if b then None else ended_at gs h)
+    by true q = let same : h ≡ g = grind (arith, nat_tests, q) in subst (λ (n : ℕ). ended_at (slice_set gs g x) n ≡ None) (sym same) (ended-here gs g x e)
+    by false q = ended-other gs g h x (λ z. grind (arith, nat_tests, q, z))
+
+seen : (g : ℕ) (body : Frame) (s : State) (w : Whom) → outcome_of (with_phase g (Phase.Live body) s) w ≡ outcome_seen (record { current = g; state = s }) w
+seen g body s (Whom.Greenlet h) = seen-at s.greenlets g h (phased s.greenlets g (Phase.Live body)) refl
+seen g body s (Whom.Job j) = refl
+
+outcomes-seen : (g : ℕ) (body : Frame) (s : State) → outcome_of (with_phase g (Phase.Live body) s) ≡ outcome_seen (record { current = g; state = s })
+outcomes-seen g body s = fun_ext (seen g body s)
+
+-- the look at the same with another way to ask for outcomes
+abbrev asking_so : State → ℕ → (Whom → Option Outcome) → Look
+asking_so s g f = record (look g s) { outcome = f }
+
+look-same : (g : ℕ) (body : Frame) (s : State) → look_of (record { current = g; state = s }) ≡ look g (with_phase g (Phase.Live body) s)
+look-same g body s = ap (asking_so s g) (sym (outcomes-seen g body s))
+
+-- ---- settling
+
+-- a wait that holds by outcomes holds where these are the same
+wait-same : (s : State) (gs : List Greenlet) (since : ℕ) (w : Waiting) → outcome_of (record s { greenlets = gs }) ≡ outcome_of s →
+    wait_holds (record s { greenlets = gs }) since w ≡ wait_holds s since w
+wait-same s gs since (Waiting.Join h) e = ap (λ (f : Whom → Option Outcome). is_some (f (Whom.Greenlet h))) e
+wait-same s gs since (Waiting.Get whom) e = ap (λ (f : Whom → Option Outcome). is_some (f whom)) e
+wait-same s gs since (Waiting.Kill hs) e = ap (λ (f : Whom → Option Outcome). list_all (λ h. is_some (f (Whom.Greenlet h))) hs) e
+wait-same s gs since (Waiting.JoinAll hs need) e = ap (λ (f : Whom → Option Outcome). nat_le need (count_by (λ h. is_some (f (Whom.Greenlet h))) hs)) e
+wait-same s gs since (Waiting.MapEnd o hs) e = ap (λ (f : Whom → Option Outcome). list_all (λ h. is_some (f (Whom.Greenlet h))) hs) e
+wait-same s gs since w e = refl
+
+delivery-same : (s : State) (gs : List Greenlet) (since : ℕ) (d : Delivery) → outcome_of (record s { greenlets = gs }) ≡ outcome_of s →
+    delivery_holds (record s { greenlets = gs }) since d ≡ delivery_holds s since d
+delivery-same s gs since (Delivery.Wake g w) e = wait-same s gs since w e
+delivery-same s gs since (Delivery.Link k g kind f) e = ap (λ (o : Whom → Option Outcome). link_holds kind (o (Whom.Greenlet g))) e
+delivery-same s gs since d e = refl
+
+holds-same : (s : State) (gs : List Greenlet) → outcome_of (record s { greenlets = gs }) ≡ outcome_of s → holds (record s { greenlets = gs }) ≡ holds s
+holds-same s gs e = fun_ext (λ i. delivery-same s gs i.since i.delivery e)
+
+-- the settling, where it is known which items hold
+abbrev settled_by : State → (Item → Bool) → State
+settled_by s h = record s { items = settled (map h s.items) s.next_ready s.items; next_ready = numbers_after (map h s.items) s.next_ready s.items }
+
+-- the body of a greenlet that is under way changes nothing of what holds
+settle-under-way : (g : ℕ) (body : Frame) (s : State) →
+    settle (with_phase g (Phase.Live body) (with_phase g (Phase.Live no_frame) s)) ≡ with_phase g (Phase.Live body) (settle (with_phase g (Phase.Live no_frame) s))
+settle-under-way g body s =
+    let t = with_phase g (Phase.Live no_frame) s in
+    let u = with_phase g (Phase.Live body) t in
+    let same : outcome_of u ≡ outcome_of t =
+    ap outcome_of (with_phase_twice g (Phase.Live no_frame) (Phase.Live body) s) ∙ outcomes-seen g body s ∙ sym (outcomes-seen g no_frame s) in
+    ap (settled_by u) (holds-same t u.greenlets same)
+
+pub settles_under_way : (g : ℕ) (before : Frame) (place : Place) (s t u v : State) (at : Stand) → t ≡ with_phase g (Phase.Live no_frame) s → u ≡ settle t →
+    goes_to lands g place u ≡ next_at at v → goes_to lands g place (settle (with_phase g (Phase.Live before) s)) ≡ next_at at v
+settles_under_way g before place s t u v at e f h =
+    let x = with_phase g (Phase.Live no_frame) s in
+    ap (λ (y : State). goes_to lands g place (settle y)) (sym (with_phase_twice g (Phase.Live no_frame) (Phase.Live before) s))
+    ∙ ap (goes_to lands g place) (settle-under-way g before s)
+    ∙ goes_to_blind lands g place (Phase.Live before) (settle x)
+    ∙ ap (goes_to lands g place) (ap settle (sym e) ∙ sym f)
+    ∙ h
+
+pub asks_blind : (g : ℕ) (before body : Frame) (step : Step) (s v : State) (at : Stand) → follows g (performs_step step g (with_phase g (Phase.Live body) s)) ≡ next_at at v →
+    follows g (performs_step step g (with_phase g (Phase.Live body) (with_phase g (Phase.Live before) s))) ≡ next_at at v
+asks_blind g before body step s v at h =
+    ap (λ (y : State). follows g (performs_step step g y)) (with_phase_twice g (Phase.Live before) (Phase.Live body) s) ∙ h
+
+-- ---- the move
+
+does-as : (g : ℕ) (locals : List Local) (did : Did) (s : State) → does g locals did s ≡ does_came g (came_by locals did) s
+does-as g locals (Did.GoesOn how after todo) s = goes_as_placed lands g (unwind todo [] how after) (settle s)
+does-as g locals (Did.Enters ms silent body todo) s = refl
+does-as g locals (Did.Asks request x todo) s = refl
+
+-- the body of the greenlet at this place
+body-at : (gs : List Greenlet) (g : ℕ) (body : Frame) → is_under_way (phase_of g (slice_set gs g (phased gs g (Phase.Live body)))) ≡ true →
+    frame_of (unwrap_or (slice_get (slice_set gs g (phased gs g (Phase.Live body))) g) nobody).phase ≡ body
+body-at [] g body h = absurd (grind (arith, h))
+body-at (x ∷ gs) zero body h = refl
+body-at (x ∷ gs) (suc g) body h = body-at gs g body h
+
+-- what the body does, where it is this
+abbrev did_by : ℕ → State → Frame → Did
+did_by g s body = body_move body.todo (around s.scenario (look g s) body.locals)
+
+move-is : (g : ℕ) (s : State) (body : Frame) → frame_of (greenlet g s).phase ≡ body → move g s ≡ does g body.locals (did_by g s body) (record s { moves = s.moves + 1 })
+unfolding move
+move-is g s body e = ap (λ (b : Frame). does g b.locals (did_by g s b) (record s { moves = s.moves + 1 })) e
+
+-- what came of the move, by what the hub was seen as
+came-same : (g : ℕ) (body : Frame) (s : State) (came : Came) → came ≡ came_by body.locals (body_move body.todo (around s.scenario (look_of (record { current = g; state = s })) body.locals)) →
+    came ≡ came_by body.locals (did_by g (with_phase g (Phase.Live body) s) body)
+came-same g body s came e = e ∙ ap (λ (l : Look). came_by body.locals (body_move body.todo (around s.scenario l body.locals))) (look-same g body s)
+
+pub moved : (g : ℕ) (body : Frame) (s t v : State) (came : Came) (at : Stand) → IsSoundAt (Next.Going g (with_phase g (Phase.Live body) s)) →
+    came ≡ came_by body.locals (body_move body.todo (around s.scenario (look_of (record { current = g; state = s })) body.locals)) →
+    t ≡ record s { moves = s.moves + 1 } → ((before : Frame) → does_came g came (with_phase g (Phase.Live before) t) ≡ next_at at v) →
+    move g (with_phase g (Phase.Live body) s) ≡ next_at at v
+moved g body s t v came at h e f d =
+    let u = with_phase g (Phase.Live body) s in
+    move-is g u body (body-at s.greenlets g body h.1.live)
+    ∙ does-as g body.locals (did_by g u body) (record u { moves = u.moves + 1 })
+    ∙ ap (λ (c : Came). does_came g c (record u { moves = u.moves + 1 })) (sym (came-same g body s came e))
+    ∙ ap (λ (x : State). does_came g came (with_phase g (Phase.Live body) x)) (sym f)
+    ∙ d body
+
+did-runs : (c : Scenario) (locals : List Local) (did : Did) → is_runnable_did c did ≡ true → is_run c (came_by locals did) ≡ true
+did-runs c locals (Did.GoesOn how after todo) h = refl
+did-runs c locals (Did.Enters ms silent body todo) h = h
+did-runs c locals (Did.Asks request x todo) h = left _ (is_runnable_rest c todo) h
+
+-- what the body asks is run
+pub runs_it : (g : ℕ) (body : Frame) (s t : State) (came : Came) → IsSoundAt (Next.Going g (with_phase g (Phase.Live body) s)) → IsRunnable (with_phase g (Phase.Live body) s) →
+    came ≡ came_by body.locals (body_move body.todo (around s.scenario (look_of (record { current = g; state = s })) body.locals)) →
+    t ≡ record s { moves = s.moves + 1 } → is_run t.scenario came ≡ true
+runs_it g body s t came h r e f =
+    let u = with_phase g (Phase.Live body) s in
+    let here : next_did g u ≡ did_by g u body = ap (did_by g u) (body-at s.greenlets g body h.1.live) in
+    let did : is_runnable_did s.scenario (did_by g u body) ≡ true = subst (λ (d : Did). is_runnable_did s.scenario d ≡ true) here (next-runnable g u r) in
+    subst (λ (x : State). is_run x.scenario came ≡ true) (sym f)
+    (subst (λ (c : Came). is_run s.scenario c ≡ true) (sym (came-same g body s came e)) (did-runs s.scenario body.locals (did_by g u body) did))

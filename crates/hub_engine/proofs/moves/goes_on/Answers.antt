@@ -1,0 +1,20 @@
+use Rattle.std.proofs.Common.{◌∙◌, ap}
+use Rattle.hub_machine.specs.declared.state.Phase.{Phase}
+use Rattle.hub_machine.specs.Life.{lands, with_phase}
+use Rattle.flat_code.specs.Requests.{asking}
+use Rattle.hub_bodies.specs.Standings.{moved_of, reached_of}
+use Rattle.hub_bodies.specs.declared.Moved.{Moved}
+use Rattle.hub_engine.specs.Asking.{does_came}
+use Rattle.hub_engine.proofs.Moving.{asks_blind, settles_under_way}
+use Rattle.hub_engine.proofs.moves.goes_on.Goals as goal
+
+pub returns-in_ok-reaches-in-Comes : goal.returns-in_ok-reaches-in-Comes
+returns-in_ok-reaches-in-Comes c = λ before.
+    ap (λ (m : Moved). does_came c.args.g (moved_of m) (with_phase c.args.g (Phase.Live before) c.args.hub.now)) c.in-Comes.is
+    ∙ settles_under_way c.args.g before (reached_of c.in-Comes.reached) c.args.hub.now c.set_stage.new.self c.settle.new.self c.reaches.new.hub c.in_ok-reaches-in-Comes.field-0
+    c.set_stage.ensures c.in_ok-settle-in-Comes.ensures (c.in_ok-reaches-in-Comes.ensures lands)
+
+pub returns-in_ok-asks-in-Asks : goal.returns-in_ok-asks-in-Asks
+returns-in_ok-asks-in-Asks c = λ before.
+    ap (λ (m : Moved). does_came c.args.g (moved_of m) (with_phase c.args.g (Phase.Live before) c.args.hub.now)) c.in-Asks.is
+    ∙ asks_blind c.args.g before c.in-Asks.body (asking c.in-Asks.request) c.args.hub.now c.asks.new.hub c.in_ok-asks-in-Asks.field-0 c.in_ok-asks-in-Asks.ensures

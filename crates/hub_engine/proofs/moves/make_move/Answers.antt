@@ -1,0 +1,21 @@
+use Rattle.hub_machine.specs.declared.state.Phase.{Phase}
+use Rattle.hub_machine.specs.Life.{with_phase}
+use Rattle.hub_bodies.specs.Standings.{moved_of}
+use Rattle.hub_engine.proofs.Moving.{moved}
+use Rattle.hub_engine.proofs.Readily.{ready_moved}
+use Rattle.hub_engine.proofs.Soundly.{may_make}
+use Rattle.hub_engine.proofs.moves.make_move.Goals as goal
+
+pub goes_on-requires-clause-may_make : goal.goes_on-requires-clause-may_make
+goes_on-requires-clause-may_make c = may_make c.args.g c.args.body c.args.hub.now c.count_move.new.self c.requires.ready.sound c.in_ok-count_move.ensures
+
+pub returns-clause-moved : goal.returns-clause-moved
+returns-clause-moved c =
+    moved c.args.g c.args.body c.args.hub.now c.count_move.new.self c.goes_on.new.hub (moved_of c.in_ok-moved.moved) c.in_ok-goes_on.field-0 c.requires.ready.sound
+    c.in_ok-moved.ensures c.in_ok-count_move.ensures c.in_ok-goes_on.ensures
+
+pub returns-clause-ready : goal.returns-clause-ready
+returns-clause-ready c =
+    ready_moved c.args.g (with_phase c.args.g (Phase.Live c.args.body) c.args.hub.now) c.goes_on.new.hub c.in_ok-goes_on.field-0 c.requires.ready
+    (moved c.args.g c.args.body c.args.hub.now c.count_move.new.self c.goes_on.new.hub (moved_of c.in_ok-moved.moved) c.in_ok-goes_on.field-0 c.requires.ready.sound
+    c.in_ok-moved.ensures c.in_ok-count_move.ensures c.in_ok-goes_on.ensures)

@@ -1,9 +1,0 @@
-use Rattle.std.proofs.Common.{◌≡◌, length}
-use Rattle.hub_machine.specs.Raising.{catching}
-use Rattle.hub_engine.proofs.unwind.catching.Given as goal
-
-abbrev pub invariant-loop-f : goal.invariant-loop-f
-invariant-loop-f l = catching l.f l.fn.excepts ≡ catching l.f l.excepts
-
-abbrev pub decreases-loop-f : goal.decreases-loop-f
-decreases-loop-f l = length l.excepts

@@ -1,0 +1,32 @@
+-- Where the hub stands between two steps, and what the code's steps come to.
+use Rattle.std.specs.Prelude.{ℕ}
+use Rattle.hub_machine.specs.declared.state.Phase.{Phase}
+use Rattle.hub_machine.specs.State.{State}
+use Rattle.hub_machine.specs.Bodies.{Step}
+use Rattle.hub_machine.specs.Life.{Next, Landing, after_end, drop_items, is_timeout_of, with_phase}
+use Rattle.hub_machine.specs.Moves.{performs}
+use Rattle.hub_machine.specs.Waits.{Performed}
+use Rattle.hub_bodies.specs.Places.{Place}
+use Rattle.hub_engine.specs.declared.stand.Stand.{Stand}
+use Rattle.hub_engine.specs.declared.performs.Performed.{Performed as Came}
+
+-- the body of the greenlet under way stands with the hub's step, and not in the state
+abbrev pub next_at : Stand → State → Next
+next_at (Stand.Going g body) s = Next.Going g (with_phase g (Phase.Live body) s)
+next_at Stand.Resting s = Next.Resting s
+next_at (Stand.Over cause) s = Next.Over cause s
+
+-- the greenlet goes on to the place that its body came to
+abbrev pub goes_to : Landing → ℕ → Place → State → Next
+goes_to up g (Place.AtMove left body) s = Next.Going g (with_phase g (Phase.Live body) (drop_items (is_timeout_of g left) s))
+goes_to up g (Place.AtEnd left o) s = after_end up g o (drop_items (is_timeout_of g left) s)
+
+abbrev pub performed_of : Came → State → Performed
+performed_of (Came.Answers o) s = Performed.Answers o s
+performed_of Came.Parks s = Performed.Parks s
+performed_of (Came.Stops cause) s = Performed.Stops cause s
+
+-- the effect of what a body asks; the other steps ask nothing of the hub
+abbrev pub performs_step : Step → ℕ → State → Performed
+performs_step (Step.Asks request) g s = performs request g s
+performs_step step g s = Performed.Parks s

@@ -1,0 +1,19 @@
+use hub_bodies::Moving;
+use trace_text::StopCause;
+
+/// Where the hub stands between two steps.
+#[derive(Drop)]
+pub enum Stand {
+    /// The greenlet is under way, with this body at its next move.
+    Going(u32, Moving),
+    /// No greenlet is under way.
+    Resting,
+    Over(StopCause),
+}
+
+/// Whether a part of the run came to rest, or the run is over.
+#[derive(Drop)]
+pub enum Came {
+    ToRest,
+    ToAnEnd(StopCause),
+}

@@ -1,0 +1,6 @@
+pub mod Forms
+pub mod Begins
+pub mod Bodies
+pub mod Layers
+pub mod States
+pub mod Steps

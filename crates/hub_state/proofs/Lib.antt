@@ -1,0 +1,5 @@
+pub mod Leasts
+pub mod Leaving
+pub mod PhaseSets
+pub mod Removals
+pub mod Sounds

@@ -1,0 +1,20 @@
+-- How far a greenlet has come.
+use Rattle.std.specs.Prelude.{ℕ, List, Option, Some, None, slice_get, false}
+use Rattle.hub_machine.specs.declared.state.Greenlet.{Greenlet as Shown}
+use Rattle.hub_machine.specs.declared.state.Phase.{Phase}
+use Rattle.hub_machine.specs.Life.{no_frame}
+use Rattle.hub_state.specs.declared.greenlets.Stage.{Stage}
+
+-- the phase of the machine; the body of a greenlet that is under way is with the hub's step
+abbrev pub phase_of : Stage → Phase
+phase_of (Stage.New args) = Phase.New args
+phase_of (Stage.Live frame) = Phase.Live frame
+phase_of Stage.UnderWay = Phase.Live no_frame
+phase_of (Stage.Done o) = Phase.Done o
+
+-- no greenlet that is run yet is raw
+abbrev pub shown : ℕ → Phase → Shown
+shown function phase = record { raw = false; parent = 0; function = function; phase = phase }
+
+abbrev pub phase_at : ℕ → List Shown → Option Phase
+phase_at g greenlets = elim (slice_get greenlets g) [ None ↦ None | Some x ↦ Some x.phase ]

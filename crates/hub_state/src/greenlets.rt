@@ -1,0 +1,183 @@
+//! The greenlets in order of making, and how far each has come.
+ghost use Rattle.std.specs.Prelude.{◌≡◌, ◌<◌, ◌≤◌, [], ◌∷◌, ◌++◌, false, length, slice_get, slice_set, unwrap_or, option_map, nat_lt, OnOk, IfOk};
+ghost use Rattle.std.specs.Option.{option_copied};
+ghost use Rattle.hub_machine.specs.declared.state.Phase.{Phase};
+ghost use Rattle.hub_machine.specs.Holds.{outcome_of_phase};
+ghost use Rattle.hub_machine.specs.Life.{nobody};
+ghost use Rattle.hub_state.specs.Phases.{phase_of, phase_at, shown};
+
+use gv_values::{Outcome, Value};
+use hub_bodies::Parked;
+use scenario_tree::Items;
+use std::alloc::{AllocError, Global};
+use std::marker::Model;
+use std::mem;
+
+/// The most greenlets of a run.
+const MOST: usize = 20000;
+
+/// How far a greenlet has come.
+#[derive(Drop)]
+pub enum Stage {
+    /// Not started, with the arguments of its function.
+    New(Items<Value>),
+    /// Its body waits for an answer.
+    Live(Parked),
+    /// It makes its moves; its body is with the step of the hub.
+    UnderWay,
+    Done(Outcome),
+}
+
+/// A greenlet. None that is run yet is raw.
+#[derive(Drop)]
+pub struct Greenlet {
+    function: u32,
+    stage: Stage,
+}
+
+impl Model for Greenlet {
+    ghost use Rattle.hub_machine.specs.declared.state.Greenlet.{Greenlet as Shown};
+    ghost use Rattle.hub_state.specs.Phases.{phase_of, shown};
+    ghost use Rattle.std.specs.Coded.{codes};
+    ghost use Rattle.scenario_tree.specs.contracts.tree.Expression as expression;
+    ghost use Rattle.scenario_tree.specs.contracts.tree.Action as action;
+    ghost use Rattle.scenario_tree.specs.contracts.tree.Except as except;
+    ghost use Rattle.scenario_tree.specs.contracts.tree.Statement as statement;
+
+    ghost Value = { Shown };
+
+    ghost coded = { Prim.hlevel (codes, expression.the_row.coded, action.the_row.coded, except.the_row.coded, statement.the_row.coded) };
+
+    ghost view = { λ g. shown g.function (phase_of g.stage) };
+}
+
+impl Greenlet {
+    /// One that has not started.
+    pub(crate) fn new(function: u32, arguments: Items<Value>) -> Greenlet
+        ensures { result ≡ shown function (Phase.New arguments) }
+    {
+        Greenlet {
+            function,
+            stage: Stage::New(arguments),
+        }
+    }
+
+    pub(crate) fn function(&self) -> u32
+        ensures { result ≡ self.now.function }
+    {
+        self.function
+    }
+
+    /// No greenlet is raw.
+    pub(crate) fn is_raw(&self) -> bool
+        ensures raw { result ≡ self.now.raw }
+        ensures never { result ≡ false }
+    {
+        let _ = &self.function;
+        false
+    }
+
+    /// What it ended with, if it did.
+    pub(crate) fn outcome(&self) -> Option<&Outcome>
+        ensures { option_copied result ≡ outcome_of_phase self.now.phase }
+    {
+        match &self.stage {
+            Stage::Done(outcome) => Some(outcome),
+            _ => None,
+        }
+    }
+
+    /// Gives it this stage, and answers the one that it had.
+    fn swap(&mut self, stage: Stage) -> Stage
+        ensures set { self.new ≡ record self.old { phase = phase_of stage } }
+        ensures was { phase_of result ≡ self.old.phase }
+    {
+        mem::replace(&mut self.stage, stage)
+    }
+}
+
+/// The greenlets in order of making; a greenlet's number is its place.
+#[derive(Drop)]
+pub struct Greenlets {
+    all: Vec<Greenlet>,
+}
+
+impl Model for Greenlets {
+    ghost use Rattle.std.specs.Prelude.{◌≤◌, List, length};
+    ghost use Rattle.hub_machine.specs.declared.state.Greenlet.{Greenlet as Shown};
+    ghost use Rattle.std.specs.Coded.{codes};
+    ghost use Rattle.scenario_tree.specs.contracts.tree.Expression as expression;
+    ghost use Rattle.scenario_tree.specs.contracts.tree.Action as action;
+    ghost use Rattle.scenario_tree.specs.contracts.tree.Except as except;
+    ghost use Rattle.scenario_tree.specs.contracts.tree.Statement as statement;
+
+    ghost Value = { List Shown };
+
+    ghost coded = { Prim.hlevel (codes, expression.the_row.coded, action.the_row.coded, except.the_row.coded, statement.the_row.coded) };
+
+    ghost view = { λ gs. gs.all.items };
+
+    ghost invariant = { λ gs. length gs.all.items ≤ 20000 };
+}
+
+impl Greenlets {
+    /// Main alone, which runs this function and has not started.
+    pub(crate) fn first(alloc: Global, function: u32) -> Result<Greenlets, AllocError>
+        ensures { IfOk result (λ gs. gs ≡ shown function (Phase.New []) ∷ []) }
+    {
+        let mut all = Vec::new(alloc);
+        all.push(Greenlet::new(function, Items::new(alloc)))?;
+        Ok(Greenlets { all })
+    }
+
+    /// The greenlet of this number.
+    pub(crate) fn get(&self, g: u32) -> Option<&Greenlet>
+        ensures { option_copied result ≡ slice_get self.now g }
+    {
+        self.all.get(g as usize)
+    }
+
+    /// How many were made.
+    pub(crate) fn len(&self) -> u32
+        ensures { result ≡ length self.now }
+    {
+        self.all.len() as u32
+    }
+
+    /// Whether one more may be made.
+    pub(crate) fn has_room(&self) -> bool
+        ensures { result ≡ nat_lt (length self.now) 20000 }
+    {
+        self.all.len() < MOST
+    }
+
+    /// One more, the newest.
+    pub(crate) fn push(&mut self, greenlet: Greenlet) -> Result<(), AllocError>
+        requires { length self.old < 20000 }
+        ensures { OnOk result (self.new ≡ self.old ++ greenlet ∷ []) }
+    {
+        self.all.push(greenlet)?;
+        Ok(())
+    }
+
+    /// Gives the greenlet this stage, and answers the one that it had.
+    pub(crate) fn swap(&mut self, g: u32, stage: Stage) -> Option<Stage>
+        ensures set { self.new ≡ slice_set self.old g (record (unwrap_or (slice_get self.old g) nobody) { phase = phase_of stage }) }
+        ensures was { option_map phase_of result ≡ phase_at g self.old }
+    {
+        swap_stage(&mut self.all, g, stage)
+    }
+}
+
+/// Gives the greenlet this stage, and answers the one that it had.
+#[tactic(auto, using(crate::proofs::PhaseSets::phase_set, crate::proofs::PhaseSets::phase_was, crate::proofs::PhaseSets::phase_none, crate::proofs::PhaseSets::phase_out))]
+fn swap_stage(greenlets: &mut [Greenlet], g: u32, stage: Stage) -> Option<Stage>
+    ensures set { greenlets.new ≡ slice_set greenlets.old g (record (unwrap_or (slice_get greenlets.old g) nobody) { phase = phase_of stage }) }
+    ensures was { option_map phase_of result ≡ phase_at g greenlets.old }
+{
+    if g as usize >= greenlets.len() {
+        return None;
+    }
+    let greenlet = &mut greenlets[g as usize];
+    Some(greenlet.swap(stage))
+}

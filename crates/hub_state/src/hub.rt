@@ -1,0 +1,59 @@
+//! The state itself.
+use crate::greenlets::Greenlets;
+use flat_code::Code;
+use hub_machine::items::Item;
+use hub_machine::state::Object;
+use std::marker::Model;
+use trace_text::Line;
+
+/// The hub, its greenlets and their items: one state of the machine. No statement that posts a job is run
+/// yet, so that there are no jobs and no posts.
+#[derive(Drop)]
+pub struct Hub {
+    pub(crate) code: Code,
+    pub(crate) moment: u64,
+    pub(crate) next_ready: u64,
+    pub(crate) next_since: u64,
+    pub(crate) turns: u64,
+    pub(crate) moves: u64,
+    pub(crate) timeouts: u32,
+    pub(crate) links: u32,
+    pub(crate) objects: Vec<Object>,
+    pub(crate) greenlets: Greenlets,
+    pub(crate) items: Vec<Item>,
+    pub(crate) lines: Vec<Line>,
+}
+
+impl Model for Hub {
+    ghost use Rattle.std.specs.Prelude.{[]};
+    ghost use Rattle.hub_machine.specs.State.{State};
+    ghost use Rattle.std.specs.Coded.{codes};
+    ghost use Rattle.scenario_tree.specs.contracts.tree.Expression as expression;
+    ghost use Rattle.scenario_tree.specs.contracts.tree.Action as action;
+    ghost use Rattle.scenario_tree.specs.contracts.tree.Except as except;
+    ghost use Rattle.scenario_tree.specs.contracts.tree.Statement as statement;
+    ghost use Rattle.hub_state.specs.Sound.{IsSound};
+
+    ghost Value = { State };
+
+    ghost coded = { Prim.hlevel (codes, expression.the_row.coded, action.the_row.coded, except.the_row.coded, statement.the_row.coded) };
+
+    ghost view = { λ h. record {
+      scenario = h.code;
+      moment = h.moment;
+      next_ready = h.next_ready;
+      next_since = h.next_since;
+      turns = h.turns;
+      moves = h.moves;
+      timeouts = h.timeouts;
+      links = h.links;
+      objects = h.objects.items;
+      greenlets = h.greenlets;
+      jobs = [];
+      items = h.items.items;
+      lines = h.lines.items;
+      posts = [];
+    } };
+
+    ghost invariant = { λ h. IsSound h.next_since h.items.items };
+}

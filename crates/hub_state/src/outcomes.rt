@@ -1,0 +1,118 @@
+//! What has ended, and which item holds.
+ghost use Rattle.std.specs.Prelude.{◌≡◌, ℕ, ◌+◌, count_by, is_some, slice_get, IfOk};
+ghost use Rattle.std.specs.List.{list_all};
+ghost use Rattle.std.specs.Option.{option_copied};
+ghost use Rattle.gv_values.specs.declared.value.Whom.{Whom as Target};
+ghost use Rattle.hub_machine.specs.Holds.{holds, wait_holds, outcome_of, is_done, all_done, done_among};
+
+use crate::holds::{
+    all_finished_at, has_item_at, has_place_at, has_result_at, has_room_at, has_set_since_at,
+    has_slot_at, has_unit_at, is_deserted_at, is_free_at, link_fits,
+};
+use crate::hub::Hub;
+use gv_values::{Outcome, Whom};
+use hub_machine::items::{Delivery, Item, Waiting};
+
+impl Hub {
+    /// What the greenlet ended with, if it did.
+    pub fn outcome_of_greenlet(&self, g: u32) -> Option<&Outcome>
+        ensures { option_copied result ≡ outcome_of self.now (Target.Greenlet g) }
+    {
+        match self.greenlets.get(g) {
+            Some(greenlet) => greenlet.outcome(),
+            None => None,
+        }
+    }
+
+    pub fn has_ended(&self, whom: Whom) -> bool
+        ensures { result ≡ is_some (outcome_of self.now whom) }
+    {
+        match whom {
+            Whom::Greenlet(g) => self.outcome_of_greenlet(g).is_some(),
+            Whom::Job(j) => self.outcome_of_job(j).is_some(),
+        }
+    }
+
+    /// There are no jobs.
+    pub fn outcome_of_job(&self, j: u32) -> Option<&Outcome>
+        ensures { option_copied result ≡ outcome_of self.now (Target.Job j) }
+    {
+        let _ = j;
+        let _ = &self.moment;
+        None
+    }
+
+    pub fn is_done(&self, g: u32) -> bool
+        ensures { result ≡ is_done self.now g }
+    {
+        self.outcome_of_greenlet(g).is_some()
+    }
+
+    fn all_done(&self, gs: &[u32]) -> bool
+        ensures { result ≡ all_done self.now gs.now }
+    {
+        for g in gs {
+            if !self.is_done(*g) {
+                return false;
+            }
+        }
+        true
+    }
+
+    fn done_among(&self, gs: &[u32]) -> u64
+        ensures { result ≡ done_among self.now gs.now }
+    {
+        let mut n = 0;
+        for g in gs {
+            if self.is_done(*g) {
+                n += 1;
+            }
+        }
+        n
+    }
+
+    /// Whether the wait's condition holds, for a waiter with this since.
+    pub fn wait_holds(&self, since: u64, waiting: &Waiting) -> bool
+        ensures { result ≡ wait_holds self.now since waiting.now }
+    {
+        match waiting {
+            Waiting::Sleep(until) => *until <= self.moment,
+            Waiting::Join(g) => self.is_done(*g),
+            Waiting::Get(whom) => self.has_ended(*whom),
+            Waiting::Kill(gs) => self.all_done(gs.as_slice()),
+            Waiting::JoinAll(gs, need) => *need as u64 <= self.done_among(gs.as_slice()),
+            Waiting::Event(o, sets) => has_set_since_at(&self.objects, *o, *sets),
+            Waiting::ResultGet(o) => has_result_at(&self.objects, *o),
+            Waiting::ResultWait(o) => has_result_at(&self.objects, *o),
+            Waiting::Acquire(o) => has_unit_at(&self.objects, &self.items, *o, since),
+            Waiting::Lock(o) => is_free_at(&self.objects, &self.items, *o, since),
+            Waiting::Put(o, _) => has_room_at(&self.objects, &self.items, *o, since),
+            Waiting::Take(o) => has_item_at(&self.objects, &self.items, *o, since),
+            Waiting::Peek(o) => has_item_at(&self.objects, &self.items, *o, since),
+            Waiting::Tasks(o) => all_finished_at(&self.objects, *o),
+            Waiting::Place(o, _, _) => has_place_at(&self.objects, &self.items, *o, since),
+            Waiting::MapPlace(o, _, _, _) => has_place_at(&self.objects, &self.items, *o, since),
+            Waiting::MapEnd(_, made) => self.all_done(made.as_slice()),
+            Waiting::Members(o) => is_deserted_at(&self.objects, *o),
+            Waiting::Slot(o, _, _) => has_slot_at(&self.objects, &self.items, *o, since),
+        }
+    }
+
+    /// Whether the item's condition holds.
+    pub fn holds(&self, item: &Item) -> bool
+        ensures { result ≡ holds self.now item.now }
+    {
+        match &item.delivery {
+            Delivery::Start(_, None) => true,
+            Delivery::Start(_, Some(deadline)) => *deadline <= self.moment,
+            Delivery::Wake(_, waiting) => self.wait_holds(item.since, waiting),
+            Delivery::Late(_, deadline, _) => *deadline <= self.moment,
+            Delivery::Timeout(_, _, deadline) => *deadline <= self.moment,
+            Delivery::Kill(_, _) => true,
+            Delivery::Link(_, g, kind, _) => match self.outcome_of_greenlet(*g) {
+                Some(outcome) => link_fits(*kind, outcome),
+                None => false,
+            },
+        }
+    }
+}

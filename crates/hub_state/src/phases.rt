@@ -1,0 +1,96 @@
+//! What the steps of the hub do to its greenlets.
+ghost use Rattle.std.specs.Prelude.{◌≡◌, ◌<◌, false, length, OnOk, IfOk, IfSome, IfNone};
+ghost use Rattle.hub_machine.specs.declared.state.Phase.{Phase};
+ghost use Rattle.hub_machine.specs.Life.{no_frame, greenlet, with_phase, frame_of, add_greenlet, has_greenlet_left};
+ghost use Rattle.hub_machine.specs.Deliveries.{arguments};
+ghost use Rattle.hub_state.specs.Phases.{phase_of};
+
+use crate::greenlets::{Greenlet, Stage};
+use crate::hub::Hub;
+use gv_values::Value;
+use hub_bodies::Parked;
+use scenario_tree::Items;
+use std::alloc::{AllocError, Global};
+
+impl Hub {
+    /// The number of the greenlet's function.
+    pub fn function_of(&self, g: u32) -> u32
+        ensures { result ≡ (greenlet g self.now).function }
+    {
+        match self.greenlets.get(g) {
+            Some(greenlet) => greenlet.function(),
+            None => 0,
+        }
+    }
+
+    /// Whether the greenlet is raw; none is.
+    pub fn is_raw(&self, g: u32) -> bool
+        ensures raw { result ≡ (greenlet g self.now).raw }
+        ensures never { result ≡ false }
+    {
+        match self.greenlets.get(g) {
+            Some(greenlet) => greenlet.is_raw(),
+            None => false,
+        }
+    }
+
+    /// The greenlet has come so far.
+    pub fn set_stage(&mut self, g: u32, stage: Stage)
+        ensures { self.new ≡ with_phase g (phase_of stage) self.old }
+    {
+        let _before = self.greenlets.swap(g, stage);
+    }
+
+    /// Takes the body of the greenlet, which is then under way. None only where no body of it waits for
+    /// an answer.
+    pub fn take_body(&mut self, g: u32) -> Option<Parked>
+        ensures body { IfSome result (λ body. body ≡ frame_of (greenlet g self.old).phase) }
+        ensures none { IfNone result (frame_of (greenlet g self.old).phase ≡ no_frame) }
+        ensures taken { self.new ≡ with_phase g (Phase.Live no_frame) self.old }
+    {
+        match self.greenlets.swap(g, Stage::UnderWay) {
+            Some(Stage::Live(body)) => Some(body),
+            _ => None,
+        }
+    }
+
+    /// Takes the arguments of a greenlet that has not started, which is then under way.
+    pub fn take_arguments(&mut self, alloc: Global, g: u32) -> Items<Value>
+        ensures arguments { result ≡ arguments (greenlet g self.old).phase }
+        ensures taken { self.new ≡ with_phase g (Phase.Live no_frame) self.old }
+    {
+        match self.greenlets.swap(g, Stage::UnderWay) {
+            Some(Stage::New(arguments)) => arguments,
+            _ => Items::new(alloc),
+        }
+    }
+
+    /// Whether one more greenlet may be made.
+    pub fn has_greenlet_left(&self) -> bool
+        ensures { result ≡ has_greenlet_left self.now }
+    {
+        self.greenlets.has_room()
+    }
+
+    /// How many greenlets were made.
+    pub fn greenlets_len(&self) -> u32
+        ensures { result ≡ length self.now.greenlets }
+    {
+        self.greenlets.len()
+    }
+
+    /// Makes a greenlet, and gives its number.
+    pub fn add_greenlet(
+        &mut self,
+        function: u32,
+        arguments: Items<Value>,
+    ) -> Result<u32, AllocError>
+        requires { length self.old.greenlets < 20000 }
+        ensures made { OnOk result (self.new ≡ add_greenlet false 0 function arguments self.old) }
+        ensures number { IfOk result (λ g. g ≡ length self.old.greenlets) }
+    {
+        let number = self.greenlets.len();
+        self.greenlets.push(Greenlet::new(function, arguments))?;
+        Ok(number)
+    }
+}
