@@ -1,9 +1,9 @@
 -- An item that is delivered is one that is run.
-use Rattle.std.proofs.Common.{◌≡◌, refl, sym, ◌∙◌, subst, ℕ, ◌<◌, true, false, length, Option, Some, None, slice_get, arith}
+use Rattle.std.proofs.Common.{◌≡◌, refl, sym, ◌∙◌, subst, ℕ, ◌<◌, true, length, Option, Some, slice_get, arith}
 use Rattle.hub_machine.specs.declared.items.Delivery.{Delivery}
 use Rattle.hub_machine.specs.declared.items.Item.{Item}
 use Rattle.hub_machine.specs.Deliveries.{deliver, delivers, without_item}
-use Rattle.hub_machine.specs.Life.{Next, greenlet}
+use Rattle.hub_machine.specs.Life.{greenlet}
 use Rattle.hub_machine.specs.State.{State}
 use Rattle.hub_runnable.specs.Runnable.{IsRunnable, is_runnable_delivery}
 use Rattle.hub_runnable.proofs.States.{function-known, item-runnable}

@@ -1,8 +1,8 @@
 -- A move of a greenlet whose body stands with the step of the hub.
-use Rattle.std.proofs.Common.{◌≡◌, refl, ap, sym, ◌∙◌, subst, ℕ, zero, suc, ◌+◌, ◌<◌, ◌==◌, Bool, true, false, List, [], ◌∷◌, map, Option, Some, None, slice_get, slice_set, unwrap_or, if◌then◌else◌, arith}
+use Rattle.std.proofs.Common.{◌≡◌, refl, ap, sym, ◌∙◌, subst, ℕ, zero, suc, ◌+◌, ◌==◌, Bool, true, false, List, [], ◌∷◌, map, Option, Some, None, slice_get, slice_set, unwrap_or, if◌then◌else◌, arith}
 use Rattle.std.proofs.lemmas.Bool.Decides.{nat_tests}
 use Rattle.std.proofs.Math.Path.{fun_ext}
-use Rattle.std.specs.Prelude.{is_some, nat_le, count_by, ◌^◌}
+use Rattle.std.specs.Prelude.{is_some, nat_le, count_by}
 use Rattle.std.specs.List.{list_all}
 use Rattle.gv_values.specs.declared.value.Outcome.{Outcome}
 use Rattle.gv_values.specs.declared.value.Whom.{Whom}
@@ -13,7 +13,6 @@ use Rattle.hub_machine.specs.declared.items.Waiting.{Waiting}
 use Rattle.hub_machine.specs.declared.state.Frame.{Frame}
 use Rattle.hub_machine.specs.declared.state.Greenlet.{Greenlet}
 use Rattle.hub_machine.specs.declared.state.Local.{Local}
-use Rattle.hub_machine.specs.declared.state.Object.{Object}
 use Rattle.hub_machine.specs.declared.state.Phase.{Phase}
 use Rattle.hub_machine.specs.Bodies.{Step, around}
 use Rattle.hub_machine.specs.Expressions.{Look}

@@ -9,7 +9,7 @@ use Rattle.hub_machine.specs.declared.items.Item.{Item}
 use Rattle.hub_machine.specs.declared.state.Frame.{Frame}
 use Rattle.hub_machine.specs.declared.state.Phase.{Phase}
 use Rattle.hub_machine.specs.State.{State, say}
-use Rattle.hub_machine.specs.Answers.{any_numbered, block_line, take_answer}
+use Rattle.hub_machine.specs.Answers.{any_numbered, block_line}
 use Rattle.hub_machine.specs.Deliveries.{deliver, interrupts}
 use Rattle.hub_engine.specs.declared.stand.Came.{Came}
 use Rattle.hub_machine.specs.Life.{Next, greenlet, lands, starts, with_phase}

@@ -12,7 +12,7 @@ use Rattle.hub_engine.specs.declared.stand.Came.{Came}
 use Rattle.hub_machine.specs.State.{State}
 use Rattle.hub_machine.specs.Life.{Next, starts, lands}
 use Rattle.hub_machine.specs.Answers.{question, block_line}
-use Rattle.hub_machine.specs.Run.{Passed, Ran, Source, GoingOn, End, given_out, after_turn, after_question, after_exit, with_posts, turn, loop_exit, run_turns, stopped, silent, runs, script_run, first_state, after_start}
+use Rattle.hub_machine.specs.Run.{Passed, Ran, Source, GoingOn, given_out, after_turn, after_question, after_exit, with_posts, turn, loop_exit, run_turns, stopped, silent, runs, script_run, first_state, after_start}
 use Rattle.hub_engine.specs.Stands.{next_at}
 use Rattle.hub_engine.specs.Written.{AreLike, CameTo, HasRun, IsPartWritten, IsRunning, IsStopping}
 use Rattle.hub_engine.specs.declared.stand.Stand.{Stand}

@@ -1,5 +1,5 @@
 -- What a body that is under way may ask of the hub.
-use Rattle.std.specs.Prelude.{◌≡◌, ◌<◌, ◌^◌, ◌==◌, ℕ, true, false, List, Option, Some, None, slice_get, if◌then◌else◌}
+use Rattle.std.specs.Prelude.{◌<◌, ◌^◌, ◌==◌, ℕ, List, Option, None, slice_get, if◌then◌else◌}
 use Rattle.gv_values.specs.declared.value.Outcome.{Outcome}
 use Rattle.gv_values.specs.declared.value.Whom.{Whom}
 use Rattle.hub_machine.specs.declared.state.Object.{Object}
