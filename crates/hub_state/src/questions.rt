@@ -101,7 +101,7 @@ impl Hub {
         }
     }
 
-    /// The answer is written and sets the moment. There is no job that could be done.
+    /// The answer is written and sets the moment. There is no job whose outcome it could bring.
     #[tactic(auto, unfolding(hub_machine::specs::Answers::take_answer))]
     pub fn take(&mut self, alloc: Global, answer: Answer) -> Result<(), AllocError>
         ensures { OnOk result (self.new ≡ take_answer answer self.old) }
@@ -110,8 +110,8 @@ impl Hub {
             Answer::Done {
                 number: _,
                 outcome: _,
-                at: _,
-            } => return Err(AllocError),
+                at,
+            } => self.moment = at,
             Answer::Elapsed { at } => self.moment = at,
             Answer::Nothing { at } => self.moment = at,
         }
