@@ -1,8 +1,4 @@
-pub mod Actions
 pub mod Answered
-pub mod Binds
-pub mod Branches
+pub mod Keeping
 pub mod Limits
-pub mod Meanings
 pub mod Moving
-pub mod Operands

@@ -1,9 +1,5 @@
 pub mod Answers
-pub mod AtMove
-pub mod Chosen
-pub mod Operators
-pub mod Places
-pub mod Requests
-pub mod Small
 pub mod Standings
+pub mod Steady
+pub mod Steps
 pub mod Unwinding

@@ -2,12 +2,13 @@
 use Rattle.std.specs.Prelude.{ℕ}
 use Rattle.hub_machine.specs.Bodies.{Body, Stepped}
 use Rattle.hub_machine.specs.Raising.{Unwound}
+use Rattle.few_arguments.specs.Few.{HasFewBody, HasFewUnwound}
 use Rattle.flat_code.specs.declared.frame.Moved.{Moved}
 use Rattle.flat_code.specs.declared.frame.Stack.{Stack}
 use Rattle.flat_code.specs.declared.frame.Standing.{Standing}
-use Rattle.flat_code.specs.declared.request.Step.{Step}
-use Rattle.flat_code.specs.AtMove.{HasMove, IsSteady}
-use Rattle.flat_code.specs.Requests.{step_of}
+use Rattle.flat_code.specs.declared.step.Step.{Step}
+use Rattle.flat_code.specs.Steady.{HasMove, IsSteady}
+use Rattle.flat_code.specs.Steps.{step_of}
 use Rattle.flat_code.specs.Unwinding.{unwound_of}
 
 -- the body of the definitions
@@ -30,3 +31,8 @@ moved_of moves go (Moved.Further at) s = go (unwound_of at s.left s.locals s.tod
 abbrev pub StaysSteady : Moved → Stack → Type 0
 StaysSteady (Moved.Stops step standing) s = IsSteady (body_of standing s)
 StaysSteady (Moved.Further at) s = HasMove (unwound_of at s.left s.locals s.todo)
+
+-- so it is with few arguments in each of its calls
+abbrev pub StaysFew : Moved → Stack → Type 0
+StaysFew (Moved.Stops step standing) s = HasFewBody (body_of standing s)
+StaysFew (Moved.Further at) s = HasFewUnwound (unwound_of at s.left s.locals s.todo)

@@ -7,22 +7,22 @@ ghost use Rattle.hub_machine.specs.Expressions.{Around};
 ghost use Rattle.hub_machine.specs.Bodies.{around, resume, begins, goes, after_move, Stepped as Went};
 ghost use Rattle.hub_machine.specs.Raising.{unwind, Unwound as Place};
 ghost use Rattle.hub_machine.specs.Life.{given, leaving_of, outcome_of_leaving};
-ghost use Rattle.flat_code.specs.AtMove.{HasMove, IsAtMove, IsSteady};
-ghost use Rattle.flat_code.specs.Standings.{stepped, moved_of, body_of, StaysSteady};
-ghost use Rattle.flat_code.specs.Chosen.{came_of, after_first};
-ghost use Rattle.flat_code.specs.Answers.{Answers, IsAnswer, IsNumber, IsFunction, function_at};
-ghost use Rattle.flat_code.specs.declared.request.Input.{Input as Given};
-ghost use Rattle.flat_code.specs.Requests.{answer_of, step_of};
+ghost use Rattle.flat_moves.specs.AtMove.{IsAtMove};
+ghost use Rattle.flat_code.specs.Steady.{HasMove, IsSteady};
+ghost use Rattle.flat_code.specs.Standings.{stepped, moved_of, body_of, StaysFew, StaysSteady};
+ghost use Rattle.few_arguments.specs.Few.{HasFew, HasFewBody, HasFewToDo, HasFewUnwound};
+ghost use Rattle.flat_moves.specs.Chosen.{came_of, after_first};
+ghost use Rattle.flat_code.specs.Answers.{Answers, IsAnswer, IsNumber};
+ghost use Rattle.flat_values.specs.Functions.{IsFunction, function_at};
+ghost use Rattle.flat_code.specs.declared.step.Input.{Input as Given};
+ghost use Rattle.flat_code.specs.Steps.{answer_of, step_of};
 ghost use Rattle.flat_code.specs.Unwinding.{unwound_of};
 
-use crate::chosen::Chosen;
-use crate::code::Code;
-use crate::copies::copy_block;
-use crate::front::{drop_first, pop_first, put_before, put_first};
-use crate::locals::{bind, named};
-use crate::look::Look;
-use crate::request::{Input, Request, Step};
+use crate::step::{Input, Step};
 use crate::unwind::{Unwound, unwind};
+use flat_moves::{Chosen, Request, chooses, copy_block};
+use flat_values::front::{drop_first, pop_first, put_before, put_first};
+use flat_values::{Code, Look, bind, named};
 use gv_values::{Name, Outcome, Value};
 use hub_machine::state::{Leaving, Local, Todo};
 use scenario_tree::{Function, Items, Statement};
@@ -59,7 +59,8 @@ pub struct Frame {
 
 impl Model for Frame {
     ghost use Rattle.hub_machine.specs.Bodies.{Body};
-    ghost use Rattle.flat_code.specs.AtMove.{IsSteady};
+    ghost use Rattle.few_arguments.specs.Few.{HasFewBody};
+    ghost use Rattle.flat_code.specs.Steady.{IsSteady};
     ghost use Rattle.flat_code.specs.Standings.{body_of};
     ghost use Rattle.std.specs.Coded.{codes};
     ghost use Rattle.scenario_tree.specs.contracts.tree.Expression as expression;
@@ -73,7 +74,7 @@ impl Model for Frame {
 
     ghost view = { λ f. body_of f.standing f.stack };
 
-    ghost invariant = { λ f. IsSteady (body_of f.standing f.stack) };
+    ghost invariant = { λ f. IsSteady (body_of f.standing f.stack) × HasFewBody (body_of f.standing f.stack) };
 }
 
 /// What came of a move.
@@ -147,6 +148,7 @@ impl Frame {
 }
 
 fn begun(alloc: Global, function: &Function, arguments: Items<Value>) -> Result<Frame, AllocError>
+    requires { HasFew function.now.body }
     ensures { IfOk result (λ frame. frame ≡ begins function.now arguments) }
 {
     let mut stack = Stack {
@@ -167,11 +169,12 @@ fn begun(alloc: Global, function: &Function, arguments: Items<Value>) -> Result<
 }
 
 /// The stack is left in this way, as far as the next statement.
-#[tactic(auto, using(crate::proofs::Moving::moves_as))]
+#[tactic(auto, using(crate::proofs::Moving::moves_as, crate::proofs::Keeping::few_as))]
 fn outwards(alloc: Global, stack: &mut Stack, how: Leaving) -> Result<Unwound, AllocError>
     ensures moves { IfOk result (λ at. HasMove (unwound_of at stack.new.left stack.new.locals stack.new.todo)) }
     ensures left { IfOk result (λ at.
         unwind stack.old.todo stack.old.left how stack.old.locals ≡ unwound_of at stack.new.left stack.new.locals stack.new.todo) }
+    ensures few { HasFewToDo stack.old.todo → IfOk result (λ at. HasFewUnwound (unwound_of at stack.new.left stack.new.locals stack.new.todo)) }
 {
     Ok(unwind(
         alloc,
@@ -232,7 +235,9 @@ fn enters(
 ) -> Result<Moved, AllocError>
     requires answer { IsAnswer (body_of standing stack.old) input }
     requires steady { IsSteady (body_of standing stack.old) }
+    requires few { HasFewBody (body_of standing stack.old) }
     ensures steady { IfOk result (λ moved. StaysSteady moved stack.new) }
+    ensures few { IfOk result (λ moved. StaysFew moved stack.new) }
     ensures resumed { IfOk result (λ moved. (moves : ℕ) (around : List Named → Around) →
         resume moves around (body_of standing stack.old) (answer_of input) ≡ moved_of moves (goes moves around) moved stack.new) }
 {
@@ -272,7 +277,9 @@ fn goes<L: Look>(
     moves: &mut u64,
 ) -> Result<(Step, Standing), AllocError>
     requires steady { HasMove (unwound_of at stack.old.left stack.old.locals stack.old.todo) }
+    requires few { HasFewUnwound (unwound_of at stack.old.left stack.old.locals stack.old.todo) }
     ensures steady { IfOk result (λ came. IsSteady (body_of came.1 stack.new)) }
+    ensures few { IfOk result (λ came. HasFewBody (body_of came.1 stack.new)) }
     ensures gone { IfOk result (λ came.
         goes moves.old (around code.now (L.answers look.now)) (unwound_of at stack.old.left stack.old.locals stack.old.todo)
         ≡ stepped came.0 (body_of came.1 stack.new) moves.new) }
@@ -308,12 +315,38 @@ fn make_move<L: Look>(
 ) -> Result<Moved, AllocError>
     requires told { stack.old.left ≡ [] }
     requires moves { IsAtMove stack.old.todo }
+    requires few { HasFewToDo stack.old.todo }
+    ensures steady { IfOk result (λ moved. StaysSteady moved stack.new) }
+    ensures few { IfOk result (λ moved. StaysFew moved stack.new) }
+    ensures made { IfOk result (λ moved. (moves : ℕ) (go : Place → Went) →
+        after_move moves stack.old.locals go (body_move stack.old.todo (around code.now (L.answers look.now) stack.old.locals))
+        ≡ moved_of moves go moved stack.new) }
+{
+    Ok(does_move(alloc, code, look, stack)?)
+}
+
+/// The same by what the move does, whatever its calls are.
+fn does_move<L: Look>(
+    alloc: Global,
+    code: &Code,
+    look: &L,
+    stack: &mut Stack,
+) -> Result<Moved, AllocError>
+    requires told { stack.old.left ≡ [] }
+    requires moves { IsAtMove stack.old.todo }
+    requires few { HasFewToDo stack.old.todo }
     ensures steady { IfOk result (λ moved. StaysSteady moved stack.new) }
     ensures made { IfOk result (λ moved. (moves : ℕ) (go : Place → Went) →
         after_move moves stack.old.locals go (body_move stack.old.todo (around code.now (L.answers look.now) stack.old.locals))
         ≡ moved_of moves go moved stack.new) }
 {
-    let chosen = code.chooses(alloc, look, stack.locals.as_slice(), stack.todo.as_slice())?;
+    let chosen = chooses(
+        alloc,
+        code,
+        look,
+        stack.locals.as_slice(),
+        stack.todo.as_slice(),
+    )?;
     pass_first(alloc, &mut stack.todo)?;
     Ok(follows(alloc, stack, chosen)?)
 }

@@ -1,24 +1,18 @@
-//! Bodies of greenlets: expressions, moves, raising, and what a body asks of its hub.
+//! Bodies of greenlets: where one stands between two of its requests, its moves, and raising.
 //!
 //! A frame is a stack of statement lists over the syntax. It knows no hub: what an expression may ask
 //! comes through `Look`, and what a statement wants done is a `Request`.
 #![tactic(auto)]
 
-mod chosen;
-mod code;
-mod copies;
+mod compiler;
 mod frame;
-mod front;
-mod locals;
-mod look;
-mod meaning;
-mod operators;
-mod request;
+mod step;
 #[cfg(test)]
 mod tests;
 mod unwind;
 
-pub use code::{Code, compile};
+pub use compiler::compile;
+pub use flat_moves::{Arguments, Request};
+pub use flat_values::{Code, Look};
 pub use frame::Frame;
-pub use look::Look;
-pub use request::{Input, Request, Step};
+pub use step::{Input, Step};

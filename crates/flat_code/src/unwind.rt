@@ -1,8 +1,10 @@
-ghost use Rattle.std.specs.Prelude.{◌≡◌, ◌∷◌, [], ℕ, List, Option, Some, None, IfOk, IfSome, IfNone, option_map};
-ghost use Rattle.hub_machine.specs.Raising.{unwind, catching, past_timeout, bind_if};
-ghost use Rattle.flat_code.specs.Unwinding.{unwound_of, caught_of};
+//! How a block is left.
+ghost use Rattle.std.specs.Prelude.{◌≡◌, ◌∷◌, [], ◌++◌, ℕ, List, Option, Some, None, IfOk, IfSome, IfNone, OnOk, option_map};
+ghost use Rattle.hub_machine.specs.Raising.{unwind, catching, past_timeout, bind_if, finally_first, block_first};
+ghost use Rattle.flat_code.specs.Unwinding.{unwound_of, caught_of, stepped_of, KeepsIfFurther};
 
-use crate::front::{pop_first, put_first};
+use flat_values::bind;
+use flat_values::front::{pop_first, put_first};
 use gv_values::{FaultKind, Name, Value};
 use hub_machine::state::{Leaving, Local, Todo};
 use scenario_tree::{Except, Items, Statement};
@@ -44,21 +46,12 @@ fn catching(f: FaultKind, excepts: Items<Except>) -> Option<Except>
     None
 }
 
-ghost use Rattle.hub_machine.specs.Raising.{finally_first, block_first};
-ghost use Rattle.std.specs.Prelude.{◌++◌};
-
 /// What came of one entry of what is still to do.
 #[derive(Drop)]
 pub enum Stepped {
     Runs,
     Further(Leaving),
 }
-
-ghost use Rattle.flat_code.specs.Unwinding.{stepped_of, KeepsIfFurther};
-ghost use Rattle.hub_machine.specs.Raising.{finally_first, block_first};
-ghost use Rattle.std.specs.Prelude.{OnOk};
-
-use crate::locals::bind;
 
 fn bind_if(name: Option<Name>, f: FaultKind, locals: &mut Items<Local>) -> Result<(), AllocError>
     ensures { OnOk result (locals.new ≡ bind_if name (Value.Fault f) locals.old) }

@@ -7,7 +7,6 @@ ghost use Rattle.scenario_grammar.specs.Spells.{Spells};
 ghost use Rattle.scenario_rules.specs.Rules.{IsWellFormed};
 ghost use Rattle.scenario_tree.specs.declared.tree.Scenario.{Scenario as AnyScenario};
 ghost use Rattle.built_forms.specs.Built.{IsBuilt, first_unbuilt};
-ghost use Rattle.hub_runnable.specs.Laws.{HasMain};
 ghost use Rattle.hub_engine.specs.Ends.{RanTo};
 ghost use Rattle.hub_engine.specs.declared.run.Budgets.{Budgets as AnyBudgets};
 ghost use Rattle.gv_top.specs.Answers.{answer_of_run, answer_to, answer_to_scenario, answer_to_text, formatted, memory_line, most_read, not_built, refusal, run_of};
@@ -21,7 +20,6 @@ use crate::status::Verdict;
 use crate::words::{Command, TextCommand, command_of};
 use gv_io::{Failed, ReadRefusal, Sink, Source, read_limited};
 use hub_engine::{Budgets, End, Engine};
-use hub_runnable::main_is_numbered;
 use scenario_check::Checked;
 use scenario_lang::{ParseRefusal, Scenario, print};
 use std::alloc::Global;
@@ -37,7 +35,6 @@ const NO_PORT: u16 = 0;
 /// Runs the scenario, all of whose forms are run, and writes its trace to out.
 fn run_scenario<K: Sink>(alloc: Global, checked: Checked, budgets: Budgets, out: &mut K) -> End
     requires built { IsBuilt checked }
-    requires main { HasMain checked }
     ensures written { RanTo result (run_of budgets checked) (K.written out.old) (K.written out.new) }
     ensures never_falls { K.faults out.old ≤ K.faults out.new }
     ensures failed { result ≡ End.WriteFault → HasRisen (K.faults out.old) (K.faults out.new) }
@@ -117,7 +114,6 @@ fn answers_text<K: Sink>(alloc: Global, command: TextCommand, bytes: &[u8], out:
     ensures write_fault { number_of result ≡ 5 → HasRisen (K.faults out.old) (K.faults out.new) }
     ensures never_falls { K.faults out.old ≤ K.faults out.new }
 {
-    main_is_numbered();
     match read_scenario(alloc, bytes) {
         Err(refusal) => verdict_on(refusal),
         Ok(checked) => answers_scenario(alloc, command, checked, out),
@@ -141,7 +137,6 @@ fn answers_scenario<K: Sink>(
     checked: Checked,
     out: &mut K,
 ) -> Verdict
-    requires { HasMain checked }
     ensures answer { Decided result (answer_to_scenario command checked) (K.written out.old) (K.written out.new) }
     ensures command { number_of result ≢ 2 }
     ensures read { number_of result ≢ 4 }
@@ -157,7 +152,6 @@ fn answers_scenario<K: Sink>(
 
 /// Runs the scenario within these budgets, unless it has a form that is not run yet.
 fn runs_within<K: Sink>(alloc: Global, checked: Checked, budgets: Budgets, out: &mut K) -> Verdict
-    requires { HasMain checked }
     ensures answer { Decided result (answer_to_scenario (TextCommand.Run budgets) checked) (K.written out.old) (K.written out.new) }
     ensures command { number_of result ≢ 2 }
     ensures read { number_of result ≢ 4 }

@@ -9,11 +9,12 @@ use Rattle.hub_machine.specs.Bodies.{Body, Step, Stepped, goes, resume}
 use Rattle.hub_machine.specs.Life.{outcome_of_leaving}
 use Rattle.hub_machine.specs.Raising.{Unwound}
 use Rattle.flat_code.specs.Answers.{IsAnswer}
-use Rattle.flat_code.specs.Requests.{answer_of, asking, step_of}
+use Rattle.flat_moves.specs.Requests.{asking}
+use Rattle.flat_code.specs.Steps.{answer_of, step_of}
 use Rattle.flat_code.specs.Standings.{stepped}
-use Rattle.flat_code.specs.declared.request.Input.{Input}
-use Rattle.flat_code.specs.declared.request.Request.{Request}
-use Rattle.flat_code.specs.declared.request.Step.{Step as Told}
+use Rattle.flat_code.specs.declared.step.Input.{Input}
+use Rattle.flat_moves.specs.declared.request.Request.{Request}
+use Rattle.flat_code.specs.declared.step.Step.{Step as Told}
 use Rattle.hub_bodies.specs.Going.{IsLeaving, brought_to, with_left}
 use Rattle.hub_bodies.specs.Held.{IsMoving, moving_of}
 use Rattle.hub_bodies.specs.Places.{Place, place_of}

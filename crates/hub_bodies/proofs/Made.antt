@@ -6,10 +6,10 @@ use Rattle.hub_machine.specs.Expressions.{Around}
 use Rattle.hub_machine.specs.Bodies.{Body, Step, Stepped, after_move, goes, resume}
 use Rattle.hub_machine.specs.Frames.{Did, body_move}
 use Rattle.hub_machine.specs.Raising.{Unwound, unwind}
-use Rattle.flat_code.specs.Requests.{answer_of, step_of}
+use Rattle.flat_code.specs.Steps.{answer_of, step_of}
 use Rattle.flat_code.specs.Standings.{stepped}
-use Rattle.flat_code.specs.declared.request.Step.{Step as Told}
-use Rattle.flat_code.specs.declared.request.Input.{Input}
+use Rattle.flat_code.specs.declared.step.Step.{Step as Told}
+use Rattle.flat_code.specs.declared.step.Input.{Input}
 use Rattle.hub_bodies.specs.Going.{IsFit, came_after}
 use Rattle.hub_bodies.specs.Held.{IsMoving, moving_of}
 use Rattle.hub_bodies.specs.Places.{Came, came_by, place_of}

@@ -9,7 +9,7 @@ use Rattle.hub_machine.specs.Expressions.{Look}
 use Rattle.hub_machine.specs.Life.{given, leaving_of}
 use Rattle.hub_machine.specs.Raising.{Unwound, unwind}
 use Rattle.flat_code.specs.Answers.{IsAnswer}
-use Rattle.flat_code.specs.declared.request.Input.{Input}
+use Rattle.flat_code.specs.declared.step.Input.{Input}
 use Rattle.hub_bodies.specs.Held.{IsEntering, IsMoving, IsWaiting, entering_of, moving_of, waiting_of}
 use Rattle.hub_bodies.specs.Places.{Came, Place, place_of}
 

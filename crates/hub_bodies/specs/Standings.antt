@@ -1,5 +1,5 @@
 -- What the answers of this crate are seen as.
-use Rattle.flat_code.specs.Requests.{asking}
+use Rattle.flat_moves.specs.Requests.{asking}
 use Rattle.hub_bodies.specs.Places.{Place, Came}
 use Rattle.hub_bodies.specs.declared.Reached.{Reached}
 use Rattle.hub_bodies.specs.declared.Moved.{Moved}

@@ -1,5 +1,5 @@
 -- Which requests are steps of a timeout block.
-use Rattle.flat_code.specs.declared.request.Request.{Request}
+use Rattle.flat_moves.specs.declared.request.Request.{Request}
 use Rattle.hub_bodies.specs.declared.steps.TimeoutStep.{TimeoutStep}
 
 abbrev pub timeout_step : Request → TimeoutStep

@@ -1,6 +1,6 @@
 //! The delivery of items.
 ghost use Rattle.std.specs.Prelude.{◌≡◌, ◌<◌, ℕ, true, length, slice_get, Some, IfOk};
-ghost use Rattle.flat_code.specs.Answers.{IsFunction};
+ghost use Rattle.flat_values.specs.Functions.{IsFunction};
 ghost use Rattle.hub_machine.specs.declared.items.Item.{Item as AnyItem};
 ghost use Rattle.hub_machine.specs.declared.items.Delivery.TheVariants as delivery;
 ghost use Rattle.hub_machine.specs.declared.items.Waiting.{Waiting};

@@ -1,6 +1,6 @@
 //! Greenlets: how one starts, goes on and ends.
 ghost use Rattle.std.specs.Prelude.{◌≡◌, OnOk, IfOk};
-ghost use Rattle.flat_code.specs.Answers.{IsFunction};
+ghost use Rattle.flat_values.specs.Functions.{IsFunction};
 ghost use Rattle.hub_bodies.specs.Standings.{reached_of};
 ghost use Rattle.hub_machine.specs.Life.{Landing, kept, outcome_of_leaving, leaving_of, stop_of, ended, after_end, starts, answered, lands, greenlet};
 ghost use Rattle.hub_engine.specs.Stands.{goes_to, next_at};

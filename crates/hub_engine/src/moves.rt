@@ -1,6 +1,6 @@
 //! One move of a greenlet.
 ghost use Rattle.std.specs.Prelude.{◌≡◌, true, IfOk};
-ghost use Rattle.flat_code.specs.Requests.{asking};
+ghost use Rattle.flat_moves.specs.Requests.{asking};
 ghost use Rattle.hub_bodies.specs.Places.{came_by};
 ghost use Rattle.hub_bodies.specs.Standings.{moved_of};
 ghost use Rattle.hub_machine.specs.declared.state.Frame.{Frame};

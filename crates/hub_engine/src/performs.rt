@@ -3,7 +3,7 @@ ghost use Rattle.std.specs.Prelude.{◌≡◌, true, false, None, IfOk};
 ghost use Rattle.scenario_tree.specs.declared.tree.Wait.TheVariants as wait;
 ghost use Rattle.hub_machine.specs.Moves.{performs, follows, makes, starts_at, plain_greenlet};
 ghost use Rattle.hub_machine.specs.Frames.{Request as Asked};
-ghost use Rattle.flat_code.specs.Requests.{asking};
+ghost use Rattle.flat_moves.specs.Requests.{asking};
 ghost use Rattle.hub_engine.specs.Asking.{is_run_step};
 ghost use Rattle.hub_engine.specs.Making.{MayMake};
 ghost use Rattle.hub_engine.specs.Stands.{next_at, performed_of, performs_step};
@@ -91,7 +91,9 @@ pub fn performs(hub: &mut Hub, request: Request, g: u32) -> Result<Performed, Al
             hub.say(Line::Print { greenlet: g, value })?;
             Ok(Performed::Answers(Outcome::Value(Value::Nothing)))
         }
-        Request::Spawn(function, arguments) => Ok(spawns(hub, g, function, arguments)?),
+        Request::Spawn(function, arguments) => {
+            Ok(spawns(hub, g, function, arguments.into_values())?)
+        }
         Request::Sleep(time) => Ok(sleeps_for(hub, g, time)?),
         Request::Join(value, Wait::Block) => Ok(joins_handle(hub, g, value)?),
         _ => unreachable!(),

@@ -11,6 +11,7 @@ use crate::broken::Broken;
 use crate::turns::run;
 use gv_io::Sink;
 use gv_values::FaultKind;
+use hub_runnable::main_is_numbered;
 use hub_state::Hub;
 use scenario_check::Checked;
 use std::alloc::{AllocError, Global};
@@ -94,9 +95,9 @@ impl Engine {
     /// The scenario before its run. `AllocError`: memory is wanting, and the scenario is given up.
     pub fn new(alloc: Global, checked: Checked, budgets: Budgets) -> Result<Engine, AllocError>
         requires built { IsBuilt checked }
-        requires main { HasMain checked }
         ensures { IfOk result (λ engine. engine ≡ record { scenario = checked; turns = budgets.turns; moves = budgets.moves }) }
     {
+        has_main(&checked);
         let hub = Hub::new(alloc, &checked)?;
         Ok(Engine { hub, budgets })
     }
@@ -124,4 +125,12 @@ impl Engine {
             moment: hub.moment(),
         }
     }
+}
+
+/// A scenario that is checked has a main, which has a number.
+fn has_main(checked: &Checked)
+    ensures { HasMain checked.now }
+{
+    main_is_numbered();
+    let _with_main = checked.scenario();
 }

@@ -1,6 +1,7 @@
 //! Well-formed scenarios.
 ghost use Rattle.std.specs.Prelude.{◌≡◌, IfOk, OnOk};
 ghost use Rattle.scenario_rules.specs.Rules.{IsWellFormed};
+ghost use Rattle.scenario_lang.specs.Written.{DefinesMain};
 ghost use Rattle.scenario_check.specs.Checks.{IsPlaced};
 
 use crate::judge::place;
@@ -8,7 +9,7 @@ use scenario_lang::{ParseRefusal, Scenario};
 use std::alloc::Global;
 use std::marker::Model;
 
-/// A scenario that is well formed. It is seen as its tree.
+/// A scenario that is well formed and has a main. It is seen as its tree.
 #[derive(Drop)]
 pub struct Checked {
     scenario: Scenario,
@@ -17,6 +18,7 @@ pub struct Checked {
 impl Model for Checked {
     ghost use Rattle.scenario_tree.specs.declared.tree.Scenario.{Scenario as Tree};
     ghost use Rattle.scenario_rules.specs.Rules.{IsWellFormed};
+    ghost use Rattle.scenario_lang.specs.Written.{DefinesMain};
     ghost use Rattle.scenario_tree.specs.contracts.tree.Action as a;
     ghost use Rattle.scenario_tree.specs.contracts.tree.Expression as e;
     ghost use Rattle.std.specs.Coded.{codes};
@@ -27,7 +29,7 @@ impl Model for Checked {
 
     ghost view = { λ c. c.scenario };
 
-    ghost invariant = { λ c. IsWellFormed c.scenario };
+    ghost invariant = { λ c. IsWellFormed c.scenario × DefinesMain c.scenario };
 }
 
 impl Checked {
@@ -35,6 +37,7 @@ impl Checked {
     pub fn scenario(&self) -> &Scenario
         ensures same { result.now ≡ self.now }
         ensures well_formed { IsWellFormed self.now }
+        ensures main { DefinesMain self.now }
     {
         &self.scenario
     }
@@ -43,6 +46,7 @@ impl Checked {
     pub fn into_scenario(self) -> Scenario
         ensures same { result ≡ self }
         ensures well_formed { IsWellFormed self }
+        ensures main { DefinesMain self }
     {
         self.scenario
     }

@@ -1,13 +1,13 @@
-//! Scenarios that have a text, and their printed form.
+//! Scenarios that have a text and a main, and their printed form.
 ghost use Rattle.std.specs.Prelude.{◌≡◌, ◌++◌, OnOk, OnErr};
 ghost use Rattle.scenario_grammar.specs.Printed.{printed};
-ghost use Rattle.scenario_print.specs.Texts.{HasText};
+ghost use Rattle.scenario_lang.specs.Written.{IsWritten};
 
 use scenario_tree::Scenario as Tree;
 use std::alloc::AllocError;
 use std::marker::Model;
 
-/// A scenario that has a text by the grammar. It is seen as its tree.
+/// A scenario that has a text by the grammar, and a main. It is seen as its tree.
 #[derive(Drop)]
 pub struct Scenario {
     tree: Tree,
@@ -17,7 +17,7 @@ impl Model for Scenario {
     ghost use Rattle.scenario_tree.specs.declared.tree.Scenario.{Scenario as Tree};
     ghost use Rattle.scenario_tree.specs.contracts.tree.Action as a;
     ghost use Rattle.scenario_tree.specs.contracts.tree.Expression as e;
-    ghost use Rattle.scenario_print.specs.Texts.{HasText};
+    ghost use Rattle.scenario_lang.specs.Written.{IsWritten};
     ghost use Rattle.std.specs.Coded.{codes};
 
     ghost Value = { Tree };
@@ -26,13 +26,13 @@ impl Model for Scenario {
 
     ghost view = { λ s. s.tree };
 
-    ghost invariant = { λ s. HasText s.tree };
+    ghost invariant = { λ s. IsWritten s.tree };
 }
 
 impl Scenario {
     /// The scenario of this tree.
     pub fn new(tree: Tree) -> Scenario
-        requires { HasText tree }
+        requires { IsWritten tree }
         ensures { result ≡ tree }
     {
         Scenario { tree }
@@ -41,7 +41,7 @@ impl Scenario {
     /// Its tree.
     pub fn tree(&self) -> &Tree
         ensures same { result.now ≡ self.now }
-        ensures text { HasText self.now }
+        ensures written { IsWritten self.now }
     {
         &self.tree
     }
@@ -49,7 +49,7 @@ impl Scenario {
     /// Its tree alone.
     pub fn into_tree(self) -> Tree
         ensures same { result ≡ self }
-        ensures text { HasText self }
+        ensures written { IsWritten self }
     {
         self.tree
     }

@@ -1,6 +1,7 @@
 use Rattle.std.proofs.Common.{◌≡◌}
 use Rattle.hub_machine.specs.Bodies.{around, goes}
-use Rattle.flat_code.specs.AtMove.{HasMove}
+use Rattle.few_arguments.specs.Few.{HasFewUnwound}
+use Rattle.flat_code.specs.Steady.{HasMove}
 use Rattle.flat_code.specs.Unwinding.{unwound_of}
 use Rattle.flat_code.proofs.frame.goes.Given as goal
 
@@ -10,6 +11,7 @@ invariant-moves g l = record {
       goes l.initial.moves (around l.fn.code (g.L.Look.answers l.fn.look)) (unwound_of l.fn.at l.initial.stack.left l.initial.stack.locals l.initial.stack.todo)
       ≡ goes l.moves (around l.fn.code (g.L.Look.answers l.fn.look)) (unwound_of l.at l.stack.left l.stack.locals l.stack.todo);
   steady : HasMove (unwound_of l.at l.stack.left l.stack.locals l.stack.todo);
+  few : HasFewUnwound (unwound_of l.at l.stack.left l.stack.locals l.stack.todo);
 }
 
 abbrev pub decreases-moves : goal.decreases-moves

@@ -19,6 +19,3 @@ returns-in-Err-clause-write_fault g c = λ h. absurd (refusal_number _ _ 5 c.ver
 
 pub returns-in-Ok-clause-answer : goal.returns-in-Ok-clause-answer
 returns-in-Ok-clause-answer g c = judged_decided c.args.command c.args.bytes.now _ _ _ _ c.in-Ok.ensures.judged c.answers_scenario.ensures.answer
-
-pub answers_scenario-requires : goal.answers_scenario-requires
-answers_scenario-requires g c = c.main_is_numbered.ensures c.in-Ok.checked c.in-Ok.ensures.spelt.has_main

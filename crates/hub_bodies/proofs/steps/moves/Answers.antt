@@ -1,6 +1,6 @@
 use Rattle.std.proofs.Common.{◌∙◌}
 use Rattle.hub_machine.specs.Bodies.{around}
-use Rattle.flat_code.specs.declared.request.Step.{Step as Told}
+use Rattle.flat_code.specs.declared.step.Step.{Step as Told}
 use Rattle.hub_bodies.proofs.Made.{move_made}
 use Rattle.hub_bodies.proofs.steps.moves.Goals as goal
 

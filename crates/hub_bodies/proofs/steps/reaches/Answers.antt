@@ -1,7 +1,8 @@
 use Rattle.std.proofs.Common.{◌∙◌}
 use Rattle.hub_machine.specs.Bodies.{around}
-use Rattle.flat_code.specs.declared.request.Step.{Step as Told}
-use Rattle.flat_code.specs.Requests.{answer_of, asking}
+use Rattle.flat_code.specs.declared.step.Step.{Step as Told}
+use Rattle.flat_moves.specs.Requests.{asking}
+use Rattle.flat_code.specs.Steps.{answer_of}
 use Rattle.hub_bodies.specs.Going.{brought_to, no_answers}
 use Rattle.hub_bodies.proofs.Gone.{comes_so, leaves, told_more}
 use Rattle.hub_bodies.proofs.steps.reaches.Goals as goal

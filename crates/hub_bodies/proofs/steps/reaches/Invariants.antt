@@ -1,6 +1,6 @@
 use Rattle.std.proofs.Common.{◌≡◌}
 use Rattle.flat_code.specs.Answers.{IsAnswer}
-use Rattle.flat_code.specs.Requests.{answer_of}
+use Rattle.flat_code.specs.Steps.{answer_of}
 use Rattle.hub_bodies.specs.Going.{brought_to, with_left}
 use Rattle.hub_bodies.specs.Places.{place_of}
 use Rattle.hub_bodies.proofs.Gone.{untold}

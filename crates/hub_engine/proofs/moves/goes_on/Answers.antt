@@ -1,7 +1,7 @@
 use Rattle.std.proofs.Common.{◌∙◌, ap}
 use Rattle.hub_machine.specs.declared.state.Phase.{Phase}
 use Rattle.hub_machine.specs.Life.{lands, with_phase}
-use Rattle.flat_code.specs.Requests.{asking}
+use Rattle.flat_moves.specs.Requests.{asking}
 use Rattle.hub_bodies.specs.Standings.{moved_of, reached_of}
 use Rattle.hub_bodies.specs.declared.Moved.{Moved}
 use Rattle.hub_engine.specs.Asking.{does_came}

@@ -4,7 +4,7 @@ use Rattle.scenario_check.proofs.FirstPlace.{well_formed, not_well_formed}
 use Rattle.scenario_check.proofs.checked.check.Goals as goal
 
 pub invariant_of-result : goal.invariant_of-result
-invariant_of-result c = well_formed c.args.scenario (ap place_of (sym c.tree.ensures.same) ∙ sym c.in_ok-place.ensures ∙ c.in-None.is)
+invariant_of-result c = (well_formed c.args.scenario (ap place_of (sym c.tree.ensures.same) ∙ sym c.in_ok-place.ensures ∙ c.in-None.is), c.tree.ensures.written.main)
 
 pub returns-in-None-clause-well_formed : goal.returns-in-None-clause-well_formed
 returns-in-None-clause-well_formed c = well_formed c.args.scenario (ap place_of (sym c.tree.ensures.same) ∙ sym c.in_ok-place.ensures ∙ c.in-None.is)

@@ -1,5 +1,5 @@
 use Rattle.hub_machine.specs.Bodies.{around}
-use Rattle.flat_code.specs.Requests.{answer_of}
+use Rattle.flat_code.specs.Steps.{answer_of}
 use Rattle.flat_code.specs.Standings.{stepped}
 use Rattle.flat_code.proofs.Answered.{answers_fit}
 use Rattle.flat_code.proofs.frame.Frame.resume.Goals as goal

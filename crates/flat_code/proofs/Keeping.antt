@@ -1,0 +1,51 @@
+-- A body whose calls have few arguments keeps that, as the code comes to it.
+use Rattle.std.proofs.Common.{◌≡◌, subst, ℕ, List, [], ◌∷◌}
+use Rattle.hub_machine.specs.declared.state.Leaving.{Leaving}
+use Rattle.hub_machine.specs.declared.state.Local.{Local}
+use Rattle.hub_machine.specs.declared.state.Todo.{Todo}
+use Rattle.hub_machine.specs.Bodies.{Body, Step, Stepped, after_move}
+use Rattle.hub_machine.specs.Expressions.{Around}
+use Rattle.hub_machine.specs.Frames.{Did, body_move}
+use Rattle.hub_machine.specs.Raising.{Unwound, unwind}
+use Rattle.few_arguments.specs.Few.{HasFewBody, HasFewDid, HasFewToDo, HasFewUnwound}
+use Rattle.few_arguments.proofs.Bodies.{move-few, unwind-few}
+use Rattle.few_arguments.proofs.Parts.{head-few}
+use Rattle.flat_moves.specs.AtMove.{HasFewAhead}
+use Rattle.flat_code.specs.declared.frame.Moved.{Moved}
+use Rattle.flat_code.specs.declared.frame.Stack.{Stack}
+use Rattle.flat_code.specs.Standings.{StaysFew, moved_of}
+
+-- what a block is left to
+pub few_as : (u : Unwound) (todo : List Todo) (left : List ℕ) (how : Leaving) (locals : List Local) → unwind todo left how locals ≡ u → HasFewToDo todo → HasFewUnwound u
+few_as u todo left how locals e h = subst HasFewUnwound e (unwind-few todo left how locals h)
+
+-- the statement at the head
+pub few_ahead : (todo : List Todo) → HasFewToDo todo → HasFewAhead todo
+few_ahead [] h = tt
+few_ahead (Todo.Statements [] ∷ todo) h = tt
+few_ahead (Todo.Statements (s ∷ ss) ∷ todo) h = head-few s ss h.0
+few_ahead (Todo.Again e body ∷ todo) h = tt
+few_ahead (Todo.Guard excepts finally ∷ todo) h = tt
+few_ahead (Todo.Afterwards how ∷ todo) h = tt
+few_ahead (Todo.Within n silent ∷ todo) h = tt
+
+-- the body stands where it goes on
+stands : Unwound → Stepped
+stands u = record { step = Step.MovesOut; body = Body.Ready u; moves = 0 }
+
+after : (locals : List Local) (did : Did) → HasFewDid did → HasFewBody (after_move 0 locals stands did).body
+unfolding stands
+after locals (Did.GoesOn how ls todo) h = unwind-few todo [] how ls h
+after locals (Did.Enters ms silent body todo) h = h
+after locals (Did.Asks request x todo) h = h.1
+
+stays : (moved : Moved) (s : Stack) → HasFewBody (moved_of 0 stands moved s).body → StaysFew moved s
+unfolding stands
+stays (Moved.Stops step standing) s h = h
+stays (Moved.Further at) s h = h
+
+-- what a move comes to
+pub move_stays_few : (todo : List Todo) (a : Around) (locals : List Local) (moved : Moved) (s : Stack) → HasFewToDo todo →
+    ((moves : ℕ) (go : Unwound → Stepped) → after_move moves locals go (body_move todo a) ≡ moved_of moves go moved s) → StaysFew moved s
+move_stays_few todo a locals moved s h made =
+    stays moved s (subst (λ (x : Stepped). HasFewBody x.body) (made 0 stands) (after locals (body_move todo a) (move-few todo a h)))

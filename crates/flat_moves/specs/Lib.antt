@@ -1,0 +1,3 @@
+pub mod AtMove
+pub mod Chosen
+pub mod Requests
