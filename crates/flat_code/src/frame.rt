@@ -325,7 +325,7 @@ fn make_move<L: Look>(
     Ok(does_move(alloc, code, look, stack)?)
 }
 
-/// The same by what the move does, whatever its calls are.
+/// The same. That its calls stay few is a law of what a move does, and shown where it is called.
 fn does_move<L: Look>(
     alloc: Global,
     code: &Code,
