@@ -6,7 +6,7 @@ pub returns-in-Some-clause-answer : goal.returns-in-Some-clause-answer
 returns-in-Some-clause-answer g c = unbuilt_decided c.args.budgets c.args.checked _ _ (sym c.in-Some.ensures.first)
 
 pub run_scenario-requires : goal.run_scenario-requires
-run_scenario-requires g c = c.in-None.ensures.built.0 refl
+run_scenario-requires g c = record { built = c.in-None.ensures.built.0 refl }
 
 pub returns-in-None-clause-answer : goal.returns-in-None-clause-answer
 returns-in-None-clause-answer g c = built_decided c.args.budgets c.args.checked _ _ _ (sym c.in-None.ensures.first) c.run_scenario.ensures.written
