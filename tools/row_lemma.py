@@ -4,14 +4,14 @@ that the lines meet the laws of a trace, and that the state at each block line i
 
 SCENARIO is a file of the scenario language with well-formed lines; TRACE has the lines that are wanted. With --answers
 the run is the one under these answers, each written as in a turn line: 'nothing 5', 'elapsed 5', 'done j1 5 value 7'.
-The lemmas go into proofs/Rows/ of the crate hub_machine_rows, under the name that is given.
+The lemmas go into proofs/Rows/ of the crate machine_examples, under the name that is given.
 """
 import argparse
 import re
 
 TREE = "Rattle.scenario_tree.specs.declared.tree"
 GV = "Rattle.gv_values.specs.declared"
-HUB = "Rattle.hub_machine.specs"
+HUB = "Rattle.machine.specs"
 
 # ---- what a row may name, and where it stands
 
@@ -42,7 +42,7 @@ CARRIER = [f"denote.Hole.Carrier.{part}" for part in ("hidden", "out", "shown", 
 WORDS = [f"{HUB}.Holds.{w}" for w in
          "has_set_since has_result has_unit is_free has_room has_item all_finished has_place is_deserted has_slot".split()]
 WORDS += [f"{HUB}.Moves.move", f"{HUB}.Moves.performs", f"{HUB}.Deliveries.deliver", f"{HUB}.Deliveries.interrupts",
-          f"{HUB}.Answers.take_answer", "Rattle.gv_values.specs.Arithmetic.rounds", "Rattle.native_answers.specs.Jobs.eval"]
+          f"{HUB}.Answers.take_answer", "Rattle.gv_values.specs.Arithmetic.rounds", "Rattle.world_rules.specs.Jobs.eval"]
 
 
 def last(path):

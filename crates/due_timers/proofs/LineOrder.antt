@@ -3,9 +3,9 @@ use Rattle.std.proofs.Common.{Contains, ◌≡◌, ℕ, zero, ◌+◌, ◌<◌, 
 use Rattle.std.proofs.lemmas.Bool.{cases_eq}
 use Rattle.std.specs.List.{All, AllByRecursion}
 use Rattle.std.proofs.lemmas.List.Elements.{All-nil, All-cons, All-from_recursion}
-use Rattle.item_rows.specs.Items.{items_of, without_entry, Differ}
-use Rattle.item_rows.specs.Seen.{SeenRow, row}
-use Rattle.item_rows.proofs.ItemLemmas.{test_keeps, test_drops, first_is, entry_first_dropped}
+use Rattle.linked_items.specs.Items.{items_of, without_entry, Differ}
+use Rattle.linked_items.specs.Seen.{SeenRow, row}
+use Rattle.linked_items.proofs.ItemLemmas.{test_keeps, test_drops, first_is, entry_first_dropped}
 use Rattle.due_timers.specs.Line.{line, IsRising, TakesLeast}
 
 pub rising_lower : (low low' : ℕ) (es : List (ℕ × ℕ)) (high : ℕ) → low ≤ low' → IsRising low' es high → IsRising low es high

@@ -1,10 +1,10 @@
 //! The line of the items that are ready.
 ghost use Rattle.std.specs.Prelude.{◌≡◌, ◌≢◌, ℕ, ◌+◌, ◌-◌, ◌^◌, ◌<◌, ◌≤◌, List, [], ◌∷◌, ◌++◌, length, IfSome, IfNone, OnOk, OnErr, IsOk, ◌↔◌, Some, None, slice_get};
 ghost use Rattle.std.specs.List.{Contains, All};
-ghost use Rattle.item_rows.specs.Items.{items_of, without_entry, Differ};
+ghost use Rattle.linked_items.specs.Items.{items_of, without_entry, Differ};
 ghost use Rattle.due_timers.specs.Line.{line, TakesLeast, IsRising};
 
-use item_rows::row::Row;
+use linked_items::row::Row;
 use std::alloc::{AllocError, Global};
 use std::marker::Model;
 

@@ -1,16 +1,16 @@
 -- A body whose calls have few arguments keeps that, as the code comes to it.
 use Rattle.std.proofs.Common.{◌≡◌, subst, ℕ, List, [], ◌∷◌}
-use Rattle.hub_machine.specs.declared.state.Leaving.{Leaving}
-use Rattle.hub_machine.specs.declared.state.Local.{Local}
-use Rattle.hub_machine.specs.declared.state.Todo.{Todo}
-use Rattle.hub_machine.specs.Bodies.{Body, Step, Stepped, after_move}
-use Rattle.hub_machine.specs.Expressions.{Around}
-use Rattle.hub_machine.specs.Frames.{Did, body_move}
-use Rattle.hub_machine.specs.Raising.{Unwound, unwind}
-use Rattle.few_arguments.specs.Few.{HasFewBody, HasFewDid, HasFewToDo, HasFewUnwound}
-use Rattle.few_arguments.proofs.Bodies.{move-few, unwind-few}
-use Rattle.few_arguments.proofs.Parts.{head-few}
-use Rattle.flat_moves.specs.AtMove.{HasFewAhead}
+use Rattle.machine.specs.declared.state.Leaving.{Leaving}
+use Rattle.machine.specs.declared.state.Local.{Local}
+use Rattle.machine.specs.declared.state.Todo.{Todo}
+use Rattle.machine.specs.Bodies.{Body, Step, Stepped, after_move}
+use Rattle.machine.specs.Expressions.{Around}
+use Rattle.machine.specs.Frames.{Did, body_move}
+use Rattle.machine.specs.Raising.{Unwound, unwind}
+use Rattle.machine_arguments.specs.Few.{HasFewBody, HasFewDid, HasFewToDo, HasFewUnwound}
+use Rattle.machine_arguments.proofs.Bodies.{move-few, unwind-few}
+use Rattle.machine_arguments.proofs.Parts.{head-few}
+use Rattle.body_moves.specs.AtMove.{HasFewAhead}
 use Rattle.flat_code.specs.declared.frame.Moved.{Moved}
 use Rattle.flat_code.specs.declared.frame.Stack.{Stack}
 use Rattle.flat_code.specs.Standings.{StaysFew, moved_of}

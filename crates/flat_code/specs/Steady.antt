@@ -1,8 +1,8 @@
 -- Where a body that goes on by itself stands.
 use Rattle.std.specs.Prelude.{⊤}
-use Rattle.hub_machine.specs.Bodies.{Body}
-use Rattle.hub_machine.specs.Raising.{Unwound}
-use Rattle.flat_moves.specs.AtMove.{IsAtMove}
+use Rattle.machine.specs.Bodies.{Body}
+use Rattle.machine.specs.Raising.{Unwound}
+use Rattle.body_moves.specs.AtMove.{IsAtMove}
 
 -- where the body is not left, it stands at a move
 abbrev pub HasMove : Unwound → Type 0

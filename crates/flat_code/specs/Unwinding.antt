@@ -1,9 +1,9 @@
 -- What the steps outwards through the blocks stand for.
 use Rattle.std.specs.Prelude.{ℕ, List, ⊤, ◌≡◌}
 use Rattle.scenario_tree.specs.declared.tree.Except.{Except, out-Except}
-use Rattle.hub_machine.specs.declared.state.Local.{Local}
-use Rattle.hub_machine.specs.declared.state.Todo.{Todo}
-use Rattle.hub_machine.specs.Raising.{Caught, Unwound, unwind}
+use Rattle.machine.specs.declared.state.Local.{Local}
+use Rattle.machine.specs.declared.state.Todo.{Todo}
+use Rattle.machine.specs.Raising.{Caught, Unwound, unwind}
 use Rattle.flat_code.specs.declared.unwind.Unwound.{Unwound as Came}
 use Rattle.flat_code.specs.declared.unwind.Stepped.{Stepped}
 

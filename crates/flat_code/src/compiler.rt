@@ -1,9 +1,9 @@
 //! Code from a scenario that is well formed.
 ghost use Rattle.std.specs.Prelude.{◌≡◌, IfOk};
 
-use few_arguments::calls_have_few;
-use flat_moves::copy_block;
-use flat_values::Code;
+use machine_arguments::calls_have_few;
+use body_moves::copy_block;
+use body_values::Code;
 use scenario_check::Checked;
 use scenario_tree::{Function, Items, Scenario};
 use std::alloc::{AllocError, Global};

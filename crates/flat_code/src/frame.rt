@@ -1,30 +1,30 @@
 //! A body that is under way.
 ghost use Rattle.std.specs.Prelude.{◌≡◌, ℕ, [], List, pos, OnOk, IfOk};
-ghost use Rattle.hub_machine.specs.declared.state.Todo.{Todo as Undone};
-ghost use Rattle.hub_machine.specs.declared.state.Local.{Local as Named};
-ghost use Rattle.hub_machine.specs.Frames.{body_move};
-ghost use Rattle.hub_machine.specs.Expressions.{Around};
-ghost use Rattle.hub_machine.specs.Bodies.{around, resume, begins, goes, after_move, Stepped as Went};
-ghost use Rattle.hub_machine.specs.Raising.{unwind, Unwound as Place};
-ghost use Rattle.hub_machine.specs.Life.{given, leaving_of, outcome_of_leaving};
-ghost use Rattle.flat_moves.specs.AtMove.{IsAtMove};
+ghost use Rattle.machine.specs.declared.state.Todo.{Todo as Undone};
+ghost use Rattle.machine.specs.declared.state.Local.{Local as Named};
+ghost use Rattle.machine.specs.Frames.{body_move};
+ghost use Rattle.machine.specs.Expressions.{Around};
+ghost use Rattle.machine.specs.Bodies.{around, resume, begins, goes, after_move, Stepped as Went};
+ghost use Rattle.machine.specs.Raising.{unwind, Unwound as Place};
+ghost use Rattle.machine.specs.Life.{given, leaving_of, outcome_of_leaving};
+ghost use Rattle.body_moves.specs.AtMove.{IsAtMove};
 ghost use Rattle.flat_code.specs.Steady.{HasMove, IsSteady};
 ghost use Rattle.flat_code.specs.Standings.{stepped, moved_of, body_of, StaysFew, StaysSteady};
-ghost use Rattle.few_arguments.specs.Few.{HasFew, HasFewBody, HasFewToDo, HasFewUnwound};
-ghost use Rattle.flat_moves.specs.Chosen.{came_of, after_first};
+ghost use Rattle.machine_arguments.specs.Few.{HasFew, HasFewBody, HasFewToDo, HasFewUnwound};
+ghost use Rattle.body_moves.specs.Chosen.{came_of, after_first};
 ghost use Rattle.flat_code.specs.Answers.{Answers, IsAnswer, IsNumber};
-ghost use Rattle.flat_values.specs.Functions.{IsFunction, function_at};
+ghost use Rattle.body_values.specs.Functions.{IsFunction, function_at};
 ghost use Rattle.flat_code.specs.declared.step.Input.{Input as Given};
 ghost use Rattle.flat_code.specs.Steps.{answer_of, step_of};
 ghost use Rattle.flat_code.specs.Unwinding.{unwound_of};
 
 use crate::step::{Input, Step};
 use crate::unwind::{Unwound, unwind};
-use flat_moves::{Chosen, Request, chooses, copy_block};
-use flat_values::front::{drop_first, pop_first, put_before, put_first};
-use flat_values::{Code, Look, bind, named};
+use body_moves::{Chosen, Request, chooses, copy_block};
+use body_values::front::{drop_first, pop_first, put_before, put_first};
+use body_values::{Code, Look, bind, named};
 use gv_values::{Name, Outcome, Value};
-use hub_machine::state::{Leaving, Local, Todo};
+use machine::state::{Leaving, Local, Todo};
 use scenario_tree::{Function, Items, Statement};
 use std::alloc::{AllocError, Global};
 use std::marker::Model;
@@ -58,8 +58,8 @@ pub struct Frame {
 }
 
 impl Model for Frame {
-    ghost use Rattle.hub_machine.specs.Bodies.{Body};
-    ghost use Rattle.few_arguments.specs.Few.{HasFewBody};
+    ghost use Rattle.machine.specs.Bodies.{Body};
+    ghost use Rattle.machine_arguments.specs.Few.{HasFewBody};
     ghost use Rattle.flat_code.specs.Steady.{IsSteady};
     ghost use Rattle.flat_code.specs.Standings.{body_of};
     ghost use Rattle.std.specs.Coded.{codes};

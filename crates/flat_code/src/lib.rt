@@ -12,7 +12,7 @@ mod tests;
 mod unwind;
 
 pub use compiler::compile;
-pub use flat_moves::{Arguments, Request};
-pub use flat_values::{Code, Look};
+pub use body_moves::{Arguments, Request};
+pub use body_values::{Code, Look};
 pub use frame::Frame;
 pub use step::{Input, Step};

@@ -1,12 +1,12 @@
 //! How a block is left.
 ghost use Rattle.std.specs.Prelude.{◌≡◌, ◌∷◌, [], ◌++◌, ℕ, List, Option, Some, None, IfOk, IfSome, IfNone, OnOk, option_map};
-ghost use Rattle.hub_machine.specs.Raising.{unwind, catching, past_timeout, bind_if, finally_first, block_first};
+ghost use Rattle.machine.specs.Raising.{unwind, catching, past_timeout, bind_if, finally_first, block_first};
 ghost use Rattle.flat_code.specs.Unwinding.{unwound_of, caught_of, stepped_of, KeepsIfFurther};
 
-use flat_values::bind;
-use flat_values::front::{pop_first, put_first};
+use body_values::bind;
+use body_values::front::{pop_first, put_first};
 use gv_values::{FaultKind, Name, Value};
-use hub_machine::state::{Leaving, Local, Todo};
+use machine::state::{Leaving, Local, Todo};
 use scenario_tree::{Except, Items, Statement};
 use std::alloc::{AllocError, Global};
 

@@ -6,9 +6,9 @@ use Rattle.std.proofs.lemmas.Bool.{cases_eq, false≢true}
 use Rattle.std.proofs.lemmas.Bool.Decides.{nat_tests}
 use Rattle.std.proofs.lemmas.List.Elements.{Contains-append_left, Contains-append_right, Contains-append_cases}
 use Rattle.gv_values.specs.declared.value.Outcome.{Outcome}
-use Rattle.item_rows.specs.Items.{items_of, without}
-use Rattle.item_rows.specs.Seen.{SeenRow, row}
-use Rattle.item_rows.proofs.StrideLemmas.{contains_without}
+use Rattle.linked_items.specs.Items.{items_of, without}
+use Rattle.linked_items.specs.Seen.{SeenRow, row}
+use Rattle.linked_items.proofs.StrideLemmas.{contains_without}
 use Rattle.greenlet_life.specs.declared.records.Link.{Link}
 use Rattle.greenlet_life.specs.declared.records.LinkState.{LinkState}
 use Rattle.greenlet_life.specs.declared.records.LinkKind.TheVariants.{Any}

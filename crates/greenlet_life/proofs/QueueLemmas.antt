@@ -4,11 +4,11 @@ use Rattle.std.specs.List.{position, position_or_len}
 use Rattle.std.proofs.lemmas.Bool.{cases_eq, false_from_ne_true}
 use Rattle.std.proofs.lemmas.Bool.Decides.{nat_tests}
 use Rattle.std.proofs.lemmas.List.Sums.{position_or_len_is}
-use Rattle.item_rows.specs.Items.{items_of, without, without_entry, Lacks}
-use Rattle.item_rows.specs.Seen.{SeenRow, row}
+use Rattle.linked_items.specs.Items.{items_of, without, without_entry, Lacks}
+use Rattle.linked_items.specs.Seen.{SeenRow, row}
 use Rattle.std.proofs.lemmas.List.{get_or_read}
-use Rattle.item_rows.proofs.ItemLemmas.{contains_of_filter, without_absent, test_keeps, test_drops, items_without, length_items, lacks_of_absent, first_is, entry_first_dropped}
-use Rattle.item_rows.proofs.StrideLemmas.{contains_without}
+use Rattle.linked_items.proofs.ItemLemmas.{contains_of_filter, without_absent, test_keeps, test_drops, items_without, length_items, lacks_of_absent, first_is, entry_first_dropped}
+use Rattle.linked_items.proofs.StrideLemmas.{contains_without}
 use Rattle.greenlet_life.specs.declared.records.Link.{Link}
 use Rattle.greenlet_life.specs.declared.records.LinkKind.TheVariants.{Any}
 use Rattle.greenlet_life.specs.Lives.{made}

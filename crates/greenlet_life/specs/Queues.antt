@@ -2,8 +2,8 @@
 use Rattle.std.specs.Prelude.{◌≡◌, ℕ, ◌+◌, ◌<◌, ◌≤◌, ◌==◌, ◌&&◌, Bool, true, List, [], ◌∷◌, length, Option, Some, None, slice_index_or}
 use Rattle.std.specs.List.{Contains}
 use Rattle.gv_values.specs.declared.value.Outcome.{Outcome}
-use Rattle.item_rows.specs.Items.{items_of}
-use Rattle.item_rows.specs.Seen.{SeenRow, row}
+use Rattle.linked_items.specs.Items.{items_of}
+use Rattle.linked_items.specs.Seen.{SeenRow, row}
 use Rattle.greenlet_life.specs.declared.records.Link.{Link}
 use Rattle.greenlet_life.specs.declared.records.LinkKind.{LinkKind}
 use Rattle.greenlet_life.specs.Lives.{made, is_due, is_waiting}

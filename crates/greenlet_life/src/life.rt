@@ -10,7 +10,7 @@ ghost use Rattle.greenlet_life.specs.Lives.{life, greenlet_at, link_at, outcome_
 use crate::queues::{drop_link, next_fitting, queue_link};
 use crate::records::{Greenlet, Link, LinkKind, LinkState, Phase, Stage, is_fitting};
 use gv_values::{FaultKind, Outcome, Value};
-use item_rows::row::Row;
+use linked_items::row::Row;
 use std::alloc::{AllocError, Global};
 use std::marker::Model;
 use thiserror::Error;

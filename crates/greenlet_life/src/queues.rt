@@ -2,13 +2,13 @@
 ghost use Rattle.std.specs.Prelude.{◌≡◌, ◌≢◌, ℕ, ◌<◌, [], ◌∷◌, ◌++◌, length, true, None, Some, IfSome, OnOk, OnErr, position};
 ghost use Rattle.std.specs.List.{Contains};
 ghost use Rattle.std.specs.Option.{option_copied};
-ghost use Rattle.item_rows.specs.Items.{items_of, without};
+ghost use Rattle.linked_items.specs.Items.{items_of, without};
 ghost use Rattle.greenlet_life.specs.Lives.{is_due};
 ghost use Rattle.greenlet_life.specs.Queues.{queue_of, link_or, outcome_or, is_open, IsQueue, IsRising};
 
 use crate::records::{Link, LinkState, is_fitting};
 use gv_values::Outcome;
-use item_rows::row::Row;
+use linked_items::row::Row;
 use std::alloc::AllocError;
 
 // Puts a link, by its place among all, behind the others of its greenlet.

@@ -8,8 +8,8 @@ use Rattle.std.specs.Char.{digit_value}
 use Rattle.std.specs.List.{before_first, after_first, list_all, position_or_len}
 use Rattle.std.specs.Str.Parse.{AllDigits, IsNumeral, digits_value, without_leading_plus}
 use Rattle.gv_values.specs.Names.{is_digit}
-use Rattle.scenario_grammar.specs.Tokens.{is_plain_number}
-use Rattle.hub_machine.specs.Budgets.{AreBudgets, most_turns, most_moves}
+use Rattle.gv_values.specs.Digits.{is_plain_number}
+use Rattle.machine.specs.Budgets.{AreBudgets, most_turns, most_moves}
 use Rattle.hub_engine.specs.declared.run.Budgets.{Budgets}
 use Rattle.gv_top.specs.declared.options.Said.{Said}
 use Rattle.gv_top.specs.declared.words.Command.{Command}

@@ -6,9 +6,9 @@ use Rattle.trace_text.specs.declared.line.StopCause.{StopCause}
 use Rattle.scenario_tree.specs.declared.tree.Scenario.{Scenario}
 use Rattle.gv_io.specs.Streams.{prepended, AppendsPrefix}
 use Rattle.gv_io.proofs.StreamLaws.{appended-nothing, AppendsPrefix-all, AppendsPrefix-nothing}
-use Rattle.built_forms.specs.Built.{first_unbuilt}
-use Rattle.hub_machine.specs.Run.{Ran, End as RunEnd, script_run}
-use Rattle.hub_machine.specs.Status.{status, err_line}
+use Rattle.unbuilt_forms.specs.Built.{first_unbuilt}
+use Rattle.machine.specs.Run.{Ran, End as RunEnd, script_run}
+use Rattle.machine.specs.Status.{status, err_line}
 use Rattle.hub_engine.specs.declared.run.Budgets.{Budgets}
 use Rattle.hub_engine.specs.declared.run.End.{End}
 use Rattle.hub_engine.specs.Ends.{RanTo, end_of, end_of_run}

@@ -9,7 +9,7 @@ use Rattle.scenario_grammar.proofs.Placed.{refused_there}
 use Rattle.scenario_grammar.proofs.Sound.{sound}
 use Rattle.scenario_rules.specs.Rules.{IsWellFormed, place_of}
 use Rattle.scenario_check.proofs.FirstPlace.{well_formed, not_well_formed}
-use Rattle.built_forms.specs.Built.{first_unbuilt}
+use Rattle.unbuilt_forms.specs.Built.{first_unbuilt}
 use Rattle.hub_engine.specs.declared.run.Budgets.{Budgets}
 use Rattle.gv_top.specs.Refusals.{IsRefusedAt}
 use Rattle.gv_top.specs.Top.{IsAnswered}

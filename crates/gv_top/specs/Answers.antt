@@ -15,10 +15,10 @@ use Rattle.gv_top.specs.declared.words.Command.{Command}
 use Rattle.gv_top.specs.declared.words.Command.TheVariants.{Text, Wsgi}
 use Rattle.gv_top.specs.declared.words.TextCommand.{TextCommand}
 use Rattle.gv_top.specs.declared.words.TextCommand.TheVariants.{Run, Format}
-use Rattle.hub_machine.specs.Run.{Ran, End, script_run}
-use Rattle.hub_machine.specs.Status.{status, err_line, line_of}
+use Rattle.machine.specs.Run.{Ran, End, script_run}
+use Rattle.machine.specs.Status.{status, err_line, line_of}
 use Rattle.hub_engine.specs.declared.run.Budgets.{Budgets}
-use Rattle.built_forms.specs.Built.{first_unbuilt}
+use Rattle.unbuilt_forms.specs.Built.{first_unbuilt}
 
 -- a line on err
 abbrev pub line : List ℕ → List ℕ

@@ -4,7 +4,7 @@ use Rattle.trace_text.specs.declared.line.StopCause.{StopCause}
 use Rattle.scenario_grammar.specs.declared.place.Place.{Place}
 use Rattle.scenario_lang.specs.declared.text.ParseRefusal.{ParseRefusal}
 use Rattle.scenario_lang.specs.declared.text.ParseRefusal.TheVariants as parse
-use Rattle.hub_machine.specs.Status.{status, err_line}
+use Rattle.machine.specs.Status.{status, err_line}
 use Rattle.hub_engine.specs.declared.run.End.{End}
 use Rattle.wsgi_connection.specs.declared.connection.ConnectionEnd.{ConnectionEnd}
 use Rattle.gv_top.specs.declared.status.Verdict.{Verdict}

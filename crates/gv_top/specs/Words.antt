@@ -1,8 +1,8 @@
 -- Which lists of words are commands, and what they ask for.
 use Rattle.std.specs.Prelude.{ℕ, Bool, ◌&&◌, ◌+◌, ◌==◌, nat_le, if◌then◌else◌, List, [], ◌∷◌, take, drop, position, Option, Some, None, option_map, option_and_then, unwrap_or, bytes_eq, codes}
 use Rattle.std.specs.Str.Parse.{digits_value}
-use Rattle.scenario_grammar.specs.Tokens.{is_plain_number}
-use Rattle.hub_machine.specs.Budgets.{most_turns, most_moves}
+use Rattle.gv_values.specs.Digits.{is_plain_number}
+use Rattle.machine.specs.Budgets.{most_turns, most_moves}
 use Rattle.hub_engine.specs.declared.run.Budgets.{Budgets}
 use Rattle.gv_top.specs.declared.options.Said.{Said}
 use Rattle.gv_top.specs.declared.words.Command.{Command}

@@ -1,11 +1,9 @@
 //! The options of `run`.
 ghost use Rattle.std.specs.Prelude.{◌≡◌, map, option_map, string_bytes};
-ghost use Rattle.scenario_grammar.specs.Tokens.{is_plain_number};
-ghost use Rattle.gv_values.specs.Names.{is_digit};
-ghost use Rattle.std.specs.List.{list_all};
+ghost use Rattle.gv_values.specs.Digits.{is_plain_number};
 ghost use Rattle.gv_top.specs.Words.{budgets_of, first_value, options, parted, says, up_to, value};
 
-use crate::words::same_bytes;
+use gv_values::digits::{is_plain_number, same_bytes};
 use hub_engine::Budgets;
 
 /// The most turns that may be asked for.
@@ -123,18 +121,3 @@ fn up_to(most: u64, number: u64) -> Option<u64>
     }
 }
 
-fn is_plain_number(text: &[u8]) -> bool
-    ensures { result ≡ is_plain_number text.now }
-{
-    match text {
-        [] => false,
-        [b] => b.is_ascii_digit(),
-        [b, rest @ ..] => matches!(*b, b'1'..=b'9') && are_digits(rest),
-    }
-}
-
-fn are_digits(text: &[u8]) -> bool
-    ensures { result ≡ list_all is_digit text.now }
-{
-    text.iter().all(|b| b.is_ascii_digit())
-}

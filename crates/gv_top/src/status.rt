@@ -91,7 +91,7 @@ impl Verdict {
     }
 }
 
-ghost use Rattle.hub_machine.specs.Status.{err_line};
+ghost use Rattle.machine.specs.Status.{err_line};
 ghost use Rattle.trace_text.specs.declared.line.StopCause.{StopCause};
 ghost use Rattle.gv_top.specs.Answers.{line, place_text, refusal};
 

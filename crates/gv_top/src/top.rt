@@ -6,7 +6,7 @@ ghost use Rattle.scenario_grammar.specs.declared.place.Place.{Place};
 ghost use Rattle.scenario_grammar.specs.Spells.{Spells};
 ghost use Rattle.scenario_rules.specs.Rules.{IsWellFormed};
 ghost use Rattle.scenario_tree.specs.declared.tree.Scenario.{Scenario as AnyScenario};
-ghost use Rattle.built_forms.specs.Built.{IsBuilt, first_unbuilt};
+ghost use Rattle.unbuilt_forms.specs.Built.{IsBuilt, first_unbuilt};
 ghost use Rattle.hub_engine.specs.Ends.{RanTo};
 ghost use Rattle.hub_engine.specs.declared.run.Budgets.{Budgets as AnyBudgets};
 ghost use Rattle.gv_top.specs.Answers.{answer_of_run, answer_to, answer_to_scenario, answer_to_text, formatted, memory_line, most_read, not_built, refusal, run_of};

@@ -3,6 +3,7 @@ ghost use Rattle.std.specs.Prelude.{◌≡◌, map, string_bytes, bytes_eq};
 ghost use Rattle.gv_top.specs.Words.{command_of, plain_command, run_command};
 
 use crate::options::{Said, budgets_of, options};
+use gv_values::digits::same_bytes;
 use hub_engine::Budgets;
 
 /// What is done with the scenario that the input spells.
@@ -21,12 +22,6 @@ pub enum Command {
     Text(TextCommand),
     /// Answer the connection whose bytes the input gives.
     Wsgi,
-}
-
-pub fn same_bytes(a: &[u8], b: &[u8]) -> bool
-    ensures { result ≡ bytes_eq a.now b.now }
-{
-    a == b
 }
 
 /// The command that the words name, if they name one.

@@ -1,7 +1,9 @@
 pub mod Names
 pub mod NameParts
+pub mod Digits
 pub mod Faults
 pub mod Values
 pub mod Arithmetic
 pub mod ValueTexts
 pub mod Fronts
+pub mod Ends

@@ -1,5 +1,18 @@
 use crate::fault::FaultKind;
 
+/// What native threads compute of an integer.
+#[derive(Clone, Copy, Debug, PartialEq, Eq)]
+pub enum JobKind {
+    /// The sum of 1 to it.
+    Sum,
+    /// The steps of its Collatz sequence.
+    Collatz,
+    /// The fault `Error` with this number.
+    Fail,
+    /// The integer itself.
+    Echo,
+}
+
 /// What a native thread computes of its integer.
 #[derive(Clone, Copy, Debug, PartialEq, Eq)]
 pub enum Job {

@@ -3,8 +3,10 @@
 
 mod arith;
 pub mod arithmetic;
+pub mod digits;
 mod fault;
 mod job;
+mod link;
 mod list;
 mod name;
 mod scalar;
@@ -15,7 +17,8 @@ mod value;
 
 pub use arith::Arith;
 pub use fault::{Class, FaultKind};
-pub use job::{Answer, Job, JobOutcome};
+pub use job::{Answer, Job, JobKind, JobOutcome};
+pub use link::LinkKind;
 pub use list::{LIST_LIMIT, List, PushRefusal};
 pub use name::Name;
 pub use scalar::Scalar;

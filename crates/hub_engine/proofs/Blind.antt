@@ -2,16 +2,17 @@
 use Rattle.std.proofs.Common.{◌≡◌, refl, ap, ◌∙◌, ℕ, zero, suc, Bool, ◌==◌, List, [], ◌∷◌, None, slice_get, slice_set, unwrap_or, if◌then◌else◌}
 use Rattle.gv_values.specs.declared.value.Value.{Value}
 use Rattle.gv_values.specs.declared.value.Outcome.{Outcome}
-use Rattle.hub_machine.specs.declared.state.Greenlet.{Greenlet}
-use Rattle.hub_machine.specs.declared.state.Phase.{Phase}
-use Rattle.hub_machine.specs.declared.state.Frame.{Frame}
+use Rattle.machine.specs.declared.state.Greenlet.{Greenlet}
+use Rattle.machine.specs.declared.state.Phase.{Phase}
+use Rattle.machine.specs.declared.state.Frame.{Frame}
 use Rattle.std.specs.Prelude.{map}
 use Rattle.trace_text.specs.declared.line.Line.{Line}
-use Rattle.hub_machine.specs.Settle.{settle}
-use Rattle.hub_machine.specs.State.{State, say}
-use Rattle.hub_machine.specs.Raising.{Unwound, unwind}
-use Rattle.hub_machine.specs.Life.{Next, Landing, nobody, greenlet, function_of, with_phase, ended, kept, stop_of, after_end, goes_on, resumes, starts, given, leaving_of, outcome_of_leaving, drop_items, goes_at_end, is_timeout_of, without_member}
-use Rattle.hub_bodies.specs.Places.{Place}
+use Rattle.machine.specs.Settle.{settle}
+use Rattle.machine.specs.State.{State, say}
+use Rattle.machine.specs.Raising.{Unwound, unwind}
+use Rattle.machine.specs.Life.{Next, Landing, nobody, greenlet, function_of, with_phase, ended, stop_of, after_end, goes_on, resumes, starts, given, leaving_of, outcome_of_leaving, drop_items, goes_at_end, is_timeout_of, without_member}
+use Rattle.gv_values.specs.Ends.{kept}
+use Rattle.body_frames.specs.Places.{Place}
 use Rattle.hub_engine.specs.Stands.{goes_to}
 
 -- the greenlet of this number, with this phase

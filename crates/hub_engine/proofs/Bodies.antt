@@ -1,12 +1,12 @@
 -- A greenlet goes on to the place that its body came to.
 use Rattle.std.proofs.Common.{◌≡◌, refl, ap, sym, ◌∙◌, ℕ, []}
 use Rattle.gv_values.specs.declared.value.Outcome.{Outcome}
-use Rattle.hub_machine.specs.declared.state.Frame.{Frame}
-use Rattle.hub_machine.specs.declared.state.Phase.{Phase}
-use Rattle.hub_machine.specs.State.{State}
-use Rattle.hub_machine.specs.Raising.{Unwound, unwind}
-use Rattle.hub_machine.specs.Life.{Landing, given, goes_on, lands, leaving_of, no_frame, outcome_of_leaving, resumes, with_phase}
-use Rattle.hub_bodies.specs.Places.{Place, place_of}
+use Rattle.machine.specs.declared.state.Frame.{Frame}
+use Rattle.machine.specs.declared.state.Phase.{Phase}
+use Rattle.machine.specs.State.{State}
+use Rattle.machine.specs.Raising.{Unwound, unwind}
+use Rattle.machine.specs.Life.{Landing, given, goes_on, lands, leaving_of, no_frame, outcome_of_leaving, resumes, with_phase}
+use Rattle.body_frames.specs.Places.{Place, place_of}
 use Rattle.hub_engine.specs.Stands.{goes_to, next_at}
 use Rattle.hub_engine.specs.declared.stand.Stand.{Stand}
 use Rattle.hub_engine.proofs.Blind.{resumes_blind}

@@ -1,12 +1,12 @@
 -- An item that is delivered is one that is run.
 use Rattle.std.proofs.Common.{◌≡◌, refl, sym, ◌∙◌, subst, ℕ, ◌<◌, true, length, Option, Some, slice_get, arith}
-use Rattle.hub_machine.specs.declared.items.Delivery.{Delivery}
-use Rattle.hub_machine.specs.declared.items.Item.{Item}
-use Rattle.hub_machine.specs.Deliveries.{deliver, delivers, without_item}
-use Rattle.hub_machine.specs.Life.{greenlet}
-use Rattle.hub_machine.specs.State.{State}
-use Rattle.hub_runnable.specs.Runnable.{IsRunnable, is_runnable_delivery}
-use Rattle.hub_runnable.proofs.States.{function-known, item-runnable}
+use Rattle.machine.specs.declared.items.Delivery.{Delivery}
+use Rattle.machine.specs.declared.items.Item.{Item}
+use Rattle.machine.specs.Deliveries.{deliver, delivers, without_item}
+use Rattle.machine.specs.Life.{greenlet}
+use Rattle.machine.specs.State.{State}
+use Rattle.machine_built.specs.Runnable.{IsRunnable, is_runnable_delivery}
+use Rattle.machine_built.proofs.States.{function-known, item-runnable}
 use Rattle.hub_engine.specs.Stands.{next_at}
 use Rattle.hub_engine.specs.declared.stand.Stand.{Stand}
 

@@ -5,12 +5,12 @@ use Rattle.trace_text.specs.declared.line.Line.{Line}
 use Rattle.trace_text.specs.declared.line.StopCause.{StopCause}
 use Rattle.trace_text.specs.LineTexts.{text_of}
 use Rattle.gv_io.specs.Streams.{appended, AppendsPrefix}
-use Rattle.hub_machine.specs.declared.items.Item.{Item}
+use Rattle.machine.specs.declared.items.Item.{Item}
 use Rattle.hub_engine.specs.declared.stand.Came.{Came}
-use Rattle.hub_machine.specs.State.{State}
-use Rattle.hub_machine.specs.Life.{Next}
-use Rattle.hub_machine.specs.Deliveries.{deliver}
-use Rattle.hub_machine.specs.Run.{Passed, rests, followed_by, runs_on, deliveries, after_delivery, least_below}
+use Rattle.machine.specs.State.{State}
+use Rattle.machine.specs.Life.{Next}
+use Rattle.machine.specs.Deliveries.{deliver}
+use Rattle.machine.specs.Run.{Passed, rests, followed_by, runs_on, deliveries, after_delivery, least_below}
 use Rattle.hub_engine.specs.Written.{CameTo, HasPassed, IsPassing}
 use Rattle.hub_engine.proofs.Passing.{onward, over, broken, whole_written, at_rest, at_an_end}
 use Rattle.hub_state.proofs.Leasts.{item_there}

@@ -7,28 +7,28 @@ use Rattle.std.specs.List.{list_all}
 use Rattle.gv_values.specs.declared.value.Outcome.{Outcome}
 use Rattle.gv_values.specs.declared.value.Whom.{Whom}
 use Rattle.scenario_tree.specs.declared.tree.Scenario.{Scenario}
-use Rattle.hub_machine.specs.declared.items.Delivery.{Delivery}
-use Rattle.hub_machine.specs.declared.items.Item.{Item}
-use Rattle.hub_machine.specs.declared.items.Waiting.{Waiting}
-use Rattle.hub_machine.specs.declared.state.Frame.{Frame}
-use Rattle.hub_machine.specs.declared.state.Greenlet.{Greenlet}
-use Rattle.hub_machine.specs.declared.state.Local.{Local}
-use Rattle.hub_machine.specs.declared.state.Phase.{Phase}
-use Rattle.hub_machine.specs.Bodies.{Step, around}
-use Rattle.hub_machine.specs.Expressions.{Look}
-use Rattle.hub_machine.specs.Frames.{Did, body_move}
-use Rattle.hub_machine.specs.Holds.{delivery_holds, holds, link_holds, outcome_of, outcome_of_phase, phase_of, wait_holds}
-use Rattle.hub_machine.specs.Life.{Next, frame_of, greenlet, lands, no_frame, nobody, with_phase}
-use Rattle.hub_machine.specs.Moves.{does, follows, look, move}
-use Rattle.hub_machine.specs.Raising.{unwind}
-use Rattle.hub_machine.specs.Settle.{numbers_after, settle, settled}
-use Rattle.hub_machine.specs.Soundness.{is_under_way}
-use Rattle.hub_machine.specs.State.{State}
-use Rattle.hub_soundness.specs.Going.{IsSoundAt, next_did}
-use Rattle.hub_soundness.proofs.Lists.{left}
-use Rattle.hub_runnable.specs.Runnable.{IsRunnable, is_runnable_did, is_runnable_rest}
-use Rattle.hub_runnable.proofs.Bodies.{next-runnable}
-use Rattle.hub_bodies.specs.Places.{Came, Place, came_by}
+use Rattle.machine.specs.declared.items.Delivery.{Delivery}
+use Rattle.machine.specs.declared.items.Item.{Item}
+use Rattle.machine.specs.declared.items.Waiting.{Waiting}
+use Rattle.machine.specs.declared.state.Frame.{Frame}
+use Rattle.machine.specs.declared.state.Greenlet.{Greenlet}
+use Rattle.machine.specs.declared.state.Local.{Local}
+use Rattle.machine.specs.declared.state.Phase.{Phase}
+use Rattle.machine.specs.Bodies.{Step, around}
+use Rattle.machine.specs.Expressions.{Look}
+use Rattle.machine.specs.Frames.{Did, body_move}
+use Rattle.machine.specs.Holds.{delivery_holds, holds, link_holds, outcome_of, outcome_of_phase, phase_of, wait_holds}
+use Rattle.machine.specs.Life.{Next, frame_of, greenlet, lands, no_frame, nobody, with_phase}
+use Rattle.machine.specs.Moves.{does, follows, look, move}
+use Rattle.machine.specs.Raising.{unwind}
+use Rattle.machine.specs.Settle.{numbers_after, settle, settled}
+use Rattle.machine.specs.Soundness.{is_under_way}
+use Rattle.machine.specs.State.{State}
+use Rattle.machine_soundness.specs.Going.{IsSoundAt, next_did}
+use Rattle.machine_soundness.proofs.Lists.{left}
+use Rattle.machine_built.specs.Runnable.{IsRunnable, is_runnable_did, is_runnable_rest}
+use Rattle.machine_built.proofs.Bodies.{next-runnable}
+use Rattle.body_frames.specs.Places.{Came, Place, came_by}
 use Rattle.hub_state.specs.Sights.{AreCounted, look_of, outcome_seen}
 use Rattle.hub_engine.specs.Asking.{does_came, is_run}
 use Rattle.hub_engine.specs.Stands.{goes_to, next_at, performs_step}

@@ -7,15 +7,15 @@ use Rattle.trace_text.specs.LineTexts.{text_of, line_text}
 use Rattle.gv_io.specs.Streams.{appended, AppendsPrefix}
 use Rattle.gv_io.proofs.StreamLaws.{appended-nothing, appended-appended, AppendsPrefix-whole, AppendsPrefix-after, AppendsPrefix-longer}
 use Rattle.hub_engine.specs.declared.stand.Came.{Came}
-use Rattle.hub_machine.specs.State.{State}
-use Rattle.hub_machine.specs.Life.{Next}
-use Rattle.hub_machine.specs.Moves.{move}
-use Rattle.hub_machine.specs.Run.{Passed, passed, said, silent, runs}
-use Rattle.hub_machine.specs.declared.state.Frame.{Frame}
-use Rattle.hub_machine.specs.declared.state.Phase.{Phase}
-use Rattle.hub_machine.specs.Life.{with_phase}
+use Rattle.machine.specs.State.{State}
+use Rattle.machine.specs.Life.{Next}
+use Rattle.machine.specs.Moves.{move}
+use Rattle.machine.specs.Run.{Passed, passed, said, silent, runs}
+use Rattle.machine.specs.declared.state.Frame.{Frame}
+use Rattle.machine.specs.declared.state.Phase.{Phase}
+use Rattle.machine.specs.Life.{with_phase}
 use Rattle.hub_engine.specs.Stands.{next_at}
-use Rattle.hub_soundness.proofs.States.{length-phased}
+use Rattle.machine_soundness.proofs.States.{length-phased}
 use Rattle.hub_engine.specs.Written.{AreLike, CameTo, HasPassed, IsPartWritten, IsPassing}
 use Rattle.hub_engine.specs.declared.stand.Stand.{Stand}
 

@@ -2,27 +2,27 @@
 use Rattle.std.proofs.Common.{◌≡◌, refl, ap, sym, ◌∙◌, subst, ℕ, ◌+◌, ◌<◌, Bool, true, false, [], length, Some, slice_get}
 use Rattle.std.specs.Prelude.{if◌then◌else◌}
 use Rattle.gv_values.specs.declared.fault.FaultKind.{FaultKind}
-use Rattle.native_answers.specs.declared.question.Question.{Question}
-use Rattle.native_answers.specs.Script.{scripted}
+use Rattle.world_rules.specs.declared.question.Question.{Question}
+use Rattle.world_rules.specs.Script.{scripted}
 use Rattle.trace_text.specs.declared.line.Line.{Line}
-use Rattle.hub_machine.specs.declared.items.Item.{Item}
-use Rattle.hub_machine.specs.declared.state.Frame.{Frame}
-use Rattle.hub_machine.specs.declared.state.Phase.{Phase}
-use Rattle.hub_machine.specs.State.{State, say}
-use Rattle.hub_machine.specs.Answers.{any_numbered, block_line}
-use Rattle.hub_machine.specs.Deliveries.{deliver, interrupts}
+use Rattle.machine.specs.declared.items.Item.{Item}
+use Rattle.machine.specs.declared.state.Frame.{Frame}
+use Rattle.machine.specs.declared.state.Phase.{Phase}
+use Rattle.machine.specs.State.{State, say}
+use Rattle.machine.specs.Answers.{any_numbered, block_line}
+use Rattle.machine.specs.Deliveries.{deliver, interrupts}
 use Rattle.hub_engine.specs.declared.stand.Came.{Came}
-use Rattle.hub_machine.specs.Life.{Next, greenlet, lands, starts, with_phase}
-use Rattle.hub_machine.specs.Moves.{move}
-use Rattle.hub_machine.specs.Run.{first_state, silent}
-use Rattle.hub_soundness.specs.Going.{IsKept}
-use Rattle.hub_soundness.proofs.Deliveries.{begins-soundly, deliver-soundly, interrupts-soundly, take_answer-kept}
-use Rattle.hub_soundness.proofs.Performs.{move-soundly}
-use Rattle.hub_runnable.specs.Runnable.{IsRunnable}
-use Rattle.hub_runnable.proofs.Begins.{begins-runnable, starts-runnable}
-use Rattle.hub_runnable.proofs.Bodies.{going-plain, move-meant}
-use Rattle.hub_runnable.proofs.States.{function-known}
-use Rattle.hub_runnable.proofs.Steps.{runs-deliver, runs-interrupts, runs-move, runs-take_answer}
+use Rattle.machine.specs.Life.{Next, greenlet, lands, starts, with_phase}
+use Rattle.machine.specs.Moves.{move}
+use Rattle.machine.specs.Run.{first_state, silent}
+use Rattle.machine_soundness.specs.Going.{IsKept}
+use Rattle.machine_soundness.proofs.Deliveries.{begins-soundly, deliver-soundly, interrupts-soundly, take_answer-kept}
+use Rattle.machine_soundness.proofs.Performs.{move-soundly}
+use Rattle.machine_built.specs.Runnable.{IsRunnable}
+use Rattle.machine_built.proofs.Begins.{begins-runnable, starts-runnable}
+use Rattle.machine_built.proofs.Bodies.{going-plain, move-meant}
+use Rattle.machine_built.proofs.States.{function-known}
+use Rattle.machine_built.proofs.Steps.{runs-deliver, runs-interrupts, runs-move, runs-take_answer}
 use Rattle.hub_state.proofs.Leasts.{item_there}
 use Rattle.hub_engine.specs.Ends.{answered}
 use Rattle.hub_engine.specs.Ready.{IsPrepared, IsReady, IsReadyAfter, IsReadyAt}

@@ -4,15 +4,15 @@ use Rattle.std.proofs.lemmas.List.{append-nil}
 use Rattle.trace_text.specs.declared.line.Line.{Line}
 use Rattle.trace_text.specs.declared.line.StopCause.{StopCause}
 use Rattle.trace_text.specs.LineTexts.{text_of}
-use Rattle.native_answers.specs.declared.question.Question.{Question}
+use Rattle.world_rules.specs.declared.question.Question.{Question}
 use Rattle.gv_io.specs.Streams.{appended, AppendsPrefix}
 use Rattle.gv_io.proofs.StreamLaws.{appended-appended, AppendsPrefix-whole, AppendsPrefix-after, AppendsPrefix-longer}
 use Rattle.scenario_tree.specs.declared.tree.Scenario.{Scenario}
 use Rattle.hub_engine.specs.declared.stand.Came.{Came}
-use Rattle.hub_machine.specs.State.{State}
-use Rattle.hub_machine.specs.Life.{Next, starts, lands}
-use Rattle.hub_machine.specs.Answers.{question, block_line}
-use Rattle.hub_machine.specs.Run.{Passed, Ran, Source, GoingOn, given_out, after_turn, after_question, after_exit, with_posts, turn, loop_exit, run_turns, stopped, silent, runs, script_run, first_state, after_start}
+use Rattle.machine.specs.State.{State}
+use Rattle.machine.specs.Life.{Next, starts, lands}
+use Rattle.machine.specs.Answers.{question, block_line}
+use Rattle.machine.specs.Run.{Passed, Ran, Source, GoingOn, given_out, after_turn, after_question, after_exit, with_posts, turn, loop_exit, run_turns, stopped, silent, runs, script_run, first_state, after_start}
 use Rattle.hub_engine.specs.Stands.{next_at}
 use Rattle.hub_engine.specs.Written.{AreLike, CameTo, HasRun, IsPartWritten, IsRunning, IsStopping}
 use Rattle.hub_engine.specs.declared.stand.Stand.{Stand}

@@ -1,15 +1,15 @@
 -- That a greenlet under way may make items, and that what it makes is new.
 use Rattle.std.proofs.Common.{◌≡◌, sym, subst, ℕ, ◌+◌, true, false, List, Some, length}
 use Rattle.gv_values.specs.declared.value.Value.{Value}
-use Rattle.hub_machine.specs.declared.state.Frame.{Frame}
-use Rattle.hub_machine.specs.declared.state.Phase.{Phase}
-use Rattle.hub_machine.specs.State.{State}
-use Rattle.hub_machine.specs.Life.{Next, add_greenlet, with_phase}
-use Rattle.hub_machine.specs.Soundness.{Claim, is_unclaimed}
-use Rattle.hub_soundness.specs.Going.{IsSoundAt}
-use Rattle.hub_soundness.proofs.Landings.{going-free}
-use Rattle.hub_soundness.proofs.Requests.{next-unclaimed}
-use Rattle.hub_soundness.proofs.States.{length-phased}
+use Rattle.machine.specs.declared.state.Frame.{Frame}
+use Rattle.machine.specs.declared.state.Phase.{Phase}
+use Rattle.machine.specs.State.{State}
+use Rattle.machine.specs.Life.{Next, add_greenlet, with_phase}
+use Rattle.machine.specs.Soundness.{Claim, is_unclaimed}
+use Rattle.machine_soundness.specs.Going.{IsSoundAt}
+use Rattle.machine_soundness.proofs.Landings.{going-free}
+use Rattle.machine_soundness.proofs.Requests.{next-unclaimed}
+use Rattle.machine_soundness.proofs.States.{length-phased}
 use Rattle.hub_engine.specs.Making.{MayMake}
 
 -- a greenlet that is under way may make items

@@ -1,14 +1,14 @@
 -- What a move comes to for the hub.
 use Rattle.std.specs.Prelude.{ℕ, Bool, true, false}
 use Rattle.scenario_tree.specs.declared.tree.Scenario.{Scenario}
-use Rattle.hub_machine.specs.declared.state.Phase.{Phase}
-use Rattle.hub_machine.specs.Bodies.{Step}
-use Rattle.hub_machine.specs.Life.{Next, lands, with_phase}
-use Rattle.hub_machine.specs.Moves.{enters, follows}
-use Rattle.hub_machine.specs.Settle.{settle}
-use Rattle.hub_machine.specs.State.{State}
-use Rattle.hub_bodies.specs.Places.{Came}
-use Rattle.hub_runnable.specs.Runnable.{is_runnable_request}
+use Rattle.machine.specs.declared.state.Phase.{Phase}
+use Rattle.machine.specs.Bodies.{Step}
+use Rattle.machine.specs.Life.{Next, lands, with_phase}
+use Rattle.machine.specs.Moves.{enters, follows}
+use Rattle.machine.specs.Settle.{settle}
+use Rattle.machine.specs.State.{State}
+use Rattle.body_frames.specs.Places.{Came}
+use Rattle.machine_built.specs.Runnable.{is_runnable_request}
 use Rattle.hub_engine.specs.Stands.{goes_to, performs_step}
 
 -- the hub goes on by what came of the move

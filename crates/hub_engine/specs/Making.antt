@@ -1,8 +1,8 @@
 -- What lets a greenlet make items at its move.
 use Rattle.std.specs.Prelude.{◌≡◌, ℕ, true, Some, length}
-use Rattle.hub_machine.specs.State.{State}
-use Rattle.hub_machine.specs.Soundness.{Claim, is_unclaimed}
-use Rattle.hub_soundness.specs.Going.{has_no_wait}
+use Rattle.machine.specs.State.{State}
+use Rattle.machine.specs.Soundness.{Claim, is_unclaimed}
+use Rattle.machine_soundness.specs.Going.{has_no_wait}
 
 -- it waits for nothing, and the greenlet that is made next has no start yet
 pub record MayMake (g : ℕ) (s : State) : Type 0 where

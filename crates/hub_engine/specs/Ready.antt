@@ -2,14 +2,14 @@
 use Rattle.std.specs.Prelude.{◌≡◌, ⊤}
 use Rattle.scenario_tree.specs.declared.tree.Scenario.{Scenario}
 use Rattle.scenario_rules.specs.Rules.{IsWellFormed}
-use Rattle.built_forms.specs.Built.{IsBuilt}
+use Rattle.unbuilt_forms.specs.Built.{IsBuilt}
 use Rattle.hub_engine.specs.declared.stand.Came.{Came}
-use Rattle.hub_machine.specs.State.{State}
-use Rattle.hub_machine.specs.Life.{Next}
-use Rattle.hub_machine.specs.Run.{first_state}
-use Rattle.hub_soundness.specs.Going.{IsKept, IsSoundAt}
-use Rattle.hub_runnable.specs.Laws.{HasMain}
-use Rattle.hub_runnable.specs.Runnable.{IsRunnable, IsRunnableAt}
+use Rattle.machine.specs.State.{State}
+use Rattle.machine.specs.Life.{Next}
+use Rattle.machine.specs.Run.{first_state}
+use Rattle.machine_soundness.specs.Going.{IsKept, IsSoundAt}
+use Rattle.machine_built.specs.Laws.{HasMain}
+use Rattle.machine_built.specs.Runnable.{IsRunnable, IsRunnableAt}
 
 -- the state is sound, and all that is in it is run
 pub record IsReady (s : State) : Type 0 where

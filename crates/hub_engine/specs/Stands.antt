@@ -1,12 +1,12 @@
 -- Where the hub stands between two steps, and what the code's steps come to.
 use Rattle.std.specs.Prelude.{ℕ}
-use Rattle.hub_machine.specs.declared.state.Phase.{Phase}
-use Rattle.hub_machine.specs.State.{State}
-use Rattle.hub_machine.specs.Bodies.{Step}
-use Rattle.hub_machine.specs.Life.{Next, Landing, after_end, drop_items, is_timeout_of, with_phase}
-use Rattle.hub_machine.specs.Moves.{performs}
-use Rattle.hub_machine.specs.Waits.{Performed}
-use Rattle.hub_bodies.specs.Places.{Place}
+use Rattle.machine.specs.declared.state.Phase.{Phase}
+use Rattle.machine.specs.State.{State}
+use Rattle.machine.specs.Bodies.{Step}
+use Rattle.machine.specs.Life.{Next, Landing, after_end, drop_items, is_timeout_of, with_phase}
+use Rattle.machine.specs.Moves.{performs}
+use Rattle.machine.specs.Waits.{Performed}
+use Rattle.body_frames.specs.Places.{Place}
 use Rattle.hub_engine.specs.declared.stand.Stand.{Stand}
 use Rattle.hub_engine.specs.declared.performs.Performed.{Performed as Came}
 

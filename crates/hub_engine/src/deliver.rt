@@ -1,15 +1,15 @@
 //! The delivery of items.
 ghost use Rattle.std.specs.Prelude.{◌≡◌, ◌<◌, ℕ, true, length, slice_get, Some, IfOk};
-ghost use Rattle.flat_values.specs.Functions.{IsFunction};
-ghost use Rattle.hub_machine.specs.declared.items.Item.{Item as AnyItem};
-ghost use Rattle.hub_machine.specs.declared.items.Delivery.TheVariants as delivery;
-ghost use Rattle.hub_machine.specs.declared.items.Waiting.{Waiting};
-ghost use Rattle.hub_machine.specs.Life.{starts, lands, greenlet};
-ghost use Rattle.hub_machine.specs.Deliveries.{deliver, delivers, interrupts, arguments, without_wait};
-ghost use Rattle.hub_machine.specs.Moves.{follows};
-ghost use Rattle.hub_machine.specs.State.{say};
-ghost use Rattle.hub_machine.specs.Waits.{Performed, nothing};
-ghost use Rattle.hub_runnable.specs.Runnable.{is_runnable_delivery};
+ghost use Rattle.body_values.specs.Functions.{IsFunction};
+ghost use Rattle.machine.specs.declared.items.Item.{Item as AnyItem};
+ghost use Rattle.machine.specs.declared.items.Delivery.TheVariants as delivery;
+ghost use Rattle.machine.specs.declared.items.Waiting.{Waiting};
+ghost use Rattle.machine.specs.Life.{starts, lands, greenlet};
+ghost use Rattle.machine.specs.Deliveries.{deliver, delivers, interrupts, arguments, without_wait};
+ghost use Rattle.machine.specs.Moves.{follows};
+ghost use Rattle.machine.specs.State.{say};
+ghost use Rattle.machine.specs.Waits.{Performed, nothing};
+ghost use Rattle.machine_built.specs.Runnable.{is_runnable_delivery};
 ghost use Rattle.trace_text.specs.declared.line.Line.TheVariants as line;
 ghost use Rattle.trace_text.specs.declared.line.Resumed.TheVariants as resumed;
 ghost use Rattle.hub_engine.specs.Ready.{IsReady, IsReadyAt};
@@ -18,13 +18,13 @@ ghost use Rattle.hub_engine.specs.Stands.{next_at};
 use crate::life::{answered, begins};
 use crate::stand::Stand;
 use gv_values::{FaultKind, Outcome, Value};
-use hub_machine::items::{Delivery, Item, Waiting};
+use machine::items::{Delivery, Item, Waiting};
 use hub_state::{Gone, Hub};
 use std::alloc::{AllocError, Global};
 use trace_text::{Line, Resumed};
 
 /// A fault arrives at the statement of the greenlet.
-#[tactic(auto, unfolding(hub_machine::specs::Deliveries::interrupts))]
+#[tactic(auto, unfolding(machine::specs::Deliveries::interrupts))]
 pub fn interrupts(
     alloc: Global,
     hub: &mut Hub,

@@ -1,13 +1,14 @@
 //! Greenlets: how one starts, goes on and ends.
 ghost use Rattle.std.specs.Prelude.{◌≡◌, OnOk, IfOk};
-ghost use Rattle.flat_values.specs.Functions.{IsFunction};
-ghost use Rattle.hub_bodies.specs.Standings.{reached_of};
-ghost use Rattle.hub_machine.specs.Life.{Landing, kept, outcome_of_leaving, leaving_of, stop_of, ended, after_end, starts, answered, lands, greenlet};
+ghost use Rattle.body_values.specs.Functions.{IsFunction};
+ghost use Rattle.body_frames.specs.Standings.{reached_of};
+ghost use Rattle.machine.specs.Life.{Landing, outcome_of_leaving, leaving_of, stop_of, ended, after_end, starts, answered, lands, greenlet};
+ghost use Rattle.gv_values.specs.Ends.{kept};
 ghost use Rattle.hub_engine.specs.Stands.{goes_to, next_at};
 
 use crate::stand::Stand;
 use gv_values::{FaultKind, Outcome, Value};
-use hub_bodies::Reached;
+use body_frames::Reached;
 use hub_state::{Gone, Hub, Stage};
 use scenario_tree::Items;
 use std::alloc::{AllocError, Global};
@@ -103,7 +104,7 @@ pub fn begins(
 {
     let function = hub.function_of(g);
     let name = hub.code().function_at(function).name;
-    let reached = hub_bodies::begins(alloc, hub.code(), function, arguments)?;
+    let reached = body_frames::begins(alloc, hub.code(), function, arguments)?;
     hub.say(Line::Start {
         greenlet: g,
         function: name,
@@ -118,7 +119,7 @@ pub fn answered(alloc: Global, hub: &mut Hub, g: u32, answer: Outcome) -> Result
 {
     match hub.take_body(g) {
         Some(body) => {
-            let reached = hub_bodies::answered(alloc, hub.code(), body, answer)?;
+            let reached = body_frames::answered(alloc, hub.code(), body, answer)?;
             Ok(reaches(alloc, hub, g, reached)?)
         }
         None => {

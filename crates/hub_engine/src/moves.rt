@@ -1,14 +1,14 @@
 //! One move of a greenlet.
 ghost use Rattle.std.specs.Prelude.{◌≡◌, true, IfOk};
-ghost use Rattle.flat_moves.specs.Requests.{asking};
-ghost use Rattle.hub_bodies.specs.Places.{came_by};
-ghost use Rattle.hub_bodies.specs.Standings.{moved_of};
-ghost use Rattle.hub_machine.specs.declared.state.Frame.{Frame};
-ghost use Rattle.hub_machine.specs.declared.state.Phase.{Phase};
-ghost use Rattle.hub_machine.specs.Bodies.{around};
-ghost use Rattle.hub_machine.specs.Frames.{body_move};
-ghost use Rattle.hub_machine.specs.Life.{Next, with_phase};
-ghost use Rattle.hub_machine.specs.Moves.{follows, move};
+ghost use Rattle.body_moves.specs.Requests.{asking};
+ghost use Rattle.body_frames.specs.Places.{came_by};
+ghost use Rattle.body_frames.specs.Standings.{moved_of};
+ghost use Rattle.machine.specs.declared.state.Frame.{Frame};
+ghost use Rattle.machine.specs.declared.state.Phase.{Phase};
+ghost use Rattle.machine.specs.Bodies.{around};
+ghost use Rattle.machine.specs.Frames.{body_move};
+ghost use Rattle.machine.specs.Life.{Next, with_phase};
+ghost use Rattle.machine.specs.Moves.{follows, move};
 ghost use Rattle.hub_state.specs.Sights.{AreCounted, look_of};
 ghost use Rattle.hub_engine.specs.Asking.{does_came, is_run, is_run_step};
 ghost use Rattle.hub_engine.specs.Making.{MayMake};
@@ -19,7 +19,7 @@ use crate::life::reaches;
 use crate::performs::{follows, performs};
 use crate::stand::Stand;
 use flat_code::Request;
-use hub_bodies::{Moved, Moving, Parked, moves};
+use body_frames::{Moved, Moving, Parked, moves};
 use hub_state::{Hub, Seen, Stage};
 use std::alloc::{AllocError, Global};
 

@@ -1,9 +1,9 @@
 //! The engine as its callers see it: prepared, and then run once.
 ghost use Rattle.std.specs.Prelude.{◌≡◌, ◌≤◌, ◌↔◌, None, IfOk};
 ghost use Rattle.gv_io.specs.Faults.{HasRisen};
-ghost use Rattle.built_forms.specs.Built.{IsBuilt, first_unbuilt};
-ghost use Rattle.hub_machine.specs.Run.{script_run};
-ghost use Rattle.hub_runnable.specs.Laws.{HasMain};
+ghost use Rattle.unbuilt_forms.specs.Built.{IsBuilt, first_unbuilt};
+ghost use Rattle.machine.specs.Run.{script_run};
+ghost use Rattle.machine_built.specs.Laws.{HasMain};
 ghost use Rattle.hub_engine.specs.Ends.{HasNumbers, RanTo};
 ghost use Rattle.hub_engine.specs.declared.run.End.TheVariants as ends;
 
@@ -11,7 +11,7 @@ use crate::broken::Broken;
 use crate::turns::run;
 use gv_io::Sink;
 use gv_values::FaultKind;
-use hub_runnable::main_is_numbered;
+use machine_built::main_is_numbered;
 use hub_state::Hub;
 use scenario_check::Checked;
 use std::alloc::{AllocError, Global};
@@ -89,7 +89,7 @@ impl Engine {
         ensures first { result ≡ first_unbuilt checked.now }
         ensures built { (result ≡ None) ↔ IsBuilt checked.now }
     {
-        built_forms::unbuilt(checked)
+        unbuilt_forms::unbuilt(checked)
     }
 
     /// The scenario before its run. `AllocError`: memory is wanting, and the scenario is given up.

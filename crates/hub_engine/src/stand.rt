@@ -1,4 +1,4 @@
-use hub_bodies::Moving;
+use body_frames::Moving;
 use trace_text::StopCause;
 
 /// Where the hub stands between two steps.

@@ -1,10 +1,10 @@
 //! Turns, and the whole run, whose trace is given out step by step.
 ghost use Rattle.std.specs.Prelude.{◌≡◌, ◌+◌, ◌<◌, ◌≤◌, ◌++◌, [], length, slice_get, OnOk, IfOk, Some};
 ghost use Rattle.trace_text.specs.LineTexts.{text_of};
-ghost use Rattle.hub_machine.specs.Run.{silent, runs, runs_on, deliveries, turn, loop_exit, stopped, run_turns, script_run, Source as Script};
-ghost use Rattle.hub_machine.specs.Answers.{block_line};
-ghost use Rattle.hub_machine.specs.Deliveries.{deliver};
-ghost use Rattle.hub_machine.specs.declared.items.Item.{Item as AnyItem};
+ghost use Rattle.machine.specs.Run.{silent, runs, runs_on, deliveries, turn, loop_exit, stopped, run_turns, script_run, Source as Script};
+ghost use Rattle.machine.specs.Answers.{block_line};
+ghost use Rattle.machine.specs.Deliveries.{deliver};
+ghost use Rattle.machine.specs.declared.items.Item.{Item as AnyItem};
 ghost use Rattle.hub_engine.specs.Ends.{answered, end_of, end_of_run};
 ghost use Rattle.hub_engine.specs.Ready.{IsPrepared, IsReady, IsReadyAfter, IsReadyAt};
 ghost use Rattle.hub_engine.specs.Stands.{next_at};
@@ -19,7 +19,7 @@ use crate::stand::{Came, Stand};
 use gv_io::Sink;
 use gv_values::FaultKind;
 use hub_state::Hub;
-use native_answers::Question;
+use world_rules::Question;
 use scenario_tree::Items;
 use std::alloc::{AllocError, Global};
 use trace_text::{Line, StopCause, write_line};

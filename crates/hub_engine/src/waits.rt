@@ -1,16 +1,16 @@
 //! Waiting: how a greenlet parks.
 ghost use Rattle.std.specs.Prelude.{◌≡◌, None, IfOk, OnOk};
 ghost use Rattle.scenario_tree.specs.declared.tree.Wait.TheVariants as wait;
-ghost use Rattle.hub_machine.specs.declared.items.Waiting.TheVariants as waiting;
+ghost use Rattle.machine.specs.declared.items.Waiting.TheVariants as waiting;
 ghost use Rattle.gv_values.specs.declared.value.Whom.TheVariants as whom;
 ghost use Rattle.trace_text.specs.declared.line.Awaited.TheVariants as awaited;
-ghost use Rattle.hub_machine.specs.Waits.{parked, comes, until_of};
+ghost use Rattle.machine.specs.Waits.{parked, comes, until_of};
 ghost use Rattle.hub_engine.specs.Making.{MayMake};
 ghost use Rattle.hub_engine.specs.Stands.{performed_of};
 
 use crate::performs::Performed;
 use gv_values::{Outcome, Value, Whom};
-use hub_machine::items::{Delivery, Waiting};
+use machine::items::{Delivery, Waiting};
 use hub_state::Hub;
 use std::alloc::AllocError;
 use trace_text::{Awaited, Line};
@@ -26,7 +26,7 @@ fn until_of(waiting: &Waiting) -> Option<u64>
 }
 
 /// The greenlet parks without a deadline of its own.
-#[tactic(auto, using(hub_soundness::proofs::Singles::wake_unclaimed))]
+#[tactic(auto, using(machine_soundness::proofs::Singles::wake_unclaimed))]
 fn park(hub: &mut Hub, g: u32, awaited: Awaited, waiting: Waiting) -> Result<(), AllocError>
     requires { MayMake g hub.old }
     ensures { OnOk result (hub.new ≡ parked g awaited waiting None hub.old) }

@@ -2,11 +2,11 @@
 use Rattle.std.specs.Prelude.{◌<◌, ◌^◌, ◌==◌, ℕ, List, Option, None, slice_get, if◌then◌else◌}
 use Rattle.gv_values.specs.declared.value.Outcome.{Outcome}
 use Rattle.gv_values.specs.declared.value.Whom.{Whom}
-use Rattle.hub_machine.specs.declared.state.Object.{Object}
-use Rattle.hub_machine.specs.Expressions.{Look}
-use Rattle.hub_machine.specs.Holds.{outcome_of}
-use Rattle.hub_machine.specs.Moves.{is_set_object, size_of_object, unfinished_of_object}
-use Rattle.hub_machine.specs.State.{State}
+use Rattle.machine.specs.declared.state.Object.{Object}
+use Rattle.machine.specs.Expressions.{Look}
+use Rattle.machine.specs.Holds.{outcome_of}
+use Rattle.machine.specs.Moves.{is_set_object, size_of_object, unfinished_of_object}
+use Rattle.machine.specs.State.{State}
 
 -- a state, and the greenlet that is under way in it
 pub record Sight : Type 0 where

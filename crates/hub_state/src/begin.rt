@@ -1,13 +1,13 @@
 //! The state before the first move.
 ghost use Rattle.std.specs.Prelude.{◌≡◌, IfOk, map, codes};
-ghost use Rattle.hub_machine.specs.Expressions.{function_number};
-ghost use Rattle.hub_machine.specs.Run.{first_state, object_of};
+ghost use Rattle.machine.specs.Expressions.{function_number};
+ghost use Rattle.machine.specs.Run.{first_state, object_of};
 
 use crate::greenlets::Greenlets;
 use crate::hub::Hub;
 use flat_code::{Code, compile};
 use gv_values::Name;
-use hub_machine::state::Object;
+use machine::state::Object;
 use scenario_check::Checked;
 use scenario_tree::{Declaration, Items, Object as Kind};
 use std::alloc::{AllocError, Global};

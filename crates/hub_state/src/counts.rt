@@ -1,6 +1,6 @@
 //! The moment, the counts, and the lines of the step under way.
 ghost use Rattle.std.specs.Prelude.{◌≡◌, ◌+◌, [], length, OnOk};
-ghost use Rattle.hub_machine.specs.Run.{silent};
+ghost use Rattle.machine.specs.Run.{silent};
 
 use crate::hub::Hub;
 use flat_code::Code;

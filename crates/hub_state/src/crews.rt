@@ -1,9 +1,9 @@
 //! Groups and pools: a greenlet leaves them at its end.
 ghost use Rattle.std.specs.Prelude.{◌≡◌, ◌<◌, ◌==◌, length, map, filter, not, slice_index};
-ghost use Rattle.hub_machine.specs.Life.{without_member};
+ghost use Rattle.machine.specs.Life.{without_member};
 
 use crate::hub::Hub;
-use hub_machine::state::Object;
+use machine::state::Object;
 use scenario_tree::Items;
 
 impl Hub {

@@ -1,12 +1,12 @@
 //! Which item is delivered next.
 ghost use Rattle.std.specs.Prelude.{◌≡◌, ◌<◌, length, slice_get, Some, IfSome};
-ghost use Rattle.hub_machine.specs.declared.items.Item.{Item as AnyItem};
-ghost use Rattle.hub_machine.specs.Run.{least_below, with_this};
-ghost use Rattle.hub_machine.specs.Deliveries.{without_item};
+ghost use Rattle.machine.specs.declared.items.Item.{Item as AnyItem};
+ghost use Rattle.machine.specs.Run.{least_below, with_this};
+ghost use Rattle.machine.specs.Deliveries.{without_item};
 ghost use Rattle.hub_state.specs.Places.{item_at};
 
 use crate::hub::Hub;
-use hub_machine::items::Item;
+use machine::items::Item;
 
 /// Of this item, where it has a number below the mark, and the best of those after it, the one with
 /// the lower number.

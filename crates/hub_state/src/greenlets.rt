@@ -1,13 +1,13 @@
 //! The greenlets in order of making, and how far each has come.
 ghost use Rattle.std.specs.Prelude.{◌≡◌, ◌<◌, ◌≤◌, [], ◌∷◌, ◌++◌, false, length, slice_get, slice_set, unwrap_or, option_map, nat_lt, OnOk, IfOk};
 ghost use Rattle.std.specs.Option.{option_copied};
-ghost use Rattle.hub_machine.specs.declared.state.Phase.{Phase};
-ghost use Rattle.hub_machine.specs.Holds.{outcome_of_phase};
-ghost use Rattle.hub_machine.specs.Life.{nobody};
+ghost use Rattle.machine.specs.declared.state.Phase.{Phase};
+ghost use Rattle.machine.specs.Holds.{outcome_of_phase};
+ghost use Rattle.machine.specs.Life.{nobody};
 ghost use Rattle.hub_state.specs.Phases.{phase_of, phase_at, shown};
 
 use gv_values::{Outcome, Value};
-use hub_bodies::Parked;
+use body_frames::Parked;
 use scenario_tree::Items;
 use std::alloc::{AllocError, Global};
 use std::marker::Model;
@@ -36,7 +36,7 @@ pub struct Greenlet {
 }
 
 impl Model for Greenlet {
-    ghost use Rattle.hub_machine.specs.declared.state.Greenlet.{Greenlet as Shown};
+    ghost use Rattle.machine.specs.declared.state.Greenlet.{Greenlet as Shown};
     ghost use Rattle.hub_state.specs.Phases.{phase_of, shown};
     ghost use Rattle.std.specs.Coded.{codes};
     ghost use Rattle.scenario_tree.specs.contracts.tree.Expression as expression;
@@ -104,7 +104,7 @@ pub struct Greenlets {
 
 impl Model for Greenlets {
     ghost use Rattle.std.specs.Prelude.{◌≤◌, List, length};
-    ghost use Rattle.hub_machine.specs.declared.state.Greenlet.{Greenlet as Shown};
+    ghost use Rattle.machine.specs.declared.state.Greenlet.{Greenlet as Shown};
     ghost use Rattle.std.specs.Coded.{codes};
     ghost use Rattle.scenario_tree.specs.contracts.tree.Expression as expression;
     ghost use Rattle.scenario_tree.specs.contracts.tree.Action as action;

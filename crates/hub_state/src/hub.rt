@@ -1,8 +1,8 @@
 //! The state itself.
 use crate::greenlets::Greenlets;
 use flat_code::Code;
-use hub_machine::items::Item;
-use hub_machine::state::Object;
+use machine::items::Item;
+use machine::state::Object;
 use std::marker::Model;
 use trace_text::Line;
 
@@ -26,7 +26,7 @@ pub struct Hub {
 
 impl Model for Hub {
     ghost use Rattle.std.specs.Prelude.{[]};
-    ghost use Rattle.hub_machine.specs.State.{State};
+    ghost use Rattle.machine.specs.State.{State};
     ghost use Rattle.std.specs.Coded.{codes};
     ghost use Rattle.scenario_tree.specs.contracts.tree.Expression as expression;
     ghost use Rattle.scenario_tree.specs.contracts.tree.Action as action;

@@ -1,16 +1,16 @@
 //! The few operations that touch items and waits: one is made, some go, one is taken to be delivered.
 ghost use Rattle.std.specs.Prelude.{◌≡◌, ◌==◌, true, not, ◌<◌, length, filter, OnOk, IfSome, slice_get, Some};
 ghost use Rattle.std.specs.List.{list_any};
-ghost use Rattle.hub_machine.specs.State.{say};
-ghost use Rattle.hub_machine.specs.Life.{add_item, drop_items, is_wait_of, is_timeout_of, goes_at_end};
-ghost use Rattle.hub_machine.specs.Deliveries.{without_item};
-ghost use Rattle.hub_machine.specs.Soundness.{claim_of, is_unclaimed};
+ghost use Rattle.machine.specs.State.{say};
+ghost use Rattle.machine.specs.Life.{add_item, drop_items, is_wait_of, is_timeout_of, goes_at_end};
+ghost use Rattle.machine.specs.Deliveries.{without_item};
+ghost use Rattle.machine.specs.Soundness.{claim_of, is_unclaimed};
 ghost use Rattle.hub_state.specs.Gone.{gone_of};
 
 use crate::holds::link_fits;
 use crate::hub::Hub;
 use gv_values::Outcome;
-use hub_machine::items::{Delivery, Item};
+use machine::items::{Delivery, Item};
 use scenario_tree::Items;
 use std::alloc::AllocError;
 use trace_text::Line;

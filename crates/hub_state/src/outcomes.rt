@@ -3,7 +3,7 @@ ghost use Rattle.std.specs.Prelude.{◌≡◌, ℕ, ◌+◌, count_by, is_some, 
 ghost use Rattle.std.specs.List.{list_all};
 ghost use Rattle.std.specs.Option.{option_copied};
 ghost use Rattle.gv_values.specs.declared.value.Whom.{Whom as Target};
-ghost use Rattle.hub_machine.specs.Holds.{holds, wait_holds, outcome_of, is_done, all_done, done_among};
+ghost use Rattle.machine.specs.Holds.{holds, wait_holds, outcome_of, is_done, all_done, done_among};
 
 use crate::holds::{
     all_finished_at, has_item_at, has_place_at, has_result_at, has_room_at, has_set_since_at,
@@ -11,7 +11,7 @@ use crate::holds::{
 };
 use crate::hub::Hub;
 use gv_values::{Outcome, Whom};
-use hub_machine::items::{Delivery, Item, Waiting};
+use machine::items::{Delivery, Item, Waiting};
 
 impl Hub {
     /// What the greenlet ended with, if it did.

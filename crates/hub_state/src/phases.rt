@@ -1,14 +1,14 @@
 //! What the steps of the hub do to its greenlets.
 ghost use Rattle.std.specs.Prelude.{◌≡◌, ◌<◌, false, length, OnOk, IfOk, IfSome, IfNone};
-ghost use Rattle.hub_machine.specs.declared.state.Phase.{Phase};
-ghost use Rattle.hub_machine.specs.Life.{no_frame, greenlet, with_phase, frame_of, add_greenlet, has_greenlet_left};
-ghost use Rattle.hub_machine.specs.Deliveries.{arguments};
+ghost use Rattle.machine.specs.declared.state.Phase.{Phase};
+ghost use Rattle.machine.specs.Life.{no_frame, greenlet, with_phase, frame_of, add_greenlet, has_greenlet_left};
+ghost use Rattle.machine.specs.Deliveries.{arguments};
 ghost use Rattle.hub_state.specs.Phases.{phase_of};
 
 use crate::greenlets::{Greenlet, Stage};
 use crate::hub::Hub;
 use gv_values::Value;
-use hub_bodies::Parked;
+use body_frames::Parked;
 use scenario_tree::Items;
 use std::alloc::{AllocError, Global};
 

@@ -1,13 +1,13 @@
 //! What a body that is under way may ask of the hub.
 ghost use Rattle.std.specs.Prelude.{◌≡◌, ◌<◌, ◌^◌, slice_get};
 ghost use Rattle.std.specs.Option.{option_copied};
-ghost use Rattle.hub_machine.specs.Moves.{is_set_object, size_of_object, unfinished_of_object};
+ghost use Rattle.machine.specs.Moves.{is_set_object, size_of_object, unfinished_of_object};
 ghost use Rattle.hub_state.specs.Sights.{AreCounted, look_of};
 
 use crate::hub::Hub;
 use flat_code::Look;
 use gv_values::{Outcome, Whom};
-use hub_machine::state::Object;
+use machine::state::Object;
 use std::marker::Model;
 
 /// The hub as the greenlet sees it that is under way.

@@ -15,7 +15,7 @@ use Rattle.native_board.specs.declared.views.Kind.TheVariants as kind
 use Rattle.gv_values.specs.declared.job.Job.TheVariants as job
 use Rattle.gv_values.specs.declared.job.JobOutcome.{JobOutcome}
 use Rattle.gv_values.specs.declared.fault.FaultKind.{FaultKind}
-use Rattle.native_answers.proofs.JobEnds.{IsJobEnd}
+use Rattle.world_rules.proofs.JobEnds.{IsJobEnd}
 use Rattle.native_board.specs.declared.views.Signal.{Signal}
 use Rattle.native_board.specs.declared.views.Signal.TheVariants.{High}
 use Rattle.native_board.specs.declared.views.Ended.{Ended}
@@ -30,7 +30,7 @@ use Rattle.native_board.specs.declared.views.WorkerView.{WorkerView}
 use Rattle.native_board.specs.declared.views.View.{View}
 use Rattle.native_board.specs.declared.views.View.TheVariants.{Hub, Worker}
 use Rattle.native_board.specs.Words.{CellWords, cell_words, state_in, signed_in, kind_of, argument_of, job_of, signal_in, ended_of, value_of, outcome_of}
-use Rattle.native_answers.specs.Jobs.{eval}
+use Rattle.world_rules.specs.Jobs.{eval}
 use Rattle.native_board.specs.Rows.{Row, NoLost, Fits, signal_of, begun, first, Shows, Carries, Rests, Takes, Stops, untaken, hub_cell, posts_at, Kept}
 use Rattle.native_board.specs.Plays.{with_worker, new_worker, marked, counted, on_cell, on_post, on_stage, ordered, filled, sent, stopped, asked, begun_with, looked, numbered, holds, valued, owing, rested, freed, lowered, saw, swept, IsJob, StoresFree, StoresValue, StoresDone, SwapsHigh, SwapsLow, LoadsNext, LoadsValue, StoresOrder, StoresArgument, StoresPosted, StoresStop, LoadsState, LoadsOrder, LoadsArgument}
 use Rattle.native_board.proofs.Moves.{spares, put_word, puts, in_board, has_count, own_in_board, off_cells, is_high, lowers, sees, started_fits, hub_seat, hub_at, hub_or, worker_at, CountsElse, moved}

@@ -13,7 +13,7 @@ use Rattle.native_board.specs.declared.views.Stage.TheVariants.{Idle, Asked, Num
 use Rattle.native_board.specs.declared.views.View.{View}
 use Rattle.native_board.specs.declared.views.View.TheVariants.{Hub, Worker}
 use Rattle.native_board.specs.Words.{state_in, number_in, kind_in, signed_in, job_of, ended_of, value_of}
-use Rattle.native_answers.specs.Jobs.{eval}
+use Rattle.world_rules.specs.Jobs.{eval}
 use Rattle.native_board.specs.Rows.{hub_cell, posts_at}
 
 -- the hub's view of cell i becomes x

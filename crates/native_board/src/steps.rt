@@ -8,7 +8,7 @@ ghost use Rattle.native_board.specs.declared.views.Ended.{Ended};
 ghost use Rattle.gv_values.specs.declared.job.Job.{Job};
 ghost use Rattle.native_board.specs.Rows.{hub_cell};
 ghost use Rattle.native_board.specs.Words.{state_in, number_in, kind_in, signed_in, kind_of, job_of, ended_of, value_of};
-ghost use Rattle.native_answers.specs.Jobs.{eval};
+ghost use Rattle.world_rules.specs.Jobs.{eval};
 ghost use Rattle.native_board.specs.Plays.{asked, saw, IsJob};
 ghost use Rattle.native_board.specs.Passes.{hub_of, worker_of, lowers, BecomesHub, HoldsOf, ValuedOf, IsValuedOf, IsHubAt, IsMarked, IsSent, IsWorkerAt, IsStaged, HasLooked};
 

@@ -4,7 +4,7 @@ ghost use Rattle.native_board.specs.Boards.{board_id, hub_board, worker_board, w
 
 use crate::{Bell, Board, Finished, HubPass, Looked, Made, WorkerPass};
 use gv_values::{FaultKind, Job, JobOutcome};
-use native_answers::eval;
+use world_rules::eval;
 use std::alloc::{AllocError, Global};
 use std::sync::Wait;
 use std::sync::atomic::{AtomicU64, Ordering};

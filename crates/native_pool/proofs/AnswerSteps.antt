@@ -2,8 +2,8 @@
 use Rattle.std.proofs.Common.{◌≡◌, inl, inr, ℕ, ◌≤◌, Bool, List, Some, refl, sym, ap, ◌∙◌, subst, arith}
 use Rattle.std.specs.List.{list_any}
 use Rattle.gv_values.specs.declared.job.Answer.{Answer}
-use Rattle.native_answers.specs.declared.question.PostedJob.{PostedJob}
-use Rattle.native_answers.specs.declared.question.Question.{Question}
+use Rattle.world_rules.specs.declared.question.PostedJob.{PostedJob}
+use Rattle.world_rules.specs.declared.question.Question.{Question}
 use Rattle.native_board.specs.declared.found.Finished.{Finished}
 use Rattle.native_pool.specs.Desks.{DeskView, Balances, Rests, Settles, Hands, HandsDue, Gives, IsDue}
 use Rattle.native_pool.proofs.JobLemmas.{result_of, keeps_silent}

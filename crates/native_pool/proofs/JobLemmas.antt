@@ -8,9 +8,9 @@ use Rattle.std.proofs.lemmas.List.{flat_map_more, map-append}
 use Rattle.std.proofs.lemmas.List.Elements.{All-nil, All-cons, All-head, All-tail, All-weaker, All-push, All-append, All-set}
 use Rattle.gv_values.specs.declared.job.Job.{Job}
 use Rattle.gv_values.specs.declared.job.Answer.{Answer}
-use Rattle.native_answers.specs.declared.question.PostedJob.{PostedJob}
-use Rattle.native_answers.specs.Jobs.{eval}
-use Rattle.native_answers.specs.Legal.{posted, is_posted, is_answered, IsOutcomeOf}
+use Rattle.world_rules.specs.declared.question.PostedJob.{PostedJob}
+use Rattle.world_rules.specs.Jobs.{eval}
+use Rattle.world_rules.specs.Legal.{posted, is_posted, is_answered, IsOutcomeOf}
 use Rattle.native_board.specs.declared.found.Finished.{Finished}
 use Rattle.native_board.specs.declared.views.CellState.{CellState}
 use Rattle.native_board.specs.declared.views.CellState.TheVariants.{Done}

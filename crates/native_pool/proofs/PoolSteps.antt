@@ -5,8 +5,8 @@ use Rattle.std.proofs.lemmas.Bool.{false≢true}
 use Rattle.native_board.specs.declared.views.HubCell.TheVariants.{Vacant}
 use Rattle.native_board.specs.Rows.{hub_cell, begun}
 use Rattle.gv_values.specs.declared.job.Job.{Job}
-use Rattle.native_answers.specs.declared.question.PostedJob.{PostedJob}
-use Rattle.native_answers.specs.Legal.{posted, is_posted}
+use Rattle.world_rules.specs.declared.question.PostedJob.{PostedJob}
+use Rattle.world_rules.specs.Legal.{posted, is_posted}
 use Rattle.std.specs.List.{flat_map}
 use Rattle.std.proofs.lemmas.List.{length-replicate}
 use Rattle.std.proofs.lemmas.List.Elements.{All-nil, All-cons}

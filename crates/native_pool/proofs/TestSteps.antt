@@ -3,8 +3,8 @@ use Rattle.std.proofs.Common.{◌≡◌, ℕ, ◌+◌, ◌≤◌, ◌==◌, fals
 use Rattle.std.proofs.lemmas.Bool.Decides.{nat_tests}
 use Rattle.std.proofs.lemmas.List.Folds.{list_any-append}
 use Rattle.gv_values.specs.declared.job.Job.{Job}
-use Rattle.native_answers.specs.declared.question.PostedJob.{PostedJob}
-use Rattle.native_answers.specs.Legal.{posted, is_posted}
+use Rattle.world_rules.specs.declared.question.PostedJob.{PostedJob}
+use Rattle.world_rules.specs.Legal.{posted, is_posted}
 
 -- once a number was posted, those past it are still new
 pub new_past : (posts more : List PostedJob) (n : ℕ) (j : Job) → more ≡ posts ++ posted n j ∷ [] → ((k : ℕ) → n ≤ k → is_posted k posts ≡ false) → (k : ℕ) → n + 1 ≤ k → is_posted k more ≡ false

@@ -3,10 +3,10 @@ use Rattle.std.specs.Prelude.{◌≡◌, ◌⊎◌, ℕ, ◌+◌, ◌<◌, ◌�
 use Rattle.std.specs.List.{list_any, flat_map}
 use Rattle.gv_values.specs.declared.job.Job.{Job}
 use Rattle.gv_values.specs.declared.job.Answer.{Answer}
-use Rattle.native_answers.specs.declared.question.PostedJob.{PostedJob}
-use Rattle.native_answers.specs.declared.question.Question.{Question}
-use Rattle.native_answers.specs.Jobs.{eval}
-use Rattle.native_answers.specs.Legal.{posted, is_answered, Answers}
+use Rattle.world_rules.specs.declared.question.PostedJob.{PostedJob}
+use Rattle.world_rules.specs.declared.question.Question.{Question}
+use Rattle.world_rules.specs.Jobs.{eval}
+use Rattle.world_rules.specs.Legal.{posted, is_answered, Answers}
 use Rattle.native_board.specs.declared.found.Finished.{Finished}
 use Rattle.native_board.specs.declared.views.HubCell.{HubCell}
 use Rattle.native_board.specs.declared.views.HubCell.TheVariants.{Sent}

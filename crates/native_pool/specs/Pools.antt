@@ -1,11 +1,11 @@
 -- What a world of native threads means to those that use it, beside what every world means.
 use Rattle.std.specs.Prelude.{◌≡◌, ℕ, zero, suc, ◌-◌, ◌≤◌, true, List, [], ◌∷◌, map, min, length, slice_get, All, Option, Some, Result, Ok, Err, is_some, is_ok, IfErr}
 use Rattle.gv_values.specs.declared.job.Answer.{Answer}
-use Rattle.native_answers.specs.declared.question.PostedJob.{PostedJob}
-use Rattle.native_answers.specs.declared.question.Question.{Question}
-use Rattle.native_answers.specs.declared.question.LogEntry.{LogEntry}
-use Rattle.native_answers.specs.Legal.{posts_of, answers_of}
-use Rattle.native_answers.specs.Script.{last_moment}
+use Rattle.world_rules.specs.declared.question.PostedJob.{PostedJob}
+use Rattle.world_rules.specs.declared.question.Question.{Question}
+use Rattle.world_rules.specs.declared.question.LogEntry.{LogEntry}
+use Rattle.world_rules.specs.Legal.{posts_of, answers_of}
+use Rattle.world_rules.specs.Script.{last_moment}
 use Rattle.native_board.specs.Rows.{hub_cell}
 use Rattle.native_board.specs.Passes.{is_sent}
 use Rattle.world.specs.Worlds.{Meaning}

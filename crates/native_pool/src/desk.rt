@@ -2,8 +2,8 @@
 ghost use Rattle.std.specs.Prelude.{◌≡◌, ℕ, ◌<◌, ◌≤◌, ◌++◌, ◌∷◌, [], true, false, List, length, vec_len, vec_capacity, slice_index_or, IsNone, IfSome, OnOk, OnErr, IsTrue, ◌↔◌};
 ghost use Rattle.std.specs.Arc.{arc_value};
 ghost use Rattle.gv_values.specs.declared.job.Job.{Job};
-ghost use Rattle.native_answers.specs.Jobs.{eval};
-ghost use Rattle.native_answers.specs.Legal.{posted};
+ghost use Rattle.world_rules.specs.Jobs.{eval};
+ghost use Rattle.world_rules.specs.Legal.{posted};
 ghost use Rattle.native_board.specs.Boards.{board_id, hub_board, hub_view};
 ghost use Rattle.native_board.specs.Rows.{hub_cell};
 ghost use Rattle.native_board.specs.Passes.{is_sent, Sweeps, finished};

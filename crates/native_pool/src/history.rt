@@ -1,7 +1,7 @@
 //! What was posted to a pool and what it answered.
 ghost use Rattle.std.specs.Prelude.{◌≡◌, ◌<◌, ◌≤◌, ◌^◌, ◌++◌, ◌∷◌, [], OnOk, vec_len, vec_capacity, min};
-ghost use Rattle.native_answers.specs.Legal.{posted, moment_of, last_moment_of};
-ghost use Rattle.native_answers.specs.Script.{last_moment};
+ghost use Rattle.world_rules.specs.Legal.{posted, moment_of, last_moment_of};
+ghost use Rattle.world_rules.specs.Script.{last_moment};
 
 use gv_values::{Answer, Job};
 use std::alloc::{AllocError, Global};

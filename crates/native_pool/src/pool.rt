@@ -3,8 +3,8 @@ ghost use Rattle.std.specs.Prelude.{◌≡◌, ◌<◌, ◌≤◌, ◌-◌, ◌+
 ghost use Rattle.std.specs.Arc.{arc_value};
 ghost use Rattle.native_board.specs.Boards.{board_id, hub_view, worker_view};
 ghost use Rattle.native_board.specs.Given.{passes_board, next_cell, passes_left};
-ghost use Rattle.native_answers.specs.Legal.{moment_of, IsLegal};
-ghost use Rattle.native_answers.specs.Script.{last_moment};
+ghost use Rattle.world_rules.specs.Legal.{moment_of, IsLegal};
+ghost use Rattle.world_rules.specs.Script.{last_moment};
 ghost use Rattle.native_pool.specs.Desks.{Balances, SameCells, Rests, Settles, Gives, IsDue};
 ghost use Rattle.native_pool.specs.Pools.{told_cell, numbers_from, RefusedWhereRisen};
 ghost use Rattle.native_pool.specs.Views.{desk_view, start_cell};
@@ -279,9 +279,9 @@ impl<
     S: Spawner<B, G> + Drop,
 > World for ThreadWorld<H, R, B, C, G, S> {
     ghost use Rattle.std.specs.Prelude.{ℕ, ◌≤◌, ◌<◌, ◌↔◌, true, false, List, Option, OnOk, OnErr};
-    ghost use Rattle.native_answers.specs.declared.question.LogEntry.{LogEntry};
-    ghost use Rattle.native_answers.specs.declared.question.LogEntry.TheVariants as entry;
-    ghost use Rattle.native_answers.specs.Legal.{is_posted, MayAsk};
+    ghost use Rattle.world_rules.specs.declared.question.LogEntry.{LogEntry};
+    ghost use Rattle.world_rules.specs.declared.question.LogEntry.TheVariants as entry;
+    ghost use Rattle.world_rules.specs.Legal.{is_posted, MayAsk};
     ghost use Rattle.world.specs.Worlds.{Begins, Posts, Stores};
     ghost use Rattle.native_pool.specs.Pools.{pool_meaning, pool_log, IsTimely, HasCome, WhileRunning, Between, KeepsStarts};
 

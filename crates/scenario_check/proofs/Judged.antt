@@ -17,7 +17,8 @@ use Rattle.scenario_rules.specs.declared.mention.Named.{Named}
 use Rattle.scenario_rules.specs.Declarations.{declared_as, different, given_by, given_names, is_among, is_kind, is_local, parameters, repeated}
 use Rattle.scenario_rules.specs.Mentions.{mentions}
 use Rattle.scenario_rules.specs.Reasons.{declared_twice, too_many, undeclared, wrong_kind, wrong_count, hub_in_raw_body}
-use Rattle.scenario_rules.specs.Rules.{first_after, function_refusals, is_wrong_head, most_local_names, most_parameters, past, refused, refused_names, word_refusals}
+use Rattle.scenario_rules.specs.Rules.{first_after, function_refusals, is_wrong_head, most_local_names, past, refused, refused_names, word_refusals}
+use Rattle.scenario_tree.specs.Limits.{most_parameters}
 use Rattle.scenario_check.specs.Sorting.{pair}
 use Rattle.scenario_check.proofs.FirstPlace.{first_both}
 use Rattle.scenario_check.proofs.Sorting.{among_by}

@@ -8,7 +8,8 @@ ghost use Rattle.scenario_rules.specs.declared.mention.Mention.{Mention as AnyMe
 ghost use Rattle.scenario_rules.specs.Declarations.{declarations, different, given_by, given_names, named_functions, named_objects, parameters, repeated};
 ghost use Rattle.scenario_rules.specs.Mentions.{mentions};
 ghost use Rattle.scenario_rules.specs.Reasons.{declared_twice, too_many, wrong_count};
-ghost use Rattle.scenario_rules.specs.Rules.{first_after, function_refusals, is_wrong_head, most_functions, most_local_names, most_objects, most_parameters, past, place_of, refused, refused_names, word_refusals};
+ghost use Rattle.scenario_rules.specs.Rules.{first_after, function_refusals, is_wrong_head, most_functions, most_local_names, most_objects, past, place_of, refused, refused_names, word_refusals};
+ghost use Rattle.scenario_tree.specs.Limits.{most_parameters};
 ghost use Rattle.scenario_check.specs.Tables.{Holds};
 
 use crate::blocks::function_mentions;
@@ -17,6 +18,7 @@ use crate::lists::{add_all_given, add_functions, add_names, add_objects, declara
 use crate::names::Names;
 use crate::places::{noted, noted_names, noted_past, noted_words};
 use crate::words::WRONG_COUNT;
+use gv_values::digits::same_bytes;
 use scenario_grammar::Place;
 use scenario_rules::{Declared, Mention};
 use scenario_tree::{Function, Items, Scenario};
@@ -31,12 +33,6 @@ const MOST_FUNCTIONS: usize = 256;
 const MOST_PARAMETERS: usize = 16;
 
 const MOST_LOCAL_NAMES: usize = 64;
-
-fn same_bytes(a: &[u8], b: &[u8]) -> bool
-    ensures { result ≡ pointwise nat_eq a.now b.now }
-{
-    a == b
-}
 
 fn is_main(function: &Function) -> bool
     ensures { result ≡ is_main function.now }

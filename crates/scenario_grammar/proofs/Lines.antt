@@ -6,8 +6,8 @@ use Rattle.scenario_tree.specs.declared.tree.Expression.{Expression}
 use Rattle.scenario_tree.specs.declared.tree.Command.TheVariants as command
 use Rattle.scenario_tree.specs.declared.tree.Giving.{Giving}
 use Rattle.scenario_tree.specs.declared.tree.Giving.TheVariants as giving
-use Rattle.scenario_tree.specs.declared.tree.JobKind.{JobKind}
-use Rattle.scenario_tree.specs.declared.tree.LinkKind.TheVariants as link
+use Rattle.gv_values.specs.declared.job.JobKind.{JobKind}
+use Rattle.scenario_tree.specs.declared.tree.LinkEnd.TheVariants as link
 use Rattle.scenario_tree.specs.declared.tree.Object.TheVariants as object
 use Rattle.scenario_tree.specs.declared.tree.QueueKind.{QueueKind}
 use Rattle.scenario_tree.specs.declared.tree.Wait.{Wait}

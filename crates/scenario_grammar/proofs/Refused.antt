@@ -8,7 +8,7 @@ use Rattle.scenario_tree.specs.declared.tree.Expression.TheVariants as e
 use Rattle.scenario_tree.specs.declared.tree.Command.TheVariants as command
 use Rattle.scenario_tree.specs.declared.tree.Giving.{Giving}
 use Rattle.scenario_tree.specs.declared.tree.Giving.TheVariants as giving
-use Rattle.scenario_tree.specs.declared.tree.LinkKind.TheVariants as link
+use Rattle.scenario_tree.specs.declared.tree.LinkEnd.TheVariants as link
 use Rattle.scenario_tree.specs.declared.tree.Object.TheVariants as object
 use Rattle.scenario_tree.specs.declared.tree.Wait.TheVariants as wait
 use Rattle.scenario_tree.specs.declared.tree.Scenario.{Scenario}

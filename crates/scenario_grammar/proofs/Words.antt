@@ -4,8 +4,8 @@ use Rattle.gv_values.specs.declared.name.Name.{Name}
 use Rattle.gv_values.specs.declared.fault.Class.{Class}
 use Rattle.gv_values.specs.declared.fault.Class.TheVariants as class
 use Rattle.scenario_tree.specs.declared.tree.Expression.{Expression}
-use Rattle.scenario_tree.specs.declared.tree.JobKind.{JobKind}
-use Rattle.scenario_tree.specs.declared.tree.JobKind.TheVariants as job
+use Rattle.gv_values.specs.declared.job.JobKind.{JobKind}
+use Rattle.gv_values.specs.declared.job.JobKind.TheVariants as job
 use Rattle.scenario_tree.specs.declared.tree.QueueKind.{QueueKind}
 use Rattle.scenario_tree.specs.declared.tree.QueueKind.TheVariants as queue
 use Rattle.scenario_tree.specs.declared.tree.Wait.{Wait}

@@ -15,7 +15,8 @@ use Rattle.scenario_grammar.specs.declared.token.Token.{Token}
 use Rattle.scenario_grammar.specs.declared.token.Token.TheVariants as token
 use Rattle.scenario_grammar.specs.Keywords.{spelling, is_spelled, keywords, keyword_of}
 use Rattle.scenario_grammar.specs.Layout.{Word}
-use Rattle.scenario_grammar.specs.Tokens.{token_word, token_of, loose_token, number_token, in_64_bits, is_plain_number, begins_with_zero, is_integer, begins_number}
+use Rattle.gv_values.specs.Digits.{is_plain_number}
+use Rattle.scenario_grammar.specs.Tokens.{token_word, token_of, loose_token, number_token, in_64_bits, begins_with_zero, is_integer, begins_number}
 use Rattle.scenario_grammar.proofs.Atoms.{and_left, and_right}
 use Rattle.scenario_grammar.proofs.InWords.{is_word}
 

@@ -7,10 +7,10 @@ use Rattle.scenario_tree.specs.declared.tree.Command.{Command}
 use Rattle.scenario_tree.specs.declared.tree.Command.TheVariants as command
 use Rattle.scenario_tree.specs.declared.tree.Giving.{Giving}
 use Rattle.scenario_tree.specs.declared.tree.Giving.TheVariants as giving
-use Rattle.scenario_tree.specs.declared.tree.LinkKind.{LinkKind}
-use Rattle.scenario_tree.specs.declared.tree.LinkKind.TheVariants as link
-use Rattle.scenario_tree.specs.declared.tree.JobKind.{JobKind}
-use Rattle.scenario_tree.specs.declared.tree.JobKind.TheVariants as job
+use Rattle.scenario_tree.specs.declared.tree.LinkEnd.{LinkEnd}
+use Rattle.scenario_tree.specs.declared.tree.LinkEnd.TheVariants as link
+use Rattle.gv_values.specs.declared.job.JobKind.{JobKind}
+use Rattle.gv_values.specs.declared.job.JobKind.TheVariants as job
 use Rattle.scenario_tree.specs.declared.tree.Wait.{Wait}
 use Rattle.scenario_tree.specs.declared.tree.Wait.TheVariants as wait
 use Rattle.scenario_tree.specs.declared.tree.Object.{Object}
@@ -85,7 +85,7 @@ command_tokens (command.GroupKill n f now) = k.GroupKill ▹ name n ⊕ with_fau
 command_tokens (command.SetParent e f) = k.SetParent ▹ expression e ⊕ expression f
 
 -- which ends a link is for
-abbrev pub link_keyword : LinkKind → Keyword
+abbrev pub link_keyword : LinkEnd → Keyword
 link_keyword link.Any = k.Link
 link_keyword link.Value = k.LinkValue
 link_keyword link.Fault = k.LinkFault

@@ -12,9 +12,9 @@ use Rattle.gv_values.specs.declared.fault.Class.TheVariants as class
 use Rattle.scenario_tree.specs.declared.tree.Command.TheVariants as command
 use Rattle.scenario_tree.specs.declared.tree.Giving.{Giving}
 use Rattle.scenario_tree.specs.declared.tree.Giving.TheVariants as giving
-use Rattle.scenario_tree.specs.declared.tree.LinkKind.TheVariants as link
-use Rattle.scenario_tree.specs.declared.tree.JobKind.{JobKind}
-use Rattle.scenario_tree.specs.declared.tree.JobKind.TheVariants as job
+use Rattle.scenario_tree.specs.declared.tree.LinkEnd.TheVariants as link
+use Rattle.gv_values.specs.declared.job.JobKind.{JobKind}
+use Rattle.gv_values.specs.declared.job.JobKind.TheVariants as job
 use Rattle.scenario_tree.specs.declared.tree.Wait.{Wait}
 use Rattle.scenario_tree.specs.declared.tree.Wait.TheVariants as wait
 use Rattle.scenario_tree.specs.declared.tree.Object.TheVariants as object

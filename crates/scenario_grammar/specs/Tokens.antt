@@ -4,6 +4,7 @@ use Rattle.std.specs.List.{list_all}
 use Rattle.std.specs.Option.{is_none}
 use Rattle.std.specs.Fmt.{signed_decimal}
 use Rattle.std.specs.Str.Parse.{signed_digits_value}
+use Rattle.gv_values.specs.Digits.{is_plain_number}
 use Rattle.gv_values.specs.Names.{is_name, is_digit}
 use Rattle.gv_values.specs.declared.name.Name.{Name}
 use Rattle.scenario_grammar.specs.declared.keyword.Keyword.{Keyword}
@@ -76,12 +77,6 @@ integer z = only_if (in_64_bits z) (Some (token.Number z ∷ []))
 -- from least to greatest
 abbrev pub number : ℕ → ℕ → ℕ → Written Token
 number least greatest n = only_if (nat_le least n && nat_le n greatest) (Some (token.Number (pos n) ∷ []))
-
--- `0`, or digits that begin with another
-abbrev pub is_plain_number : Word → Bool
-is_plain_number [] = false
-is_plain_number (b ∷ []) = is_digit b
-is_plain_number (b ∷ c ∷ bs) = nat_le 49 b && nat_le b 57 && list_all is_digit (c ∷ bs)
 
 abbrev pub begins_with_zero : Word → Bool
 begins_with_zero [] = false

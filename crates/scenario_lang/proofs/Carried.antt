@@ -8,9 +8,9 @@ use Rattle.scenario_grammar.specs.Layout.{drop_blanks, is_blank, is_empty}
 use Rattle.scenario_grammar.specs.Parsed.{read_line, read_words}
 use Rattle.scenario_grammar.specs.Reasons.{Reason}
 use Rattle.scenario_grammar.specs.Tokens.{token_of}
-use Rattle.scenario_words.specs.Fronts.{spaced_tokens}
+use Rattle.scenario_lines.specs.Fronts.{spaced_tokens}
 use Rattle.scenario_lang.specs.Lines.{Takes, carried, carries, line_text}
-use Rattle.scenario_words.specs.declared.refusal.LineRefusal.{LineRefusal}
+use Rattle.scenario_lines.specs.declared.refusal.LineRefusal.{LineRefusal}
 use Rattle.scenario_lang.specs.declared.builder.Builder.{Builder}
 
 idle_carried : (b : Building) (n : ℕ) (d : List ℕ) → carries d ≡ false → carried b n d ≡ Ok b

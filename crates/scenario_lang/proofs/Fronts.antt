@@ -7,9 +7,9 @@ use Rattle.std.proofs.lemmas.List.{take-append-drop}
 use Rattle.std.proofs.lemmas.List.Quantifiers.{position-Some}
 use Rattle.std.proofs.Math.Seq.{drop-cons}
 use Rattle.scenario_grammar.specs.Layout.{is_end, is_text_byte}
-use Rattle.scenario_words.specs.declared.layout.Front.{Front}
-use Rattle.scenario_words.specs.declared.layout.Front.TheVariants as front
-use Rattle.scenario_words.specs.Fronts.{front_of, is_printable}
+use Rattle.scenario_lines.specs.declared.layout.Front.{Front}
+use Rattle.scenario_lines.specs.declared.layout.Front.TheVariants as front
+use Rattle.scenario_lines.specs.Fronts.{front_of, is_printable}
 use Rattle.scenario_grammar.specs.declared.place.Place.{Place}
 use Rattle.scenario_grammar.specs.Building.{Building}
 use Rattle.scenario_lang.specs.Lines.{after_line, outcome}

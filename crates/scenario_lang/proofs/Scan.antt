@@ -12,7 +12,7 @@ use Rattle.scenario_grammar.specs.Layout.{Line, lines, lines_from, with_line, dr
 use Rattle.scenario_grammar.specs.Parsed.{finished, read_line, read_lines, read_text, reading, nothing_yet, standing, scenario}
 use Rattle.scenario_grammar.specs.Places.{at_the_end, line_at, last_line, place_in_bytes}
 use Rattle.scenario_grammar.specs.Reasons.{Reason, not_printable, not_ended}
-use Rattle.scenario_words.specs.Fronts.{is_printable}
+use Rattle.scenario_lines.specs.Fronts.{is_printable}
 use Rattle.scenario_lang.specs.Lines.{after_line, carried, ended_at, fault_from, line_text, outcome, placed, then_lines}
 
 abbrev choose : Option Place → Result Scenario Place → Result Scenario Place

@@ -9,8 +9,8 @@ use Rattle.scenario_grammar.specs.Parsed.{read_line, read_lines, scenario, stand
 use Rattle.scenario_grammar.specs.Places.{at_the_end, place}
 use Rattle.scenario_grammar.specs.Spells.{Spells}
 use Rattle.scenario_grammar.specs.Reasons.{Reason, not_printable, not_ended}
-use Rattle.scenario_words.specs.declared.refusal.LineRefusal.{LineRefusal}
-use Rattle.scenario_words.specs.declared.refusal.LineRefusal.TheVariants as refusal
+use Rattle.scenario_lines.specs.declared.refusal.LineRefusal.{LineRefusal}
+use Rattle.scenario_lines.specs.declared.refusal.LineRefusal.TheVariants as refusal
 use Rattle.scenario_lang.specs.declared.builder.Builder.{Builder}
 use Rattle.scenario_lang.specs.declared.text.ParseRefusal.{ParseRefusal}
 use Rattle.scenario_lang.specs.declared.text.Reader.{Reader}

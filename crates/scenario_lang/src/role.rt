@@ -5,7 +5,7 @@ ghost use Rattle.scenario_grammar.specs.Reading.{gives};
 ghost use Rattle.scenario_lang.specs.Roles.{as_role, role_unmarked};
 
 use scenario_grammar::{Keyword, Token};
-use scenario_words::is_given_line;
+use scenario_lines::is_given_line;
 
 /// What the first words make of a line.
 #[derive(Clone, Copy, Debug)]

@@ -12,7 +12,7 @@ use crate::scenario::Scenario;
 use scenario_grammar::{Place, Token, read_texts_are_spelt, texts_without_a_place_are_spelt};
 use scenario_print::spelt_trees_have_text;
 use scenario_tree::Scenario as Tree;
-use scenario_words::{
+use scenario_lines::{
     BLANK_OUT_OF_PLACE, Front, LineRefusal, cut_at, first_line, line_tokens, read_phrase,
     skip_blanks,
 };

@@ -14,18 +14,18 @@ use crate::start::{
     start_name_wait, start_number,
 };
 use crate::word::{push_fixed, push_name, push_number};
-use gv_values::Name;
+use gv_values::{JobKind, Name};
 use scenario_grammar::Keyword;
-use scenario_tree::{Expression, Giving, Items, JobKind, LinkKind};
+use scenario_tree::{Expression, Giving, Items, LinkEnd};
 use std::alloc::AllocError;
 
-fn link_word(kind: LinkKind) -> Keyword
+fn link_word(kind: LinkEnd) -> Keyword
     ensures { result ≡ link_keyword kind }
 {
     match kind {
-        LinkKind::Any => Keyword::Link,
-        LinkKind::Value => Keyword::LinkValue,
-        LinkKind::Fault => Keyword::LinkFault,
+        LinkEnd::Any => Keyword::Link,
+        LinkEnd::Value => Keyword::LinkValue,
+        LinkEnd::Fault => Keyword::LinkFault,
     }
 }
 

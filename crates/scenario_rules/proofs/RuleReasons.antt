@@ -11,7 +11,8 @@ use Rattle.scenario_rules.specs.declared.mention.Named.{Named}
 use Rattle.scenario_rules.specs.Declarations.{different, given_names, named_functions, named_objects, parameters, repeated}
 use Rattle.scenario_rules.specs.Mentions.{mentions}
 use Rattle.scenario_rules.specs.Reasons.{declared_twice, hub_in_raw_body, is_rule_reason, timeouts_too_deep, too_many, undeclared, wrong_count, wrong_kind}
-use Rattle.scenario_rules.specs.Rules.{IsWellFormed, earlier, first_after, function_refusals, is_before, is_hub_in_raw_body, is_too_deep, is_undeclared, is_wrong_count, is_wrong_head, is_wrong_kind, most_functions, most_local_names, most_objects, most_parameters, past, place_of, refusals, refused, refused_names, word_refusals}
+use Rattle.scenario_rules.specs.Rules.{IsWellFormed, earlier, first_after, function_refusals, is_before, is_hub_in_raw_body, is_too_deep, is_undeclared, is_wrong_count, is_wrong_head, is_wrong_kind, most_functions, most_local_names, most_objects, past, place_of, refusals, refused, refused_names, word_refusals}
+use Rattle.scenario_tree.specs.Limits.{most_parameters}
 
 -- the place has a reason of the rules
 abbrev is_by_rule : Place → Bool

@@ -5,6 +5,7 @@ use Rattle.std.specs.Option.{is_some}
 use Rattle.gv_values.specs.declared.name.Name.{Name}
 use Rattle.scenario_tree.specs.declared.tree.Function.{Function}
 use Rattle.scenario_tree.specs.declared.tree.Scenario.{Scenario}
+use Rattle.scenario_tree.specs.Limits.{most_parameters}
 use Rattle.scenario_grammar.specs.declared.place.Place.{Place}
 use Rattle.scenario_grammar.specs.Reasons.{Reason}
 use Rattle.scenario_grammar.specs.Spells.{is_main}
@@ -81,9 +82,6 @@ word_refusals s f m =
 -- `main` has parameters, or a raw body has not one
 abbrev pub is_wrong_head : Function → Bool
 is_wrong_head f = if f.is_raw then not (length f.parameters == 1) else is_main f && not (length f.parameters == 0)
-
-abbrev pub most_parameters : ℕ
-most_parameters = 16
 
 -- different ones, parameters among them
 abbrev pub most_local_names : ℕ

@@ -6,6 +6,6 @@ mod tree;
 
 pub use sqlite_items::{Boxed, Items};
 pub use tree::{
-    Action, Binary, Block, Command, Declaration, Except, Expression, Function, Giving, JobKind,
-    LinkKind, Object, Query, QueueKind, Scenario, Statement, Unary, Wait,
+    Action, Binary, Block, Command, Declaration, Except, Expression, Function, Giving, LinkEnd,
+    Object, Query, QueueKind, Scenario, Statement, Unary, Wait,
 };

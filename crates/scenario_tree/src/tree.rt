@@ -1,4 +1,4 @@
-use gv_values::{Arith, Class, FaultKind, Name};
+use gv_values::{Arith, Class, FaultKind, JobKind, Name};
 use sqlite_items::{Boxed, Items};
 
 /// An operator of two operands, which are both evaluated.
@@ -84,21 +84,17 @@ pub enum Command {
     /// The fault, and whether `now` stands there.
     GroupKill(Name, Option<Expression>, bool),
     SetParent(Expression, Expression),
+    ChannelPut(Name, Expression),
+    /// Whether `immediate` stands there.
+    QueueShut(Name, bool),
 }
 
+/// Which end of its greenlet a link names.
 #[derive(Clone, Copy, Debug, PartialEq, Eq)]
-pub enum LinkKind {
+pub enum LinkEnd {
     Any,
     Value,
     Fault,
-}
-
-#[derive(Clone, Copy, Debug, PartialEq, Eq)]
-pub enum JobKind {
-    Sum,
-    Collatz,
-    Fail,
-    Echo,
 }
 
 /// A statement of one line that gives a value, which a name may take.
@@ -110,8 +106,9 @@ pub enum Giving {
     Get(Expression, Wait),
     /// The number stands after `count`.
     JoinAll(Expression, Option<u64>, Option<u64>),
-    Link(LinkKind, Expression, Name),
-    LinkMark(Expression, u64),
+    Link(LinkEnd, Expression, Name),
+    /// The mark is at most 1000000.
+    LinkMark(Expression, u32),
     LinkSet(Expression, Name),
     WaitEvent(Name, Option<u64>),
     ResultGet(Name, Wait),
@@ -129,6 +126,7 @@ pub enum Giving {
     Switch(Expression, Expression),
     /// The fault stands after `with`.
     Throw(Expression, Option<Expression>),
+    ChannelGet(Name),
 }
 
 /// The lines of a body or of a block.
@@ -184,6 +182,7 @@ pub enum Object {
     Group,
     Pool(u64),
     Native(u64),
+    Channel,
 }
 
 #[derive(Clone, Copy, Debug, PartialEq, Eq)]

@@ -4,8 +4,8 @@ use Rattle.std.proofs.lemmas.Bool.{cases_eq, cond-true, cond-false, false_from_n
 use Rattle.std.proofs.lemmas.List.Sums.{length-filter}
 use Rattle.gv_values.specs.declared.value.Whom.{Whom}
 use Rattle.std.proofs.lemmas.List.Elements.{Contains-append_cases}
-use Rattle.item_rows.specs.Items.{items_of as row_items, without_entry, Lacks, Differ}
-use Rattle.item_rows.proofs.ItemLemmas.{contains_of_filter, first_is, entry_first_dropped, test_drops}
+use Rattle.linked_items.specs.Items.{items_of as row_items, without_entry, Lacks, Differ}
+use Rattle.linked_items.proofs.ItemLemmas.{contains_of_filter, first_is, entry_first_dropped, test_drops}
 use Rattle.target_waits.specs.declared.index.Index.{Index}
 use Rattle.target_waits.specs.Indexed.{IsIndexed}
 use Rattle.target_waits.specs.Named.{named, named_by}

@@ -3,13 +3,13 @@ use Rattle.std.proofs.Common.{◌-◌, count_by, slice_get, length-append, ◌�
 use Rattle.std.specs.Option.{option_map}
 use Rattle.std.proofs.lemmas.Bool.{cases_eq, cond-true, cond-false, false≢true, false_from_ne_true, not-true, and_from}
 use Rattle.std.proofs.lemmas.Bool.Decides.{nat_tests}
-use Rattle.item_rows.specs.Items.{items_of as row_items, without, without_entry, Differ}
+use Rattle.linked_items.specs.Items.{items_of as row_items, without, without_entry, Differ}
 use Rattle.std.specs.List.{All, AllByRecursion}
 use Rattle.std.proofs.lemmas.List.Elements.{All-from_recursion, Contains-append_left, Contains-append_right, Contains-append_cases}
 use Rattle.gv_values.specs.declared.value.Whom.{Whom}
-use Rattle.item_rows.specs.Seen.{SeenRow, row}
-use Rattle.item_rows.proofs.ItemLemmas.{test_keeps, test_drops, items_joined, items_without, length_items, lacks_of_absent, absent_of_lacks, without_lacks, without_length, differ_snoc, differ_of_without, contains_of_filter, first_is}
-use Rattle.item_rows.proofs.StrideLemmas.{contains_without}
+use Rattle.linked_items.specs.Seen.{SeenRow, row}
+use Rattle.linked_items.proofs.ItemLemmas.{test_keeps, test_drops, items_joined, items_without, length_items, lacks_of_absent, absent_of_lacks, without_lacks, without_length, differ_snoc, differ_of_without, contains_of_filter, first_is}
+use Rattle.linked_items.proofs.StrideLemmas.{contains_without}
 use Rattle.target_waits.specs.Waits.{Wait, wait, items_of, whom_eq, is_ready, struck, answered, at_item, IsReadyIn}
 use Rattle.target_waits.specs.WaitParts.{wait_or, seen_in, changed_at, becomes_ready, IsWaits}
 

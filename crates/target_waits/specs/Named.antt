@@ -2,8 +2,8 @@
 use Rattle.std.specs.Prelude.{ℕ, List, [], Option, Some, None, nat_eq}
 use Rattle.std.specs.HashMap.{HashMap, get}
 use Rattle.gv_values.specs.declared.value.Whom.{Whom}
-use Rattle.item_rows.specs.Items.{items_of}
-use Rattle.item_rows.specs.Seen.{SeenRow}
+use Rattle.linked_items.specs.Items.{items_of}
+use Rattle.linked_items.specs.Seen.{SeenRow}
 use Rattle.target_waits.specs.declared.index.Index.{Index}
 
 -- the items of the row, if there is one

@@ -3,8 +3,8 @@ use Rattle.std.specs.Prelude.{◌≡◌, ℕ, ◌+◌, ◌≤◌, ◌==◌, ◌&
 use Rattle.std.specs.List.{Contains}
 use Rattle.std.specs.Option.{option_map}
 use Rattle.gv_values.specs.declared.value.Whom.{Whom}
-use Rattle.item_rows.specs.Items.{items_of, Differ}
-use Rattle.item_rows.specs.Seen.{SeenRow}
+use Rattle.linked_items.specs.Items.{items_of, Differ}
+use Rattle.linked_items.specs.Seen.{SeenRow}
 use Rattle.target_waits.specs.Waits.{Wait, wait, is_ready, struck}
 
 -- the item's wait; one that nobody ever answers, where there is none

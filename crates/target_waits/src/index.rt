@@ -2,14 +2,14 @@
 ghost use Rattle.std.specs.Prelude.{◌≡◌, ◌≢◌, ℕ, [], length, false, Option, OnOk, IsSome, nat_eq};
 ghost use Rattle.std.specs.HashMap.{get};
 ghost use Rattle.std.specs.List.{Contains};
-ghost use Rattle.item_rows.specs.Items.{without};
+ghost use Rattle.linked_items.specs.Items.{without};
 ghost use Rattle.gv_values.specs.declared.value.Whom.{Whom as Target};
 ghost use Rattle.target_waits.specs.Waits.{whom_eq};
 ghost use Rattle.target_waits.specs.Named.{named, named_by, row_items};
 
 use crate::rows::{drop_from, put};
 use gv_values::Whom;
-use item_rows::row::Row;
+use linked_items::row::Row;
 use std::alloc::{AllocError, Global};
 use std::collections::HashMap;
 

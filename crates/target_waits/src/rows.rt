@@ -1,9 +1,9 @@
 //! Rows as sets of items.
 ghost use Rattle.std.specs.Prelude.{◌≡◌, ℕ, ◌+◌, ◌≤◌, length, OnOk};
 ghost use Rattle.std.specs.List.{Contains};
-ghost use Rattle.item_rows.specs.Items.{items_of, without, Differ};
+ghost use Rattle.linked_items.specs.Items.{items_of, without, Differ};
 
-use item_rows::row::Row;
+use linked_items::row::Row;
 use std::alloc::AllocError;
 
 // Puts an item into a row, if it isn't there.

@@ -1,14 +1,14 @@
 //! All waits on ends.
 ghost use Rattle.std.specs.Prelude.{◌≡◌, ◌≤◌, [], ◌∷◌, ◌++◌, ◌==◌, not, false, length, map, filter, OnOk, OnErr, IfSome, IfNone, None, ◌↔◌};
 ghost use Rattle.std.specs.List.{Contains, All};
-ghost use Rattle.item_rows.specs.Items.{Differ, items_of as row_items};
+ghost use Rattle.linked_items.specs.Items.{Differ, items_of as row_items};
 ghost use Rattle.target_waits.specs.Waits.{wait, items_of, is_ready, struck, answered, at_item, struck_at_all, IsReadyIn};
 
 use crate::entry::Entry;
 use crate::index::Index;
 use crate::waits::Waits;
 use gv_values::Whom;
-use item_rows::row::Row;
+use linked_items::row::Row;
 use std::alloc::{AllocError, Global};
 use std::marker::Model;
 

@@ -2,14 +2,14 @@
 ghost use Rattle.std.specs.Prelude.{◌≡◌, ◌≢◌, ℕ, ◌+◌, [], ◌∷◌, ◌++◌, ◌==◌, not, false, length, map, filter, OnOk, OnErr, IfSome, IfNone, None, ◌↔◌, nat_eq, Option};
 ghost use Rattle.std.specs.List.{Contains, All};
 ghost use Rattle.std.specs.HashMap.{get};
-ghost use Rattle.item_rows.specs.Items.{Differ};
+ghost use Rattle.linked_items.specs.Items.{Differ};
 ghost use Rattle.target_waits.specs.Waits.{items_of, is_ready, struck, answered, at_item, IsReadyIn};
 ghost use Rattle.target_waits.specs.WaitParts.{changed_at, becomes_ready};
 
 use crate::entry::Entry;
 use crate::rows::drop_from;
 use gv_values::Whom;
-use item_rows::row::Row;
+use linked_items::row::Row;
 use std::alloc::{AllocError, Global};
 use std::collections::HashMap;
 use std::marker::Model;

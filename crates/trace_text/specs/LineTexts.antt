@@ -36,6 +36,8 @@ awaited_text (Awaited.GroupJoin name) = and (codes "gjoin") name
 awaited_text (Awaited.GroupKill name) = and (codes "gkill") name
 awaited_text (Awaited.Map name) = and (codes "map") name
 awaited_text (Awaited.NativeSpawn name) = and (codes "nspawn") name
+awaited_text (Awaited.ChannelPut name) = and (codes "cput") name
+awaited_text (Awaited.ChannelGet name) = and (codes "cget") name
 
 -- the deadline, where there is one
 abbrev pub until_text : Option ℕ → Text

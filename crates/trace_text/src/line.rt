@@ -88,6 +88,8 @@ pub enum Awaited {
     GroupKill(Name),
     Map(Name),
     NativeSpawn(Name),
+    ChannelPut(Name),
+    ChannelGet(Name),
 }
 
 /// How a wait ends: what it waited for has come, or its deadline has.

@@ -136,6 +136,8 @@ fn push_awaited(awaited: &Awaited, out: &mut Vec<u8>) -> Result<(), AllocError>
         Awaited::GroupKill(name) => push_with_name(b"gkill ", name, out),
         Awaited::Map(name) => push_with_name(b"map ", name, out),
         Awaited::NativeSpawn(name) => push_with_name(b"nspawn ", name, out),
+        Awaited::ChannelPut(name) => push_with_name(b"cput ", name, out),
+        Awaited::ChannelGet(name) => push_with_name(b"cget ", name, out),
     }
 }
 

@@ -3,14 +3,14 @@
 
 ghost use Rattle.std.specs.Prelude.{◌≡◌, ◌≢◌, ℕ, ◌+◌, ◌-◌, ◌<◌, ◌≤◌, List, [], ◌∷◌, ◌++◌, length, take, min, IfSome, IfNone, OnOk, OnErr, IsOk, IsTrue, ◌↔◌, Some, None, slice_get};
 ghost use Rattle.std.specs.List.{Contains};
-ghost use Rattle.item_rows.specs.Items.{without, Differ};
+ghost use Rattle.linked_items.specs.Items.{without, Differ};
 ghost use Rattle.waiters.specs.Waits.{waits, told_without};
 
 mod parking;
 #[cfg(test)]
 mod tests;
 
-use item_rows::row::Row;
+use linked_items::row::Row;
 pub use parking::{Parking, Side};
 use std::alloc::{AllocError, Global};
 use std::marker::Model;
@@ -28,7 +28,7 @@ pub struct WaitList {
 
 impl Model for WaitList {
     ghost use Rattle.std.specs.Prelude.{◌+◌, ◌-◌, ◌++◌, length};
-    ghost use Rattle.item_rows.specs.Items.{items_of};
+    ghost use Rattle.linked_items.specs.Items.{items_of};
     ghost use Rattle.waiters.specs.Waits.{SeenWaits};
 
     ghost Value = { SeenWaits };

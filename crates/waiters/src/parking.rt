@@ -24,7 +24,7 @@ pub enum Side {
 pub trait Parking {
     ghost use Rattle.std.specs.Prelude.{◌≡◌, ◌≢◌, ℕ, ◌+◌, ◌-◌, ◌<◌, ◌≤◌, List, [], ◌∷◌, ◌++◌, OnOk, OnErr, IfSome, IfNone, None, Some, slice_get};
     ghost use Rattle.std.specs.List.{Contains};
-    ghost use Rattle.item_rows.specs.Items.{without};
+    ghost use Rattle.linked_items.specs.Items.{without};
     ghost use Rattle.waiters.specs.Waits.{told_without};
     ghost use Rattle.waiters.specs.declared.parking.Side.{Side};
 

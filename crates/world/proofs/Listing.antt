@@ -1,9 +1,9 @@
 -- What a list world gives.
 use Rattle.std.proofs.Common.{◌≡◌, ℕ, List, [], ◌∷◌, refl, sym, subst, inl, inr}
 use Rattle.gv_values.specs.declared.job.Answer.{Answer}
-use Rattle.native_answers.specs.declared.question.Question.{Question}
-use Rattle.native_answers.specs.Legal.{IsLegal}
-use Rattle.native_answers.specs.Script.{RuleState, scripted, Gives}
+use Rattle.world_rules.specs.declared.question.Question.{Question}
+use Rattle.world_rules.specs.Legal.{IsLegal}
+use Rattle.world_rules.specs.Script.{RuleState, scripted, Gives}
 
 -- the first answer, where that is legal
 pub gives_first : (tick : ℕ) (s : RuleState) (listed rest : List Answer) (question : Question) (first : Answer) → listed ≡ first ∷ rest → IsLegal s.posts s.answers question first → Gives tick s listed question first rest

@@ -9,12 +9,12 @@ use Rattle.std.proofs.lemmas.List.Folds.{list_any-append}
 use mathlib.Core.List.{map-append}
 use Rattle.gv_values.specs.declared.job.Job.{Job}
 use Rattle.gv_values.specs.declared.job.Answer.{Answer}
-use Rattle.native_answers.specs.declared.question.Question.{Question}
-use Rattle.native_answers.specs.declared.question.PostedJob.{PostedJob}
-use Rattle.native_answers.specs.declared.question.DueJob.{DueJob}
-use Rattle.native_answers.specs.Jobs.{eval}
-use Rattle.native_answers.specs.Legal.{posted, moment_of, last_moment_of, is_done_of, is_posted, is_answered, outstanding, IsOutcomeOf, Answers, IsLegal, MayAsk}
-use Rattle.native_answers.specs.Script.{last_moment, due_job, comes_before, sooner, first_due, done_by, scripted, without}
+use Rattle.world_rules.specs.declared.question.Question.{Question}
+use Rattle.world_rules.specs.declared.question.PostedJob.{PostedJob}
+use Rattle.world_rules.specs.declared.question.DueJob.{DueJob}
+use Rattle.world_rules.specs.Jobs.{eval}
+use Rattle.world_rules.specs.Legal.{posted, moment_of, last_moment_of, is_done_of, is_posted, is_answered, outstanding, IsOutcomeOf, Answers, IsLegal, MayAsk}
+use Rattle.world_rules.specs.Script.{last_moment, due_job, comes_before, sooner, first_due, done_by, scripted, without}
 use Rattle.world.specs.Ruled.{posted_of, IsSound}
 use Rattle.world.proofs.Filtered.{map-filter, filter-filter}
 

@@ -1,8 +1,8 @@
 -- What a script world and a list world mean, and the logs for which they stand.
 use Rattle.std.specs.Prelude.{◌≡◌, [], List}
 use Rattle.gv_values.specs.declared.job.Answer.{Answer}
-use Rattle.native_answers.specs.declared.question.LogEntry.{LogEntry}
-use Rattle.native_answers.specs.Script.{RuleState, start, Follows}
+use Rattle.world_rules.specs.declared.question.LogEntry.{LogEntry}
+use Rattle.world_rules.specs.Script.{RuleState, start, Follows}
 use Rattle.world.specs.declared.script.ScriptWorld.{ScriptWorld}
 use Rattle.world.specs.Worlds.{Meaning}
 

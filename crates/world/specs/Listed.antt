@@ -1,11 +1,11 @@
 -- What a list world means, and the logs for which it stands.
 use Rattle.std.specs.Prelude.{◌≡◌, List, ◌∷◌, Option, Some, None}
 use Rattle.gv_values.specs.declared.job.Answer.{Answer}
-use Rattle.native_answers.specs.declared.question.Question.{Question}
-use Rattle.native_answers.specs.Legal.{IsLegal, posts_of, answers_of}
+use Rattle.world_rules.specs.declared.question.Question.{Question}
+use Rattle.world_rules.specs.Legal.{IsLegal, posts_of, answers_of}
 use Rattle.world.specs.Logged.{rule_log_is}
-use Rattle.native_answers.specs.declared.question.LogEntry.{LogEntry}
-use Rattle.native_answers.specs.Script.{start, Follows}
+use Rattle.world_rules.specs.declared.question.LogEntry.{LogEntry}
+use Rattle.world_rules.specs.Script.{start, Follows}
 use Rattle.world.specs.declared.list.ListWorld.{ListWorld}
 use Rattle.world.specs.Worlds.{Meaning}
 use Rattle.world.specs.Kept.{script_meaning, rule_state}

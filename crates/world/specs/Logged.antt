@@ -1,9 +1,9 @@
 -- The posts and answers of a log by the rule are those of the state that it leads to.
 use Rattle.std.proofs.Common.{◌≡◌, ℕ, List, [], ◌∷◌, ◌++◌, sym, ap, ◌∙◌, append_assoc, append-nil}
 use Rattle.gv_values.specs.declared.job.Answer.{Answer}
-use Rattle.native_answers.specs.declared.question.LogEntry.{LogEntry}
-use Rattle.native_answers.specs.Legal.{posted, posts_of, answers_of}
-use Rattle.native_answers.specs.Script.{RuleState, start, Follows}
+use Rattle.world_rules.specs.declared.question.LogEntry.{LogEntry}
+use Rattle.world_rules.specs.Legal.{posted, posts_of, answers_of}
+use Rattle.world_rules.specs.Script.{RuleState, start, Follows}
 use Rattle.world.specs.declared.script.ScriptWorld.{ScriptWorld}
 use Rattle.world.specs.Kept.{script_meaning, script_log, rule_state}
 

@@ -2,10 +2,10 @@
 use Rattle.std.specs.Prelude.{◌≡◌, ℕ, ◌^◌, ◌<◌, false, List, map, All}
 use Rattle.gv_values.specs.declared.job.Answer.{Answer}
 use Rattle.gv_values.specs.declared.job.JobOutcome.{JobOutcome}
-use Rattle.native_answers.specs.Jobs.{eval}
-use Rattle.native_answers.specs.declared.question.PostedJob.{PostedJob}
-use Rattle.native_answers.specs.declared.question.DueJob.{DueJob}
-use Rattle.native_answers.specs.Legal.{posted, last_moment_of, is_posted, is_answered, outstanding}
+use Rattle.world_rules.specs.Jobs.{eval}
+use Rattle.world_rules.specs.declared.question.PostedJob.{PostedJob}
+use Rattle.world_rules.specs.declared.question.DueJob.{DueJob}
+use Rattle.world_rules.specs.Legal.{posted, last_moment_of, is_posted, is_answered, outstanding}
 
 -- the posted job of a job that is due
 abbrev pub posted_of : DueJob → PostedJob

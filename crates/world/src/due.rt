@@ -1,10 +1,10 @@
 //! The rule of a script over the outstanding jobs.
 ghost use Rattle.std.specs.Prelude.{◌≡◌, ◌≤◌, not, ◌==◌, filter, vec_len};
-ghost use Rattle.native_answers.specs.Legal.{moment_of};
-ghost use Rattle.native_answers.specs.Script.{due_at, comes_before, sooner, first_due, done_by, scripted, without};
+ghost use Rattle.world_rules.specs.Legal.{moment_of};
+ghost use Rattle.world_rules.specs.Script.{due_at, comes_before, sooner, first_due, done_by, scripted, without};
 
 use gv_values::Answer;
-use native_answers::{DueJob, Question, eval};
+use world_rules::{DueJob, Question, eval};
 
 /// The greatest moment.
 pub(crate) const LAST_MOMENT: u64 = (1 << 62) - 1;

@@ -1,11 +1,11 @@
 //! Whether an answer is legal.
 ghost use Rattle.std.specs.Prelude.{◌≡◌, ◌↔◌, IsTrue};
-ghost use Rattle.native_answers.specs.Legal.{last_moment_of, is_done_of, is_answered, IsOutcomeOf, Answers, IsLegal};
+ghost use Rattle.world_rules.specs.Legal.{last_moment_of, is_done_of, is_answered, IsOutcomeOf, Answers, IsLegal};
 ghost use Rattle.world.specs.Ruled.{ComesTo};
 
 use crate::due::{LAST_MOMENT, moment_of};
 use gv_values::{Answer, JobOutcome};
-use native_answers::{PostedJob, Question, eval};
+use world_rules::{PostedJob, Question, eval};
 
 fn is_done_of(number: u32, answer: Answer) -> bool
     ensures { result ≡ is_done_of number answer }

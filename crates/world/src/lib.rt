@@ -11,6 +11,6 @@ mod tests;
 
 pub use legal::is_answer;
 pub use list::ListWorld;
-pub use native_answers::{DueJob, LogEntry, PostedJob, Question, eval};
+pub use world_rules::{DueJob, LogEntry, PostedJob, Question, eval};
 pub use outside::World;
 pub use script::ScriptWorld;

@@ -6,7 +6,7 @@ use crate::legal::is_legal;
 use crate::outside::World;
 use crate::script::ScriptWorld;
 use gv_values::{Answer, Job};
-use native_answers::Question;
+use world_rules::Question;
 use std::alloc::{AllocError, Global};
 use std::snapshot::Snapshot;
 
@@ -22,8 +22,8 @@ pub struct ListWorld {
 
 impl ListWorld {
     ghost use Rattle.std.specs.Prelude.{◌∷◌, List, false, MatchOption};
-    ghost use Rattle.native_answers.specs.Legal.{IsLegal};
-    ghost use Rattle.native_answers.specs.declared.question.Question.{Question};
+    ghost use Rattle.world_rules.specs.Legal.{IsLegal};
+    ghost use Rattle.world_rules.specs.declared.question.Question.{Question};
     ghost use Rattle.gv_values.specs.declared.job.Answer.{Answer};
     ghost use Rattle.world.specs.Listed.{list_meaning, FirstLegal};
 

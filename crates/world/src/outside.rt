@@ -1,12 +1,12 @@
 //! The interface of a world.
 ghost use Rattle.std.specs.Prelude.{◌≡◌, ℕ, ◌<◌, ◌≤◌, ◌↔◌, false, true, List, [], ◌∷◌, ◌++◌, IfOk, OnOk, OnErr};
-ghost use Rattle.native_answers.specs.declared.question.LogEntry.{LogEntry};
-ghost use Rattle.native_answers.specs.declared.question.LogEntry.TheVariants as entry;
-ghost use Rattle.native_answers.specs.Legal.{is_posted, posts_of, answers_of, IsLegal, MayAsk};
+ghost use Rattle.world_rules.specs.declared.question.LogEntry.{LogEntry};
+ghost use Rattle.world_rules.specs.declared.question.LogEntry.TheVariants as entry;
+ghost use Rattle.world_rules.specs.Legal.{is_posted, posts_of, answers_of, IsLegal, MayAsk};
 ghost use Rattle.world.specs.Worlds.{Meaning, Begins, Posts, Stores};
 
 use gv_values::{Answer, Job};
-use native_answers::Question;
+use world_rules::Question;
 use std::alloc::AllocError;
 
 /// What runs jobs outside of the hub and tells the time. It answers each question legally and stores its answers.

@@ -5,7 +5,7 @@ use crate::due::{due_at, moment_of, scripted, take_off};
 use crate::legal::is_legal;
 use crate::outside::World;
 use gv_values::{Answer, Job};
-use native_answers::{DueJob, PostedJob, Question};
+use world_rules::{DueJob, PostedJob, Question};
 use std::alloc::{AllocError, Global};
 
 /// A world without threads, in which a job is done so long after its post as it takes, and whose moment grows by a tick at each Poll.
@@ -24,8 +24,8 @@ pub struct ScriptWorld {
 impl ScriptWorld {
     ghost use Rattle.std.specs.Prelude.{◌≡◌, ◌≤◌, ◌↔◌, IsTrue, List, [], true, false, OnOk, OnErr};
     ghost use Rattle.gv_values.specs.declared.job.Answer.{Answer};
-    ghost use Rattle.native_answers.specs.Legal.{is_posted, IsLegal, MayAsk};
-    ghost use Rattle.native_answers.specs.Script.{start, after_post, after_answer, scripted};
+    ghost use Rattle.world_rules.specs.Legal.{is_posted, IsLegal, MayAsk};
+    ghost use Rattle.world_rules.specs.Script.{start, after_post, after_answer, scripted};
     ghost use Rattle.world.specs.Kept.{script_meaning, rule_state, SameSetting, SameScript};
 
     /// A world that doesn't run yet, whose moment grows by so many milliseconds at each Poll.

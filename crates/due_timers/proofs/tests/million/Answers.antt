@@ -1,7 +1,7 @@
 use Rattle.std.proofs.Common.{◌+◌, [], ◌∷◌, sym, ap, ◌∙◌, subst, arith}
-use Rattle.item_rows.specs.Items.{items_of}
-use Rattle.item_rows.proofs.ItemLemmas.{items_joined, items_without}
-use Rattle.item_rows.proofs.StrideLemmas.{IsFilled, HasStrides, stride, filled_absent, filled_more, strides_next}
+use Rattle.linked_items.specs.Items.{items_of}
+use Rattle.linked_items.proofs.ItemLemmas.{items_joined, items_without}
+use Rattle.linked_items.proofs.StrideLemmas.{IsFilled, HasStrides, stride, filled_absent, filled_more, strides_next}
 use Rattle.due_timers.proofs.tests.million.Goals as goal
 
 pub ready-requires-clause-absent : goal.ready-requires-clause-absent

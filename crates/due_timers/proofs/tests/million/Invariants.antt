@@ -1,6 +1,6 @@
 use Rattle.std.proofs.Common.{◌+◌, ◌≤◌, ◌≡◌}
-use Rattle.item_rows.specs.Items.{items_of}
-use Rattle.item_rows.proofs.StrideLemmas.{IsFilled, HasStrides}
+use Rattle.linked_items.specs.Items.{items_of}
+use Rattle.linked_items.proofs.StrideLemmas.{IsFilled, HasStrides}
 use Rattle.due_timers.proofs.tests.million.Given as goal
 
 abbrev pub invariant-loop-item : goal.invariant-loop-item

@@ -1,5 +1,5 @@
 use Rattle.std.proofs.Common.{subst, sym}
-use Rattle.flat_moves.specs.AtMove.{HasFewAhead}
+use Rattle.body_moves.specs.AtMove.{HasFewAhead}
 use Rattle.flat_code.proofs.Keeping.{few_ahead}
 use Rattle.flat_code.proofs.frame.does_move.Goals as goal
 

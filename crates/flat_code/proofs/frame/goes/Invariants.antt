@@ -1,6 +1,6 @@
 use Rattle.std.proofs.Common.{◌≡◌}
-use Rattle.hub_machine.specs.Bodies.{around, goes}
-use Rattle.few_arguments.specs.Few.{HasFewUnwound}
+use Rattle.machine.specs.Bodies.{around, goes}
+use Rattle.machine_arguments.specs.Few.{HasFewUnwound}
 use Rattle.flat_code.specs.Steady.{HasMove}
 use Rattle.flat_code.specs.Unwinding.{unwound_of}
 use Rattle.flat_code.proofs.frame.goes.Given as goal

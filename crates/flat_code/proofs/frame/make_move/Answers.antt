@@ -1,4 +1,4 @@
-use Rattle.hub_machine.specs.Bodies.{around}
+use Rattle.machine.specs.Bodies.{around}
 use Rattle.flat_code.proofs.Keeping.{move_stays_few}
 use Rattle.flat_code.proofs.frame.make_move.Goals as goal
 

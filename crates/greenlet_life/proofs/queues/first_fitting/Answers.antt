@@ -1,6 +1,6 @@
 use Rattle.std.proofs.Common.{◌≡◌, false, length, Some, sym, ap, ◌∙◌, subst, arith}
 use Rattle.std.proofs.lemmas.Bool.{false_from_ne_true, false≢true}
-use Rattle.item_rows.specs.Items.{items_of, without_entry}
+use Rattle.linked_items.specs.Items.{items_of, without_entry}
 use Rattle.greenlet_life.specs.Lives.{is_due}
 use Rattle.greenlet_life.specs.Queues.{link_or, IsQueue, IsRising}
 use Rattle.greenlet_life.proofs.QueueLemmas.{popped, empty_length, none_passes, first_at, none_at}

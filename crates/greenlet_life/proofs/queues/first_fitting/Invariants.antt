@@ -1,5 +1,5 @@
 use Rattle.std.proofs.Common.{◌≡◌, ◌+◌, length, Some}
-use Rattle.item_rows.specs.Items.{items_of}
+use Rattle.linked_items.specs.Items.{items_of}
 use Rattle.greenlet_life.specs.Lives.{is_due}
 use Rattle.greenlet_life.specs.Queues.{link_or, IsQueue}
 use Rattle.greenlet_life.proofs.queues.first_fitting.Given as goal

@@ -1,6 +1,6 @@
 use Rattle.std.proofs.Common.{◌≡◌, ℕ, ◌<◌, List, length, Option, Some, None, position, refl, sym, ap, ◌∙◌, subst, Contains}
 use Rattle.std.proofs.lemmas.List.{get_or_read}
-use Rattle.item_rows.specs.Items.{items_of}
+use Rattle.linked_items.specs.Items.{items_of}
 use Rattle.gv_values.specs.declared.value.Outcome.{Outcome}
 use Rattle.greenlet_life.specs.Lives.{is_due}
 use Rattle.greenlet_life.specs.Queues.{queue_of, link_or, outcome_or, is_open}

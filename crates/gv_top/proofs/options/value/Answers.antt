@@ -1,5 +1,5 @@
 use Rattle.std.proofs.Common.{sym, ap, ◌∙◌, arith}
-use Rattle.scenario_grammar.specs.Tokens.{is_plain_number}
+use Rattle.gv_values.specs.Digits.{is_plain_number}
 use Rattle.gv_top.proofs.Budgets.{not_plain, up_to_read, value_read}
 use Rattle.gv_top.proofs.options.value.Goals as goal
 

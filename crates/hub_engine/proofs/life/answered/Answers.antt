@@ -1,11 +1,11 @@
 use Rattle.std.proofs.Common.{◌≡◌, sym, subst, ℕ, List, []}
 use Rattle.gv_values.specs.declared.value.Outcome.{Outcome}
-use Rattle.hub_machine.specs.declared.state.Frame.{Frame}
-use Rattle.hub_machine.specs.declared.state.Phase.{Phase}
-use Rattle.hub_machine.specs.State.{State}
-use Rattle.hub_machine.specs.Life.{lands, no_frame, resumes, with_phase}
-use Rattle.hub_bodies.specs.Places.{Place}
-use Rattle.hub_bodies.specs.Standings.{reached_of}
+use Rattle.machine.specs.declared.state.Frame.{Frame}
+use Rattle.machine.specs.declared.state.Phase.{Phase}
+use Rattle.machine.specs.State.{State}
+use Rattle.machine.specs.Life.{lands, no_frame, resumes, with_phase}
+use Rattle.body_frames.specs.Places.{Place}
+use Rattle.body_frames.specs.Standings.{reached_of}
 use Rattle.hub_engine.specs.Stands.{goes_to, next_at}
 use Rattle.hub_engine.proofs.Bodies.{answer_goes, answer_unheard}
 use Rattle.hub_engine.proofs.life.answered.Goals as goal

@@ -1,9 +1,9 @@
 use Rattle.std.proofs.Common.{◌∙◌, ap}
-use Rattle.hub_machine.specs.declared.state.Phase.{Phase}
-use Rattle.hub_machine.specs.Life.{lands, with_phase}
-use Rattle.flat_moves.specs.Requests.{asking}
-use Rattle.hub_bodies.specs.Standings.{moved_of, reached_of}
-use Rattle.hub_bodies.specs.declared.Moved.{Moved}
+use Rattle.machine.specs.declared.state.Phase.{Phase}
+use Rattle.machine.specs.Life.{lands, with_phase}
+use Rattle.body_moves.specs.Requests.{asking}
+use Rattle.body_frames.specs.Standings.{moved_of, reached_of}
+use Rattle.body_frames.specs.declared.Moved.{Moved}
 use Rattle.hub_engine.specs.Asking.{does_came}
 use Rattle.hub_engine.proofs.Moving.{asks_blind, settles_under_way}
 use Rattle.hub_engine.proofs.moves.goes_on.Goals as goal

@@ -1,6 +1,6 @@
-use Rattle.hub_machine.specs.declared.state.Phase.{Phase}
-use Rattle.hub_machine.specs.Life.{with_phase}
-use Rattle.hub_bodies.specs.Standings.{moved_of}
+use Rattle.machine.specs.declared.state.Phase.{Phase}
+use Rattle.machine.specs.Life.{with_phase}
+use Rattle.body_frames.specs.Standings.{moved_of}
 use Rattle.hub_engine.proofs.Moving.{moved}
 use Rattle.hub_engine.proofs.Readily.{ready_moved}
 use Rattle.hub_engine.proofs.Soundly.{may_make}

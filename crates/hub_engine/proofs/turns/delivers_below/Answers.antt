@@ -1,5 +1,5 @@
 use Rattle.std.proofs.Common.{rules, ◌≡◌, None, arith}
-use Rattle.hub_machine.specs.Run.{least_below}
+use Rattle.machine.specs.Run.{least_below}
 use Rattle.hub_engine.proofs.Delivering.{none_delivered, went_on, went_over, broke_off}
 use Rattle.hub_engine.proofs.Readily.{ready_at_rest}
 use Rattle.hub_engine.proofs.turns.delivers_below.Goals as goal

@@ -1,5 +1,5 @@
 use Rattle.std.proofs.Common.{◌≤◌}
-use Rattle.hub_machine.specs.Run.{deliveries}
+use Rattle.machine.specs.Run.{deliveries}
 use Rattle.hub_engine.specs.Ready.{IsReady}
 use Rattle.hub_engine.specs.Written.{IsPassing}
 use Rattle.hub_engine.proofs.turns.delivers_below.Given as goal

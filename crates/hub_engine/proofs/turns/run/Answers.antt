@@ -1,6 +1,6 @@
 use Rattle.std.proofs.Common.{rules, ◌≡◌, []}
-use Rattle.hub_machine.specs.Life.{starts, lands}
-use Rattle.hub_machine.specs.Run.{run_turns, script_run, Source}
+use Rattle.machine.specs.Life.{starts, lands}
+use Rattle.machine.specs.Run.{run_turns, script_run, Source}
 use Rattle.hub_engine.specs.Stands.{next_at}
 use Rattle.hub_engine.proofs.Readily.{declared_first, ready_started}
 use Rattle.hub_engine.proofs.Running.{began_at_rest, began_at_end, rest_written, rest_broken, stopped_run, stop_broken}

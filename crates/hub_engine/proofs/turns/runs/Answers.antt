@@ -1,8 +1,8 @@
 use Rattle.std.proofs.Common.{rules, ◌<◌, subst, sym, arith}
 use Rattle.trace_text.specs.declared.line.StopCause.{StopCause}
 use Rattle.hub_engine.specs.declared.stand.Came.{Came}
-use Rattle.hub_machine.specs.State.{State}
-use Rattle.hub_machine.specs.Run.{runs}
+use Rattle.machine.specs.State.{State}
+use Rattle.machine.specs.Run.{runs}
 use Rattle.hub_engine.specs.Stands.{next_at}
 use Rattle.hub_engine.specs.Written.{CameTo}
 use Rattle.hub_engine.proofs.Passing.{rested, ended, out_of_budget, move_given_up, moved_on, runs_broken}

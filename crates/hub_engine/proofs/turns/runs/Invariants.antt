@@ -1,5 +1,5 @@
 use Rattle.std.proofs.Common.{◌≤◌}
-use Rattle.hub_machine.specs.Run.{runs}
+use Rattle.machine.specs.Run.{runs}
 use Rattle.hub_engine.specs.Stands.{next_at}
 use Rattle.hub_engine.specs.Ready.{IsReadyAt}
 use Rattle.hub_engine.specs.Written.{IsPassing}

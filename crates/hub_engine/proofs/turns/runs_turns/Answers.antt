@@ -1,6 +1,6 @@
 use Rattle.std.proofs.Common.{rules, ◌-◌, Some, None, arith}
 use Rattle.trace_text.specs.declared.line.StopCause.{StopCause}
-use Rattle.hub_machine.specs.Run.{run_turns}
+use Rattle.machine.specs.Run.{run_turns}
 use Rattle.hub_engine.proofs.Running.{turned_broken, turned_to, turned_at_end, rest_else, asked_on, asked_broken, exited_broken, exited_at_rest, exited_at_end, stopped_run, stop_broken, stopped_end, out_of_turns}
 use Rattle.hub_engine.proofs.Readily.{ready_answered, ready_at_rest}
 use Rattle.hub_engine.proofs.turns.runs_turns.Goals as goal

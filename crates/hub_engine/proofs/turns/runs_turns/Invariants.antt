@@ -1,5 +1,5 @@
 use Rattle.std.proofs.Common.{◌≤◌, []}
-use Rattle.hub_machine.specs.Run.{run_turns, Source}
+use Rattle.machine.specs.Run.{run_turns, Source}
 use Rattle.hub_engine.specs.Ready.{IsReady}
 use Rattle.hub_engine.specs.Written.{IsRunning}
 use Rattle.hub_engine.proofs.turns.runs_turns.Given as goal

@@ -1,6 +1,6 @@
 use Rattle.std.proofs.Common.{◌≡◌, take}
 use Rattle.std.specs.Prelude.{map}
-use Rattle.hub_machine.specs.Run.{object_of}
+use Rattle.machine.specs.Run.{object_of}
 use Rattle.hub_state.proofs.begin.objects_of.Given as goal
 
 abbrev pub invariant-loop-declaration : goal.invariant-loop-declaration

@@ -1,5 +1,5 @@
 use Rattle.std.proofs.Common.{rules, ◌≡◌, ◌≤◌, Some, sym, subst}
-use Rattle.native_answers.specs.declared.question.Question.{Question}
+use Rattle.world_rules.specs.declared.question.Question.{Question}
 use Rattle.gv_values.specs.declared.job.Answer.{Answer}
 use Rattle.native_pool.specs.Desks.{Settles, IsDue}
 use Rattle.native_pool.specs.Views.{desk_view}

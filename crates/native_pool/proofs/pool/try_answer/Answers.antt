@@ -1,6 +1,6 @@
 use Rattle.std.proofs.Common.{rules, arith, ◌≤◌, ◌++◌, ◌∷◌, List, [], ap, subst, ◌∙◌}
 use Rattle.gv_values.specs.declared.job.Answer.{Answer}
-use Rattle.native_answers.specs.Legal.{last_moment_of}
+use Rattle.world_rules.specs.Legal.{last_moment_of}
 use Rattle.native_pool.specs.Desks.{Settles}
 use Rattle.native_pool.specs.Views.{desk_view}
 use Rattle.native_pool.proofs.AnswerSteps.{balances_as}

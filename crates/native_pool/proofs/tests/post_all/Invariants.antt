@@ -1,5 +1,5 @@
 use Rattle.std.proofs.Common.{◌≡◌, ℕ, ◌≤◌, true, false}
-use Rattle.native_answers.specs.Legal.{is_posted}
+use Rattle.world_rules.specs.Legal.{is_posted}
 use Rattle.native_pool.proofs.tests.post_all.Given as goal
 
 abbrev pub invariant-loop-number : goal.invariant-loop-number

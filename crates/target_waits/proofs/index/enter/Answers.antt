@@ -1,5 +1,5 @@
 use Rattle.std.proofs.Common.{◌≡◌, rules, sym, ap, subst, Contains}
-use Rattle.item_rows.specs.Items.{items_of}
+use Rattle.linked_items.specs.Items.{items_of}
 use Rattle.target_waits.specs.Named.{named, row_items}
 use Rattle.target_waits.proofs.index.enter.Goals as goal
 

@@ -1,6 +1,6 @@
 use Rattle.std.proofs.Common.{length, sym, ap, ◌∙◌, arith}
-use Rattle.item_rows.specs.Items.{items_of, without_entry}
-use Rattle.item_rows.proofs.ItemLemmas.{items_without, length_items, lacks_of_absent, without_absent, without_length}
+use Rattle.linked_items.specs.Items.{items_of, without_entry}
+use Rattle.linked_items.proofs.ItemLemmas.{items_without, length_items, lacks_of_absent, without_absent, without_length}
 use Rattle.target_waits.proofs.rows.drop_from.Goals as goal
 
 pub returns-then-contains-clause-items : goal.returns-then-contains-clause-items

@@ -1,7 +1,7 @@
 use Rattle.std.proofs.Common.{[], ◌∷◌, zero, sym, refl, ap, ◌∙◌, subst, arith, Contains}
 use Rattle.std.proofs.lemmas.List.Elements.{Contains-append_right}
-use Rattle.item_rows.specs.Items.{items_of}
-use Rattle.item_rows.proofs.ItemLemmas.{items_joined}
+use Rattle.linked_items.specs.Items.{items_of}
+use Rattle.linked_items.proofs.ItemLemmas.{items_joined}
 use Rattle.target_waits.proofs.rows.put.Goals as goal
 
 pub returns-clause-entered : goal.returns-clause-entered

@@ -1,5 +1,5 @@
 use Rattle.std.proofs.Common.{sym, ap, ◌∙◌, arith}
-use Rattle.item_rows.specs.Items.{items_of}
+use Rattle.linked_items.specs.Items.{items_of}
 use Rattle.target_waits.specs.Waits.{struck_at_all}
 use Rattle.target_waits.proofs.EndLemmas.{strike_step}
 use Rattle.target_waits.proofs.targets.strike_each.Goals as goal

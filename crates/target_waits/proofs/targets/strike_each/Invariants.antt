@@ -1,5 +1,5 @@
 use Rattle.std.proofs.Common.{◌≡◌, ◌+◌, length}
-use Rattle.item_rows.specs.Items.{items_of, Differ}
+use Rattle.linked_items.specs.Items.{items_of, Differ}
 use Rattle.target_waits.specs.Waits.{struck_at_all}
 use Rattle.target_waits.proofs.targets.strike_each.Given as goal
 

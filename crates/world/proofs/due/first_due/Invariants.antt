@@ -1,5 +1,5 @@
 use Rattle.std.proofs.Common.{◌≡◌, ◌≤◌, length, drop}
-use Rattle.native_answers.specs.Script.{first_due}
+use Rattle.world_rules.specs.Script.{first_due}
 use Rattle.world.proofs.due.first_due.Given as goal
 
 abbrev pub invariant-loop-at : goal.invariant-loop-at

@@ -1,5 +1,5 @@
 use Rattle.std.proofs.Common.{sym, ap, ◌∙◌}
-use Rattle.native_answers.specs.Script.{without}
+use Rattle.world_rules.specs.Script.{without}
 use Rattle.world.proofs.Filtered.{filter_all}
 use Rattle.world.proofs.due.take_off.Goals as goal
 

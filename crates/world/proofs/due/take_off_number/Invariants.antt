@@ -1,6 +1,6 @@
 use Rattle.std.proofs.Common.{◌≡◌, ◌-◌, ◌≤◌, ◌++◌, ◌==◌, not, take, drop}
 use Rattle.std.specs.Prelude.{filter, vec_len}
-use Rattle.native_answers.specs.declared.question.DueJob.{DueJob}
+use Rattle.world_rules.specs.declared.question.DueJob.{DueJob}
 use Rattle.world.proofs.due.take_off_number.Given as goal
 
 abbrev pub invariant-loop-at : goal.invariant-loop-at

@@ -1,5 +1,5 @@
 use Rattle.std.specs.List.{AllWithin}
-use Rattle.native_answers.specs.declared.question.PostedJob.{PostedJob}
+use Rattle.world_rules.specs.declared.question.PostedJob.{PostedJob}
 use Rattle.world.specs.Ruled.{ComesTo}
 use Rattle.world.proofs.legal.is_outcome_of.Given as goal
 

@@ -1,4 +1,4 @@
-use Rattle.hub_machine.specs.Bodies.{around}
+use Rattle.machine.specs.Bodies.{around}
 use Rattle.flat_code.specs.Steps.{answer_of}
 use Rattle.flat_code.specs.Standings.{stepped}
 use Rattle.flat_code.proofs.Answered.{answers_fit}

@@ -1,5 +1,5 @@
 use Rattle.std.proofs.Common.{rules, ◌≡◌, ◌∷◌, sym, subst}
-use Rattle.native_answers.specs.Legal.{posted}
+use Rattle.world_rules.specs.Legal.{posted}
 use Rattle.native_pool.specs.Desks.{DeskView, CanTake, Fills}
 use Rattle.native_pool.specs.Views.{desk_view}
 use Rattle.native_pool.proofs.DeskSteps.{fills_post}

@@ -1,6 +1,6 @@
 use Rattle.std.proofs.Common.{◌≤◌, List, sym, subst, arith}
 use Rattle.gv_values.specs.declared.job.Answer.{Answer}
-use Rattle.native_answers.specs.Legal.{last_moment_of}
+use Rattle.world_rules.specs.Legal.{last_moment_of}
 use Rattle.world.proofs.Sound.{last_moment_of-push}
 use Rattle.native_pool.proofs.history.History.store.Goals as goal
 

@@ -2,9 +2,9 @@ use Rattle.std.proofs.Common.{arith, ◌++◌, ◌∷◌, List, [], refl, sym, a
 use Rattle.std.proofs.lemmas.Grind.{common_steps}
 use Rattle.std.specs.Prelude.{option_map}
 use Rattle.gv_values.specs.declared.job.Answer.{Answer}
-use Rattle.native_answers.specs.declared.question.PostedJob.{PostedJob}
-use Rattle.native_answers.specs.Legal.{IsLegal}
-use Rattle.native_answers.proofs.Logs.{posts_of-asked, answers_of-asked}
+use Rattle.world_rules.specs.declared.question.PostedJob.{PostedJob}
+use Rattle.world_rules.specs.Legal.{IsLegal}
+use Rattle.world_rules.proofs.Logs.{posts_of-asked, answers_of-asked}
 use Rattle.native_pool.specs.Views.{desk_view}
 use Rattle.native_pool.proofs.AnswerSteps.{balances_as}
 use Rattle.native_pool.proofs.PoolSteps.{sound_on, sound_running, starts_of}

@@ -1,8 +1,8 @@
 use Rattle.std.proofs.Common.{arith, ◌≡◌, ◌++◌, ◌∷◌, [], false, refl, sym, ap, ◌∙◌}
 use Rattle.std.proofs.lemmas.Grind.{common_steps}
 use Rattle.std.specs.Prelude.{option_map}
-use Rattle.native_answers.specs.Legal.{posted, is_posted}
-use Rattle.native_answers.proofs.Logs.{posts_of-post, answers_of-post}
+use Rattle.world_rules.specs.Legal.{posted, is_posted}
+use Rattle.world_rules.proofs.Logs.{posts_of-post, answers_of-post}
 use Rattle.native_pool.specs.Views.{desk_view}
 use Rattle.native_pool.proofs.PoolSteps.{sound_post, sound_running, starts_of}
 use Rattle.native_pool.proofs.pool.ThreadWorldWorld.post.Goals as goal

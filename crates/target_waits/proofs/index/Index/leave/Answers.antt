@@ -1,7 +1,7 @@
 use Rattle.std.proofs.Common.{◌≢◌, refl, sym, ◌∙◌, subst, Contains}
-use Rattle.item_rows.specs.Items.{without}
-use Rattle.item_rows.proofs.ItemLemmas.{absent_of_lacks, without_lacks}
-use Rattle.item_rows.proofs.StrideLemmas.{contains_without}
+use Rattle.linked_items.specs.Items.{without}
+use Rattle.linked_items.proofs.ItemLemmas.{absent_of_lacks, without_lacks}
+use Rattle.linked_items.proofs.StrideLemmas.{contains_without}
 use Rattle.target_waits.specs.Named.{named}
 use Rattle.target_waits.proofs.EndLemmas.{greenlet_kept, job_kept, kept_at}
 use Rattle.target_waits.proofs.index.Index.leave.Goals as goal

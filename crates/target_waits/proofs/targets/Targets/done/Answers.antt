@@ -1,5 +1,5 @@
 use Rattle.std.proofs.Common.{[], sym, ap, ◌∙◌, subst, map, Contains}
-use Rattle.item_rows.specs.Items.{items_of}
+use Rattle.linked_items.specs.Items.{items_of}
 use Rattle.target_waits.specs.Indexed.{IsIndexed}
 use Rattle.target_waits.specs.Waits.{struck}
 use Rattle.target_waits.proofs.EndLemmas.{struck_everywhere, indexed_done}

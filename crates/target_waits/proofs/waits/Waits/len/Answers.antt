@@ -1,6 +1,6 @@
 use Rattle.std.proofs.Common.{nat_eq, sym, subst}
 use Rattle.std.specs.HashMap.{get}
-use Rattle.item_rows.specs.Items.{Differ}
+use Rattle.linked_items.specs.Items.{Differ}
 use Rattle.target_waits.specs.Waits.{items_of}
 use Rattle.target_waits.proofs.TieLemmas.{seen_items}
 use Rattle.target_waits.proofs.waits.Waits.len.Goals as goal

@@ -1,8 +1,8 @@
 use Rattle.std.proofs.Common.{◌≡◌, ℕ, [], ◌∷◌, ◌++◌, List, take, drop, refl, sym, ap, subst, ◌∙◌}
 use Rattle.gv_values.specs.declared.job.Answer.{Answer}
-use Rattle.native_answers.specs.declared.question.LogEntry.{LogEntry}
-use Rattle.native_answers.specs.Script.{RuleState, start, Follows, Gives}
-use Rattle.native_answers.proofs.Logs.{Follows-asked}
+use Rattle.world_rules.specs.declared.question.LogEntry.{LogEntry}
+use Rattle.world_rules.specs.Script.{RuleState, start, Follows, Gives}
+use Rattle.world_rules.proofs.Logs.{Follows-asked}
 use Rattle.world.specs.Kept.{rule_state}
 use Rattle.world.proofs.Listing.{gives_first, gives_script}
 use Rattle.world.proofs.list.ListWorldWorld.ask.Goals as goal

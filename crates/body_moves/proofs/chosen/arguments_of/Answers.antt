@@ -1,0 +1,12 @@
+use Rattle.std.proofs.Common.{◌≡◌, ◌∙◌, ap, subst, sym, length, Ok, arith}
+use Rattle.machine.specs.Bodies.{around}
+use Rattle.machine.specs.Frames.{values}
+use Rattle.machine_arguments.proofs.Bodies.{HasLength, values-length}
+use Rattle.body_moves.proofs.chosen.arguments_of.Goals as goal
+
+pub new-requires : goal.new-requires
+new-requires g c =
+    let a = around c.args.code.now (g.L.Look.answers c.args.look.now) c.args.locals.now in
+    let known : Ok c.in-Ok.values ≡ values c.as_slice.result.now a = sym c.in-Ok.is ∙ c.in_ok-values.ensures in
+    let same : length c.in-Ok.values ≡ length c.as_slice.result.now = subst (HasLength (length c.as_slice.result.now)) (sym known) (values-length c.as_slice.result.now a) in
+    omega (arith, same, ap length c.as_slice.ensures, c.requires)

@@ -1,0 +1,42 @@
+-- What a move comes to, as the code chooses it.
+use Rattle.std.specs.Prelude.{ℕ, ◌≡◌, List, [], ◌∷◌, ◌++◌, Option, if◌then◌else◌, unwrap_or}
+use Rattle.scenario_tree.specs.declared.tree.Expression.{Expression}
+use Rattle.scenario_tree.specs.declared.tree.Giving.{Giving}
+use Rattle.scenario_tree.specs.declared.tree.Statement.{Statement}
+use Rattle.machine.specs.declared.state.Leaving.{Leaving}
+use Rattle.machine.specs.declared.state.Local.{Local}
+use Rattle.machine.specs.declared.state.Todo.{Todo}
+use Rattle.machine.specs.Expressions.{bind, meaning, Around}
+use Rattle.machine.specs.Frames.{Did, tested, asked, giving_request}
+use Rattle.machine.specs.Raising.{Unwound, unwind}
+use Rattle.machine.specs.Bodies.{Body, Step, Stepped, after_move}
+use Rattle.body_moves.specs.declared.chosen.Chosen.{Chosen}
+use Rattle.machine.specs.State.{Name}
+use Rattle.body_moves.specs.Requests.{asking}
+
+-- with this to do after the statement, and these moves left
+abbrev pub came_of : ℕ → List Local → (Unwound → Stepped) → List Todo → Chosen → Stepped
+came_of moves locals go todo (Chosen.Goes how) = go (unwind todo [] how locals)
+came_of moves locals go todo (Chosen.Binds x v) = go (unwind todo [] Leaving.Normally (bind x v locals))
+came_of moves locals go todo (Chosen.Opens entries) = go (unwind (entries ++ todo) [] Leaving.Normally locals)
+came_of moves locals go todo (Chosen.Enters ms silent body) =
+    record { step = Step.EntersTimeout ms silent; body = Body.Enters silent body locals todo; moves = moves }
+came_of moves locals go todo (Chosen.Asks request x) =
+    record { step = asking request; body = Body.Waits (record { locals = locals; todo = todo; gives = x }); moves = moves }
+
+-- the choice does what the move does, whatever is to do after it
+abbrev pub DoesAs : Chosen → List Local → (List Todo → Did) → Type 0
+DoesAs chosen locals move = (moves : ℕ) (go : Unwound → Stepped) (todo : List Todo) → after_move moves locals go (move todo) ≡ came_of moves locals go todo chosen
+
+-- what is to do after the move at the head
+abbrev pub after_first : List Todo → List Todo
+after_first (Todo.Statements (s ∷ ss) ∷ todo) = Todo.Statements ss ∷ todo
+after_first (Todo.Again e body ∷ todo) = todo
+after_first todo = todo
+
+-- the rows of the definitions for `if` and for a statement that gives a value
+abbrev pub branch_move : Expression → List Statement → Option (List Statement) → Around → List Todo → Did
+branch_move e yes' no' a todo = tested (meaning e a) a.locals (λ b. Todo.Statements (if b then yes' else unwrap_or no' []) ∷ todo)
+
+abbrev pub giving_move : Option Name → Giving → Around → List Todo → Did
+giving_move x giving a todo = asked (giving_request giving a) x a.locals todo

@@ -1,0 +1,97 @@
+-- Operands one after another: what is evaluated so far, before what is left.
+use Rattle.std.proofs.Common.{◌≡◌, ap, sym, ◌∙◌, refl, ℕ, suc, ◌<◌, ◌≤◌, nat_lt, true, false, List, [], ◌∷◌, ◌++◌, length, drop, map, Option, Some, None, arith}
+use Rattle.std.specs.Option.{is_some}
+use Rattle.std.specs.Prelude.{Result, Ok, Err, IfSome}
+use Rattle.std.proofs.lemmas.List.{append_assoc, append-nil, drop_all}
+use Rattle.gv_values.specs.declared.fault.FaultKind.{FaultKind}
+use Rattle.gv_values.specs.declared.value.Value.{Value}
+use Rattle.gv_values.specs.declared.value.Outcome.{Outcome}
+use Rattle.gv_values.specs.declared.scalar.Scalar.{Scalar}
+use Rattle.gv_values.specs.Values.{scalar_of_value}
+use Rattle.scenario_tree.specs.declared.tree.Expression.{Expression}
+use Rattle.machine.specs.Expressions.{meaning, meanings, Meaning, Around, scalars, listed, type_error}
+use Rattle.machine.specs.Frames.{values}
+
+-- these values before those of the rest
+abbrev pub prepended : List Value → Result (List Value) FaultKind → Result (List Value) FaultKind
+prepended vs (Ok ws) = Ok (vs ++ ws)
+prepended vs (Err f) = Err f
+
+-- these scalars before those of the rest
+abbrev pub preceded : List Scalar → Option (List Scalar) → Option (List Scalar)
+preceded xs (Some ys) = Some (xs ++ ys)
+preceded xs None = None
+
+more_values : (vs : List Value) (v : Value) (m : Meaning) (ms : List Meaning) (a : Around) → m a ≡ Outcome.Value v → (r : Result (List Value) FaultKind) → meanings ms a ≡ r →
+    prepended vs (meanings (m ∷ ms) a) ≡ prepended (vs ++ v ∷ []) r
+more_values vs v m ms a h (Ok ws) e = rw (h, e, append_assoc vs (v ∷ []) ws)
+more_values vs v m ms a h (Err f) e = rw (h, e)
+
+pub values_more : (vs : List Value) (e : Expression) (es : List Expression) (a : Around) (v : Value) → Outcome.Value v ≡ meaning e a →
+    prepended vs (values (e ∷ es) a) ≡ prepended (vs ++ v ∷ []) (values es a)
+values_more vs e es a v h = more_values vs v (meaning e) (map meaning es) a (sym h) (values es a) refl
+
+pub values_stop : (vs : List Value) (e : Expression) (es : List Expression) (a : Around) (f : FaultKind) → Outcome.Fault f ≡ meaning e a →
+    Err f ≡ prepended vs (values (e ∷ es) a)
+values_stop vs e es a f h = rw (sym h)
+
+pub values_all : (vs : List Value) (a : Around) → Ok vs ≡ prepended vs (values [] a)
+values_all vs a = rw (append-nil vs)
+
+more_scalars : (xs : List Scalar) (x : Scalar) (v : Value) (vs : List Value) → scalar_of_value v ≡ Some x → (r : Option (List Scalar)) → scalars vs ≡ r →
+    preceded xs (scalars (v ∷ vs)) ≡ preceded (xs ++ x ∷ []) r
+more_scalars xs x v vs h (Some ys) e = rw (h, e, append_assoc xs (x ∷ []) ys)
+more_scalars xs x v vs h None e = rw (h, e)
+
+pub scalars_more : (xs : List Scalar) (v : Value) (vs : List Value) (x : Scalar) → Some x ≡ scalar_of_value v →
+    preceded xs (scalars (v ∷ vs)) ≡ preceded (xs ++ x ∷ []) (scalars vs)
+scalars_more xs v vs x h = more_scalars xs x v vs (sym h) (scalars vs) refl
+
+pub scalars_none : (xs : List Scalar) (v : Value) (vs : List Value) → None ≡ scalar_of_value v → preceded xs (scalars (v ∷ vs)) ≡ None
+scalars_none xs v vs h = rw (sym h)
+
+-- ---- a list of values
+
+pub listed_none : (vs : List Value) → scalars vs ≡ None → type_error ≡ listed (Ok vs)
+listed_none vs h = rw h
+
+pub listed_all : (vs : List Value) (xs : List Scalar) → scalars vs ≡ Some xs → length xs ≤ 64 → Outcome.Value (Value.List xs) ≡ listed (Ok vs)
+listed_all vs xs h few = let fits : nat_lt 64 (length xs) ≡ false = grind (arith, few) in rw (h, fits)
+
+-- where all are scalars, they are as many
+as_many_more : (v : Value) (vs : List Value) (s : Option Scalar) (r : Option (List Scalar)) → scalar_of_value v ≡ s → scalars vs ≡ r →
+    IfSome r (λ xs. length xs ≡ length vs) → IfSome (scalars (v ∷ vs)) (λ xs. length xs ≡ suc (length vs))
+as_many_more v vs (Some x) (Some xs) hs hr h = rw (hs, hr) (ap suc h)
+as_many_more v vs (Some x) None hs hr h = rw (hs, hr) tt
+as_many_more v vs None r hs hr h = rw hs tt
+
+as_many : (vs : List Value) → IfSome (scalars vs) (λ xs. length xs ≡ length vs)
+as_many [] = refl
+as_many (v ∷ vs) = as_many_more v vs (scalar_of_value v) (scalars vs) refl refl (as_many vs)
+
+many_refused : (vs : List Value) (r : Option (List Scalar)) → scalars vs ≡ r → IfSome r (λ xs. length xs ≡ length vs) → 64 < length vs →
+    is_some r ≡ true → Outcome.Fault FaultKind.ValueError ≡ listed (Ok vs)
+many_refused vs (Some xs) e same many some = let full : nat_lt 64 (length xs) ≡ true = grind (arith, same, many) in rw (e, full)
+many_refused vs None e same many some = cc
+
+-- all were read, and none was a list
+pub listed_many : (vs : List Value) (i : ℕ) → 64 < length vs → length vs ≤ i → is_some (scalars vs) ≡ is_some (scalars (drop i vs)) →
+    Outcome.Fault FaultKind.ValueError ≡ listed (Ok vs)
+listed_many vs i many read same =
+    many_refused vs (scalars vs) refl (as_many vs) many (same ∙ ap (λ ws. is_some (scalars ws)) (drop_all i vs read))
+
+-- a list among them
+refused : (vs : List Value) (r : Option (List Scalar)) → scalars vs ≡ r → is_some r ≡ false → type_error ≡ listed (Ok vs)
+refused vs (Some xs) e none = cc
+refused vs None e none = rw e
+
+pub listed_mixed : (vs : List Value) → is_some (scalars vs) ≡ false → type_error ≡ listed (Ok vs)
+listed_mixed vs none = refused vs (scalars vs) refl none
+
+pub stays_some : (v : Value) (vs : List Value) (s : Option Scalar) → s ≡ scalar_of_value v → is_some s ≡ true → is_some (scalars (v ∷ vs)) ≡ is_some (scalars vs)
+stays_some v vs (Some x) h some = kept (scalars vs) refl
+  where
+    kept : (r : Option (List Scalar)) → scalars vs ≡ r → is_some (scalars (v ∷ vs)) ≡ is_some r
+    kept (Some xs) e = rw (sym h, e)
+    kept None e = rw (sym h, e)
+stays_some v vs None h some = cc

@@ -1,0 +1,80 @@
+//! The locals of a body.
+ghost use Rattle.std.specs.Prelude.{◌≡◌, ◌<◌, length, OnOk, IfOk, IfSome};
+ghost use Rattle.machine.specs.Expressions.{name_eq, bind, value_of_local};
+ghost use Rattle.machine.specs.Life.{named};
+ghost use Rattle.body_values.specs.Places.{IsPlaceOf};
+
+use crate::front::pop_first;
+use gv_values::{Name, Value};
+use machine::state::Local;
+use scenario_tree::Items;
+use std::alloc::{AllocError, Global};
+
+pub fn bytes_eq(a: &[u8], b: &[u8]) -> bool
+    ensures { result ≡ name_eq a.now b.now }
+{
+    a == b
+}
+
+pub fn name_eq(a: &Name, b: &Name) -> bool
+    ensures { result ≡ name_eq a.now b.now }
+{
+    bytes_eq(a.bytes(), b.bytes())
+}
+
+/// The name takes the value.
+pub fn bind(name: &Name, value: Value, locals: &mut Items<Local>) -> Result<(), AllocError>
+    ensures { OnOk result (locals.new ≡ bind name.now value locals.old) }
+{
+    match place_of(name, locals.as_slice()) {
+        Some(at) => {
+            locals.set(at, Local { name: *name, value });
+        }
+        None => locals.push(Local { name: *name, value })?,
+    }
+    Ok(())
+}
+
+/// The place of the local with this name.
+fn place_of(name: &Name, locals: &[Local]) -> Option<usize>
+    ensures place { IsPlaceOf name.now locals.now result }
+    ensures within { IfSome result (λ at. at < length locals.now) }
+{
+    for i in 0..locals.len() {
+        if name_eq(name, &locals[i].name) {
+            return Some(i);
+        }
+    }
+    None
+}
+
+/// The value of the local, and none where it has none yet.
+pub fn value_of_local(alloc: Global, name: &Name, locals: &[Local]) -> Result<Value, AllocError>
+    ensures { IfOk result (λ value. value ≡ value_of_local name.now locals.now) }
+{
+    for local in locals {
+        if name_eq(name, &local.name) {
+            return Ok(local.value.copy(alloc)?);
+        }
+    }
+    Ok(Value::Nothing)
+}
+
+/// The parameters with their arguments.
+pub fn named(
+    alloc: Global,
+    names: &[Name],
+    arguments: Items<Value>,
+) -> Result<Items<Local>, AllocError>
+    ensures { IfOk result (λ locals. locals ≡ named names.now arguments) }
+{
+    let mut locals = Items::new(alloc);
+    let mut left = arguments;
+    for name in names {
+        match pop_first(&mut left) {
+            Some(value) => locals.push(Local { name: *name, value })?,
+            None => return Ok(locals),
+        }
+    }
+    Ok(locals)
+}

@@ -1,0 +1,85 @@
+use Rattle.std.specs.Prelude.{◌≡◌, refl, [], ◌∷◌, map, true, false, pos, Some, codes}
+use Rattle.scenario_tree.specs.declared.tree.Expression.TheVariants as E
+use Rattle.scenario_tree.specs.declared.tree.Action.TheVariants as A
+use Rattle.scenario_tree.specs.declared.tree.Command.{Command}
+use Rattle.scenario_tree.specs.declared.tree.Giving.{Giving}
+use Rattle.scenario_tree.specs.declared.tree.Binary.{Binary}
+use Rattle.scenario_tree.specs.declared.tree.Object.{Object}
+use Rattle.scenario_tree.specs.declared.tree.Scenario.{Scenario}
+use Rattle.gv_values.specs.declared.arith.Arith.{Arith}
+use Rattle.std.specs.List.{list_all}
+use Rattle.machine.specs.Laws.{meets_laws}
+use Rattle.machine.specs.Quiet.{is_quiet, blocked_states}
+use Rattle.machine.specs.Soundness.{is_sound}
+use Rattle.trace_text.specs.LineTexts.{line_text}
+use Rattle.machine.specs.Run.{script_run, Source}
+use Rattle.scenario_tree.specs.declared.tree.Expression.TheBlock.{shape-the_row-Expression-0}
+use Rattle.scenario_tree.specs.declared.tree.Expression.TheBlock.{hidden-the_row-Expression-0}
+use Rattle.scenario_tree.specs.declared.tree.Expression.TheBlock.{shown-the_row-Expression-0}
+use Rattle.scenario_tree.specs.declared.tree.Expression.TheBlock.{shape-the_row-Expression-1}
+use Rattle.scenario_tree.specs.declared.tree.Expression.TheBlock.{hidden-the_row-Expression-1}
+use Rattle.scenario_tree.specs.declared.tree.Expression.TheBlock.{shown-the_row-Expression-1}
+use Rattle.scenario_tree.specs.declared.tree.Action.TheBlock.{shown-the_row-Statement-0}
+use Rattle.scenario_tree.specs.declared.tree.Action.TheBlock.{shown-the_row-Except-1}
+use Rattle.scenario_tree.specs.declared.tree.Action.{out-Action}
+use Rattle.scenario_tree.specs.declared.tree.Except.{out-Except}
+use Rattle.machine.specs.Holds.{has_set_since}
+use Rattle.machine.specs.Holds.{has_result}
+use Rattle.machine.specs.Holds.{has_unit}
+use Rattle.machine.specs.Holds.{is_free}
+use Rattle.machine.specs.Holds.{has_room}
+use Rattle.machine.specs.Holds.{has_item}
+use Rattle.machine.specs.Holds.{all_finished}
+use Rattle.machine.specs.Holds.{has_place}
+use Rattle.machine.specs.Holds.{is_deserted}
+use Rattle.machine.specs.Holds.{has_slot}
+use Rattle.machine.specs.Moves.{move}
+use Rattle.machine.specs.Moves.{performs}
+use Rattle.machine.specs.Deliveries.{deliver}
+use Rattle.machine.specs.Deliveries.{interrupts}
+use Rattle.machine.specs.Answers.{take_answer}
+use Rattle.gv_values.specs.Arithmetic.{rounds}
+use Rattle.world_rules.specs.Jobs.{eval}
+
+abbrev tree : Scenario
+tree = record { profile = 1; objects = (record { line = 1; name = (codes "p"); object = (Object.Pool 1) } ∷ []); functions = (record { line = 2; is_raw = false; name = (codes "f"); parameters = ((codes "x") ∷ []); body = (record { line = 3; action = A.Command (Command.Sleep 5) } ∷ record { line = 4; action = A.Command (Command.Return (E.Binary (Binary.Arithmetic Arith.Mul) (E.Local (codes "x")) (E.Int (pos 2)))) } ∷ []) } ∷ record { line = 6; is_raw = false; name = (codes "main"); parameters = ([]); body = (record { line = 7; action = A.Giving (Some (codes "r")) (Giving.Map (codes "p") (codes "f") (E.List ((E.Int (pos 3)) ∷ (E.Int (pos 4)) ∷ []))) } ∷ record { line = 8; action = A.Command (Command.Print (E.Local (codes "r"))) } ∷ []) } ∷ []) }
+
+pub trace-pool_map : map line_text (script_run tree 1000000 10000000 0).lines ≡ (
+    codes "start g0 main" ∷
+    codes "park g0 map p" ∷
+    codes "start g1 f" ∷
+    codes "park g1 sleep until 5" ∷
+    codes "block 5" ∷
+    codes "turn 1 elapsed 5" ∷
+    codes "wake g1" ∷
+    codes "end g1 value 6" ∷
+    codes "turn 2 nothing 5" ∷
+    codes "wake g0" ∷
+    codes "park g0 map p" ∷
+    codes "turn 3 nothing 5" ∷
+    codes "start g2 f" ∷
+    codes "park g2 sleep until 10" ∷
+    codes "block 10" ∷
+    codes "turn 4 elapsed 10" ∷
+    codes "wake g2" ∷
+    codes "end g2 value 8" ∷
+    codes "turn 5 nothing 10" ∷
+    codes "wake g0" ∷
+    codes "print g0 [6, 8]" ∷
+    codes "end g0 value none" ∷
+    codes "stop value none turns 6 moves 6" ∷
+    [])
+unfolding shape-the_row-Expression-0 hidden-the_row-Expression-0 shown-the_row-Expression-0 shape-the_row-Expression-1 hidden-the_row-Expression-1 shown-the_row-Expression-1 shown-the_row-Statement-0 shown-the_row-Except-1 out-Action out-Except has_set_since has_result has_unit is_free has_room has_item all_finished has_place is_deserted has_slot move performs deliver interrupts take_answer rounds eval denote.Hole.Carrier.hidden denote.Hole.Carrier.out denote.Hole.Carrier.shown denote.Hole.Carrier.roll
+trace-pool_map = refl
+
+pub laws-pool_map : meets_laws (script_run tree 1000000 10000000 0).lines ≡ true
+unfolding shape-the_row-Expression-0 hidden-the_row-Expression-0 shown-the_row-Expression-0 shape-the_row-Expression-1 hidden-the_row-Expression-1 shown-the_row-Expression-1 shown-the_row-Statement-0 shown-the_row-Except-1 out-Action out-Except has_set_since has_result has_unit is_free has_room has_item all_finished has_place is_deserted has_slot move performs deliver interrupts take_answer rounds eval denote.Hole.Carrier.hidden denote.Hole.Carrier.out denote.Hole.Carrier.shown denote.Hole.Carrier.roll
+laws-pool_map = refl
+
+pub quiet-pool_map : list_all is_quiet (blocked_states (Source.Scripted 0 []) 1000000 10000000 tree) ≡ true
+unfolding shape-the_row-Expression-0 hidden-the_row-Expression-0 shown-the_row-Expression-0 shape-the_row-Expression-1 hidden-the_row-Expression-1 shown-the_row-Expression-1 shown-the_row-Statement-0 shown-the_row-Except-1 out-Action out-Except has_set_since has_result has_unit is_free has_room has_item all_finished has_place is_deserted has_slot move performs deliver interrupts take_answer rounds eval denote.Hole.Carrier.hidden denote.Hole.Carrier.out denote.Hole.Carrier.shown denote.Hole.Carrier.roll
+quiet-pool_map = refl
+
+pub sound-pool_map : list_all is_sound (blocked_states (Source.Scripted 0 []) 1000000 10000000 tree) ≡ true
+unfolding shape-the_row-Expression-0 hidden-the_row-Expression-0 shown-the_row-Expression-0 shape-the_row-Expression-1 hidden-the_row-Expression-1 shown-the_row-Expression-1 shown-the_row-Statement-0 shown-the_row-Except-1 out-Action out-Except has_set_since has_result has_unit is_free has_room has_item all_finished has_place is_deserted has_slot move performs deliver interrupts take_answer rounds eval denote.Hole.Carrier.hidden denote.Hole.Carrier.out denote.Hole.Carrier.shown denote.Hole.Carrier.roll
+sound-pool_map = refl

@@ -1,0 +1,23 @@
+//! That the machine keeps its states sound: laws of its definitions, each as the contract of a
+//! function without a body of its own.
+#![tactic(auto)]
+
+ghost use Rattle.machine_soundness.specs.Laws.{AnswersSoundly, DeliversSoundly, ExitsSoundly, GoesUnparked, MovesSoundly, ParksOnce, StartsSoundly};
+
+/// Each step of a run leads from a sound state to a sound one: main's start, a move, a delivery,
+/// LoopExit and an answer. A move is one that a scenario may have: a raw body neither waits nor enters
+/// a timeout block, and `start` is given a greenlet that there is.
+pub fn steps_stay_sound()
+    ensures started { StartsSoundly }
+    ensures moved { MovesSoundly }
+    ensures delivered { DeliversSoundly }
+    ensures exited { ExitsSoundly }
+    ensures answered { AnswersSoundly }
+{}
+
+/// In a sound state at most one Wake and one Late is of each greenlet, and none is of the greenlet under
+/// way.
+pub fn waits_are_single()
+    ensures once { ParksOnce }
+    ensures under_way { GoesUnparked }
+{}

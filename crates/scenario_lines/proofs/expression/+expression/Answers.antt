@@ -1,0 +1,17 @@
+use Rattle.std.proofs.Common.{rules, ◌≡◌, ◌<◌, sym, ◌∙◌, arith, ◌+◌, ◌-◌, ap, subst, Result, List}
+use Rattle.std.proofs.lemmas.Grind.{common_steps}
+use Rattle.scenario_lines.proofs.Counted.{count_next, nested_next, with_front}
+use Rattle.scenario_grammar.specs.Reading.{nested_at, count_at}
+use Rattle.scenario_grammar.specs.declared.token.Token.TheVariants as token
+use Rattle.scenario_lines.proofs.expression.+expression.Goals as goal
+
+pub counted-loop-preserved : goal.counted-loop-preserved
+counted-loop-preserved t c =
+    rw (c.in_ok-push.ensures.ok)
+    (count_next (nested_at c.args.depth) c.args.count c.loop.counter c.loop.items c.loop.cursor c.nested.new.cursor c.in_ok-item.item c.loop-test.true c.in_ok-item.ensures ∙ c.loop.invariant)
+
+pub nested-returns-in-Fixed : goal.nested-returns-in-Fixed
+nested-returns-in-Fixed t c =
+    let more : 0 < c.args.depth = omega (arith, c.if-depth-eq0.false) in
+    let step = nested_next c.args.depth (token.Fixed c.in-Fixed.word) c.next.new.self more in
+    rw (c.in-Some.ensures, c.in-Fixed.is, step, ← c.expression_head.ensures) c.headed.ensures

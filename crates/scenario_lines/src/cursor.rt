@@ -1,0 +1,132 @@
+ghost use Rattle.std.specs.Prelude.{◌≡◌, [], IsTrue, ◌↔◌};
+ghost use Rattle.std.specs.Option.{option_copied};
+ghost use Rattle.scenario_grammar.specs.Reading.{name_at, number_at, integer_at, in_range_of, timed_at, wait_at};
+ghost use Rattle.scenario_lines.specs.Reads.{Reads, NextToken};
+
+use crate::refusal::{LineRefusal, MISSPELLED_NUMBER, NOT_A_NAME, OUT_OF_RANGE, TOO_SHORT};
+use gv_values::Name;
+use scenario_grammar::{Keyword, Token};
+use scenario_tree::Wait;
+use std::marker::Model;
+
+/// The longest time that a text may name, in milliseconds.
+pub(crate) const MOST_MS: u64 = 1_000_000_000;
+
+/// The tokens of a line that are still to be read.
+#[derive(Drop)]
+pub struct Cursor<'a> {
+    pub(crate) rest: &'a [Token],
+}
+
+impl<'a> Model for Cursor<'a> {
+    ghost use Rattle.std.specs.Prelude.{List};
+    ghost use Rattle.scenario_grammar.specs.declared.token.Token.{Token};
+
+    ghost Value = { List Token };
+
+    ghost view = { λ l. l.rest.now };
+}
+
+impl<'a> Cursor<'a> {
+    pub fn new(rest: &'a [Token]) -> Cursor<'a>
+        ensures { result ≡ rest.now }
+    {
+        Cursor { rest }
+    }
+
+    pub fn is_empty(&self) -> bool
+        ensures { IsTrue result ↔ (self.now ≡ []) }
+    {
+        self.rest.is_empty()
+    }
+
+    /// Takes the next token.
+    pub fn next(&mut self) -> Option<&'a Token>
+        ensures { NextToken self.old (option_copied result) self.new }
+    {
+        match self.rest {
+            [] => None,
+            [token, rest @ ..] => {
+                self.rest = rest;
+                Some(token)
+            }
+        }
+    }
+
+    #[tactic(auto, unfolding(scenario_grammar::specs::Reading::name_at))]
+    pub fn name(&mut self) -> Result<Name, LineRefusal>
+        ensures { Reads (name_at self.old) result self.new }
+    {
+        match self.next() {
+            None => Err(TOO_SHORT),
+            Some(Token::Name(name)) => Ok(*name),
+            Some(_) => Err(NOT_A_NAME),
+        }
+    }
+
+    pub fn timed(&mut self) -> Result<Option<u64>, LineRefusal>
+        ensures { Reads (timed_at self.old) result self.new }
+    {
+        match self.rest {
+            [Token::Fixed(Keyword::Within), rest @ ..] => {
+                self.rest = rest;
+                Ok(Some(self.number(0, MOST_MS)?))
+            }
+            _ => Ok(None),
+        }
+    }
+
+    pub fn wait(&mut self) -> Result<Wait, LineRefusal>
+        ensures { Reads (wait_at self.old) result self.new }
+    {
+        match self.rest {
+            [Token::Fixed(Keyword::Within), rest @ ..] => {
+                self.rest = rest;
+                Ok(Wait::Within(self.number(0, MOST_MS)?))
+            }
+            [Token::Fixed(Keyword::Now), rest @ ..] => {
+                self.rest = rest;
+                Ok(Wait::Now)
+            }
+            _ => Ok(Wait::Block),
+        }
+    }
+
+    #[tactic(auto, unfolding(scenario_grammar::specs::Reading::integer_at))]
+    pub fn integer(&mut self) -> Result<i64, LineRefusal>
+        ensures { Reads (integer_at self.old) result self.new }
+    {
+        match self.next() {
+            None => Err(TOO_SHORT),
+            Some(Token::Number(number)) => Ok(*number),
+            Some(Token::Oversized) => Err(OUT_OF_RANGE),
+            Some(_) => Err(MISSPELLED_NUMBER),
+        }
+    }
+
+    #[tactic(auto, unfolding(scenario_grammar::specs::Reading::number_at))]
+    pub fn number(&mut self, least: u64, greatest: u64) -> Result<u64, LineRefusal>
+        ensures { Reads (number_at least greatest self.old) result self.new }
+    {
+        match self.next() {
+            None => Err(TOO_SHORT),
+            Some(Token::Number(number)) => in_range(*number, least, greatest),
+            Some(Token::Oversized) => Err(OUT_OF_RANGE),
+            Some(_) => Err(MISSPELLED_NUMBER),
+        }
+    }
+}
+
+fn in_range(number: i64, least: u64, greatest: u64) -> Result<u64, LineRefusal>
+    ensures { Reads (in_range_of least greatest number []) result [] }
+{
+    if number < 0 {
+        return Err(OUT_OF_RANGE);
+    }
+    let number = number as u64;
+    if least <= number && number <= greatest {
+        Ok(number)
+    } else {
+        Err(OUT_OF_RANGE)
+    }
+}

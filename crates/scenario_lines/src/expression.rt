@@ -1,0 +1,137 @@
+//! Reading expressions.
+ghost use Rattle.std.specs.Prelude.{◌≡◌, IfOk, length, ◌++◌, ◌<◌, ◌^◌};
+ghost use Rattle.scenario_grammar.specs.Reading.{nested_at, headed_at, list_at, count_at, expression_at};
+ghost use Rattle.scenario_lines.specs.Reads.{Reads};
+
+use crate::cursor::Cursor;
+use crate::head::expression_head;
+use crate::refusal::{
+    LineRefusal, MISSPELLED_NUMBER, NESTED_TOO_DEEP, OUT_OF_RANGE, TOO_SHORT, UNKNOWN_WORD,
+};
+use gv_values::FaultKind;
+use scenario_grammar::{Head, Token};
+use scenario_tree::{Binary, Boxed, Expression, Items, Unary};
+use std::alloc::{AllocError, Global};
+
+/// How deep the levels of an expression are at most.
+const MOST_NESTED: u32 = 32;
+
+pub fn read_expression(alloc: Global, cursor: &mut Cursor<'_>) -> Result<Expression, LineRefusal>
+    ensures { Reads (expression_at cursor.old) result cursor.new }
+{
+    nested(alloc, cursor, MOST_NESTED)
+}
+
+fn unary(alloc: Global, op: Unary, a: Expression) -> Result<Expression, AllocError>
+    ensures { IfOk result (λ e. e ≡ Expression.Unary op a) }
+{
+    Ok(Expression::Unary(op, Boxed::new(alloc, a)?))
+}
+
+fn binary(alloc: Global, op: Binary, a: Expression, b: Expression) -> Result<Expression, AllocError>
+    ensures { IfOk result (λ e. e ≡ Expression.Binary op a b) }
+{
+    Ok(Expression::Binary(op, Boxed::new(alloc, a)?, Boxed::new(alloc, b)?))
+}
+
+fn and(alloc: Global, a: Expression, b: Expression) -> Result<Expression, AllocError>
+    ensures { IfOk result (λ e. e ≡ Expression.And a b) }
+{
+    Ok(Expression::And(Boxed::new(alloc, a)?, Boxed::new(alloc, b)?))
+}
+
+fn or(alloc: Global, a: Expression, b: Expression) -> Result<Expression, AllocError>
+    ensures { IfOk result (λ e. e ≡ Expression.Or a b) }
+{
+    Ok(Expression::Or(Boxed::new(alloc, a)?, Boxed::new(alloc, b)?))
+}
+
+#[cycle(expression)]
+#[tactic(auto, unfolding(scenario_grammar::specs::Reading::nested_at))]
+fn nested(alloc: Global, cursor: &mut Cursor<'_>, depth: u32) -> Result<Expression, LineRefusal>
+    ensures { Reads (nested_at depth cursor.old) result cursor.new }
+{
+    match cursor.next() {
+        None => Err(TOO_SHORT),
+        Some(token) => {
+            if depth == 0 {
+                return Err(NESTED_TOO_DEEP);
+            }
+            match token {
+                Token::Fixed(word) => headed(alloc, cursor, depth - 1, expression_head(*word)),
+                Token::Name(name) => Ok(Expression::Local(*name)),
+                Token::Number(number) => Ok(Expression::Int(*number)),
+                Token::Oversized => Err(OUT_OF_RANGE),
+                Token::Misspelled => Err(MISSPELLED_NUMBER),
+                Token::Unknown => Err(UNKNOWN_WORD),
+            }
+        }
+    }
+}
+
+/// The rest of an expression that begins so. Its operands have this depth.
+#[cycle(expression)]
+fn headed(
+    alloc: Global,
+    cursor: &mut Cursor<'_>,
+    depth: u32,
+    head: Head,
+) -> Result<Expression, LineRefusal>
+    ensures { Reads (headed_at (nested_at depth) head cursor.old) result cursor.new }
+{
+    match head {
+        Head::Nothing => Ok(Expression::Nothing),
+        Head::Bool(value) => Ok(Expression::Bool(value)),
+        Head::Current => Ok(Expression::Current),
+        Head::Fault(kind) => Ok(Expression::Fault(kind)),
+        Head::NumberedFault => Ok(Expression::Fault(FaultKind::Error(cursor.integer()?))),
+        Head::Unary(op) => {
+            let operand = nested(alloc, cursor, depth)?;
+            Ok(unary(alloc, op, operand)?)
+        }
+        Head::Binary(op) => {
+            let first = nested(alloc, cursor, depth)?;
+            let second = nested(alloc, cursor, depth)?;
+            Ok(binary(alloc, op, first, second)?)
+        }
+        Head::And => {
+            let first = nested(alloc, cursor, depth)?;
+            let second = nested(alloc, cursor, depth)?;
+            Ok(and(alloc, first, second)?)
+        }
+        Head::Or => {
+            let first = nested(alloc, cursor, depth)?;
+            let second = nested(alloc, cursor, depth)?;
+            Ok(or(alloc, first, second)?)
+        }
+        Head::List => list(alloc, cursor, depth),
+        Head::Query(asked) => Ok(Expression::Query(asked, cursor.name()?)),
+        Head::Other => Err(UNKNOWN_WORD),
+    }
+}
+
+#[cycle(expression)]
+fn list(alloc: Global, cursor: &mut Cursor<'_>, depth: u32) -> Result<Expression, LineRefusal>
+    ensures { Reads (list_at (nested_at depth) cursor.old) result cursor.new }
+{
+    let count = cursor.number(0, 64)?;
+    let items = counted(alloc, cursor, depth, count)?;
+    Ok(Expression::List(items))
+}
+
+#[cycle(expression)]
+fn counted(
+    alloc: Global,
+    cursor: &mut Cursor<'_>,
+    depth: u32,
+    count: u64,
+) -> Result<Items<Expression>, LineRefusal>
+    ensures { Reads (count_at (nested_at depth) count cursor.old) result cursor.new }
+{
+    let mut items = Items::new(alloc);
+    for _ in 0..count {
+        let item = nested(alloc, cursor, depth)?;
+        items.push(item)?;
+    }
+    Ok(items)
+}

@@ -1,0 +1,185 @@
+//! Reading the rest of a statement that gives a value.
+ghost use Rattle.std.specs.Prelude.{◌≡◌, ◌-◌, length};
+ghost use Rattle.scenario_grammar.specs.Reading.{with_at, under_at, job_of, word_at, all_at, expression_at, raw_link_at, count_of_at, takes_at, giving_by};
+ghost use Rattle.scenario_lines.specs.Reads.{Reads};
+
+use crate::cursor::{Cursor, MOST_MS};
+use crate::expression::read_expression;
+use crate::refusal::{LineRefusal, TOO_SHORT, UNKNOWN_WORD};
+use scenario_grammar::{Keyword, Token};
+use gv_values::JobKind;
+use scenario_tree::{Expression, Giving, Items, LinkEnd};
+use std::alloc::Global;
+
+pub(crate) fn with_fault(
+    alloc: Global,
+    cursor: &mut Cursor<'_>,
+) -> Result<Option<Expression>, LineRefusal>
+    ensures { Reads (with_at cursor.old) result cursor.new }
+{
+    match cursor.rest {
+        [Token::Fixed(Keyword::With), rest @ ..] => {
+            cursor.rest = rest;
+            Ok(Some(read_expression(alloc, cursor)?))
+        }
+        _ => Ok(None),
+    }
+}
+
+fn under(alloc: Global, cursor: &mut Cursor<'_>) -> Result<Option<Expression>, LineRefusal>
+    ensures { Reads (under_at cursor.old) result cursor.new }
+{
+    match cursor.rest {
+        [Token::Fixed(Keyword::Under), rest @ ..] => {
+            cursor.rest = rest;
+            Ok(Some(read_expression(alloc, cursor)?))
+        }
+        _ => Ok(None),
+    }
+}
+
+fn count(cursor: &mut Cursor<'_>) -> Result<Option<u64>, LineRefusal>
+    ensures { Reads (count_of_at cursor.old) result cursor.new }
+{
+    match cursor.rest {
+        [Token::Fixed(Keyword::Count), rest @ ..] => {
+            cursor.rest = rest;
+            Ok(Some(cursor.number(0, 64)?))
+        }
+        _ => Ok(None),
+    }
+}
+
+fn takes(cursor: &mut Cursor<'_>) -> Result<Option<u64>, LineRefusal>
+    ensures { Reads (takes_at cursor.old) result cursor.new }
+{
+    match cursor.rest {
+        [Token::Fixed(Keyword::Takes), rest @ ..] => {
+            cursor.rest = rest;
+            Ok(Some(cursor.number(0, MOST_MS)?))
+        }
+        _ => Ok(None),
+    }
+}
+
+fn job(cursor: &mut Cursor<'_>) -> Result<JobKind, LineRefusal>
+    ensures { Reads (word_at job_of cursor.old) result cursor.new }
+{
+    match cursor.next() {
+        None => Err(TOO_SHORT),
+        Some(Token::Fixed(Keyword::Sum)) => Ok(JobKind::Sum),
+        Some(Token::Fixed(Keyword::Collatz)) => Ok(JobKind::Collatz),
+        Some(Token::Fixed(Keyword::Fail)) => Ok(JobKind::Fail),
+        Some(Token::Fixed(Keyword::Echo)) => Ok(JobKind::Echo),
+        Some(_) => Err(UNKNOWN_WORD),
+    }
+}
+
+/// Expressions up to the line's end.
+fn arguments(alloc: Global, cursor: &mut Cursor<'_>) -> Result<Items<Expression>, LineRefusal>
+    ensures { Reads (all_at expression_at cursor.old) result cursor.new }
+{
+    let mut arguments = Items::new(alloc);
+    for _ in 0..cursor.rest.len() {
+        if cursor.is_empty() {
+            return Ok(arguments);
+        }
+        let argument = read_expression(alloc, cursor)?;
+        arguments.push(argument)?;
+    }
+    Ok(arguments)
+}
+
+fn raw_link(
+    alloc: Global,
+    cursor: &mut Cursor<'_>,
+    greenlet: Expression,
+) -> Result<Giving, LineRefusal>
+    ensures { Reads (raw_link_at greenlet cursor.old) result cursor.new }
+{
+    match cursor.next() {
+        None => Err(TOO_SHORT),
+        Some(Token::Fixed(Keyword::Mark)) => {
+            Ok(Giving::LinkMark(greenlet, cursor.number(0, 1_000_000)?))
+        }
+        Some(Token::Fixed(Keyword::Set)) => Ok(Giving::LinkSet(greenlet, cursor.name()?)),
+        Some(_) => Err(UNKNOWN_WORD),
+    }
+}
+
+/// The rest of a statement that gives a value, by its word.
+pub fn read_giving(
+    alloc: Global,
+    cursor: &mut Cursor<'_>,
+    word: Keyword,
+) -> Result<Giving, LineRefusal>
+    ensures { Reads (giving_by word cursor.old) result cursor.new }
+{
+    match word {
+        Keyword::Get => Ok(Giving::Get(read_expression(alloc, cursor)?, cursor.wait()?)),
+        Keyword::JoinAll => Ok(Giving::JoinAll(
+            read_expression(alloc, cursor)?,
+            count(cursor)?,
+            cursor.timed()?,
+        )),
+        Keyword::Wait => Ok(Giving::WaitEvent(cursor.name()?, cursor.timed()?)),
+        Keyword::ResultGet => Ok(Giving::ResultGet(cursor.name()?, cursor.wait()?)),
+        Keyword::ResultWait => Ok(Giving::ResultWait(cursor.name()?, cursor.timed()?)),
+        Keyword::Acquire => Ok(Giving::Acquire(cursor.name()?, cursor.wait()?)),
+        Keyword::QueueGet => Ok(Giving::QueueGet(cursor.name()?, cursor.wait()?)),
+        Keyword::QueuePeek => Ok(Giving::QueuePeek(cursor.name()?, cursor.wait()?)),
+        Keyword::QueueJoin => Ok(Giving::QueueJoin(cursor.name()?, cursor.timed()?)),
+        Keyword::Switch => Ok(Giving::Switch(
+            read_expression(alloc, cursor)?,
+            read_expression(alloc, cursor)?,
+        )),
+        Keyword::Throw => Ok(Giving::Throw(
+            read_expression(alloc, cursor)?,
+            with_fault(alloc, cursor)?,
+        )),
+        Keyword::Spawn => Ok(Giving::Spawn(cursor.name()?, arguments(alloc, cursor)?)),
+        Keyword::SpawnLater => Ok(Giving::SpawnLater(
+            cursor.number(0, MOST_MS)?,
+            cursor.name()?,
+            arguments(alloc, cursor)?,
+        )),
+        Keyword::New => Ok(Giving::New(cursor.name()?, arguments(alloc, cursor)?)),
+        Keyword::Link => Ok(Giving::Link(
+            LinkEnd::Any,
+            read_expression(alloc, cursor)?,
+            cursor.name()?,
+        )),
+        Keyword::LinkValue => Ok(Giving::Link(
+            LinkEnd::Value,
+            read_expression(alloc, cursor)?,
+            cursor.name()?,
+        )),
+        Keyword::LinkFault => Ok(Giving::Link(
+            LinkEnd::Fault,
+            read_expression(alloc, cursor)?,
+            cursor.name()?,
+        )),
+        Keyword::RawLink => {
+            let greenlet = read_expression(alloc, cursor)?;
+            raw_link(alloc, cursor, greenlet)
+        }
+        Keyword::GroupSpawn => Ok(Giving::GroupSpawn(
+            cursor.name()?,
+            cursor.name()?,
+            arguments(alloc, cursor)?,
+        )),
+        Keyword::Map => Ok(Giving::Map(
+            cursor.name()?,
+            cursor.name()?,
+            read_expression(alloc, cursor)?,
+        )),
+        Keyword::NativeSpawn => Ok(Giving::NativeSpawn(
+            cursor.name()?,
+            job(cursor)?,
+            read_expression(alloc, cursor)?,
+            takes(cursor)?,
+        )),
+        Keyword::Raw => Ok(Giving::Raw(cursor.name()?, under(alloc, cursor)?)),
+        _ => Err(UNKNOWN_WORD),
+    }
+}

@@ -1,0 +1,412 @@
+//! Reading what a line says.
+ghost use Rattle.std.specs.Prelude.{◌≡◌, if◌then◌else◌};
+ghost use Rattle.scenario_grammar.specs.Reading.{after_at, all_at, binding_at, class_at, class_of, given_at, giving_at, name_at, now_at, phrase_by, phrase_of, queue_of, silent_at, size_at, unmarked_at, word_at, is_given};
+ghost use Rattle.scenario_lines.specs.Reads.{IsBoxed, Reads, ReadsWhole};
+ghost use Rattle.scenario_lines.specs.Rows.{row_by};
+
+use crate::cursor::{Cursor, MOST_MS};
+use crate::expression::read_expression;
+use crate::giving::{read_giving, with_fault};
+use crate::refusal::{LineRefusal, TOO_LONG, TOO_SHORT, UNKNOWN_WORD};
+use crate::row::{Row, row_of};
+use gv_values::{Class, Name};
+use scenario_grammar::{Keyword, Phrase, Token};
+use scenario_tree::{Boxed, Command, Items, Object, QueueKind};
+use std::alloc::Global;
+
+/// What the line of these tokens says.
+///
+/// # Errors
+///
+/// `Reason` where it says nothing, for the first word that shows it; `Memory` where memory ran out.
+pub fn read_phrase(alloc: Global, tokens: &[Token]) -> Result<Boxed<Phrase>, LineRefusal>
+    ensures { ReadsWhole (phrase_of tokens.now) result }
+{
+    let mut cursor = Cursor::new(tokens);
+    match boxed(alloc, read_line(alloc, &mut cursor, is_given_line(tokens))) {
+        Err(refusal) => Err(refusal),
+        Ok(phrase) => {
+            if cursor.is_empty() {
+                Ok(phrase)
+            } else {
+                Err(TOO_LONG)
+            }
+        }
+    }
+}
+
+/// What was read, in a box of its own.
+fn boxed<T: Drop>(alloc: Global, read: Result<T, LineRefusal>) -> Result<Boxed<T>, LineRefusal>
+    ensures { IsBoxed read result }
+{
+    match read {
+        Ok(value) => Ok(Boxed::new(alloc, value)?),
+        Err(refusal) => Err(refusal),
+    }
+}
+
+/// Whether the second word is `<-`.
+pub fn is_given_line(tokens: &[Token]) -> bool
+    ensures { result ≡ is_given tokens.now }
+{
+    matches!(tokens, [_, Token::Fixed(Keyword::Arrow), ..])
+}
+
+fn read_line(
+    alloc: Global,
+    cursor: &mut Cursor<'_>,
+    is_given_to_name: bool,
+) -> Result<Phrase, LineRefusal>
+    ensures { Reads (if is_given_to_name then given_at cursor.old else unmarked_at cursor.old) result cursor.new }
+{
+    if is_given_to_name {
+        read_given(alloc, cursor)
+    } else {
+        read_unmarked(alloc, cursor)
+    }
+}
+
+/// A line whose second word is `<-`.
+fn read_given(alloc: Global, cursor: &mut Cursor<'_>) -> Result<Phrase, LineRefusal>
+    ensures { Reads (given_at cursor.old) result cursor.new }
+{
+    let name = cursor.name()?;
+    if cursor.next().is_none() {
+        return Err(TOO_SHORT);
+    }
+    match cursor.next() {
+        None => Err(TOO_SHORT),
+        Some(Token::Fixed(word)) => {
+            Ok(Phrase::Giving(Some(name), read_giving(alloc, cursor, *word)?))
+        }
+        Some(_) => Err(UNKNOWN_WORD),
+    }
+}
+
+fn read_unmarked(alloc: Global, cursor: &mut Cursor<'_>) -> Result<Phrase, LineRefusal>
+    ensures { Reads (unmarked_at cursor.old) result cursor.new }
+{
+    match cursor.next() {
+        None => Err(TOO_SHORT),
+        Some(Token::Fixed(word)) => read_by_word(alloc, cursor, *word),
+        Some(_) => Err(UNKNOWN_WORD),
+    }
+}
+
+fn queue_kind(cursor: &mut Cursor<'_>) -> Result<QueueKind, LineRefusal>
+    ensures { Reads (word_at queue_of cursor.old) result cursor.new }
+{
+    match cursor.next() {
+        None => Err(TOO_SHORT),
+        Some(Token::Fixed(Keyword::Fifo)) => Ok(QueueKind::Fifo),
+        Some(Token::Fixed(Keyword::Lifo)) => Ok(QueueKind::Lifo),
+        Some(Token::Fixed(Keyword::Priority)) => Ok(QueueKind::Priority),
+        Some(Token::Fixed(Keyword::Join)) => Ok(QueueKind::Join),
+        Some(_) => Err(UNKNOWN_WORD),
+    }
+}
+
+/// The size of a queue, or `none`.
+fn size(cursor: &mut Cursor<'_>) -> Result<Option<u64>, LineRefusal>
+    ensures { Reads (size_at cursor.old) result cursor.new }
+{
+    match cursor.rest {
+        [Token::Fixed(Keyword::Nothing), rest @ ..] => {
+            cursor.rest = rest;
+            Ok(None)
+        }
+        _ => Ok(Some(cursor.number(1, 1_000_000)?)),
+    }
+}
+
+fn class(cursor: &mut Cursor<'_>) -> Result<Class, LineRefusal>
+    ensures { Reads (class_at cursor.old) result cursor.new }
+{
+    match cursor.next() {
+        None => Err(TOO_SHORT),
+        Some(Token::Fixed(word)) => class_by(*word).ok_or(UNKNOWN_WORD),
+        Some(_) => Err(UNKNOWN_WORD),
+    }
+}
+
+fn class_by(word: Keyword) -> Option<Class>
+    ensures { result ≡ class_of word }
+{
+    match word {
+        Keyword::Any => Some(Class::Any),
+        Keyword::AnException => Some(Class::Exception),
+        Keyword::GreenletExit => Some(Class::GreenletExit),
+        Keyword::ATimeout => Some(Class::Timeout),
+        Keyword::LoopExit => Some(Class::LoopExit),
+        Keyword::Empty => Some(Class::Empty),
+        Keyword::Full => Some(Class::Full),
+        Keyword::ShutDown => Some(Class::ShutDown),
+        Keyword::ValueError => Some(Class::ValueError),
+        Keyword::RuntimeError => Some(Class::RuntimeError),
+        Keyword::TypeError => Some(Class::TypeError),
+        Keyword::OverflowError => Some(Class::OverflowError),
+        Keyword::ZeroDivisionError => Some(Class::ZeroDivisionError),
+        Keyword::InvalidSwitch => Some(Class::InvalidSwitch),
+        Keyword::Error => Some(Class::Error),
+        _ => None,
+    }
+}
+
+/// The name of an except, if the line goes on.
+fn binding(cursor: &mut Cursor<'_>) -> Result<Option<Name>, LineRefusal>
+    ensures { Reads (binding_at cursor.old) result cursor.new }
+{
+    match cursor.rest {
+        [] => Ok(None),
+        _ => Ok(Some(cursor.name()?)),
+    }
+}
+
+/// The time of a timeout block, or `none`.
+fn after(cursor: &mut Cursor<'_>) -> Result<Option<u64>, LineRefusal>
+    ensures { Reads (after_at cursor.old) result cursor.new }
+{
+    match cursor.rest {
+        [Token::Fixed(Keyword::Nothing), rest @ ..] => {
+            cursor.rest = rest;
+            Ok(None)
+        }
+        _ => Ok(Some(cursor.number(0, MOST_MS)?)),
+    }
+}
+
+fn silent(cursor: &mut Cursor<'_>) -> Result<bool, LineRefusal>
+    ensures { Reads (silent_at cursor.old) result cursor.new }
+{
+    match cursor.rest {
+        [Token::Fixed(Keyword::Silent), rest @ ..] => {
+            cursor.rest = rest;
+            Ok(true)
+        }
+        _ => Ok(false),
+    }
+}
+
+fn now(cursor: &mut Cursor<'_>) -> Result<bool, LineRefusal>
+    ensures { Reads (now_at cursor.old) result cursor.new }
+{
+    match cursor.rest {
+        [Token::Fixed(Keyword::Now), rest @ ..] => {
+            cursor.rest = rest;
+            Ok(true)
+        }
+        _ => Ok(false),
+    }
+}
+
+/// Names up to the line's end.
+fn parameters(alloc: Global, cursor: &mut Cursor<'_>) -> Result<Items<Name>, LineRefusal>
+    ensures { Reads (all_at name_at cursor.old) result cursor.new }
+{
+    let mut parameters = Items::new(alloc);
+    for _ in 0..cursor.rest.len() {
+        if cursor.is_empty() {
+            return Ok(parameters);
+        }
+        let parameter = cursor.name()?;
+        parameters.push(parameter)?;
+    }
+    Ok(parameters)
+}
+
+/// `rawdef` has exactly one parameter.
+fn raw_function(alloc: Global, cursor: &mut Cursor<'_>) -> Result<Phrase, LineRefusal>
+    ensures { Reads (phrase_by Keyword.RawFunction cursor.old) result cursor.new }
+{
+    let name = cursor.name()?;
+    let parameter = cursor.name()?;
+    let mut parameters = Items::new(alloc);
+    parameters.push(parameter)?;
+    Ok(Phrase::Function(true, name, parameters))
+}
+
+/// The rest of a line, by its first word.
+fn read_by_word(
+    alloc: Global,
+    cursor: &mut Cursor<'_>,
+    word: Keyword,
+) -> Result<Phrase, LineRefusal>
+    ensures { Reads (phrase_by word cursor.old) result cursor.new }
+{
+    match row_of(word) {
+        Row::Declaration => read_declaration(cursor, word),
+        Row::Block => read_block(alloc, cursor, word),
+        Row::Command => read_command(alloc, cursor, word),
+        Row::ObjectCommand => read_object_command(alloc, cursor, word),
+        Row::Other => Ok(Phrase::Giving(None, read_giving(alloc, cursor, word)?)),
+    }
+}
+
+/// The rest of a declaration.
+fn read_declaration(cursor: &mut Cursor<'_>, word: Keyword) -> Result<Phrase, LineRefusal>
+    requires { row_by word ≡ Row.Declaration }
+    ensures { Reads (phrase_by word cursor.old) result cursor.new }
+{
+    match word {
+        Keyword::Event => Ok(Phrase::Declaration(cursor.name()?, Object::Event)),
+        Keyword::Result => Ok(Phrase::Declaration(cursor.name()?, Object::Result)),
+        Keyword::Sem => Ok(Phrase::Declaration(
+            cursor.name()?,
+            Object::Semaphore(cursor.number(0, 1_000_000)?),
+        )),
+        Keyword::BoundedSem => Ok(Phrase::Declaration(
+            cursor.name()?,
+            Object::BoundedSemaphore(cursor.number(0, 1_000_000)?),
+        )),
+        Keyword::Lock => Ok(Phrase::Declaration(cursor.name()?, Object::Lock)),
+        Keyword::Queue => Ok(Phrase::Declaration(
+            cursor.name()?,
+            Object::Queue(queue_kind(cursor)?, size(cursor)?),
+        )),
+        Keyword::Group => Ok(Phrase::Declaration(cursor.name()?, Object::Group)),
+        Keyword::Pool => Ok(Phrase::Declaration(
+            cursor.name()?,
+            Object::Pool(cursor.number(1, 10_000)?),
+        )),
+        Keyword::Native => Ok(Phrase::Declaration(
+            cursor.name()?,
+            Object::Native(cursor.number(1, 64)?),
+        )),
+        _ => Err(UNKNOWN_WORD),
+    }
+}
+
+/// The rest of a line that opens, parts or ends a block.
+fn read_block(alloc: Global, cursor: &mut Cursor<'_>, word: Keyword) -> Result<Phrase, LineRefusal>
+    requires { row_by word ≡ Row.Block }
+    ensures { Reads (phrase_by word cursor.old) result cursor.new }
+{
+    match word {
+        Keyword::Function => Ok(Phrase::Function(
+            false,
+            cursor.name()?,
+            parameters(alloc, cursor)?,
+        )),
+        Keyword::RawFunction => raw_function(alloc, cursor),
+        Keyword::If => Ok(Phrase::If(read_expression(alloc, cursor)?)),
+        Keyword::Else => Ok(Phrase::Else),
+        Keyword::While => Ok(Phrase::While(read_expression(alloc, cursor)?)),
+        Keyword::Try => Ok(Phrase::Try),
+        Keyword::Except => Ok(Phrase::Except(class(cursor)?, binding(cursor)?)),
+        Keyword::Finally => Ok(Phrase::Finally),
+        Keyword::Timeout => Ok(Phrase::Timeout(after(cursor)?, silent(cursor)?)),
+        Keyword::End => Ok(Phrase::End),
+        _ => Err(UNKNOWN_WORD),
+    }
+}
+
+/// The rest of a statement that gives no value and begins with no object.
+fn read_command(
+    alloc: Global,
+    cursor: &mut Cursor<'_>,
+    word: Keyword,
+) -> Result<Phrase, LineRefusal>
+    requires { row_by word ≡ Row.Command }
+    ensures { Reads (phrase_by word cursor.old) result cursor.new }
+{
+    match word {
+        Keyword::Print => Ok(Phrase::Command(Command::Print(read_expression(alloc, cursor)?))),
+        Keyword::Let => read_let(alloc, cursor),
+        Keyword::Return => Ok(Phrase::Command(Command::Return(read_expression(alloc, cursor)?))),
+        Keyword::Raise => Ok(Phrase::Command(Command::Raise(read_expression(alloc, cursor)?))),
+        Keyword::Start => Ok(Phrase::Command(Command::Start(read_expression(alloc, cursor)?))),
+        Keyword::Sleep => Ok(Phrase::Command(Command::Sleep(cursor.number(0, MOST_MS)?))),
+        Keyword::Join => read_join(alloc, cursor),
+        Keyword::Kill => read_kill(alloc, cursor),
+        Keyword::KillAll => read_kill_all(alloc, cursor),
+        Keyword::Unlink => Ok(Phrase::Command(Command::Unlink(read_expression(alloc, cursor)?))),
+        Keyword::SetParent => read_set_parent(alloc, cursor),
+        _ => Err(UNKNOWN_WORD),
+    }
+}
+
+/// The rest of a let.
+fn read_let(alloc: Global, cursor: &mut Cursor<'_>) -> Result<Phrase, LineRefusal>
+    ensures { Reads (phrase_by Keyword.Let cursor.old) result cursor.new }
+{
+    Ok(Phrase::Command(Command::Let(cursor.name()?, read_expression(alloc, cursor)?)))
+}
+
+/// The rest of a join.
+fn read_join(alloc: Global, cursor: &mut Cursor<'_>) -> Result<Phrase, LineRefusal>
+    ensures { Reads (phrase_by Keyword.Join cursor.old) result cursor.new }
+{
+    Ok(Phrase::Command(Command::Join(read_expression(alloc, cursor)?, cursor.timed()?)))
+}
+
+/// The rest of a kill.
+fn read_kill(alloc: Global, cursor: &mut Cursor<'_>) -> Result<Phrase, LineRefusal>
+    ensures { Reads (phrase_by Keyword.Kill cursor.old) result cursor.new }
+{
+    Ok(Phrase::Command(Command::Kill(
+        read_expression(alloc, cursor)?,
+        with_fault(alloc, cursor)?,
+        cursor.wait()?,
+    )))
+}
+
+/// The rest of a killall.
+fn read_kill_all(alloc: Global, cursor: &mut Cursor<'_>) -> Result<Phrase, LineRefusal>
+    ensures { Reads (phrase_by Keyword.KillAll cursor.old) result cursor.new }
+{
+    Ok(Phrase::Command(Command::KillAll(
+        read_expression(alloc, cursor)?,
+        with_fault(alloc, cursor)?,
+        cursor.wait()?,
+    )))
+}
+
+/// The rest of a setparent.
+fn read_set_parent(alloc: Global, cursor: &mut Cursor<'_>) -> Result<Phrase, LineRefusal>
+    ensures { Reads (phrase_by Keyword.SetParent cursor.old) result cursor.new }
+{
+    Ok(Phrase::Command(Command::SetParent(
+        read_expression(alloc, cursor)?,
+        read_expression(alloc, cursor)?,
+    )))
+}
+
+/// The rest of a statement of an object that gives no value.
+fn read_object_command(
+    alloc: Global,
+    cursor: &mut Cursor<'_>,
+    word: Keyword,
+) -> Result<Phrase, LineRefusal>
+    requires { row_by word ≡ Row.ObjectCommand }
+    ensures { Reads (phrase_by word cursor.old) result cursor.new }
+{
+    match word {
+        Keyword::Set => Ok(Phrase::Command(Command::Set(cursor.name()?))),
+        Keyword::Clear => Ok(Phrase::Command(Command::Clear(cursor.name()?))),
+        Keyword::ResultSet => Ok(Phrase::Command(Command::ResultSet(
+            cursor.name()?,
+            read_expression(alloc, cursor)?,
+        ))),
+        Keyword::ResultFail => Ok(Phrase::Command(Command::ResultFail(
+            cursor.name()?,
+            read_expression(alloc, cursor)?,
+        ))),
+        Keyword::Release => Ok(Phrase::Command(Command::Release(cursor.name()?))),
+        Keyword::QueuePut => Ok(Phrase::Command(Command::QueuePut(
+            cursor.name()?,
+            read_expression(alloc, cursor)?,
+            cursor.wait()?,
+        ))),
+        Keyword::QueueDone => Ok(Phrase::Command(Command::QueueDone(cursor.name()?))),
+        Keyword::GroupJoin => Ok(Phrase::Command(Command::GroupJoin(
+            cursor.name()?,
+            cursor.timed()?,
+        ))),
+        Keyword::GroupKill => Ok(Phrase::Command(Command::GroupKill(
+            cursor.name()?,
+            with_fault(alloc, cursor)?,
+            now(cursor)?,
+        ))),
+        _ => Err(UNKNOWN_WORD),
+    }
+}
