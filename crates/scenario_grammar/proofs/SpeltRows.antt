@@ -59,7 +59,6 @@ prints_one : Spells one_tree one_text
 unfolding token_of lines scenario_rows block_within phrase_tokens tokens_within keyword_of keywords name out-Expression out-Action out digits
 prints_one = record {
   text = record { short = lit≤ tt; printable = refl; ended = refl; spaced = refl };
-  profile = refl;
   has_main = refl;
   rows = ((refl, refl), ((refl, refl), ((refl, tt), tt)));
 }
@@ -133,7 +132,7 @@ loose_tree = record {
 
 loose_spelt : Spells loose_tree loose_text
 unfolding token_of lines scenario_rows block_within phrase_tokens tokens_within keyword_of keywords name out-Expression out-Action out digits
-loose_spelt = record { text = record { short = lit≤ tt; printable = refl; ended = refl; spaced = refl }; profile = refl; has_main = refl; rows = ((refl, refl), ((refl, refl), ((refl, tt), tt))) }
+loose_spelt = record { text = record { short = lit≤ tt; printable = refl; ended = refl; spaced = refl }; has_main = refl; rows = ((refl, refl), ((refl, refl), ((refl, tt), tt))) }
 
 loose_printed : printed loose_tree ≡ text (codes "def main" ∷ codes "  print 1" ∷ codes "end" ∷ [])
 unfolding printed scenario_rows block_within phrase_tokens tokens_within keyword_of keywords name out-Expression out-Action out digits
