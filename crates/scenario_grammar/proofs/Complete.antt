@@ -1,5 +1,5 @@
 -- A text that a tree spells is read as that tree.
-use Rattle.std.proofs.Common.{◌≡◌, ◌==◌, ℕ, ◌+◌, ◌≤◌, arith, ap, subst, Bool, true, false, ◌&&◌, ◌||◌, not, cond, if◌then◌else◌, nat_lt, List, [], ◌∷◌, ◌++◌, length, map, Option, Some, None, Result, Ok, Err, refl, sym, ◌∙◌, append_assoc, append-nil}
+use Rattle.std.proofs.Common.{◌≡◌, ◌==◌, ℕ, ◌+◌, ◌≤◌, arith, ap, subst, Bool, true, false, ◌&&◌, ◌||◌, not, cond, if◌then◌else◌, nat_lt, List, [], ◌∷◌, ◌++◌, length, map, Option, Some, None, Result, Ok, Err, refl, sym, ◌∙◌, append_assoc, append-nil, ◌⊎◌, inl, inr}
 use Rattle.std.specs.Prelude.{position, count_by}
 use Rattle.std.specs.List.{list_all, list_any, position_from}
 use Rattle.std.specs.Option.{IsSomeAnd}
@@ -287,3 +287,19 @@ complete s bytes h = by_rows (scenario_rows s) refl h.rows
         (text_full s (lines bytes) rs (built s) e (told s.profile (lines bytes) rs a) h.text.spaced
         (scenario_makes s rs (numbered (lines bytes) rs) e (numbered_said s.profile (lines bytes) rs a)))
         h.has_main
+
+-- A tree that has a text is of one of the two profiles.
+pub has_profile : (s : Scenario) (bytes : List ℕ) → Spells s bytes → (s.profile ≡ 1) ⊎ (s.profile ≡ 2)
+has_profile s bytes h = by_rows (scenario_rows s) refl h.rows
+  where
+    by_second : (second : Bool) (front : List Row) → (s.profile == 2) ≡ second → only_if second (mark phrase.Profile) ≡ Some front → (s.profile ≡ 1) ⊎ (s.profile ≡ 2)
+    by_second true front two is = inr (eqb-true s.profile 2 two)
+    by_second false front two is = cc
+
+    by_first : (first : Bool) (front : List Row) → (s.profile == 1) ≡ first → (if first then Some [] else only_if (s.profile == 2) (mark phrase.Profile)) ≡ Some front → (s.profile ≡ 1) ⊎ (s.profile ≡ 2)
+    by_first true front one is = inl (eqb-true s.profile 1 one)
+    by_first false front one is = by_second (s.profile == 2) front refl is
+
+    by_rows : (r : Option (List Row)) → scenario_rows s ≡ r → IsSomeAnd r (AreRows s.profile (lines bytes)) → (s.profile ≡ 1) ⊎ (s.profile ≡ 2)
+    by_rows None e a = absurd a
+    by_rows (Some rs) e a = let b = behind s rs e in by_first (s.profile == 1) b.front refl b.profile_is

@@ -1,15 +1,13 @@
 -- The printed form of a tree that has a text is a text of it, but for the numbers of its lines.
-use Rattle.std.proofs.Common.{◌≡◌, ℕ, zero, suc, ◌+◌, ◌*◌, ◌≤◌, Bool, true, false, ◌&&◌, not, cond, if◌then◌else◌, List, [], ◌∷◌, ◌++◌, length, map, replicate, Option, Some, None, Result, Ok, Err, refl, sym, ap, subst, ◌∙◌, arith, IsTrue}
+use Rattle.std.proofs.Common.{◌≡◌, ℕ, zero, suc, ◌+◌, ◌*◌, ◌≤◌, Bool, true, false, ◌&&◌, not, cond, if◌then◌else◌, List, [], ◌∷◌, ◌++◌, length, map, replicate, Option, Some, None, Ok, refl, sym, ap, ◌∙◌}
 use Rattle.std.specs.Prelude.{◌==◌}
 use Rattle.std.specs.List.{list_all, list_any, slice_split, onto_first, join_with_byte}
 use Rattle.std.specs.Option.{IsSomeAnd}
 use Rattle.std.proofs.lemmas.List.Splits.{join_with_byte-slice_split}
 use Rattle.scenario_tree.specs.declared.tree.Scenario.{Scenario}
 use Rattle.scenario_grammar.specs.declared.phrase.Phrase.{Phrase}
-use Rattle.scenario_grammar.specs.declared.token.Token.{Token}
-use Rattle.scenario_grammar.specs.Bare.{bare, bare_declaration, bare_function}
+use Rattle.scenario_grammar.specs.Bare.{bare}
 use Rattle.scenario_grammar.specs.Blocks.{Row, scenario_rows}
-use Rattle.scenario_grammar.specs.Building.{Building}
 use Rattle.scenario_grammar.specs.Layout.{Line, lines, lines_from, with_line, drop_blanks, is_blank, is_end, is_spaced, is_ended, is_text_byte, most_bytes, IsText}
 use Rattle.scenario_grammar.specs.Parsed.{nothing_yet, reading, read_lines, scenario}
 use Rattle.scenario_grammar.specs.Phrases.{phrase_tokens}
@@ -18,8 +16,7 @@ use Rattle.scenario_grammar.specs.Printed.{is_closing, is_opening, less_if, more
 use Rattle.scenario_grammar.specs.Spells.{AreRows, is_main, Spells}
 use Rattle.scenario_grammar.specs.Tokens.{token_in, token_word}
 use Rattle.scenario_grammar.proofs.Atoms.{and_left, and_right}
-use Rattle.scenario_grammar.proofs.BareLaws.{bare_building, SamePhrases, Renumbered, renumbered, functions_bare}
-use Rattle.scenario_grammar.proofs.BlockLaws.{follow}
+use Rattle.scenario_grammar.proofs.BareLaws.{SamePhrases, renumbered, functions_bare}
 use Rattle.scenario_grammar.proofs.Complete.{built, numbered, numbered_said, AreTold, told, scenario_makes, text_full, none_in_bytes, reading_by}
 use Rattle.scenario_grammar.proofs.InWords.{is_word, phrase_in_words}
 use Rattle.scenario_grammar.proofs.Sound.{sound}
@@ -282,7 +279,8 @@ printed_again s bytes rs h rows said short =
       same = λ i. record { profile = (again.same i).profile; objects = (again.same i).objects; functions = functions i };
     }
 
--- The printed form of a tree that has a text, where it is no longer than a text may be, is a text of the tree but for its lines.
+-- The printed form of a tree that has a text, where it is no longer than a text may be, is a text of the tree but for
+-- its lines.
 pub printing : (s : Scenario) (bytes : List ℕ) → Spells s bytes → length (printed s) ≤ most_bytes → (t : Scenario) × Spells t (printed s) × (bare s ≡ bare t)
 printing s bytes h short = by_rows (scenario_rows s) refl h.rows
   where

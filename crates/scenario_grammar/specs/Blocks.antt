@@ -75,7 +75,8 @@ declaration_rows d = line d.line (phrase.Declaration d.name d.object)
 abbrev pub function_rows : Function → Written Row
 function_rows f = line f.line (phrase.Function f.is_raw f.name f.parameters) ⊕ block_within most_levels f.body ⊕ mark phrase.End
 
--- The line `profile 2` where the tree is of profile 2. A tree of profile 1 has no such line, and one of another profile has no text.
+-- The line `profile 2` where the tree is of profile 2. A tree of profile 1 has no such line, and one of another profile
+-- has no text.
 abbrev pub profile_rows : ℕ → Written Row
 profile_rows profile = if profile == 1 then Some [] else only_if (profile == 2) (mark phrase.Profile)
 

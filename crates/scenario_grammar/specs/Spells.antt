@@ -25,13 +25,14 @@ AreRows profile (l ∷ ls) (r ∷ rs) = IsRow profile l r × AreRows profile ls 
 abbrev pub is_main : Function → Bool
 is_main f = not f.is_raw && pointwise nat_eq f.name (codes "main")
 
--- The bytes are a text of the tree: line by line they say what it says, in its profile, and there is a `main`. A tree whose profile is neither
--- 1 nor 2 has no rows, and so no text.
+-- The bytes are a text of the tree: line by line they say what it says, in its profile, and there is a `main`. A tree
+-- whose profile is neither 1 nor 2 has no rows, and so no text.
 pub record Spells (s : Scenario) (bytes : List ℕ) : Type 0 where
   pub text : IsText bytes
   pub rows : IsSomeAnd (scenario_rows s) (AreRows s.profile (lines bytes))
   pub has_main : IsTrue (list_any is_main s.functions)
 
--- Some bytes are a text of the tree. Then its printed form is one too, but for the numbers of the lines, where it is no longer than a text may be.
-abbrev pub IsSpelt : Scenario → Type 0
-IsSpelt s = (bytes : List ℕ) × Spells s bytes
+-- Some bytes are a text of the tree. Then its printed form is one too, but for the numbers of the lines, where it is no
+-- longer than a text may be.
+abbrev pub HasSpelling : Scenario → Type 0
+HasSpelling s = (bytes : List ℕ) × Spells s bytes

@@ -1,5 +1,5 @@
--- What the lines of a function say that the rules look at: each name with what it stands for there, each statement that asks the hub, and each
--- timeout block that stands too deep.
+-- What the lines of a function say that the rules look at: each name with what it stands for there, each statement that
+-- asks the hub, and each timeout block that stands too deep.
 use Rattle.std.specs.Prelude.{ℕ, zero, suc, ◌-◌, List, [], ◌∷◌, ◌++◌, map, length, Option, Some, None}
 use Rattle.std.specs.List.{flat_map}
 use Rattle.gv_values.specs.declared.name.Name.{Name}

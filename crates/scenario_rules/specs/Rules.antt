@@ -24,8 +24,8 @@ use Rattle.scenario_rules.specs.Mentions.{mentions}
 abbrev pub is_declared : Scenario → Name → Bool
 is_declared s x = is_some (declared_as s x)
 
--- A name is used that nothing declares: in a local's place no object, no function and no local name of the function; in an object's or a
--- function's place no object and no function.
+-- A name is used that nothing declares: in a local's place no object, no function and no local name of the function; in
+-- an object's or a function's place no object and no function.
 abbrev pub is_undeclared : Scenario → Function → Says → Bool
 is_undeclared s f (says.Uses x) = not (is_declared s x) && not (is_local f x)
 is_undeclared s f (says.Object kind x) = not (is_declared s x)
@@ -88,8 +88,8 @@ is_wrong_head f = if f.is_raw then not (length f.parameters == 1) else is_main f
 abbrev pub most_local_names : ℕ
 most_local_names = 64
 
--- what a function breaks: two of its parameters have one name, its head has a wrong count of parameters, it has more parameters or local
--- names than there may be, or a word breaks a rule
+-- what a function breaks: two of its parameters have one name, its head has a wrong count of parameters, it has more
+-- parameters or local names than there may be, or a word breaks a rule
 abbrev pub function_refusals : Scenario → Function → List Place
 function_refusals s f =
     refused_names rule.DeclaredTwice (repeated (parameters f))
@@ -106,8 +106,8 @@ most_objects = 256
 abbrev pub most_functions : ℕ
 most_functions = 256
 
--- every line that breaks a rule, with the reason: there are more objects or functions than there may be, two of them have one name, or a
--- function breaks a rule
+-- every line that breaks a rule, with the reason: there are more objects or functions than there may be, two of them
+-- have one name, or a function breaks a rule
 abbrev pub refusals : Scenario → List Place
 refusals s =
     refused_names rule.TooMany (past most_objects (named_objects s))
