@@ -6,6 +6,7 @@ use Rattle.scenario_grammar.specs.declared.token.Token.TheVariants as token
 use Rattle.scenario_grammar.specs.Tokens.{Written, each, only_if, is_free, in_64_bits, name, integer, number}
 use Rattle.scenario_grammar.specs.Reading.{Reader, Reading, ◌<$>◌, name_at, integer_at, number_at, count_at}
 use Rattle.scenario_grammar.proofs.Parts.{is_proper, Sound, Full, Anything, ok_first, ok_second, proper_at, map_sound, then_sound, map_full, then_full}
+use Rattle.scenario_grammar.specs.declared.reason.TextReason.TheVariants as reason
 
 pub and_left : (a b : Bool) → (a && b) ≡ true → a ≡ true
 and_left true b h = refl
@@ -73,7 +74,7 @@ integer_full z front rest e h =
     let same : token.Number z ∷ [] ≡ front = cc in
     rw (sym same) refl
 
-chosen : (b : Bool) (n made : ℕ) (ts rest : List Token) → (let r : Reading ℕ = cond b (Ok (n, ts)) (Err 9) in r) ≡ Ok (made, rest) → (b ≡ true) × (n ≡ made) × (ts ≡ rest)
+chosen : (b : Bool) (n made : ℕ) (ts rest : List Token) → (let r : Reading ℕ = cond b (Ok (n, ts)) (Err reason.OutOfRange) in r) ≡ Ok (made, rest) → (b ≡ true) × (n ≡ made) × (ts ≡ rest)
 chosen true n made ts rest e = (refl, ok_first n made ts rest e, ok_second n made ts rest e)
 chosen false n made ts rest e = cc
 

@@ -1,5 +1,5 @@
 -- The numbers of lines change nothing but the numbers in the tree.
-use Rattle.std.proofs.Common.{◌≡◌, ℕ, Bool, ◌||◌, List, [], ◌∷◌, ◌++◌, map, Option, Some, None, refl, sym, ap, ◌∙◌}
+use Rattle.std.proofs.Common.{◌≡◌, ◌==◌, ℕ, Bool, not, ◌||◌, List, [], ◌∷◌, ◌++◌, map, Option, Some, None, refl, sym, ap, ◌∙◌}
 use Rattle.std.specs.List.{list_any}
 use Rattle.gv_values.specs.declared.fault.Class.{Class}
 use Rattle.gv_values.specs.declared.name.Name.{Name}
@@ -19,7 +19,7 @@ use Rattle.scenario_grammar.specs.declared.phrase.Phrase.TheVariants as phrase
 use Rattle.scenario_grammar.specs.declared.building.OpenBlock.{OpenBlock}
 use Rattle.scenario_grammar.specs.declared.building.Opening.{Opening}
 use Rattle.scenario_grammar.specs.declared.building.Opening.TheVariants as opening
-use Rattle.scenario_grammar.specs.Parsed.{standing, kind_of, opens_main, is_begun}
+use Rattle.scenario_grammar.specs.Parsed.{standing, kind_of, opens_main, is_begun, has_objects}
 use Rattle.scenario_grammar.specs.Places.{misplaced}
 use Rattle.scenario_grammar.specs.Spells.{is_main}
 use Rattle.scenario_grammar.proofs.Begun.{begun}
@@ -98,94 +98,95 @@ abbrev bare_open : OpenBlock → OpenBlock
 bare_open o = record { line = 0; opening = bare_opening o.opening; statements = map bare_statement o.statements }
 
 abbrev pub bare_building : Building → Building
-bare_building b = record { objects = map bare_declaration b.objects; functions = map bare_function b.functions; open_blocks = map bare_open b.open_blocks }
+bare_building b = record { profile = b.profile; objects = map bare_declaration b.objects; functions = map bare_function b.functions; open_blocks = map bare_open b.open_blocks }
 
 map_more : {A B : Type 0} (f : A → B) (xs : List A) (x : A) (y : B) → f x ≡ y → map f (xs ++ x ∷ []) ≡ map f xs ++ y ∷ []
 map_more f [] x y e = ap (λ z. z ∷ []) e
 map_more f (w ∷ ws) x y e = ap (λ z. f w ∷ z) (map_more f ws x y e)
 
-added_bare : (n : ℕ) (x y : Action) (ds : List Declaration) (fs : List Function) (os : List OpenBlock) → bare_action x ≡ y
-    → bare_building (added (at n x ∷ []) (begun ds fs os)) ≡ added (at 0 y ∷ []) (bare_building (begun ds fs os))
-added_bare n x y ds fs [] e = refl
-added_bare n x y ds fs (o ∷ os) e =
+added_bare : (n : ℕ) (x y : Action) (profile : ℕ) (ds : List Declaration) (fs : List Function) (os : List OpenBlock) → bare_action x ≡ y
+    → bare_building (added (at n x ∷ []) (begun profile ds fs os)) ≡ added (at 0 y ∷ []) (bare_building (begun profile ds fs os))
+added_bare n x y profile ds fs [] e = refl
+added_bare n x y profile ds fs (o ∷ os) e =
     let more = map_more bare_statement o.statements (at n x) (at 0 y) (statement_bare n x ∙ ap (at 0) e) in
-    λ i. begun (map bare_declaration ds) (map bare_function fs) (record { line = 0; opening = bare_opening o.opening; statements = more i } ∷ map bare_open os)
+    λ i. begun profile (map bare_declaration ds) (map bare_function fs) (record { line = 0; opening = bare_opening o.opening; statements = more i } ∷ map bare_open os)
 
 abbrev Steps : Building → ℕ → Phrase → Type 0
 Steps b n p = bare_building (step b n p) ≡ step (bare_building b) 0 p
 
-else_steps : (ds : List Declaration) (fs : List Function) (n m : ℕ) (op : Opening) (ss : List Statement) (os : List OpenBlock) → Steps (begun ds fs (record { line = m; opening = op; statements = ss } ∷ os)) n phrase.Else
-else_steps ds fs n m (opening.Function is_raw name ps) ss os = refl
-else_steps ds fs n m (opening.If x) ss os = refl
-else_steps ds fs n m (opening.Else x ts) ss os = refl
-else_steps ds fs n m (opening.While x) ss os = refl
-else_steps ds fs n m opening.Try ss os = refl
-else_steps ds fs n m (opening.Except tried es l c t) ss os = refl
-else_steps ds fs n m (opening.Finally tried es) ss os = refl
-else_steps ds fs n m (opening.Timeout t silent) ss os = refl
+else_steps : (profile : ℕ) (ds : List Declaration) (fs : List Function) (n m : ℕ) (op : Opening) (ss : List Statement) (os : List OpenBlock) → Steps (begun profile ds fs (record { line = m; opening = op; statements = ss } ∷ os)) n phrase.Else
+else_steps profile ds fs n m (opening.Function is_raw name ps) ss os = refl
+else_steps profile ds fs n m (opening.If x) ss os = refl
+else_steps profile ds fs n m (opening.Else x ts) ss os = refl
+else_steps profile ds fs n m (opening.While x) ss os = refl
+else_steps profile ds fs n m opening.Try ss os = refl
+else_steps profile ds fs n m (opening.Except tried es l c t) ss os = refl
+else_steps profile ds fs n m (opening.Finally tried es) ss os = refl
+else_steps profile ds fs n m (opening.Timeout t silent) ss os = refl
 
 caught_more : (es : List Except) (l : ℕ) (c : Class) (t : Option Name) (ss : List Statement) → map bare_except (es ++ caught l c t ss ∷ []) ≡ map bare_except es ++ caught 0 c t (map bare_statement ss) ∷ []
 caught_more es l c t ss = map_more bare_except es (caught l c t ss) (caught 0 c t (map bare_statement ss)) (caught_bare l c t ss)
 
-except_steps : (ds : List Declaration) (fs : List Function) (n m : ℕ) (op : Opening) (ss : List Statement) (os : List OpenBlock) (c : Class) (t : Option Name)
-    → Steps (begun ds fs (record { line = m; opening = op; statements = ss } ∷ os)) n (phrase.Except c t)
-except_steps ds fs n m (opening.Except tried es l d other) ss os c t =
-    ap (λ x. begun (map bare_declaration ds) (map bare_function fs) (record { line = 0; opening = opening.Except (map bare_statement tried) x 0 c t; statements = [] } ∷ map bare_open os)) (caught_more es l d other ss)
-except_steps ds fs n m (opening.Function is_raw name ps) ss os c t = refl
-except_steps ds fs n m (opening.If x) ss os c t = refl
-except_steps ds fs n m (opening.Else x ts) ss os c t = refl
-except_steps ds fs n m (opening.While x) ss os c t = refl
-except_steps ds fs n m opening.Try ss os c t = refl
-except_steps ds fs n m (opening.Finally tried es) ss os c t = refl
-except_steps ds fs n m (opening.Timeout x silent) ss os c t = refl
+except_steps : (profile : ℕ) (ds : List Declaration) (fs : List Function) (n m : ℕ) (op : Opening) (ss : List Statement) (os : List OpenBlock) (c : Class) (t : Option Name)
+    → Steps (begun profile ds fs (record { line = m; opening = op; statements = ss } ∷ os)) n (phrase.Except c t)
+except_steps profile ds fs n m (opening.Except tried es l d other) ss os c t =
+    ap (λ x. begun profile (map bare_declaration ds) (map bare_function fs) (record { line = 0; opening = opening.Except (map bare_statement tried) x 0 c t; statements = [] } ∷ map bare_open os)) (caught_more es l d other ss)
+except_steps profile ds fs n m (opening.Function is_raw name ps) ss os c t = refl
+except_steps profile ds fs n m (opening.If x) ss os c t = refl
+except_steps profile ds fs n m (opening.Else x ts) ss os c t = refl
+except_steps profile ds fs n m (opening.While x) ss os c t = refl
+except_steps profile ds fs n m opening.Try ss os c t = refl
+except_steps profile ds fs n m (opening.Finally tried es) ss os c t = refl
+except_steps profile ds fs n m (opening.Timeout x silent) ss os c t = refl
 
-finally_steps : (ds : List Declaration) (fs : List Function) (n m : ℕ) (op : Opening) (ss : List Statement) (os : List OpenBlock) → Steps (begun ds fs (record { line = m; opening = op; statements = ss } ∷ os)) n phrase.Finally
-finally_steps ds fs n m (opening.Except tried es l d other) ss os =
-    ap (λ x. begun (map bare_declaration ds) (map bare_function fs) (record { line = 0; opening = opening.Finally (map bare_statement tried) x; statements = [] } ∷ map bare_open os)) (caught_more es l d other ss)
-finally_steps ds fs n m (opening.Function is_raw name ps) ss os = refl
-finally_steps ds fs n m (opening.If x) ss os = refl
-finally_steps ds fs n m (opening.Else x ts) ss os = refl
-finally_steps ds fs n m (opening.While x) ss os = refl
-finally_steps ds fs n m opening.Try ss os = refl
-finally_steps ds fs n m (opening.Finally tried es) ss os = refl
-finally_steps ds fs n m (opening.Timeout x silent) ss os = refl
+finally_steps : (profile : ℕ) (ds : List Declaration) (fs : List Function) (n m : ℕ) (op : Opening) (ss : List Statement) (os : List OpenBlock) → Steps (begun profile ds fs (record { line = m; opening = op; statements = ss } ∷ os)) n phrase.Finally
+finally_steps profile ds fs n m (opening.Except tried es l d other) ss os =
+    ap (λ x. begun profile (map bare_declaration ds) (map bare_function fs) (record { line = 0; opening = opening.Finally (map bare_statement tried) x; statements = [] } ∷ map bare_open os)) (caught_more es l d other ss)
+finally_steps profile ds fs n m (opening.Function is_raw name ps) ss os = refl
+finally_steps profile ds fs n m (opening.If x) ss os = refl
+finally_steps profile ds fs n m (opening.Else x ts) ss os = refl
+finally_steps profile ds fs n m (opening.While x) ss os = refl
+finally_steps profile ds fs n m opening.Try ss os = refl
+finally_steps profile ds fs n m (opening.Finally tried es) ss os = refl
+finally_steps profile ds fs n m (opening.Timeout x silent) ss os = refl
 
-end_steps : (ds : List Declaration) (fs : List Function) (n m : ℕ) (op : Opening) (ss : List Statement) (os : List OpenBlock) → Steps (begun ds fs (record { line = m; opening = op; statements = ss } ∷ os)) n phrase.End
-end_steps ds fs n m (opening.Function is_raw name ps) ss os =
+end_steps : (profile : ℕ) (ds : List Declaration) (fs : List Function) (n m : ℕ) (op : Opening) (ss : List Statement) (os : List OpenBlock) → Steps (begun profile ds fs (record { line = m; opening = op; statements = ss } ∷ os)) n phrase.End
+end_steps profile ds fs n m (opening.Function is_raw name ps) ss os =
     let f : Function = record { line = m; is_raw = is_raw; name = name; parameters = ps; body = ss } in
-    ap (λ x. begun (map bare_declaration ds) x (map bare_open os)) (map_more bare_function fs f (bare_function f) refl)
-end_steps ds fs n m (opening.If x) ss os = added_bare m (a.If x ss None) (a.If x (map bare_statement ss) None) ds fs os (if_bare x ss)
-end_steps ds fs n m (opening.Else x ts) ss os = added_bare m (a.If x ts (Some ss)) (a.If x (map bare_statement ts) (Some (map bare_statement ss))) ds fs os (else_bare x ts ss)
-end_steps ds fs n m (opening.While x) ss os = added_bare m (a.While x ss) (a.While x (map bare_statement ss)) ds fs os (while_bare x ss)
-end_steps ds fs n m opening.Try ss os = refl
-end_steps ds fs n m (opening.Except tried es l c t) ss os =
-    added_bare m (a.Try tried (es ++ caught l c t ss ∷ []) None) (a.Try (map bare_statement tried) (map bare_except es ++ caught 0 c t (map bare_statement ss) ∷ []) None) ds fs os
+    ap (λ x. begun profile (map bare_declaration ds) x (map bare_open os)) (map_more bare_function fs f (bare_function f) refl)
+end_steps profile ds fs n m (opening.If x) ss os = added_bare m (a.If x ss None) (a.If x (map bare_statement ss) None) profile ds fs os (if_bare x ss)
+end_steps profile ds fs n m (opening.Else x ts) ss os = added_bare m (a.If x ts (Some ss)) (a.If x (map bare_statement ts) (Some (map bare_statement ss))) profile ds fs os (else_bare x ts ss)
+end_steps profile ds fs n m (opening.While x) ss os = added_bare m (a.While x ss) (a.While x (map bare_statement ss)) profile ds fs os (while_bare x ss)
+end_steps profile ds fs n m opening.Try ss os = refl
+end_steps profile ds fs n m (opening.Except tried es l c t) ss os =
+    added_bare m (a.Try tried (es ++ caught l c t ss ∷ []) None) (a.Try (map bare_statement tried) (map bare_except es ++ caught 0 c t (map bare_statement ss) ∷ []) None) profile ds fs os
     (except_bare tried (es ++ caught l c t ss ∷ []) ∙ ap (λ z. a.Try (map bare_statement tried) z None) (caught_more es l c t ss))
-end_steps ds fs n m (opening.Finally tried es) ss os =
-    added_bare m (a.Try tried es (Some ss)) (a.Try (map bare_statement tried) (map bare_except es) (Some (map bare_statement ss))) ds fs os (finally_bare tried es ss)
-end_steps ds fs n m (opening.Timeout t silent) ss os = added_bare m (a.Timeout t silent ss) (a.Timeout t silent (map bare_statement ss)) ds fs os (timeout_bare t silent ss)
+end_steps profile ds fs n m (opening.Finally tried es) ss os =
+    added_bare m (a.Try tried es (Some ss)) (a.Try (map bare_statement tried) (map bare_except es) (Some (map bare_statement ss))) profile ds fs os (finally_bare tried es ss)
+end_steps profile ds fs n m (opening.Timeout t silent) ss os = added_bare m (a.Timeout t silent ss) (a.Timeout t silent (map bare_statement ss)) profile ds fs os (timeout_bare t silent ss)
 
 -- A line makes the same of a tree without numbers.
-by_block : (b : Building) (n : ℕ) (p : Phrase) (os : List OpenBlock) → Steps (begun b.objects b.functions []) n p
-    → ((o : OpenBlock) (rest : List OpenBlock) → Steps (begun b.objects b.functions (o ∷ rest)) n p) → Steps (begun b.objects b.functions os) n p
+by_block : (b : Building) (n : ℕ) (p : Phrase) (os : List OpenBlock) → Steps (begun b.profile b.objects b.functions []) n p
+    → ((o : OpenBlock) (rest : List OpenBlock) → Steps (begun b.profile b.objects b.functions (o ∷ rest)) n p) → Steps (begun b.profile b.objects b.functions os) n p
 by_block b n p [] outside inside = outside
 by_block b n p (o ∷ os) outside inside = inside o os
 
 step_bare : (b : Building) (n : ℕ) (p : Phrase) → Steps b n p
+step_bare b n phrase.Profile = refl
 step_bare b n (phrase.Declaration name object) =
     let d : Declaration = record { line = n; name = name; object = object } in
-    ap (λ x. begun x (map bare_function b.functions) (map bare_open b.open_blocks)) (map_more bare_declaration b.objects d (bare_declaration d) refl)
+    ap (λ x. begun b.profile x (map bare_function b.functions) (map bare_open b.open_blocks)) (map_more bare_declaration b.objects d (bare_declaration d) refl)
 step_bare b n (phrase.Function is_raw name ps) = refl
-step_bare b n (phrase.Command c) = added_bare n (a.Command c) (a.Command c) b.objects b.functions b.open_blocks (command_bare c)
-step_bare b n (phrase.Giving t g) = added_bare n (a.Giving t g) (a.Giving t g) b.objects b.functions b.open_blocks (giving_bare t g)
+step_bare b n (phrase.Command c) = added_bare n (a.Command c) (a.Command c) b.profile b.objects b.functions b.open_blocks (command_bare c)
+step_bare b n (phrase.Giving t g) = added_bare n (a.Giving t g) (a.Giving t g) b.profile b.objects b.functions b.open_blocks (giving_bare t g)
 step_bare b n (phrase.If x) = refl
 step_bare b n (phrase.While x) = refl
 step_bare b n phrase.Try = refl
 step_bare b n (phrase.Timeout t silent) = refl
-step_bare b n phrase.Else = by_block b n phrase.Else b.open_blocks refl (λ o os. else_steps b.objects b.functions n o.line o.opening o.statements os)
-step_bare b n (phrase.Except c t) = by_block b n (phrase.Except c t) b.open_blocks refl (λ o os. except_steps b.objects b.functions n o.line o.opening o.statements os c t)
-step_bare b n phrase.Finally = by_block b n phrase.Finally b.open_blocks refl (λ o os. finally_steps b.objects b.functions n o.line o.opening o.statements os)
-step_bare b n phrase.End = by_block b n phrase.End b.open_blocks refl (λ o os. end_steps b.objects b.functions n o.line o.opening o.statements os)
+step_bare b n phrase.Else = by_block b n phrase.Else b.open_blocks refl (λ o os. else_steps b.profile b.objects b.functions n o.line o.opening o.statements os)
+step_bare b n (phrase.Except c t) = by_block b n (phrase.Except c t) b.open_blocks refl (λ o os. except_steps b.profile b.objects b.functions n o.line o.opening o.statements os c t)
+step_bare b n phrase.Finally = by_block b n phrase.Finally b.open_blocks refl (λ o os. finally_steps b.profile b.objects b.functions n o.line o.opening o.statements os)
+step_bare b n phrase.End = by_block b n phrase.End b.open_blocks refl (λ o os. end_steps b.profile b.objects b.functions n o.line o.opening o.statements os)
 
 kind_bare : (op : Opening) → kind_of (bare_opening op) ≡ kind_of op
 kind_bare (opening.Function is_raw name ps) = refl
@@ -219,15 +220,21 @@ pub functions_bare : (fs : List Function) → list_any is_main (map bare_functio
 functions_bare [] = refl
 functions_bare (f ∷ fs) = ap (λ x. is_main f || x) (functions_bare fs)
 
-begun_bare : (ds : List Declaration) (fs : List Function) (os : List OpenBlock) → is_begun (bare_building (begun ds fs os)) ≡ is_begun (begun ds fs os)
-begun_bare ds [] [] = refl
-begun_bare ds [] (o ∷ os) = refl
-begun_bare ds (f ∷ fs) os = refl
+begun_bare : (profile : ℕ) (ds : List Declaration) (fs : List Function) (os : List OpenBlock) → is_begun (bare_building (begun profile ds fs os)) ≡ is_begun (begun profile ds fs os)
+begun_bare profile ds [] [] = refl
+begun_bare profile ds [] (o ∷ os) = refl
+begun_bare profile ds (f ∷ fs) os = refl
+
+objects_bare : (ds : List Declaration) (fs : List Function) (os : List OpenBlock) (profile : ℕ) → has_objects (bare_building (begun profile ds fs os)) ≡ has_objects (begun profile ds fs os)
+objects_bare [] fs os profile = refl
+objects_bare (d ∷ ds) fs os profile = refl
 
 standing_bare : (b : Building) → standing (bare_building b) ≡ standing b
 standing_bare b = λ i. record {
+  profile = b.profile;
+  any_line = begun_bare b.profile b.objects b.functions b.open_blocks i || objects_bare b.objects b.functions b.open_blocks b.profile i || not (b.profile == 1);
   open_blocks = kinds_bare b.open_blocks i;
-  begun = begun_bare b.objects b.functions b.open_blocks i;
+  begun = begun_bare b.profile b.objects b.functions b.open_blocks i;
   has_main = functions_bare b.functions i || mains_bare b.open_blocks i;
 }
 

@@ -1,5 +1,5 @@
 -- The lines that were followed are the rows of what they made.
-use Rattle.std.proofs.Common.{◌≡◌, ℕ, zero, suc, ◌+◌, ◌<◌, Bool, true, false, List, [], ◌∷◌, ◌++◌, length, map, Option, Some, None, refl, sym, ap, subst, ◌∙◌, append_assoc, append-nil, arith, nat_le, if◌then◌else◌}
+use Rattle.std.proofs.Common.{◌≡◌, ℕ, zero, suc, ◌+◌, ◌<◌, Bool, true, false, List, [], ◌∷◌, ◌++◌, length, map, Option, Some, None, refl, sym, ap, subst, ◌∙◌, append_assoc, append-nil, arith, nat_le, not, ◌==◌, if◌then◌else◌}
 use Rattle.std.proofs.lemmas.List.{length-map}
 use Rattle.std.proofs.lemmas.Bool.{leb-false}
 use Rattle.gv_values.specs.declared.fault.Class.{Class}
@@ -17,12 +17,14 @@ use Rattle.scenario_grammar.specs.declared.building.OpenBlock.{OpenBlock}
 use Rattle.scenario_grammar.specs.declared.building.Opening.{Opening}
 use Rattle.scenario_grammar.specs.declared.building.Opening.TheVariants as opening
 use Rattle.scenario_grammar.specs.Tokens.{Written, ◌⊕◌, each, only_if}
-use Rattle.scenario_grammar.specs.Blocks.{Row, line, mark, statement_rows, action_rows, block_within, except_rows, is_handled, declaration_rows, function_rows}
+use Rattle.scenario_grammar.specs.Blocks.{Row, line, mark, statement_rows, action_rows, block_within, except_rows, is_handled, profile_rows, declaration_rows, function_rows}
 use Rattle.scenario_grammar.specs.Building.{Building, at, caught, opened, added, closed_by, step}
 use Rattle.scenario_grammar.specs.Parsed.{standing, kind_of}
-use Rattle.scenario_grammar.specs.Places.{Body, Declares, Defines, States, Opens, Parts, Catches, Finishes, Ends, misplaced, in_a_body}
+use Rattle.scenario_grammar.specs.Places.{Body, Profiles, Declares, Defines, States, Opens, Parts, Catches, Finishes, Ends, misplaced, in_a_body}
 use Rattle.scenario_grammar.proofs.BlockLaws.{Said}
 use Rattle.scenario_grammar.proofs.PhraseLaws.{role}
+use Rattle.scenario_grammar.specs.declared.reason.TextReason.{TextReason}
+use Rattle.scenario_grammar.specs.declared.reason.TextReason.TheVariants as reason
 
 plus_assoc : {A : Type 0} (x y z : Written A) → (x ⊕ y) ⊕ z ≡ x ⊕ (y ⊕ z)
 plus_assoc None y z = refl
@@ -60,7 +62,7 @@ open_rows d [] = Some []
 open_rows d (o ∷ os) = open_rows (suc d) os ⊕ opening_rows d o.line o.opening ⊕ block_within d o.statements
 
 abbrev pub begun_rows : ℕ → Building → Written Row
-begun_rows d b = each declaration_rows b.objects ⊕ each function_rows b.functions ⊕ open_rows d b.open_blocks
+begun_rows d b = profile_rows b.profile ⊕ each declaration_rows b.objects ⊕ each function_rows b.functions ⊕ open_rows d b.open_blocks
 
 -- The outermost block is a function's body, and no other is.
 abbrev pub Stacked : List OpenBlock → Type 0
@@ -92,12 +94,12 @@ no_statement e = refl
 behind : (x p r s : Written Row) → x ⊕ (p ⊕ (r ⊕ s)) ≡ (x ⊕ (p ⊕ r)) ⊕ s
 behind x p r s = simp plus_assoc
 
-added_rows : (ds : List Declaration) (fs : List Function) (e : ℕ) (o : OpenBlock) (os : List OpenBlock) (n : ℕ) (x : Action)
-    → begun_rows (suc e) (added (at n x ∷ []) (record { objects = ds; functions = fs; open_blocks = o ∷ os }))
-    ≡ begun_rows (suc e) (record { objects = ds; functions = fs; open_blocks = o ∷ os }) ⊕ action_rows (block_within e) n (out-Action x)
+added_rows : (profile : ℕ) (ds : List Declaration) (fs : List Function) (e : ℕ) (o : OpenBlock) (os : List OpenBlock) (n : ℕ) (x : Action)
+    → begun_rows (suc e) (added (at n x ∷ []) (record { profile = profile; objects = ds; functions = fs; open_blocks = o ∷ os }))
+    ≡ begun_rows (suc e) (record { profile = profile; objects = ds; functions = fs; open_blocks = o ∷ os }) ⊕ action_rows (block_within e) n (out-Action x)
 unfolding open_rows
-added_rows ds fs e o os n x =
-    let before = each declaration_rows ds ⊕ each function_rows fs in
+added_rows profile ds fs e o os n x =
+    let before = profile_rows profile ⊕ each declaration_rows ds ⊕ each function_rows fs in
     let outer = open_rows (suc (suc e)) os ⊕ opening_rows (suc e) o.line o.opening in
     ap (λ w. before ⊕ (outer ⊕ w)) (statement_more e o.statements n x)
     ∙ behind before outer (block_within (suc e) o.statements) (action_rows (block_within e) n (out-Action x))
@@ -117,11 +119,11 @@ giving_rows : (t : Option Name) (g : _) (e n : ℕ) → action_rows (block_withi
 giving_rows t g e n = ap (action_rows (block_within e) n) (v.outs-Giving t g)
 
 -- a block that is opened inside another
-inside_rows : (ds : List Declaration) (fs : List Function) (e : ℕ) (os : List OpenBlock) (n : ℕ) (o : Opening) (p : Phrase) → opening_rows (suc e) n o ≡ line n p
-    → begun_rows (suc e) (opened n o (record { objects = ds; functions = fs; open_blocks = os })) ≡ begun_rows (suc (suc e)) (record { objects = ds; functions = fs; open_blocks = os }) ⊕ line n p
+inside_rows : (profile : ℕ) (ds : List Declaration) (fs : List Function) (e : ℕ) (os : List OpenBlock) (n : ℕ) (o : Opening) (p : Phrase) → opening_rows (suc e) n o ≡ line n p
+    → begun_rows (suc e) (opened n o (record { profile = profile; objects = ds; functions = fs; open_blocks = os })) ≡ begun_rows (suc (suc e)) (record { profile = profile; objects = ds; functions = fs; open_blocks = os }) ⊕ line n p
 unfolding open_rows
-inside_rows ds fs e os n o p same =
-    let before = each declaration_rows ds ⊕ each function_rows fs in
+inside_rows profile ds fs e os n o p same =
+    let before = profile_rows profile ⊕ each declaration_rows ds ⊕ each function_rows fs in
     let outer = open_rows (suc (suc e)) os in
     ap (λ w. before ⊕ (outer ⊕ opening_rows (suc e) n o ⊕ w)) (no_statement e)
     ∙ ap (λ w. before ⊕ w) (plus_none (outer ⊕ opening_rows (suc e) n o))
@@ -129,13 +131,13 @@ inside_rows ds fs e os n o p same =
     ∙ ap (λ w. before ⊕ outer ⊕ w) same
 
 -- the innermost block goes on as another part, whose opening rows are the rows so far and one more
-parted_rows : (ds : List Declaration) (fs : List Function) (e : ℕ) (n : ℕ) (o q : Opening) (ss : List Statement) (os : List OpenBlock) (m : Written Row)
+parted_rows : (profile : ℕ) (ds : List Declaration) (fs : List Function) (e : ℕ) (n : ℕ) (o q : Opening) (ss : List Statement) (os : List OpenBlock) (m : Written Row)
     → opening_rows (suc e) n q ≡ opening_rows (suc e) n o ⊕ block_within (suc e) ss ⊕ m
-    → begun_rows (suc e) (record { objects = ds; functions = fs; open_blocks = record { line = n; opening = q; statements = [] } ∷ os })
-    ≡ begun_rows (suc e) (record { objects = ds; functions = fs; open_blocks = record { line = n; opening = o; statements = ss } ∷ os }) ⊕ m
+    → begun_rows (suc e) (record { profile = profile; objects = ds; functions = fs; open_blocks = record { line = n; opening = q; statements = [] } ∷ os })
+    ≡ begun_rows (suc e) (record { profile = profile; objects = ds; functions = fs; open_blocks = record { line = n; opening = o; statements = ss } ∷ os }) ⊕ m
 unfolding open_rows
-parted_rows ds fs e n o q ss os m same =
-    let before = each declaration_rows ds ⊕ each function_rows fs in
+parted_rows profile ds fs e n o q ss os m same =
+    let before = profile_rows profile ⊕ each declaration_rows ds ⊕ each function_rows fs in
     let outer = open_rows (suc (suc e)) os in
     ap (λ w. before ⊕ (outer ⊕ opening_rows (suc e) n q ⊕ w)) (no_statement e)
     ∙ ap (λ w. before ⊕ w) (plus_none (outer ⊕ opening_rows (suc e) n q))
@@ -203,35 +205,35 @@ finally_closed e n tried es ss =
     ∙ ap (λ w. w ⊕ mark phrase.End) (sym (plus_assoc start (mark phrase.Finally) (block_within e ss)))
 
 -- a block that ends inside another
-closed_rows : (ds : List Declaration) (fs : List Function) (e n : ℕ) (o : Opening) (ss : List Statement) (q : OpenBlock) (qs : List OpenBlock) (x : Action)
+closed_rows : (profile : ℕ) (ds : List Declaration) (fs : List Function) (e n : ℕ) (o : Opening) (ss : List Statement) (q : OpenBlock) (qs : List OpenBlock) (x : Action)
     → action_rows (block_within (suc e)) n (out-Action x) ≡ opening_rows (suc e) n o ⊕ block_within (suc e) ss ⊕ mark phrase.End
-    → begun_rows (suc (suc e)) (added (at n x ∷ []) (record { objects = ds; functions = fs; open_blocks = q ∷ qs }))
-    ≡ begun_rows (suc e) (record { objects = ds; functions = fs; open_blocks = record { line = n; opening = o; statements = ss } ∷ q ∷ qs }) ⊕ mark phrase.End
+    → begun_rows (suc (suc e)) (added (at n x ∷ []) (record { profile = profile; objects = ds; functions = fs; open_blocks = q ∷ qs }))
+    ≡ begun_rows (suc e) (record { profile = profile; objects = ds; functions = fs; open_blocks = record { line = n; opening = o; statements = ss } ∷ q ∷ qs }) ⊕ mark phrase.End
 unfolding open_rows
-closed_rows ds fs e n o ss q qs x same =
-    let before = each declaration_rows ds ⊕ each function_rows fs in
+closed_rows profile ds fs e n o ss q qs x same =
+    let before = profile_rows profile ⊕ each declaration_rows ds ⊕ each function_rows fs in
     let outer = open_rows (suc (suc e)) (q ∷ qs) in
-    added_rows ds fs (suc e) q qs n x
+    added_rows profile ds fs (suc e) q qs n x
     ∙ ap (λ w. before ⊕ outer ⊕ w) same
     ∙ regrouped before outer (opening_rows (suc e) n o) (block_within (suc e) ss) (mark phrase.End)
   where
     regrouped : (x o r s m : Written Row) → x ⊕ o ⊕ (r ⊕ s ⊕ m) ≡ (x ⊕ (o ⊕ r ⊕ s)) ⊕ m
     regrouped x o r s m = simp plus_assoc
 
-function_closed : (ds : List Declaration) (fs : List Function) (n : ℕ) (is_raw : Bool) (name : Name) (ps : List Name) (ss : List Statement)
-    → begun_rows 33 (record { objects = ds; functions = fs ++ record { line = n; is_raw = is_raw; name = name; parameters = ps; body = ss } ∷ []; open_blocks = [] })
-    ≡ begun_rows 32 (record { objects = ds; functions = fs; open_blocks = record { line = n; opening = opening.Function is_raw name ps; statements = ss } ∷ [] }) ⊕ mark phrase.End
+function_closed : (profile : ℕ) (ds : List Declaration) (fs : List Function) (n : ℕ) (is_raw : Bool) (name : Name) (ps : List Name) (ss : List Statement)
+    → begun_rows 33 (record { profile = profile; objects = ds; functions = fs ++ record { line = n; is_raw = is_raw; name = name; parameters = ps; body = ss } ∷ []; open_blocks = [] })
+    ≡ begun_rows 32 (record { profile = profile; objects = ds; functions = fs; open_blocks = record { line = n; opening = opening.Function is_raw name ps; statements = ss } ∷ [] }) ⊕ mark phrase.End
 unfolding open_rows
-function_closed ds fs n is_raw name ps ss =
+function_closed profile ds fs n is_raw name ps ss =
     let f : Function = record { line = n; is_raw = is_raw; name = name; parameters = ps; body = ss } in
-    ap (λ w. each declaration_rows ds ⊕ w ⊕ Some []) (each_more function_rows fs f)
-    ∙ regrouped (each declaration_rows ds) (each function_rows fs) (line n (phrase.Function is_raw name ps)) (block_within 32 ss) (mark phrase.End)
+    ap (λ w. profile_rows profile ⊕ each declaration_rows ds ⊕ w ⊕ Some []) (each_more function_rows fs f)
+    ∙ regrouped (profile_rows profile ⊕ each declaration_rows ds) (each function_rows fs) (line n (phrase.Function is_raw name ps)) (block_within 32 ss) (mark phrase.End)
   where
     regrouped : (x y l s m : Written Row) → x ⊕ (y ⊕ (l ⊕ s ⊕ m)) ⊕ Some [] ≡ (x ⊕ y ⊕ (Some [] ⊕ l ⊕ s)) ⊕ m
     regrouped x y l s m = simp (plus_none, none_plus, plus_assoc)
 
-abbrev pub begun : List Declaration → List Function → List OpenBlock → Building
-begun ds fs os = record { objects = ds; functions = fs; open_blocks = os }
+abbrev pub begun : ℕ → List Declaration → List Function → List OpenBlock → Building
+begun profile ds fs os = record { profile = profile; objects = ds; functions = fs; open_blocks = os }
 
 abbrev row_at : ℕ → Phrase → Row
 row_at n p = record { at = Some n; says = p }
@@ -239,69 +241,69 @@ row_at n p = record { at = Some n; says = p }
 abbrev row_of : Phrase → Row
 row_of p = record { at = None; says = p }
 
-room_by : (b : Bool) (x : Option ℕ) → (let r : Option ℕ = if b then Some 21 else x in r) ≡ None → b ≡ false
+room_by : (b : Bool) (x : Option TextReason) → (let r : Option TextReason = if b then Some reason.NestedTooDeep else x in r) ≡ None → b ≡ false
 room_by true x h = cc
 room_by false x h = refl
 
-room : (ds : List Declaration) (fs : List Function) (os : List OpenBlock) → misplaced (standing (begun ds fs os)) Opens ≡ None → length os < 32
-room ds fs os h =
+room : (profile : ℕ) (ds : List Declaration) (fs : List Function) (os : List OpenBlock) → misplaced (standing (begun profile ds fs os)) Opens ≡ None → length os < 32
+room profile ds fs os h =
     let kinds = map (λ (o : OpenBlock). kind_of o.opening) os in
-    let short = leb-false 32 (length kinds) (room_by (nat_le 32 (length kinds)) (in_a_body 13 kinds) h) in
+    let short = leb-false 32 (length kinds) (room_by (nat_le 32 (length kinds)) (in_a_body reason.LineOutOfPlace kinds) h) in
     omega (arith, short, length-map os (λ (o : OpenBlock). kind_of o.opening))
 
 -- a statement of one line
-states : (ds : List Declaration) (fs : List Function) (os : List OpenBlock) (e n : ℕ) (p : Phrase) (x : Action) (rs : List Row)
-    → action_rows (block_within e) n (out-Action x) ≡ line n p → step (begun ds fs os) n p ≡ added (at n x ∷ []) (begun ds fs os)
-    → Kept e (begun ds fs os) rs → misplaced (standing (begun ds fs os)) States ≡ None → Stepped (begun ds fs os) n p rs
-states ds fs [] e n p x rs same steps k h = cc
-states ds fs (o ∷ os) e n p x rs same steps k h = record {
+states : (profile : ℕ) (ds : List Declaration) (fs : List Function) (os : List OpenBlock) (e n : ℕ) (p : Phrase) (x : Action) (rs : List Row)
+    → action_rows (block_within e) n (out-Action x) ≡ line n p → step (begun profile ds fs os) n p ≡ added (at n x ∷ []) (begun profile ds fs os)
+    → Kept e (begun profile ds fs os) rs → misplaced (standing (begun profile ds fs os)) States ≡ None → Stepped (begun profile ds fs os) n p rs
+states profile ds fs [] e n p x rs same steps k h = cc
+states profile ds fs (o ∷ os) e n p x rs same steps k h = record {
   left = e;
   row = row_at n p;
   said = (refl, refl);
   kept = subst (λ b. Kept e b (rs ++ row_at n p ∷ [])) (sym steps) (record {
     levels = k.levels;
     stacked = same_stack o (o.statements ++ at n x ∷ []) os k.stacked;
-    rows = row_more (begun_rows (suc e) (begun ds fs (o ∷ os))) (begun_rows (suc e) (added (at n x ∷ []) (begun ds fs (o ∷ os)))) (row_at n p) rs
-        (added_rows ds fs e o os n x ∙ ap (λ w. begun_rows (suc e) (begun ds fs (o ∷ os)) ⊕ w) same) k.rows;
+    rows = row_more (begun_rows (suc e) (begun profile ds fs (o ∷ os))) (begun_rows (suc e) (added (at n x ∷ []) (begun profile ds fs (o ∷ os)))) (row_at n p) rs
+        (added_rows profile ds fs e o os n x ∙ ap (λ w. begun_rows (suc e) (begun profile ds fs (o ∷ os)) ⊕ w) same) k.rows;
   });
 }
 
 -- a line that opens a block in a block
-opens : (ds : List Declaration) (fs : List Function) (os : List OpenBlock) (e n : ℕ) (p : Phrase) (op : Opening) (rs : List Row)
-    → ((d : ℕ) → opening_rows d n op ≡ line n p) → step (begun ds fs os) n p ≡ opened n op (begun ds fs os) → (kind_of op ≡ Body → ⊥)
-    → Kept e (begun ds fs os) rs → misplaced (standing (begun ds fs os)) Opens ≡ None → Stepped (begun ds fs os) n p rs
-opens ds fs [] e n p op rs same steps other k h = absurd (in_a_block h)
+opens : (profile : ℕ) (ds : List Declaration) (fs : List Function) (os : List OpenBlock) (e n : ℕ) (p : Phrase) (op : Opening) (rs : List Row)
+    → ((d : ℕ) → opening_rows d n op ≡ line n p) → step (begun profile ds fs os) n p ≡ opened n op (begun profile ds fs os) → (kind_of op ≡ Body → ⊥)
+    → Kept e (begun profile ds fs os) rs → misplaced (standing (begun profile ds fs os)) Opens ≡ None → Stepped (begun profile ds fs os) n p rs
+opens profile ds fs [] e n p op rs same steps other k h = absurd (in_a_block h)
   where
-    in_a_block : misplaced (standing (begun ds fs [])) Opens ≡ None → ⊥
+    in_a_block : misplaced (standing (begun profile ds fs [])) Opens ≡ None → ⊥
     in_a_block h = cc
-opens ds fs (o ∷ os) zero n p op rs same steps other k h = absurd (omega (arith, room ds fs (o ∷ os) h, k.levels))
-opens ds fs (o ∷ os) (suc e) n p op rs same steps other k h = record {
+opens profile ds fs (o ∷ os) zero n p op rs same steps other k h = absurd (omega (arith, room profile ds fs (o ∷ os) h, k.levels))
+opens profile ds fs (o ∷ os) (suc e) n p op rs same steps other k h = record {
   left = e;
   row = row_at n p;
   said = (refl, refl);
   kept = subst (λ b. Kept e b (rs ++ row_at n p ∷ [])) (sym steps) (record {
     levels = omega (arith, k.levels);
     stacked = (other, k.stacked);
-    rows = row_more (begun_rows (suc (suc e)) (begun ds fs (o ∷ os))) (begun_rows (suc e) (opened n op (begun ds fs (o ∷ os)))) (row_at n p) rs
-        (inside_rows ds fs e (o ∷ os) n op p (same (suc e))) k.rows;
+    rows = row_more (begun_rows (suc (suc e)) (begun profile ds fs (o ∷ os))) (begun_rows (suc e) (opened n op (begun profile ds fs (o ∷ os)))) (row_at n p) rs
+        (inside_rows profile ds fs e (o ∷ os) n op p (same (suc e))) k.rows;
   });
 }
 
 -- the innermost block goes on as another part
-parts : (ds : List Declaration) (fs : List Function) (e n : ℕ) (op other : Opening) (m : ℕ) (ss : List Statement) (os : List OpenBlock) (p : Phrase) (row : Row) (rs : List Row)
+parts : (profile : ℕ) (ds : List Declaration) (fs : List Function) (e n : ℕ) (op other : Opening) (m : ℕ) (ss : List Statement) (os : List OpenBlock) (p : Phrase) (row : Row) (rs : List Row)
     → opening_rows (suc e) m other ≡ opening_rows (suc e) m op ⊕ block_within (suc e) ss ⊕ Some (row ∷ []) → Said (n, p) row
-    → step (begun ds fs (record { line = m; opening = op; statements = ss } ∷ os)) n p ≡ begun ds fs (record { line = m; opening = other; statements = [] } ∷ os)
+    → step (begun profile ds fs (record { line = m; opening = op; statements = ss } ∷ os)) n p ≡ begun profile ds fs (record { line = m; opening = other; statements = [] } ∷ os)
     → (kind_of op ≡ Body → ⊥) → (kind_of other ≡ Body → ⊥)
-    → Kept e (begun ds fs (record { line = m; opening = op; statements = ss } ∷ os)) rs → Stepped (begun ds fs (record { line = m; opening = op; statements = ss } ∷ os)) n p rs
-parts ds fs e n op other m ss os p row rs same said steps no_body no_other k = record {
+    → Kept e (begun profile ds fs (record { line = m; opening = op; statements = ss } ∷ os)) rs → Stepped (begun profile ds fs (record { line = m; opening = op; statements = ss } ∷ os)) n p rs
+parts profile ds fs e n op other m ss os p row rs same said steps no_body no_other k = record {
   left = e;
   row = row;
   said = said;
   kept = subst (λ b. Kept e b (rs ++ row ∷ [])) (sym steps) (record {
     levels = k.levels;
     stacked = restacked os k.stacked;
-    rows = row_more (begun_rows (suc e) (begun ds fs (record { line = m; opening = op; statements = ss } ∷ os))) (begun_rows (suc e) (begun ds fs (record { line = m; opening = other; statements = [] } ∷ os))) row rs
-        (parted_rows ds fs e m op other ss os (Some (row ∷ [])) same) k.rows;
+    rows = row_more (begun_rows (suc e) (begun profile ds fs (record { line = m; opening = op; statements = ss } ∷ os))) (begun_rows (suc e) (begun profile ds fs (record { line = m; opening = other; statements = [] } ∷ os))) row rs
+        (parted_rows profile ds fs e m op other ss os (Some (row ∷ [])) same) k.rows;
   });
 }
   where
@@ -310,30 +312,31 @@ parts ds fs e n op other m ss os p row rs same said steps no_body no_other k = r
     restacked (q ∷ qs) h = (no_other, h.1)
 
 -- a block inside another ends
-closes : (ds : List Declaration) (fs : List Function) (e n m : ℕ) (op : Opening) (ss : List Statement) (os : List OpenBlock) (x : Action) (rs : List Row)
+closes : (profile : ℕ) (ds : List Declaration) (fs : List Function) (e n m : ℕ) (op : Opening) (ss : List Statement) (os : List OpenBlock) (x : Action) (rs : List Row)
     → action_rows (block_within (suc e)) m (out-Action x) ≡ opening_rows (suc e) m op ⊕ block_within (suc e) ss ⊕ mark phrase.End
-    → ((os : List OpenBlock) → closed_by (begun ds fs (record { line = m; opening = op; statements = ss } ∷ os)) (record { line = m; opening = op; statements = ss }) op os ≡ added (at m x ∷ []) (begun ds fs os))
+    → ((os : List OpenBlock) → closed_by (begun profile ds fs (record { line = m; opening = op; statements = ss } ∷ os)) (record { line = m; opening = op; statements = ss }) op os ≡ added (at m x ∷ []) (begun profile ds fs os))
     → (kind_of op ≡ Body → ⊥)
-    → Kept e (begun ds fs (record { line = m; opening = op; statements = ss } ∷ os)) rs → Stepped (begun ds fs (record { line = m; opening = op; statements = ss } ∷ os)) n phrase.End rs
-closes ds fs e n m op ss [] x rs same steps no_body k = absurd (no_body k.stacked)
-closes ds fs e n m op ss (q ∷ qs) x rs same steps no_body k = record {
+    → Kept e (begun profile ds fs (record { line = m; opening = op; statements = ss } ∷ os)) rs → Stepped (begun profile ds fs (record { line = m; opening = op; statements = ss } ∷ os)) n phrase.End rs
+closes profile ds fs e n m op ss [] x rs same steps no_body k = absurd (no_body k.stacked)
+closes profile ds fs e n m op ss (q ∷ qs) x rs same steps no_body k = record {
   left = suc e;
   row = row_of phrase.End;
   said = (refl, tt);
   kept = subst (λ b. Kept (suc e) b (rs ++ row_of phrase.End ∷ [])) (sym (steps (q ∷ qs))) (record {
     levels = omega (arith, k.levels);
     stacked = same_stack q (q.statements ++ at m x ∷ []) qs k.stacked.1;
-    rows = row_more (begun_rows (suc e) (begun ds fs (record { line = m; opening = op; statements = ss } ∷ q ∷ qs))) (begun_rows (suc (suc e)) (added (at m x ∷ []) (begun ds fs (q ∷ qs)))) (row_of phrase.End) rs
-        (closed_rows ds fs e m op ss q qs x same) k.rows;
+    rows = row_more (begun_rows (suc e) (begun profile ds fs (record { line = m; opening = op; statements = ss } ∷ q ∷ qs))) (begun_rows (suc (suc e)) (added (at m x ∷ []) (begun profile ds fs (q ∷ qs)))) (row_of phrase.End) rs
+        (closed_rows profile ds fs e m op ss q qs x same) k.rows;
   });
 }
 
-declares : (ds : List Declaration) (fs : List Function) (os : List OpenBlock) (e n : ℕ) (name : Name) (object : _) (rs : List Row)
-    → Kept e (begun ds fs os) rs → misplaced (standing (begun ds fs os)) Declares ≡ None → Stepped (begun ds fs os) n (phrase.Declaration name object) rs
+declares : (profile : ℕ) (ds : List Declaration) (fs : List Function) (os : List OpenBlock) (e n : ℕ) (name : Name) (object : _) (rs : List Row)
+    → Kept e (begun profile ds fs os) rs → misplaced (standing (begun profile ds fs os)) Declares ≡ None → Stepped (begun profile ds fs os) n (phrase.Declaration name object) rs
 unfolding open_rows
-declares ds [] [] e n name object rs k h =
+declares profile ds [] [] e n name object rs k h =
     let p = phrase.Declaration name object in
     let d : Declaration = record { line = n; name = name; object = object } in
+    let before = profile_rows profile in
     record {
       left = e;
       row = row_at n p;
@@ -341,18 +344,36 @@ declares ds [] [] e n name object rs k h =
       kept = record {
         levels = k.levels;
         stacked = k.stacked;
-        rows = row_more (begun_rows (suc e) (begun ds [] [])) (begun_rows (suc e) (begun (ds ++ d ∷ []) [] [])) (row_at n p) rs
-            (plus_none (each declaration_rows (ds ++ d ∷ []) ⊕ Some []) ∙ plus_none (each declaration_rows (ds ++ d ∷ [])) ∙ each_more declaration_rows ds d
-            ∙ ap (λ w. w ⊕ line n p) (sym (plus_none (each declaration_rows ds)) ∙ sym (plus_none (each declaration_rows ds ⊕ Some [])))) k.rows;
+        rows = row_more (begun_rows (suc e) (begun profile ds [] [])) (begun_rows (suc e) (begun profile (ds ++ d ∷ []) [] [])) (row_at n p) rs
+            (plus_none (before ⊕ each declaration_rows (ds ++ d ∷ []) ⊕ Some []) ∙ plus_none (before ⊕ each declaration_rows (ds ++ d ∷ [])) ∙ ap (λ w. before ⊕ w) (each_more declaration_rows ds d)
+            ∙ sym (plus_assoc before (each declaration_rows ds) (line n p))
+            ∙ ap (λ w. w ⊕ line n p) (sym (plus_none (before ⊕ each declaration_rows ds)) ∙ sym (plus_none (before ⊕ each declaration_rows ds ⊕ Some [])))) k.rows;
       };
     }
-declares ds [] (o ∷ os) e n name object rs k h = cc
-declares ds (f ∷ fs) os e n name object rs k h = cc
+declares profile ds [] (o ∷ os) e n name object rs k h = cc
+declares profile ds (f ∷ fs) os e n name object rs k h = cc
 
-defines : (ds : List Declaration) (fs : List Function) (os : List OpenBlock) (e n : ℕ) (is_raw : Bool) (name : Name) (ps : List Name) (rs : List Row)
-    → Kept e (begun ds fs os) rs → misplaced (standing (begun ds fs os)) Defines ≡ None → Stepped (begun ds fs os) n (phrase.Function is_raw name ps) rs
-defines ds fs [] zero n is_raw name ps rs k h = absurd (omega (arith, k.levels))
-defines ds fs [] (suc e) n is_raw name ps rs k h =
+-- the line of the profile, before any other
+profiles : (profile : ℕ) (ds : List Declaration) (fs : List Function) (os : List OpenBlock) (e n : ℕ) (rs : List Row)
+    → Kept e (begun profile ds fs os) rs → misplaced (standing (begun profile ds fs os)) Profiles ≡ None → Stepped (begun profile ds fs os) n phrase.Profile rs
+unfolding open_rows
+profiles profile [] [] [] e n rs k h = by_first (profile == 1) k.rows h
+  where
+    no_rows : (let w : Written Row = Some [] in w) ≡ Some rs → (let w : Written Row = Some (row_of phrase.Profile ∷ []) in w) ≡ Some (rs ++ row_of phrase.Profile ∷ [])
+    no_rows e = ap (λ w. w ⊕ Some (row_of phrase.Profile ∷ [])) e
+
+    by_first : (first : Bool) → ((if first then Some [] else only_if (profile == 2) (mark phrase.Profile)) ⊕ Some [] ⊕ Some [] ⊕ Some []) ≡ Some rs
+        → (let r : Option TextReason = if not first then Some reason.LineOutOfPlace else None in r) ≡ None → Stepped (begun profile [] [] []) n phrase.Profile rs
+    by_first true rows h = record { left = e; row = row_of phrase.Profile; said = (refl, tt); kept = record { levels = k.levels; stacked = tt; rows = no_rows rows } }
+    by_first false rows h = cc
+profiles profile (d ∷ ds) [] [] e n rs k h = cc
+profiles profile ds [] (o ∷ os) e n rs k h = cc
+profiles profile ds (f ∷ fs) os e n rs k h = cc
+
+defines : (profile : ℕ) (ds : List Declaration) (fs : List Function) (os : List OpenBlock) (e n : ℕ) (is_raw : Bool) (name : Name) (ps : List Name) (rs : List Row)
+    → Kept e (begun profile ds fs os) rs → misplaced (standing (begun profile ds fs os)) Defines ≡ None → Stepped (begun profile ds fs os) n (phrase.Function is_raw name ps) rs
+defines profile ds fs [] zero n is_raw name ps rs k h = absurd (omega (arith, k.levels))
+defines profile ds fs [] (suc e) n is_raw name ps rs k h =
     let p = phrase.Function is_raw name ps in
     let op = opening.Function is_raw name ps in
     record {
@@ -362,25 +383,25 @@ defines ds fs [] (suc e) n is_raw name ps rs k h =
       kept = record {
         levels = omega (arith, k.levels);
         stacked = refl;
-        rows = row_more (begun_rows (suc (suc e)) (begun ds fs [])) (begun_rows (suc e) (opened n op (begun ds fs []))) (row_at n p) rs (inside_rows ds fs e [] n op p refl) k.rows;
+        rows = row_more (begun_rows (suc (suc e)) (begun profile ds fs [])) (begun_rows (suc e) (opened n op (begun profile ds fs []))) (row_at n p) rs (inside_rows profile ds fs e [] n op p refl) k.rows;
       };
     }
-defines ds fs (o ∷ os) e n is_raw name ps rs k h = cc
+defines profile ds fs (o ∷ os) e n is_raw name ps rs k h = cc
 
 -- `else` behind the first part of an `if`
-parts_here : (ds : List Declaration) (fs : List Function) (e n m : ℕ) (op : Opening) (ss : List Statement) (os : List OpenBlock) (rs : List Row)
-    → Kept e (begun ds fs (record { line = m; opening = op; statements = ss } ∷ os)) rs
-    → misplaced (standing (begun ds fs (record { line = m; opening = op; statements = ss } ∷ os))) Parts ≡ None
-    → Stepped (begun ds fs (record { line = m; opening = op; statements = ss } ∷ os)) n phrase.Else rs
-parts_here ds fs e n m (opening.If x) ss os rs k h =
-    parts ds fs e n (opening.If x) (opening.Else x ss) m ss os phrase.Else (row_of phrase.Else) rs refl (refl, tt) refl (λ b. cc) (λ b. cc) k
-parts_here ds fs e n m (opening.Function is_raw name ps) ss os rs k h = cc
-parts_here ds fs e n m (opening.Else x then_part) ss os rs k h = cc
-parts_here ds fs e n m (opening.While x) ss os rs k h = cc
-parts_here ds fs e n m opening.Try ss os rs k h = cc
-parts_here ds fs e n m (opening.Except tried es l c target) ss os rs k h = cc
-parts_here ds fs e n m (opening.Finally tried es) ss os rs k h = cc
-parts_here ds fs e n m (opening.Timeout t silent) ss os rs k h = cc
+parts_here : (profile : ℕ) (ds : List Declaration) (fs : List Function) (e n m : ℕ) (op : Opening) (ss : List Statement) (os : List OpenBlock) (rs : List Row)
+    → Kept e (begun profile ds fs (record { line = m; opening = op; statements = ss } ∷ os)) rs
+    → misplaced (standing (begun profile ds fs (record { line = m; opening = op; statements = ss } ∷ os))) Parts ≡ None
+    → Stepped (begun profile ds fs (record { line = m; opening = op; statements = ss } ∷ os)) n phrase.Else rs
+parts_here profile ds fs e n m (opening.If x) ss os rs k h =
+    parts profile ds fs e n (opening.If x) (opening.Else x ss) m ss os phrase.Else (row_of phrase.Else) rs refl (refl, tt) refl (λ b. cc) (λ b. cc) k
+parts_here profile ds fs e n m (opening.Function is_raw name ps) ss os rs k h = cc
+parts_here profile ds fs e n m (opening.Else x then_part) ss os rs k h = cc
+parts_here profile ds fs e n m (opening.While x) ss os rs k h = cc
+parts_here profile ds fs e n m opening.Try ss os rs k h = cc
+parts_here profile ds fs e n m (opening.Except tried es l c target) ss os rs k h = cc
+parts_here profile ds fs e n m (opening.Finally tried es) ss os rs k h = cc
+parts_here profile ds fs e n m (opening.Timeout t silent) ss os rs k h = cc
 
 -- an except or a finally, behind the body of a try and behind an except
 first_handler : (x y l : Written Row) → x ⊕ y ⊕ Some [] ⊕ l ≡ x ⊕ y ⊕ l
@@ -396,97 +417,98 @@ next_handler e n tried es m c target ss l =
     regrouped : (x y p s l : Written Row) → x ⊕ (y ⊕ (p ⊕ s)) ⊕ l ≡ x ⊕ y ⊕ p ⊕ s ⊕ l
     regrouped x y p s l = simp plus_assoc
 
-catches_here : (ds : List Declaration) (fs : List Function) (e n m : ℕ) (op : Opening) (ss : List Statement) (os : List OpenBlock) (c : Class) (target : Option Name) (rs : List Row)
-    → Kept e (begun ds fs (record { line = m; opening = op; statements = ss } ∷ os)) rs
-    → misplaced (standing (begun ds fs (record { line = m; opening = op; statements = ss } ∷ os))) Catches ≡ None
-    → Stepped (begun ds fs (record { line = m; opening = op; statements = ss } ∷ os)) n (phrase.Except c target) rs
-catches_here ds fs e n m opening.Try ss os c target rs k h =
-    parts ds fs e n opening.Try (opening.Except ss [] n c target) m ss os (phrase.Except c target) (row_at n (phrase.Except c target)) rs
+catches_here : (profile : ℕ) (ds : List Declaration) (fs : List Function) (e n m : ℕ) (op : Opening) (ss : List Statement) (os : List OpenBlock) (c : Class) (target : Option Name) (rs : List Row)
+    → Kept e (begun profile ds fs (record { line = m; opening = op; statements = ss } ∷ os)) rs
+    → misplaced (standing (begun profile ds fs (record { line = m; opening = op; statements = ss } ∷ os))) Catches ≡ None
+    → Stepped (begun profile ds fs (record { line = m; opening = op; statements = ss } ∷ os)) n (phrase.Except c target) rs
+catches_here profile ds fs e n m opening.Try ss os c target rs k h =
+    parts profile ds fs e n opening.Try (opening.Except ss [] n c target) m ss os (phrase.Except c target) (row_at n (phrase.Except c target)) rs
     (first_handler (line m phrase.Try) (block_within (suc e) ss) (line n (phrase.Except c target))) (refl, refl) refl (λ b. cc) (λ b. cc) k
-catches_here ds fs e n m (opening.Except tried es l d other) ss os c target rs k h =
-    parts ds fs e n (opening.Except tried es l d other) (opening.Except tried (es ++ caught l d other ss ∷ []) n c target) m ss os (phrase.Except c target) (row_at n (phrase.Except c target)) rs
+catches_here profile ds fs e n m (opening.Except tried es l d other) ss os c target rs k h =
+    parts profile ds fs e n (opening.Except tried es l d other) (opening.Except tried (es ++ caught l d other ss ∷ []) n c target) m ss os (phrase.Except c target) (row_at n (phrase.Except c target)) rs
     (next_handler (suc e) m tried es l d other ss (line n (phrase.Except c target))) (refl, refl) refl (λ b. cc) (λ b. cc) k
-catches_here ds fs e n m (opening.Function is_raw name ps) ss os c target rs k h = cc
-catches_here ds fs e n m (opening.If x) ss os c target rs k h = cc
-catches_here ds fs e n m (opening.Else x then_part) ss os c target rs k h = cc
-catches_here ds fs e n m (opening.While x) ss os c target rs k h = cc
-catches_here ds fs e n m (opening.Finally tried es) ss os c target rs k h = cc
-catches_here ds fs e n m (opening.Timeout t silent) ss os c target rs k h = cc
+catches_here profile ds fs e n m (opening.Function is_raw name ps) ss os c target rs k h = cc
+catches_here profile ds fs e n m (opening.If x) ss os c target rs k h = cc
+catches_here profile ds fs e n m (opening.Else x then_part) ss os c target rs k h = cc
+catches_here profile ds fs e n m (opening.While x) ss os c target rs k h = cc
+catches_here profile ds fs e n m (opening.Finally tried es) ss os c target rs k h = cc
+catches_here profile ds fs e n m (opening.Timeout t silent) ss os c target rs k h = cc
 
-finishes_here : (ds : List Declaration) (fs : List Function) (e n m : ℕ) (op : Opening) (ss : List Statement) (os : List OpenBlock) (rs : List Row)
-    → Kept e (begun ds fs (record { line = m; opening = op; statements = ss } ∷ os)) rs
-    → misplaced (standing (begun ds fs (record { line = m; opening = op; statements = ss } ∷ os))) Finishes ≡ None
-    → Stepped (begun ds fs (record { line = m; opening = op; statements = ss } ∷ os)) n phrase.Finally rs
-finishes_here ds fs e n m opening.Try ss os rs k h =
-    parts ds fs e n opening.Try (opening.Finally ss []) m ss os phrase.Finally (row_of phrase.Finally) rs
+finishes_here : (profile : ℕ) (ds : List Declaration) (fs : List Function) (e n m : ℕ) (op : Opening) (ss : List Statement) (os : List OpenBlock) (rs : List Row)
+    → Kept e (begun profile ds fs (record { line = m; opening = op; statements = ss } ∷ os)) rs
+    → misplaced (standing (begun profile ds fs (record { line = m; opening = op; statements = ss } ∷ os))) Finishes ≡ None
+    → Stepped (begun profile ds fs (record { line = m; opening = op; statements = ss } ∷ os)) n phrase.Finally rs
+finishes_here profile ds fs e n m opening.Try ss os rs k h =
+    parts profile ds fs e n opening.Try (opening.Finally ss []) m ss os phrase.Finally (row_of phrase.Finally) rs
     (first_handler (line m phrase.Try) (block_within (suc e) ss) (mark phrase.Finally)) (refl, tt) refl (λ b. cc) (λ b. cc) k
-finishes_here ds fs e n m (opening.Except tried es l d other) ss os rs k h =
-    parts ds fs e n (opening.Except tried es l d other) (opening.Finally tried (es ++ caught l d other ss ∷ [])) m ss os phrase.Finally (row_of phrase.Finally) rs
+finishes_here profile ds fs e n m (opening.Except tried es l d other) ss os rs k h =
+    parts profile ds fs e n (opening.Except tried es l d other) (opening.Finally tried (es ++ caught l d other ss ∷ [])) m ss os phrase.Finally (row_of phrase.Finally) rs
     (next_handler (suc e) m tried es l d other ss (mark phrase.Finally)) (refl, tt) refl (λ b. cc) (λ b. cc) k
-finishes_here ds fs e n m (opening.Function is_raw name ps) ss os rs k h = cc
-finishes_here ds fs e n m (opening.If x) ss os rs k h = cc
-finishes_here ds fs e n m (opening.Else x then_part) ss os rs k h = cc
-finishes_here ds fs e n m (opening.While x) ss os rs k h = cc
-finishes_here ds fs e n m (opening.Finally tried es) ss os rs k h = cc
-finishes_here ds fs e n m (opening.Timeout t silent) ss os rs k h = cc
+finishes_here profile ds fs e n m (opening.Function is_raw name ps) ss os rs k h = cc
+finishes_here profile ds fs e n m (opening.If x) ss os rs k h = cc
+finishes_here profile ds fs e n m (opening.Else x then_part) ss os rs k h = cc
+finishes_here profile ds fs e n m (opening.While x) ss os rs k h = cc
+finishes_here profile ds fs e n m (opening.Finally tried es) ss os rs k h = cc
+finishes_here profile ds fs e n m (opening.Timeout t silent) ss os rs k h = cc
 
-function_ends : (ds : List Declaration) (fs : List Function) (e n m : ℕ) (is_raw : Bool) (name : Name) (ps : List Name) (ss : List Statement) (rs : List Row)
-    → Kept e (begun ds fs (record { line = m; opening = opening.Function is_raw name ps; statements = ss } ∷ [])) rs
-    → Stepped (begun ds fs (record { line = m; opening = opening.Function is_raw name ps; statements = ss } ∷ [])) n phrase.End rs
-function_ends ds fs e n m is_raw name ps ss rs k =
+function_ends : (profile : ℕ) (ds : List Declaration) (fs : List Function) (e n m : ℕ) (is_raw : Bool) (name : Name) (ps : List Name) (ss : List Statement) (rs : List Row)
+    → Kept e (begun profile ds fs (record { line = m; opening = opening.Function is_raw name ps; statements = ss } ∷ [])) rs
+    → Stepped (begun profile ds fs (record { line = m; opening = opening.Function is_raw name ps; statements = ss } ∷ [])) n phrase.End rs
+function_ends profile ds fs e n m is_raw name ps ss rs k =
     let top : e ≡ 31 = omega (arith, k.levels) in
-    let b = begun ds fs (record { line = m; opening = opening.Function is_raw name ps; statements = ss } ∷ []) in
+    let b = begun profile ds fs (record { line = m; opening = opening.Function is_raw name ps; statements = ss } ∷ []) in
     let kept = subst (λ e. Kept e b rs) top k in
     record {
       left = 32;
       row = row_of phrase.End;
       said = (refl, tt);
-      kept = record { levels = refl; stacked = tt; rows = row_more (begun_rows 32 b) (begun_rows 33 (step b n phrase.End)) (row_of phrase.End) rs (function_closed ds fs m is_raw name ps ss) kept.rows };
+      kept = record { levels = refl; stacked = tt; rows = row_more (begun_rows 32 b) (begun_rows 33 (step b n phrase.End)) (row_of phrase.End) rs (function_closed profile ds fs m is_raw name ps ss) kept.rows };
     }
 
-ends_here : (ds : List Declaration) (fs : List Function) (e n m : ℕ) (op : Opening) (ss : List Statement) (os : List OpenBlock) (rs : List Row)
-    → Kept e (begun ds fs (record { line = m; opening = op; statements = ss } ∷ os)) rs
-    → misplaced (standing (begun ds fs (record { line = m; opening = op; statements = ss } ∷ os))) Ends ≡ None
-    → Stepped (begun ds fs (record { line = m; opening = op; statements = ss } ∷ os)) n phrase.End rs
-ends_here ds fs e n m (opening.Function is_raw name ps) ss [] rs k h = function_ends ds fs e n m is_raw name ps ss rs k
-ends_here ds fs e n m (opening.Function is_raw name ps) ss (q ∷ qs) rs k h = absurd (k.stacked.0 refl)
-ends_here ds fs e n m (opening.If x) ss os rs k h = closes ds fs e n m (opening.If x) ss os (a.If x ss None) rs (if_closed (suc e) m x ss) (λ os. refl) (λ b. cc) k
-ends_here ds fs e n m (opening.Else x then_part) ss os rs k h = closes ds fs e n m (opening.Else x then_part) ss os (a.If x then_part (Some ss)) rs (else_closed (suc e) m x then_part ss) (λ os. refl) (λ b. cc) k
-ends_here ds fs e n m (opening.While x) ss os rs k h = closes ds fs e n m (opening.While x) ss os (a.While x ss) rs (while_closed (suc e) m x ss) (λ os. refl) (λ b. cc) k
-ends_here ds fs e n m opening.Try ss os rs k h = cc
-ends_here ds fs e n m (opening.Except tried es l d other) ss os rs k h =
-    closes ds fs e n m (opening.Except tried es l d other) ss os (a.Try tried (es ++ caught l d other ss ∷ []) None) rs (except_closed (suc e) m tried es l d other ss) (λ os. refl) (λ b. cc) k
-ends_here ds fs e n m (opening.Finally tried es) ss os rs k h =
-    closes ds fs e n m (opening.Finally tried es) ss os (a.Try tried es (Some ss)) rs (finally_closed (suc e) m tried es ss) (λ os. refl) (λ b. cc) k
-ends_here ds fs e n m (opening.Timeout t silent) ss os rs k h = closes ds fs e n m (opening.Timeout t silent) ss os (a.Timeout t silent ss) rs (timeout_closed (suc e) m t silent ss) (λ os. refl) (λ b. cc) k
+ends_here : (profile : ℕ) (ds : List Declaration) (fs : List Function) (e n m : ℕ) (op : Opening) (ss : List Statement) (os : List OpenBlock) (rs : List Row)
+    → Kept e (begun profile ds fs (record { line = m; opening = op; statements = ss } ∷ os)) rs
+    → misplaced (standing (begun profile ds fs (record { line = m; opening = op; statements = ss } ∷ os))) Ends ≡ None
+    → Stepped (begun profile ds fs (record { line = m; opening = op; statements = ss } ∷ os)) n phrase.End rs
+ends_here profile ds fs e n m (opening.Function is_raw name ps) ss [] rs k h = function_ends profile ds fs e n m is_raw name ps ss rs k
+ends_here profile ds fs e n m (opening.Function is_raw name ps) ss (q ∷ qs) rs k h = absurd (k.stacked.0 refl)
+ends_here profile ds fs e n m (opening.If x) ss os rs k h = closes profile ds fs e n m (opening.If x) ss os (a.If x ss None) rs (if_closed (suc e) m x ss) (λ os. refl) (λ b. cc) k
+ends_here profile ds fs e n m (opening.Else x then_part) ss os rs k h = closes profile ds fs e n m (opening.Else x then_part) ss os (a.If x then_part (Some ss)) rs (else_closed (suc e) m x then_part ss) (λ os. refl) (λ b. cc) k
+ends_here profile ds fs e n m (opening.While x) ss os rs k h = closes profile ds fs e n m (opening.While x) ss os (a.While x ss) rs (while_closed (suc e) m x ss) (λ os. refl) (λ b. cc) k
+ends_here profile ds fs e n m opening.Try ss os rs k h = cc
+ends_here profile ds fs e n m (opening.Except tried es l d other) ss os rs k h =
+    closes profile ds fs e n m (opening.Except tried es l d other) ss os (a.Try tried (es ++ caught l d other ss ∷ []) None) rs (except_closed (suc e) m tried es l d other ss) (λ os. refl) (λ b. cc) k
+ends_here profile ds fs e n m (opening.Finally tried es) ss os rs k h =
+    closes profile ds fs e n m (opening.Finally tried es) ss os (a.Try tried es (Some ss)) rs (finally_closed (suc e) m tried es ss) (λ os. refl) (λ b. cc) k
+ends_here profile ds fs e n m (opening.Timeout t silent) ss os rs k h = closes profile ds fs e n m (opening.Timeout t silent) ss os (a.Timeout t silent ss) rs (timeout_closed (suc e) m t silent ss) (λ os. refl) (λ b. cc) k
 
 -- one line more, in its place
 pub steps : (b : Building) (e n : ℕ) (p : Phrase) (rs : List Row) → Kept e b rs → misplaced (standing b) (role p) ≡ None → Stepped b n p rs
-steps b e n (phrase.Declaration name object) rs k h = declares b.objects b.functions b.open_blocks e n name object rs k h
-steps b e n (phrase.Function is_raw name ps) rs k h = defines b.objects b.functions b.open_blocks e n is_raw name ps rs k h
-steps b e n (phrase.Command c) rs k h = states b.objects b.functions b.open_blocks e n (phrase.Command c) (a.Command c) rs (command_rows c e n) refl k h
-steps b e n (phrase.Giving t g) rs k h = states b.objects b.functions b.open_blocks e n (phrase.Giving t g) (a.Giving t g) rs (giving_rows t g e n) refl k h
-steps b e n (phrase.If x) rs k h = opens b.objects b.functions b.open_blocks e n (phrase.If x) (opening.If x) rs (λ d. refl) refl (λ b. cc) k h
-steps b e n (phrase.While x) rs k h = opens b.objects b.functions b.open_blocks e n (phrase.While x) (opening.While x) rs (λ d. refl) refl (λ b. cc) k h
-steps b e n phrase.Try rs k h = opens b.objects b.functions b.open_blocks e n phrase.Try opening.Try rs (λ d. refl) refl (λ b. cc) k h
-steps b e n (phrase.Timeout t silent) rs k h = opens b.objects b.functions b.open_blocks e n (phrase.Timeout t silent) (opening.Timeout t silent) rs (λ d. refl) refl (λ b. cc) k h
+steps b e n phrase.Profile rs k h = profiles b.profile b.objects b.functions b.open_blocks e n rs k h
+steps b e n (phrase.Declaration name object) rs k h = declares b.profile b.objects b.functions b.open_blocks e n name object rs k h
+steps b e n (phrase.Function is_raw name ps) rs k h = defines b.profile b.objects b.functions b.open_blocks e n is_raw name ps rs k h
+steps b e n (phrase.Command c) rs k h = states b.profile b.objects b.functions b.open_blocks e n (phrase.Command c) (a.Command c) rs (command_rows c e n) refl k h
+steps b e n (phrase.Giving t g) rs k h = states b.profile b.objects b.functions b.open_blocks e n (phrase.Giving t g) (a.Giving t g) rs (giving_rows t g e n) refl k h
+steps b e n (phrase.If x) rs k h = opens b.profile b.objects b.functions b.open_blocks e n (phrase.If x) (opening.If x) rs (λ d. refl) refl (λ b. cc) k h
+steps b e n (phrase.While x) rs k h = opens b.profile b.objects b.functions b.open_blocks e n (phrase.While x) (opening.While x) rs (λ d. refl) refl (λ b. cc) k h
+steps b e n phrase.Try rs k h = opens b.profile b.objects b.functions b.open_blocks e n phrase.Try opening.Try rs (λ d. refl) refl (λ b. cc) k h
+steps b e n (phrase.Timeout t silent) rs k h = opens b.profile b.objects b.functions b.open_blocks e n (phrase.Timeout t silent) (opening.Timeout t silent) rs (λ d. refl) refl (λ b. cc) k h
 steps b e n phrase.Else rs k h = in_block b.open_blocks k h
   where
-    in_block : (os : List OpenBlock) → Kept e (begun b.objects b.functions os) rs → misplaced (standing (begun b.objects b.functions os)) Parts ≡ None → Stepped (begun b.objects b.functions os) n phrase.Else rs
+    in_block : (os : List OpenBlock) → Kept e (begun b.profile b.objects b.functions os) rs → misplaced (standing (begun b.profile b.objects b.functions os)) Parts ≡ None → Stepped (begun b.profile b.objects b.functions os) n phrase.Else rs
     in_block [] k h = cc
-    in_block (o ∷ os) k h = parts_here b.objects b.functions e n o.line o.opening o.statements os rs k h
+    in_block (o ∷ os) k h = parts_here b.profile b.objects b.functions e n o.line o.opening o.statements os rs k h
 steps b e n (phrase.Except c t) rs k h = in_block b.open_blocks k h
   where
-    in_block : (os : List OpenBlock) → Kept e (begun b.objects b.functions os) rs → misplaced (standing (begun b.objects b.functions os)) Catches ≡ None → Stepped (begun b.objects b.functions os) n (phrase.Except c t) rs
+    in_block : (os : List OpenBlock) → Kept e (begun b.profile b.objects b.functions os) rs → misplaced (standing (begun b.profile b.objects b.functions os)) Catches ≡ None → Stepped (begun b.profile b.objects b.functions os) n (phrase.Except c t) rs
     in_block [] k h = cc
-    in_block (o ∷ os) k h = catches_here b.objects b.functions e n o.line o.opening o.statements os c t rs k h
+    in_block (o ∷ os) k h = catches_here b.profile b.objects b.functions e n o.line o.opening o.statements os c t rs k h
 steps b e n phrase.Finally rs k h = in_block b.open_blocks k h
   where
-    in_block : (os : List OpenBlock) → Kept e (begun b.objects b.functions os) rs → misplaced (standing (begun b.objects b.functions os)) Finishes ≡ None → Stepped (begun b.objects b.functions os) n phrase.Finally rs
+    in_block : (os : List OpenBlock) → Kept e (begun b.profile b.objects b.functions os) rs → misplaced (standing (begun b.profile b.objects b.functions os)) Finishes ≡ None → Stepped (begun b.profile b.objects b.functions os) n phrase.Finally rs
     in_block [] k h = cc
-    in_block (o ∷ os) k h = finishes_here b.objects b.functions e n o.line o.opening o.statements os rs k h
+    in_block (o ∷ os) k h = finishes_here b.profile b.objects b.functions e n o.line o.opening o.statements os rs k h
 steps b e n phrase.End rs k h = in_block b.open_blocks k h
   where
-    in_block : (os : List OpenBlock) → Kept e (begun b.objects b.functions os) rs → misplaced (standing (begun b.objects b.functions os)) Ends ≡ None → Stepped (begun b.objects b.functions os) n phrase.End rs
+    in_block : (os : List OpenBlock) → Kept e (begun b.profile b.objects b.functions os) rs → misplaced (standing (begun b.profile b.objects b.functions os)) Ends ≡ None → Stepped (begun b.profile b.objects b.functions os) n phrase.End rs
     in_block [] k h = cc
-    in_block (o ∷ os) k h = ends_here b.objects b.functions e n o.line o.opening o.statements os rs k h
+    in_block (o ∷ os) k h = ends_here b.profile b.objects b.functions e n o.line o.opening o.statements os rs k h

@@ -21,6 +21,7 @@ use Rattle.scenario_grammar.specs.Parsed.{standing, kind_of}
 use Rattle.scenario_grammar.specs.Places.{Then, Catching, States, Opens, Parts, Catches, Finishes, Ends, misplaced, is_try, is_trying}
 use Rattle.scenario_grammar.proofs.Parts.{both}
 use Rattle.scenario_grammar.proofs.PhraseLaws.{role}
+use Rattle.scenario_grammar.specs.declared.reason.TextReason.{TextReason}
 
 -- The lines in turn, each in its place: what they make, none where one is out of place.
 unfoldable pub follow : Building → List (ℕ × Phrase) → Option Building
@@ -37,12 +38,12 @@ AreSaid [] (r ∷ rs) = ⊥
 AreSaid (l ∷ ls) [] = ⊥
 AreSaid (l ∷ ls) (r ∷ rs) = Said l r × AreSaid ls rs
 
-further : (m : Option ℕ) (x y : Option Building) (c d : Building) → (x ≡ Some c → y ≡ Some d) → (let r : Option Building = elim m [ Some r ↦ None | None ↦ x ] in r) ≡ Some c
+further : (m : Option TextReason) (x y : Option Building) (c d : Building) → (x ≡ Some c → y ≡ Some d) → (let r : Option Building = elim m [ Some r ↦ None | None ↦ x ] in r) ≡ Some c
     → (let r : Option Building = elim m [ Some r ↦ None | None ↦ y ] in r) ≡ Some d
 further None x y c d more e = more e
 further (Some r) x y c d more e = cc
 
-placed : (m : Option ℕ) (x : Option Building) → m ≡ None → (let r : Option Building = elim m [ Some r ↦ None | None ↦ x ] in r) ≡ x
+placed : (m : Option TextReason) (x : Option Building) → m ≡ None → (let r : Option Building = elim m [ Some r ↦ None | None ↦ x ] in r) ≡ x
 placed None x e = refl
 placed (Some r) x e = cc
 
@@ -127,7 +128,7 @@ none_list [] = refl
 none_list (o ∷ os) = λ i. record o { statements = sym (append-nil o.statements) i } ∷ os
 
 more_list : (s : Statement) (ss : List Statement) (os : List OpenBlock)
-    → (added ss (added (s ∷ []) (record { objects = []; functions = []; open_blocks = os }))).open_blocks ≡ (added (s ∷ ss) (record { objects = []; functions = []; open_blocks = os })).open_blocks
+    → (added ss (added (s ∷ []) (record { profile = 1; objects = []; functions = []; open_blocks = os }))).open_blocks ≡ (added (s ∷ ss) (record { profile = 1; objects = []; functions = []; open_blocks = os })).open_blocks
 more_list s ss [] = refl
 more_list s ss (o ∷ os) = λ i. record o { statements = append_assoc o.statements (s ∷ []) ss i } ∷ os
 
@@ -194,10 +195,10 @@ as_ending : (d : ℕ) (b : Building) → Inside d IsCatching b → Inside d IsEn
 as_ending d b h = record { inner = h.inner; outer = h.outer; is = h.is; kind = rw h.kind refl; levels = h.levels }
 
 added_none : (d : ℕ) (b : Building) → Inside d Anyway b → b ≡ added [] b
-added_none d b h = λ i. record { objects = b.objects; functions = b.functions; open_blocks = none_list b.open_blocks i }
+added_none d b h = λ i. record { profile = b.profile; objects = b.objects; functions = b.functions; open_blocks = none_list b.open_blocks i }
 
 added_more : (d : ℕ) (s : Statement) (ss : List Statement) (b : Building) → Inside d Anyway b → added ss (added (s ∷ []) b) ≡ added (s ∷ ss) b
-added_more d s ss b h = λ i. record { objects = b.objects; functions = b.functions; open_blocks = more_list s ss b.open_blocks i }
+added_more d s ss b h = λ i. record { profile = b.profile; objects = b.objects; functions = b.functions; open_blocks = more_list s ss b.open_blocks i }
 
 abbrev pub BlockMakes : ℕ → Type 0
 BlockMakes d = (ss : List Statement) → Makes (block_within d ss) (Inside d Anyway) (added ss)

@@ -1,5 +1,5 @@
 -- A text that a tree spells is read as that tree.
-use Rattle.std.proofs.Common.{◌≡◌, ℕ, ◌+◌, Bool, true, false, ◌&&◌, ◌||◌, not, cond, if◌then◌else◌, nat_lt, List, [], ◌∷◌, ◌++◌, length, map, Option, Some, None, Result, Ok, Err, refl, sym, ◌∙◌, append_assoc, append-nil}
+use Rattle.std.proofs.Common.{◌≡◌, ◌==◌, ℕ, ◌+◌, ◌≤◌, arith, ap, subst, Bool, true, false, ◌&&◌, ◌||◌, not, cond, if◌then◌else◌, nat_lt, List, [], ◌∷◌, ◌++◌, length, map, Option, Some, None, Result, Ok, Err, refl, sym, ◌∙◌, append_assoc, append-nil, ◌⊎◌, inl, inr}
 use Rattle.std.specs.Prelude.{position, count_by}
 use Rattle.std.specs.List.{list_all, list_any, position_from}
 use Rattle.std.specs.Option.{IsSomeAnd}
@@ -11,25 +11,37 @@ use Rattle.scenario_grammar.specs.declared.phrase.Phrase.{Phrase}
 use Rattle.scenario_grammar.specs.declared.phrase.Phrase.TheVariants as phrase
 use Rattle.scenario_grammar.specs.declared.building.Opening.TheVariants as opening
 use Rattle.scenario_grammar.specs.declared.place.Place.{Place}
-use Rattle.scenario_grammar.specs.Blocks.{Row, line, mark, block_within, declaration_rows, function_rows, scenario_rows}
+use Rattle.scenario_grammar.specs.Blocks.{Row, line, mark, block_within, profile_rows, declaration_rows, function_rows, scenario_rows}
 use Rattle.scenario_grammar.specs.Building.{Building, added, ended, opened, step}
 use Rattle.scenario_grammar.specs.Layout.{Line, lines, is_end, is_spaced, is_ended, is_text_byte, most_bytes, IsText}
 use Rattle.scenario_grammar.specs.Parsed.{nothing_yet, standing, read_words, read_line, read_lines, scenario, finished, reading}
 use Rattle.scenario_grammar.specs.Phrases.{phrase_tokens}
-use Rattle.scenario_grammar.specs.Places.{Declares, Defines, misplaced, role_of, line_at, last_line, place_in_bytes}
-use Rattle.std.proofs.lemmas.Bool.{le-ltb}
+use Rattle.scenario_grammar.specs.Places.{Profiles, Declares, Defines, misplaced, role_of, line_at, last_line, place_in_bytes}
+use Rattle.std.proofs.lemmas.Bool.{eqb-true, le-ltb}
 use Rattle.scenario_grammar.specs.Reading.{phrase_of, ◌>>=◌}
 use Rattle.scenario_grammar.specs.Spells.{AreRows, is_main, Spells}
-use Rattle.scenario_grammar.specs.Tokens.{◌⊕◌, each, token_of}
-use Rattle.scenario_grammar.proofs.BlockLaws.{follow, AreSaid, Makes, then_makes, line_makes, none_makes, makes_as, Inside, Anyway, IsEnding, block_makes, end_makes}
+use Rattle.scenario_grammar.specs.Tokens.{◌⊕◌, each, only_if, token_in}
+use Rattle.scenario_grammar.proofs.BlockLaws.{follow, AreSaid, Makes, then_makes, line_makes, none_makes, mark_makes, makes_as, Inside, Anyway, IsEnding, block_makes, end_makes}
 use Rattle.scenario_grammar.proofs.PhraseLaws.{role, phrase_read}
+use Rattle.scenario_grammar.specs.declared.reason.TextReason.{TextReason}
+use Rattle.scenario_grammar.specs.declared.reason.TextReason.TheVariants as reason
+use Rattle.scenario_grammar.specs.Reasons.{text_number}
+use Rattle.scenario_grammar.proofs.Parts.{both}
+use Rattle.scenario_grammar.proofs.Profiles.{profile_said, says_later, step_grows}
 
 -- no function has begun
 abbrev Fresh : Building → Type 0
 Fresh b = (b.functions ≡ []) × (b.open_blocks ≡ [])
 
+-- nothing has been read
+abbrev Nothing : Building → Type 0
+Nothing b = (b.profile ≡ 1) × (b.objects ≡ []) × Fresh b
+
 abbrev AtTop : Building → Type 0
 AtTop b = b.open_blocks ≡ []
+
+abbrev profiled : ℕ → Building → Building
+profiled profile b = record b { profile = profile }
 
 abbrev declared : List Declaration → Building → Building
 declared ds b = record b { objects = b.objects ++ ds }
@@ -42,6 +54,26 @@ declares_here b h = rw (h.0, h.1) refl
 
 defines_here : (b : Building) → AtTop b → misplaced (standing b) Defines ≡ None
 defines_here b h = rw h refl
+
+profiles_here : (b : Building) → Nothing b → misplaced (standing b) Profiles ≡ None
+profiles_here b h = rw (h.0, h.1, h.2.0, h.2.1) refl
+
+-- what has no rows makes anything
+no_rows : (P : Building → Type 0) (change : Building → Building) → Makes None P change
+no_rows P change rs ls b w said h = cc
+
+profile_makes : (p : ℕ) → Makes (profile_rows p) Nothing (profiled p)
+profile_makes p = by_first (p == 1) refl
+  where
+    by_second : (second : Bool) → (p == 2) ≡ second → Makes (only_if second (mark phrase.Profile)) Nothing (profiled p)
+    by_second true e =
+        makes_as (mark phrase.Profile) Nothing (profiled 2) (profiled p) (mark_makes phrase.Profile Nothing (profiled 2) profiles_here (λ b n. refl))
+        (λ b h. λ i. record b { profile = sym (eqb-true p 2 e) i })
+    by_second false e = no_rows Nothing (profiled p)
+
+    by_first : (first : Bool) → (p == 1) ≡ first → Makes (if first then Some [] else only_if (p == 2) (mark phrase.Profile)) Nothing (profiled p)
+    by_first true e = makes_as (Some []) Nothing (λ b. b) (profiled p) (none_makes Nothing) (λ b h. λ i. record b { profile = (h.0 ∙ sym (eqb-true p 1 e)) i })
+    by_first false e = by_second (p == 2) refl
 
 declarations_make : (ds : List Declaration) → Makes (each declaration_rows ds) Fresh (declared ds)
 declarations_make [] = makes_as (Some []) Fresh (λ b. b) (declared []) (none_makes Fresh) (λ b h. λ i. record b { objects = sym (append-nil b.objects) i })
@@ -70,14 +102,16 @@ functions_make (f ∷ fs) =
     (λ b h. λ i. record b { functions = append_assoc b.functions (f ∷ []) fs i })
 
 abbrev pub built : Scenario → Building
-built s = record { objects = s.objects; functions = s.functions; open_blocks = [] }
+built s = record { profile = s.profile; objects = s.objects; functions = s.functions; open_blocks = [] }
 
 -- the lines of a tree make the tree
 pub scenario_makes : (s : Scenario) (rs : List Row) (ls : List (ℕ × Phrase)) → scenario_rows s ≡ Some rs → AreSaid ls rs → follow nothing_yet ls ≡ Some (built s)
 unfolding scenario_rows
 scenario_makes s rs ls w said =
-    then_makes (each declaration_rows s.objects) (each function_rows s.functions) Fresh AtTop (declared s.objects) (defined s.functions)
-    (declarations_make s.objects) (functions_make s.functions) (λ b h. h.1) rs ls nothing_yet w said (refl, refl)
+    then_makes (profile_rows s.profile ⊕ each declaration_rows s.objects) (each function_rows s.functions) Nothing AtTop (λ b. declared s.objects (profiled s.profile b)) (defined s.functions)
+    (then_makes (profile_rows s.profile) (each declaration_rows s.objects) Nothing Fresh (profiled s.profile) (declared s.objects)
+    (profile_makes s.profile) (declarations_make s.objects) (λ b h. h.2))
+    (functions_make s.functions) (λ b h. h.2.1) rs ls nothing_yet w said (refl, refl, (refl, refl))
 
 -- the lines of a text, by their numbers and what the rows say
 abbrev pub numbered : List Line → List Row → List (ℕ × Phrase)
@@ -85,30 +119,30 @@ numbered [] rs = []
 numbered (l ∷ ls) [] = []
 numbered (l ∷ ls) (r ∷ rs) = (l.number, r.says) ∷ numbered ls rs
 
--- the lines say what the rows say
-abbrev pub AreTold : List Line → List Row → Type 0
-AreTold [] [] = Unit {0}
-AreTold [] (r ∷ rs) = ⊥
-AreTold (l ∷ ls) [] = ⊥
-AreTold (l ∷ ls) (r ∷ rs) = (phrase_tokens r.says ≡ Some (map token_of l.words)) × AreTold ls rs
+-- the lines say in this profile what the rows say
+abbrev pub AreTold : ℕ → List Line → List Row → Type 0
+AreTold profile [] [] = Unit {0}
+AreTold profile [] (r ∷ rs) = ⊥
+AreTold profile (l ∷ ls) [] = ⊥
+AreTold profile (l ∷ ls) (r ∷ rs) = (phrase_tokens r.says ≡ Some (map (token_in profile) l.words)) × AreTold profile ls rs
 
-pub told : (ls : List Line) (rs : List Row) → AreRows ls rs → AreTold ls rs
-told [] [] h = tt
-told [] (r ∷ rs) h = absurd h
-told (l ∷ ls) [] h = absurd h
-told (l ∷ ls) (r ∷ rs) h = (h.0.0, told ls rs h.1)
+pub told : (profile : ℕ) (ls : List Line) (rs : List Row) → AreRows profile ls rs → AreTold profile ls rs
+told profile [] [] h = tt
+told profile [] (r ∷ rs) h = absurd h
+told profile (l ∷ ls) [] h = absurd h
+told profile (l ∷ ls) (r ∷ rs) h = (h.0.0, told profile ls rs h.1)
 
-pub numbered_said : (ls : List Line) (rs : List Row) → AreRows ls rs → AreSaid (numbered ls rs) rs
-numbered_said [] [] h = tt
-numbered_said [] (r ∷ rs) h = absurd h
-numbered_said (l ∷ ls) [] h = absurd h
-numbered_said (l ∷ ls) (r ∷ rs) h = ((refl, h.0.1), numbered_said ls rs h.1)
+pub numbered_said : (profile : ℕ) (ls : List Line) (rs : List Row) → AreRows profile ls rs → AreSaid (numbered ls rs) rs
+numbered_said profile [] [] h = tt
+numbered_said profile [] (r ∷ rs) h = absurd h
+numbered_said profile (l ∷ ls) [] h = absurd h
+numbered_said profile (l ∷ ls) (r ∷ rs) h = ((refl, h.0.1), numbered_said profile ls rs h.1)
 
 pub record Next (b c : Building) (n : ℕ) (p : Phrase) (ls : List (ℕ × Phrase)) : Type 0 where
   pub placed : misplaced (standing b) (role p) ≡ None
   pub after : follow (step b n p) ls ≡ Some c
 
-next_by : (m : Option ℕ) (x : Option Building) (c : Building) → (let r : Option Building = elim m [ Some r ↦ None | None ↦ x ] in r) ≡ Some c → (m ≡ None) × (x ≡ Some c)
+next_by : (m : Option TextReason) (x : Option Building) (c : Building) → (let r : Option Building = elim m [ Some r ↦ None | None ↦ x ] in r) ≡ Some c → (m ≡ None) × (x ≡ Some c)
 next_by None x c e = (refl, e)
 next_by (Some r) x c e = cc
 
@@ -116,23 +150,23 @@ pub next : (b c : Building) (n : ℕ) (p : Phrase) (ls : List (ℕ × Phrase)) �
 unfolding follow
 next b c n p ls e = let x = next_by (misplaced (standing b) (role p)) (follow (step b n p) ls) c e in record { placed = x.0; after = x.1 }
 
-words_by : (m : Option ℕ) (q : Result Phrase ℕ) (b : Building) (n : ℕ) (p : Phrase) → m ≡ None → q ≡ Ok p → (let r : Result Building ℕ = elim m [ Some r ↦ Err r | None ↦ q >>= λ p. Ok (step b n p) ] in r) ≡ Ok (step b n p)
+words_by : (m : Option TextReason) (q : Result Phrase TextReason) (b : Building) (n : ℕ) (p : Phrase) → m ≡ None → q ≡ Ok p → (let r : Result Building TextReason = elim m [ Some r ↦ Err r | None ↦ q >>= λ p. Ok (step b n p) ] in r) ≡ Ok (step b n p)
 words_by None q b n p m e = rw e refl
 words_by (Some r) q b n p m e = cc
 
 -- one line, in its place
-pub line_full : (b : Building) (l : Line) (p : Phrase) → is_spaced l ≡ true → phrase_tokens p ≡ Some (map token_of l.words) → misplaced (standing b) (role p) ≡ None → read_line b l ≡ Ok (step b l.number p)
+pub line_full : (b : Building) (l : Line) (p : Phrase) → is_spaced l ≡ true → phrase_tokens p ≡ Some (map (token_in b.profile) l.words) → misplaced (standing b) (role p) ≡ None → read_line b l ≡ Ok (step b l.number p)
 line_full b l p spaced says placed =
-    let r = phrase_read p (map token_of l.words) says in
+    let r = phrase_read p (map (token_in b.profile) l.words) says in
     by_space (is_spaced l) spaced
-    (words_by (misplaced (standing b) (role_of (map token_of l.words))) (phrase_of (map token_of l.words)) b l.number p (r.place (standing b) ∙ placed) r.read)
+    (words_by (misplaced (standing b) (role_of (map (token_in b.profile) l.words))) (phrase_of (map (token_in b.profile) l.words)) b l.number p (r.place (standing b) ∙ placed) r.read)
   where
-    by_space : (s : Bool) → s ≡ true → read_words b l.number (map token_of l.words) ≡ Ok (step b l.number p) → (if s then read_words b l.number (map token_of l.words) else Err 4) ≡ Ok (step b l.number p)
+    by_space : (s : Bool) → s ≡ true → read_words b l.number (map (token_in b.profile) l.words) ≡ Ok (step b l.number p) → (if s then read_words b l.number (map (token_in b.profile) l.words) else Err reason.BlankOutOfPlace) ≡ Ok (step b l.number p)
     by_space true e f = f
     by_space false e f = cc
 
-lines_by : (r : Result Building ℕ) (b c : Building) (n : ℕ) (ls : List Line) → r ≡ Ok b → read_lines b ls ≡ Ok c
-    → (let x : Result Building Place = elim r [ Ok d ↦ read_lines d ls | Err r ↦ Err (record { line = n; reason = r }) ] in x) ≡ Ok c
+lines_by : (r : Result Building TextReason) (b c : Building) (n : ℕ) (ls : List Line) → r ≡ Ok b → read_lines b ls ≡ Ok c
+    → (let x : Result Building Place = elim r [ Ok d ↦ read_lines d ls | Err r ↦ Err (record { line = n; reason = text_number r }) ] in x) ≡ Ok c
 lines_by (Ok d) b c n ls e f = let same : d ≡ b = cc in rw same f
 lines_by (Err r) b c n ls e f = cc
 
@@ -140,16 +174,70 @@ and_first : (a b : Bool) → (a && b) ≡ true → (a ≡ true) × (b ≡ true)
 and_first true b h = (refl, h)
 and_first false b h = cc
 
-pub lines_full : (ls : List Line) (rs : List Row) (b c : Building) → AreTold ls rs → list_all is_spaced ls ≡ true → follow b (numbered ls rs) ≡ Some c → read_lines b ls ≡ Ok c
+-- line by line, where the profile is at least the one in which they say so
+pub lines_full : (profile : ℕ) (ls : List Line) (rs : List Row) (b c : Building) → profile ≤ b.profile → AreTold profile ls rs → list_all is_spaced ls ≡ true
+    → follow b (numbered ls rs) ≡ Some c → read_lines b ls ≡ Ok c
 unfolding follow read_lines
-lines_full [] [] b c h spaced e = let same : b ≡ c = cc in rw same refl
-lines_full [] (r ∷ rs) b c h spaced e = absurd h
-lines_full (l ∷ ls) [] b c h spaced e = absurd h
-lines_full (l ∷ ls) (r ∷ rs) b c h spaced e =
+lines_full profile [] [] b c least h spaced e = let same : b ≡ c = cc in rw same refl
+lines_full profile [] (r ∷ rs) b c least h spaced e = absurd h
+lines_full profile (l ∷ ls) [] b c least h spaced e = absurd h
+lines_full profile (l ∷ ls) (r ∷ rs) b c least h spaced e =
     let s = and_first (is_spaced l) (list_all is_spaced ls) spaced in
     let n = next b c l.number r.says (numbered ls rs) e in
-    lines_by (read_line b l) (step b l.number r.says) c l.number ls (line_full b l r.says s.0 h.0 n.placed)
-    (lines_full ls rs (step b l.number r.says) c h.1 s.1 n.after)
+    let grows = step_grows b l.number r.says n.placed in
+    let says = says_later profile b.profile r.says l.words least h.0 in
+    lines_by (read_line b l) (step b l.number r.says) c l.number ls (line_full b l r.says s.0 says n.placed)
+    (lines_full profile ls rs (step b l.number r.says) c (omega (arith, least, grows)) h.1 s.1 n.after)
+
+-- the lines of a tree of profile 2, which has this line first
+later_full : (ls : List Line) (rest : List Row) (c : Building) → AreTold 2 ls (record { at = None; says = phrase.Profile } ∷ rest) → list_all is_spaced ls ≡ true
+    → follow nothing_yet (numbered ls (record { at = None; says = phrase.Profile } ∷ rest)) ≡ Some c → read_lines nothing_yet ls ≡ Ok c
+unfolding read_lines
+later_full [] rest c h spaced e = absurd h
+later_full (l ∷ ls) rest c h spaced e =
+    let s = and_first (is_spaced l) (list_all is_spaced ls) spaced in
+    let n = next nothing_yet c l.number phrase.Profile (numbered ls rest) e in
+    let b = step nothing_yet l.number phrase.Profile in
+    lines_by (read_line nothing_yet l) b c l.number ls (line_full nothing_yet l phrase.Profile s.0 (profile_said l.words h.0) n.placed)
+    (lines_full 2 ls rest b c (omega arith) h.1 s.1 n.after)
+
+-- the rows behind those of the profile
+record Behind (profile : ℕ) (rs : List Row) : Type 0 where
+  front : List Row
+  rest : List Row
+  profile_is : profile_rows profile ≡ Some front
+  whole : front ++ rest ≡ rs
+
+behind : (s : Scenario) (rs : List Row) → scenario_rows s ≡ Some rs → Behind s.profile rs
+unfolding scenario_rows
+behind s rs w =
+    let outer = both (profile_rows s.profile ⊕ each declaration_rows s.objects) (each function_rows s.functions) rs w in
+    let inner = both (profile_rows s.profile) (each declaration_rows s.objects) outer.0 outer.2 in
+    record {
+      front = inner.0;
+      rest = inner.1 ++ outer.1;
+      profile_is = inner.2;
+      whole = sym (append_assoc inner.0 inner.1 outer.1) ∙ ap (λ z. z ++ outer.1) inner.4 ∙ outer.4;
+    }
+
+-- all lines of a tree, of which the first may be that of the profile
+pub text_full : (s : Scenario) (ls : List Line) (rs : List Row) (c : Building) → scenario_rows s ≡ Some rs → AreTold s.profile ls rs → list_all is_spaced ls ≡ true
+    → follow nothing_yet (numbered ls rs) ≡ Some c → read_lines nothing_yet ls ≡ Ok c
+text_full s ls rs c w h spaced e = let b = behind s rs w in by_first b.front b.rest (s.profile == 1) refl b.profile_is b.whole
+  where
+    by_second : (front rest : List Row) (second : Bool) → (s.profile == 2) ≡ second → only_if second (mark phrase.Profile) ≡ Some front → front ++ rest ≡ rs → read_lines nothing_yet ls ≡ Ok c
+    by_second front rest true two is whole =
+        let row : Row = record { at = None; says = phrase.Profile } in
+        let one : row ∷ [] ≡ front = cc in
+        let all : row ∷ rest ≡ rs = ap (λ z. z ++ rest) one ∙ whole in
+        later_full ls rest c (subst (λ p. AreTold p ls (row ∷ rest)) (eqb-true s.profile 2 two) (subst (λ z. AreTold s.profile ls z) (sym all) h)) spaced
+        (subst (λ z. follow nothing_yet (numbered ls z) ≡ Some c) (sym all) e)
+    by_second front rest false two is whole = cc
+
+    by_first : (front rest : List Row) (first : Bool) → (s.profile == 1) ≡ first → (if first then Some [] else only_if (s.profile == 2) (mark phrase.Profile)) ≡ Some front → front ++ rest ≡ rs
+        → read_lines nothing_yet ls ≡ Ok c
+    by_first front rest true one is whole = let first = eqb-true s.profile 1 one in lines_full s.profile ls rs nothing_yet c (omega (arith, first)) h spaced e
+    by_first front rest false one is whole = by_second front rest (s.profile == 2) refl is whole
 
 byte_by : (t : Bool) (i : ℕ) (x : Option ℕ) → t ≡ true → cond (not t) (Some i) x ≡ x
 byte_by true i x e = refl
@@ -179,23 +267,39 @@ ended_by : (m : Bool) (p : Place) (x : Scenario) → m ≡ true → (let r : Res
 ended_by true p x e = refl
 ended_by false p x e = cc
 
-pub reading_by : (found : Option Place) (lines : Result Building Place) (bytes : List ℕ) (s : Scenario) → found ≡ None → lines ≡ Ok (built s) → list_any is_main s.functions ≡ true → s.profile ≡ 1
+pub reading_by : (found : Option Place) (lines : Result Building Place) (bytes : List ℕ) (s : Scenario) → found ≡ None → lines ≡ Ok (built s) → list_any is_main s.functions ≡ true
     → (let r : Result Scenario Place = elim found [ Some p ↦ Err p | None ↦ elim lines [ Ok b ↦ finished bytes b | Err p ↦ Err p ] ] in r) ≡ Ok s
-reading_by (Some p) lines bytes s a b c d = cc
-reading_by None (Err p) bytes s a b c d = cc
-reading_by None (Ok b) bytes s a e c d =
+reading_by (Some p) lines bytes s a b c = cc
+reading_by None (Err p) bytes s a b c = cc
+reading_by None (Ok b) bytes s a e c =
     let same : b ≡ built s = cc in
-    rw same (ended_by (list_any is_main s.functions) (record { line = last_line bytes; reason = 14 }) (scenario (built s)) c
-    ∙ (λ i. let r : Result Scenario Place = Ok (record s { profile = sym d i }) in r))
+    rw same (ended_by (list_any is_main s.functions) (record { line = last_line bytes; reason = 14 }) (scenario (built s)) c)
 
 -- A text that a tree spells is read as that tree.
 pub complete : (s : Scenario) (bytes : List ℕ) → Spells s bytes → reading bytes ≡ Ok s
 unfolding reading
 complete s bytes h = by_rows (scenario_rows s) refl h.rows
   where
-    by_rows : (r : Option (List Row)) → scenario_rows s ≡ r → IsSomeAnd r (AreRows (lines bytes)) → reading bytes ≡ Ok s
+    by_rows : (r : Option (List Row)) → scenario_rows s ≡ r → IsSomeAnd r (AreRows s.profile (lines bytes)) → reading bytes ≡ Ok s
     by_rows None e a = absurd a
     by_rows (Some rs) e a =
         reading_by (place_in_bytes bytes) (read_lines nothing_yet (lines bytes)) bytes s (none_in_bytes bytes h.text)
-        (lines_full (lines bytes) rs nothing_yet (built s) (told (lines bytes) rs a) h.text.spaced (scenario_makes s rs (numbered (lines bytes) rs) e (numbered_said (lines bytes) rs a)))
-        h.has_main h.profile
+        (text_full s (lines bytes) rs (built s) e (told s.profile (lines bytes) rs a) h.text.spaced
+        (scenario_makes s rs (numbered (lines bytes) rs) e (numbered_said s.profile (lines bytes) rs a)))
+        h.has_main
+
+-- A tree that has a text is of one of the two profiles.
+pub has_profile : (s : Scenario) (bytes : List ℕ) → Spells s bytes → (s.profile ≡ 1) ⊎ (s.profile ≡ 2)
+has_profile s bytes h = by_rows (scenario_rows s) refl h.rows
+  where
+    by_second : (second : Bool) (front : List Row) → (s.profile == 2) ≡ second → only_if second (mark phrase.Profile) ≡ Some front → (s.profile ≡ 1) ⊎ (s.profile ≡ 2)
+    by_second true front two is = inr (eqb-true s.profile 2 two)
+    by_second false front two is = cc
+
+    by_first : (first : Bool) (front : List Row) → (s.profile == 1) ≡ first → (if first then Some [] else only_if (s.profile == 2) (mark phrase.Profile)) ≡ Some front → (s.profile ≡ 1) ⊎ (s.profile ≡ 2)
+    by_first true front one is = inl (eqb-true s.profile 1 one)
+    by_first false front one is = by_second (s.profile == 2) front refl is
+
+    by_rows : (r : Option (List Row)) → scenario_rows s ≡ r → IsSomeAnd r (AreRows s.profile (lines bytes)) → (s.profile ≡ 1) ⊎ (s.profile ≡ 2)
+    by_rows None e a = absurd a
+    by_rows (Some rs) e a = let b = behind s rs e in by_first (s.profile == 1) b.front refl b.profile_is

@@ -183,6 +183,8 @@ a_command (command.QueueDone a) = after k.QueueDone (a_name a)
 a_command (command.GroupJoin a b) = after k.GroupJoin (plus (a_name a) (a_timed b))
 a_command (command.GroupKill a b c) = after k.GroupKill (plus (plus (a_name a) (a_marked k.With b)) (a_flag k.Now c))
 a_command (command.SetParent a b) = after k.SetParent (plus (an_expression a) (an_expression b))
+a_command (command.ChannelPut a b) = after k.ChannelPut (plus (a_name a) (an_expression b))
+a_command (command.QueueShut a b) = after k.QueueShut (plus (a_name a) (a_flag k.Immediate b))
 
 a_giving : (g : Giving) → InWords (giving_tokens g)
 a_giving (giving.Spawn a b) = after k.Spawn (plus (a_name a) (arguments b))
@@ -203,6 +205,7 @@ a_giving (giving.NativeSpawn a b c d) = after k.NativeSpawn (plus (plus (plus (a
 a_giving (giving.Raw a b) = after k.Raw (plus (a_name a) (a_marked k.Under b))
 a_giving (giving.Switch a b) = after k.Switch (plus (an_expression a) (an_expression b))
 a_giving (giving.Throw a b) = after k.Throw (plus (an_expression a) (a_marked k.With b))
+a_giving (giving.ChannelGet a) = after k.ChannelGet (a_name a)
 a_giving (giving.Link kind a b) = after (link_keyword kind) (plus (an_expression a) (a_name b))
 a_giving (giving.LinkMark a b) = after k.RawLink (plus (plus (an_expression a) (word k.Mark)) (a_number 0 1000000 b))
 a_giving (giving.LinkSet a b) = after k.RawLink (plus (plus (an_expression a) (word k.Set)) (a_name b))
@@ -217,6 +220,7 @@ an_object (object.Queue kind size) n = after k.Queue (plus (plus (a_name n) (wor
 an_object object.Group n = after k.Group (a_name n)
 an_object (object.Pool x) n = after k.Pool (plus (a_name n) (a_number 1 10000 x))
 an_object (object.Native x) n = after k.Native (plus (a_name n) (a_number 1 64 x))
+an_object object.Channel n = after k.Channel (a_name n)
 
 a_head : (is_raw : Bool) (n : Name) (ps : List Name) → InWords (head_tokens is_raw n ps)
 a_head false n ps = after k.Function (plus (a_name n) (all name a_name ps))
@@ -233,6 +237,7 @@ a_target n = plus (a_name n) (word k.Arrow)
 
 a_phrase : (p : Phrase) → InWords (phrase_tokens p)
 unfolding phrase_tokens
+a_phrase phrase.Profile = after k.Profile (a_number 2 2 2)
 a_phrase (phrase.Declaration n o) = an_object o n
 a_phrase (phrase.Function is_raw n ps) = a_head is_raw n ps
 a_phrase (phrase.Command c) = a_command c

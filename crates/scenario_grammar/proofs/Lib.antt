@@ -10,6 +10,7 @@ mod Parts
 mod PhraseLaws
 pub mod Placed
 pub mod Printing
+mod Profiles
 pub mod Refused
 mod RefusedRows
 pub mod Sound

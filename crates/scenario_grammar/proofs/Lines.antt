@@ -23,7 +23,8 @@ use Rattle.scenario_grammar.specs.Phrases.{phrase_tokens, giving_tokens, timeout
 use Rattle.scenario_grammar.specs.Reading.{◌<$>◌, pure, name_at, number_at, expression_at, nested_at, all_at, raw_link_at, gives, giving_by, phrase_by}
 use Rattle.scenario_grammar.specs.Places.{role_by, States}
 use Rattle.scenario_grammar.proofs.Parts.{AreProper, Anything, both, bind_ok, map_sound, map_full, pure_sound}
-use Rattle.scenario_grammar.proofs.Words.{Faithful, made, joined, next, ending, Ends, inner, names, numbers, times, expressions, timed_parts, takes_parts, under_parts, with_parts, with_at_the_end, count_parts, wait_parts, before_wait, before_time, before_now, now_parts, silent_parts, after_tokens, after_parts, size_parts, jobs, queues, classes, binding_parts, all_parts}
+use Rattle.scenario_grammar.proofs.Words.{Faithful, made, joined, next, ending, Ends, inner, names, numbers, times, expressions, timed_parts, takes_parts, under_parts, with_parts, with_at_the_end, count_parts, wait_parts, before_wait, before_time, before_now, now_parts, silent_parts, immediate_parts, one_number, after_tokens, after_parts, size_parts, jobs, queues, classes, binding_parts, all_parts}
+use Rattle.scenario_grammar.specs.declared.reason.TextReason.TheVariants as reason
 
 -- what stands behind the first word of a line, and is read as the whole of it
 pub record Line {E : Type 0} (word : Keyword) (make : E → Phrase) (writes : E → Written Token) : Type 0 where
@@ -35,19 +36,19 @@ pub record Gives {E : Type 0} (word : Keyword) (make : E → Giving) (writes : E
   pub same : (p : E) → giving_tokens (make p) ≡ (word ▹ writes p)
   pub reads : Faithful make writes Ends (giving_by word)
 
-no_expression : expression_at [] ≡ Err 6
+no_expression : expression_at [] ≡ Err reason.TooShort
 unfolding nested_at
 no_expression = refl
 
-no_name : name_at [] ≡ Err 6
+no_name : name_at [] ≡ Err reason.TooShort
 unfolding name_at
 no_name = refl
 
 arguments : Faithful (λ xs. xs) (each expression) Ends (all_at expression_at)
-arguments = all_parts expressions 6 no_expression
+arguments = all_parts expressions reason.TooShort no_expression
 
 parameters : Faithful (λ xs. xs) (each name) Ends (all_at name_at)
-parameters = all_parts names 6 no_name
+parameters = all_parts names reason.TooShort no_name
 
 pub event_line : Line {E = Name} k.Event (λ p. phrase.Declaration p object.Event) (λ p. name p)
 unfolding phrase_tokens
@@ -84,6 +85,14 @@ pool_line = record { same = λ p. refl; reads = ending (next (made (λ n x. phra
 pub native_line : Line {E = Name × ℕ} k.Native (λ p. phrase.Declaration p.0 (object.Native p.1)) (λ p. name p.0 ⊕ number 1 64 p.1)
 unfolding phrase_tokens
 native_line = record { same = λ p. refl; reads = ending (next (made (λ n x. phrase.Declaration n (object.Native x)) names) (numbers 1 64)) }
+
+pub channel_line : Line {E = Name} k.Channel (λ p. phrase.Declaration p object.Channel) (λ p. name p)
+unfolding phrase_tokens
+channel_line = record { same = λ p. refl; reads = ending (made (λ n. phrase.Declaration n object.Channel) names) }
+
+pub profile_line : Line {E = Unit {0}} k.Profile (λ _. phrase.Profile) (λ _. number 2 2 2)
+unfolding phrase_tokens
+profile_line = record { same = λ p. refl; reads = ending (one_number 2 phrase.Profile) }
 
 pub function_line : Line {E = Name × List Name} k.Function (λ p. phrase.Function false p.0 p.1) (λ p. name p.0 ⊕ each name p.1)
 unfolding phrase_tokens
@@ -172,6 +181,14 @@ group_kill_line = record { same = λ p. refl; reads = joined (next (made (λ a b
 pub set_parent_line : Line {E = Expression × Expression} k.SetParent (λ p. phrase.Command (command.SetParent p.0 p.1)) (λ p. expression p.0 ⊕ expression p.1)
 unfolding phrase_tokens
 set_parent_line = record { same = λ p. refl; reads = ending (next (made (λ a b. phrase.Command (command.SetParent a b)) expressions) expressions) }
+
+pub channel_put_line : Line {E = Name × Expression} k.ChannelPut (λ p. phrase.Command (command.ChannelPut p.0 p.1)) (λ p. name p.0 ⊕ expression p.1)
+unfolding phrase_tokens
+channel_put_line = record { same = λ p. refl; reads = ending (next (made (λ a b. phrase.Command (command.ChannelPut a b)) names) expressions) }
+
+pub queue_shut_line : Line {E = Name × Bool} k.QueueShut (λ p. phrase.Command (command.QueueShut p.0 p.1)) (λ p. name p.0 ⊕ flag k.Immediate p.1)
+unfolding phrase_tokens
+queue_shut_line = record { same = λ p. refl; reads = next (made (λ a b. phrase.Command (command.QueueShut a b)) names) immediate_parts }
 
 pub if_line : Line {E = Expression} k.If (λ p. phrase.If p) (λ p. expression p)
 unfolding phrase_tokens
@@ -279,6 +296,9 @@ switch_gives = record { same = λ p. refl; reads = ending (next (made (λ a b. g
 pub throw_gives : Gives {E = Expression × Option Expression} k.Throw (λ p. giving.Throw p.0 p.1) (λ p. expression p.0 ⊕ with_fault p.1)
 throw_gives = record { same = λ p. refl; reads = next (made (λ a b. giving.Throw a b) expressions) with_at_the_end }
 
+pub channel_get_gives : Gives {E = Name} k.ChannelGet (λ p. giving.ChannelGet p) (λ p. name p)
+channel_get_gives = record { same = λ p. refl; reads = ending (made (λ a. giving.ChannelGet a) names) }
+
 -- `mark` and a number, or `set` and a name, behind the greenlet
 abbrev marked_tokens : Expression → ℕ → Written Token
 marked_tokens x n = expression x ⊕ fixed k.Mark ⊕ number 0 1000000 n
@@ -364,6 +384,7 @@ giving_said k.NativeSpawn ts rest made h e = said_by native_spawn_gives ts rest 
 giving_said k.Raw ts rest made h e = said_by raw_gives ts rest made h e
 giving_said k.Switch ts rest made h e = said_by switch_gives ts rest made h e
 giving_said k.Throw ts rest made h e = said_by throw_gives ts rest made h e
+giving_said k.ChannelGet ts rest made h e = said_by channel_get_gives ts rest made h e
 giving_said _ ts rest made h e = cc
 
 -- a statement that gives a value, read whole behind its word
@@ -410,3 +431,4 @@ giving_read (giving.NativeSpawn a b c d) ts w = read_by native_spawn_gives (((a,
 giving_read (giving.Raw a b) ts w = read_by raw_gives (a, b) ts (λ us. refl) refl refl w
 giving_read (giving.Switch a b) ts w = read_by switch_gives (a, b) ts (λ us. refl) refl refl w
 giving_read (giving.Throw a b) ts w = read_by throw_gives (a, b) ts (λ us. refl) refl refl w
+giving_read (giving.ChannelGet a) ts w = read_by channel_get_gives a ts (λ us. refl) refl refl w

@@ -1,10 +1,11 @@
 -- What is read was written so, and what was written is read: for the parts of a line, one after another.
-use Rattle.std.proofs.Common.{◌≡◌, ℕ, Bool, true, List, [], ◌++◌, Some, None, Result, Ok, Err, refl, sym, ap, subst, ◌∙◌, append_assoc}
+use Rattle.std.proofs.Common.{◌≡◌, Bool, true, List, [], ◌++◌, Some, None, Result, Ok, Err, refl, sym, ap, subst, ◌∙◌, append_assoc}
 use Rattle.std.specs.List.{list_all}
 use Rattle.scenario_grammar.specs.declared.token.Token.{Token}
 use Rattle.scenario_grammar.specs.declared.token.Token.TheVariants as token
 use Rattle.scenario_grammar.specs.Tokens.{Written, ◌⊕◌, is_free, in_64_bits}
 use Rattle.scenario_grammar.specs.Reading.{Reader, ◌>>=◌, ◌<$>◌, ◌<*>◌, pure}
+use Rattle.scenario_grammar.specs.declared.reason.TextReason.{TextReason}
 
 -- what `token_of` answers
 abbrev pub is_proper : Token → Bool
@@ -40,17 +41,17 @@ both None y z e = cc
 both (Some a) None z e = cc
 both (Some a) (Some b) z e = (a, b, refl, refl, cc)
 
-pub bind_ok : {A B : Type 0} (r : Result A ℕ) (f : A → Result B ℕ) (y : B) → (r >>= f) ≡ Ok y → (x : A) × (r ≡ Ok x) × (f x ≡ Ok y)
+pub bind_ok : {A B : Type 0} (r : Result A TextReason) (f : A → Result B TextReason) (y : B) → (r >>= f) ≡ Ok y → (x : A) × (r ≡ Ok x) × (f x ≡ Ok y)
 bind_ok (Ok x) f y e = (x, refl, e)
 bind_ok (Err r) f y e = cc
 
-ok_value : {A : Type 0} (x y : A) → (let r : Result A ℕ = Ok x in r) ≡ Ok y → x ≡ y
+ok_value : {A : Type 0} (x y : A) → (let r : Result A TextReason = Ok x in r) ≡ Ok y → x ≡ y
 ok_value x y e = cc
 
-pub ok_first : {A B : Type 0} (a c : A) (b d : B) → (let r : Result (A × B) ℕ = Ok (a, b) in r) ≡ Ok (c, d) → a ≡ c
+pub ok_first : {A B : Type 0} (a c : A) (b d : B) → (let r : Result (A × B) TextReason = Ok (a, b) in r) ≡ Ok (c, d) → a ≡ c
 ok_first a c b d e = ap (λ p. p.0) (ok_value (a, b) (c, d) e)
 
-pub ok_second : {A B : Type 0} (a c : A) (b d : B) → (let r : Result (A × B) ℕ = Ok (a, b) in r) ≡ Ok (c, d) → b ≡ d
+pub ok_second : {A B : Type 0} (a c : A) (b d : B) → (let r : Result (A × B) TextReason = Ok (a, b) in r) ≡ Ok (c, d) → b ≡ d
 ok_second a c b d e = ap (λ p. p.1) (ok_value (a, b) (c, d) e)
 
 -- proper tokens under another name

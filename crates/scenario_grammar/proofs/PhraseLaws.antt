@@ -1,5 +1,5 @@
 -- A line's tokens say a phrase exactly where they are those of the phrase.
-use Rattle.std.proofs.Common.{◌≡◌, ℕ, Bool, true, false, if◌then◌else◌, List, [], ◌∷◌, ◌++◌, map, Option, Some, None, Result, Ok, Err, refl, sym, ap, subst, ◌∙◌, append-nil}
+use Rattle.std.proofs.Common.{◌≡◌, ℕ, nat_le, Bool, true, false, if◌then◌else◌, List, [], ◌∷◌, ◌++◌, map, Option, Some, None, Result, Ok, Err, refl, sym, ap, subst, ◌∙◌, append-nil}
 use Rattle.std.specs.List.{list_all}
 use Rattle.std.specs.Str.Parse.{signed_digits_value}
 use Rattle.gv_values.specs.declared.name.Name.{Name}
@@ -14,19 +14,21 @@ use Rattle.scenario_grammar.specs.declared.token.Token.{Token}
 use Rattle.scenario_grammar.specs.declared.token.Token.TheVariants as token
 use Rattle.scenario_grammar.specs.declared.phrase.Phrase.{Phrase}
 use Rattle.scenario_grammar.specs.declared.phrase.Phrase.TheVariants as phrase
-use Rattle.scenario_grammar.specs.Keywords.{keyword_of}
+use Rattle.scenario_grammar.specs.Keywords.{keyword_of, profile_of}
 use Rattle.scenario_grammar.specs.Layout.{Word}
-use Rattle.scenario_grammar.specs.Places.{Role, Declares, Defines, States, Opens, Parts, Catches, Finishes, Ends, Standing, role_by, role_of, misplaced}
-use Rattle.scenario_grammar.specs.Tokens.{Written, ◌⊕◌, ◌▹◌, fixed, name, is_free, in_64_bits, is_integer, begins_number, number_token, loose_token, token_of}
+use Rattle.scenario_grammar.specs.Places.{Role, Profiles, Declares, Defines, States, Opens, Parts, Catches, Finishes, Ends, Standing, role_by, role_of, misplaced}
+use Rattle.scenario_grammar.specs.Tokens.{Written, ◌⊕◌, ◌▹◌, fixed, name, is_free, in_64_bits, is_integer, begins_number, number_token, loose_token, token_of, known_in, token_in}
 use Rattle.scenario_grammar.specs.Phrases.{phrase_tokens, giving_tokens, target_tokens}
 use Rattle.scenario_grammar.specs.Reading.{Reading, ◌<$>◌, name_at, number_at, nested_at, giving_by, giving_at, phrase_by, is_given, given_at, unmarked_at, whole, phrase_of}
 use Rattle.scenario_grammar.proofs.Parts.{is_proper, AreProper, bind_ok, ok_first, ok_second, both}
 use Rattle.scenario_grammar.proofs.Atoms.{and_left, and_right, kept}
 use Rattle.scenario_grammar.proofs.Words.{inner}
 use Rattle.scenario_grammar.proofs.Lines as l
+use Rattle.scenario_grammar.specs.declared.reason.TextReason.{TextReason}
 
 -- the part that a phrase has among the blocks
 abbrev pub role : Phrase → Role
+role phrase.Profile = Profiles
 role (phrase.Declaration n o) = Declares
 role (phrase.Function is_raw n parameters) = Defines
 role (phrase.Command c) = States
@@ -68,9 +70,21 @@ token_proper w = by_keyword (keyword_of w) refl
     by_keyword (Some word) e = refl
     by_keyword None e = loose_proper w e
 
-pub tokens_proper : (ws : List Word) → AreProper (map token_of ws)
-tokens_proper [] = refl
-tokens_proper (w ∷ ws) = rw (token_proper w) (tokens_proper ws)
+known_proper : (profile : ℕ) (t : Token) → is_proper t ≡ true → is_proper (known_in profile t) ≡ true
+known_proper profile (token.Fixed k) h = by_profile (nat_le (profile_of k) profile)
+  where
+    by_profile : (b : Bool) → is_proper (if b then token.Fixed k else token.Unknown) ≡ true
+    by_profile true = refl
+    by_profile false = refl
+known_proper profile (token.Name n) h = h
+known_proper profile (token.Number z) h = h
+known_proper profile token.Oversized h = h
+known_proper profile token.Misspelled h = h
+known_proper profile token.Unknown h = h
+
+pub tokens_proper : (profile : ℕ) (ws : List Word) → AreProper (map (token_in profile) ws)
+tokens_proper profile [] = refl
+tokens_proper profile (w ∷ ws) = rw (known_proper profile (token_of w) (token_proper w)) (tokens_proper profile ws)
 
 -- what stands behind the first word was written as a part of this phrase
 record SaidBy (word : Keyword) (ts : List Token) (made : Phrase) (rest : List Token) : Type 0 where
@@ -108,6 +122,8 @@ line_says k.Queue ts rest made h e = line_said l.queue_line ts rest made h e
 line_says k.Group ts rest made h e = line_said l.group_line ts rest made h e
 line_says k.Pool ts rest made h e = line_said l.pool_line ts rest made h e
 line_says k.Native ts rest made h e = line_said l.native_line ts rest made h e
+line_says k.Channel ts rest made h e = line_said l.channel_line ts rest made h e
+line_says k.Profile ts rest made h e = line_said l.profile_line ts rest made h e
 line_says k.Function ts rest made h e = line_said l.function_line ts rest made h e
 line_says k.RawFunction ts rest made h e = line_said l.raw_function_line ts rest made h e
 line_says k.Print ts rest made h e = line_said l.print_line ts rest made h e
@@ -130,6 +146,8 @@ line_says k.QueueDone ts rest made h e = line_said l.queue_done_line ts rest mad
 line_says k.GroupJoin ts rest made h e = line_said l.group_join_line ts rest made h e
 line_says k.GroupKill ts rest made h e = line_said l.group_kill_line ts rest made h e
 line_says k.SetParent ts rest made h e = line_said l.set_parent_line ts rest made h e
+line_says k.ChannelPut ts rest made h e = line_said l.channel_put_line ts rest made h e
+line_says k.QueueShut ts rest made h e = line_said l.queue_shut_line ts rest made h e
 line_says k.If ts rest made h e = line_said l.if_line ts rest made h e
 line_says k.Else ts rest made h e = line_said l.else_line ts rest made h e
 line_says k.While ts rest made h e = line_said l.while_line ts rest made h e
@@ -185,6 +203,8 @@ command_read (command.QueueDone a) ts w = line_read l.queue_done_line a ts refl 
 command_read (command.GroupJoin a b) ts w = line_read l.group_join_line (a, b) ts refl w
 command_read (command.GroupKill a b c) ts w = line_read l.group_kill_line ((a, b), c) ts refl w
 command_read (command.SetParent a b) ts w = line_read l.set_parent_line (a, b) ts refl w
+command_read (command.ChannelPut a b) ts w = line_read l.channel_put_line (a, b) ts refl w
+command_read (command.QueueShut a b) ts w = line_read l.queue_shut_line (a, b) ts refl w
 
 -- every phrase but one with `<-`
 unmarked : (p : Phrase) (ts : List Token) → ((n : Name) (g : Giving) → p ≡ phrase.Giving (Some n) g → ⊥) → phrase_tokens p ≡ Some ts → Unmarked p ts
@@ -198,6 +218,8 @@ unmarked (phrase.Declaration n (object.Queue kind size)) ts h w = line_read l.qu
 unmarked (phrase.Declaration n object.Group) ts h w = line_read l.group_line n ts refl w
 unmarked (phrase.Declaration n (object.Pool x)) ts h w = line_read l.pool_line (n, x) ts refl w
 unmarked (phrase.Declaration n (object.Native x)) ts h w = line_read l.native_line (n, x) ts refl w
+unmarked (phrase.Declaration n object.Channel) ts h w = line_read l.channel_line n ts refl w
+unmarked phrase.Profile ts h w = line_read l.profile_line tt ts refl w
 unmarked (phrase.Function false n ps) ts h w = line_read l.function_line (n, ps) ts refl w
 unmarked (phrase.Function true n []) ts h w = cc
 unmarked (phrase.Function true n (p ∷ [])) ts h w = line_read l.raw_function_line (n, p) ts refl w
@@ -265,7 +287,7 @@ phrase_read p ts w = unmarked_read p ts (unmarked p ts (λ n g e. cc) w)
 whole_line : (r : Reading Phrase) (p : Phrase) → whole r ≡ Ok p → r ≡ Ok (p, [])
 whole_line (Ok (x, [])) p e = ap (λ z. let r : Reading Phrase = Ok (z, []) in r) (ok_same x p e)
   where
-    ok_same : (x y : Phrase) → (let r : Result Phrase ℕ = Ok x in r) ≡ Ok y → x ≡ y
+    ok_same : (x y : Phrase) → (let r : Result Phrase TextReason = Ok x in r) ≡ Ok y → x ≡ y
     ok_same x y e = cc
 whole_line (Ok (x, t ∷ ts)) p e = cc
 whole_line (Err r) p e = cc

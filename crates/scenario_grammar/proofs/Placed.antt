@@ -1,5 +1,5 @@
 -- The place of a text is where its reading is refused.
-use Rattle.std.proofs.Common.{◌≡◌, ℕ, Bool, true, false, ◌||◌, if◌then◌else◌, List, [], ◌∷◌, ◌++◌, map, Option, Some, None, Result, Ok, Err, refl, sym, ap, subst, ◌∙◌}
+use Rattle.std.proofs.Common.{◌≡◌, ◌==◌, ℕ, Bool, true, false, not, ◌||◌, if◌then◌else◌, List, [], ◌∷◌, ◌++◌, map, Option, Some, None, Result, Ok, Err, refl, sym, ap, subst, ◌∙◌}
 use Rattle.std.specs.List.{list_any}
 use Rattle.scenario_tree.specs.declared.tree.Declaration.{Declaration}
 use Rattle.scenario_tree.specs.declared.tree.Function.{Function}
@@ -15,14 +15,17 @@ use Rattle.scenario_grammar.specs.declared.token.Token.{Token}
 use Rattle.scenario_grammar.specs.Blocks.{Row}
 use Rattle.scenario_grammar.specs.Building.{Building, step}
 use Rattle.scenario_grammar.specs.Layout.{Line, lines, is_spaced}
-use Rattle.scenario_grammar.specs.Parsed.{nothing_yet, standing, read_words, read_line, read_lines, scenario, finished, reading, opens_main}
+use Rattle.scenario_grammar.specs.Parsed.{nothing_yet, is_begun, has_objects, standing, read_words, read_line, read_lines, scenario, finished, reading, opens_main}
 use Rattle.scenario_grammar.specs.Places.{Body, Standing, at_the_start, after, misplaced, role_of, judge, judge_line, judge_lines, at_the_end, last_line, place_in_bytes, place_in_lines, place}
 use Rattle.scenario_grammar.specs.Reading.{phrase_of, ◌>>=◌}
 use Rattle.scenario_grammar.specs.Spells.{is_main}
-use Rattle.scenario_grammar.specs.Tokens.{token_of}
+use Rattle.scenario_grammar.specs.Tokens.{token_in}
 use Rattle.scenario_grammar.proofs.Begun.{begun, Kept, Stacked, steps}
 use Rattle.scenario_grammar.proofs.PhraseLaws.{role, phrase_read, phrase_said, tokens_proper}
 use Rattle.scenario_grammar.proofs.Sound.{line_read, nothing_kept}
+use Rattle.scenario_grammar.specs.declared.reason.TextReason.{TextReason}
+use Rattle.scenario_grammar.specs.declared.reason.TextReason.TheVariants as reason
+use Rattle.scenario_grammar.specs.Reasons.{text_number}
 
 -- the standing after a phrase is that of what the phrase makes
 abbrev Follows : Building → ℕ → Phrase → Type 0
@@ -45,122 +48,132 @@ any_more (g ∷ fs) f = or_first (is_main g) (list_any is_main (fs ++ f ∷ []))
     or_first true y z u v e f = refl
     or_first false y z u v e f = e ∙ f
 
-defines_follow : (ds : List Declaration) (fs : List Function) (os : List OpenBlock) (n : ℕ) (is_raw : Bool) (name : List ℕ) (ps : List (List ℕ))
-    → misplaced (standing (begun ds fs os)) (role (phrase.Function is_raw name ps)) ≡ None → Follows (begun ds fs os) n (phrase.Function is_raw name ps)
-defines_follow ds [] [] n is_raw name ps h = λ i. record { open_blocks = Body ∷ []; begun = true; has_main = or_false false (opens_main (opening.Function is_raw name ps)) i }
-defines_follow ds (f ∷ fs) [] n is_raw name ps h = λ i. record { open_blocks = Body ∷ []; begun = true; has_main = or_false (list_any is_main (f ∷ fs)) (opens_main (opening.Function is_raw name ps)) i }
-defines_follow ds fs (o ∷ os) n is_raw name ps h = cc
+defines_follow : (profile : ℕ) (ds : List Declaration) (fs : List Function) (os : List OpenBlock) (n : ℕ) (is_raw : Bool) (name : List ℕ) (ps : List (List ℕ))
+    → misplaced (standing (begun profile ds fs os)) (role (phrase.Function is_raw name ps)) ≡ None → Follows (begun profile ds fs os) n (phrase.Function is_raw name ps)
+defines_follow profile ds [] [] n is_raw name ps h = λ i. record { profile = profile; any_line = true; open_blocks = Body ∷ []; begun = true; has_main = or_false false (opens_main (opening.Function is_raw name ps)) i }
+defines_follow profile ds (f ∷ fs) [] n is_raw name ps h = λ i. record { profile = profile; any_line = true; open_blocks = Body ∷ []; begun = true; has_main = or_false (list_any is_main (f ∷ fs)) (opens_main (opening.Function is_raw name ps)) i }
+defines_follow profile ds fs (o ∷ os) n is_raw name ps h = cc
 
-function_ends : (ds : List Declaration) (fs : List Function) (n m : ℕ) (is_raw : Bool) (name : List ℕ) (ps : List (List ℕ)) (ss : List Statement)
-    → Follows (begun ds fs (record { line = m; opening = opening.Function is_raw name ps; statements = ss } ∷ [])) n phrase.End
-function_ends ds [] n m is_raw name ps ss =
+function_ends : (profile : ℕ) (ds : List Declaration) (fs : List Function) (n m : ℕ) (is_raw : Bool) (name : List ℕ) (ps : List (List ℕ)) (ss : List Statement)
+    → Follows (begun profile ds fs (record { line = m; opening = opening.Function is_raw name ps; statements = ss } ∷ [])) n phrase.End
+function_ends profile ds [] n m is_raw name ps ss =
     let more = sym (any_more [] (record { line = m; is_raw = is_raw; name = name; parameters = ps; body = ss })) in
-    λ i. record { open_blocks = []; begun = true; has_main = more i }
-function_ends ds (f ∷ fs) n m is_raw name ps ss =
+    λ i. record { profile = profile; any_line = true; open_blocks = []; begun = true; has_main = more i }
+function_ends profile ds (f ∷ fs) n m is_raw name ps ss =
     let more = sym (any_more (f ∷ fs) (record { line = m; is_raw = is_raw; name = name; parameters = ps; body = ss })) in
-    λ i. record { open_blocks = []; begun = true; has_main = more i }
+    λ i. record { profile = profile; any_line = true; open_blocks = []; begun = true; has_main = more i }
 
-ends_follow : (ds : List Declaration) (fs : List Function) (n m : ℕ) (op : Opening) (ss : List Statement) (os : List OpenBlock) → Stacked (record { line = m; opening = op; statements = ss } ∷ os)
-    → misplaced (standing (begun ds fs (record { line = m; opening = op; statements = ss } ∷ os))) (role phrase.End) ≡ None → Follows (begun ds fs (record { line = m; opening = op; statements = ss } ∷ os)) n phrase.End
-ends_follow ds fs n m (opening.Function is_raw name ps) ss (q ∷ qs) k h = absurd (k.0 refl)
-ends_follow ds fs n m (opening.Function is_raw name ps) ss [] k h = function_ends ds fs n m is_raw name ps ss
-ends_follow ds fs n m opening.Try ss os k h = cc
-ends_follow ds fs n m (opening.If x) ss [] k h = cc
-ends_follow ds fs n m (opening.Else x ts) ss [] k h = cc
-ends_follow ds fs n m (opening.While x) ss [] k h = cc
-ends_follow ds fs n m (opening.Except tried es l c t) ss [] k h = cc
-ends_follow ds fs n m (opening.Finally tried es) ss [] k h = cc
-ends_follow ds fs n m (opening.Timeout t silent) ss [] k h = cc
-ends_follow ds fs n m (opening.If x) ss (q ∷ qs) k h = refl
-ends_follow ds fs n m (opening.Else x ts) ss (q ∷ qs) k h = refl
-ends_follow ds fs n m (opening.While x) ss (q ∷ qs) k h = refl
-ends_follow ds fs n m (opening.Except tried es l c t) ss (q ∷ qs) k h = refl
-ends_follow ds fs n m (opening.Finally tried es) ss (q ∷ qs) k h = refl
-ends_follow ds fs n m (opening.Timeout t silent) ss (q ∷ qs) k h = refl
+ends_follow : (profile : ℕ) (ds : List Declaration) (fs : List Function) (n m : ℕ) (op : Opening) (ss : List Statement) (os : List OpenBlock) → Stacked (record { line = m; opening = op; statements = ss } ∷ os)
+    → misplaced (standing (begun profile ds fs (record { line = m; opening = op; statements = ss } ∷ os))) (role phrase.End) ≡ None → Follows (begun profile ds fs (record { line = m; opening = op; statements = ss } ∷ os)) n phrase.End
+ends_follow profile ds fs n m (opening.Function is_raw name ps) ss (q ∷ qs) k h = absurd (k.0 refl)
+ends_follow profile ds fs n m (opening.Function is_raw name ps) ss [] k h = function_ends profile ds fs n m is_raw name ps ss
+ends_follow profile ds fs n m opening.Try ss os k h = cc
+ends_follow profile ds fs n m (opening.If x) ss [] k h = cc
+ends_follow profile ds fs n m (opening.Else x ts) ss [] k h = cc
+ends_follow profile ds fs n m (opening.While x) ss [] k h = cc
+ends_follow profile ds fs n m (opening.Except tried es l c t) ss [] k h = cc
+ends_follow profile ds fs n m (opening.Finally tried es) ss [] k h = cc
+ends_follow profile ds fs n m (opening.Timeout t silent) ss [] k h = cc
+ends_follow profile ds fs n m (opening.If x) ss (q ∷ qs) k h = refl
+ends_follow profile ds fs n m (opening.Else x ts) ss (q ∷ qs) k h = refl
+ends_follow profile ds fs n m (opening.While x) ss (q ∷ qs) k h = refl
+ends_follow profile ds fs n m (opening.Except tried es l c t) ss (q ∷ qs) k h = refl
+ends_follow profile ds fs n m (opening.Finally tried es) ss (q ∷ qs) k h = refl
+ends_follow profile ds fs n m (opening.Timeout t silent) ss (q ∷ qs) k h = refl
 
-else_follows : (ds : List Declaration) (fs : List Function) (n m : ℕ) (op : Opening) (ss : List Statement) (os : List OpenBlock)
-    → misplaced (standing (begun ds fs (record { line = m; opening = op; statements = ss } ∷ os))) (role phrase.Else) ≡ None → Follows (begun ds fs (record { line = m; opening = op; statements = ss } ∷ os)) n phrase.Else
-else_follows ds fs n m (opening.If x) ss os h = refl
-else_follows ds fs n m (opening.Function is_raw name ps) ss os h = cc
-else_follows ds fs n m (opening.Else x ts) ss os h = cc
-else_follows ds fs n m (opening.While x) ss os h = cc
-else_follows ds fs n m opening.Try ss os h = cc
-else_follows ds fs n m (opening.Except tried es l c t) ss os h = cc
-else_follows ds fs n m (opening.Finally tried es) ss os h = cc
-else_follows ds fs n m (opening.Timeout t silent) ss os h = cc
+else_follows : (profile : ℕ) (ds : List Declaration) (fs : List Function) (n m : ℕ) (op : Opening) (ss : List Statement) (os : List OpenBlock)
+    → misplaced (standing (begun profile ds fs (record { line = m; opening = op; statements = ss } ∷ os))) (role phrase.Else) ≡ None → Follows (begun profile ds fs (record { line = m; opening = op; statements = ss } ∷ os)) n phrase.Else
+else_follows profile ds fs n m (opening.If x) ss os h = refl
+else_follows profile ds fs n m (opening.Function is_raw name ps) ss os h = cc
+else_follows profile ds fs n m (opening.Else x ts) ss os h = cc
+else_follows profile ds fs n m (opening.While x) ss os h = cc
+else_follows profile ds fs n m opening.Try ss os h = cc
+else_follows profile ds fs n m (opening.Except tried es l c t) ss os h = cc
+else_follows profile ds fs n m (opening.Finally tried es) ss os h = cc
+else_follows profile ds fs n m (opening.Timeout t silent) ss os h = cc
 
-except_follows : (ds : List Declaration) (fs : List Function) (n m : ℕ) (op : Opening) (ss : List Statement) (os : List OpenBlock) (c : _) (t : _)
-    → misplaced (standing (begun ds fs (record { line = m; opening = op; statements = ss } ∷ os))) (role (phrase.Except c t)) ≡ None → Follows (begun ds fs (record { line = m; opening = op; statements = ss } ∷ os)) n (phrase.Except c t)
-except_follows ds fs n m opening.Try ss os c t h = refl
-except_follows ds fs n m (opening.Except tried es l d other) ss os c t h = refl
-except_follows ds fs n m (opening.Function is_raw name ps) ss os c t h = cc
-except_follows ds fs n m (opening.If x) ss os c t h = cc
-except_follows ds fs n m (opening.Else x ts) ss os c t h = cc
-except_follows ds fs n m (opening.While x) ss os c t h = cc
-except_follows ds fs n m (opening.Finally tried es) ss os c t h = cc
-except_follows ds fs n m (opening.Timeout x silent) ss os c t h = cc
+except_follows : (profile : ℕ) (ds : List Declaration) (fs : List Function) (n m : ℕ) (op : Opening) (ss : List Statement) (os : List OpenBlock) (c : _) (t : _)
+    → misplaced (standing (begun profile ds fs (record { line = m; opening = op; statements = ss } ∷ os))) (role (phrase.Except c t)) ≡ None → Follows (begun profile ds fs (record { line = m; opening = op; statements = ss } ∷ os)) n (phrase.Except c t)
+except_follows profile ds fs n m opening.Try ss os c t h = refl
+except_follows profile ds fs n m (opening.Except tried es l d other) ss os c t h = refl
+except_follows profile ds fs n m (opening.Function is_raw name ps) ss os c t h = cc
+except_follows profile ds fs n m (opening.If x) ss os c t h = cc
+except_follows profile ds fs n m (opening.Else x ts) ss os c t h = cc
+except_follows profile ds fs n m (opening.While x) ss os c t h = cc
+except_follows profile ds fs n m (opening.Finally tried es) ss os c t h = cc
+except_follows profile ds fs n m (opening.Timeout x silent) ss os c t h = cc
 
-finally_follows : (ds : List Declaration) (fs : List Function) (n m : ℕ) (op : Opening) (ss : List Statement) (os : List OpenBlock)
-    → misplaced (standing (begun ds fs (record { line = m; opening = op; statements = ss } ∷ os))) (role phrase.Finally) ≡ None → Follows (begun ds fs (record { line = m; opening = op; statements = ss } ∷ os)) n phrase.Finally
-finally_follows ds fs n m opening.Try ss os h = refl
-finally_follows ds fs n m (opening.Except tried es l d other) ss os h = refl
-finally_follows ds fs n m (opening.Function is_raw name ps) ss os h = cc
-finally_follows ds fs n m (opening.If x) ss os h = cc
-finally_follows ds fs n m (opening.Else x ts) ss os h = cc
-finally_follows ds fs n m (opening.While x) ss os h = cc
-finally_follows ds fs n m (opening.Finally tried es) ss os h = cc
-finally_follows ds fs n m (opening.Timeout x silent) ss os h = cc
+finally_follows : (profile : ℕ) (ds : List Declaration) (fs : List Function) (n m : ℕ) (op : Opening) (ss : List Statement) (os : List OpenBlock)
+    → misplaced (standing (begun profile ds fs (record { line = m; opening = op; statements = ss } ∷ os))) (role phrase.Finally) ≡ None → Follows (begun profile ds fs (record { line = m; opening = op; statements = ss } ∷ os)) n phrase.Finally
+finally_follows profile ds fs n m opening.Try ss os h = refl
+finally_follows profile ds fs n m (opening.Except tried es l d other) ss os h = refl
+finally_follows profile ds fs n m (opening.Function is_raw name ps) ss os h = cc
+finally_follows profile ds fs n m (opening.If x) ss os h = cc
+finally_follows profile ds fs n m (opening.Else x ts) ss os h = cc
+finally_follows profile ds fs n m (opening.While x) ss os h = cc
+finally_follows profile ds fs n m (opening.Finally tried es) ss os h = cc
+finally_follows profile ds fs n m (opening.Timeout x silent) ss os h = cc
 
 -- A phrase that asks for an open block, by the case that one is open.
-in_a_block : (b : Building) (n : ℕ) (p : Phrase) (os : List OpenBlock) → b.open_blocks ≡ os → (misplaced (standing (begun b.objects b.functions [])) (role p) ≡ None → ⊥)
-    → ((o : OpenBlock) (rest : List OpenBlock) → Stacked (o ∷ rest) → misplaced (standing (begun b.objects b.functions (o ∷ rest))) (role p) ≡ None → Follows (begun b.objects b.functions (o ∷ rest)) n p)
-    → Stacked os → misplaced (standing (begun b.objects b.functions os)) (role p) ≡ None → Follows (begun b.objects b.functions os) n p
+in_a_block : (b : Building) (n : ℕ) (p : Phrase) (os : List OpenBlock) → b.open_blocks ≡ os → (misplaced (standing (begun b.profile b.objects b.functions [])) (role p) ≡ None → ⊥)
+    → ((o : OpenBlock) (rest : List OpenBlock) → Stacked (o ∷ rest) → misplaced (standing (begun b.profile b.objects b.functions (o ∷ rest))) (role p) ≡ None → Follows (begun b.profile b.objects b.functions (o ∷ rest)) n p)
+    → Stacked os → misplaced (standing (begun b.profile b.objects b.functions os)) (role p) ≡ None → Follows (begun b.profile b.objects b.functions os) n p
 in_a_block b n p [] same outside inside k h = absurd (outside h)
 in_a_block b n p (o ∷ os) same outside inside k h = inside o os k h
 
+or_true : (x : Bool) → (x || true) ≡ true
+or_true true = refl
+or_true false = refl
+
+declared_line : (x : Bool) (d : Declaration) (ds : List Declaration) (y : Bool) → (x || (let c : Bool = elim (ds ++ d ∷ []) [ [] ↦ false | e ∷ es ↦ true ] in c) || y) ≡ true
+declared_line true d ds y = refl
+declared_line false d [] y = refl
+declared_line false d (e ∷ es) y = refl
+
 follows : (b : Building) (n : ℕ) (p : Phrase) → Stacked b.open_blocks → misplaced (standing b) (role p) ≡ None → Follows b n p
-follows b n (phrase.Declaration name object) k h = refl
-follows b n (phrase.Function is_raw name ps) k h = defines_follow b.objects b.functions b.open_blocks n is_raw name ps h
+follows b n phrase.Profile k h = λ i. record (standing b) { profile = 2; any_line = sym (or_true (is_begun b || has_objects b)) i }
+follows b n (phrase.Declaration name object) k h = λ i. record (standing b) { any_line = sym (declared_line (is_begun b) (record { line = n; name = name; object = object }) b.objects (not (b.profile == 1))) i }
+follows b n (phrase.Function is_raw name ps) k h = defines_follow b.profile b.objects b.functions b.open_blocks n is_raw name ps h
 follows b n (phrase.Command c) k h = in_a_block b n (phrase.Command c) b.open_blocks refl (λ e. cc) (λ o os k h. refl) k h
 follows b n (phrase.Giving t g) k h = in_a_block b n (phrase.Giving t g) b.open_blocks refl (λ e. cc) (λ o os k h. refl) k h
 follows b n (phrase.If x) k h = in_a_block b n (phrase.If x) b.open_blocks refl (λ e. cc) (λ o os k h. refl) k h
 follows b n (phrase.While x) k h = in_a_block b n (phrase.While x) b.open_blocks refl (λ e. cc) (λ o os k h. refl) k h
 follows b n phrase.Try k h = in_a_block b n phrase.Try b.open_blocks refl (λ e. cc) (λ o os k h. refl) k h
 follows b n (phrase.Timeout t s) k h = in_a_block b n (phrase.Timeout t s) b.open_blocks refl (λ e. cc) (λ o os k h. refl) k h
-follows b n phrase.Else k h = in_a_block b n phrase.Else b.open_blocks refl (λ e. cc) (λ o os k h. else_follows b.objects b.functions n o.line o.opening o.statements os h) k h
-follows b n (phrase.Except c t) k h = in_a_block b n (phrase.Except c t) b.open_blocks refl (λ e. cc) (λ o os k h. except_follows b.objects b.functions n o.line o.opening o.statements os c t h) k h
-follows b n phrase.Finally k h = in_a_block b n phrase.Finally b.open_blocks refl (λ e. cc) (λ o os k h. finally_follows b.objects b.functions n o.line o.opening o.statements os h) k h
-follows b n phrase.End k h = in_a_block b n phrase.End b.open_blocks refl (λ e. cc) (λ o os k h. ends_follow b.objects b.functions n o.line o.opening o.statements os k h) k h
+follows b n phrase.Else k h = in_a_block b n phrase.Else b.open_blocks refl (λ e. cc) (λ o os k h. else_follows b.profile b.objects b.functions n o.line o.opening o.statements os h) k h
+follows b n (phrase.Except c t) k h = in_a_block b n (phrase.Except c t) b.open_blocks refl (λ e. cc) (λ o os k h. except_follows b.profile b.objects b.functions n o.line o.opening o.statements os c t h) k h
+follows b n phrase.Finally k h = in_a_block b n phrase.Finally b.open_blocks refl (λ e. cc) (λ o os k h. finally_follows b.profile b.objects b.functions n o.line o.opening o.statements os h) k h
+follows b n phrase.End k h = in_a_block b n phrase.End b.open_blocks refl (λ e. cc) (λ o os k h. ends_follow b.profile b.objects b.functions n o.line o.opening o.statements os k h) k h
 
 -- where a reading ends, as a standing
 abbrev stands : {E : Type 0} → Result Building E → Result Standing E
 stands (Ok b) = Ok (standing b)
 stands (Err e) = Err e
 
-judged_by : (m : Option ℕ) (q : Result Phrase ℕ) (b : Building) (n : ℕ) → ((p : Phrase) → m ≡ None → q ≡ Ok p → Follows b n p)
-    → (let r : Result Standing ℕ = elim m [ Some r ↦ Err r | None ↦ q >>= λ p. Ok (after (standing b) p) ] in r) ≡ stands (let r : Result Building ℕ = elim m [ Some r ↦ Err r | None ↦ q >>= λ p. Ok (step b n p) ] in r)
+judged_by : (m : Option TextReason) (q : Result Phrase TextReason) (b : Building) (n : ℕ) → ((p : Phrase) → m ≡ None → q ≡ Ok p → Follows b n p)
+    → (let r : Result Standing TextReason = elim m [ Some r ↦ Err r | None ↦ q >>= λ p. Ok (after (standing b) p) ] in r) ≡ stands (let r : Result Building TextReason = elim m [ Some r ↦ Err r | None ↦ q >>= λ p. Ok (step b n p) ] in r)
 judged_by (Some r) q b n follow = refl
 judged_by None (Err r) b n follow = refl
-judged_by None (Ok p) b n follow = ap (λ s. let r : Result Standing ℕ = Ok s in r) (follow p refl refl)
+judged_by None (Ok p) b n follow = ap (λ s. let r : Result Standing TextReason = Ok s in r) (follow p refl refl)
 
 judged : (b : Building) (l : Line) → Stacked b.open_blocks → judge_line (standing b) l ≡ stands (read_line b l)
 judged b l k = by_space (is_spaced l)
   where
     words : List Token
-    words = map token_of l.words
+    words = map (token_in b.profile) l.words
 
-    follow : (p : Phrase) → misplaced (standing b) (role_of (map token_of l.words)) ≡ None → phrase_of (map token_of l.words) ≡ Ok p → Follows b l.number p
+    follow : (p : Phrase) → misplaced (standing b) (role_of (map (token_in b.profile) l.words)) ≡ None → phrase_of (map (token_in b.profile) l.words) ≡ Ok p → Follows b l.number p
     follow p placed read =
-        let r = phrase_read p (map token_of l.words) (phrase_said (map token_of l.words) p (tokens_proper l.words) read) in
+        let r = phrase_read p (map (token_in b.profile) l.words) (phrase_said (map (token_in b.profile) l.words) p (tokens_proper b.profile l.words) read) in
         follows b l.number p k (sym (r.place (standing b)) ∙ placed)
 
-    by_space : (s : Bool) → (let r : Result Standing ℕ = if s then judge (standing b) (map token_of l.words) else Err 4 in r) ≡ stands (let r : Result Building ℕ = if s then read_words b l.number (map token_of l.words) else Err 4 in r)
-    by_space true = judged_by (misplaced (standing b) (role_of (map token_of l.words))) (phrase_of (map token_of l.words)) b l.number follow
+    by_space : (s : Bool) → (let r : Result Standing TextReason = if s then judge (standing b) (map (token_in b.profile) l.words) else Err reason.BlankOutOfPlace in r) ≡ stands (let r : Result Building TextReason = if s then read_words b l.number (map (token_in b.profile) l.words) else Err reason.BlankOutOfPlace in r)
+    by_space true = judged_by (misplaced (standing b) (role_of (map (token_in b.profile) l.words))) (phrase_of (map (token_in b.profile) l.words)) b l.number follow
     by_space false = refl
 
-lines_by : (j : Result Standing ℕ) (r : Result Building ℕ) (n : ℕ) (ls : List Line) → j ≡ stands r → ((c : Building) → r ≡ Ok c → judge_lines (standing c) ls ≡ stands (read_lines c ls))
-    → (let x : Result Standing Place = elim j [ Ok t ↦ judge_lines t ls | Err r ↦ Err (record { line = n; reason = r }) ] in x)
-    ≡ stands (let x : Result Building Place = elim r [ Ok d ↦ read_lines d ls | Err r ↦ Err (record { line = n; reason = r }) ] in x)
+lines_by : (j : Result Standing TextReason) (r : Result Building TextReason) (n : ℕ) (ls : List Line) → j ≡ stands r → ((c : Building) → r ≡ Ok c → judge_lines (standing c) ls ≡ stands (read_lines c ls))
+    → (let x : Result Standing Place = elim j [ Ok t ↦ judge_lines t ls | Err r ↦ Err (record { line = n; reason = text_number r }) ] in x)
+    ≡ stands (let x : Result Building Place = elim r [ Ok d ↦ read_lines d ls | Err r ↦ Err (record { line = n; reason = text_number r }) ] in x)
 lines_by j (Ok c) n ls e below = rw e (below c refl)
 lines_by j (Err r) n ls e below = rw e refl
 

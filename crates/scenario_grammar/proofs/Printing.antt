@@ -1,29 +1,27 @@
 -- The printed form of a tree that has a text is a text of it, but for the numbers of its lines.
-use Rattle.std.proofs.Common.{◌≡◌, ℕ, zero, suc, ◌+◌, ◌*◌, ◌≤◌, Bool, true, false, ◌&&◌, not, cond, if◌then◌else◌, List, [], ◌∷◌, ◌++◌, length, map, replicate, Option, Some, None, Result, Ok, Err, refl, sym, ap, subst, ◌∙◌, arith, IsTrue}
+use Rattle.std.proofs.Common.{◌≡◌, ℕ, zero, suc, ◌+◌, ◌*◌, ◌≤◌, Bool, true, false, ◌&&◌, not, cond, if◌then◌else◌, List, [], ◌∷◌, ◌++◌, length, map, replicate, Option, Some, None, Ok, refl, sym, ap, ◌∙◌}
 use Rattle.std.specs.Prelude.{◌==◌}
 use Rattle.std.specs.List.{list_all, list_any, slice_split, onto_first, join_with_byte}
 use Rattle.std.specs.Option.{IsSomeAnd}
 use Rattle.std.proofs.lemmas.List.Splits.{join_with_byte-slice_split}
 use Rattle.scenario_tree.specs.declared.tree.Scenario.{Scenario}
 use Rattle.scenario_grammar.specs.declared.phrase.Phrase.{Phrase}
-use Rattle.scenario_grammar.specs.declared.token.Token.{Token}
-use Rattle.scenario_grammar.specs.Bare.{bare, bare_declaration, bare_function}
+use Rattle.scenario_grammar.specs.Bare.{bare}
 use Rattle.scenario_grammar.specs.Blocks.{Row, scenario_rows}
-use Rattle.scenario_grammar.specs.Building.{Building}
 use Rattle.scenario_grammar.specs.Layout.{Line, lines, lines_from, with_line, drop_blanks, is_blank, is_end, is_spaced, is_ended, is_text_byte, most_bytes, IsText}
 use Rattle.scenario_grammar.specs.Parsed.{nothing_yet, reading, read_lines, scenario}
 use Rattle.scenario_grammar.specs.Phrases.{phrase_tokens}
 use Rattle.scenario_grammar.specs.Places.{place_in_bytes}
 use Rattle.scenario_grammar.specs.Printed.{is_closing, is_opening, less_if, more_if, words_of, printed_rows, printed_if, printed}
 use Rattle.scenario_grammar.specs.Spells.{AreRows, is_main, Spells}
-use Rattle.scenario_grammar.specs.Tokens.{token_of, token_word}
+use Rattle.scenario_grammar.specs.Tokens.{token_in, token_word}
 use Rattle.scenario_grammar.proofs.Atoms.{and_left, and_right}
-use Rattle.scenario_grammar.proofs.BareLaws.{bare_building, SamePhrases, Renumbered, renumbered, functions_bare}
-use Rattle.scenario_grammar.proofs.BlockLaws.{follow}
-use Rattle.scenario_grammar.proofs.Complete.{built, numbered, numbered_said, AreTold, told, scenario_makes, lines_full, none_in_bytes, reading_by}
-use Rattle.scenario_grammar.proofs.InWords.{phrase_in_words}
+use Rattle.scenario_grammar.proofs.BareLaws.{SamePhrases, renumbered, functions_bare}
+use Rattle.scenario_grammar.proofs.Complete.{built, numbered, numbered_said, AreTold, told, scenario_makes, text_full, none_in_bytes, reading_by}
+use Rattle.scenario_grammar.proofs.InWords.{is_word, phrase_in_words}
 use Rattle.scenario_grammar.proofs.Sound.{sound}
 use Rattle.scenario_grammar.proofs.WordsBack.{words_back}
+use Rattle.scenario_grammar.proofs.Profiles.{words_known}
 
 -- a byte that may stand in a line
 abbrev is_plain : ℕ → Bool
@@ -148,9 +146,11 @@ relined n [] = []
 relined n (l ∷ ls) = record { number = n; words = l.words } ∷ relined (n + 1) ls
 
 -- what is printed of a line is its bytes past the leading blanks
-line_text : (l : Line) (p : Phrase) (c : Carries l) → phrase_tokens p ≡ Some (map token_of l.words) → words_of (phrase_tokens p) ≡ c.first ∷ c.others
-line_text l p c says =
-    ap words_of says ∙ ap (join_with_byte 32) (words_back l.words (phrase_in_words p (map token_of l.words) says)) ∙ ap (join_with_byte 32) c.words
+line_text : (l : Line) (profile : ℕ) (p : Phrase) (c : Carries l) → phrase_tokens p ≡ Some (map (token_in profile) l.words) → words_of (phrase_tokens p) ≡ c.first ∷ c.others
+line_text l profile p c says =
+    let known = phrase_in_words p (map (token_in profile) l.words) says in
+    let all = words_known profile l.words known in
+    ap words_of says ∙ ap (λ z. join_with_byte 32 (map token_word z)) all ∙ ap (join_with_byte 32) (words_back l.words (ap (list_all is_word) (sym all) ∙ known)) ∙ ap (join_with_byte 32) c.words
     ∙ join_with_byte-slice_split 32 (c.first ∷ c.others)
 
 one_line : (n m b : ℕ) (bs tail : List ℕ) → list_all is_plain (b ∷ bs) ≡ true → is_blank b ≡ false → (b == 35) ≡ false
@@ -170,17 +170,17 @@ one_line n m b bs tail plain solid no_comment =
     kept_line true e = cc
 
 -- the lines of what is printed are those of the text, one after another
-printed_lines : (ls : List Line) (rs : List Row) (level n : ℕ) → AllCarry ls → AreTold ls rs → lines_from n (slice_split is_end (printed_rows level rs)) ≡ relined n ls
-printed_lines [] [] level n c t = refl
-printed_lines [] (r ∷ rs) level n c t = absurd t
-printed_lines (l ∷ ls) [] level n c t = absurd t
-printed_lines (l ∷ ls) (r ∷ rs) level n c t =
+printed_lines : (profile : ℕ) (ls : List Line) (rs : List Row) (level n : ℕ) → AllCarry ls → AreTold profile ls rs → lines_from n (slice_split is_end (printed_rows level rs)) ≡ relined n ls
+printed_lines profile [] [] level n c t = refl
+printed_lines profile [] (r ∷ rs) level n c t = absurd t
+printed_lines profile (l ∷ ls) [] level n c t = absurd t
+printed_lines profile (l ∷ ls) (r ∷ rs) level n c t =
     let here = less_if (is_closing r.says) level in
     let tail = printed_rows (more_if (is_opening r.says) here) rs in
-    ap (λ z. lines_from n (slice_split is_end (replicate (2 * here) 32 ++ z ++ 10 ∷ tail))) (line_text l r.says c.0 t.0)
+    ap (λ z. lines_from n (slice_split is_end (replicate (2 * here) 32 ++ z ++ 10 ∷ tail))) (line_text l profile r.says c.0 t.0)
     ∙ one_line n (2 * here) c.0.first c.0.others tail c.0.plain c.0.solid c.0.no_comment
     ∙ ap (λ w. (let x : Line = record { number = n; words = w } in x) ∷ lines_from (n + 1) (slice_split is_end tail)) (sym c.0.words)
-    ∙ ap (λ z. (let x : Line = record { number = n; words = l.words } in x) ∷ z) (printed_lines ls rs (more_if (is_opening r.says) here) (n + 1) c.1 t.1)
+    ∙ ap (λ z. (let x : Line = record { number = n; words = l.words } in x) ∷ z) (printed_lines profile ls rs (more_if (is_opening r.says) here) (n + 1) c.1 t.1)
 
 plain_text : (bs : List ℕ) → list_all is_plain bs ≡ true → list_all is_text_byte bs ≡ true
 plain_text [] h = refl
@@ -196,16 +196,16 @@ text_append (x ∷ xs) ys h k =
 end_text : (xs : List ℕ) → list_all is_text_byte xs ≡ true → list_all is_text_byte (10 ∷ xs) ≡ true
 end_text xs h = h
 
-printed_printable : (ls : List Line) (rs : List Row) (level : ℕ) → AllCarry ls → AreTold ls rs → list_all is_text_byte (printed_rows level rs) ≡ true
-printed_printable [] [] level c t = refl
-printed_printable [] (r ∷ rs) level c t = absurd t
-printed_printable (l ∷ ls) [] level c t = absurd t
-printed_printable (l ∷ ls) (r ∷ rs) level c t =
+printed_printable : (profile : ℕ) (ls : List Line) (rs : List Row) (level : ℕ) → AllCarry ls → AreTold profile ls rs → list_all is_text_byte (printed_rows level rs) ≡ true
+printed_printable profile [] [] level c t = refl
+printed_printable profile [] (r ∷ rs) level c t = absurd t
+printed_printable profile (l ∷ ls) [] level c t = absurd t
+printed_printable profile (l ∷ ls) (r ∷ rs) level c t =
     let here = less_if (is_closing r.says) level in
     let tail = printed_rows (more_if (is_opening r.says) here) rs in
-    ap (λ z. list_all is_text_byte (replicate (2 * here) 32 ++ z ++ 10 ∷ tail)) (line_text l r.says c.0 t.0)
+    ap (λ z. list_all is_text_byte (replicate (2 * here) 32 ++ z ++ 10 ∷ tail)) (line_text l profile r.says c.0 t.0)
     ∙ text_append (replicate (2 * here) 32 ++ (c.0.first ∷ c.0.others)) (10 ∷ tail) (plain_text (replicate (2 * here) 32 ++ (c.0.first ∷ c.0.others)) (indented_plain (2 * here) (c.0.first ∷ c.0.others) c.0.plain))
-    (end_text tail (printed_printable ls rs (more_if (is_opening r.says) here) c.1 t.1))
+    (end_text tail (printed_printable profile ls rs (more_if (is_opening r.says) here) c.1 t.1))
 
 -- an ended line before what is ended is ended
 line_ended : (xs tail : List ℕ) → is_ended tail ≡ true → is_ended (xs ++ 10 ∷ tail) ≡ true
@@ -224,11 +224,11 @@ relined_spaced : (n : ℕ) (ls : List Line) → list_all is_spaced (relined n ls
 relined_spaced n [] = refl
 relined_spaced n (l ∷ ls) = ap (λ z. is_spaced l && z) (relined_spaced (n + 1) ls)
 
-relined_told : (n : ℕ) (ls : List Line) (rs : List Row) → AreTold ls rs → AreTold (relined n ls) rs
-relined_told n [] [] t = tt
-relined_told n [] (r ∷ rs) t = absurd t
-relined_told n (l ∷ ls) [] t = absurd t
-relined_told n (l ∷ ls) (r ∷ rs) t = (t.0, relined_told (n + 1) ls rs t.1)
+relined_told : (profile n : ℕ) (ls : List Line) (rs : List Row) → AreTold profile ls rs → AreTold profile (relined n ls) rs
+relined_told profile n [] [] t = tt
+relined_told profile n [] (r ∷ rs) t = absurd t
+relined_told profile n (l ∷ ls) [] t = absurd t
+relined_told profile n (l ∷ ls) (r ∷ rs) t = (t.0, relined_told profile (n + 1) ls rs t.1)
 
 relined_same : (n : ℕ) (ls : List Line) (rs : List Row) → SamePhrases (numbered ls rs) (numbered (relined n ls) rs)
 relined_same n [] rs = tt
@@ -244,25 +244,25 @@ record PrintedAgain (s : Scenario) : Type 0 where
   spelt : Spells tree (printed s)
   same : bare s ≡ bare tree
 
-reading_so : (bytes : List ℕ) (t : Scenario) → IsText bytes → read_lines nothing_yet (lines bytes) ≡ Ok (built t) → list_any is_main t.functions ≡ true → t.profile ≡ 1 → reading bytes ≡ Ok t
+reading_so : (bytes : List ℕ) (t : Scenario) → IsText bytes → read_lines nothing_yet (lines bytes) ≡ Ok (built t) → list_any is_main t.functions ≡ true → reading bytes ≡ Ok t
 unfolding reading
-reading_so bytes t whole read main profile = reading_by (place_in_bytes bytes) (read_lines nothing_yet (lines bytes)) bytes t (none_in_bytes bytes whole) read main profile
+reading_so bytes t whole read main = reading_by (place_in_bytes bytes) (read_lines nothing_yet (lines bytes)) bytes t (none_in_bytes bytes whole) read main
 
-printed_again : (s : Scenario) (bytes : List ℕ) (rs : List Row) → Spells s bytes → scenario_rows s ≡ Some rs → AreRows (lines bytes) rs → length (printed s) ≤ most_bytes → PrintedAgain s
+printed_again : (s : Scenario) (bytes : List ℕ) (rs : List Row) → Spells s bytes → scenario_rows s ≡ Some rs → AreRows s.profile (lines bytes) rs → length (printed s) ≤ most_bytes → PrintedAgain s
 unfolding printed lines
 printed_again s bytes rs h rows said short =
     let ls = lines bytes in
     let carry = lines_carry 1 (slice_split is_end bytes) (split_plain bytes h.text.printable) in
-    let says = told ls rs said in
+    let says = told s.profile ls rs said in
     let form : printed s ≡ printed_rows 0 rs = ap printed_if rows in
-    let new_lines : lines (printed s) ≡ relined 1 ls = ap (λ z. lines_from 1 (slice_split is_end z)) form ∙ printed_lines ls rs 0 1 carry says in
+    let new_lines : lines (printed s) ≡ relined 1 ls = ap (λ z. lines_from 1 (slice_split is_end z)) form ∙ printed_lines s.profile ls rs 0 1 carry says in
     let whole : IsText (printed s) = record {
       short = short;
-      printable = ap (list_all is_text_byte) form ∙ printed_printable ls rs 0 carry says;
+      printable = ap (list_all is_text_byte) form ∙ printed_printable s.profile ls rs 0 carry says;
       ended = ap is_ended form ∙ printed_ended 0 rs;
       spaced = ap (list_all is_spaced) new_lines ∙ relined_spaced 1 ls ∙ h.text.spaced;
     } in
-    let made = scenario_makes s rs (numbered ls rs) rows (numbered_said ls rs said) in
+    let made = scenario_makes s rs (numbered ls rs) rows (numbered_said s.profile ls rs said) in
     let again = renumbered (numbered ls rs) (numbered (relined 1 ls) rs) nothing_yet nothing_yet (built s) (relined_same 1 ls rs) refl made in
     let tree = scenario again.made in
     let closed = none_open _ again.made.open_blocks (ap (λ b. b.open_blocks) again.same) in
@@ -271,18 +271,19 @@ printed_again s bytes rs h rows said short =
     let main = sym (functions_bare tree.functions) ∙ ap (list_any is_main) (sym functions) ∙ functions_bare s.functions ∙ h.has_main in
     let read : read_lines nothing_yet (lines (printed s)) ≡ Ok (built tree) =
     ap (read_lines nothing_yet) new_lines
-    ∙ lines_full (relined 1 ls) rs nothing_yet again.made (relined_told 1 ls rs says) (relined_spaced 1 ls ∙ h.text.spaced) again.follows
+    ∙ text_full s (relined 1 ls) rs again.made rows (relined_told s.profile 1 ls rs says) (relined_spaced 1 ls ∙ h.text.spaced) again.follows
     ∙ ap (λ b. Ok b) whole_made in
     record {
       tree = tree;
-      spelt = sound tree (printed s) (reading_so (printed s) tree whole read main refl);
-      same = λ i. record { profile = h.profile i; objects = (again.same i).objects; functions = functions i };
+      spelt = sound tree (printed s) (reading_so (printed s) tree whole read main);
+      same = λ i. record { profile = (again.same i).profile; objects = (again.same i).objects; functions = functions i };
     }
 
--- The printed form of a tree that has a text, where it is no longer than a text may be, is a text of the tree but for its lines.
+-- The printed form of a tree that has a text, where it is no longer than a text may be, is a text of the tree but for
+-- its lines.
 pub printing : (s : Scenario) (bytes : List ℕ) → Spells s bytes → length (printed s) ≤ most_bytes → (t : Scenario) × Spells t (printed s) × (bare s ≡ bare t)
 printing s bytes h short = by_rows (scenario_rows s) refl h.rows
   where
-    by_rows : (r : Option (List Row)) → scenario_rows s ≡ r → IsSomeAnd r (AreRows (lines bytes)) → (t : Scenario) × Spells t (printed s) × (bare s ≡ bare t)
+    by_rows : (r : Option (List Row)) → scenario_rows s ≡ r → IsSomeAnd r (AreRows s.profile (lines bytes)) → (t : Scenario) × Spells t (printed s) × (bare s ≡ bare t)
     by_rows None e a = absurd a
     by_rows (Some rs) e a = let again = printed_again s bytes rs h e a short in (again.tree, again.spelt, again.same)

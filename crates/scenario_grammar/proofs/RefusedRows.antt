@@ -1,5 +1,5 @@
--- Refused texts and their places, by computation.
-use Rattle.std.proofs.Common.{replicate, ◌+◌, ◌≡◌, ℕ, refl, List, [], ◌∷◌, ◌++◌, Option, Some, None, codes}
+-- Refused texts and their places, and the same mended, by computation.
+use Rattle.std.proofs.Common.{replicate, ◌+◌, ◌≡◌, ◌==◌, ℕ, refl, List, [], ◌∷◌, ◌++◌, map, if◌then◌else◌, Option, Some, None, codes}
 use Rattle.std.specs.List.{flat_map}
 use Rattle.scenario_grammar.specs.declared.place.Place.{Place}
 use Rattle.scenario_grammar.specs.Keywords.{keyword_of, keywords}
@@ -11,253 +11,145 @@ use Rattle.scenario_grammar.specs.Tokens.{token_of}
 abbrev at : ℕ → ℕ → Option Place
 at line reason = Some (record { line = line; reason = reason })
 
--- each with its end
-abbrev text : List (List ℕ) → List ℕ
-text = flat_map (λ l. l ++ 10 ∷ [])
+-- `|` stands for the end of a line
+abbrev line_end : ℕ → ℕ
+line_end b = if b == 124 then 10 else b
 
-abbrev in_main : List ℕ → List ℕ
-in_main line = text (codes "def main" ∷ line ∷ codes "end" ∷ [])
-
-empty_input : place [] ≡ at 1 14
-unfolding place lines judge_lines token_of keyword_of keywords phrase_of nested_at name_at number_at integer_at
-empty_input = refl
-
-prints_one : place (in_main (codes "print 1")) ≡ None
-unfolding place lines judge_lines token_of keyword_of keywords phrase_of nested_at name_at number_at integer_at
-prints_one = refl
-
--- row `refused_spellings`, but for its undeclared name
-two_blanks : place (in_main (codes "print  1")) ≡ at 2 4
-unfolding place lines judge_lines token_of keyword_of keywords phrase_of nested_at name_at number_at integer_at
-two_blanks = refl
-
-blank_at_the_end : place (in_main (codes "print 1 ")) ≡ at 2 4
-unfolding place lines judge_lines token_of keyword_of keywords phrase_of nested_at name_at number_at integer_at
-blank_at_the_end = refl
-
-unknown_statement : place (in_main (codes "foo 1")) ≡ at 2 5
-unfolding place lines judge_lines token_of keyword_of keywords phrase_of nested_at name_at number_at integer_at
-unknown_statement = refl
-
-no_operand : place (in_main (codes "print")) ≡ at 2 6
-unfolding place lines judge_lines token_of keyword_of keywords phrase_of nested_at name_at number_at integer_at
-no_operand = refl
-
-one_word_too_many : place (in_main (codes "print 1 2")) ≡ at 2 7
-unfolding place lines judge_lines token_of keyword_of keywords phrase_of nested_at name_at number_at integer_at
-one_word_too_many = refl
-
-leading_zeros : place (in_main (codes "print 007")) ≡ at 2 8
-unfolding place lines judge_lines token_of keyword_of keywords phrase_of nested_at name_at number_at integer_at
-leading_zeros = refl
-
-sleep_too_long : place (in_main (codes "sleep 1000000001")) ≡ at 2 9
-unfolding place lines judge_lines token_of keyword_of keywords phrase_of nested_at name_at number_at integer_at
-sleep_too_long = refl
-
-capital_name : place (in_main (codes "let Q 1")) ≡ at 2 10
-unfolding place lines judge_lines token_of keyword_of keywords phrase_of nested_at name_at number_at integer_at
-capital_name = refl
-
-end_twice : place (in_main (codes "end")) ≡ at 3 11
-unfolding place lines judge_lines token_of keyword_of keywords phrase_of nested_at name_at number_at integer_at
-end_twice = refl
-
--- which reason comes first
-no_value_is_given : place (in_main (codes "x <- print 1")) ≡ at 2 5
-unfolding place lines judge_lines token_of keyword_of keywords phrase_of nested_at name_at number_at integer_at
-no_value_is_given = refl
-
-unknown_behind_arrow : place (in_main (codes "x <- foo")) ≡ at 2 5
-unfolding place lines judge_lines token_of keyword_of keywords phrase_of nested_at name_at number_at integer_at
-unknown_behind_arrow = refl
-
-nothing_behind_arrow : place (in_main (codes "x <-")) ≡ at 2 6
-unfolding place lines judge_lines token_of keyword_of keywords phrase_of nested_at name_at number_at integer_at
-nothing_behind_arrow = refl
-
-number_before_arrow : place (in_main (codes "1 <- spawn w")) ≡ at 2 10
-unfolding place lines judge_lines token_of keyword_of keywords phrase_of nested_at name_at number_at integer_at
-number_before_arrow = refl
-
-no_wait_follows : place (in_main (codes "acquire s foo")) ≡ at 2 7
-unfolding place lines judge_lines token_of keyword_of keywords phrase_of nested_at name_at number_at integer_at
-no_wait_follows = refl
-
-neither_mark_nor_set : place (in_main (codes "rawlink self foo 1")) ≡ at 2 5
-unfolding place lines judge_lines token_of keyword_of keywords phrase_of nested_at name_at number_at integer_at
-neither_mark_nor_set = refl
-
-time_wanted : place (in_main (codes "timeout foo")) ≡ at 2 8
-unfolding place lines judge_lines token_of keyword_of keywords phrase_of nested_at name_at number_at integer_at
-time_wanted = refl
-
-minus_alone : place (in_main (codes "print -")) ≡ at 2 6
-unfolding place lines judge_lines token_of keyword_of keywords phrase_of nested_at name_at number_at integer_at
-minus_alone = refl
-
-minus_and_operand : place (in_main (codes "print - 1")) ≡ at 2 6
-unfolding place lines judge_lines token_of keyword_of keywords phrase_of nested_at name_at number_at integer_at
-minus_and_operand = refl
-
-minus_and_letter : place (in_main (codes "print -x")) ≡ at 2 8
-unfolding place lines judge_lines token_of keyword_of keywords phrase_of nested_at name_at number_at integer_at
-minus_and_letter = refl
-
-minus_zero : place (in_main (codes "print -0")) ≡ at 2 8
-unfolding place lines judge_lines token_of keyword_of keywords phrase_of nested_at name_at number_at integer_at
-minus_zero = refl
-
-no_word_of_expressions : place (in_main (codes "print !")) ≡ at 2 5
-unfolding place lines judge_lines token_of keyword_of keywords phrase_of nested_at name_at number_at integer_at
-no_word_of_expressions = refl
-
-statement_as_operand : place (in_main (codes "print sleep")) ≡ at 2 5
-unfolding place lines judge_lines token_of keyword_of keywords phrase_of nested_at name_at number_at integer_at
-statement_as_operand = refl
-
-past_64_bits : place (in_main (codes "print 9223372036854775808")) ≡ at 2 9
-unfolding place lines judge_lines token_of keyword_of keywords phrase_of nested_at name_at number_at integer_at
-past_64_bits = refl
-
-negative_time : place (in_main (codes "sleep -1")) ≡ at 2 9
-unfolding place lines judge_lines token_of keyword_of keywords phrase_of nested_at name_at number_at integer_at
-negative_time = refl
-
-name_wanted : place (in_main (codes "except any 5")) ≡ at 2 11
-unfolding place lines judge_lines token_of keyword_of keywords phrase_of nested_at name_at number_at integer_at
-name_wanted = refl
-
-too_many_operands : place (in_main (codes "list 1 2 3")) ≡ at 2 5
-unfolding place lines judge_lines token_of keyword_of keywords phrase_of nested_at name_at number_at integer_at
-too_many_operands = refl
-
-greatest_integer : place (in_main (codes "print 9223372036854775807")) ≡ None
-unfolding place lines judge_lines token_of keyword_of keywords phrase_of nested_at name_at number_at integer_at
-greatest_integer = refl
-
-least_integer : place (in_main (codes "print -9223372036854775808")) ≡ None
-unfolding place lines judge_lines token_of keyword_of keywords phrase_of nested_at name_at number_at integer_at
-least_integer = refl
-
-below_64_bits : place (in_main (codes "print -9223372036854775809")) ≡ at 2 9
-unfolding place lines judge_lines token_of keyword_of keywords phrase_of nested_at name_at number_at integer_at
-below_64_bits = refl
-
-name_of_24_bytes : place (in_main (codes "let abcdefghijklmnopqrstuvwx 1")) ≡ None
-unfolding place lines judge_lines token_of keyword_of keywords phrase_of nested_at name_at number_at integer_at
-name_of_24_bytes = refl
-
-name_of_25_bytes : place (in_main (codes "let abcdefghijklmnopqrstuvwxy 1")) ≡ at 2 10
-unfolding place lines judge_lines token_of keyword_of keywords phrase_of nested_at name_at number_at integer_at
-name_of_25_bytes = refl
-
-reserved_name : place (in_main (codes "let channel 1")) ≡ at 2 10
-unfolding place lines judge_lines token_of keyword_of keywords phrase_of nested_at name_at number_at integer_at
-reserved_name = refl
-
--- outside a function
-capital_before_arrow : place (text (codes "Q <- spawn w" ∷ [])) ≡ at 1 10
-unfolding place lines judge_lines token_of keyword_of keywords phrase_of nested_at name_at number_at integer_at
-capital_before_arrow = refl
-
-unknown_outside : place (text (codes "x <- foo" ∷ [])) ≡ at 1 5
-unfolding place lines judge_lines token_of keyword_of keywords phrase_of nested_at name_at number_at integer_at
-unknown_outside = refl
-
-no_value_outside : place (text (codes "x <- print 1" ∷ [])) ≡ at 1 5
-unfolding place lines judge_lines token_of keyword_of keywords phrase_of nested_at name_at number_at integer_at
-no_value_outside = refl
-
-arrow_alone : place (text (codes "x <-" ∷ [])) ≡ at 1 6
-unfolding place lines judge_lines token_of keyword_of keywords phrase_of nested_at name_at number_at integer_at
-arrow_alone = refl
-
-spawn_outside : place (text (codes "x <- spawn w" ∷ [])) ≡ at 1 13
-unfolding place lines judge_lines token_of keyword_of keywords phrase_of nested_at name_at number_at integer_at
-spawn_outside = refl
-
-print_outside : place (text (codes "print" ∷ [])) ≡ at 1 13
-unfolding place lines judge_lines token_of keyword_of keywords phrase_of nested_at name_at number_at integer_at
-print_outside = refl
-
-within_outside : place (text (codes "within 3" ∷ [])) ≡ at 1 5
-unfolding place lines judge_lines token_of keyword_of keywords phrase_of nested_at name_at number_at integer_at
-within_outside = refl
-
-foo_outside : place (text (codes "foo" ∷ [])) ≡ at 1 5
-unfolding place lines judge_lines token_of keyword_of keywords phrase_of nested_at name_at number_at integer_at
-foo_outside = refl
-
-else_outside : place (text (codes "else" ∷ [])) ≡ at 1 11
-unfolding place lines judge_lines token_of keyword_of keywords phrase_of nested_at name_at number_at integer_at
-else_outside = refl
-
-end_outside : place (text (codes "end" ∷ [])) ≡ at 1 11
-unfolding place lines judge_lines token_of keyword_of keywords phrase_of nested_at name_at number_at integer_at
-end_outside = refl
-
-declared_too_late : place (text (codes "def main" ∷ codes "end" ∷ codes "event e" ∷ [])) ≡ at 3 13
-unfolding place lines judge_lines token_of keyword_of keywords phrase_of nested_at name_at number_at integer_at
-declared_too_late = refl
-
-declared_inside : place (text (codes "def main" ∷ codes "event e" ∷ codes "end" ∷ [])) ≡ at 2 13
-unfolding place lines judge_lines token_of keyword_of keywords phrase_of nested_at name_at number_at integer_at
-declared_inside = refl
-
-function_inside : place (text (codes "def main" ∷ codes "def f" ∷ codes "end" ∷ codes "end" ∷ [])) ≡ at 2 13
-unfolding place lines judge_lines token_of keyword_of keywords phrase_of nested_at name_at number_at integer_at
-function_inside = refl
-
--- the end of a text
-not_closed : place (text (codes "def main" ∷ codes "print 1" ∷ codes "# no end" ∷ [])) ≡ at 3 12
-unfolding place lines judge_lines token_of keyword_of keywords phrase_of nested_at name_at number_at integer_at
-not_closed = refl
-
-raw_main : place (text (codes "rawdef main x" ∷ codes "end" ∷ [])) ≡ at 2 14
-unfolding place lines judge_lines token_of keyword_of keywords phrase_of nested_at name_at number_at integer_at
-raw_main = refl
-
-not_ended : place (text (codes "def main" ∷ []) ++ codes "end") ≡ at 2 3
-unfolding place lines judge_lines token_of keyword_of keywords phrase_of nested_at name_at number_at integer_at
-not_ended = refl
-
-a_tab : place (text (codes "def main" ∷ (9 ∷ codes "print 1") ∷ codes "end" ∷ [])) ≡ at 2 2
-unfolding place lines judge_lines token_of keyword_of keywords phrase_of nested_at name_at number_at integer_at
-a_tab = refl
-
--- blocks
-try_without_handler : place (text (codes "def main" ∷ codes "try" ∷ codes "end" ∷ codes "end" ∷ [])) ≡ at 3 11
-unfolding place lines judge_lines token_of keyword_of keywords phrase_of nested_at name_at number_at integer_at
-try_without_handler = refl
-
-except_behind_finally : place (text (codes "def main" ∷ codes "try" ∷ codes "finally" ∷ codes "except any" ∷ codes "end" ∷ codes "end" ∷ [])) ≡ at 4 11
-unfolding place lines judge_lines token_of keyword_of keywords phrase_of nested_at name_at number_at integer_at
-except_behind_finally = refl
-
-else_twice : place (text (codes "def main" ∷ codes "if true" ∷ codes "else" ∷ codes "else" ∷ codes "end" ∷ codes "end" ∷ [])) ≡ at 4 11
-unfolding place lines judge_lines token_of keyword_of keywords phrase_of nested_at name_at number_at integer_at
-else_twice = refl
-
--- blocks in blocks, and operands in operands
+-- so many blocks in a function
 abbrev nested : ℕ → List ℕ
-nested n = text ((codes "def main" ∷ replicate n (codes "while true")) ++ replicate (n + 1) (codes "end"))
+nested n = codes "def main|" ++ flat_map (λ w. w) (replicate n (codes "while true|")) ++ flat_map (λ w. w) (replicate (n + 1) (codes "end|"))
 
+-- so many operators in front of an operand
 abbrev negations : ℕ → List ℕ
-negations n = in_main (codes "print " ++ flat_map (λ w. w) (replicate n (codes "not ")) ++ codes "true")
+negations n = codes "def main|print " ++ flat_map (λ w. w) (replicate n (codes "not ")) ++ codes "true|end|"
 
-thirty_two_levels_of_blocks : place (nested 31) ≡ None
-unfolding place lines judge_lines token_of keyword_of keywords phrase_of nested_at name_at number_at integer_at
-thirty_two_levels_of_blocks = refl
+-- what a row shows, its text, and where that is refused
+record Row : Type 0 where
+  shows : List ℕ
+  text : List ℕ
+  place : Option Place
 
-thirty_three_levels_of_blocks : place (nested 32) ≡ at 33 21
-unfolding place lines judge_lines token_of keyword_of keywords phrase_of nested_at name_at number_at integer_at
-thirty_three_levels_of_blocks = refl
+abbrev row : List ℕ → List ℕ → Option Place → Row
+row shows text place = record { shows = shows; text = text; place = place }
 
-thirty_two_levels_of_operands : place (negations 31) ≡ None
-unfolding place lines judge_lines token_of keyword_of keywords phrase_of nested_at name_at number_at integer_at
-thirty_two_levels_of_operands = refl
+abbrev rows : List Row
+rows =
+    row (codes "empty input") [] (at 1 14) ∷
+    row (codes "prints one") (codes "def main|print 1|end|") None ∷
+    row (codes "two blanks") (codes "def main|print  1|end|") (at 2 4) ∷
+    row (codes "blank at the end") (codes "def main|print 1 |end|") (at 2 4) ∷
+    row (codes "unknown statement") (codes "def main|foo 1|end|") (at 2 5) ∷
+    row (codes "no operand") (codes "def main|print|end|") (at 2 6) ∷
+    row (codes "one word too many") (codes "def main|print 1 2|end|") (at 2 7) ∷
+    row (codes "leading zeros") (codes "def main|print 007|end|") (at 2 8) ∷
+    row (codes "sleep too long") (codes "def main|sleep 1000000001|end|") (at 2 9) ∷
+    row (codes "capital name") (codes "def main|let Q 1|end|") (at 2 10) ∷
+    row (codes "end twice") (codes "def main|end|end|") (at 3 11) ∷
+    row (codes "no value is given") (codes "def main|x <- print 1|end|") (at 2 5) ∷
+    row (codes "unknown behind arrow") (codes "def main|x <- foo|end|") (at 2 5) ∷
+    row (codes "nothing behind arrow") (codes "def main|x <-|end|") (at 2 6) ∷
+    row (codes "number before arrow") (codes "def main|1 <- spawn w|end|") (at 2 10) ∷
+    row (codes "no wait follows") (codes "def main|acquire s foo|end|") (at 2 7) ∷
+    row (codes "neither mark nor set") (codes "def main|rawlink self foo 1|end|") (at 2 5) ∷
+    row (codes "time wanted") (codes "def main|timeout foo|end|") (at 2 8) ∷
+    row (codes "minus alone") (codes "def main|print -|end|") (at 2 6) ∷
+    row (codes "minus and operand") (codes "def main|print - 1|end|") (at 2 6) ∷
+    row (codes "minus and letter") (codes "def main|print -x|end|") (at 2 8) ∷
+    row (codes "minus zero") (codes "def main|print -0|end|") (at 2 8) ∷
+    row (codes "no word of expressions") (codes "def main|print !|end|") (at 2 5) ∷
+    row (codes "statement as operand") (codes "def main|print sleep|end|") (at 2 5) ∷
+    row (codes "past 64 bits") (codes "def main|print 9223372036854775808|end|") (at 2 9) ∷
+    row (codes "negative time") (codes "def main|sleep -1|end|") (at 2 9) ∷
+    row (codes "name wanted") (codes "def main|except any 5|end|") (at 2 11) ∷
+    row (codes "too many operands") (codes "def main|list 1 2 3|end|") (at 2 5) ∷
+    row (codes "greatest integer") (codes "def main|print 9223372036854775807|end|") None ∷
+    row (codes "least integer") (codes "def main|print -9223372036854775808|end|") None ∷
+    row (codes "below 64 bits") (codes "def main|print -9223372036854775809|end|") (at 2 9) ∷
+    row (codes "name of 24 bytes") (codes "def main|let abcdefghijklmnopqrstuvwx 1|end|") None ∷
+    row (codes "name of 25 bytes") (codes "def main|let abcdefghijklmnopqrstuvwxy 1|end|") (at 2 10) ∷
+    row (codes "reserved name") (codes "def main|let channel 1|end|") (at 2 10) ∷
+    row (codes "capital before arrow") (codes "Q <- spawn w|") (at 1 10) ∷
+    row (codes "unknown outside") (codes "x <- foo|") (at 1 5) ∷
+    row (codes "no value outside") (codes "x <- print 1|") (at 1 5) ∷
+    row (codes "arrow alone") (codes "x <-|") (at 1 6) ∷
+    row (codes "spawn outside") (codes "x <- spawn w|") (at 1 13) ∷
+    row (codes "print outside") (codes "print|") (at 1 13) ∷
+    row (codes "within outside") (codes "within 3|") (at 1 5) ∷
+    row (codes "foo outside") (codes "foo|") (at 1 5) ∷
+    row (codes "else outside") (codes "else|") (at 1 11) ∷
+    row (codes "end outside") (codes "end|") (at 1 11) ∷
+    row (codes "declared too late") (codes "def main|end|event e|") (at 3 13) ∷
+    row (codes "declared inside") (codes "def main|event e|end|") (at 2 13) ∷
+    row (codes "function inside") (codes "def main|def f|end|end|") (at 2 13) ∷
+    row (codes "not closed") (codes "def main|print 1|# no end|") (at 3 12) ∷
+    row (codes "raw main") (codes "rawdef main x|end|") (at 2 14) ∷
+    row (codes "not ended") (codes "def main|end") (at 2 3) ∷
+    row (codes "a tab") (codes "def main|" ++ 9 ∷ codes "print 1|end|") (at 2 2) ∷
+    row (codes "try without handler") (codes "def main|try|end|end|") (at 3 11) ∷
+    row (codes "except behind finally") (codes "def main|try|finally|except any|end|end|") (at 4 11) ∷
+    row (codes "else twice") (codes "def main|if true|else|else|end|end|") (at 4 11) ∷
+    row (codes "thirty two levels of blocks") (nested 31) None ∷
+    row (codes "thirty three levels of blocks") (nested 32) (at 33 21) ∷
+    row (codes "thirty two levels of operands") (negations 31) None ∷
+    row (codes "thirty three levels of operands") (negations 32) (at 2 21) ∷
+    row (codes "profile 3") (codes "profile 3|def main|end|") (at 1 9) ∷
+    row (codes "channel in profile 1") (codes "channel c|def main|end|") (at 1 5) ∷
+    row (codes "profile behind a declaration") (codes "event e|profile 2|def main|end|") (at 2 13) ∷
+    row (codes "profile 2") (codes "profile 2|def main|end|") None ∷
+    row (codes "profile 2 behind what carries nothing") (codes "# x||  profile 2|def main|end|") None ∷
+    row (codes "profile alone") (codes "profile|def main|end|") (at 1 6) ∷
+    row (codes "profile 1") (codes "profile 1|def main|end|") (at 1 9) ∷
+    row (codes "profile 2 and more") (codes "profile 2 3|def main|end|") (at 1 7) ∷
+    row (codes "profile 3 and more") (codes "profile 3 4|def main|end|") (at 1 9) ∷
+    row (codes "profile below zero") (codes "profile -2|def main|end|") (at 1 9) ∷
+    row (codes "profile past 64 bits") (codes "profile 9999999999999999999999|def main|end|") (at 1 9) ∷
+    row (codes "profile of minus zero") (codes "profile -0|def main|end|") (at 1 8) ∷
+    row (codes "profile with a zero in front") (codes "profile 02|def main|end|") (at 1 8) ∷
+    row (codes "profile and a name") (codes "profile x|def main|end|") (at 1 8) ∷
+    row (codes "profile and no number") (codes "profile 2x|def main|end|") (at 1 8) ∷
+    row (codes "profile before an arrow") (codes "profile <- x|def main|end|") (at 1 10) ∷
+    row (codes "profile with two blanks") (codes "profile  2|def main|end|") (at 1 4) ∷
+    row (codes "profile twice") (codes "profile 2|profile 2|def main|end|") (at 2 13) ∷
+    row (codes "profile alone behind a declaration") (codes "event e|profile|def main|end|") (at 2 13) ∷
+    row (codes "profile and a name behind a declaration") (codes "event e|profile x|def main|end|") (at 2 13) ∷
+    row (codes "profile in a function") (codes "def main|profile 2|end|") (at 2 13) ∷
+    row (codes "profile alone in a function") (codes "def main|profile|end|") (at 2 13) ∷
+    row (codes "profile behind a function") (codes "def main|end|profile 2|") (at 3 13) ∷
+    row (codes "profile in a function of profile 2") (codes "profile 2|def main|profile 2|end|") (at 3 13) ∷
+    row (codes "profile before an arrow in a function") (codes "def main|profile <- spawn w|end|") (at 2 10) ∷
+    row (codes "profile before an arrow behind a declaration") (codes "event e|profile <- x|def main|end|") (at 2 10) ∷
+    row (codes "profile with two blanks behind a declaration") (codes "event e|profile  2|def main|end|") (at 2 4) ∷
+    row (codes "profile as a name") (codes "def main|let profile 1|end|") (at 2 10) ∷
+    row (codes "profile as an operand") (codes "profile 2|def main|print profile|end|") (at 3 5) ∷
+    row (codes "profile alone in the text") (codes "profile 2|") (at 1 14) ∷
+    row (codes "channel in a function of profile 1") (codes "def main|channel c|end|") (at 2 5) ∷
+    row (codes "channel in a function") (codes "profile 2|def main|channel c|end|") (at 3 13) ∷
+    row (codes "channel behind a function") (codes "profile 2|def main|end|channel c|") (at 4 13) ∷
+    row (codes "channel without a name") (codes "profile 2|channel|def main|end|") (at 2 6) ∷
+    row (codes "channel with a size") (codes "profile 2|channel c 1|def main|end|") (at 2 7) ∷
+    row (codes "channel") (codes "profile 2|channel c|def main|end|") None ∷
+    row (codes "cput in profile 1") (codes "def main|cput c 1|end|") (at 2 5) ∷
+    row (codes "cput outside in profile 1") (codes "cput c 1|def main|end|") (at 1 5) ∷
+    row (codes "cput outside") (codes "profile 2|cput c 1|def main|end|") (at 2 13) ∷
+    row (codes "cput without a value") (codes "profile 2|def main|cput c|end|") (at 3 6) ∷
+    row (codes "cput with a wait") (codes "profile 2|def main|cput c 1 now|end|") (at 3 7) ∷
+    row (codes "value of cput") (codes "profile 2|def main|x <- cput c 1|end|") (at 3 5) ∷
+    row (codes "cget in profile 1") (codes "def main|x <- cget c|end|") (at 2 5) ∷
+    row (codes "cget outside in profile 1") (codes "x <- cget c|") (at 1 5) ∷
+    row (codes "cget outside") (codes "profile 2|x <- cget c|") (at 2 13) ∷
+    row (codes "cget with a wait") (codes "profile 2|def main|cget c within 1|end|") (at 3 7) ∷
+    row (codes "cget") (codes "profile 2|def main|cget c|x <- cget c|end|") None ∷
+    row (codes "qshut in profile 1") (codes "def main|qshut q|end|") (at 2 5) ∷
+    row (codes "qshut and another word") (codes "profile 2|def main|qshut q now|end|") (at 3 7) ∷
+    row (codes "qshut immediate and more") (codes "profile 2|def main|qshut q immediate now|end|") (at 3 7) ∷
+    row (codes "value of qshut") (codes "profile 2|def main|x <- qshut q|end|") (at 3 5) ∷
+    row (codes "qshut") (codes "profile 2|def main|qshut q|qshut q immediate|end|") None ∷
+    row (codes "immediate in profile 1") (codes "def main|immediate|end|") (at 2 5) ∷
+    row (codes "immediate") (codes "profile 2|def main|immediate|end|") (at 3 5) ∷
+    row (codes "immediate as a name") (codes "profile 2|def main|let immediate 1|end|") (at 3 10) ∷
+    row (codes "cget as a name in profile 1") (codes "def main|let cget 1|end|") (at 2 10) ∷
+    []
 
-thirty_three_levels_of_operands : place (negations 32) ≡ at 2 21
+all_rows : map (λ (r : Row). place (map line_end r.text)) rows ≡ map (λ (r : Row). r.place) rows
 unfolding place lines judge_lines token_of keyword_of keywords phrase_of nested_at name_at number_at integer_at
-thirty_three_levels_of_operands = refl
+all_rows = refl

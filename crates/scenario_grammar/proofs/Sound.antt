@@ -1,5 +1,5 @@
 -- What a text is read as, it spells.
-use Rattle.std.proofs.Common.{◌≡◌, ℕ, suc, ◌+◌, ◌≤◌, Bool, true, false, ◌||◌, not, cond, if◌then◌else◌, nat_lt, List, [], ◌∷◌, ◌++◌, length, map, Option, Some, None, Result, Ok, Err, IsTrue, refl, sym, subst, ◌∙◌, append_assoc, append-nil}
+use Rattle.std.proofs.Common.{◌≡◌, ℕ, suc, ◌+◌, ◌≤◌, Bool, true, false, ◌||◌, not, cond, if◌then◌else◌, nat_lt, List, [], ◌∷◌, ◌++◌, length, map, Option, Some, None, Result, Ok, Err, IsTrue, ap, arith, refl, sym, subst, ◌∙◌, append_assoc, append-nil}
 use Rattle.std.specs.Prelude.{position, count_by}
 use Rattle.std.specs.List.{list_all, list_any, position_from}
 use Rattle.std.specs.Option.{IsSomeAnd}
@@ -9,7 +9,7 @@ use Rattle.scenario_tree.specs.declared.tree.Scenario.{Scenario}
 use Rattle.scenario_grammar.specs.declared.phrase.Phrase.{Phrase}
 use Rattle.scenario_grammar.specs.declared.building.OpenBlock.{OpenBlock}
 use Rattle.scenario_grammar.specs.declared.place.Place.{Place}
-use Rattle.scenario_grammar.specs.Blocks.{Row, declaration_rows, function_rows, scenario_rows}
+use Rattle.scenario_grammar.specs.Blocks.{Row, profile_rows, declaration_rows, function_rows, scenario_rows}
 use Rattle.scenario_grammar.specs.Building.{Building, step}
 use Rattle.scenario_grammar.specs.Layout.{Line, lines, is_end, is_spaced, is_ended, is_text_byte, most_bytes}
 use Rattle.scenario_grammar.specs.Parsed.{nothing_yet, standing, read_words, read_line, read_lines, scenario, finished, reading}
@@ -17,26 +17,30 @@ use Rattle.scenario_grammar.specs.Phrases.{phrase_tokens}
 use Rattle.scenario_grammar.specs.Places.{misplaced, role_of, line_at, last_line, place_in_bytes}
 use Rattle.scenario_grammar.specs.Reading.{phrase_of, ◌>>=◌}
 use Rattle.scenario_grammar.specs.Spells.{IsRow, AreRows, is_main, Spells}
-use Rattle.scenario_grammar.specs.Tokens.{◌⊕◌, each, token_of}
+use Rattle.scenario_grammar.specs.Tokens.{◌⊕◌, each, token_in}
 use Rattle.scenario_grammar.proofs.Begun.{Kept, steps, open_rows, plus_none}
 use Rattle.scenario_grammar.proofs.BlockLaws.{Said}
 use Rattle.scenario_grammar.proofs.PhraseLaws.{role, phrase_read, phrase_said, tokens_proper}
+use Rattle.scenario_grammar.specs.declared.reason.TextReason.{TextReason}
+use Rattle.scenario_grammar.specs.declared.reason.TextReason.TheVariants as reason
+use Rattle.scenario_grammar.specs.Reasons.{text_number}
+use Rattle.scenario_grammar.proofs.Profiles.{says_later, step_grows}
 
 -- one line that was read: its phrase, in its place
 pub record LineRead (b c : Building) (l : Line) : Type 0 where
   pub phrase : Phrase
   pub spaced : is_spaced l ≡ true
-  pub says : phrase_tokens phrase ≡ Some (map token_of l.words)
+  pub says : phrase_tokens phrase ≡ Some (map (token_in b.profile) l.words)
   pub placed : misplaced (standing b) (role phrase) ≡ None
   pub made : c ≡ step b l.number phrase
 
-record WordsRead (m : Option ℕ) (q : Result Phrase ℕ) (b c : Building) (n : ℕ) : Type 0 where
+record WordsRead (m : Option TextReason) (q : Result Phrase TextReason) (b c : Building) (n : ℕ) : Type 0 where
   phrase : Phrase
   placed : m ≡ None
   read : q ≡ Ok phrase
   made : c ≡ step b n phrase
 
-words_read : (m : Option ℕ) (q : Result Phrase ℕ) (b c : Building) (n : ℕ) → (let r : Result Building ℕ = elim m [ Some r ↦ Err r | None ↦ q >>= λ p. Ok (step b n p) ] in r) ≡ Ok c → WordsRead m q b c n
+words_read : (m : Option TextReason) (q : Result Phrase TextReason) (b c : Building) (n : ℕ) → (let r : Result Building TextReason = elim m [ Some r ↦ Err r | None ↦ q >>= λ p. Ok (step b n p) ] in r) ≡ Ok c → WordsRead m q b c n
 words_read (Some r) q b c n e = cc
 words_read None (Err r) b c n e = cc
 words_read None (Ok p) b c n e = let same : step b n p ≡ c = cc in record { phrase = p; placed = refl; read = refl; made = sym same }
@@ -44,23 +48,24 @@ words_read None (Ok p) b c n e = let same : step b n p ≡ c = cc in record { ph
 pub line_read : (b c : Building) (l : Line) → read_line b l ≡ Ok c → LineRead b c l
 line_read b c l e = by_space (is_spaced l) refl e
   where
-    by_words : is_spaced l ≡ true → read_words b l.number (map token_of l.words) ≡ Ok c → LineRead b c l
+    by_words : is_spaced l ≡ true → read_words b l.number (map (token_in b.profile) l.words) ≡ Ok c → LineRead b c l
     by_words spaced e =
-        let ts = map token_of l.words in
+        let ts = map (token_in b.profile) l.words in
         let w = words_read (misplaced (standing b) (role_of ts)) (phrase_of ts) b c l.number e in
-        let says = phrase_said ts w.phrase (tokens_proper l.words) w.read in
+        let says = phrase_said ts w.phrase (tokens_proper b.profile l.words) w.read in
         let r = phrase_read w.phrase ts says in
         record { phrase = w.phrase; spaced = spaced; says = says; placed = sym (r.place (standing b)) ∙ w.placed; made = w.made }
 
-    by_space : (s : Bool) → is_spaced l ≡ s → (let r : Result Building ℕ = if s then read_words b l.number (map token_of l.words) else Err 4 in r) ≡ Ok c → LineRead b c l
+    by_space : (s : Bool) → is_spaced l ≡ s → (let r : Result Building TextReason = if s then read_words b l.number (map (token_in b.profile) l.words) else Err reason.BlankOutOfPlace in r) ≡ Ok c → LineRead b c l
     by_space true s e = by_words s e
     by_space false s e = cc
 
-record LinesRead (ls : List Line) (c : Building) (before : List Row) : Type 0 where
+record LinesRead (b : Building) (ls : List Line) (c : Building) (before : List Row) : Type 0 where
   spaced : list_all is_spaced ls ≡ true
   left : ℕ
   more : List Row
-  said : AreRows ls more
+  grows : b.profile ≤ c.profile
+  said : AreRows c.profile ls more
   kept : Kept left c (before ++ more)
 
 pub record First (b c : Building) (l : Line) (ls : List Line) : Type 0 where
@@ -68,8 +73,8 @@ pub record First (b c : Building) (l : Line) (ls : List Line) : Type 0 where
   pub first : read_line b l ≡ Ok between
   pub others : read_lines between ls ≡ Ok c
 
-first_by : (r : Result Building ℕ) (c : Building) (n : ℕ) (ls : List Line)
-    → (let x : Result Building Place = elim r [ Ok d ↦ read_lines d ls | Err r ↦ Err (record { line = n; reason = r }) ] in x) ≡ Ok c
+first_by : (r : Result Building TextReason) (c : Building) (n : ℕ) (ls : List Line)
+    → (let x : Result Building Place = elim r [ Ok d ↦ read_lines d ls | Err r ↦ Err (record { line = n; reason = text_number r }) ] in x) ≡ Ok c
     → (d : Building) × (r ≡ Ok d) × (read_lines d ls ≡ Ok c)
 first_by (Ok d) c n ls e = (d, refl, e)
 first_by (Err r) c n ls e = cc
@@ -82,22 +87,27 @@ last_is : (b c : Building) → read_lines b [] ≡ Ok c → b ≡ c
 unfolding read_lines
 last_is b c e = cc
 
-said_row : (l : Line) (p : Phrase) (r : Row) → phrase_tokens p ≡ Some (map token_of l.words) → Said (l.number, p) r → IsRow l r
-said_row l p r says said = (subst (λ q. phrase_tokens q ≡ Some (map token_of l.words)) said.0 says, said.1)
+said_row : (profile : ℕ) (l : Line) (p : Phrase) (r : Row) → phrase_tokens p ≡ Some (map (token_in profile) l.words) → Said (l.number, p) r → IsRow profile l r
+said_row profile l p r says said = (subst (λ q. phrase_tokens q ≡ Some (map (token_in profile) l.words)) said.0 says, said.1)
 
-lines_read : (ls : List Line) (b c : Building) (e : ℕ) (before : List Row) → Kept e b before → read_lines b ls ≡ Ok c → LinesRead ls c before
+same_profile : {b c : Building} → b ≡ c → b.profile ≤ c.profile
+same_profile e = let same = ap (λ d. d.profile) e in omega (arith, same)
+
+lines_read : (ls : List Line) (b c : Building) (e : ℕ) (before : List Row) → Kept e b before → read_lines b ls ≡ Ok c → LinesRead b ls c before
 lines_read [] b c e before k r =
-    record { spaced = refl; left = e; more = []; said = tt; kept = subst (λ d. Kept e d (before ++ [])) (last_is b c r) (subst (λ rs. Kept e b rs) (sym (append-nil before)) k) }
+    record { spaced = refl; left = e; more = []; grows = same_profile (last_is b c r); said = tt; kept = subst (λ d. Kept e d (before ++ [])) (last_is b c r) (subst (λ rs. Kept e b rs) (sym (append-nil before)) k) }
 lines_read (l ∷ ls) b c e before k r =
     let f = first_line b c l ls r in
     let one = line_read b f.between l f.first in
     let s = steps b e l.number one.phrase before k one.placed in
+    let first : b.profile ≤ f.between.profile = subst (λ d. b.profile ≤ d.profile) (sym one.made) (step_grows b l.number one.phrase one.placed) in
     let below = lines_read ls f.between c s.left (before ++ s.row ∷ []) (subst (λ d. Kept s.left d (before ++ s.row ∷ [])) (sym one.made) s.kept) f.others in
     record {
       spaced = rw (one.spaced, below.spaced) refl;
       left = below.left;
       more = s.row ∷ below.more;
-      said = (said_row l one.phrase s.row one.says s.said, below.said);
+      grows = omega (arith, first, below.grows);
+      said = (said_row c.profile l one.phrase s.row (says_later b.profile c.profile one.phrase l.words (omega (arith, first, below.grows)) one.says) s.said, below.said);
       kept = subst (λ rs. Kept below.left c rs) (append_assoc before (s.row ∷ []) below.more) below.kept;
     }
 
@@ -179,8 +189,8 @@ nothing_kept = record { levels = refl; stacked = tt; rows = refl }
 closed_rows : (b : Building) (e : ℕ) (rs : List Row) → b.open_blocks ≡ [] → Kept e b rs → scenario_rows (scenario b) ≡ Some rs
 unfolding scenario_rows open_rows
 closed_rows b e rs closed k =
-    sym (plus_none (each declaration_rows b.objects ⊕ each function_rows b.functions))
-    ∙ subst (λ os. (each declaration_rows b.objects ⊕ each function_rows b.functions ⊕ open_rows (suc e) os) ≡ Some rs) closed k.rows
+    sym (plus_none (profile_rows b.profile ⊕ each declaration_rows b.objects ⊕ each function_rows b.functions))
+    ∙ subst (λ os. (profile_rows b.profile ⊕ each declaration_rows b.objects ⊕ each function_rows b.functions ⊕ open_rows (suc e) os) ≡ Some rs) closed k.rows
 
 -- What a text is read as, it spells.
 pub sound : (s : Scenario) (bytes : List ℕ) → reading bytes ≡ Ok s → Spells s bytes
@@ -192,7 +202,6 @@ sound s bytes e =
     let rows = closed_rows t.building l.left l.more f.closed l.kept in
     subst (λ s. Spells s bytes) (sym f.made) (record {
       text = record { short = whole.short; printable = whole.printable; ended = whole.ended; spaced = l.spaced };
-      rows = subst (λ r. IsSomeAnd r (AreRows (lines bytes))) (sym rows) l.said;
+      rows = subst (λ r. IsSomeAnd r (AreRows t.building.profile (lines bytes))) (sym rows) l.said;
       has_main = f.has_main;
-      profile = refl;
     })

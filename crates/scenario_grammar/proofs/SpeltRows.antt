@@ -59,7 +59,6 @@ prints_one : Spells one_tree one_text
 unfolding token_of lines scenario_rows block_within phrase_tokens tokens_within keyword_of keywords name out-Expression out-Action out digits
 prints_one = record {
   text = record { short = lit≤ tt; printable = refl; ended = refl; spaced = refl };
-  profile = refl;
   has_main = refl;
   rows = ((refl, refl), ((refl, refl), ((refl, tt), tt)));
 }
@@ -120,7 +119,7 @@ prints_one_again : printed one_tree ≡ text (codes "def main" ∷ codes "  prin
 unfolding printed scenario_rows block_within phrase_tokens tokens_within keyword_of keywords name out-Expression out-Action out digits
 prints_one_again = refl
 
--- row `printed_form`
+-- leading blanks, a comment and a line of nothing
 abbrev loose_text : List ℕ
 loose_text = text (codes "# x" ∷ codes "def main" ∷ codes "     print 1" ∷ [] ∷ codes "end" ∷ [])
 
@@ -133,13 +132,46 @@ loose_tree = record {
 
 loose_spelt : Spells loose_tree loose_text
 unfolding token_of lines scenario_rows block_within phrase_tokens tokens_within keyword_of keywords name out-Expression out-Action out digits
-loose_spelt = record { text = record { short = lit≤ tt; printable = refl; ended = refl; spaced = refl }; profile = refl; has_main = refl; rows = ((refl, refl), ((refl, refl), ((refl, tt), tt))) }
+loose_spelt = record { text = record { short = lit≤ tt; printable = refl; ended = refl; spaced = refl }; has_main = refl; rows = ((refl, refl), ((refl, refl), ((refl, tt), tt))) }
 
 loose_printed : printed loose_tree ≡ text (codes "def main" ∷ codes "  print 1" ∷ codes "end" ∷ [])
 unfolding printed scenario_rows block_within phrase_tokens tokens_within keyword_of keywords name out-Expression out-Action out digits
 loose_printed = refl
 
--- row `worker_pool` is read as its tree
+-- the text of the pool is read as its tree
 pool_read : reading pool_text ≡ Ok pool_tree
 unfolding reading read_lines pool_text lines token_of keyword_of keywords phrase_of nested_at name_at number_at integer_at
 pool_read = refl
+
+-- a text of profile 2 with each of its forms
+abbrev later_text : List ℕ
+later_text = text (codes "# x" ∷ codes "profile 2" ∷ codes "queue q join none" ∷ codes "channel c" ∷ codes "def main" ∷ codes "cput c 1" ∷ codes "x <- cget c"
+    ∷ codes "cget c" ∷ codes "qshut q" ∷ codes "qshut q immediate" ∷ codes "end" ∷ [])
+
+abbrev later_tree : Scenario
+later_tree =
+    let c = codes "c" in
+    let q = codes "q" in
+    record {
+      profile = 2;
+      objects = record { line = 3; name = q; object = object.Queue queue.Join None } ∷ record { line = 4; name = c; object = object.Channel } ∷ [];
+      functions = record {
+        line = 5;
+        is_raw = false;
+        name = codes "main";
+        parameters = [];
+        body = at 6 (a.Command (command.ChannelPut c (e.Int (pos 1)))) ∷ at 7 (a.Giving (Some (codes "x")) (giving.ChannelGet c)) ∷ at 8 (a.Giving None (giving.ChannelGet c))
+            ∷ at 9 (a.Command (command.QueueShut q false)) ∷ at 10 (a.Command (command.QueueShut q true)) ∷ [];
+      }
+          ∷ [];
+    }
+
+later_read : reading later_text ≡ Ok later_tree
+unfolding reading read_lines later_text lines token_of keyword_of keywords phrase_of nested_at name_at number_at integer_at
+later_read = refl
+
+-- its printed form begins with the line of the profile
+later_printed : printed later_tree ≡ text (codes "profile 2" ∷ codes "queue q join none" ∷ codes "channel c" ∷ codes "def main" ∷ codes "  cput c 1" ∷ codes "  x <- cget c"
+    ∷ codes "  cget c" ∷ codes "  qshut q" ∷ codes "  qshut q immediate" ∷ codes "end" ∷ [])
+unfolding printed lines scenario_rows block_within phrase_tokens tokens_within keyword_of keywords name out-Expression out-Action out digits shown-the_row-Expression-0 shown-the_row-Expression-1 shown-the_row-Statement-0 shown-the_row-Except-1 shown hidden
+later_printed = refl

@@ -17,10 +17,13 @@ use Rattle.scenario_grammar.specs.declared.token.Token.TheVariants as token
 use Rattle.scenario_grammar.specs.Tokens.{Written, ◌⊕◌, ◌▹◌, each, fixed, name, number, perhaps}
 use Rattle.scenario_grammar.specs.Expressions.{expression}
 use Rattle.scenario_grammar.specs.Phrases.{ms, timed, waits, marked, with_fault, flag, count_tokens, takes_tokens, size_tokens, job_keyword, queue_keyword, class_keyword, most_ms}
-use Rattle.scenario_grammar.specs.Reading.{Reader, Reading, ◌<$>◌, ◌<*>◌, name_at, number_at, ms_at, expression_at, wait_at, with_at, timed_at, under_at, count_of_at, takes_at, now_at, silent_at, after_at, word_at, job_of, queue_of, class_of, class_at, binding_at, size_at, to_the_end, all_at}
+use Rattle.scenario_grammar.specs.Reading.{Reader, Reading, ◌<$>◌, ◌<*>◌, name_at, number_at, ms_at, expression_at, wait_at, with_at, timed_at, under_at, count_of_at, takes_at, now_at, silent_at, immediate_at, after_at, word_at, job_of, queue_of, class_of, class_at, binding_at, size_at, to_the_end, all_at}
 use Rattle.scenario_grammar.proofs.Parts.{AreProper, Built, Sound, Full, Anything, ok_first, ok_second, proper_at, both, map_sound, then_sound, map_full, then_full}
-use Rattle.scenario_grammar.proofs.Atoms.{kept, name_sound, name_full, number_sound, number_full}
+use Rattle.scenario_grammar.proofs.Atoms.{and_left, and_right, kept, name_sound, name_full, number_sound, number_full}
 use Rattle.scenario_grammar.proofs.ExpressionLaws.{nested_sound, nested_full}
+use Rattle.scenario_grammar.specs.declared.reason.TextReason.{TextReason}
+use Rattle.scenario_grammar.specs.declared.reason.TextReason.TheVariants as reason
+use Rattle.std.proofs.lemmas.Bool.{leb-true}
 
 -- What is read was written so, and what was written is read, where what follows is as asked.
 pub record Faithful {E C : Type 0} (make : E → C) (writes : E → Written Token) (Follows : List Token → Type 0) (reader : Reader C) : Type 0 where
@@ -208,27 +211,35 @@ before_now true front rest w h = inr (inr (rest, ap (λ z. z ++ rest) (sym (some
 pub with_at_the_end : Faithful (λ x. x) with_fault Ends with_at
 with_at_the_end = record { sound = with_parts.sound; full = λ p f t w h. with_parts.full p f t w (inl h) }
 
+-- a word alone, or nothing: the reader takes the word, and leaves anything else
+flag_parts : (word : Keyword) (reader : Reader Bool) → ((ts : List Token) → reader (token.Fixed word ∷ ts) ≡ Ok (true, ts)) → reader [] ≡ Ok (false, []) → Sound (λ x. x) (flag word) reader
+    → Faithful (λ x. x) (flag word) Ends reader
+flag_parts word reader takes leaves sound = record { sound = sound; full = written_so }
+  where
+    written_so : Full (λ x. x) (flag word) Ends reader
+    written_so false front rest w h = rw (sym (some_is [] front w), h) leaves
+    written_so true front rest w h = rw (sym (some_is (token.Fixed word ∷ []) front w)) (takes rest)
+
 pub now_parts : Faithful (λ x. x) (flag k.Now) Ends now_at
-now_parts = record { sound = read_so; full = written_so }
+now_parts = flag_parts k.Now now_at (λ ts. refl) refl read_so
   where
     read_so : Sound (λ x. x) (flag k.Now) now_at
     read_so (token.Fixed k.Now ∷ ts) rest made h e = taken true k.Now ts rest made refl h e
     read_so ts rest made h e = left_out false ts rest made refl h e
 
-    written_so : Full (λ x. x) (flag k.Now) Ends now_at
-    written_so false front rest w h = rw (sym (some_is [] front w), h) refl
-    written_so true front rest w h = rw (sym (some_is (token.Fixed k.Now ∷ []) front w)) refl
-
 pub silent_parts : Faithful (λ x. x) (flag k.Silent) Ends silent_at
-silent_parts = record { sound = read_so; full = written_so }
+silent_parts = flag_parts k.Silent silent_at (λ ts. refl) refl read_so
   where
     read_so : Sound (λ x. x) (flag k.Silent) silent_at
     read_so (token.Fixed k.Silent ∷ ts) rest made h e = taken true k.Silent ts rest made refl h e
     read_so ts rest made h e = left_out false ts rest made refl h e
 
-    written_so : Full (λ x. x) (flag k.Silent) Ends silent_at
-    written_so false front rest w h = rw (sym (some_is [] front w), h) refl
-    written_so true front rest w h = rw (sym (some_is (token.Fixed k.Silent ∷ []) front w)) refl
+pub immediate_parts : Faithful (λ x. x) (flag k.Immediate) Ends immediate_at
+immediate_parts = flag_parts k.Immediate immediate_at (λ ts. refl) refl read_so
+  where
+    read_so : Sound (λ x. x) (flag k.Immediate) immediate_at
+    read_so (token.Fixed k.Immediate ∷ ts) rest made h e = taken true k.Immediate ts rest made refl h e
+    read_so ts rest made h e = left_out false ts rest made refl h e
 
 -- a time or `none`, and a size or `none`
 abbrev pub after_tokens : Option ℕ → Written Token
@@ -284,7 +295,7 @@ pub word_parts : {A : Type 0} (meaning : Keyword → Option A) (keyword : A → 
 word_parts {A = A} meaning keyword back forth = record { sound = read_so; full = written_so }
   where
     found : (word : Keyword) (o : Option A) → Means keyword word o → (ts rest : List Token) (made : A) → AreProper ts
-        → (let r : Reading A = elim o [ Some x ↦ Ok (x, ts) | None ↦ Err 5 ] in r) ≡ Ok (made, rest) → Built (λ x. x) (λ x. fixed (keyword x)) (token.Fixed word ∷ ts) made rest
+        → (let r : Reading A = elim o [ Some x ↦ Ok (x, ts) | None ↦ Err reason.UnknownWord ] in r) ≡ Ok (made, rest) → Built (λ x. x) (λ x. fixed (keyword x)) (token.Fixed word ∷ ts) made rest
     found word None m ts rest made h e = cc
     found word (Some x) m ts rest made h e = taken x word ts rest made (ap fixed (sym m)) h e
 
@@ -396,7 +407,7 @@ binding_parts = record { sound = read_so; full = written_so }
     written_so (Some n) (t ∷ ts) rest w h = some_name t ts rest n (map_full (λ x. let o : Option Name = Some x in o) (λ x. x) name Anything name_at name_full n (t ∷ ts) rest w tt)
 
 -- as many parts as the line still has
-pub all_parts : {A : Type 0} {writes : A → Written Token} {reader : Reader A} → Faithful (λ x. x) writes Anything reader → (r : ℕ) → reader [] ≡ Err r → Faithful (λ xs. xs) (each writes) Ends (all_at reader)
+pub all_parts : {A : Type 0} {writes : A → Written Token} {reader : Reader A} → Faithful (λ x. x) writes Anything reader → (r : TextReason) → reader [] ≡ Err r → Faithful (λ xs. xs) (each writes) Ends (all_at reader)
 all_parts {A = A} {writes = writes} {reader = reader} part r none = record { sound = λ ts rest made h e. read_so (length ts) ts rest made h e; full = λ xs front rest w h. written_so (length (front ++ rest)) xs front rest w h (omega (arith, length-append front rest)) }
   where
     read_so : (n : ℕ) → Sound (λ xs. xs) (each writes) (to_the_end reader n)
@@ -429,3 +440,20 @@ all_parts {A = A} {writes = writes} {reader = reader} part r none = record { sou
         let some : 1 ≤ length parts.0 = some_token x parts.0 parts.2 in
         rw (sym parts.4, append_assoc parts.0 parts.1 rest)
         (one_more n x xs parts.0 parts.1 rest some parts.2 (written_so n xs parts.1 rest parts.3 h (omega (arith, l, some, length-append parts.0 parts.1, ap length parts.4))))
+
+-- a number that may be only this one, whatever is made of it
+pub one_number : {C : Type 0} (n : ℕ) (made : C) → Faithful {E = Unit {0}} (λ _. made) (λ _. number n n n) Anything ((λ m. made) <$> number_at n n)
+one_number n made = record { sound = read_so; full = λ p front rest w h. map_full (λ m. made) (λ m. m) (number n n) Anything (number_at n n) (number_full n n) n front rest w h }
+  where
+    only : (m : ℕ) (front : List Token) → number n n m ≡ Some front → number n n n ≡ Some front
+    only m front w =
+        let tests = kept (nat_le n m && nat_le m n) (Some (token.Number (pos m) ∷ [])) front w in
+        let low = leb-true n m (and_left (nat_le n m) (nat_le m n) tests.0) in
+        let high = leb-true m n (and_right (nat_le n m) (nat_le m n) tests.0) in
+        let same : m ≡ n = omega (arith, low, high) in
+        subst (λ x. number n n x ≡ Some front) same w
+
+    read_so : Sound {E = Unit {0}} (λ _. made) (λ _. number n n n) ((λ m. made) <$> number_at n n)
+    read_so ts rest c h e =
+        let b = map_sound (λ m. made) (λ m. m) (number n n) (number_at n n) (number_sound n n) ts rest c h e in
+        record { parts = tt; made_of = b.made_of; front = b.front; written = only b.parts b.front b.written; whole = b.whole; proper = b.proper }

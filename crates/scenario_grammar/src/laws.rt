@@ -1,5 +1,5 @@
 //! Laws of the definitions: each function only says that its clauses hold.
-ghost use Rattle.std.specs.Prelude.{◌≡◌, ◌↔◌, ◌≤◌, ℕ, List, length, IsTrue, Some, None, Ok, Err};
+ghost use Rattle.std.specs.Prelude.{◌≡◌, ◌↔◌, ◌≤◌, ◌⊎◌, ℕ, List, length, IsTrue, Some, None, Ok, Err};
 ghost use Rattle.scenario_tree.specs.declared.tree.Scenario.{Scenario};
 ghost use Rattle.scenario_grammar.specs.declared.place.Place.{Place};
 ghost use Rattle.scenario_grammar.specs.Bare.{bare};
@@ -7,8 +7,8 @@ ghost use Rattle.scenario_grammar.specs.Layout.{most_bytes};
 ghost use Rattle.scenario_grammar.specs.Parsed.{reading};
 ghost use Rattle.scenario_grammar.specs.Places.{place};
 ghost use Rattle.scenario_grammar.specs.Printed.{printed};
-ghost use Rattle.scenario_grammar.specs.Refusals.{is_text_reason};
-ghost use Rattle.scenario_grammar.specs.Spells.{Spells};
+ghost use Rattle.scenario_grammar.specs.Reasons.{is_text_reason};
+ghost use Rattle.scenario_grammar.specs.Spells.{HasSpelling, Spells};
 
 /// A text that a tree spells is read as that tree.
 pub fn spelt_texts_are_read()
@@ -36,6 +36,11 @@ pub fn texts_without_a_place_are_spelt()
 /// The printed form of a tree that has a text, where it is no longer than a text may be, is a text
 /// of the tree but for the numbers of its lines.
 pub fn printed_forms_are_spelt()
-    ensures { (s : Scenario) (bytes : List ℕ) → Spells s bytes → length (printed s) ≤ most_bytes
+    ensures { (s : Scenario) → HasSpelling s → length (printed s) ≤ most_bytes
         → (t : Scenario) × Spells t (printed s) × (bare s ≡ bare t) }
+{}
+
+/// A tree that has a text is of profile 1 or of profile 2.
+pub fn spelt_trees_have_a_profile()
+    ensures { (s : Scenario) → HasSpelling s → (s.profile ≡ 1) ⊎ (s.profile ≡ 2) }
 {}

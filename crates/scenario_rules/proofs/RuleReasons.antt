@@ -6,11 +6,13 @@ use Rattle.std.proofs.lemmas.List.Folds.{list_all-append}
 use Rattle.scenario_tree.specs.declared.tree.Function.{Function}
 use Rattle.scenario_tree.specs.declared.tree.Scenario.{Scenario}
 use Rattle.scenario_grammar.specs.declared.place.Place.{Place}
+use Rattle.scenario_grammar.specs.declared.reason.RuleReason.{RuleReason}
+use Rattle.scenario_grammar.specs.declared.reason.RuleReason.TheVariants as rule
+use Rattle.scenario_grammar.specs.Reasons.{is_rule_reason, rule_number}
 use Rattle.scenario_rules.specs.declared.mention.Mention.{Mention}
 use Rattle.scenario_rules.specs.declared.mention.Named.{Named}
 use Rattle.scenario_rules.specs.Declarations.{different, given_names, named_functions, named_objects, parameters, repeated}
 use Rattle.scenario_rules.specs.Mentions.{mentions}
-use Rattle.scenario_rules.specs.Reasons.{declared_twice, hub_in_raw_body, is_rule_reason, timeouts_too_deep, too_many, undeclared, wrong_count, wrong_kind}
 use Rattle.scenario_rules.specs.Rules.{IsWellFormed, earlier, first_after, function_refusals, is_before, is_hub_in_raw_body, is_too_deep, is_undeclared, is_wrong_count, is_wrong_head, is_wrong_kind, most_functions, most_local_names, most_objects, past, place_of, refusals, refused, refused_names, word_refusals}
 use Rattle.scenario_tree.specs.Limits.{most_parameters}
 
@@ -32,44 +34,53 @@ each_by_rule : {A : Type 0} (f : A → List Place) → ((x : A) → AreByRule (f
 each_by_rule f each [] = record { each = refl }
 each_by_rule f each (x ∷ xs) = both_by_rule (f x) (flat_map f xs) (each x) (each_by_rule f each xs)
 
-refused_by_rule : (reason line : ℕ) (so : Bool) → is_rule_reason reason ≡ true → AreByRule (refused reason line so)
-refused_by_rule reason line true h = record { each = ap (λ a. a && true) h }
-refused_by_rule reason line false h = record { each = refl }
+by_rule : (r : RuleReason) → is_rule_reason (rule_number r) ≡ true
+by_rule rule.Undeclared = refl
+by_rule rule.DeclaredTwice = refl
+by_rule rule.WrongKind = refl
+by_rule rule.WrongCount = refl
+by_rule rule.HubInRawBody = refl
+by_rule rule.TimeoutsTooDeep = refl
+by_rule rule.TooMany = refl
 
-names_by_rule : (reason : ℕ) (names : List Named) → is_rule_reason reason ≡ true → AreByRule (refused_names reason names)
-names_by_rule reason names h = record { each = by names }
+refused_by_rule : (r : RuleReason) (line : ℕ) (so : Bool) → AreByRule (refused r line so)
+refused_by_rule r line true = record { each = ap (λ a. a && true) (by_rule r) }
+refused_by_rule r line false = record { each = refl }
+
+names_by_rule : (r : RuleReason) (names : List Named) → AreByRule (refused_names r names)
+names_by_rule r names = record { each = by names }
   where
-    by : (names : List Named) → are_by_rule (refused_names reason names) ≡ true
+    by : (names : List Named) → are_by_rule (refused_names r names) ≡ true
     by [] = refl
-    by (n ∷ names) = ap (λ a. a && are_by_rule (refused_names reason names)) h ∙ by names
+    by (n ∷ names) = ap (λ a. a && are_by_rule (refused_names r names)) (by_rule r) ∙ by names
 
 word_by_rule : (s : Scenario) (f : Function) (m : Mention) → AreByRule (word_refusals s f m)
 word_by_rule s f m =
-    both_by_rule _ (refused timeouts_too_deep m.line (is_too_deep s f m.says))
-    (both_by_rule _ (refused hub_in_raw_body m.line (is_hub_in_raw_body s f m.says))
-    (both_by_rule _ (refused wrong_count m.line (is_wrong_count s f m.says))
-    (both_by_rule (refused undeclared m.line (is_undeclared s f m.says)) (refused wrong_kind m.line (is_wrong_kind s f m.says))
-    (refused_by_rule undeclared m.line (is_undeclared s f m.says) refl) (refused_by_rule wrong_kind m.line (is_wrong_kind s f m.says) refl))
-    (refused_by_rule wrong_count m.line (is_wrong_count s f m.says) refl)) (refused_by_rule hub_in_raw_body m.line (is_hub_in_raw_body s f m.says) refl)) (refused_by_rule timeouts_too_deep m.line (is_too_deep s f m.says) refl)
+    both_by_rule _ (refused rule.TimeoutsTooDeep m.line (is_too_deep s f m.says))
+    (both_by_rule _ (refused rule.HubInRawBody m.line (is_hub_in_raw_body s f m.says))
+    (both_by_rule _ (refused rule.WrongCount m.line (is_wrong_count s f m.says))
+    (both_by_rule (refused rule.Undeclared m.line (is_undeclared s f m.says)) (refused rule.WrongKind m.line (is_wrong_kind s f m.says))
+    (refused_by_rule rule.Undeclared m.line (is_undeclared s f m.says)) (refused_by_rule rule.WrongKind m.line (is_wrong_kind s f m.says)))
+    (refused_by_rule rule.WrongCount m.line (is_wrong_count s f m.says))) (refused_by_rule rule.HubInRawBody m.line (is_hub_in_raw_body s f m.says))) (refused_by_rule rule.TimeoutsTooDeep m.line (is_too_deep s f m.says))
 
 function_by_rule : (s : Scenario) (f : Function) → AreByRule (function_refusals s f)
 function_by_rule s f =
     both_by_rule _ (flat_map (word_refusals s f) (mentions f))
-    (both_by_rule _ (refused_names too_many (past most_local_names (different (given_names f))))
-    (both_by_rule _ (refused_names too_many (past most_parameters (parameters f)))
-    (both_by_rule (refused_names declared_twice (repeated (parameters f))) (refused wrong_count f.line (is_wrong_head f))
-    (names_by_rule declared_twice (repeated (parameters f)) refl) (refused_by_rule wrong_count f.line (is_wrong_head f) refl))
-    (names_by_rule too_many (past most_parameters (parameters f)) refl))
-    (names_by_rule too_many (past most_local_names (different (given_names f))) refl))
+    (both_by_rule _ (refused_names rule.TooMany (past most_local_names (different (given_names f))))
+    (both_by_rule _ (refused_names rule.TooMany (past most_parameters (parameters f)))
+    (both_by_rule (refused_names rule.DeclaredTwice (repeated (parameters f))) (refused rule.WrongCount f.line (is_wrong_head f))
+    (names_by_rule rule.DeclaredTwice (repeated (parameters f))) (refused_by_rule rule.WrongCount f.line (is_wrong_head f)))
+    (names_by_rule rule.TooMany (past most_parameters (parameters f))))
+    (names_by_rule rule.TooMany (past most_local_names (different (given_names f)))))
     (each_by_rule (word_refusals s f) (word_by_rule s f) (mentions f))
 
 all_by_rule : (s : Scenario) → AreByRule (refusals s)
 all_by_rule s =
     both_by_rule _ (flat_map (function_refusals s) s.functions)
-    (both_by_rule _ (refused_names declared_twice (repeated (named_objects s ++ named_functions s)))
-    (both_by_rule (refused_names too_many (past most_objects (named_objects s))) (refused_names too_many (past most_functions (named_functions s)))
-    (names_by_rule too_many (past most_objects (named_objects s)) refl) (names_by_rule too_many (past most_functions (named_functions s)) refl))
-    (names_by_rule declared_twice (repeated (named_objects s ++ named_functions s)) refl))
+    (both_by_rule _ (refused_names rule.DeclaredTwice (repeated (named_objects s ++ named_functions s)))
+    (both_by_rule (refused_names rule.TooMany (past most_objects (named_objects s))) (refused_names rule.TooMany (past most_functions (named_functions s)))
+    (names_by_rule rule.TooMany (past most_objects (named_objects s))) (names_by_rule rule.TooMany (past most_functions (named_functions s))))
+    (names_by_rule rule.DeclaredTwice (repeated (named_objects s ++ named_functions s))))
     (each_by_rule (function_refusals s) (function_by_rule s) s.functions)
 
 -- the earlier of two places is one of them
