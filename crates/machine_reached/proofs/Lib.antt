@@ -1,0 +1,3 @@
+pub mod Bounded
+pub mod Last
+pub mod Same

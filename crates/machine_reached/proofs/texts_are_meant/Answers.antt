@@ -1,0 +1,6 @@
+use Rattle.machine_reached.proofs.Bounded.{text-meant}
+use Rattle.machine_texts.proofs.WellFormed.{well-formed-fits}
+use Rattle.machine_reached.proofs.texts_are_meant.Goals as goal
+
+pub returns : goal.returns
+returns c d w = text-meant d (well-formed-fits d w)

@@ -1,0 +1,3 @@
+pub mod KindLemmas
+pub mod Bodies
+pub mod WellFormed
