@@ -193,7 +193,7 @@ starts-soundly g args s p u f k =
 -- ---- who moves is not parked
 
 -- nothing waits for a raw greenlet
-raw-free : (g : ℕ) (s : State) → (greenlet g s).raw ≡ true → IsKept s → has_no_wait g s.items ≡ true
+pub raw-free : (g : ℕ) (s : State) → (greenlet g s).raw ≡ true → IsKept s → has_no_wait g s.items ≡ true
 raw-free g s e h = all-imply _ _ s.items (λ i. none i.delivery) h.owners
   where
     by : (k : ℕ) (b : Bool) → (g == k) ≡ b → is_plain s.greenlets k ≡ true → not b ≡ true

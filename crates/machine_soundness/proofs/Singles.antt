@@ -42,7 +42,7 @@ claim-turned (Claim.TimeoutNumbered g) (Claim.TimeoutNumbered h) = turned g h
 claim-turned (Claim.LinkNumbered g) (Claim.LinkNumbered h) = turned g h
 claim-turned a b = refl
 
-same-turned : (a b : Option Claim) → same_claim a b ≡ same_claim b a
+pub same-turned : (a b : Option Claim) → same_claim a b ≡ same_claim b a
 same-turned (Some a) (Some b) = claim-turned a b
 same-turned None None = refl
 same-turned None (Some b) = refl
