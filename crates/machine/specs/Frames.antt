@@ -9,7 +9,6 @@ use Rattle.scenario_tree.specs.declared.tree.Giving.{Giving}
 use Rattle.scenario_tree.specs.declared.tree.Expression.{Expression}
 use Rattle.scenario_tree.specs.declared.tree.Wait.{Wait}
 use Rattle.scenario_tree.specs.declared.tree.LinkEnd.{LinkEnd}
-use Rattle.gv_values.specs.declared.job.JobKind.{JobKind}
 use Rattle.gv_values.specs.declared.fault.FaultKind.{FaultKind}
 use Rattle.gv_values.specs.declared.value.Value.{Value}
 use Rattle.gv_values.specs.declared.value.Outcome.{Outcome}

@@ -2,7 +2,6 @@
 -- links; greenlet documentation, parents, switching and exceptions, for raw greenlets.
 use Rattle.std.specs.Prelude.{ℕ, zero, suc, ◌+◌, ◌==◌, Bool, true, false, not, ◌&&◌, List, [], ◌∷◌, ◌++◌, map, length, None, if◌then◌else◌, slice_get, slice_set, nat_lt, filter, unwrap_or}
 use Rattle.std.specs.List.{list_any}
-use Rattle.gv_values.specs.declared.fault.FaultKind.{FaultKind}
 use Rattle.scenario_tree.specs.declared.tree.Function.{Function}
 use Rattle.gv_values.specs.declared.value.Value.{Value}
 use Rattle.gv_values.specs.declared.value.Outcome.{Outcome}
