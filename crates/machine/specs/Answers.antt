@@ -14,6 +14,7 @@ use Rattle.machine.specs.declared.items.Waiting.{Waiting}
 use Rattle.machine.specs.declared.state.JobState.{JobState}
 use Rattle.machine.specs.declared.state.Object.{Object}
 use Rattle.machine.specs.State.{State, say}
+use Rattle.machine.specs.Holds.{job_at}
 use Rattle.machine.specs.Settle.{settle}
 use Rattle.machine.specs.Waits.{with_object, object_at}
 
@@ -82,7 +83,7 @@ abbrev pub with_slot_freed : Object → Object
 with_slot_freed (Object.Native slots outstanding) = Object.Native slots (outstanding - 1)
 with_slot_freed object = object
 
--- the job has come to this, and its slot is free
+-- the job, if there is one of this number, has come to this, and its slot is free
 abbrev pub arrives : ℕ → JobOutcome → Option JobState → State → State
 arrives j o None s = s
 arrives j o (Some job) s =
@@ -90,7 +91,7 @@ arrives j o (Some job) s =
 
 -- the job that an answer names has arrived
 abbrev pub job_done : Answer → State → State
-job_done (Answer.Done j o at) s = arrives j o (slice_get s.jobs (j - 1)) s
+job_done (Answer.Done j o at) s = arrives j o (job_at j s.jobs) s
 job_done answer s = s
 
 -- an answer sets the moment, brings its job's outcome, and is written

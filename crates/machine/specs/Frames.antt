@@ -91,33 +91,7 @@ object x a = object_number x a.scenario.objects
 abbrev pub function : Name → Around → ℕ
 function x a = function_number x a.scenario.functions
 
--- ---- the rows that the hub answers
-
--- what a statement that gives no value asks
-abbrev pub command_request : Command → Around → Asked
-command_request (Command.Print e) a = one (meaning e a) Request.Print
-command_request (Command.Start e) a = one (meaning e a) Request.Start
-command_request (Command.Sleep ms) a = Ok (Request.Sleep ms)
-command_request (Command.Join e t) a = one (meaning e a) (λ v. Request.Join v (timed t))
-command_request (Command.Kill e f w) a = one_or_two (meaning e a) (meaning_if f a) (λ v o. Request.Kill v o w)
-command_request (Command.KillAll e f w) a = one_or_two (meaning e a) (meaning_if f a) (λ v o. Request.KillAll v o w)
-command_request (Command.Unlink e) a = one (meaning e a) Request.Unlink
-command_request (Command.Set x) a = Ok (Request.Set (object x a))
-command_request (Command.Clear x) a = Ok (Request.Clear (object x a))
-command_request (Command.ResultSet x e) a = one (meaning e a) (Request.ResultSet (object x a))
-command_request (Command.ResultFail x e) a = one (meaning e a) (Request.ResultFail (object x a))
-command_request (Command.Release x) a = Ok (Request.Release (object x a))
-command_request (Command.QueuePut x e w) a = one (meaning e a) (λ v. Request.QueuePut (object x a) v w)
-command_request (Command.QueueDone x) a = Ok (Request.QueueDone (object x a))
-command_request (Command.GroupJoin x t) a = Ok (Request.GroupJoin (object x a) (timed t))
-command_request (Command.GroupKill x f now) a = if_any (meaning_if f a) (λ o. Request.GroupKill (object x a) o (at_once now))
-command_request (Command.SetParent e d) a = two (meaning e a) (meaning d a) Request.SetParent
-command_request (Command.ChannelPut x e) a = one (meaning e a) (Request.ChannelPut (object x a))
-command_request (Command.QueueShut x immediate) a = Ok (Request.QueueShut (object x a) immediate)
--- the others ask nothing
-command_request (Command.Let x e) a = Err FaultKind.TypeError
-command_request (Command.Return e) a = Err FaultKind.TypeError
-command_request (Command.Raise e) a = Err FaultKind.TypeError
+-- ---- what a statement that gives a value asks
 
 -- the kind of a link whose function is called
 abbrev pub link_kind : LinkEnd → LinkKind
@@ -177,12 +151,34 @@ on_value (Outcome.Fault f) go locals todo = Did.GoesOn (Leaving.Raising f) local
 abbrev pub while_move : Expression → List Statement → Around → List Todo → Did
 while_move e body a todo = tested (meaning e a) a.locals (λ b. if b then (Todo.Statements body ∷ Todo.Again e body ∷ todo) else todo)
 
--- `let`, `return` and `raise` stay in the body; every other statement of this kind asks
+-- a request whose answer no name takes
+abbrev pub asked_only : Asked → Around → List Todo → Did
+asked_only r a todo = asked r None a.locals todo
+
+-- the move of a statement that gives no value: `let`, `return` and `raise` stay in the body, the others ask
 abbrev pub command_move : Command → Around → List Todo → Did
 command_move (Command.Let x e) a todo = on_value (meaning e a) (λ v. Did.GoesOn Leaving.Normally (bind x v a.locals) todo) a.locals todo
 command_move (Command.Return e) a todo = on_value (meaning e a) (λ v. Did.GoesOn (Leaving.Returning v) a.locals todo) a.locals todo
 command_move (Command.Raise e) a todo = on_value (meaning e a) (λ v. Did.GoesOn (raised v) a.locals todo) a.locals todo
-command_move command a todo = asked (command_request command a) None a.locals todo
+command_move (Command.Print e) a todo = asked_only (one (meaning e a) Request.Print) a todo
+command_move (Command.Start e) a todo = asked_only (one (meaning e a) Request.Start) a todo
+command_move (Command.Sleep ms) a todo = asked_only (Ok (Request.Sleep ms)) a todo
+command_move (Command.Join e t) a todo = asked_only (one (meaning e a) (λ v. Request.Join v (timed t))) a todo
+command_move (Command.Kill e f w) a todo = asked_only (one_or_two (meaning e a) (meaning_if f a) (λ v o. Request.Kill v o w)) a todo
+command_move (Command.KillAll e f w) a todo = asked_only (one_or_two (meaning e a) (meaning_if f a) (λ v o. Request.KillAll v o w)) a todo
+command_move (Command.Unlink e) a todo = asked_only (one (meaning e a) Request.Unlink) a todo
+command_move (Command.Set x) a todo = asked_only (Ok (Request.Set (object x a))) a todo
+command_move (Command.Clear x) a todo = asked_only (Ok (Request.Clear (object x a))) a todo
+command_move (Command.ResultSet x e) a todo = asked_only (one (meaning e a) (Request.ResultSet (object x a))) a todo
+command_move (Command.ResultFail x e) a todo = asked_only (one (meaning e a) (Request.ResultFail (object x a))) a todo
+command_move (Command.Release x) a todo = asked_only (Ok (Request.Release (object x a))) a todo
+command_move (Command.QueuePut x e w) a todo = asked_only (one (meaning e a) (λ v. Request.QueuePut (object x a) v w)) a todo
+command_move (Command.QueueDone x) a todo = asked_only (Ok (Request.QueueDone (object x a))) a todo
+command_move (Command.GroupJoin x t) a todo = asked_only (Ok (Request.GroupJoin (object x a) (timed t))) a todo
+command_move (Command.GroupKill x f now) a todo = asked_only (if_any (meaning_if f a) (λ o. Request.GroupKill (object x a) o (at_once now))) a todo
+command_move (Command.SetParent e d) a todo = asked_only (two (meaning e a) (meaning d a) Request.SetParent) a todo
+command_move (Command.ChannelPut x e) a todo = asked_only (one (meaning e a) (Request.ChannelPut (object x a))) a todo
+command_move (Command.QueueShut x immediate) a todo = asked_only (Ok (Request.QueueShut (object x a) immediate)) a todo
 
 -- the move of a statement, where this is still to do after it
 abbrev pub action_move : Action-F Action Except Statement → Around → List Todo → Did

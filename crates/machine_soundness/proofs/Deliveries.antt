@@ -1,5 +1,5 @@
 -- Deliveries, LoopExit, answers and the beginning, soundly.
-use Rattle.std.proofs.Common.{◌≡◌, refl, ap, ◌∙◌, sym, subst, ℕ, zero, suc, ◌+◌, ◌-◌, Bool, true, false, List, [], ◌∷◌, length, map, arith}
+use Rattle.std.proofs.Common.{◌≡◌, refl, ap, ◌∙◌, sym, subst, ℕ, zero, suc, ◌+◌, Bool, true, false, List, [], ◌∷◌, length, map, arith}
 use Rattle.std.proofs.lemmas.Bool.Decides.{nat_tests}
 use Rattle.std.specs.Prelude.{not, ◌==◌, slice_get, Option, Some, None, if◌then◌else◌, nat_le}
 use Rattle.std.specs.List.{list_all}
@@ -27,7 +27,7 @@ use Rattle.machine.specs.declared.state.Phase.{Phase}
 use Rattle.machine.specs.State.{State, say}
 use Rattle.machine.specs.Answers.{take_answer, job_done, arrives, with_slot_freed}
 use Rattle.machine.specs.Deliveries.{waiting_of, without_wait, without, without_item, arguments, interrupts, since_of_wake, without_offer_by, late, calls, called, delivers, deliver}
-use Rattle.machine.specs.Holds.{phase_of}
+use Rattle.machine.specs.Holds.{phase_of, job_at}
 use Rattle.machine.specs.Life.{Next, add_greenlet, has_greenlet_left, greenlet, drop_items, is_wait_of, answered, resumes, lands, starts, frame_of, leaving_of, outcome_of_leaving, is_timeout_of}
 use Rattle.machine.specs.Moves.{with_flag}
 use Rattle.machine.specs.Run.{first_state, object_of}
@@ -274,7 +274,7 @@ arrives-kept j o (Some job) s h =
 
 pub done-kept : (answer : Answer) (s : State) → IsKept s → IsKept (job_done answer s)
 done-kept (Answer.Nothing t) s h = h
-done-kept (Answer.Done j o t) s h = arrives-kept j o (slice_get s.jobs (j - 1)) s h
+done-kept (Answer.Done j o t) s h = arrives-kept j o (job_at j s.jobs) s h
 done-kept (Answer.Elapsed t) s h = h
 
 pub take_answer-kept : (answer : Answer) (s : State) → IsKept s → IsKept (take_answer answer s)
