@@ -1,3 +1,5 @@
+pub mod Asking
+pub mod Knowing
 pub mod Steps
 pub mod Turning
 pub mod Under
