@@ -7,7 +7,7 @@ use Rattle.gv_values.specs.declared.job.Answer.{Answer}
 use Rattle.world_rules.specs.declared.question.LogEntry.{LogEntry}
 use Rattle.world_rules.specs.declared.question.PostedJob.{PostedJob}
 use Rattle.world_rules.specs.declared.question.Question.{Question}
-use Rattle.world_rules.specs.Legal.{IsLegal, moment_of, posted as posted_job}
+use Rattle.world_rules.specs.Legal.{AreLegal, IsLegal, moment_of, posted as posted_job}
 use Rattle.world_rules.specs.Script.{scripted, without as without_answered}
 use Rattle.scenario_tree.specs.declared.tree.Scenario.{Scenario}
 use Rattle.trace_text.specs.declared.line.Line.{Line}
@@ -22,7 +22,7 @@ use Rattle.machine.specs.Deliveries.{deliver, interrupts}
 use Rattle.machine.specs.Life.{Next, starts, lands}
 use Rattle.machine.specs.Moves.{move}
 use Rattle.machine.specs.Run.{End, GoingOn, Passed, Ran, Source, after_answer, after_delivery, after_exit, after_question, after_start, after_turn, asks, deliveries, delivers_one, first_state, followed_by, given_out, least_below, logged, loop_exit, passed, rests, run_from, run_turns, runs, runs_on, said, silent, turn, with_posts}
-use Rattle.machine_turns.specs.Logs.{AsksLegally, KnowsJobs, MayAskAtEnd, StandsKnowing, as_posted, posts_of_step}
+use Rattle.machine_turns.specs.Logs.{AnswersLegally, AsksLegally, KnowsJobs, MayAskAtEnd, StandsKnowing, as_posted, posts_of_step}
 use Rattle.machine_turns.proofs.Knowing.{answers-know, delivers-know, exits-know, may-ask, moves-know, starts-know}
 
 -- ---- what a part of the run gives out
@@ -217,3 +217,16 @@ run-asks source turns moves c =
     let from = with_posts 0 p.posts source in
     given-asks [] [] p (after_start from turns moves p.next)
     (start-asks ([] ++ posts_of_step p.posts) from turns moves p.next (runs-give [] [] moves (starts lands 0 [] (first_state c)) (starts-know c)))
+
+-- what may be asked and is answered legally makes a legal log
+made-legal : (posts : List PostedJob) (answers : List Answer) (log : List LogEntry) (end : End) (s : State) → AsksLegally posts answers log end s → AnswersLegally posts answers log →
+    AreLegal posts answers log
+made-legal posts answers [] end s asks legal = tt
+made-legal posts answers (LogEntry.Post number job takes ∷ log) end s asks legal = made-legal (posts ++ posted_job number job ∷ []) answers log end s asks legal
+made-legal posts answers (LogEntry.Asked q a ∷ log) end s asks legal =
+    let this = legal.0 asks.0 in (this, made-legal posts (answers ++ a ∷ []) log end s (asks.1 this) legal.1)
+
+pub logs-legal : (source : Source) (turns moves : ℕ) (c : Scenario) → AnswersLegally [] [] (run_from source turns moves c).log → AreLegal [] [] (run_from source turns moves c).log
+logs-legal source turns moves c legal =
+    let r = run_from source turns moves c in
+    made-legal [] [] r.log r.end r.state (run-asks source turns moves c) legal

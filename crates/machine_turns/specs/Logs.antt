@@ -5,8 +5,9 @@ use Rattle.gv_values.specs.declared.job.Answer.{Answer}
 use Rattle.world_rules.specs.declared.question.LogEntry.{LogEntry}
 use Rattle.world_rules.specs.declared.question.PostedJob.{PostedJob}
 use Rattle.world_rules.specs.declared.question.Question.{Question}
-use Rattle.world_rules.specs.Legal.{IsLegal, MayAsk, is_answered, posted}
+use Rattle.world_rules.specs.Legal.{AreLegal, IsLegal, MayAsk, is_answered, posted}
 use Rattle.scenario_tree.specs.declared.tree.Scenario.{Scenario}
+use Rattle.trace_text.specs.declared.line.StopCause.{StopCause}
 use Rattle.machine.specs.declared.items.Item.{Item}
 use Rattle.machine.specs.declared.state.JobState.{JobState}
 use Rattle.machine.specs.declared.state.Post.{Post}
@@ -15,7 +16,7 @@ use Rattle.machine.specs.Answers.{question, take_answer}
 use Rattle.machine.specs.Deliveries.{deliver, interrupts}
 use Rattle.machine.specs.Life.{Next, starts, lands}
 use Rattle.machine.specs.Moves.{move}
-use Rattle.machine.specs.Run.{End, Source, first_state, run_from}
+use Rattle.machine.specs.Run.{End, Source, first_state, run_from, script_run}
 
 -- ---- what a state knows of its jobs
 
@@ -93,3 +94,22 @@ abbrev pub RunsAskLegally : Type 0
 RunsAskLegally =
     (source : Source) (turns moves : ℕ) (c : Scenario) →
         AsksLegally [] [] (run_from source turns moves c).log (run_from source turns moves c).end (run_from source turns moves c).state
+
+-- each answer of the log is legal, where its question may be asked
+abbrev pub AnswersLegally : List PostedJob → List Answer → List LogEntry → Type 0
+AnswersLegally posts answers [] = Unit {0}
+AnswersLegally posts answers (LogEntry.Post number job takes ∷ log) = AnswersLegally (posts ++ posted number job ∷ []) answers log
+AnswersLegally posts answers (LogEntry.Asked q answer ∷ log) =
+    (MayAsk posts answers q → IsLegal posts answers q answer) × AnswersLegally posts (answers ++ answer ∷ []) log
+
+-- the log of a run under legal answers is legal
+abbrev pub LegalAnswersMakeLegalLogs : Type 0
+LegalAnswersMakeLegalLogs =
+    (source : Source) (turns moves : ℕ) (c : Scenario) →
+        AnswersLegally [] [] (run_from source turns moves c).log → AreLegal [] [] (run_from source turns moves c).log
+
+-- ---- the end
+
+-- a run under the rule of a script finds an answer to each of its questions, so it stops
+abbrev pub ScriptsStop : Type 0
+ScriptsStop = (c : Scenario) (turns moves tick : ℕ) → (cause : StopCause) × ((script_run c turns moves tick).end ≡ End.Stopped cause)

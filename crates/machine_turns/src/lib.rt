@@ -2,7 +2,7 @@
 //! a body of its own.
 #![tactic(auto)]
 
-ghost use Rattle.machine_turns.specs.Logs.{AnswersKnowing, DeliversKnowing, ExitsKnowing, MayAskItsQuestion, MovesKnowing, RunsAskLegally, StartsKnowing};
+ghost use Rattle.machine_turns.specs.Logs.{AnswersKnowing, DeliversKnowing, ExitsKnowing, LegalAnswersMakeLegalLogs, MayAskItsQuestion, MovesKnowing, RunsAskLegally, ScriptsStop, StartsKnowing};
 ghost use Rattle.machine_turns.specs.Turns.{TurnsDeliverAll};
 
 /// Where the hub rests after the deliveries of a turn, no item has a number below the mark.
@@ -24,5 +24,12 @@ pub fn steps_know_their_jobs()
 /// Each question of a run may be asked where the answers before it are legal, and so may the one at which the run finds
 /// no answer: so the log of a run whose answers are legal is a legal log, and a world is asked nothing else.
 pub fn runs_ask_legally()
-    ensures { RunsAskLegally }
+    ensures asked { RunsAskLegally }
+    ensures legal { LegalAnswersMakeLegalLogs }
+{}
+
+/// A run under the rule of a script finds an answer to each of its questions, so it stops for a cause, and the program has the
+/// status and the line of that cause.
+pub fn scripts_stop()
+    ensures { ScriptsStop }
 {}
