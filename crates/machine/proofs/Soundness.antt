@@ -8,7 +8,7 @@ use Rattle.machine.specs.declared.items.Delivery.{Delivery}
 use Rattle.machine.specs.declared.items.Item.{Item}
 use Rattle.machine.specs.State.{State}
 use Rattle.machine.specs.Holds.{holds}
-use Rattle.machine.specs.Life.{add_item, drop_items}
+use Rattle.machine.specs.Items.{add_item, drop_items}
 use Rattle.machine.specs.Settle.{settle, settled, number_after}
 use Rattle.machine.specs.Soundness.{Claim, ascend, are_single, claim_eq, claim_of, is_meant, is_sound, is_unclaimed, same_claim}
 

@@ -6,7 +6,7 @@ use Rattle.scenario_tree.specs.declared.tree.Scenario.{Scenario}
 use Rattle.scenario_grammar.specs.Parsed.{reading}
 use Rattle.trace_text.specs.declared.line.Line.{Line}
 use Rattle.trace_text.specs.LineTexts.{line_text}
-use Rattle.machine.specs.Laws.{meets_laws}
+use Rattle.machine.specs.TraceLaws.{meets_laws}
 use Rattle.machine.specs.Quiet.{is_quiet}
 use Rattle.machine.specs.Soundness.{is_sound}
 use Rattle.machine.specs.Status.{status, err_line}

@@ -4,7 +4,8 @@ use Rattle.std.specs.Prelude.{not, slice_get, slice_set, unwrap_or, Option, Some
 use Rattle.machine.specs.declared.state.Greenlet.{Greenlet}
 use Rattle.machine.specs.declared.state.Phase.{Phase}
 use Rattle.machine.specs.Holds.{phase_of}
-use Rattle.machine.specs.Life.{nobody, host_within}
+use Rattle.machine.specs.Greenlets.{nobody}
+use Rattle.machine.specs.Hosts.{host_within}
 use Rattle.machine.specs.Soundness.{is_under_way, is_unstarted}
 use Rattle.machine_soundness.specs.Going.{is_plain}
 use Rattle.machine_soundness.proofs.Lists.{get-append}

@@ -5,11 +5,15 @@ use Rattle.gv_values.specs.declared.value.Outcome.{Outcome}
 use Rattle.trace_text.specs.declared.line.Line.{Line}
 use Rattle.machine.specs.declared.state.Greenlet.{Greenlet}
 use Rattle.machine.specs.declared.state.Phase.{Phase}
-use Rattle.machine.specs.Raising.{Unwound}
+use Rattle.machine.specs.Unwinding.{Unwound}
 use Rattle.machine.specs.State.{State, say}
 use Rattle.machine.specs.Holds.{is_done, phase_of, outcome_of_phase}
 use Rattle.gv_values.specs.Ends.{kept}
-use Rattle.machine.specs.Life.{Next, Landing, drop_items, greenlet, function_of, ended, stop_of, after_end, goes_on, starts, resumes, outcome_of_leaving, land, lands, is_timeout_of, host_of}
+use Rattle.machine.specs.Landing.{Next, Landing, after_end, goes_on, starts, resumes, land, lands}
+use Rattle.machine.specs.Items.{drop_items, is_timeout_of}
+use Rattle.machine.specs.Greenlets.{greenlet, function_of}
+use Rattle.machine.specs.Ends.{ended, stop_of, outcome_of_leaving}
+use Rattle.machine.specs.Hosts.{host_of}
 use Rattle.machine.specs.Soundness.{is_under_way}
 use Rattle.machine_soundness.specs.Going.{is_plain}
 use Rattle.machine_soundness.specs.Onward.{GoesOnward}

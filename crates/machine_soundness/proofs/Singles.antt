@@ -7,7 +7,7 @@ use Rattle.std.specs.List.{list_all}
 use Rattle.machine.specs.declared.items.Delivery.{Delivery}
 use Rattle.machine.specs.declared.items.Item.{Item}
 use Rattle.machine.specs.Settle.{settled, number_after}
-use Rattle.machine.specs.Life.{is_wait_of}
+use Rattle.machine.specs.Items.{is_wait_of}
 use Rattle.machine.specs.Soundness.{Claim, are_single, claim_eq, claim_of, is_unclaimed, same_claim}
 use Rattle.machine_soundness.specs.Going.{has_no_wait}
 use Rattle.machine_soundness.proofs.Lists.{left, right, both, all-end, all-filter, all-imply}

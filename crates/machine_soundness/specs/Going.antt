@@ -8,9 +8,12 @@ use Rattle.machine.specs.declared.state.Greenlet.{Greenlet}
 use Rattle.machine.specs.declared.state.Object.{Object}
 use Rattle.machine.specs.State.{State}
 use Rattle.machine.specs.Holds.{phase_of}
-use Rattle.machine.specs.Frames.{Did, body_move}
+use Rattle.machine.specs.BodyMoves.{Did, body_move}
 use Rattle.machine.specs.declared.request.Request.{Request}
-use Rattle.machine.specs.Life.{Next, is_wait_of, host_of, greenlet, frame_of}
+use Rattle.machine.specs.Landing.{Next}
+use Rattle.machine.specs.Items.{is_wait_of}
+use Rattle.machine.specs.Hosts.{host_of}
+use Rattle.machine.specs.Greenlets.{greenlet, frame_of}
 use Rattle.machine.specs.Moves.{look}
 use Rattle.machine.specs.Soundness.{is_sound, is_under_way}
 

@@ -3,7 +3,8 @@ use Rattle.std.specs.Prelude.{◌≡◌, ℕ, true}
 use Rattle.gv_values.specs.declared.value.Outcome.{Outcome}
 use Rattle.machine.specs.State.{State}
 use Rattle.machine.specs.Holds.{is_done, phase_of}
-use Rattle.machine.specs.Life.{Next, lands, host_of}
+use Rattle.machine.specs.Landing.{Next, lands}
+use Rattle.machine.specs.Hosts.{host_of}
 use Rattle.machine.specs.Soundness.{is_under_way}
 use Rattle.machine_soundness.specs.Going.{is_plain}
 

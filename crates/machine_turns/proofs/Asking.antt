@@ -2,27 +2,26 @@
 use Rattle.std.proofs.Common.{◌≡◌, refl, ap, ◌∙◌, sym, subst, ℕ, zero, suc, ◌-◌, Bool, true, false, List, [], ◌∷◌, ◌++◌, append_assoc, length, map, ◌+◌}
 use Rattle.std.proofs.lemmas.List.{append-nil, map-append}
 use Rattle.std.specs.Prelude.{Option, Some, None, if◌then◌else◌}
-use Rattle.gv_values.specs.declared.fault.FaultKind.{FaultKind}
 use Rattle.gv_values.specs.declared.job.Answer.{Answer}
 use Rattle.world_rules.specs.declared.question.LogEntry.{LogEntry}
 use Rattle.world_rules.specs.declared.question.PostedJob.{PostedJob}
 use Rattle.world_rules.specs.declared.question.Question.{Question}
-use Rattle.world_rules.specs.Legal.{AreLegal, IsLegal, moment_of, posted as posted_job}
+use Rattle.world_rules.specs.Legal.{AreLegal, moment_of, posted as posted_job}
 use Rattle.world_rules.specs.Script.{scripted, without as without_answered}
 use Rattle.scenario_tree.specs.declared.tree.Scenario.{Scenario}
 use Rattle.trace_text.specs.declared.line.Line.{Line}
 use Rattle.machine.specs.declared.items.Item.{Item}
 use Rattle.machine.specs.declared.state.Post.{Post}
 use Rattle.machine.specs.State.{State, say}
-use Rattle.machine.specs.Answers.{any_numbered, arrives, block_line, job_done, question, take_answer}
+use Rattle.machine.specs.Questions.{any_numbered, arrives, block_line, job_done, question, take_answer}
 use Rattle.machine.specs.Holds.{job_at}
 use Rattle.machine.specs.declared.state.JobState.{JobState}
 use Rattle.gv_values.specs.declared.job.JobOutcome.{JobOutcome}
 use Rattle.machine.specs.Deliveries.{deliver, interrupts}
-use Rattle.machine.specs.Life.{Next, starts, lands}
+use Rattle.machine.specs.Landing.{Next, starts, lands}
 use Rattle.machine.specs.Moves.{move}
-use Rattle.machine.specs.Run.{End, GoingOn, Passed, Ran, Source, after_answer, after_delivery, after_exit, after_question, after_start, after_turn, asks, deliveries, delivers_one, first_state, followed_by, given_out, least_below, logged, loop_exit, passed, rests, run_from, run_turns, runs, runs_on, said, silent, turn, with_posts}
-use Rattle.machine_turns.specs.Logs.{AnswersLegally, AsksLegally, KnowsJobs, MayAskAtEnd, StandsKnowing, as_posted, posts_of_step}
+use Rattle.machine.specs.Run.{End, GoingOn, Passed, Ran, Source, after_answer, after_delivery, after_exit, after_question, after_start, after_turn, asks, deliveries, delivers_one, first_state, given_out, least_below, logged, loop_exit, rests, run_from, run_turns, runs, runs_on, silent, turn, with_posts}
+use Rattle.machine_turns.specs.Logs.{AnswersLegally, AsksLegally, KnowsJobs, StandsKnowing, posts_of_step}
 use Rattle.machine_turns.proofs.Knowing.{answers-know, delivers-know, exits-know, may-ask, moves-know, starts-know}
 
 -- ---- what a part of the run gives out

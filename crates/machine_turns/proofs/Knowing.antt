@@ -1,11 +1,10 @@
 -- What a state knows of its jobs is kept by each step, and by a legal answer.
-use Rattle.std.proofs.Common.{◌≡◌, refl, ap, ◌∙◌, sym, subst, ℕ, zero, suc, ◌+◌, ◌-◌, ◌≤◌, ◌<◌, Bool, true, false, List, [], ◌∷◌, ◌++◌, append_assoc, length, length-append, map, arith}
+use Rattle.std.proofs.Common.{◌≡◌, refl, ap, ◌∙◌, sym, subst, ℕ, zero, suc, ◌+◌, ◌-◌, ◌<◌, Bool, true, false, List, [], ◌∷◌, ◌++◌, append_assoc, length, length-append, arith}
 use Rattle.std.proofs.Math.Nat.{min-le_right}
 use Rattle.std.proofs.lemmas.List.{append-nil, map-append}
 use Rattle.std.proofs.lemmas.List.Folds.{list_any-append}
 use Rattle.std.proofs.lemmas.Bool.Decides.{nat_tests}
-use Rattle.std.specs.Prelude.{◌==◌, ◌||◌, not, filter, slice_get, slice_index_or, slice_set, ◌^◌, Option, Some, None, is_some, is_none, Contains, min, if◌then◌else◌}
-use Rattle.std.specs.List.{list_any}
+use Rattle.std.specs.Prelude.{◌==◌, ◌||◌, not, slice_get, slice_index_or, slice_set, ◌^◌, Option, Some, None, is_some, is_none, Contains, min, if◌then◌else◌}
 use Rattle.gv_values.specs.declared.fault.FaultKind.{FaultKind}
 use Rattle.gv_values.specs.declared.job.Answer.{Answer}
 use Rattle.gv_values.specs.declared.job.Job.{Job}
@@ -14,21 +13,20 @@ use Rattle.world_rules.specs.declared.question.PostedJob.{PostedJob}
 use Rattle.world_rules.specs.declared.question.Question.{Question}
 use Rattle.world_rules.specs.Legal.{IsLegal, MayAsk, is_answered, is_done_of, outstanding, posted as posted_job}
 use Rattle.world_rules.specs.Script.{last_moment}
-use Rattle.machine.specs.declared.items.Delivery.{Delivery}
 use Rattle.machine.specs.declared.items.Item.{Item}
 use Rattle.machine.specs.declared.state.JobState.{JobState}
 use Rattle.machine.specs.declared.state.Post.{Post}
 use Rattle.machine.specs.State.{State}
 use Rattle.machine.specs.Holds.{job_at}
-use Rattle.machine.specs.Answers.{question, asks_wait, any_outstanding, any_numbered, is_outstanding, least_deadline, take_answer, job_done, arrives}
+use Rattle.machine.specs.Questions.{question, asks_wait, any_outstanding, any_numbered, least_deadline, take_answer, arrives}
 use Rattle.machine.specs.Deliveries.{deliver, interrupts, without_item}
-use Rattle.machine.specs.Life.{Next, starts, lands}
+use Rattle.machine.specs.Landing.{Next, starts, lands}
 use Rattle.machine.specs.Run.{first_state}
 use Rattle.scenario_tree.specs.declared.tree.Scenario.{Scenario}
 use Rattle.machine.specs.Moves.{move}
 use Rattle.machine.specs.Waits.{posted}
 use Rattle.machine_turns.specs.Logs.{as_posted, HaveArrived, posts_of_step, KnowsJobs, StandsKnowing}
-use Rattle.machine_turns.proofs.Steps.{Keeps, Core, core, Stands, starts-keeps, lands-keeps, move-keeps, delivers-keeps, interrupts-keeps}
+use Rattle.machine_turns.proofs.Steps.{Keeps, Core, Stands, starts-keeps, lands-keeps, move-keeps, delivers-keeps, interrupts-keeps}
 
 -- ---- one more job
 

@@ -27,12 +27,19 @@ use Rattle.machine.specs.State.{State, say}
 use Rattle.machine.specs.Holds.{newcomer_completes, outcome_of, earlier, is_take}
 use Rattle.gv_values.specs.Ends.{kept, link_fits}
 use Rattle.machine.specs.Settle.{settle}
-use Rattle.machine.specs.Raising.{Unwound}
-use Rattle.machine.specs.Frames.{Did, body_move}
+use Rattle.machine.specs.Unwinding.{Unwound}
+use Rattle.machine.specs.BodyMoves.{Did, body_move}
 use Rattle.machine.specs.declared.request.Request.{Request}
-use Rattle.machine.specs.Life.{Next, Landing, add_item, drop_items, with_phase, add_greenlet, has_greenlet_left, greenlet, function_of, ended, stop_of, after_end, goes_on, starts, resumes, outcome_of_leaving, goes_at_end, land, lands, answered, frame_of, is_timeout_of, is_wait_of, host_of, is_above}
-use Rattle.machine.specs.Waits.{Performed, raises, with_object, object_at, name_of_object, parked, drawn, draws, waits, add_member, map_ends, maps, map_goes_on, made_member, gathered, outcome_of_greenlet, posted, completes, comes, nothing, puts_item, takes_item, peeks_item, is_shut, is_left, item_of, with_item, with_item_taken, offered}
-use Rattle.machine.specs.Moves.{typed, done, makes, starts_at, greenlet_value, start_of, is_new, has_start, Sending, sends, sends_all, kills, kills_standing, links, is_link, put_result, releases, at_bound, after_release, acquires, takes_value, finishes, members_of, job_of, int_operand, list_operand, whom_operand, any_greenlet, on_host, sets_parent, raw_greenlet, plain_greenlet, plain_greenlet_list, fault_operand, sets_of, performs, follows, timeout_item, does, move, look}
+use Rattle.machine.specs.Landing.{Next, Landing, after_end, goes_on, starts, resumes, land, lands, answered}
+use Rattle.machine.specs.Items.{add_item, drop_items, goes_at_end, is_timeout_of, is_wait_of}
+use Rattle.machine.specs.Greenlets.{with_phase, add_greenlet, has_greenlet_left, greenlet, function_of, frame_of}
+use Rattle.machine.specs.Ends.{ended, stop_of, outcome_of_leaving}
+use Rattle.machine.specs.Hosts.{host_of, is_above}
+use Rattle.machine.specs.Waits.{Performed, raises, parked, drawn, draws, waits, add_member, map_ends, maps, map_goes_on, made_member, gathered, outcome_of_greenlet, posted, completes, comes, nothing, puts_item, takes_item, peeks_item, offered}
+use Rattle.machine.specs.Objects.{with_object, object_at, name_of_object, is_shut, is_left, item_of, with_item, with_item_taken}
+use Rattle.machine.specs.Requests.{typed, done, makes, starts_at, greenlet_value, start_of, is_new, has_start, Sending, sends, sends_all, kills, kills_standing, links, is_link, put_result, releases, acquires, finishes, job_of, int_operand, list_operand, whom_operand, any_greenlet, on_host, sets_parent, raw_greenlet, plain_greenlet, plain_greenlet_list, fault_operand, performs, follows}
+use Rattle.machine.specs.Objects.{at_bound, after_release, takes_value, members_of, sets_of}
+use Rattle.machine.specs.Moves.{timeout_item, does, move, look}
 use Rattle.machine.specs.Deliveries.{waiting_of, without_wait, interrupts, late, calls, called, delivers, since_of_wake, without_offer_by}
 
 -- what no step changes but an item that comes or goes, a settling or a job

@@ -7,8 +7,8 @@ use Rattle.world_rules.specs.Script.{scripted, without}
 use Rattle.scenario_tree.specs.declared.tree.Scenario.{Scenario}
 use Rattle.trace_text.specs.declared.line.StopCause.{StopCause}
 use Rattle.machine.specs.State.{State}
-use Rattle.machine.specs.Answers.{block_line, question, take_answer}
-use Rattle.machine.specs.Life.{Next, starts, lands}
+use Rattle.machine.specs.Questions.{block_line, question, take_answer}
+use Rattle.machine.specs.Landing.{Next, starts, lands}
 use Rattle.machine.specs.Run.{End, GoingOn, Ran, Source, after_exit, after_question, after_start, after_turn, due_jobs, first_state, loop_exit, run_turns, runs, script_run, silent, turn}
 
 -- the run stops

@@ -3,7 +3,7 @@ use Rattle.std.proofs.Common.{◌≡◌, refl, sym, subst, ℕ, zero, suc, ◌+�
 use Rattle.std.specs.Prelude.{Option, Some, None}
 use Rattle.machine.specs.declared.items.Item.{Item}
 use Rattle.machine.specs.State.{State}
-use Rattle.machine.specs.Life.{Next}
+use Rattle.machine.specs.Landing.{Next}
 use Rattle.machine.specs.Moves.{move}
 use Rattle.machine.specs.Deliveries.{deliver, without_item}
 use Rattle.machine.specs.Soundness.{ascend}

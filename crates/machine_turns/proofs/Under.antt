@@ -6,7 +6,7 @@ use Rattle.machine.specs.declared.items.Delivery.{Delivery}
 use Rattle.machine.specs.declared.items.Item.{Item}
 use Rattle.machine.specs.State.{State}
 use Rattle.machine.specs.Holds.{holds}
-use Rattle.machine.specs.Life.{add_item, drop_items}
+use Rattle.machine.specs.Items.{add_item, drop_items}
 use Rattle.machine.specs.Settle.{settle, settled, settled_ready, number_after, numbers_after}
 use Rattle.machine.specs.Soundness.{ascend}
 use Rattle.machine.specs.Deliveries.{without, without_item}

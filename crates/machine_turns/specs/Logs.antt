@@ -1,5 +1,5 @@
 -- What a run asks and is answered: each of its questions is one that may be asked, as long as its answers are legal. This project's own.
-use Rattle.std.specs.Prelude.{◌≡◌, ℕ, zero, suc, ◌<◌, false, List, [], ◌∷◌, ◌++◌, map, length, Some, is_some}
+use Rattle.std.specs.Prelude.{◌≡◌, ℕ, suc, ◌<◌, false, List, [], ◌∷◌, ◌++◌, map, length, Some, is_some}
 use Rattle.gv_values.specs.declared.fault.FaultKind.{FaultKind}
 use Rattle.gv_values.specs.declared.job.Answer.{Answer}
 use Rattle.world_rules.specs.declared.question.LogEntry.{LogEntry}
@@ -12,9 +12,9 @@ use Rattle.machine.specs.declared.items.Item.{Item}
 use Rattle.machine.specs.declared.state.JobState.{JobState}
 use Rattle.machine.specs.declared.state.Post.{Post}
 use Rattle.machine.specs.State.{State}
-use Rattle.machine.specs.Answers.{question, take_answer}
+use Rattle.machine.specs.Questions.{question, take_answer}
 use Rattle.machine.specs.Deliveries.{deliver, interrupts}
-use Rattle.machine.specs.Life.{Next, starts, lands}
+use Rattle.machine.specs.Landing.{Next, starts, lands}
 use Rattle.machine.specs.Moves.{move}
 use Rattle.machine.specs.Run.{End, Source, first_state, run_from, script_run}
 

@@ -1,7 +1,7 @@
 -- A turn delivers every item that has a number below its mark. This project's own.
 use Rattle.std.specs.Prelude.{◌≡◌, ℕ, true, None}
 use Rattle.machine.specs.State.{State}
-use Rattle.machine.specs.Life.{Next}
+use Rattle.machine.specs.Landing.{Next}
 use Rattle.machine.specs.Run.{least_below, turn}
 use Rattle.machine.specs.Soundness.{ascend}
 

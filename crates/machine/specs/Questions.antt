@@ -1,22 +1,21 @@
 -- What the hub asks at the end of a turn, the block line before it, and the effect of an answer. This project's own.
-use Rattle.std.specs.Prelude.{ℕ, ◌-◌, List, [], ◌∷◌, Bool, Option, Some, None, is_some, is_none, if◌then◌else◌, min, slice_get, slice_set}
+use Rattle.std.specs.Prelude.{ℕ, ◌-◌, Bool, List, [], ◌∷◌, Option, Some, None, if◌then◌else◌, slice_set, min, is_some, is_none}
 use Rattle.std.specs.List.{list_any}
+use Rattle.machine.specs.declared.items.Delivery.{Delivery}
+use Rattle.machine.specs.declared.items.Waiting.{Waiting}
+use Rattle.trace_text.specs.declared.line.Line.{Line}
+use Rattle.machine.specs.State.{State, say}
+use Rattle.machine.specs.Settle.{settle}
+use Rattle.machine.specs.Objects.{with_object, object_at, with_slot_freed}
 use Rattle.gv_values.specs.declared.job.Answer.{Answer}
 use Rattle.gv_values.specs.declared.job.JobOutcome.{JobOutcome}
 use Rattle.world_rules.specs.declared.question.Question.{Question}
 use Rattle.world_rules.specs.Legal.{moment_of}
 use Rattle.world_rules.specs.Script.{last_moment}
 use Rattle.trace_text.specs.declared.line.Blocked.{Blocked}
-use Rattle.trace_text.specs.declared.line.Line.{Line}
 use Rattle.machine.specs.declared.items.Item.{Item}
-use Rattle.machine.specs.declared.items.Delivery.{Delivery}
-use Rattle.machine.specs.declared.items.Waiting.{Waiting}
 use Rattle.machine.specs.declared.state.JobState.{JobState}
-use Rattle.machine.specs.declared.state.Object.{Object}
-use Rattle.machine.specs.State.{State, say}
 use Rattle.machine.specs.Holds.{job_at}
-use Rattle.machine.specs.Settle.{settle}
-use Rattle.machine.specs.Waits.{with_object, object_at}
 
 -- ---- deadlines
 
@@ -77,11 +76,6 @@ block_line s = if any_numbered s.items then s else say (Line.Block (blocked (lea
     blocked None = if any_outstanding s.jobs then Blocked.Jobs else Blocked.Nothing
 
 -- ---- the effect of an answer
-
--- a native pool with one outstanding job less
-abbrev pub with_slot_freed : Object → Object
-with_slot_freed (Object.Native slots outstanding) = Object.Native slots (outstanding - 1)
-with_slot_freed object = object
 
 -- the job, if there is one of this number, has come to this, and its slot is free
 abbrev pub arrives : ℕ → JobOutcome → Option JobState → State → State
