@@ -7,7 +7,7 @@ use Rattle.machine.specs.declared.state.Object.{Object}
 use Rattle.trace_text.specs.declared.line.Line.{Line}
 use Rattle.machine.specs.State.{State, say}
 use Rattle.machine.specs.Holds.{holds, wait_holds}
-use Rattle.machine.specs.Waits.{with_object}
+use Rattle.machine.specs.Objects.{with_object}
 
 -- the object on which the greenlet waits, if it waits on one
 abbrev pub object_of_wait : Waiting → Option ℕ

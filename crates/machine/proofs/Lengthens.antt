@@ -7,9 +7,9 @@ use Rattle.world_rules.specs.declared.question.Question.{Question}
 use Rattle.trace_text.specs.declared.line.Line.{Line}
 use Rattle.scenario_tree.specs.declared.tree.Scenario.{Scenario}
 use Rattle.machine.specs.State.{State}
-use Rattle.machine.specs.Life.{Next, starts, lands}
-use Rattle.machine.specs.Answers.{question, block_line, take_answer}
-use Rattle.machine.specs.Replay.{GoOnFrom}
+use Rattle.machine.specs.Landing.{Next, starts, lands}
+use Rattle.machine.specs.Questions.{question, block_line, take_answer}
+use Rattle.machine.specs.ReplayLaws.{GoOnFrom}
 use Rattle.machine.specs.Run.{Source, GoingOn, run_turns, after_turn, after_question, after_exit, asks, loop_exit, turn, after_start, run, runs, first_state, silent}
 
 -- what goes on under more answers goes on from what goes on under these

@@ -9,8 +9,8 @@ use Rattle.world_rules.specs.Script.{scripted, without}
 use Rattle.scenario_tree.specs.declared.tree.Scenario.{Scenario}
 use Rattle.machine.specs.declared.state.Post.{Post}
 use Rattle.machine.specs.State.{State}
-use Rattle.machine.specs.Life.{Next, starts, lands}
-use Rattle.machine.specs.Answers.{question, block_line, take_answer}
+use Rattle.machine.specs.Landing.{Next, starts, lands}
+use Rattle.machine.specs.Questions.{question, block_line, take_answer}
 use Rattle.machine.specs.Run.{Ran, Passed, Source, GoingOn, run_turns, after_turn, after_question, after_exit, first_lines, first_blocked, blocked_at, given_out, asked_first, logged, due_jobs, loop_exit, turn, after_start, run, script_run, runs, first_state, silent}
 
 -- posts name no answers

@@ -8,13 +8,13 @@ use Rattle.machine.specs.declared.items.Delivery.{Delivery}
 use Rattle.machine.specs.declared.items.Item.{Item}
 use Rattle.machine.specs.State.{State}
 use Rattle.machine.specs.Holds.{holds}
-use Rattle.machine.specs.Life.{add_item, drop_items}
+use Rattle.machine.specs.Items.{add_item, drop_items}
 use Rattle.machine.specs.Settle.{settle, settled, number_after}
 use Rattle.machine.specs.Soundness.{Claim, ascend, are_single, claim_eq, claim_of, is_meant, is_sound, is_unclaimed, same_claim}
 
 -- ---- a settling
 
-ascend-settled : (hs : List Bool) (n : ℕ) (items : List Item) (low next : ℕ) → ascend low next (settled hs n items) ≡ ascend low next items
+pub ascend-settled : (hs : List Bool) (n : ℕ) (items : List Item) (low next : ℕ) → ascend low next (settled hs n items) ≡ ascend low next items
 ascend-settled [] n items low next = refl
 ascend-settled (h ∷ hs) n [] low next = refl
 ascend-settled (h ∷ hs) n (i ∷ items) low next = ap (λ b. nat_le low i.since && b) (ascend-settled hs (number_after h i.ready n) items (i.since + 1) next)
@@ -59,7 +59,7 @@ ascend-lower low high next (i ∷ items) h k =
     let above : nat_le high i.since ≡ true = both-left _ _ k in
     both _ _ (grind (arith, nat_tests)) (both-right (nat_le high i.since) _ k)
 
-ascend-filter : (p : Item → Bool) (low next : ℕ) (items : List Item) → ascend low next items ≡ true → ascend low next (filter p items) ≡ true
+pub ascend-filter : (p : Item → Bool) (low next : ℕ) (items : List Item) → ascend low next items ≡ true → ascend low next (filter p items) ≡ true
 ascend-filter p low next [] h = h
 ascend-filter p low next (i ∷ items) h =
     let rest : ascend (i.since + 1) next (filter p items) ≡ true = ascend-filter p (i.since + 1) next items (both-right (nat_le low i.since) _ h) in
@@ -93,7 +93,7 @@ sound-drop_items test s h =
 
 -- ---- an item that comes
 
-ascend-append : (low next : ℕ) (items : List Item) (i : Item) → ascend low next items ≡ true → (i.since ≡ next) → ascend low (next + 1) (items ++ i ∷ []) ≡ true
+pub ascend-append : (low next : ℕ) (items : List Item) (i : Item) → ascend low next items ≡ true → (i.since ≡ next) → ascend low (next + 1) (items ++ i ∷ []) ≡ true
 ascend-append low next [] i h e =
     let first : nat_le low i.since ≡ true = rw e h in
     let last : nat_le (i.since + 1) (next + 1) ≡ true = grind (arith, nat_tests) in

@@ -10,10 +10,12 @@ use Rattle.machine.specs.declared.state.Leaving.{Leaving}
 use Rattle.machine.specs.declared.state.Local.{Local}
 use Rattle.machine.specs.declared.state.Todo.{Todo}
 use Rattle.machine.specs.Expressions.{Look, Around}
-use Rattle.machine.specs.Frames.{Did, body_move}
+use Rattle.machine.specs.BodyMoves.{Did, body_move}
 use Rattle.machine.specs.declared.request.Request.{Request}
-use Rattle.machine.specs.Life.{given, leaving_of, named, outcome_of_leaving}
-use Rattle.machine.specs.Raising.{Unwound, unwind}
+use Rattle.machine.specs.Landing.{given}
+use Rattle.machine.specs.Ends.{leaving_of, outcome_of_leaving}
+use Rattle.machine.specs.Greenlets.{named}
+use Rattle.machine.specs.Unwinding.{Unwound, unwind}
 
 -- where a body stands between two steps
 pub data Body : Type 0 where

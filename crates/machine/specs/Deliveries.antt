@@ -15,9 +15,13 @@ use Rattle.trace_text.specs.declared.line.LinkCall.{LinkCall}
 use Rattle.trace_text.specs.declared.line.Resumed.{Resumed}
 use Rattle.machine.specs.State.{State, say}
 use Rattle.machine.specs.Settle.{settle}
-use Rattle.machine.specs.Life.{Next, drop_items, is_wait_of, greenlet, add_greenlet, has_greenlet_left, starts, lands, answered}
-use Rattle.machine.specs.Waits.{completes, late_outcome, with_object, object_at, name_of_object, without_offer}
-use Rattle.machine.specs.Moves.{follows, with_flag}
+use Rattle.machine.specs.Landing.{Next, starts, lands, answered}
+use Rattle.machine.specs.Items.{drop_items, is_wait_of}
+use Rattle.machine.specs.Greenlets.{greenlet, add_greenlet, has_greenlet_left}
+use Rattle.machine.specs.Waits.{completes, late_outcome}
+use Rattle.machine.specs.Objects.{with_object, object_at, name_of_object, without_offer}
+use Rattle.machine.specs.Requests.{follows}
+use Rattle.machine.specs.Objects.{with_flag}
 
 -- what the greenlet waits for
 abbrev pub waiting_of : ℕ → List Item → Option Waiting

@@ -1,7 +1,7 @@
 -- Which item holds: the tables of waits and of items, read as a function of the state. Earlier waiters are counted afresh from the flat list.
 -- The conditions are those of gevent API reference, `gevent.Greenlet`, `gevent.event`, `gevent.lock`, `gevent.queue`, `gevent.pool` and
 -- `gevent.threadpool`; that waiters are served in order of parking, and no newcomer before them, is this project's own.
-use Rattle.std.specs.Prelude.{ℕ, ◌-◌, ◌==◌, Bool, true, false, ◌&&◌, ◌||◌, not, List, length, Option, Some, None, is_some, is_none, if◌then◌else◌, slice_get, nat_lt, nat_le, count_by}
+use Rattle.std.specs.Prelude.{ℕ, zero, suc, ◌-◌, ◌==◌, Bool, true, false, ◌&&◌, ◌||◌, not, List, [], ◌∷◌, length, Option, Some, None, is_some, is_none, if◌then◌else◌, slice_get, nat_lt, nat_le, count_by}
 use Rattle.std.specs.List.{list_all, list_any}
 use Rattle.gv_values.specs.declared.value.Value.{Value}
 use Rattle.gv_values.specs.declared.value.Outcome.{Outcome}
@@ -12,6 +12,7 @@ use Rattle.gv_values.specs.declared.link.LinkKind.{LinkKind}
 use Rattle.gv_values.specs.Ends.{link_fits}
 use Rattle.gv_values.specs.declared.value.Whom.{Whom}
 use Rattle.gv_values.specs.declared.job.JobOutcome.{JobOutcome}
+use Rattle.machine.specs.declared.state.JobState.{JobState}
 use Rattle.machine.specs.declared.state.Object.{Object}
 use Rattle.machine.specs.declared.state.Offer.{Offer}
 use Rattle.machine.specs.declared.state.Greenlet.{Greenlet}
@@ -34,6 +35,12 @@ abbrev pub outcome_of_job : JobOutcome → Outcome
 outcome_of_job (JobOutcome.Int z) = Outcome.Value (Value.Int z)
 outcome_of_job (JobOutcome.Fault f) = Outcome.Fault f
 
+-- the job of this number; jobs are counted from 1, and there is none of number 0
+abbrev pub job_at : ℕ → List JobState → Option JobState
+job_at j [] = None
+job_at zero (job ∷ jobs) = None
+job_at (suc n) (job ∷ jobs) = slice_get (job ∷ jobs) n
+
 -- of a job that has arrived, its outcome
 abbrev pub arrived : Option JobOutcome → Option Outcome
 arrived None = None
@@ -42,7 +49,7 @@ arrived (Some o) = Some (outcome_of_job o)
 -- what the greenlet or job ended with, if it did
 abbrev pub outcome_of : State → Whom → Option Outcome
 outcome_of s (Whom.Greenlet g) = elim (slice_get s.greenlets g) [ None ↦ None | Some x ↦ outcome_of_phase x.phase ]
-outcome_of s (Whom.Job j) = elim (slice_get s.jobs (j - 1)) [ None ↦ None | Some x ↦ arrived x.outcome ]
+outcome_of s (Whom.Job j) = elim (job_at j s.jobs) [ None ↦ None | Some x ↦ arrived x.outcome ]
 
 -- the greenlet is Done
 abbrev pub is_done : State → ℕ → Bool

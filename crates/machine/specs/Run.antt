@@ -15,10 +15,11 @@ use Rattle.machine.specs.declared.state.Object.{Object}
 use Rattle.machine.specs.declared.state.Post.{Post}
 use Rattle.machine.specs.State.{State}
 use Rattle.machine.specs.Expressions.{function_number}
-use Rattle.machine.specs.Life.{Next, add_greenlet, starts, lands}
+use Rattle.machine.specs.Landing.{Next, starts, lands}
+use Rattle.machine.specs.Greenlets.{add_greenlet}
 use Rattle.machine.specs.Moves.{move}
 use Rattle.machine.specs.Deliveries.{deliver, interrupts}
-use Rattle.machine.specs.Answers.{question, block_line, take_answer}
+use Rattle.machine.specs.Questions.{question, block_line, take_answer}
 
 -- ---- what is given out
 

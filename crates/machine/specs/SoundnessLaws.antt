@@ -2,7 +2,7 @@
 use Rattle.std.specs.Prelude.{◌≡◌, Bool, true}
 use Rattle.machine.specs.declared.items.Delivery.{Delivery}
 use Rattle.machine.specs.State.{State}
-use Rattle.machine.specs.Life.{add_item, drop_items}
+use Rattle.machine.specs.Items.{add_item, drop_items}
 use Rattle.machine.specs.Settle.{settle}
 use Rattle.machine.specs.Soundness.{claim_of, is_meant, is_sound, is_unclaimed}
 

@@ -1,8 +1,7 @@
 -- Waiting: what a completion gives and takes, what a Late gives, and how a greenlet parks. Results are those of gevent API reference for the
 -- method of the same meaning; lines and numbers are this project's own.
-use Rattle.std.specs.Prelude.{ℕ, ◌+◌, ◌-◌, Bool, true, false, not, nat_lt, List, [], ◌∷◌, ◌++◌, map, length, take, drop, Option, Some, None, if◌then◌else◌, slice_get, slice_set, filter, unwrap_or, ℤ, int_lt, reverse}
+use Rattle.std.specs.Prelude.{ℕ, ◌+◌, Bool, true, false, List, [], ◌∷◌, length, Option, Some, None, if◌then◌else◌, unwrap_or, ◌++◌, map, filter, reverse}
 use Rattle.gv_values.specs.declared.fault.FaultKind.{FaultKind}
-use Rattle.scenario_tree.specs.declared.tree.QueueKind.{QueueKind}
 use Rattle.scenario_tree.specs.declared.tree.Wait.{Wait}
 use Rattle.gv_values.specs.declared.value.Value.{Value}
 use Rattle.gv_values.specs.declared.scalar.Scalar.{Scalar}
@@ -11,15 +10,17 @@ use Rattle.machine.specs.declared.items.Delivery.{Delivery}
 use Rattle.machine.specs.declared.items.Waiting.{Waiting}
 use Rattle.gv_values.specs.declared.value.Whom.{Whom}
 use Rattle.gv_values.specs.declared.job.Job.{Job}
-use Rattle.gv_values.specs.Values.{value_of_scalar}
-use Rattle.machine.specs.Expressions.{scalars}
 use Rattle.machine.specs.declared.state.Object.{Object}
 use Rattle.trace_text.specs.declared.line.StopCause.{StopCause}
 use Rattle.trace_text.specs.declared.line.Line.{Line}
 use Rattle.trace_text.specs.declared.line.Awaited.{Awaited}
-use Rattle.machine.specs.State.{State, Name, say}
-use Rattle.machine.specs.Holds.{outcome_of, is_done, newcomer_completes, earlier, is_take, is_offer_of}
-use Rattle.machine.specs.Life.{add_item, add_greenlet, has_greenlet_left}
+use Rattle.machine.specs.State.{State, say}
+use Rattle.machine.specs.Holds.{outcome_of, is_done, newcomer_completes, earlier, is_take}
+use Rattle.machine.specs.Items.{add_item}
+use Rattle.machine.specs.Greenlets.{add_greenlet, has_greenlet_left}
+use Rattle.machine.specs.Objects.{with_object, object_at, name_of_object, with_unit_taken, with_owner, with_item, with_item_taken, item_of, with_member, with_slot_taken, is_shut, is_left, with_offer, with_offer_taken, offer_of}
+use Rattle.gv_values.specs.Values.{value_of_scalar}
+use Rattle.machine.specs.Expressions.{scalars}
 
 -- what comes of a request
 pub data Performed : Type 0 where
@@ -44,116 +45,7 @@ truth b = Outcome.Value (Value.Bool b)
 abbrev pub raises : FaultKind → State → Performed
 raises f s = Performed.Answers (Outcome.Fault f) s
 
--- ---- objects
-
--- the state with this in place of the object
-abbrev pub with_object : ℕ → Object → State → State
-with_object o object s = record s { objects = slice_set s.objects o object }
-
--- in place of an object that is not declared
-abbrev pub no_object : Object
-no_object = Object.Event false 0
-
--- the object of this number
-abbrev pub object_at : ℕ → State → Object
-object_at o s = unwrap_or (slice_get s.objects o) no_object
-
--- the name of the object of this number
-abbrev pub name_of_object : ℕ → State → Name
-name_of_object o s = elim (slice_get s.scenario.objects o) [ None ↦ [] | Some d ↦ d.name ]
-
--- the place of the least integer
-abbrev pub least_from : ℕ → ℕ → ℤ → List Value → ℕ
-least_from place best z [] = best
-least_from place best z (Value.Int y ∷ vs) = if int_lt y z then least_from (place + 1) place y vs else least_from (place + 1) best z vs
-least_from place best z (v ∷ vs) = least_from (place + 1) best z vs
-
--- the place of the least integer, of equal ones the first
-abbrev pub least_place : List Value → ℕ
-least_place (Value.Int z ∷ vs) = least_from 1 0 z vs
-least_place vs = 0
-
--- the place of the item that is next: the oldest, the newest, or the least
-abbrev pub next_place : QueueKind → List Value → ℕ
-next_place QueueKind.Fifo vs = 0
-next_place QueueKind.Join vs = 0
-next_place QueueKind.Lifo vs = length vs - 1
-next_place QueueKind.Priority vs = least_place vs
-
--- the item that is next
-abbrev pub next_value : QueueKind → List Value → Value
-next_value kind vs = unwrap_or (slice_get vs (next_place kind vs)) Value.Nothing
-
--- the items without the one that is next
-abbrev pub without_next : QueueKind → List Value → List Value
-without_next kind vs = take (next_place kind vs) vs ++ drop (next_place kind vs + 1) vs
-
 -- ---- what a completion does to the object
-
--- a semaphore with one unit less
-abbrev pub with_unit_taken : Object → Object
-with_unit_taken (Object.Semaphore counter bound) = Object.Semaphore (counter - 1) bound
-with_unit_taken object = object
-
--- a lock that this greenlet owns, once more
-abbrev pub with_owner : ℕ → Object → Object
-with_owner g (Object.Lock owner depth) = Object.Lock (Some g) (depth + 1)
-with_owner g object = object
-
--- a queue with one item and one unfinished task more
-abbrev pub with_item : Value → Object → Object
-with_item v (Object.Queue kind size items unfinished shut) = Object.Queue kind size (items ++ v ∷ []) (unfinished + 1) shut
-with_item v object = object
-
--- a queue without the item that is next
-abbrev pub with_item_taken : Object → Object
-with_item_taken (Object.Queue kind size items unfinished shut) = Object.Queue kind size (without_next kind items) unfinished shut
-with_item_taken object = object
-
--- the item of a queue that is next
-abbrev pub item_of : Object → Value
-item_of (Object.Queue kind size items unfinished shut) = next_value kind items
-item_of object = Value.Nothing
-
--- a group or pool with one member more
-abbrev pub with_member : ℕ → Object → Object
-with_member g (Object.Crew size members) = Object.Crew size (members ++ g ∷ [])
-with_member g object = object
-
--- a native pool with one outstanding job more
-abbrev pub with_slot_taken : Object → Object
-with_slot_taken (Object.Native slots outstanding) = Object.Native slots (outstanding + 1)
-with_slot_taken object = object
-
--- it is shut
-abbrev pub is_shut : Object → Bool
-is_shut (Object.Queue kind size items unfinished shut) = shut
-is_shut object = false
-
--- the getters before are fewer than the items: one is left for this getter
-abbrev pub is_left : ℕ → Object → Bool
-is_left before (Object.Queue kind size items unfinished shut) = nat_lt before (length items)
-is_left before object = false
-
--- a channel with one offer more
-abbrev pub with_offer : Value → ℕ → Object → Object
-with_offer v since (Object.Channel offers) = Object.Channel (offers ++ record { value = v; since = since } ∷ [])
-with_offer v since object = object
-
--- a channel without its oldest offer
-abbrev pub with_offer_taken : Object → Object
-with_offer_taken (Object.Channel offers) = Object.Channel (drop 1 offers)
-with_offer_taken object = object
-
--- the value of the oldest offer of a channel
-abbrev pub offer_of : Object → Value
-offer_of (Object.Channel (offer ∷ offers)) = offer.value
-offer_of object = Value.Nothing
-
--- a channel without the offer of the Wake with this since
-abbrev pub without_offer : ℕ → Object → Object
-without_offer since (Object.Channel offers) = Object.Channel (filter (λ offer. not (is_offer_of since offer)) offers)
-without_offer since object = object
 
 -- what was put into the result
 abbrev pub result_of : Object → Outcome

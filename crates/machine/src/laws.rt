@@ -1,5 +1,5 @@
 //! Laws of the definitions, each as the contract of a function without a body of its own.
-ghost use Rattle.machine.specs.Replay.{AnswersLengthen, ScriptsReplay};
+ghost use Rattle.machine.specs.ReplayLaws.{AnswersLengthen, ScriptsReplay};
 ghost use Rattle.machine.specs.SoundnessLaws.{AddsSoundly, DropsSoundly, SettlesSoundly};
 
 /// The run under the rule of a script is the run under the answers that the rule gave.

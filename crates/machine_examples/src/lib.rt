@@ -1,3 +1,3 @@
-//! Worked runs of the machine, each as lemmas by computation in `proofs/Rows`: that the run of a scenario writes these
-//! lines, that the lines meet the laws of a trace, and that each block line stands at a quiet and sound state.
+//! Worked runs of the machine as tables in `proofs`, by computation: what the run of a text writes, and that its lines
+//! meet the laws of a trace and each of its block lines stands at a quiet and sound state.
 #![tactic(auto)]

@@ -7,16 +7,17 @@ use Rattle.std.specs.List.{AllByRecursion, IsDistinct, list_any}
 use Rattle.std.specs.Prelude.{◌==◌, slice_get, slice_set, Some}
 use Rattle.machine.specs.declared.state.Greenlet.{Greenlet}
 use Rattle.machine.specs.Holds.{phase_of}
-use Rattle.machine.specs.Life.{host_within, is_above}
+use Rattle.machine.specs.Hosts.{host_within, is_above}
 use Rattle.machine_soundness.proofs.Lists.{equal, unequal}
-use Rattle.machine_soundness.proofs.Greenlets.{at, raw-found, raw-set, host-more}
+use Rattle.machine_soundness.specs.Going.{is_plain}
+use Rattle.machine_soundness.proofs.Greenlets.{at, plain-found, plain-raw, raw-found, raw-set, host-more}
 
 -- from the greenlet it is so many steps up to the host
-pub Climbs : List Greenlet → ℕ → ℕ → ℕ → Type 0
+unfoldable pub Climbs : List Greenlet → ℕ → ℕ → ℕ → Type 0
 Climbs gs g h zero = g ≡ h
 Climbs gs g h (suc k) = ((at gs g).raw ≡ true) × Climbs gs (at gs g).parent h k
 
-climb-of : (n : ℕ) (gs : List Greenlet) (g h : ℕ) → host_within n gs g ≡ h → (k : ℕ) × Climbs gs g h k
+pub climb-of : (n : ℕ) (gs : List Greenlet) (g h : ℕ) → host_within n gs g ≡ h → (k : ℕ) × Climbs gs g h k
 unfolding Climbs
 climb-of zero gs g h e = (zero, e)
 climb-of (suc n) gs g h e = by (at gs g).raw refl e (climb-of n gs (at gs g).parent h)
@@ -26,13 +27,13 @@ climb-of (suc n) gs g h e = by (at gs g).raw refl e (climb-of n gs (at gs g).par
     by true r e rest = let c = rest e in (suc c.0, (r, c.1))
     by false r e rest = (zero, e)
 
-host-of-climb : (gs : List Greenlet) (g h k : ℕ) → (at gs h).raw ≡ false → Climbs gs g h k → host_within k gs g ≡ h
+pub host-of-climb : (gs : List Greenlet) (g h k : ℕ) → (at gs h).raw ≡ false → Climbs gs g h k → host_within k gs g ≡ h
 unfolding Climbs
 host-of-climb gs g h zero top c = c
 host-of-climb gs g h (suc k) top c = ap (λ b. elim b [ true ↦ host_within k gs (at gs g).parent | false ↦ g ]) c.0 ∙ host-of-climb gs (at gs g).parent h k top c.1
 
 -- a way up ends after one number of steps
-climbs-unique : (gs : List Greenlet) (g h j k : ℕ) → (at gs h).raw ≡ false → Climbs gs g h j → Climbs gs g h k → j ≡ k
+pub climbs-unique : (gs : List Greenlet) (g h j k : ℕ) → (at gs h).raw ≡ false → Climbs gs g h j → Climbs gs g h k → j ≡ k
 unfolding Climbs
 climbs-unique gs g h zero zero top a b = refl
 climbs-unique gs g h zero (suc k) top a b = absurd (cc (b.0, ap (λ z. (at gs z).raw) a, top))
@@ -40,11 +41,11 @@ climbs-unique gs g h (suc j) zero top a b = absurd (cc (a.0, ap (λ z. (at gs z)
 climbs-unique gs g h (suc j) (suc k) top a b = ap suc (climbs-unique gs (at gs g).parent h j k top a.1 b.1)
 
 -- the numbers that a way up passes
-visited : List Greenlet → ℕ → ℕ → List ℕ
+unfoldable pub visited : List Greenlet → ℕ → ℕ → List ℕ
 visited gs g zero = []
 visited gs g (suc k) = g ∷ visited gs (at gs g).parent k
 
-length-visited : (gs : List Greenlet) (g k : ℕ) → length (visited gs g k) ≡ k
+pub length-visited : (gs : List Greenlet) (g k : ℕ) → length (visited gs g k) ≡ k
 unfolding visited
 length-visited gs g zero = refl
 length-visited gs g (suc k) = ap suc (length-visited gs (at gs g).parent k)
@@ -55,15 +56,15 @@ unfolding visited Climbs
 shorter gs g h bound zero c le = tt
 shorter gs g h bound (suc k) c le = ((suc k, le, c), shorter gs (at gs g).parent h bound k c.1 (omega arith))
 
-all-then : (P Q : ℕ → Type 0) → ((y : ℕ) → P y → Q y) → (xs : List ℕ) → AllByRecursion P xs → AllByRecursion Q xs
+pub all-then : (P Q : ℕ → Type 0) → ((y : ℕ) → P y → Q y) → (xs : List ℕ) → AllByRecursion P xs → AllByRecursion Q xs
 all-then P Q f [] h = tt
 all-then P Q f (x ∷ xs) h = (f x h.0, all-then P Q f xs h.1)
 
-test_differs : (a b : ℕ) → a ≢ b → eqb a b ≡ false
+pub test_differs : (a b : ℕ) → a ≢ b → eqb a b ≡ false
 test_differs a b h = grind (arith, nat_tests)
 
 -- so none of them comes twice
-distinct : (gs : List Greenlet) (g h k : ℕ) → (at gs h).raw ≡ false → Climbs gs g h k → IsDistinct eqb (visited gs g k)
+pub distinct : (gs : List Greenlet) (g h k : ℕ) → (at gs h).raw ≡ false → Climbs gs g h k → IsDistinct eqb (visited gs g k)
 unfolding visited Climbs IsDistinct
 distinct gs g h zero top c = tt
 distinct gs g h (suc k) top c = (
@@ -73,12 +74,12 @@ distinct gs g h (suc k) top c = (
   distinct gs (at gs g).parent h k top c.1,
 )
 
-found-below : (gs : List Greenlet) (g : ℕ) (x : Greenlet) → slice_get gs g ≡ Some x → g < length gs
+pub found-below : (gs : List Greenlet) (g : ℕ) (x : Greenlet) → slice_get gs g ≡ Some x → g < length gs
 found-below [] g x e = absurd (cc e)
 found-below (y ∷ gs) zero x e = omega arith
 found-below (y ∷ gs) (suc g) x e = let r = found-below gs g x e in omega (arith, r)
 
-below : (gs : List Greenlet) (g h k : ℕ) → Climbs gs g h k → (q : ℕ) → list_any (eqb q) (visited gs g k) ≡ true → q < length gs
+pub below : (gs : List Greenlet) (g h k : ℕ) → Climbs gs g h k → (q : ℕ) → list_any (eqb q) (visited gs g k) ≡ true → q < length gs
 unfolding visited Climbs
 below gs g h zero c q any = absurd (cc)
 below gs g h (suc k) c q any = elim (cases_eq q g) [
@@ -87,7 +88,7 @@ below gs g h (suc k) c q any = elim (cases_eq q g) [
 ]
 
 -- a way up is no longer than the greenlets are many, so it is found
-climb-found : (gs : List Greenlet) (g h k : ℕ) → (at gs h).raw ≡ false → Climbs gs g h k → host_within (length gs) gs g ≡ h
+pub climb-found : (gs : List Greenlet) (g h k : ℕ) → (at gs h).raw ≡ false → Climbs gs g h k → host_within (length gs) gs g ≡ h
 climb-found gs g h k top c =
     let le = length-le_from_distinct_below (visited gs g k) (length gs) (distinct gs g h k top c) (below gs g h k c) in
     let e = length-visited gs g k in
@@ -95,16 +96,42 @@ climb-found gs g h k top c =
     let same : host_within k gs g ≡ h = host-of-climb gs g h k top c in
     host-more k (length gs) gs g within (ap (λ z. (at gs z).raw) same ∙ top) ∙ same
 
+-- none of them is the host
+apart : (gs : List Greenlet) (g h k : ℕ) → (at gs h).raw ≡ false → Climbs gs g h k → AllByRecursion (λ y. eqb h y ≡ false) (visited gs g k)
+unfolding visited Climbs
+apart gs g h zero top c = tt
+apart gs g h (suc k) top c = (test_differs h g (λ same. cc (c.0, ap (λ z. (at gs z).raw) same, top)), apart gs (at gs g).parent h k top c.1)
+
+all-below : (gs : List Greenlet) (g h k : ℕ) → h < length gs → Climbs gs g h k → (q : ℕ) → list_any (eqb q) (h ∷ visited gs g k) ≡ true → q < length gs
+all-below gs g h k there c q any = elim (cases_eq q h) [
+  | inl same ↦ subst (λ x. x < length gs) (sym same) there
+  | inr differs ↦ below gs g h k c q (rw (test_differs q h differs) at any)
+]
+
+distinct-with-host : (gs : List Greenlet) (g h k : ℕ) → (at gs h).raw ≡ false → Climbs gs g h k → IsDistinct eqb (h ∷ visited gs g k)
+unfolding IsDistinct
+distinct-with-host gs g h k top c = (apart gs g h k top c, distinct gs g h k top c)
+
+-- with its host a way up has no more greenlets than there are
+pub climb-short : (gs : List Greenlet) (g h k : ℕ) → is_plain gs h ≡ true → Climbs gs g h k → suc k ≤ length gs
+climb-short gs g h k p c =
+    let found = plain-found gs h p in
+    let top = plain-raw gs h p in
+    let there = found-below gs h found.0 found.1 in
+    let le = length-le_from_distinct_below (h ∷ visited gs g k) (length gs) (distinct-with-host gs g h k top c) (all-below gs g h k there c) in
+    let e = length-visited gs g k in
+    omega (arith, le, e)
+
 -- ---- a new parent
 
-at-other : (gs : List Greenlet) (c g : ℕ) (x : Greenlet) → (c ≡ g → ⊥) → at (slice_set gs c x) g ≡ at gs g
+pub at-other : (gs : List Greenlet) (c g : ℕ) (x : Greenlet) → (c ≡ g → ⊥) → at (slice_set gs c x) g ≡ at gs g
 at-other [] c g x e = refl
 at-other (y ∷ gs) zero zero x e = absurd (e refl)
 at-other (y ∷ gs) zero (suc g) x e = refl
 at-other (y ∷ gs) (suc c) zero x e = refl
 at-other (y ∷ gs) (suc c) (suc g) x e = at-other gs c g x (λ k. e (ap suc k))
 
-at-same : (gs : List Greenlet) (c : ℕ) (x y : Greenlet) → slice_get gs c ≡ Some y → at (slice_set gs c x) c ≡ x
+pub at-same : (gs : List Greenlet) (c : ℕ) (x y : Greenlet) → slice_get gs c ≡ Some y → at (slice_set gs c x) c ≡ x
 at-same [] c x y e = absurd (cc e)
 at-same (z ∷ gs) zero x y e = refl
 at-same (z ∷ gs) (suc c) x y e = at-same gs c x y e

@@ -1,5 +1,5 @@
 -- Deliveries, LoopExit, answers and the beginning, soundly.
-use Rattle.std.proofs.Common.{◌≡◌, refl, ap, ◌∙◌, sym, subst, ℕ, zero, suc, ◌+◌, ◌-◌, Bool, true, false, List, [], ◌∷◌, length, map, arith}
+use Rattle.std.proofs.Common.{◌≡◌, refl, ap, ◌∙◌, sym, subst, ℕ, zero, suc, ◌+◌, Bool, true, false, List, [], ◌∷◌, length, map, arith}
 use Rattle.std.proofs.lemmas.Bool.Decides.{nat_tests}
 use Rattle.std.specs.Prelude.{not, ◌==◌, slice_get, Option, Some, None, if◌then◌else◌, nat_le}
 use Rattle.std.specs.List.{list_all}
@@ -25,15 +25,20 @@ use Rattle.machine.specs.declared.state.JobState.{JobState}
 use Rattle.machine.specs.declared.state.Object.{Object}
 use Rattle.machine.specs.declared.state.Phase.{Phase}
 use Rattle.machine.specs.State.{State, say}
-use Rattle.machine.specs.Answers.{take_answer, job_done, arrives, with_slot_freed}
+use Rattle.machine.specs.Questions.{take_answer, job_done, arrives}
+use Rattle.machine.specs.Objects.{with_slot_freed}
 use Rattle.machine.specs.Deliveries.{waiting_of, without_wait, without, without_item, arguments, interrupts, since_of_wake, without_offer_by, late, calls, called, delivers, deliver}
-use Rattle.machine.specs.Holds.{phase_of}
-use Rattle.machine.specs.Life.{Next, add_greenlet, has_greenlet_left, greenlet, drop_items, is_wait_of, answered, resumes, lands, starts, frame_of, leaving_of, outcome_of_leaving, is_timeout_of}
-use Rattle.machine.specs.Moves.{with_flag}
+use Rattle.machine.specs.Holds.{phase_of, job_at}
+use Rattle.machine.specs.Landing.{Next, answered, resumes, lands, starts}
+use Rattle.machine.specs.Greenlets.{add_greenlet, has_greenlet_left, greenlet, frame_of}
+use Rattle.machine.specs.Items.{drop_items, is_wait_of, is_timeout_of}
+use Rattle.machine.specs.Ends.{leaving_of, outcome_of_leaving}
+use Rattle.machine.specs.Objects.{with_flag}
 use Rattle.machine.specs.Run.{first_state, object_of}
 use Rattle.machine.specs.Settle.{settle}
 use Rattle.machine.specs.Soundness.{Claim, ascend, are_single, claim_of, is_meant, is_unclaimed, is_under_way, same_claim}
-use Rattle.machine.specs.Waits.{completes, late_outcome, object_at, name_of_object, without_offer}
+use Rattle.machine.specs.Waits.{completes, late_outcome}
+use Rattle.machine.specs.Objects.{object_at, name_of_object, without_offer}
 use Rattle.machine_soundness.specs.Going.{is_plain, is_for_plain, has_plain_members, has_no_wait, IsKept, IsSoundAt}
 use Rattle.machine_soundness.proofs.Lists.{left, right, both, all-imply, all-map, all-filter, all-get, all-of, equal}
 use Rattle.machine_soundness.proofs.Greenlets.{plain-raw, plain-phase, none-next, host-plain, unstarted-not-live}
@@ -58,10 +63,10 @@ ascend-lower low high next (i ∷ items) h k =
     let above : nat_le high i.since ≡ true = left _ (ascend (i.since + 1) next items) k in
     both _ _ (grind (arith, nat_tests)) (right (nat_le high i.since) _ k)
 
-lower : (low n : ℕ) → nat_le low n ≡ true → nat_le low (n + 1) ≡ true
+pub lower : (low n : ℕ) → nat_le low n ≡ true → nat_le low (n + 1) ≡ true
 lower low n h = grind (arith, nat_tests)
 
-ascend-without : (n low next : ℕ) (items : List Item) → ascend low next items ≡ true → ascend low next (without n items) ≡ true
+pub ascend-without : (n low next : ℕ) (items : List Item) → ascend low next items ≡ true → ascend low next (without n items) ≡ true
 ascend-without n low next [] h = h
 ascend-without n low next (i ∷ items) h = by (i.since == n) (ascend-without n (i.since + 1) next items (right (nat_le low i.since) _ h))
   where
@@ -69,7 +74,7 @@ ascend-without n low next (i ∷ items) h = by (i.since == n) (ascend-without n 
     by true rest = ascend-lower low (i.since + 1) next items (lower low i.since (left _ (ascend (i.since + 1) next items) h)) (right (nat_le low i.since) _ h)
     by false rest = both _ _ (left _ (ascend (i.since + 1) next items) h) rest
 
-single-without : (n : ℕ) (items : List Item) → are_single items ≡ true → are_single (without n items) ≡ true
+pub single-without : (n : ℕ) (items : List Item) → are_single items ≡ true → are_single (without n items) ≡ true
 single-without n [] h = refl
 single-without n (i ∷ items) h = by (i.since == n) (single-without n items (right (is_unclaimed (claim_of i.delivery) items) _ h))
   where
@@ -77,7 +82,7 @@ single-without n (i ∷ items) h = by (i.since == n) (single-without n items (ri
     by true rest = right (is_unclaimed (claim_of i.delivery) items) _ h
     by false rest = both _ _ (all-without _ n items (left _ (are_single items) h)) rest
 
-kept-without : (i : Item) (s : State) → IsKept s → IsKept (without_item i s)
+pub kept-without : (i : Item) (s : State) → IsKept s → IsKept (without_item i s)
 kept-without i s h =
     record {
       sound = sound-of (without_item i s) (ascend-without i.since 0 s.next_since s.items (ascends s h.sound)) (single-without i.since s.items (singles s h.sound))
@@ -88,7 +93,7 @@ kept-without i s h =
     }
 
 -- an item further on has a higher since
-later : (low next n : ℕ) (items : List Item) (i : Item) → ascend low next items ≡ true → slice_get items n ≡ Some i → nat_le low i.since ≡ true
+pub later : (low next n : ℕ) (items : List Item) (i : Item) → ascend low next items ≡ true → slice_get items n ≡ Some i → nat_le low i.since ≡ true
 later low next n [] i h e = absurd (cc e)
 later low next zero (j ∷ items) i h e = let same : j ≡ i = cc e in subst (λ (x : Item). nat_le low x.since ≡ true) same (left _ (ascend (j.since + 1) next items) h)
 later low next (suc n) (j ∷ items) i h e =
@@ -128,11 +133,11 @@ start-gone low next (suc n) g (j ∷ items) i c h k e =
 -- ---- one that is not raw takes an input at its statement
 
 -- the Wake and Late are gone
-no-wait-left : (g : ℕ) (s : State) → has_no_wait g (without_wait g s).items ≡ true
+pub no-wait-left : (g : ℕ) (s : State) → has_no_wait g (without_wait g s).items ≡ true
 no-wait-left g s = all-filter _ (λ i. true) _ s.items (λ i k p. k) (all-of (λ i. true) s.items (λ i. refl))
 
 -- one that is under way, is not raw and has no wait
-free-moves : (g : ℕ) (s : State) → is_plain s.greenlets g ≡ true → is_under_way (phase_of g s.greenlets) ≡ true → has_no_wait g s.items ≡ true → IsKept s → Moves g g s
+pub free-moves : (g : ℕ) (s : State) → is_plain s.greenlets g ≡ true → is_under_way (phase_of g s.greenlets) ≡ true → has_no_wait g s.items ≡ true → IsKept s → Moves g g s
 free-moves g s p l f k =
     record { kept = k; live = l; same = host-plain (length s.greenlets) s.greenlets g (plain-raw s.greenlets g p); host = record { plain = p; live = l; free = f } }
 
@@ -188,7 +193,7 @@ late-soundly g n (Some w) s p k =
 -- ---- starts
 
 -- one that is not under way has no wait
-asleep-free : (g : ℕ) (s : State) → (is_under_way (phase_of g s.greenlets) ≡ true → ⊥) → IsKept s → has_no_wait g s.items ≡ true
+pub asleep-free : (g : ℕ) (s : State) → (is_under_way (phase_of g s.greenlets) ≡ true → ⊥) → IsKept s → has_no_wait g s.items ≡ true
 asleep-free g s f h = all-imply _ _ s.items (λ i. none i.delivery) (meants s h.sound)
   where
     by : (k : ℕ) (b : Bool) → (g == k) ≡ b → is_under_way (phase_of k s.greenlets) ≡ true → not b ≡ true
@@ -230,10 +235,10 @@ called-soundly k g LinkKind.Fault f s h = calls-soundly k g f s h
 -- ---- a delivery
 
 -- the item is one of the state's
-claimed : (n : ℕ) (i : Item) (d : Delivery) (s : State) → d ≡ i.delivery → slice_get s.items n ≡ Some i → IsKept s → is_meant s d ≡ true
+pub claimed : (n : ℕ) (i : Item) (d : Delivery) (s : State) → d ≡ i.delivery → slice_get s.items n ≡ Some i → IsKept s → is_meant s d ≡ true
 claimed n i d s e there h = subst (λ (x : Delivery). is_meant s x ≡ true) (sym e) (all-get (λ j. is_meant s j.delivery) s.items n i there (meants s h.sound))
 
-owned : (n : ℕ) (i : Item) (d : Delivery) (s : State) → d ≡ i.delivery → slice_get s.items n ≡ Some i → IsKept s → is_for_plain s.greenlets d ≡ true
+pub owned : (n : ℕ) (i : Item) (d : Delivery) (s : State) → d ≡ i.delivery → slice_get s.items n ≡ Some i → IsKept s → is_for_plain s.greenlets d ≡ true
 owned n i d s e there h = subst (λ (x : Delivery). is_for_plain s.greenlets x ≡ true) (sym e) (all-get (λ j. is_for_plain s.greenlets j.delivery) s.items n i there h.owners)
 
 -- what it delivers, where it is taken
@@ -258,21 +263,11 @@ taken-soundly n i (Delivery.Link k g kind f) s e there h = called-soundly k g ki
 
 pub deliver-soundly : (n : ℕ) (i : Item) (s : State) → slice_get s.items n ≡ Some i → IsKept s → IsSoundAt (deliver i s)
 unfolding deliver
-deliver-soundly n i s there h = by i.delivery refl (taken-soundly n i i.delivery s refl there h)
-  where
-    by : (d : Delivery) → d ≡ i.delivery → IsSoundAt (delivers i.since i.delivery (without_item i s)) →
-        IsSoundAt (elim d [ Delivery.Late g deadline m ↦ delivers i.since i.delivery s | _ ↦ delivers i.since i.delivery (without_item i s) ])
-    by (Delivery.Late g deadline m) e t =
-        subst (λ (x : Delivery). IsSoundAt (delivers i.since x s)) e (late-soundly g m (waiting_of g s.items) s (owned n i (Delivery.Late g deadline m) s e there h) h)
-    by (Delivery.Start g deadline) e t = t
-    by (Delivery.Wake g w) e t = t
-    by (Delivery.Timeout g m deadline) e t = t
-    by (Delivery.Kill g f) e t = t
-    by (Delivery.Link k g kind f) e t = t
+deliver-soundly n i s there h = taken-soundly n i i.delivery s refl there h
 
 -- ---- answers
 
-freed-plain : (gs : List Greenlet) (x : Object) → has_plain_members gs x ≡ true → has_plain_members gs (with_slot_freed x) ≡ true
+pub freed-plain : (gs : List Greenlet) (x : Object) → has_plain_members gs x ≡ true → has_plain_members gs (with_slot_freed x) ≡ true
 freed-plain gs (Object.Native slots outstanding) h = refl
 freed-plain gs x h = h
 
@@ -282,9 +277,9 @@ arrives-kept j o (Some job) s h =
     kept-object job.pool (with_slot_freed (object_at job.pool s)) _ (freed-plain s.greenlets (object_at job.pool s) (object-plain job.pool s h))
     (record { sound = h.sound; owners = h.owners; members = h.members; main = h.main })
 
-done-kept : (answer : Answer) (s : State) → IsKept s → IsKept (job_done answer s)
+pub done-kept : (answer : Answer) (s : State) → IsKept s → IsKept (job_done answer s)
 done-kept (Answer.Nothing t) s h = h
-done-kept (Answer.Done j o t) s h = arrives-kept j o (slice_get s.jobs (j - 1)) s h
+done-kept (Answer.Done j o t) s h = arrives-kept j o (job_at j s.jobs) s h
 done-kept (Answer.Elapsed t) s h = h
 
 pub take_answer-kept : (answer : Answer) (s : State) → IsKept s → IsKept (take_answer answer s)

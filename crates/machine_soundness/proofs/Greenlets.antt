@@ -1,11 +1,11 @@
 -- Greenlets that are given a phase, and those that are made.
 use Rattle.std.proofs.Common.{◌≡◌, refl, ap, ◌∙◌, ℕ, zero, suc, ◌≤◌, Bool, true, false, List, [], ◌∷◌, ◌++◌, length, arith}
-use Rattle.std.proofs.lemmas.Bool.Decides.{nat_tests}
-use Rattle.std.specs.Prelude.{not, slice_get, slice_set, unwrap_or, Option, Some, None, nat_lt}
+use Rattle.std.specs.Prelude.{not, slice_get, slice_set, unwrap_or, Option, Some, None}
 use Rattle.machine.specs.declared.state.Greenlet.{Greenlet}
 use Rattle.machine.specs.declared.state.Phase.{Phase}
 use Rattle.machine.specs.Holds.{phase_of}
-use Rattle.machine.specs.Life.{nobody, host_within}
+use Rattle.machine.specs.Greenlets.{nobody}
+use Rattle.machine.specs.Hosts.{host_within}
 use Rattle.machine.specs.Soundness.{is_under_way, is_unstarted}
 use Rattle.machine_soundness.specs.Going.{is_plain}
 use Rattle.machine_soundness.proofs.Lists.{get-append}
@@ -183,11 +183,13 @@ plain-phase gs g h = by (slice_get gs g) h
     by None h = absurd (cc h)
     by (Some x) h = refl
 
--- one whose number is below the count is there
-pub known-found : (gs : List Greenlet) (g : ℕ) → nat_lt g (length gs) ≡ true → slice_get gs g ≡ Some (at gs g)
-known-found [] g h = absurd (grind (arith, nat_tests, h))
-known-found (y ∷ gs) zero h = refl
-known-found (y ∷ gs) (suc g) h = known-found gs g (grind (arith, nat_tests, h))
+-- one that is New is there
+pub new-found : (gs : List Greenlet) (g : ℕ) → is_unstarted (Some (at gs g).phase) ≡ true → slice_get gs g ≡ Some (at gs g)
+new-found gs g h = by (slice_get gs g) h
+  where
+    by : (o : Option Greenlet) → is_unstarted (Some (unwrap_or o nobody).phase) ≡ true → o ≡ Some (unwrap_or o nobody)
+    by None h = absurd (cc h)
+    by (Some x) h = refl
 
 -- one with this phase that isn't New is there
 pub live-at : (gs : List Greenlet) (g : ℕ) → is_under_way (Some (at gs g).phase) ≡ true → is_under_way (phase_of g gs) ≡ true

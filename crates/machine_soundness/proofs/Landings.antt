@@ -7,10 +7,14 @@ use Rattle.trace_text.specs.declared.line.Line.{Line}
 use Rattle.machine.specs.declared.items.Delivery.{Delivery}
 use Rattle.machine.specs.declared.state.Frame.{Frame}
 use Rattle.machine.specs.declared.state.Phase.{Phase}
-use Rattle.machine.specs.Raising.{Unwound, unwind}
+use Rattle.machine.specs.Unwinding.{Unwound, unwind}
 use Rattle.machine.specs.State.{State, say}
 use Rattle.machine.specs.Holds.{phase_of}
-use Rattle.machine.specs.Life.{Next, Landing, drop_items, with_phase, greenlet, function_of, ended, stop_of, after_end, goes_on, starts, resumes, given, leaving_of, outcome_of_leaving, land, lands, answered, frame_of, is_timeout_of, is_wait_of, host_within, host_of}
+use Rattle.machine.specs.Landing.{Next, Landing, after_end, goes_on, starts, resumes, given, land, lands, answered}
+use Rattle.machine.specs.Items.{drop_items, is_timeout_of, is_wait_of}
+use Rattle.machine.specs.Greenlets.{with_phase, greenlet, function_of, frame_of}
+use Rattle.machine.specs.Ends.{ended, stop_of, leaving_of, outcome_of_leaving}
+use Rattle.machine.specs.Hosts.{host_within, host_of}
 use Rattle.gv_values.specs.Ends.{kept}
 use Rattle.machine.specs.Soundness.{Claim, claim_of, is_unclaimed, is_under_way, same_claim}
 use Rattle.machine_soundness.specs.Going.{is_plain, is_for_plain, has_no_wait, IsKept, IsGoing, IsSoundAt}
@@ -193,7 +197,7 @@ starts-soundly g args s p u f k =
 -- ---- who moves is not parked
 
 -- nothing waits for a raw greenlet
-raw-free : (g : ℕ) (s : State) → (greenlet g s).raw ≡ true → IsKept s → has_no_wait g s.items ≡ true
+pub raw-free : (g : ℕ) (s : State) → (greenlet g s).raw ≡ true → IsKept s → has_no_wait g s.items ≡ true
 raw-free g s e h = all-imply _ _ s.items (λ i. none i.delivery) h.owners
   where
     by : (k : ℕ) (b : Bool) → (g == k) ≡ b → is_plain s.greenlets k ≡ true → not b ≡ true

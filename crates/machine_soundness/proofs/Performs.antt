@@ -22,22 +22,28 @@ use Rattle.machine.specs.declared.state.Todo.{Todo}
 use Rattle.machine.specs.State.{State, say}
 use Rattle.machine.specs.Holds.{phase_of, outcome_of}
 use Rattle.gv_values.specs.Ends.{link_fits}
-use Rattle.machine.specs.Frames.{Did}
+use Rattle.machine.specs.BodyMoves.{Did}
 use Rattle.machine.specs.declared.request.Request.{Request}
-use Rattle.machine.specs.Raising.{unwind}
+use Rattle.machine.specs.Unwinding.{unwind}
 use Rattle.machine.specs.Settle.{settle}
-use Rattle.machine.specs.Life.{add_item, drop_items, add_greenlet, has_greenlet_left, greenlet, with_phase, ended, host_of, is_start_of, is_above}
+use Rattle.machine.specs.Items.{add_item, drop_items, is_start_of}
+use Rattle.machine.specs.Greenlets.{add_greenlet, has_greenlet_left, greenlet, with_phase}
+use Rattle.machine.specs.Ends.{ended}
+use Rattle.machine.specs.Hosts.{host_of, is_above}
 use Rattle.gv_values.specs.Ends.{kept}
-use Rattle.machine.specs.Moves.{Sending, performs, follows, does, move, enters, timeout_item, sends, sends_all, kills, kills_standing, links, makes, starts_at, start_of, is_new, has_start, releases, at_bound, after_release, finishes, takes_value, members_of, acquires, sets_of, fault_operand, plain_greenlet, plain_greenlet_list, list_operand, int_operand, any_greenlet, whom_operand, job_of, is_link, put_result, done, typed, on_host, raw_greenlet, sets_parent}
+use Rattle.machine.specs.Requests.{Sending, performs, follows, sends, sends_all, kills, kills_standing, links, makes, starts_at, start_of, is_new, has_start, releases, finishes, acquires, fault_operand, plain_greenlet, plain_greenlet_list, list_operand, int_operand, any_greenlet, whom_operand, job_of, is_link, put_result, done, typed, on_host, raw_greenlet, sets_parent}
+use Rattle.machine.specs.Moves.{does, move, enters, timeout_item}
+use Rattle.machine.specs.Objects.{at_bound, after_release, takes_value, members_of, sets_of}
 use Rattle.machine.specs.Soundness.{Claim, claim_of, is_meant, is_unclaimed, is_under_way, is_unstarted, same_claim}
-use Rattle.machine.specs.Waits.{Performed, with_object, object_at, name_of_object, comes, raises, nothing, maps}
-use Rattle.machine_soundness.specs.Going.{is_plain, is_known, is_meant_request, is_meant_did, is_meant_move, next_did, IsKept, IsGoing, IsSoundAt}
+use Rattle.machine.specs.Waits.{Performed, comes, raises, nothing, maps}
+use Rattle.machine.specs.Objects.{with_object, object_at, name_of_object}
+use Rattle.machine_soundness.specs.Going.{is_plain, is_meant_request, is_meant_did, is_meant_move, next_did, IsKept, IsGoing, IsSoundAt}
 use Rattle.machine_soundness.proofs.Lists.{left, right, both, all-imply, all-of, none-counted, next-other, at-most}
-use Rattle.machine_soundness.proofs.Greenlets.{at, plain-here, live-at, live-found, live-phase, known-found, raw-set, host-plain, plain-raw, plain-set, raw-found}
+use Rattle.machine_soundness.proofs.Greenlets.{at, plain-here, live-at, live-found, live-phase, new-found, raw-set, host-plain, plain-raw, plain-set, raw-found}
 use Rattle.machine_soundness.proofs.Chains.{host-turned, phase-kept}
-use Rattle.machine_soundness.proofs.States.{Moves, moving, meants, kept-settle, kept-greenlets, moves-say, moves-settle, moves-drop, moves-add, moves-object, moves-made, moves-timeout, moves-link, moves-live, moves-ended, plain-phased, length-phased, host-settle}
+use Rattle.machine_soundness.proofs.States.{Moves, moving, meants, kept-settle, kept-greenlets, moves-say, moves-settle, moves-drop, moves-add, moves-object, moves-made, moves-timeout, moves-link, moves-live, moves-ended, plain-phased, host-settle}
 use Rattle.machine_soundness.proofs.Landings.{goes_on-soundly, answered-soundly, lands-soundly}
-use Rattle.machine_soundness.proofs.Requests.{IsFine, AreNotRaw, comes-fine, maps-fine, typed-fine, on_host-fine, moves-spawned, moves-flag, plain_greenlet-is, plain_greenlet-raw, plain_greenlet_list-raw, members-raw, object-plain, offered-fine, moves-shut}
+use Rattle.machine_soundness.proofs.Requests.{IsFine, AreNotRaw, comes-fine, maps-fine, typed-fine, on_host-fine, moves-spawned, moves-flag, plain_greenlet-raw, plain_greenlet_list-raw, members-raw, object-plain, offered-fine, moves-shut}
 
 -- ---- kills
 
@@ -46,14 +52,14 @@ IsSent g h (Sending.Sent s) = Moves g h s
 IsSent g h (Sending.TooMany s) = Moves g h s
 
 -- what was not started is not under way
-not-live : (gs : List Greenlet) (k g : ℕ) (args : List Value) → (at gs k).phase ≡ Phase.New args → is_under_way (phase_of g gs) ≡ true → k ≡ g → ⊥
+pub not-live : (gs : List Greenlet) (k g : ℕ) (args : List Value) → (at gs k).phase ≡ Phase.New args → is_under_way (phase_of g gs) ≡ true → k ≡ g → ⊥
 not-live gs k g args e l same =
     let p : phase_of g gs ≡ Some (at gs g).phase = live-phase gs g l in
     let q : Some (at gs g).phase ≡ Some (Phase.New args) = ap (λ i. Some (at gs i).phase) (sym same) ∙ ap (λ (x : Phase). Some x) e in
     let r : is_under_way (Some (Phase.New args)) ≡ true = sym (ap is_under_way (p ∙ q)) ∙ l in
     cc r
 
-sends-fine : (f : FaultKind) (k g h : ℕ) (s : State) → (greenlet k s).raw ≡ false → Moves g h s → IsSent g h (sends f k s)
+pub sends-fine : (f : FaultKind) (k g h : ℕ) (s : State) → (greenlet k s).raw ≡ false → Moves g h s → IsSent g h (sends f k s)
 sends-fine f k g h s r m = by (greenlet k s).phase refl
   where
     kill : (b : Bool) → is_under_way (phase_of k s.greenlets) ≡ true → IsSent g h (if b then Sending.Sent (add_item (Delivery.Kill k f) s) else Sending.TooMany s)
@@ -72,7 +78,7 @@ sends-fine f k g h s r m = by (greenlet k s).phase refl
     by (Phase.Live frame) e = kill (nat_lt (kills_standing s) 1000000) (live-at s.greenlets k (ap (λ (x : Phase). is_under_way (Some x)) e))
 
 -- a kill that is sent makes none raw
-sends-raw : (f : FaultKind) (k : ℕ) (s t : State) (ks : List ℕ) → sends f k s ≡ Sending.Sent t → AreNotRaw s.greenlets ks → AreNotRaw t.greenlets ks
+pub sends-raw : (f : FaultKind) (k : ℕ) (s t : State) (ks : List ℕ) → sends f k s ≡ Sending.Sent t → AreNotRaw s.greenlets ks → AreNotRaw t.greenlets ks
 sends-raw f k s t ks e a = by (greenlet k s).phase e
   where
     kill : (b : Bool) → ◌≡◌ {A = Sending} (if b then Sending.Sent (add_item (Delivery.Kill k f) s) else Sending.TooMany s) (Sending.Sent t) → AreNotRaw t.greenlets ks
@@ -116,7 +122,7 @@ kills-fine g word f ks how s a m = by (sends_all f ks s) (sends_all-fine f ks g 
 
 -- ---- links, starts, greenlets
 
-link-unclaimed : (s : State) → IsKept s → is_unclaimed (Some (Claim.LinkNumbered (s.links + 1))) s.items ≡ true
+pub link-unclaimed : (s : State) → IsKept s → is_unclaimed (Some (Claim.LinkNumbered (s.links + 1))) s.items ≡ true
 link-unclaimed s h = all-imply _ _ s.items (λ i. none i.delivery) (meants s h.sound)
   where
     none : (d : Delivery) → is_meant s d ≡ true → not (same_claim (Some (Claim.LinkNumbered (s.links + 1))) (claim_of d)) ≡ true
@@ -127,7 +133,7 @@ link-unclaimed s h = all-imply _ _ s.items (λ i. none i.delivery) (meants s h.s
     none (Delivery.Kill k kind) m = refl
     none (Delivery.Link n k kind x) m = next-other n s.links m
 
-timeout-unclaimed : (s : State) → IsKept s → is_unclaimed (Some (Claim.TimeoutNumbered (s.timeouts + 1))) s.items ≡ true
+pub timeout-unclaimed : (s : State) → IsKept s → is_unclaimed (Some (Claim.TimeoutNumbered (s.timeouts + 1))) s.items ≡ true
 timeout-unclaimed s h = all-imply _ _ s.items (λ i. none i.delivery) (meants s h.sound)
   where
     none : (d : Delivery) → is_meant s d ≡ true → not (same_claim (Some (Claim.TimeoutNumbered (s.timeouts + 1))) (claim_of d)) ≡ true
@@ -164,7 +170,7 @@ links-fine k kind f g h s m = by (nat_lt s.links 100000)
     by true = of (outcome_of (record s { links = s.links + 1 }) (Whom.Greenlet k))
     by false = m.kept
 
-no_start : (k : ℕ) (d : Delivery) → not (is_start_of k d) ≡ true → not (same_claim (Some (Claim.StartOf k)) (claim_of d)) ≡ true
+pub no_start : (k : ℕ) (d : Delivery) → not (is_start_of k d) ≡ true → not (same_claim (Some (Claim.StartOf k)) (claim_of d)) ≡ true
 no_start k (Delivery.Start j deadline) e = e
 no_start k (Delivery.Wake j w) e = refl
 no_start k (Delivery.Late j deadline n) e = refl
@@ -172,8 +178,8 @@ no_start k (Delivery.Timeout j n deadline) e = refl
 no_start k (Delivery.Kill j kind) e = refl
 no_start k (Delivery.Link n j kind x) e = refl
 
-start_of-fine : (k g h : ℕ) (s : State) → nat_lt k (length s.greenlets) ≡ true → (greenlet k s).raw ≡ false → Moves g h s → Moves g h (start_of k s)
-start_of-fine k g h s known r m = by (greenlet k s).phase refl (has_start k s) refl
+pub start_of-fine : (k g h : ℕ) (s : State) → (greenlet k s).raw ≡ false → Moves g h s → Moves g h (start_of k s)
+start_of-fine k g h s r m = by (greenlet k s).phase refl (has_start k s) refl
   where
     new : (p : Phase) → is_new p ≡ true → is_unstarted (Some p) ≡ true
     new (Phase.New args) e = refl
@@ -183,8 +189,8 @@ start_of-fine k g h s known r m = by (greenlet k s).phase refl (has_start k s) r
     both-of : (b c : Bool) → is_new (greenlet k s).phase ≡ b → has_start k s ≡ c → Moves g h (if b && not c then starts_at None k s else s)
     both-of true false e f =
         moves-add (Delivery.Start k None) g h s (all-imply _ _ s.items (λ i. no_start k i.delivery) (none-counted (λ i. is_start_of k i.delivery) s.items f))
-        (ap (λ (x : Option Greenlet). is_unstarted (elim x [ None ↦ None | Some y ↦ Some y.phase ])) (known-found s.greenlets k known) ∙ new (greenlet k s).phase e)
-        (plain-here s.greenlets k (greenlet k s) (known-found s.greenlets k known) r) refl m
+        (ap (λ (x : Option Greenlet). is_unstarted (elim x [ None ↦ None | Some y ↦ Some y.phase ])) (new-found s.greenlets k (new (greenlet k s).phase e)) ∙ new (greenlet k s).phase e)
+        (plain-here s.greenlets k (greenlet k s) (new-found s.greenlets k (new (greenlet k s).phase e)) r) refl m
     both-of true true e f = m
     both-of false c e f = m
 
@@ -233,7 +239,7 @@ finishes-fine o g h (Object.Native slots outstanding) s m = m
 
 -- ---- parents
 
-raw_greenlet-raw : (s : State) (v : Value) (k : ℕ) → raw_greenlet s v ≡ Some k → (greenlet k s).raw ≡ true
+pub raw_greenlet-raw : (s : State) (v : Value) (k : ℕ) → raw_greenlet s v ≡ Some k → (greenlet k s).raw ≡ true
 raw_greenlet-raw s (Value.Greenlet j) k e = by (greenlet j s).raw refl e
   where
     by : (b : Bool) → (greenlet j s).raw ≡ b → ◌≡◌ {A = Option ℕ} (if b then Some j else None) (Some k) → (greenlet k s).raw ≡ true
@@ -242,7 +248,7 @@ raw_greenlet-raw s (Value.Greenlet j) k e = by (greenlet j s).raw refl e
 raw_greenlet-raw s v k e = absurd (cc e)
 
 -- the child has another parent, which has the same host and on whose chain the child does not stand
-moves-parent : (child parent g h : ℕ) (s : State) → (greenlet child s).raw ≡ true → host_of s parent ≡ h → is_above (length s.greenlets) s.greenlets child parent ≡ false → Moves g h s →
+pub moves-parent : (child parent g h : ℕ) (s : State) → (greenlet child s).raw ≡ true → host_of s parent ≡ h → is_above (length s.greenlets) s.greenlets child parent ≡ false → Moves g h s →
     Moves g h (record s { greenlets = slice_set s.greenlets child (record (greenlet child s) { parent = parent }) })
 moves-parent child parent g h s r theirs apart m =
     let x : Greenlet = record (greenlet child s) { parent = parent } in
@@ -282,12 +288,12 @@ sets_parent-fine child parent g h s r m =
 -- ---- the rows
 
 -- a greenlet that is not raw is its own host
-alone : (g h : ℕ) (s : State) (r : Performed) → is_plain s.greenlets g ≡ true → Moves g h s → (Moves g g s → IsFine g g r) → IsFine g h r
+pub alone : (g h : ℕ) (s : State) (r : Performed) → is_plain s.greenlets g ≡ true → Moves g h s → (Moves g g s → IsFine g g r) → IsFine g h r
 alone g h s r p m f =
     let own : h ≡ g = sym m.same ∙ host-plain (length s.greenlets) s.greenlets g (plain-raw s.greenlets g p) in
     subst (λ z. IsFine g z r) (sym own) (f (subst (λ z. Moves g z s) own m))
 
-pub performs-fine : (r : Request) (g h : ℕ) (s : State) → is_meant_request (is_plain s.greenlets g) (length s.greenlets) r ≡ true → Moves g h s → IsFine g h (performs r g s)
+pub performs-fine : (r : Request) (g h : ℕ) (s : State) → is_meant_request (is_plain s.greenlets g) r ≡ true → Moves g h s → IsFine g h (performs r g s)
 unfolding performs
 performs-fine (Request.Print v) g h s e m = moves-say (Line.Print g v) g h s m
 performs-fine (Request.Spawn f args) g h s e m = makes-fine false 0 f args (starts_at None) g h s m (moves-spawned None 0 f args g h s m)
@@ -296,7 +302,7 @@ performs-fine (Request.SpawnLater ms f args) g h s e m =
 performs-fine (Request.New f args) g h s e m = makes-fine false 0 f args (λ k t. t) g h s m (moves-made false 0 f args g h s m)
 performs-fine (Request.Start v) g h s e m =
     typed-fine g h (plain_greenlet s v) s (λ k. done (start_of k s)) m
-    (λ k z. start_of-fine k g h s (subst (λ (w : Value). is_known (length s.greenlets) w ≡ true) (plain_greenlet-is s v k z) e) (plain_greenlet-raw s v k z) m)
+    (λ k z. start_of-fine k g h s (plain_greenlet-raw s v k z) m)
 performs-fine (Request.Sleep ms) g h s e m = comes-fine g h Awaited.Sleep (Waiting.Sleep (s.moment + ms)) Wait.Block s e m
 performs-fine (Request.Join v how) g h s e m =
     typed-fine g h (plain_greenlet s v) s (λ k. comes g (Awaited.Join (Whom.Greenlet k)) (Waiting.Join k) how s) m (λ k z. comes-fine g h (Awaited.Join (Whom.Greenlet k)) (Waiting.Join k) how s e m)
@@ -386,15 +392,13 @@ enters-soundly g h ms silent body locals todo s p m =
         moves-add (Delivery.Timeout g (s.timeouts + 1) (s.moment + ms)) g h (record s { timeouts = s.timeouts + 1 })
         (timeout-unclaimed s m.kept) (both _ _ m.live (at-most (s.timeouts + 1))) p refl (moves-timeout g h s m)
 
-does-soundly : (g h : ℕ) (locals : List Local) (d : Did) (s : State) → is_meant_did (is_plain s.greenlets g) (length s.greenlets) d ≡ true → Moves g h s → IsSoundAt (does g locals d s)
+does-soundly : (g h : ℕ) (locals : List Local) (d : Did) (s : State) → is_meant_did (is_plain s.greenlets g) d ≡ true → Moves g h s → IsSoundAt (does g locals d s)
 does-soundly g h locals (Did.GoesOn how own todo) s e m = goes_on-soundly g h (unwind todo [] how own) (settle s) (moves-settle g h s m)
 does-soundly g h locals (Did.Enters ms silent body todo) s e m = enters-soundly g h ms silent body locals todo s e m
 does-soundly g h locals (Did.Asks request x todo) s e m =
     let p = Phase.Live (record { locals = locals; todo = todo; gives = x }) in
     let t = with_phase g p s in
-    let meant : is_meant_request (is_plain t.greenlets g) (length t.greenlets) request ≡ true =
-    ap (λ b. is_meant_request b (length t.greenlets) request) (plain-phased g p s g)
-    ∙ ap (λ n. is_meant_request (is_plain s.greenlets g) n request) (length-phased g p s) ∙ e in
+    let meant : is_meant_request (is_plain t.greenlets g) request ≡ true = ap (λ b. is_meant_request b request) (plain-phased g p s g) ∙ e in
     follows-soundly g h (performs request g t) (performs-fine request g h t meant (moves-live g h _ s m))
 
 pub move-soundly : (g : ℕ) (s : State) → is_meant_move g s ≡ true → IsKept s → IsGoing g s → IsSoundAt (move g s)

@@ -16,12 +16,16 @@ use Rattle.machine.specs.declared.items.Waiting.{Waiting}
 use Rattle.machine.specs.declared.state.Object.{Object}
 use Rattle.machine.specs.State.{State, say}
 use Rattle.machine.specs.Holds.{phase_of, newcomer_completes, earlier, is_take}
-use Rattle.machine.specs.Life.{add_item, add_greenlet, has_greenlet_left, is_wait_of, host_of, greenlet}
-use Rattle.machine.specs.Moves.{with_flag, with_shut, typed, on_host, plain_greenlet, plain_greenlets, plain_greenlet_list, members_of}
+use Rattle.machine.specs.Items.{add_item, is_wait_of}
+use Rattle.machine.specs.Greenlets.{add_greenlet, has_greenlet_left, greenlet}
+use Rattle.machine.specs.Hosts.{host_of}
+use Rattle.machine.specs.Objects.{with_flag, with_shut, members_of}
+use Rattle.machine.specs.Requests.{typed, on_host, plain_greenlet, plain_greenlets, plain_greenlet_list}
 use Rattle.gv_values.specs.Values.{value_of_scalar}
 use Rattle.machine.specs.declared.state.Greenlet.{Greenlet}
 use Rattle.machine.specs.Soundness.{Claim, claim_of, is_meant, is_unclaimed, is_unstarted, same_claim}
-use Rattle.machine.specs.Waits.{Performed, with_object, object_at, no_object, with_unit_taken, with_owner, with_item, with_item_taken, with_member, with_slot_taken, add_member, map_ends, maps, map_goes_on, made_member, posted, completes, comes, waits, parked, drawn, draws, until_of, name_of_object, gathered, outcome_of_greenlet, raises, nothing, offered, with_offer, with_offer_taken, puts_item, takes_item, peeks_item, is_shut, is_left, item_of}
+use Rattle.machine.specs.Waits.{Performed, add_member, map_ends, maps, map_goes_on, made_member, posted, completes, comes, waits, parked, drawn, draws, until_of, gathered, outcome_of_greenlet, raises, nothing, offered, puts_item, takes_item, peeks_item}
+use Rattle.machine.specs.Objects.{with_object, object_at, no_object, with_unit_taken, with_owner, with_item, with_item_taken, with_member, with_slot_taken, name_of_object, with_offer, with_offer_taken, is_shut, is_left, item_of}
 use Rattle.machine_soundness.specs.Going.{is_plain, has_plain_members, IsKept}
 use Rattle.machine_soundness.proofs.Lists.{both, all-imply, all-end, all-get, get-last, equal}
 use Rattle.machine_soundness.proofs.Greenlets.{at, plain-here, plain-raw, none-next, host-plain, plain-more}
@@ -45,7 +49,7 @@ object-plain o s h = by (slice_get s.objects o) refl
     by (Some x) e = all-get (has_plain_members s.greenlets) s.objects o x e h.members
 
 -- a change of the object that makes none a member
-moves-change : (change : Object → Object) (o g h : ℕ) (s : State) → ((x : Object) → has_plain_members s.greenlets x ≡ true → has_plain_members s.greenlets (change x) ≡ true) →
+pub moves-change : (change : Object → Object) (o g h : ℕ) (s : State) → ((x : Object) → has_plain_members s.greenlets x ≡ true → has_plain_members s.greenlets (change x) ≡ true) →
     Moves g h s → Moves g h (with_object o (change (object_at o s)) s)
 moves-change change o g h s f m = moves-object o (change (object_at o s)) g h s (f (object_at o s) (object-plain o s m.kept)) m
 
@@ -70,7 +74,7 @@ next-unclaimed s h = all-imply _ _ s.items (λ i. none i.delivery) (meants s h.s
 pub next-plain : (parent f : ℕ) (args : List Value) (s : State) → is_plain (add_greenlet false parent f args s).greenlets (length s.greenlets) ≡ true
 next-plain parent f args s = plain-here (add_greenlet false parent f args s).greenlets (length s.greenlets) _ (get-last s.greenlets _) refl
 
-next-unstarted : (raw : Bool) (parent f : ℕ) (args : List Value) (s : State) → is_unstarted (phase_of (length s.greenlets) (add_greenlet raw parent f args s).greenlets) ≡ true
+pub next-unstarted : (raw : Bool) (parent f : ℕ) (args : List Value) (s : State) → is_unstarted (phase_of (length s.greenlets) (add_greenlet raw parent f args s).greenlets) ≡ true
 next-unstarted raw parent f args s = ap (λ x. is_unstarted (elim x [ None ↦ None | Some y ↦ Some y.phase ])) (get-last s.greenlets _)
 
 -- one more greenlet, with its start
@@ -80,7 +84,7 @@ moves-spawned deadline parent f args g h s m =
     moves-add (Delivery.Start (length s.greenlets) deadline) g h (add_greenlet false parent f args s)
     (next-unclaimed s m.kept) (next-unstarted false parent f args s) (next-plain parent f args s) refl (moves-made false parent f args g h s m)
 
-member-plain : (gs : List Greenlet) (k : ℕ) → is_plain gs k ≡ true → (x : Object) → has_plain_members gs x ≡ true → has_plain_members gs (with_member k x) ≡ true
+pub member-plain : (gs : List Greenlet) (k : ℕ) → is_plain gs k ≡ true → (x : Object) → has_plain_members gs x ≡ true → has_plain_members gs (with_member k x) ≡ true
 member-plain gs k p (Object.Crew size members) e = all-end (is_plain gs) members k e p
 member-plain gs k p x e = e
 
@@ -95,7 +99,7 @@ moves-member o f args g h s m =
 pub own-host : (g h : ℕ) (s : State) → is_plain s.greenlets g ≡ true → Moves g h s → IsHost g s
 own-host g h s p m = subst (λ z. IsHost z s) (sym m.same ∙ host-plain (length s.greenlets) s.greenlets g (plain-raw s.greenlets g p)) m.host
 
-no_late : (g : ℕ) (d : Delivery) → not (is_wait_of g d) ≡ true → not (same_claim (Some (Claim.LateOf g)) (claim_of d)) ≡ true
+pub no_late : (g : ℕ) (d : Delivery) → not (is_wait_of g d) ≡ true → not (same_claim (Some (Claim.LateOf g)) (claim_of d)) ≡ true
 no_late g (Delivery.Start k deadline) e = refl
 no_late g (Delivery.Wake k w) e = refl
 no_late g (Delivery.Late k deadline n) e = e
@@ -103,24 +107,24 @@ no_late g (Delivery.Timeout k n deadline) e = refl
 no_late g (Delivery.Kill k kind) e = refl
 no_late g (Delivery.Link n k kind x) e = refl
 
-kept-drawn : (w : Waiting) (s : State) → IsKept s → IsKept (drawn w s)
+pub kept-drawn : (w : Waiting) (s : State) → IsKept s → IsKept (drawn w s)
 kept-drawn w s h = by (draws w)
   where
     by : (b : Bool) → IsKept (if b then record s { timeouts = s.timeouts + 1 } else s)
     by true = kept-timeout s h
     by false = h
 
-moves-drawn : (w : Waiting) (g h : ℕ) (s : State) → Moves g h s → Moves g h (drawn w s)
+pub moves-drawn : (w : Waiting) (g h : ℕ) (s : State) → Moves g h s → Moves g h (drawn w s)
 moves-drawn w g h s m = by (draws w)
   where
     by : (b : Bool) → Moves g h (if b then record s { timeouts = s.timeouts + 1 } else s)
     by true = moves-timeout g h s m
     by false = m
 
-kept-wake : (g : ℕ) (w : Waiting) (s : State) → IsHost g s → IsKept s → IsKept (add_item (Delivery.Wake g w) s)
+pub kept-wake : (g : ℕ) (w : Waiting) (s : State) → IsHost g s → IsKept s → IsKept (add_item (Delivery.Wake g w) s)
 kept-wake g w s m k = kept-add (Delivery.Wake g w) s (wake_unclaimed g s.items m.free) m.live m.plain k
 
-kept-twin : (g : ℕ) (w : Waiting) (deadline n : ℕ) (s : State) → IsHost g s → IsKept s → IsKept (add_item (Delivery.Late g deadline n) (drawn w (add_item (Delivery.Wake g w) s)))
+pub kept-twin : (g : ℕ) (w : Waiting) (deadline n : ℕ) (s : State) → IsHost g s → IsKept s → IsKept (add_item (Delivery.Late g deadline n) (drawn w (add_item (Delivery.Wake g w) s)))
 kept-twin g w deadline n s m k = by (draws w)
   where
     t : State
@@ -186,19 +190,19 @@ made_member-fine g h o f args s m = by (has_greenlet_left s)
     by true = moves-member o f args g h s m
     by false = m.kept
 
-unit-plain : (gs : List Greenlet) (x : Object) → has_plain_members gs x ≡ true → has_plain_members gs (with_unit_taken x) ≡ true
+pub unit-plain : (gs : List Greenlet) (x : Object) → has_plain_members gs x ≡ true → has_plain_members gs (with_unit_taken x) ≡ true
 unit-plain gs (Object.Semaphore counter bound) h = refl
 unit-plain gs x h = h
 
-owner-plain : (gs : List Greenlet) (g : ℕ) (x : Object) → has_plain_members gs x ≡ true → has_plain_members gs (with_owner g x) ≡ true
+pub owner-plain : (gs : List Greenlet) (g : ℕ) (x : Object) → has_plain_members gs x ≡ true → has_plain_members gs (with_owner g x) ≡ true
 owner-plain gs g (Object.Lock owner depth) h = refl
 owner-plain gs g x h = h
 
-item-plain : (gs : List Greenlet) (v : Value) (x : Object) → has_plain_members gs x ≡ true → has_plain_members gs (with_item v x) ≡ true
+pub item-plain : (gs : List Greenlet) (v : Value) (x : Object) → has_plain_members gs x ≡ true → has_plain_members gs (with_item v x) ≡ true
 item-plain gs v (Object.Queue kind size items unfinished shut) h = refl
 item-plain gs v x h = h
 
-taken-plain : (gs : List Greenlet) (x : Object) → has_plain_members gs x ≡ true → has_plain_members gs (with_item_taken x) ≡ true
+pub taken-plain : (gs : List Greenlet) (x : Object) → has_plain_members gs x ≡ true → has_plain_members gs (with_item_taken x) ≡ true
 taken-plain gs (Object.Queue kind size items unfinished shut) h = refl
 taken-plain gs x h = h
 
@@ -216,7 +220,7 @@ shut-plain gs false (Object.Queue kind size items unfinished shut) h = refl
 shut-plain gs true x h = h
 shut-plain gs false x h = h
 
-slot-plain : (gs : List Greenlet) (x : Object) → has_plain_members gs x ≡ true → has_plain_members gs (with_slot_taken x) ≡ true
+pub slot-plain : (gs : List Greenlet) (x : Object) → has_plain_members gs x ≡ true → has_plain_members gs (with_slot_taken x) ≡ true
 slot-plain gs (Object.Native slots outstanding) h = refl
 slot-plain gs x h = h
 

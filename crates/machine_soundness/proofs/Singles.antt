@@ -7,7 +7,7 @@ use Rattle.std.specs.List.{list_all}
 use Rattle.machine.specs.declared.items.Delivery.{Delivery}
 use Rattle.machine.specs.declared.items.Item.{Item}
 use Rattle.machine.specs.Settle.{settled, number_after}
-use Rattle.machine.specs.Life.{is_wait_of}
+use Rattle.machine.specs.Items.{is_wait_of}
 use Rattle.machine.specs.Soundness.{Claim, are_single, claim_eq, claim_of, is_unclaimed, same_claim}
 use Rattle.machine_soundness.specs.Going.{has_no_wait}
 use Rattle.machine_soundness.proofs.Lists.{left, right, both, all-end, all-filter, all-imply}
@@ -42,7 +42,7 @@ claim-turned (Claim.TimeoutNumbered g) (Claim.TimeoutNumbered h) = turned g h
 claim-turned (Claim.LinkNumbered g) (Claim.LinkNumbered h) = turned g h
 claim-turned a b = refl
 
-same-turned : (a b : Option Claim) → same_claim a b ≡ same_claim b a
+pub same-turned : (a b : Option Claim) → same_claim a b ≡ same_claim b a
 same-turned (Some a) (Some b) = claim-turned a b
 same-turned None None = refl
 same-turned None (Some b) = refl

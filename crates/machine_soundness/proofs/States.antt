@@ -13,10 +13,14 @@ use Rattle.machine.specs.declared.state.Object.{Object}
 use Rattle.machine.specs.declared.state.Phase.{Phase}
 use Rattle.machine.specs.State.{State, say}
 use Rattle.machine.specs.Holds.{holds, phase_of}
-use Rattle.machine.specs.Life.{add_item, drop_items, with_phase, greenlet, add_greenlet, ended, goes_at_end, without_member, host_within, host_of, is_wait_of}
+use Rattle.machine.specs.Items.{add_item, drop_items, goes_at_end, is_wait_of}
+use Rattle.machine.specs.Greenlets.{with_phase, greenlet, add_greenlet}
+use Rattle.machine.specs.Ends.{ended}
+use Rattle.machine.specs.Objects.{without_member}
+use Rattle.machine.specs.Hosts.{host_within, host_of}
 use Rattle.machine.specs.Settle.{settle, settled, number_after}
 use Rattle.machine.specs.Soundness.{Claim, ascend, are_single, claim_of, is_meant, is_sound, is_unclaimed, is_under_way, is_unstarted, same_claim}
-use Rattle.machine.specs.Waits.{with_object}
+use Rattle.machine.specs.Objects.{with_object}
 use Rattle.machine.proofs.Soundness.{sound-settle, sound-drop_items, sound-add_item}
 use Rattle.machine_soundness.specs.Going.{is_plain, is_for_plain, has_plain_members, has_no_wait, IsKept, IsGoing}
 use Rattle.machine_soundness.proofs.Lists.{left, right, both, all-imply, all-imply2, all-end, all-filter, all-set, all-map, length-set, unequal, equal, not-true, above}

@@ -1,17 +1,19 @@
 -- Which greenlet may go on in a sound state. The hub delivers to greenlets that are not raw; one of them is under way by itself, or by the raw
 -- greenlet that it switched to, and it waits for nothing meanwhile. This project's own, after the greenlet documentation, parents.
-use Rattle.std.specs.Prelude.{◌≡◌, ℕ, Bool, true, false, not, List, length, Some, None, slice_get, if◌then◌else◌, nat_lt}
+use Rattle.std.specs.Prelude.{◌≡◌, ℕ, Bool, true, false, not, List, Some, None, slice_get, if◌then◌else◌}
 use Rattle.std.specs.List.{list_all}
-use Rattle.gv_values.specs.declared.value.Value.{Value}
 use Rattle.machine.specs.declared.items.Delivery.{Delivery}
 use Rattle.machine.specs.declared.items.Item.{Item}
 use Rattle.machine.specs.declared.state.Greenlet.{Greenlet}
 use Rattle.machine.specs.declared.state.Object.{Object}
 use Rattle.machine.specs.State.{State}
 use Rattle.machine.specs.Holds.{phase_of}
-use Rattle.machine.specs.Frames.{Did, body_move}
+use Rattle.machine.specs.BodyMoves.{Did, body_move}
 use Rattle.machine.specs.declared.request.Request.{Request}
-use Rattle.machine.specs.Life.{Next, is_wait_of, host_of, greenlet, frame_of}
+use Rattle.machine.specs.Landing.{Next}
+use Rattle.machine.specs.Items.{is_wait_of}
+use Rattle.machine.specs.Hosts.{host_of}
+use Rattle.machine.specs.Greenlets.{greenlet, frame_of}
 use Rattle.machine.specs.Moves.{look}
 use Rattle.machine.specs.Soundness.{is_sound, is_under_way}
 
@@ -84,21 +86,15 @@ may_wait (Request.ChannelPut o v) = true
 may_wait (Request.ChannelGet o) = true
 may_wait request = false
 
--- a handle is of a greenlet that there is, where there are so many
-abbrev pub is_known : ℕ → Value → Bool
-is_known count (Value.Greenlet g) = nat_lt g count
-is_known count v = true
-
--- `start` is given a greenlet that there is, and a raw body asks for no wait
-abbrev pub is_meant_request : Bool → ℕ → Request → Bool
-is_meant_request plain count (Request.Start v) = is_known count v
-is_meant_request plain count request = if may_wait request then plain else true
+-- a raw body asks for no wait
+abbrev pub is_meant_request : Bool → Request → Bool
+is_meant_request plain request = if may_wait request then plain else true
 
 -- a raw body enters no timeout block either
-abbrev pub is_meant_did : Bool → ℕ → Did → Bool
-is_meant_did plain count (Did.GoesOn how locals todo) = true
-is_meant_did plain count (Did.Enters ms silent body todo) = plain
-is_meant_did plain count (Did.Asks request x todo) = is_meant_request plain count request
+abbrev pub is_meant_did : Bool → Did → Bool
+is_meant_did plain (Did.GoesOn how locals todo) = true
+is_meant_did plain (Did.Enters ms silent body todo) = plain
+is_meant_did plain (Did.Asks request x todo) = is_meant_request plain request
 
 -- what the body of the greenlet does at its next move
 abbrev pub next_did : ℕ → State → Did
@@ -108,4 +104,4 @@ next_did g s =
 
 -- the next move of the greenlet is one that a scenario may have
 abbrev pub is_meant_move : ℕ → State → Bool
-is_meant_move g s = is_meant_did (is_plain s.greenlets g) (length s.greenlets) (next_did g s)
+is_meant_move g s = is_meant_did (is_plain s.greenlets g) (next_did g s)

@@ -6,9 +6,9 @@ use Rattle.scenario_tree.specs.declared.tree.Scenario.{Scenario}
 use Rattle.machine.specs.declared.items.Delivery.{Delivery}
 use Rattle.machine.specs.declared.items.Item.{Item}
 use Rattle.machine.specs.State.{State}
-use Rattle.machine.specs.Answers.{take_answer}
+use Rattle.machine.specs.Questions.{take_answer}
 use Rattle.machine.specs.Deliveries.{deliver, interrupts}
-use Rattle.machine.specs.Life.{starts, lands}
+use Rattle.machine.specs.Landing.{starts, lands}
 use Rattle.machine.specs.Moves.{move}
 use Rattle.machine.specs.Run.{first_state}
 use Rattle.machine_soundness.specs.Going.{IsKept, IsGoing, IsSoundAt, is_meant_move, has_no_wait}

@@ -2,11 +2,12 @@
 //! function without a body of its own.
 #![tactic(auto)]
 
+ghost use Rattle.machine_soundness.specs.Onward.{LandsOnward};
 ghost use Rattle.machine_soundness.specs.Laws.{AnswersSoundly, DeliversSoundly, ExitsSoundly, GoesUnparked, MovesSoundly, ParksOnce, StartsSoundly};
 
 /// Each step of a run leads from a sound state to a sound one: main's start, a move, a delivery,
 /// LoopExit and an answer. A move is one that a scenario may have: a raw body neither waits nor enters
-/// a timeout block, and `start` is given a greenlet that there is.
+/// a timeout block.
 pub fn steps_stay_sound()
     ensures started { StartsSoundly }
     ensures moved { MovesSoundly }
@@ -20,4 +21,10 @@ pub fn steps_stay_sound()
 pub fn waits_are_single()
     ensures once { ParksOnce }
     ensures under_way { GoesUnparked }
+{}
+
+/// What lands at a greenlet whose host is under way goes on in some greenlet, or the run is over, or the host
+/// has ended: no landing stops for want of steps.
+pub fn landings_go_onward()
+    ensures { LandsOnward }
 {}

@@ -1,0 +1,6 @@
+pub mod Asking
+pub mod Knowing
+pub mod Steps
+pub mod Stopping
+pub mod Turning
+pub mod Under
