@@ -6,8 +6,8 @@ use Rattle.gv_values.specs.declared.value.Value.{Value}
 use Rattle.machine.specs.declared.state.Local.{Local}
 use Rattle.machine.specs.Expressions.{Around}
 use Rattle.machine.specs.Bodies.{Body, Step, Stepped, goes, resume}
-use Rattle.machine.specs.Life.{outcome_of_leaving}
-use Rattle.machine.specs.Raising.{Unwound}
+use Rattle.machine.specs.Ends.{outcome_of_leaving}
+use Rattle.machine.specs.Unwinding.{Unwound}
 use Rattle.flat_code.specs.Answers.{IsAnswer}
 use Rattle.body_moves.specs.Requests.{asking}
 use Rattle.flat_code.specs.Steps.{answer_of, step_of}

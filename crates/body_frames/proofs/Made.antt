@@ -4,8 +4,8 @@ use Rattle.machine.specs.declared.state.Frame.{Frame}
 use Rattle.machine.specs.declared.state.Local.{Local}
 use Rattle.machine.specs.Expressions.{Around}
 use Rattle.machine.specs.Bodies.{Body, Step, Stepped, after_move, goes, resume}
-use Rattle.machine.specs.Frames.{Did, body_move}
-use Rattle.machine.specs.Raising.{Unwound, unwind}
+use Rattle.machine.specs.BodyMoves.{Did, body_move}
+use Rattle.machine.specs.Unwinding.{Unwound, unwind}
 use Rattle.flat_code.specs.Steps.{answer_of, step_of}
 use Rattle.flat_code.specs.Standings.{stepped}
 use Rattle.flat_code.specs.declared.step.Step.{Step as Told}

@@ -6,8 +6,9 @@ use Rattle.machine.specs.declared.state.Leaving.{Leaving}
 use Rattle.machine.specs.declared.state.Todo.{Todo}
 use Rattle.machine.specs.Bodies.{Body, Step}
 use Rattle.machine.specs.Expressions.{Look}
-use Rattle.machine.specs.Life.{given, leaving_of}
-use Rattle.machine.specs.Raising.{Unwound, unwind}
+use Rattle.machine.specs.Landing.{given}
+use Rattle.machine.specs.Ends.{leaving_of}
+use Rattle.machine.specs.Unwinding.{Unwound, unwind}
 use Rattle.flat_code.specs.Answers.{IsAnswer}
 use Rattle.flat_code.specs.declared.step.Input.{Input}
 use Rattle.body_frames.specs.Held.{IsEntering, IsMoving, IsWaiting, entering_of, moving_of, waiting_of}

@@ -2,8 +2,8 @@
 use Rattle.std.specs.Prelude.{[], None, false, ⊤}
 use Rattle.machine.specs.declared.state.Frame.{Frame}
 use Rattle.machine.specs.Bodies.{Body}
-use Rattle.machine.specs.Life.{no_frame}
-use Rattle.machine.specs.Raising.{Unwound}
+use Rattle.machine.specs.Greenlets.{no_frame}
+use Rattle.machine.specs.Unwinding.{Unwound}
 use Rattle.body_frames.specs.Places.{Entered}
 
 -- it waits for the answer to its request

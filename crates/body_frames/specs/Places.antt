@@ -6,9 +6,9 @@ use Rattle.machine.specs.declared.state.Frame.{Frame}
 use Rattle.machine.specs.declared.state.Local.{Local}
 use Rattle.machine.specs.declared.state.Todo.{Todo}
 use Rattle.machine.specs.Bodies.{Step}
-use Rattle.machine.specs.Frames.{Did}
-use Rattle.machine.specs.Life.{outcome_of_leaving}
-use Rattle.machine.specs.Raising.{Unwound, unwind}
+use Rattle.machine.specs.BodyMoves.{Did}
+use Rattle.machine.specs.Ends.{outcome_of_leaving}
+use Rattle.machine.specs.Unwinding.{Unwound, unwind}
 
 -- where a body comes to by itself; first the numbers of the timeout blocks that it left
 pub data Place : Type 0 where

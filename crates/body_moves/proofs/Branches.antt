@@ -5,7 +5,7 @@ use Rattle.scenario_tree.specs.declared.tree.Statement.{Statement}
 use Rattle.machine.specs.declared.state.Leaving.{Leaving}
 use Rattle.machine.specs.declared.state.Local.{Local}
 use Rattle.machine.specs.declared.state.Todo.{Todo}
-use Rattle.machine.specs.Raising.{unwind}
+use Rattle.machine.specs.Unwinding.{unwind}
 
 pub raises_past : (block : List Statement) (todo : List Todo) (left : List ℕ) (f : FaultKind) (locals : List Local) →
     unwind (Todo.Statements block ∷ todo) left (Leaving.Raising f) locals ≡ unwind todo left (Leaving.Raising f) locals

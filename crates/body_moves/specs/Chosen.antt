@@ -7,8 +7,8 @@ use Rattle.machine.specs.declared.state.Leaving.{Leaving}
 use Rattle.machine.specs.declared.state.Local.{Local}
 use Rattle.machine.specs.declared.state.Todo.{Todo}
 use Rattle.machine.specs.Expressions.{bind, meaning, Around}
-use Rattle.machine.specs.Frames.{Did, tested, asked, giving_request}
-use Rattle.machine.specs.Raising.{Unwound, unwind}
+use Rattle.machine.specs.BodyMoves.{Did, tested, asked, giving_request}
+use Rattle.machine.specs.Unwinding.{Unwound, unwind}
 use Rattle.machine.specs.Bodies.{Body, Step, Stepped, after_move}
 use Rattle.body_moves.specs.declared.chosen.Chosen.{Chosen}
 use Rattle.machine.specs.State.{Name}

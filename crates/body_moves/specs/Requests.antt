@@ -1,7 +1,7 @@
 -- What a request stands for.
 use Rattle.gv_values.specs.declared.link.LinkKind.{LinkKind}
 use Rattle.machine.specs.Bodies.{Step}
-use Rattle.machine.specs.Frames.{link_kind}
+use Rattle.machine.specs.BodyMoves.{link_kind}
 use Rattle.machine.specs.declared.request.Request.{Request as Asked}
 use Rattle.body_moves.specs.declared.request.Request.{Request}
 

@@ -12,7 +12,7 @@ use Rattle.scenario_tree.specs.declared.tree.Expression.TheBlock.{lays-Expressio
 use Rattle.scenario_tree.specs.declared.tree.Expression.TheFolds.{family, steps}
 use Rattle.scenario_tree.specs.declared.tree.Expression.TheOpen.{Expression-F}
 use Rattle.machine.specs.Expressions.{meaning, Meaning, meaning_step, value_of_local, Around, with_value, unary, binary, and_then, or_else, listed, query, object_number}
-use Rattle.machine.specs.Frames.{values}
+use Rattle.machine.specs.BodyMoves.{values}
 
 meaning_out : (e : Expression) → meaning e ≡ meaning_step (map-Expression Expression Meaning meaning (out-Expression e))
 unfolding out-Expression denote.Hole.Carrier.out

@@ -10,7 +10,7 @@ use Rattle.gv_values.specs.declared.scalar.Scalar.{Scalar}
 use Rattle.gv_values.specs.Values.{scalar_of_value}
 use Rattle.scenario_tree.specs.declared.tree.Expression.{Expression}
 use Rattle.machine.specs.Expressions.{meaning, meanings, Meaning, Around, scalars, listed, type_error}
-use Rattle.machine.specs.Frames.{values}
+use Rattle.machine.specs.BodyMoves.{values}
 
 -- these values before those of the rest
 abbrev pub prepended : List Value → Result (List Value) FaultKind → Result (List Value) FaultKind

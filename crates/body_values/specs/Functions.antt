@@ -2,7 +2,7 @@
 use Rattle.std.specs.Prelude.{ℕ, ◌<◌, length, slice_get, unwrap_or}
 use Rattle.scenario_tree.specs.declared.tree.Function.{Function}
 use Rattle.scenario_tree.specs.declared.tree.Scenario.{Scenario}
-use Rattle.machine.specs.Life.{no_function}
+use Rattle.machine.specs.Greenlets.{no_function}
 
 -- the function of this number is declared
 abbrev pub IsFunction : Scenario → ℕ → Type 0

@@ -1,7 +1,7 @@
 //! The locals of a body.
 ghost use Rattle.std.specs.Prelude.{◌≡◌, ◌<◌, length, OnOk, IfOk, IfSome};
 ghost use Rattle.machine.specs.Expressions.{name_eq, bind, value_of_local};
-ghost use Rattle.machine.specs.Life.{named};
+ghost use Rattle.machine.specs.Greenlets.{named};
 ghost use Rattle.body_values.specs.Places.{IsPlaceOf};
 
 use crate::front::pop_first;

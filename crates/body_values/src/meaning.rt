@@ -2,7 +2,7 @@
 ghost use Rattle.std.specs.Prelude.{◌≡◌, IfOk};
 ghost use Rattle.machine.specs.Bodies.{around};
 ghost use Rattle.machine.specs.Expressions.{meaning, with_value, binary, and_then, or_else, listed};
-ghost use Rattle.machine.specs.Frames.{values};
+ghost use Rattle.machine.specs.BodyMoves.{values};
 ghost use Rattle.body_values.specs.Operators.{as_truth};
 
 use crate::code::Code;

@@ -5,8 +5,8 @@ use Rattle.machine.specs.declared.state.Local.{Local}
 use Rattle.machine.specs.declared.state.Todo.{Todo}
 use Rattle.machine.specs.Bodies.{Body, Step, Stepped, after_move}
 use Rattle.machine.specs.Expressions.{Around}
-use Rattle.machine.specs.Frames.{Did, body_move}
-use Rattle.machine.specs.Raising.{Unwound, unwind}
+use Rattle.machine.specs.BodyMoves.{Did, body_move}
+use Rattle.machine.specs.Unwinding.{Unwound, unwind}
 use Rattle.machine_arguments.specs.Few.{HasFewBody, HasFewDid, HasFewToDo, HasFewUnwound}
 use Rattle.machine_arguments.proofs.Bodies.{move-few, unwind-few}
 use Rattle.machine_arguments.proofs.Parts.{head-few}

@@ -1,7 +1,7 @@
 -- Where the code of a body stands.
 use Rattle.std.specs.Prelude.{ℕ}
 use Rattle.machine.specs.Bodies.{Body, Stepped}
-use Rattle.machine.specs.Raising.{Unwound}
+use Rattle.machine.specs.Unwinding.{Unwound}
 use Rattle.machine_arguments.specs.Few.{HasFewBody, HasFewUnwound}
 use Rattle.flat_code.specs.declared.frame.Moved.{Moved}
 use Rattle.flat_code.specs.declared.frame.Stack.{Stack}

@@ -1,7 +1,7 @@
 -- Where a body that goes on by itself stands.
 use Rattle.std.specs.Prelude.{⊤}
 use Rattle.machine.specs.Bodies.{Body}
-use Rattle.machine.specs.Raising.{Unwound}
+use Rattle.machine.specs.Unwinding.{Unwound}
 use Rattle.body_moves.specs.AtMove.{IsAtMove}
 
 -- where the body is not left, it stands at a move

@@ -3,7 +3,7 @@ use Rattle.std.specs.Prelude.{ℕ, List, ⊤, ◌≡◌}
 use Rattle.scenario_tree.specs.declared.tree.Except.{Except, out-Except}
 use Rattle.machine.specs.declared.state.Local.{Local}
 use Rattle.machine.specs.declared.state.Todo.{Todo}
-use Rattle.machine.specs.Raising.{Caught, Unwound, unwind}
+use Rattle.machine.specs.Unwinding.{Caught, Unwound, unwind}
 use Rattle.flat_code.specs.declared.unwind.Unwound.{Unwound as Came}
 use Rattle.flat_code.specs.declared.unwind.Stepped.{Stepped}
 

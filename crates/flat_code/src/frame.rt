@@ -2,11 +2,12 @@
 ghost use Rattle.std.specs.Prelude.{◌≡◌, ℕ, [], List, pos, OnOk, IfOk};
 ghost use Rattle.machine.specs.declared.state.Todo.{Todo as Undone};
 ghost use Rattle.machine.specs.declared.state.Local.{Local as Named};
-ghost use Rattle.machine.specs.Frames.{body_move};
+ghost use Rattle.machine.specs.BodyMoves.{body_move};
 ghost use Rattle.machine.specs.Expressions.{Around};
 ghost use Rattle.machine.specs.Bodies.{around, resume, begins, goes, after_move, Stepped as Went};
-ghost use Rattle.machine.specs.Raising.{unwind, Unwound as Place};
-ghost use Rattle.machine.specs.Life.{given, leaving_of, outcome_of_leaving};
+ghost use Rattle.machine.specs.Unwinding.{unwind, Unwound as Place};
+ghost use Rattle.machine.specs.Landing.{given};
+ghost use Rattle.machine.specs.Ends.{leaving_of, outcome_of_leaving};
 ghost use Rattle.body_moves.specs.AtMove.{IsAtMove};
 ghost use Rattle.flat_code.specs.Steady.{HasMove, IsSteady};
 ghost use Rattle.flat_code.specs.Standings.{stepped, moved_of, body_of, StaysFew, StaysSteady};

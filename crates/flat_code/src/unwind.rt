@@ -1,6 +1,6 @@
 //! How a block is left.
 ghost use Rattle.std.specs.Prelude.{◌≡◌, ◌∷◌, [], ◌++◌, ℕ, List, Option, Some, None, IfOk, IfSome, IfNone, OnOk, option_map};
-ghost use Rattle.machine.specs.Raising.{unwind, catching, past_timeout, bind_if, finally_first, block_first};
+ghost use Rattle.machine.specs.Unwinding.{unwind, catching, past_timeout, bind_if, finally_first, block_first};
 ghost use Rattle.flat_code.specs.Unwinding.{unwound_of, caught_of, stepped_of, KeepsIfFurther};
 
 use body_values::bind;

@@ -9,8 +9,12 @@ use Rattle.std.specs.Prelude.{map}
 use Rattle.trace_text.specs.declared.line.Line.{Line}
 use Rattle.machine.specs.Settle.{settle}
 use Rattle.machine.specs.State.{State, say}
-use Rattle.machine.specs.Raising.{Unwound, unwind}
-use Rattle.machine.specs.Life.{Next, Landing, nobody, greenlet, function_of, with_phase, ended, stop_of, after_end, goes_on, resumes, starts, given, leaving_of, outcome_of_leaving, drop_items, goes_at_end, is_timeout_of, without_member}
+use Rattle.machine.specs.Unwinding.{Unwound, unwind}
+use Rattle.machine.specs.Landing.{Next, Landing, after_end, goes_on, resumes, starts, given}
+use Rattle.machine.specs.Greenlets.{nobody, greenlet, function_of, with_phase}
+use Rattle.machine.specs.Ends.{ended, stop_of, leaving_of, outcome_of_leaving}
+use Rattle.machine.specs.Items.{drop_items, goes_at_end, is_timeout_of}
+use Rattle.machine.specs.Objects.{without_member}
 use Rattle.gv_values.specs.Ends.{kept}
 use Rattle.body_frames.specs.Places.{Place}
 use Rattle.hub_engine.specs.Stands.{goes_to}

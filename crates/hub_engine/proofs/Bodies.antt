@@ -4,8 +4,10 @@ use Rattle.gv_values.specs.declared.value.Outcome.{Outcome}
 use Rattle.machine.specs.declared.state.Frame.{Frame}
 use Rattle.machine.specs.declared.state.Phase.{Phase}
 use Rattle.machine.specs.State.{State}
-use Rattle.machine.specs.Raising.{Unwound, unwind}
-use Rattle.machine.specs.Life.{Landing, given, goes_on, lands, leaving_of, no_frame, outcome_of_leaving, resumes, with_phase}
+use Rattle.machine.specs.Unwinding.{Unwound, unwind}
+use Rattle.machine.specs.Landing.{Landing, given, goes_on, lands, resumes}
+use Rattle.machine.specs.Ends.{leaving_of, outcome_of_leaving}
+use Rattle.machine.specs.Greenlets.{no_frame, with_phase}
 use Rattle.body_frames.specs.Places.{Place, place_of}
 use Rattle.hub_engine.specs.Stands.{goes_to, next_at}
 use Rattle.hub_engine.specs.declared.stand.Stand.{Stand}

@@ -3,7 +3,7 @@ use Rattle.std.proofs.Common.{◌≡◌, refl, sym, ◌∙◌, subst, ℕ, ◌<�
 use Rattle.machine.specs.declared.items.Delivery.{Delivery}
 use Rattle.machine.specs.declared.items.Item.{Item}
 use Rattle.machine.specs.Deliveries.{deliver, delivers, without_item}
-use Rattle.machine.specs.Life.{greenlet}
+use Rattle.machine.specs.Greenlets.{greenlet}
 use Rattle.machine.specs.State.{State}
 use Rattle.machine_built.specs.Runnable.{IsRunnable, is_runnable_delivery}
 use Rattle.machine_built.proofs.States.{function-known, item-runnable}

@@ -8,7 +8,7 @@ use Rattle.gv_io.specs.Streams.{appended, AppendsPrefix}
 use Rattle.machine.specs.declared.items.Item.{Item}
 use Rattle.hub_engine.specs.declared.stand.Came.{Came}
 use Rattle.machine.specs.State.{State}
-use Rattle.machine.specs.Life.{Next}
+use Rattle.machine.specs.Landing.{Next}
 use Rattle.machine.specs.Deliveries.{deliver}
 use Rattle.machine.specs.Run.{Passed, rests, followed_by, runs_on, deliveries, after_delivery, least_below}
 use Rattle.hub_engine.specs.Written.{CameTo, HasPassed, IsPassing}

@@ -16,11 +16,13 @@ use Rattle.machine.specs.declared.state.Local.{Local}
 use Rattle.machine.specs.declared.state.Phase.{Phase}
 use Rattle.machine.specs.Bodies.{Step, around}
 use Rattle.machine.specs.Expressions.{Look}
-use Rattle.machine.specs.Frames.{Did, body_move}
+use Rattle.machine.specs.BodyMoves.{Did, body_move}
 use Rattle.machine.specs.Holds.{delivery_holds, holds, link_holds, outcome_of, outcome_of_phase, phase_of, wait_holds}
-use Rattle.machine.specs.Life.{Next, frame_of, greenlet, lands, no_frame, nobody, with_phase}
-use Rattle.machine.specs.Moves.{does, follows, look, move}
-use Rattle.machine.specs.Raising.{unwind}
+use Rattle.machine.specs.Landing.{Next, lands}
+use Rattle.machine.specs.Greenlets.{frame_of, greenlet, no_frame, nobody, with_phase}
+use Rattle.machine.specs.Moves.{does, look, move}
+use Rattle.machine.specs.Requests.{follows}
+use Rattle.machine.specs.Unwinding.{unwind}
 use Rattle.machine.specs.Settle.{numbers_after, settle, settled}
 use Rattle.machine.specs.Soundness.{is_under_way}
 use Rattle.machine.specs.State.{State}

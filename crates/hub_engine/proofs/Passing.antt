@@ -8,12 +8,12 @@ use Rattle.gv_io.specs.Streams.{appended, AppendsPrefix}
 use Rattle.gv_io.proofs.StreamLaws.{appended-nothing, appended-appended, AppendsPrefix-whole, AppendsPrefix-after, AppendsPrefix-longer}
 use Rattle.hub_engine.specs.declared.stand.Came.{Came}
 use Rattle.machine.specs.State.{State}
-use Rattle.machine.specs.Life.{Next}
+use Rattle.machine.specs.Landing.{Next}
 use Rattle.machine.specs.Moves.{move}
 use Rattle.machine.specs.Run.{Passed, passed, said, silent, runs}
 use Rattle.machine.specs.declared.state.Frame.{Frame}
 use Rattle.machine.specs.declared.state.Phase.{Phase}
-use Rattle.machine.specs.Life.{with_phase}
+use Rattle.machine.specs.Greenlets.{with_phase}
 use Rattle.hub_engine.specs.Stands.{next_at}
 use Rattle.machine_soundness.proofs.States.{length-phased}
 use Rattle.hub_engine.specs.Written.{AreLike, CameTo, HasPassed, IsPartWritten, IsPassing}

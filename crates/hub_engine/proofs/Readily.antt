@@ -9,10 +9,11 @@ use Rattle.machine.specs.declared.items.Item.{Item}
 use Rattle.machine.specs.declared.state.Frame.{Frame}
 use Rattle.machine.specs.declared.state.Phase.{Phase}
 use Rattle.machine.specs.State.{State, say}
-use Rattle.machine.specs.Answers.{any_numbered, block_line}
+use Rattle.machine.specs.Questions.{any_numbered, block_line}
 use Rattle.machine.specs.Deliveries.{deliver, interrupts}
 use Rattle.hub_engine.specs.declared.stand.Came.{Came}
-use Rattle.machine.specs.Life.{Next, greenlet, lands, starts, with_phase}
+use Rattle.machine.specs.Landing.{Next, lands, starts}
+use Rattle.machine.specs.Greenlets.{greenlet, with_phase}
 use Rattle.machine.specs.Moves.{move}
 use Rattle.machine.specs.Run.{first_state, silent}
 use Rattle.machine_soundness.specs.Going.{IsKept}

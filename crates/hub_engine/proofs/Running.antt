@@ -10,8 +10,8 @@ use Rattle.gv_io.proofs.StreamLaws.{appended-appended, AppendsPrefix-whole, Appe
 use Rattle.scenario_tree.specs.declared.tree.Scenario.{Scenario}
 use Rattle.hub_engine.specs.declared.stand.Came.{Came}
 use Rattle.machine.specs.State.{State}
-use Rattle.machine.specs.Life.{Next, starts, lands}
-use Rattle.machine.specs.Answers.{question, block_line}
+use Rattle.machine.specs.Landing.{Next, starts, lands}
+use Rattle.machine.specs.Questions.{question, block_line}
 use Rattle.machine.specs.Run.{Passed, Ran, Source, GoingOn, given_out, after_turn, after_question, after_exit, with_posts, turn, loop_exit, run_turns, stopped, silent, runs, script_run, first_state, after_start}
 use Rattle.hub_engine.specs.Stands.{next_at}
 use Rattle.hub_engine.specs.Written.{AreLike, CameTo, HasRun, IsPartWritten, IsRunning, IsStopping}

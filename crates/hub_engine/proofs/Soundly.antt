@@ -4,7 +4,8 @@ use Rattle.gv_values.specs.declared.value.Value.{Value}
 use Rattle.machine.specs.declared.state.Frame.{Frame}
 use Rattle.machine.specs.declared.state.Phase.{Phase}
 use Rattle.machine.specs.State.{State}
-use Rattle.machine.specs.Life.{Next, add_greenlet, with_phase}
+use Rattle.machine.specs.Landing.{Next}
+use Rattle.machine.specs.Greenlets.{add_greenlet, with_phase}
 use Rattle.machine.specs.Soundness.{Claim, is_unclaimed}
 use Rattle.machine_soundness.specs.Going.{IsSoundAt}
 use Rattle.machine_soundness.proofs.Landings.{going-free}

@@ -3,8 +3,10 @@ use Rattle.std.specs.Prelude.{ℕ, Bool, true, false}
 use Rattle.scenario_tree.specs.declared.tree.Scenario.{Scenario}
 use Rattle.machine.specs.declared.state.Phase.{Phase}
 use Rattle.machine.specs.Bodies.{Step}
-use Rattle.machine.specs.Life.{Next, lands, with_phase}
-use Rattle.machine.specs.Moves.{enters, follows}
+use Rattle.machine.specs.Landing.{Next, lands}
+use Rattle.machine.specs.Greenlets.{with_phase}
+use Rattle.machine.specs.Moves.{enters}
+use Rattle.machine.specs.Requests.{follows}
 use Rattle.machine.specs.Settle.{settle}
 use Rattle.machine.specs.State.{State}
 use Rattle.body_frames.specs.Places.{Came}

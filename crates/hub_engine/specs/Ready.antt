@@ -5,7 +5,7 @@ use Rattle.scenario_rules.specs.Rules.{IsWellFormed}
 use Rattle.unbuilt_forms.specs.Built.{IsBuilt}
 use Rattle.hub_engine.specs.declared.stand.Came.{Came}
 use Rattle.machine.specs.State.{State}
-use Rattle.machine.specs.Life.{Next}
+use Rattle.machine.specs.Landing.{Next}
 use Rattle.machine.specs.Run.{first_state}
 use Rattle.machine_soundness.specs.Going.{IsKept, IsSoundAt}
 use Rattle.machine_built.specs.Laws.{HasMain}

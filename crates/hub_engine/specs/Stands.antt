@@ -3,8 +3,10 @@ use Rattle.std.specs.Prelude.{ℕ}
 use Rattle.machine.specs.declared.state.Phase.{Phase}
 use Rattle.machine.specs.State.{State}
 use Rattle.machine.specs.Bodies.{Step}
-use Rattle.machine.specs.Life.{Next, Landing, after_end, drop_items, is_timeout_of, with_phase}
-use Rattle.machine.specs.Moves.{performs}
+use Rattle.machine.specs.Landing.{Next, Landing, after_end}
+use Rattle.machine.specs.Items.{drop_items, is_timeout_of}
+use Rattle.machine.specs.Greenlets.{with_phase}
+use Rattle.machine.specs.Requests.{performs}
 use Rattle.machine.specs.Waits.{Performed}
 use Rattle.body_frames.specs.Places.{Place}
 use Rattle.hub_engine.specs.declared.stand.Stand.{Stand}

@@ -2,7 +2,9 @@
 ghost use Rattle.std.specs.Prelude.{◌≡◌, OnOk, IfOk};
 ghost use Rattle.body_values.specs.Functions.{IsFunction};
 ghost use Rattle.body_frames.specs.Standings.{reached_of};
-ghost use Rattle.machine.specs.Life.{Landing, outcome_of_leaving, leaving_of, stop_of, ended, after_end, starts, answered, lands, greenlet};
+ghost use Rattle.machine.specs.Landing.{Landing, after_end, starts, answered, lands};
+ghost use Rattle.machine.specs.Ends.{outcome_of_leaving, leaving_of, stop_of, ended};
+ghost use Rattle.machine.specs.Greenlets.{greenlet};
 ghost use Rattle.gv_values.specs.Ends.{kept};
 ghost use Rattle.hub_engine.specs.Stands.{goes_to, next_at};
 

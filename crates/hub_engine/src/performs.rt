@@ -1,7 +1,7 @@
 //! What the hub does at a request.
 ghost use Rattle.std.specs.Prelude.{◌≡◌, true, false, None, IfOk};
 ghost use Rattle.scenario_tree.specs.declared.tree.Wait.TheVariants as wait;
-ghost use Rattle.machine.specs.Moves.{performs, follows, makes, starts_at, plain_greenlet};
+ghost use Rattle.machine.specs.Requests.{performs, follows, makes, starts_at, plain_greenlet};
 ghost use Rattle.machine.specs.declared.request.Request.{Request as Asked};
 ghost use Rattle.body_moves.specs.Requests.{asking};
 ghost use Rattle.hub_engine.specs.Asking.{is_run_step};
@@ -59,7 +59,7 @@ fn plain_greenlet(hub: &Hub, value: &Value) -> Option<u32>
     }
 }
 
-#[tactic(auto, unfolding(machine::specs::Moves::performs))]
+#[tactic(auto, unfolding(machine::specs::Requests::performs))]
 fn joins_handle(hub: &mut Hub, g: u32, value: Value) -> Result<Performed, AllocError>
     requires { MayMake g hub.old }
     ensures { IfOk result (λ p. performs (Asked.Join value wait.Block) g hub.old ≡ performed_of p hub.new) }
@@ -70,7 +70,7 @@ fn joins_handle(hub: &mut Hub, g: u32, value: Value) -> Result<Performed, AllocE
     }
 }
 
-#[tactic(auto, unfolding(machine::specs::Moves::performs))]
+#[tactic(auto, unfolding(machine::specs::Requests::performs))]
 fn sleeps_for(hub: &mut Hub, g: u32, time: u64) -> Result<Performed, AllocError>
     requires { MayMake g hub.old }
     ensures { IfOk result (λ p. performs (Asked.Sleep time) g hub.old ≡ performed_of p hub.new) }
@@ -80,7 +80,7 @@ fn sleeps_for(hub: &mut Hub, g: u32, time: u64) -> Result<Performed, AllocError>
 }
 
 /// The effect of the request of the greenlet.
-#[tactic(auto, unfolding(machine::specs::Moves::performs))]
+#[tactic(auto, unfolding(machine::specs::Requests::performs))]
 pub fn performs(hub: &mut Hub, request: Request, g: u32) -> Result<Performed, AllocError>
     requires may_make { MayMake g hub.old }
     requires is_run { is_run_step hub.old.scenario (asking request) ≡ true }

@@ -2,7 +2,7 @@
 ghost use Rattle.std.specs.Prelude.{◌≡◌, ◌+◌, ◌<◌, ◌≤◌, ◌++◌, [], length, slice_get, OnOk, IfOk, Some};
 ghost use Rattle.trace_text.specs.LineTexts.{text_of};
 ghost use Rattle.machine.specs.Run.{silent, runs, runs_on, deliveries, turn, loop_exit, stopped, run_turns, script_run, Source as Script};
-ghost use Rattle.machine.specs.Answers.{block_line};
+ghost use Rattle.machine.specs.Questions.{block_line};
 ghost use Rattle.machine.specs.Deliveries.{deliver};
 ghost use Rattle.machine.specs.declared.items.Item.{Item as AnyItem};
 ghost use Rattle.hub_engine.specs.Ends.{answered, end_of, end_of_run};

@@ -2,7 +2,7 @@
 use Rattle.std.proofs.Common.{◌≡◌, refl, ap, ℕ, zero, suc, ◌<◌, ◌≤◌, List, [], ◌∷◌, length, Some, None, slice_get, slice_set, slice_index_or, unwrap_or, arith}
 use Rattle.machine.specs.declared.state.Greenlet.{Greenlet}
 use Rattle.machine.specs.declared.state.Phase.{Phase}
-use Rattle.machine.specs.Life.{nobody}
+use Rattle.machine.specs.Greenlets.{nobody}
 use Rattle.hub_state.specs.Phases.{phase_at}
 
 pub phase_set : (gs : List Greenlet) (g : ℕ) (d : Greenlet) (p : Phase) → g < length gs →

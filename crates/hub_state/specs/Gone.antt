@@ -1,7 +1,7 @@
 -- Which items go.
 use Rattle.std.specs.Prelude.{Bool}
 use Rattle.machine.specs.declared.items.Delivery.{Delivery}
-use Rattle.machine.specs.Life.{is_wait_of, is_timeout_of, goes_at_end}
+use Rattle.machine.specs.Items.{is_wait_of, is_timeout_of, goes_at_end}
 use Rattle.hub_state.specs.declared.items.Gone.{Gone}
 
 abbrev pub gone_of : Gone → Delivery → Bool

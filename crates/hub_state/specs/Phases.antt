@@ -2,7 +2,7 @@
 use Rattle.std.specs.Prelude.{ℕ, List, Option, Some, None, slice_get, false}
 use Rattle.machine.specs.declared.state.Greenlet.{Greenlet as Shown}
 use Rattle.machine.specs.declared.state.Phase.{Phase}
-use Rattle.machine.specs.Life.{no_frame}
+use Rattle.machine.specs.Greenlets.{no_frame}
 use Rattle.hub_state.specs.declared.greenlets.Stage.{Stage}
 
 -- the phase of the machine; the body of a greenlet that is under way is with the hub's step

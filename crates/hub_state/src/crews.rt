@@ -1,6 +1,6 @@
 //! Groups and pools: a greenlet leaves them at its end.
 ghost use Rattle.std.specs.Prelude.{◌≡◌, ◌<◌, ◌==◌, length, map, filter, not, slice_index};
-ghost use Rattle.machine.specs.Life.{without_member};
+ghost use Rattle.machine.specs.Objects.{without_member};
 
 use crate::hub::Hub;
 use machine::state::Object;

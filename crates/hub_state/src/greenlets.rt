@@ -3,7 +3,7 @@ ghost use Rattle.std.specs.Prelude.{◌≡◌, ◌<◌, ◌≤◌, [], ◌∷◌
 ghost use Rattle.std.specs.Option.{option_copied};
 ghost use Rattle.machine.specs.declared.state.Phase.{Phase};
 ghost use Rattle.machine.specs.Holds.{outcome_of_phase};
-ghost use Rattle.machine.specs.Life.{nobody};
+ghost use Rattle.machine.specs.Greenlets.{nobody};
 ghost use Rattle.hub_state.specs.Phases.{phase_of, phase_at, shown};
 
 use gv_values::{Outcome, Value};

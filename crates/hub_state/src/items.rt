@@ -2,7 +2,7 @@
 ghost use Rattle.std.specs.Prelude.{◌≡◌, ◌==◌, true, not, ◌<◌, length, filter, OnOk, IfSome, slice_get, Some};
 ghost use Rattle.std.specs.List.{list_any};
 ghost use Rattle.machine.specs.State.{say};
-ghost use Rattle.machine.specs.Life.{add_item, drop_items, is_wait_of, is_timeout_of, goes_at_end};
+ghost use Rattle.machine.specs.Items.{add_item, drop_items, is_wait_of, is_timeout_of, goes_at_end};
 ghost use Rattle.machine.specs.Deliveries.{without_item};
 ghost use Rattle.machine.specs.Soundness.{claim_of, is_unclaimed};
 ghost use Rattle.hub_state.specs.Gone.{gone_of};

@@ -1,7 +1,7 @@
 //! What the steps of the hub do to its greenlets.
 ghost use Rattle.std.specs.Prelude.{◌≡◌, ◌<◌, false, length, OnOk, IfOk, IfSome, IfNone};
 ghost use Rattle.machine.specs.declared.state.Phase.{Phase};
-ghost use Rattle.machine.specs.Life.{no_frame, greenlet, with_phase, frame_of, add_greenlet, has_greenlet_left};
+ghost use Rattle.machine.specs.Greenlets.{no_frame, greenlet, with_phase, frame_of, add_greenlet, has_greenlet_left};
 ghost use Rattle.machine.specs.Deliveries.{arguments};
 ghost use Rattle.hub_state.specs.Phases.{phase_of};
 

@@ -1,6 +1,6 @@
 //! What the hub asks between two turns, and what the answer does.
 ghost use Rattle.std.specs.Prelude.{◌≡◌, [], ◌≤◌, length, drop, OnOk};
-ghost use Rattle.machine.specs.Answers.{deadline_of, lesser, least_deadline, any_numbered, question, block_line, take_answer};
+ghost use Rattle.machine.specs.Questions.{deadline_of, lesser, least_deadline, any_numbered, question, block_line, take_answer};
 ghost use Rattle.world_rules.specs.Script.{scripted};
 
 use crate::hub::Hub;
@@ -102,7 +102,7 @@ impl Hub {
     }
 
     /// The answer is written and sets the moment. There is no job whose outcome it could bring.
-    #[tactic(auto, unfolding(machine::specs::Answers::take_answer))]
+    #[tactic(auto, unfolding(machine::specs::Questions::take_answer))]
     pub fn take(&mut self, alloc: Global, answer: Answer) -> Result<(), AllocError>
         ensures { OnOk result (self.new ≡ take_answer answer self.old) }
     {

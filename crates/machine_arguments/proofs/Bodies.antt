@@ -20,10 +20,12 @@ use Rattle.machine.specs.declared.state.Todo.{Todo}
 use Rattle.machine.specs.State.{Name}
 use Rattle.machine.specs.Bodies.{Body, Stepped, after_move, begins, goes, resume}
 use Rattle.machine.specs.Expressions.{Around, Meaning, meaning, meanings}
-use Rattle.machine.specs.Frames.{Asked, Did, action_move, asked, at_once, body_move, command_move, command_request, function, giving_request, if_any, link_kind, many, meaning_if, object, on_value, one, one_or_two, tested, timed, two, values, while_move}
+use Rattle.machine.specs.BodyMoves.{Asked, Did, action_move, asked, at_once, body_move, command_move, command_request, function, giving_request, if_any, link_kind, many, meaning_if, object, on_value, one, one_or_two, tested, timed, two, values, while_move}
 use Rattle.machine.specs.declared.request.Request.{Request}
-use Rattle.machine.specs.Life.{given, leaving_of, named}
-use Rattle.machine.specs.Raising.{Caught, Unwound, bind_if, block_first, catching, finally_first, unwind}
+use Rattle.machine.specs.Landing.{given}
+use Rattle.machine.specs.Ends.{leaving_of}
+use Rattle.machine.specs.Greenlets.{named}
+use Rattle.machine.specs.Unwinding.{Caught, Unwound, bind_if, block_first, catching, finally_first, unwind}
 use Rattle.machine_arguments.specs.Few.{AsksFew, HasFew, HasFewArguments, HasFewBody, HasFewDid, HasFewExcepts, HasFewParts, HasFewStep, HasFewToDo, HasFewUnwound}
 use Rattle.machine_arguments.proofs.Parts.{caught-few, head-few, others-few, rest-few}
 

@@ -26,7 +26,7 @@ use Rattle.scenario_rules.specs.Mentions.{block_mentions, mentions, most_timeout
 use Rattle.scenario_rules.specs.Reasons.{too_many, undeclared, wrong_count, wrong_kind}
 use Rattle.scenario_rules.specs.Rules.{IsWellFormed, function_refusals, is_undeclared, is_wrong_count, is_wrong_kind, past, refused, refused_names, word_refusals}
 use Rattle.scenario_tree.specs.Limits.{most_parameters}
-use Rattle.machine.specs.Life.{no_function}
+use Rattle.machine.specs.Greenlets.{no_function}
 use Rattle.machine_arguments.specs.Few.{HasFew, HasFewCalls, are_few, has_few, is_few}
 use Rattle.machine_arguments.proofs.Parts.{AreFew, few-right, none-few}
 

@@ -16,9 +16,9 @@ use Rattle.scenario_rules.specs.Mentions.{action_mentions, block_mentions, handl
 use Rattle.scenario_tree.specs.Limits.{most_parameters}
 use Rattle.machine.specs.declared.state.Todo.{Todo}
 use Rattle.machine.specs.Bodies.{Body, Step}
-use Rattle.machine.specs.Frames.{Did}
+use Rattle.machine.specs.BodyMoves.{Did}
 use Rattle.machine.specs.declared.request.Request.{Request}
-use Rattle.machine.specs.Raising.{Unwound}
+use Rattle.machine.specs.Unwinding.{Unwound}
 
 -- ---- what lines say
 

@@ -12,8 +12,8 @@ use Rattle.machine.specs.declared.state.Local.{Local}
 use Rattle.machine.specs.declared.state.Todo.{Todo}
 use Rattle.machine.specs.Bodies.{Body, begins, resume}
 use Rattle.machine.specs.Expressions.{Around}
-use Rattle.machine.specs.Frames.{body_move}
-use Rattle.machine.specs.Raising.{unwind}
+use Rattle.machine.specs.BodyMoves.{body_move}
+use Rattle.machine.specs.Unwinding.{unwind}
 use Rattle.machine_arguments.specs.Few.{HasFew, HasFewBody, HasFewCalls, HasFewDid, HasFewParts, HasFewStep, HasFewToDo, HasFewUnwound}
 
 -- each call of a well-formed scenario has few arguments

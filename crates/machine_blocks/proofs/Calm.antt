@@ -34,20 +34,27 @@ use Rattle.machine.specs.declared.state.Object.{Object}
 use Rattle.machine.specs.declared.state.Phase.{Phase}
 use Rattle.machine.specs.declared.state.Todo.{Todo}
 use Rattle.machine.specs.State.{State, say}
-use Rattle.machine.specs.Answers.{any_numbered, any_outstanding, arrives, asks_wait, block_line, job_done, least_deadline, question, take_answer}
+use Rattle.machine.specs.Questions.{any_numbered, any_outstanding, arrives, asks_wait, block_line, job_done, least_deadline, question, take_answer}
 use Rattle.machine.specs.Deliveries.{arguments, called, calls, deliver, delivers, interrupts, late, since_of_wake, waiting_of, without_item, without_offer_by, without_wait}
-use Rattle.machine.specs.Frames.{Did, body_move}
+use Rattle.machine.specs.BodyMoves.{Did, body_move}
 use Rattle.machine.specs.declared.request.Request.{Request}
 use Rattle.machine.specs.Holds.{earlier, is_take, job_at, newcomer_completes, outcome_of}
 use Rattle.gv_values.specs.Ends.{link_fits}
-use Rattle.machine.specs.Life.{Landing, Next, add_greenlet, add_item, after_end, answered, drop_items, ended, frame_of, function_of, given, goes_on, greenlet, has_greenlet_left, host_of, is_above, is_timeout_of, land, lands, leaving_of, named, outcome_of_leaving, resumes, starts, stop_of, with_phase}
+use Rattle.machine.specs.Landing.{Landing, Next, after_end, answered, given, goes_on, land, lands, resumes, starts}
+use Rattle.machine.specs.Greenlets.{add_greenlet, frame_of, function_of, greenlet, has_greenlet_left, named, with_phase}
+use Rattle.machine.specs.Items.{add_item, drop_items, is_timeout_of}
+use Rattle.machine.specs.Ends.{ended, leaving_of, outcome_of_leaving, stop_of}
+use Rattle.machine.specs.Hosts.{host_of, is_above}
 use Rattle.gv_values.specs.Ends.{kept}
-use Rattle.machine.specs.Moves.{Sending, acquires, after_release, any_greenlet, at_bound, done, does, fault_operand, finishes, follows, has_start, int_operand, is_link, is_new, job_of, kills, kills_standing, links, list_operand, look, makes, members_of, move, on_host, performs, plain_greenlet, plain_greenlet_list, put_result, raw_greenlet, releases, sends, sends_all, sets_of, sets_parent, start_of, starts_at, takes_value, timeout_item, typed, whom_operand}
+use Rattle.machine.specs.Requests.{Sending, acquires, any_greenlet, done, fault_operand, finishes, follows, has_start, int_operand, is_link, is_new, job_of, kills, kills_standing, links, list_operand, makes, on_host, performs, plain_greenlet, plain_greenlet_list, put_result, raw_greenlet, releases, sends, sends_all, sets_parent, start_of, starts_at, typed, whom_operand}
+use Rattle.machine.specs.Objects.{after_release, at_bound, members_of, sets_of, takes_value}
+use Rattle.machine.specs.Moves.{does, look, move, timeout_item}
 use Rattle.machine.specs.Quiet.{blocked_states}
-use Rattle.machine.specs.Raising.{Unwound, unwind}
+use Rattle.machine.specs.Unwinding.{Unwound, unwind}
 use Rattle.machine.specs.Run.{GoingOn, Passed, Source, after_answer, after_delivery, after_exit, after_question, after_start, after_turn, asks, blocked_at, deliveries, delivers_one, first_state, least_below, loop_exit, run_from, run_turns, runs, silent, turn, with_posts}
 use Rattle.machine.specs.Settle.{settle}
-use Rattle.machine.specs.Waits.{Performed, add_member, comes, completes, drawn, draws, gathered, is_left, is_shut, item_of, late_outcome, made_member, map_ends, map_goes_on, maps, name_of_object, nothing, object_at, offered, outcome_of_greenlet, parked, peeks_item, puts_item, raises, takes_item, until_of, waits, with_item, with_item_taken, with_object}
+use Rattle.machine.specs.Waits.{Performed, add_member, comes, completes, drawn, draws, gathered, late_outcome, made_member, map_ends, map_goes_on, maps, nothing, offered, outcome_of_greenlet, parked, peeks_item, puts_item, raises, takes_item, until_of, waits}
+use Rattle.machine.specs.Objects.{is_left, is_shut, item_of, name_of_object, object_at, with_item, with_item_taken, with_object}
 use Rattle.machine_blocks.specs.Blocks.{block_lines, is_block}
 
 -- the block lines of the step under way are these

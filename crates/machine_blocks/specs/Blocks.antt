@@ -4,7 +4,7 @@ use Rattle.std.specs.List.{flat_map}
 use Rattle.scenario_tree.specs.declared.tree.Scenario.{Scenario}
 use Rattle.trace_text.specs.declared.line.Line.{Line}
 use Rattle.machine.specs.State.{State}
-use Rattle.machine.specs.Answers.{block_line}
+use Rattle.machine.specs.Questions.{block_line}
 use Rattle.machine.specs.Quiet.{blocked_states}
 use Rattle.machine.specs.Run.{Source, run_from, silent}
 

@@ -21,7 +21,7 @@ use Rattle.scenario_rules.specs.Rules.{IsWellFormed, function_refusals, is_decla
 use Rattle.scenario_rules.specs.Reasons.{undeclared}
 use Rattle.unbuilt_forms.specs.Built.{IsBuilt, unbuilt_in_function, unless}
 use Rattle.machine.specs.Expressions.{function_number}
-use Rattle.machine.specs.Life.{lands, starts}
+use Rattle.machine.specs.Landing.{lands, starts}
 use Rattle.machine.specs.Run.{first_state, object_of}
 use Rattle.machine_soundness.proofs.Lists.{both}
 use Rattle.machine_built.specs.Laws.{HasMain}

@@ -19,12 +19,12 @@ use Rattle.machine.specs.declared.state.Local.{Local}
 use Rattle.machine.specs.declared.state.Todo.{Todo}
 use Rattle.machine.specs.State.{Name}
 use Rattle.machine.specs.Expressions.{Around, meaning, function_number}
-use Rattle.machine.specs.Frames.{Asked, Did, action_move, asked, body_move, command_move, giving_request, many, on_value, one, tested, timed, values, while_move}
+use Rattle.machine.specs.BodyMoves.{Asked, Did, action_move, asked, body_move, command_move, giving_request, many, on_value, one, tested, timed, values, while_move}
 use Rattle.machine.specs.declared.request.Request.{Request}
-use Rattle.machine.specs.Raising.{Caught, Unwound, bind_if, block_first, catching, finally_first, unwind}
+use Rattle.machine.specs.Unwinding.{Caught, Unwound, bind_if, block_first, catching, finally_first, unwind}
 use Rattle.machine_soundness.proofs.Lists.{left, right, both}
 use Rattle.machine.specs.State.{State}
-use Rattle.machine.specs.Life.{frame_of, greenlet}
+use Rattle.machine.specs.Greenlets.{frame_of, greenlet}
 use Rattle.machine_soundness.specs.Going.{IsGoing, is_meant_did, is_meant_move, is_meant_request, is_plain, next_did}
 use Rattle.machine_soundness.proofs.Greenlets.{live-found, plain-here}
 use Rattle.machine_built.specs.Runnable.{IsRunnable, is_runnable, is_runnable_block, is_runnable_did, is_runnable_except, is_runnable_giving, is_runnable_request, is_runnable_rest}

@@ -12,7 +12,10 @@ use Rattle.machine.specs.declared.items.Item.{Item}
 use Rattle.machine.specs.declared.state.Greenlet.{Greenlet}
 use Rattle.machine.specs.declared.state.Phase.{Phase}
 use Rattle.machine.specs.State.{State, say}
-use Rattle.machine.specs.Life.{add_item, drop_items, with_phase, greenlet, nobody, add_greenlet, ended, goes_at_end, without_member, function_of, no_function, frame_of}
+use Rattle.machine.specs.Items.{add_item, drop_items, goes_at_end}
+use Rattle.machine.specs.Greenlets.{with_phase, greenlet, nobody, add_greenlet, function_of, no_function, frame_of}
+use Rattle.machine.specs.Ends.{ended}
+use Rattle.machine.specs.Objects.{without_member}
 use Rattle.machine.specs.Settle.{settle}
 use Rattle.machine_soundness.proofs.Lists.{left, right, both, all-end, all-filter, all-set, all-get, not-true}
 use Rattle.machine_soundness.proofs.States.{all-settle}

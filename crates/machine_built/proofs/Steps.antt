@@ -21,15 +21,19 @@ use Rattle.machine.specs.declared.state.Leaving.{Leaving}
 use Rattle.machine.specs.declared.state.Local.{Local}
 use Rattle.machine.specs.declared.state.Phase.{Phase}
 use Rattle.machine.specs.State.{State, say}
-use Rattle.machine.specs.Answers.{any_numbered, arrives, block_line, job_done, take_answer}
+use Rattle.machine.specs.Questions.{any_numbered, arrives, block_line, job_done, take_answer}
 use Rattle.machine.specs.Deliveries.{arguments, deliver, delivers, interrupts, without, without_item, without_wait}
-use Rattle.machine.specs.Frames.{Did}
+use Rattle.machine.specs.BodyMoves.{Did}
 use Rattle.machine.specs.declared.request.Request.{Request}
 use Rattle.machine.specs.Holds.{newcomer_completes}
-use Rattle.machine.specs.Life.{Landing, Next, add_greenlet, after_end, answered, drop_items, ended, frame_of, function_of, given, goes_on, greenlet, has_greenlet_left, is_timeout_of, is_wait_of, lands, leaving_of, named, outcome_of_leaving, starts, stop_of, with_phase}
+use Rattle.machine.specs.Landing.{Landing, Next, after_end, answered, given, goes_on, lands, starts}
+use Rattle.machine.specs.Greenlets.{add_greenlet, frame_of, function_of, greenlet, has_greenlet_left, named, with_phase}
+use Rattle.machine.specs.Items.{drop_items, is_timeout_of, is_wait_of}
+use Rattle.machine.specs.Ends.{ended, leaving_of, outcome_of_leaving, stop_of}
 use Rattle.gv_values.specs.Ends.{kept}
-use Rattle.machine.specs.Moves.{does, follows, makes, move, performs, plain_greenlet, starts_at, typed}
-use Rattle.machine.specs.Raising.{Unwound, unwind}
+use Rattle.machine.specs.Moves.{does, move}
+use Rattle.machine.specs.Requests.{follows, makes, performs, plain_greenlet, starts_at, typed}
+use Rattle.machine.specs.Unwinding.{Unwound, unwind}
 use Rattle.machine.specs.Run.{silent}
 use Rattle.machine.specs.Settle.{settle}
 use Rattle.machine.specs.Waits.{Performed, comes, completes, parked, until_of, waits}

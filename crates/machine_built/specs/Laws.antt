@@ -10,9 +10,10 @@ use Rattle.unbuilt_forms.specs.Built.{IsBuilt}
 use Rattle.machine.specs.declared.items.Item.{Item}
 use Rattle.machine.specs.State.{State}
 use Rattle.machine.specs.Expressions.{function_number}
-use Rattle.machine.specs.Answers.{block_line, take_answer}
+use Rattle.machine.specs.Questions.{block_line, take_answer}
 use Rattle.machine.specs.Deliveries.{deliver, interrupts}
-use Rattle.machine.specs.Life.{greenlet, starts, lands}
+use Rattle.machine.specs.Greenlets.{greenlet}
+use Rattle.machine.specs.Landing.{starts, lands}
 use Rattle.machine.specs.Moves.{move}
 use Rattle.machine.specs.Run.{first_state, silent}
 use Rattle.machine_soundness.specs.Going.{is_plain, is_meant_move, next_did}

@@ -21,9 +21,9 @@ use Rattle.machine.specs.declared.state.Phase.{Phase}
 use Rattle.machine.specs.declared.state.Todo.{Todo}
 use Rattle.machine.specs.State.{State, Name}
 use Rattle.machine.specs.Expressions.{function_number}
-use Rattle.machine.specs.Frames.{Did}
+use Rattle.machine.specs.BodyMoves.{Did}
 use Rattle.machine.specs.declared.request.Request.{Request}
-use Rattle.machine.specs.Life.{Next}
+use Rattle.machine.specs.Landing.{Next}
 
 -- ---- functions
 

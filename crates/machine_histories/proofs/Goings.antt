@@ -17,12 +17,16 @@ use Rattle.machine.specs.State.{State, say}
 use Rattle.machine.specs.Holds.{holds, phase_of}
 use Rattle.std.proofs.lemmas.List.{length-map}
 use Rattle.machine.specs.Expressions.{function_number}
-use Rattle.machine.specs.Laws.{is_of, is_some_number, is_end_of, is_park, throws_at_parked}
-use Rattle.machine.specs.Life.{Next, add_greenlet, add_item, drop_items, ended, goes_at_end, greenlet, nobody, with_phase, without_member}
-use Rattle.machine.specs.Moves.{is_kill, kills_standing}
+use Rattle.machine.specs.TraceLaws.{is_of, is_some_number, is_end_of, is_park, throws_at_parked}
+use Rattle.machine.specs.Landing.{Next}
+use Rattle.machine.specs.Greenlets.{add_greenlet, greenlet, nobody, with_phase}
+use Rattle.machine.specs.Items.{add_item, drop_items, goes_at_end}
+use Rattle.machine.specs.Ends.{ended}
+use Rattle.machine.specs.Objects.{without_member}
+use Rattle.machine.specs.Requests.{is_kill, kills_standing}
 use Rattle.machine.specs.Settle.{settle}
 use Rattle.machine.specs.Soundness.{Claim, claim_of, is_under_way, same_claim}
-use Rattle.machine.specs.Waits.{object_at, with_object}
+use Rattle.machine.specs.Objects.{object_at, with_object}
 use Rattle.machine_soundness.specs.Going.{is_plain, IsKept}
 use Rattle.machine_soundness.specs.Laws.{is_wake_of}
 use Rattle.machine_soundness.proofs.Lists.{length-set, left, right, both, all-end, all-get, all-imply, all-filter, all-of, all-set, equal, unequal}

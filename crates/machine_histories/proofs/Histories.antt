@@ -7,7 +7,7 @@ use Rattle.world_rules.specs.declared.question.PostedJob.{PostedJob}
 use Rattle.world_rules.specs.Legal.{AreLegal, posted}
 use Rattle.trace_text.specs.declared.line.Line.{Line}
 use Rattle.machine.specs.declared.state.Post.{Post}
-use Rattle.machine.specs.Laws.{each_line, ends_once, nothing_after_end, throws_at_parked, links_after_end, moments_rise, jobs_done_once, meets_laws}
+use Rattle.machine.specs.TraceLaws.{each_line, ends_once, nothing_after_end, throws_at_parked, links_after_end, moments_rise, jobs_done_once, meets_laws}
 use Rattle.machine.specs.Run.{logged}
 use Rattle.machine_soundness.proofs.Lists.{both}
 

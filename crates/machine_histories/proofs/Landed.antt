@@ -17,10 +17,14 @@ use Rattle.machine.specs.declared.state.Phase.{Phase}
 use Rattle.machine.specs.declared.state.Todo.{Todo}
 use Rattle.machine.specs.State.{State, say}
 use Rattle.machine.specs.Holds.{phase_of}
-use Rattle.machine.specs.Laws.{throws_at_parked}
-use Rattle.machine.specs.Life.{Next, Landing, after_end, answered, drop_items, ended, frame_of, function_of, given, goes_on, greenlet, host_of, host_within, is_timeout_of, land, lands, leaving_of, named, outcome_of_leaving, resumes, starts, stop_of, with_phase}
+use Rattle.machine.specs.TraceLaws.{throws_at_parked}
+use Rattle.machine.specs.Landing.{Next, Landing, after_end, answered, given, goes_on, land, lands, resumes, starts}
+use Rattle.machine.specs.Items.{drop_items, is_timeout_of}
+use Rattle.machine.specs.Ends.{ended, leaving_of, outcome_of_leaving, stop_of}
+use Rattle.machine.specs.Greenlets.{frame_of, function_of, greenlet, named, with_phase}
+use Rattle.machine.specs.Hosts.{host_of, host_within}
 use Rattle.gv_values.specs.Ends.{kept}
-use Rattle.machine.specs.Raising.{Unwound, unwind}
+use Rattle.machine.specs.Unwinding.{Unwound, unwind}
 use Rattle.machine.specs.Soundness.{Claim, is_unclaimed, is_under_way, is_unstarted}
 use Rattle.machine_soundness.specs.Going.{has_no_wait, is_plain, IsGoing, IsKept}
 use Rattle.machine_soundness.specs.Laws.{is_wake_of}

@@ -17,8 +17,9 @@ use Rattle.machine.specs.declared.state.Local.{Local}
 use Rattle.machine.specs.declared.state.Phase.{Phase}
 use Rattle.machine.specs.declared.state.Todo.{Todo}
 use Rattle.machine.specs.Holds.{phase_of}
-use Rattle.machine.specs.Life.{is_timeout_of, no_function}
-use Rattle.machine.specs.Raising.{Unwound, unwind}
+use Rattle.machine.specs.Items.{is_timeout_of}
+use Rattle.machine.specs.Greenlets.{no_function}
+use Rattle.machine.specs.Unwinding.{Unwound, unwind}
 use Rattle.machine.specs.Soundness.{is_unstarted}
 use Rattle.machine_soundness.proofs.Greenlets.{at, phase-other}
 use Rattle.machine_soundness.proofs.Lists.{all-filter, all-get, all-imply, both, equal, left, right, unequal}

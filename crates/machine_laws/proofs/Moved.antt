@@ -29,16 +29,22 @@ use Rattle.machine.specs.declared.state.Todo.{Todo}
 use Rattle.machine.specs.State.{State, say}
 use Rattle.machine.specs.Holds.{phase_of, outcome_of}
 use Rattle.gv_values.specs.Ends.{link_fits}
-use Rattle.machine.specs.Frames.{Did}
+use Rattle.machine.specs.BodyMoves.{Did}
 use Rattle.machine.specs.declared.request.Request.{Request}
-use Rattle.machine.specs.Laws.{is_link_line, is_of, is_park}
-use Rattle.machine.specs.Raising.{unwind}
+use Rattle.machine.specs.TraceLaws.{is_link_line, is_of, is_park}
+use Rattle.machine.specs.Unwinding.{unwind}
 use Rattle.machine.specs.Settle.{settle}
-use Rattle.machine.specs.Life.{add_item, drop_items, add_greenlet, has_greenlet_left, greenlet, with_phase, ended, host_of, is_above, frame_of, no_function}
+use Rattle.machine.specs.Items.{add_item, drop_items}
+use Rattle.machine.specs.Greenlets.{add_greenlet, has_greenlet_left, greenlet, with_phase, frame_of, no_function}
+use Rattle.machine.specs.Ends.{ended}
+use Rattle.machine.specs.Hosts.{host_of, is_above}
 use Rattle.gv_values.specs.Ends.{kept}
-use Rattle.machine.specs.Moves.{Sending, performs, follows, does, move, enters, timeout_item, sends, sends_all, kills, kills_standing, links, makes, starts_at, start_of, is_new, has_start, releases, at_bound, after_release, finishes, takes_value, members_of, acquires, sets_of, fault_operand, plain_greenlet, plain_greenlet_list, list_operand, int_operand, any_greenlet, whom_operand, job_of, is_link, is_kill, put_result, done, typed, on_host, raw_greenlet, sets_parent, with_flag, with_shut, look}
+use Rattle.machine.specs.Requests.{Sending, performs, follows, sends, sends_all, kills, kills_standing, links, makes, starts_at, start_of, is_new, has_start, releases, finishes, acquires, fault_operand, plain_greenlet, plain_greenlet_list, list_operand, int_operand, any_greenlet, whom_operand, job_of, is_link, is_kill, put_result, done, typed, on_host, raw_greenlet, sets_parent}
+use Rattle.machine.specs.Moves.{does, move, enters, timeout_item, look}
+use Rattle.machine.specs.Objects.{at_bound, after_release, takes_value, members_of, sets_of, with_flag, with_shut}
 use Rattle.machine.specs.Soundness.{is_under_way, is_unstarted}
-use Rattle.machine.specs.Waits.{Performed, with_object, object_at, name_of_object, comes, raises, nothing, maps}
+use Rattle.machine.specs.Waits.{Performed, comes, raises, nothing, maps}
+use Rattle.machine.specs.Objects.{with_object, object_at, name_of_object}
 use Rattle.machine_soundness.specs.Going.{is_plain, is_meant_request, next_did, IsKept}
 use Rattle.machine_soundness.specs.Laws.{is_wake_of}
 use Rattle.machine_soundness.proofs.Lists.{left, right, both, all-end, all-set, all-of, next-other, at-most, above, equal, unequal}

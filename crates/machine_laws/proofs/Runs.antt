@@ -14,11 +14,11 @@ use Rattle.trace_text.specs.declared.line.StopCause.{StopCause}
 use Rattle.machine.specs.declared.items.Item.{Item}
 use Rattle.machine.specs.declared.state.JobState.{JobState}
 use Rattle.machine.specs.State.{State, say}
-use Rattle.machine.specs.Answers.{any_numbered, arrives, block_line, is_numbered, job_done, question, take_answer}
+use Rattle.machine.specs.Questions.{any_numbered, arrives, block_line, is_numbered, job_done, question, take_answer}
 use Rattle.machine.specs.Deliveries.{deliver, interrupts}
-use Rattle.machine.specs.Laws.{meets_laws}
+use Rattle.machine.specs.TraceLaws.{meets_laws}
 use Rattle.machine.specs.Holds.{job_at}
-use Rattle.machine.specs.Life.{Next, lands, starts}
+use Rattle.machine.specs.Landing.{Next, lands, starts}
 use Rattle.machine.specs.Moves.{move}
 use Rattle.machine.specs.Run.{GoingOn, Passed, Ran, Source, after_answer, after_delivery, after_exit, after_question, after_start, after_turn, asks, deliveries, delivers_one, first_state, given_out, least_below, logged, loop_exit, nearer, passed, rests, run_from, run_turns, runs, silent, stopped, turn, with_posts, with_this}
 use Rattle.machine_soundness.proofs.States.{kept-say}

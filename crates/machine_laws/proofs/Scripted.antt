@@ -19,8 +19,8 @@ use Rattle.trace_text.specs.declared.line.Line.{Line}
 use Rattle.machine.specs.declared.state.JobState.{JobState}
 use Rattle.machine.specs.declared.state.Post.{Post}
 use Rattle.machine.specs.State.{State, say}
-use Rattle.machine.specs.Answers.{any_numbered, any_outstanding, asks_wait, block_line, is_outstanding, least_deadline, question, take_answer}
-use Rattle.machine.specs.Life.{Next, lands, starts}
+use Rattle.machine.specs.Questions.{any_numbered, any_outstanding, asks_wait, block_line, is_outstanding, least_deadline, question, take_answer}
+use Rattle.machine.specs.Landing.{Next, lands, starts}
 use Rattle.machine.specs.Run.{GoingOn, Passed, Ran, Source, after_answer, after_exit, after_question, after_start, after_turn, asks, due_jobs, first_state, given_out, logged, loop_exit, run_turns, runs, script_run, silent, turn, with_posts}
 use Rattle.machine_soundness.proofs.Lists.{equal, left, right}
 use Rattle.machine_laws.specs.Reached.{Reached}

@@ -5,9 +5,9 @@ use Rattle.gv_values.specs.declared.job.Answer.{Answer}
 use Rattle.scenario_tree.specs.declared.tree.Scenario.{Scenario}
 use Rattle.machine.specs.declared.items.Item.{Item}
 use Rattle.machine.specs.State.{State}
-use Rattle.machine.specs.Answers.{block_line, is_numbered, take_answer}
+use Rattle.machine.specs.Questions.{block_line, is_numbered, take_answer}
 use Rattle.machine.specs.Deliveries.{deliver, interrupts}
-use Rattle.machine.specs.Life.{Next, lands, starts}
+use Rattle.machine.specs.Landing.{Next, lands, starts}
 use Rattle.machine.specs.Moves.{move}
 use Rattle.machine.specs.Run.{first_state, silent}
 

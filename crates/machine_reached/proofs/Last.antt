@@ -6,8 +6,8 @@ use Rattle.world_rules.specs.Legal.{moment_of}
 use Rattle.world_rules.specs.Script.{scripted, without}
 use Rattle.scenario_tree.specs.declared.tree.Scenario.{Scenario}
 use Rattle.machine.specs.State.{State}
-use Rattle.machine.specs.Answers.{block_line, question, take_answer}
-use Rattle.machine.specs.Life.{Next, lands, starts}
+use Rattle.machine.specs.Questions.{block_line, question, take_answer}
+use Rattle.machine.specs.Landing.{Next, lands, starts}
 use Rattle.machine.specs.Run.{GoingOn, Source, after_exit, after_question, after_start, after_turn, asks, first_state, loop_exit, run_from, run_turns, runs, silent, turn, with_posts}
 use Rattle.machine_reached.specs.Bounds.{IsBounded}
 use Rattle.machine_laws.specs.Reached.{Reached}

@@ -3,8 +3,8 @@ use Rattle.std.specs.Prelude.{◌≤◌, ◌+◌, ◌*◌, ℕ, length}
 use Rattle.scenario_tree.specs.declared.tree.Scenario.{Scenario}
 use Rattle.scenario_rules.specs.Rules.{IsWellFormed}
 use Rattle.machine.specs.State.{State}
-use Rattle.machine.specs.Life.{Next}
-use Rattle.machine.specs.Moves.{kills_standing}
+use Rattle.machine.specs.Landing.{Next}
+use Rattle.machine.specs.Requests.{kills_standing}
 use Rattle.machine.specs.Run.{Source, run_from}
 use Rattle.machine_laws.specs.Reached.{Reached, state_of}
 

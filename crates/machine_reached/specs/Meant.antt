@@ -3,8 +3,8 @@ use Rattle.std.specs.Prelude.{◌≡◌, ℕ, Bool, true}
 use Rattle.scenario_tree.specs.declared.tree.Scenario.{Scenario}
 use Rattle.scenario_rules.specs.Rules.{IsWellFormed}
 use Rattle.machine.specs.State.{State}
-use Rattle.machine.specs.Frames.{Did}
-use Rattle.machine.specs.Life.{Next}
+use Rattle.machine.specs.BodyMoves.{Did}
+use Rattle.machine.specs.Landing.{Next}
 use Rattle.machine_soundness.specs.Going.{is_meant_move, next_did}
 use Rattle.machine_texts.specs.Texts.{HasMain, IsKnown, fits_request}
 use Rattle.machine_laws.specs.Reached.{Reached, state_of}

@@ -166,7 +166,7 @@ without-plain gs since (Object.Channel offers) h = refl
 without-plain gs since x h = h
 
 -- an offer goes
-offer-gone : (o : Option ℕ) (s : State) → IsKept s → IsKept (without_offer_by o s)
+pub offer-gone : (o : Option ℕ) (s : State) → IsKept s → IsKept (without_offer_by o s)
 offer-gone None s h = h
 offer-gone (Some since) s h = kept-objects (map (without_offer since) s.objects) s (all-map (without_offer since) _ _ s.objects (without-plain s.greenlets since) h.members) h
 

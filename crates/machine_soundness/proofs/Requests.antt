@@ -210,7 +210,7 @@ offer-plain : (gs : List Greenlet) (v : Value) (since : ℕ) (x : Object) → ha
 offer-plain gs v since (Object.Channel offers) h = refl
 offer-plain gs v since x h = h
 
-offer_taken-plain : (gs : List Greenlet) (x : Object) → has_plain_members gs x ≡ true → has_plain_members gs (with_offer_taken x) ≡ true
+pub offer_taken-plain : (gs : List Greenlet) (x : Object) → has_plain_members gs x ≡ true → has_plain_members gs (with_offer_taken x) ≡ true
 offer_taken-plain gs (Object.Channel offers) h = refl
 offer_taken-plain gs x h = h
 

@@ -30,9 +30,9 @@ use Rattle.machine.specs.declared.state.Local.{Local}
 use Rattle.machine.specs.declared.state.Todo.{Todo}
 use Rattle.machine.specs.State.{Name}
 use Rattle.machine.specs.Expressions.{Around, function_number, meaning, object_number}
-use Rattle.machine.specs.Frames.{Asked, Did, action_move, asked, body_move, command_move, giving_request, if_any, many, on_value, one, one_or_two, tested, two, while_move, link_kind}
+use Rattle.machine.specs.BodyMoves.{Asked, Did, action_move, asked, body_move, command_move, giving_request, if_any, many, on_value, one, one_or_two, tested, two, while_move, link_kind}
 use Rattle.machine.specs.declared.request.Request.{Request}
-use Rattle.machine.specs.Raising.{Caught, Unwound, bind_if, block_first, catching, finally_first, unwind}
+use Rattle.machine.specs.Unwinding.{Caught, Unwound, bind_if, block_first, catching, finally_first, unwind}
 use Rattle.machine_soundness.specs.Going.{is_meant_request, may_wait}
 use Rattle.machine_soundness.proofs.Lists.{left, right, both}
 use Rattle.machine_texts.specs.Texts.{fits, fits_block, fits_request, fits_rest, is_raw_function, left_in, may_say, withins, fits_link, is_wanted}

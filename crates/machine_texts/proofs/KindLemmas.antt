@@ -9,11 +9,12 @@ use Rattle.scenario_tree.specs.declared.tree.Scenario.{Scenario}
 use Rattle.scenario_rules.specs.Declarations.{is_kind}
 use Rattle.scenario_rules.specs.declared.mention.Wanted.TheVariants as wanted
 use Rattle.machine.specs.declared.state.Object.{Object}
-use Rattle.machine.specs.Answers.{with_slot_freed}
-use Rattle.machine.specs.Life.{without_member}
-use Rattle.machine.specs.Moves.{acquires, with_flag, with_shut}
+use Rattle.machine.specs.Objects.{with_slot_freed}
+use Rattle.machine.specs.Objects.{without_member}
+use Rattle.machine.specs.Requests.{acquires}
+use Rattle.machine.specs.Objects.{with_flag, with_shut}
 use Rattle.machine.specs.Run.{object_of}
-use Rattle.machine.specs.Waits.{no_object, with_item, with_item_taken, with_member, with_offer, with_offer_taken, with_owner, with_slot_taken, with_unit_taken, without_offer}
+use Rattle.machine.specs.Objects.{no_object, with_item, with_item_taken, with_member, with_offer, with_offer_taken, with_owner, with_slot_taken, with_unit_taken, without_offer}
 use Rattle.machine_texts.specs.Kinds.{Kind, declared_kinds, kind_declared, kind_of, kinds}
 use Rattle.machine_texts.specs.Texts.{fits_wait, is_lock, is_wanted}
 

@@ -25,7 +25,7 @@ use Rattle.scenario_rules.specs.Mentions.{block_mentions, mentions, most_timeout
 use Rattle.scenario_tree.specs.Limits.{most_parameters}
 use Rattle.scenario_rules.specs.Rules.{IsWellFormed, function_refusals, is_hub_in_raw_body, is_too_deep, is_undeclared, is_wrong_count, is_wrong_head, is_wrong_kind, most_functions, most_local_names, most_objects, past, refused, refused_names, word_refusals}
 use Rattle.machine.specs.Expressions.{function_number, object_number}
-use Rattle.machine.specs.Life.{no_function}
+use Rattle.machine.specs.Greenlets.{no_function}
 use Rattle.machine_soundness.proofs.Lists.{right, both}
 use Rattle.machine_texts.specs.Texts.{IsFitText, fits, is_fit_function, is_raw_function, may_say, is_function, is_wanted}
 

@@ -7,6 +7,7 @@ use Rattle.gv_values.specs.declared.value.Whom.{Whom}
 use Rattle.gv_values.specs.declared.scalar.Scalar.{Scalar}
 use Rattle.gv_values.specs.declared.fault.FaultKind.{FaultKind}
 use Rattle.gv_values.specs.Values.{value_of_scalar}
+use Rattle.scenario_tree.specs.declared.tree.Scenario.{Scenario}
 use Rattle.scenario_tree.specs.declared.tree.Wait.{Wait}
 use Rattle.trace_text.specs.declared.line.Line.{Line}
 use Rattle.trace_text.specs.declared.line.LinkCall.{LinkCall}
@@ -44,6 +45,7 @@ use Rattle.machine.specs.Deliveries.{waiting_of, without_wait, interrupts, late,
 
 -- what no step changes but an item that comes or goes, a settling or a job
 pub record Core : Type 0 where
+  pub scenario : Scenario
   pub items : List Item
   pub next_ready : ℕ
   pub next_since : ℕ
@@ -52,7 +54,7 @@ pub record Core : Type 0 where
   pub posts : List Post
 
 abbrev pub core : State → Core
-core s = record { items = s.items; next_ready = s.next_ready; next_since = s.next_since; moment = s.moment; jobs = s.jobs; posts = s.posts }
+core s = record { scenario = s.scenario; items = s.items; next_ready = s.next_ready; next_since = s.next_since; moment = s.moment; jobs = s.jobs; posts = s.posts }
 
 -- what a law needs to stay so at every step
 pub record Keeps (P : State → Type 0) : Type 0 where

@@ -1,5 +1,5 @@
 use Rattle.std.proofs.Common.{◌≡◌, ◌++◌, drop}
-use Rattle.machine.specs.Life.{named}
+use Rattle.machine.specs.Greenlets.{named}
 use Rattle.body_values.proofs.locals.named.Given as goal
 
 abbrev pub invariant-loop-name : goal.invariant-loop-name

@@ -1,5 +1,5 @@
 use Rattle.std.proofs.Common.{◌≡◌, length}
-use Rattle.machine.specs.Raising.{catching}
+use Rattle.machine.specs.Unwinding.{catching}
 use Rattle.flat_code.proofs.unwind.catching.Given as goal
 
 abbrev pub invariant-loop-f : goal.invariant-loop-f

@@ -1,5 +1,5 @@
 use Rattle.std.proofs.Common.{◌≡◌, length}
-use Rattle.machine.specs.Raising.{unwind}
+use Rattle.machine.specs.Unwinding.{unwind}
 use Rattle.flat_code.proofs.unwind.unwind.Given as goal
 
 abbrev pub invariant-loop-how : goal.invariant-loop-how

@@ -3,7 +3,8 @@ use Rattle.gv_values.specs.declared.value.Outcome.{Outcome}
 use Rattle.machine.specs.declared.state.Frame.{Frame}
 use Rattle.machine.specs.declared.state.Phase.{Phase}
 use Rattle.machine.specs.State.{State}
-use Rattle.machine.specs.Life.{lands, no_frame, resumes, with_phase}
+use Rattle.machine.specs.Landing.{lands, resumes}
+use Rattle.machine.specs.Greenlets.{no_frame, with_phase}
 use Rattle.body_frames.specs.Places.{Place}
 use Rattle.body_frames.specs.Standings.{reached_of}
 use Rattle.hub_engine.specs.Stands.{goes_to, next_at}

@@ -1,6 +1,7 @@
 use Rattle.std.proofs.Common.{◌∙◌, ap}
 use Rattle.machine.specs.declared.state.Phase.{Phase}
-use Rattle.machine.specs.Life.{lands, with_phase}
+use Rattle.machine.specs.Landing.{lands}
+use Rattle.machine.specs.Greenlets.{with_phase}
 use Rattle.body_moves.specs.Requests.{asking}
 use Rattle.body_frames.specs.Standings.{moved_of, reached_of}
 use Rattle.body_frames.specs.declared.Moved.{Moved}

@@ -1,5 +1,5 @@
 use Rattle.machine.specs.declared.state.Phase.{Phase}
-use Rattle.machine.specs.Life.{with_phase}
+use Rattle.machine.specs.Greenlets.{with_phase}
 use Rattle.body_frames.specs.Standings.{moved_of}
 use Rattle.hub_engine.proofs.Moving.{moved}
 use Rattle.hub_engine.proofs.Readily.{ready_moved}

@@ -1,5 +1,5 @@
 use Rattle.std.proofs.Common.{rules, ◌≡◌, []}
-use Rattle.machine.specs.Life.{starts, lands}
+use Rattle.machine.specs.Landing.{starts, lands}
 use Rattle.machine.specs.Run.{run_turns, script_run, Source}
 use Rattle.hub_engine.specs.Stands.{next_at}
 use Rattle.hub_engine.proofs.Readily.{declared_first, ready_started}

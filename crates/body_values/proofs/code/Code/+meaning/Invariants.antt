@@ -1,6 +1,6 @@
 use Rattle.std.proofs.Common.{◌≡◌, drop}
 use Rattle.machine.specs.Bodies.{around}
-use Rattle.machine.specs.Frames.{values}
+use Rattle.machine.specs.BodyMoves.{values}
 use Rattle.body_values.proofs.Operands.{prepended}
 use Rattle.body_values.proofs.code.Code.+meaning.Given as goal
 
