@@ -36,6 +36,7 @@ pub enum Says {
     NestsTooDeep,
 }
 
+/// What a line says, with its number.
 #[derive(Clone, Copy, Debug, PartialEq, Eq)]
 pub struct Mention {
     pub line: u32,

@@ -13,6 +13,7 @@ pub enum Binary {
     At,
 }
 
+/// An operator of one operand.
 #[derive(Clone, Copy, Debug, PartialEq, Eq)]
 pub enum Unary {
     Not,
@@ -33,6 +34,7 @@ pub enum Query {
     Members,
 }
 
+/// What a statement evaluates: from left to right, and its first fault is the expression's.
 #[derive(Drop)]
 pub enum Expression {
     Nothing,
@@ -132,6 +134,7 @@ pub enum Giving {
 /// The lines of a body or of a block.
 pub type Block = Items<Statement>;
 
+/// A statement and the number of the line on which it stands, or on which its block opens.
 #[cycle(statements)]
 #[derive(Drop)]
 pub struct Statement {
@@ -139,6 +142,7 @@ pub struct Statement {
     pub action: Action,
 }
 
+/// What a statement does: a line alone, or a block with its parts.
 #[cycle(statements)]
 #[derive(Drop)]
 pub enum Action {
@@ -153,6 +157,7 @@ pub enum Action {
     Timeout(Option<u64>, bool, Items<Statement>),
 }
 
+/// An except of a `try`: the faults that it catches, the name that takes the fault, and its body.
 #[cycle(statements)]
 #[derive(Drop)]
 pub struct Except {
@@ -162,6 +167,8 @@ pub struct Except {
     pub body: Items<Statement>,
 }
 
+/// The order in which a queue gives its items; `Join` is first in, first out, and counts unfinished
+/// tasks.
 #[derive(Clone, Copy, Debug, PartialEq, Eq)]
 pub enum QueueKind {
     Fifo,
@@ -170,6 +177,7 @@ pub enum QueueKind {
     Join,
 }
 
+/// An object as its declaration makes it; a number is the initial count, the size or the slots.
 #[derive(Clone, Copy, Debug, PartialEq, Eq)]
 pub enum Object {
     Event,
@@ -182,9 +190,11 @@ pub enum Object {
     Group,
     Pool(u64),
     Native(u64),
+    /// Of profile 2.
     Channel,
 }
 
+/// The declaration of an object, with the number of its line.
 #[derive(Clone, Copy, Debug, PartialEq, Eq)]
 pub struct Declaration {
     pub line: u32,
@@ -192,6 +202,7 @@ pub struct Declaration {
     pub object: Object,
 }
 
+/// A function, or a body of raw greenlets, with the number of the line on which it begins.
 #[derive(Drop)]
 pub struct Function {
     pub line: u32,
@@ -202,6 +213,8 @@ pub struct Function {
     pub body: Block,
 }
 
+/// A scenario: its profile, 1 or 2 where it has a text, its objects, and its functions, in the order
+/// in which they are declared.
 #[derive(Drop)]
 pub struct Scenario {
     pub profile: u8,
