@@ -26,6 +26,7 @@ claim_of (Delivery.Timeout g n deadline) = Some (TimeoutNumbered n)
 claim_of (Delivery.Kill g f) = None
 claim_of (Delivery.Link n g kind f) = Some (LinkNumbered n)
 
+-- both claim one thing
 abbrev pub claim_eq : Claim → Claim → Bool
 claim_eq (StartOf g) (StartOf h) = g == h
 claim_eq (WakeOf g) (WakeOf h) = g == h
@@ -48,10 +49,12 @@ abbrev pub are_single : List Item → Bool
 are_single [] = true
 are_single (i ∷ items) = is_unclaimed (claim_of i.delivery) items && are_single items
 
+-- there is such a greenlet, and it was not started
 abbrev pub is_unstarted : Option Phase → Bool
 is_unstarted (Some (Phase.New args)) = true
 is_unstarted phase = false
 
+-- there is such a greenlet, and it was started and has not ended
 abbrev pub is_under_way : Option Phase → Bool
 is_under_way (Some (Phase.Live frame)) = true
 is_under_way phase = false

@@ -180,7 +180,7 @@ takes_item o before object s =
     if is_left before object then Performed.Answers (Outcome.Value (item_of object)) (with_object o (with_item_taken object) s)
     else raises FaultKind.ShutDown s
 
--- the same for a peek, which leaves the item in place
+-- a peek gives the item and leaves it in place; a queue that leaves none for it is shut
 abbrev pub peeks_item : ℕ → Object → State → Performed
 peeks_item before object s = if is_left before object then Performed.Answers (Outcome.Value (item_of object)) s else raises FaultKind.ShutDown s
 

@@ -48,6 +48,7 @@ pub record IsParkedOnce (g : ℕ) (s : State) : Type 0 where
   pub wakes : count_by (λ i. is_wake_of g i.delivery) s.items ≤ 1
   pub lates : count_by (λ i. is_late_of g i.delivery) s.items ≤ 1
 
+-- each greenlet is parked at most once
 abbrev pub ParksOnce : Type 0
 ParksOnce = (g : ℕ) (s : State) → IsKept s → IsParkedOnce g s
 

@@ -145,10 +145,10 @@ unfolding GoesOn AsksAs take_answer
 answer-asks go h posts answers source q a s e r = (
   may-ask posts answers q s r.none r.knows e,
   λ legal.
-    let t = take_answer a s in
-    let k = answers-know posts answers q a s r.none legal r.knows in
-    h posts (answers ++ a ∷ []) source (silent t)
-    (record { none = refl; knows = record { posts_are = ap (λ ps. posts ++ posts_of_step ps) (sym (posts-same a s ∙ r.none)) ∙ k.posts_are; arrived = k.arrived; no_other = k.no_other } }),
+      let t = take_answer a s in
+      let k = answers-know posts answers q a s r.none legal r.knows in
+      h posts (answers ++ a ∷ []) source (silent t)
+      (record { none = refl; knows = record { posts_are = ap (λ ps. posts ++ posts_of_step ps) (sym (posts-same a s ∙ r.none)) ∙ k.posts_are; arrived = k.arrived; no_other = k.no_other } }),
 )
 
 asks-as : (go : GoingOn) → GoesOn go → (posts : List PostedJob) (answers : List Answer) (q : Question) (source : Source) (s : State) → question s ≡ Some q → Rests posts answers s →

@@ -50,11 +50,11 @@ posts-know posts answers g o job takes s k =
     let next : suc (0 + length s.jobs) ≡ length s.jobs + 1 = omega arith in
     record {
       posts_are =
-        ap (λ ps. posts ++ ps) (map-append (λ (p : Post). posted_job p.number p.job) s.posts (post ∷ []))
-        ∙ sym (append_assoc posts (posts_of_step s.posts) (posted_job (length s.jobs + 1) job ∷ []))
-        ∙ ap (λ ps. ps ++ posted_job (length s.jobs + 1) job ∷ []) k.posts_are
-        ∙ ap (λ n. as_posted 0 s.jobs ++ posted_job n job ∷ []) (sym next)
-        ∙ sym (as_posted-more 0 s.jobs new);
+          ap (λ ps. posts ++ ps) (map-append (λ (p : Post). posted_job p.number p.job) s.posts (post ∷ []))
+          ∙ sym (append_assoc posts (posts_of_step s.posts) (posted_job (length s.jobs + 1) job ∷ []))
+          ∙ ap (λ ps. ps ++ posted_job (length s.jobs + 1) job ∷ []) k.posts_are
+          ∙ ap (λ n. as_posted 0 s.jobs ++ posted_job n job ∷ []) (sym next)
+          ∙ sym (as_posted-more 0 s.jobs new);
       arrived = arrived-more 0 answers s.jobs new k.arrived (sym (k.no_other (suc (0 + length s.jobs)) (omega arith)));
       no_other = λ n below. k.no_other n (let e : length (s.jobs ++ new ∷ []) ≡ length s.jobs + 1 = simp length-append refl in omega (arith, below, e));
     }
@@ -194,13 +194,13 @@ done-answer posts answers number o at s w k =
     (record {
       posts_are = k.posts_are ∙ sym (ap (λ n. as_posted 0 (slice_set s.jobs n (record w.job { outcome = Some o }))) place ∙ posted-still 0 o s.jobs w.place w.job w.is_there);
       arrived =
-        subst (λ n. HaveArrived 0 (answers ++ Answer.Done number o at ∷ []) (slice_set s.jobs n (record w.job { outcome = Some o }))) (sym place)
-        (arrived-now 0 answers o number at s.jobs w.place w.job w.is_number w.is_there k.arrived);
+          subst (λ n. HaveArrived 0 (answers ++ Answer.Done number o at ∷ []) (slice_set s.jobs n (record w.job { outcome = Some o }))) (sym place)
+          (arrived-now 0 answers o number at s.jobs w.place w.job w.is_number w.is_there k.arrived);
       no_other = λ n l.
-        let e = length-still s.jobs (number - 1) (record w.job { outcome = Some o }) in
-        let below = w.below in
-        let is = w.is_number in
-        says-nothing n answers (Answer.Done number o at) (no-job number n (omega (arith, l, e, below, is))) ∙ k.no_other n (omega (arith, l, e));
+          let e = length-still s.jobs (number - 1) (record w.job { outcome = Some o }) in
+          let below = w.below in
+          let is = w.is_number in
+          says-nothing n answers (Answer.Done number o at) (no-job number n (omega (arith, l, e, below, is))) ∙ k.no_other n (omega (arith, l, e));
     })
   where
     place : number - 1 ≡ w.place
@@ -218,7 +218,7 @@ answers-know posts answers q (Answer.Done number o at) s none legal k =
     let t : State = record s { moment = at } in
     let there = subst (λ ps. Contains ps (posted_job number legal.0.0.0)) all legal.0.0.1 in
     let r = done-answer posts answers number o at t (posted-there 0 s.jobs there.0 (posted_job number legal.0.0.0) there.1 there.2)
-        (record { posts_are = k.posts_are; arrived = k.arrived; no_other = k.no_other }) in
+    (record { posts_are = k.posts_are; arrived = k.arrived; no_other = k.no_other }) in
     record { posts_are = r.posts_are; arrived = r.arrived; no_other = r.no_other }
 
 -- ---- a question

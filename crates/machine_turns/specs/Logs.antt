@@ -68,7 +68,7 @@ ExitsKnowing =
 abbrev pub AnswersKnowing : Type 0
 AnswersKnowing =
     (posts : List PostedJob) (answers : List Answer) (q : Question) (answer : Answer) (s : State) → s.posts ≡ [] → IsLegal posts answers q answer →
-        KnowsJobs posts answers s → KnowsJobs posts (answers ++ answer ∷ []) (take_answer answer s)
+    KnowsJobs posts answers s → KnowsJobs posts (answers ++ answer ∷ []) (take_answer answer s)
 
 -- such a state asks what may be asked
 abbrev pub MayAskItsQuestion : Type 0
@@ -93,7 +93,7 @@ AsksLegally posts answers (LogEntry.Asked q answer ∷ log) end s =
 abbrev pub RunsAskLegally : Type 0
 RunsAskLegally =
     (source : Source) (turns moves : ℕ) (c : Scenario) →
-        AsksLegally [] [] (run_from source turns moves c).log (run_from source turns moves c).end (run_from source turns moves c).state
+    AsksLegally [] [] (run_from source turns moves c).log (run_from source turns moves c).end (run_from source turns moves c).state
 
 -- each answer of the log is legal, where its question may be asked
 abbrev pub AnswersLegally : List PostedJob → List Answer → List LogEntry → Type 0
@@ -106,7 +106,7 @@ AnswersLegally posts answers (LogEntry.Asked q answer ∷ log) =
 abbrev pub LegalAnswersMakeLegalLogs : Type 0
 LegalAnswersMakeLegalLogs =
     (source : Source) (turns moves : ℕ) (c : Scenario) →
-        AnswersLegally [] [] (run_from source turns moves c).log → AreLegal [] [] (run_from source turns moves c).log
+    AnswersLegally [] [] (run_from source turns moves c).log → AreLegal [] [] (run_from source turns moves c).log
 
 -- ---- the end
 
