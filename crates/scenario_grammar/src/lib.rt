@@ -15,8 +15,8 @@ pub use building::{OpenBlock, Opening};
 pub use head::Head;
 pub use keyword::Keyword;
 pub use laws::{
-    printed_forms_are_spelt, read_texts_are_spelt, spelt_texts_are_read, spelt_trees_have_a_profile,
-    texts_have_one_tree, texts_without_a_place_are_spelt,
+    printed_forms_are_spelt, read_texts_are_spelt, spelt_texts_are_read,
+    spelt_trees_have_a_profile, texts_have_one_tree, texts_without_a_place_are_spelt,
 };
 pub use phrase::Phrase;
 pub use place::Place;
