@@ -9,9 +9,9 @@ use Rattle.std.proofs.lemmas.List.{length-replicate, get_or-replicate}
 use lib.Seq.{set-get_or}
 use Rattle.atomic_table.proofs.Lists.{set_again}
 use Rattle.atomic_table.specs.Table.{Me, step, keeps, Allows, Splits, opening}
-use Rattle.native_board.specs.declared.views.Kind.{Kind}
+use Rattle.gv_values.specs.declared.job.JobKind.{JobKind}
 use Rattle.gv_values.specs.declared.job.Job.{Job}
-use Rattle.native_board.specs.declared.views.Kind.TheVariants as kind
+use Rattle.gv_values.specs.declared.job.JobKind.TheVariants as kind
 use Rattle.gv_values.specs.declared.job.Job.TheVariants as job
 use Rattle.gv_values.specs.declared.job.JobOutcome.{JobOutcome}
 use Rattle.gv_values.specs.declared.fault.FaultKind.{FaultKind}
@@ -29,7 +29,8 @@ use Rattle.native_board.specs.declared.views.Stage.TheVariants.{Idle, Asked, Num
 use Rattle.native_board.specs.declared.views.WorkerView.{WorkerView}
 use Rattle.native_board.specs.declared.views.View.{View}
 use Rattle.native_board.specs.declared.views.View.TheVariants.{Hub, Worker}
-use Rattle.native_board.specs.Words.{CellWords, cell_words, state_in, signed_in, kind_of, argument_of, job_of, signal_in, ended_of, value_of, outcome_of}
+use Rattle.native_board.specs.Words.{CellWords, cell_words, state_in, signed_in, signal_in, ended_of, value_of, outcome_of}
+use Rattle.gv_values.specs.JobParts.{kind_of, argument_of, job_of}
 use Rattle.world_rules.specs.Jobs.{eval}
 use Rattle.native_board.specs.Rows.{Row, NoLost, Fits, signal_of, begun, first, Shows, Carries, Rests, Takes, Stops, untaken, hub_cell, posts_at, Kept}
 use Rattle.native_board.specs.Plays.{with_worker, new_worker, marked, counted, on_cell, on_post, on_stage, ordered, filled, sent, stopped, asked, begun_with, looked, numbered, holds, valued, owing, rested, freed, lowered, saw, swept, IsJob, StoresFree, StoresValue, StoresDone, SwapsHigh, SwapsLow, LoadsNext, LoadsValue, StoresOrder, StoresArgument, StoresPosted, StoresStop, LoadsState, LoadsOrder, LoadsArgument}
@@ -75,17 +76,17 @@ pub stores_order : (slots id : ℕ) (me : M) (h : HubView) (i x : ℕ) → me.0 
 stores_order slots id me h i x is low was = hub_marks slots id me h i is low Vacant was 1 2 x refl (omega arith) (ordered x)
     (λ g c w t f. let row = order_row g (length h.seen) i c x (state_in c.state) w f.0 in (row.0, row.1, f.2))
 
-signed_job : (k : Kind) (y : ℤ) → (kind_of (job_of k y) ≡ k) × (argument_of (job_of k y) ≡ y)
+signed_job : (k : JobKind) (y : ℤ) → (kind_of (job_of k y) ≡ k) × (argument_of (job_of k y) ≡ y)
 signed_job kind.Sum y = (refl, refl)
 signed_job kind.Collatz y = (refl, refl)
 signed_job kind.Fail y = (refl, refl)
 signed_job kind.Echo y = (refl, refl)
 
-argument_row : (g : Signal) (n i : ℕ) (c : CellWords) (k : ℕ) (d : Kind) (x : ℕ) (st : CellState) (w : Stage) → Row c st (Ordered k d) w → Row (put_word c 2 x) st (filled x (Ordered k d)) w × NoLost g n i st (filled x (Ordered k d)) w
+argument_row : (g : Signal) (n i : ℕ) (c : CellWords) (k : ℕ) (d : JobKind) (x : ℕ) (st : CellState) (w : Stage) → Row c st (Ordered k d) w → Row (put_word c 2 x) st (filled x (Ordered k d)) w × NoLost g n i st (filled x (Ordered k d)) w
 argument_row g n i c k d x Free w t = let j = signed_job d (signed_in x) in ((t.0, (t.1, t.2 ∙ sym j.0, sym j.1)), tt)
 argument_row g n i c k d x st w t = absurd t
 
-pub stores_argument : (slots id : ℕ) (me : M) (h : HubView) (i x k : ℕ) (d : Kind) → me.0 ≡ Hub h → i < h.made → hub_cell h i ≡ Ordered k d
+pub stores_argument : (slots id : ℕ) (me : M) (h : HubView) (i x k : ℕ) (d : JobKind) → me.0 ≡ Hub h → i < h.made → hub_cell h i ≡ Ordered k d
     → Allows Kept slots id me (4 * i + 3) (λ _. x) (λ _. StoresArgument (step slots (4 * i + 3) x 0 none) me x)
 stores_argument slots id me h i x k d is low was = hub_marks slots id me h i is low (Ordered k d) was 2 3 x refl (omega arith) (filled x)
     (λ g c w t f. let row = argument_row g (length h.seen) i c k d x (state_in c.state) w f.0 in (row.0, row.1, f.2))
@@ -196,7 +197,7 @@ at_a_job c (Done e) (Taking k j) w P a b t go = absurd (a t.0)
 at_a_job c st x w P a b t go = absurd t
 
 -- the argument, read as that of a job of its kind, is the job
-pub job_again : (j : Job) (k : Kind) (y : ℤ) → k ≡ kind_of j → y ≡ argument_of j → job_of k y ≡ j
+pub job_again : (j : Job) (k : JobKind) (y : ℤ) → k ≡ kind_of j → y ≡ argument_of j → job_of k y ≡ j
 job_again (job.Sum x) k y a b = λ i. job_of (a i) (b i)
 job_again (job.Collatz x) k y a b = λ i. job_of (a i) (b i)
 job_again (job.Fail x) k y a b = λ i. job_of (a i) (b i)
@@ -212,7 +213,7 @@ own_order slots id me w is was s r deep seat small = let n : ℕ = get_or s.word
     (λ k j _ _ carries _ count. ((carries, (carries.0, carries.1)), tt, count)) f.2)) s r deep seat small in
     (t.0, t.1, t.2, t.3, t.4 ∙ λ c. (on_stage (numbered n) (sym is c), me.1))
 
-own_argument : (slots id : ℕ) (me : M) (w : WorkerView) (k : ℕ) (d : Kind) → me.0 ≡ Worker w → w.stage ≡ Numbered k d
+own_argument : (slots id : ℕ) (me : M) (w : WorkerView) (k : ℕ) (d : JobKind) → me.0 ≡ Worker w → w.stage ≡ Numbered k d
     → Allows Kept slots id me (4 * w.cell + 3) (λ n. n) (LoadsArgument (step slots (4 * w.cell + 3) 0 0 none) me)
 own_argument slots id me w k d is was s r deep seat small = let n : ℕ = get_or s.words (4 * w.cell + 3) 0 in
     let t = worker_loads slots id (4 * w.cell + 3) me w is (λ n. record w { stage = holds n w.stage }) (λ n. refl)
@@ -271,7 +272,7 @@ loads_state slots id me w i is own = subst (λ i. Allows Kept slots id me (4 * i
 pub loads_order : (slots id : ℕ) (me : M) (w : WorkerView) (i : ℕ) → me.0 ≡ Worker w → w.cell ≡ i → w.stage ≡ Asked → Allows Kept slots id me (4 * i + 2) (λ n. n) (LoadsOrder (step slots (4 * i + 2) 0 0 none) me)
 loads_order slots id me w i is own was = subst (λ i. Allows Kept slots id me (4 * i + 2) (λ n. n) (LoadsOrder (step slots (4 * i + 2) 0 0 none) me)) own (own_order slots id me w is was)
 
-pub loads_argument : (slots id : ℕ) (me : M) (w : WorkerView) (i k : ℕ) (d : Kind) → me.0 ≡ Worker w → w.cell ≡ i → w.stage ≡ Numbered k d → Allows Kept slots id me (4 * i + 3) (λ n. n) (LoadsArgument (step slots (4 * i + 3) 0 0 none) me)
+pub loads_argument : (slots id : ℕ) (me : M) (w : WorkerView) (i k : ℕ) (d : JobKind) → me.0 ≡ Worker w → w.cell ≡ i → w.stage ≡ Numbered k d → Allows Kept slots id me (4 * i + 3) (λ n. n) (LoadsArgument (step slots (4 * i + 3) 0 0 none) me)
 loads_argument slots id me w i k d is own was = subst (λ i. Allows Kept slots id me (4 * i + 3) (λ n. n) (LoadsArgument (step slots (4 * i + 3) 0 0 none) me)) own (own_argument slots id me w k d is was)
 
 pub told_look : (me m' : M) (w : WorkerView) (st : CellState) → me ≡ (Worker w, []) → w.stage ≡ Idle → m' ≡ (looked st me.0, me.1)

@@ -6,3 +6,4 @@ pub mod Made
 pub mod Boards
 pub mod Given
 pub mod Taken
+pub mod Lost

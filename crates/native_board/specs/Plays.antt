@@ -12,7 +12,8 @@ use Rattle.native_board.specs.declared.views.Stage.{Stage}
 use Rattle.native_board.specs.declared.views.Stage.TheVariants.{Idle, Asked, Numbered, Holds, Valued, Owes, Over}
 use Rattle.native_board.specs.declared.views.View.{View}
 use Rattle.native_board.specs.declared.views.View.TheVariants.{Hub, Worker}
-use Rattle.native_board.specs.Words.{state_in, number_in, kind_in, signed_in, job_of, ended_of, value_of}
+use Rattle.native_board.specs.Words.{state_in, number_in, kind_in, signed_in, ended_of, value_of}
+use Rattle.gv_values.specs.JobParts.{job_of}
 use Rattle.world_rules.specs.Jobs.{eval}
 use Rattle.native_board.specs.Rows.{hub_cell, posts_at}
 

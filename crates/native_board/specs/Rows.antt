@@ -16,7 +16,8 @@ use Rattle.native_board.specs.declared.views.Stage.TheVariants.{Idle, Asked, Num
 use Rattle.native_board.specs.declared.views.WorkerView.{WorkerView}
 use Rattle.native_board.specs.declared.views.View.{View}
 use Rattle.native_board.specs.declared.views.View.TheVariants.{Hub, Worker}
-use Rattle.native_board.specs.Words.{CellWords, cell_words, signal_in, state_in, number_in, kind_in, signed_in, kind_of, argument_of, ended_of, value_of}
+use Rattle.native_board.specs.Words.{CellWords, cell_words, signal_in, state_in, number_in, kind_in, signed_in, ended_of, value_of}
+use Rattle.gv_values.specs.JobParts.{kind_of, argument_of}
 use Rattle.world_rules.specs.Jobs.{eval}
 
 -- the worker is between two jobs

@@ -18,6 +18,6 @@ mod words;
 
 pub use board::{Bell, Board};
 pub use found::{Finished, Looked};
-pub use law::each_job_is_taken_at_most_once;
+pub use law::{each_job_is_taken_at_most_once, no_result_is_lost};
 pub use made::{Made, WorkerPasses};
 pub use passes::{HubPass, WorkerPass};

@@ -7,7 +7,8 @@ ghost use Rattle.native_board.specs.declared.views.CellState.TheVariants.{Done};
 ghost use Rattle.native_board.specs.declared.views.Ended.{Ended};
 ghost use Rattle.gv_values.specs.declared.job.Job.{Job};
 ghost use Rattle.native_board.specs.Rows.{hub_cell};
-ghost use Rattle.native_board.specs.Words.{state_in, number_in, kind_in, signed_in, kind_of, job_of, ended_of, value_of};
+ghost use Rattle.native_board.specs.Words.{state_in, number_in, kind_in, signed_in, ended_of, value_of};
+ghost use Rattle.gv_values.specs.JobParts.{kind_of, job_of};
 ghost use Rattle.world_rules.specs.Jobs.{eval};
 ghost use Rattle.native_board.specs.Plays.{asked, saw, IsJob};
 ghost use Rattle.native_board.specs.Passes.{hub_of, worker_of, lowers, BecomesHub, HoldsOf, ValuedOf, IsValuedOf, IsHubAt, IsMarked, IsSent, IsWorkerAt, IsStaged, HasLooked};
@@ -16,17 +17,17 @@ use crate::rule::{
     BoardRule, LoadArgument, LoadNext, LoadOrder, LoadState, LoadValue, StoreArgument, StoreDone,
     StoreFree, StoreOrder, StorePosted, StoreStop, StoreValue, SwapHigh, SwapLow,
 };
-use crate::views::{CellState, Kind, View};
+use crate::views::{CellState, View};
 use crate::words::{
     argument_of, done_word, ended_of, job_of, kind_in, number_in, order_word, signed_in,
     signed_word, state_in, value_of,
 };
 use atomic_table::{Seat, Shared};
-use gv_values::{Job, JobOutcome};
+use gv_values::{Job, JobKind, JobOutcome};
 
 pub(crate) type Top = Shared<(), View, u32, BoardRule>;
 
-pub(crate) fn store_order(top: &Top, hub: &mut Seat<(), View>, cell: usize, number: u32, kind: Kind)
+pub(crate) fn store_order(top: &Top, hub: &mut Seat<(), View>, cell: usize, number: u32, kind: JobKind)
     requires board { hub.old.table_id ≡ top.now.table_id }
     requires vacant { IsHubAt hub.old cell Vacant }
     ensures { IsMarked hub.old hub.new cell (Ordered number kind) }
@@ -74,7 +75,7 @@ pub(crate) fn load_state(top: &Top, worker: &mut Seat<(), View>, cell: usize) ->
     state_in(top.load::<LoadState>(worker, 4 * cell + 1))
 }
 
-pub(crate) fn load_order(top: &Top, worker: &mut Seat<(), View>, cell: usize) -> (u32, Kind)
+pub(crate) fn load_order(top: &Top, worker: &mut Seat<(), View>, cell: usize) -> (u32, JobKind)
     requires board { worker.old.table_id ≡ top.now.table_id }
     requires asked { IsWorkerAt worker.old cell Asked }
     ensures { IsStaged worker.old worker.new (Numbered result.0 result.1) }
@@ -88,7 +89,7 @@ pub(crate) fn load_argument(
     worker: &mut Seat<(), View>,
     cell: usize,
     number: u32,
-    kind: Kind,
+    kind: JobKind,
 ) -> Job
     requires board { worker.old.table_id ≡ top.now.table_id }
     requires numbered { IsWorkerAt worker.old cell (Numbered number kind) }

@@ -1,14 +1,5 @@
 //! What the hub and each worker know. No value of a view is made: a view exists in proofs alone, as what the token of its seat stands for.
-use gv_values::Job;
-
-/// The kind of a job's argument and outcome.
-#[derive(Clone, Copy, Debug, PartialEq, Eq)]
-pub enum Kind {
-    Sum,
-    Collatz,
-    Fail,
-    Echo,
-}
+use gv_values::{Job, JobKind};
 
 /// How a job ended, without its integer. These are all the ways in which a job ends.
 #[derive(Clone, Copy)]
@@ -41,7 +32,7 @@ pub enum HubCell {
     /// Nothing lies in it.
     Vacant,
     /// The order of a job of this number and kind was stored.
-    Ordered(u32, Kind),
+    Ordered(u32, JobKind),
     /// So was its argument.
     Filled(u32, Job),
     /// The job was posted.
@@ -72,7 +63,7 @@ pub enum Stage {
     /// It has read that a job lies in its cell.
     Asked,
     /// It has read the order.
-    Numbered(u32, Kind),
+    Numbered(u32, JobKind),
     /// It has read the argument too.
     Holds(u32, Job),
     /// It has stored the value of the outcome.

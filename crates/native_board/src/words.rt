@@ -1,19 +1,20 @@
 //! How a cell's words are written and read.
 ghost use Rattle.std.specs.Prelude.{◌≡◌, ◌<◌, ◌^◌, ◌/◌};
-ghost use Rattle.native_board.specs.Words.{state_in, number_in, kind_in, signed_in, kind_of, argument_of, job_of, ended_of, value_of, outcome_of};
+ghost use Rattle.native_board.specs.Words.{state_in, number_in, kind_in, signed_in, ended_of, value_of, outcome_of};
+ghost use Rattle.gv_values.specs.JobParts.{kind_of, argument_of, job_of};
 ghost use Rattle.native_board.specs.declared.views.CellState.TheVariants.{Done};
 
-use crate::views::{CellState, Ended, Kind};
-use gv_values::{FaultKind, Job, JobOutcome};
+use crate::views::{CellState, Ended};
+use gv_values::{FaultKind, Job, JobKind, JobOutcome};
 
-pub(crate) fn order_word(number: u32, kind: Kind) -> u64
+pub(crate) fn order_word(number: u32, kind: JobKind) -> u64
     ensures { (number_in result ≡ number) × (kind_in result ≡ kind) }
 {
     let code = match kind {
-        Kind::Sum => 0,
-        Kind::Collatz => 1,
-        Kind::Fail => 2,
-        Kind::Echo => 3,
+        JobKind::Sum => 0,
+        JobKind::Collatz => 1,
+        JobKind::Fail => 2,
+        JobKind::Echo => 3,
     };
     4 * u64::from(number) + code
 }
@@ -24,14 +25,14 @@ pub(crate) fn number_in(order: u64) -> u32
     (order / 4 % (1 << 32)) as u32
 }
 
-pub(crate) fn kind_in(order: u64) -> Kind
+pub(crate) fn kind_in(order: u64) -> JobKind
     ensures { result ≡ kind_in order }
 {
     match order % 4 {
-        0 => Kind::Sum,
-        1 => Kind::Collatz,
-        2 => Kind::Fail,
-        _ => Kind::Echo,
+        0 => JobKind::Sum,
+        1 => JobKind::Collatz,
+        2 => JobKind::Fail,
+        _ => JobKind::Echo,
     }
 }
 
@@ -61,14 +62,14 @@ pub(crate) fn signed_in(word: u64) -> i64
     word.cast_signed()
 }
 
-pub(crate) fn kind_of(job: Job) -> Kind
+pub(crate) fn kind_of(job: Job) -> JobKind
     ensures { result ≡ kind_of job }
 {
     match job {
-        Job::Sum(_) => Kind::Sum,
-        Job::Collatz(_) => Kind::Collatz,
-        Job::Fail(_) => Kind::Fail,
-        Job::Echo(_) => Kind::Echo,
+        Job::Sum(_) => JobKind::Sum,
+        Job::Collatz(_) => JobKind::Collatz,
+        Job::Fail(_) => JobKind::Fail,
+        Job::Echo(_) => JobKind::Echo,
     }
 }
 
@@ -80,14 +81,14 @@ pub(crate) fn argument_of(job: Job) -> i64
     }
 }
 
-pub(crate) fn job_of(kind: Kind, argument: i64) -> Job
+pub(crate) fn job_of(kind: JobKind, argument: i64) -> Job
     ensures { result ≡ job_of kind argument }
 {
     match kind {
-        Kind::Sum => Job::Sum(argument),
-        Kind::Collatz => Job::Collatz(argument),
-        Kind::Fail => Job::Fail(argument),
-        Kind::Echo => Job::Echo(argument),
+        JobKind::Sum => Job::Sum(argument),
+        JobKind::Collatz => Job::Collatz(argument),
+        JobKind::Fail => Job::Fail(argument),
+        JobKind::Echo => Job::Echo(argument),
     }
 }
 

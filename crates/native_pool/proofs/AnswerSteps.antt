@@ -24,7 +24,7 @@ balances_as d p q a b e f s = subst (λ (r : List PostedJob). Balances d r b) (s
 hands_after : (d m e : DeskView) (f : Finished) → Rests d m → Hands m e f → Hands d e f
 hands_after d m e f r (inl h) = inl (h ∙ r.held)
 hands_after d m e f r (inr (inl h)) =
-    let a = r.sweeps in let b = h.4 in inr (inl (sym r.held ∙ h.0, h.1, h.2, h.3, omega (arith, a, b), h.5, h.6, h.7))
+    inr (inl (sym r.held ∙ h.0, h.1, h.2, rests_trans d m h.1 r h.3, h.4, h.5, h.6, h.7))
 hands_after d m e f r (inr (inr h)) =
     let idle = ap (list_any (λ (b : Bool). b)) (sym r.same.started) ∙ h.0 in inr (inr (idle, h.1, h.2, sym (r.idle idle) ∙ h.3, h.4))
 

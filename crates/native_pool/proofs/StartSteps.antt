@@ -5,7 +5,7 @@ use Rattle.std.specs.Prelude.{All, Result, Ok, Err, is_ok, IfOk, IfErr, OnErr}
 use Rattle.std.proofs.lemmas.Bool.Decides.{nat_tests}
 use Rattle.std.proofs.lemmas.List.{map_push}
 use Rattle.std.proofs.lemmas.List.Elements.{All-weaker, All-push}
-use Rattle.native_pool.specs.Counts.{HasRisen}
+use Rattle.gv_values.specs.Counts.{HasRisen}
 use Rattle.native_pool.specs.Pools.{told_cell, numbers_from, RefusedWhereRisen}
 use Rattle.native_pool.specs.Views.{start_cell}
 

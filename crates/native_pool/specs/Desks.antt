@@ -84,12 +84,18 @@ pub record SameCells (d e : DeskView) : Type 0 where
   pub made : e.hub.made ≡ d.hub.made
   pub cells : length e.hub.cells ≡ length d.hub.cells
 
+-- jobs that waited went on, the oldest first
+pub record IsLater (old new : List PostedJob) : Type 0 where
+  pub gone : List PostedJob
+  pub is : old ≡ gone ++ new
+
 -- nothing was handed on
 pub record Rests (d e : DeskView) : Type 0 where
   pub same : SameCells d e
   pub sweeps : d.hub.sweeps ≤ e.hub.sweeps
   pub held : e.held ≡ d.held
   pub idle : has_workers d ≡ false → e.waiting ≡ d.waiting
+  pub order : IsLater d.waiting e.waiting
   pub jobs : (posts : List PostedJob) (answers : List Answer) → Balances d posts answers → Balances e posts answers
 
 -- jobs that waited were posted to free cells of started workers
@@ -109,6 +115,7 @@ pub record Refills (d e : DeskView) : Type 0 where
   pub sweeps : e.hub.sweeps ≡ after.sweeps
   pub held : e.held ≡ finished d.hub.cells after.seen
   pub idle : has_workers d ≡ false → e.waiting ≡ d.waiting
+  pub order : IsLater d.waiting e.waiting
   pub full : (i : ℕ) → CanTake e i → e.waiting ≡ []
   pub jobs : (posts : List PostedJob) (answers : List Answer) → Balances d posts answers → Balances e posts answers
 
@@ -122,11 +129,11 @@ pub record Settles (d e : DeskView) : Type 0 where
 abbrev pub HandsHeld : DeskView → DeskView → Finished → Type 0
 HandsHeld d e f = f ∷ e.held ≡ d.held
 
--- none was held, and the result is the first of those that a sweep found, in the order of the cells; the others are held
+-- none was held, and the result is the first of those that a sweep found in the cells of this desk, in their order; the others are held
 abbrev pub HandsSwept : DeskView → DeskView → Finished → Type 0
 HandsSwept d e f =
-    (d.held ≡ []) × (before after : HubView) × Sweeps before after × (d.hub.sweeps ≤ before.sweeps) × (after.sweeps ≡ e.hub.sweeps) × (after.seen ≡ e.hub.seen)
-    × (f ∷ e.held ≡ finished before.cells after.seen)
+    (d.held ≡ []) × (m : DeskView) × (after : HubView) × Rests d m × Sweeps m.hub after × (after.sweeps ≡ e.hub.sweeps) × (after.seen ≡ e.hub.seen)
+    × (f ∷ e.held ≡ finished m.hub.cells after.seen)
 
 -- no worker was started, and the hub evaluated the oldest job
 abbrev pub EvaluatesHere : DeskView → DeskView → Finished → Type 0

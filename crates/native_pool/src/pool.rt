@@ -334,6 +334,7 @@ impl<
         ensures moment { OnOk result (IsTimely self.new) }
         ensures starts { OnOk result (WhileRunning KeepsStarts self.new) }
         ensures same_starts { self.new.starts ≡ self.old.starts }
+        ensures same_began { self.new.began ≡ self.old.began }
     {
         let _ = takes;
         let Some(desk) = &mut self.desk else {
@@ -361,6 +362,7 @@ impl<
         ensures gives { IfOk result (λ answer. Between (λ d e. Gives d e answer) self.old.desk self.new.desk) }
         ensures starts { OnOk result (WhileRunning KeepsStarts self.new) }
         ensures same_starts { self.new.starts ≡ self.old.starts }
+        ensures same_began { self.new.began ≡ self.old.began }
     {
         let Some(desk) = &mut self.desk else {
             unreachable!()

@@ -1,7 +1,7 @@
 ghost use Rattle.std.specs.Prelude.{◌≡◌, ◌<◌, ◌≤◌, true, false, [], OnOk, IfOk, IfErr, OnErr};
 ghost use Rattle.std.specs.Arc.{arc_value};
 ghost use Rattle.native_board.specs.Boards.{board_id, hub_board, worker_view};
-ghost use Rattle.native_pool.specs.Counts.{HasRisen};
+ghost use Rattle.gv_values.specs.Counts.{HasRisen};
 
 use crate::{
     Clock, Ear, Gate, NoThreads, OpenGate, PollEar, Spawner, SteadyClock, ThreadSpawner,

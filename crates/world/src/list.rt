@@ -1,5 +1,5 @@
 //! A world that answers from a list.
-ghost use Rattle.std.specs.Prelude.{◌≡◌};
+ghost use Rattle.std.specs.Prelude.{◌≡◌, OnOk};
 ghost use Rattle.world.specs.Kept.{script_meaning};
 
 use crate::legal::is_legal;
@@ -58,6 +58,9 @@ impl ListWorld {
 }
 
 impl World for ListWorld {
+    ghost use Rattle.std.specs.Prelude.{◌<◌, ◌≤◌, ◌↔◌, false, List, [], OnErr};
+    ghost use Rattle.world_rules.specs.declared.question.LogEntry.{LogEntry};
+    ghost use Rattle.world.specs.Worlds.{Begins};
     ghost use Rattle.world.specs.Listed.{list_meaning, list_log, list_log_is};
 
     ghost meaning = { list_meaning };
@@ -66,7 +69,16 @@ impl World for ListWorld {
 
     ghost log_is = { list_log_is };
 
-    fn begin(&mut self, workers: u32) -> Result<(), AllocError> {
+    fn begin(&mut self, workers: u32) -> Result<(), AllocError>
+        requires stopped { (list_meaning self.old).runs ≡ false }
+        requires some { 0 < workers }
+        requires few { workers ≤ 16 }
+        ensures begins { OnOk result (Begins (list_meaning self.old) (list_meaning self.new) workers) }
+        ensures log { OnOk result (list_log self.new []) }
+        ensures refused { OnErr result (list_meaning self.new ≡ list_meaning self.old) }
+        ensures refused_log { OnErr result ((log : List LogEntry) → list_log self.old log ↔ list_log self.new log) }
+        ensures listed { OnOk result ((list_meaning self.new).listed ≡ self.old.listed.items) }
+    {
         self.script.restart(workers);
         self.begun_with = Snapshot::of(&self.listed);
         Ok(())

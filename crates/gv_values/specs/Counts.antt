@@ -1,4 +1,4 @@
--- When a count of faults of 64 bits has risen.
+-- Counts of 64 bits, as of faults and of refusals.
 use Rattle.std.specs.Prelude.{ℕ, ◌+◌, ◌-◌, ◌^◌, ◌<◌, ◌≤◌, ◌⊎◌, nat_lt, if◌then◌else◌}
 
 -- the count rose, or stands at its last value
