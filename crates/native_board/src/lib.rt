@@ -11,8 +11,6 @@ mod made;
 mod passes;
 mod rule;
 mod steps;
-#[cfg(test)]
-mod tests;
 mod views;
 mod words;
 

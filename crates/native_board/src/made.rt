@@ -6,6 +6,7 @@ use crate::board::Board;
 use crate::passes::{HubPass, WorkerPass};
 use crate::rule::NewWorker;
 use crate::views::{HubCell, View};
+use crate::words::CELL_WORDS;
 use atomic_table::{Seat, Table};
 use std::alloc::{AllocError, Global};
 use std::collections::VecDeque;
@@ -47,7 +48,7 @@ impl Board {
         ensures workers { IfOk result (λ m. (next_cell m.workers ≡ 0) × (passes_left m.workers ≡ cells)) }
     {
         let count = cells as usize;
-        let words = vec![in alloc; 0u64; 4 * count + 1]?;
+        let words = vec![in alloc; 0u64; CELL_WORDS * count + 1]?;
         let (table, mut seat) = Table::of_words(alloc, &words, &cells)?;
         let mut passes = VecDeque::new(alloc);
         for cell in 0..cells {

@@ -19,7 +19,7 @@ use crate::rule::{
 };
 use crate::views::{CellState, View};
 use crate::words::{
-    argument_of, done_word, ended_of, job_of, kind_in, number_in, order_word, signed_in,
+    ARGUMENT, CELL_WORDS, FREE, HIGH, LOW, ORDER, POSTED, SIGNAL, STATE, STOP, VALUE, argument_of, done_word, ended_of, job_of, kind_in, number_in, order_word, signed_in,
     signed_word, state_in, value_of,
 };
 use atomic_table::{Seat, Shared};
@@ -32,7 +32,7 @@ pub(crate) fn store_order(top: &Top, hub: &mut Seat<(), View>, cell: usize, numb
     requires vacant { IsHubAt hub.old cell Vacant }
     ensures { IsMarked hub.old hub.new cell (Ordered number kind) }
 {
-    top.store::<StoreOrder>(hub, 4 * cell + 2, order_word(number, kind));
+    top.store::<StoreOrder>(hub, CELL_WORDS * cell + ORDER, order_word(number, kind));
 }
 
 pub(crate) fn store_argument(
@@ -46,17 +46,15 @@ pub(crate) fn store_argument(
     requires ordered { IsHubAt hub.old cell (Ordered number (kind_of job)) }
     ensures { IsMarked hub.old hub.new cell (Filled number job) }
 {
-    top.store::<StoreArgument>(hub, 4 * cell + 3, signed_word(argument_of(job)));
+    top.store::<StoreArgument>(hub, CELL_WORDS * cell + ARGUMENT, signed_word(argument_of(job)));
 }
 
-pub(crate) fn store_posted(top: &Top, hub: &mut Seat<(), View>, cell: usize, number: u32, job: Job)
+pub(crate) fn store_posted(top: &Top, hub: &mut Seat<(), View>, cell: usize, _number: u32, _job: Job)
     requires board { hub.old.table_id ≡ top.now.table_id }
-    requires filled { IsHubAt hub.old cell (Filled number job) }
-    ensures { IsSent hub.old hub.new cell number job }
+    requires filled { IsHubAt hub.old cell (Filled _number _job) }
+    ensures { IsSent hub.old hub.new cell _number _job }
 {
-    let _ = number;
-    let _ = job;
-    top.store::<StorePosted>(hub, 4 * cell + 1, 1);
+    top.store::<StorePosted>(hub, CELL_WORDS * cell + STATE, POSTED);
 }
 
 pub(crate) fn store_stop(top: &Top, hub: &mut Seat<(), View>, cell: usize)
@@ -64,7 +62,7 @@ pub(crate) fn store_stop(top: &Top, hub: &mut Seat<(), View>, cell: usize)
     requires vacant { IsHubAt hub.old cell Vacant }
     ensures { IsMarked hub.old hub.new cell Stopped }
 {
-    top.store::<StoreStop>(hub, 4 * cell + 1, 2);
+    top.store::<StoreStop>(hub, CELL_WORDS * cell + STATE, STOP);
 }
 
 pub(crate) fn load_state(top: &Top, worker: &mut Seat<(), View>, cell: usize) -> CellState
@@ -72,7 +70,7 @@ pub(crate) fn load_state(top: &Top, worker: &mut Seat<(), View>, cell: usize) ->
     requires idle { IsWorkerAt worker.old cell Idle }
     ensures { HasLooked worker.old worker.new result }
 {
-    state_in(top.load::<LoadState>(worker, 4 * cell + 1))
+    state_in(top.load::<LoadState>(worker, CELL_WORDS * cell + STATE))
 }
 
 pub(crate) fn load_order(top: &Top, worker: &mut Seat<(), View>, cell: usize) -> (u32, JobKind)
@@ -80,7 +78,7 @@ pub(crate) fn load_order(top: &Top, worker: &mut Seat<(), View>, cell: usize) ->
     requires asked { IsWorkerAt worker.old cell Asked }
     ensures { IsStaged worker.old worker.new (Numbered result.0 result.1) }
 {
-    let order = top.load::<LoadOrder>(worker, 4 * cell + 2);
+    let order = top.load::<LoadOrder>(worker, CELL_WORDS * cell + ORDER);
     (number_in(order), kind_in(order))
 }
 
@@ -88,17 +86,16 @@ pub(crate) fn load_argument(
     top: &Top,
     worker: &mut Seat<(), View>,
     cell: usize,
-    number: u32,
+    _number: u32,
     kind: JobKind,
 ) -> Job
     requires board { worker.old.table_id ≡ top.now.table_id }
-    requires numbered { IsWorkerAt worker.old cell (Numbered number kind) }
-    ensures { IsStaged worker.old worker.new (Holds number result) }
+    requires numbered { IsWorkerAt worker.old cell (Numbered _number kind) }
+    ensures { IsStaged worker.old worker.new (Holds _number result) }
 {
-    let _ = number;
     job_of(
         kind,
-        signed_in(top.load::<LoadArgument>(worker, 4 * cell + 3)),
+        signed_in(top.load::<LoadArgument>(worker, CELL_WORDS * cell + ARGUMENT)),
     )
 }
 
@@ -107,7 +104,7 @@ pub(crate) fn store_value(top: &Top, worker: &mut Seat<(), View>, cell: usize, o
     requires holds { HoldsOf worker.old cell outcome }
     ensures { ValuedOf worker.old worker.new outcome }
 {
-    top.store::<StoreValue>(worker, 4 * cell + 4, signed_word(value_of(outcome)));
+    top.store::<StoreValue>(worker, CELL_WORDS * cell + VALUE, signed_word(value_of(outcome)));
 }
 
 pub(crate) fn store_done(top: &Top, worker: &mut Seat<(), View>, cell: usize, outcome: JobOutcome)
@@ -115,17 +112,16 @@ pub(crate) fn store_done(top: &Top, worker: &mut Seat<(), View>, cell: usize, ou
     requires valued { IsValuedOf worker.old cell outcome }
     ensures { IsStaged worker.old worker.new Owes }
 {
-    top.store::<StoreDone>(worker, 4 * cell + 1, done_word(ended_of(outcome)));
+    top.store::<StoreDone>(worker, CELL_WORDS * cell + STATE, done_word(ended_of(outcome)));
 }
 
 /// Whether the signal was low.
-pub(crate) fn swap_high(top: &Top, worker: &mut Seat<(), View>, cell: usize) -> bool
+pub(crate) fn swap_high(top: &Top, worker: &mut Seat<(), View>, _cell: usize) -> bool
     requires board { worker.old.table_id ≡ top.now.table_id }
-    requires owes { IsWorkerAt worker.old cell Owes }
+    requires owes { IsWorkerAt worker.old _cell Owes }
     ensures { IsStaged worker.old worker.new Idle }
 {
-    let _ = cell;
-    top.swap::<SwapHigh>(worker, 0, 1) == 0
+    top.swap::<SwapHigh>(worker, SIGNAL, HIGH) == LOW
 }
 
 pub(crate) fn swap_low(top: &Top, hub: &mut Seat<(), View>)
@@ -133,7 +129,7 @@ pub(crate) fn swap_low(top: &Top, hub: &mut Seat<(), View>)
     requires hub { (hub.old.me ≡ (Hub (hub_of hub.old), [])) × (0 < hub.old.table_id.words) }
     ensures { BecomesHub hub.old hub.new (lowers (hub_of hub.old)) }
 {
-    top.swap::<SwapLow>(hub, 0, 0);
+    top.swap::<SwapLow>(hub, SIGNAL, LOW);
 }
 
 pub(crate) fn load_next(top: &Top, hub: &mut Seat<(), View>, cell: usize) -> CellState
@@ -143,32 +139,28 @@ pub(crate) fn load_next(top: &Top, hub: &mut Seat<(), View>, cell: usize) -> Cel
     ensures job { (e : Ended) → result ≡ Done e → IsJob (hub_cell (hub_of hub.old) cell) }
     ensures ended { (k : ℕ) (j : Job) (e : Ended) → hub_cell (hub_of hub.old) cell ≡ Sent k j → result ≡ Done e → e ≡ ended_of (eval j) }
 {
-    state_in(top.load::<LoadNext>(hub, 4 * cell + 1))
+    state_in(top.load::<LoadNext>(hub, CELL_WORDS * cell + STATE))
 }
 
 pub(crate) fn load_value(
     top: &Top,
     hub: &mut Seat<(), View>,
     cell: usize,
-    number: u32,
-    job: Job,
+    _number: u32,
+    _job: Job,
 ) -> i64
     requires board { hub.old.table_id ≡ top.now.table_id }
-    requires taking { IsHubAt hub.old cell (Taking number job) }
+    requires taking { IsHubAt hub.old cell (Taking _number _job) }
     ensures seat { BecomesHub hub.old hub.new (hub_of hub.old) }
-    ensures value { result ≡ value_of (eval job) }
+    ensures value { result ≡ value_of (eval _job) }
 {
-    let _ = number;
-    let _ = job;
-    signed_in(top.load::<LoadValue>(hub, 4 * cell + 4))
+    signed_in(top.load::<LoadValue>(hub, CELL_WORDS * cell + VALUE))
 }
 
-pub(crate) fn store_free(top: &Top, hub: &mut Seat<(), View>, cell: usize, number: u32, job: Job)
+pub(crate) fn store_free(top: &Top, hub: &mut Seat<(), View>, cell: usize, _number: u32, _job: Job)
     requires board { hub.old.table_id ≡ top.now.table_id }
-    requires taking { IsHubAt hub.old cell (Taking number job) }
+    requires taking { IsHubAt hub.old cell (Taking _number _job) }
     ensures { IsMarked hub.old hub.new cell Vacant }
 {
-    let _ = number;
-    let _ = job;
-    top.store::<StoreFree>(hub, 4 * cell + 1, 0);
+    top.store::<StoreFree>(hub, CELL_WORDS * cell + STATE, FREE);
 }

@@ -7,6 +7,48 @@ ghost use Rattle.native_board.specs.declared.views.CellState.TheVariants.{Done};
 use crate::views::{CellState, Ended};
 use gv_values::{FaultKind, Job, JobKind, JobOutcome};
 
+/// The word of the signal: it is before those of the cells.
+pub(crate) const SIGNAL: usize = 0;
+
+/// A cell has so many words.
+pub(crate) const CELL_WORDS: usize = 4;
+
+/// Where the state stands behind the words of the cells before.
+pub(crate) const STATE: usize = 1;
+
+/// Where the order stands there: the number and the kind of a job.
+pub(crate) const ORDER: usize = 2;
+
+/// Where the job's integer stands there.
+pub(crate) const ARGUMENT: usize = 3;
+
+/// Where the outcome's integer stands there.
+pub(crate) const VALUE: usize = 4;
+
+/// The word of a signal that is low.
+pub(crate) const LOW: u64 = 0;
+
+/// The word of a signal that is raised.
+pub(crate) const HIGH: u64 = 1;
+
+/// The state of a cell in which nothing lies.
+pub(crate) const FREE: u64 = 0;
+
+/// The state of a cell in which a job lies that is not done.
+pub(crate) const POSTED: u64 = 1;
+
+/// The state of a cell whose worker is to end.
+pub(crate) const STOP: u64 = 2;
+
+/// The states of a cell whose job is done, by how it ended.
+const DONE_INT: u64 = 3;
+const DONE_VALUE_ERROR: u64 = 4;
+const DONE_OVERFLOW_ERROR: u64 = 5;
+const DONE_ERROR: u64 = 6;
+
+/// There are so many kinds of jobs.
+const KINDS: u64 = 4;
+
 pub(crate) fn order_word(number: u32, kind: JobKind) -> u64
     ensures { (number_in result ≡ number) × (kind_in result ≡ kind) }
 {
@@ -16,19 +58,19 @@ pub(crate) fn order_word(number: u32, kind: JobKind) -> u64
         JobKind::Fail => 2,
         JobKind::Echo => 3,
     };
-    4 * u64::from(number) + code
+    KINDS * u64::from(number) + code
 }
 
 pub(crate) fn number_in(order: u64) -> u32
     ensures { result ≡ number_in order }
 {
-    (order / 4 % (1 << 32)) as u32
+    (order / KINDS % (1 << 32)) as u32
 }
 
 pub(crate) fn kind_in(order: u64) -> JobKind
     ensures { result ≡ kind_in order }
 {
-    match order % 4 {
+    match order % KINDS {
         0 => JobKind::Sum,
         1 => JobKind::Collatz,
         2 => JobKind::Fail,
@@ -40,12 +82,12 @@ pub(crate) fn state_in(word: u64) -> CellState
     ensures { result ≡ state_in word }
 {
     match word {
-        0 => CellState::Free,
-        1 => CellState::Posted,
-        2 => CellState::Stop,
-        3 => CellState::Done(Ended::Int),
-        4 => CellState::Done(Ended::ValueError),
-        5 => CellState::Done(Ended::OverflowError),
+        FREE => CellState::Free,
+        POSTED => CellState::Posted,
+        STOP => CellState::Stop,
+        DONE_INT => CellState::Done(Ended::Int),
+        DONE_VALUE_ERROR => CellState::Done(Ended::ValueError),
+        DONE_OVERFLOW_ERROR => CellState::Done(Ended::OverflowError),
         _ => CellState::Done(Ended::Error),
     }
 }
@@ -127,9 +169,9 @@ pub(crate) fn done_word(ended: Ended) -> u64
     ensures { state_in result ≡ Done ended }
 {
     match ended {
-        Ended::Int => 3,
-        Ended::ValueError => 4,
-        Ended::OverflowError => 5,
-        Ended::Error => 6,
+        Ended::Int => DONE_INT,
+        Ended::ValueError => DONE_VALUE_ERROR,
+        Ended::OverflowError => DONE_OVERFLOW_ERROR,
+        Ended::Error => DONE_ERROR,
     }
 }

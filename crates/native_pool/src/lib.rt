@@ -7,8 +7,6 @@ mod history;
 mod pool;
 mod spawner;
 mod task;
-#[cfg(test)]
-mod tests;
 
 pub use desk::Desk;
 pub use edge::{Clock, Ear, OpenGate, PollEar, SteadyClock, WakerBell};

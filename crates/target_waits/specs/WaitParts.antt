@@ -20,6 +20,7 @@ seen_in f es = map (λ e. wait_or (f e.0) e.0) es
 abbrev pub changed_at : (Wait → Wait) → ℕ → (ℕ → Option Wait) → ℕ → Option Wait
 changed_at c item f q = if q == item then option_map c (f item) else f q
 
+-- the wait, if there is one, was not ready, and is once the target is struck out
 abbrev pub becomes_ready : Whom → Option Wait → Bool
 becomes_ready whom None = false
 becomes_ready whom (Some w) = is_ready (struck whom w) && not (is_ready w)

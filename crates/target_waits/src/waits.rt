@@ -7,7 +7,7 @@ ghost use Rattle.target_waits.specs.Waits.{items_of, is_ready, struck, answered,
 ghost use Rattle.target_waits.specs.WaitParts.{changed_at, becomes_ready};
 
 use crate::entry::Entry;
-use crate::rows::drop_from;
+use crate::sets::drop_from;
 use gv_values::Whom;
 use linked_items::item_list::ItemList;
 use std::alloc::{AllocError, Global};
@@ -62,7 +62,7 @@ fn answer_at(entries: &mut HashMap<u32, Entry>, item: u32)
 }
 
 impl Waits {
-    // Nobody waits.
+    /// Nobody waits.
     pub fn new(alloc: Global) -> Self
         ensures { result ≡ [] }
     {
@@ -73,7 +73,7 @@ impl Waits {
         }
     }
 
-    // How many items wait. No item waits twice.
+    /// How many items wait. No item waits twice.
     pub fn len(&self) -> usize
         ensures len { result ≡ length self.now }
         ensures differ { Differ (items_of self.now) }
@@ -81,7 +81,7 @@ impl Waits {
         self.order.len()
     }
 
-    // An item begins to wait.
+    /// An item begins to wait.
     pub fn add(&mut self, item: u32, entry: Entry) -> Result<(), AllocError>
         requires item { entry.item ≡ item }
         requires absent { Contains (items_of self.old) item → ⊥ }
@@ -103,7 +103,7 @@ impl Waits {
         Ok(())
     }
 
-    // A target of an item has ended.
+    /// A target of an item has ended.
     pub fn strike(&mut self, item: u32, whom: Whom)
         ensures { self.new ≡ at_item item (struck whom) self.old }
     {
@@ -112,7 +112,7 @@ impl Waits {
         }
     }
 
-    // An item waits no longer.
+    /// An item waits no longer.
     pub fn cancel(&mut self, item: u32) -> Option<Entry>
         requires { Contains (items_of self.old) item }
         ensures { self.new ≡ filter (λ w. not (w.item == item)) self.old }
@@ -122,7 +122,7 @@ impl Waits {
         self.entries.remove(&item)
     }
 
-    // Answers an item that needs no more ends and wasn't answered.
+    /// Answers an item that needs no more ends and wasn't answered.
     pub fn next_ready(&mut self) -> Option<u32>
         ensures none { (result ≡ None) ↔ All (λ w. is_ready w ≡ false) self.old }
         ensures kept { IfNone result (self.new ≡ self.old) }

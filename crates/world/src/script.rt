@@ -91,7 +91,7 @@ impl ScriptWorld {
     pub(crate) fn is_legal(&self, question: Question, answer: Answer) -> bool
         ensures { IsTrue result ↔ IsLegal self.now.posts.items self.now.answers.items question answer }
     {
-        is_legal(&self.posts, &self.answers, self.moment, question, answer)
+        is_legal(&self.jobs, self.moment, question, answer)
     }
 
     /// Stores a legal answer to the question.
