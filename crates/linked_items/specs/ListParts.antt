@@ -13,6 +13,7 @@ use Rattle.linked_items.specs.Items.{Differ}
 abbrev pub pairs : List Linked → List (ℕ × ℕ)
 pairs es = map (λ e. (e.item, e.number)) es
 
+-- one node, and what follows it
 abbrev pub step : Option Node → (Option ℕ → List (ℕ × ℕ)) → List (ℕ × ℕ)
 step None rest = []
 step (Some node) rest = (node.item, node.number) ∷ rest node.after
@@ -23,6 +24,7 @@ walk slots zero at = []
 walk slots (suc n) None = []
 walk slots (suc n) (Some k) = step (slice_index_or slots k None) (walk slots n)
 
+-- the items and numbers of all nodes, in their order
 abbrev pub entries_of : Links → List (ℕ × ℕ)
 entries_of l = walk l.nodes.slots (slab_len l.nodes) l.first
 
@@ -36,6 +38,7 @@ pub record IsTied (slots : List Slot) (es : List Linked) : Type 0 where
   pub placed : (q k : ℕ) → Stands es q k → Has slots q k
   pub listed : (q k : ℕ) → Has slots q k → Stands es q k
 
+-- the nodes stand in this order, and the table has each item once
 pub record IsItemList (l : Links) (slots : List Slot) (es : List Linked) : Type 0 where
   pub line : IsLine l es
   pub tied : IsTied slots es
@@ -47,6 +50,7 @@ pub record HasRoom (r : Inside) : Type 0 where
   pub nodes : r.limit ≤ r.links.nodes.capacity
   pub places : r.limit ≤ slab_len r.links.nodes + r.places.spare
 
+-- such nodes there are, with room
 pub record IsSound (r : Inside) : Type 0 where
   pub nodes : List Linked
   pub is : IsItemList r.links r.places.slots nodes

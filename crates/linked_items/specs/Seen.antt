@@ -12,5 +12,6 @@ pub record SeenItems : Type 0 where
   pub entries : List (ℕ × ℕ)
   pub spare : ℕ
 
+-- such a list
 abbrev pub item_list : List (ℕ × ℕ) → ℕ → SeenItems
 item_list es n = record { entries = es; spare = n }

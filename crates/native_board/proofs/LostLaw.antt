@@ -15,7 +15,7 @@ use Rattle.native_board.specs.declared.views.Stage.{Stage}
 use Rattle.native_board.specs.declared.views.Stage.TheVariants.{Owes}
 use Rattle.native_board.specs.declared.views.View.TheVariants.{Worker}
 use Rattle.native_board.specs.Words.{CellWords, state_in, cell_words, ended_of, signed_in, value_of}
-use Rattle.native_board.specs.Rows.{Row, NoLost, hub_cell, signal_of, Kept}
+use Rattle.native_board.specs.Rules.{CellRule, NoLost, hub_cell, signal_of, Kept}
 use Rattle.native_board.specs.Lost.{NothingIsLost}
 use Rattle.world_rules.specs.Jobs.{eval}
 use Rattle.native_board.proofs.Moves.{St, hub_there, worker_seat}
@@ -24,10 +24,10 @@ abbrev Found : Signal → ℕ → ℕ → CellWords → Stage → Job → Ended 
 Found g n i c w j e = ((g ≡ High) ⊎ ((w ≡ Owes) ⊎ (n ≤ i))) × (e ≡ ended_of (eval j)) × (signed_in c.value ≡ value_of (eval j))
 
 in_row : (g : Signal) (n i : ℕ) (c : CellWords) (st : CellState) (x : HubCell) (w : Stage) (k : ℕ) (j : Job) (e : Ended) → x ≡ Sent k j → st ≡ Done e
-    → Row c st x w → NoLost g n i st x w → Found g n i c w j e
+    → CellRule c st x w → NoLost g n i st x w → Found g n i c w j e
 in_row g n i c st x w k j e is_sent is_done row lost =
-    let P : CellState → HubCell → Type 0 = λ s y. Row c s y w × NoLost g n i s y w in
-    let t : Row c (Done e) (Sent k j) w × NoLost g n i (Done e) (Sent k j) w = subst (λ y. P (Done e) y) is_sent (subst (λ s. P s x) is_done (row, lost)) in
+    let P : CellState → HubCell → Type 0 = λ s y. CellRule c s y w × NoLost g n i s y w in
+    let t : CellRule c (Done e) (Sent k j) w × NoLost g n i (Done e) (Sent k j) w = subst (λ y. P (Done e) y) is_sent (subst (λ s. P s x) is_done (row, lost)) in
     (t.1, t.0.1, t.0.2)
 
 pub nothing_lost : (s : St) → Kept s → NothingIsLost s

@@ -1,5 +1,5 @@
 pub mod Words
-pub mod Rows
+pub mod Rules
 pub mod Plays
 pub mod Passes
 pub mod Made

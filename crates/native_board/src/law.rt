@@ -1,5 +1,5 @@
 //! What the rule of the board comes to for the jobs.
-ghost use Rattle.native_board.specs.Rows.{Kept};
+ghost use Rattle.native_board.specs.Rules.{Kept};
 ghost use Rattle.native_board.specs.Taken.{TakenOnce};
 ghost use Rattle.native_board.specs.Lost.{NothingIsLost};
 

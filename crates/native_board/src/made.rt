@@ -26,14 +26,17 @@ pub struct WorkerPasses {
 /// A new board with the passes that were made with it.
 #[derive(Drop)]
 pub struct Made {
+    /// The board, whose cells are all free.
     pub board: Board,
+    /// The pass of its hub.
     pub hub: HubPass,
+    /// The passes of its workers, one a cell.
     pub workers: WorkerPasses,
 }
 
 impl Board {
     ghost use Rattle.std.specs.Prelude.{◌≡◌, ℕ, ◌≤◌, IfOk};
-    ghost use Rattle.native_board.specs.Rows.{begun};
+    ghost use Rattle.native_board.specs.Rules.{begun};
     ghost use Rattle.native_board.specs.Passes.{KnowsFree};
     ghost use Rattle.native_board.specs.Boards.{board_id, hub_board, hub_view};
     ghost use Rattle.native_board.specs.Given.{passes_board, next_cell, passes_left};

@@ -6,7 +6,7 @@ ghost use Rattle.native_board.specs.declared.views.View.TheVariants.{Hub, Worker
 ghost use Rattle.native_board.specs.declared.views.CellState.TheVariants.{Done};
 ghost use Rattle.native_board.specs.declared.views.Ended.{Ended};
 ghost use Rattle.gv_values.specs.declared.job.Job.{Job};
-ghost use Rattle.native_board.specs.Rows.{hub_cell};
+ghost use Rattle.native_board.specs.Rules.{hub_cell};
 ghost use Rattle.native_board.specs.Words.{state_in, number_in, kind_in, signed_in, ended_of, value_of};
 ghost use Rattle.gv_values.specs.JobParts.{kind_of, job_of};
 ghost use Rattle.world_rules.specs.Jobs.{eval};

@@ -4,25 +4,35 @@ use gv_values::{Job, JobKind};
 /// How a job ended, without its integer. These are all the ways in which a job ends.
 #[derive(Clone, Copy)]
 pub enum Ended {
+    /// With an integer.
     Int,
+    /// By a `ValueError`.
     ValueError,
+    /// By an `OverflowError`.
     OverflowError,
+    /// By an `Error`, which has a number.
     Error,
 }
 
 /// Whether a result may have come since the hub last swept.
 #[derive(Clone, Copy)]
 pub enum Signal {
+    /// None came.
     Low,
+    /// One may have come.
     High,
 }
 
 /// What a cell's first word says.
 #[derive(Clone, Copy)]
 pub enum CellState {
+    /// Nothing lies in it.
     Free,
+    /// A job lies in it that is not done.
     Posted,
+    /// Its worker is to end.
     Stop,
+    /// Its job is done.
     Done(Ended),
 }
 
@@ -59,6 +69,7 @@ pub struct HubView {
 
 /// How far a worker is.
 pub enum Stage {
+    /// It has no job.
     Idle,
     /// It has read that a job lies in its cell.
     Asked,
@@ -76,7 +87,9 @@ pub enum Stage {
 
 /// What the worker of a cell knows.
 pub struct WorkerView {
+    /// The cell.
     pub cell: u64,
+    /// How far it is.
     pub stage: Stage,
     /// How often it looked into its cell.
     pub looks: u64,
@@ -88,6 +101,8 @@ pub struct WorkerView {
 
 /// What the token of a seat stands for.
 pub enum View {
+    /// What the hub knows.
     Hub(HubView),
+    /// What a worker knows.
     Worker(WorkerView),
 }

@@ -150,12 +150,12 @@ due_here d e f j held hub waiting outcome = λ posts answers s.
 same_from : (d e : DeskView) → e.hub ≡ d.hub → e.started ≡ d.started → SameCells d e
 same_from d e hub started = record { started = started; made = ap (λ h. h.made) hub; cells = ap (λ h. length h.cells) hub }
 
-pub hands_held : (d e : DeskView) (f : Finished) → e.hub ≡ d.hub → e.started ≡ d.started → f ∷ e.held ≡ d.held → Hands d e f × SameCells d e
-hands_held d e f hub started held = (inl held, same_from d e hub started)
+pub hands_held : (d e : DeskView) (f : Finished) → e.hub ≡ d.hub → e.started ≡ d.started → f ∷ e.held ≡ d.held → e.waiting ≡ d.waiting → Hands d e f × SameCells d e
+hands_held d e f hub started held waiting = (inl (held, later_same d.waiting e.waiting waiting), same_from d e hub started)
 
-pub hands_swept : (d m e : DeskView) (f : Finished) → d.held ≡ [] → Refills d m → e.hub ≡ m.hub → e.started ≡ m.started → f ∷ e.held ≡ m.held → Hands d e f × SameCells d e
-hands_swept d m e f none r hub started held = (
-  inr (inl (none, d, r.after, rests_refl d, r.swept, sym (ap (λ h. h.sweeps) hub ∙ r.sweeps), sym (ap (λ h. h.seen) hub ∙ r.seen), held ∙ r.held)),
+pub hands_swept : (d m e : DeskView) (f : Finished) → d.held ≡ [] → Refills d m → e.hub ≡ m.hub → e.started ≡ m.started → f ∷ e.held ≡ m.held → e.waiting ≡ m.waiting → Hands d e f × SameCells d e
+hands_swept d m e f none r hub started held waiting = (
+  inr (inl (none, d, r.after, rests_refl d, r.swept, sym (ap (λ h. h.sweeps) hub ∙ r.sweeps), sym (ap (λ h. h.seen) hub ∙ r.seen), held ∙ r.held, later_trans d.waiting m.waiting e.waiting r.order (later_same m.waiting e.waiting waiting))),
   same_trans d m e r.same (same_from m e hub started),
 )
 

@@ -33,10 +33,11 @@ pub record IsQuiet (d : DeskView) : Type 0 where
   pub none_held : d.held ≡ []
   pub none_waits : (d.waiting ≡ []) ⊎ ((has_workers d ≡ true) × ((i : ℕ) → CanTake d i → ⊥))
 
--- how often a number stands in a list
+-- 1 where it holds, else 0
 abbrev pub one_if : Bool → ℕ
 one_if b = if b then 1 else 0
 
+-- how often a number stands in a list
 abbrev pub occurs : ℕ → List ℕ → ℕ
 occurs n [] = 0
 occurs n (x ∷ xs) = one_if (x == n) + occurs n xs
@@ -125,15 +126,20 @@ pub record Settles (d e : DeskView) : Type 0 where
   pub swept : d.hub.sweeps < e.hub.sweeps
   pub quiet : IsQuiet e
 
+-- a job more waits behind the others, and those that could go on did, the oldest first
+abbrev pub WaitsBehind : ℕ → Job → DeskView → DeskView → Type 0
+WaitsBehind number job d e = IsLater (d.waiting ++ posted number job ∷ []) e.waiting
+
 -- the result was held, and was the first of those
 abbrev pub HandsHeld : DeskView → DeskView → Finished → Type 0
-HandsHeld d e f = f ∷ e.held ≡ d.held
+HandsHeld d e f = (f ∷ e.held ≡ d.held) × IsLater d.waiting e.waiting
 
--- none was held, and the result is the first of those that a sweep found in the cells of this desk, in their order; the others are held
+-- none was held, and the result is the first of those that a sweep found in the cells of this desk, in their order;
+-- the others are held
 abbrev pub HandsSwept : DeskView → DeskView → Finished → Type 0
 HandsSwept d e f =
     (d.held ≡ []) × (m : DeskView) × (after : HubView) × Rests d m × Sweeps m.hub after × (after.sweeps ≡ e.hub.sweeps) × (after.seen ≡ e.hub.seen)
-    × (f ∷ e.held ≡ finished m.hub.cells after.seen)
+    × (f ∷ e.held ≡ finished m.hub.cells after.seen) × IsLater d.waiting e.waiting
 
 -- no worker was started, and the hub evaluated the oldest job
 abbrev pub EvaluatesHere : DeskView → DeskView → Finished → Type 0

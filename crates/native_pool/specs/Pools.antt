@@ -6,7 +6,7 @@ use Rattle.world_rules.specs.declared.question.Question.{Question}
 use Rattle.world_rules.specs.declared.question.LogEntry.{LogEntry}
 use Rattle.world_rules.specs.Legal.{posts_of, answers_of}
 use Rattle.world_rules.specs.Script.{last_moment}
-use Rattle.native_board.specs.Rows.{hub_cell}
+use Rattle.native_board.specs.Rules.{hub_cell}
 use Rattle.native_board.specs.Passes.{is_sent}
 use Rattle.world.specs.Worlds.{Meaning}
 use Rattle.gv_values.specs.Counts.{HasRisen}

@@ -283,6 +283,7 @@ impl<
     ghost use Rattle.world_rules.specs.declared.question.LogEntry.TheVariants as entry;
     ghost use Rattle.world_rules.specs.Legal.{is_posted, MayAsk};
     ghost use Rattle.world.specs.Worlds.{Begins, Posts, Stores};
+    ghost use Rattle.native_pool.specs.Desks.{WaitsBehind};
     ghost use Rattle.native_pool.specs.Pools.{pool_meaning, pool_log, IsTimely, HasCome, WhileRunning, Between, KeepsStarts};
 
     ghost meaning = { pool_meaning };
@@ -333,6 +334,7 @@ impl<
         ensures refused_log { OnErr result ((log : List LogEntry) → pool_log self.old log ↔ pool_log self.new log) }
         ensures moment { OnOk result (IsTimely self.new) }
         ensures starts { OnOk result (WhileRunning KeepsStarts self.new) }
+        ensures waits { OnOk result (Between (WaitsBehind number job) self.old.desk self.new.desk) }
         ensures same_starts { self.new.starts ≡ self.old.starts }
         ensures same_began { self.new.began ≡ self.old.began }
     {

@@ -1,5 +1,5 @@
 //! What starts the workers.
-ghost use Rattle.std.specs.Prelude.{◌≡◌, ◌<◌, ◌≤◌, ℕ, IfOk, IfErr, OnErr, IsErr};
+ghost use Rattle.std.specs.Prelude.{◌≡◌, ◌<◌, ◌≤◌, ◌^◌, ℕ, IfOk, IfErr, OnErr, IsErr};
 ghost use Rattle.native_board.specs.Boards.{worker_view};
 ghost use Rattle.gv_values.specs.Counts.{HasRisen};
 
@@ -32,7 +32,8 @@ pub trait Spawner<B: Bell + Drop, G: Gate + Drop> {
         ensures running { IfOk result (λ running. running_cell running ≡ (worker_view task.pass).cell) }
         ensures refused { IfErr result (λ refused. refused_cell refused ≡ (worker_view task.pass).cell) }
         ensures count { refusals self.old ≤ refusals self.new }
-        ensures cause { OnErr result (HasRisen (refusals self.old) (refusals self.new)) };
+        ensures cause { OnErr result (HasRisen (refusals self.old) (refusals self.new)) }
+        ensures fits { OnErr result (refusals self.new < 2 ^ 64) };
 
     /// Waits for a worker to end.
     fn join(&mut self, running: Self::Running)
@@ -105,6 +106,7 @@ impl<H: Threads> Spawner<WakerBell, OpenGate> for ThreadSpawner<H> {
         ensures refused { IfErr result (λ refused. refused.cell ≡ (worker_view task.pass).cell) }
         ensures count { self.old.refused ≤ self.new.refused }
         ensures cause { OnErr result (HasRisen self.old.refused self.new.refused) }
+        ensures fits { OnErr result (self.new.refused < 2 ^ 64) }
     {
         let cell = task.cell();
         match (self.start)(task) {
@@ -155,6 +157,7 @@ impl<B: Bell + Drop, G: Gate + Drop> Spawner<B, G> for NoThreads {
         ensures refused { IfErr result (λ refused. refused.cell ≡ (worker_view task.pass).cell) }
         ensures count { self.old.refused ≤ self.new.refused }
         ensures cause { OnErr result (HasRisen self.old.refused self.new.refused) }
+        ensures fits { OnErr result (self.new.refused < 2 ^ 64) }
     {
         self.refused = self.refused.saturating_add(1);
         Err(NotStarted { cell: task.cell() })

@@ -221,7 +221,7 @@ answers_now posts answers jobs moment question (Answer.Done number outcome at) s
     (kept_each (λ (p : PostedJob). not (is_answered p.number answers)) posts) h.0.1 (ap not h.1) in
     let there = All-contains (λ z. (x : DueJob) × Contains jobs x × (posted_of x ≡ z)) (map posted_of jobs) post (mapped_each posted_of jobs)
     (subst (λ l. Contains l post) (sym s.outstanding_are) kept) in
-    (there.0, there.1, ap (λ (p : PostedJob). p.number) there.2, h.0.2 ∙ sym (ap (λ (p : PostedJob). eval p.job) there.2))
+    (there.0, there.1, (ap (λ (p : PostedJob). p.number) there.2, h.0.2 ∙ sym (ap (λ (p : PostedJob). eval p.job) there.2)))
 answers_now posts answers jobs moment Question.Poll (Answer.Elapsed at) s h = h
 answers_now posts answers jobs moment (Question.Wait None) (Answer.Elapsed at) s h = h
 answers_now posts answers jobs moment (Question.Wait (Some until)) (Answer.Elapsed at) s h = h

@@ -1,4 +1,4 @@
-ghost use Rattle.std.specs.Prelude.{◌≡◌, ◌<◌, ◌≤◌, true, false, [], OnOk, IfOk, IfErr, OnErr};
+ghost use Rattle.std.specs.Prelude.{◌≡◌, ◌<◌, ◌≤◌, ◌^◌, true, false, [], OnOk, IfOk, IfErr, OnErr};
 ghost use Rattle.std.specs.Arc.{arc_value};
 ghost use Rattle.native_board.specs.Boards.{board_id, hub_board, worker_view};
 ghost use Rattle.gv_values.specs.Counts.{HasRisen};
@@ -316,6 +316,7 @@ impl<H: Threads> Spawner<WakerBell, Passed> for EverySecond<H> {
         ensures refused { IfErr result (λ skipped. skipped.cell ≡ (worker_view task.pass).cell) }
         ensures count { self.old.refused ≤ self.new.refused }
         ensures cause { OnErr result (HasRisen self.old.refused self.new.refused) }
+        ensures fits { OnErr result (self.new.refused < 2 ^ 64) }
     {
         let cell = task.cell();
         self.skipped = !self.skipped;

@@ -17,8 +17,8 @@ invariant_of-self-in-Fault c =
 pub returns-in-None-clause-open : goal.returns-in-None-clause-open
 returns-in-None-clause-open c = subst NoChainCloses c.self.view_is (none_closes c.self.inside.table.items c.self.inside.hosts.items c.self.invariant)
 
-pub returns-in-Live-clause-open : goal.returns-in-Live-clause-open
-returns-in-Live-clause-open c = subst NoChainCloses c.self.view_is (none_closes c.self.inside.table.items c.self.inside.hosts.items c.self.invariant)
+pub returns-in-Started-clause-open : goal.returns-in-Started-clause-open
+returns-in-Started-clause-open c = subst NoChainCloses c.self.view_is (none_closes c.self.inside.table.items c.self.inside.hosts.items c.self.invariant)
 
 pub returns-in-Dead-clause-open : goal.returns-in-Dead-clause-open
 returns-in-Dead-clause-open c = subst NoChainCloses c.self.view_is (none_closes c.self.inside.table.items c.self.inside.hosts.items c.self.invariant)

@@ -52,15 +52,15 @@ Stops Over = Unit {0}
 Stops _ = ⊥
 
 -- the table of states: of a cell's words, its state, what the hub knows of it, and how far its worker is
-abbrev pub Row : CellWords → CellState → HubCell → Stage → Type 0
-Row c Free Vacant w = Rests w
-Row c Free (Ordered k kind) w = Rests w × (number_in c.order ≡ k) × (kind_in c.order ≡ kind)
-Row c Free (Filled k j) w = Rests w × Carries c k j
-Row c Posted (Sent k j) w = Carries c k j × Takes c k j w
-Row c (Done e) (Sent k j) w = Rests w × (e ≡ ended_of (eval j)) × Shows c j
-Row c (Done e) (Taking k j) w = Rests w × (e ≡ ended_of (eval j)) × Shows c j
-Row c Stop Stopped w = Stops w
-Row c _ _ w = ⊥
+abbrev pub CellRule : CellWords → CellState → HubCell → Stage → Type 0
+CellRule c Free Vacant w = Rests w
+CellRule c Free (Ordered k kind) w = Rests w × (number_in c.order ≡ k) × (kind_in c.order ≡ kind)
+CellRule c Free (Filled k j) w = Rests w × Carries c k j
+CellRule c Posted (Sent k j) w = Carries c k j × Takes c k j w
+CellRule c (Done e) (Sent k j) w = Rests w × (e ≡ ended_of (eval j)) × Shows c j
+CellRule c (Done e) (Taking k j) w = Rests w × (e ≡ ended_of (eval j)) × Shows c j
+CellRule c Stop Stopped w = Stops w
+CellRule c _ _ w = ⊥
 
 -- A result that the hub doesn't know of is behind a raised signal, or its worker will raise it, or the sweep has not reached it
 abbrev pub NoLost : Signal → ℕ → ℕ → CellState → HubCell → Stage → Type 0
@@ -76,7 +76,7 @@ untaken st w = 0
 -- Cell i, where a sweep has seen the cells below `reached`. Its worker has begun with each job that was posted to it once, but for the one that still lies there
 abbrev pub Fits : Signal → ℕ → ℕ → CellWords → HubCell → ℕ → Stage → ℕ → Type 0
 Fits signal reached i c x posts w takes =
-    let st : CellState = state_in c.state in Row c st x w × NoLost signal reached i st x w × (posts ≡ takes + untaken st w)
+    let st : CellState = state_in c.state in CellRule c st x w × NoLost signal reached i st x w × (posts ≡ takes + untaken st w)
 
 -- the signal of a board with these words
 abbrev pub signal_of : List ℕ → Signal
