@@ -8,6 +8,6 @@ mod records;
 #[cfg(test)]
 mod tests;
 
-pub use life::{Life, LifeRefusal};
 pub use gv_values::LinkKind;
+pub use life::{Life, LifeRefusal};
 pub use records::{Greenlet, Link, LinkState, Phase, Progress};

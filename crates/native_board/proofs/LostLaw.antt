@@ -36,5 +36,5 @@ nothing_lost s r a b h w at_hub at_worker =
     let seat = worker_seat r.hub r.workers b w (subst (λ vs. get_elem? vs b ≡ some (Worker w)) r.views_are at_worker) in
     let mine = r.started seat.0 w seat.2 in
     subst (λ (z : HubView × ℕ). (k : ℕ) (j : Job) (e : Ended) → hub_cell z.0 z.1 ≡ Sent k j → state_in (cell_words s.words z.1).state ≡ Done e
-        → Found (signal_of s.words) (length z.0.seen) z.1 (cell_words s.words z.1) w.stage j e) (λ i. (sym hub.1 i, sym mine.0 i))
+    → Found (signal_of s.words) (length z.0.seen) z.1 (cell_words s.words z.1) w.stage j e) (λ i. (sym hub.1 i, sym mine.0 i))
     (λ k j e is_sent is_done. in_row (signal_of s.words) (length r.hub.seen) seat.0 (cell_words s.words seat.0) _ _ w.stage k j e is_sent is_done mine.1.0 mine.1.1)

@@ -19,15 +19,22 @@ use crate::rule::{
 };
 use crate::views::{CellState, View};
 use crate::words::{
-    ARGUMENT, CELL_WORDS, FREE, HIGH, LOW, ORDER, POSTED, SIGNAL, STATE, STOP, VALUE, argument_of, done_word, ended_of, job_of, kind_in, number_in, order_word, signed_in,
-    signed_word, state_in, value_of,
+    ARGUMENT, CELL_WORDS, FREE, HIGH, LOW, ORDER, POSTED, SIGNAL, STATE, STOP, VALUE, argument_of,
+    done_word, ended_of, job_of, kind_in, number_in, order_word, signed_in, signed_word, state_in,
+    value_of,
 };
 use atomic_table::{Seat, Shared};
 use gv_values::{Job, JobKind, JobOutcome};
 
 pub(crate) type Top = Shared<(), View, u32, BoardRule>;
 
-pub(crate) fn store_order(top: &Top, hub: &mut Seat<(), View>, cell: usize, number: u32, kind: JobKind)
+pub(crate) fn store_order(
+    top: &Top,
+    hub: &mut Seat<(), View>,
+    cell: usize,
+    number: u32,
+    kind: JobKind,
+)
     requires board { hub.old.table_id ≡ top.now.table_id }
     requires vacant { IsHubAt hub.old cell Vacant }
     ensures { IsMarked hub.old hub.new cell (Ordered number kind) }
@@ -46,10 +53,20 @@ pub(crate) fn store_argument(
     requires ordered { IsHubAt hub.old cell (Ordered number (kind_of job)) }
     ensures { IsMarked hub.old hub.new cell (Filled number job) }
 {
-    top.store::<StoreArgument>(hub, CELL_WORDS * cell + ARGUMENT, signed_word(argument_of(job)));
+    top.store::<StoreArgument>(
+        hub,
+        CELL_WORDS * cell + ARGUMENT,
+        signed_word(argument_of(job)),
+    );
 }
 
-pub(crate) fn store_posted(top: &Top, hub: &mut Seat<(), View>, cell: usize, _number: u32, _job: Job)
+pub(crate) fn store_posted(
+    top: &Top,
+    hub: &mut Seat<(), View>,
+    cell: usize,
+    _number: u32,
+    _job: Job,
+)
     requires board { hub.old.table_id ≡ top.now.table_id }
     requires filled { IsHubAt hub.old cell (Filled _number _job) }
     ensures { IsSent hub.old hub.new cell _number _job }
@@ -104,7 +121,11 @@ pub(crate) fn store_value(top: &Top, worker: &mut Seat<(), View>, cell: usize, o
     requires holds { HoldsOf worker.old cell outcome }
     ensures { ValuedOf worker.old worker.new outcome }
 {
-    top.store::<StoreValue>(worker, CELL_WORDS * cell + VALUE, signed_word(value_of(outcome)));
+    top.store::<StoreValue>(
+        worker,
+        CELL_WORDS * cell + VALUE,
+        signed_word(value_of(outcome)),
+    );
 }
 
 pub(crate) fn store_done(top: &Top, worker: &mut Seat<(), View>, cell: usize, outcome: JobOutcome)
@@ -112,7 +133,11 @@ pub(crate) fn store_done(top: &Top, worker: &mut Seat<(), View>, cell: usize, ou
     requires valued { IsValuedOf worker.old cell outcome }
     ensures { IsStaged worker.old worker.new Owes }
 {
-    top.store::<StoreDone>(worker, CELL_WORDS * cell + STATE, done_word(ended_of(outcome)));
+    top.store::<StoreDone>(
+        worker,
+        CELL_WORDS * cell + STATE,
+        done_word(ended_of(outcome)),
+    );
 }
 
 /// Whether the signal was low.

@@ -42,8 +42,11 @@ pub(crate) const STOP: u64 = 2;
 
 /// The states of a cell whose job is done, by how it ended.
 const DONE_INT: u64 = 3;
+
 const DONE_VALUE_ERROR: u64 = 4;
+
 const DONE_OVERFLOW_ERROR: u64 = 5;
+
 const DONE_ERROR: u64 = 6;
 
 /// There are so many kinds of jobs.

@@ -22,7 +22,11 @@ pub struct Index {
 }
 
 // Gives the target of a number a list, if it has none.
-fn make_list(alloc: Global, lists: &mut HashMap<u32, ItemList>, number: u32) -> Result<(), AllocError>
+fn make_list(
+    alloc: Global,
+    lists: &mut HashMap<u32, ItemList>,
+    number: u32,
+) -> Result<(), AllocError>
     ensures there { OnOk result (IsSome (get nat_eq lists.new number)) }
     ensures same { (q : ℕ) → named lists.new q ≡ named lists.old q }
 {

@@ -1,6 +1,6 @@
-use target_waits::Targets;
 use gv_values::Whom;
 use std::test::*;
+use target_waits::Targets;
 
 #[test]
 fn each_place_of_a_target_counts(rt: HostRuntime) -> Result<(), Fail> {

@@ -2,8 +2,8 @@
 #![tactic(auto)]
 
 #[cfg(test)]
+mod ends;
+#[cfg(test)]
 mod lives;
 #[cfg(test)]
 mod raws;
-#[cfg(test)]
-mod ends;

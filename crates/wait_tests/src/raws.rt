@@ -1,5 +1,5 @@
-use raw_greenlets::{Hop, ParentRefusal, Raws};
 use gv_values::{FaultKind, Outcome, Value};
+use raw_greenlets::{Hop, ParentRefusal, Raws};
 use std::test::*;
 
 /// What a hop gave, in one word and the number that it hands on to.

@@ -8,6 +8,6 @@ mod outside;
 mod script;
 
 pub use list::ListWorld;
-pub use world_rules::{DueJob, LogEntry, PostedJob, Question, eval};
 pub use outside::World;
 pub use script::ScriptWorld;
+pub use world_rules::{DueJob, LogEntry, PostedJob, Question, eval};

@@ -5,10 +5,10 @@ ghost use Rattle.world.specs.Kept.{script_meaning};
 use crate::outside::World;
 use crate::script::ScriptWorld;
 use gv_values::{Answer, Job};
-use world_rules::Question;
 use std::alloc::{AllocError, Global};
 use std::collections::VecDeque;
 use std::snapshot::Snapshot;
+use world_rules::Question;
 
 /// A world that gives the first answer of its list, where that is legal, and takes it off. Else it answers as a script
 /// that doesn't tick, and the list stays.

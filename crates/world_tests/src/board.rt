@@ -2,15 +2,15 @@ ghost use Rattle.std.specs.Prelude.{◌≡◌, IsTrue};
 ghost use Rattle.native_board.specs.declared.views.Stage.TheVariants.{Idle};
 ghost use Rattle.native_board.specs.Boards.{board_id, hub_board, worker_board, worker_view};
 
-use native_board::{Bell, Board, Finished, HubPass, Looked, Made, WorkerPass};
 use gv_values::{FaultKind, Job, JobOutcome};
-use world_rules::eval;
+use native_board::{Bell, Board, Finished, HubPass, Looked, Made, WorkerPass};
 use std::alloc::{AllocError, Global};
 use std::sync::Wait;
 use std::sync::atomic::{AtomicU64, Ordering};
 use std::test::Fail;
 use std::thread;
 use std::thread::Threads;
+use world_rules::eval;
 
 /// A bell that counts its rings.
 #[derive(Drop)]

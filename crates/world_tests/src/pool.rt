@@ -3,12 +3,12 @@ ghost use Rattle.std.specs.Arc.{arc_value};
 ghost use Rattle.native_board.specs.Boards.{board_id, hub_board, worker_view};
 ghost use Rattle.gv_values.specs.Counts.{HasRisen};
 
+use gv_values::{Answer, Job, JobOutcome};
+use native_board::{Bell, Board, Finished, HubPass, Made, WorkerPass};
 use native_pool::{
     Clock, Ear, Gate, NoThreads, OpenGate, PollEar, Spawner, SteadyClock, ThreadSpawner,
     ThreadWorld, WakerBell, WorkerTask, spawn_worker,
 };
-use gv_values::{Answer, Job, JobOutcome};
-use native_board::{Bell, Board, Finished, HubPass, Made, WorkerPass};
 use std::alloc::{AllocError, Global};
 use std::sync::atomic::{AtomicU64, Ordering};
 use std::sync::{Arc, Wait};

@@ -1,6 +1,6 @@
-use world::{ListWorld, Question, ScriptWorld, World};
 use gv_values::{Answer, FaultKind, Job, JobOutcome};
 use std::test::Fail;
+use world::{ListWorld, Question, ScriptWorld, World};
 
 #[test]
 fn a_script_answers_what_is_due_first(rt: HostRuntime) -> Result<(), Fail> {
