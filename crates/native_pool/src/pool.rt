@@ -67,7 +67,8 @@ impl<
     ghost use Rattle.std.specs.Prelude.{false};
     ghost use Rattle.native_pool.specs.Pools.{pool_meaning};
 
-    /// A world that doesn't run yet. It keeps the handle, and shares bell and gate with the workers. `AllocError`: memory is wanting, and all that was handed in is given up.
+    /// A world that doesn't run yet. It keeps the handle, and shares bell and gate with the workers. `AllocError`: memory is
+    /// wanting, and all that was handed in is given up.
     pub fn new(
         alloc: Global,
         rt: H,
