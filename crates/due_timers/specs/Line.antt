@@ -8,6 +8,7 @@ pub record SeenLine : Type 0 where
   pub next : ℕ
   pub spare : ℕ
 
+-- the items with their numbers, the next number, and how many more items fit
 abbrev pub line : List (ℕ × ℕ) → ℕ → ℕ → SeenLine
 line es m n = record { entries = es; next = m; spare = n }
 

@@ -8,9 +8,11 @@ pub record SeenTimers : Type 0 where
   pub timers : List Timer
   pub spare : ℕ
 
+-- the items of the timers
 abbrev pub items_in : List Timer → List ℕ
 items_in ts = map (λ t. t.item) ts
 
+-- their deadlines
 abbrev pub deadlines_in : List Timer → List ℕ
 deadlines_in ts = map (λ t. t.deadline) ts
 

@@ -4,6 +4,7 @@ use Rattle.std.specs.List.{All}
 use Rattle.due_timers.specs.declared.heap.Timers.TheInside.{Inside}
 use Rattle.due_timers.specs.Heap.{rank_at, IsOrdered, IsTied}
 
+-- the timers are a heap, the table has the place of each, and so many fit in both
 pub record IsSound (t : Inside) : Type 0 where
   pub ordered : IsOrdered (rank_at t.heap.items) (length t.heap.items)
   pub tied : IsTied t.heap.items t.places.slots

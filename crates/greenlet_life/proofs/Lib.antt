@@ -1,2 +1,2 @@
-mod QueueLemmas
+mod PendingLemmas
 mod LifeLemmas

@@ -1,3 +1,2 @@
-pub mod Ends
 pub mod Lives
-pub mod Queues
+pub mod Pending

@@ -3,10 +3,11 @@
 #![tactic(auto)]
 
 mod life;
-mod queues;
+mod pending;
 mod records;
 #[cfg(test)]
 mod tests;
 
+pub use gv_values::LinkKind;
 pub use life::{Life, LifeRefusal};
-pub use records::{Greenlet, Link, LinkKind, LinkState, Phase, Stage};
+pub use records::{Greenlet, Link, LinkState, Phase, Progress};

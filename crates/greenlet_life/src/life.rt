@@ -1,16 +1,16 @@
 //! The greenlets of a run, and the links on their ends.
 ghost use Rattle.std.specs.Prelude.{◌≡◌, ◌≢◌, ℕ, ◌+◌, ◌-◌, ◌<◌, ◌≤◌, [], ◌∷◌, ◌++◌, length, Err, IsSome, IsSomeAnd, IfSome, IfNone, IfOk, OnOk, OnErr, ◌↔◌, position};
 ghost use Rattle.std.specs.Option.{option_copied, option_map};
-ghost use Rattle.greenlet_life.specs.declared.records.Phase.TheVariants.{New, Live, Parked, Done};
-ghost use Rattle.greenlet_life.specs.declared.records.Stage.{Stage as Level};
+ghost use Rattle.greenlet_life.specs.declared.records.Phase.TheVariants.{New, Running, Parked, Done};
+ghost use Rattle.greenlet_life.specs.declared.records.Progress.{Progress as Level};
 ghost use Rattle.greenlet_life.specs.declared.records.LinkState.{LinkState as State};
-ghost use Rattle.greenlet_life.specs.Ends.{kept};
-ghost use Rattle.greenlet_life.specs.Lives.{life, greenlet_at, link_at, outcome_of, phase_of, born, made, with_stage, with_outcome, with_state, staged, stated, handed_out, is_due, is_pending, pending_item};
+ghost use Rattle.gv_values.specs.Ends.{kept};
+ghost use Rattle.greenlet_life.specs.Lives.{life, greenlet_at, link_at, outcome_of, phase_of, born, made, with_progress, with_outcome, with_state, progressed, stated, handed_out, is_due, is_pending, pending_item};
 
-use crate::queues::{drop_link, next_fitting, queue_link};
-use crate::records::{Greenlet, Link, LinkKind, LinkState, Phase, Stage, is_fitting};
-use gv_values::{FaultKind, Outcome, Value};
-use linked_items::row::Row;
+use crate::pending::{add_link, drop_link, next_fitting};
+use crate::records::{Greenlet, Link, LinkState, Phase, Progress, is_fitting};
+use gv_values::{LinkKind, Outcome, kept_outcome};
+use linked_items::item_list::ItemList;
 use std::alloc::{AllocError, Global};
 use std::marker::Model;
 use thiserror::Error;
@@ -41,39 +41,27 @@ pub struct Life {
     outcomes: Vec<Option<Outcome>>,
     links: Vec<Link>,
     // For each greenlet the places of its links that may still be handed out.
-    queues: Vec<Row>,
+    pending: Vec<ItemList>,
 }
 
 impl Model for Life {
     ghost use Rattle.std.specs.Prelude.{length};
     ghost use Rattle.greenlet_life.specs.Lives.{SeenLife, life};
-    ghost use Rattle.greenlet_life.specs.Queues.{IsLife};
+    ghost use Rattle.greenlet_life.specs.Pending.{IsLife};
 
     ghost Value = { SeenLife };
 
     ghost view = { λ l. life l.greenlets.items l.outcomes.items l.links.items };
 
-    ghost invariant = { λ l. IsLife (length l.greenlets.items) l.outcomes.items l.links.items l.queues.items };
+    ghost invariant = { λ l. IsLife (length l.greenlets.items) l.outcomes.items l.links.items l.pending.items };
 }
 
-// What is kept of an end: `GreenletExit` as a value, all else as it is.
-fn kept_outcome(outcome: Outcome) -> Outcome
-    ensures { result ≡ kept outcome }
-{
-    match outcome {
-        Outcome::Fault(FaultKind::GreenletExit) => Outcome::Value(Value::Fault(
-            FaultKind::GreenletExit,
-        )),
-        other => other,
-    }
-}
-
-// A greenlet that has come to a stage.
-fn set_stage(greenlets: &mut [Greenlet], g: u32, stage: Stage)
+// A greenlet has come so far.
+fn set_progress(greenlets: &mut [Greenlet], g: u32, progress: Progress)
     requires { g < length greenlets.old }
-    ensures { greenlets.new ≡ staged greenlets.old g stage }
+    ensures { greenlets.new ≡ progressed greenlets.old g progress }
 {
-    greenlets[g as usize].stage = stage;
+    greenlets[g as usize].progress = progress;
 }
 
 impl Life {
@@ -86,7 +74,7 @@ impl Life {
             greenlets: Vec::new(alloc),
             outcomes: Vec::new(alloc),
             links: Vec::new(alloc),
-            queues: Vec::new(alloc),
+            pending: Vec::new(alloc),
         }
     }
 
@@ -104,17 +92,17 @@ impl Life {
         }
         if self.greenlets.reserve(1).is_err()
             || self.outcomes.reserve(1).is_err()
-            || self.queues.reserve(1).is_err()
+            || self.pending.reserve(1).is_err()
         {
             return Err(LifeRefusal::Memory);
         }
         self.greenlets.push_reserved(Greenlet {
             raw,
             function,
-            stage: Stage::New,
+            progress: Progress::New,
         });
         self.outcomes.push_reserved(None);
-        self.queues.push_reserved(Row::new(self.alloc));
+        self.pending.push_reserved(ItemList::new(self.alloc));
         Ok(number as u32)
     }
 
@@ -128,7 +116,7 @@ impl Life {
         }
     }
 
-    /// The phase of a greenlet.
+    /// How far a greenlet has come. It is done from its end on.
     pub fn phase(&self, g: u32) -> Phase
         requires { g < length self.now.greenlets }
         ensures { result ≡ phase_of self.now g }
@@ -136,14 +124,14 @@ impl Life {
         if self.outcome_at(g).is_some() {
             return Phase::Done;
         }
-        match self.greenlets[g as usize].stage {
-            Stage::New => Phase::New,
-            Stage::Live => Phase::Live,
-            Stage::Parked => Phase::Parked,
+        match self.greenlets[g as usize].progress {
+            Progress::New => Phase::New,
+            Progress::Running => Phase::Running,
+            Progress::Parked => Phase::Parked,
         }
     }
 
-    /// Whether a greenlet is a raw one.
+    /// Whether a greenlet is a raw one: one that is switched to by hand, and not by the hub.
     pub fn is_raw(&self, g: u32) -> bool
         requires { g < length self.now.greenlets }
         ensures { result ≡ (greenlet_at self.now g).raw }
@@ -168,35 +156,35 @@ impl Life {
         self.outcome_at(g)
     }
 
-    /// A new greenlet begins to run.
+    /// A new greenlet begins to run (greenlet documentation: the first switch to it starts it).
     pub fn started(&mut self, g: u32)
         requires there { g < length self.old.greenlets }
         requires new { phase_of self.old g ≡ New }
-        ensures { self.new ≡ with_stage self.old g Level.Live }
+        ensures { self.new ≡ with_progress self.old g Level.Running }
     {
-        set_stage(&mut self.greenlets, g, Stage::Live);
+        set_progress(&mut self.greenlets, g, Progress::Running);
     }
 
     /// A greenlet that runs begins to wait.
     pub fn park(&mut self, g: u32)
         requires there { g < length self.old.greenlets }
-        requires live { phase_of self.old g ≡ Live }
-        ensures { self.new ≡ with_stage self.old g Level.Parked }
+        requires running { phase_of self.old g ≡ Running }
+        ensures { self.new ≡ with_progress self.old g Level.Parked }
     {
-        set_stage(&mut self.greenlets, g, Stage::Parked);
+        set_progress(&mut self.greenlets, g, Progress::Parked);
     }
 
     /// A greenlet that waits goes on.
     pub fn unpark(&mut self, g: u32)
         requires there { g < length self.old.greenlets }
         requires parked { phase_of self.old g ≡ Parked }
-        ensures { self.new ≡ with_stage self.old g Level.Live }
+        ensures { self.new ≡ with_progress self.old g Level.Running }
     {
-        set_stage(&mut self.greenlets, g, Stage::Live);
+        set_progress(&mut self.greenlets, g, Progress::Running);
     }
 
-    /// A greenlet ends, once. Its outcome is kept, a `GreenletExit` fault as a value; links that don't fit it are
-    /// dropped.
+    /// A greenlet ends, once. Its outcome is kept, a `GreenletExit` fault as a value (gevent API reference:
+    /// `Greenlet.value`, `successful`); links that don't fit it are dropped.
     pub fn end(&mut self, g: u32, outcome: Outcome)
         requires there { g < length self.old.greenlets }
         requires once { phase_of self.old g ≢ Done }
@@ -228,7 +216,7 @@ impl Life {
         if self.links.reserve(1).is_err() {
             return Err(LifeRefusal::Memory);
         }
-        match queue_link(&mut self.queues, g, made as u32) {
+        match add_link(&mut self.pending, g, made as u32) {
             Err(_) => Err(LifeRefusal::Memory),
             Ok(()) => {
                 self.links.push_reserved(Link {
@@ -277,7 +265,7 @@ impl Life {
             return None;
         }
         set_state(&mut self.links, link as usize - 1, LinkState::Removed);
-        drop_link(&mut self.queues, entry.greenlet, link - 1);
+        drop_link(&mut self.pending, entry.greenlet, link - 1);
         Some(entry.item)
     }
 
@@ -288,7 +276,7 @@ impl Life {
         ensures link { result ≡ option_map (λ k. k + 1) (position (is_due (outcome_of self.old g) g) self.old.links) }
         ensures handed { self.new ≡ handed_out self.old (position (is_due (outcome_of self.old g) g) self.old.links) }
     {
-        match next_fitting(&mut self.queues, &self.links, &self.outcomes, g) {
+        match next_fitting(&mut self.pending, &self.links, &self.outcomes, g) {
             None => None,
             Some(place) => {
                 set_state(&mut self.links, place, LinkState::HandedOut);

@@ -1,4 +1,3 @@
 pub mod Streams
-pub mod Faults
 pub mod Memory
 pub mod Limited

@@ -1,6 +1,6 @@
 ghost use Rattle.std.specs.Prelude.{◌≡◌, ◌+◌, ◌<◌, ◌≤◌, [], length, take, vec_len, IfOk, OnOk, OnErr, IsErrOf, IfSome};
 ghost use Rattle.gv_io.specs.Streams.{prepended};
-ghost use Rattle.gv_io.specs.Faults.{HasRisen};
+ghost use Rattle.gv_values.specs.Counts.{HasRisen};
 ghost use Rattle.gv_io.specs.Limited.{TakesAtMost};
 
 use crate::source::Source;

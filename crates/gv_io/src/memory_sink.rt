@@ -50,7 +50,7 @@ impl MemorySink {
 impl Sink for MemorySink {
     ghost use Rattle.std.specs.Prelude.{◌≡◌, ◌≤◌, Some, true, is_ok, is_err, OnOk, OnErr};
     ghost use Rattle.gv_io.specs.Streams.{appended, AppendsPrefix};
-    ghost use Rattle.gv_io.specs.Faults.{HasRisen};
+    ghost use Rattle.gv_values.specs.Counts.{HasRisen};
     ghost use Rattle.gv_io.specs.Memory.{SinkState, is_past_room, after_write};
 
     ghost written = { λ s. Some s.bytes };

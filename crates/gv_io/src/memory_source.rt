@@ -52,7 +52,7 @@ impl MemorySource {
 impl Source for MemorySource {
     ghost use Rattle.std.specs.Prelude.{◌≡◌, ◌<◌, ◌≤◌, Some, Ok, [], length, take, is_err, if◌then◌else◌, IfOk, IfSome, OnErr};
     ghost use Rattle.gv_io.specs.Streams.{prepended};
-    ghost use Rattle.gv_io.specs.Faults.{HasRisen};
+    ghost use Rattle.gv_values.specs.Counts.{HasRisen};
     ghost use Rattle.gv_io.specs.Memory.{SourceState, fails_next, given, after_read, after_fault};
 
     ghost remaining = { λ s. Some s.left };

@@ -1,6 +1,6 @@
 ghost use Rattle.std.specs.Prelude.{◌≡◌, ℕ, ◌≤◌, List, Option, OnOk, OnErr};
 ghost use Rattle.gv_io.specs.Streams.{appended, AppendsPrefix};
-ghost use Rattle.gv_io.specs.Faults.{HasRisen};
+ghost use Rattle.gv_values.specs.Counts.{HasRisen};
 
 use crate::source::Failed;
 

@@ -1,6 +1,6 @@
 ghost use Rattle.std.specs.Prelude.{◌≡◌, ℕ, ◌<◌, ◌≤◌, List, Option, [], length, take, IfOk, OnErr, IfSome, Ok};
 ghost use Rattle.gv_io.specs.Streams.{prepended};
-ghost use Rattle.gv_io.specs.Faults.{HasRisen};
+ghost use Rattle.gv_values.specs.Counts.{HasRisen};
 
 use thiserror::Error;
 

@@ -1,5 +1,5 @@
 ghost use Rattle.std.specs.Prelude.{◌≡◌, ◌≤◌, OnErr};
-ghost use Rattle.gv_io.specs.Faults.{HasRisen};
+ghost use Rattle.gv_values.specs.Counts.{HasRisen};
 
 use crate::count::one_more;
 use crate::sink::Sink;

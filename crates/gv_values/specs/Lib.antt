@@ -7,3 +7,5 @@ pub mod Arithmetic
 pub mod ValueTexts
 pub mod Fronts
 pub mod Ends
+pub mod Counts
+pub mod JobParts

@@ -4,6 +4,7 @@
 mod arith;
 pub mod arithmetic;
 pub mod digits;
+mod ends;
 mod fault;
 mod job;
 mod link;
@@ -16,6 +17,7 @@ mod texts;
 mod value;
 
 pub use arith::Arith;
+pub use ends::kept_outcome;
 pub use fault::{Class, FaultKind};
 pub use job::{Answer, Job, JobKind, JobOutcome};
 pub use link::LinkKind;

@@ -10,9 +10,11 @@ pub record Linked : Type 0 where
   pub item : ℕ
   pub number : ℕ
 
+-- a node under a key
 abbrev pub linked : ℕ → ℕ → ℕ → Linked
 linked k i n = record { key = k; item = i; number = n }
 
+-- the items of the nodes
 abbrev pub node_items : List Linked → List ℕ
 node_items es = map (λ e. e.item) es
 
@@ -20,9 +22,11 @@ node_items es = map (λ e. e.item) es
 abbrev pub node_of : Linked → Option ℕ → Option ℕ → Node
 node_of e p q = record { item = e.item; number = e.number; before = p; after = q }
 
+-- the node with another one after it
 abbrev pub with_after : Option ℕ → Node → Node
 with_after q n = record { item = n.item; number = n.number; before = n.before; after = q }
 
+-- the node with another one before it
 abbrev pub with_before : Option ℕ → Node → Node
 with_before p n = record { item = n.item; number = n.number; before = p; after = n.after }
 
@@ -66,10 +70,12 @@ pub record ChangesNode (old : Slab Node) (key : ℕ) (f : Node → Node) (new : 
   pub count : slab_len new ≡ slab_len old
   pub capacity : new.capacity ≡ old.capacity
 
+-- the node under a key, if there is one, has another one after it
 abbrev pub AfterIsSet : Links → Option ℕ → Option ℕ → Links → Type 0
 AfterIsSet old None link new = new ≡ record old { first = link }
 AfterIsSet old (Some key) link new = ChangesNode old.nodes key (with_after link) new.nodes × (new.first ≡ old.first) × (new.last ≡ old.last)
 
+-- the node under a key, if there is one, has another one before it
 abbrev pub BeforeIsSet : Links → Option ℕ → Option ℕ → Links → Type 0
 BeforeIsSet old None link new = new ≡ record old { last = link }
 BeforeIsSet old (Some key) link new = ChangesNode old.nodes key (with_before link) new.nodes × (new.first ≡ old.first) × (new.last ≡ old.last)

@@ -3,6 +3,7 @@ use Rattle.std.specs.Prelude.{◌≡◌, ◌+◌, ◌<◌, ◌≤◌, length, []
 use Rattle.linked_items.specs.declared.places.Places.TheInside.{Inside}
 use Rattle.linked_items.specs.Table.{IsTable, is_held}
 
+-- the slots are a table, and its twin is as long
 pub record IsPlaces (p : Inside) : Type 0 where
   pub table : IsTable p.slots.items p.homes p.free
   pub count : p.len ≡ count_by is_held p.slots.items

@@ -7,14 +7,17 @@ use Rattle.linked_items.specs.declared.places.Slot.TheVariants.{Empty, Dead, Hel
 abbrev pub home : ℕ → ℕ → ℕ
 home q homes = q * 2654435761 % homes
 
+-- the slot at a place
 abbrev pub slot_at : List Slot → ℕ → Slot
 slot_at xs p = slice_index_or xs p Empty
 
+-- the slot was never used
 abbrev pub is_empty : Slot → Bool
 is_empty Empty = true
 is_empty Dead = false
 is_empty (Held q k) = false
 
+-- the slot holds an item
 abbrev pub is_held : Slot → Bool
 is_held Empty = false
 is_held Dead = false

@@ -4,3 +4,4 @@ pub mod PassesKeep
 pub mod Sweeping
 pub mod MadeKeep
 pub mod TakenLaw
+pub mod LostLaw

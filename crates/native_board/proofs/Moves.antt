@@ -20,7 +20,7 @@ use Rattle.native_board.specs.declared.views.WorkerView.{WorkerView}
 use Rattle.native_board.specs.declared.views.View.{View}
 use Rattle.native_board.specs.declared.views.View.TheVariants.{Hub, Worker}
 use Rattle.native_board.specs.Words.{CellWords, cell_words, signal_in, state_in}
-use Rattle.native_board.specs.Rows.{Row, NoLost, Fits, signal_of, hub_cell, posts_at, Kept}
+use Rattle.native_board.specs.Rules.{CellRule, NoLost, Fits, signal_of, hub_cell, posts_at, Kept}
 use Rattle.native_board.specs.Plays.{lowered, taken, saw}
 
 abbrev pub St : Type 0
@@ -242,7 +242,7 @@ seen_more : (g : Signal) (n i : ℕ) (st : CellState) (x : HubCell) (w : Stage) 
 seen_more g n i (Done e) (Sent k j) w apart t = ⊎_elim (λ a. inl a) (λ a. ⊎_elim (λ b. inr (inl b)) (λ (b : n ≤ i). inr (inr (omega arith))) a) t
 seen_more g n i st x w apart t = t
 
-taken_row : (g : Signal) (n i : ℕ) (c : CellWords) (st : CellState) (x : HubCell) (w : Stage) → Row c st x w → Row c st (taken st x) w × NoLost g n i st (taken st x) w
+taken_row : (g : Signal) (n i : ℕ) (c : CellWords) (st : CellState) (x : HubCell) (w : Stage) → CellRule c st x w → CellRule c st (taken st x) w × NoLost g n i st (taken st x) w
 taken_row g n i c (Done e) (Sent k j) w t = (t, tt)
 taken_row g n i c st x w t = (t, tt)
 

@@ -9,9 +9,9 @@ use Rattle.std.proofs.lemmas.List.{length-replicate, get_or-replicate}
 use lib.Seq.{set-get_or}
 use Rattle.atomic_table.proofs.Lists.{set_again}
 use Rattle.atomic_table.specs.Table.{Me, step, keeps, Allows, Splits, opening}
-use Rattle.native_board.specs.declared.views.Kind.{Kind}
+use Rattle.gv_values.specs.declared.job.JobKind.{JobKind}
 use Rattle.gv_values.specs.declared.job.Job.{Job}
-use Rattle.native_board.specs.declared.views.Kind.TheVariants as kind
+use Rattle.gv_values.specs.declared.job.JobKind.TheVariants as kind
 use Rattle.gv_values.specs.declared.job.Job.TheVariants as job
 use Rattle.gv_values.specs.declared.job.JobOutcome.{JobOutcome}
 use Rattle.gv_values.specs.declared.fault.FaultKind.{FaultKind}
@@ -29,9 +29,10 @@ use Rattle.native_board.specs.declared.views.Stage.TheVariants.{Idle, Asked, Num
 use Rattle.native_board.specs.declared.views.WorkerView.{WorkerView}
 use Rattle.native_board.specs.declared.views.View.{View}
 use Rattle.native_board.specs.declared.views.View.TheVariants.{Hub, Worker}
-use Rattle.native_board.specs.Words.{CellWords, cell_words, state_in, signed_in, kind_of, argument_of, job_of, signal_in, ended_of, value_of, outcome_of}
+use Rattle.native_board.specs.Words.{CellWords, cell_words, state_in, signed_in, signal_in, ended_of, value_of, outcome_of}
+use Rattle.gv_values.specs.JobParts.{kind_of, argument_of, job_of}
 use Rattle.world_rules.specs.Jobs.{eval}
-use Rattle.native_board.specs.Rows.{Row, NoLost, Fits, signal_of, begun, first, Shows, Carries, Rests, Takes, Stops, untaken, hub_cell, posts_at, Kept}
+use Rattle.native_board.specs.Rules.{CellRule, NoLost, Fits, signal_of, begun, first, Shows, Carries, Rests, Takes, Stops, untaken, hub_cell, posts_at, Kept}
 use Rattle.native_board.specs.Plays.{with_worker, new_worker, marked, counted, on_cell, on_post, on_stage, ordered, filled, sent, stopped, asked, begun_with, looked, numbered, holds, valued, owing, rested, freed, lowered, saw, swept, IsJob, StoresFree, StoresValue, StoresDone, SwapsHigh, SwapsLow, LoadsNext, LoadsValue, StoresOrder, StoresArgument, StoresPosted, StoresStop, LoadsState, LoadsOrder, LoadsArgument}
 use Rattle.native_board.proofs.Moves.{spares, put_word, puts, in_board, has_count, own_in_board, off_cells, is_high, lowers, sees, started_fits, hub_seat, hub_at, hub_or, worker_at, CountsElse, moved}
 
@@ -66,7 +67,7 @@ hub_marks slots id me h i is low old was q p x place small f rows =
     hub_stores slots id me h i is low old (f old) was q p x place small h.posts (refl, λ j n. refl) rows (λ m'. (j : ℕ) → 4 * i + p ≡ 4 * j + p → m' ≡ (on_cell f j me.0, me.1))
     (λ j e. let same : i ≡ j = omega arith in λ c. (((λ k. Hub (marked h i (f (sym was k)))) ∙ (λ k. on_cell f (same k) (sym is k))) c, me.1))
 
-order_row : (g : Signal) (n i : ℕ) (c : CellWords) (x : ℕ) (st : CellState) (w : Stage) → Row c st Vacant w → Row (put_word c 1 x) st (ordered x Vacant) w × NoLost g n i st (ordered x Vacant) w
+order_row : (g : Signal) (n i : ℕ) (c : CellWords) (x : ℕ) (st : CellState) (w : Stage) → CellRule c st Vacant w → CellRule (put_word c 1 x) st (ordered x Vacant) w × NoLost g n i st (ordered x Vacant) w
 order_row g n i c x Free w t = ((t, refl, refl), tt)
 order_row g n i c x st w t = absurd t
 
@@ -75,17 +76,17 @@ pub stores_order : (slots id : ℕ) (me : M) (h : HubView) (i x : ℕ) → me.0 
 stores_order slots id me h i x is low was = hub_marks slots id me h i is low Vacant was 1 2 x refl (omega arith) (ordered x)
     (λ g c w t f. let row = order_row g (length h.seen) i c x (state_in c.state) w f.0 in (row.0, row.1, f.2))
 
-signed_job : (k : Kind) (y : ℤ) → (kind_of (job_of k y) ≡ k) × (argument_of (job_of k y) ≡ y)
+signed_job : (k : JobKind) (y : ℤ) → (kind_of (job_of k y) ≡ k) × (argument_of (job_of k y) ≡ y)
 signed_job kind.Sum y = (refl, refl)
 signed_job kind.Collatz y = (refl, refl)
 signed_job kind.Fail y = (refl, refl)
 signed_job kind.Echo y = (refl, refl)
 
-argument_row : (g : Signal) (n i : ℕ) (c : CellWords) (k : ℕ) (d : Kind) (x : ℕ) (st : CellState) (w : Stage) → Row c st (Ordered k d) w → Row (put_word c 2 x) st (filled x (Ordered k d)) w × NoLost g n i st (filled x (Ordered k d)) w
+argument_row : (g : Signal) (n i : ℕ) (c : CellWords) (k : ℕ) (d : JobKind) (x : ℕ) (st : CellState) (w : Stage) → CellRule c st (Ordered k d) w → CellRule (put_word c 2 x) st (filled x (Ordered k d)) w × NoLost g n i st (filled x (Ordered k d)) w
 argument_row g n i c k d x Free w t = let j = signed_job d (signed_in x) in ((t.0, (t.1, t.2 ∙ sym j.0, sym j.1)), tt)
 argument_row g n i c k d x st w t = absurd t
 
-pub stores_argument : (slots id : ℕ) (me : M) (h : HubView) (i x k : ℕ) (d : Kind) → me.0 ≡ Hub h → i < h.made → hub_cell h i ≡ Ordered k d
+pub stores_argument : (slots id : ℕ) (me : M) (h : HubView) (i x k : ℕ) (d : JobKind) → me.0 ≡ Hub h → i < h.made → hub_cell h i ≡ Ordered k d
     → Allows Kept slots id me (4 * i + 3) (λ _. x) (λ _. StoresArgument (step slots (4 * i + 3) x 0 none) me x)
 stores_argument slots id me h i x k d is low was = hub_marks slots id me h i is low (Ordered k d) was 2 3 x refl (omega arith) (filled x)
     (λ g c w t f. let row = argument_row g (length h.seen) i c k d x (state_in c.state) w f.0 in (row.0, row.1, f.2))
@@ -102,7 +103,7 @@ rests_untaken Idle t = refl
 rests_untaken Owes t = refl
 rests_untaken w t = absurd t
 
-posted_row : (c : CellWords) (k : ℕ) (j : Job) (st : CellState) (w : Stage) → Row c st (Filled k j) w → Row (put_word c 0 1) Posted (Sent k j) w × (untaken Posted w ≡ untaken st w + 1)
+posted_row : (c : CellWords) (k : ℕ) (j : Job) (st : CellState) (w : Stage) → CellRule c st (Filled k j) w → CellRule (put_word c 0 1) Posted (Sent k j) w × (untaken Posted w ≡ untaken st w + 1)
 posted_row c k j Free w t = ((t.1, rests_takes (put_word c 0 1) k j w t.0), rests_untaken w t.0)
 posted_row c k j st w t = absurd t
 
@@ -129,7 +130,7 @@ rests_stops Idle t = tt
 rests_stops Owes t = tt
 rests_stops w t = absurd t
 
-stop_row : (c : CellWords) (st : CellState) (w : Stage) → Row c st Vacant w → Row (put_word c 0 2) Stop Stopped w × (untaken Stop w ≡ untaken st w)
+stop_row : (c : CellWords) (st : CellState) (w : Stage) → CellRule c st Vacant w → CellRule (put_word c 0 2) Stop Stopped w × (untaken Stop w ≡ untaken st w)
 stop_row c Free w t = (rests_stops w t, refl)
 stop_row c st w t = absurd t
 
@@ -138,7 +139,7 @@ pub stores_stop : (slots id : ℕ) (me : M) (h : HubView) (i : ℕ) → me.0 ≡
 stores_stop slots id me h i is low was = hub_marks slots id me h i is low Vacant was 0 1 2 refl (omega arith) stopped
     (λ g c w t f. let row = stop_row c (state_in c.state) w f.0 in let count = f.2 in let same = row.1 in (row.0, tt, omega arith))
 
-free_row : (c : CellWords) (k : ℕ) (j : Job) (st : CellState) (w : Stage) → Row c st (Taking k j) w → Row (put_word c 0 0) Free Vacant w × (untaken Free w ≡ untaken st w)
+free_row : (c : CellWords) (k : ℕ) (j : Job) (st : CellState) (w : Stage) → CellRule c st (Taking k j) w → CellRule (put_word c 0 0) Free Vacant w × (untaken Free w ≡ untaken st w)
 free_row c k j (Done e) w t = (t.0, refl)
 free_row c k j st w t = absurd t
 
@@ -162,7 +163,7 @@ worker_loads slots id at me w is after stays rows s r deep seat _ =
       refl,
     )
 
-asked_row : (g : Signal) (n i : ℕ) (c : CellWords) (st : CellState) (x : HubCell) (w : Stage) → Row c st x w × NoLost g n i st x w → Row c st x (asked st w) × NoLost g n i st x (asked st w)
+asked_row : (g : Signal) (n i : ℕ) (c : CellWords) (st : CellState) (x : HubCell) (w : Stage) → CellRule c st x w × NoLost g n i st x w → CellRule c st x (asked st w) × NoLost g n i st x (asked st w)
 asked_row g n i c Posted (Sent k j) Idle t = ((t.0.0, tt), tt)
 asked_row g n i c Stop Stopped Idle t = (tt, tt)
 asked_row g n i c st x w t = t
@@ -184,7 +185,7 @@ own_state slots id me w is s r deep seat small = let n : ℕ = get_or s.words (4
     (t.0, t.1, t.2, t.3, t.4 ∙ λ c. (looked (state_in n) (sym is c), me.1))
 
 -- where a worker is at a job, its cell is posted
-at_a_job : (c : CellWords) (st : CellState) (x : HubCell) (w : Stage) (P : CellState → HubCell → Type 0) → (Rests w → ⊥) → (Stops w → ⊥) → Row c st x w
+at_a_job : (c : CellWords) (st : CellState) (x : HubCell) (w : Stage) (P : CellState → HubCell → Type 0) → (Rests w → ⊥) → (Stops w → ⊥) → CellRule c st x w
     → ((k : ℕ) (j : Job) → st ≡ Posted → x ≡ Sent k j → Carries c k j → Takes c k j w → P Posted (Sent k j)) → P st x
 at_a_job c Posted (Sent k j) w P a b t go = go k j refl refl t.0 t.1
 at_a_job c Free Vacant w P a b t go = absurd (a t)
@@ -196,7 +197,7 @@ at_a_job c (Done e) (Taking k j) w P a b t go = absurd (a t.0)
 at_a_job c st x w P a b t go = absurd t
 
 -- the argument, read as that of a job of its kind, is the job
-pub job_again : (j : Job) (k : Kind) (y : ℤ) → k ≡ kind_of j → y ≡ argument_of j → job_of k y ≡ j
+pub job_again : (j : Job) (k : JobKind) (y : ℤ) → k ≡ kind_of j → y ≡ argument_of j → job_of k y ≡ j
 job_again (job.Sum x) k y a b = λ i. job_of (a i) (b i)
 job_again (job.Collatz x) k y a b = λ i. job_of (a i) (b i)
 job_again (job.Fail x) k y a b = λ i. job_of (a i) (b i)
@@ -208,17 +209,17 @@ own_order slots id me w is was s r deep seat small = let n : ℕ = get_or s.word
     let t = worker_loads slots id (4 * w.cell + 2) me w is (λ n. record w { stage = numbered n w.stage }) (λ n. refl)
     (λ ws x p g reached. let c : CellWords = cell_words ws w.cell in subst (λ (z : Stage). Fits g reached w.cell c x p z w.takes → Fits g reached w.cell c x p (numbered c.order z) w.takes) (sym was)
     (λ f. let v : Stage = numbered c.order Asked in
-    at_a_job c (state_in c.state) x Asked (λ st y. (p ≡ w.takes + untaken st Asked) → Row c st y v × NoLost g reached w.cell st y v × (p ≡ w.takes + untaken st v)) (λ e. e) (λ e. e) f.0
+    at_a_job c (state_in c.state) x Asked (λ st y. (p ≡ w.takes + untaken st Asked) → CellRule c st y v × NoLost g reached w.cell st y v × (p ≡ w.takes + untaken st v)) (λ e. e) (λ e. e) f.0
     (λ k j _ _ carries _ count. ((carries, (carries.0, carries.1)), tt, count)) f.2)) s r deep seat small in
     (t.0, t.1, t.2, t.3, t.4 ∙ λ c. (on_stage (numbered n) (sym is c), me.1))
 
-own_argument : (slots id : ℕ) (me : M) (w : WorkerView) (k : ℕ) (d : Kind) → me.0 ≡ Worker w → w.stage ≡ Numbered k d
+own_argument : (slots id : ℕ) (me : M) (w : WorkerView) (k : ℕ) (d : JobKind) → me.0 ≡ Worker w → w.stage ≡ Numbered k d
     → Allows Kept slots id me (4 * w.cell + 3) (λ n. n) (LoadsArgument (step slots (4 * w.cell + 3) 0 0 none) me)
 own_argument slots id me w k d is was s r deep seat small = let n : ℕ = get_or s.words (4 * w.cell + 3) 0 in
     let t = worker_loads slots id (4 * w.cell + 3) me w is (λ n. record w { stage = holds n w.stage }) (λ n. refl)
     (λ ws x p g reached. let c : CellWords = cell_words ws w.cell in subst (λ (z : Stage). Fits g reached w.cell c x p z w.takes → Fits g reached w.cell c x p (holds c.argument z) w.takes) (sym was)
     (λ f. let v : Stage = holds c.argument (Numbered k d) in
-    at_a_job c (state_in c.state) x (Numbered k d) (λ st y. (p ≡ w.takes + untaken st (Numbered k d)) → Row c st y v × NoLost g reached w.cell st y v × (p ≡ w.takes + untaken st v)) (λ e. e) (λ e. e) f.0
+    at_a_job c (state_in c.state) x (Numbered k d) (λ st y. (p ≡ w.takes + untaken st (Numbered k d)) → CellRule c st y v × NoLost g reached w.cell st y v × (p ≡ w.takes + untaken st v)) (λ e. e) (λ e. e) f.0
     (λ k j _ _ carries takes count. ((carries, (takes.0, job_again j d (signed_in c.argument) takes.1 carries.2)), tt, count)) f.2)) s r deep seat small in
     (t.0, t.1, t.2, t.3, t.4 ∙ λ c. (on_stage (holds n) (sym is c), me.1))
 
@@ -249,7 +250,7 @@ splits_worker id v h is room s r at =
           (λ c. (sym (t.0 ∙ made) c, t.1 c)) (
             refl,
             subst (λ (z : CellState × HubCell × ℕ). let c : CellWords = cell_words s.words r.hub.made in
-                Row c z.0 z.1 Idle × NoLost (signal_of s.words) (length r.hub.seen) r.hub.made z.0 z.1 Idle × (z.2 ≡ 0 + untaken z.0 Idle))
+                CellRule c z.0 z.1 Idle × NoLost (signal_of s.words) (length r.hub.seen) r.hub.made z.0 z.1 Idle × (z.2 ≡ 0 + untaken z.0 Idle))
                 (λ c. (sym free.0 c, sym free.1 c, sym free.2 c)) (tt, tt, refl),
           ))
           (no_rest_at r.workers w u i e);
@@ -271,7 +272,7 @@ loads_state slots id me w i is own = subst (λ i. Allows Kept slots id me (4 * i
 pub loads_order : (slots id : ℕ) (me : M) (w : WorkerView) (i : ℕ) → me.0 ≡ Worker w → w.cell ≡ i → w.stage ≡ Asked → Allows Kept slots id me (4 * i + 2) (λ n. n) (LoadsOrder (step slots (4 * i + 2) 0 0 none) me)
 loads_order slots id me w i is own was = subst (λ i. Allows Kept slots id me (4 * i + 2) (λ n. n) (LoadsOrder (step slots (4 * i + 2) 0 0 none) me)) own (own_order slots id me w is was)
 
-pub loads_argument : (slots id : ℕ) (me : M) (w : WorkerView) (i k : ℕ) (d : Kind) → me.0 ≡ Worker w → w.cell ≡ i → w.stage ≡ Numbered k d → Allows Kept slots id me (4 * i + 3) (λ n. n) (LoadsArgument (step slots (4 * i + 3) 0 0 none) me)
+pub loads_argument : (slots id : ℕ) (me : M) (w : WorkerView) (i k : ℕ) (d : JobKind) → me.0 ≡ Worker w → w.cell ≡ i → w.stage ≡ Numbered k d → Allows Kept slots id me (4 * i + 3) (λ n. n) (LoadsArgument (step slots (4 * i + 3) 0 0 none) me)
 loads_argument slots id me w i k d is own was = subst (λ i. Allows Kept slots id me (4 * i + 3) (λ n. n) (LoadsArgument (step slots (4 * i + 3) 0 0 none) me)) own (own_argument slots id me w k d is was)
 
 pub told_look : (me m' : M) (w : WorkerView) (st : CellState) → me ≡ (Worker w, []) → w.stage ≡ Idle → m' ≡ (looked st me.0, me.1)
@@ -301,19 +302,19 @@ own_value : (slots id : ℕ) (me : M) (w : WorkerView) (n : ℕ) (b : Job) (x : 
     → Allows Kept slots id me (4 * w.cell + 4) (λ _. x) (λ _. StoresValue (step slots (4 * w.cell + 4) x 0 none) me x)
 own_value slots id me w n b x is was reads = worker_stores slots id me w is (Holds n b) was 3 4 x refl (omega arith) valued
     (λ c y p g reached f. at_a_job c (state_in c.state) y (Holds n b)
-    (λ st z. (p ≡ w.takes + untaken st (Holds n b)) → Row (put_word c 3 x) st z (Valued n b) × NoLost g reached w.cell st z (Valued n b) × (p ≡ w.takes + untaken st (Valued n b))) (λ e. e) (λ e. e) f.0
+    (λ st z. (p ≡ w.takes + untaken st (Holds n b)) → CellRule (put_word c 3 x) st z (Valued n b) × NoLost g reached w.cell st z (Valued n b) × (p ≡ w.takes + untaken st (Valued n b))) (λ e. e) (λ e. e) f.0
     (λ k j _ _ carries takes count. ((carries, (takes.0, takes.1, reads ∙ ap (λ (z : Job). value_of (eval z)) takes.1)), tt, count)) f.2)
 
 own_done : (slots id : ℕ) (me : M) (w : WorkerView) (n : ℕ) (b : Job) (x : ℕ) → me.0 ≡ Worker w → w.stage ≡ Valued n b → state_in x ≡ Done (ended_of (eval b))
     → Allows Kept slots id me (4 * w.cell + 1) (λ _. x) (λ _. StoresDone (step slots (4 * w.cell + 1) x 0 none) me x)
 own_done slots id me w n b x is was reads = worker_stores slots id me w is (Valued n b) was 0 1 x refl (omega arith) owing
     (λ c y p g reached f. at_a_job c (state_in c.state) y (Valued n b)
-    (λ st z. (p ≡ w.takes + untaken st (Valued n b)) → Row (put_word c 0 x) (state_in x) z Owes × NoLost g reached w.cell (state_in x) z Owes × (p ≡ w.takes + untaken (state_in x) Owes)) (λ e. e) (λ e. e) f.0
-    (λ k j _ _ carries takes count. subst (λ (st : CellState). Row (put_word c 0 x) st (Sent k j) Owes × NoLost g reached w.cell st (Sent k j) Owes × (p ≡ w.takes + untaken st Owes)) (sym reads)
+    (λ st z. (p ≡ w.takes + untaken st (Valued n b)) → CellRule (put_word c 0 x) (state_in x) z Owes × NoLost g reached w.cell (state_in x) z Owes × (p ≡ w.takes + untaken (state_in x) Owes)) (λ e. e) (λ e. e) f.0
+    (λ k j _ _ carries takes count. subst (λ (st : CellState). CellRule (put_word c 0 x) st (Sent k j) Owes × NoLost g reached w.cell st (Sent k j) Owes × (p ≡ w.takes + untaken st Owes)) (sym reads)
     ((tt, ap (λ (z : Job). ended_of (eval z)) takes.1, takes.2), inr (inl refl), count)) f.2)
 
 -- a worker that has raised the signal rests
-rest_row : (c : CellWords) (st : CellState) (y : HubCell) → Row c st y Owes → Row c st y Idle
+rest_row : (c : CellWords) (st : CellState) (y : HubCell) → CellRule c st y Owes → CellRule c st y Idle
 rest_row c Free Vacant t = t
 rest_row c Free (Ordered k d) t = t
 rest_row c Free (Filled k j) t = t
@@ -339,7 +340,7 @@ swaps_high slots id me w is was s r deep seat _ =
       tt,
       worker_at s r id w seat' w' refl (set s.words 0 1) (length-set s.words 0 1) (λ j _. off_cells s.words 1 j) (inr high)
           (λ y n reached t. let c : CellWords = cell_words s.words w.cell in let st : CellState = state_in c.state in
-          let row = subst (λ z. Row c st y z × (n ≡ w.takes + untaken st z)) was (t.0, t.2) in
+          let row = subst (λ z. CellRule c st y z × (n ≡ w.takes + untaken st z)) was (t.0, t.2) in
           subst (λ (z : CellWords × Stage). Fits (signal_of (set s.words 0 1)) reached w.cell z.0 y n (rested z.1) w.takes) (λ k. (sym here k, sym was k))
           (rest_row c st y row.0, is_high _ reached w.cell st y Idle high, row.1 ∙ ap (λ u. w.takes + u) (rest_count st))),
       λ c. (on_stage rested (sym is c), me.1),
@@ -351,19 +352,19 @@ swaps_low slots id me h is s r deep seat _ = (lowered (Hub h), keeps, tt, lowers
 same_hub : (h k : HubView) → Hub h ≡ Hub k → h ≡ k
 same_hub h k e = ap (hub_or h) e
 
-job_there : (c : CellWords) (e : Ended) (x : HubCell) (w : Stage) → Row c (Done e) x w → IsJob x
+job_there : (c : CellWords) (e : Ended) (x : HubCell) (w : Stage) → CellRule c (Done e) x w → IsJob x
 job_there c e (Sent k j) w t = tt
 job_there c e (Taking k j) w t = tt
 job_there c e x w t = absurd t
 
-done_job : (c : CellWords) (st : CellState) (x : HubCell) (w : Stage) (e : Ended) → Row c st x w → st ≡ Done e → IsJob x
-done_job c st x w e t is = job_there c e x w (subst (λ (z : CellState). Row c z x w) is t)
+done_job : (c : CellWords) (st : CellState) (x : HubCell) (w : Stage) (e : Ended) → CellRule c st x w → st ≡ Done e → IsJob x
+done_job c st x w e t is = job_there c e x w (subst (λ (z : CellState). CellRule c z x w) is t)
 
 -- how the job ended that a sweep finds done
-sent_done : (c : CellWords) (st : CellState) (x : HubCell) (w : Stage) (k : ℕ) (j : Job) (e : Ended) → Row c st x w → x ≡ Sent k j → st ≡ Done e → e ≡ ended_of (eval j)
-sent_done c st x w k j e t a b = (subst (λ (z : CellState × HubCell). Row c z.0 z.1 w) (λ i. (b i, a i)) t).1
+sent_done : (c : CellWords) (st : CellState) (x : HubCell) (w : Stage) (k : ℕ) (j : Job) (e : Ended) → CellRule c st x w → x ≡ Sent k j → st ≡ Done e → e ≡ ended_of (eval j)
+sent_done c st x w k j e t a b = (subst (λ (z : CellState × HubCell). CellRule c z.0 z.1 w) (λ i. (b i, a i)) t).1
 
-taking_shows : (c : CellWords) (st : CellState) (w : Stage) (k : ℕ) (j : Job) → Row c st (Taking k j) w → Shows c j
+taking_shows : (c : CellWords) (st : CellState) (w : Stage) (k : ℕ) (j : Job) → CellRule c st (Taking k j) w → Shows c j
 taking_shows c (Done e) w k j t = t.2
 taking_shows c st w k j t = absurd t
 
@@ -395,7 +396,7 @@ loads_value slots id me h i k j is low was s r deep seat _ =
         refl,
         λ g a b d at_g word takes. let back : h ≡ g = same_hub h g (sym is ∙ at_g) in let there : i ≡ a = omega arith in
             let now : hub_cell h i ≡ Taking b d = (λ c. hub_cell (back c) (there c)) ∙ takes in
-            taking_shows (cell_words s.words i) (state_in (cell_words s.words i).state) fits.0 b d (subst (λ z. Row (cell_words s.words i) (state_in (cell_words s.words i).state) z fits.0) now fits.2.0),
+            taking_shows (cell_words s.words i) (state_in (cell_words s.words i).state) fits.0 b d (subst (λ z. CellRule (cell_words s.words i) (state_in (cell_words s.words i).state) z fits.0) now fits.2.0),
       ),
     )
 

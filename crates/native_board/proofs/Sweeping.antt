@@ -12,7 +12,7 @@ use Rattle.native_board.specs.declared.views.HubCell.{HubCell}
 use Rattle.native_board.specs.declared.views.HubCell.TheVariants.{Vacant}
 use Rattle.native_board.specs.declared.views.HubView.{HubView}
 use Rattle.native_board.specs.declared.views.View.TheVariants.{Hub}
-use Rattle.native_board.specs.Rows.{hub_cell}
+use Rattle.native_board.specs.Rules.{hub_cell}
 use Rattle.native_board.specs.Plays.{marked, saw, taken}
 use Rattle.native_board.specs.Passes.{Place, hub_in, hub_of, is_settled, IsMarked, IsHub, BecomesHub, swept_cell, finished_at, after_sweep, finished, is_sent, SweepsNext, SweepsTo}
 

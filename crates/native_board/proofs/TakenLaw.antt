@@ -9,7 +9,7 @@ use Rattle.native_board.specs.declared.views.Stage.{Stage}
 use Rattle.native_board.specs.declared.views.Stage.TheVariants.{Idle, Owes}
 use Rattle.native_board.specs.declared.views.View.TheVariants.{Worker}
 use Rattle.native_board.specs.Words.{state_in, cell_words}
-use Rattle.native_board.specs.Rows.{untaken, posts_at, Kept}
+use Rattle.native_board.specs.Rules.{untaken, posts_at, Kept}
 use Rattle.native_board.specs.Taken.{TakenOnce}
 use Rattle.native_board.proofs.Moves.{St, hub_there, worker_seat}
 

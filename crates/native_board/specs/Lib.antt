@@ -1,8 +1,9 @@
 pub mod Words
-pub mod Rows
+pub mod Rules
 pub mod Plays
 pub mod Passes
 pub mod Made
 pub mod Boards
 pub mod Given
 pub mod Taken
+pub mod Lost

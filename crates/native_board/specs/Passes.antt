@@ -15,7 +15,7 @@ use Rattle.native_board.specs.declared.views.HubCell.TheVariants.{Vacant, Sent, 
 use Rattle.native_board.specs.declared.views.HubView.{HubView}
 use Rattle.native_board.specs.declared.views.Stage.{Stage}
 use Rattle.native_board.specs.declared.views.Stage.TheVariants.{Idle, Holds, Valued, Over}
-use Rattle.native_board.specs.Rows.{hub_cell}
+use Rattle.native_board.specs.Rules.{hub_cell}
 use Rattle.native_board.specs.Plays.{marked, counted, asked, begun_with}
 use Rattle.native_board.specs.declared.views.WorkerView.{WorkerView}
 use Rattle.native_board.specs.declared.views.View.{View}

@@ -7,7 +7,7 @@ use Rattle.native_board.specs.declared.views.HubView.{HubView}
 use Rattle.native_board.specs.declared.views.WorkerView.{WorkerView}
 use Rattle.native_board.specs.declared.views.View.{View}
 use Rattle.native_board.specs.declared.views.View.TheVariants.{Hub, Worker}
-use Rattle.native_board.specs.Rows.{posts_at}
+use Rattle.native_board.specs.Rules.{posts_at}
 
 -- each worker has begun with every job that was posted to its cell once, but perhaps for the last
 abbrev pub TakenOnce : State (Unit {0}) View → Type 0

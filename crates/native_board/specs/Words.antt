@@ -2,11 +2,9 @@
 use Rattle.std.specs.Prelude.{ℕ, zero, suc, ◌+◌, ◌*◌, ◌/◌, ◌%◌, List, slice_index, ℤ, pos}
 use mir.Val.{to_z}
 use mir.Syntax.{w64}
-use Rattle.native_board.specs.declared.views.Kind.{Kind}
-use Rattle.native_board.specs.declared.views.Kind.TheVariants as kind
+use Rattle.gv_values.specs.declared.job.JobKind.{JobKind}
+use Rattle.gv_values.specs.declared.job.JobKind.TheVariants as kind
 use Rattle.gv_values.specs.declared.fault.FaultKind.{FaultKind}
-use Rattle.gv_values.specs.declared.job.Job.{Job}
-use Rattle.gv_values.specs.declared.job.Job.TheVariants as job
 use Rattle.native_board.specs.declared.views.Ended.{Ended}
 use Rattle.native_board.specs.declared.views.Ended.TheVariants.{Int, ValueError, OverflowError, Error}
 use Rattle.native_board.specs.declared.views.Signal.{Signal}
@@ -16,7 +14,7 @@ use Rattle.native_board.specs.declared.views.CellState.{CellState}
 use Rattle.native_board.specs.declared.views.CellState.TheVariants.{Free, Posted, Stop, Done}
 
 -- the kind of a job by its code
-abbrev pub kind_at : ℕ → Kind
+abbrev pub kind_at : ℕ → JobKind
 kind_at zero = kind.Sum
 kind_at (suc zero) = kind.Collatz
 kind_at (suc (suc zero)) = kind.Fail
@@ -42,33 +40,12 @@ abbrev pub number_in : ℕ → ℕ
 number_in w = w / 4 % 4294967296
 
 -- the kind of the job in an order
-abbrev pub kind_in : ℕ → Kind
+abbrev pub kind_in : ℕ → JobKind
 kind_in w = kind_at (w % 4)
 
 -- the integer in an argument or a value
 abbrev pub signed_in : ℕ → ℤ
 signed_in w = to_z w64 w
-
--- the kind of a job
-abbrev pub kind_of : Job → Kind
-kind_of (job.Sum x) = kind.Sum
-kind_of (job.Collatz x) = kind.Collatz
-kind_of (job.Fail x) = kind.Fail
-kind_of (job.Echo x) = kind.Echo
-
--- the integer of a job
-abbrev pub argument_of : Job → ℤ
-argument_of (job.Sum x) = x
-argument_of (job.Collatz x) = x
-argument_of (job.Fail x) = x
-argument_of (job.Echo x) = x
-
--- the job of this kind and integer
-abbrev pub job_of : Kind → ℤ → Job
-job_of kind.Sum x = job.Sum x
-job_of kind.Collatz x = job.Collatz x
-job_of kind.Fail x = job.Fail x
-job_of kind.Echo x = job.Echo x
 
 -- how a job ended that came to this
 abbrev pub ended_of : JobOutcome → Ended

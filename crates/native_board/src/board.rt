@@ -16,7 +16,7 @@ use crate::steps::{
     store_free, store_order, store_posted, store_stop, store_value, swap_high, swap_low,
 };
 use crate::views::{CellState, HubCell, View};
-use crate::words::{kind_of, outcome_of, state_in};
+use crate::words::{CELL_WORDS, STATE, kind_of, outcome_of, state_in};
 use atomic_table::Table;
 use gv_values::{Job, JobOutcome};
 use std::alloc::Global;
@@ -47,7 +47,7 @@ impl Board {
         store_order(top, &mut hub.seat, at, number, kind_of(job));
         store_argument(top, &mut hub.seat, at, number, job);
         store_posted(top, &mut hub.seat, at, number, job);
-        top.wake_one(4 * at + 1);
+        top.wake_one(CELL_WORDS * at + STATE);
         hub.cells[at] = HubCell::Sent(number, job);
     }
 
@@ -60,7 +60,7 @@ impl Board {
     {
         let at = cell as usize;
         store_stop(&self.table.shared, &mut hub.seat, at);
-        self.table.shared.wake_one(4 * at + 1);
+        self.table.shared.wake_one(CELL_WORDS * at + STATE);
         hub.cells[at] = HubCell::Stopped;
     }
 
@@ -89,7 +89,7 @@ impl Board {
         requires board { worker_board w.old ≡ board_id self.now }
         ensures { w.new ≡ w.old }
     {
-        let at = 4 * w.cell as usize + 1;
+        let at = CELL_WORDS * w.cell as usize + STATE;
         let found = self.table.shared.peek(at);
         match state_in(found) {
             CellState::Posted | CellState::Stop => {}

@@ -1,9 +1,11 @@
 use gv_values::{Job, JobOutcome};
 
-/// A job's number and what it came to.
+/// A job that is done.
 #[derive(Clone, Copy, Debug, PartialEq, Eq)]
 pub struct Finished {
+    /// The number under which it was posted.
     pub number: u32,
+    /// What it came to.
     pub outcome: JobOutcome,
 }
 

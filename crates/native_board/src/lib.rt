@@ -1,7 +1,7 @@
 //! A board that one hub and up to sixteen workers share without a lock: the hub posts jobs into cells, the worker of a cell takes
 //! them and leaves their outcomes there, and the hub sweeps these up. A signal says whether a result may have come since the last sweep.
 //!
-//! `specs/Rows.antt` has the rule of the board, which holds between any two steps of any threads, and `specs/Plays.antt` the steps.
+//! `specs/Rules.antt` has the rule of the board, which holds between any two steps of any threads, and `specs/Plays.antt` the steps.
 #![tactic(auto)]
 
 mod board;
@@ -11,13 +11,11 @@ mod made;
 mod passes;
 mod rule;
 mod steps;
-#[cfg(test)]
-mod tests;
 mod views;
 mod words;
 
 pub use board::{Bell, Board};
 pub use found::{Finished, Looked};
-pub use law::each_job_is_taken_at_most_once;
+pub use law::{each_job_is_taken_at_most_once, no_result_is_lost};
 pub use made::{Made, WorkerPasses};
 pub use passes::{HubPass, WorkerPass};

@@ -6,6 +6,7 @@ use crate::board::Board;
 use crate::passes::{HubPass, WorkerPass};
 use crate::rule::NewWorker;
 use crate::views::{HubCell, View};
+use crate::words::CELL_WORDS;
 use atomic_table::{Seat, Table};
 use std::alloc::{AllocError, Global};
 use std::collections::VecDeque;
@@ -25,14 +26,17 @@ pub struct WorkerPasses {
 /// A new board with the passes that were made with it.
 #[derive(Drop)]
 pub struct Made {
+    /// The board, whose cells are all free.
     pub board: Board,
+    /// The pass of its hub.
     pub hub: HubPass,
+    /// The passes of its workers, one a cell.
     pub workers: WorkerPasses,
 }
 
 impl Board {
     ghost use Rattle.std.specs.Prelude.{◌≡◌, ℕ, ◌≤◌, IfOk};
-    ghost use Rattle.native_board.specs.Rows.{begun};
+    ghost use Rattle.native_board.specs.Rules.{begun};
     ghost use Rattle.native_board.specs.Passes.{KnowsFree};
     ghost use Rattle.native_board.specs.Boards.{board_id, hub_board, hub_view};
     ghost use Rattle.native_board.specs.Given.{passes_board, next_cell, passes_left};
@@ -47,7 +51,7 @@ impl Board {
         ensures workers { IfOk result (λ m. (next_cell m.workers ≡ 0) × (passes_left m.workers ≡ cells)) }
     {
         let count = cells as usize;
-        let words = vec![in alloc; 0u64; 4 * count + 1]?;
+        let words = vec![in alloc; 0u64; CELL_WORDS * count + 1]?;
         let (table, mut seat) = Table::of_words(alloc, &words, &cells)?;
         let mut passes = VecDeque::new(alloc);
         for cell in 0..cells {

@@ -6,8 +6,9 @@ ghost use Rattle.native_board.specs.declared.views.View.TheVariants.{Hub, Worker
 ghost use Rattle.native_board.specs.declared.views.CellState.TheVariants.{Done};
 ghost use Rattle.native_board.specs.declared.views.Ended.{Ended};
 ghost use Rattle.gv_values.specs.declared.job.Job.{Job};
-ghost use Rattle.native_board.specs.Rows.{hub_cell};
-ghost use Rattle.native_board.specs.Words.{state_in, number_in, kind_in, signed_in, kind_of, job_of, ended_of, value_of};
+ghost use Rattle.native_board.specs.Rules.{hub_cell};
+ghost use Rattle.native_board.specs.Words.{state_in, number_in, kind_in, signed_in, ended_of, value_of};
+ghost use Rattle.gv_values.specs.JobParts.{kind_of, job_of};
 ghost use Rattle.world_rules.specs.Jobs.{eval};
 ghost use Rattle.native_board.specs.Plays.{asked, saw, IsJob};
 ghost use Rattle.native_board.specs.Passes.{hub_of, worker_of, lowers, BecomesHub, HoldsOf, ValuedOf, IsValuedOf, IsHubAt, IsMarked, IsSent, IsWorkerAt, IsStaged, HasLooked};
@@ -16,22 +17,29 @@ use crate::rule::{
     BoardRule, LoadArgument, LoadNext, LoadOrder, LoadState, LoadValue, StoreArgument, StoreDone,
     StoreFree, StoreOrder, StorePosted, StoreStop, StoreValue, SwapHigh, SwapLow,
 };
-use crate::views::{CellState, Kind, View};
+use crate::views::{CellState, View};
 use crate::words::{
-    argument_of, done_word, ended_of, job_of, kind_in, number_in, order_word, signed_in,
-    signed_word, state_in, value_of,
+    ARGUMENT, CELL_WORDS, FREE, HIGH, LOW, ORDER, POSTED, SIGNAL, STATE, STOP, VALUE, argument_of,
+    done_word, ended_of, job_of, kind_in, number_in, order_word, signed_in, signed_word, state_in,
+    value_of,
 };
 use atomic_table::{Seat, Shared};
-use gv_values::{Job, JobOutcome};
+use gv_values::{Job, JobKind, JobOutcome};
 
 pub(crate) type Top = Shared<(), View, u32, BoardRule>;
 
-pub(crate) fn store_order(top: &Top, hub: &mut Seat<(), View>, cell: usize, number: u32, kind: Kind)
+pub(crate) fn store_order(
+    top: &Top,
+    hub: &mut Seat<(), View>,
+    cell: usize,
+    number: u32,
+    kind: JobKind,
+)
     requires board { hub.old.table_id ≡ top.now.table_id }
     requires vacant { IsHubAt hub.old cell Vacant }
     ensures { IsMarked hub.old hub.new cell (Ordered number kind) }
 {
-    top.store::<StoreOrder>(hub, 4 * cell + 2, order_word(number, kind));
+    top.store::<StoreOrder>(hub, CELL_WORDS * cell + ORDER, order_word(number, kind));
 }
 
 pub(crate) fn store_argument(
@@ -45,17 +53,25 @@ pub(crate) fn store_argument(
     requires ordered { IsHubAt hub.old cell (Ordered number (kind_of job)) }
     ensures { IsMarked hub.old hub.new cell (Filled number job) }
 {
-    top.store::<StoreArgument>(hub, 4 * cell + 3, signed_word(argument_of(job)));
+    top.store::<StoreArgument>(
+        hub,
+        CELL_WORDS * cell + ARGUMENT,
+        signed_word(argument_of(job)),
+    );
 }
 
-pub(crate) fn store_posted(top: &Top, hub: &mut Seat<(), View>, cell: usize, number: u32, job: Job)
+pub(crate) fn store_posted(
+    top: &Top,
+    hub: &mut Seat<(), View>,
+    cell: usize,
+    _number: u32,
+    _job: Job,
+)
     requires board { hub.old.table_id ≡ top.now.table_id }
-    requires filled { IsHubAt hub.old cell (Filled number job) }
-    ensures { IsSent hub.old hub.new cell number job }
+    requires filled { IsHubAt hub.old cell (Filled _number _job) }
+    ensures { IsSent hub.old hub.new cell _number _job }
 {
-    let _ = number;
-    let _ = job;
-    top.store::<StorePosted>(hub, 4 * cell + 1, 1);
+    top.store::<StorePosted>(hub, CELL_WORDS * cell + STATE, POSTED);
 }
 
 pub(crate) fn store_stop(top: &Top, hub: &mut Seat<(), View>, cell: usize)
@@ -63,7 +79,7 @@ pub(crate) fn store_stop(top: &Top, hub: &mut Seat<(), View>, cell: usize)
     requires vacant { IsHubAt hub.old cell Vacant }
     ensures { IsMarked hub.old hub.new cell Stopped }
 {
-    top.store::<StoreStop>(hub, 4 * cell + 1, 2);
+    top.store::<StoreStop>(hub, CELL_WORDS * cell + STATE, STOP);
 }
 
 pub(crate) fn load_state(top: &Top, worker: &mut Seat<(), View>, cell: usize) -> CellState
@@ -71,15 +87,15 @@ pub(crate) fn load_state(top: &Top, worker: &mut Seat<(), View>, cell: usize) ->
     requires idle { IsWorkerAt worker.old cell Idle }
     ensures { HasLooked worker.old worker.new result }
 {
-    state_in(top.load::<LoadState>(worker, 4 * cell + 1))
+    state_in(top.load::<LoadState>(worker, CELL_WORDS * cell + STATE))
 }
 
-pub(crate) fn load_order(top: &Top, worker: &mut Seat<(), View>, cell: usize) -> (u32, Kind)
+pub(crate) fn load_order(top: &Top, worker: &mut Seat<(), View>, cell: usize) -> (u32, JobKind)
     requires board { worker.old.table_id ≡ top.now.table_id }
     requires asked { IsWorkerAt worker.old cell Asked }
     ensures { IsStaged worker.old worker.new (Numbered result.0 result.1) }
 {
-    let order = top.load::<LoadOrder>(worker, 4 * cell + 2);
+    let order = top.load::<LoadOrder>(worker, CELL_WORDS * cell + ORDER);
     (number_in(order), kind_in(order))
 }
 
@@ -87,17 +103,16 @@ pub(crate) fn load_argument(
     top: &Top,
     worker: &mut Seat<(), View>,
     cell: usize,
-    number: u32,
-    kind: Kind,
+    _number: u32,
+    kind: JobKind,
 ) -> Job
     requires board { worker.old.table_id ≡ top.now.table_id }
-    requires numbered { IsWorkerAt worker.old cell (Numbered number kind) }
-    ensures { IsStaged worker.old worker.new (Holds number result) }
+    requires numbered { IsWorkerAt worker.old cell (Numbered _number kind) }
+    ensures { IsStaged worker.old worker.new (Holds _number result) }
 {
-    let _ = number;
     job_of(
         kind,
-        signed_in(top.load::<LoadArgument>(worker, 4 * cell + 3)),
+        signed_in(top.load::<LoadArgument>(worker, CELL_WORDS * cell + ARGUMENT)),
     )
 }
 
@@ -106,7 +121,11 @@ pub(crate) fn store_value(top: &Top, worker: &mut Seat<(), View>, cell: usize, o
     requires holds { HoldsOf worker.old cell outcome }
     ensures { ValuedOf worker.old worker.new outcome }
 {
-    top.store::<StoreValue>(worker, 4 * cell + 4, signed_word(value_of(outcome)));
+    top.store::<StoreValue>(
+        worker,
+        CELL_WORDS * cell + VALUE,
+        signed_word(value_of(outcome)),
+    );
 }
 
 pub(crate) fn store_done(top: &Top, worker: &mut Seat<(), View>, cell: usize, outcome: JobOutcome)
@@ -114,17 +133,20 @@ pub(crate) fn store_done(top: &Top, worker: &mut Seat<(), View>, cell: usize, ou
     requires valued { IsValuedOf worker.old cell outcome }
     ensures { IsStaged worker.old worker.new Owes }
 {
-    top.store::<StoreDone>(worker, 4 * cell + 1, done_word(ended_of(outcome)));
+    top.store::<StoreDone>(
+        worker,
+        CELL_WORDS * cell + STATE,
+        done_word(ended_of(outcome)),
+    );
 }
 
 /// Whether the signal was low.
-pub(crate) fn swap_high(top: &Top, worker: &mut Seat<(), View>, cell: usize) -> bool
+pub(crate) fn swap_high(top: &Top, worker: &mut Seat<(), View>, _cell: usize) -> bool
     requires board { worker.old.table_id ≡ top.now.table_id }
-    requires owes { IsWorkerAt worker.old cell Owes }
+    requires owes { IsWorkerAt worker.old _cell Owes }
     ensures { IsStaged worker.old worker.new Idle }
 {
-    let _ = cell;
-    top.swap::<SwapHigh>(worker, 0, 1) == 0
+    top.swap::<SwapHigh>(worker, SIGNAL, HIGH) == LOW
 }
 
 pub(crate) fn swap_low(top: &Top, hub: &mut Seat<(), View>)
@@ -132,7 +154,7 @@ pub(crate) fn swap_low(top: &Top, hub: &mut Seat<(), View>)
     requires hub { (hub.old.me ≡ (Hub (hub_of hub.old), [])) × (0 < hub.old.table_id.words) }
     ensures { BecomesHub hub.old hub.new (lowers (hub_of hub.old)) }
 {
-    top.swap::<SwapLow>(hub, 0, 0);
+    top.swap::<SwapLow>(hub, SIGNAL, LOW);
 }
 
 pub(crate) fn load_next(top: &Top, hub: &mut Seat<(), View>, cell: usize) -> CellState
@@ -142,32 +164,28 @@ pub(crate) fn load_next(top: &Top, hub: &mut Seat<(), View>, cell: usize) -> Cel
     ensures job { (e : Ended) → result ≡ Done e → IsJob (hub_cell (hub_of hub.old) cell) }
     ensures ended { (k : ℕ) (j : Job) (e : Ended) → hub_cell (hub_of hub.old) cell ≡ Sent k j → result ≡ Done e → e ≡ ended_of (eval j) }
 {
-    state_in(top.load::<LoadNext>(hub, 4 * cell + 1))
+    state_in(top.load::<LoadNext>(hub, CELL_WORDS * cell + STATE))
 }
 
 pub(crate) fn load_value(
     top: &Top,
     hub: &mut Seat<(), View>,
     cell: usize,
-    number: u32,
-    job: Job,
+    _number: u32,
+    _job: Job,
 ) -> i64
     requires board { hub.old.table_id ≡ top.now.table_id }
-    requires taking { IsHubAt hub.old cell (Taking number job) }
+    requires taking { IsHubAt hub.old cell (Taking _number _job) }
     ensures seat { BecomesHub hub.old hub.new (hub_of hub.old) }
-    ensures value { result ≡ value_of (eval job) }
+    ensures value { result ≡ value_of (eval _job) }
 {
-    let _ = number;
-    let _ = job;
-    signed_in(top.load::<LoadValue>(hub, 4 * cell + 4))
+    signed_in(top.load::<LoadValue>(hub, CELL_WORDS * cell + VALUE))
 }
 
-pub(crate) fn store_free(top: &Top, hub: &mut Seat<(), View>, cell: usize, number: u32, job: Job)
+pub(crate) fn store_free(top: &Top, hub: &mut Seat<(), View>, cell: usize, _number: u32, _job: Job)
     requires board { hub.old.table_id ≡ top.now.table_id }
-    requires taking { IsHubAt hub.old cell (Taking number job) }
+    requires taking { IsHubAt hub.old cell (Taking _number _job) }
     ensures { IsMarked hub.old hub.new cell Vacant }
 {
-    let _ = number;
-    let _ = job;
-    top.store::<StoreFree>(hub, 4 * cell + 1, 0);
+    top.store::<StoreFree>(hub, CELL_WORDS * cell + STATE, FREE);
 }

@@ -1,37 +1,38 @@
 //! What the hub and each worker know. No value of a view is made: a view exists in proofs alone, as what the token of its seat stands for.
-use gv_values::Job;
-
-/// The kind of a job's argument and outcome.
-#[derive(Clone, Copy, Debug, PartialEq, Eq)]
-pub enum Kind {
-    Sum,
-    Collatz,
-    Fail,
-    Echo,
-}
+use gv_values::{Job, JobKind};
 
 /// How a job ended, without its integer. These are all the ways in which a job ends.
 #[derive(Clone, Copy)]
 pub enum Ended {
+    /// With an integer.
     Int,
+    /// By a `ValueError`.
     ValueError,
+    /// By an `OverflowError`.
     OverflowError,
+    /// By an `Error`, which has a number.
     Error,
 }
 
 /// Whether a result may have come since the hub last swept.
 #[derive(Clone, Copy)]
 pub enum Signal {
+    /// None came.
     Low,
+    /// One may have come.
     High,
 }
 
 /// What a cell's first word says.
 #[derive(Clone, Copy)]
 pub enum CellState {
+    /// Nothing lies in it.
     Free,
+    /// A job lies in it that is not done.
     Posted,
+    /// Its worker is to end.
     Stop,
+    /// Its job is done.
     Done(Ended),
 }
 
@@ -41,7 +42,7 @@ pub enum HubCell {
     /// Nothing lies in it.
     Vacant,
     /// The order of a job of this number and kind was stored.
-    Ordered(u32, Kind),
+    Ordered(u32, JobKind),
     /// So was its argument.
     Filled(u32, Job),
     /// The job was posted.
@@ -68,11 +69,12 @@ pub struct HubView {
 
 /// How far a worker is.
 pub enum Stage {
+    /// It has no job.
     Idle,
     /// It has read that a job lies in its cell.
     Asked,
     /// It has read the order.
-    Numbered(u32, Kind),
+    Numbered(u32, JobKind),
     /// It has read the argument too.
     Holds(u32, Job),
     /// It has stored the value of the outcome.
@@ -85,7 +87,9 @@ pub enum Stage {
 
 /// What the worker of a cell knows.
 pub struct WorkerView {
+    /// The cell.
     pub cell: u64,
+    /// How far it is.
     pub stage: Stage,
     /// How often it looked into its cell.
     pub looks: u64,
@@ -97,6 +101,8 @@ pub struct WorkerView {
 
 /// What the token of a seat stands for.
 pub enum View {
+    /// What the hub knows.
     Hub(HubView),
+    /// What a worker knows.
     Worker(WorkerView),
 }

@@ -1,37 +1,83 @@
 //! How a cell's words are written and read.
 ghost use Rattle.std.specs.Prelude.{◌≡◌, ◌<◌, ◌^◌, ◌/◌};
-ghost use Rattle.native_board.specs.Words.{state_in, number_in, kind_in, signed_in, kind_of, argument_of, job_of, ended_of, value_of, outcome_of};
+ghost use Rattle.native_board.specs.Words.{state_in, number_in, kind_in, signed_in, ended_of, value_of, outcome_of};
+ghost use Rattle.gv_values.specs.JobParts.{kind_of, argument_of, job_of};
 ghost use Rattle.native_board.specs.declared.views.CellState.TheVariants.{Done};
 
-use crate::views::{CellState, Ended, Kind};
-use gv_values::{FaultKind, Job, JobOutcome};
+use crate::views::{CellState, Ended};
+use gv_values::{FaultKind, Job, JobKind, JobOutcome};
 
-pub(crate) fn order_word(number: u32, kind: Kind) -> u64
+/// The word of the signal: it is before those of the cells.
+pub(crate) const SIGNAL: usize = 0;
+
+/// A cell has so many words.
+pub(crate) const CELL_WORDS: usize = 4;
+
+/// Where the state stands behind the words of the cells before.
+pub(crate) const STATE: usize = 1;
+
+/// Where the order stands there: the number and the kind of a job.
+pub(crate) const ORDER: usize = 2;
+
+/// Where the job's integer stands there.
+pub(crate) const ARGUMENT: usize = 3;
+
+/// Where the outcome's integer stands there.
+pub(crate) const VALUE: usize = 4;
+
+/// The word of a signal that is low.
+pub(crate) const LOW: u64 = 0;
+
+/// The word of a signal that is raised.
+pub(crate) const HIGH: u64 = 1;
+
+/// The state of a cell in which nothing lies.
+pub(crate) const FREE: u64 = 0;
+
+/// The state of a cell in which a job lies that is not done.
+pub(crate) const POSTED: u64 = 1;
+
+/// The state of a cell whose worker is to end.
+pub(crate) const STOP: u64 = 2;
+
+/// The states of a cell whose job is done, by how it ended.
+const DONE_INT: u64 = 3;
+
+const DONE_VALUE_ERROR: u64 = 4;
+
+const DONE_OVERFLOW_ERROR: u64 = 5;
+
+const DONE_ERROR: u64 = 6;
+
+/// There are so many kinds of jobs.
+const KINDS: u64 = 4;
+
+pub(crate) fn order_word(number: u32, kind: JobKind) -> u64
     ensures { (number_in result ≡ number) × (kind_in result ≡ kind) }
 {
     let code = match kind {
-        Kind::Sum => 0,
-        Kind::Collatz => 1,
-        Kind::Fail => 2,
-        Kind::Echo => 3,
+        JobKind::Sum => 0,
+        JobKind::Collatz => 1,
+        JobKind::Fail => 2,
+        JobKind::Echo => 3,
     };
-    4 * u64::from(number) + code
+    KINDS * u64::from(number) + code
 }
 
 pub(crate) fn number_in(order: u64) -> u32
     ensures { result ≡ number_in order }
 {
-    (order / 4 % (1 << 32)) as u32
+    (order / KINDS % (1 << 32)) as u32
 }
 
-pub(crate) fn kind_in(order: u64) -> Kind
+pub(crate) fn kind_in(order: u64) -> JobKind
     ensures { result ≡ kind_in order }
 {
-    match order % 4 {
-        0 => Kind::Sum,
-        1 => Kind::Collatz,
-        2 => Kind::Fail,
-        _ => Kind::Echo,
+    match order % KINDS {
+        0 => JobKind::Sum,
+        1 => JobKind::Collatz,
+        2 => JobKind::Fail,
+        _ => JobKind::Echo,
     }
 }
 
@@ -39,12 +85,12 @@ pub(crate) fn state_in(word: u64) -> CellState
     ensures { result ≡ state_in word }
 {
     match word {
-        0 => CellState::Free,
-        1 => CellState::Posted,
-        2 => CellState::Stop,
-        3 => CellState::Done(Ended::Int),
-        4 => CellState::Done(Ended::ValueError),
-        5 => CellState::Done(Ended::OverflowError),
+        FREE => CellState::Free,
+        POSTED => CellState::Posted,
+        STOP => CellState::Stop,
+        DONE_INT => CellState::Done(Ended::Int),
+        DONE_VALUE_ERROR => CellState::Done(Ended::ValueError),
+        DONE_OVERFLOW_ERROR => CellState::Done(Ended::OverflowError),
         _ => CellState::Done(Ended::Error),
     }
 }
@@ -61,14 +107,14 @@ pub(crate) fn signed_in(word: u64) -> i64
     word.cast_signed()
 }
 
-pub(crate) fn kind_of(job: Job) -> Kind
+pub(crate) fn kind_of(job: Job) -> JobKind
     ensures { result ≡ kind_of job }
 {
     match job {
-        Job::Sum(_) => Kind::Sum,
-        Job::Collatz(_) => Kind::Collatz,
-        Job::Fail(_) => Kind::Fail,
-        Job::Echo(_) => Kind::Echo,
+        Job::Sum(_) => JobKind::Sum,
+        Job::Collatz(_) => JobKind::Collatz,
+        Job::Fail(_) => JobKind::Fail,
+        Job::Echo(_) => JobKind::Echo,
     }
 }
 
@@ -80,14 +126,14 @@ pub(crate) fn argument_of(job: Job) -> i64
     }
 }
 
-pub(crate) fn job_of(kind: Kind, argument: i64) -> Job
+pub(crate) fn job_of(kind: JobKind, argument: i64) -> Job
     ensures { result ≡ job_of kind argument }
 {
     match kind {
-        Kind::Sum => Job::Sum(argument),
-        Kind::Collatz => Job::Collatz(argument),
-        Kind::Fail => Job::Fail(argument),
-        Kind::Echo => Job::Echo(argument),
+        JobKind::Sum => Job::Sum(argument),
+        JobKind::Collatz => Job::Collatz(argument),
+        JobKind::Fail => Job::Fail(argument),
+        JobKind::Echo => Job::Echo(argument),
     }
 }
 
@@ -126,9 +172,9 @@ pub(crate) fn done_word(ended: Ended) -> u64
     ensures { state_in result ≡ Done ended }
 {
     match ended {
-        Ended::Int => 3,
-        Ended::ValueError => 4,
-        Ended::OverflowError => 5,
-        Ended::Error => 6,
+        Ended::Int => DONE_INT,
+        Ended::ValueError => DONE_VALUE_ERROR,
+        Ended::OverflowError => DONE_OVERFLOW_ERROR,
+        Ended::Error => DONE_ERROR,
     }
 }

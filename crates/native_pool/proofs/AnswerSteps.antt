@@ -7,7 +7,7 @@ use Rattle.world_rules.specs.declared.question.Question.{Question}
 use Rattle.native_board.specs.declared.found.Finished.{Finished}
 use Rattle.native_pool.specs.Desks.{DeskView, Balances, Rests, Settles, Hands, HandsDue, Gives, IsDue}
 use Rattle.native_pool.proofs.JobLemmas.{result_of, keeps_silent}
-use Rattle.native_pool.proofs.DeskSteps.{rests_trans}
+use Rattle.native_pool.proofs.DeskSteps.{rests_trans, later_trans}
 
 pub due_done : (d e : DeskView) (f : Finished) (q : Question) (at : ℕ) → HandsDue d e f → IsDue d e q (Answer.Done f.number f.outcome at)
 due_done d e f q at due = λ posts answers s. let h = due posts answers s in ((result_of posts f h.0, h.1), h.2 at)
@@ -22,9 +22,9 @@ pub balances_as : (d : DeskView) (p q : List PostedJob) (a b : List Answer) → 
 balances_as d p q a b e f s = subst (λ (r : List PostedJob). Balances d r b) (sym e) (subst (λ (r : List Answer). Balances d p r) (sym f) s)
 
 hands_after : (d m e : DeskView) (f : Finished) → Rests d m → Hands m e f → Hands d e f
-hands_after d m e f r (inl h) = inl (h ∙ r.held)
+hands_after d m e f r (inl h) = inl (h.0 ∙ r.held, later_trans d.waiting m.waiting e.waiting r.order h.1)
 hands_after d m e f r (inr (inl h)) =
-    let a = r.sweeps in let b = h.4 in inr (inl (sym r.held ∙ h.0, h.1, h.2, h.3, omega (arith, a, b), h.5, h.6, h.7))
+    inr (inl (sym r.held ∙ h.0, h.1, h.2, rests_trans d m h.1 r h.3, h.4, h.5, h.6, h.7, later_trans d.waiting m.waiting e.waiting r.order h.8))
 hands_after d m e f r (inr (inr h)) =
     let idle = ap (list_any (λ (b : Bool). b)) (sym r.same.started) ∙ h.0 in inr (inr (idle, h.1, h.2, sym (r.idle idle) ∙ h.3, h.4))
 

@@ -1,5 +1,5 @@
 -- What the steps of a desk come to.
-use Rattle.std.proofs.Common.{◌≡◌, ◌⊎◌, inl, inr, ℕ, zero, suc, ◌+◌, ◌<◌, Bool, true, false, ◌||◌, nat_lt, List, [], ◌∷◌, ◌++◌, length, get_or, get_or-set_other, length-set, Option, Some, None, refl, sym, ap, ◌∙◌, subst, arith}
+use Rattle.std.proofs.Common.{◌≡◌, ◌⊎◌, inl, inr, ℕ, zero, suc, ◌+◌, ◌<◌, Bool, true, false, ◌||◌, nat_lt, List, [], ◌∷◌, ◌++◌, length, get_or, get_or-set_other, length-set, Option, Some, None, refl, sym, ap, ◌∙◌, subst, arith, append_assoc}
 use mathlib.Core.Logic.{dite}
 use native.Mathlib.Decide.{ℕ_discrete}
 use Rattle.std.specs.Prelude.{IfSome}
@@ -17,7 +17,7 @@ use Rattle.native_board.specs.declared.views.HubCell.{HubCell}
 use Rattle.native_board.specs.declared.views.HubCell.TheVariants.{Vacant, Sent}
 use Rattle.native_board.specs.Boards.{after_post}
 use Rattle.native_board.specs.Passes.{is_sent, Sweeps, finished, after_sweep}
-use Rattle.native_pool.specs.Desks.{DeskView, CanTake, has_workers, IsResult, KeepsJobs, SameCells, Rests, Fills, Refills, Settles, Hands, HandsDue}
+use Rattle.native_pool.specs.Desks.{DeskView, CanTake, has_workers, IsResult, KeepsJobs, SameCells, IsLater, Rests, Fills, Refills, Settles, Hands, HandsDue}
 use Rattle.native_pool.proofs.DeskKeeps.{length-after_sweep}
 use Rattle.native_pool.proofs.JobLemmas.{keeps_fill, keeps_sweep, keeps_hand, keeps_eval}
 
@@ -51,8 +51,17 @@ same_trans d m e a b = record { started = b.started ∙ a.started; made = b.made
 idle_on : (d m : DeskView) → SameCells d m → has_workers d ≡ false → has_workers m ≡ false
 idle_on d m a h = ap (list_any (λ (b : Bool). b)) a.started ∙ h
 
+pub later_refl : (w : List PostedJob) → IsLater w w
+later_refl w = record { gone = []; is = refl }
+
+pub later_same : (w v : List PostedJob) → v ≡ w → IsLater w v
+later_same w v e = record { gone = []; is = sym e }
+
+pub later_trans : (u v w : List PostedJob) → IsLater u v → IsLater v w → IsLater u w
+later_trans u v w a b = record { gone = a.gone ++ b.gone; is = a.is ∙ ap (λ (l : List PostedJob). a.gone ++ l) b.is ∙ sym (append_assoc a.gone b.gone w) }
+
 pub rests_refl : (d : DeskView) → Rests d d
-rests_refl d = record { same = same_refl d; sweeps = omega arith; held = refl; idle = λ h. refl; jobs = λ posts answers s. s }
+rests_refl d = record { same = same_refl d; sweeps = omega arith; held = refl; idle = λ h. refl; order = later_refl d.waiting; jobs = λ posts answers s. s }
 
 pub rests_trans : (d m e : DeskView) → Rests d m → Rests m e → Rests d e
 rests_trans d m e a b = record {
@@ -60,6 +69,7 @@ rests_trans d m e a b = record {
   sweeps = let s = a.sweeps in let t = b.sweeps in omega (arith, s, t);
   held = b.held ∙ a.held;
   idle = λ h. b.idle (idle_on d m a.same h) ∙ a.idle h;
+  order = later_trans d.waiting m.waiting e.waiting a.order b.order;
   jobs = λ posts answers s. b.jobs posts answers (a.jobs posts answers s);
 }
 
@@ -90,6 +100,7 @@ fills_post d i n j w made can waits = let below = can.0.0 in let l : i < length 
     sweeps = omega arith;
     held = refl;
     idle = λ h. absurd (false≢true (sym h ∙ worker_at d.started i can.1));
+    order = record { gone = posted n j ∷ []; is = waits };
     jobs = λ posts answers s. keeps_fill w d.hub.cells d.held posts answers i n j can.0.1 l (subst (λ (u : List PostedJob). KeepsJobs u d.hub.cells d.held posts answers) waits s);
   };
   seen = refl;
@@ -110,6 +121,7 @@ refills_from d m e none swept held started waiting fills full =
       sweeps = fills.sweeps;
       held = fills.rests.held ∙ held;
       idle = λ h. fills.rests.idle (idle_on d m same h) ∙ waiting;
+      order = later_trans d.waiting m.waiting e.waiting (later_same d.waiting m.waiting waiting) fills.rests.order;
       full = full;
       jobs = λ posts answers s. fills.rests.jobs posts answers (jobs_as d.waiting m.waiting (after_sweep d.hub.cells m.hub.seen) m.hub.cells (finished d.hub.cells m.hub.seen) m.held posts answers waiting swept.cells held
           (keeps_sweep d.waiting d.hub.cells m.hub.seen posts answers (jobs_as d.waiting d.waiting d.hub.cells d.hub.cells d.held [] posts answers refl refl (sym none) s)));
@@ -138,12 +150,12 @@ due_here d e f j held hub waiting outcome = λ posts answers s.
 same_from : (d e : DeskView) → e.hub ≡ d.hub → e.started ≡ d.started → SameCells d e
 same_from d e hub started = record { started = started; made = ap (λ h. h.made) hub; cells = ap (λ h. length h.cells) hub }
 
-pub hands_held : (d e : DeskView) (f : Finished) → e.hub ≡ d.hub → e.started ≡ d.started → f ∷ e.held ≡ d.held → Hands d e f × SameCells d e
-hands_held d e f hub started held = (inl held, same_from d e hub started)
+pub hands_held : (d e : DeskView) (f : Finished) → e.hub ≡ d.hub → e.started ≡ d.started → f ∷ e.held ≡ d.held → e.waiting ≡ d.waiting → Hands d e f × SameCells d e
+hands_held d e f hub started held waiting = (inl (held, later_same d.waiting e.waiting waiting), same_from d e hub started)
 
-pub hands_swept : (d m e : DeskView) (f : Finished) → d.held ≡ [] → Refills d m → e.hub ≡ m.hub → e.started ≡ m.started → f ∷ e.held ≡ m.held → Hands d e f × SameCells d e
-hands_swept d m e f none r hub started held = (
-  inr (inl (none, d.hub, r.after, r.swept, omega arith, sym (ap (λ h. h.sweeps) hub ∙ r.sweeps), sym (ap (λ h. h.seen) hub ∙ r.seen), held ∙ r.held)),
+pub hands_swept : (d m e : DeskView) (f : Finished) → d.held ≡ [] → Refills d m → e.hub ≡ m.hub → e.started ≡ m.started → f ∷ e.held ≡ m.held → e.waiting ≡ m.waiting → Hands d e f × SameCells d e
+hands_swept d m e f none r hub started held waiting = (
+  inr (inl (none, d, r.after, rests_refl d, r.swept, sym (ap (λ h. h.sweeps) hub ∙ r.sweeps), sym (ap (λ h. h.seen) hub ∙ r.seen), held ∙ r.held, later_trans d.waiting m.waiting e.waiting r.order (later_same m.waiting e.waiting waiting))),
   same_trans d m e r.same (same_from m e hub started),
 )
 
@@ -164,6 +176,7 @@ settles d m e was r none hub started held waiting idle = record {
     sweeps = let more = rises in omega (arith, more);
     held = held ∙ (none ∙ sym was);
     idle = λ h. waiting ∙ r.idle h;
+    order = later_trans d.waiting m.waiting e.waiting r.order (later_same m.waiting e.waiting waiting);
     jobs = λ posts answers s. jobs_as m.waiting e.waiting m.hub.cells e.hub.cells m.held e.held posts answers waiting (ap (λ h. h.cells) hub) held (r.jobs posts answers s);
   };
   swept = let more = rises in omega (arith, more);

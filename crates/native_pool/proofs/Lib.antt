@@ -2,6 +2,5 @@ pub mod DeskKeeps
 pub mod JobLemmas
 pub mod DeskSteps
 pub mod StartSteps
-pub mod TestSteps
 pub mod PoolSteps
 pub mod AnswerSteps

@@ -3,7 +3,7 @@ use Rattle.std.proofs.Common.{◌≡◌, ℕ, zero, suc, ◌+◌, ◌≤◌, tru
 use Rattle.std.specs.Prelude.{All, Result, Ok, Err, is_ok, is_some, slice_get}
 use Rattle.std.proofs.lemmas.Bool.{false≢true}
 use Rattle.native_board.specs.declared.views.HubCell.TheVariants.{Vacant}
-use Rattle.native_board.specs.Rows.{hub_cell, begun}
+use Rattle.native_board.specs.Rules.{hub_cell, begun}
 use Rattle.gv_values.specs.declared.job.Job.{Job}
 use Rattle.world_rules.specs.declared.question.PostedJob.{PostedJob}
 use Rattle.world_rules.specs.Legal.{posted, is_posted}

@@ -5,7 +5,7 @@ use Rattle.std.specs.Prelude.{All, Result, Ok, Err, is_ok, IfOk, IfErr, OnErr}
 use Rattle.std.proofs.lemmas.Bool.Decides.{nat_tests}
 use Rattle.std.proofs.lemmas.List.{map_push}
 use Rattle.std.proofs.lemmas.List.Elements.{All-weaker, All-push}
-use Rattle.native_pool.specs.Counts.{HasRisen}
+use Rattle.gv_values.specs.Counts.{HasRisen}
 use Rattle.native_pool.specs.Pools.{told_cell, numbers_from, RefusedWhereRisen}
 use Rattle.native_pool.specs.Views.{start_cell}
 
@@ -51,12 +51,7 @@ started_more running refused starts more start started after is pushed h =
     ∙ (sym (map_push ok (map sc starts) (sc start)) ∙ (ap (map ok) (sym (map_push sc starts start)) ∙ ap (λ l. map ok (map sc l)) (sym is)))))
 
 risen_on : (a b c : ℕ) → a ≤ b → b ≤ c → HasRisen a b → HasRisen a c
-risen_on a b c l m (inl h) = inl (omega (arith, l, m, h))
-risen_on a b c l m (inr h) = by_test (nat_lt b c) refl
-  where
-    by_test : (t : Bool) → nat_lt b c ≡ t → HasRisen a c
-    by_test true e = let less : b < c = grind (arith, nat_tests) in inl (omega (arith, l, less))
-    by_test false e = let not : c ≤ b = grind (arith, nat_tests) in let same : c ≡ b = omega (arith, not, m) in inr (same ∙ h)
+risen_on a b c before after risen = grind arith
 
 risen_since : (a b c : ℕ) → a ≤ b → b ≤ c → HasRisen b c → HasRisen a c
 risen_since a b c l m (inl h) = inl (omega (arith, l, h))

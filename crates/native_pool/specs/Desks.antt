@@ -33,10 +33,11 @@ pub record IsQuiet (d : DeskView) : Type 0 where
   pub none_held : d.held ≡ []
   pub none_waits : (d.waiting ≡ []) ⊎ ((has_workers d ≡ true) × ((i : ℕ) → CanTake d i → ⊥))
 
--- how often a number stands in a list
+-- 1 where it holds, else 0
 abbrev pub one_if : Bool → ℕ
 one_if b = if b then 1 else 0
 
+-- how often a number stands in a list
 abbrev pub occurs : ℕ → List ℕ → ℕ
 occurs n [] = 0
 occurs n (x ∷ xs) = one_if (x == n) + occurs n xs
@@ -84,12 +85,18 @@ pub record SameCells (d e : DeskView) : Type 0 where
   pub made : e.hub.made ≡ d.hub.made
   pub cells : length e.hub.cells ≡ length d.hub.cells
 
+-- jobs that waited went on, the oldest first
+pub record IsLater (old new : List PostedJob) : Type 0 where
+  pub gone : List PostedJob
+  pub is : old ≡ gone ++ new
+
 -- nothing was handed on
 pub record Rests (d e : DeskView) : Type 0 where
   pub same : SameCells d e
   pub sweeps : d.hub.sweeps ≤ e.hub.sweeps
   pub held : e.held ≡ d.held
   pub idle : has_workers d ≡ false → e.waiting ≡ d.waiting
+  pub order : IsLater d.waiting e.waiting
   pub jobs : (posts : List PostedJob) (answers : List Answer) → Balances d posts answers → Balances e posts answers
 
 -- jobs that waited were posted to free cells of started workers
@@ -109,6 +116,7 @@ pub record Refills (d e : DeskView) : Type 0 where
   pub sweeps : e.hub.sweeps ≡ after.sweeps
   pub held : e.held ≡ finished d.hub.cells after.seen
   pub idle : has_workers d ≡ false → e.waiting ≡ d.waiting
+  pub order : IsLater d.waiting e.waiting
   pub full : (i : ℕ) → CanTake e i → e.waiting ≡ []
   pub jobs : (posts : List PostedJob) (answers : List Answer) → Balances d posts answers → Balances e posts answers
 
@@ -118,15 +126,20 @@ pub record Settles (d e : DeskView) : Type 0 where
   pub swept : d.hub.sweeps < e.hub.sweeps
   pub quiet : IsQuiet e
 
+-- a job more waits behind the others, and those that could go on did, the oldest first
+abbrev pub WaitsBehind : ℕ → Job → DeskView → DeskView → Type 0
+WaitsBehind number job d e = IsLater (d.waiting ++ posted number job ∷ []) e.waiting
+
 -- the result was held, and was the first of those
 abbrev pub HandsHeld : DeskView → DeskView → Finished → Type 0
-HandsHeld d e f = f ∷ e.held ≡ d.held
+HandsHeld d e f = (f ∷ e.held ≡ d.held) × IsLater d.waiting e.waiting
 
--- none was held, and the result is the first of those that a sweep found, in the order of the cells; the others are held
+-- none was held, and the result is the first of those that a sweep found in the cells of this desk, in their order;
+-- the others are held
 abbrev pub HandsSwept : DeskView → DeskView → Finished → Type 0
 HandsSwept d e f =
-    (d.held ≡ []) × (before after : HubView) × Sweeps before after × (d.hub.sweeps ≤ before.sweeps) × (after.sweeps ≡ e.hub.sweeps) × (after.seen ≡ e.hub.seen)
-    × (f ∷ e.held ≡ finished before.cells after.seen)
+    (d.held ≡ []) × (m : DeskView) × (after : HubView) × Rests d m × Sweeps m.hub after × (after.sweeps ≡ e.hub.sweeps) × (after.seen ≡ e.hub.seen)
+    × (f ∷ e.held ≡ finished m.hub.cells after.seen) × IsLater d.waiting e.waiting
 
 -- no worker was started, and the hub evaluated the oldest job
 abbrev pub EvaluatesHere : DeskView → DeskView → Finished → Type 0

@@ -6,10 +6,10 @@ use Rattle.world_rules.specs.declared.question.Question.{Question}
 use Rattle.world_rules.specs.declared.question.LogEntry.{LogEntry}
 use Rattle.world_rules.specs.Legal.{posts_of, answers_of}
 use Rattle.world_rules.specs.Script.{last_moment}
-use Rattle.native_board.specs.Rows.{hub_cell}
+use Rattle.native_board.specs.Rules.{hub_cell}
 use Rattle.native_board.specs.Passes.{is_sent}
 use Rattle.world.specs.Worlds.{Meaning}
-use Rattle.native_pool.specs.Counts.{HasRisen}
+use Rattle.gv_values.specs.Counts.{HasRisen}
 use Rattle.native_pool.specs.Desks.{DeskView, Balances}
 
 -- posts, answers, moment and number of workers; the clock's last reading, and that at which it began; how often its spawner refused; what each start answered, the cell of the worker that runs or of the task that was given up; and, while it runs, what its hub keeps

@@ -6,6 +6,7 @@ use Rattle.native_pool.specs.declared.history.History.{History}
 use Rattle.native_pool.specs.Desks.{DeskView}
 use Rattle.native_pool.specs.Pools.{Pool}
 
+-- what contracts see of a desk
 abbrev pub desk_view : Desk → DeskView
 desk_view d = record { hub = hub_view d.pass; started = d.started.items; waiting = d.waiting.items; held = d.held.items }
 

@@ -5,7 +5,7 @@ ghost use Rattle.gv_values.specs.declared.job.Job.{Job};
 ghost use Rattle.world_rules.specs.Jobs.{eval};
 ghost use Rattle.world_rules.specs.Legal.{posted};
 ghost use Rattle.native_board.specs.Boards.{board_id, hub_board, hub_view};
-ghost use Rattle.native_board.specs.Rows.{hub_cell};
+ghost use Rattle.native_board.specs.Rules.{hub_cell};
 ghost use Rattle.native_board.specs.Passes.{is_sent, Sweeps, finished};
 ghost use Rattle.native_pool.specs.Desks.{CanTake, has_workers, SameCells, Fills, Refills, Settles, Hands, HandsDue};
 

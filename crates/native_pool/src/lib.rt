@@ -7,14 +7,12 @@ mod history;
 mod pool;
 mod spawner;
 mod task;
-#[cfg(test)]
-mod tests;
 
 pub use desk::Desk;
 pub use edge::{Clock, Ear, OpenGate, PollEar, SteadyClock, WakerBell};
 pub use history::History;
 pub use pool::ThreadWorld;
 pub use spawner::{
-    NoThreads, NotStarted, Spawner, StartThread, Thread, ThreadSpawner, spawn_worker,
+    NeverStarted, NoThreads, NotStarted, Spawner, StartThread, Thread, ThreadSpawner, spawn_worker,
 };
 pub use task::{Gate, WorkerTask, worker};

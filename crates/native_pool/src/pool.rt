@@ -67,7 +67,8 @@ impl<
     ghost use Rattle.std.specs.Prelude.{false};
     ghost use Rattle.native_pool.specs.Pools.{pool_meaning};
 
-    /// A world that doesn't run yet. It keeps the handle, and shares bell and gate with the workers. `AllocError`: memory is wanting, and all that was handed in is given up.
+    /// A world that doesn't run yet. It keeps the handle, and shares bell and gate with the workers. `AllocError`: memory is
+    /// wanting, and all that was handed in is given up.
     pub fn new(
         alloc: Global,
         rt: H,
@@ -283,6 +284,7 @@ impl<
     ghost use Rattle.world_rules.specs.declared.question.LogEntry.TheVariants as entry;
     ghost use Rattle.world_rules.specs.Legal.{is_posted, MayAsk};
     ghost use Rattle.world.specs.Worlds.{Begins, Posts, Stores};
+    ghost use Rattle.native_pool.specs.Desks.{WaitsBehind};
     ghost use Rattle.native_pool.specs.Pools.{pool_meaning, pool_log, IsTimely, HasCome, WhileRunning, Between, KeepsStarts};
 
     ghost meaning = { pool_meaning };
@@ -333,7 +335,9 @@ impl<
         ensures refused_log { OnErr result ((log : List LogEntry) → pool_log self.old log ↔ pool_log self.new log) }
         ensures moment { OnOk result (IsTimely self.new) }
         ensures starts { OnOk result (WhileRunning KeepsStarts self.new) }
+        ensures waits { OnOk result (Between (WaitsBehind number job) self.old.desk self.new.desk) }
         ensures same_starts { self.new.starts ≡ self.old.starts }
+        ensures same_began { self.new.began ≡ self.old.began }
     {
         let _ = takes;
         let Some(desk) = &mut self.desk else {
@@ -361,6 +365,7 @@ impl<
         ensures gives { IfOk result (λ answer. Between (λ d e. Gives d e answer) self.old.desk self.new.desk) }
         ensures starts { OnOk result (WhileRunning KeepsStarts self.new) }
         ensures same_starts { self.new.starts ≡ self.old.starts }
+        ensures same_began { self.new.began ≡ self.old.began }
     {
         let Some(desk) = &mut self.desk else {
             unreachable!()

@@ -1,7 +1,7 @@
 //! What starts the workers.
-ghost use Rattle.std.specs.Prelude.{◌≡◌, ◌<◌, ◌≤◌, ℕ, IfOk, IfErr, OnErr};
+ghost use Rattle.std.specs.Prelude.{◌≡◌, ◌<◌, ◌≤◌, ◌^◌, ℕ, IfOk, IfErr, OnErr, IsErr};
 ghost use Rattle.native_board.specs.Boards.{worker_view};
-ghost use Rattle.native_pool.specs.Counts.{HasRisen};
+ghost use Rattle.gv_values.specs.Counts.{HasRisen};
 
 use crate::edge::{OpenGate, WakerBell};
 use crate::task::{Gate, WorkerTask};
@@ -32,7 +32,8 @@ pub trait Spawner<B: Bell + Drop, G: Gate + Drop> {
         ensures running { IfOk result (λ running. running_cell running ≡ (worker_view task.pass).cell) }
         ensures refused { IfErr result (λ refused. refused_cell refused ≡ (worker_view task.pass).cell) }
         ensures count { refusals self.old ≤ refusals self.new }
-        ensures cause { OnErr result (HasRisen (refusals self.old) (refusals self.new)) };
+        ensures cause { OnErr result (HasRisen (refusals self.old) (refusals self.new)) }
+        ensures fits { OnErr result (refusals self.new < 2 ^ 64) };
 
     /// Waits for a worker to end.
     fn join(&mut self, running: Self::Running)
@@ -105,6 +106,7 @@ impl<H: Threads> Spawner<WakerBell, OpenGate> for ThreadSpawner<H> {
         ensures refused { IfErr result (λ refused. refused.cell ≡ (worker_view task.pass).cell) }
         ensures count { self.old.refused ≤ self.new.refused }
         ensures cause { OnErr result (HasRisen self.old.refused self.new.refused) }
+        ensures fits { OnErr result (self.new.refused < 2 ^ 64) }
     {
         let cell = task.cell();
         match (self.start)(task) {
@@ -122,6 +124,10 @@ impl<H: Threads> Spawner<WakerBell, OpenGate> for ThreadSpawner<H> {
     }
 }
 
+/// A worker that is never started: there is no value of this type.
+#[derive(Drop)]
+pub enum NeverStarted {}
+
 /// Refuses every start, so that the hub evaluates all jobs itself.
 #[derive(Drop)]
 pub struct NoThreads {
@@ -136,27 +142,28 @@ impl NoThreads {
 }
 
 impl<B: Bell + Drop, G: Gate + Drop> Spawner<B, G> for NoThreads {
-    type Running = NotStarted;
+    type Running = NeverStarted;
 
     type Refused = NotStarted;
 
     ghost refusals = { λ s. s.refused };
 
-    ghost running_cell = { λ running. running.cell };
+    ghost running_cell = { λ _. 0 };
 
     ghost refused_cell = { λ refused. refused.cell };
 
-    fn start(&mut self, task: WorkerTask<B, G>) -> Result<NotStarted, NotStarted>
-        ensures running { IfOk result (λ running. running.cell ≡ (worker_view task.pass).cell) }
+    fn start(&mut self, task: WorkerTask<B, G>) -> Result<NeverStarted, NotStarted>
+        ensures running { IsErr result }
         ensures refused { IfErr result (λ refused. refused.cell ≡ (worker_view task.pass).cell) }
         ensures count { self.old.refused ≤ self.new.refused }
         ensures cause { OnErr result (HasRisen self.old.refused self.new.refused) }
+        ensures fits { OnErr result (self.new.refused < 2 ^ 64) }
     {
         self.refused = self.refused.saturating_add(1);
         Err(NotStarted { cell: task.cell() })
     }
 
-    fn join(&mut self, running: NotStarted) {
-        let _ = running;
+    fn join(&mut self, running: NeverStarted) {
+        match running {}
     }
 }

@@ -3,6 +3,7 @@ use Rattle.std.specs.Prelude.{◌≡◌, ℕ, zero, suc, ◌≤◌, List, length
 use Rattle.raw_greenlets.specs.declared.chain.Raw.{Raw}
 use Rattle.raw_greenlets.specs.declared.chain.RawPhase.{RawPhase}
 
+-- a raw greenlet with this parent and phase
 abbrev pub raw : ℕ → RawPhase → Raw
 raw p f = record { parent = p; phase = f }
 

@@ -4,22 +4,23 @@ ghost use Rattle.raw_greenlets.specs.Chains.{raw, raw_of, Leads, Rooted};
 
 use std::alloc::AllocError;
 
-/// How far a raw greenlet has come.
+/// How far a raw greenlet has come (greenlet documentation: "Switching" and "Dying").
 #[derive(Clone, Copy, PartialEq, Eq, Debug)]
 pub enum RawPhase {
     /// Nothing of its body has run.
     New,
-    /// It runs or stands in a switch.
-    Live,
-    /// It has ended.
+    /// It runs, or stands in a switch to another.
+    Started,
+    /// It has ended, and what is sent to it goes to its parent.
     Dead,
 }
 
-/// A raw greenlet.
+/// A raw greenlet: one that is switched to by hand.
 #[derive(Clone, Copy, Debug)]
 pub struct Raw {
     /// The number of the greenlet to which it gives way when it ends.
     pub parent: u32,
+    /// How far it has come.
     pub phase: RawPhase,
 }
 

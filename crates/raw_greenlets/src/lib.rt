@@ -4,8 +4,6 @@
 
 mod chain;
 mod raws;
-#[cfg(test)]
-mod tests;
 
 pub use chain::{Raw, RawPhase};
 pub use raws::{Hop, ParentRefusal, Raws};

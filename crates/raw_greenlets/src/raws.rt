@@ -1,10 +1,11 @@
 //! The raw greenlets of a run.
 ghost use Rattle.std.specs.Prelude.{◌≡◌, ◌≢◌, ◌⊎◌, ℕ, List, [], Option, None, Some, Ok, Err, OnOk, OnErr, IsSome, IfSome, IsTrue, ◌↔◌};
 ghost use Rattle.raw_greenlets.specs.Chains.{raw_of, HasHost, Leads, NoChainCloses};
-ghost use Rattle.raw_greenlets.specs.Steps.{hop_of, as_end, Adds, Reparents, HopsOn, Ends};
+ghost use Rattle.gv_values.specs.Ends.{kept};
+ghost use Rattle.raw_greenlets.specs.Steps.{hop_of, Adds, Reparents, HopsOn, Ends};
 
 use crate::chain::{Raw, RawPhase, entry, fit_hosts, fit_table, leads_to, write_raw};
-use gv_values::{FaultKind, Outcome, Value};
+use gv_values::{Outcome, Value, kept_outcome};
 use std::alloc::{AllocError, Global};
 use std::marker::Model;
 use thiserror::Error;
@@ -52,18 +53,6 @@ impl Model for Raws {
     ghost view = { λ r. r.table.items };
 
     ghost invariant = { λ r. IsHosted r.table.items r.hosts.items };
-}
-
-// What goes to the parent of a greenlet that ends: `GreenletExit` as a value, all else as it is.
-fn to_parent(outcome: Outcome) -> Outcome
-    ensures { result ≡ as_end outcome }
-{
-    match outcome {
-        Outcome::Fault(FaultKind::GreenletExit) => Outcome::Value(Value::Fault(
-            FaultKind::GreenletExit,
-        )),
-        other => other,
-    }
 }
 
 impl Raws {
@@ -121,21 +110,21 @@ impl Raws {
         match entry(&self.table, at) {
             None => Hop::Resume(input),
             Some(raw) => match raw.phase {
-                RawPhase::Live => Hop::Resume(input),
+                RawPhase::Started => Hop::Resume(input),
                 RawPhase::Dead => Hop::Past {
                     parent: raw.parent,
-                    input: to_parent(input),
+                    input: kept_outcome(input),
                 },
                 RawPhase::New => match input {
                     Outcome::Value(value) => {
-                        write_raw(&mut self.table, at, raw.parent, RawPhase::Live);
+                        write_raw(&mut self.table, at, raw.parent, RawPhase::Started);
                         Hop::Start(value)
                     }
                     Outcome::Fault(kind) => {
                         write_raw(&mut self.table, at, raw.parent, RawPhase::Dead);
                         Hop::Died {
                             parent: raw.parent,
-                            input: to_parent(Outcome::Fault(kind)),
+                            input: kept_outcome(Outcome::Fault(kind)),
                         }
                     }
                 },
@@ -147,7 +136,7 @@ impl Raws {
     pub fn end(&mut self, number: u32, outcome: Outcome) -> (u32, Outcome)
         requires { IsSome (raw_of self.old number) }
         ensures parent { IfSome (raw_of self.old number) (λ raw. result.0 ≡ raw.parent) }
-        ensures outcome { result.1 ≡ as_end outcome }
+        ensures outcome { result.1 ≡ kept outcome }
         ensures ended { Ends self.old self.new number }
         ensures open { NoChainCloses self.new }
     {
@@ -155,7 +144,7 @@ impl Raws {
             None => unreachable!(),
             Some(raw) => {
                 write_raw(&mut self.table, number, raw.parent, RawPhase::Dead);
-                (raw.parent, to_parent(outcome))
+                (raw.parent, kept_outcome(outcome))
             }
         }
     }

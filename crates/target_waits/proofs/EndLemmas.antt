@@ -4,7 +4,7 @@ use Rattle.std.proofs.lemmas.Bool.{cases_eq, cond-true, cond-false, false_from_n
 use Rattle.std.proofs.lemmas.List.Sums.{length-filter}
 use Rattle.gv_values.specs.declared.value.Whom.{Whom}
 use Rattle.std.proofs.lemmas.List.Elements.{Contains-append_cases}
-use Rattle.linked_items.specs.Items.{items_of as row_items, without_entry, Lacks, Differ}
+use Rattle.linked_items.specs.Items.{items_of as list_items, without_entry, Lacks, Differ}
 use Rattle.linked_items.proofs.ItemLemmas.{contains_of_filter, first_is, entry_first_dropped, test_drops}
 use Rattle.target_waits.specs.declared.index.Index.{Index}
 use Rattle.target_waits.specs.Indexed.{IsIndexed}
@@ -129,14 +129,14 @@ contains_of_map g (w ∷ ws) v p = by_index (contains_of_map g ws v) p.0 p.1 p.2
     by_index more (suc k) within found =
         let q = more (k, omega arith, found) in (q.0, (suc q.1.0, omega (arith, q.1.1), q.1.2), q.2)
 
--- one item of a row after another
-pub strike_step : (whom : Whom) (es es' : List (ℕ × ℕ)) (e : ℕ × ℕ) (ws : List Wait) → slice_get es 0 ≡ Some e → Differ (row_items es) → es' ≡ without_entry e.0 es → (struck_at_all whom (row_items es') (at_item e.0 (struck whom) ws) ≡ struck_at_all whom (row_items es) ws) × Differ (row_items es') × (length es' + 1 ≡ length es)
+-- one item of a list after another
+pub strike_step : (whom : Whom) (es es' : List (ℕ × ℕ)) (e : ℕ × ℕ) (ws : List Wait) → slice_get es 0 ≡ Some e → Differ (list_items es) → es' ≡ without_entry e.0 es → (struck_at_all whom (list_items es') (at_item e.0 (struck whom) ws) ≡ struck_at_all whom (list_items es) ws) × Differ (list_items es') × (length es' + 1 ≡ length es)
 strike_step whom es es' e ws at d to =
     let parts = first_is es e at in
-    let all : Differ (e.0 ∷ row_items parts.0) = subst (λ l. Differ (row_items l)) parts.1 d in
+    let all : Differ (e.0 ∷ list_items parts.0) = subst (λ l. Differ (list_items l)) parts.1 d in
     let rest : es' ≡ parts.0 = to ∙ ap (without_entry e.0) parts.1 ∙ entry_first_dropped e parts.0 all.0 in (
-      ap (λ l. struck_at_all whom (row_items l) (at_item e.0 (struck whom) ws)) rest ∙ sym (ap (λ l. struck_at_all whom (row_items l) ws) parts.1),
-      subst (λ l. Differ (row_items l)) (sym rest) all.1,
+      ap (λ l. struck_at_all whom (list_items l) (at_item e.0 (struck whom) ws)) rest ∙ sym (ap (λ l. struck_at_all whom (list_items l) ws) parts.1),
+      subst (λ l. Differ (list_items l)) (sym rest) all.1,
       (let a = ap length rest in let b = ap length parts.1 in omega arith),
     )
 
@@ -209,18 +209,3 @@ kept_at g g' g'' n P here others same q i holds p = subst (λ l. Contains l i) (
   | inl e ↦ subst (λ m. Contains (g' m) i) (sym e) (here i holds (subst (λ m. Contains (g m) i) e p))
   | inr apart ↦ subst (λ l. Contains l i) (sym (others q apart)) p
 ])
-
--- items below a number, and the next one
-pub items_below : (ws : List Wait) (w : Wait) (n : ℕ) → ((q : ℕ) → Contains (items_of ws) q → q < n) → w.item ≡ n → (q : ℕ) → Contains (items_of (ws ++ w ∷ [])) q → q < n + 1
-items_below ws w n below is q p = elim (Contains-append_cases (items_of ws) (w.item ∷ []) q (subst (λ l. Contains l q) (joined ws) p)) [
-  | inl old ↦ let a = below q old in omega arith
-  | inr new ↦ last new.0 new.1 new.2
-]
-  where
-    joined : (vs : List Wait) → items_of (vs ++ w ∷ []) ≡ items_of vs ++ w.item ∷ []
-    joined [] = refl
-    joined (v ∷ vs) = ap (λ l. v.item ∷ l) (joined vs)
-
-    last : (k : ℕ) → k < suc zero → get_or (w.item ∷ []) k q ≡ q → q < n + 1
-    last zero within found = omega arith
-    last (suc k) within found = absurd (omega arith)

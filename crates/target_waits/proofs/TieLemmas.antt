@@ -3,11 +3,11 @@ use Rattle.std.proofs.Common.{◌-◌, count_by, slice_get, length-append, ◌�
 use Rattle.std.specs.Option.{option_map}
 use Rattle.std.proofs.lemmas.Bool.{cases_eq, cond-true, cond-false, false≢true, false_from_ne_true, not-true, and_from}
 use Rattle.std.proofs.lemmas.Bool.Decides.{nat_tests}
-use Rattle.linked_items.specs.Items.{items_of as row_items, without, without_entry, Differ}
+use Rattle.linked_items.specs.Items.{items_of as list_items, without, without_entry, Differ}
 use Rattle.std.specs.List.{All, AllByRecursion}
 use Rattle.std.proofs.lemmas.List.Elements.{All-from_recursion, Contains-append_left, Contains-append_right, Contains-append_cases}
 use Rattle.gv_values.specs.declared.value.Whom.{Whom}
-use Rattle.linked_items.specs.Seen.{SeenRow, row}
+use Rattle.linked_items.specs.Seen.{SeenItems, item_list}
 use Rattle.linked_items.proofs.ItemLemmas.{test_keeps, test_drops, items_joined, items_without, length_items, lacks_of_absent, absent_of_lacks, without_lacks, without_length, differ_snoc, differ_of_without, contains_of_filter, first_is}
 use Rattle.linked_items.proofs.StrideLemmas.{contains_without}
 use Rattle.target_waits.specs.Waits.{Wait, wait, items_of, whom_eq, is_ready, struck, answered, at_item, IsReadyIn}
@@ -27,7 +27,7 @@ seen_item : (o : Option Wait) (i : ℕ) → ((w : Wait) → o ≡ Some w → w.i
 seen_item None i own = refl
 seen_item (Some w) i own = own w refl
 
-pub seen_items : (f : ℕ → Option Wait) (es : List (ℕ × ℕ)) → IsOwn f → items_of (seen_in f es) ≡ row_items es
+pub seen_items : (f : ℕ → Option Wait) (es : List (ℕ × ℕ)) → IsOwn f → items_of (seen_in f es) ≡ list_items es
 seen_items f [] own = refl
 seen_items f (e ∷ es) own = λ i. seen_item (f e.0) e.0 (own e.0) i ∷ seen_items f es own i
 
@@ -73,7 +73,7 @@ seen_without item f f' others own (e ∷ es) = elim (cases_eq e.0 item) [
 ]
 
 -- a wait comes
-pub seen_last : (item n : ℕ) (w : Wait) (f f' : ℕ → Option Wait) → f' item ≡ Some w → ((q : ℕ) → q ≢ item → f' q ≡ f q) → (es : List (ℕ × ℕ)) → (Contains (row_items es) item → ⊥) → seen_in f' (es ++ (item, n) ∷ []) ≡ seen_in f es ++ w ∷ []
+pub seen_last : (item n : ℕ) (w : Wait) (f f' : ℕ → Option Wait) → f' item ≡ Some w → ((q : ℕ) → q ≢ item → f' q ≡ f q) → (es : List (ℕ × ℕ)) → (Contains (list_items es) item → ⊥) → seen_in f' (es ++ (item, n) ∷ []) ≡ seen_in f es ++ w ∷ []
 seen_last item n w f f' at others [] absent = ap (λ o. wait_or o item ∷ []) at
 seen_last item n w f f' at others (e ∷ es) absent =
     let apart : e.0 ≢ item = λ same. absent (zero, omega arith, same) in
@@ -92,28 +92,28 @@ fewer (y ∷ xs) ys x d e sub there away =
     omega arith
 
 -- an item's wait is another, and the line of the ready ones follows
-pub record Follows (ready ready' : SeenRow) (item : ℕ) (is : Bool) : Type 0 where
-  pub kept : (i : ℕ) → i ≢ item → Contains (row_items ready.entries) i → Contains (row_items ready'.entries) i
-  pub only : (i : ℕ) → i ≢ item → Contains (row_items ready'.entries) i → Contains (row_items ready.entries) i
-  pub told : is ≡ true → Contains (row_items ready'.entries) item
-  pub sound : Contains (row_items ready'.entries) item → is ≡ true
+pub record Follows (ready ready' : SeenItems) (item : ℕ) (is : Bool) : Type 0 where
+  pub kept : (i : ℕ) → i ≢ item → Contains (list_items ready.entries) i → Contains (list_items ready'.entries) i
+  pub only : (i : ℕ) → i ≢ item → Contains (list_items ready'.entries) i → Contains (list_items ready.entries) i
+  pub told : is ≡ true → Contains (list_items ready'.entries) item
+  pub sound : Contains (list_items ready'.entries) item → is ≡ true
 
-pub waits_set : (f f' : ℕ → Option Wait) (es es' : List (ℕ × ℕ)) (ready ready' : SeenRow) (item : ℕ) (w : Wait) → IsWaits f es ready → f' item ≡ Some w → ((q : ℕ) → q ≢ item → f' q ≡ f q) → w.item ≡ item → ((i : ℕ) → Contains (row_items es) i → Contains (row_items es') i) → Contains (row_items es') item → Follows ready ready' item (is_ready w) → length es' ≤ length ready'.entries + ready'.spare → Differ (row_items es') → Differ (row_items ready'.entries) → IsWaits f' es' ready'
+pub waits_set : (f f' : ℕ → Option Wait) (es es' : List (ℕ × ℕ)) (ready ready' : SeenItems) (item : ℕ) (w : Wait) → IsWaits f es ready → f' item ≡ Some w → ((q : ℕ) → q ≢ item → f' q ≡ f q) → w.item ≡ item → ((i : ℕ) → Contains (list_items es) i → Contains (list_items es') i) → Contains (list_items es') item → Follows ready ready' item (is_ready w) → length es' ≤ length ready'.entries + ready'.spare → Differ (list_items es') → Differ (list_items ready'.entries) → IsWaits f' es' ready'
 waits_set f f' es es' ready ready' item w is at others own more here line room differ apart = record {
   own = λ i v h. elim (cases_eq i item) [
     | inl same ↦ let e : v ≡ w = now i v same h in ap (λ (x : Wait). x.item) e ∙ own ∙ sym same
     | inr away ↦ is.own i v (sym (others i away) ∙ h)
   ];
   listed = λ i v h. elim (cases_eq i item) [
-    | inl same ↦ subst (λ x. Contains (row_items es') x) (sym same) here
+    | inl same ↦ subst (λ x. Contains (list_items es') x) (sym same) here
     | inr away ↦ more i (is.listed i v (sym (others i away) ∙ h))
   ];
   told = λ i v h r. elim (cases_eq i item) [
-    | inl same ↦ subst (λ x. Contains (row_items ready'.entries) x) (sym same) (line.told (sym (ap is_ready (now i v same h)) ∙ r))
+    | inl same ↦ subst (λ x. Contains (list_items ready'.entries) x) (sym same) (line.told (sym (ap is_ready (now i v same h)) ∙ r))
     | inr away ↦ line.kept i away (is.told i v (sym (others i away) ∙ h) r)
   ];
   sound = λ i p. elim (cases_eq i item) [
-    | inl same ↦ (w, ap f' same ∙ at, line.sound (subst (λ x. Contains (row_items ready'.entries) x) same p))
+    | inl same ↦ (w, ap f' same ∙ at, line.sound (subst (λ x. Contains (list_items ready'.entries) x) same p))
     | inr away ↦ let s = is.sound i (line.only i away p) in (s.0, others i away ∙ s.1, s.2)
   ];
   room = room;
@@ -125,19 +125,19 @@ waits_set f f' es es' ready ready' item w is at others own more here line room d
     now i v same h = let e : Some v ≡ Some w = sym h ∙ ap f' same ∙ at in cc
 
 -- nothing changes but the room
-pub waits_same : (f f' : ℕ → Option Wait) (es : List (ℕ × ℕ)) (ready ready' : SeenRow) → IsWaits f es ready → ((q : ℕ) → f' q ≡ f q) → ready'.entries ≡ ready.entries → length es ≤ length ready'.entries + ready'.spare → IsWaits f' es ready'
+pub waits_same : (f f' : ℕ → Option Wait) (es : List (ℕ × ℕ)) (ready ready' : SeenItems) → IsWaits f es ready → ((q : ℕ) → f' q ≡ f q) → ready'.entries ≡ ready.entries → length es ≤ length ready'.entries + ready'.spare → IsWaits f' es ready'
 waits_same f f' es ready ready' is same line room = record {
   own = λ i v h. is.own i v (sym (same i) ∙ h);
   listed = λ i v h. is.listed i v (sym (same i) ∙ h);
-  told = λ i v h r. subst (λ l. Contains (row_items l) i) (sym line) (is.told i v (sym (same i) ∙ h) r);
-  sound = λ i p. let s = is.sound i (subst (λ l. Contains (row_items l) i) line p) in (s.0, same i ∙ s.1, s.2);
+  told = λ i v h r. subst (λ l. Contains (list_items l) i) (sym line) (is.told i v (sym (same i) ∙ h) r);
+  sound = λ i p. let s = is.sound i (subst (λ l. Contains (list_items l) i) line p) in (s.0, same i ∙ s.1, s.2);
   room = room;
   differ = is.differ;
-  apart = subst (λ l. Differ (row_items l)) (sym line) is.apart;
+  apart = subst (λ l. Differ (list_items l)) (sym line) is.apart;
 }
 
 -- an item's wait goes
-pub waits_gone : (f f' : ℕ → Option Wait) (es es' : List (ℕ × ℕ)) (ready ready' : SeenRow) (item : ℕ) → IsWaits f es ready → f' item ≡ None → ((q : ℕ) → q ≢ item → f' q ≡ f q) → ((i : ℕ) → i ≢ item → Contains (row_items es) i → Contains (row_items es') i) → ((i : ℕ) → i ≢ item → Contains (row_items ready.entries) i → Contains (row_items ready'.entries) i) → ((i : ℕ) → Contains (row_items ready'.entries) i → Contains (row_items ready.entries) i × (i ≢ item)) → length es' ≤ length ready'.entries + ready'.spare → Differ (row_items es') → Differ (row_items ready'.entries) → IsWaits f' es' ready'
+pub waits_gone : (f f' : ℕ → Option Wait) (es es' : List (ℕ × ℕ)) (ready ready' : SeenItems) (item : ℕ) → IsWaits f es ready → f' item ≡ None → ((q : ℕ) → q ≢ item → f' q ≡ f q) → ((i : ℕ) → i ≢ item → Contains (list_items es) i → Contains (list_items es') i) → ((i : ℕ) → i ≢ item → Contains (list_items ready.entries) i → Contains (list_items ready'.entries) i) → ((i : ℕ) → Contains (list_items ready'.entries) i → Contains (list_items ready.entries) i × (i ≢ item)) → length es' ≤ length ready'.entries + ready'.spare → Differ (list_items es') → Differ (list_items ready'.entries) → IsWaits f' es' ready'
 waits_gone f f' es es' ready ready' item is gone others more kept only room differ apart = record {
   own = λ i v h. is.own i v (sym (others i (away i v h)) ∙ h);
   listed = λ i v h. more i (away i v h) (is.listed i v (sym (others i (away i v h)) ∙ h));
@@ -152,30 +152,30 @@ waits_gone f f' es es' ready ready' item is gone others more kept only room diff
     away i v h same = let e : Some v ≡ None = sym h ∙ ap f' same ∙ gone in cc
 
 -- room is made
-pub waits_reserved : (f : ℕ → Option Wait) (es es' : List (ℕ × ℕ)) (ready ready' : SeenRow) → IsWaits f es ready → es' ≡ es → ready'.entries ≡ ready.entries → ready.spare ≤ ready'.spare → IsWaits f es' ready'
+pub waits_reserved : (f : ℕ → Option Wait) (es es' : List (ℕ × ℕ)) (ready ready' : SeenItems) → IsWaits f es ready → es' ≡ es → ready'.entries ≡ ready.entries → ready.spare ≤ ready'.spare → IsWaits f es' ready'
 waits_reserved f es es' ready ready' is same line more =
     subst (λ l. IsWaits f l ready') (sym same) (waits_same f f es ready ready' is (λ q. refl) line (let r = is.room in let n = ap length line in omega arith))
 
-pub order_absent : (f : ℕ → Option Wait) (es es' : List (ℕ × ℕ)) (ws : List Wait) (item : ℕ) → IsOwn f → seen_in f es ≡ ws → es' ≡ es → (Contains (items_of ws) item → ⊥) → Contains (row_items es') item → ⊥
+pub order_absent : (f : ℕ → Option Wait) (es es' : List (ℕ × ℕ)) (ws : List Wait) (item : ℕ) → IsOwn f → seen_in f es ≡ ws → es' ≡ es → (Contains (items_of ws) item → ⊥) → Contains (list_items es') item → ⊥
 order_absent f es es' ws item own view same absent p =
-    absent (subst (λ v. Contains (items_of v) item) view (subst (λ l. Contains l item) (sym (seen_items f es own)) (subst (λ l. Contains (row_items l) item) same p)))
+    absent (subst (λ v. Contains (items_of v) item) view (subst (λ l. Contains l item) (sym (seen_items f es own)) (subst (λ l. Contains (list_items l) item) same p)))
 
-pub order_there : (f : ℕ → Option Wait) (es : List (ℕ × ℕ)) (ws : List Wait) (item : ℕ) → IsOwn f → seen_in f es ≡ ws → Contains (items_of ws) item → Contains (row_items es) item
+pub order_there : (f : ℕ → Option Wait) (es : List (ℕ × ℕ)) (ws : List Wait) (item : ℕ) → IsOwn f → seen_in f es ≡ ws → Contains (items_of ws) item → Contains (list_items es) item
 order_there f es ws item own view p = subst (λ l. Contains l item) (seen_items f es own) (subst (λ v. Contains (items_of v) item) (sym view) p)
 
-pub ready_absent : (f : ℕ → Option Wait) (es : List (ℕ × ℕ)) (ready : SeenRow) (item : ℕ) → IsWaits f es ready → (Contains (row_items es) item → ⊥) → Contains (row_items ready.entries) item → ⊥
+pub ready_absent : (f : ℕ → Option Wait) (es : List (ℕ × ℕ)) (ready : SeenItems) (item : ℕ) → IsWaits f es ready → (Contains (list_items es) item → ⊥) → Contains (list_items ready.entries) item → ⊥
 ready_absent f es ready item is absent p = let s = is.sound item p in absent (is.listed item s.0 s.1)
 
 -- an item at the end
-last_kept : (es es' : List (ℕ × ℕ)) (item n : ℕ) → es' ≡ es ++ (item, n) ∷ [] → (i : ℕ) → Contains (row_items es) i → Contains (row_items es') i
-last_kept es es' item n to i p = subst (λ l. Contains (row_items l) i) (sym to) (subst (λ l. Contains l i) (sym (items_joined es ((item, n) ∷ []))) (Contains-append_left (row_items es) (item ∷ []) i p))
+last_kept : (es es' : List (ℕ × ℕ)) (item n : ℕ) → es' ≡ es ++ (item, n) ∷ [] → (i : ℕ) → Contains (list_items es) i → Contains (list_items es') i
+last_kept es es' item n to i p = subst (λ l. Contains (list_items l) i) (sym to) (subst (λ l. Contains l i) (sym (items_joined es ((item, n) ∷ []))) (Contains-append_left (list_items es) (item ∷ []) i p))
 
-last_here : (es es' : List (ℕ × ℕ)) (item n : ℕ) → es' ≡ es ++ (item, n) ∷ [] → Contains (row_items es') item
-last_here es es' item n to = subst (λ l. Contains (row_items l) item) (sym to) (subst (λ l. Contains l item) (sym (items_joined es ((item, n) ∷ []))) (Contains-append_right (row_items es) (item ∷ []) item (zero, omega arith, refl)))
+last_here : (es es' : List (ℕ × ℕ)) (item n : ℕ) → es' ≡ es ++ (item, n) ∷ [] → Contains (list_items es') item
+last_here es es' item n to = subst (λ l. Contains (list_items l) item) (sym to) (subst (λ l. Contains l item) (sym (items_joined es ((item, n) ∷ []))) (Contains-append_right (list_items es) (item ∷ []) item (zero, omega arith, refl)))
 
-last_only : (es es' : List (ℕ × ℕ)) (item n : ℕ) → es' ≡ es ++ (item, n) ∷ [] → (i : ℕ) → i ≢ item → Contains (row_items es') i → Contains (row_items es) i
+last_only : (es es' : List (ℕ × ℕ)) (item n : ℕ) → es' ≡ es ++ (item, n) ∷ [] → (i : ℕ) → i ≢ item → Contains (list_items es') i → Contains (list_items es) i
 last_only es es' item n to i apart p =
-    elim (Contains-append_cases (row_items es) (item ∷ []) i (subst (λ l. Contains l i) (items_joined es ((item, n) ∷ [])) (subst (λ l. Contains (row_items l) i) to p))) [
+    elim (Contains-append_cases (list_items es) (item ∷ []) i (subst (λ l. Contains l i) (items_joined es ((item, n) ∷ [])) (subst (λ l. Contains (list_items l) i) to p))) [
       | inl old ↦ old
       | inr new ↦ absurd (one new.0 new.1 new.2)
     ]
@@ -184,14 +184,14 @@ last_only es es' item n to i apart p =
     one zero within found = apart (sym found)
     one (suc k) within found = omega arith
 
-last_differ : (es es' : List (ℕ × ℕ)) (item n : ℕ) → es' ≡ es ++ (item, n) ∷ [] → Differ (row_items es) → (Contains (row_items es) item → ⊥) → Differ (row_items es')
-last_differ es es' item n to d absent = subst (λ l. Differ (row_items l)) (sym to) (subst Differ (sym (items_joined es ((item, n) ∷ []))) (differ_snoc (row_items es) item d (lacks_of_absent item (row_items es) absent)))
+last_differ : (es es' : List (ℕ × ℕ)) (item n : ℕ) → es' ≡ es ++ (item, n) ∷ [] → Differ (list_items es) → (Contains (list_items es) item → ⊥) → Differ (list_items es')
+last_differ es es' item n to d absent = subst (λ l. Differ (list_items l)) (sym to) (subst Differ (sym (items_joined es ((item, n) ∷ []))) (differ_snoc (list_items es) item d (lacks_of_absent item (list_items es) absent)))
 
 last_length : (es es' : List (ℕ × ℕ)) (item n : ℕ) → es' ≡ es ++ (item, n) ∷ [] → length es' ≡ length es + 1
 last_length es es' item n to = ap length to ∙ length-append es ((item, n) ∷ [])
 
 -- a wait that needs no ends comes, and one that needs some
-pub waits_put_ready : (f f' : ℕ → Option Wait) (es es' : List (ℕ × ℕ)) (ready ready' : SeenRow) (item : ℕ) (w : Wait) → IsWaits f es ready → (Contains (row_items es) item → ⊥) → f' item ≡ Some w → ((q : ℕ) → q ≢ item → f' q ≡ f q) → w.item ≡ item → es' ≡ es ++ (item, 0) ∷ [] → is_ready w ≡ true → ready' ≡ row (ready.entries ++ (item, 0) ∷ []) (ready.spare - 1) → length es + 1 ≤ ready.spare → IsWaits f' es' ready'
+pub waits_put_ready : (f f' : ℕ → Option Wait) (es es' : List (ℕ × ℕ)) (ready ready' : SeenItems) (item : ℕ) (w : Wait) → IsWaits f es ready → (Contains (list_items es) item → ⊥) → f' item ≡ Some w → ((q : ℕ) → q ≢ item → f' q ≡ f q) → w.item ≡ item → es' ≡ es ++ (item, 0) ∷ [] → is_ready w ≡ true → ready' ≡ item_list (ready.entries ++ (item, 0) ∷ []) (ready.spare - 1) → length es + 1 ≤ ready.spare → IsWaits f' es' ready'
 waits_put_ready f f' es es' ready ready' item w is absent at others own to now line room =
     let l : ready'.entries ≡ ready.entries ++ (item, 0) ∷ [] = ap (λ r. r.entries) line in
     waits_set f f' es es' ready ready' item w is at others own (last_kept es es' item 0 to) (last_here es es' item 0 to)
@@ -205,7 +205,7 @@ waits_put_ready f f' es es' ready ready' item w is absent at others own to now l
     (last_differ es es' item 0 to is.differ absent)
     (last_differ ready.entries ready'.entries item 0 l is.apart (ready_absent f es ready item is absent))
 
-pub waits_put_later : (f f' : ℕ → Option Wait) (es es' : List (ℕ × ℕ)) (ready : SeenRow) (item : ℕ) (w : Wait) → IsWaits f es ready → (Contains (row_items es) item → ⊥) → f' item ≡ Some w → ((q : ℕ) → q ≢ item → f' q ≡ f q) → w.item ≡ item → es' ≡ es ++ (item, 0) ∷ [] → is_ready w ≡ false → length es + 1 ≤ ready.spare → IsWaits f' es' ready
+pub waits_put_later : (f f' : ℕ → Option Wait) (es es' : List (ℕ × ℕ)) (ready : SeenItems) (item : ℕ) (w : Wait) → IsWaits f es ready → (Contains (list_items es) item → ⊥) → f' item ≡ Some w → ((q : ℕ) → q ≢ item → f' q ≡ f q) → w.item ≡ item → es' ≡ es ++ (item, 0) ∷ [] → is_ready w ≡ false → length es + 1 ≤ ready.spare → IsWaits f' es' ready
 waits_put_later f f' es es' ready item w is absent at others own to later room =
     waits_set f f' es es' ready ready item w is at others own (last_kept es es' item 0 to) (last_here es es' item 0 to)
     (record {
@@ -218,7 +218,7 @@ waits_put_later f f' es es' ready item w is absent at others own to later room =
     (last_differ es es' item 0 to is.differ absent)
     is.apart
 
-pub put_seen : (f f' : ℕ → Option Wait) (es es' es'' : List (ℕ × ℕ)) (ws : List Wait) (item : ℕ) (w : Wait) → seen_in f es ≡ ws → es' ≡ es → es'' ≡ es' ++ (item, 0) ∷ [] → (Contains (row_items es') item → ⊥) → f' item ≡ Some w → ((q : ℕ) → q ≢ item → f' q ≡ f q) → seen_in f' es'' ≡ ws ++ w ∷ []
+pub put_seen : (f f' : ℕ → Option Wait) (es es' es'' : List (ℕ × ℕ)) (ws : List Wait) (item : ℕ) (w : Wait) → seen_in f es ≡ ws → es' ≡ es → es'' ≡ es' ++ (item, 0) ∷ [] → (Contains (list_items es') item → ⊥) → f' item ≡ Some w → ((q : ℕ) → q ≢ item → f' q ≡ f q) → seen_in f' es'' ≡ ws ++ w ∷ []
 put_seen f f' es es' es'' ws item w view same to absent at others =
     ap (seen_in f') to ∙ seen_last item 0 w f f' at others es' absent ∙ ap (λ v. v ++ w ∷ []) (ap (seen_in f) same ∙ view)
 
@@ -250,21 +250,21 @@ became whom (Some w) h = record {
   before = not-true (is_ready w) (and_right (is_ready (struck whom w)) (not (is_ready w)) h);
 }
 
-pub struck_absent_line : (whom : Whom) (f : ℕ → Option Wait) (es : List (ℕ × ℕ)) (ready : SeenRow) (item : ℕ) → IsWaits f es ready → Became whom (f item) → Contains (row_items ready.entries) item → ⊥
+pub struck_absent_line : (whom : Whom) (f : ℕ → Option Wait) (es : List (ℕ × ℕ)) (ready : SeenItems) (item : ℕ) → IsWaits f es ready → Became whom (f item) → Contains (list_items ready.entries) item → ⊥
 struck_absent_line whom f es ready item is b p =
     let s = is.sound item p in
     let same : s.0 ≡ b.was = (let e : Some s.0 ≡ Some b.was = sym s.1 ∙ b.is in cc) in
     false≢true (sym b.before ∙ sym (ap is_ready same) ∙ s.2)
 
-pub struck_room : (whom : Whom) (f : ℕ → Option Wait) (es : List (ℕ × ℕ)) (ready : SeenRow) (item : ℕ) → IsWaits f es ready → Became whom (f item) → 0 < ready.spare
+pub struck_room : (whom : Whom) (f : ℕ → Option Wait) (es : List (ℕ × ℕ)) (ready : SeenItems) (item : ℕ) → IsWaits f es ready → Became whom (f item) → 0 < ready.spare
 struck_room whom f es ready item is b =
-    let few = fewer (row_items ready.entries) (row_items es) item is.apart is.differ (λ i p. let s = is.sound i p in is.listed i s.0 s.1) (is.listed item b.was b.is) (struck_absent_line whom f es ready item is b) in
+    let few = fewer (list_items ready.entries) (list_items es) item is.apart is.differ (λ i p. let s = is.sound i p in is.listed i s.0 s.1) (is.listed item b.was b.is) (struck_absent_line whom f es ready item is b) in
     let n = length_items ready.entries in
     let m = length_items es in
     let r = is.room in
     omega arith
 
-pub waits_struck_ready : (whom : Whom) (f f' : ℕ → Option Wait) (es : List (ℕ × ℕ)) (ready ready' : SeenRow) (item : ℕ) → IsWaits f es ready → ((q : ℕ) → f' q ≡ changed_at (struck whom) item f q) → Became whom (f item) → ready' ≡ row (ready.entries ++ (item, 0) ∷ []) (ready.spare - 1) → IsWaits f' es ready'
+pub waits_struck_ready : (whom : Whom) (f f' : ℕ → Option Wait) (es : List (ℕ × ℕ)) (ready ready' : SeenItems) (item : ℕ) → IsWaits f es ready → ((q : ℕ) → f' q ≡ changed_at (struck whom) item f q) → Became whom (f item) → ready' ≡ item_list (ready.entries ++ (item, 0) ∷ []) (ready.spare - 1) → IsWaits f' es ready'
 waits_struck_ready whom f f' es ready ready' item is to b line =
     let l : ready'.entries ≡ ready.entries ++ (item, 0) ∷ [] = ap (λ r. r.entries) line in
     let some = struck_room whom f es ready item is b in
@@ -293,7 +293,7 @@ still_ready whom w h =
     is_zero : (n : ℕ) → (n == 0) ≡ true → n ≡ 0
     is_zero n e = elim (cases_eq n 0) [ inl same ↦ same | inr apart ↦ absurd (false≢true (sym (num_apart n 0 apart) ∙ e)) ]
 
-pub waits_struck_later : (whom : Whom) (f f' : ℕ → Option Wait) (es : List (ℕ × ℕ)) (ready : SeenRow) (item : ℕ) → IsWaits f es ready → ((q : ℕ) → f' q ≡ changed_at (struck whom) item f q) → becomes_ready whom (f item) ≡ false → IsWaits f' es ready
+pub waits_struck_later : (whom : Whom) (f f' : ℕ → Option Wait) (es : List (ℕ × ℕ)) (ready : SeenItems) (item : ℕ) → IsWaits f es ready → ((q : ℕ) → f' q ≡ changed_at (struck whom) item f q) → becomes_ready whom (f item) ≡ false → IsWaits f' es ready
 waits_struck_later whom f f' es ready item is to later = by_wait (f item) refl
   where
     by_wait : (o : Option Wait) → f item ≡ o → IsWaits f' es ready
@@ -324,51 +324,51 @@ waits_struck_later whom f f' es ready item is to later = by_wait (f item) refl
         was_ready false false h k = absurd (false≢true h)
 
 -- an item is answered
-pub waits_answered : (f f' : ℕ → Option Wait) (es : List (ℕ × ℕ)) (ready ready' : SeenRow) (item : ℕ) → IsWaits f es ready → ((q : ℕ) → f' q ≡ changed_at answered item f q) → Contains (row_items ready.entries) item → ready' ≡ row (without_entry item ready.entries) (ready.spare + 1) → IsWaits f' es ready'
+pub waits_answered : (f f' : ℕ → Option Wait) (es : List (ℕ × ℕ)) (ready ready' : SeenItems) (item : ℕ) → IsWaits f es ready → ((q : ℕ) → f' q ≡ changed_at answered item f q) → Contains (list_items ready.entries) item → ready' ≡ item_list (without_entry item ready.entries) (ready.spare + 1) → IsWaits f' es ready'
 waits_answered f f' es ready ready' item is to there line =
     let s = is.sound item there in
-    let items : row_items ready'.entries ≡ without item (row_items ready.entries) = ap (λ (r : SeenRow). row_items r.entries) line ∙ items_without item ready.entries in
+    let items : list_items ready'.entries ≡ without item (list_items ready.entries) = ap (λ (r : SeenItems). list_items r.entries) line ∙ items_without item ready.entries in
     waits_set f f' es es ready ready' item (answered s.0) is
     (to item ∙ changed_here answered item f item refl ∙ ap (option_map answered) s.1)
     (λ q apart. to q ∙ changed_apart answered item f q apart)
     (is.own item s.0 s.1) (λ i p. p) (is.listed item s.0 s.1)
     (record {
-      kept = λ i apart p. subst (λ l. Contains l i) (sym items) (contains_without item i (row_items ready.entries) apart p);
-      only = λ i apart p. (contains_of_filter (λ y. not (y == item)) (row_items ready.entries) i (subst (λ l. Contains l i) items p)).0;
+      kept = λ i apart p. subst (λ l. Contains l i) (sym items) (contains_without item i (list_items ready.entries) apart p);
+      only = λ i apart p. (contains_of_filter (λ y. not (y == item)) (list_items ready.entries) i (subst (λ l. Contains l i) items p)).0;
       told = λ h. absurd (and_no (s.0.need == 0) h);
-      sound = λ p. absurd (absent_of_lacks item (without item (row_items ready.entries)) (without_lacks item (row_items ready.entries)) (subst (λ l. Contains l item) items p));
+      sound = λ p. absurd (absent_of_lacks item (without item (list_items ready.entries)) (without_lacks item (list_items ready.entries)) (subst (λ l. Contains l item) items p));
     })
-    (let n = without_length item (row_items ready.entries) is.apart there in let a = ap length items in let b = length_items ready.entries in let d = length_items ready'.entries in let e = ap (λ r. r.spare) line in let r = is.room in omega arith)
+    (let n = without_length item (list_items ready.entries) is.apart there in let a = ap length items in let b = length_items ready.entries in let d = length_items ready'.entries in let e = ap (λ r. r.spare) line in let r = is.room in omega arith)
     is.differ
-    (subst Differ (sym items) (differ_of_without item (row_items ready.entries) is.apart))
+    (subst Differ (sym items) (differ_of_without item (list_items ready.entries) is.apart))
 
 -- an item waits no longer
-pub waits_cancelled : (f f' : ℕ → Option Wait) (es es' : List (ℕ × ℕ)) (ready ready' : SeenRow) (item : ℕ) → IsWaits f es ready → Contains (row_items es) item → f' item ≡ None → ((q : ℕ) → q ≢ item → f' q ≡ f q) → es' ≡ without_entry item es → row_items ready'.entries ≡ without item (row_items ready.entries) → length ready.entries + ready.spare ≤ length ready'.entries + ready'.spare → IsWaits f' es' ready'
+pub waits_cancelled : (f f' : ℕ → Option Wait) (es es' : List (ℕ × ℕ)) (ready ready' : SeenItems) (item : ℕ) → IsWaits f es ready → Contains (list_items es) item → f' item ≡ None → ((q : ℕ) → q ≢ item → f' q ≡ f q) → es' ≡ without_entry item es → list_items ready'.entries ≡ without item (list_items ready.entries) → length ready.entries + ready.spare ≤ length ready'.entries + ready'.spare → IsWaits f' es' ready'
 waits_cancelled f f' es es' ready ready' item is there gone others to line room =
-    let items : row_items es' ≡ without item (row_items es) = ap row_items to ∙ items_without item es in
+    let items : list_items es' ≡ without item (list_items es) = ap list_items to ∙ items_without item es in
     waits_gone f f' es es' ready ready' item is gone others
-    (λ i apart p. subst (λ l. Contains l i) (sym items) (contains_without item i (row_items es) apart p))
-    (λ i apart p. subst (λ l. Contains l i) (sym line) (contains_without item i (row_items ready.entries) apart p))
+    (λ i apart p. subst (λ l. Contains l i) (sym items) (contains_without item i (list_items es) apart p))
+    (λ i apart p. subst (λ l. Contains l i) (sym line) (contains_without item i (list_items ready.entries) apart p))
     (λ i p.
-    let q = contains_of_filter (λ y. not (y == item)) (row_items ready.entries) i (subst (λ l. Contains l i) line p) in
+    let q = contains_of_filter (λ y. not (y == item)) (list_items ready.entries) i (subst (λ l. Contains l i) line p) in
     (q.0, λ same. false≢true (sym (test_drops i item same) ∙ q.1)))
-    (let n = without_length item (row_items es) is.differ there in let a = ap length items in let b = length_items es in let d = length_items es' in let r = is.room in omega arith)
-    (subst Differ (sym items) (differ_of_without item (row_items es) is.differ))
-    (subst Differ (sym line) (differ_of_without item (row_items ready.entries) is.apart))
+    (let n = without_length item (list_items es) is.differ there in let a = ap length items in let b = length_items es in let d = length_items es' in let r = is.room in omega arith)
+    (subst Differ (sym items) (differ_of_without item (list_items es) is.differ))
+    (subst Differ (sym line) (differ_of_without item (list_items ready.entries) is.apart))
 
 -- what is seen of an item, and of those that are ready
-pub seen_contains : (f : ℕ → Option Wait) (es : List (ℕ × ℕ)) (i : ℕ) (w : Wait) → Contains (row_items es) i → f i ≡ Some w → Contains (seen_in f es) w
+pub seen_contains : (f : ℕ → Option Wait) (es : List (ℕ × ℕ)) (i : ℕ) (w : Wait) → Contains (list_items es) i → f i ≡ Some w → Contains (seen_in f es) w
 seen_contains f [] i w p h = absurd (omega (arith, p.1))
 seen_contains f (e ∷ es) i w p h = by_index (λ q. seen_contains f es i w q h) p.0 p.1 p.2
   where
-    by_index : (Contains (row_items es) i → Contains (seen_in f es) w) → (k : ℕ) → k < suc (length (row_items es)) → get_or (row_items (e ∷ es)) k i ≡ i → Contains (seen_in f (e ∷ es)) w
+    by_index : (Contains (list_items es) i → Contains (seen_in f es) w) → (k : ℕ) → k < suc (length (list_items es)) → get_or (list_items (e ∷ es)) k i ≡ i → Contains (seen_in f (e ∷ es)) w
     by_index more zero within found = (zero, omega arith, ap (λ q. wait_or (f q) q) found ∙ ap (λ o. wait_or o i) h)
     by_index more (suc k) within found = let q = more (k, omega arith, found) in (suc q.0, omega (arith, q.1), q.2)
 
-pub none_ready : (f : ℕ → Option Wait) (es es' : List (ℕ × ℕ)) (ready : SeenRow) → IsWaits f es ready → slice_get ready.entries 0 ≡ None → All (λ w. is_ready w ≡ false) (seen_in f es')
+pub none_ready : (f : ℕ → Option Wait) (es es' : List (ℕ × ℕ)) (ready : SeenItems) → IsWaits f es ready → slice_get ready.entries 0 ≡ None → All (λ w. is_ready w ≡ false) (seen_in f es')
 none_ready f es es' ready is empty = All-from_recursion (λ w. is_ready w ≡ false) (seen_in f es') (each es')
   where
-    nothing : (l : List (ℕ × ℕ)) → slice_get l 0 ≡ None → (i : ℕ) → Contains (row_items l) i → ⊥
+    nothing : (l : List (ℕ × ℕ)) → slice_get l 0 ≡ None → (i : ℕ) → Contains (list_items l) i → ⊥
     nothing [] h i p = omega (arith, p.1)
     nothing (x ∷ l) h i p = cc
 
@@ -380,10 +380,10 @@ none_ready f es es' ready is empty = All-from_recursion (λ w. is_ready w ≡ fa
     each [] = tt
     each (e ∷ l) = (one (f e.0) e.0 refl, each l)
 
-pub first_there : (es : List (ℕ × ℕ)) (e : ℕ × ℕ) → slice_get es 0 ≡ Some e → Contains (row_items es) e.0
-first_there es e at = let parts = first_is es e at in subst (λ l. Contains (row_items l) e.0) (sym parts.1) (zero, omega arith, refl)
+pub first_there : (es : List (ℕ × ℕ)) (e : ℕ × ℕ) → slice_get es 0 ≡ Some e → Contains (list_items es) e.0
+first_there es e at = let parts = first_is es e at in subst (λ l. Contains (list_items l) e.0) (sym parts.1) (zero, omega arith, refl)
 
-pub ready_in : (f : ℕ → Option Wait) (es : List (ℕ × ℕ)) (ready : SeenRow) (ws : List Wait) (item : ℕ) → IsWaits f es ready → seen_in f es ≡ ws → Contains (row_items ready.entries) item → IsReadyIn ws item
+pub ready_in : (f : ℕ → Option Wait) (es : List (ℕ × ℕ)) (ready : SeenItems) (ws : List Wait) (item : ℕ) → IsWaits f es ready → seen_in f es ≡ ws → Contains (list_items ready.entries) item → IsReadyIn ws item
 ready_in f es ready ws item is view there =
     let s = is.sound item there in
     (s.0, subst (λ v. Contains v s.0) view (seen_contains f es item s.0 (is.listed item s.0 s.1) s.1), is.own item s.0 s.1, s.2)

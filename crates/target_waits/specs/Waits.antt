@@ -10,12 +10,15 @@ pub record Wait : Type 0 where
   pub need : ℕ
   pub answered : Bool
 
+-- the wait of an item for the ends of so many of these targets
 abbrev pub wait : ℕ → List Whom → ℕ → Bool → Wait
 wait i ts n a = record { item = i; targets = ts; need = n; answered = a }
 
+-- the items that wait
 abbrev pub items_of : List Wait → List ℕ
 items_of ws = map (λ w. w.item) ws
 
+-- both are the same greenlet, or the same job
 abbrev pub whom_eq : Whom → Whom → Bool
 whom_eq (Whom.Greenlet a) (Whom.Greenlet b) = a == b
 whom_eq (Whom.Job a) (Whom.Job b) = a == b
@@ -25,6 +28,7 @@ whom_eq a b = false
 abbrev pub is_ready : Wait → Bool
 is_ready w = (w.need == 0) && not w.answered
 
+-- that it is ready was answered
 abbrev pub answered : Wait → Wait
 answered w = wait w.item w.targets w.need true
 

@@ -34,7 +34,7 @@ fn is_same(a: Whom, b: Whom) -> bool
 }
 
 impl Entry {
-    // A wait of an item for these targets.
+    /// A wait of an item for these targets.
     pub fn new(item: u32, targets: Vec<Whom>, need: u32) -> Self
         ensures { result ≡ wait item targets.items need false }
     {
@@ -46,28 +46,28 @@ impl Entry {
         }
     }
 
-    // Its targets that are still to end.
+    /// Its targets that are still to end.
     pub fn targets(&self) -> &[Whom]
         ensures { result.now ≡ self.now.targets }
     {
         &self.targets
     }
 
-    // Whether enough targets have ended, and that was not answered yet.
+    /// Whether enough targets have ended, and that was not answered yet.
     pub fn is_ready(&self) -> bool
         ensures { result ≡ is_ready self.now }
     {
         self.need == 0 && !self.answered
     }
 
-    // That enough targets have ended is answered.
+    /// That enough targets have ended is answered.
     pub fn answer(&mut self)
         ensures { self.new ≡ answered self.old }
     {
         self.answered = true;
     }
 
-    // Strikes each place of a target out, and needs as many less.
+    /// Strikes each place of a target out, and needs as many less.
     pub fn strike(&mut self, whom: Whom)
         ensures { self.new ≡ struck whom self.old }
     {

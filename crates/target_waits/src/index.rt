@@ -5,11 +5,11 @@ ghost use Rattle.std.specs.List.{Contains};
 ghost use Rattle.linked_items.specs.Items.{without};
 ghost use Rattle.gv_values.specs.declared.value.Whom.{Whom as Target};
 ghost use Rattle.target_waits.specs.Waits.{whom_eq};
-ghost use Rattle.target_waits.specs.Named.{named, named_by, row_items};
+ghost use Rattle.target_waits.specs.Named.{named, named_by, list_items};
 
-use crate::rows::{drop_from, put};
+use crate::sets::{drop_from, put};
 use gv_values::Whom;
-use linked_items::row::Row;
+use linked_items::item_list::ItemList;
 use std::alloc::{AllocError, Global};
 use std::collections::HashMap;
 
@@ -17,59 +17,63 @@ use std::collections::HashMap;
 #[derive(Drop)]
 pub struct Index {
     alloc: Global,
-    greenlets: HashMap<u32, Row>,
-    jobs: HashMap<u32, Row>,
+    greenlets: HashMap<u32, ItemList>,
+    jobs: HashMap<u32, ItemList>,
 }
 
-// The target of a number has a row.
-fn make_row(alloc: Global, rows: &mut HashMap<u32, Row>, number: u32) -> Result<(), AllocError>
-    ensures there { OnOk result (IsSome (get nat_eq rows.new number)) }
-    ensures same { (q : ℕ) → named rows.new q ≡ named rows.old q }
+// Gives the target of a number a list, if it has none.
+fn make_list(
+    alloc: Global,
+    lists: &mut HashMap<u32, ItemList>,
+    number: u32,
+) -> Result<(), AllocError>
+    ensures there { OnOk result (IsSome (get nat_eq lists.new number)) }
+    ensures same { (q : ℕ) → named lists.new q ≡ named lists.old q }
 {
-    if !rows.contains_key(&number) {
-        rows.insert(number, Row::new(alloc))?;
+    if !lists.contains_key(&number) {
+        lists.insert(number, ItemList::new(alloc))?;
     }
     Ok(())
 }
 
-// An item waits for the target of a number, which has a row.
-fn enter(rows: &mut HashMap<u32, Row>, number: u32, item: u32) -> Result<(), AllocError>
-    requires { IsSome (get nat_eq rows.old number) }
-    ensures entered { OnOk result (Contains (named rows.new number) item) }
-    ensures kept { (i : ℕ) → Contains (named rows.old number) i → Contains (named rows.new number) i }
-    ensures others { (q : ℕ) → q ≢ number → named rows.new q ≡ named rows.old q }
+// Has an item wait for the target of a number, which has a list.
+fn enter(lists: &mut HashMap<u32, ItemList>, number: u32, item: u32) -> Result<(), AllocError>
+    requires { IsSome (get nat_eq lists.old number) }
+    ensures entered { OnOk result (Contains (named lists.new number) item) }
+    ensures kept { (i : ℕ) → Contains (named lists.old number) i → Contains (named lists.new number) i }
+    ensures others { (q : ℕ) → q ≢ number → named lists.new q ≡ named lists.old q }
 {
-    match rows.get_mut(&number) {
+    match lists.get_mut(&number) {
         None => unreachable!(),
-        Some(row) => put(row, item),
+        Some(list) => put(list, item),
     }
 }
 
 // An item waits no longer for the target of a number.
-fn leave(rows: &mut HashMap<u32, Row>, number: u32, item: u32)
-    ensures left { named rows.new number ≡ without item (named rows.old number) }
-    ensures others { (q : ℕ) → q ≢ number → named rows.new q ≡ named rows.old q }
+fn leave(lists: &mut HashMap<u32, ItemList>, number: u32, item: u32)
+    ensures left { named lists.new number ≡ without item (named lists.old number) }
+    ensures others { (q : ℕ) → q ≢ number → named lists.new q ≡ named lists.old q }
 {
-    if let Some(row) = rows.get_mut(&number) {
-        drop_from(row, item);
+    if let Some(list) = lists.get_mut(&number) {
+        drop_from(list, item);
     }
 }
 
-// Whom nobody waits for has no row.
-fn drop_empty(rows: &mut HashMap<u32, Row>, number: u32)
-    ensures same { (q : ℕ) → named rows.new q ≡ named rows.old q }
+// Drops the list of a target for which nobody waits.
+fn drop_empty(lists: &mut HashMap<u32, ItemList>, number: u32)
+    ensures same { (q : ℕ) → named lists.new q ≡ named lists.old q }
 {
-    let empty = match rows.get(&number) {
+    let empty = match lists.get(&number) {
         None => false,
-        Some(row) => row.len() == 0,
+        Some(list) => list.len() == 0,
     };
     if empty {
-        rows.remove(&number);
+        lists.remove(&number);
     }
 }
 
 impl Index {
-    // Nobody waits for anything.
+    /// Nobody waits for anything.
     pub fn new(alloc: Global) -> Self
         ensures { (target : Target) → named_by result target ≡ [] }
     {
@@ -80,24 +84,24 @@ impl Index {
         }
     }
 
-    // An item waits for a target.
+    /// An item waits for a target.
     pub fn enter(&mut self, whom: Whom, item: u32) -> Result<(), AllocError>
         ensures entered { OnOk result (Contains (named_by self.new whom) item) }
         ensures kept { (target : Target) (i : ℕ) → Contains (named_by self.old target) i → Contains (named_by self.new target) i }
     {
         match whom {
             Whom::Greenlet(number) => {
-                make_row(self.alloc, &mut self.greenlets, number)?;
+                make_list(self.alloc, &mut self.greenlets, number)?;
                 enter(&mut self.greenlets, number, item)
             }
             Whom::Job(number) => {
-                make_row(self.alloc, &mut self.jobs, number)?;
+                make_list(self.alloc, &mut self.jobs, number)?;
                 enter(&mut self.jobs, number, item)
             }
         }
     }
 
-    // An item waits no longer for a target.
+    /// An item waits no longer for a target.
     pub fn leave(&mut self, whom: Whom, item: u32)
         ensures kept { (target : Target) (i : ℕ) → i ≢ item → Contains (named_by self.old target) i → Contains (named_by self.new target) i }
         ensures gone { Contains (named_by self.new whom) item → ⊥ }
@@ -114,9 +118,9 @@ impl Index {
         }
     }
 
-    // Nobody waits for a target any longer. The row has those that did.
-    pub fn take(&mut self, whom: Whom) -> Option<Row>
-        ensures taken { row_items result ≡ named_by self.old whom }
+    /// Nobody waits for a target any longer. The list has those that did.
+    pub fn take(&mut self, whom: Whom) -> Option<ItemList>
+        ensures taken { list_items result ≡ named_by self.old whom }
         ensures others { (target : Target) → whom_eq target whom ≡ false → named_by self.new target ≡ named_by self.old target }
     {
         match whom {
@@ -125,7 +129,7 @@ impl Index {
         }
     }
 
-    // An item waits for each of some targets.
+    /// An item waits for each of some targets.
     pub fn enter_all(&mut self, pending: &[Whom], item: u32) -> Result<(), AllocError>
         ensures entered { OnOk result ((target : Target) → Contains pending.now target → Contains (named_by self.new target) item) }
         ensures kept { (target : Target) (i : ℕ) → Contains (named_by self.old target) i → Contains (named_by self.new target) i }
@@ -136,7 +140,7 @@ impl Index {
         Ok(())
     }
 
-    // An item waits no longer for any of some targets.
+    /// An item waits no longer for any of some targets.
     pub fn leave_all(&mut self, pending: &[Whom], item: u32)
         ensures kept { (target : Target) (i : ℕ) → i ≢ item → Contains (named_by self.old target) i → Contains (named_by self.new target) i }
     {

@@ -1,12 +1,11 @@
-//! Waits on the ends of greenlets and jobs: an item waits until enough of its targets have ended.
+//! Waits on the ends of greenlets and jobs: an item waits until enough of its targets have ended (gevent API reference:
+//! `gevent.wait` with `count`, `Greenlet.join`, `joinall`).
 #![tactic(auto)]
 
 mod entry;
 mod index;
-mod rows;
+mod sets;
 mod targets;
-#[cfg(test)]
-mod tests;
 mod waits;
 
 pub use targets::Targets;

@@ -1,14 +1,14 @@
 //! All waits on ends.
 ghost use Rattle.std.specs.Prelude.{◌≡◌, ◌≤◌, [], ◌∷◌, ◌++◌, ◌==◌, not, false, length, map, filter, OnOk, OnErr, IfSome, IfNone, None, ◌↔◌};
 ghost use Rattle.std.specs.List.{Contains, All};
-ghost use Rattle.linked_items.specs.Items.{Differ, items_of as row_items};
+ghost use Rattle.linked_items.specs.Items.{Differ, items_of as list_items};
 ghost use Rattle.target_waits.specs.Waits.{wait, items_of, is_ready, struck, answered, at_item, struck_at_all, IsReadyIn};
 
 use crate::entry::Entry;
 use crate::index::Index;
 use crate::waits::Waits;
 use gv_values::Whom;
-use linked_items::row::Row;
+use linked_items::item_list::ItemList;
 use std::alloc::{AllocError, Global};
 use std::marker::Model;
 
@@ -33,10 +33,10 @@ impl Model for Targets {
     ghost invariant = { λ t. IsIndexed t.waits t.index };
 }
 
-// Each item of the row has one of its targets struck out.
-fn strike_each(waits: &mut Waits, named: &mut Row, whom: Whom)
-    ensures struck { waits.new ≡ struck_at_all whom (row_items named.old.entries) waits.old }
-    ensures differ { Differ (row_items named.old.entries) }
+// Each item of the list has one of its targets struck out.
+fn strike_each(waits: &mut Waits, named: &mut ItemList, whom: Whom)
+    ensures struck { waits.new ≡ struck_at_all whom (list_items named.old.entries) waits.old }
+    ensures differ { Differ (list_items named.old.entries) }
 {
     for _step in 0..named.len() {
         match named.first() {

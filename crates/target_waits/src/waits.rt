@@ -7,9 +7,9 @@ ghost use Rattle.target_waits.specs.Waits.{items_of, is_ready, struck, answered,
 ghost use Rattle.target_waits.specs.WaitParts.{changed_at, becomes_ready};
 
 use crate::entry::Entry;
-use crate::rows::drop_from;
+use crate::sets::drop_from;
 use gv_values::Whom;
-use linked_items::row::Row;
+use linked_items::item_list::ItemList;
 use std::alloc::{AllocError, Global};
 use std::collections::HashMap;
 use std::marker::Model;
@@ -18,10 +18,10 @@ use std::marker::Model;
 #[derive(Drop)]
 pub struct Waits {
     // The items in order of making.
-    order: Row,
+    order: ItemList,
     entries: HashMap<u32, Entry>,
     // The items that need no more ends and were not answered, in the order in which they came to that.
-    ready: Row,
+    ready: ItemList,
 }
 
 impl Model for Waits {
@@ -62,18 +62,18 @@ fn answer_at(entries: &mut HashMap<u32, Entry>, item: u32)
 }
 
 impl Waits {
-    // Nobody waits.
+    /// Nobody waits.
     pub fn new(alloc: Global) -> Self
         ensures { result ≡ [] }
     {
         Waits {
-            order: Row::new(alloc),
+            order: ItemList::new(alloc),
             entries: HashMap::new(alloc),
-            ready: Row::new(alloc),
+            ready: ItemList::new(alloc),
         }
     }
 
-    // How many items wait. No item waits twice.
+    /// How many items wait. No item waits twice.
     pub fn len(&self) -> usize
         ensures len { result ≡ length self.now }
         ensures differ { Differ (items_of self.now) }
@@ -81,7 +81,7 @@ impl Waits {
         self.order.len()
     }
 
-    // An item begins to wait.
+    /// An item begins to wait.
     pub fn add(&mut self, item: u32, entry: Entry) -> Result<(), AllocError>
         requires item { entry.item ≡ item }
         requires absent { Contains (items_of self.old) item → ⊥ }
@@ -103,7 +103,7 @@ impl Waits {
         Ok(())
     }
 
-    // A target of an item has ended.
+    /// A target of an item has ended.
     pub fn strike(&mut self, item: u32, whom: Whom)
         ensures { self.new ≡ at_item item (struck whom) self.old }
     {
@@ -112,7 +112,7 @@ impl Waits {
         }
     }
 
-    // An item waits no longer.
+    /// An item waits no longer.
     pub fn cancel(&mut self, item: u32) -> Option<Entry>
         requires { Contains (items_of self.old) item }
         ensures { self.new ≡ filter (λ w. not (w.item == item)) self.old }
@@ -122,7 +122,7 @@ impl Waits {
         self.entries.remove(&item)
     }
 
-    // Answers an item that needs no more ends and wasn't answered.
+    /// Answers an item that needs no more ends and wasn't answered.
     pub fn next_ready(&mut self) -> Option<u32>
         ensures none { (result ≡ None) ↔ All (λ w. is_ready w ≡ false) self.old }
         ensures kept { IfNone result (self.new ≡ self.old) }

@@ -1,5 +1,5 @@
 -- What a world by a rule keeps goes on to hold, and makes its answers legal.
-use Rattle.std.proofs.Common.{◌≡◌, ℕ, suc, ◌+◌, ◌^◌, ◌<◌, ◌≤◌, ◌==◌, Bool, true, false, not, ◌||◌, cond, if◌then◌else◌, nat_le, List, [], ◌∷◌, ◌++◌, map, length, min, max, Option, Some, None, refl, sym, ap, ◌∙◌, subst, arith}
+use Rattle.std.proofs.Common.{◌≡◌, ℕ, suc, ◌+◌, ◌^◌, ◌<◌, ◌≤◌, ◌↔◌, ◌==◌, Bool, true, false, not, ◌||◌, cond, if◌then◌else◌, nat_le, List, [], ◌∷◌, ◌++◌, map, length, min, max, Option, Some, None, refl, sym, ap, ◌∙◌, subst, arith}
 use Rattle.std.specs.Prelude.{filter, Contains, All}
 use Rattle.std.proofs.lemmas.Bool.{false≢true}
 use Rattle.std.proofs.lemmas.Bool.Decides.{nat_tests}
@@ -8,6 +8,7 @@ use Rattle.std.proofs.lemmas.List.{get_or-map, length-map}
 use Rattle.std.proofs.lemmas.List.Folds.{list_any-append}
 use mathlib.Core.List.{map-append}
 use Rattle.gv_values.specs.declared.job.Job.{Job}
+use Rattle.gv_values.specs.declared.job.JobOutcome.{JobOutcome}
 use Rattle.gv_values.specs.declared.job.Answer.{Answer}
 use Rattle.world_rules.specs.declared.question.Question.{Question}
 use Rattle.world_rules.specs.declared.question.PostedJob.{PostedJob}
@@ -15,7 +16,7 @@ use Rattle.world_rules.specs.declared.question.DueJob.{DueJob}
 use Rattle.world_rules.specs.Jobs.{eval}
 use Rattle.world_rules.specs.Legal.{posted, moment_of, last_moment_of, is_done_of, is_posted, is_answered, outstanding, IsOutcomeOf, Answers, IsLegal, MayAsk}
 use Rattle.world_rules.specs.Script.{last_moment, due_job, comes_before, sooner, first_due, done_by, scripted, without}
-use Rattle.world.specs.Ruled.{posted_of, IsSound}
+use Rattle.world.specs.Ruled.{posted_of, IsSound, AnswersNow, IsLegalNow}
 use Rattle.world.proofs.Filtered.{map-filter, filter-filter}
 
 pub last_moment_of-push : (answers : List Answer) (answer : Answer) → last_moment_of (answers ++ answer ∷ []) ≡ moment_of answer
@@ -180,3 +181,58 @@ scripted_legal tick posts answers jobs moment (Question.Wait (Some until)) s may
     done_by_legal posts answers jobs until moment (first_due jobs) (Question.Wait (Some until)) (Answer.Elapsed (max until moment))
     (λ x e. done_legal posts answers jobs moment (Question.Wait (Some until)) x s (first_in jobs x e))
     (omega arith, omega arith, omega arith)
+
+-- ---- what is legal, by the outstanding jobs
+
+kept_each : {A : Type 0} (q : A → Bool) (xs : List A) → All (λ x. q x ≡ true → Contains (filter q xs) x) xs
+kept_each {A = A} q [] = All-nil (λ x. q x ≡ true → Contains (filter q []) x)
+kept_each {A = A} q (y ∷ ys) =
+    let f = filter q ys in
+    All-cons (λ x. q x ≡ true → Contains (filter q (y ∷ ys)) x) y ys (λ e. subst (λ b. Contains (cond b (y ∷ f) f) y) (sym e) (contains_head y f))
+    (All-weaker (λ x. q x ≡ true → Contains f x) (λ x. q x ≡ true → Contains (filter q (y ∷ ys)) x) (λ x h e. more (q y) x (h e)) ys (kept_each q ys))
+  where
+    more : (b : Bool) (x : A) → Contains (filter q ys) x → Contains (cond b (y ∷ filter q ys) (filter q ys)) x
+    more true x h = contains_tail y x (filter q ys) h
+    more false x h = h
+
+mapped_each : {A B : Type 0} (f : A → B) (xs : List A) → All (λ z. (x : A) × Contains xs x × (f x ≡ z)) (map f xs)
+mapped_each {A = A} {B = B} f [] = All-nil (λ z. (x : A) × Contains [] x × (f x ≡ z))
+mapped_each {A = A} {B = B} f (y ∷ ys) =
+    All-cons (λ z. (x : A) × Contains (y ∷ ys) x × (f x ≡ z)) (f y) (map f ys) (y, contains_head y ys, refl)
+    (All-weaker (λ z. (x : A) × Contains ys x × (f x ≡ z)) (λ z. (x : A) × Contains (y ∷ ys) x × (f x ≡ z)) (λ z h. (h.0, contains_tail y h.0 ys h.1, h.2)) (map f ys) (mapped_each f ys))
+
+answers_as : (posts : List PostedJob) (answers : List Answer) (jobs : List DueJob) (moment : ℕ) (question : Question) (answer : Answer) → IsSound posts answers jobs moment
+    → AnswersNow jobs question answer → Answers posts answers question answer
+answers_as posts answers jobs moment question (Answer.Done number outcome at) s h =
+    subst (λ (z : ℕ × JobOutcome). IsOutcomeOf z.0 z.1 posts × (is_answered z.0 answers ≡ false)) (λ i. (h.2.0 i, sym h.2.1 i)) (may_answer posts answers jobs moment h.0 s h.1)
+answers_as posts answers jobs moment Question.Poll (Answer.Elapsed at) s h = h
+answers_as posts answers jobs moment (Question.Wait None) (Answer.Elapsed at) s h = h
+answers_as posts answers jobs moment (Question.Wait (Some until)) (Answer.Elapsed at) s h = h
+answers_as posts answers jobs moment Question.Poll (Answer.Nothing at) s h = h
+answers_as posts answers jobs moment (Question.Wait None) (Answer.Nothing at) s h = h
+answers_as posts answers jobs moment (Question.Wait (Some until)) (Answer.Nothing at) s h = h
+
+-- the job that an answer names is outstanding
+answers_now : (posts : List PostedJob) (answers : List Answer) (jobs : List DueJob) (moment : ℕ) (question : Question) (answer : Answer) → IsSound posts answers jobs moment
+    → Answers posts answers question answer → AnswersNow jobs question answer
+answers_now posts answers jobs moment question (Answer.Done number outcome at) s h =
+    let post = posted number h.0.0 in
+    let kept = All-contains (λ (p : PostedJob). not (is_answered p.number answers) ≡ true → Contains (outstanding posts answers) p) posts post
+    (kept_each (λ (p : PostedJob). not (is_answered p.number answers)) posts) h.0.1 (ap not h.1) in
+    let there = All-contains (λ z. (x : DueJob) × Contains jobs x × (posted_of x ≡ z)) (map posted_of jobs) post (mapped_each posted_of jobs)
+    (subst (λ l. Contains l post) (sym s.outstanding_are) kept) in
+    (there.0, there.1, (ap (λ (p : PostedJob). p.number) there.2, h.0.2 ∙ sym (ap (λ (p : PostedJob). eval p.job) there.2)))
+answers_now posts answers jobs moment Question.Poll (Answer.Elapsed at) s h = h
+answers_now posts answers jobs moment (Question.Wait None) (Answer.Elapsed at) s h = h
+answers_now posts answers jobs moment (Question.Wait (Some until)) (Answer.Elapsed at) s h = h
+answers_now posts answers jobs moment Question.Poll (Answer.Nothing at) s h = h
+answers_now posts answers jobs moment (Question.Wait None) (Answer.Nothing at) s h = h
+answers_now posts answers jobs moment (Question.Wait (Some until)) (Answer.Nothing at) s h = h
+
+-- what is legal by the outstanding jobs is what is legal
+pub legal_now : (posts : List PostedJob) (answers : List Answer) (jobs : List DueJob) (moment : ℕ) (question : Question) (answer : Answer) → IsSound posts answers jobs moment
+    → IsLegalNow jobs moment question answer ↔ IsLegal posts answers question answer
+legal_now posts answers jobs moment question answer s = (
+  λ h. (answers_as posts answers jobs moment question answer s h.0, subst (λ m. m ≤ moment_of answer) (sym s.timely) h.1, h.2),
+  λ h. (answers_now posts answers jobs moment question answer s h.0, subst (λ m. m ≤ moment_of answer) s.timely h.1, h.2),
+)

@@ -14,9 +14,13 @@ use Rattle.world.specs.Kept.{script_meaning, rule_state}
 abbrev pub list_meaning : ListWorld → Meaning
 list_meaning w = record (script_meaning w.script) { listed = w.begun_with.value.items }
 
+-- the answers that are still on its list
+abbrev pub still_listed : ListWorld → List Answer
+still_listed w = w.listed.items
+
 -- a list world stands for the logs that its rule leads through, from its beginning to where it is
 abbrev pub list_log : ListWorld → List LogEntry → Type 0
-list_log w log = Follows w.script.tick (start w.begun_with.value.items) log (rule_state w.script w.listed.items)
+list_log w log = Follows w.script.tick (start w.begun_with.value.items) log (rule_state w.script (still_listed w))
 
 -- the first answer of the list where that is legal, and none where it isn't or the list is empty
 abbrev pub FirstLegal : ListWorld → Question → Option Answer → Type 0

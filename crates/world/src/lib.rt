@@ -6,11 +6,8 @@ mod legal;
 mod list;
 mod outside;
 mod script;
-#[cfg(test)]
-mod tests;
 
-pub use legal::is_answer;
 pub use list::ListWorld;
-pub use world_rules::{DueJob, LogEntry, PostedJob, Question, eval};
 pub use outside::World;
 pub use script::ScriptWorld;
+pub use world_rules::{DueJob, LogEntry, PostedJob, Question, eval};

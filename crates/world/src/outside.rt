@@ -6,8 +6,8 @@ ghost use Rattle.world_rules.specs.Legal.{is_posted, posts_of, answers_of, IsLeg
 ghost use Rattle.world.specs.Worlds.{Meaning, Begins, Posts, Stores};
 
 use gv_values::{Answer, Job};
-use world_rules::Question;
 use std::alloc::AllocError;
+use world_rules::Question;
 
 /// What runs jobs outside of the hub and tells the time. It answers each question legally and stores its answers.
 ///

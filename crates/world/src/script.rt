@@ -5,8 +5,8 @@ use crate::due::{due_at, moment_of, scripted, take_off};
 use crate::legal::is_legal;
 use crate::outside::World;
 use gv_values::{Answer, Job};
-use world_rules::{DueJob, PostedJob, Question};
 use std::alloc::{AllocError, Global};
+use world_rules::{DueJob, PostedJob, Question};
 
 /// A world without threads, in which a job is done so long after its post as it takes, and whose moment grows by a tick at each Poll.
 #[derive(Drop)]
@@ -91,7 +91,7 @@ impl ScriptWorld {
     pub(crate) fn is_legal(&self, question: Question, answer: Answer) -> bool
         ensures { IsTrue result ↔ IsLegal self.now.posts.items self.now.answers.items question answer }
     {
-        is_legal(&self.posts, &self.answers, self.moment, question, answer)
+        is_legal(&self.jobs, self.moment, question, answer)
     }
 
     /// Stores a legal answer to the question.

@@ -9,24 +9,31 @@ pub enum Question {
     Wait(Option<u64>),
 }
 
-/// A job that was posted, with its number.
+/// A job that was posted.
 #[derive(Clone, Copy, Debug, PartialEq, Eq)]
 pub struct PostedJob {
+    /// Its number: no two jobs of a run have the same.
     pub number: u32,
+    /// What is computed.
     pub job: Job,
 }
 
-/// A job that a script has not answered yet, with the moment at which it is done.
+/// A job that a script has not answered yet.
 #[derive(Clone, Copy, Debug, PartialEq, Eq)]
 pub struct DueJob {
+    /// Its number.
     pub number: u32,
+    /// What is computed.
     pub job: Job,
+    /// The moment at which it is done, in milliseconds.
     pub due: u64,
 }
 
-/// What was done with a world: a job was posted to it that takes so long, or a question was asked and answered.
+/// What was done with a world.
 #[derive(Clone, Copy, Debug, PartialEq, Eq)]
 pub enum LogEntry {
+    /// A job was posted, which takes so many milliseconds of the world's own time.
     Post { number: u32, job: Job, takes: u64 },
+    /// A question was asked, and answered so.
     Asked { question: Question, answer: Answer },
 }

@@ -9,4 +9,4 @@ invariant_of-self c =
     let i = c.self.inside in
     let at = link_and (link_at c.args.self.now c.args.link) _ c.requires in
     let there : c.args.link - 1 < length i.links.items = subst (λ v. c.args.link - 1 < length v.links) (sym c.self.view_is) (link_within c.args.self.now c.args.link at.0 at.1).0 in
-    rw c.set_state.ensures (life_stated (length i.greenlets.items) i.outcomes.items i.links.items i.queues.items (c.args.link - 1) LinkState.Called there refl c.self.invariant)
+    rw c.set_state.ensures (life_stated (length i.greenlets.items) i.outcomes.items i.links.items i.pending.items (c.args.link - 1) LinkState.Called there refl c.self.invariant)

@@ -7,7 +7,7 @@ use Rattle.native_board.specs.declared.views.CellState.TheVariants.{Done}
 use Rattle.native_board.specs.declared.views.HubCell.TheVariants.{Vacant, Sent}
 use Rattle.native_board.specs.Words.{outcome_of}
 use Rattle.world_rules.specs.Jobs.{eval}
-use Rattle.native_board.specs.Rows.{hub_cell}
+use Rattle.native_board.specs.Rules.{hub_cell}
 use Rattle.native_board.specs.Plays.{saw}
 use Rattle.native_board.specs.Passes.{hub_in, hub_of, BecomesHub, swept_cell, finished_at, is_sent}
 use Rattle.world_rules.proofs.JobEnds.{eval_ends}

@@ -1,8 +1,11 @@
-use Rattle.std.proofs.Common.{arith, ◌≡◌, ◌++◌, ◌∷◌, [], false, refl, sym, ap, ◌∙◌}
+use Rattle.std.proofs.Common.{arith, ◌≡◌, ◌++◌, ◌∷◌, List, [], Option, Some, false, refl, sym, ap, subst, ◌∙◌}
 use Rattle.std.proofs.lemmas.Grind.{common_steps}
 use Rattle.std.specs.Prelude.{option_map}
 use Rattle.world_rules.specs.Legal.{posted, is_posted}
 use Rattle.world_rules.proofs.Logs.{posts_of-post, answers_of-post}
+use Rattle.world_rules.specs.declared.question.PostedJob.{PostedJob}
+use Rattle.native_pool.specs.Desks.{DeskView, IsLater, WaitsBehind}
+use Rattle.native_pool.specs.Pools.{Between}
 use Rattle.native_pool.specs.Views.{desk_view}
 use Rattle.native_pool.proofs.PoolSteps.{sound_post, sound_running, starts_of}
 use Rattle.native_pool.proofs.pool.ThreadWorldWorld.post.Goals as goal
@@ -33,3 +36,11 @@ returns-clause-starts g c =
     let answers = ap (λ v. v.items) c.advance.ensures.answers ∙ (c.add-2.ensures.answers ∙ c.in_ok-reserve_post.ensures.answers) in
     starts_of _ (desk_view c.fill.new.self) refl
     (sound_post _ _ d (desk_view c.add.new.self) (desk_view c.fill.new.self) n j was new c.in_ok-add.ensures.added c.fill.ensures.fills posts answers refl refl) c.fill.new.self.used
+
+-- the job waits behind the others until a cell is filled
+pub returns-clause-waits : goal.returns-clause-waits
+returns-clause-waits g c =
+    let e = desk_view c.fill.new.self in
+    let there = sym (ap (option_map desk_view) c.in-Some.is) ∙ ap (λ p. p.desk) c.self.view_is in
+    subst (λ (o : Option DeskView). Between (WaitsBehind c.args.number c.args.job) o (Some e)) there
+    (subst (λ (l : List PostedJob). IsLater l e.waiting) (ap (λ (v : DeskView). v.waiting) c.in_ok-add.ensures.added) c.fill.ensures.fills.rests.order)

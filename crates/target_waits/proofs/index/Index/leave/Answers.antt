@@ -10,16 +10,16 @@ pub returns-in-Greenlet-clause-kept : goal.returns-in-Greenlet-clause-kept
 returns-in-Greenlet-clause-kept c = λ target i apart p.
     let x = c.args.self.now in
     let n = c.in-Greenlet.number in
-    greenlet_kept x (record { alloc = x.alloc; greenlets = c.drop_empty.new.rows; jobs = x.jobs }) (λ j. j ≢ c.args.item) (λ q. refl)
-    (kept_at (named x.greenlets) (named c.leave.new.rows) (named c.drop_empty.new.rows) n (λ j. j ≢ c.args.item) (λ k away r. subst (λ l. Contains l k) (sym c.leave.ensures.left) (contains_without c.args.item k (named x.greenlets n) away r)) c.leave.ensures.others c.drop_empty.ensures.same)
+    greenlet_kept x (record { alloc = x.alloc; greenlets = c.drop_empty.new.lists; jobs = x.jobs }) (λ j. j ≢ c.args.item) (λ q. refl)
+    (kept_at (named x.greenlets) (named c.leave.new.lists) (named c.drop_empty.new.lists) n (λ j. j ≢ c.args.item) (λ k away r. subst (λ l. Contains l k) (sym c.leave.ensures.left) (contains_without c.args.item k (named x.greenlets n) away r)) c.leave.ensures.others c.drop_empty.ensures.same)
     target i apart p
 
 pub returns-in-Job-clause-kept : goal.returns-in-Job-clause-kept
 returns-in-Job-clause-kept c = λ target i apart p.
     let x = c.args.self.now in
     let n = c.in-Job.number in
-    job_kept x (record { alloc = x.alloc; greenlets = x.greenlets; jobs = c.drop_empty-in-Job.new.rows }) (λ j. j ≢ c.args.item) (λ q. refl)
-    (kept_at (named x.jobs) (named c.leave-in-Job.new.rows) (named c.drop_empty-in-Job.new.rows) n (λ j. j ≢ c.args.item) (λ k away r. subst (λ l. Contains l k) (sym c.leave-in-Job.ensures.left) (contains_without c.args.item k (named x.jobs n) away r)) c.leave-in-Job.ensures.others c.drop_empty-in-Job.ensures.same)
+    job_kept x (record { alloc = x.alloc; greenlets = x.greenlets; jobs = c.drop_empty-in-Job.new.lists }) (λ j. j ≢ c.args.item) (λ q. refl)
+    (kept_at (named x.jobs) (named c.leave-in-Job.new.lists) (named c.drop_empty-in-Job.new.lists) n (λ j. j ≢ c.args.item) (λ k away r. subst (λ l. Contains l k) (sym c.leave-in-Job.ensures.left) (contains_without c.args.item k (named x.jobs n) away r)) c.leave-in-Job.ensures.others c.drop_empty-in-Job.ensures.same)
     target i apart p
 
 pub returns-in-Greenlet-clause-gone : goal.returns-in-Greenlet-clause-gone

@@ -12,7 +12,7 @@ pub invariant_of-self : goal.invariant_of-self
 invariant_of-self c =
     let f = get nat_eq c.self.inside.entries in
     let there = order_there f c.self.inside.order.entries c.args.self.now c.args.item c.self.invariant.own c.self.view_is c.requires in
-    waits_cancelled f (get nat_eq c.remove-2.new.self) c.self.inside.order.entries c.remove.new.self.entries c.self.inside.ready c.drop_from.new.row c.args.item c.self.invariant there c.remove-2.ensures.updates.1
+    waits_cancelled f (get nat_eq c.remove-2.new.self) c.self.inside.order.entries c.remove.new.self.entries c.self.inside.ready c.drop_from.new.list c.args.item c.self.invariant there c.remove-2.ensures.updates.1
     (λ q apart. c.remove-2.ensures.updates.2 q (num_apart c.args.item q (λ h. apart (sym h))))
     (ap (λ v. v.entries) c.remove.ensures) c.drop_from.ensures.items (c.drop_from.ensures.room c.self.invariant.apart)
 

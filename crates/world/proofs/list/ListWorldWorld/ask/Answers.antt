@@ -1,4 +1,4 @@
-use Rattle.std.proofs.Common.{◌≡◌, ℕ, [], ◌∷◌, ◌++◌, List, take, drop, refl, sym, ap, subst, ◌∙◌}
+use Rattle.std.proofs.Common.{◌≡◌, ℕ, [], ◌∷◌, ◌++◌, List, drop, refl, sym, ap, subst, ◌∙◌}
 use Rattle.gv_values.specs.declared.job.Answer.{Answer}
 use Rattle.world_rules.specs.declared.question.LogEntry.{LogEntry}
 use Rattle.world_rules.specs.Script.{RuleState, start, Follows, Gives}
@@ -18,9 +18,9 @@ returns-in_ok-store-in-Some-clause-stored c = let state = c.in_ok-store-in-Some.
 
 pub returns-in_ok-store-in-Some-clause-log : goal.returns-in_ok-store-in-Some-clause-log
 returns-in_ok-store-in-Some-clause-log c = λ log h.
-    let w = c.args.self.now in let listed = w.listed.items in let later = c.remove.new.self.items in let first = c.in-Some.ensures in
+    let w = c.args.self.now in let listed = w.listed.items in let later = c.pop_front.new.self.items in let first = c.in-Some.ensures in
     let state = c.in_ok-store-in-Some.ensures.state listed later in let tick = c.in_ok-store-in-Some.ensures.setting.tick in
-    let rest : first.0.0 ≡ later = sym (c.remove.ensures.by_index.2 ∙ ap (λ (l : List Answer). take 0 l ++ drop 1 l) first.0.1) in
+    let rest : first.0.0 ≡ later = sym (c.pop_front.ensures.rest ∙ ap (λ (l : List Answer). drop 1 l) first.0.1) in
     let gives : Gives w.script.tick (rule_state w.script listed) listed c.args.question c.in-Some.answer later =
     subst (λ (l : List Answer). Gives w.script.tick (rule_state w.script listed) listed c.args.question c.in-Some.answer l) rest (gives_first w.script.tick (rule_state w.script listed) listed first.0.0 c.args.question c.in-Some.answer first.0.1 first.1) in
     subst (λ (z : ℕ × RuleState). Follows z.0 (start w.begun_with.value.items) (log ++ LogEntry.Asked c.args.question c.in-Some.answer ∷ []) z.1) (λ i. (sym tick i, sym state i))

@@ -1,0 +1,9 @@
+//! Tests of waits and lives through their public calls.
+#![tactic(auto)]
+
+#[cfg(test)]
+mod ends;
+#[cfg(test)]
+mod lives;
+#[cfg(test)]
+mod raws;

@@ -1,0 +1,247 @@
+ghost use Rattle.std.specs.Prelude.{◌≡◌, IsTrue};
+ghost use Rattle.native_board.specs.declared.views.Stage.TheVariants.{Idle};
+ghost use Rattle.native_board.specs.Boards.{board_id, hub_board, worker_board, worker_view};
+
+use gv_values::{FaultKind, Job, JobOutcome};
+use native_board::{Bell, Board, Finished, HubPass, Looked, Made, WorkerPass};
+use std::alloc::{AllocError, Global};
+use std::sync::Wait;
+use std::sync::atomic::{AtomicU64, Ordering};
+use std::test::Fail;
+use std::thread;
+use std::thread::Threads;
+use world_rules::eval;
+
+/// A bell that counts its rings.
+#[derive(Drop)]
+struct Rings {
+    count: AtomicU64,
+}
+
+impl Rings {
+    fn new() -> Rings {
+        Rings {
+            count: AtomicU64::new(0),
+        }
+    }
+
+    fn count(&self) -> u64 {
+        self.count.load(Ordering::SeqCst)
+    }
+}
+
+impl Bell for Rings {
+    fn ring(&self) {
+        self.count.fetch_add(1, Ordering::SeqCst);
+    }
+}
+
+// Takes and reports one job, and says whether there was one.
+fn work_once(board: &Board, pass: &mut WorkerPass, bell: &Rings) -> bool
+    requires board { worker_board pass.old ≡ board_id board.now }
+    requires idle { (worker_view pass.old).stage ≡ Idle }
+    ensures board { worker_board pass.new ≡ worker_board pass.old }
+    ensures idle { IsTrue result → (worker_view pass.new).stage ≡ Idle }
+{
+    match board.look(pass) {
+        Looked::Posted { number: _, job } => {
+            board.report(pass, eval(job), bell);
+            true
+        }
+        Looked::NotYet | Looked::Stop => false,
+    }
+}
+
+fn swept(alloc: Global, board: &Board, hub: &mut HubPass) -> Result<Vec<Finished>, AllocError>
+    requires { hub_board hub.old ≡ board_id board.now }
+    ensures { hub_board hub.new ≡ hub_board hub.old }
+{
+    let mut found = Vec::with_capacity(alloc, 16)?;
+    board.sweep(hub, &mut found);
+    Ok(found)
+}
+
+#[test]
+fn rings_once_for_each_report_that_found_the_signal_low(rt: HostRuntime) -> Result<(), Fail> {
+    let Made {
+        board,
+        mut hub,
+        mut workers,
+    } = Board::new(rt.alloc(), 2)?;
+    let hub = &mut hub;
+    let Some(mut first) = workers.next() else {
+        unreachable!()
+    };
+    let Some(mut second) = workers.next() else {
+        unreachable!()
+    };
+    let bell = Rings::new();
+    assert!(rt; workers.next().is_none());
+    assert!(rt; hub.is_free(0) && !hub.is_free(2));
+    if hub.is_free(0) {
+        board.post(hub, 0, 1, Job::Sum(3));
+    }
+    if hub.is_free(1) {
+        board.post(hub, 1, 2, Job::Fail(-3));
+    }
+    assert!(rt; !hub.is_free(0) && swept(rt.alloc(), &board, hub)?.is_empty());
+    assert!(rt; work_once(&board, &mut first, &bell) && bell.count() == 1);
+    assert!(rt; work_once(&board, &mut second, &bell) && bell.count() == 1);
+    let found = swept(rt.alloc(), &board, hub)?;
+    assert!(rt; found.len() == 2);
+    assert!(rt;
+        found[0]
+            == Finished {
+                number: 1,
+                outcome: JobOutcome::Int(6)
+            }
+    );
+    assert!(rt;
+        found[1]
+            == Finished {
+                number: 2,
+                outcome: JobOutcome::Fault(FaultKind::Error(-3))
+            }
+    );
+    if hub.is_free(1) {
+        board.post(hub, 1, 3, Job::Echo(9));
+    }
+    assert!(rt; work_once(&board, &mut second, &bell) && bell.count() == 2);
+    Ok(())
+}
+
+// How many jobs the threads are given.
+const JOBS: u32 = 500;
+
+fn work<R: Wait>(rt: &R, board: &Board, mut pass: WorkerPass, bell: &Rings)
+    requires board { worker_board pass ≡ board_id board.now }
+    requires idle { (worker_view pass).stage ≡ Idle }
+{
+    for _ in rt.forever() {
+        match board.look(&mut pass) {
+            Looked::Posted { number: _, job } => board.report(&mut pass, eval(job), bell),
+            Looked::NotYet => board.doze(rt, &mut pass),
+            Looked::Stop => return,
+        }
+    }
+    unreachable!()
+}
+
+// Posts the next job into the cell, if it is free and there is one.
+fn post_next(board: &Board, hub: &mut HubPass, cell: u32, next: u32) -> u32
+    requires { hub_board hub.old ≡ board_id board.now }
+    ensures { hub_board hub.new ≡ hub_board hub.old }
+{
+    if next > JOBS || !hub.is_free(cell) {
+        return next;
+    }
+    board.post(hub, cell, next, Job::Echo(i64::from(next)));
+    next.saturating_add(1)
+}
+
+// Posts jobs into two cells as they are free, until each has a result, and stops the workers.
+fn lead<R: Wait>(
+    rt: &R,
+    alloc: Global,
+    board: &Board,
+    mut hub: HubPass,
+) -> Result<Vec<Finished>, Fail>
+    requires { hub_board hub ≡ board_id board.now }
+{
+    let hub = &mut hub;
+    let mut all = Vec::new(alloc);
+    let mut next = 1;
+    for _ in rt.forever() {
+        next = post_next(board, hub, 0, next);
+        next = post_next(board, hub, 1, next);
+        let found = swept(alloc, board, hub)?;
+        for finished in found {
+            all.push(finished)?;
+        }
+        if all.len() >= JOBS as usize {
+            break;
+        }
+    }
+    for cell in 0..2 {
+        if hub.is_free(cell) {
+            board.stop(hub, cell);
+        }
+    }
+    Ok(all)
+}
+
+fn pair<R: Threads + Wait + Sync>(
+    rt: &R,
+    board: &Board,
+    first: WorkerPass,
+    second: WorkerPass,
+    bell: &Rings,
+)
+    requires first { (worker_board first ≡ board_id board.now) × ((worker_view first).stage ≡ Idle) }
+    requires second { (worker_board second ≡ board_id board.now) × ((worker_view second).stage ≡ Idle) }
+{
+    thread::join(
+        rt,
+        move ||
+            requires { (worker_board first ≡ board_id board.now) × ((worker_view first).stage ≡ Idle) }
+        { work(rt, board, first, bell) },
+        move ||
+            requires { (worker_board second ≡ board_id board.now) × ((worker_view second).stage ≡ Idle) }
+        { work(rt, board, second, bell) },
+    );
+}
+
+fn run<R: Threads + Wait + Sync>(
+    rt: &R,
+    alloc: Global,
+    board: &Board,
+    hub: HubPass,
+    first: WorkerPass,
+    second: WorkerPass,
+    bell: &Rings,
+) -> Result<Vec<Finished>, Fail>
+    requires hub { hub_board hub ≡ board_id board.now }
+    requires first { (worker_board first ≡ board_id board.now) × ((worker_view first).stage ≡ Idle) }
+    requires second { (worker_board second ≡ board_id board.now) × ((worker_view second).stage ≡ Idle) }
+{
+    let (found, _) = thread::join(
+        rt,
+        move ||
+            requires { hub_board hub ≡ board_id board.now }
+        { lead(rt, alloc, board, hub) },
+        move ||
+            requires { (worker_board first ≡ board_id board.now) × ((worker_view first).stage ≡ Idle) × (worker_board second ≡ board_id board.now) × ((worker_view second).stage ≡ Idle) }
+        { pair(rt, board, first, second, bell) },
+    );
+    found
+}
+
+fn both<R: Threads + Wait + Sync>(rt: &R, alloc: Global) -> Result<Vec<Finished>, Fail> {
+    let Made {
+        board,
+        hub,
+        mut workers,
+    } = Board::new(alloc, 2)?;
+    let bell = Rings::new();
+    let Some(first) = workers.next() else {
+        unreachable!()
+    };
+    let Some(second) = workers.next() else {
+        unreachable!()
+    };
+    run(rt, alloc, &board, hub, first, second, &bell)
+}
+
+#[test]
+fn two_threads_do_each_job_once(rt: HostRuntime) -> Result<(), Fail> {
+    let mut found = both(&rt, rt.alloc())?;
+    found.sort_by(|a, b| a.number.cmp(&b.number))?;
+    assert!(rt; found.len() == JOBS as usize);
+    for (i, finished) in found.iter().enumerate() {
+        let number = i as u32 + 1;
+        assert!(rt;
+            finished.number == number && finished.outcome == JobOutcome::Int(i64::from(number))
+        );
+    }
+    Ok(())
+}
