@@ -7,11 +7,11 @@ ghost use Rattle.percent_encoding.specs.Percent.{percent_decode};
 ghost use Rattle.http_messages.specs.Environs.{environ_of, field_pairs, is_in, is_content_key, is_question, is_underscore, joint, key_byte, key_of, pair_value, pairs_in, path_of, request_pairs, with_pair};
 ghost use Rattle.http_messages.specs.Fields.{fields_at};
 
-use crate::request::Bytes;
+use crate::request::{Bytes, Headers};
 use crate::scan::find_byte;
+use crate::sequence::Sequence;
 use httparse::spans::HeaderSpan;
 use percent_encoding::percent_decode;
-use sequences::Sequence;
 use std::alloc::{AllocError, Global};
 use std::marker::Model;
 
@@ -41,6 +41,15 @@ impl Model for Environ {
 }
 
 impl Environ {
+    /// The environ of these pairs.
+    pub fn from_pairs(pairs: Headers) -> Environ
+        ensures { result ≡ pairs }
+    {
+        Environ {
+            pairs: pairs.into_vec(),
+        }
+    }
+
     /// The pairs in order.
     pub fn pairs(&self) -> &[(Bytes, Bytes)]
         ensures { result.now ≡ self.now }

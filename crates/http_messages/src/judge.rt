@@ -15,8 +15,8 @@ use crate::head::read_head;
 use crate::refusal::Refusal;
 use crate::request::{Bytes, Framing, Request};
 use crate::scan::{eq_any_case, find_byte};
+use crate::sequence::Sequence;
 use httparse::spans::{EMPTY_HEADER_SPAN, HeaderSpan};
-use sequences::Sequence;
 use std::alloc::{AllocError, Global};
 
 /// The most fields that a head may have.

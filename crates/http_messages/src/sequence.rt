@@ -1,3 +1,4 @@
+//! The one list type of the crates on HTTP.
 ghost use Rattle.std.specs.Prelude.{◌≡◌, ◌↔◌, [], ◌∷◌, ◌++◌, ◌<◌, length, take, slice_get, IsTrue, OnOk, OnErr, OnSome};
 ghost use Rattle.std.specs.Option.{option_copied};
 
@@ -102,34 +103,6 @@ impl Sequence<u8> {
         ensures err { OnErr result (self.new ≡ self.old) }
     {
         self.items.extend_from_slice(bytes)?;
-        Ok(())
-    }
-}
-
-#[cfg(test)]
-mod tests {
-    use super::*;
-    use std::test::Fail;
-
-    #[test]
-    fn keeps_its_elements_in_order(rt: HostRuntime) -> Result<(), Fail> {
-        let alloc = rt.alloc();
-        let mut numbers = Sequence::from_vec(vec![in alloc; 3u32, 1, 4]?);
-        numbers.push(1)?;
-        numbers.push(5)?;
-        assert_eq!(rt; numbers.len(), 5);
-        assert_eq!(rt; numbers.items(), [3, 1, 4, 1, 5].as_slice());
-        assert_eq!(rt; numbers.get(2).copied(), Some(4));
-        assert!(rt; numbers.get(5).is_none());
-        numbers.truncate(2);
-        assert_eq!(rt; numbers.into_vec().as_slice(), [3, 1].as_slice());
-
-        let mut text: Sequence<u8> = Sequence::new(alloc);
-        assert!(rt; text.is_empty());
-        text.extend_from_slice(b"ab")?;
-        text.extend_from_slice(b"c")?;
-        assert_eq!(rt; text.items(), b"abc".as_slice());
-        assert!(rt; !text.is_empty());
         Ok(())
     }
 }

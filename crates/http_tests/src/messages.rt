@@ -1,4 +1,5 @@
-use crate::{
+//! Requests, read from their bytes.
+use http_messages::{
     BodyFound, ByteQueue, Found, Framing, Refusal, awaited_by, eq_any_case, parse_length,
     read_body, read_request,
 };

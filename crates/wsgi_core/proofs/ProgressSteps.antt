@@ -1,4 +1,4 @@
--- The steps of a session as the code meets them: what was read from the old talk, and how the new one differs.
+-- The steps of a session as the code meets them: what was read from the old progress, and how the new one differs.
 use Rattle.std.specs.Prelude.{Result, Ok, Err, OnErr, OnOk, Option, Some, None, IsSome}
 use Rattle.std.proofs.Common.{◌≡◌, ◌+◌, ◌<◌, arith, ℕ, Bool, true, false, List, ◌++◌, refl, sym, ap, ◌∙◌, subst}
 use Rattle.http_messages.specs.declared.refusal.Refusal.{Refusal}
@@ -15,8 +15,8 @@ use Rattle.wsgi_core.specs.declared.reply.Reply.{Reply}
 use Rattle.wsgi_core.specs.Applications.{App}
 use Rattle.wsgi_core.specs.Answers.{refusal, if_continues, answer}
 use Rattle.wsgi_core.specs.Steps.{asked_at, asked_if_open, IsReplyTo}
-use Rattle.wsgi_core.specs.Talks.{Talk, GoesOn, IsSettled}
-use Rattle.wsgi_core.proofs.TalkLaws.{talk_at, same_talk, head_alike, head_waits, head_refused, head_whole, body_alike, body_waits, body_refused, body_whole, asked_answered}
+use Rattle.wsgi_core.specs.Progress.{Progress, GoesOn, IsSettled}
+use Rattle.wsgi_core.proofs.ProgressLaws.{progress_at, same_progress, head_alike, head_waits, head_refused, head_whole, body_alike, body_waits, body_refused, body_whole, asked_answered}
 
 -- ---- results
 
@@ -77,83 +77,83 @@ work_falls None new m n h less = absurd (cc)
 work_falls (Some a) None m n h less = omega arith
 work_falls (Some a) (Some b) m n h less = let k = less refl in omega arith
 
--- ---- talks
+-- ---- steps of a session
 
-is_talk : (t : Talk) (port : ℕ) (stage : Stage) (kept pending : List ℕ) (closing : Bool)
-    → t.port ≡ port → t.stage ≡ stage → t.kept ≡ kept → t.pending ≡ pending → t.closing ≡ closing → t ≡ talk_at port stage kept pending closing
-is_talk t port stage kept pending closing p s k q c = λ i. talk_at (p i) (s i) (k i) (q i) (c i)
+is_progress : (t : Progress) (port : ℕ) (stage : Stage) (kept pending : List ℕ) (closing : Bool)
+    → t.port ≡ port → t.stage ≡ stage → t.kept ≡ kept → t.pending ≡ pending → t.closing ≡ closing → t ≡ progress_at port stage kept pending closing
+is_progress t port stage kept pending closing p s k q c = λ i. progress_at (p i) (s i) (k i) (q i) (c i)
 
-between : (app : App) (t a b new : Talk) → t ≡ a → GoesOn app a b → new ≡ b → GoesOn app t new
-between app t a b new e h f more = same_talk app t a e more ∙ h more ∙ sym (same_talk app new b f more)
+between : (app : App) (t a b new : Progress) → t ≡ a → GoesOn app a b → new ≡ b → GoesOn app t new
+between app t a b new e h f more = same_progress app t a e more ∙ h more ∙ sym (same_progress app new b f more)
 
-module _ (app : App) (t new : Talk) (is_open : t.closing ≡ false) where
-  closes_with : (pending : List ℕ) → new.pending ≡ pending → new.closing ≡ true → new ≡ talk_at new.port new.stage new.kept pending true
-  closes_with pending q c = λ i. talk_at new.port new.stage new.kept (q i) (c i)
+module _ (app : App) (t new : Progress) (is_open : t.closing ≡ false) where
+  closes_with : (pending : List ℕ) → new.pending ≡ pending → new.closing ≡ true → new ≡ progress_at new.port new.stage new.kept pending true
+  closes_with pending q c = λ i. progress_at new.port new.stage new.kept (q i) (c i)
 
   module _ (at_head : t.stage ≡ AtHead) where
-    old_head : t ≡ talk_at t.port AtHead t.kept t.pending false
-    old_head = λ i. talk_at t.port (at_head i) t.kept t.pending (is_open i)
+    old_head : t ≡ progress_at t.port AtHead t.kept t.pending false
+    old_head = λ i. progress_at t.port (at_head i) t.kept t.pending (is_open i)
 
     pub at_head-waits : new.port ≡ t.port → new.stage ≡ AtHead → new.pending ≡ t.pending → new.closing ≡ false
         → ReadsAlike (request_at t.port) (request_at t.port) t.kept new.kept → GoesOn app t new
     at_head-waits p s q c alike =
-        between app t (talk_at t.port AtHead t.kept t.pending false) (talk_at t.port AtHead new.kept t.pending false) new old_head
-        (head_alike app t.port t.kept t.pending new.kept alike) (λ i. talk_at (p i) (s i) new.kept (q i) (c i))
+        between app t (progress_at t.port AtHead t.kept t.pending false) (progress_at t.port AtHead new.kept t.pending false) new old_head
+        (head_alike app t.port t.kept t.pending new.kept alike) (λ i. progress_at (p i) (s i) new.kept (q i) (c i))
 
     pub at_head-refused : (reason : Refusal) → request_at t.port t.kept ≡ refused reason
         → new.port ≡ t.port → new.pending ≡ t.pending ++ (refusal reason).bytes → new.closing ≡ true → GoesOn app t new
     at_head-refused reason e p q c =
-        between app t (talk_at t.port AtHead t.kept t.pending false) (talk_at t.port new.stage new.kept (t.pending ++ (refusal reason).bytes) true) new old_head
-        (head_refused app t.port t.kept t.pending reason new.stage new.kept e) (λ i. talk_at (p i) new.stage new.kept (q i) (c i))
+        between app t (progress_at t.port AtHead t.kept t.pending false) (progress_at t.port new.stage new.kept (t.pending ++ (refusal reason).bytes) true) new old_head
+        (head_refused app t.port t.kept t.pending reason new.stage new.kept e) (λ i. progress_at (p i) new.stage new.kept (q i) (c i))
 
     pub at_head-whole : (request : Request) → request_at t.port t.kept ≡ whole request new.kept
         → new.port ≡ t.port → new.stage ≡ InBody request (awaited_by request.framing) → new.pending ≡ t.pending ++ (if_continues request).bytes → new.closing ≡ false
         → GoesOn app t new
     at_head-whole request e p s q c =
-        between app t (talk_at t.port AtHead t.kept t.pending false)
-        (talk_at t.port (InBody request (awaited_by request.framing)) new.kept (t.pending ++ (if_continues request).bytes) false) new old_head
-        (head_whole app t.port t.kept t.pending request new.kept e) (λ i. talk_at (p i) (s i) new.kept (q i) (c i))
+        between app t (progress_at t.port AtHead t.kept t.pending false)
+        (progress_at t.port (InBody request (awaited_by request.framing)) new.kept (t.pending ++ (if_continues request).bytes) false) new old_head
+        (head_whole app t.port t.kept t.pending request new.kept e) (λ i. progress_at (p i) (s i) new.kept (q i) (c i))
 
   module _ (request : Request) (awaited : Awaited) (in_body : t.stage ≡ InBody request awaited) where
-    old_body : t ≡ talk_at t.port (InBody request awaited) t.kept t.pending false
-    old_body = λ i. talk_at t.port (in_body i) t.kept t.pending (is_open i)
+    old_body : t ≡ progress_at t.port (InBody request awaited) t.kept t.pending false
+    old_body = λ i. progress_at t.port (in_body i) t.kept t.pending (is_open i)
 
     pub at_body-waits : (next : Awaited) → ReadsAlike (body_left awaited) (body_left next) t.kept new.kept
         → new.port ≡ t.port → new.stage ≡ InBody request next → new.pending ≡ t.pending → new.closing ≡ false → GoesOn app t new
     at_body-waits next alike p s q c =
-        between app t (talk_at t.port (InBody request awaited) t.kept t.pending false) (talk_at t.port (InBody request next) new.kept t.pending false) new old_body
-        (body_alike app t.port t.kept t.pending request awaited next new.kept alike) (λ i. talk_at (p i) (s i) new.kept (q i) (c i))
+        between app t (progress_at t.port (InBody request awaited) t.kept t.pending false) (progress_at t.port (InBody request next) new.kept t.pending false) new old_body
+        (body_alike app t.port t.kept t.pending request awaited next new.kept alike) (λ i. progress_at (p i) (s i) new.kept (q i) (c i))
 
     pub at_body-refused : (reason : Refusal) → body_left awaited t.kept ≡ refused reason
         → new.port ≡ t.port → new.pending ≡ t.pending ++ (refusal reason).bytes → new.closing ≡ true → GoesOn app t new
     at_body-refused reason e p q c =
-        between app t (talk_at t.port (InBody request awaited) t.kept t.pending false) (talk_at t.port new.stage new.kept (t.pending ++ (refusal reason).bytes) true) new old_body
-        (body_refused app t.port t.kept t.pending request awaited reason new.stage new.kept e) (λ i. talk_at (p i) new.stage new.kept (q i) (c i))
+        between app t (progress_at t.port (InBody request awaited) t.kept t.pending false) (progress_at t.port new.stage new.kept (t.pending ++ (refusal reason).bytes) true) new old_body
+        (body_refused app t.port t.kept t.pending request awaited reason new.stage new.kept e) (λ i. progress_at (p i) new.stage new.kept (q i) (c i))
 
     pub at_body-whole : (body : List ℕ) → body_left awaited t.kept ≡ whole body new.kept
         → new.port ≡ t.port → new.stage ≡ Asked request body → new.pending ≡ t.pending → new.closing ≡ false → GoesOn app t new
     at_body-whole body e p s q c =
-        between app t (talk_at t.port (InBody request awaited) t.kept t.pending false) (talk_at t.port (Asked request body) new.kept t.pending false) new old_body
-        (body_whole app t.port t.kept t.pending request awaited body new.kept e) (λ i. talk_at (p i) (s i) new.kept (q i) (c i))
+        between app t (progress_at t.port (InBody request awaited) t.kept t.pending false) (progress_at t.port (Asked request body) new.kept t.pending false) new old_body
+        (body_whole app t.port t.kept t.pending request awaited body new.kept e) (λ i. progress_at (p i) (s i) new.kept (q i) (c i))
 
   pub at_asked : (request : Request) (body : List ℕ) (reply : Reply) → t.stage ≡ Asked request body → reply ≡ app request.environ body
       → new.port ≡ t.port → new.stage ≡ AtHead → new.kept ≡ t.kept → new.pending ≡ t.pending ++ (answer request reply).bytes → new.closing ≡ (answer request reply).closes
       → GoesOn app t new
   at_asked request body reply waits_for e p s k q c =
-      between app t (talk_at t.port (Asked request body) t.kept t.pending false)
-      (talk_at t.port AtHead t.kept (t.pending ++ (answer request reply).bytes) (answer request reply).closes) new
-      (λ i. talk_at t.port (waits_for i) t.kept t.pending (is_open i))
-      (asked_answered app t.port t.kept t.pending request body reply e) (λ i. talk_at (p i) (s i) (k i) (q i) (c i))
+      between app t (progress_at t.port (Asked request body) t.kept t.pending false)
+      (progress_at t.port AtHead t.kept (t.pending ++ (answer request reply).bytes) (answer request reply).closes) new
+      (λ i. progress_at t.port (waits_for i) t.kept t.pending (is_open i))
+      (asked_answered app t.port t.kept t.pending request body reply e) (λ i. progress_at (p i) (s i) (k i) (q i) (c i))
 
-pub settled_head : (app : App) (new : Talk) → new.stage ≡ AtHead → new.closing ≡ false → request_at new.port new.kept ≡ waits → IsSettled app new
+pub settled_head : (app : App) (new : Progress) → new.stage ≡ AtHead → new.closing ≡ false → request_at new.port new.kept ≡ waits → IsSettled app new
 settled_head app new s c e =
-    let P : Talk → Type 0 = λ t. IsSettled app t in
-    let is : new ≡ talk_at new.port AtHead new.kept new.pending false = λ i. talk_at new.port (s i) new.kept new.pending (c i) in
+    let P : Progress → Type 0 = λ t. IsSettled app t in
+    let is : new ≡ progress_at new.port AtHead new.kept new.pending false = λ i. progress_at new.port (s i) new.kept new.pending (c i) in
     subst P (sym is) (head_waits app new.port new.kept new.pending e)
 
-pub settled_body : (app : App) (new : Talk) (request : Request) (left : Awaited) → new.stage ≡ InBody request left → new.closing ≡ false
+pub settled_body : (app : App) (new : Progress) (request : Request) (left : Awaited) → new.stage ≡ InBody request left → new.closing ≡ false
     → body_left left new.kept ≡ waits → IsSettled app new
 settled_body app new request left s c e =
-    let P : Talk → Type 0 = λ t. IsSettled app t in
-    let is : new ≡ talk_at new.port (InBody request left) new.kept new.pending false = λ i. talk_at new.port (s i) new.kept new.pending (c i) in
+    let P : Progress → Type 0 = λ t. IsSettled app t in
+    let is : new ≡ progress_at new.port (InBody request left) new.kept new.pending false = λ i. progress_at new.port (s i) new.kept new.pending (c i) in
     subst P (sym is) (body_waits app new.port new.kept new.pending request left e)

@@ -1,6 +1,7 @@
-use crate::{Environ, Reply, Session, SessionPhase, ShippedApp};
+//! Sessions, and what they send.
 use std::alloc::Global;
 use std::test::Fail;
+use wsgi_core::{Environ, Reply, Session, SessionPhase, ShippedApp};
 
 const BAD_REQUEST: &[u8] =
     b"HTTP/1.1 400 Bad Request\r\nConnection: close\r\nContent-Length: 0\r\n\r\n";

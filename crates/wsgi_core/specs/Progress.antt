@@ -8,7 +8,7 @@ use Rattle.wsgi_core.specs.Answers.{Sent, ◌⨾◌, answer}
 use Rattle.wsgi_core.specs.Sessions.{sent_on, answers}
 
 -- the bytes that were kept are those not read yet, from the stage on
-pub record Talk : Type 0 where
+pub record Progress : Type 0 where
   pub port : ℕ
   pub stage : Stage
   pub kept : List ℕ
@@ -23,23 +23,23 @@ sent_from app port (InBody request awaited) bytes =
 sent_from app port (Asked request body) bytes = answer request (app request.environ body) ⨾ answers app port bytes
 
 -- what is still to be taken from a session to which these bytes are yet to be fed
-abbrev pub to_come : App → Talk → List ℕ → Sent
-to_come app talk more =
-    record { bytes = talk.pending; closes = talk.closing } ⨾ sent_from app talk.port talk.stage (talk.kept ++ more)
+abbrev pub to_come : App → Progress → List ℕ → Sent
+to_come app progress more =
+    record { bytes = progress.pending; closes = progress.closing } ⨾ sent_from app progress.port progress.stage (progress.kept ++ more)
 
 -- what is to come stays the same
-abbrev pub GoesOn : App → Talk → Talk → Type 0
+abbrev pub GoesOn : App → Progress → Progress → Type 0
 GoesOn app old new = (more : List ℕ) → to_come app old more ≡ to_come app new more
 
 -- all that can be said was said
-abbrev pub IsSettled : App → Talk → Type 0
-IsSettled app talk = to_come app talk [] ≡ record { bytes = talk.pending; closes = talk.closing }
+abbrev pub IsSettled : App → Progress → Type 0
+IsSettled app progress = to_come app progress [] ≡ record { bytes = progress.pending; closes = progress.closing }
 
 -- after memory ran out: what is pending begins what was to come
-abbrev pub IsDue : App → Talk → List ℕ → Type 0
+abbrev pub IsDue : App → Progress → List ℕ → Type 0
 IsDue app old pending = (more : List ℕ) → (tail : List ℕ) × ((to_come app old more).bytes ≡ pending ++ tail)
 
 -- a session that was fed these bytes, and from which those were taken, goes on to what `session` sends
-abbrev pub Stands : App → List ℕ → List ℕ → Talk → Type 0
-Stands app fed taken talk =
-    (more : List ℕ) → record { bytes = taken; closes = false } ⨾ to_come app talk more ≡ answers app talk.port (fed ++ more)
+abbrev pub Stands : App → List ℕ → List ℕ → Progress → Type 0
+Stands app fed taken progress =
+    (more : List ℕ) → record { bytes = taken; closes = false } ⨾ to_come app progress more ≡ answers app progress.port (fed ++ more)
