@@ -4,6 +4,7 @@
 
 mod body;
 mod environ;
+mod fields;
 mod found;
 mod head;
 mod judge;
