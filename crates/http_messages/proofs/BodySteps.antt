@@ -1,18 +1,17 @@
 -- The steps of reading a body.
-use Rattle.std.proofs.Common.{◌≡◌, ◌≢◌, ℕ, ◌+◌, ◌<◌, ◌≤◌, Bool, true, false, cond, List, [], ◌∷◌, ◌++◌, length, take, drop, refl, sym, ap, ◌∙◌, subst, arith, append-nil, Option, Some, None, eq-eqb}
+use Rattle.std.proofs.Common.{◌≡◌, ◌≢◌, ℕ, ◌+◌, ◌<◌, ◌≤◌, true, false, cond, List, [], ◌∷◌, ◌++◌, length, take, drop, refl, sym, ap, ◌∙◌, subst, append-nil, Option, Some, None, eq-eqb}
 use Rattle.std.proofs.lemmas.Bool.{cond-true, cond-false, le-leb, lt-leb, lt-ltb, le-ltb, ne_eqb}
 use Rattle.std.specs.Prelude.{nat_le, nat_lt, ◌==◌, option_map}
 use Rattle.std.specs.Str.{bytes_eq}
 use Rattle.httparse.specs.Grammar.{ChunkLine, chunk_size}
-use Rattle.http_messages.specs.declared.refusal.Refusal.{Refusal}
 use Rattle.http_messages.specs.declared.refusal.Refusal.TheVariants.{BadRequest, TooLarge}
 use Rattle.http_messages.specs.declared.request.Awaited.{Awaited}
-use Rattle.http_messages.specs.declared.request.Awaited.TheVariants.{Counted, InChunks, InChunk, InTrailers}
+use Rattle.http_messages.specs.declared.request.Awaited.TheVariants.{InChunks, InChunk, InTrailers}
 use Rattle.http_messages.specs.declared.found.BodyFound.{BodyFound}
 use Rattle.http_messages.specs.declared.found.BodyFound.TheVariants.{BodyWaits, BodyRefused, BodyWhole}
-use Rattle.http_messages.specs.Cuts.{Cut, waits, refused, whole, and_then, within, line_end, empty_line_end}
+use Rattle.http_messages.specs.Cuts.{Cut, waits, refused, whole, and_then, line_end, empty_line_end}
 use Rattle.http_messages.specs.Requests.{most_body}
-use Rattle.http_messages.specs.Bodies.{exactly, size_on, chunk_size_at, chunk_line, chunk_data, trailers, rest_of_chunks, rest_of_chunk, body_left}
+use Rattle.http_messages.specs.Bodies.{size_on, chunk_size_at, chunk_line, chunk_data, trailers, rest_of_chunks, rest_of_chunk, body_left}
 use Rattle.http_messages.specs.Readings.{ReadsAlike, FindsBody}
 use Rattle.http_messages.proofs.CutLaws.{Later}
 use Rattle.http_messages.proofs.CutReads.{within_at, within_long, within_short}

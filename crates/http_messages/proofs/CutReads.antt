@@ -1,11 +1,11 @@
 -- What a reading up to an end comes to.
-use Rattle.std.proofs.Common.{◌≡◌, ℕ, ◌<◌, ◌≤◌, Bool, true, false, cond, List, [], ◌∷◌, ◌++◌, length, take, drop, refl, sym, ap, ◌∙◌, subst, arith, append-nil, Option, Some, None}
+use Rattle.std.proofs.Common.{◌≡◌, ℕ, ◌<◌, ◌≤◌, true, cond, List, length, take, drop, ap, ◌∙◌, Option, Some, None}
 use Rattle.std.proofs.lemmas.Bool.{cond-true, cond-false, le-leb, lt-leb}
 use Rattle.std.specs.Prelude.{nat_le}
 use Rattle.http_messages.specs.declared.refusal.Refusal.{Refusal}
 use Rattle.http_messages.specs.declared.refusal.Refusal.TheVariants.{BadRequest, TooLong}
 use Rattle.http_messages.specs.Cuts.{Cut, waits, refused, whole, and_then, up_to, within, line_end, empty_line_end}
-use Rattle.http_messages.specs.Requests.{first_line, head_lines, head_at}
+use Rattle.http_messages.specs.Requests.{head_lines, head_at}
 
 module _ (end : List ℕ → Option ℕ) (most enough : ℕ) (reason : Refusal) (bytes : List ℕ) where
   by_end : (o : Option ℕ) → end (take most bytes) ≡ o

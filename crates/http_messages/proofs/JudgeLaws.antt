@@ -1,5 +1,5 @@
 -- Lists of fields and blanks at the ends, one more at a time.
-use Rattle.std.proofs.Common.{◌≡◌, ◌^◌, ◌*◌, ◌||◌, ℕ, zero, suc, ◌+◌, ◌-◌, ◌<◌, ◌≤◌, Bool, true, false, cond, List, [], ◌∷◌, ◌++◌, length, map, filter, reverse, take, drop, refl, sym, ap, ◌∙◌, arith, get_or, drop-cons, lit<, inl, inr}
+use Rattle.std.proofs.Common.{◌≡◌, ◌^◌, ◌||◌, ℕ, suc, ◌+◌, ◌-◌, ◌<◌, ◌≤◌, Bool, true, false, cond, List, [], ◌∷◌, ◌++◌, length, map, filter, reverse, take, drop, refl, sym, ap, ◌∙◌, arith, get_or, drop-cons, lit<, inl, inr}
 use Rattle.std.proofs.lemmas.Bool.{cond-true, cond-false}
 use Rattle.std.proofs.lemmas.List.{map-append, take_more, take_all, reverse-append}
 use Rattle.std.proofs.lemmas.List.Elements.{filter-append}
@@ -7,19 +7,17 @@ use Rattle.std.specs.Prelude.{◌&&◌, ◌==◌}
 use Rattle.std.specs.Str.{str_eq_ignore_ascii_case}
 use Rattle.httparse.specs.Grammar.{is_ows, skip_ows}
 use Rattle.http_messages.specs.Environs.{Pair}
-use Rattle.std.specs.List.{slice_split, list_any, list_all, position_or_len, before_first, after_first}
+use Rattle.std.specs.List.{list_any, list_all, position_or_len, before_first, after_first}
 use Rattle.std.specs.Char.{is_ascii_digit, digit_value}
 use Rattle.std.proofs.lemmas.List.Splits.{slice_split_first, slice_split_none}
 use Rattle.std.proofs.lemmas.List.Sums.{fails_before_first}
 use Rattle.std.proofs.lemmas.List.Folds.{list_all-append}
-use Rattle.std.proofs.lemmas.Bool.{cases_lt, and_parts, leb-true, lt-ltb, le-ltb, le-leb, lt-leb}
+use Rattle.std.proofs.lemmas.Bool.{cases_lt, and_parts, leb-true, lt-ltb, le-ltb}
 use Rattle.std.proofs.Math.Nat.{pow-le-pow_right}
-use Rattle.std.specs.Prelude.{nat_lt, nat_le, not, Result, Ok, Err, Option, Some, None}
+use Rattle.std.specs.Prelude.{nat_lt, nat_le, not, Err, Option, Some, None}
 use Rattle.httparse.specs.Grammar.{trim_ows, RequestHead}
 use Rattle.httparse.specs.Spans.{name_and_value}
-use Rattle.http_messages.specs.declared.refusal.Refusal.{Refusal}
 use Rattle.http_messages.specs.declared.refusal.Refusal.TheVariants.{BadRequest}
-use Rattle.http_messages.specs.declared.request.Request.{Request}
 use Rattle.http_messages.specs.Requests.{values, has_member, is_comma, is_allowed_target, framing_of, on_framing, request_of, judged, most_fields}
 use Rattle.http_messages.specs.Cuts.{is_lf, empty_line, drop_empty_lines}
 

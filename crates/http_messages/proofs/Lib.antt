@@ -3,10 +3,12 @@ pub mod BodySteps
 pub mod ChunkLaws
 pub mod CutLaws
 pub mod CutReads
-pub mod EnvironLaws
+pub mod FieldLaws
+pub mod GroupLaws
 pub mod HeadLaws
 pub mod HeadReads
 pub mod JudgeLaws
+pub mod KeyLaws
 pub mod RequestLaws
 pub mod RequestSteps
 pub mod ScanLaws

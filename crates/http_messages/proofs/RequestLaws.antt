@@ -1,5 +1,5 @@
 -- Requests and bodies: what was decided stays decided, and what a reading takes.
-use Rattle.std.proofs.Common.{◌≡◌, ℕ, ◌<◌, ◌≤◌, Bool, true, false, cond, List, [], ◌∷◌, ◌++◌, length, refl, sym, ap, ◌∙◌, subst, arith}
+use Rattle.std.proofs.Common.{◌≡◌, ℕ, ◌≤◌, true, List, ◌++◌, length, refl, arith}
 use Rattle.std.specs.Prelude.{Result, Ok, Err}
 use Rattle.http_messages.specs.declared.refusal.Refusal.{Refusal}
 use Rattle.http_messages.specs.declared.refusal.Refusal.TheVariants.{BadRequest, TooLong}

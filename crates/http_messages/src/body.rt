@@ -9,8 +9,8 @@ use crate::judge::MOST_BODY;
 use crate::queue::ByteQueue;
 use crate::refusal::Refusal;
 use crate::request::{Awaited, Bytes, Framing};
+use crate::sequence::Sequence;
 use httparse::{Status, parse_chunk_size};
-use sequences::Sequence;
 use std::alloc::{AllocError, Global};
 
 /// The most bytes that a chunk line may have.

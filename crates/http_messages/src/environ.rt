@@ -1,17 +1,18 @@
 //! The environ of a request (PEP 3333): keys and values in order.
-ghost use Rattle.std.specs.Prelude.{◌≡◌, ◌++◌, ℕ, List, [], ◌∷◌, All, IfOk, OnOk, fold, length};
-ghost use Rattle.std.specs.List.{after_first, before_first, list_any};
+ghost use Rattle.std.specs.Prelude.{◌≡◌, ◌++◌, ℕ, List, [], ◌∷◌, IfOk, OnOk};
+ghost use Rattle.std.specs.List.{after_first, before_first, flat_map, list_any};
 ghost use Rattle.std.specs.Option.{option_copied};
-ghost use Rattle.httparse.specs.Spans.{IsHeaderWithin, header_bytes};
+ghost use Rattle.http_header.specs.HeaderMap.{get_all};
 ghost use Rattle.percent_encoding.specs.Percent.{percent_decode};
-ghost use Rattle.http_messages.specs.Environs.{environ_of, field_pairs, is_in, is_content_key, is_question, is_underscore, joint, key_byte, key_of, pair_value, pairs_in, path_of, request_pairs, with_pair};
-ghost use Rattle.http_messages.specs.Fields.{fields_at};
+ghost use Rattle.http_messages.specs.Environs.{Pair, environ_of, is_in, is_content_key, is_question, is_underscore, joint, key_byte, key_of, pair_value, path_of, request_pairs};
+ghost use Rattle.http_messages.specs.Fields.{AreFields, entry_pairs, joined, texts};
 
-use crate::request::Bytes;
+use crate::fields::{Fields, Head};
+use crate::request::{Bytes, Headers};
 use crate::scan::find_byte;
-use httparse::spans::HeaderSpan;
+use crate::sequence::Sequence;
+use http_header::HeaderName;
 use percent_encoding::percent_decode;
-use sequences::Sequence;
 use std::alloc::{AllocError, Global};
 use std::marker::Model;
 
@@ -41,6 +42,15 @@ impl Model for Environ {
 }
 
 impl Environ {
+    /// The environ of these pairs.
+    pub fn from_pairs(pairs: Headers) -> Environ
+        ensures { result ≡ pairs }
+    {
+        Environ {
+            pairs: pairs.into_vec(),
+        }
+    }
+
     /// The pairs in order.
     pub fn pairs(&self) -> &[(Bytes, Bytes)]
         ensures { result.now ≡ self.now }
@@ -60,63 +70,67 @@ impl Environ {
         None
     }
 
-    /// Adds a value under a key, behind the one that it has.
-    fn add(&mut self, alloc: Global, key: &[u8], value: &[u8]) -> Result<(), AllocError>
-        ensures { OnOk result (self.new ≡ with_pair self.old (key.now, value.now)) }
-    {
-        for i in 0..self.pairs.len() {
-            if self.pairs[i].0.items() == key {
-                let pair = &mut self.pairs[i];
-                pair.1.extend_from_slice(joint(key))?;
-                pair.1.extend_from_slice(value)?;
-                return Ok(());
-            }
-        }
-        push_pair(alloc, &mut self.pairs, key, value)
-    }
-
-    /// Adds the fields whose keys are of this class.
+    /// Appends the keys of this class, each with the values of its name.
     fn add_fields(
         &mut self,
         alloc: Global,
-        head: &[u8],
-        headers: &[HeaderSpan],
+        fields: &Fields<'_>,
         class: KeyClass,
     ) -> Result<(), AllocError>
-        requires { All (IsHeaderWithin (length head.now)) headers.now }
-        ensures { OnOk result (self.new ≡ fold with_pair self.old
-            (pairs_in class (field_pairs (fields_at head.now headers.now)))) }
+        ensures { OnOk result (self.new ≡ self.old ++ flat_map (entry_pairs class) (texts fields.now)) }
     {
         let mut key = Vec::new(alloc);
-        for header in headers {
-            self.add_field(alloc, &mut key, head, *header, class)?;
+        let _names = fields.keys_len();
+        for name in fields.keys() {
+            self.add_name(alloc, &mut key, fields, name, class)?;
         }
         Ok(())
     }
 
-    /// Adds the field if its key is of this class; `key` is room to write it.
-    fn add_field(
+    /// Appends the key of the name and its values, if the key is of this class; `key` is room to write it.
+    fn add_name(
         &mut self,
         alloc: Global,
         key: &mut Vec<u8>,
-        head: &[u8],
-        header: HeaderSpan,
+        fields: &Fields<'_>,
+        name: &HeaderName,
         class: KeyClass,
     ) -> Result<(), AllocError>
-        requires { IsHeaderWithin (length head.now) header }
-        ensures { OnOk result (self.new ≡ fold with_pair self.old
-            (pairs_in class (field_pairs (header_bytes head.now header ∷ [])))) }
+        ensures { OnOk result (self.new ≡ self.old ++ entry_pairs class (name.now, get_all (texts fields.now) name.now)) }
     {
-        let name = header.name.of(head);
-        if has_underscore(name) {
+        if has_underscore(name.as_bytes()) {
             return Ok(());
         }
-        write_key(key, name)?;
+        write_key(key, name.as_bytes())?;
         if !is_in(class, key) {
             return Ok(());
         }
-        self.add(alloc, key, header.value.of(head))
+        let value = joined(alloc, key, fields, name)?;
+        push_pair(alloc, &mut self.pairs, key, &value)
     }
+}
+
+/// The values of the name as one, in order.
+fn joined(
+    alloc: Global,
+    key: &[u8],
+    fields: &Fields<'_>,
+    name: &HeaderName,
+) -> Result<Vec<u8>, AllocError>
+    ensures { IfOk result (λ value. value.items ≡ joined key.now (get_all (texts fields.now) name.now)) }
+{
+    let mut value = Vec::new(alloc);
+    let found = fields.get_all(name);
+    let mut values = found.iter();
+    let Some(first) = values.next() else {
+        return Ok(value);
+    };
+    value.extend_from_slice(*first)?;
+    for more in values {
+        value.extend_from_slice(joint(key))?;
+        value.extend_from_slice(*more)?;
+    }
+    Ok(value)
 }
 
 /// What stands between the values of repeated fields.
@@ -239,45 +253,37 @@ fn path_info(alloc: Global, target: &[u8]) -> Result<Vec<u8>, AllocError>
 }
 
 /// The pairs that do not come from fields.
-fn request_pairs(
-    alloc: Global,
-    port: u16,
-    method: &[u8],
-    target: &[u8],
-    minor: u8,
-) -> Result<Environ, AllocError>
-    ensures { IfOk result (λ environ. environ ≡ request_pairs port method.now target.now minor) }
+fn request_pairs(alloc: Global, head: &Head<'_>) -> Result<Environ, AllocError>
+    ensures { IfOk result (λ environ. environ ≡ request_pairs head.now.port head.now.method.now head.now.target.now head.now.minor) }
 {
-    let path = path_info(alloc, target)?;
+    let (port, minor) = (head.port, head.minor);
+    let path = path_info(alloc, head.target)?;
     let number = format!(in alloc; "{port}")?;
     let protocol = format!(in alloc; "HTTP/1.{minor}")?;
     let mut pairs = Vec::new(alloc);
-    push_pair(alloc, &mut pairs, b"REQUEST_METHOD", method)?;
+    push_pair(alloc, &mut pairs, b"REQUEST_METHOD", head.method)?;
     push_pair(alloc, &mut pairs, b"SCRIPT_NAME", b"")?;
     push_pair(alloc, &mut pairs, b"PATH_INFO", &path)?;
-    push_pair(alloc, &mut pairs, b"QUERY_STRING", after_question(target))?;
+    push_pair(
+        alloc,
+        &mut pairs,
+        b"QUERY_STRING",
+        after_question(head.target),
+    )?;
     push_pair(alloc, &mut pairs, b"SERVER_NAME", b"localhost")?;
     push_pair(alloc, &mut pairs, b"SERVER_PORT", number.as_bytes())?;
     push_pair(alloc, &mut pairs, b"SERVER_PROTOCOL", protocol.as_bytes())?;
     Ok(Environ { pairs })
 }
 
-/// The environ of a request with these parts.
-pub fn environ_of(
-    alloc: Global,
-    port: u16,
-    method: &[u8],
-    target: &[u8],
-    minor: u8,
-    head: &[u8],
-    headers: &[HeaderSpan],
-) -> Result<Environ, AllocError>
-    requires { All (IsHeaderWithin (length head.now)) headers.now }
-    ensures { IfOk result (λ environ. environ ≡ environ_of port method.now target.now minor (fields_at head.now headers.now)) }
+/// The environ of the request that the head asks for.
+pub fn environ_of(alloc: Global, head: &Head<'_>) -> Result<Environ, AllocError>
+    ensures { IfOk result (λ environ. (pairs : List Pair) → AreFields head.now.fields pairs
+        → environ ≡ environ_of head.now.port head.now.method.now head.now.target.now head.now.minor pairs) }
 {
-    let mut environ = request_pairs(alloc, port, method, target, minor)?;
-    environ.add_fields(alloc, head, headers, KeyClass::ContentType)?;
-    environ.add_fields(alloc, head, headers, KeyClass::ContentLength)?;
-    environ.add_fields(alloc, head, headers, KeyClass::Other)?;
+    let mut environ = request_pairs(alloc, head)?;
+    environ.add_fields(alloc, &head.fields, KeyClass::ContentType)?;
+    environ.add_fields(alloc, &head.fields, KeyClass::ContentLength)?;
+    environ.add_fields(alloc, &head.fields, KeyClass::Other)?;
     Ok(environ)
 }

@@ -4,7 +4,7 @@ ghost use Rattle.httparse.specs.Grammar.{RequestHead};
 ghost use Rattle.httparse.specs.Spans.{IsRequestAt, IsRequestWithin};
 ghost use Rattle.http_messages.specs.Cuts.{drop_empty_lines, empty_line};
 ghost use Rattle.http_messages.specs.Heads.{request_head};
-ghost use Rattle.http_messages.specs.Readings.{Finds, Sees};
+ghost use Rattle.http_messages.specs.Readings.{EndsWithin, Finds, Sees};
 ghost use Rattle.http_messages.specs.Requests.{head_at, request_at};
 
 use crate::found::{Found, Sight};
@@ -42,6 +42,7 @@ fn empty_lines_len(bytes: &[u8]) -> usize
 /// Where the head at the front ends.
 fn head_end(kept: &mut ByteQueue) -> Sight
     ensures sees { Sees result kept.old (head_at kept.old) }
+    ensures short { EndsWithin 32768 result }
     ensures same { kept.new ≡ kept.old }
 {
     let Some(_) = kept.line_end(LINE_LIMIT) else {

@@ -1,22 +1,23 @@
 //! What a head asks for.
-ghost use Rattle.std.specs.Prelude.{◌≡◌, ◌==◌, ◌&&◌, [], ◌∷◌, ◌++◌, All, IfOk, None, OnOk, Some, codes, length, reverse, if◌then◌else◌};
+ghost use Rattle.std.specs.Prelude.{◌≡◌, ◌≤◌, ◌==◌, ◌&&◌, List, IfOk, None, Some, codes, length, reverse, if◌then◌else◌};
 ghost use Rattle.std.specs.List.{list_any};
-ghost use Rattle.std.specs.Str.{bytes_eq};
+ghost use Rattle.std.specs.Str.{bytes_eq, str_eq_ignore_ascii_case};
 ghost use Rattle.std.specs.Str.Parse.{digits_value};
 ghost use Rattle.httparse.specs.Grammar.{is_ows, skip_ows, trim_ows};
-ghost use Rattle.httparse.specs.Spans.{IsHeaderWithin, header_bytes};
 ghost use Rattle.http_messages.specs.Cuts.{empty_line};
-ghost use Rattle.http_messages.specs.Fields.{fields_at};
+ghost use Rattle.http_messages.specs.Environs.{Pair};
+ghost use Rattle.http_messages.specs.Fields.{AreFields};
 ghost use Rattle.http_messages.specs.Heads.{request_head};
-ghost use Rattle.http_messages.specs.Requests.{announces_body, coded_by, does_persist, expects, framing_by, framing_of, has_member, is_allowed_target, is_length, judged, on_framing, request_of, sized_by, values};
+ghost use Rattle.http_messages.specs.Requests.{announces_body, coded_by, does_persist, expects, framing_by, framing_of, has_member, is_allowed_target, is_length, judged, on_framing, request_of, sized_by};
 
 use crate::environ::environ_of;
+use crate::fields::{Fields, Head, fields_of, values};
 use crate::head::read_head;
 use crate::refusal::Refusal;
 use crate::request::{Bytes, Framing, Request};
 use crate::scan::{eq_any_case, find_byte};
-use httparse::spans::{EMPTY_HEADER_SPAN, HeaderSpan};
-use sequences::Sequence;
+use crate::sequence::Sequence;
+use httparse::spans::EMPTY_HEADER_SPAN;
 use std::alloc::{AllocError, Global};
 
 /// The most fields that a head may have.
@@ -27,42 +28,6 @@ pub const MOST_BODY: usize = 1048576;
 
 /// The most digits of a length.
 const MOST_DIGITS: usize = 19;
-
-/// The values of the fields of this name, in any case and in order.
-fn values(
-    alloc: Global,
-    head: &[u8],
-    headers: &[HeaderSpan],
-    name: &[u8],
-) -> Result<Sequence<Bytes>, AllocError>
-    requires { All (IsHeaderWithin (length head.now)) headers.now }
-    ensures { IfOk result (λ found. found ≡ values name.now (fields_at head.now headers.now)) }
-{
-    let mut found = Sequence::new(alloc);
-    for header in headers {
-        push_value(alloc, &mut found, head, *header, name)?;
-    }
-    Ok(found)
-}
-
-/// Appends the value of the field if it has this name, in any case.
-fn push_value(
-    alloc: Global,
-    found: &mut Sequence<Bytes>,
-    head: &[u8],
-    header: HeaderSpan,
-    name: &[u8],
-) -> Result<(), AllocError>
-    requires { IsHeaderWithin (length head.now) header }
-    ensures { OnOk result (found.new ≡ found.old ++ values name.now (header_bytes head.now header ∷ [])) }
-{
-    if !header.name.of(head).eq_ignore_ascii_case(name) {
-        return Ok(());
-    }
-    let mut value = Sequence::new(alloc);
-    value.extend_from_slice(header.value.of(head))?;
-    found.push(value)
-}
 
 /// The number that 1 to 19 digits write; `None` exactly where the bytes are none.
 pub fn parse_length(digits: &[u8]) -> Option<u64>
@@ -200,31 +165,35 @@ fn announces_body(framing: Framing) -> bool
     }
 }
 
-/// Whether the client wants the connection to stay.
-fn does_persist(
-    alloc: Global,
-    minor: u8,
-    head: &[u8],
-    headers: &[HeaderSpan],
-) -> Result<bool, AllocError>
-    requires { All (IsHeaderWithin (length head.now)) headers.now }
-    ensures { IfOk result (λ persists. persists ≡ does_persist minor (fields_at head.now headers.now)) }
+/// Whether the client wants the connection to stay (RFC 9112, section 9.3): in HTTP/1.1 unless a Connection field has
+/// `close`, in HTTP/1.0 where one has `keep-alive`.
+fn does_persist(alloc: Global, head: &Head<'_>) -> Result<bool, AllocError>
+    ensures { IfOk result (λ persists. (pairs : List Pair) → AreFields head.now.fields pairs → persists ≡ does_persist head.now.minor pairs) }
 {
-    let options = values(alloc, head, headers, b"Connection")?;
-    if minor == 1 {
+    let options = values(alloc, &head.fields, b"Connection")?;
+    if head.minor == 1 {
         Ok(!has_option(b"close", &options))
     } else {
         Ok(has_option(b"keep-alive", &options))
     }
 }
 
-/// Whether a field expects `100 Continue`.
-fn expects(alloc: Global, head: &[u8], headers: &[HeaderSpan]) -> Result<bool, AllocError>
-    requires { All (IsHeaderWithin (length head.now)) headers.now }
-    ensures { IfOk result (λ expected. expected ≡ expects (fields_at head.now headers.now)) }
+/// Whether an Expect field is `100-continue` (RFC 9110, section 10.1.1).
+fn expects(alloc: Global, fields: &Fields<'_>) -> Result<bool, AllocError>
+    ensures { IfOk result (λ expected. (pairs : List Pair) → AreFields fields.now pairs → expected ≡ expects pairs) }
 {
-    let expectations = values(alloc, head, headers, b"Expect")?;
-    Ok(expectations.items().iter().any(|value| value.items().eq_ignore_ascii_case(b"100-continue")))
+    let expectations = values(alloc, fields, b"Expect")?;
+    Ok(is_expected(&expectations))
+}
+
+/// Whether a value is `100-continue`, in any case.
+fn is_expected(expectations: &Sequence<Bytes>) -> bool
+    ensures { result ≡ list_any (λ value. str_eq_ignore_ascii_case value (codes "100-continue")) expectations.now }
+{
+    expectations
+        .items()
+        .iter()
+        .any(|value| eq_any_case(value.items(), b"100-continue"))
 }
 
 /// Whether `100 Continue` is sent before the body is read.
@@ -241,55 +210,46 @@ fn is_head(method: &[u8]) -> bool
     method == b"HEAD".as_slice()
 }
 
-/// The request of a head with these parts, whose target is allowed.
-fn framed_request(
-    alloc: Global,
-    port: u16,
-    method: &[u8],
-    target: &[u8],
-    minor: u8,
-    head: &[u8],
-    headers: &[HeaderSpan],
-) -> Result<Result<Request, Refusal>, AllocError>
-    requires { All (IsHeaderWithin (length head.now)) headers.now }
-    ensures { IfOk result (λ judged. judged ≡ on_framing port method.now target.now minor
-        (fields_at head.now headers.now) (framing_of minor (fields_at head.now headers.now))) }
+/// How the fields frame the body (RFC 9112, section 6.3).
+fn framing_of(alloc: Global, head: &Head<'_>) -> Result<Result<Framing, Refusal>, AllocError>
+    ensures { IfOk result (λ framing. (pairs : List Pair) → AreFields head.now.fields pairs → framing ≡ framing_of head.now.minor pairs) }
 {
-    let lengths = values(alloc, head, headers, b"Content-Length")?;
-    let codings = values(alloc, head, headers, b"Transfer-Encoding")?;
-    match framing_by(minor, &lengths, &codings) {
+    let lengths = values(alloc, &head.fields, b"Content-Length")?;
+    let codings = values(alloc, &head.fields, b"Transfer-Encoding")?;
+    Ok(framing_by(head.minor, &lengths, &codings))
+}
+
+/// The request of the head, whose target is allowed.
+fn framed_request(alloc: Global, head: &Head<'_>) -> Result<Result<Request, Refusal>, AllocError>
+    ensures { IfOk result (λ judged. (pairs : List Pair) → AreFields head.now.fields pairs
+        → judged ≡ on_framing head.now.port head.now.method.now head.now.target.now head.now.minor pairs (framing_of head.now.minor pairs)) }
+{
+    let framing = framing_of(alloc, head)?;
+    match framing {
         Err(reason) => Ok(Err(reason)),
         Ok(framing) => {
-            let persists = does_persist(alloc, minor, head, headers)?;
-            let expected = expects(alloc, head, headers)?;
-            let environ = environ_of(alloc, port, method, target, minor, head, headers)?;
+            let persists = does_persist(alloc, head)?;
+            let expected = expects(alloc, &head.fields)?;
+            let environ = environ_of(alloc, head)?;
             Ok(Ok(Request {
                 environ,
-                is_head: is_head(method),
-                minor,
+                is_head: is_head(head.method),
+                minor: head.minor,
                 persists,
-                continues: does_continue(framing, minor, expected),
+                continues: does_continue(framing, head.minor, expected),
                 framing,
             }))
         }
     }
 }
 
-/// The request of a head with these parts.
-fn request_of(
-    alloc: Global,
-    port: u16,
-    method: &[u8],
-    target: &[u8],
-    minor: u8,
-    head: &[u8],
-    headers: &[HeaderSpan],
-) -> Result<Result<Request, Refusal>, AllocError>
-    requires { All (IsHeaderWithin (length head.now)) headers.now }
-    ensures { IfOk result (λ judged. judged ≡ request_of port method.now target.now minor (fields_at head.now headers.now)) }
+/// The request that the head asks for, or the reason to refuse it.
+fn request_of(alloc: Global, head: &Head<'_>) -> Result<Result<Request, Refusal>, AllocError>
+    ensures { IfOk result (λ judged. (pairs : List Pair) → AreFields head.now.fields pairs
+        → judged ≡ request_of head.now.port head.now.method.now head.now.target.now head.now.minor pairs) }
 {
-    if is_allowed_target(target) {
-        framed_request(alloc, port, method, target, minor, head, headers)
+    if is_allowed_target(head.target) {
+        framed_request(alloc, head)
     } else {
         Ok(Err(Refusal::BadRequest))
     }
@@ -301,24 +261,23 @@ pub fn request_of_head(
     port: u16,
     head: &[u8],
 ) -> Result<Result<Request, Refusal>, AllocError>
-    requires { empty_line head.now ≡ 0 }
+    requires begun { empty_line head.now ≡ 0 }
+    requires short { length head.now ≤ 32768 }
     ensures { IfOk result (λ found. found ≡ judged port (request_head head.now)) }
 {
     let mut headers = [EMPTY_HEADER_SPAN; MOST_FIELDS];
     match read_head(head, &mut headers) {
         None => Ok(Err(Refusal::BadRequest)),
         Some(spans) => {
-            let method = spans.method.of(head);
-            let target = spans.path.of(head);
-            request_of(
-                alloc,
+            let fields = fields_of(alloc, head, &headers[..spans.headers])?;
+            let head = Head {
                 port,
-                method,
-                target,
-                spans.version,
-                head,
-                &headers[..spans.headers],
-            )
+                method: spans.method.of(head),
+                target: spans.path.of(head),
+                minor: spans.version,
+                fields,
+            };
+            request_of(alloc, &head)
         }
     }
 }

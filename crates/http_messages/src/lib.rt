@@ -4,6 +4,7 @@
 
 mod body;
 mod environ;
+mod fields;
 mod found;
 mod head;
 mod judge;
@@ -12,16 +13,16 @@ mod queue;
 mod refusal;
 mod request;
 mod scan;
-#[cfg(test)]
-mod tests;
+mod sequence;
 
 pub use body::{awaited_by, read_body};
 pub use environ::{Environ, KeyClass};
 pub use found::{BodyFound, BodyStep, Found, Sight};
 pub use head::read_request;
-pub use judge::parse_length;
+pub use judge::{MOST_BODY, parse_length};
 pub use laws::{chunk_lines_are_of_the_grammar, heads_are_of_the_grammar};
 pub use queue::ByteQueue;
 pub use refusal::Refusal;
 pub use request::{Awaited, Bytes, Framing, Headers, Request};
 pub use scan::{LinePlace, eq_any_case};
+pub use sequence::Sequence;

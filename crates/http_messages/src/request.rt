@@ -1,6 +1,6 @@
 //! Requests without their bodies.
 use crate::environ::Environ;
-use sequences::Sequence;
+use crate::sequence::Sequence;
 
 /// Bytes that contracts see as their list.
 pub type Bytes = Sequence<u8>;

@@ -3,15 +3,12 @@ use Rattle.std.proofs.Common.{◌≡◌, ℕ, zero, suc, ◌+◌, ◌-◌, ◌<�
 use Rattle.std.proofs.lemmas.List.{append_cancel_left, take-append-le, take_all}
 use Rattle.gv_io.specs.Streams.{appended, prepended, AppendsPrefix}
 use Rattle.gv_io.proofs.StreamLaws.{appended-nothing, appended-appended, prepended-prepended, prepended-nothing, AppendsPrefix-after, AppendsPrefix-longer, AppendsPrefix-all}
-use Rattle.wsgi_core.specs.Answers.{Sent}
+use Rattle.wsgi_core.specs.Answers.{Sent, nothing}
 use Rattle.wsgi_core.specs.Applications.{App}
-use Rattle.wsgi_core.specs.Sessions.{session, answers}
-use Rattle.wsgi_core.specs.Steps.{IsAt, pending_of, phase_by, said_bytes}
-use Rattle.wsgi_core.specs.declared.session.Session.{Session}
+use Rattle.wsgi_core.specs.Steps.{phase_by}
+use Rattle.wsgi_core.specs.Gateways.{Gateway, IsBefore, said_by}
+use Rattle.wsgi_core.specs.Standings.{Standing}
 use Rattle.wsgi_core.specs.declared.session.SessionPhase.{SessionPhase}
-use Rattle.wsgi_core.specs.Talks.{sent_from}
-use Rattle.wsgi_core.proofs.SessionLaws.{answers-before}
-use Rattle.wsgi_core.proofs.TalkLaws.{settled_begun}
 use Rattle.wsgi_connection.specs.declared.connection.ConnectionEnd.{ConnectionEnd}
 use Rattle.wsgi_connection.specs.declared.connection.ConnectionEnd.TheVariants.{Closed, TooLong, ReadFault, WriteFault, Memory}
 use Rattle.wsgi_connection.specs.Connections.{most_bytes, whole_session, Exchanged, IsServed, IsWhole, SentFor}
@@ -71,16 +68,13 @@ looked_at_more read buf behind count came looked e fits f =
 
 -- ---- what a session sends
 
--- a session whose bytes were all taken has none pending, also once its input ended
-pub none_at_end : (app : App) (port : ℕ) (fed : List ℕ) (s : Session) → IsAt app port fed true (said app port fed) s → pending_of s ≡ []
-none_at_end app port fed s h =
-    let b = said app port fed in
-    append_cancel_left b (pending_of s) [] (said_bytes app port fed true b s h ∙ sym (append-nil b))
+-- where all its bytes were taken, none is pending
+pub none_at_end : (all pending : List ℕ) → all ++ pending ≡ all → pending ≡ []
+none_at_end all pending e = append_cancel_left all pending [] (e ∙ sym (append-nil all))
 
 -- after the pending bytes were taken all were
-pub rests : (app : App) (port : ℕ) (fed taken pending : List ℕ) (t : Session) → taken ++ pending ≡ said app port fed
-    → IsAt app port fed false (taken ++ pending) t → IsAtRest app port fed t
-rests app port fed taken pending t e h = let P : List ℕ → Type 0 = λ z. IsAt app port fed false z t in subst P e h
+pub rests : (P : List ℕ → Type 0) (taken pending all : List ℕ) → taken ++ pending ≡ all → P (taken ++ pending) → P all
+rests P taken pending all e h = subst P e h
 
 -- the pending bytes were appended to those that were taken
 pub sends : (old mid new : Option (List ℕ)) (taken pending all : List ℕ) → mid ≡ appended old taken → new ≡ appended mid pending → taken ++ pending ≡ all
@@ -109,11 +103,11 @@ appends_nothing old new text e p = p.is ∙ ap (appended old) (take_nil p.count 
 -- ---- a turn
 
 -- a read that failed took nothing
-pub read_failed : (app : App) (port count : ℕ) (in0 in1 in2 out0 out1 : Option (List ℕ)) (s : Session) → Goes app port count in0 in1 out0 out1 s
-    → count ≤ most_bytes → in2 ≡ in1 → Exchanged ReadFault app port in0 in2 out0 out1
-read_failed app port count in0 in1 in2 out0 out1 s h few e =
+pub read_failed : {T : Type 0} (gw : Gateway) (at : Standing T) (app : App) (port count : ℕ) (in0 in1 in2 out0 out1 : Option (List ℕ)) (s : T) → Goes gw at app port count in0 in1 out0 out1 s
+    → count ≤ most_bytes → in2 ≡ in1 → Exchanged ReadFault gw app port in0 in2 out0 out1
+read_failed gw at app port count in0 in1 in2 out0 out1 s h few e =
     let short : length h.read ≤ most_bytes = omega (arith, h.is_long) in
-    let P : List ℕ → Type 0 = λ z. IsServed app port z out0 out1 in
+    let P : List ℕ → Type 0 = λ z. IsServed gw app port z out0 out1 in
     record {
       read = h.read;
       is_read = h.is_read ∙ ap (prepended h.read) (sym e);
@@ -122,10 +116,10 @@ read_failed app port count in0 in1 in2 out0 out1 s h few e =
     }
 
 -- at the end of the input all is out
-pub input_ended : (app : App) (port count came : ℕ) (buf : List ℕ) (in0 in1 in2 out0 out1 out2 : Option (List ℕ)) (s : Session) (end : ConnectionEnd)
-    → Goes app port count in0 in1 out0 out1 s → count ≤ most_bytes → came ≡ 0 → in1 ≡ prepended (take came buf) in2 → IfSome in1 (λ left. left ≡ [])
-    → out2 ≡ out1 → (end ≡ Closed) ⊎ (end ≡ WriteFault) → Exchanged end app port in0 in2 out0 out2
-input_ended app port count came buf in0 in1 in2 out0 out1 out2 s end h few none e last same kind =
+pub input_ended : {T : Type 0} (gw : Gateway) (at : Standing T) (app : App) (port count came : ℕ) (buf : List ℕ) (in0 in1 in2 out0 out1 out2 : Option (List ℕ)) (s : T) (end : ConnectionEnd)
+    → Goes gw at app port count in0 in1 out0 out1 s → count ≤ most_bytes → came ≡ 0 → in1 ≡ prepended (take came buf) in2 → IfSome in1 (λ left. left ≡ [])
+    → out2 ≡ out1 → (end ≡ Closed) ⊎ (end ≡ WriteFault) → Exchanged end gw app port in0 in2 out0 out2
+input_ended gw at app port count came buf in0 in1 in2 out0 out1 out2 s end h few none e last same kind =
     record {
       read = h.read;
       is_read = h.is_read ∙ ap (prepended h.read) unchanged;
@@ -140,30 +134,30 @@ input_ended app port count came buf in0 in1 in2 out0 out1 out2 s end h few none 
     Q o = IfSome o (λ (left : List ℕ). left ≡ [])
 
     P : ConnectionEnd → Type 0
-    P w = SentFor w app port h.read in2 out0 out2
+    P w = SentFor w gw app port h.read in2 out0 out2
 
-    sent : out2 ≡ appended out0 (said app port (take most_bytes h.read))
+    sent : out2 ≡ appended out0 (said gw app port (take most_bytes h.read))
     sent = same ∙ h.served.sent
 
-    by : (end ≡ Closed) ⊎ (end ≡ WriteFault) → SentFor end app port h.read in2 out0 out2
+    by : (end ≡ Closed) ⊎ (end ≡ WriteFault) → SentFor end gw app port h.read in2 out0 out2
     by (inl c) = subst P (sym c) (record {
       ended = true;
       sent = sent;
-      closes = or_true (answers app port (take most_bytes h.read)).closes;
+      closes = or_true (gw app port (take most_bytes h.read)).closes;
       end = λ _. subst Q unchanged last;
       within = λ _. omega (arith, h.is_long);
     })
-    by (inr w) = subst P (sym w) (AppendsPrefix-all out0 out2 (said app port (take most_bytes h.read)) sent)
+    by (inr w) = subst P (sym w) (AppendsPrefix-all out0 out2 (said gw app port (take most_bytes h.read)) sent)
 
 -- the bytes that were read, with those of one more read
 pub read_on : (read chunk : List ℕ) (in0 in1 in2 : Option (List ℕ)) → in0 ≡ prepended read in1 → in1 ≡ prepended chunk in2 → in0 ≡ prepended (read ++ chunk) in2
 read_on read chunk in0 in1 in2 e f = e ∙ ap (prepended read) f ∙ prepended-prepended in2 read chunk
 
 -- the piece was not answered whole
-pub piece_cut : (app : App) (port count came : ℕ) (buf piece : List ℕ) (in0 in1 in2 out0 out1 out2 : Option (List ℕ)) (s : Session) (end : ConnectionEnd)
-    → (h : Goes app port count in0 in1 out0 out1 s) → came ≤ length buf → in1 ≡ prepended (take came buf) in2 → count + came ≤ most_bytes + 1
-    → take most_bytes (h.read ++ take came buf) ≡ take most_bytes h.read ++ piece → Breaks end app piece s out1 out2 → Exchanged end app port in0 in2 out0 out2
-piece_cut app port count came buf piece in0 in1 in2 out0 out1 out2 s end h long e fits more broke =
+pub piece_cut : {T : Type 0} (gw : Gateway) (at : Standing T) (app : App) (port count came : ℕ) (buf piece : List ℕ) (in0 in1 in2 out0 out1 out2 : Option (List ℕ)) (s : T) (end : ConnectionEnd)
+    → (h : Goes gw at app port count in0 in1 out0 out1 s) → came ≤ length buf → in1 ≡ prepended (take came buf) in2 → count + came ≤ most_bytes + 1
+    → take most_bytes (h.read ++ take came buf) ≡ take most_bytes h.read ++ piece → Breaks end gw at app piece s out1 out2 → Exchanged end gw app port in0 in2 out0 out2
+piece_cut gw at app port count came buf piece in0 in1 in2 out0 out1 out2 s end h long e fits more broke =
     record {
       read = h.read ++ take came buf;
       is_read = read_on h.read (take came buf) in0 in1 in2 h.is_read e;
@@ -172,9 +166,9 @@ piece_cut app port count came buf piece in0 in1 in2 out0 out1 out2 s end h long 
     }
   where
     P : List ℕ → Type 0
-    P z = AppendsPrefix out0 out2 (said app port z)
+    P z = AppendsPrefix out0 out2 (said gw app port z)
 
-    by : (w : ConnectionEnd) → Breaks w app piece s out1 out2 → SentFor w app port (h.read ++ take came buf) in2 out0 out2
+    by : (w : ConnectionEnd) → Breaks w gw at app piece s out1 out2 → SentFor w gw app port (h.read ++ take came buf) in2 out0 out2
     by Closed b = absurd b
     by TooLong b = absurd b
     by ReadFault b = absurd b
@@ -182,14 +176,14 @@ piece_cut app port count came buf piece in0 in1 in2 out0 out1 out2 s end h long 
     by Memory b = subst P (sym more) (b port (take most_bytes h.read) out0 h.at_rest h.served.sent)
 
 -- the piece was answered, and the session goes on
-pub piece_answered : (app : App) (port count came : ℕ) (buf piece : List ℕ) (in0 in1 in2 out0 out1 out2 : Option (List ℕ)) (s t : Session)
-    → (h : Goes app port count in0 in1 out0 out1 s) → came ≤ length buf → in1 ≡ prepended (take came buf) in2
-    → take most_bytes (h.read ++ take came buf) ≡ take most_bytes h.read ++ piece → IsAtRest app port (take most_bytes h.read ++ piece) t
-    → out2 ≡ appended out0 (said app port (take most_bytes h.read ++ piece)) → (session app port (take most_bytes h.read ++ piece) false).closes ≡ false
-    → Goes app port (count + came) in0 in2 out0 out2 t
-piece_answered app port count came buf piece in0 in1 in2 out0 out1 out2 s t h long e more rest sent serves =
-    let R : List ℕ → Type 0 = λ z. IsAtRest app port z t in
-    let P : List ℕ → Type 0 = λ z. IsServed app port z out0 out2 in
+pub piece_answered : {T : Type 0} (gw : Gateway) (at : Standing T) (app : App) (port count came : ℕ) (buf piece : List ℕ) (in0 in1 in2 out0 out1 out2 : Option (List ℕ)) (s t : T)
+    → (h : Goes gw at app port count in0 in1 out0 out1 s) → came ≤ length buf → in1 ≡ prepended (take came buf) in2
+    → take most_bytes (h.read ++ take came buf) ≡ take most_bytes h.read ++ piece → IsAtRest gw at app port (take most_bytes h.read ++ piece) t
+    → out2 ≡ appended out0 (said gw app port (take most_bytes h.read ++ piece)) → (said_by gw app port (take most_bytes h.read ++ piece) false).closes ≡ false
+    → Goes gw at app port (count + came) in0 in2 out0 out2 t
+piece_answered gw at app port count came buf piece in0 in1 in2 out0 out1 out2 s t h long e more rest sent serves =
+    let R : List ℕ → Type 0 = λ z. IsAtRest gw at app port z t in
+    let P : List ℕ → Type 0 = λ z. IsServed gw app port z out0 out2 in
     record {
       read = h.read ++ take came buf;
       is_read = read_on h.read (take came buf) in0 in1 in2 h.is_read e;
@@ -199,14 +193,14 @@ piece_answered app port count came buf piece in0 in1 in2 out0 out1 out2 s t h lo
     }
 
 -- the piece was answered, and the session closes
-pub piece_last : (app : App) (port count came : ℕ) (buf piece : List ℕ) (in0 in1 in2 out0 out1 out2 : Option (List ℕ)) (s : Session)
-    → (h : Goes app port count in0 in1 out0 out1 s) → came ≤ length buf → in1 ≡ prepended (take came buf) in2 → count + came ≤ most_bytes + 1
+pub piece_last : {T : Type 0} (gw : Gateway) (at : Standing T) (app : App) (port count came : ℕ) (buf piece : List ℕ) (in0 in1 in2 out0 out1 out2 : Option (List ℕ)) (s : T)
+    → (h : Goes gw at app port count in0 in1 out0 out1 s) → came ≤ length buf → in1 ≡ prepended (take came buf) in2 → count + came ≤ most_bytes + 1
     → take most_bytes (h.read ++ take came buf) ≡ take most_bytes h.read ++ piece
-    → out2 ≡ appended out0 (said app port (take most_bytes h.read ++ piece)) → (session app port (take most_bytes h.read ++ piece) false).closes ≡ true
-    → Exchanged Closed app port in0 in2 out0 out2
-piece_last app port count came buf piece in0 in1 in2 out0 out1 out2 s h long e fits more sent closes =
-    let P : List ℕ → Type 0 = λ z. out2 ≡ appended out0 (said app port z) in
-    let Q : List ℕ → Type 0 = λ z. (session app port z false).closes ≡ true in
+    → out2 ≡ appended out0 (said gw app port (take most_bytes h.read ++ piece)) → (said_by gw app port (take most_bytes h.read ++ piece) false).closes ≡ true
+    → Exchanged Closed gw app port in0 in2 out0 out2
+piece_last gw at app port count came buf piece in0 in1 in2 out0 out1 out2 s h long e fits more sent closes =
+    let P : List ℕ → Type 0 = λ z. out2 ≡ appended out0 (said gw app port z) in
+    let Q : List ℕ → Type 0 = λ z. (said_by gw app port z false).closes ≡ true in
     record {
       read = h.read ++ take came buf;
       is_read = read_on h.read (take came buf) in0 in1 in2 h.is_read e;
@@ -238,16 +232,16 @@ rest_of left read in0 (Some rest) told e =
 looked_at : (left read : List ℕ) (in1 : Option (List ℕ)) (r : Rest left read in1) → take most_bytes left ≡ take most_bytes read ++ take (most_bytes - length read) r.rest
 looked_at left read in1 r = ap (take most_bytes) r.all ∙ take-two most_bytes read r.rest
 
-prefix_of_all : (app : App) (port : ℕ) (fed more all : List ℕ) (out0 out1 : Option (List ℕ)) → all ≡ fed ++ more → AppendsPrefix out0 out1 (said app port fed)
-    → AppendsPrefix out0 out1 (said app port all)
-prefix_of_all app port fed more all out0 out1 e p =
-    let b = answers-before app port fed more in
+prefix_of_all : (gw : Gateway) (app : App) (port : ℕ) → ((bytes more : List ℕ) → IsBefore (gw app port bytes) (gw app port (bytes ++ more))) → (fed more all : List ℕ) (out0 out1 : Option (List ℕ)) → all ≡ fed ++ more → AppendsPrefix out0 out1 (said gw app port fed)
+    → AppendsPrefix out0 out1 (said gw app port all)
+prefix_of_all gw app port before fed more all out0 out1 e p =
+    let b = before fed more in
     let P : List ℕ → Type 0 = λ z. AppendsPrefix out0 out1 z in
-    subst P (sym b.longer ∙ ap (λ z. said app port z) (sym e)) (AppendsPrefix-longer out0 out1 (said app port fed) b.tail p)
+    subst P (sym b.longer ∙ ap (λ z. said gw app port z) (sym e)) (AppendsPrefix-longer out0 out1 (said gw app port fed) b.tail p)
 
 -- a session that closed says no more
-closed_all : (app : App) (port : ℕ) (fed more all : List ℕ) → all ≡ fed ++ more → (answers app port fed).closes ≡ true → answers app port all ≡ answers app port fed
-closed_all app port fed more all e c = ap (answers app port) e ∙ (answers-before app port fed more).done c
+closed_all : (gw : Gateway) (app : App) (port : ℕ) → ((bytes more : List ℕ) → IsBefore (gw app port bytes) (gw app port (bytes ++ more))) → (fed more all : List ℕ) → all ≡ fed ++ more → (gw app port fed).closes ≡ true → gw app port all ≡ gw app port fed
+closed_all gw app port before fed more all e c = ap (gw app port) e ∙ (before fed more).done c
 
 or_false : (b : Bool) → b || false ≡ b
 or_false true = refl
@@ -266,61 +260,60 @@ le_false n m h = grind arith
 no_rest : (rest : List ℕ) (in1 : Option (List ℕ)) → in1 ≡ Some rest → IfSome in1 (λ left. left ≡ []) → rest ≡ []
 no_rest rest in1 e h = let P : Option (List ℕ) → Type 0 = λ o. IfSome o (λ left. left ≡ []) in subst P e h
 
-closed_whole : (app : App) (port : ℕ) (left read : List ℕ) (in1 out0 out1 : Option (List ℕ)) (r : Rest left read in1) (ended : Bool)
-    → out1 ≡ appended out0 (said app port (take most_bytes read)) → (session app port (take most_bytes read) ended).closes ≡ true
-    → (ended ≡ true → IfSome in1 (λ left. left ≡ [])) → (ended ≡ true → length read ≤ most_bytes) → IsWhole Closed (whole_session app port left) out0 out1
-closed_whole app port left read in1 out0 out1 r true sent closes end within =
+closed_whole : (gw : Gateway) (app : App) (port : ℕ) → ((bytes more : List ℕ) → IsBefore (gw app port bytes) (gw app port (bytes ++ more))) → (left read : List ℕ) (in1 out0 out1 : Option (List ℕ)) (r : Rest left read in1) (ended : Bool)
+    → out1 ≡ appended out0 (said gw app port (take most_bytes read)) → (said_by gw app port (take most_bytes read) ended).closes ≡ true
+    → (ended ≡ true → IfSome in1 (λ left. left ≡ [])) → (ended ≡ true → length read ≤ most_bytes) → IsWhole Closed (whole_session gw app port left) out0 out1
+closed_whole gw app port before left read in1 out0 out1 r true sent closes end within =
     let same : left ≡ read = r.all ∙ ap (λ (z : List ℕ). read ++ z) (no_rest r.rest in1 r.is (end refl)) ∙ append-nil read in
     let few : length left ≤ most_bytes = omega (arith, ap (λ (z : List ℕ). length z) same, within refl) in
-    let x = (answers app port (take most_bytes left)).closes in
-    (sent ∙ ap (λ z. appended out0 (said app port (take most_bytes z))) (sym same), ap (λ b. x || b) (le_true (length left) most_bytes few) ∙ or_true x)
-closed_whole app port left read in1 out0 out1 r false sent closes end within =
-    let done : (answers app port (take most_bytes read)).closes ≡ true = sym (or_false _) ∙ closes in
-    let all = closed_all app port (take most_bytes read) (take (most_bytes - length read) r.rest) (take most_bytes left) (looked_at left read in1 r) done in
+    let x = (gw app port (take most_bytes left)).closes in
+    (sent ∙ ap (λ z. appended out0 (said gw app port (take most_bytes z))) (sym same), ap (λ b. x || b) (le_true (length left) most_bytes few) ∙ or_true x)
+closed_whole gw app port before left read in1 out0 out1 r false sent closes end within =
+    let done : (gw app port (take most_bytes read)).closes ≡ true = sym (or_false _) ∙ closes in
+    let all = closed_all gw app port before (take most_bytes read) (take (most_bytes - length read) r.rest) (take most_bytes left) (looked_at left read in1 r) done in
     (sent ∙ ap (λ (s : Sent). appended out0 s.bytes) (sym all), true_or _ _ (ap (λ (s : Sent). s.closes) all ∙ done))
 
-long_whole : (app : App) (port : ℕ) (left read : List ℕ) (in1 out0 out1 : Option (List ℕ)) → Rest left read in1 → length read ≡ most_bytes + 1
-    → IsServed app port (take most_bytes read) out0 out1 → IsWhole TooLong (whole_session app port left) out0 out1
-long_whole app port left read in1 out0 out1 r long s =
+long_whole : (gw : Gateway) (app : App) (port : ℕ) (left read : List ℕ) (in1 out0 out1 : Option (List ℕ)) → Rest left read in1 → length read ≡ most_bytes + 1
+    → IsServed gw app port (take most_bytes read) out0 out1 → IsWhole TooLong (whole_session gw app port left) out0 out1
+long_whole gw app port left read in1 out0 out1 r long s =
     let same : take most_bytes left ≡ take most_bytes read = ap (take most_bytes) r.all ∙ take-append-le most_bytes read r.rest (omega (arith, long)) in
     let more : length left ≡ length read + length r.rest = ap (λ (z : List ℕ). length z) r.all ∙ length-append read r.rest in
     let many : most_bytes < length left = omega (arith, more, long) in
-    let x = (answers app port (take most_bytes left)).closes in (
-      s.sent ∙ ap (λ z. appended out0 (said app port z)) (sym same),
-      ap (λ b. x || b) (le_false (length left) most_bytes many) ∙ ap (λ z. (session app port z false).closes) same ∙ s.serves,
+    let x = (gw app port (take most_bytes left)).closes in (
+      s.sent ∙ ap (λ z. appended out0 (said gw app port z)) (sym same),
+      ap (λ b. x || b) (le_false (length left) most_bytes many) ∙ ap (λ z. (said_by gw app port z false).closes) same ∙ s.serves,
     )
 
 -- by all the bytes that were left
-pub whole_of : (end : ConnectionEnd) (app : App) (port : ℕ) (left : List ℕ) (in0 in1 out0 out1 : Option (List ℕ)) → in0 ≡ Some left
-    → Exchanged end app port in0 in1 out0 out1 → IsWhole end (whole_session app port left) out0 out1
-whole_of end app port left in0 in1 out0 out1 told x = by end x.sent
+pub whole_of : (end : ConnectionEnd) (gw : Gateway) (app : App) (port : ℕ) → ((bytes more : List ℕ) → IsBefore (gw app port bytes) (gw app port (bytes ++ more))) → (left : List ℕ) (in0 in1 out0 out1 : Option (List ℕ)) → in0 ≡ Some left
+    → Exchanged end gw app port in0 in1 out0 out1 → IsWhole end (whole_session gw app port left) out0 out1
+whole_of end gw app port before left in0 in1 out0 out1 told x = by end x.sent
   where
     r : Rest left x.read in1
     r = rest_of left x.read in0 in1 told x.is_read
 
-    cut : AppendsPrefix out0 out1 (said app port (take most_bytes x.read)) → AppendsPrefix out0 out1 (said app port (take most_bytes left))
-    cut p = prefix_of_all app port (take most_bytes x.read) (take (most_bytes - length x.read) r.rest) (take most_bytes left) out0 out1 (looked_at left x.read in1 r) p
+    cut : AppendsPrefix out0 out1 (said gw app port (take most_bytes x.read)) → AppendsPrefix out0 out1 (said gw app port (take most_bytes left))
+    cut p = prefix_of_all gw app port before (take most_bytes x.read) (take (most_bytes - length x.read) r.rest) (take most_bytes left) out0 out1 (looked_at left x.read in1 r) p
 
     P : List ℕ → Type 0
-    P z = AppendsPrefix out0 out1 (said app port z)
+    P z = AppendsPrefix out0 out1 (said gw app port z)
 
-    by : (w : ConnectionEnd) → SentFor w app port x.read in1 out0 out1 → IsWhole w (whole_session app port left) out0 out1
-    by Closed s = closed_whole app port left x.read in1 out0 out1 r s.ended s.sent s.closes s.end s.within
-    by TooLong s = long_whole app port left x.read in1 out0 out1 r s.0 s.1
-    by ReadFault s = cut (subst P (sym (take_all most_bytes x.read s.0)) (AppendsPrefix-all out0 out1 (said app port x.read) s.1.sent))
+    by : (w : ConnectionEnd) → SentFor w gw app port x.read in1 out0 out1 → IsWhole w (whole_session gw app port left) out0 out1
+    by Closed s = closed_whole gw app port before left x.read in1 out0 out1 r s.ended s.sent s.closes s.end s.within
+    by TooLong s = long_whole gw app port left x.read in1 out0 out1 r s.0 s.1
+    by ReadFault s = cut (subst P (sym (take_all most_bytes x.read s.0)) (AppendsPrefix-all out0 out1 (said gw app port x.read) s.1.sent))
     by WriteFault s = cut s
     by Memory s = cut s
 
 -- ---- the first turn and the last
 
 -- nothing is sent for no bytes
-pub begins : (app : App) (port : ℕ) (s : Session) (in0 out0 : Option (List ℕ)) → IsAt app port [] false [] s → Goes app port 0 in0 in0 out0 out0 s
-unfolding sent_from
-begins app port s in0 out0 h =
-    let x = answers app port [] in
-    let e : record { bytes = x.bytes; closes = x.closes } ≡ record { bytes = []; closes = false } = settled_begun app port [] [] refl in
+pub begins : {T : Type 0} (gw : Gateway) (at : Standing T) (app : App) (port : ℕ) (s : T) (in0 out0 : Option (List ℕ)) → gw app port [] ≡ nothing → at app port [] false [] s
+    → Goes gw at app port 0 in0 in0 out0 out0 s
+begins gw at app port s in0 out0 e h =
+    let x = gw app port [] in
     let none : x.bytes ≡ [] = ap (λ (t : Sent). t.bytes) e in
-    let P : List ℕ → Type 0 = λ z. IsAt app port [] false z s in
+    let P : List ℕ → Type 0 = λ z. at app port [] false z s in
     record {
       read = [];
       is_read = sym (prepended-nothing in0);
@@ -330,7 +323,7 @@ begins app port s in0 out0 h =
     }
 
 -- one byte more than those that are looked at was read
-pub too_long : (app : App) (port count : ℕ) (in0 in1 out0 out1 : Option (List ℕ)) (s : Session) → Goes app port count in0 in1 out0 out1 s
-    → most_bytes < count → count ≤ most_bytes + 1 → Exchanged TooLong app port in0 in1 out0 out1
-too_long app port count in0 in1 out0 out1 s h many few =
+pub too_long : {T : Type 0} (gw : Gateway) (at : Standing T) (app : App) (port count : ℕ) (in0 in1 out0 out1 : Option (List ℕ)) (s : T) → Goes gw at app port count in0 in1 out0 out1 s
+    → most_bytes < count → count ≤ most_bytes + 1 → Exchanged TooLong gw app port in0 in1 out0 out1
+too_long gw at app port count in0 in1 out0 out1 s h many few =
     record { read = h.read; is_read = h.is_read; within = omega (arith, h.is_long, few); sent = (omega (arith, h.is_long, many, few), h.served) }

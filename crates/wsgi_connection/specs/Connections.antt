@@ -3,7 +3,7 @@ use Rattle.std.specs.Prelude.{◌≡◌, ℕ, ◌+◌, ◌≤◌, Bool, true, fa
 use Rattle.gv_io.specs.Streams.{appended, prepended, AppendsPrefix}
 use Rattle.wsgi_core.specs.Answers.{Sent}
 use Rattle.wsgi_core.specs.Applications.{App}
-use Rattle.wsgi_core.specs.Sessions.{session}
+use Rattle.wsgi_core.specs.Gateways.{Gateway, said_by}
 use Rattle.wsgi_connection.specs.declared.connection.ConnectionEnd.{ConnectionEnd}
 use Rattle.wsgi_connection.specs.declared.connection.ConnectionEnd.TheVariants.{Closed, TooLong, ReadFault, WriteFault, Memory}
 
@@ -14,38 +14,38 @@ most_bytes = 16777216
 -- ---- by the bytes that were read
 
 -- out has what the session sends for the bytes, and it goes on
-pub record IsServed (app : App) (port : ℕ) (bytes : List ℕ) (out0 out1 : Option (List ℕ)) : Type 0 where
-  pub sent : out1 ≡ appended out0 (session app port bytes false).bytes
-  pub serves : (session app port bytes false).closes ≡ false
+pub record IsServed (answers : Gateway) (app : App) (port : ℕ) (bytes : List ℕ) (out0 out1 : Option (List ℕ)) : Type 0 where
+  pub sent : out1 ≡ appended out0 (said_by answers app port bytes false).bytes
+  pub serves : (said_by answers app port bytes false).closes ≡ false
 
 -- out has what the session sends for the bytes that were read, and it is closing; where the input had ended, nothing of it is left
-pub record IsClosed (app : App) (port : ℕ) (read : List ℕ) (in1 out0 out1 : Option (List ℕ)) : Type 0 where
+pub record IsClosed (answers : Gateway) (app : App) (port : ℕ) (read : List ℕ) (in1 out0 out1 : Option (List ℕ)) : Type 0 where
   pub ended : Bool
-  pub sent : out1 ≡ appended out0 (session app port (take most_bytes read) ended).bytes
-  pub closes : (session app port (take most_bytes read) ended).closes ≡ true
+  pub sent : out1 ≡ appended out0 (said_by answers app port (take most_bytes read) ended).bytes
+  pub closes : (said_by answers app port (take most_bytes read) ended).closes ≡ true
   pub end : ended ≡ true → IfSome in1 (λ left. left ≡ [])
   pub within : ended ≡ true → length read ≤ most_bytes
 
 -- what was sent for the bytes that were read; past the most bytes nothing is looked at
-abbrev pub SentFor : ConnectionEnd → App → ℕ → List ℕ → Option (List ℕ) → Option (List ℕ) → Option (List ℕ) → Type 0
-SentFor Closed app port read in1 out0 out1 = IsClosed app port read in1 out0 out1
-SentFor TooLong app port read in1 out0 out1 = (length read ≡ most_bytes + 1) × IsServed app port (take most_bytes read) out0 out1
-SentFor ReadFault app port read in1 out0 out1 = (length read ≤ most_bytes) × IsServed app port read out0 out1
-SentFor WriteFault app port read in1 out0 out1 = AppendsPrefix out0 out1 (session app port (take most_bytes read) false).bytes
-SentFor Memory app port read in1 out0 out1 = AppendsPrefix out0 out1 (session app port (take most_bytes read) false).bytes
+abbrev pub SentFor : ConnectionEnd → Gateway → App → ℕ → List ℕ → Option (List ℕ) → Option (List ℕ) → Option (List ℕ) → Type 0
+SentFor Closed answers app port read in1 out0 out1 = IsClosed answers app port read in1 out0 out1
+SentFor TooLong answers app port read in1 out0 out1 = (length read ≡ most_bytes + 1) × IsServed answers app port (take most_bytes read) out0 out1
+SentFor ReadFault answers app port read in1 out0 out1 = (length read ≤ most_bytes) × IsServed answers app port read out0 out1
+SentFor WriteFault answers app port read in1 out0 out1 = AppendsPrefix out0 out1 (said_by answers app port (take most_bytes read) false).bytes
+SentFor Memory answers app port read in1 out0 out1 = AppendsPrefix out0 out1 (said_by answers app port (take most_bytes read) false).bytes
 
 -- a connection that ended so: what was read of the input, and what was sent for it
-pub record Exchanged (end : ConnectionEnd) (app : App) (port : ℕ) (in0 in1 out0 out1 : Option (List ℕ)) : Type 0 where
+pub record Exchanged (end : ConnectionEnd) (answers : Gateway) (app : App) (port : ℕ) (in0 in1 out0 out1 : Option (List ℕ)) : Type 0 where
   pub read : List ℕ
   pub is_read : in0 ≡ prepended read in1
   pub within : length read ≤ most_bytes + 1
-  pub sent : SentFor end app port read in1 out0 out1
+  pub sent : SentFor end answers app port read in1 out0 out1
 
 -- ---- by all the bytes that were left
 
 -- what is sent for all that was left of an input; the session does not hear of its end where there is more than is looked at
-abbrev pub whole_session : App → ℕ → List ℕ → Sent
-whole_session app port left = session app port (take most_bytes left) (nat_le (length left) most_bytes)
+abbrev pub whole_session : Gateway → App → ℕ → List ℕ → Sent
+whole_session answers app port left = said_by answers app port (take most_bytes left) (nat_le (length left) most_bytes)
 
 -- out has all of it, and it closes or was too long; or out has a prefix
 abbrev pub IsWhole : ConnectionEnd → Sent → Option (List ℕ) → Option (List ℕ) → Type 0

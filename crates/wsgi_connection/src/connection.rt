@@ -3,13 +3,12 @@ ghost use Rattle.std.specs.Prelude.{◌≡◌, ◌⊎◌, ◌≤◌, ◌++◌, �
 ghost use Rattle.gv_io.specs.Faults.{HasRisen};
 ghost use Rattle.gv_io.specs.Streams.{appended, AppendsPrefix};
 ghost use Rattle.wsgi_core.specs.Applications.{App};
-ghost use Rattle.wsgi_core.specs.Steps.{IsAt, pending_of};
 ghost use Rattle.wsgi_connection.specs.Connections.{Exchanged, IsWhole, most_bytes, whole_session};
 ghost use Rattle.wsgi_connection.specs.Pieces.{Breaks, Counts, Goes, IsAtRest, Leaves, said};
 
 use gv_io::{Failed, Sink, Source};
 use std::alloc::Global;
-use wsgi_core::{Application, Session, SessionPhase};
+use wsgi_core::{Application, SessionPhase, Talk};
 
 /// The most bytes that one read asks for.
 const PIECE: usize = 4096;
@@ -43,11 +42,11 @@ pub enum Turn {
 
 /// Writes out what is pending, and takes it from the session.
 #[tactic(auto, using(gv_io::proofs::StreamLaws::writes))]
-fn send<K: Sink>(session: &mut Session, out: &mut K) -> Result<(), Failed>
-    ensures sent { OnOk result (K.written out.new ≡ appended (K.written out.old) (pending_of session.old)) }
-    ensures prefix { AppendsPrefix (K.written out.old) (K.written out.new) (pending_of session.old) }
-    ensures taken { OnOk result ((app : App) (port : ℕ) (fed taken : List ℕ) → IsAt app port fed false taken session.old
-        → IsAt app port fed false (taken ++ pending_of session.old) session.new) }
+fn send<T: Talk, K: Sink>(session: &mut T, out: &mut K) -> Result<(), Failed>
+    ensures sent { OnOk result (K.written out.new ≡ appended (K.written out.old) (T.due session.old)) }
+    ensures prefix { AppendsPrefix (K.written out.old) (K.written out.new) (T.due session.old) }
+    ensures taken { OnOk result ((app : App) (port : ℕ) (fed taken : List ℕ) → T.is_at app port fed false taken session.old
+        → T.is_at app port fed false (taken ++ T.due session.old) session.new) }
     ensures never_falls { K.faults out.old ≤ K.faults out.new }
     ensures failed { OnErr result (HasRisen (K.faults out.old) (K.faults out.new)) }
 {
@@ -59,18 +58,18 @@ fn send<K: Sink>(session: &mut Session, out: &mut K) -> Result<(), Failed>
 }
 
 /// Feeds the piece to the session, and sends what it says.
-fn answer_piece<K: Sink, A: Application>(
-    session: &mut Session,
+fn answer_piece<T: Talk, K: Sink, A: Application>(
+    session: &mut T,
     piece: &[u8],
     out: &mut K,
     app: &A,
 ) -> Result<(), ConnectionEnd>
-    ensures at_rest { OnOk result ((port : ℕ) (fed : List ℕ) → IsAtRest (A.answer_of app.now) port fed session.old
-        → IsAtRest (A.answer_of app.now) port (fed ++ piece.now) session.new) }
-    ensures sent { OnOk result ((port : ℕ) (fed : List ℕ) (out0 : Option (List ℕ)) → IsAtRest (A.answer_of app.now) port fed session.old
-        → K.written out.old ≡ appended out0 (said (A.answer_of app.now) port fed)
-        → K.written out.new ≡ appended out0 (said (A.answer_of app.now) port (fed ++ piece.now))) }
-    ensures broke { IfErr result (λ end. Breaks end (A.answer_of app.now) piece.now session.old (K.written out.old) (K.written out.new)) }
+    ensures at_rest { OnOk result ((port : ℕ) (fed : List ℕ) → IsAtRest T.answers T.is_at (A.answer_of app.now) port fed session.old
+        → IsAtRest T.answers T.is_at (A.answer_of app.now) port (fed ++ piece.now) session.new) }
+    ensures sent { OnOk result ((port : ℕ) (fed : List ℕ) (out0 : Option (List ℕ)) → IsAtRest T.answers T.is_at (A.answer_of app.now) port fed session.old
+        → K.written out.old ≡ appended out0 (said T.answers (A.answer_of app.now) port fed)
+        → K.written out.new ≡ appended out0 (said T.answers (A.answer_of app.now) port (fed ++ piece.now))) }
+    ensures broke { IfErr result (λ end. Breaks end T.answers T.is_at (A.answer_of app.now) piece.now session.old (K.written out.old) (K.written out.new)) }
     ensures never_falls { K.faults out.old ≤ K.faults out.new }
     ensures failed { IfErr result (λ end. end ≡ ConnectionEnd.WriteFault → HasRisen (K.faults out.old) (K.faults out.new)) }
 {
@@ -86,9 +85,9 @@ fn answer_piece<K: Sink, A: Application>(
 }
 
 /// Tells the session that the input ended. It says nothing to that, and what went out is flushed.
-fn end_input<K: Sink>(session: &mut Session, out: &mut K) -> ConnectionEnd
+fn end_input<T: Talk, K: Sink>(session: &mut T, out: &mut K) -> ConnectionEnd
     ensures ended { (result ≡ ConnectionEnd.Closed) ⊎ (result ≡ ConnectionEnd.WriteFault) }
-    ensures nothing { (app : App) (port : ℕ) (fed : List ℕ) → IsAtRest app port fed session.old → K.written out.new ≡ K.written out.old }
+    ensures nothing { (app : App) (port : ℕ) (fed : List ℕ) → IsAtRest T.answers T.is_at app port fed session.old → K.written out.new ≡ K.written out.old }
     ensures never_falls { K.faults out.old ≤ K.faults out.new }
     ensures failed { result ≡ ConnectionEnd.WriteFault → HasRisen (K.faults out.old) (K.faults out.new) }
 {
@@ -100,8 +99,8 @@ fn end_input<K: Sink>(session: &mut Session, out: &mut K) -> ConnectionEnd
 }
 
 /// Reads the next piece behind so many bytes, and answers it.
-fn exchange<S: Source, K: Sink, A: Application>(
-    session: &mut Session,
+fn exchange<T: Talk, S: Source, K: Sink, A: Application>(
+    session: &mut T,
     count: usize,
     input: &mut S,
     out: &mut K,
@@ -109,8 +108,8 @@ fn exchange<S: Source, K: Sink, A: Application>(
 ) -> Turn
     requires { count ≤ most_bytes }
     ensures leaves { (port : ℕ) (in0 out0 : Option (List ℕ))
-        → Goes (A.answer_of app.now) port count in0 (S.remaining input.old) out0 (K.written out.old) session.old
-        → Leaves result (A.answer_of app.now) port count in0 (S.remaining input.new) out0 (K.written out.new) session.new }
+        → Goes T.answers T.is_at (A.answer_of app.now) port count in0 (S.remaining input.old) out0 (K.written out.old) session.old
+        → Leaves result T.answers T.is_at (A.answer_of app.now) port count in0 (S.remaining input.new) out0 (K.written out.new) session.new }
     ensures counts { Counts result count }
     ensures input_never_falls { S.faults input.old ≤ S.faults input.new }
     ensures out_never_falls { K.faults out.old ≤ K.faults out.new }
@@ -138,7 +137,7 @@ fn exchange<S: Source, K: Sink, A: Application>(
 /// Answers the connection whose bytes the input gives, with the answers to out, until its session closes
 /// or the input ends. What is pending is written and flushed after each piece, so that a peer that waits
 /// is answered.
-pub fn answer_connection<S: Source, K: Sink, A: Application>(
+pub fn answer_connection<T: Talk + Drop, S: Source, K: Sink, A: Application>(
     alloc: Global,
     port: u16,
     input: &mut S,
@@ -146,16 +145,18 @@ pub fn answer_connection<S: Source, K: Sink, A: Application>(
     app: &A,
 ) -> ConnectionEnd
     // By the bytes that were read: out has what the session of the application sends for them.
-    ensures exchanged { Exchanged result (A.answer_of app.now) port (S.remaining input.old) (S.remaining input.new) (K.written out.old) (K.written out.new) }
+    ensures exchanged { Exchanged result T.answers (A.answer_of app.now) port (S.remaining input.old) (S.remaining input.new) (K.written out.old) (K.written out.new) }
     // By all the bytes that were left, however the source cuts them.
     ensures whole { (left : List ℕ) → S.remaining input.old ≡ Some left →
-        IsWhole result (whole_session (A.answer_of app.now) port left) (K.written out.old) (K.written out.new) }
+        IsWhole result (whole_session T.answers (A.answer_of app.now) port left) (K.written out.old) (K.written out.new) }
     ensures read_fault { result ≡ ConnectionEnd.ReadFault → HasRisen (S.faults input.old) (S.faults input.new) }
     ensures write_fault { result ≡ ConnectionEnd.WriteFault → HasRisen (K.faults out.old) (K.faults out.new) }
     ensures input_never_falls { S.faults input.old ≤ S.faults input.new }
     ensures out_never_falls { K.faults out.old ≤ K.faults out.new }
 {
-    let mut session = Session::new(alloc, port);
+    T::never_takes_back();
+    T::is_silent_at_first();
+    let mut session = T::begin(alloc, port);
     let mut count = 0;
     while count <= MOST_BYTES {
         match exchange(&mut session, count, input, out, app) {

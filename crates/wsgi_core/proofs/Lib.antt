@@ -1,4 +1,5 @@
 pub mod AnswerLaws
+pub mod Cuts
+pub mod ProgressLaws
+pub mod ProgressSteps
 pub mod SessionLaws
-pub mod TalkLaws
-pub mod TalkSteps

@@ -1,6 +1,7 @@
 -- Sessions: what was sent stays sent, whatever bytes follow, and a session is its first request and the rest.
 use Rattle.std.specs.Prelude.{◌||◌}
 use Rattle.wsgi_core.specs.Laws.{NeverTakesBack}
+use Rattle.wsgi_core.specs.Gateways.{IsBefore}
 use Rattle.std.proofs.lemmas.Bool.{or_left, or_right}
 use Rattle.std.proofs.Common.{◌≡◌, ℕ, zero, suc, ◌+◌, ◌<◌, ◌≤◌, Bool, true, false, cond, List, [], ◌++◌, length, refl, sym, ap, ◌∙◌, subst, arith, append_assoc, append-nil, length-append}
 use Rattle.http_messages.specs.Cuts.{Cut, waits, refused, whole}
@@ -15,12 +16,6 @@ use Rattle.http_messages.proofs.RequestLaws.{request_at-later, request_at-takes}
 use Rattle.http_messages.proofs.BodyLaws.{body_by-later, body_by-takes}
 
 -- ---- what is sent
-
--- b goes on where a stops, and is a where a closes
-pub record IsBefore (a b : Sent) : Type 0 where
-  pub tail : List ℕ
-  pub longer : b.bytes ≡ a.bytes ++ tail
-  pub done : a.closes ≡ true → b ≡ a
 
 pub before-self : (a : Sent) → IsBefore a a
 before-self a = record { tail = []; longer = sym (append-nil a.bytes); done = λ _. refl }
@@ -118,8 +113,13 @@ session-before app port bytes more ended =
       tail = b.tail;
       longer = b.longer;
       closed = closed (answers app port bytes).closes (answers app port (bytes ++ more)).closes ended (λ e. ap (λ (s : Sent). s.closes) (b.done e) ∙ e);
+      done = λ e. ap (λ (s : Sent). s.bytes) (b.done (not_by_the_end (answers app port bytes).closes e));
     }
   where
+    not_by_the_end : (p : Bool) → (p || false) ≡ true → p ≡ true
+    not_by_the_end true e = refl
+    not_by_the_end false e = absurd (cc)
+
     closed : (p q ended : Bool) → (p ≡ true → q ≡ true) → (p || ended) ≡ true → (q || ended) ≡ true
     closed true q true h e = or_right q true refl
     closed true q false h e = or_left q false (h refl)

@@ -1,8 +1,10 @@
 pub mod Answers
 pub mod Applications
+pub mod Gateways
 pub mod Laws
+pub mod Progress
 pub mod Sessions
 pub mod Shipped
 pub mod Stages
+pub mod Standings
 pub mod Steps
-pub mod Talks

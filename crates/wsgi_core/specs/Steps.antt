@@ -1,6 +1,6 @@
 -- Where a session stands, as a function of what it was fed and what was taken from it.
 use Rattle.std.specs.Prelude.{◌≡◌, ◌||◌, ℕ, Bool, true, false, List, [], ◌++◌, Option, Some, None}
-use Rattle.std.proofs.Common.{Bor, ap, sym, ◌∙◌, append-nil}
+use Rattle.std.proofs.Common.{Bor, ap, refl, sym, ◌∙◌, append_assoc, append-nil}
 use Rattle.wsgi_core.specs.declared.session.Session.{Session}
 use Rattle.wsgi_core.specs.declared.session.SessionPhase.{SessionPhase}
 use Rattle.wsgi_core.specs.declared.session.SessionPhase.TheVariants.{Serving, Closing}
@@ -11,10 +11,10 @@ use Rattle.wsgi_core.specs.declared.reply.Reply.{Reply}
 use Rattle.wsgi_core.specs.Applications.{App}
 use Rattle.wsgi_core.specs.Answers.{Sent, ◌⨾◌}
 use Rattle.wsgi_core.specs.Sessions.{answers, session}
-use Rattle.wsgi_core.specs.Talks.{Talk, IsSettled, Stands}
+use Rattle.wsgi_core.specs.Progress.{Progress, IsSettled, Stands, sent_from}
 
-abbrev pub talk_of : Session → Talk
-talk_of s = record { port = s.port; stage = s.stage; kept = s.kept; pending = s.pending; closing = s.closing }
+abbrev pub progress_of : Session → Progress
+progress_of s = record { port = s.port; stage = s.stage; kept = s.kept; pending = s.pending; closing = s.closing }
 
 -- the request at this stage that waits for its reply
 abbrev pub asked_at : Stage → Option (List Pair × List ℕ)
@@ -49,8 +49,8 @@ IsReplyTo app (Some asked) reply = reply ≡ app asked.0 asked.1
 pub record StandsAt (app : App) (port : ℕ) (fed : List ℕ) (ended : Bool) (taken : List ℕ) (s : Session) : Type 0 where
   pub same_port : s.port ≡ port
   pub same_end : s.ended ≡ ended
-  pub stands : Stands app fed taken (talk_of s)
-  pub settled : asked_of s ≡ None → IsSettled app (talk_of s)
+  pub stands : Stands app fed taken (progress_of s)
+  pub settled : asked_of s ≡ None → IsSettled app (progress_of s)
 
 -- the same, and no request waits
 pub record IsAt (app : App) (port : ℕ) (fed : List ℕ) (ended : Bool) (taken : List ℕ) (s : Session) : Type 0 where
@@ -80,3 +80,24 @@ phase_by false = Serving
 pub said_bytes : (app : App) (port : ℕ) (fed : List ℕ) (ended : Bool) (taken : List ℕ) (s : Session) → IsAt app port fed ended taken s
     → taken ++ s.pending ≡ (session app port fed ended).bytes
 said_bytes app port fed ended taken s h = ap (λ (t : Sent). t.bytes) (is_said app port fed ended taken s h)
+
+pub stopped_bytes : (app : App) (port : ℕ) (fed taken : List ℕ) (s : Session) → Stopped app port fed taken s
+    → (tail : List ℕ) × ((answers app port fed).bytes ≡ taken ++ s.pending ++ tail)
+stopped_bytes app port fed taken s h = (h.tail, h.due)
+
+-- what is sent begins with the first part
+then_begins : (p : List ℕ) (closes : Bool) (b : Sent) → (tail : List ℕ) × ((record { bytes = p; closes = closes } ⨾ b).bytes ≡ p ++ tail)
+then_begins p true b = ([], sym (append-nil p))
+then_begins p false b = (b.bytes, refl)
+
+begun_sent : (app : App) (port : ℕ) (fed taken : List ℕ) (s : Session) → s.port ≡ port → Stands app fed taken (progress_of s)
+    → (tail : List ℕ) × ((answers app port fed).bytes ≡ taken ++ s.pending ++ tail)
+begun_sent app port fed taken s same h =
+    let t = then_begins s.pending s.closing (sent_from app s.port s.stage (s.kept ++ [])) in
+    let n = append-nil fed in
+    (t.0, ap (λ (x : Sent). x.bytes) (sym (h [] ∙ (λ i. answers app (same i) (n i)))) ∙ ap (λ (l : List ℕ). taken ++ l) t.1 ∙ sym (append_assoc taken s.pending t.0))
+
+-- where a request waits too, what was taken and what is pending begin what the session sends
+pub begun_bytes : (app : App) (port : ℕ) (fed : List ℕ) (ended : Bool) (taken : List ℕ) (s : Session) → StandsAt app port fed ended taken s
+    → (tail : List ℕ) × ((session app port fed ended).bytes ≡ taken ++ s.pending ++ tail)
+begun_bytes app port fed ended taken s h = begun_sent app port fed taken s h.same_port h.stands

@@ -2,7 +2,7 @@
 ghost use Rattle.std.specs.Prelude.{◌≡◌, ◌<◌, ◌-◌, ◌++◌, IsTrue, OnOk, IfOk, length as list_length, take};
 ghost use Rattle.std.specs.List.{concat, flat_map, list_all};
 ghost use Rattle.std.specs.Char.{is_ascii_digit};
-ghost use Rattle.wsgi_core.specs.Answers.{answer, begins_with_code, body_bytes, chunk, coding_line, connection_line, ending, falls_short, has_code, has_place, has_visible_ends, head_bytes, header_line, is_empty, is_faulty, is_header, is_hop_by_hop, is_reason, is_reason_byte, is_status, is_visible, is_wrong, length_of, says_close, sent_by, server_error, stated, stated_after, status_line};
+ghost use Rattle.wsgi_core.specs.Answers.{answer, begins_with_code, body_bytes, chunk, coding_line, connection_line, ending, ending_by, falls_short, has_code, has_place, has_visible_ends, head_bytes, header_line, is_empty, is_faulty, is_header, is_hop_by_hop, is_reason, is_reason_byte, is_status, is_visible, is_wrong, length_of, says_close, sent_by, server_error, stated, stated_after, status_line};
 
 use crate::reply::{Pieces, Reply};
 use http_messages::{Bytes, Headers, Request, eq_any_case, parse_length};
@@ -200,7 +200,7 @@ fn are_empty(pieces: &Pieces) -> bool
 }
 
 /// Whether the reply can't be sent.
-fn is_faulty(reply: &Reply) -> bool
+pub fn is_faulty(reply: &Reply) -> bool
     ensures { result ≡ is_faulty reply.now }
 {
     match reply {
@@ -220,15 +220,15 @@ fn is_faulty(reply: &Reply) -> bool
 }
 
 /// How the end of a reply's body is told.
-fn ending_of(request: &Request, status: &[u8], headers: &Headers) -> Ending
-    ensures { result ≡ ending request.now status.now headers.now }
+pub fn ending_of(minor: u8, status: &[u8], headers: &Headers) -> Ending
+    ensures { result ≡ ending_by (has_place status.now) minor (stated headers.now) }
 {
     if !has_place(status) {
         return Ending::NoBody;
     }
     match stated_length(headers) {
         Stated::Length(length) => Ending::Counted(length),
-        _ if request.minor == 1 => Ending::InChunks,
+        _ if minor == 1 => Ending::InChunks,
         _ => Ending::AtClose,
     }
 }
@@ -254,7 +254,7 @@ fn push_connection(out: &mut Vec<u8>, request: &Request, ending: Ending) -> Resu
 }
 
 /// Appends the headers as lines.
-fn push_headers(out: &mut Vec<u8>, headers: &Headers) -> Result<(), AllocError>
+pub fn push_headers(out: &mut Vec<u8>, headers: &Headers) -> Result<(), AllocError>
     ensures { OnOk result (out.new.items ≡ out.old.items ++ flat_map header_line headers.now) }
 {
     for header in headers.items() {
@@ -362,7 +362,7 @@ fn push_pieces(out: &mut Vec<u8>, pieces: &Pieces) -> Result<(), AllocError>
 }
 
 /// Appends a body; answers whether the pieces fall short of the stated length.
-fn push_body(
+pub fn push_body(
     alloc: Global,
     out: &mut Vec<u8>,
     ending: Ending,
@@ -417,7 +417,7 @@ fn push_started(
     ensures closes { IfOk result (λ closes. closes
         ≡ (sent_by request.now (ending request.now status.now headers.now) status.now headers.now pieces.now raised).closes) }
 {
-    let ending = ending_of(request, status, headers);
+    let ending = ending_of(request.minor, status, headers);
     push_head(alloc, out, request, ending, status, headers)?;
     let closes = says_close(request, ending) || raised;
     if request.is_head {

@@ -7,10 +7,11 @@ mod laws;
 mod reply;
 mod session;
 mod shipped;
-#[cfg(test)]
-mod tests;
+mod talk;
 
-pub use answer::{Ending, Stated, push_answer};
+pub use answer::{
+    Ending, Stated, ending_of, is_faulty, push_answer, push_body, push_headers,
+};
 pub use gateway::{
     WSGI_MULTIPROCESS, WSGI_MULTITHREAD, WSGI_RUN_ONCE, WSGI_URL_SCHEME, WSGI_VERSION,
 };
@@ -19,3 +20,4 @@ pub use laws::sessions_never_take_back;
 pub use reply::{Application, Pieces, Reply};
 pub use session::{Session, SessionPhase, Stage};
 pub use shipped::{Route, ShippedApp};
+pub use talk::Talk;

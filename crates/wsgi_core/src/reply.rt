@@ -2,8 +2,7 @@
 ghost use Rattle.std.specs.Prelude.{◌≡◌, ℕ, List, IfOk};
 ghost use Rattle.wsgi_core.specs.declared.reply.Reply.{Reply};
 
-use http_messages::{Bytes, Environ, Headers};
-use sequences::Sequence;
+use http_messages::{Bytes, Environ, Headers, Sequence};
 use std::alloc::{AllocError, Global};
 
 /// The pieces of a body, in order.

@@ -4,8 +4,9 @@ ghost use Rattle.wsgi_core.specs.Answers.{if_continues, refusal};
 ghost use Rattle.wsgi_core.specs.Applications.{App};
 ghost use Rattle.wsgi_core.specs.Sessions.{answers, session};
 ghost use Rattle.wsgi_core.specs.Stages.{is_at_head};
-ghost use Rattle.wsgi_core.specs.Steps.{IsAsked, IsAt, IsReplyTo, StandsAt, Stopped, asked_of, pending_of, phase_by, talk_of};
-ghost use Rattle.wsgi_core.specs.Talks.{GoesOn, IsDue, IsSettled, Stands};
+ghost use Rattle.wsgi_core.specs.Standings.{IsAllSaid, IsBegun, IsBegunSaid, IsCutBy, IsCutSaid, IsFed, IsTaken, IsTakenCut, IsToldTheEnd, StaysCut, StaysEnded};
+ghost use Rattle.wsgi_core.specs.Steps.{IsAsked, IsAt, IsReplyTo, StandsAt, Stopped, asked_of, pending_of, phase_by, progress_of};
+ghost use Rattle.wsgi_core.specs.Progress.{GoesOn, IsDue, IsSettled, Stands};
 
 use crate::answer::push_answer;
 use crate::reply::{Application, Reply};
@@ -79,7 +80,7 @@ fn push_continue(pending: &mut ByteQueue, request: &Request) -> Result<(), Alloc
 impl Session {
     /// A session to which nothing was fed.
     pub fn new(alloc: Global, port: u16) -> Session
-        ensures { (app : App) → IsAt app port [] false [] result }
+        ensures { IsBegun IsAt port result }
     {
         Session {
             alloc,
@@ -97,8 +98,8 @@ impl Session {
     fn read_head(&mut self) -> Result<bool, AllocError>
         requires is_open { self.old.closing ≡ false }
         requires at_head { self.old.stage ≡ Stage.AtHead }
-        ensures goes_on { OnOk result ((app : App) → GoesOn app (talk_of self.old) (talk_of self.new)) }
-        ensures settled { IfOk result (λ more. more ≡ false → (app : App) → IsSettled app (talk_of self.new)) }
+        ensures goes_on { OnOk result ((app : App) → GoesOn app (progress_of self.old) (progress_of self.new)) }
+        ensures settled { IfOk result (λ more. more ≡ false → (app : App) → IsSettled app (progress_of self.new)) }
         ensures is_open_still { IfOk result (λ more. more ≡ true → self.new.closing ≡ false) }
         ensures begun { IfOk result (λ more. more ≡ true → is_at_head self.new.stage ≡ false) }
         ensures shorter { IfOk result (λ more. more ≡ true → length self.new.kept < length self.old.kept) }
@@ -128,8 +129,8 @@ impl Session {
     fn read_body(&mut self) -> Result<(), AllocError>
         requires is_open { self.old.closing ≡ false }
         requires begun { is_at_head self.old.stage ≡ false }
-        ensures goes_on { OnOk result ((app : App) → GoesOn app (talk_of self.old) (talk_of self.new)) }
-        ensures settled { OnOk result (asked_of self.new ≡ None → (app : App) → IsSettled app (talk_of self.new)) }
+        ensures goes_on { OnOk result ((app : App) → GoesOn app (progress_of self.old) (progress_of self.new)) }
+        ensures settled { OnOk result (asked_of self.new ≡ None → (app : App) → IsSettled app (progress_of self.new)) }
         ensures shorter { OnOk result (IsSome (asked_of self.new) → length self.new.kept ≤ length self.old.kept) }
         ensures same_port { self.new.port ≡ self.old.port }
         ensures same_end { self.new.ended ≡ self.old.ended }
@@ -177,12 +178,12 @@ impl Session {
     /// Goes on to the next whole request or to the end of the bytes that came.
     fn go_on(&mut self) -> Result<(), AllocError>
         requires { self.old.closing ≡ false }
-        ensures goes_on { OnOk result ((app : App) → GoesOn app (talk_of self.old) (talk_of self.new)) }
-        ensures settled { OnOk result (asked_of self.new ≡ None → (app : App) → IsSettled app (talk_of self.new)) }
+        ensures goes_on { OnOk result ((app : App) → GoesOn app (progress_of self.old) (progress_of self.new)) }
+        ensures settled { OnOk result (asked_of self.new ≡ None → (app : App) → IsSettled app (progress_of self.new)) }
         ensures shorter { OnOk result (IsSome (asked_of self.new) → is_at_head self.old.stage ≡ true → length self.new.kept < length self.old.kept) }
         ensures same_port { self.new.port ≡ self.old.port }
         ensures same_end { self.new.ended ≡ self.old.ended }
-        ensures due { OnErr result ((app : App) → IsDue app (talk_of self.old) self.new.pending) }
+        ensures due { OnErr result ((app : App) → IsDue app (progress_of self.old) self.new.pending) }
     {
         if !self.is_at_head() {
             return self.read_body();
@@ -196,12 +197,12 @@ impl Session {
     /// Appends the piece and goes on.
     fn take_open(&mut self, piece: &[u8]) -> Result<(), AllocError>
         requires { self.old.closing ≡ false }
-        ensures stands { OnOk result ((app : App) (fed taken : List ℕ) → Stands app fed taken (talk_of self.old)
-            → Stands app (fed ++ piece.now) taken (talk_of self.new)) }
-        ensures settled { OnOk result (asked_of self.new ≡ None → (app : App) → IsSettled app (talk_of self.new)) }
+        ensures stands { OnOk result ((app : App) (fed taken : List ℕ) → Stands app fed taken (progress_of self.old)
+            → Stands app (fed ++ piece.now) taken (progress_of self.new)) }
+        ensures settled { OnOk result (asked_of self.new ≡ None → (app : App) → IsSettled app (progress_of self.new)) }
         ensures same_port { self.new.port ≡ self.old.port }
         ensures same_end { self.new.ended ≡ self.old.ended }
-        ensures due { OnErr result ((app : App) (fed taken : List ℕ) → Stands app fed taken (talk_of self.old)
+        ensures due { OnErr result ((app : App) (fed taken : List ℕ) → Stands app fed taken (progress_of self.old)
             → (tail : List ℕ) × ((answers app self.old.port (fed ++ piece.now)).bytes ≡ taken ++ self.new.pending ++ tail)) }
     {
         self.kept.append(piece)?;
@@ -209,15 +210,14 @@ impl Session {
     }
 
     /// Takes the next piece of the input and goes on to the next whole request; bytes behind it are kept.
-    /// A session that is closing or ended ignores the piece. After an `Err` it is closing, and what is
-    /// pending and what was taken begin what it sends.
+    /// A session that is closing or ended, or that ran out of memory, ignores the piece and stays as it was. After
+    /// an `Err` it is closing, and what is pending and what was taken begin what it sends.
     pub fn take_in(&mut self, piece: &[u8]) -> Result<(), AllocError>
-        ensures stands_at { OnOk result ((app : App) (port : ℕ) (fed taken : List ℕ) → StandsAt app port fed false taken self.old
-            → StandsAt app port (fed ++ piece.now) false taken self.new) }
-        ensures ended { (app : App) (port : ℕ) (fed taken : List ℕ) → StandsAt app port fed true taken self.old
-            → StandsAt app port fed true taken self.new }
-        ensures stopped { OnErr result ((app : App) (port : ℕ) (fed taken : List ℕ) → StandsAt app port fed false taken self.old
-            → Stopped app port (fed ++ piece.now) taken self.new) }
+        ensures stands_at { OnOk result ((app : App) → IsFed StandsAt StandsAt app piece.now self.old self.new) }
+        ensures stopped { OnErr result ((app : App) → IsCutBy StandsAt Stopped app piece.now self.old self.new) }
+        ensures ended { StaysEnded StandsAt self.old self.new }
+        ensures ended_quiet { StaysEnded IsAt self.old self.new }
+        ensures ignored { StaysCut Stopped self.old self.new }
     {
         if self.ended {
             return Ok(());
@@ -250,7 +250,7 @@ impl Session {
     fn answer_asked(&mut self, reply: Reply) -> Result<(), AllocError>
         requires { IsSome (asked_of self.old) }
         ensures goes_on { OnOk result ((app : App) → IsReplyTo app (asked_of self.old) reply
-            → GoesOn app (talk_of self.old) (talk_of self.new)) }
+            → GoesOn app (progress_of self.old) (progress_of self.new)) }
         ensures at_head { OnOk result (self.new.stage ≡ Stage.AtHead) }
         ensures same_kept { self.new.kept ≡ self.old.kept }
         ensures same_port { self.new.port ≡ self.old.port }
@@ -274,12 +274,12 @@ impl Session {
     fn answer_on(&mut self, reply: Reply) -> Result<(), AllocError>
         requires { IsSome (asked_of self.old) }
         ensures goes_on { OnOk result ((app : App) → IsReplyTo app (asked_of self.old) reply
-            → GoesOn app (talk_of self.old) (talk_of self.new)) }
-        ensures settled { OnOk result (asked_of self.new ≡ None → (app : App) → IsSettled app (talk_of self.new)) }
+            → GoesOn app (progress_of self.old) (progress_of self.new)) }
+        ensures settled { OnOk result (asked_of self.new ≡ None → (app : App) → IsSettled app (progress_of self.new)) }
         ensures shorter { OnOk result (IsSome (asked_of self.new) → length self.new.kept < length self.old.kept) }
         ensures same_port { self.new.port ≡ self.old.port }
         ensures same_end { self.new.ended ≡ self.old.ended }
-        ensures due { OnErr result ((app : App) → IsReplyTo app (asked_of self.old) reply → IsDue app (talk_of self.old) self.new.pending) }
+        ensures due { OnErr result ((app : App) → IsReplyTo app (asked_of self.old) reply → IsDue app (progress_of self.old) self.new.pending) }
     {
         self.answer_asked(reply)?;
         if self.closing {
@@ -308,13 +308,13 @@ impl Session {
 
     /// Answers the requests that are whole, one after the other.
     fn answer_all<A: Application>(&mut self, app: &A) -> Result<(), AllocError>
-        requires { asked_of self.old ≡ None → IsSettled (A.answer_of app.now) (talk_of self.old) }
-        ensures goes_on { OnOk result (GoesOn (A.answer_of app.now) (talk_of self.old) (talk_of self.new)) }
-        ensures settled { OnOk result (IsSettled (A.answer_of app.now) (talk_of self.new)) }
+        requires { asked_of self.old ≡ None → IsSettled (A.answer_of app.now) (progress_of self.old) }
+        ensures goes_on { OnOk result (GoesOn (A.answer_of app.now) (progress_of self.old) (progress_of self.new)) }
+        ensures settled { OnOk result (IsSettled (A.answer_of app.now) (progress_of self.new)) }
         ensures quiet { OnOk result (asked_of self.new ≡ None) }
         ensures same_port { self.new.port ≡ self.old.port }
         ensures same_end { self.new.ended ≡ self.old.ended }
-        ensures due { OnErr result (IsDue (A.answer_of app.now) (talk_of self.old) self.new.pending) }
+        ensures due { OnErr result (IsDue (A.answer_of app.now) (progress_of self.old) self.new.pending) }
     {
         'requests: loop {
             let reply = match self.asked() {
@@ -328,13 +328,13 @@ impl Session {
     /// Appends the piece, and answers all that is whole.
     fn feed_open<A: Application>(&mut self, piece: &[u8], app: &A) -> Result<(), AllocError>
         requires { self.old.closing ≡ false }
-        ensures stands { OnOk result ((fed taken : List ℕ) → Stands (A.answer_of app.now) fed taken (talk_of self.old)
-            → Stands (A.answer_of app.now) (fed ++ piece.now) taken (talk_of self.new)) }
-        ensures settled { OnOk result (IsSettled (A.answer_of app.now) (talk_of self.new)) }
+        ensures stands { OnOk result ((fed taken : List ℕ) → Stands (A.answer_of app.now) fed taken (progress_of self.old)
+            → Stands (A.answer_of app.now) (fed ++ piece.now) taken (progress_of self.new)) }
+        ensures settled { OnOk result (IsSettled (A.answer_of app.now) (progress_of self.new)) }
         ensures quiet { OnOk result (asked_of self.new ≡ None) }
         ensures same_port { self.new.port ≡ self.old.port }
         ensures same_end { self.new.ended ≡ self.old.ended }
-        ensures due { OnErr result ((fed taken : List ℕ) → Stands (A.answer_of app.now) fed taken (talk_of self.old)
+        ensures due { OnErr result ((fed taken : List ℕ) → Stands (A.answer_of app.now) fed taken (progress_of self.old)
             → (tail : List ℕ) × ((answers (A.answer_of app.now) self.old.port (fed ++ piece.now)).bytes ≡ taken ++ self.new.pending ++ tail)) }
     {
         self.take_open(piece)?;
@@ -343,15 +343,14 @@ impl Session {
 
     /// Takes the next piece of the input, and answers all that is whole. Whatever was fed and taken before,
     /// what is pending now and what was taken are what the session sends for all that was fed. A session
-    /// that is closing or ended ignores the piece. After an `Err` it is closing, and they begin what it
-    /// sends.
+    /// that is closing or ended, or that ran out of memory, ignores the piece and stays as it was. After an `Err` it
+    /// is closing, and they begin what it sends.
     pub fn feed<A: Application>(&mut self, piece: &[u8], app: &A) -> Result<(), AllocError>
-        ensures is_at { OnOk result ((port : ℕ) (fed taken : List ℕ) → StandsAt (A.answer_of app.now) port fed false taken self.old
-            → IsAt (A.answer_of app.now) port (fed ++ piece.now) false taken self.new) }
-        ensures ended { (any : App) (port : ℕ) (fed taken : List ℕ) → StandsAt any port fed true taken self.old
-            → StandsAt any port fed true taken self.new }
-        ensures stopped { OnErr result ((port : ℕ) (fed taken : List ℕ) → StandsAt (A.answer_of app.now) port fed false taken self.old
-            → Stopped (A.answer_of app.now) port (fed ++ piece.now) taken self.new) }
+        ensures is_at { OnOk result (IsFed StandsAt IsAt (A.answer_of app.now) piece.now self.old self.new) }
+        ensures stopped { OnErr result (IsCutBy StandsAt Stopped (A.answer_of app.now) piece.now self.old self.new) }
+        ensures ended { StaysEnded StandsAt self.old self.new }
+        ensures ended_quiet { StaysEnded IsAt self.old self.new }
+        ensures ignored { StaysCut Stopped self.old self.new }
     {
         if self.ended {
             return Ok(());
@@ -366,21 +365,24 @@ impl Session {
         fed
     }
 
-    /// Tells that the input has ended: nothing more is answered than what came before.
+    /// Tells that the input has ended: nothing more is answered than what came before. A session that ran out of
+    /// memory stays as it was.
     pub fn end(&mut self)
-        ensures stands_at { (app : App) (port : ℕ) (fed : List ℕ) (ended : Bool) (taken : List ℕ)
-            → StandsAt app port fed ended taken self.old → StandsAt app port fed true taken self.new }
-        ensures is_at { (app : App) (port : ℕ) (fed : List ℕ) (ended : Bool) (taken : List ℕ)
-            → IsAt app port fed ended taken self.old → IsAt app port fed true taken self.new }
+        ensures stands_at { IsToldTheEnd StandsAt self.old self.new }
+        ensures is_at { IsToldTheEnd IsAt self.old self.new }
+        ensures stopped { StaysCut Stopped self.old self.new }
+        ensures pending { pending_of self.new ≡ pending_of self.old }
     {
         self.ended = true;
     }
 
-    /// The bytes to be sent: with those taken, what the session sends for all that was fed.
+    /// The bytes to be sent: with those taken, what the session sends for all that was fed. While a request waits
+    /// for its reply, and after want of memory, they begin it.
     pub fn pending(&self) -> &[u8]
         ensures pending { result.now ≡ pending_of self.now }
-        ensures said { (app : App) (port : ℕ) (fed : List ℕ) (ended : Bool) (taken : List ℕ) → IsAt app port fed ended taken self.now
-            → taken ++ result.now ≡ (session app port fed ended).bytes }
+        ensures said { IsAllSaid answers IsAt result.now self.now }
+        ensures begun { IsBegunSaid answers StandsAt result.now self.now }
+        ensures stopped { IsCutSaid answers Stopped result.now self.now }
     {
         self.pending.items()
     }
@@ -388,12 +390,9 @@ impl Session {
     /// Removes bytes from the front of those pending: they were sent.
     pub fn took(&mut self, n: usize)
         requires { n ≤ length (pending_of self.old) }
-        ensures stands_at { (app : App) (port : ℕ) (fed : List ℕ) (ended : Bool) (taken : List ℕ)
-            → StandsAt app port fed ended taken self.old
-            → StandsAt app port fed ended (taken ++ take n (pending_of self.old)) self.new }
-        ensures is_at { (app : App) (port : ℕ) (fed : List ℕ) (ended : Bool) (taken : List ℕ)
-            → IsAt app port fed ended taken self.old
-            → IsAt app port fed ended (taken ++ take n (pending_of self.old)) self.new }
+        ensures stands_at { IsTaken StandsAt (take n (pending_of self.old)) self.old self.new }
+        ensures is_at { IsTaken IsAt (take n (pending_of self.old)) self.old self.new }
+        ensures stopped { IsTakenCut Stopped (take n (pending_of self.old)) self.old self.new }
         ensures rest { pending_of self.new ≡ drop n (pending_of self.old) }
     {
         self.pending.skip(n);

@@ -4,8 +4,7 @@ ghost use Rattle.wsgi_core.specs.Shipped.{content_type, environ_text, or_empty, 
 ghost use Rattle.http_messages.specs.Environs.{pair_value};
 
 use crate::reply::{Application, Pieces, Reply};
-use http_messages::{Bytes, Environ, Headers};
-use sequences::Sequence;
+use http_messages::{Bytes, Environ, Headers, Sequence};
 use std::alloc::{AllocError, Global};
 
 /// What the paths ask for.

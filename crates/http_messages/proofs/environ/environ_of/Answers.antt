@@ -1,19 +1,20 @@
-use Rattle.std.proofs.Common.{◌≡◌, ◌++◌, ◌∙◌, ap, sym, List, fold}
-use Rattle.std.proofs.lemmas.List.Sums.{fold-append}
+use Rattle.std.proofs.Common.{◌++◌, ◌∙◌, ap, List, ℕ}
+use Rattle.http_header.specs.HeaderMap.{Entries}
 use Rattle.http_messages.specs.declared.environ.KeyClass.TheVariants.{ContentType, ContentLength, Other}
-use Rattle.http_messages.specs.Environs.{Pair, environ_of, with_pair, request_pairs, pairs_in, field_pairs}
-use Rattle.http_messages.specs.Fields.{fields_at}
+use Rattle.http_messages.specs.Environs.{Pair, request_pairs}
+use Rattle.http_messages.specs.Fields.{texts}
+use Rattle.http_messages.proofs.GroupLaws.{class_pairs, environ_grouped}
 use Rattle.http_messages.proofs.environ.environ_of.Goals as goal
 
 pub returns : goal.returns
-unfolding environ_of
-returns c =
-    let pairs = field_pairs (fields_at c.args.head.now c.args.headers.now) in
-    let start = request_pairs c.args.port c.args.method.now c.args.target.now c.args.minor in
+returns c = λ pairs are.
+    let head = c.args.head.now in
+    let start = request_pairs head.port head.method.now head.target.now head.minor in
+    let fields = texts head.fields in
     c.in_ok-add_fields-3.ensures
-    ∙ ap (λ (e : List Pair). fold with_pair e (pairs_in Other pairs))
+    ∙ ap (λ (l : List Pair). l ++ class_pairs Other fields)
     (c.in_ok-add_fields-2.ensures
-    ∙ ap (λ (e : List Pair). fold with_pair e (pairs_in ContentLength pairs))
-    (c.in_ok-add_fields.ensures ∙ ap (λ (e : List Pair). fold with_pair e (pairs_in ContentType pairs)) c.in_ok-environ.ensures)
-    ∙ sym (fold-append with_pair start (pairs_in ContentType pairs) (pairs_in ContentLength pairs)))
-    ∙ sym (fold-append with_pair start (pairs_in ContentType pairs ++ pairs_in ContentLength pairs) (pairs_in Other pairs))
+    ∙ ap (λ (l : List Pair). l ++ class_pairs ContentLength fields)
+    (c.in_ok-add_fields.ensures ∙ ap (λ (l : List Pair). l ++ class_pairs ContentType fields) c.in_ok-environ.ensures))
+    ∙ ap (λ (m : Entries (List ℕ)). start ++ class_pairs ContentType m ++ class_pairs ContentLength m ++ class_pairs Other m) are
+    ∙ environ_grouped head.port head.method.now head.target.now head.minor pairs

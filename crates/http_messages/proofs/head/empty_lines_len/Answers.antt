@@ -1,4 +1,4 @@
-use Rattle.std.proofs.Common.{◌≡◌, ◌<◌, ◌≤◌, ◌-◌, ◌+◌, ◌∙◌, sym, ap, arith, ℕ, List, length, take, drop, length-drop}
+use Rattle.std.proofs.Common.{◌≡◌, ◌≤◌, ◌-◌, ◌∙◌, sym, ap, arith, ℕ, List, length, take, drop, length-drop}
 use Rattle.std.proofs.lemmas.List.{take_all, drop-drop}
 use Rattle.http_messages.specs.Cuts.{empty_line, drop_empty_lines}
 use Rattle.http_messages.proofs.CutLaws.{empty_fits}

@@ -1,4 +1,4 @@
-use Rattle.std.proofs.Common.{◌≡◌, ◌<◌, ◌≤◌, ◌∙◌, sym, ap, arith, ℕ, List, length, take, true, Option, Some, None}
+use Rattle.std.proofs.Common.{◌≤◌, ◌∙◌, sym, ap, arith, ℕ, List, length, take, true}
 use Rattle.http_messages.specs.Cuts.{empty_line_end}
 use Rattle.http_messages.proofs.CutReads.{head_found, head_too_long, head_waits}
 use Rattle.http_messages.proofs.head.head_end.Goals as goal

@@ -1,9 +1,9 @@
-use Rattle.std.proofs.Common.{◌≡◌, ◌<◌, ◌≤◌, ◌-◌, ◌+◌, ◌∙◌, sym, ap, arith, ℕ, Bool, List, length, take, drop, length-drop}
+use Rattle.std.proofs.Common.{◌≡◌, ◌-◌, ◌+◌, ◌∙◌, sym, ap, arith, ℕ, List, length, take, drop, length-drop}
 use Rattle.std.proofs.lemmas.List.{take_all}
 use Rattle.std.specs.Str.{str_eq_ignore_ascii_case}
 use Rattle.httparse.specs.Grammar.{trim_ows}
 use Rattle.http_messages.specs.Requests.{has_member}
-use Rattle.http_messages.proofs.JudgeLaws.{is_option, member_true, member_later, member_last}
+use Rattle.http_messages.proofs.JudgeLaws.{member_true, member_later, member_last}
 use Rattle.http_messages.proofs.judge.has_member.Goals as goal
 
 take_rest : (bytes : List ℕ) (at : ℕ) → take (length bytes - at) (drop at bytes) ≡ drop at bytes

@@ -1,7 +1,6 @@
-use Rattle.std.proofs.Common.{◌≡◌, ◌<◌, ◌*◌, ◌+◌, ◌^◌, ◌∙◌, sym, ap, arith, ℕ, true, refl, add-one, get_or, take}
+use Rattle.std.proofs.Common.{◌≡◌, ◌<◌, ◌*◌, ◌+◌, ◌^◌, ◌∙◌, sym, arith, ℕ, true, add-one, get_or}
 use Rattle.std.proofs.Math.Nat.{pow-suc}
-use Rattle.std.specs.Char.{is_ascii_digit, digit_value}
-use Rattle.std.specs.Str.Parse.{digits_value}
+use Rattle.std.specs.Char.{is_ascii_digit}
 use Rattle.std.proofs.lemmas.Int.Digits.{digits_value_more}
 use Rattle.http_messages.proofs.JudgeLaws.{digit_is, below_limit, digits_more}
 use Rattle.http_messages.proofs.judge.parse_length.Goals as goal

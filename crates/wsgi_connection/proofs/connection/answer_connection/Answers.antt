@@ -5,7 +5,7 @@ use Rattle.wsgi_connection.proofs.connection.answer_connection.Goals as goal
 
 pub loop-count-init : goal.loop-count-init
 loop-count-init g c = record {
-  goes = begins _ c.args.port _ _ _ (c.new-session.ensures (g.A.Application.answer_of c.args.app.now));
+  goes = begins _ _ _ c.args.port _ _ _ (c.is_silent_at_first.ensures _ c.args.port) (c.begin-session.ensures (g.A.Application.answer_of c.args.app.now));
   most = omega arith;
   input_faults = omega arith;
   out_faults = omega arith;
@@ -21,9 +21,12 @@ loop-count-preserved g c = record {
 
 pub returns-in-Ended-clause-whole : goal.returns-in-Ended-clause-whole
 returns-in-Ended-clause-whole g c = λ left told.
-    whole_of c.in-Ended.end _ c.args.port left _ (g.S.Source.remaining c.exchange.new.input) _ _ told (c.in-Ended.ensures.leaves c.args.port _ _ c.loop-count.invariant.goes)
+    whole_of c.in-Ended.end _ _ c.args.port (c.never_takes_back.ensures _ c.args.port) left _ (g.S.Source.remaining c.exchange.new.input) _ _ told (c.in-Ended.ensures.leaves c.args.port _ _ c.loop-count.invariant.goes)
 
 pub returns-clause-whole : goal.returns-clause-whole
 returns-clause-whole g c = λ left told.
     let many : most_bytes < c.loop-count.count = omega (arith, c.loop-count-test.false) in
-    whole_of _ _ c.args.port left _ _ _ _ told (too_long _ _ c.loop-count.count _ _ _ _ c.loop-count.session c.loop-count.invariant.goes many c.loop-count.invariant.most)
+    whole_of _ _ _ c.args.port (c.never_takes_back.ensures _ c.args.port) left _ _ _ _ told (too_long _ _ _ _ c.loop-count.count _ _ _ _ c.loop-count.session c.loop-count.invariant.goes many c.loop-count.invariant.most)
+
+pub returns-in-Ended-clause-exchanged : goal.returns-in-Ended-clause-exchanged
+returns-in-Ended-clause-exchanged g c = c.in-Ended.ensures.leaves c.args.port _ _ c.loop-count.invariant.goes

@@ -5,7 +5,7 @@ use Rattle.wsgi_connection.proofs.connection.answer_connection.Given as goal
 
 abbrev pub invariant-loop-count : goal.invariant-loop-count
 invariant-loop-count g l = record {
-  goes : Goes (g.A.Application.answer_of l.app) l.port l.count (g.S.Source.remaining l.initial.input) (g.S.Source.remaining l.input)
+  goes : Goes g.T.Talk.answers g.T.Talk.is_at (g.A.Application.answer_of l.app) l.port l.count (g.S.Source.remaining l.initial.input) (g.S.Source.remaining l.input)
       (g.K.Sink.written l.initial.out) (g.K.Sink.written l.out) l.session;
   most : l.count ≤ most_bytes + 1;
   input_faults : g.S.Source.faults l.initial.input ≤ g.S.Source.faults l.input;

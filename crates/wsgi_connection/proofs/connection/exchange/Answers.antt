@@ -6,32 +6,32 @@ use Rattle.wsgi_connection.proofs.connection.exchange.Goals as goal
 
 pub returns-in_default-clause-leaves : goal.returns-in_default-clause-leaves
 returns-in_default-clause-leaves g c = λ port in0 out0 h.
-    read_failed _ port c.args.count in0 _ _ out0 _ _ h c.requires c.in_default.ensures.same
+    read_failed _ _ _ port c.args.count in0 _ _ out0 _ _ h c.requires c.in_default.ensures.same
 
 pub returns-then-came-eq0-clause-leaves : goal.returns-then-came-eq0-clause-leaves
 returns-then-came-eq0-clause-leaves g c = λ port in0 out0 h.
-    input_ended _ port c.args.count c.in-Ok.came c.read.new.buf in0 _ _ out0 _ _ _ c.end_input.result h c.requires c.if-came-eq0.true c.in-Ok.ensures.next
+    input_ended _ _ _ port c.args.count c.in-Ok.came c.read.new.buf in0 _ _ out0 _ _ _ c.end_input.result h c.requires c.if-came-eq0.true c.in-Ok.ensures.next
     (c.in-Ok.ensures.end (ap (λ (n : ℕ). Ok n) c.if-came-eq0.true)) (c.end_input.ensures.nothing _ port (take most_bytes h.read) h.at_rest) c.end_input.ensures.ended
 
 pub returns-in-Err-clause-leaves : goal.returns-in-Err-clause-leaves
 returns-in-Err-clause-leaves g c = λ port in0 out0 h.
     let fits : c.args.count + c.in-Ok.came ≤ most_bytes + 1 = grind (arith, common_steps) in
     let more = looked_at_more h.read c.read.new.buf _ c.args.count c.in-Ok.came c.min-looked_at.result h.is_long c.in-Ok.ensures.count c.min-looked_at.ensures in
-    piece_cut _ port c.args.count c.in-Ok.came c.read.new.buf _ in0 _ _ out0 _ _ _ c.in-Err.end h c.in-Ok.ensures.count c.in-Ok.ensures.next fits more c.in-Err.ensures.broke
+    piece_cut _ _ _ port c.args.count c.in-Ok.came c.read.new.buf _ in0 _ _ out0 _ _ _ c.in-Err.end h c.in-Ok.ensures.count c.in-Ok.ensures.next fits more c.in-Err.ensures.broke
 
 pub returns-in-Serving-clause-leaves : goal.returns-in-Serving-clause-leaves
 returns-in-Serving-clause-leaves g c = λ port in0 out0 h.
     let more = looked_at_more h.read c.read.new.buf _ c.args.count c.in-Ok.came c.min-looked_at.result h.is_long c.in-Ok.ensures.count c.min-looked_at.ensures in
     let rest = c.in-Ok-answer_piece.ensures.at_rest port (take most_bytes h.read) h.at_rest in
-    piece_answered _ port c.args.count c.in-Ok.came c.read.new.buf _ in0 _ _ out0 _ _ _ c.answer_piece.new.session h c.in-Ok.ensures.count c.in-Ok.ensures.next more rest
+    piece_answered _ _ _ port c.args.count c.in-Ok.came c.read.new.buf _ in0 _ _ out0 _ _ _ c.answer_piece.new.session h c.in-Ok.ensures.count c.in-Ok.ensures.next more rest
     (c.in-Ok-answer_piece.ensures.sent port (take most_bytes h.read) out0 h.at_rest h.served.sent)
-    (is_serving _ (c.in-Serving.ensures.said _ port _ false _ rest))
+    (is_serving _ (c.in-Serving.ensures.at _ port _ false _ rest))
 
 pub returns-in-Closing-clause-leaves : goal.returns-in-Closing-clause-leaves
 returns-in-Closing-clause-leaves g c = λ port in0 out0 h.
     let fits : c.args.count + c.in-Ok.came ≤ most_bytes + 1 = grind (arith, common_steps) in
     let more = looked_at_more h.read c.read.new.buf _ c.args.count c.in-Ok.came c.min-looked_at.result h.is_long c.in-Ok.ensures.count c.min-looked_at.ensures in
     let rest = c.in-Ok-answer_piece.ensures.at_rest port (take most_bytes h.read) h.at_rest in
-    piece_last _ port c.args.count c.in-Ok.came c.read.new.buf _ in0 _ _ out0 _ _ _ h c.in-Ok.ensures.count c.in-Ok.ensures.next fits more
+    piece_last _ _ _ port c.args.count c.in-Ok.came c.read.new.buf _ in0 _ _ out0 _ _ _ h c.in-Ok.ensures.count c.in-Ok.ensures.next fits more
     (c.in-Ok-answer_piece.ensures.sent port (take most_bytes h.read) out0 h.at_rest h.served.sent)
-    (is_closing _ (c.in-Closing.ensures.said _ port _ false _ rest))
+    (is_closing _ (c.in-Closing.ensures.at _ port _ false _ rest))

@@ -3,7 +3,7 @@ use Rattle.std.proofs.lemmas.Result.{IfOk-weaker}
 use Rattle.wsgi_core.specs.declared.reply.Reply.{Reply}
 use Rattle.wsgi_core.specs.Answers.{Sent, answer, ending, sent_by, sent_for}
 use Rattle.wsgi_core.proofs.AnswerLaws.{answer_faulty, answer_sent}
-use Rattle.wsgi_core.proofs.TalkSteps.{one_ok}
+use Rattle.wsgi_core.proofs.ProgressSteps.{one_ok}
 use Rattle.wsgi_core.proofs.answer.push_answer.Goals as goal
 
 pub returns-then-is_faulty-clause-sent : goal.returns-then-is_faulty-clause-sent

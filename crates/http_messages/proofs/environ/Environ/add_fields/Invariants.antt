@@ -1,8 +1,10 @@
-use Rattle.std.proofs.Common.{◌≡◌, fold, take}
-use Rattle.http_messages.specs.Environs.{with_pair, pairs_in, field_pairs}
-use Rattle.http_messages.specs.Fields.{fields_at}
+use Rattle.std.proofs.Common.{◌≡◌, ◌++◌}
+use Rattle.std.specs.List.{flat_map}
+use Rattle.http_header.specs.HeaderMap.{get_all, keys}
+use Rattle.http_messages.specs.Fields.{entry_pairs, texts}
 use Rattle.http_messages.proofs.environ.Environ.add_fields.Given as goal
 
-abbrev pub invariant-loop-header : goal.invariant-loop-header
-invariant-loop-header l =
-    l.self ≡ fold with_pair l.initial.self (pairs_in l.class (field_pairs (fields_at l.head (take l.header-index l.headers))))
+abbrev pub invariant-loop-name : goal.invariant-loop-name
+invariant-loop-name l =
+    l.self ++ flat_map (λ name. entry_pairs l.class (name, get_all (texts l.fields) name)) l.name-iterator
+    ≡ l.initial.self ++ flat_map (λ name. entry_pairs l.class (name, get_all (texts l.fields) name)) (keys l.fields)

@@ -1,4 +1,4 @@
-use Rattle.std.proofs.Common.{◌≡◌, ◌+◌, ◌-◌, ap, ◌∙◌, arith, take, drop, ℕ, List}
+use Rattle.std.proofs.Common.{◌+◌, ◌-◌, ap, ◌∙◌, arith, take, drop, ℕ, List}
 use Rattle.http_messages.specs.Cuts.{line_end}
 use Rattle.http_messages.proofs.ScanLaws.{none_within}
 use Rattle.http_messages.proofs.queue.ByteQueue.line_end.Goals as goal

@@ -1,9 +1,9 @@
 use Rattle.std.proofs.Common.{◌≡◌, ◌++◌, ◌∙◌, refl, sym, ap, ℕ, List}
 use Rattle.wsgi_core.specs.declared.session.Stage.TheVariants.{Asked}
 use Rattle.wsgi_core.specs.Answers.{answer}
-use Rattle.wsgi_core.specs.Steps.{talk_of}
-use Rattle.wsgi_core.proofs.TalkLaws.{talk_at}
-use Rattle.wsgi_core.proofs.TalkSteps.{open_where_asked, reply_there, at_asked}
+use Rattle.wsgi_core.specs.Steps.{progress_of}
+use Rattle.wsgi_core.proofs.ProgressLaws.{progress_at}
+use Rattle.wsgi_core.proofs.ProgressSteps.{open_where_asked, reply_there, at_asked}
 use Rattle.wsgi_core.proofs.session.Session.answer_asked.Goals as goal
 
 pub returns-clause-goes_on : goal.returns-clause-goes_on
@@ -16,6 +16,6 @@ returns-clause-goes_on c =
     let bytes : c.append.new.self ≡ s.pending ++ (answer q c.args.reply).bytes =
     c.in_ok-append-in-Asked.ensures.ok ∙ ap (λ (l : List ℕ). s.pending ++ l)
     (c.deref.ensures.value ∙ c.in_ok-closes-in-Asked.ensures.sent ∙ ap (λ (l : List ℕ). l ++ (answer q c.args.reply).bytes) c.new-bytes.ensures.items) in
-    λ app is. at_asked app (talk_of s) (talk_at s.port c.replace.new.dest s.kept c.append.new.self c.in_ok-closes-in-Asked.closes) is_open
+    λ app is. at_asked app (progress_of s) (progress_at s.port c.replace.new.dest s.kept c.append.new.self c.in_ok-closes-in-Asked.closes) is_open
     q body c.args.reply waits_for (reply_there app s.closing s.stage q body c.args.reply is_open waits_for is)
     refl c.replace.ensures.after refl bytes c.in_ok-closes-in-Asked.ensures.closes

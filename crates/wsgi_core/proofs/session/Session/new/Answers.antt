@@ -1,5 +1,5 @@
 use Rattle.std.proofs.Common.{refl}
-use Rattle.wsgi_core.proofs.TalkLaws.{stands_begun, settled_begun}
+use Rattle.wsgi_core.proofs.ProgressLaws.{stands_begun, settled_begun}
 use Rattle.wsgi_core.proofs.session.Session.new.Goals as goal
 
 pub returns : goal.returns

@@ -1,6 +1,6 @@
 use Rattle.std.proofs.Common.{refl, sym, ap, ◌∙◌, ◌++◌, ℕ}
 use Rattle.wsgi_core.specs.Sessions.{answers}
-use Rattle.wsgi_core.proofs.TalkSteps.{one_err, three_ok}
+use Rattle.wsgi_core.proofs.ProgressSteps.{one_err, three_ok}
 use Rattle.wsgi_core.proofs.session.Session.take_in.Goals as goal
 
 pub returns-then-is_err-clause-stopped : goal.returns-then-is_err-clause-stopped
