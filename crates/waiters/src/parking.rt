@@ -31,6 +31,10 @@ pub trait Parking {
     /// The sides that such an object has.
     ghost has_side: { Side → Type 0 };
 
+    /// Those of them on which `park` may be called. On another side an item begins to wait by a call of the object's own,
+    /// which takes what the item brings.
+    ghost parks_on: { Side → Type 0 };
+
     /// Who waits on a side, in order of waiting.
     ghost waiting: { Self → Side → List ℕ };
 
@@ -57,7 +61,7 @@ pub trait Parking {
 
     /// An item begins to wait, behind all others of its side.
     fn park(&mut self, side: Side, item: u32)
-        requires side { has_side side }
+        requires side { parks_on side }
         requires room { 0 < room self.old }
         requires absent { (other : Side) → Contains (waiting self.old other) item → ⊥ }
         ensures parked { waiting self.new side ≡ waiting self.old side ++ item ∷ [] }
