@@ -4,7 +4,7 @@ use Rattle.std.proofs.lemmas.Bool.{cases_eq}
 use Rattle.std.specs.List.{All, AllByRecursion}
 use Rattle.std.proofs.lemmas.List.Elements.{All-nil, All-cons, All-from_recursion}
 use Rattle.linked_items.specs.Items.{items_of, without_entry, Differ}
-use Rattle.linked_items.specs.Seen.{SeenRow, row}
+use Rattle.linked_items.specs.Seen.{SeenItems, item_list}
 use Rattle.linked_items.proofs.ItemLemmas.{test_keeps, test_drops, first_is, entry_first_dropped}
 use Rattle.due_timers.specs.Line.{line, IsRising, TakesLeast}
 
@@ -58,7 +58,7 @@ pub none_at_all : (mark : ℕ) (es : List (ℕ × ℕ)) → slice_get es 0 ≡ N
 none_at_all mark [] h = All-nil (λ e. mark ≤ e.1)
 none_at_all mark (x ∷ es) h = absurd (cc)
 
-pub takes_least : (old new : SeenRow) (next mark : ℕ) (e : ℕ × ℕ) → IsRising 0 old.entries next → Differ (items_of old.entries) → slice_get old.entries 0 ≡ Some e → e.1 < mark → new ≡ row (without_entry e.0 old.entries) (old.spare + 1) → TakesLeast (line old.entries next old.spare) mark e.0 (line new.entries next new.spare)
+pub takes_least : (old new : SeenItems) (next mark : ℕ) (e : ℕ × ℕ) → IsRising 0 old.entries next → Differ (items_of old.entries) → slice_get old.entries 0 ≡ Some e → e.1 < mark → new ≡ item_list (without_entry e.0 old.entries) (old.spare + 1) → TakesLeast (line old.entries next old.spare) mark e.0 (line new.entries next new.spare)
 takes_least old new next mark e rising differ first lt now =
     let f = first_is old.entries e first in
     let d : Differ (e.0 ∷ items_of f.0) = subst (λ l. Differ (items_of l)) f.1 differ in

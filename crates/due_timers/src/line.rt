@@ -4,14 +4,14 @@ ghost use Rattle.std.specs.List.{Contains, All};
 ghost use Rattle.linked_items.specs.Items.{items_of, without_entry, Differ};
 ghost use Rattle.due_timers.specs.Line.{line, TakesLeast, IsRising};
 
-use linked_items::row::Row;
+use linked_items::item_list::ItemList;
 use std::alloc::{AllocError, Global};
 use std::marker::Model;
 
 /// Items with numbers that only grow, the least first.
 #[derive(Drop)]
 pub struct DueLine {
-    row: Row,
+    list: ItemList,
     next: u64,
 }
 
@@ -22,9 +22,9 @@ impl Model for DueLine {
 
     ghost use Rattle.due_timers.specs.Line.{IsRising};
 
-    ghost view = { λ d. record { entries = d.row.entries; next = d.next; spare = d.row.spare } };
+    ghost view = { λ d. record { entries = d.list.entries; next = d.next; spare = d.list.spare } };
 
-    ghost invariant = { λ d. IsRising 0 d.row.entries d.next };
+    ghost invariant = { λ d. IsRising 0 d.list.entries d.next };
 }
 
 impl DueLine {
@@ -33,7 +33,7 @@ impl DueLine {
         ensures { result ≡ line [] 0 0 }
     {
         DueLine {
-            row: Row::new(alloc),
+            list: ItemList::new(alloc),
             next: 0,
         }
     }
@@ -46,7 +46,7 @@ impl DueLine {
         ensures had_room { n ≤ self.old.spare → IsOk result }
         ensures err { OnErr result (self.new ≡ self.old) }
     {
-        self.row.reserve(n)
+        self.list.reserve(n)
     }
 
     /// Gives an item the next number, so that it stands behind all others.
@@ -56,7 +56,7 @@ impl DueLine {
         requires count { self.old.next < 2 ^ 63 }
         ensures { self.new ≡ line (self.old.entries ++ (item, self.old.next) ∷ []) (self.old.next + 1) (self.old.spare - 1) }
     {
-        self.row.push_last(item, self.next);
+        self.list.push_last(item, self.next);
         self.next += 1;
     }
 
@@ -65,7 +65,7 @@ impl DueLine {
         requires { Contains (items_of self.old.entries) item }
         ensures { self.new ≡ line (without_entry item self.old.entries) self.old.next (self.old.spare + 1) }
     {
-        self.row.remove(item);
+        self.list.remove(item);
     }
 
     /// The next number: what stands in the line now has a lower one.
@@ -81,14 +81,14 @@ impl DueLine {
         ensures differ { Differ (items_of self.now.entries) }
         ensures rising { IsRising 0 self.now.entries self.now.next }
     {
-        self.row.len()
+        self.list.len()
     }
 
     /// How many more items fit without memory.
     pub fn spare(&self) -> usize
         ensures { result ≡ self.now.spare }
     {
-        self.row.spare()
+        self.list.spare()
     }
 
     /// Takes off the item of the least number, where that is below `mark`.
@@ -97,14 +97,14 @@ impl DueLine {
         ensures kept { IfNone result (self.new ≡ self.old) }
         ensures least { IfSome result (λ item. TakesLeast self.old mark item self.new) }
     {
-        match self.row.first() {
+        match self.list.first() {
             None => None,
             Some((first, number)) => {
                 if number >= mark {
                     return None;
                 }
-                let _len = self.row.len();
-                self.row.remove(first);
+                let _len = self.list.len();
+                self.list.remove(first);
                 Some(first)
             }
         }

@@ -7,7 +7,7 @@ use Rattle.std.proofs.lemmas.Bool.Decides.{nat_tests}
 use Rattle.std.proofs.lemmas.List.Elements.{Contains-append_left, Contains-append_right, Contains-append_cases}
 use Rattle.gv_values.specs.declared.value.Outcome.{Outcome}
 use Rattle.linked_items.specs.Items.{items_of, without}
-use Rattle.linked_items.specs.Seen.{SeenRow, row}
+use Rattle.linked_items.specs.Seen.{SeenItems, item_list}
 use Rattle.linked_items.proofs.StrideLemmas.{contains_without}
 use Rattle.greenlet_life.specs.declared.records.Link.{Link}
 use Rattle.greenlet_life.specs.declared.records.LinkState.{LinkState}
@@ -59,7 +59,7 @@ life_new = record {
 }
 
 -- a greenlet is made
-pub life_born : (n : ℕ) (os : List (Option Outcome)) (ls : List Link) (qs : List SeenRow) (r : SeenRow) → r ≡ row [] 0 → IsLife n os ls qs → IsLife (n + 1) (os ++ None ∷ []) ls (qs ++ r ∷ [])
+pub life_born : (n : ℕ) (os : List (Option Outcome)) (ls : List Link) (qs : List SeenItems) (r : SeenItems) → r ≡ item_list [] 0 → IsLife n os ls qs → IsLife (n + 1) (os ++ None ∷ []) ls (qs ++ r ∷ [])
 life_born n os ls qs r empty is = record {
   outcomes = length-append os (None ∷ []) ∙ ap (λ m. m + 1) is.outcomes;
   queues = length-append qs (r ∷ []) ∙ ap (λ m. m + 1) is.queues;
@@ -74,7 +74,7 @@ life_born n os ls qs r empty is = record {
     fresh : (g : ℕ) → g ≡ n → IsQueue (length ls) (λ k. is_open (outcome_or (os ++ None ∷ []) g) g (link_or ls k)) (queue_of (qs ++ r ∷ []) g)
     fresh g same =
         let at : g ≡ length qs = same ∙ sym is.queues in
-        let none : queue_of (qs ++ r ∷ []) g ≡ [] = ap (queue_of (qs ++ r ∷ [])) at ∙ ap (λ (q : SeenRow). items_of q.entries) (get_or-append_seam qs r [] (row [] 0) ∙ empty) in record {
+        let none : queue_of (qs ++ r ∷ []) g ≡ [] = ap (queue_of (qs ++ r ∷ [])) at ∙ ap (λ (q : SeenItems). items_of q.entries) (get_or-append_seam qs r [] (row [] 0) ∙ empty) in record {
           rising = subst (λ l. IsRising 0 l) (sym none) tt;
           within = λ k h. absurd (nothing k (subst (λ l. Contains l k) none h));
           all = λ k lt h. let owner = open_owner (outcome_or (os ++ None ∷ []) g) g (link_or ls k) h in let below = is.owned k lt in absurd (omega arith);
@@ -87,11 +87,11 @@ life_born n os ls qs r empty is = record {
     older g lt =
         let o : outcome_or (os ++ None ∷ []) g ≡ outcome_or os g = get_or_append_left os (None ∷ []) None g (let e = is.outcomes in omega arith) in
         queue_kept (length ls) (length ls) (λ k. is_open (outcome_or os g) g (link_or ls k)) (λ k. is_open (outcome_or (os ++ None ∷ []) g) g (link_or ls k)) (queue_of qs g) (queue_of (qs ++ r ∷ []) g) refl
-        (ap (λ (q : SeenRow). items_of q.entries) (get_or_append_left qs (r ∷ []) (row [] 0) g (let e = is.queues in omega arith)))
+        (ap (λ (q : SeenItems). items_of q.entries) (get_or_append_left qs (r ∷ []) (row [] 0) g (let e = is.queues in omega arith)))
         (λ k lt' h. sym (ap (λ x. is_open x g (link_or ls k)) o) ∙ h) (is.queued g lt)
 
 -- a greenlet ends
-pub life_ended : (n : ℕ) (os : List (Option Outcome)) (ls : List Link) (qs : List SeenRow) (g : ℕ) (o : Outcome) → g < n → outcome_or os g ≡ None → IsLife n os ls qs → IsLife n (set os g (Some o)) ls qs
+pub life_ended : (n : ℕ) (os : List (Option Outcome)) (ls : List Link) (qs : List SeenItems) (g : ℕ) (o : Outcome) → g < n → outcome_or os g ≡ None → IsLife n os ls qs → IsLife n (set os g (Some o)) ls qs
 life_ended n os ls qs g o there alive is = record {
   outcomes = length-set os g (Some o) ∙ is.outcomes;
   queues = is.queues;
@@ -111,7 +111,7 @@ life_ended n os ls qs g o there alive is = record {
         ap (λ x. is_open x h (link_or ls k)) old ∙ due_open o h (link_or ls k) (sym (ap (λ x. is_open x h (link_or ls k)) new) ∙ p)
 
 -- a link is made
-pub life_linked : (n : ℕ) (os : List (Option Outcome)) (ls : List Link) (qs qs' : List SeenRow) (g : ℕ) (l : Link) → l.greenlet ≡ g → g < n → length ls < 100000 → queue_of qs' g ≡ queue_of qs g ++ length ls ∷ [] → ((h : ℕ) → h ≢ g → queue_of qs' h ≡ queue_of qs h) → length qs' ≡ length qs → IsLife n os ls qs → IsLife n os (ls ++ l ∷ []) qs'
+pub life_linked : (n : ℕ) (os : List (Option Outcome)) (ls : List Link) (qs qs' : List SeenItems) (g : ℕ) (l : Link) → l.greenlet ≡ g → g < n → length ls < 100000 → queue_of qs' g ≡ queue_of qs g ++ length ls ∷ [] → ((h : ℕ) → h ≢ g → queue_of qs' h ≡ queue_of qs h) → length qs' ≡ length qs → IsLife n os ls qs → IsLife n os (ls ++ l ∷ []) qs'
 life_linked n os ls qs qs' g l owner there few here others long is = record {
   outcomes = is.outcomes;
   queues = long ∙ is.queues;
@@ -190,7 +190,7 @@ pub stated_length : (ls : List Link) (k : ℕ) (s : LinkState) → length (state
 stated_length ls k s = length-set ls k (in_state (link_or ls k) s)
 
 -- a link comes to a state in which it isn't handed out, and the queue of one greenlet changes with it
-pub life_moved : (n : ℕ) (os : List (Option Outcome)) (ls : List Link) (qs qs' : List SeenRow) (g k : ℕ) (s : LinkState) → k < length ls → is_waiting s ≡ false → IsRising 0 (queue_of qs' g) → ((j : ℕ) → Contains (queue_of qs' g) j → j < length ls) → ((j : ℕ) → j < length ls → j ≢ k → is_open (outcome_or os g) g (link_or ls j) ≡ true → Contains (queue_of qs' g) j) → ((h : ℕ) → h ≢ g → queue_of qs' h ≡ queue_of qs h) → length qs' ≡ length qs → IsLife n os ls qs → IsLife n os (stated ls k s) qs'
+pub life_moved : (n : ℕ) (os : List (Option Outcome)) (ls : List Link) (qs qs' : List SeenItems) (g k : ℕ) (s : LinkState) → k < length ls → is_waiting s ≡ false → IsRising 0 (queue_of qs' g) → ((j : ℕ) → Contains (queue_of qs' g) j → j < length ls) → ((j : ℕ) → j < length ls → j ≢ k → is_open (outcome_or os g) g (link_or ls j) ≡ true → Contains (queue_of qs' g) j) → ((h : ℕ) → h ≢ g → queue_of qs' h ≡ queue_of qs h) → length qs' ≡ length qs → IsLife n os ls qs → IsLife n os (stated ls k s) qs'
 life_moved n os ls qs qs' g k s there still rising within left others long is = record {
   outcomes = is.outcomes;
   queues = long ∙ is.queues;
@@ -211,7 +211,7 @@ life_moved n os ls qs qs' g k s there still rising within left others long is = 
 }
 
 -- the same where a link leaves the queue
-pub life_dropped : (n : ℕ) (os : List (Option Outcome)) (ls : List Link) (qs qs' : List SeenRow) (g k : ℕ) (s : LinkState) → k < length ls → g < n → is_waiting s ≡ false → queue_of qs' g ≡ without k (queue_of qs g) → ((h : ℕ) → h ≢ g → queue_of qs' h ≡ queue_of qs h) → length qs' ≡ length qs → IsLife n os ls qs → IsLife n os (stated ls k s) qs'
+pub life_dropped : (n : ℕ) (os : List (Option Outcome)) (ls : List Link) (qs qs' : List SeenItems) (g k : ℕ) (s : LinkState) → k < length ls → g < n → is_waiting s ≡ false → queue_of qs' g ≡ without k (queue_of qs g) → ((h : ℕ) → h ≢ g → queue_of qs' h ≡ queue_of qs h) → length qs' ≡ length qs → IsLife n os ls qs → IsLife n os (stated ls k s) qs'
 life_dropped n os ls qs qs' g k s there owner still here others long is =
     let old = is.queued g owner in
     life_moved n os ls qs qs' g k s there still
@@ -221,7 +221,7 @@ life_dropped n os ls qs qs' g k s there owner still here others long is =
     others long is
 
 -- no queue changes
-pub life_stated : (n : ℕ) (os : List (Option Outcome)) (ls : List Link) (qs : List SeenRow) (k : ℕ) (s : LinkState) → k < length ls → is_waiting s ≡ false → IsLife n os ls qs → IsLife n os (stated ls k s) qs
+pub life_stated : (n : ℕ) (os : List (Option Outcome)) (ls : List Link) (qs : List SeenItems) (k : ℕ) (s : LinkState) → k < length ls → is_waiting s ≡ false → IsLife n os ls qs → IsLife n os (stated ls k s) qs
 life_stated n os ls qs k s there still is = record {
   outcomes = is.outcomes;
   queues = is.queues;
@@ -232,7 +232,7 @@ life_stated n os ls qs k s there still is = record {
 }
 
 -- the queue of one greenlet was left as it was
-pub life_kept : (n : ℕ) (os : List (Option Outcome)) (ls : List Link) (qs qs' : List SeenRow) (g : ℕ) → queue_of qs' g ≡ queue_of qs g → ((h : ℕ) → h ≢ g → queue_of qs' h ≡ queue_of qs h) → length qs' ≡ length qs → IsLife n os ls qs → IsLife n os ls qs'
+pub life_kept : (n : ℕ) (os : List (Option Outcome)) (ls : List Link) (qs qs' : List SeenItems) (g : ℕ) → queue_of qs' g ≡ queue_of qs g → ((h : ℕ) → h ≢ g → queue_of qs' h ≡ queue_of qs h) → length qs' ≡ length qs → IsLife n os ls qs → IsLife n os ls qs'
 life_kept n os ls qs qs' g here others long is = record {
   outcomes = is.outcomes;
   queues = long ∙ is.queues;
@@ -245,7 +245,7 @@ life_kept n os ls qs qs' g here others long is = record {
 }
 
 -- the queue of one greenlet lost what never fits
-pub life_skipped : (n : ℕ) (os : List (Option Outcome)) (ls : List Link) (qs qs' : List SeenRow) (g : ℕ) → IsRising 0 (queue_of qs' g) → ((j : ℕ) → Contains (queue_of qs' g) j → j < length ls) → ((j : ℕ) → j < length ls → is_open (outcome_or os g) g (link_or ls j) ≡ true → Contains (queue_of qs' g) j) → ((h : ℕ) → h ≢ g → queue_of qs' h ≡ queue_of qs h) → length qs' ≡ length qs → IsLife n os ls qs → IsLife n os ls qs'
+pub life_skipped : (n : ℕ) (os : List (Option Outcome)) (ls : List Link) (qs qs' : List SeenItems) (g : ℕ) → IsRising 0 (queue_of qs' g) → ((j : ℕ) → Contains (queue_of qs' g) j → j < length ls) → ((j : ℕ) → j < length ls → is_open (outcome_or os g) g (link_or ls j) ≡ true → Contains (queue_of qs' g) j) → ((h : ℕ) → h ≢ g → queue_of qs' h ≡ queue_of qs h) → length qs' ≡ length qs → IsLife n os ls qs → IsLife n os ls qs'
 life_skipped n os ls qs qs' g rising within left others long is = record {
   outcomes = is.outcomes;
   queues = long ∙ is.queues;
@@ -263,7 +263,7 @@ life_skipped n os ls qs qs' g rising within left others long is = record {
 }
 
 -- a greenlet is made
-pub life_created : (gs gs' : List Greenlet) (os os' : List (Option Outcome)) (ls : List Link) (qs qs' : List SeenRow) (x : Greenlet) (r : SeenRow) → r ≡ row [] 0 → gs' ≡ gs ++ x ∷ [] → os' ≡ os ++ None ∷ [] → qs' ≡ qs ++ r ∷ [] → IsLife (length gs) os ls qs → IsLife (length gs') os' ls qs'
+pub life_created : (gs gs' : List Greenlet) (os os' : List (Option Outcome)) (ls : List Link) (qs qs' : List SeenItems) (x : Greenlet) (r : SeenItems) → r ≡ item_list [] 0 → gs' ≡ gs ++ x ∷ [] → os' ≡ os ++ None ∷ [] → qs' ≡ qs ++ r ∷ [] → IsLife (length gs) os ls qs → IsLife (length gs') os' ls qs'
 life_created gs gs' os os' ls qs qs' x r empty a b c is =
     rw (a, b, c, length-append gs (x ∷ [])) (life_born (length gs) os ls qs r empty is)
 

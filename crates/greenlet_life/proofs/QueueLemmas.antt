@@ -5,7 +5,7 @@ use Rattle.std.proofs.lemmas.Bool.{cases_eq, false_from_ne_true}
 use Rattle.std.proofs.lemmas.Bool.Decides.{nat_tests}
 use Rattle.std.proofs.lemmas.List.Sums.{position_or_len_is}
 use Rattle.linked_items.specs.Items.{items_of, without, without_entry, Lacks}
-use Rattle.linked_items.specs.Seen.{SeenRow, row}
+use Rattle.linked_items.specs.Seen.{SeenItems, item_list}
 use Rattle.std.proofs.lemmas.List.{get_or_read}
 use Rattle.linked_items.proofs.ItemLemmas.{contains_of_filter, without_absent, test_keeps, test_drops, items_without, length_items, lacks_of_absent, first_is, entry_first_dropped}
 use Rattle.linked_items.proofs.StrideLemmas.{contains_without}
@@ -102,17 +102,17 @@ none_at p xs fails =
     sym (ap (λ n. cond (ltb n (length xs)) (Some n) None) e ∙ ap (λ b. cond b (Some (length xs)) None) (not_less (length xs)))
 
 -- the queue of a greenlet, as it is read and written
-pub queue_set : (qs : List SeenRow) (g : ℕ) (r : SeenRow) → g < length qs → queue_of (set qs g r) g ≡ items_of r.entries
-queue_set qs g r lt = ap (λ (q : SeenRow). items_of q.entries) (get_or-set_same qs g r (row [] 0) lt)
+pub queue_set : (qs : List SeenItems) (g : ℕ) (r : SeenItems) → g < length qs → queue_of (set qs g r) g ≡ items_of r.entries
+queue_set qs g r lt = ap (λ (q : SeenItems). items_of q.entries) (get_or-set_same qs g r (row [] 0) lt)
 
-pub queue_read : (qs : List SeenRow) (g : ℕ) (r : SeenRow) → g < length qs → r ≡ get_or qs g r → items_of r.entries ≡ queue_of qs g
-queue_read qs g r lt same = ap (λ (q : SeenRow). items_of q.entries) (get_or_read qs g r lt same (row [] 0))
+pub queue_read : (qs : List SeenItems) (g : ℕ) (r : SeenItems) → g < length qs → r ≡ get_or qs g r → items_of r.entries ≡ queue_of qs g
+queue_read qs g r lt same = ap (λ (q : SeenItems). items_of q.entries) (get_or_read qs g r lt same (row [] 0))
 
-pub queue_without : (qs : List SeenRow) (g place : ℕ) (r r' : SeenRow) → g < length qs → r ≡ get_or qs g r → r' ≡ row (without_entry place r.entries) (r.spare + 1) → queue_of (set qs g r') g ≡ without place (queue_of qs g)
+pub queue_without : (qs : List SeenItems) (g place : ℕ) (r r' : SeenItems) → g < length qs → r ≡ get_or qs g r → r' ≡ item_list (without_entry place r.entries) (r.spare + 1) → queue_of (set qs g r') g ≡ without place (queue_of qs g)
 queue_without qs g place r r' lt same left =
-    queue_set qs g r' lt ∙ ap (λ (q : SeenRow). items_of q.entries) left ∙ items_without place r.entries ∙ ap (without place) (queue_read qs g r lt same)
+    queue_set qs g r' lt ∙ ap (λ (q : SeenItems). items_of q.entries) left ∙ items_without place r.entries ∙ ap (without place) (queue_read qs g r lt same)
 
-pub queue_lacks : (qs : List SeenRow) (g place : ℕ) (r : SeenRow) → g < length qs → r ≡ get_or qs g r → (Contains (items_of r.entries) place → ⊥) → queue_of (set qs g r) g ≡ without place (queue_of qs g)
+pub queue_lacks : (qs : List SeenItems) (g place : ℕ) (r : SeenItems) → g < length qs → r ≡ get_or qs g r → (Contains (items_of r.entries) place → ⊥) → queue_of (set qs g r) g ≡ without place (queue_of qs g)
 queue_lacks qs g place r lt same absent =
     let there = queue_read qs g r lt same in
     queue_set qs g r lt ∙ there ∙ sym (without_absent place (queue_of qs g) (lacks_of_absent place (queue_of qs g) (λ p. absent (subst (λ l. Contains l place) (sym there) p))))

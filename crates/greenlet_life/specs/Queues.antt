@@ -3,13 +3,13 @@ use Rattle.std.specs.Prelude.{◌≡◌, ℕ, ◌+◌, ◌<◌, ◌≤◌, ◌==
 use Rattle.std.specs.List.{Contains}
 use Rattle.gv_values.specs.declared.value.Outcome.{Outcome}
 use Rattle.linked_items.specs.Items.{items_of}
-use Rattle.linked_items.specs.Seen.{SeenRow, row}
+use Rattle.linked_items.specs.Seen.{SeenItems, item_list}
 use Rattle.greenlet_life.specs.declared.records.Link.{Link}
 use Rattle.greenlet_life.specs.declared.records.LinkKind.{LinkKind}
 use Rattle.greenlet_life.specs.Lives.{made, is_due, is_waiting}
 
 -- the places in the queue of a greenlet
-abbrev pub queue_of : List SeenRow → ℕ → List ℕ
+abbrev pub queue_of : List SeenItems → ℕ → List ℕ
 queue_of qs g = items_of (slice_index_or qs g (row [] 0)).entries
 
 abbrev pub link_or : List Link → ℕ → Link
@@ -35,7 +35,7 @@ pub record IsQueue (n : ℕ) (passes : ℕ → Bool) (xs : List ℕ) : Type 0 wh
   pub all : (k : ℕ) → k < n → passes k ≡ true → Contains xs k
 
 -- n greenlets with their outcomes, the links, each one's of these greenlets, and the queue of each greenlet
-pub record IsLife (n : ℕ) (os : List (Option Outcome)) (ls : List Link) (qs : List SeenRow) : Type 0 where
+pub record IsLife (n : ℕ) (os : List (Option Outcome)) (ls : List Link) (qs : List SeenItems) : Type 0 where
   pub outcomes : length os ≡ n
   pub queues : length qs ≡ n
   pub most : length ls ≤ 100000

@@ -10,7 +10,7 @@ ghost use Rattle.greenlet_life.specs.Lives.{life, greenlet_at, link_at, outcome_
 use crate::queues::{drop_link, next_fitting, queue_link};
 use crate::records::{Greenlet, Link, LinkKind, LinkState, Phase, Stage, is_fitting};
 use gv_values::{FaultKind, Outcome, Value};
-use linked_items::row::Row;
+use linked_items::item_list::ItemList;
 use std::alloc::{AllocError, Global};
 use std::marker::Model;
 use thiserror::Error;
@@ -41,7 +41,7 @@ pub struct Life {
     outcomes: Vec<Option<Outcome>>,
     links: Vec<Link>,
     // For each greenlet the places of its links that may still be handed out.
-    queues: Vec<Row>,
+    queues: Vec<ItemList>,
 }
 
 impl Model for Life {
@@ -114,7 +114,7 @@ impl Life {
             stage: Stage::New,
         });
         self.outcomes.push_reserved(None);
-        self.queues.push_reserved(Row::new(self.alloc));
+        self.queues.push_reserved(ItemList::new(self.alloc));
         Ok(number as u32)
     }
 

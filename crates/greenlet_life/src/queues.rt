@@ -8,11 +8,11 @@ ghost use Rattle.greenlet_life.specs.Queues.{queue_of, link_or, outcome_or, is_o
 
 use crate::records::{Link, LinkState, is_fitting};
 use gv_values::Outcome;
-use linked_items::row::Row;
+use linked_items::item_list::ItemList;
 use std::alloc::AllocError;
 
 // Puts a link, by its place among all, behind the others of its greenlet.
-pub fn queue_link(queues: &mut Vec<Row>, g: u32, place: u32) -> Result<(), AllocError>
+pub fn queue_link(queues: &mut Vec<ItemList>, g: u32, place: u32) -> Result<(), AllocError>
     requires there { g < length queues.old.items }
     requires absent { Contains (queue_of queues.old.items g) place → ⊥ }
     ensures queued { OnOk result (queue_of queues.new.items g ≡ queue_of queues.old.items g ++ place ∷ []) }
@@ -27,7 +27,7 @@ pub fn queue_link(queues: &mut Vec<Row>, g: u32, place: u32) -> Result<(), Alloc
 }
 
 // Takes a link out of the queue of its greenlet, if it is there.
-pub fn drop_link(queues: &mut Vec<Row>, g: u32, place: u32)
+pub fn drop_link(queues: &mut Vec<ItemList>, g: u32, place: u32)
     requires there { g < length queues.old.items }
     ensures dropped { queue_of queues.new.items g ≡ without place (queue_of queues.old.items g) }
     ensures others { (h : ℕ) → h ≢ g → queue_of queues.new.items h ≡ queue_of queues.old.items h }
@@ -47,7 +47,7 @@ fn may_go(link: Link, g: u32, outcome: &Outcome) -> bool
 }
 
 // Takes the first link that fits the end out of the queue, and those before it, which never will.
-fn first_fitting(queue: &mut Row, links: &[Link], g: u32, outcome: &Outcome) -> Option<usize>
+fn first_fitting(queue: &mut ItemList, links: &[Link], g: u32, outcome: &Outcome) -> Option<usize>
     requires queue { IsQueue (length links.now) (λ k. is_due (Some outcome.now) g (link_or links.now k)) (items_of queue.old.entries) }
     ensures first { result ≡ position (is_due (Some outcome.now) g) links.now }
     ensures within { IfSome result (λ place. place < length links.now) }
@@ -72,7 +72,7 @@ fn first_fitting(queue: &mut Row, links: &[Link], g: u32, outcome: &Outcome) -> 
 
 // The place of the next link of a greenlet that fits its end, which leaves its queue. Before the end there is none.
 pub fn next_fitting(
-    queues: &mut Vec<Row>,
+    queues: &mut Vec<ItemList>,
     links: &[Link],
     outcomes: &[Option<Outcome>],
     g: u32,

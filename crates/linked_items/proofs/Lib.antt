@@ -1,6 +1,6 @@
 pub mod ItemLemmas
 pub mod LineLemmas
-pub mod RowLemmas
+pub mod ListLemmas
 pub mod TableLemmas
 pub mod WalkLemmas
 pub mod StrideLemmas

@@ -7,7 +7,7 @@ use Rattle.linked_items.specs.Linked.{Linked, node_items, node_of, first_of, las
 use Rattle.linked_items.specs.Items.{Lacks}
 use Rattle.linked_items.proofs.ItemLemmas.{lacks_joined, absent_of_lacks, at_border}
 use Rattle.linked_items.proofs.LineLemmas.{segment_back}
-use Rattle.linked_items.proofs.RowLemmas.{node_items_joined}
+use Rattle.linked_items.proofs.ListLemmas.{node_items_joined}
 
 -- so many nodes were passed, none of them the item's, and `at` is the key of the next
 pub record IsWalked (es : List Linked) (item : ℕ) (at : Option ℕ) (rank : ℕ) : Type 0 where

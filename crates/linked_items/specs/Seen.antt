@@ -8,9 +8,9 @@ pub record SeenPlaces : Type 0 where
   pub spare : ℕ
 
 -- the items with their numbers, in their order, and how many more fit
-pub record SeenRow : Type 0 where
+pub record SeenItems : Type 0 where
   pub entries : List (ℕ × ℕ)
   pub spare : ℕ
 
-abbrev pub row : List (ℕ × ℕ) → ℕ → SeenRow
-row es n = record { entries = es; spare = n }
+abbrev pub item_list : List (ℕ × ℕ) → ℕ → SeenItems
+item_list es n = record { entries = es; spare = n }

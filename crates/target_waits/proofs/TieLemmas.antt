@@ -7,7 +7,7 @@ use Rattle.linked_items.specs.Items.{items_of as row_items, without, without_ent
 use Rattle.std.specs.List.{All, AllByRecursion}
 use Rattle.std.proofs.lemmas.List.Elements.{All-from_recursion, Contains-append_left, Contains-append_right, Contains-append_cases}
 use Rattle.gv_values.specs.declared.value.Whom.{Whom}
-use Rattle.linked_items.specs.Seen.{SeenRow, row}
+use Rattle.linked_items.specs.Seen.{SeenItems, item_list}
 use Rattle.linked_items.proofs.ItemLemmas.{test_keeps, test_drops, items_joined, items_without, length_items, lacks_of_absent, absent_of_lacks, without_lacks, without_length, differ_snoc, differ_of_without, contains_of_filter, first_is}
 use Rattle.linked_items.proofs.StrideLemmas.{contains_without}
 use Rattle.target_waits.specs.Waits.{Wait, wait, items_of, whom_eq, is_ready, struck, answered, at_item, IsReadyIn}
@@ -92,13 +92,13 @@ fewer (y ∷ xs) ys x d e sub there away =
     omega arith
 
 -- an item's wait is another, and the line of the ready ones follows
-pub record Follows (ready ready' : SeenRow) (item : ℕ) (is : Bool) : Type 0 where
+pub record Follows (ready ready' : SeenItems) (item : ℕ) (is : Bool) : Type 0 where
   pub kept : (i : ℕ) → i ≢ item → Contains (row_items ready.entries) i → Contains (row_items ready'.entries) i
   pub only : (i : ℕ) → i ≢ item → Contains (row_items ready'.entries) i → Contains (row_items ready.entries) i
   pub told : is ≡ true → Contains (row_items ready'.entries) item
   pub sound : Contains (row_items ready'.entries) item → is ≡ true
 
-pub waits_set : (f f' : ℕ → Option Wait) (es es' : List (ℕ × ℕ)) (ready ready' : SeenRow) (item : ℕ) (w : Wait) → IsWaits f es ready → f' item ≡ Some w → ((q : ℕ) → q ≢ item → f' q ≡ f q) → w.item ≡ item → ((i : ℕ) → Contains (row_items es) i → Contains (row_items es') i) → Contains (row_items es') item → Follows ready ready' item (is_ready w) → length es' ≤ length ready'.entries + ready'.spare → Differ (row_items es') → Differ (row_items ready'.entries) → IsWaits f' es' ready'
+pub waits_set : (f f' : ℕ → Option Wait) (es es' : List (ℕ × ℕ)) (ready ready' : SeenItems) (item : ℕ) (w : Wait) → IsWaits f es ready → f' item ≡ Some w → ((q : ℕ) → q ≢ item → f' q ≡ f q) → w.item ≡ item → ((i : ℕ) → Contains (row_items es) i → Contains (row_items es') i) → Contains (row_items es') item → Follows ready ready' item (is_ready w) → length es' ≤ length ready'.entries + ready'.spare → Differ (row_items es') → Differ (row_items ready'.entries) → IsWaits f' es' ready'
 waits_set f f' es es' ready ready' item w is at others own more here line room differ apart = record {
   own = λ i v h. elim (cases_eq i item) [
     | inl same ↦ let e : v ≡ w = now i v same h in ap (λ (x : Wait). x.item) e ∙ own ∙ sym same
@@ -125,7 +125,7 @@ waits_set f f' es es' ready ready' item w is at others own more here line room d
     now i v same h = let e : Some v ≡ Some w = sym h ∙ ap f' same ∙ at in cc
 
 -- nothing changes but the room
-pub waits_same : (f f' : ℕ → Option Wait) (es : List (ℕ × ℕ)) (ready ready' : SeenRow) → IsWaits f es ready → ((q : ℕ) → f' q ≡ f q) → ready'.entries ≡ ready.entries → length es ≤ length ready'.entries + ready'.spare → IsWaits f' es ready'
+pub waits_same : (f f' : ℕ → Option Wait) (es : List (ℕ × ℕ)) (ready ready' : SeenItems) → IsWaits f es ready → ((q : ℕ) → f' q ≡ f q) → ready'.entries ≡ ready.entries → length es ≤ length ready'.entries + ready'.spare → IsWaits f' es ready'
 waits_same f f' es ready ready' is same line room = record {
   own = λ i v h. is.own i v (sym (same i) ∙ h);
   listed = λ i v h. is.listed i v (sym (same i) ∙ h);
@@ -137,7 +137,7 @@ waits_same f f' es ready ready' is same line room = record {
 }
 
 -- an item's wait goes
-pub waits_gone : (f f' : ℕ → Option Wait) (es es' : List (ℕ × ℕ)) (ready ready' : SeenRow) (item : ℕ) → IsWaits f es ready → f' item ≡ None → ((q : ℕ) → q ≢ item → f' q ≡ f q) → ((i : ℕ) → i ≢ item → Contains (row_items es) i → Contains (row_items es') i) → ((i : ℕ) → i ≢ item → Contains (row_items ready.entries) i → Contains (row_items ready'.entries) i) → ((i : ℕ) → Contains (row_items ready'.entries) i → Contains (row_items ready.entries) i × (i ≢ item)) → length es' ≤ length ready'.entries + ready'.spare → Differ (row_items es') → Differ (row_items ready'.entries) → IsWaits f' es' ready'
+pub waits_gone : (f f' : ℕ → Option Wait) (es es' : List (ℕ × ℕ)) (ready ready' : SeenItems) (item : ℕ) → IsWaits f es ready → f' item ≡ None → ((q : ℕ) → q ≢ item → f' q ≡ f q) → ((i : ℕ) → i ≢ item → Contains (row_items es) i → Contains (row_items es') i) → ((i : ℕ) → i ≢ item → Contains (row_items ready.entries) i → Contains (row_items ready'.entries) i) → ((i : ℕ) → Contains (row_items ready'.entries) i → Contains (row_items ready.entries) i × (i ≢ item)) → length es' ≤ length ready'.entries + ready'.spare → Differ (row_items es') → Differ (row_items ready'.entries) → IsWaits f' es' ready'
 waits_gone f f' es es' ready ready' item is gone others more kept only room differ apart = record {
   own = λ i v h. is.own i v (sym (others i (away i v h)) ∙ h);
   listed = λ i v h. more i (away i v h) (is.listed i v (sym (others i (away i v h)) ∙ h));
@@ -152,7 +152,7 @@ waits_gone f f' es es' ready ready' item is gone others more kept only room diff
     away i v h same = let e : Some v ≡ None = sym h ∙ ap f' same ∙ gone in cc
 
 -- room is made
-pub waits_reserved : (f : ℕ → Option Wait) (es es' : List (ℕ × ℕ)) (ready ready' : SeenRow) → IsWaits f es ready → es' ≡ es → ready'.entries ≡ ready.entries → ready.spare ≤ ready'.spare → IsWaits f es' ready'
+pub waits_reserved : (f : ℕ → Option Wait) (es es' : List (ℕ × ℕ)) (ready ready' : SeenItems) → IsWaits f es ready → es' ≡ es → ready'.entries ≡ ready.entries → ready.spare ≤ ready'.spare → IsWaits f es' ready'
 waits_reserved f es es' ready ready' is same line more =
     subst (λ l. IsWaits f l ready') (sym same) (waits_same f f es ready ready' is (λ q. refl) line (let r = is.room in let n = ap length line in omega arith))
 
@@ -163,7 +163,7 @@ order_absent f es es' ws item own view same absent p =
 pub order_there : (f : ℕ → Option Wait) (es : List (ℕ × ℕ)) (ws : List Wait) (item : ℕ) → IsOwn f → seen_in f es ≡ ws → Contains (items_of ws) item → Contains (row_items es) item
 order_there f es ws item own view p = subst (λ l. Contains l item) (seen_items f es own) (subst (λ v. Contains (items_of v) item) (sym view) p)
 
-pub ready_absent : (f : ℕ → Option Wait) (es : List (ℕ × ℕ)) (ready : SeenRow) (item : ℕ) → IsWaits f es ready → (Contains (row_items es) item → ⊥) → Contains (row_items ready.entries) item → ⊥
+pub ready_absent : (f : ℕ → Option Wait) (es : List (ℕ × ℕ)) (ready : SeenItems) (item : ℕ) → IsWaits f es ready → (Contains (row_items es) item → ⊥) → Contains (row_items ready.entries) item → ⊥
 ready_absent f es ready item is absent p = let s = is.sound item p in absent (is.listed item s.0 s.1)
 
 -- an item at the end
@@ -191,7 +191,7 @@ last_length : (es es' : List (ℕ × ℕ)) (item n : ℕ) → es' ≡ es ++ (ite
 last_length es es' item n to = ap length to ∙ length-append es ((item, n) ∷ [])
 
 -- a wait that needs no ends comes, and one that needs some
-pub waits_put_ready : (f f' : ℕ → Option Wait) (es es' : List (ℕ × ℕ)) (ready ready' : SeenRow) (item : ℕ) (w : Wait) → IsWaits f es ready → (Contains (row_items es) item → ⊥) → f' item ≡ Some w → ((q : ℕ) → q ≢ item → f' q ≡ f q) → w.item ≡ item → es' ≡ es ++ (item, 0) ∷ [] → is_ready w ≡ true → ready' ≡ row (ready.entries ++ (item, 0) ∷ []) (ready.spare - 1) → length es + 1 ≤ ready.spare → IsWaits f' es' ready'
+pub waits_put_ready : (f f' : ℕ → Option Wait) (es es' : List (ℕ × ℕ)) (ready ready' : SeenItems) (item : ℕ) (w : Wait) → IsWaits f es ready → (Contains (row_items es) item → ⊥) → f' item ≡ Some w → ((q : ℕ) → q ≢ item → f' q ≡ f q) → w.item ≡ item → es' ≡ es ++ (item, 0) ∷ [] → is_ready w ≡ true → ready' ≡ item_list (ready.entries ++ (item, 0) ∷ []) (ready.spare - 1) → length es + 1 ≤ ready.spare → IsWaits f' es' ready'
 waits_put_ready f f' es es' ready ready' item w is absent at others own to now line room =
     let l : ready'.entries ≡ ready.entries ++ (item, 0) ∷ [] = ap (λ r. r.entries) line in
     waits_set f f' es es' ready ready' item w is at others own (last_kept es es' item 0 to) (last_here es es' item 0 to)
@@ -205,7 +205,7 @@ waits_put_ready f f' es es' ready ready' item w is absent at others own to now l
     (last_differ es es' item 0 to is.differ absent)
     (last_differ ready.entries ready'.entries item 0 l is.apart (ready_absent f es ready item is absent))
 
-pub waits_put_later : (f f' : ℕ → Option Wait) (es es' : List (ℕ × ℕ)) (ready : SeenRow) (item : ℕ) (w : Wait) → IsWaits f es ready → (Contains (row_items es) item → ⊥) → f' item ≡ Some w → ((q : ℕ) → q ≢ item → f' q ≡ f q) → w.item ≡ item → es' ≡ es ++ (item, 0) ∷ [] → is_ready w ≡ false → length es + 1 ≤ ready.spare → IsWaits f' es' ready
+pub waits_put_later : (f f' : ℕ → Option Wait) (es es' : List (ℕ × ℕ)) (ready : SeenItems) (item : ℕ) (w : Wait) → IsWaits f es ready → (Contains (row_items es) item → ⊥) → f' item ≡ Some w → ((q : ℕ) → q ≢ item → f' q ≡ f q) → w.item ≡ item → es' ≡ es ++ (item, 0) ∷ [] → is_ready w ≡ false → length es + 1 ≤ ready.spare → IsWaits f' es' ready
 waits_put_later f f' es es' ready item w is absent at others own to later room =
     waits_set f f' es es' ready ready item w is at others own (last_kept es es' item 0 to) (last_here es es' item 0 to)
     (record {
@@ -250,13 +250,13 @@ became whom (Some w) h = record {
   before = not-true (is_ready w) (and_right (is_ready (struck whom w)) (not (is_ready w)) h);
 }
 
-pub struck_absent_line : (whom : Whom) (f : ℕ → Option Wait) (es : List (ℕ × ℕ)) (ready : SeenRow) (item : ℕ) → IsWaits f es ready → Became whom (f item) → Contains (row_items ready.entries) item → ⊥
+pub struck_absent_line : (whom : Whom) (f : ℕ → Option Wait) (es : List (ℕ × ℕ)) (ready : SeenItems) (item : ℕ) → IsWaits f es ready → Became whom (f item) → Contains (row_items ready.entries) item → ⊥
 struck_absent_line whom f es ready item is b p =
     let s = is.sound item p in
     let same : s.0 ≡ b.was = (let e : Some s.0 ≡ Some b.was = sym s.1 ∙ b.is in cc) in
     false≢true (sym b.before ∙ sym (ap is_ready same) ∙ s.2)
 
-pub struck_room : (whom : Whom) (f : ℕ → Option Wait) (es : List (ℕ × ℕ)) (ready : SeenRow) (item : ℕ) → IsWaits f es ready → Became whom (f item) → 0 < ready.spare
+pub struck_room : (whom : Whom) (f : ℕ → Option Wait) (es : List (ℕ × ℕ)) (ready : SeenItems) (item : ℕ) → IsWaits f es ready → Became whom (f item) → 0 < ready.spare
 struck_room whom f es ready item is b =
     let few = fewer (row_items ready.entries) (row_items es) item is.apart is.differ (λ i p. let s = is.sound i p in is.listed i s.0 s.1) (is.listed item b.was b.is) (struck_absent_line whom f es ready item is b) in
     let n = length_items ready.entries in
@@ -264,7 +264,7 @@ struck_room whom f es ready item is b =
     let r = is.room in
     omega arith
 
-pub waits_struck_ready : (whom : Whom) (f f' : ℕ → Option Wait) (es : List (ℕ × ℕ)) (ready ready' : SeenRow) (item : ℕ) → IsWaits f es ready → ((q : ℕ) → f' q ≡ changed_at (struck whom) item f q) → Became whom (f item) → ready' ≡ row (ready.entries ++ (item, 0) ∷ []) (ready.spare - 1) → IsWaits f' es ready'
+pub waits_struck_ready : (whom : Whom) (f f' : ℕ → Option Wait) (es : List (ℕ × ℕ)) (ready ready' : SeenItems) (item : ℕ) → IsWaits f es ready → ((q : ℕ) → f' q ≡ changed_at (struck whom) item f q) → Became whom (f item) → ready' ≡ item_list (ready.entries ++ (item, 0) ∷ []) (ready.spare - 1) → IsWaits f' es ready'
 waits_struck_ready whom f f' es ready ready' item is to b line =
     let l : ready'.entries ≡ ready.entries ++ (item, 0) ∷ [] = ap (λ r. r.entries) line in
     let some = struck_room whom f es ready item is b in
@@ -293,7 +293,7 @@ still_ready whom w h =
     is_zero : (n : ℕ) → (n == 0) ≡ true → n ≡ 0
     is_zero n e = elim (cases_eq n 0) [ inl same ↦ same | inr apart ↦ absurd (false≢true (sym (num_apart n 0 apart) ∙ e)) ]
 
-pub waits_struck_later : (whom : Whom) (f f' : ℕ → Option Wait) (es : List (ℕ × ℕ)) (ready : SeenRow) (item : ℕ) → IsWaits f es ready → ((q : ℕ) → f' q ≡ changed_at (struck whom) item f q) → becomes_ready whom (f item) ≡ false → IsWaits f' es ready
+pub waits_struck_later : (whom : Whom) (f f' : ℕ → Option Wait) (es : List (ℕ × ℕ)) (ready : SeenItems) (item : ℕ) → IsWaits f es ready → ((q : ℕ) → f' q ≡ changed_at (struck whom) item f q) → becomes_ready whom (f item) ≡ false → IsWaits f' es ready
 waits_struck_later whom f f' es ready item is to later = by_wait (f item) refl
   where
     by_wait : (o : Option Wait) → f item ≡ o → IsWaits f' es ready
@@ -324,10 +324,10 @@ waits_struck_later whom f f' es ready item is to later = by_wait (f item) refl
         was_ready false false h k = absurd (false≢true h)
 
 -- an item is answered
-pub waits_answered : (f f' : ℕ → Option Wait) (es : List (ℕ × ℕ)) (ready ready' : SeenRow) (item : ℕ) → IsWaits f es ready → ((q : ℕ) → f' q ≡ changed_at answered item f q) → Contains (row_items ready.entries) item → ready' ≡ row (without_entry item ready.entries) (ready.spare + 1) → IsWaits f' es ready'
+pub waits_answered : (f f' : ℕ → Option Wait) (es : List (ℕ × ℕ)) (ready ready' : SeenItems) (item : ℕ) → IsWaits f es ready → ((q : ℕ) → f' q ≡ changed_at answered item f q) → Contains (row_items ready.entries) item → ready' ≡ item_list (without_entry item ready.entries) (ready.spare + 1) → IsWaits f' es ready'
 waits_answered f f' es ready ready' item is to there line =
     let s = is.sound item there in
-    let items : row_items ready'.entries ≡ without item (row_items ready.entries) = ap (λ (r : SeenRow). row_items r.entries) line ∙ items_without item ready.entries in
+    let items : row_items ready'.entries ≡ without item (row_items ready.entries) = ap (λ (r : SeenItems). row_items r.entries) line ∙ items_without item ready.entries in
     waits_set f f' es es ready ready' item (answered s.0) is
     (to item ∙ changed_here answered item f item refl ∙ ap (option_map answered) s.1)
     (λ q apart. to q ∙ changed_apart answered item f q apart)
@@ -343,7 +343,7 @@ waits_answered f f' es ready ready' item is to there line =
     (subst Differ (sym items) (differ_of_without item (row_items ready.entries) is.apart))
 
 -- an item waits no longer
-pub waits_cancelled : (f f' : ℕ → Option Wait) (es es' : List (ℕ × ℕ)) (ready ready' : SeenRow) (item : ℕ) → IsWaits f es ready → Contains (row_items es) item → f' item ≡ None → ((q : ℕ) → q ≢ item → f' q ≡ f q) → es' ≡ without_entry item es → row_items ready'.entries ≡ without item (row_items ready.entries) → length ready.entries + ready.spare ≤ length ready'.entries + ready'.spare → IsWaits f' es' ready'
+pub waits_cancelled : (f f' : ℕ → Option Wait) (es es' : List (ℕ × ℕ)) (ready ready' : SeenItems) (item : ℕ) → IsWaits f es ready → Contains (row_items es) item → f' item ≡ None → ((q : ℕ) → q ≢ item → f' q ≡ f q) → es' ≡ without_entry item es → row_items ready'.entries ≡ without item (row_items ready.entries) → length ready.entries + ready.spare ≤ length ready'.entries + ready'.spare → IsWaits f' es' ready'
 waits_cancelled f f' es es' ready ready' item is there gone others to line room =
     let items : row_items es' ≡ without item (row_items es) = ap row_items to ∙ items_without item es in
     waits_gone f f' es es' ready ready' item is gone others
@@ -365,7 +365,7 @@ seen_contains f (e ∷ es) i w p h = by_index (λ q. seen_contains f es i w q h)
     by_index more zero within found = (zero, omega arith, ap (λ q. wait_or (f q) q) found ∙ ap (λ o. wait_or o i) h)
     by_index more (suc k) within found = let q = more (k, omega arith, found) in (suc q.0, omega (arith, q.1), q.2)
 
-pub none_ready : (f : ℕ → Option Wait) (es es' : List (ℕ × ℕ)) (ready : SeenRow) → IsWaits f es ready → slice_get ready.entries 0 ≡ None → All (λ w. is_ready w ≡ false) (seen_in f es')
+pub none_ready : (f : ℕ → Option Wait) (es es' : List (ℕ × ℕ)) (ready : SeenItems) → IsWaits f es ready → slice_get ready.entries 0 ≡ None → All (λ w. is_ready w ≡ false) (seen_in f es')
 none_ready f es es' ready is empty = All-from_recursion (λ w. is_ready w ≡ false) (seen_in f es') (each es')
   where
     nothing : (l : List (ℕ × ℕ)) → slice_get l 0 ≡ None → (i : ℕ) → Contains (row_items l) i → ⊥
@@ -383,7 +383,7 @@ none_ready f es es' ready is empty = All-from_recursion (λ w. is_ready w ≡ fa
 pub first_there : (es : List (ℕ × ℕ)) (e : ℕ × ℕ) → slice_get es 0 ≡ Some e → Contains (row_items es) e.0
 first_there es e at = let parts = first_is es e at in subst (λ l. Contains (row_items l) e.0) (sym parts.1) (zero, omega arith, refl)
 
-pub ready_in : (f : ℕ → Option Wait) (es : List (ℕ × ℕ)) (ready : SeenRow) (ws : List Wait) (item : ℕ) → IsWaits f es ready → seen_in f es ≡ ws → Contains (row_items ready.entries) item → IsReadyIn ws item
+pub ready_in : (f : ℕ → Option Wait) (es : List (ℕ × ℕ)) (ready : SeenItems) (ws : List Wait) (item : ℕ) → IsWaits f es ready → seen_in f es ≡ ws → Contains (row_items ready.entries) item → IsReadyIn ws item
 ready_in f es ready ws item is view there =
     let s = is.sound item there in
     (s.0, subst (λ v. Contains v s.0) view (seen_contains f es item s.0 (is.listed item s.0 s.1) s.1), is.own item s.0 s.1, s.2)

@@ -4,7 +4,7 @@ use Rattle.std.specs.List.{Contains}
 use Rattle.std.specs.Option.{option_map}
 use Rattle.gv_values.specs.declared.value.Whom.{Whom}
 use Rattle.linked_items.specs.Items.{items_of, Differ}
-use Rattle.linked_items.specs.Seen.{SeenRow}
+use Rattle.linked_items.specs.Seen.{SeenItems}
 use Rattle.target_waits.specs.Waits.{Wait, wait, is_ready, struck}
 
 -- the item's wait; one that nobody ever answers, where there is none
@@ -25,7 +25,7 @@ becomes_ready whom None = false
 becomes_ready whom (Some w) = is_ready (struck whom w) && not (is_ready w)
 
 -- each wait is under its own item, which stands in the order; the ready ones are told, and no others; each has a place there
-pub record IsWaits (f : ℕ → Option Wait) (order : List (ℕ × ℕ)) (ready : SeenRow) : Type 0 where
+pub record IsWaits (f : ℕ → Option Wait) (order : List (ℕ × ℕ)) (ready : SeenItems) : Type 0 where
   pub own : (i : ℕ) (w : Wait) → f i ≡ Some w → w.item ≡ i
   pub listed : (i : ℕ) (w : Wait) → f i ≡ Some w → Contains (items_of order) i
   pub told : (i : ℕ) (w : Wait) → f i ≡ Some w → is_ready w ≡ true → Contains (items_of ready.entries) i

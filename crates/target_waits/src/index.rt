@@ -9,7 +9,7 @@ ghost use Rattle.target_waits.specs.Named.{named, named_by, row_items};
 
 use crate::rows::{drop_from, put};
 use gv_values::Whom;
-use linked_items::row::Row;
+use linked_items::item_list::ItemList;
 use std::alloc::{AllocError, Global};
 use std::collections::HashMap;
 
@@ -17,23 +17,23 @@ use std::collections::HashMap;
 #[derive(Drop)]
 pub struct Index {
     alloc: Global,
-    greenlets: HashMap<u32, Row>,
-    jobs: HashMap<u32, Row>,
+    greenlets: HashMap<u32, ItemList>,
+    jobs: HashMap<u32, ItemList>,
 }
 
 // The target of a number has a row.
-fn make_row(alloc: Global, rows: &mut HashMap<u32, Row>, number: u32) -> Result<(), AllocError>
+fn make_row(alloc: Global, rows: &mut HashMap<u32, ItemList>, number: u32) -> Result<(), AllocError>
     ensures there { OnOk result (IsSome (get nat_eq rows.new number)) }
     ensures same { (q : ℕ) → named rows.new q ≡ named rows.old q }
 {
     if !rows.contains_key(&number) {
-        rows.insert(number, Row::new(alloc))?;
+        rows.insert(number, ItemList::new(alloc))?;
     }
     Ok(())
 }
 
 // An item waits for the target of a number, which has a row.
-fn enter(rows: &mut HashMap<u32, Row>, number: u32, item: u32) -> Result<(), AllocError>
+fn enter(rows: &mut HashMap<u32, ItemList>, number: u32, item: u32) -> Result<(), AllocError>
     requires { IsSome (get nat_eq rows.old number) }
     ensures entered { OnOk result (Contains (named rows.new number) item) }
     ensures kept { (i : ℕ) → Contains (named rows.old number) i → Contains (named rows.new number) i }
@@ -46,7 +46,7 @@ fn enter(rows: &mut HashMap<u32, Row>, number: u32, item: u32) -> Result<(), All
 }
 
 // An item waits no longer for the target of a number.
-fn leave(rows: &mut HashMap<u32, Row>, number: u32, item: u32)
+fn leave(rows: &mut HashMap<u32, ItemList>, number: u32, item: u32)
     ensures left { named rows.new number ≡ without item (named rows.old number) }
     ensures others { (q : ℕ) → q ≢ number → named rows.new q ≡ named rows.old q }
 {
@@ -56,7 +56,7 @@ fn leave(rows: &mut HashMap<u32, Row>, number: u32, item: u32)
 }
 
 // Whom nobody waits for has no row.
-fn drop_empty(rows: &mut HashMap<u32, Row>, number: u32)
+fn drop_empty(rows: &mut HashMap<u32, ItemList>, number: u32)
     ensures same { (q : ℕ) → named rows.new q ≡ named rows.old q }
 {
     let empty = match rows.get(&number) {
@@ -115,7 +115,7 @@ impl Index {
     }
 
     // Nobody waits for a target any longer. The row has those that did.
-    pub fn take(&mut self, whom: Whom) -> Option<Row>
+    pub fn take(&mut self, whom: Whom) -> Option<ItemList>
         ensures taken { row_items result ≡ named_by self.old whom }
         ensures others { (target : Target) → whom_eq target whom ≡ false → named_by self.new target ≡ named_by self.old target }
     {

@@ -8,7 +8,7 @@ use crate::entry::Entry;
 use crate::index::Index;
 use crate::waits::Waits;
 use gv_values::Whom;
-use linked_items::row::Row;
+use linked_items::item_list::ItemList;
 use std::alloc::{AllocError, Global};
 use std::marker::Model;
 
@@ -34,7 +34,7 @@ impl Model for Targets {
 }
 
 // Each item of the row has one of its targets struck out.
-fn strike_each(waits: &mut Waits, named: &mut Row, whom: Whom)
+fn strike_each(waits: &mut Waits, named: &mut ItemList, whom: Whom)
     ensures struck { waits.new ≡ struck_at_all whom (row_items named.old.entries) waits.old }
     ensures differ { Differ (row_items named.old.entries) }
 {

@@ -9,7 +9,7 @@ ghost use Rattle.target_waits.specs.WaitParts.{changed_at, becomes_ready};
 use crate::entry::Entry;
 use crate::rows::drop_from;
 use gv_values::Whom;
-use linked_items::row::Row;
+use linked_items::item_list::ItemList;
 use std::alloc::{AllocError, Global};
 use std::collections::HashMap;
 use std::marker::Model;
@@ -18,10 +18,10 @@ use std::marker::Model;
 #[derive(Drop)]
 pub struct Waits {
     // The items in order of making.
-    order: Row,
+    order: ItemList,
     entries: HashMap<u32, Entry>,
     // The items that need no more ends and were not answered, in the order in which they came to that.
-    ready: Row,
+    ready: ItemList,
 }
 
 impl Model for Waits {
@@ -67,9 +67,9 @@ impl Waits {
         ensures { result ≡ [] }
     {
         Waits {
-            order: Row::new(alloc),
+            order: ItemList::new(alloc),
             entries: HashMap::new(alloc),
-            ready: Row::new(alloc),
+            ready: ItemList::new(alloc),
         }
     }
 

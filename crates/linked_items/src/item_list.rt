@@ -1,8 +1,8 @@
-//! A row of items, each with a number.
+//! A list of items, each with a number.
 ghost use Rattle.std.specs.Prelude.{◌≡◌, ◌≢◌, ℕ, ◌+◌, ◌-◌, ◌<◌, ◌≤◌, List, [], ◌∷◌, ◌++◌, length, IfSome, IfNone, OnOk, OnErr, IsOk, IsTrue, ◌↔◌, Some, slice_get, MatchOption};
 ghost use Rattle.std.specs.List.{Contains};
 ghost use Rattle.linked_items.specs.Items.{items_of, without_entry, Differ};
-ghost use Rattle.linked_items.specs.Seen.{row};
+ghost use Rattle.linked_items.specs.Seen.{item_list};
 
 use crate::links::Links;
 use crate::places::Places;
@@ -11,33 +11,33 @@ use std::marker::Model;
 
 /// Items with their numbers, in an order in which they enter at either end and leave anywhere.
 #[derive(Drop)]
-pub struct Row {
+pub struct ItemList {
     links: Links,
     places: Places,
     // So many items fit.
     limit: usize,
 }
 
-impl Model for Row {
+impl Model for ItemList {
     ghost use Rattle.std.specs.Prelude.{◌-◌};
     ghost use Rattle.slab.specs.Slab.{slab_len};
-    ghost use Rattle.linked_items.specs.Seen.{SeenRow};
+    ghost use Rattle.linked_items.specs.Seen.{SeenItems};
 
-    ghost Value = { SeenRow };
+    ghost Value = { SeenItems };
 
-    ghost use Rattle.linked_items.specs.RowParts.{entries_of, IsSound};
+    ghost use Rattle.linked_items.specs.ListParts.{entries_of, IsSound};
 
     ghost view = { λ r. record { entries = entries_of r.links; spare = r.limit - slab_len r.links.nodes } };
 
     ghost invariant = { IsSound };
 }
 
-impl Row {
+impl ItemList {
     /// No item.
     pub fn new(alloc: Global) -> Self
-        ensures { result ≡ row [] 0 }
+        ensures { result ≡ item_list [] 0 }
     {
-        Row {
+        ItemList {
             links: Links::new(alloc),
             places: Places::new(alloc),
             limit: 0,
@@ -89,7 +89,7 @@ impl Row {
     pub fn push_last(&mut self, item: u32, number: u64)
         requires room { 0 < self.old.spare }
         requires absent { Contains (items_of self.old.entries) item → ⊥ }
-        ensures { self.new ≡ row (self.old.entries ++ (item, number) ∷ []) (self.old.spare - 1) }
+        ensures { self.new ≡ item_list (self.old.entries ++ (item, number) ∷ []) (self.old.spare - 1) }
     {
         let key = self.links.push_last(item, number);
         self.places.insert(item, key);
@@ -99,7 +99,7 @@ impl Row {
     pub fn push_first(&mut self, item: u32, number: u64)
         requires room { 0 < self.old.spare }
         requires absent { Contains (items_of self.old.entries) item → ⊥ }
-        ensures { self.new ≡ row ((item, number) ∷ self.old.entries) (self.old.spare - 1) }
+        ensures { self.new ≡ item_list ((item, number) ∷ self.old.entries) (self.old.spare - 1) }
     {
         let key = self.links.push_first(item, number);
         self.places.insert(item, key);
@@ -108,7 +108,7 @@ impl Row {
     /// Takes an item out.
     pub fn remove(&mut self, item: u32)
         requires { Contains (items_of self.old.entries) item }
-        ensures { self.new ≡ row (without_entry item self.old.entries) (self.old.spare + 1) }
+        ensures { self.new ≡ item_list (without_entry item self.old.entries) (self.old.spare + 1) }
     {
         let key = self.places.remove(item);
         self.links.take(key);

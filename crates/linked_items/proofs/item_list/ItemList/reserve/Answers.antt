@@ -1,7 +1,7 @@
 use Rattle.std.proofs.Common.{arith, ap, refl}
 use Rattle.slab.specs.Slab.{slab_len}
-use Rattle.linked_items.proofs.RowLemmas.{row_reserved}
-use Rattle.linked_items.proofs.row.Row.reserve.Goals as goal
+use Rattle.linked_items.proofs.ListLemmas.{list_reserved}
+use Rattle.linked_items.proofs.item_list.ItemList.reserve.Goals as goal
 
 pub invariant_of-self-in_err-reserve-2 : goal.invariant_of-self-in_err-reserve-2
 invariant_of-self-in_err-reserve-2 c =
@@ -12,7 +12,7 @@ invariant_of-self-in_err-reserve-2 c =
     let same = ap slab_len kept in
     record {
       nodes = c.self.invariant.nodes;
-      is = row_reserved c.self.inside.links (record { nodes = c.reserve-2.new.self; first = c.self.inside.links.first; last = c.self.inside.links.last }) c.self.inside.places.slots c.reserve.new.self.slots c.self.invariant.nodes c.self.invariant.is (ap (λ s. s.slots) kept) refl refl c.reserve.ensures.same;
+      is = list_reserved c.self.inside.links (record { nodes = c.reserve-2.new.self; first = c.self.inside.links.first; last = c.self.inside.links.last }) c.self.inside.places.slots c.reserve.new.self.slots c.self.invariant.nodes c.self.invariant.is (ap (λ s. s.slots) kept) refl refl c.reserve.ensures.same;
       room = record { within = omega arith; nodes = omega arith; places = omega arith };
     }
 
@@ -26,6 +26,6 @@ invariant_of-self-2 c =
     let same = ap slab_len kept in
     record {
       nodes = c.self.invariant.nodes;
-      is = row_reserved c.self.inside.links (record { nodes = c.reserve-2.new.self; first = c.self.inside.links.first; last = c.self.inside.links.last }) c.self.inside.places.slots c.reserve.new.self.slots c.self.invariant.nodes c.self.invariant.is (ap (λ s. s.slots) kept) refl refl c.reserve.ensures.same;
+      is = list_reserved c.self.inside.links (record { nodes = c.reserve-2.new.self; first = c.self.inside.links.first; last = c.self.inside.links.last }) c.self.inside.places.slots c.reserve.new.self.slots c.self.invariant.nodes c.self.invariant.is (ap (λ s. s.slots) kept) refl refl c.reserve.ensures.same;
       room = record { within = omega arith; nodes = omega arith; places = omega arith };
     }

@@ -1,8 +1,8 @@
 use Rattle.std.proofs.Common.{[], ◌∷◌, ◌++◌, arith, ap, sym, ◌∙◌, ◌≡◌, List, ℕ}
 use Rattle.linked_items.specs.Linked.{linked, IsLine}
-use Rattle.linked_items.specs.RowParts.{pairs}
-use Rattle.linked_items.proofs.RowLemmas.{entries_are, pairs_joined, row_is, absent_in_table, nodes_lack, row_last}
-use Rattle.linked_items.proofs.row.Row.push_last.Goals as goal
+use Rattle.linked_items.specs.ListParts.{pairs}
+use Rattle.linked_items.proofs.ListLemmas.{entries_are, pairs_joined, list_is, absent_in_table, nodes_lack, list_last}
+use Rattle.linked_items.proofs.item_list.ItemList.push_last.Goals as goal
 
 pub insert-requires-clause-absent : goal.insert-requires-clause-absent
 insert-requires-clause-absent c =
@@ -19,7 +19,7 @@ invariant_of-self c =
     let spare = ap (λ v. v.spare) c.self.view_is in
     record {
       nodes = es ++ x ∷ [];
-      is = row_last c.self.inside.links c.push_last-key.new.self c.self.inside.places.slots c.insert.new.self.slots es x c.self.invariant.is (nodes_lack es c.args.self.now.entries c.args.item e c.requires.absent) (c.push_last-key.ensures.line es c.self.invariant.is.line) c.insert.ensures.gains;
+      is = list_last c.self.inside.links c.push_last-key.new.self c.self.inside.places.slots c.insert.new.self.slots es x c.self.invariant.is (nodes_lack es c.args.self.now.entries c.args.item e c.requires.absent) (c.push_last-key.ensures.line es c.self.invariant.is.line) c.insert.ensures.gains;
       room = record { within = omega arith; nodes = omega arith; places = omega arith };
     }
 
@@ -31,6 +31,6 @@ returns c =
     let line : IsLine c.push_last-key.new.self (es ++ x ∷ []) = c.push_last-key.ensures.line es c.self.invariant.is.line in
     let spare = ap (λ v. v.spare) c.self.view_is in
     let room = c.self.invariant.room in
-    row_is _ _ _ _
+    list_is _ _ _ _
     (entries_are c.push_last-key.new.self (es ++ x ∷ []) line ∙ pairs_joined es (x ∷ []) ∙ ap (λ (l : List (ℕ × ℕ)). l ++ (c.args.item, c.args.number) ∷ []) e)
     (omega arith)

@@ -1,7 +1,7 @@
 use Rattle.std.proofs.Common.{ap, sym, ◌∙◌, ◌≡◌}
-use Rattle.linked_items.specs.RowParts.{pairs}
-use Rattle.linked_items.proofs.RowLemmas.{entries_are, found_is}
-use Rattle.linked_items.proofs.row.Row.contains.Goals as goal
+use Rattle.linked_items.specs.ListParts.{pairs}
+use Rattle.linked_items.proofs.ListLemmas.{entries_are, found_is}
+use Rattle.linked_items.proofs.item_list.ItemList.contains.Goals as goal
 
 pub returns : goal.returns
 returns c =

@@ -1,4 +1,4 @@
--- What a row keeps, and what its entries are.
+-- What a list keeps, and what its entries are.
 use Rattle.std.proofs.Common.{IfSome, IfNone, IsTrue, ◌↔◌, count_by, is_some, ◌≡◌, ◌≢◌, ◌⊎◌, ℕ, zero, suc, ◌-◌, ◌<◌, Bool, List, [], ◌∷◌, ◌++◌, length, get_or, Option, Some, None, refl, sym, ap, ◌∙◌, inl, inr, subst, arith, slice_get, Contains}
 use Rattle.slab.specs.Slab.{Slab, get}
 use Rattle.linked_items.specs.declared.links.Node.{Node}
@@ -6,10 +6,10 @@ use Rattle.linked_items.specs.declared.links.Links.{Links}
 use Rattle.linked_items.specs.declared.places.Slot.{Slot}
 use Rattle.linked_items.specs.Linked.{node_items, Linked, node_of, first_of, last_of, IsSegment, IsLine}
 use Rattle.linked_items.specs.Table.{Has, Gains, Loses, SameHeld}
-use Rattle.linked_items.specs.Seen.{row}
+use Rattle.linked_items.specs.Seen.{item_list}
 use Rattle.linked_items.specs.Items.{items_of, without_entry, Lacks, Differ}
 use Rattle.linked_items.proofs.ItemLemmas.{test_keeps, test_drops, lacks_of_absent, differ_snoc, differ_from_front, differ_from_back, differ_without}
-use Rattle.linked_items.specs.RowParts.{pairs, step, walk, entries_of, Stands, IsTied, IsRow}
+use Rattle.linked_items.specs.ListParts.{pairs, step, walk, entries_of, Stands, IsTied, IsItemList}
 use Rattle.linked_items.proofs.LineLemmas.{last_is_some}
 
 -- the walk along the links meets the nodes
@@ -145,8 +145,8 @@ without_entry_split x [] ys e same l r = rw (test_drops e.item x same) (without_
 without_entry_split x (y ∷ xs) ys e same l r =
     rw (test_keeps y.item x l.0) (ap (λ t. (y.item, y.number) ∷ t) (without_entry_split x xs ys e same l.1 r))
 
-pub row_is : (es es' : List (ℕ × ℕ)) (n n' : ℕ) → es ≡ es' → n ≡ n' → row es n ≡ row es' n'
-row_is es es' n n' e f = λ i. row (e i) (f i)
+pub list_is : (es es' : List (ℕ × ℕ)) (n n' : ℕ) → es ≡ es' → n ≡ n' → item_list es n ≡ item_list es' n'
+list_is es es' n n' e f = λ i. item_list (e i) (f i)
 
 pub absent_in_table : (slots : List Slot) (es : List Linked) (entries : List (ℕ × ℕ)) (item : ℕ) → IsTied slots es → pairs es ≡ entries → (Contains (items_of entries) item → ⊥) → (k : ℕ) → Has slots item k → ⊥
 absent_in_table slots es entries item t e absent k h =
@@ -157,22 +157,22 @@ pub nodes_lack : (es : List Linked) (entries : List (ℕ × ℕ)) (item : ℕ) �
 nodes_lack es entries item e absent =
     lacks_of_absent item (node_items es) (λ p. absent (subst (λ l. Contains (items_of l) item) e (subst (λ l. Contains l item) (sym (items_of_pairs es)) p)))
 
-pub row_last : (l l' : Links) (slots slots' : List Slot) (es : List Linked) (e : Linked) → IsRow l slots es → Lacks e.item (node_items es) → IsLine l' (es ++ e ∷ []) → Gains slots slots' e.item e.key → IsRow l' slots' (es ++ e ∷ [])
-row_last l l' slots slots' es e is lacks line gains = record {
+pub list_last : (l l' : Links) (slots slots' : List Slot) (es : List Linked) (e : Linked) → IsItemList l slots es → Lacks e.item (node_items es) → IsLine l' (es ++ e ∷ []) → Gains slots slots' e.item e.key → IsItemList l' slots' (es ++ e ∷ [])
+list_last l l' slots slots' es e is lacks line gains = record {
   line = line;
   tied = tied_last slots slots' es e is.tied gains;
   differ = subst Differ (sym (node_items_joined es (e ∷ []))) (differ_snoc (node_items es) e.item is.differ lacks);
 }
 
-pub row_first : (l l' : Links) (slots slots' : List Slot) (es : List Linked) (e : Linked) → IsRow l slots es → Lacks e.item (node_items es) → IsLine l' (e ∷ es) → Gains slots slots' e.item e.key → IsRow l' slots' (e ∷ es)
-row_first l l' slots slots' es e is lacks line gains = record {
+pub list_first : (l l' : Links) (slots slots' : List Slot) (es : List Linked) (e : Linked) → IsItemList l slots es → Lacks e.item (node_items es) → IsLine l' (e ∷ es) → Gains slots slots' e.item e.key → IsItemList l' slots' (e ∷ es)
+list_first l l' slots slots' es e is lacks line gains = record {
   line = line;
   tied = tied_first slots slots' es e is.tied gains;
   differ = (lacks, is.differ);
 }
 
-pub row_without : (l l' : Links) (slots slots' : List Slot) (xs ys : List Linked) (e : Linked) → IsRow l slots (xs ++ e ∷ ys) → IsLine l' (xs ++ ys) → Loses slots slots' e.item → IsRow l' slots' (xs ++ ys)
-row_without l l' slots slots' xs ys e is line loses = record {
+pub list_without : (l l' : Links) (slots slots' : List Slot) (xs ys : List Linked) (e : Linked) → IsItemList l slots (xs ++ e ∷ ys) → IsLine l' (xs ++ ys) → Loses slots slots' e.item → IsItemList l' slots' (xs ++ ys)
+list_without l l' slots slots' xs ys e is line loses = record {
   line = line;
   tied = tied_without slots slots' xs ys e is.differ is.tied loses;
   differ = subst Differ (sym (node_items_joined xs ys)) (differ_without (node_items xs) (node_items ys) e.item (subst Differ (node_items_joined xs (e ∷ ys)) is.differ));
@@ -196,8 +196,8 @@ pub none_tied : (slots : List Slot) → ((q k : ℕ) → Has slots q k → ⊥) 
 none_tied slots none = record { placed = λ q k h. absurd h; listed = λ q k h. none q k h }
 
 -- more room changes no node
-pub row_reserved : (l l' : Links) (slots slots' : List Slot) (es : List Linked) → IsRow l slots es → l'.nodes.slots ≡ l.nodes.slots → l'.first ≡ l.first → l'.last ≡ l.last → SameHeld slots slots' → IsRow l' slots' es
-row_reserved l l' slots slots' es is n f t same = record {
+pub list_reserved : (l l' : Links) (slots slots' : List Slot) (es : List Linked) → IsItemList l slots es → l'.nodes.slots ≡ l.nodes.slots → l'.first ≡ l.first → l'.last ≡ l.last → SameHeld slots slots' → IsItemList l' slots' es
+list_reserved l l' slots slots' es is n f t same = record {
   line = record {
     segment = segment_same l.nodes l'.nodes None es None n is.line.segment;
     apart = is.line.apart;
@@ -256,7 +256,7 @@ last_held l es k is h none =
     let node : None ≡ Some r.node = sym none ∙ ap (get l.nodes) k_is ∙ r.found in
     cc
 
--- what the table finds is what the row has
+-- what the table finds is what the list has
 pub found_is : (slots : List Slot) (es : List Linked) (entries : List (ℕ × ℕ)) (item : ℕ) (o : Option ℕ) (b : Bool) → IsTied slots es → pairs es ≡ entries → b ≡ is_some o → IfSome o (λ k. Has slots item k) → IfNone o ((k : ℕ) → Has slots item k → ⊥) → IsTrue b ↔ Contains (items_of entries) item
 found_is slots es entries item None b t e is some none = (
   λ h. absurd (cc (is, h)),

@@ -1,6 +1,6 @@
 use Rattle.std.proofs.Common.{[], arith}
-use Rattle.linked_items.proofs.RowLemmas.{none_tied}
-use Rattle.linked_items.proofs.row.Row.new.Goals as goal
+use Rattle.linked_items.proofs.ListLemmas.{none_tied}
+use Rattle.linked_items.proofs.item_list.ItemList.new.Goals as goal
 
 pub invariant_of-result : goal.invariant_of-result
 invariant_of-result c =

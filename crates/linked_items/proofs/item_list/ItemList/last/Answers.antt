@@ -1,8 +1,8 @@
 use Rattle.std.proofs.Common.{ap, sym, ◌∙◌, ◌≡◌, length, None, Some, slice_get, ◌-◌, List, ℕ}
 use Rattle.slab.specs.Slab.{get}
-use Rattle.linked_items.specs.RowParts.{pairs}
-use Rattle.linked_items.proofs.RowLemmas.{entries_are, last_none, last_some, last_held}
-use Rattle.linked_items.proofs.row.Row.last.Goals as goal
+use Rattle.linked_items.specs.ListParts.{pairs}
+use Rattle.linked_items.proofs.ListLemmas.{entries_are, last_none, last_some, last_held}
+use Rattle.linked_items.proofs.item_list.ItemList.last.Goals as goal
 
 pub returns-in_err-key : goal.returns-in_err-key
 returns-in_err-key c =

@@ -1,8 +1,8 @@
 use Rattle.std.proofs.Common.{ap, sym, ◌∙◌, ◌≡◌, subst, length}
 use Rattle.linked_items.specs.Items.{Differ, items_of}
-use Rattle.linked_items.specs.RowParts.{pairs}
-use Rattle.linked_items.proofs.RowLemmas.{entries_are, length_pairs, items_of_pairs}
-use Rattle.linked_items.proofs.row.Row.len.Goals as goal
+use Rattle.linked_items.specs.ListParts.{pairs}
+use Rattle.linked_items.proofs.ListLemmas.{entries_are, length_pairs, items_of_pairs}
+use Rattle.linked_items.proofs.item_list.ItemList.len.Goals as goal
 
 pub returns-clause-len : goal.returns-clause-len
 returns-clause-len c =

@@ -1,8 +1,8 @@
 use Rattle.std.proofs.Common.{◌∷◌, arith, ap, sym, ◌∙◌, ◌≡◌, List, ℕ}
 use Rattle.linked_items.specs.Linked.{linked, IsLine}
-use Rattle.linked_items.specs.RowParts.{pairs}
-use Rattle.linked_items.proofs.RowLemmas.{entries_are, row_is, absent_in_table, nodes_lack, row_first}
-use Rattle.linked_items.proofs.row.Row.push_first.Goals as goal
+use Rattle.linked_items.specs.ListParts.{pairs}
+use Rattle.linked_items.proofs.ListLemmas.{entries_are, list_is, absent_in_table, nodes_lack, list_first}
+use Rattle.linked_items.proofs.item_list.ItemList.push_first.Goals as goal
 
 pub insert-requires-clause-absent : goal.insert-requires-clause-absent
 insert-requires-clause-absent c =
@@ -19,7 +19,7 @@ invariant_of-self c =
     let spare = ap (λ v. v.spare) c.self.view_is in
     record {
       nodes = x ∷ es;
-      is = row_first c.self.inside.links c.push_first-key.new.self c.self.inside.places.slots c.insert.new.self.slots es x c.self.invariant.is (nodes_lack es c.args.self.now.entries c.args.item e c.requires.absent) (c.push_first-key.ensures.line es c.self.invariant.is.line) c.insert.ensures.gains;
+      is = list_first c.self.inside.links c.push_first-key.new.self c.self.inside.places.slots c.insert.new.self.slots es x c.self.invariant.is (nodes_lack es c.args.self.now.entries c.args.item e c.requires.absent) (c.push_first-key.ensures.line es c.self.invariant.is.line) c.insert.ensures.gains;
       room = record { within = omega arith; nodes = omega arith; places = omega arith };
     }
 
@@ -31,6 +31,6 @@ returns c =
     let line : IsLine c.push_first-key.new.self (x ∷ es) = c.push_first-key.ensures.line es c.self.invariant.is.line in
     let spare = ap (λ v. v.spare) c.self.view_is in
     let room = c.self.invariant.room in
-    row_is _ _ _ _
+    list_is _ _ _ _
     (entries_are c.push_first-key.new.self (x ∷ es) line ∙ ap (λ (l : List (ℕ × ℕ)). (c.args.item, c.args.number) ∷ l) e)
     (omega arith)

@@ -1,10 +1,10 @@
--- What holds of the fields of a `Row`.
+-- What holds of the fields of a `ItemList`.
 use Rattle.std.specs.Prelude.{◌≡◌, ◌⊎◌, ℕ, zero, suc, ◌+◌, ◌≤◌, List, [], ◌∷◌, map, Option, Some, None, slice_index_or}
 use Rattle.slab.specs.Slab.{slab_len}
 use Rattle.linked_items.specs.declared.links.Node.{Node}
 use Rattle.linked_items.specs.declared.links.Links.{Links}
 use Rattle.linked_items.specs.declared.places.Slot.{Slot}
-use Rattle.linked_items.specs.declared.row.Row.TheInside.{Inside}
+use Rattle.linked_items.specs.declared.item_list.ItemList.TheInside.{Inside}
 use Rattle.linked_items.specs.Linked.{node_items, Linked, IsLine}
 use Rattle.linked_items.specs.Table.{Has}
 use Rattle.linked_items.specs.Items.{Differ}
@@ -36,7 +36,7 @@ pub record IsTied (slots : List Slot) (es : List Linked) : Type 0 where
   pub placed : (q k : ℕ) → Stands es q k → Has slots q k
   pub listed : (q k : ℕ) → Has slots q k → Stands es q k
 
-pub record IsRow (l : Links) (slots : List Slot) (es : List Linked) : Type 0 where
+pub record IsItemList (l : Links) (slots : List Slot) (es : List Linked) : Type 0 where
   pub line : IsLine l es
   pub tied : IsTied slots es
   pub differ : Differ (node_items es)
@@ -49,5 +49,5 @@ pub record HasRoom (r : Inside) : Type 0 where
 
 pub record IsSound (r : Inside) : Type 0 where
   pub nodes : List Linked
-  pub is : IsRow r.links r.places.slots nodes
+  pub is : IsItemList r.links r.places.slots nodes
   pub room : HasRoom r

@@ -1,8 +1,8 @@
 use Rattle.std.proofs.Common.{ap, sym, subst, ◌≡◌, ◌∙◌, slice_get, Contains}
 use Rattle.linked_items.specs.Items.{items_of}
-use Rattle.linked_items.specs.RowParts.{pairs}
-use Rattle.linked_items.proofs.RowLemmas.{entries_are, items_of_pairs}
-use Rattle.linked_items.proofs.row.Row.rank_of.Goals as goal
+use Rattle.linked_items.specs.ListParts.{pairs}
+use Rattle.linked_items.proofs.ListLemmas.{entries_are, items_of_pairs}
+use Rattle.linked_items.proofs.item_list.ItemList.rank_of.Goals as goal
 
 pub rank-requires : goal.rank-requires
 rank-requires c =
