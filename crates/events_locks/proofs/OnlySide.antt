@@ -3,10 +3,12 @@ use Rattle.std.proofs.Common.{◌≡◌, ◌≢◌, ℕ, ◌+◌, ◌-◌, ◌<�
 use Rattle.std.proofs.lemmas.Bool.{cases_lt}
 use Rattle.linked_items.specs.Items.{Differ}
 use Rattle.waiters.specs.declared.parking.Side.{Side}
-use Rattle.waiters.specs.declared.parking.Side.TheVariants.{Only}
-use Rattle.waiters.specs.Waits.{SeenWaits, waits}
+use Rattle.waiters.specs.declared.parking.Side.TheVariants.{Only, Put, Get, Peek, Join}
+use Rattle.waiters.specs.Waits.{SeenWaits, waits, told_without}
 use Rattle.waiters.specs.OneSide.{items_at, told_at, IsAmongFirst}
-use Rattle.waiters.proofs.PrefixLemmas.{IfNone_from, IfSome_from, none_behind, not_among, told_at_others}
+use Rattle.waiters.proofs.PrefixLemmas.{IfNone_from, IfSome_from, none_behind, told_at_others, told_without_le}
+use Rattle.gv_values.specs.declared.value.Outcome.{Outcome}
+use Rattle.events_locks.specs.Seen.{free_places, ToldOfNothing}
 
 -- nobody behind the border may go
 abbrev pub NoneBehind : SeenWaits → ℕ → Type 0
@@ -38,22 +40,23 @@ ready_some w v new n m r e f none at grown = IfSome_from r (λ item some. subst 
         ] in
         (Only, refl, there, (w.told, lt, there), ap (λ x. x.told) now, λ other away. told_at_others new.told w.told other away)
 
--- the one whose leave is taken back may not go
-abbrev pub UntoldMayNot : SeenWaits → ℕ → SeenWaits → ℕ → Type 0
-UntoldMayNot w n new item =
-    (side : Side) × (side ≡ Only) × (slice_get (items_at w.items side) (told_at new.told side) ≡ Some item) × (IsAmongFirst n w.items item → ⊥) × (told_at w.told side ≡ told_at new.told side + 1)
-    × ((other : Side) → other ≢ side → told_at new.told other ≡ told_at w.told other)
-
-pub unready_some : (w v new : SeenWaits) (n m : ℕ) (r : Option ℕ) → w ≡ v → n ≡ m → Differ w.items → ((r ≡ None) ↔ (w.told ≤ n)) → IfSome r (λ item. slice_get w.items (w.told - 1) ≡ Some item) → IfSome r (λ _. new ≡ waits w.items (w.told - 1) w.spare) → IfSome r (UntoldMayNot v m new)
-unready_some w v new n m r e f differ none at shrunk = IfSome_from r (λ item some. subst (λ x. UntoldMayNot x m new item) e (subst (λ x. UntoldMayNot w x new item) f (here item some)))
+-- a list that is sound, on the one side that there is
+pub sound_only : (w v : SeenWaits) → w ≡ v → Differ w.items → w.told ≤ length w.items → (side : Side) → Differ (items_at v.items side) × (told_at v.told side ≤ length (items_at v.items side))
+sound_only w v e differ within side = subst (λ x. Differ (items_at x.items side) × (told_at x.told side ≤ length (items_at x.items side))) e (on side)
   where
-    here : (item : ℕ) → r ≡ Some item → UntoldMayNot w n new item
-    here item some =
-        let there : slice_get w.items (w.told - 1) ≡ Some item = subst (λ o. IfSome o (λ i. slice_get w.items (w.told - 1) ≡ Some i)) some at in
-        let now : new ≡ waits w.items (w.told - 1) w.spare = subst (λ o. IfSome o (λ _. new ≡ waits w.items (w.told - 1) w.spare)) some shrunk in
-        let more : n < w.told = elim (cases_lt n w.told) [
-          | inl l ↦ l
-          | inr le ↦ (let full : r ≡ None = none.1 le in absurd (cc (some, full)))
-        ] in
-        let told : new.told ≡ w.told - 1 = ap (λ x. x.told) now in
-        (Only, refl, ap (slice_get w.items) told ∙ there, not_among w.items n (w.told - 1) item differ (omega arith) there, omega arith, λ other away. told_at_others new.told w.told other away)
+    on : (side : Side) → Differ (items_at w.items side) × (told_at w.told side ≤ length (items_at w.items side))
+    on Only = (differ, within)
+    on Put = (tt, omega arith)
+    on Get = (tt, omega arith)
+    on Peek = (tt, omega arith)
+    on Join = (tt, omega arith)
+
+-- a lock lets in one at most
+pub at_most_one : (o : Option ℕ) → free_places o ≤ 1
+at_most_one None = omega arith
+at_most_one (Some g) = omega arith
+
+-- of nothing, nobody is told when one leaves
+pub told_of_nothing_less : (o : Option Outcome) (item : ℕ) (w new : SeenWaits) → new.told ≡ told_without item w.told w.items → ToldOfNothing o w.told → ToldOfNothing o new.told
+told_of_nothing_less None item w new now none = let le = told_without_le item w.told w.items in omega arith
+told_of_nothing_less (Some o) item w new now none = tt

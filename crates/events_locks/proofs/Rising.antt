@@ -1,14 +1,15 @@
 -- Numbers that never fall along a line.
-use Rattle.std.proofs.Common.{◌≡◌, ◌≢◌, ℕ, zero, suc, ◌+◌, ◌-◌, ◌<◌, ◌≤◌, ◌==◌, Bool, true, false, not, cond, List, [], ◌∷◌, ◌++◌, length, take, Option, Some, None, refl, ap, ◌∙◌, sym, subst, arith, slice_get, IfSome}
+use Rattle.std.proofs.Common.{◌≡◌, ◌≢◌, ℕ, zero, suc, ◌+◌, ◌-◌, ◌<◌, ◌≤◌, ◌==◌, Bool, true, false, not, cond, List, [], ◌∷◌, ◌++◌, length, take, Option, Some, None, refl, ap, ◌∙◌, sym, subst, arith, slice_get, IfSome, IfNone, inl, inr}
 use Rattle.std.proofs.lemmas.Option.{slice_get_within}
 use Rattle.linked_items.specs.Items.{items_of, without_entry, Differ}
-use Rattle.linked_items.proofs.ItemLemmas.{places_differ}
+use Rattle.std.proofs.lemmas.Bool.{cases_lt}
+use Rattle.linked_items.proofs.ItemLemmas.{places_differ, length_items}
 use Rattle.waiters.specs.declared.parking.Side.{Side}
-use Rattle.waiters.specs.declared.parking.Side.TheVariants.{Only}
+use Rattle.waiters.specs.declared.parking.Side.TheVariants.{Only, Put, Get, Peek, Join}
 use Rattle.waiters.specs.OneSide.{items_at, told_at}
 use Rattle.waiters.proofs.PrefixLemmas.{IfSome_from, told_at_others}
-use Rattle.wait_lines.specs.Lines.{SeenLine, line}
-use Rattle.events_locks.specs.Seen.{IsSetSince}
+use Rattle.wait_lines.specs.Lines.{SeenLine, line, left}
+use Rattle.events_locks.specs.Seen.{IsSetSince, IsSetBefore}
 use Rattle.events_locks.specs.Parts.{IsRising}
 
 pub rising_top : (low : ℕ) (es : List (ℕ × ℕ)) (high more : ℕ) → high ≤ more → IsRising low es high → IsRising low es more
@@ -54,12 +55,6 @@ item_at [] k e at = absurd (cc)
 item_at (x ∷ es) zero e at = let same : x ≡ e = cc in ap (λ y. Some y.0) same
 item_at (x ∷ es) (suc k) e at = item_at es k e at
 
-take_at : (es : List (ℕ × ℕ)) (n k : ℕ) (e : ℕ × ℕ) → slice_get (take n es) k ≡ Some e → slice_get es k ≡ Some e
-take_at es zero k e at = absurd (cc)
-take_at [] (suc n) k e at = at
-take_at (x ∷ es) (suc n) zero e at = at
-take_at (x ∷ es) (suc n) (suc k) e at = take_at es n k e at
-
 -- ---- the border of an event's line
 
 abbrev pub NoneSetBehind : SeenLine → ℕ → Type 0
@@ -81,25 +76,6 @@ none_set_behind l sets differ rising first side is k item at untold (j, n, there
     slice_get_cases (e ∷ es) zero lt = (e, refl)
     slice_get_cases (e ∷ es) (suc k) lt = slice_get_cases es k (omega arith)
 
-abbrev pub AllSetBefore : SeenLine → ℕ → Type 0
-AllSetBefore l sets = (side : Side) → side ≡ Only → (k item : ℕ) → slice_get (items_at (items_of l.entries) side) k ≡ Some item → k < told_at l.told side → IsSetSince sets l.entries item
-
-pub all_set_before : (l : SeenLine) (sets : ℕ) → IsRising 0 l.entries sets → l.told ≤ length l.entries → ((e : ℕ × ℕ) → slice_get (take l.told l.entries) (l.told - 1) ≡ Some e → e.1 < sets) → AllSetBefore l sets
-all_set_before l sets rising within last side is k item at told =
-    let at_only : slice_get (items_of l.entries) k ≡ Some item = subst (λ s. slice_get (items_at (items_of l.entries) s) k ≡ Some item) is at in
-    let before : k < l.told = subst (λ s. k < told_at l.told s) is told in
-    let here = entry_at l.entries k item at_only in
-    let border = in_take l.entries l.told (l.told - 1) (omega arith) within in
-    let low = last border.0 border.1 in
-    let up = rising_at 0 l.entries sets k (l.told - 1) (item, here.0) border.0 rising here.1 (take_at l.entries l.told (l.told - 1) border.0 border.1) (omega arith) in
-    (k, here.0, here.1, omega arith)
-  where
-    in_take : (es : List (ℕ × ℕ)) (n k : ℕ) → k < n → n ≤ length es → (e : ℕ × ℕ) × (slice_get (take n es) k ≡ Some e)
-    in_take es zero k lt le = absurd (omega arith)
-    in_take [] (suc n) k lt le = absurd (omega arith)
-    in_take (e ∷ es) (suc n) zero lt le = (e, refl)
-    in_take (e ∷ es) (suc n) (suc k) lt le = in_take es n k (omega arith) (omega arith)
-
 abbrev pub ToldIsSet : SeenLine → ℕ → SeenLine → ℕ → Type 0
 ToldIsSet l sets new item =
     (side : Side) × (side ≡ Only) × (slice_get (items_at (items_of l.entries) side) (told_at l.told side) ≡ Some item) × IsSetSince sets l.entries item × (told_at new.told side ≡ told_at l.told side + 1)
@@ -116,33 +92,75 @@ told_is_set l new sets r e first lt at grown = IfSome_from r here
         let same : e.0 ≡ item = cc in
         (Only, refl, there, (l.told, e.1, first ∙ ap (λ x. Some (x, e.1)) same, lt), ap (λ x. x.told) now, λ other away. told_at_others new.told l.told other away)
 
-abbrev pub UntoldIsNot : SeenLine → ℕ → SeenLine → ℕ → Type 0
-UntoldIsNot l sets new item =
-    (side : Side) × (side ≡ Only) × (slice_get (items_at (items_of l.entries) side) (told_at new.told side) ≡ Some item) × (IsSetSince sets l.entries item → ⊥) × (told_at l.told side ≡ told_at new.told side + 1)
-    × ((other : Side) → other ≢ side → told_at new.told other ≡ told_at l.told other)
+-- ---- who was told was set
 
-pub untold_is_not : (l new : SeenLine) (sets : ℕ) (r : Option ℕ) (e : ℕ × ℕ) → Differ (items_of l.entries) → slice_get (take l.told l.entries) (l.told - 1) ≡ Some e → sets ≤ e.1 → IfSome r (λ item. slice_get (items_of l.entries) (l.told - 1) ≡ Some item) → IfSome r (λ _. new ≡ line l.entries (l.told - 1) l.spare) → IfSome r (UntoldIsNot l sets new)
-untold_is_not l new sets r e differ last le at shrunk = IfSome_from r here
+-- each told item is one that the event was set after
+abbrev pub AllSetBefore : SeenLine → ℕ → Type 0
+AllSetBefore l sets = (side : Side) → side ≡ Only → (k item : ℕ) → slice_get (items_at (items_of l.entries) side) k ≡ Some item → k < told_at l.told side → IsSetSince sets l.entries item
+
+pub all_set_before : (l : SeenLine) (sets : ℕ) → IsSetBefore l.told sets l.entries → AllSetBefore l sets
+all_set_before l sets before side is k item at told =
+    let at_only : slice_get (items_of l.entries) k ≡ Some item = subst (λ s. slice_get (items_at (items_of l.entries) s) k ≡ Some item) is at in
+    let here = entry_at l.entries k item at_only in
+    (k, here.0, here.1, before k (item, here.0) (subst (λ s. k < told_at l.told s) is told) here.1)
+
+place_front : (xs ys : List (ℕ × ℕ)) (k : ℕ) (x : ℕ × ℕ) → k < length xs → slice_get (xs ++ ys) k ≡ Some x → slice_get xs k ≡ Some x
+place_front [] ys k x lt at = absurd (omega arith)
+place_front (y ∷ xs) ys zero x lt at = at
+place_front (y ∷ xs) ys (suc k) x lt at = place_front xs ys k x (omega arith) at
+
+pub set_before_parked : (told sets : ℕ) (es : List (ℕ × ℕ)) (e : ℕ × ℕ) → told ≤ length es → IsSetBefore told sets es → IsSetBefore told sets (es ++ e ∷ [])
+set_before_parked told sets es e within before k f lt at = before k f lt (place_front es (e ∷ []) k f (omega arith) at)
+
+-- an entry that is left among the first was among the first
+kept_at : (x : ℕ) (es : List (ℕ × ℕ)) (n k : ℕ) (f : ℕ × ℕ) → k < length (without_entry x (take n es)) → slice_get (without_entry x es) k ≡ Some f → (j : ℕ) × (j < n) × (slice_get es j ≡ Some f)
+kept_at x es zero k f lt at = absurd (omega arith)
+kept_at x [] (suc n) k f lt at = absurd (omega arith)
+kept_at x (e ∷ es) (suc n) k f lt at = by (λ m. kept_at x es n m f) (not (e.0 == x)) k lt at
   where
-    some_told : (es : List (ℕ × ℕ)) (n : ℕ) → slice_get (take n es) (n - 1) ≡ Some e → 0 < n
-    some_told es zero h = absurd (cc)
-    some_told es (suc n) h = omega arith
+    next : (j : ℕ) × (j < n) × (slice_get es j ≡ Some f) → (j : ℕ) × (j < suc n) × (slice_get (e ∷ es) j ≡ Some f)
+    next (j, lt', at') = (suc j, omega arith, at')
 
-    here : (item : ℕ) → r ≡ Some item → UntoldIsNot l sets new item
-    here item some =
-        let there : slice_get (items_of l.entries) (l.told - 1) ≡ Some item = subst (λ o. IfSome o (λ i. slice_get (items_of l.entries) (l.told - 1) ≡ Some i)) some at in
-        let now : new ≡ line l.entries (l.told - 1) l.spare = subst (λ o. IfSome o (λ _. new ≡ line l.entries (l.told - 1) l.spare)) some shrunk in
-        let entry = take_at l.entries l.told (l.told - 1) e last in
-        let as_item = item_at l.entries (l.told - 1) e entry in
-        let told : new.told ≡ l.told - 1 = ap (λ x. x.told) now in
-        let positive = some_told l.entries l.told last in
-        let fails : IsSetSince sets l.entries item → ⊥ = λ (j, n, at_j, lt).
-        let same : j ≡ l.told - 1 = places_differ (items_of l.entries) j (l.told - 1) item differ (item_at l.entries j (item, n) at_j) there in
-        let entry_j : slice_get l.entries (l.told - 1) ≡ Some (item, n) = ap (slice_get l.entries) (sym same) ∙ at_j in
-        let both : e ≡ (item, n) = cc in
-        let number = ap (λ x. x.1) both in
-        absurd (omega arith) in
-        (Only, refl, ap (slice_get (items_of l.entries)) told ∙ there, fails, omega arith, λ other away. told_at_others new.told l.told other away)
+    by : ((m : ℕ) → m < length (without_entry x (take n es)) → slice_get (without_entry x es) m ≡ Some f → (j : ℕ) × (j < n) × (slice_get es j ≡ Some f))
+        → (b : Bool) (k : ℕ) → k < length (cond b (e ∷ without_entry x (take n es)) (without_entry x (take n es))) → slice_get (cond b (e ∷ without_entry x es) (without_entry x es)) k ≡ Some f
+        → (j : ℕ) × (j < suc n) × (slice_get (e ∷ es) j ≡ Some f)
+    by more true zero lt at = (zero, omega arith, at)
+    by more true (suc k) lt at = next (more k (omega arith) at)
+    by more false k lt at = next (more k lt at)
+
+pub set_before_left : (x sets : ℕ) (l : SeenLine) → IsSetBefore l.told sets l.entries → IsSetBefore (left x l).told sets (left x l).entries
+set_before_left x sets l before k f lt at = let was = kept_at x l.entries l.told k f lt at in before was.0 f was.1 was.2
+
+pub set_before_told : (l new : SeenLine) (sets : ℕ) (r : Option ℕ) (e : ℕ × ℕ) → slice_get l.entries l.told ≡ Some e → e.1 < sets → IfNone r (new ≡ l) → IfSome r (λ _. new ≡ line l.entries (l.told + 1) l.spare) → IsSetBefore l.told sets l.entries → IsSetBefore new.told sets new.entries
+set_before_told l new sets None e at lt kept grown before = subst (λ m. IsSetBefore m.told sets m.entries) (sym kept) before
+set_before_told l new sets (Some x) e at lt kept grown before = subst (λ m. IsSetBefore m.told sets m.entries) (sym grown) more
+  where
+    more : IsSetBefore (l.told + 1) sets l.entries
+    more k f before_k at_k = elim (cases_lt k l.told) [
+      | inl earlier ↦ before k f earlier at_k
+      | inr later ↦ (
+        let here : k ≡ l.told = omega arith in
+        let same : e ≡ f = (let at_told = ap (slice_get l.entries) (sym here) ∙ at_k in cc) in
+        subst (λ (x : ℕ × ℕ). x.1 < sets) same lt)
+    ]
+
+pub entries_kept : (l new : SeenLine) (r : Option ℕ) → IfNone r (new ≡ l) → IfSome r (λ _. new ≡ line l.entries (l.told + 1) l.spare) → new.entries ≡ l.entries
+entries_kept l new None kept grown = ap (λ m. m.entries) kept
+entries_kept l new (Some x) kept grown = ap (λ m. m.entries) grown
+
+pub set_before_more : (told sets more : ℕ) (es : List (ℕ × ℕ)) → sets ≤ more → IsSetBefore told sets es → IsSetBefore told more es
+set_before_more told sets more es le before k e lt at = let a = before k e lt at in omega arith
+
+-- the line is sound, on the one side that there is
+abbrev pub IsSoundLine : SeenLine → Type 0
+IsSoundLine l = (side : Side) → Differ (items_at (items_of l.entries) side) × (told_at l.told side ≤ length (items_at (items_of l.entries) side))
+
+pub sound_line : (l : SeenLine) → Differ (items_of l.entries) → l.told ≤ length l.entries → IsSoundLine l
+sound_line l differ within Only = (differ, let n = length_items l.entries in omega arith)
+sound_line l differ within Put = (tt, omega arith)
+sound_line l differ within Get = (tt, omega arith)
+sound_line l differ within Peek = (tt, omega arith)
+sound_line l differ within Join = (tt, omega arith)
 
 -- what a call gave is the entry at its place
 pub this_is : (r s : Option (ℕ × ℕ)) (a b : ℕ × ℕ) → r ≡ s → r ≡ Some a → s ≡ Some b → a ≡ b

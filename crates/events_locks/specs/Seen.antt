@@ -47,6 +47,11 @@ pub record SeenResult : Type 0 where
   pub outcome : Option Outcome
   pub waits : SeenWaits
 
+-- nobody is told to go before something was put
+abbrev pub ToldOfNothing : Option Outcome → ℕ → Type 0
+ToldOfNothing None told = told ≡ 0
+ToldOfNothing (Some o) told = Unit {0}
+
 -- ---- events
 
 -- each waiter stands with the number of sets at its parking
@@ -58,3 +63,7 @@ pub record SeenEvent : Type 0 where
 -- the event was set since the item parked
 abbrev pub IsSetSince : ℕ → List (ℕ × ℕ) → ℕ → Type 0
 IsSetSince sets es item = (k n : ℕ) × (slice_get es k ≡ Some (item, n)) × (n < sets)
+
+-- the event was set since each of the first so many parked
+abbrev pub IsSetBefore : ℕ → ℕ → List (ℕ × ℕ) → Type 0
+IsSetBefore told sets es = (k : ℕ) (e : ℕ × ℕ) → k < told → slice_get es k ≡ Some e → e.1 < sets

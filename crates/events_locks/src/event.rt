@@ -10,7 +10,7 @@ use std::marker::Model;
 use wait_lines::WaitLine;
 use waiters::{Parking, Side};
 
-/// A flag, and how many times it was set.
+/// A flag, and how many times it was set (gevent API reference, `gevent.event.Event`: `set` wakes all that wait).
 ///
 /// Each waiter stands with the number of sets at its parking. So a set lets all go that wait, and a clear after it
 /// changes nothing for them.
@@ -34,7 +34,7 @@ impl Model for Event {
 }
 
 impl Event {
-    /// An event that was never set.
+    /// An event that was never set; O(1).
     pub fn new(alloc: Global) -> Result<Event, AllocError>
         ensures { IfOk result (λ e. e ≡ record { flag = false; sets = 0; line = line [] 0 0 }) }
     {
@@ -45,7 +45,7 @@ impl Event {
         })
     }
 
-    /// Sets the flag, once more.
+    /// Sets the flag, once more; O(1): it tells nobody yet.
     pub fn set(&mut self)
         requires { self.old.sets < 2 ^ 63 }
         ensures { self.new ≡ record self.old { flag = true; sets = self.old.sets + 1 } }
@@ -54,30 +54,31 @@ impl Event {
         self.sets += 1;
     }
 
-    /// Clears the flag.
+    /// Clears the flag; O(1). Who waited at a set may still go.
     pub fn clear(&mut self)
         ensures { self.new ≡ record self.old { flag = false } }
     {
         self.flag = false;
     }
 
-    /// Whether the flag is set.
+    /// Whether the flag is set; O(1).
     pub fn is_set(&self) -> bool
         ensures { result ≡ self.now.flag }
     {
         self.flag
     }
 
-    /// An item begins to wait, with the number of sets so far.
+    /// An item begins to wait, with the number of sets so far; O(1).
     pub fn begin(&mut self, item: u32)
         requires room { 0 < self.old.line.spare }
         requires absent { Contains (items_of self.old.line.entries) item → ⊥ }
         ensures { self.new ≡ record self.old { line = line (self.old.line.entries ++ (item, self.old.sets) ∷ []) self.old.line.told (self.old.line.spare - 1) } }
     {
+        let _len = self.line.len();
         self.line.park(item, self.sets);
     }
 
-    /// An item waits no longer, whether or not it may go.
+    /// An item waits no longer, whether or not it may go; O(1).
     pub fn leave(&mut self, item: u32)
         requires { Contains (items_of self.old.line.entries) item }
         ensures { self.new ≡ record self.old { line = left item self.old.line } }
@@ -85,7 +86,7 @@ impl Event {
         self.line.remove(item);
     }
 
-    /// A waiter that may go waits no longer.
+    /// A waiter that may go waits no longer; O(1).
     pub fn complete(&mut self, item: u32)
         requires { IsSetSince self.old.sets self.old.line.entries item }
         ensures { self.new ≡ record self.old { line = left item self.old.line } }
@@ -95,9 +96,10 @@ impl Event {
 }
 
 impl Parking for Event {
-    ghost use Rattle.std.specs.Prelude.{◌≡◌};
+    ghost use Rattle.std.specs.Prelude.{◌≡◌, ℕ, ◌<◌, None, Some, slice_get};
     ghost use Rattle.linked_items.specs.Items.{items_of};
     ghost use Rattle.waiters.specs.OneSide.{items_at, told_at};
+    ghost use Rattle.waiters.specs.declared.parking.Side.{Side as Way};
     ghost use Rattle.waiters.specs.declared.parking.Side.TheVariants.{Only};
     ghost use Rattle.events_locks.specs.Seen.{IsSetSince};
 
@@ -141,17 +143,13 @@ impl Parking for Event {
         }
     }
 
-    fn next_unready(&mut self) -> Option<u32> {
-        let _len = self.line.len();
-        match self.line.last_told() {
-            Some((_, number)) => {
-                if number < self.sets {
-                    None
-                } else {
-                    self.line.untell()
-                }
-            }
-            None => None,
-        }
+    /// No item: an event that was set since an item parked was so for ever. O(1).
+    fn next_unready(&mut self) -> Option<u32>
+        ensures never { result ≡ None }
+        ensures holds { (side : Way) → side ≡ Only → (k item : ℕ) → slice_get (items_at (items_of self.old.line.entries) side) k ≡ Some item → k < told_at self.old.line.told side → IsSetSince self.old.sets self.old.line.entries item }
+        ensures same { self.new ≡ self.old }
+    {
+        let _sets = self.sets;
+        None
     }
 }

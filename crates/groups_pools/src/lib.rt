@@ -3,17 +3,19 @@
 
 ghost use Rattle.std.specs.Prelude.{◌≡◌, ◌≢◌, ℕ, ◌+◌, ◌-◌, ◌<◌, ◌≤◌, ◌^◌, List, [], ◌∷◌, ◌++◌, length, min, Option, Some, None, OnOk, OnErr, IfOk, IfSome, IfNone, IsTrue, ◌↔◌, ◌⊎◌, slice_get};
 ghost use Rattle.std.specs.List.{Contains};
-ghost use Rattle.linked_items.specs.Items.{without, Differ};
+ghost use Rattle.linked_items.specs.Items.{without};
 ghost use Rattle.waiters.specs.OneSide.{IsAmongFirst};
-ghost use Rattle.groups_pools.specs.Seen.{SeenCrew, free_places, open_places, HasPlace, place_gone, join_gone, with_member_in};
+ghost use Rattle.groups_pools.specs.Seen.{SeenCrew, free_places, open_places, HasPlace, AreBelow, IsRising, IsSound, place_gone, join_gone, with_member_in};
 
 use std::alloc::{AllocError, Global};
 use std::marker::Model;
 use waiters::{Parking, Side, WaitList};
 
-/// The members of a group, or of a pool with so many places.
+/// The members of a group, or of a pool with so many places (gevent API reference, `gevent.pool.Group`, `gevent.pool.Pool`).
 ///
-/// A place is taken when a member is admitted and never before: those that were told to go hold nothing yet.
+/// Places are given in order of waiting, and no newcomer gets one while as many wait. A place is taken when a member is admitted and never
+/// before: those that were told to go hold nothing yet. Members are admitted by rising numbers, so that one is found by a binary
+/// search.
 #[derive(Drop)]
 pub struct Crew {
     size: Option<u64>,
@@ -36,8 +38,20 @@ impl Model for Crew {
     ghost invariant = { IsCrew };
 }
 
+// Where the member stands, by a binary search.
+fn place_of(members: &[u32], g: u32) -> usize
+    requires rising { IsRising members.now }
+    requires there { Contains members.now g }
+    ensures { slice_get members.now result ≡ Some g }
+{
+    match members.binary_search(&g) {
+        Ok(at) => at,
+        Err(_) => unreachable!(),
+    }
+}
+
 impl Crew {
-    /// A pool with so many places, or a group.
+    /// A pool with so many places, or a group, which has no bound; O(1).
     pub fn new(alloc: Global, size: Option<u32>) -> Result<Crew, AllocError>
         ensures { IfOk result (λ c. c ≡ record { size = size; members = []; places = []; told_places = 0; joins = []; told_joins = 0; room = 0 }) }
     {
@@ -54,14 +68,15 @@ impl Crew {
         })
     }
 
-    /// The members in order of admission.
+    /// The members in order of admission, which is that of their numbers; O(1).
     pub fn members(&self) -> &[u32]
-        ensures { result.now ≡ self.now.members }
+        ensures is { result.now ≡ self.now.members }
+        ensures rising { IsRising self.now.members }
     {
         &self.members
     }
 
-    /// Whether a newcomer gets a place at once: the free places are more than those that wait for one.
+    /// Whether a newcomer gets a place at once: the free places are more than those that wait for one. O(1).
     pub fn admit_now(&self) -> bool
         ensures { IsTrue result ↔ HasPlace self.now }
     {
@@ -70,34 +85,36 @@ impl Crew {
         waiting < self.free(waiting + 1)
     }
 
-    /// A newcomer becomes a member.
+    /// A newcomer becomes a member; O(1). Without memory nothing is changed.
     pub fn admit(&mut self, g: u32) -> Result<(), AllocError>
         requires place { HasPlace self.old }
-        requires absent { Contains self.old.members g → ⊥ }
+        requires rising { AreBelow g self.old.members }
         ensures ok { OnOk result (self.new ≡ with_member_in g self.old) }
         ensures err { OnErr result (self.new ≡ self.old) }
     {
+        let _waiting = self.places.len();
         if self.members.push(g).is_err() {
             return Err(AllocError);
         }
         Ok(())
     }
 
-    /// One that waits for a place, and may go, waits no longer, and `g` becomes a member. Without memory it waits on.
+    /// One that waits for a place, and may go, waits no longer, and `g` becomes a member; O(1). Without memory it waits on.
     pub fn complete(&mut self, item: u32, g: u32) -> Result<(), AllocError>
         requires holds { IsAmongFirst (open_places self.old) self.old.places item }
-        requires absent { Contains self.old.members g → ⊥ }
+        requires rising { AreBelow g self.old.members }
         ensures ok { OnOk result (self.new ≡ with_member_in g (place_gone item self.old)) }
         ensures err { OnErr result (self.new ≡ self.old) }
     {
+        let _waiting = self.places.len();
         if self.members.push(g).is_err() {
             return Err(AllocError);
         }
-        self.drop_place(item);
+        self.places.remove(item);
         Ok(())
     }
 
-    /// One that waits for the last member to end, and may go, waits no longer.
+    /// One that waits for the last member to end, and may go, waits no longer; O(1).
     pub fn complete_join(&mut self, item: u32)
         requires there { Contains self.old.joins item }
         requires deserted { length self.old.members ≡ 0 }
@@ -106,12 +123,13 @@ impl Crew {
         self.drop_join(item);
     }
 
-    /// A member has ended.
+    /// A member has ended, and its place is free; O(log n) to find it, and one move of those behind it.
     pub fn member_ended(&mut self, g: u32)
         requires { Contains self.old.members g }
         ensures { self.new ≡ record self.old { members = without g self.old.members } }
     {
-        self.members.retain(|m| *m != g);
+        let at = place_of(&self.members, g);
+        self.members.remove(at);
     }
 
     // So many places are free; in a group as many as are asked for.
@@ -124,7 +142,7 @@ impl Crew {
         }
     }
 
-    /// One that waits for a place leaves.
+    /// One that waits for a place leaves; O(1).
     pub fn drop_place(&mut self, item: u32)
         requires { Contains self.old.places item }
         ensures { self.new ≡ place_gone item self.old }
@@ -133,7 +151,7 @@ impl Crew {
         self.places.remove(item);
     }
 
-    /// One that waits for the last member leaves.
+    /// One that waits for the last member leaves; O(1).
     pub fn drop_join(&mut self, item: u32)
         requires { Contains self.old.joins item }
         ensures { self.new ≡ join_gone item self.old }
@@ -154,20 +172,21 @@ impl Crew {
         }
     }
 
-    /// Tells one more that may have a place.
+    /// Tells one more that may have a place; O(1). Who was told of a place can have one until it leaves.
     pub fn tell_place(&mut self) -> Option<u32>
         ensures none { IfNone result (min (open_places self.old) (length self.old.places) ≤ self.old.told_places) }
-        ensures differ { Differ self.old.places }
+        ensures sound { IsSound self.old }
         ensures kept { IfNone result (self.new ≡ self.old) }
         ensures item { IfSome result (λ item. (slice_get self.old.places self.old.told_places ≡ Some item) × (self.old.told_places < open_places self.old)) }
         ensures told { IfSome result (λ _. self.new ≡ record self.old { told_places = self.old.told_places + 1 }) }
     {
+        let _joining = self.joins.len();
         let waiting = self.places.len();
         let places = self.free(waiting);
         self.places.grow(places)
     }
 
-    /// Tells one more of those that wait for the last member, where none is left.
+    /// Tells one more of those that wait for the last member, where none is left; O(1).
     pub fn tell_join(&mut self) -> Option<u32>
         ensures none { IfNone result (length self.old.members ≡ 0 → length self.old.joins ≤ self.old.told_joins) }
         ensures kept { IfNone result (self.new ≡ self.old) }
@@ -178,27 +197,16 @@ impl Crew {
         self.joins.grow(places)
     }
 
-    /// Takes its leave back from one that may have no place.
-    pub fn untell_place(&mut self) -> Option<u32>
-        ensures none { IfNone result (self.old.told_places ≤ open_places self.old) }
-        ensures differ { Differ self.old.places }
-        ensures kept { IfNone result (self.new ≡ self.old) }
-        ensures item { IfSome result (λ item. (slice_get self.old.places (self.old.told_places - 1) ≡ Some item) × (open_places self.old < self.old.told_places)) }
-        ensures told { IfSome result (λ _. self.new ≡ record self.old { told_places = self.old.told_places - 1 }) }
-    {
-        let waiting = self.places.len();
-        let places = self.free(waiting);
-        self.places.shrink(places)
-    }
-
-    /// Takes its leave back from one that waits for the last member, where one is left.
+    /// Lets one that was told that no member is left wait again, where one is left, and gives it; O(1).
     pub fn untell_join(&mut self) -> Option<u32>
         ensures none { IfNone result ((self.old.told_joins ≡ 0) ⊎ (length self.old.members ≡ 0)) }
+        ensures sound { IsSound self.old }
         ensures kept { IfNone result (self.new ≡ self.old) }
         ensures item { IfSome result (λ item. (slice_get self.old.joins (self.old.told_joins - 1) ≡ Some item) × (0 < self.old.told_joins) × (length self.old.members ≢ 0)) }
         ensures told { IfSome result (λ _. self.new ≡ record self.old { told_joins = self.old.told_joins - 1 }) }
     {
-        let _len = self.joins.len();
+        let _waiting = self.places.len();
+        let _joining = self.joins.len();
         let places = self.join_places();
         self.joins.shrink(places)
     }
@@ -266,9 +274,6 @@ impl Parking for Crew {
     }
 
     fn next_unready(&mut self) -> Option<u32> {
-        match self.untell_place() {
-            Some(item) => Some(item),
-            None => self.untell_join(),
-        }
+        self.untell_join()
     }
 }

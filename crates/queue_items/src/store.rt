@@ -10,7 +10,8 @@ use std::alloc::{AllocError, Global};
 use std::collections::VecDeque;
 use std::marker::Model;
 
-/// Values that enter one by one, and leave by the rule of their queue's kind.
+/// Values that enter one by one, and leave by the rule of their queue's kind: the oldest first, the newest first, or the least
+/// integer first (gevent API reference, `gevent.queue`: `Queue`, `LifoQueue`, `PriorityQueue`, `JoinableQueue`).
 ///
 /// Integers of a priority queue stand in a heap, the values of every other in a line.
 #[derive(Drop)]
@@ -31,7 +32,7 @@ impl Model for Store {
 }
 
 impl Store {
-    /// No items.
+    /// No items; O(1).
     pub fn new(alloc: Global, kind: QueueKind) -> Self
         ensures kind { result.kind ≡ kind }
         ensures items { result.items ≡ [] }
@@ -44,7 +45,7 @@ impl Store {
         }
     }
 
-    /// How many items there are.
+    /// How many items there are; O(1).
     pub fn len(&self) -> u64
         ensures { result ≡ length self.now.items }
     {
@@ -56,19 +57,8 @@ impl Store {
         }
     }
 
-    /// Whether its items are tasks.
-    pub fn is_join(&self) -> bool
-        ensures { IsTrue result ↔ (self.now.kind ≡ QueueKind.Join) }
-    {
-        match self.kind {
-            QueueKind::Fifo => false,
-            QueueKind::Lifo => false,
-            QueueKind::Join => true,
-            QueueKind::Priority => false,
-        }
-    }
-
-    /// Makes room for `n` more items.
+    /// Makes room for `n` more items, so that as many calls of `push` take no memory. O(1) where there is room; otherwise each item
+    /// is moved once. After an error all is as before but for room.
     pub fn reserve(&mut self, n: usize) -> Result<(), AllocError>
         ensures room { OnOk result (n ≤ self.new.spare) }
         ensures kept { self.new ≡ store self.old.kind self.old.items self.new.spare self.old.numbered }
@@ -82,7 +72,7 @@ impl Store {
         }
     }
 
-    /// A value enters.
+    /// A value enters; O(1), by priority O(log n).
     pub fn push(&mut self, value: Value)
         requires room { 0 < self.old.spare }
         requires takes { Takes self.old.kind value }
@@ -100,7 +90,7 @@ impl Store {
         }
     }
 
-    /// Takes out the item that is next.
+    /// Takes out the item that is next; `None` exactly where there is none. O(1), by priority O(log n).
     pub fn pop(&mut self) -> Option<Value>
         ensures none { (result ≡ None) ↔ (length self.old.items ≡ 0) }
         ensures kept { IfNone result (self.new ≡ self.old) }
@@ -118,7 +108,7 @@ impl Store {
         }
     }
 
-    /// The item that is next, once more.
+    /// A copy of the item that is next, which stays; `None` exactly where there is none. O(1), and what the copy of a list takes.
     pub fn copy_next(&self, alloc: Global) -> Result<Option<Value>, AllocError>
         ensures none { IfOk result (λ o. (o ≡ None) ↔ (length self.now.items ≡ 0)) }
         ensures value { IfOk result (λ o. IfSome o (λ v. v ≡ next_value self.now.kind self.now.items)) }
@@ -134,9 +124,9 @@ impl Store {
         }
     }
 
-    /// Drops all items.
+    /// Drops all items. It walks, since each of them is dropped.
     pub fn clear(&mut self)
-        ensures { self.new ≡ store self.old.kind [] (self.old.spare + length self.old.items) self.old.numbered }
+        ensures { self.new ≡ store self.old.kind [] (self.old.spare + length self.old.items) 0 }
     {
         match self.kind {
             QueueKind::Fifo => self.line.clear(),

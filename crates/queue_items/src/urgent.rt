@@ -10,8 +10,10 @@ use std::cmp::Reverse;
 use std::collections::BinaryHeap;
 use std::marker::Model;
 
-/// Integers by priority, seen in order of entering: each has the number of those that entered before it, and of equal ones
-/// the first leaves first.
+/// The items of a priority queue: integers of which the least leaves first, and of equal ones the one that entered first.
+///
+/// Contracts see them in order of entering. Each stands in a binary heap with the number of those that entered before it,
+/// counted since there was none.
 #[derive(Drop)]
 pub struct Urgent {
     heap: BinaryHeap<Reverse<(i64, u64)>>,
@@ -40,7 +42,7 @@ fn integer(rank: &Reverse<(i64, u64)>) -> i64
 }
 
 impl Urgent {
-    /// None.
+    /// No integers; O(1).
     pub fn new(alloc: Global) -> Self
         ensures { result ≡ urgent [] 0 0 }
     {
@@ -51,14 +53,15 @@ impl Urgent {
         }
     }
 
-    /// How many there are.
+    /// How many integers there are; O(1).
     pub fn len(&self) -> u64
         ensures { result ≡ length self.now.items }
     {
         self.heap.len() as u64
     }
 
-    /// Makes room for `n` more.
+    /// Makes room for `n` more, so that as many calls of `push` take no memory. O(1) where there is room; otherwise each integer
+    /// is moved once. After an error all is as before but for room.
     pub fn reserve(&mut self, n: usize) -> Result<(), AllocError>
         ensures room { OnOk result (n ≤ self.new.spare) }
         ensures kept { self.new ≡ urgent self.old.items self.new.spare self.old.numbered }
@@ -76,7 +79,7 @@ impl Urgent {
         Ok(())
     }
 
-    /// One enters.
+    /// An integer enters; O(log n).
     pub fn push(&mut self, z: i64)
         requires room { 0 < self.old.spare }
         requires numbers { self.old.numbered < 2 ^ 63 }
@@ -89,7 +92,7 @@ impl Urgent {
         self.next += 1;
     }
 
-    /// Takes out the least, of equal ones the first.
+    /// Takes out the least, of equal ones the first; `None` exactly where there is none. O(log n).
     pub fn pop(&mut self) -> Option<i64>
         ensures none { (result ≡ None) ↔ (length self.old.items ≡ 0) }
         ensures kept { IfNone result (self.new ≡ self.old) }
@@ -102,7 +105,7 @@ impl Urgent {
         Some(integer(&rank))
     }
 
-    /// The least.
+    /// The least; `None` exactly where there is none. O(1).
     pub fn least(&self) -> Option<i64>
         ensures none { (result ≡ None) ↔ (length self.now.items ≡ 0) }
         ensures value { IfSome result (λ z. Value.Int z ≡ next_value QueueKind.Priority self.now.items) }
@@ -113,10 +116,11 @@ impl Urgent {
         }
     }
 
-    /// Drops all.
+    /// Drops all, and counts from 0 again. It walks, since each integer is dropped.
     pub fn clear(&mut self)
-        ensures { self.new ≡ urgent [] (self.old.spare + length self.old.items) self.old.numbered }
+        ensures { self.new ≡ urgent [] (self.old.spare + length self.old.items) 0 }
     {
         self.heap.clear();
+        self.next = 0;
     }
 }

@@ -5,7 +5,7 @@ ghost use Rattle.linked_items.specs.Items.{items_of, Differ};
 ghost use Rattle.wait_lines.specs.Lines.{line, left};
 ghost use Rattle.queue_waiters.specs.Seen.{getters, gets, peeks, getters_before, of_kind};
 
-use linked_items::row::Row;
+use linked_items::item_list::ItemList;
 use std::alloc::{AllocError, Global};
 use std::marker::Model;
 use wait_lines::WaitLine;
@@ -18,8 +18,8 @@ pub struct Takers {
     // How many of the told ones are getters.
     told_getters: u64,
     // Each kind once more, for the number of getters before an item.
-    getters: Row,
-    peekers: Row,
+    getters: ItemList,
+    peekers: ItemList,
 }
 
 impl Model for Takers {
@@ -62,8 +62,8 @@ impl Takers {
         Takers {
             line: WaitLine::new(alloc),
             told_getters: 0,
-            getters: Row::new(alloc),
-            peekers: Row::new(alloc),
+            getters: ItemList::new(alloc),
+            peekers: ItemList::new(alloc),
         }
     }
 

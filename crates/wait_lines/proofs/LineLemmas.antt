@@ -1,7 +1,7 @@
 -- What a line keeps when an item enters, leaves or changes its side.
 use Rattle.std.proofs.Common.{◌≡◌, ◌==◌, ℕ, ◌+◌, ◌-◌, ◌<◌, Bool, true, false, not, List, [], ◌∷◌, ◌++◌, length, take, cond, Some, None, refl, sym, ap, ◌∙◌, subst, arith, slice_get, Contains, append_assoc, length-append}
 use Rattle.linked_items.specs.Items.{items_of, without_entry, Lacks, Differ}
-use Rattle.linked_items.specs.Seen.{SeenRow, row}
+use Rattle.linked_items.specs.Seen.{SeenItems, item_list}
 use Rattle.std.proofs.lemmas.Option.{slice_get-get_or}
 use Rattle.std.proofs.lemmas.List.Elements.{Contains-append_cases}
 use Rattle.std.proofs.Common.{zero, suc, inl, inr}
@@ -10,10 +10,10 @@ use Rattle.wait_lines.specs.Lines.{line}
 use Rattle.wait_lines.specs.LineParts.{IsSound}
 use Rattle.wait_lines.specs.declared.WaitLine.TheInside.{Inside}
 
-abbrev pub inside : SeenRow → SeenRow → ℕ → Inside
+abbrev pub inside : SeenItems → SeenItems → ℕ → Inside
 inside t r n = record { told = t; rest = r; limit = n }
 
-abbrev pub entries_in : SeenRow → SeenRow → List (ℕ × ℕ)
+abbrev pub entries_in : SeenItems → SeenItems → List (ℕ × ℕ)
 entries_in t r = t.entries ++ r.entries
 
 pub lines_are : (xs xs' : List (ℕ × ℕ)) (t t' n n' : ℕ) → xs ≡ xs' → t ≡ t' → n ≡ n' → line xs t n ≡ line xs' t' n'
@@ -31,14 +31,14 @@ pub take_entries : (xs ys : List (ℕ × ℕ)) → take (length xs) (xs ++ ys) �
 take_entries [] ys = refl
 take_entries (x ∷ xs) ys = ap (λ l. x ∷ l) (take_entries xs ys)
 
-pub differ_of : (t r : SeenRow) → Differ (items_of (entries_in t r)) → Differ (items_of t.entries ++ items_of r.entries)
+pub differ_of : (t r : SeenItems) → Differ (items_of (entries_in t r)) → Differ (items_of t.entries ++ items_of r.entries)
 differ_of t r d = subst Differ (items_joined t.entries r.entries) d
 
-pub parked_absent : (t r : SeenRow) (item : ℕ) → (Contains (items_of (entries_in t r)) item → ⊥) → Contains (items_of r.entries) item → ⊥
+pub parked_absent : (t r : SeenItems) (item : ℕ) → (Contains (items_of (entries_in t r)) item → ⊥) → Contains (items_of r.entries) item → ⊥
 parked_absent t r item absent p = absent_of_lacks item (items_of r.entries) (lacks_back item (items_of t.entries) (items_of r.entries) (subst (Lacks item) (items_joined t.entries r.entries) (lacks_of_absent item (items_of (entries_in t r)) absent))) p
 
 -- an item enters
-module _ (t r r' : SeenRow) (limit item number : ℕ) (is : IsSound (inside t r limit)) (absent : Contains (items_of (entries_in t r)) item → ⊥) (now : r' ≡ row (r.entries ++ (item, number) ∷ []) (r.spare - 1)) where
+module _ (t r r' : SeenItems) (limit item number : ℕ) (is : IsSound (inside t r limit)) (absent : Contains (items_of (entries_in t r)) item → ⊥) (now : r' ≡ item_list (r.entries ++ (item, number) ∷ []) (r.spare - 1)) where
   pub parked_entries : entries_in t r' ≡ entries_in t r ++ (item, number) ∷ []
   parked_entries = ap (λ v. t.entries ++ v.entries) now ∙ sym (append_assoc t.entries r.entries ((item, number) ∷ []))
 
@@ -65,7 +65,7 @@ fewer_entries item es d there =
     omega arith
 
 -- a told item leaves
-module _ (t r t' : SeenRow) (limit item : ℕ) (is : IsSound (inside t r limit)) (there : Contains (items_of t.entries) item) (now : t' ≡ row (without_entry item t.entries) (t.spare + 1)) where
+module _ (t r t' : SeenItems) (limit item : ℕ) (is : IsSound (inside t r limit)) (there : Contains (items_of t.entries) item) (now : t' ≡ item_list (without_entry item t.entries) (t.spare + 1)) where
   told_lacks : Lacks item (items_of r.entries)
   told_lacks = differ_parts (items_of t.entries) (items_of r.entries) item (differ_of t r is.differ) there
 
@@ -98,7 +98,7 @@ module _ (t r t' : SeenRow) (limit item : ℕ) (is : IsSound (inside t r limit))
       }
 
 -- another item leaves
-module _ (t r r' : SeenRow) (limit item : ℕ) (is : IsSound (inside t r limit)) (there : Contains (items_of r.entries) item) (lacks : Lacks item (items_of t.entries)) (now : r' ≡ row (without_entry item r.entries) (r.spare + 1)) where
+module _ (t r r' : SeenItems) (limit item : ℕ) (is : IsSound (inside t r limit)) (there : Contains (items_of r.entries) item) (lacks : Lacks item (items_of t.entries)) (now : r' ≡ item_list (without_entry item r.entries) (r.spare + 1)) where
   pub left_entries : entries_in t r' ≡ without_entry item (entries_in t r)
   left_entries =
       ap (λ v. t.entries ++ v.entries) now
@@ -128,7 +128,7 @@ module _ (t r r' : SeenRow) (limit item : ℕ) (is : IsSound (inside t r limit))
       }
 
 -- the border moves up
-module _ (t r t' r' : SeenRow) (limit : ℕ) (e : ℕ × ℕ) (is : IsSound (inside t r limit)) (first : slice_get r.entries 0 ≡ Some e) (rest : r' ≡ row (without_entry e.0 r.entries) (r.spare + 1)) where
+module _ (t r t' r' : SeenItems) (limit : ℕ) (e : ℕ × ℕ) (is : IsSound (inside t r limit)) (first : slice_get r.entries 0 ≡ Some e) (rest : r' ≡ item_list (without_entry e.0 r.entries) (r.spare + 1)) where
   pub grown_parts : (r.entries ≡ e ∷ r'.entries) × Lacks e.0 (items_of t.entries)
   grown_parts =
       let f = first_is r.entries e first in
@@ -136,7 +136,7 @@ module _ (t r t' r' : SeenRow) (limit : ℕ) (e : ℕ × ℕ) (is : IsSound (ins
       let gone : r'.entries ≡ f.0 = ap (λ v. v.entries) rest ∙ ap (without_entry e.0) f.1 ∙ entry_first_dropped e f.0 (differ_from_back (items_of t.entries) (items_of f.0) e.0 d) in
       (f.1 ∙ ap (λ l. e ∷ l) (sym gone), differ_from_front (items_of t.entries) (items_of f.0) e.0 d)
 
-  module _ (told : t' ≡ row (t.entries ++ e ∷ []) (t.spare - 1)) where
+  module _ (told : t' ≡ item_list (t.entries ++ e ∷ []) (t.spare - 1)) where
     pub grown_entries : entries_in t' r' ≡ entries_in t r
     grown_entries =
         ap (λ v. entries_in v r') told
@@ -167,7 +167,7 @@ module _ (t r t' r' : SeenRow) (limit : ℕ) (e : ℕ × ℕ) (is : IsSound (ins
       ∙ at_border (items_of t.entries) (items_of r'.entries) e.0
 
 -- the border moves down
-module _ (t r t' r' : SeenRow) (limit : ℕ) (e : ℕ × ℕ) (is : IsSound (inside t r limit)) (last : slice_get t.entries (length t.entries - 1) ≡ Some e) (told : t' ≡ row (without_entry e.0 t.entries) (t.spare + 1)) where
+module _ (t r t' r' : SeenItems) (limit : ℕ) (e : ℕ × ℕ) (is : IsSound (inside t r limit)) (last : slice_get t.entries (length t.entries - 1) ≡ Some e) (told : t' ≡ item_list (without_entry e.0 t.entries) (t.spare + 1)) where
   pub shrunk_parts : (t.entries ≡ t'.entries ++ e ∷ []) × Lacks e.0 (items_of r.entries)
   shrunk_parts =
       let f = last_is t.entries e last in
@@ -189,7 +189,7 @@ module _ (t r t' r' : SeenRow) (limit : ℕ) (e : ℕ × ℕ) (is : IsSound (ins
       ∙ ap (λ l. slice_get l (length (items_of t'.entries))) (ap items_of (sym shrunk_border) ∙ items_joined t'.entries (e ∷ r.entries))
       ∙ at_border (items_of t'.entries) (items_of r.entries) e.0
 
-  module _ (rest : r' ≡ row (e ∷ r.entries) (r.spare - 1)) where
+  module _ (rest : r' ≡ item_list (e ∷ r.entries) (r.spare - 1)) where
     pub shrunk_entries : entries_in t' r' ≡ entries_in t r
     shrunk_entries = ap (λ v. entries_in t' v) rest ∙ shrunk_border
 
@@ -226,7 +226,7 @@ back_place [] ys k x at = let zero_sum : 0 + k ≡ k = omega arith in rw zero_su
 back_place (y ∷ xs) ys k x at = let one : suc (length xs) + k ≡ suc (length xs + k) = omega arith in rw one (back_place xs ys k x at)
 
 -- an item that is not in the first part stands in the second
-pub in_rest : (t r : SeenRow) (item : ℕ) → Contains (items_of (entries_in t r)) item → (Contains (items_of t.entries) item → ⊥) → Contains (items_of r.entries) item
+pub in_rest : (t r : SeenItems) (item : ℕ) → Contains (items_of (entries_in t r)) item → (Contains (items_of t.entries) item → ⊥) → Contains (items_of r.entries) item
 in_rest t r item all not_told = elim (Contains-append_cases (items_of t.entries) (items_of r.entries) item (subst (λ l. Contains l item) (items_joined t.entries r.entries) all)) [
   | inl a ↦ absurd (not_told a)
   | inr b ↦ b

@@ -6,17 +6,17 @@ ghost use Rattle.std.specs.List.{Contains};
 ghost use Rattle.linked_items.specs.Items.{items_of, Differ};
 ghost use Rattle.wait_lines.specs.Lines.{line, left};
 
-use linked_items::row::Row;
+use linked_items::item_list::ItemList;
 use std::alloc::{AllocError, Global};
 use std::marker::Model;
 
 /// Items in order of waiting, each with a number that it keeps, of which the first `told` were told to go.
 ///
-/// The told ones stand in a row of their own, so that the border moves, and an item leaves, in constant time.
+/// The told ones stand in a list of their own, so that the border moves, and an item leaves, in constant time.
 #[derive(Drop)]
 pub struct WaitLine {
-    told: Row,
-    rest: Row,
+    told: ItemList,
+    rest: ItemList,
     // So many items fit.
     limit: usize,
 }
@@ -44,8 +44,8 @@ impl WaitLine {
         ensures { result ≡ line [] 0 0 }
     {
         WaitLine {
-            told: Row::new(alloc),
-            rest: Row::new(alloc),
+            told: ItemList::new(alloc),
+            rest: ItemList::new(alloc),
             limit: 0,
         }
     }

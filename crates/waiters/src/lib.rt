@@ -94,6 +94,7 @@ impl WaitList {
     }
 
     /// An item waits no longer; O(1). The others close up: where it was told, one less is told afterwards.
+    #[tactic(auto, using(crate::proofs::WaitLemmas::left_list))]
     pub fn remove(&mut self, item: u32)
         requires { Contains self.old.items item }
         ensures { self.new ≡ waits (without item self.old.items) (told_without item self.old.told self.old.items) (self.old.spare + 1) }
