@@ -6,9 +6,9 @@ use Rattle.linked_items.specs.Items.{items_of, Differ}
 use Rattle.linked_items.proofs.ItemLemmas.{places_differ, without_absent}
 use Rattle.waiters.specs.declared.parking.Side.{Side}
 use Rattle.waiters.proofs.PrefixLemmas.{none_behind, not_among}
-use Rattle.gqueues.specs.Seen.{SeenQueue, put_places, take_places, join_places, HasSide, waiting_at, told_on, holds_on, taker_gone}
+use Rattle.gqueues.specs.Seen.{SeenQueue, IsSound, put_places, take_places, join_places, HasSide, waiting_at, told_on, holds_on, taker_gone}
 use Rattle.queue_waiters.specs.Seen.{getters, gets, peeks, getters_before, of_kind, IsServed, items_put}
-use Rattle.queue_waiters.proofs.KindLemmas.{kind_next, kind_rise, kind_left, kind_told_same, kinds_apart, apart_too, place_in_kind, place_in_line, past_front, in_front, entry_at, item_at, before_item, take_short}
+use Rattle.queue_waiters.proofs.KindLemmas.{kind_next, kind_rise, kind_left, kind_told_same, kinds_apart, apart_too, place_in_kind, place_in_line, past_front, in_front, entry_at, item_at, before_item, take_short, kind_differ, kind_told_within}
 use Rattle.gqueues.proofs.QueueLemmas.{length_put}
 
 -- ---- a getter or peeker leaves
@@ -222,3 +222,15 @@ served_first q item open' differ served =
     let before = before_item q.takers served.0 item served.1 differ served.2 in
     let few = served.3 in
     omega arith
+
+-- ---- on each side nobody waits twice, and no more were told than wait
+
+abbrev pub IsSoundAll : SeenQueue → Type 0
+IsSoundAll q = (side : Side) → Differ (waiting_at q side) × (told_on q side ≤ length (waiting_at q side))
+
+pub sound_all : (q : SeenQueue) → IsSound q → IsSoundAll q
+sound_all q sound Side.Only = (tt, omega arith)
+sound_all q sound Side.Put = (sound.putters_differ, let n = length_put q.putters in let le = sound.putters_within in omega arith)
+sound_all q sound Side.Get = (kind_differ gets q.takers sound.takers_differ, kind_told_within gets q.told_takers q.takers)
+sound_all q sound Side.Peek = (kind_differ peeks q.takers sound.takers_differ, kind_told_within peeks q.told_takers q.takers)
+sound_all q sound Side.Join = (sound.joins_differ, sound.joins_within)

@@ -1,10 +1,10 @@
 -- What contracts see of a queue and of a channel.
-use Rattle.std.specs.Prelude.{◌≡◌, ℕ, ◌+◌, ◌-◌, ◌==◌, Bool, true, List, [], ◌∷◌, ◌++◌, length, take, filter, Option, Some, None, if◌then◌else◌}
+use Rattle.std.specs.Prelude.{◌≡◌, ℕ, ◌+◌, ◌-◌, ◌≤◌, ◌==◌, Bool, true, List, [], ◌∷◌, ◌++◌, length, take, filter, Option, Some, None, if◌then◌else◌}
 use Rattle.std.specs.List.{Contains}
 use Rattle.gv_values.specs.declared.value.Value.{Value}
 use Rattle.machine.specs.Waits.{without_next}
 use Rattle.scenario_tree.specs.declared.tree.QueueKind.{QueueKind}
-use Rattle.linked_items.specs.Items.{without, without_entry}
+use Rattle.linked_items.specs.Items.{items_of, without, without_entry, Differ}
 use Rattle.wait_lines.specs.Lines.{told_left}
 use Rattle.waiters.specs.Waits.{told_without}
 use Rattle.waiters.specs.OneSide.{IsAmongFirst}
@@ -13,6 +13,7 @@ use Rattle.queue_waiters.specs.Seen.{gets, peeks, of_kind, IsServed, items_put, 
 
 -- ---- a queue
 
+-- a queue, and who waits at it
 pub record SeenQueue : Type 0 where
   pub kind : QueueKind
   pub size : Option ℕ
@@ -47,6 +48,7 @@ take_places q = if q.shut then length q.takers else length q.items
 abbrev pub join_places : SeenQueue → ℕ
 join_places q = if q.unfinished == 0 then length q.joins else 0
 
+-- putters, getters, peekers, and those that wait for the last task
 abbrev pub HasSide : Side → Type 0
 HasSide Side.Only = ⊥
 HasSide side = Unit {0}
@@ -58,6 +60,7 @@ ParksOn Side.Peek = Unit {0}
 ParksOn Side.Join = Unit {0}
 ParksOn side = ⊥
 
+-- who waits on a side
 abbrev pub waiting_at : SeenQueue → Side → List ℕ
 waiting_at q Side.Only = []
 waiting_at q Side.Put = items_put q.putters
@@ -65,6 +68,7 @@ waiting_at q Side.Get = of_kind gets q.takers
 waiting_at q Side.Peek = of_kind peeks q.takers
 waiting_at q Side.Join = q.joins
 
+-- how many of them were told
 abbrev pub told_on : SeenQueue → Side → ℕ
 told_on q Side.Only = 0
 told_on q Side.Put = q.told_putters
@@ -72,6 +76,7 @@ told_on q Side.Get = length (filter gets (take q.told_takers q.takers))
 told_on q Side.Peek = length (filter peeks (take q.told_takers q.takers))
 told_on q Side.Join = q.told_joins
 
+-- the condition of an item that waits on a side
 abbrev pub holds_on : SeenQueue → Side → ℕ → Type 0
 holds_on q Side.Only item = ⊥
 holds_on q Side.Put item = IsAmongFirst (put_places q) (items_put q.putters) item
@@ -79,6 +84,7 @@ holds_on q Side.Get item = IsServed (take_places q) q.takers item
 holds_on q Side.Peek item = IsServed (take_places q) q.takers item
 holds_on q Side.Join item = q.unfinished ≡ 0
 
+-- nothing but who waits is changed
 pub record KeepsQueue (old new : SeenQueue) : Type 0 where
   pub kind : new.kind ≡ old.kind
   pub size : new.size ≡ old.size
@@ -98,7 +104,7 @@ putter_gone item q = record q { putters = without_putter item q.putters; told_pu
 abbrev pub join_gone : ℕ → SeenQueue → SeenQueue
 join_gone item q = record q { joins = without item q.joins; told_joins = told_without item q.told_joins q.joins; room = q.room + 1 }
 
--- the value goes in
+-- the value goes in, and is a task more
 abbrev pub with_value_in : Value → SeenQueue → SeenQueue
 with_value_in v q = record q { items = q.items ++ v ∷ []; unfinished = q.unfinished + 1 }
 
@@ -106,14 +112,18 @@ with_value_in v q = record q { items = q.items ++ v ∷ []; unfinished = q.unfin
 abbrev pub with_next_out : SeenQueue → SeenQueue
 with_next_out q = record q { items = without_next q.kind q.items }
 
--- fewer tasks are unfinished where so many are dropped from a queue of tasks
-abbrev pub after_drop : QueueKind → ℕ → ℕ → ℕ
-after_drop QueueKind.Join unfinished dropped = unfinished - dropped
-after_drop kind unfinished dropped = unfinished
-
--- all items are dropped
+-- all items are dropped, and as many tasks with them
 abbrev pub emptied : SeenQueue → SeenQueue
-emptied q = record q { items = []; unfinished = after_drop q.kind q.unfinished (length q.items) }
+emptied q = record q { items = []; unfinished = q.unfinished - length q.items }
+
+-- nobody waits twice, and no more were told than wait
+pub record IsSound (q : SeenQueue) : Type 0 where
+  pub takers_differ : Differ (items_of q.takers)
+  pub takers_within : q.told_takers ≤ length q.takers
+  pub putters_differ : Differ (items_put q.putters)
+  pub putters_within : q.told_putters ≤ length q.putters
+  pub joins_differ : Differ q.joins
+  pub joins_within : q.told_joins ≤ length q.joins
 
 -- the queue is shut, and emptied where it is at once
 abbrev pub shut_now : Bool → SeenQueue → SeenQueue
@@ -121,6 +131,7 @@ shut_now immediate q = record (if immediate then emptied q else q) { shut = true
 
 -- ---- a channel
 
+-- a channel, and who waits at it
 pub record SeenChannel : Type 0 where
   -- in order of making
   pub offers : List (ℕ × Value)
@@ -132,6 +143,7 @@ pub record SeenChannel : Type 0 where
   -- so many more can wait without memory
   pub room : ℕ
 
+-- putters and getters
 abbrev pub ChannelSide : Side → Type 0
 ChannelSide Side.Put = Unit {0}
 ChannelSide Side.Get = Unit {0}
@@ -142,7 +154,14 @@ abbrev pub ChannelParks : Side → Type 0
 ChannelParks Side.Get = Unit {0}
 ChannelParks side = ⊥
 
--- those whose offer was taken parked before those whose offer is there
+-- nobody waits twice, and no more were told than wait
+pub record IsSoundChannel (c : SeenChannel) : Type 0 where
+  pub putters_differ : Differ (c.taken ++ items_put c.offers)
+  pub taken_within : c.told_taken ≤ length c.taken
+  pub getters_differ : Differ c.getters
+  pub getters_within : c.told_getters ≤ length c.getters
+
+-- who waits on a side; those whose offer was taken parked before those whose offer is there
 abbrev pub channel_waiting : SeenChannel → Side → List ℕ
 channel_waiting c Side.Only = []
 channel_waiting c Side.Put = c.taken ++ items_put c.offers
@@ -150,6 +169,7 @@ channel_waiting c Side.Get = c.getters
 channel_waiting c Side.Peek = []
 channel_waiting c Side.Join = []
 
+-- how many were told
 abbrev pub channel_told : SeenChannel → Side → ℕ
 channel_told c Side.Only = 0
 channel_told c Side.Put = c.told_taken
@@ -157,7 +177,7 @@ channel_told c Side.Get = c.told_getters
 channel_told c Side.Peek = 0
 channel_told c Side.Join = 0
 
--- a putter holds where its offer was taken
+-- the condition of an item that waits on a side: a putter holds where its offer was taken
 abbrev pub channel_holds : SeenChannel → Side → ℕ → Type 0
 channel_holds c Side.Only item = ⊥
 channel_holds c Side.Put item = Contains c.taken item

@@ -3,7 +3,7 @@ ghost use Rattle.std.specs.Prelude.{◌≡◌, ◌≢◌, ℕ, ◌+◌, ◌-◌,
 ghost use Rattle.std.specs.List.{Contains};
 ghost use Rattle.linked_items.specs.Items.{Differ};
 ghost use Rattle.waiters.specs.OneSide.{IsAmongFirst};
-ghost use Rattle.gqueues.specs.Seen.{SeenChannel, oldest, offer_taken, getter_gone, taken_gone, offer_gone};
+ghost use Rattle.gqueues.specs.Seen.{SeenChannel, IsSoundChannel, oldest, offer_taken, getter_gone, taken_gone, offer_gone};
 ghost use Rattle.queue_waiters.specs.Seen.{items_put};
 
 use gv_values::Value;
@@ -12,7 +12,11 @@ use std::alloc::{AllocError, Global};
 use std::marker::Model;
 use waiters::{Parking, Side, WaitList};
 
-/// Offers, each made by a putter that waits until it was taken, and those that wait for an offer.
+/// Offers, each made by a putter that waits until it was taken, and those that wait for an offer (gevent API reference,
+/// `gevent.queue.Channel`).
+///
+/// Offers are taken in order of making, and getters are served in order of waiting; no newcomer takes one while as many wait. A putter that is
+/// cancelled takes its offer with it where that is still there; a taken one is never given back.
 #[derive(Drop)]
 pub struct Channel {
     offers: Putters,
@@ -35,7 +39,7 @@ impl Model for Channel {
 }
 
 impl Channel {
-    /// A channel without offers.
+    /// A channel without offers; O(1).
     pub fn new(alloc: Global) -> Result<Channel, AllocError>
         ensures { IfOk result (λ c. c ≡ record { offers = []; taken = []; told_taken = 0; getters = []; told_getters = 0; room = 0 }) }
     {
@@ -47,7 +51,7 @@ impl Channel {
         })
     }
 
-    /// A putter makes an offer and begins to wait. Without memory the value comes back.
+    /// A putter makes an offer and begins to wait; O(1) where memory is there. Without memory the value comes back, and nothing is changed.
     pub fn park_put(&mut self, item: u32, value: Value) -> Result<(), Value>
         requires room { 0 < self.old.room }
         requires absent { Contains (self.old.taken ++ items_put self.old.offers) item → ⊥ }
@@ -58,7 +62,7 @@ impl Channel {
         self.offers.park(item, value)
     }
 
-    /// A putter whose offer was taken waits no longer.
+    /// A putter whose offer was taken waits no longer; O(1).
     pub fn complete_put(&mut self, item: u32)
         requires { Contains self.old.taken item }
         ensures { self.new ≡ taken_gone item self.old }
@@ -66,7 +70,7 @@ impl Channel {
         self.drop_taken(item);
     }
 
-    /// Takes the oldest offer at once, where the offers are more than the getters that wait.
+    /// Takes the oldest offer at once, where the offers are more than the getters that wait, and lets its putter go; O(1).
     pub fn get_now(&mut self) -> Option<Value>
         ensures none { (result ≡ None) ↔ (length self.old.offers ≤ length self.old.getters) }
         ensures kept { IfNone result (self.new ≡ self.old) }
@@ -78,7 +82,7 @@ impl Channel {
         Some(self.take_offer())
     }
 
-    /// A getter that may go takes the oldest offer, and waits no longer.
+    /// A getter that may go takes the oldest offer, and waits no longer; O(1).
     pub fn complete_get(&mut self, item: u32) -> Value
         requires { IsAmongFirst (length self.old.offers) self.old.getters item }
         ensures value { result ≡ oldest self.old.offers }
@@ -105,7 +109,7 @@ impl Channel {
         }
     }
 
-    /// A putter whose offer was taken leaves.
+    /// A putter whose offer was taken leaves; O(1).
     pub fn drop_taken(&mut self, item: u32)
         requires { Contains self.old.taken item }
         ensures gone { self.new ≡ taken_gone item self.old }
@@ -116,7 +120,7 @@ impl Channel {
         self.taken.remove(item);
     }
 
-    /// A putter leaves, and its offer with it.
+    /// A putter leaves, and its offer with it; O(1).
     pub fn drop_offer(&mut self, item: u32)
         requires { Contains (items_put self.old.offers) item }
         ensures gone { self.new ≡ offer_gone item self.old }
@@ -128,7 +132,7 @@ impl Channel {
         drop(self.offers.remove(item));
     }
 
-    /// Makes room for `n` more that wait.
+    /// Makes room for `n` more that wait. O(1) where there is room; otherwise each that waits is moved once.
     pub fn make_room(&mut self, n: usize) -> Result<(), AllocError>
         ensures room { OnOk result (n ≤ self.new.room) }
         ensures more { self.old.room ≤ self.new.room }
@@ -153,7 +157,7 @@ impl Channel {
         Ok(())
     }
 
-    /// A getter begins to wait.
+    /// A getter begins to wait; O(1).
     pub fn park_getter(&mut self, item: u32)
         requires room { 0 < self.old.room }
         requires absent { Contains self.old.getters item → ⊥ }
@@ -162,7 +166,7 @@ impl Channel {
         self.getters.park(item);
     }
 
-    /// A getter leaves.
+    /// A getter leaves; O(1).
     pub fn drop_getter(&mut self, item: u32)
         requires { Contains self.old.getters item }
         ensures { self.new ≡ getter_gone item self.old }
@@ -171,7 +175,7 @@ impl Channel {
         self.getters.remove(item);
     }
 
-    /// Whether the putter's offer was taken.
+    /// Whether the putter's offer was taken; O(1).
     pub fn was_taken(&self, item: u32) -> bool
         requires { Contains (self.now.taken ++ items_put self.now.offers) item }
         ensures taken { IsTrue result ↔ Contains self.now.taken item }
@@ -181,20 +185,21 @@ impl Channel {
         !self.offers.contains(item)
     }
 
-    /// Lets one putter more go whose offer was taken.
+    /// Tells one putter more whose offer was taken; O(1). Who was told of it may go until it leaves.
     pub fn tell_taken(&mut self) -> Option<u32>
         ensures same { (self.new.taken ≡ self.old.taken) × (self.new.offers ≡ self.old.offers) }
         ensures none { IfNone result (length self.old.taken ≤ self.old.told_taken) }
         ensures kept { IfNone result (self.new ≡ self.old) }
         ensures item { IfSome result (λ item. slice_get self.old.taken self.old.told_taken ≡ Some item) }
         ensures told { IfSome result (λ _. self.new ≡ record self.old { told_taken = self.old.told_taken + 1 }) }
-        ensures differ { Differ (self.old.taken ++ items_put self.old.offers) }
+        ensures sound { IsSoundChannel self.old }
     {
+        let _getting = self.getters.len();
         let len = self.taken.len();
         self.taken.grow(len)
     }
 
-    /// Lets one getter more go.
+    /// Tells one getter more that may take an offer; O(1).
     pub fn tell_getter(&mut self) -> Option<u32>
         ensures same { (self.new.taken ≡ self.old.taken) × (self.new.offers ≡ self.old.offers) }
         ensures none { IfNone result (min (length self.old.offers) (length self.old.getters) ≤ self.old.told_getters) }
@@ -208,7 +213,7 @@ impl Channel {
         self.getters.grow(offers)
     }
 
-    /// Takes its leave back from a getter for which no offer is left.
+    /// Lets the last getter that was told wait again, where no offer is left for it, and gives it; O(1).
     pub fn untell_getter(&mut self) -> Option<u32>
         ensures same { (self.new.taken ≡ self.old.taken) × (self.new.offers ≡ self.old.offers) }
         ensures none { IfNone result (self.old.told_getters ≤ length self.old.offers) }

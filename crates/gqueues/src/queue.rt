@@ -4,7 +4,7 @@ ghost use Rattle.std.specs.List.{Contains};
 ghost use Rattle.linked_items.specs.Items.{items_of, Differ};
 ghost use Rattle.waiters.specs.OneSide.{IsAmongFirst};
 ghost use Rattle.machine.specs.Waits.{next_value};
-ghost use Rattle.gqueues.specs.Seen.{SeenQueue, free_places, put_places, take_places, join_places, taker_gone, putter_gone, join_gone, with_value_in, with_next_out, shut_now};
+ghost use Rattle.gqueues.specs.Seen.{SeenQueue, IsSound, free_places, put_places, take_places, join_places, taker_gone, putter_gone, join_gone, with_value_in, with_next_out, shut_now};
 ghost use Rattle.queue_items.specs.Seen.{Takes};
 ghost use Rattle.queue_waiters.specs.Seen.{getters, gets, peeks, getters_before, of_kind, IsServed, items_put, value_put};
 
@@ -17,7 +17,7 @@ use std::marker::Model;
 use thiserror::Error;
 use waiters::{Parking, Side, WaitList};
 
-/// Why a value was not put at once. It comes back.
+/// Why a value was not put at once (gevent API reference, `gevent.queue.Queue.put`). It comes back, and nothing was changed.
 #[derive(Debug, Drop, Error)]
 pub enum PutBack {
     /// The places that are free are no more than the putters that wait.
@@ -31,7 +31,7 @@ pub enum PutBack {
     Memory(Value),
 }
 
-/// Why no item was taken at once.
+/// Why no item was taken at once (gevent API reference, `gevent.queue.Queue.get`). Nothing was changed.
 #[derive(Clone, Copy, Debug, PartialEq, Eq, Error)]
 pub enum GetRefusal {
     /// The items are no more than the getters that wait.
@@ -42,7 +42,7 @@ pub enum GetRefusal {
     ShutDown,
 }
 
-/// Why no item was shown at once.
+/// Why no item was shown at once (gevent API reference, `gevent.queue.Queue.peek`).
 #[derive(Clone, Copy, Debug, PartialEq, Eq, Error)]
 pub enum PeekRefusal {
     /// The items are no more than the getters that wait.
@@ -67,17 +67,21 @@ pub enum PeekLost {
     Memory,
 }
 
-/// The queue is shut. Who may go waits no longer.
+/// The queue is shut. Who was to go waits no longer, and what it was to put is dropped.
 #[derive(Clone, Copy, Debug, PartialEq, Eq, Error)]
 #[error("the queue is shut")]
 pub struct QueueShut;
 
-/// No task is unfinished.
+/// No task is unfinished (gevent API reference, `gevent.queue.JoinableQueue.task_done`: `ValueError`). Nothing was changed.
 #[derive(Clone, Copy, Debug, PartialEq, Eq, Error)]
 #[error("more tasks done than put")]
 pub struct TooOften;
 
-/// Values, with those that wait to put one, to take one, to look at one, or for the last task to be done.
+/// Values, with those that wait to put one, to take one, to look at one, or for the last task to be done (gevent API reference,
+/// `gevent.queue`: `Queue`, `LifoQueue`, `PriorityQueue`, `JoinableQueue`).
+///
+/// Putters, and getters, are served in order of waiting, and no newcomer goes while as many wait as there are places, or items. A peeker
+/// counts the getters before it. Nothing is put or taken before the waiter completes, so nothing is lost with one that is cancelled.
 #[derive(Drop)]
 pub struct GQueue {
     store: Store,
@@ -104,7 +108,7 @@ impl Model for GQueue {
 }
 
 impl GQueue {
-    /// A queue without items, of that size.
+    /// A queue without items, of that size; without a bound where there is none. O(1).
     pub fn new(alloc: Global, kind: QueueKind, size: Option<u32>) -> Result<GQueue, AllocError>
         ensures { IfOk result (λ q. q ≡ record { kind = kind; size = size; items = []; unfinished = 0; shut = false; takers = []; told_takers = 0; putters = []; told_putters = 0; joins = []; told_joins = 0; room = 0 }) }
     {
@@ -124,43 +128,41 @@ impl GQueue {
         })
     }
 
-    /// How many items there are.
+    /// How many items there are; O(1).
     pub fn size(&self) -> u64
         ensures { result ≡ length self.now.items }
     {
         self.store.len()
     }
 
-    /// How many tasks are unfinished.
+    /// How many tasks are unfinished: as many as were put, less those that are done. O(1).
     pub fn unfinished(&self) -> u64
         ensures { result ≡ self.now.unfinished }
     {
         self.unfinished
     }
 
-    /// Whether the queue is shut.
+    /// Whether the queue is shut; O(1).
     pub fn is_shut(&self) -> bool
         ensures { result ≡ self.now.shut }
     {
         self.shut
     }
 
-    /// Shuts the queue. At once, all items are dropped, and the tasks with them.
+    /// Shuts the queue (gevent API reference, `gevent.queue.Queue.shutdown`); O(1). With `immediate` its items are dropped, and as many tasks
+    /// with them; then it walks, since each item is dropped. Who waits may go, and finds it shut or takes what is left.
     pub fn shut(&mut self, immediate: bool)
         ensures { self.new ≡ shut_now immediate self.old }
     {
         if immediate {
             let dropped = self.store.len();
-            let join = self.store.is_join();
             self.store.clear();
-            if join {
-                self.unfinished = self.unfinished.saturating_sub(dropped);
-            }
+            self.unfinished = self.unfinished.saturating_sub(dropped);
         }
         self.shut = true;
     }
 
-    /// Puts a value at once, where the free places are more than the putters that wait.
+    /// Puts a value at once, where the free places are more than the putters that wait; O(1), by priority O(log n), where memory is there.
     pub fn put_now(&mut self, value: Value) -> Result<(), PutBack>
         requires takes { Takes self.old.kind value }
         requires counts { self.old.unfinished < 2 ^ 63 }
@@ -186,7 +188,7 @@ impl GQueue {
         Ok(())
     }
 
-    /// Takes the next item at once, where the items are more than the getters that wait.
+    /// Takes the next item at once, where the items are more than the getters that wait; O(1), by priority O(log n).
     pub fn get_now(&mut self) -> Result<Value, GetRefusal>
         ensures ok { IfOk result (λ v. (getters self.old.takers < length self.old.items) × (v ≡ next_value self.old.kind self.old.items) × (self.new ≡ with_next_out self.old)) }
         ensures err { OnErr result (self.new ≡ self.old) }
@@ -206,7 +208,7 @@ impl GQueue {
         }
     }
 
-    /// Shows the next item at once, where the items are more than the getters that wait.
+    /// A copy of the next item at once, where the items are more than the getters that wait; O(1), and what the copy of a list takes.
     pub fn peek_now(&self, alloc: Global) -> Result<Value, PeekRefusal>
         ensures ok { IfOk result (λ v. (getters self.now.takers < length self.now.items) × (v ≡ next_value self.now.kind self.now.items)) }
         ensures shut { (result ≡ Err PeekRefusal.ShutDown) ↔ ((self.now.shut ≡ true) × (length self.now.items ≤ getters self.now.takers)) }
@@ -226,7 +228,7 @@ impl GQueue {
         }
     }
 
-    /// A task is done.
+    /// A task is done; O(1).
     pub fn task_done(&mut self) -> Result<(), TooOften>
         requires { self.old.kind ≡ QueueKind.Join }
         ensures refused { IsErr result ↔ (self.old.unfinished ≡ 0) }
@@ -240,7 +242,7 @@ impl GQueue {
         Ok(())
     }
 
-    /// One that waits for the last task, and may go, waits no longer.
+    /// One that waits for the last task, and may go, waits no longer; O(1).
     pub fn complete_join(&mut self, item: u32)
         requires there { Contains self.old.joins item }
         requires finished { self.old.unfinished ≡ 0 }
@@ -249,7 +251,7 @@ impl GQueue {
         self.drop_joiner(item);
     }
 
-    /// A putter that may go waits no longer. What it puts goes in; into a shut queue it doesn't, and is dropped.
+    /// A putter that may go waits no longer; O(1), by priority O(log n). What it puts goes in; into a shut queue it doesn't, and is dropped.
     pub fn complete_put(&mut self, item: u32) -> Result<(), QueueShut>
         requires holds { IsAmongFirst (put_places self.old) (items_put self.old.putters) item }
         requires counts { self.old.unfinished < 2 ^ 63 }
@@ -267,7 +269,8 @@ impl GQueue {
         Ok(())
     }
 
-    /// A getter that may go waits no longer. It gets the next item, where there are more items than getters before it.
+    /// A getter that may go waits no longer. It gets the next item, where there are more items than getters before it. O(1), by priority
+    /// O(log n); of a shut queue it walks past the getters before it, of which there are none where the first told goes first.
     pub fn complete_get(&mut self, item: u32) -> Result<Value, QueueShut>
         requires there { Contains (of_kind gets self.old.takers) item }
         requires holds { IsServed (take_places self.old) self.old.takers item }
@@ -286,8 +289,9 @@ impl GQueue {
         }
     }
 
-    /// A peeker that may go is shown the next item, where there are more items than getters before it, and waits no longer.
-    /// Without memory it waits on.
+    /// A peeker that may go is given a copy of the next item, where there are more items than getters before it, and waits no longer.
+    /// Without memory it waits on. O(1), and what the copy of a list takes; of a shut queue it walks past those before it, of which there
+    /// are none where the first told goes first.
     pub fn complete_peek(&mut self, alloc: Global, item: u32) -> Result<Value, PeekLost>
         requires there { Contains (of_kind peeks self.old.takers) item }
         requires holds { IsServed (take_places self.old) self.old.takers item }
@@ -311,7 +315,8 @@ impl GQueue {
         }
     }
 
-    /// A putter begins to wait, with what it puts and room for it. Without memory this comes back.
+    /// A putter begins to wait, with what it puts and room for it; O(1) where memory is there. Without memory the value comes back, and nothing
+    /// is changed.
     pub fn park_put(&mut self, item: u32, value: Value) -> Result<(), Value>
         requires takes { Takes self.old.kind value }
         requires room { 0 < self.old.room }
@@ -399,7 +404,7 @@ impl GQueue {
         }
     }
 
-    /// A getter begins to wait.
+    /// A getter begins to wait; O(1).
     pub fn park_getter(&mut self, item: u32)
         requires room { 0 < self.old.room }
         requires absent { Contains (items_of self.old.takers) item → ⊥ }
@@ -410,7 +415,7 @@ impl GQueue {
         self.takers.park_getter(item);
     }
 
-    /// A peeker begins to wait.
+    /// A peeker begins to wait; O(1).
     pub fn park_peeker(&mut self, item: u32)
         requires room { 0 < self.old.room }
         requires absent { Contains (items_of self.old.takers) item → ⊥ }
@@ -421,7 +426,7 @@ impl GQueue {
         self.takers.park_peeker(item);
     }
 
-    /// One begins to wait for the last task.
+    /// One begins to wait for the last task; O(1).
     pub fn park_joiner(&mut self, item: u32)
         requires room { 0 < self.old.room }
         requires absent { Contains self.old.joins item → ⊥ }
@@ -430,7 +435,7 @@ impl GQueue {
         self.joins.park(item);
     }
 
-    /// A getter waits no longer.
+    /// A getter waits no longer; O(1).
     pub fn drop_getter(&mut self, item: u32)
         requires { Contains (of_kind gets self.old.takers) item }
         ensures gone { self.new ≡ taker_gone item self.old }
@@ -440,7 +445,7 @@ impl GQueue {
         self.takers.remove_getter(item);
     }
 
-    /// A peeker waits no longer.
+    /// A peeker waits no longer; O(1).
     pub fn drop_peeker(&mut self, item: u32)
         requires { Contains (of_kind peeks self.old.takers) item }
         ensures gone { self.new ≡ taker_gone item self.old }
@@ -450,7 +455,7 @@ impl GQueue {
         self.takers.remove_peeker(item);
     }
 
-    /// One that waits for the last task waits no longer.
+    /// One that waits for the last task waits no longer; O(1).
     pub fn drop_joiner(&mut self, item: u32)
         requires { Contains self.old.joins item }
         ensures { self.new ≡ join_gone item self.old }
@@ -459,7 +464,7 @@ impl GQueue {
         self.joins.remove(item);
     }
 
-    /// A putter waits no longer, and what it puts is dropped.
+    /// A putter waits no longer, and what it puts is dropped; O(1).
     pub fn drop_putter(&mut self, item: u32)
         requires { Contains (items_put self.old.putters) item }
         ensures { self.new ≡ putter_gone item self.old }
@@ -468,20 +473,22 @@ impl GQueue {
         drop(self.putters.remove(item));
     }
 
-    /// Tells one putter more that may go.
+    /// Tells one putter more that may go; O(1).
     pub fn tell_putter(&mut self) -> Option<u32>
         ensures none { IfNone result (min (put_places self.old) (length self.old.putters) ≤ self.old.told_putters) }
-        ensures differ { Differ (items_put self.old.putters) }
+        ensures sound { IsSound self.old }
         ensures kept { IfNone result (self.new ≡ self.old) }
         ensures item { IfSome result (λ item. (slice_get (items_put self.old.putters) self.old.told_putters ≡ Some item) × (self.old.told_putters < put_places self.old)) }
         ensures told { IfSome result (λ _. self.new ≡ record self.old { told_putters = self.old.told_putters + 1 }) }
     {
-        let _len = self.putters.len();
+        let _taking = self.takers.len();
+        let _joining = self.joins.len();
+        let _putting = self.putters.len();
         let places = self.put_places();
         self.putters.grow(places)
     }
 
-    /// Tells one getter or peeker more that may go.
+    /// Tells one getter or peeker more that may go; O(1).
     pub fn tell_taker(&mut self) -> Option<u32>
         ensures none { IfNone result ((length self.old.takers ≤ self.old.told_takers) ⊎ (take_places self.old ≤ getters (take self.old.told_takers self.old.takers))) }
         ensures differ { Differ (items_of self.old.takers) }
@@ -494,7 +501,7 @@ impl GQueue {
         self.takers.tell(places)
     }
 
-    /// Tells one more of those that wait for the last task, where it is done.
+    /// Tells one more of those that wait for the last task, where it is done; O(1).
     pub fn tell_joiner(&mut self) -> Option<u32>
         ensures none { IfNone result (min (join_places self.old) (length self.old.joins) ≤ self.old.told_joins) }
         ensures kept { IfNone result (self.new ≡ self.old) }
@@ -505,7 +512,7 @@ impl GQueue {
         self.joins.grow(places)
     }
 
-    /// Takes its leave back from a putter that may not go.
+    /// Lets the last putter that was told wait again, where it may not go, and gives it; O(1).
     pub fn untell_putter(&mut self) -> Option<u32>
         ensures none { IfNone result (self.old.told_putters ≤ put_places self.old) }
         ensures differ { Differ (items_put self.old.putters) }
@@ -518,7 +525,7 @@ impl GQueue {
         self.putters.shrink(places)
     }
 
-    /// Takes its leave back from a getter or peeker that may not go.
+    /// Lets the last getter or peeker that was told wait again, where it may not go, and gives it; O(1).
     pub fn untell_taker(&mut self) -> Option<u32>
         ensures none { IfNone result ((self.old.told_takers ≡ 0) ⊎ (getters (take (self.old.told_takers - 1) self.old.takers) < take_places self.old)) }
         ensures differ { Differ (items_of self.old.takers) }
@@ -532,7 +539,7 @@ impl GQueue {
         self.takers.untell(places)
     }
 
-    /// Takes its leave back from one that waits for the last task, where it is not done.
+    /// Lets the last that was told that all tasks are done wait again, where one is not, and gives it; O(1).
     pub fn untell_joiner(&mut self) -> Option<u32>
         ensures none { IfNone result (self.old.told_joins ≤ join_places self.old) }
         ensures kept { IfNone result (self.new ≡ self.old) }

@@ -50,6 +50,17 @@ fn place_of(members: &[u32], g: u32) -> usize
     }
 }
 
+// A number more, behind all others. Without memory nothing is changed.
+fn push_member(members: &mut Vec<u32>, g: u32) -> Result<(), AllocError>
+    ensures ok { OnOk result (members.new.items ≡ members.old.items ++ g ∷ []) }
+    ensures err { OnErr result (members.new.items ≡ members.old.items) }
+{
+    match members.push(g) {
+        Ok(()) => Ok(()),
+        Err(_) => Err(AllocError),
+    }
+}
+
 impl Crew {
     /// A pool with so many places, or a group, which has no bound; O(1).
     pub fn new(alloc: Global, size: Option<u32>) -> Result<Crew, AllocError>
@@ -93,9 +104,7 @@ impl Crew {
         ensures err { OnErr result (self.new ≡ self.old) }
     {
         let _waiting = self.places.len();
-        if self.members.push(g).is_err() {
-            return Err(AllocError);
-        }
+        push_member(&mut self.members, g)?;
         Ok(())
     }
 
@@ -107,9 +116,7 @@ impl Crew {
         ensures err { OnErr result (self.new ≡ self.old) }
     {
         let _waiting = self.places.len();
-        if self.members.push(g).is_err() {
-            return Err(AllocError);
-        }
+        push_member(&mut self.members, g)?;
         self.places.remove(item);
         Ok(())
     }

@@ -4,6 +4,7 @@ use Rattle.std.proofs.lemmas.List.Elements.{Contains-append_cases}
 use Rattle.std.proofs.lemmas.Bool.{cases_eq, cases_lt}
 use Rattle.std.proofs.Common.{eqb, eq-eqb}
 use Rattle.waiters.specs.Waits.{told_without}
+use Rattle.waiters.proofs.WaitLemmas.{take_items}
 use Rattle.queue_waiters.proofs.PuttersLemmas.{apart_test}
 use Rattle.linked_items.specs.Items.{items_of, without, without_entry, Lacks, Differ}
 use Rattle.linked_items.proofs.ItemLemmas.{items_joined, length_items, items_without, differ_front, differ_parts, contains_at, lacks_front, lacks_of_absent, absent_of_lacks, entries_absent}
@@ -183,11 +184,6 @@ front_of_kind p t es =
     ∙ ap (take (length (filter p (take t es)))) (kind_joined p (take t es) (drop t es))
     ∙ take_entries (filter p (take t es)) (filter p (drop t es))
 
-pub take_items : (n : ℕ) (es : List (ℕ × ℕ)) → items_of (take n es) ≡ take n (items_of es)
-take_items zero es = refl
-take_items (suc n) [] = refl
-take_items (suc n) (e ∷ es) = ap (λ l. e.0 ∷ l) (take_items n es)
-
 -- how many of a kind are told when an item has left
 pub kind_told_left : (p : ℕ × ℕ → Bool) (x t : ℕ) (es : List (ℕ × ℕ)) → length (filter p (take (told_left x t es) (without_entry x es))) ≡ told_without x (length (filter p (take t es))) (of_kind p es)
 kind_told_left p x t es =
@@ -306,3 +302,12 @@ kind_either x (e ∷ es) c = by (eqb e.1 0) (kind_either x es) c.0 c.1 c.2
     by true more (suc k) within found = elim (more (k, omega arith, found)) [ inl a ↦ inl (later (of_kind gets es) e.0 a) | inr b ↦ inr b ]
     by false more zero within found = inr (zero, omega arith, found)
     by false more (suc k) within found = elim (more (k, omega arith, found)) [ inl a ↦ inl a | inr b ↦ inr (later (of_kind peeks es) e.0 b) ]
+
+-- no more of a kind were told than there are
+pub kind_told_within : (p : ℕ × ℕ → Bool) (t : ℕ) (es : List (ℕ × ℕ)) → length (filter p (take t es)) ≤ length (of_kind p es)
+kind_told_within p t es =
+    let all = ap (λ l. length (filter p l)) (in_two t es) in
+    let parts = ap length (kind_joined p (take t es) (drop t es)) in
+    let sum = length-append (filter p (take t es)) (filter p (drop t es)) in
+    let n = length_items (filter p es) in
+    omega arith
