@@ -7,7 +7,7 @@ use Rattle.linked_items.proofs.ItemLemmas.{without_length, without_absent, witho
 use Rattle.waiters.specs.Waits.{SeenWaits, waits, told_without}
 use Rattle.waiters.specs.declared.parking.Side.{Side}
 use Rattle.waiters.proofs.PrefixLemmas.{none_behind, not_among}
-use Rattle.gqueues.specs.Seen.{SeenChannel, ChannelSide, channel_waiting, channel_told, channel_holds, taken_from, offer_taken, getter_gone, taken_gone, offer_gone, KeepsOffers}
+use Rattle.gqueues.specs.Seen.{SeenChannel, IsSoundChannel, ChannelSide, channel_waiting, channel_told, channel_holds, taken_from, offer_taken, getter_gone, taken_gone, offer_gone, KeepsOffers}
 use Rattle.queue_waiters.specs.Seen.{SeenPutters, putting, items_put, value_put, without_putter, putter_left}
 use Rattle.gqueues.specs.Parts.{seen_channel, IsChannel}
 use Rattle.gqueues.specs.declared.channel.Channel.TheInside.{Inside}
@@ -280,3 +280,15 @@ keeps_taken old new item now lacks = (λ i. not (eqb i item), ap (λ c. c.taken)
 
 pub keeps_offers : (old new : SeenChannel) (item : ℕ) → new ≡ offer_gone item old → Lacks item old.taken → KeepsOffers old new
 keeps_offers old new item now lacks = (λ i. not (eqb i item), ap (λ c. c.taken) now ∙ sym (without_absent item old.taken lacks), ap (λ c. c.offers) now)
+
+-- ---- on each side nobody waits twice, and no more were told than wait
+
+abbrev pub IsSoundAll : SeenChannel → Type 0
+IsSoundAll c = (side : Side) → Differ (channel_waiting c side) × (channel_told c side ≤ length (channel_waiting c side))
+
+pub sound_all : (c : SeenChannel) → IsSoundChannel c → IsSoundAll c
+sound_all c sound Side.Only = (tt, omega arith)
+sound_all c sound Side.Put = (sound.putters_differ, let n = length-append c.taken (items_put c.offers) in let le = sound.taken_within in omega arith)
+sound_all c sound Side.Get = (sound.getters_differ, sound.getters_within)
+sound_all c sound Side.Peek = (tt, omega arith)
+sound_all c sound Side.Join = (tt, omega arith)

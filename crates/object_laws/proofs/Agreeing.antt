@@ -1,22 +1,30 @@
 -- The laws of this crate.
-use Rattle.std.proofs.Common.{◌≡◌, ◌≢◌, ℕ, zero, suc, ◌<◌, ◌≤◌, ◌==◌, eqb, nat_lt, Bool, true, false, ◌&&◌, cond, List, [], ◌∷◌, length, filter, Option, Some, None, refl, sym, ap, ◌∙◌, subst, arith, slice_get, lt-ltb, eq-eqb}
-use Rattle.std.proofs.lemmas.Bool.{ltb-true}
+use Rattle.std.proofs.Common.{◌≡◌, ◌≢◌, ℕ, zero, suc, ◌+◌, ◌-◌, ◌<◌, ◌≤◌, ◌==◌, eqb, nat_lt, Bool, true, false, not, ◌&&◌, ◌||◌, ◌↔◌, IsTrue, cond, List, [], ◌∷◌, ◌++◌, length, filter, Option, Some, None, min, refl, sym, ap, ◌∙◌, subst, arith, slice_get, get_or, Contains, lt-ltb, eq-eqb, inl, inr, ◌⊎◌}
+use Rattle.std.specs.List.{list_any}
+use Rattle.std.proofs.lemmas.Bool.{ltb-true, eqb-true, cases_lt}
 use Rattle.std.proofs.lemmas.List.Sums.{length-filter}
+use Rattle.gv_values.specs.declared.value.Value.{Value}
+use Rattle.scenario_tree.specs.declared.tree.QueueKind.{QueueKind}
+use Rattle.machine.specs.State.{State}
 use Rattle.machine.specs.declared.state.Object.{Object}
 use Rattle.machine.specs.declared.items.Item.{Item}
 use Rattle.machine.specs.declared.items.Delivery.{Delivery}
 use Rattle.machine.specs.declared.items.Waiting.{Waiting}
-use Rattle.machine.specs.Holds.{has_set_since, has_result, has_unit, is_free, has_room, has_item, all_finished, has_place, is_deserted, wakes, is_take, below_room}
-use Rattle.machine.specs.Moves.{after_release}
+use Rattle.machine.specs.Holds.{has_set_since, has_result, has_unit, is_free, has_room, has_item, all_finished, has_place, is_deserted, is_taken, has_offer, is_offer_of, wakes, is_take, below_room}
+use Rattle.machine.specs.Waits.{with_object, with_offer_taken, offer_of}
+use Rattle.machine.specs.Moves.{done, after_release, takes_value, finishes, with_shut}
 use Rattle.linked_items.specs.Items.{Lacks, Differ}
+use Rattle.linked_items.proofs.ItemLemmas.{differ_parts}
+use Rattle.waiters.proofs.PrefixLemmas.{not_among}
 use Rattle.events_locks.specs.Seen.{free_places, after_release as released}
-use Rattle.gqueues.specs.Seen.{free_places as queue_places}
-use Rattle.queue_waiters.specs.Seen.{getters_before}
-use Rattle.groups_pools.specs.Seen.{free_places as crew_places}
+use Rattle.queue_items.specs.Seen.{Takes}
+use Rattle.queue_waiters.specs.Seen.{getters_before, items_put, without_putter}
 use Rattle.queue_waiters.proofs.PuttersLemmas.{apart_test}
-use Rattle.gv_values.specs.declared.value.Value.{Value}
-use Rattle.object_laws.specs.Objects.{taker_of, with_taker, takers_line}
-use Rattle.object_laws.specs.Laws.{EventsAgree, LocksAgree, QueuesAgree, CrewsAgree, TakersAgree, Ascends, Younger, names}
+use Rattle.gqueues.specs.Seen.{SeenQueue, SeenChannel, free_places as queue_places, put_places, shut_now, oldest, taken_from}
+use Rattle.gqueues.proofs.QueueLemmas.{length_put}
+use Rattle.groups_pools.specs.Seen.{free_places as crew_places, open_places}
+use Rattle.object_laws.specs.Objects.{queue_object, channel_object, offer_of_item, offers_of_items, taker_of, with_taker, takers_line}
+use Rattle.object_laws.specs.Laws.{EventsAgree, LocksAgree, QueuesAgree, ChannelsAgree, AreApart, CrewsAgree, TakersAgree, Ascends, Younger, names, IsAtRest, SemaphoresRest, LocksRest, PuttersRest, PlacesRest, OffersRest}
 
 pub events_agree : EventsAgree
 unfolding has_set_since has_result
@@ -50,15 +58,118 @@ room_agrees : (size : Option ℕ) (vs : List Value) (asked k : ℕ) → k < aske
 room_agrees None vs asked k lt = sym (lt-ltb k asked lt)
 room_agrees (Some n) vs asked k lt = refl
 
+-- of a shut queue all may go
+shut_room : (shut : Bool) (size : Option ℕ) (vs : List Value) (asked k : ℕ) → k < asked → (shut || below_room k size (length vs)) ≡ nat_lt k (cond shut asked (queue_places asked size vs))
+shut_room true size vs asked k lt = sym (lt-ltb k asked lt)
+shut_room false size vs asked k lt = room_agrees size vs asked k lt
+
+shut_items : (shut : Bool) (items asked k : ℕ) → k < asked → (shut || nat_lt k items) ≡ nat_lt k (cond shut asked items)
+shut_items true items asked k lt = sym (lt-ltb k asked lt)
+shut_items false items asked k lt = refl
+
+shut_agrees : (q : SeenQueue) (immediate : Bool) → with_shut immediate (queue_object q) ≡ queue_object (shut_now immediate q)
+shut_agrees q true = refl
+shut_agrees q false = refl
+
+takes_agrees : (kind : QueueKind) (size : Option ℕ) (vs : List Value) (n : ℕ) (shut : Bool) (v : Value) → IsTrue (takes_value (Object.Queue kind size vs n shut) v) ↔ Takes kind v
+takes_agrees QueueKind.Fifo size vs n shut v = (λ _. tt, λ _. refl)
+takes_agrees QueueKind.Lifo size vs n shut v = (λ _. tt, λ _. refl)
+takes_agrees QueueKind.Join size vs n shut v = (λ _. tt, λ _. refl)
+takes_agrees QueueKind.Priority size vs n shut v = by v
+  where
+    by : (v : Value) → IsTrue (takes_value (Object.Queue QueueKind.Priority size vs n shut) v) ↔ Takes QueueKind.Priority v
+    by (Value.Int z) = (λ _. tt, λ _. refl)
+    by Value.Nothing = (λ e. absurd (cc), λ h. absurd h)
+    by (Value.Bool b) = (λ e. absurd (cc), λ h. absurd h)
+    by (Value.Greenlet g) = (λ e. absurd (cc), λ h. absurd h)
+    by (Value.Job j) = (λ e. absurd (cc), λ h. absurd h)
+    by (Value.Fault f) = (λ e. absurd (cc), λ h. absurd h)
+    by (Value.List xs) = (λ e. absurd (cc), λ h. absurd h)
+
+finishes_agrees : (q : SeenQueue) (o n : ℕ) (s : State) → q.unfinished ≡ suc n → finishes o (queue_object q) s ≡ done (with_object o (queue_object (record q { unfinished = q.unfinished - 1 })) s)
+finishes_agrees q o n s is =
+    ap (λ m. finishes o (Object.Queue q.kind q.size q.items m q.shut) s) is
+    ∙ (let less : n ≡ q.unfinished - 1 = omega arith in ap (λ m. done (with_object o (Object.Queue q.kind q.size q.items m q.shut) s)) less)
+
 pub queues_agree : QueuesAgree
 unfolding has_room has_item all_finished
 queues_agree = (
-  λ q k open' lt. room_agrees q.size q.items (length q.putters) k lt ∙ ap (λ b. nat_lt k (cond b (length q.putters) (queue_places (length q.putters) q.size q.items))) (sym open'),
-  λ q k open'. ap (λ b. nat_lt k (cond b (length q.takers) (length q.items))) (sym open'),
+  λ q k lt. shut_room q.shut q.size q.items (length q.putters) k lt,
+  λ q k lt. shut_items q.shut (length q.items) (length q.takers) k lt,
   λ q. refl,
   λ q item v. refl,
   λ q item. refl,
   λ q. refl,
+  λ q. refl,
+  λ q k. refl,
+  shut_agrees,
+  λ q v. takes_agrees q.kind q.size q.items q.unfinished q.shut v,
+  finishes_agrees,
+)
+
+-- ---- channels
+
+offers_count : (since : ℕ → ℕ) (es : List (ℕ × Value)) → length (offers_of_items since es) ≡ length es
+offers_count since [] = refl
+offers_count since (e ∷ es) = ap suc (offers_count since es)
+
+offers_joined : (since : ℕ → ℕ) (es fs : List (ℕ × Value)) → offers_of_items since es ++ offers_of_items since fs ≡ offers_of_items since (es ++ fs)
+offers_joined since [] fs = refl
+offers_joined since (e ∷ es) fs = ap (λ l. offer_of_item since e ∷ l) (offers_joined since es fs)
+
+offer_goes : (since : ℕ → ℕ) (c : SeenChannel) (es : List (ℕ × Value)) → c.offers ≡ es → with_offer_taken (Object.Channel (offers_of_items since es)) ≡ channel_object since (taken_from es c)
+offer_goes since c [] is = ap (λ l. Object.Channel (offers_of_items since l)) (sym is)
+offer_goes since c (e ∷ es) is = refl
+
+offer_is : (since : ℕ → ℕ) (es : List (ℕ × Value)) → offer_of (Object.Channel (offers_of_items since es)) ≡ oldest es
+offer_is since [] = refl
+offer_is since (e ∷ es) = refl
+
+-- two names are one where their items are
+same_test : (since : ℕ → ℕ) → AreApart since → (x y : ℕ) → eqb (since x) (since y) ≡ eqb x y
+same_test since apart x y = by (eqb x y) refl
+  where
+    by : (b : Bool) → eqb x y ≡ b → eqb (since x) (since y) ≡ b
+    by true t = eq-eqb (since x) (since y) (ap since (eqb-true x y t))
+    by false t = apart_test (since x) (since y) (λ e. let same = eq-eqb x y (apart x y (sym e)) in absurd (cc))
+
+offer_left : (since : ℕ → ℕ) → AreApart since → (item : ℕ) (es : List (ℕ × Value)) → filter (λ offer. not (is_offer_of (since item) offer)) (offers_of_items since es) ≡ offers_of_items since (without_putter item es)
+offer_left since apart item [] = refl
+offer_left since apart item (e ∷ es) = ap (λ b. cond (not b) (offer_of_item since e ∷ filter (λ offer. not (is_offer_of (since item) offer)) (offers_of_items since es)) (filter (λ offer. not (is_offer_of (since item) offer)) (offers_of_items since es))) (same_test since apart e.0 item) ∙ by (eqb e.0 item) (offer_left since apart item es)
+  where
+    by : (b : Bool) → filter (λ offer. not (is_offer_of (since item) offer)) (offers_of_items since es) ≡ offers_of_items since (without_putter item es)
+        → cond (not b) (offer_of_item since e ∷ filter (λ offer. not (is_offer_of (since item) offer)) (offers_of_items since es)) (filter (λ offer. not (is_offer_of (since item) offer)) (offers_of_items since es)) ≡ offers_of_items since (cond (not b) (e ∷ without_putter item es) (without_putter item es))
+    by true h = h
+    by false h = ap (λ l. offer_of_item since e ∷ l) h
+
+-- whether the item's offer is there
+offered : (since : ℕ → ℕ) (item : ℕ) (es : List (ℕ × Value)) → Contains (items_put es) item → list_any (is_offer_of (since item)) (offers_of_items since es) ≡ true
+offered since item [] there = absurd (omega (arith, there.1))
+offered since item (e ∷ es) there = by_index (offered since item es) there.0 there.1 there.2
+  where
+    later : (b : Bool) → (b || true) ≡ true
+    later true = refl
+    later false = refl
+
+    by_index : (Contains (items_put es) item → list_any (is_offer_of (since item)) (offers_of_items since es) ≡ true) → (k : ℕ) → k < suc (length (items_put es)) → get_or (e.0 ∷ items_put es) k item ≡ item → list_any (is_offer_of (since item)) (offers_of_items since (e ∷ es)) ≡ true
+    by_index more zero within found = ap (λ b. b || list_any (is_offer_of (since item)) (offers_of_items since es)) (eq-eqb (since e.0) (since item) (ap since found))
+    by_index more (suc k) within found = ap (λ b. eqb (since e.0) (since item) || b) (more (k, omega arith, found)) ∙ later (eqb (since e.0) (since item))
+
+not_offered : (since : ℕ → ℕ) → AreApart since → (item : ℕ) (es : List (ℕ × Value)) → Lacks item (items_put es) → list_any (is_offer_of (since item)) (offers_of_items since es) ≡ false
+not_offered since apart item [] lacks = refl
+not_offered since apart item (e ∷ es) lacks =
+    ap (λ b. b || list_any (is_offer_of (since item)) (offers_of_items since es)) (same_test since apart e.0 item ∙ apart_test e.0 item lacks.0) ∙ not_offered since apart item es lacks.1
+
+pub channels_agree : ChannelsAgree
+unfolding is_taken has_offer
+channels_agree since apart c = (
+  λ k. ap (nat_lt k) (offers_count since c.offers),
+  λ item n v. ap Object.Channel (offers_joined since c.offers ((item, v) ∷ [])),
+  offer_goes since c c.offers refl,
+  offer_is since c.offers,
+  λ item. ap Object.Channel (offer_left since apart item c.offers),
+  λ item there. ap not (offered since item c.offers there),
+  λ item differ there. ap not (not_offered since apart item c.offers (differ_parts c.taken (items_put c.offers) item differ there)),
 )
 
 places_agree : (size : Option ℕ) (ms : List ℕ) (asked k : ℕ) → k < asked → below_room k size (length ms) ≡ nat_lt k (crew_places asked size ms)
@@ -138,6 +249,8 @@ step name o i x rest n lt apart same = let t = lt-ltb i.since x.since lt in rw t
     by_wait g (Waiting.MapEnd p made) = same
     by_wait g (Waiting.Members p) = same
     by_wait g (Waiting.Slot p job takes) = same
+    by_wait g (Waiting.Offered p) = same
+    by_wait g (Waiting.TakeOffer p) = same
 
     by : (d : Delivery) → cond (wakes (is_take o) d) (suc n) n ≡ getters_before (name x) (with_taker (name i) (taker_of o d) rest)
     by (Delivery.Wake g w) = by_wait g w
@@ -166,3 +279,39 @@ counted name o (suc k) kind (i ∷ items) x up d at t =
 
 pub takers_agree : TakersAgree
 takers_agree name o k kind items x up d at t = sym (length-filter (is_before o x.since) items) ∙ counted name o k kind items x up d at t
+
+-- ---- at rest
+
+some_at : (items : List ℕ) (k : ℕ) → k < length items → (item : ℕ) × (slice_get items k ≡ Some item)
+some_at [] k lt = absurd (omega arith)
+some_at (x ∷ items) zero lt = (x, refl)
+some_at (x ∷ items) (suc k) lt = some_at items k (omega arith)
+
+pub at_rest : (places told : ℕ) (items : List ℕ) → IsAtRest places told items → told ≡ min places (length items)
+at_rest places told items rest = let le = rest.within in omega (arith, not_more (cases_lt places told), not_less (cases_lt told places) (cases_lt told (length items)))
+  where
+    not_more : (places < told) ⊎ (told ≤ places) → told ≤ places
+    not_more (inr le) = le
+    not_more (inl lt) =
+        let x = some_at items places (let le = rest.within in omega arith) in
+        absurd (not_among items places places x.0 rest.differ (omega arith) x.1 (rest.all places x.0 x.1 lt))
+
+    not_less : (told < places) ⊎ (places ≤ told) → (told < length items) ⊎ (length items ≤ told) → min places (length items) ≤ told
+    not_less (inr le) other = omega arith
+    not_less (inl lt) (inr le) = omega arith
+    not_less (inl lt) (inl more) = let x = some_at items told more in absurd (rest.none told x.0 x.1 (omega arith) (told, lt, x.1))
+
+pub semaphores_rest : SemaphoresRest
+semaphores_rest s rest = at_rest s.counter s.waits.told s.waits.items rest
+
+pub locks_rest : LocksRest
+locks_rest l rest = at_rest (free_places l.owner) l.waits.told l.waits.items rest
+
+pub putters_rest : PuttersRest
+putters_rest q rest = at_rest (put_places q) q.told_putters (items_put q.putters) rest ∙ ap (min (put_places q)) (length_put q.putters)
+
+pub places_rest : PlacesRest
+places_rest c rest = at_rest (open_places c) c.told_places c.places rest
+
+pub offers_rest : OffersRest
+offers_rest c rest = at_rest (length c.offers) c.told_getters c.getters rest
