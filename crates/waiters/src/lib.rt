@@ -10,53 +10,40 @@ mod parking;
 #[cfg(test)]
 mod tests;
 
-use linked_items::row::Row;
 pub use parking::{Parking, Side};
 use std::alloc::{AllocError, Global};
 use std::marker::Model;
+use wait_lines::WaitLine;
 
 /// Items in order of waiting, of which the first `told` were told to go.
 ///
-/// The told ones stand in a row of their own, so that the border moves, and an item leaves, in constant time.
+/// It is a line whose numbers nobody reads. So the border moves, and an item leaves, in constant time.
 #[derive(Drop)]
 pub struct WaitList {
-    told: Row,
-    rest: Row,
-    // So many items fit.
-    limit: usize,
+    line: WaitLine,
 }
 
 impl Model for WaitList {
-    ghost use Rattle.std.specs.Prelude.{◌+◌, ◌-◌, ◌++◌, length};
     ghost use Rattle.linked_items.specs.Items.{items_of};
-    ghost use Rattle.waiters.specs.Waits.{SeenWaits};
+    ghost use Rattle.waiters.specs.Waits.{SeenWaits, waits};
 
     ghost Value = { SeenWaits };
 
-    ghost use Rattle.waiters.specs.WaitParts.{IsSound};
-
-    ghost view = { λ w. record {
-      items = items_of w.told.entries ++ items_of w.rest.entries;
-      told = length w.told.entries;
-      spare = w.limit - (length w.told.entries + length w.rest.entries);
-    } };
-
-    ghost invariant = { IsSound };
+    ghost view = { λ w. waits (items_of w.line.entries) w.line.told w.line.spare };
 }
 
 impl WaitList {
-    /// A list in which nobody waits.
+    /// A list in which nobody waits; O(1).
     pub fn new(alloc: Global) -> Self
         ensures { result ≡ waits [] 0 0 }
     {
         WaitList {
-            told: Row::new(alloc),
-            rest: Row::new(alloc),
-            limit: 0,
+            line: WaitLine::new(alloc),
         }
     }
 
-    /// Makes room for `n` more items, so that as many calls of `park` take no memory.
+    /// Makes room for `n` more items, so that as many calls of `park` take no memory. O(1) where there is room; otherwise
+    /// each item that waits is moved once, as a vector's `reserve` does. After an error the list is as before.
     pub fn reserve(&mut self, n: usize) -> Result<(), AllocError>
         ensures room { OnOk result (n ≤ self.new.spare) }
         ensures kept { self.new ≡ waits self.old.items self.old.told self.new.spare }
@@ -64,116 +51,88 @@ impl WaitList {
         ensures had_room { n ≤ self.old.spare → IsOk result }
         ensures err { OnErr result (self.new ≡ self.old) }
     {
-        let told = self.told.len();
-        let rest = self.rest.len();
-        let len = told + rest;
-        if n <= self.limit - len {
-            return Ok(());
-        }
-        if n > usize::MAX - len {
-            return Err(AllocError);
-        }
-        self.told.reserve(n + rest)?;
-        self.rest.reserve(n + told)?;
-        self.limit = len + n;
-        Ok(())
+        self.line.reserve(n)
     }
 
-    /// How many items wait. No item waits twice, and no more were told than wait.
+    /// How many items wait; O(1). No item waits twice, and no more were told than wait.
     pub fn len(&self) -> u64
         ensures len { result ≡ length self.now.items }
         ensures differ { Differ self.now.items }
         ensures told { self.now.told ≤ length self.now.items }
     {
-        let _limit = self.limit;
-        (self.told.len() + self.rest.len()) as u64
+        self.line.len()
     }
 
-    /// How many more items fit without memory.
+    /// Whether an item waits; O(1).
+    pub fn contains(&self, item: u32) -> bool
+        ensures { IsTrue result ↔ Contains self.now.items item }
+    {
+        self.line.contains(item)
+    }
+
+    /// How many more items fit without memory; O(1).
     pub fn spare(&self) -> usize
         ensures { result ≡ self.now.spare }
     {
-        self.limit - (self.told.len() + self.rest.len())
+        self.line.spare()
     }
 
-    /// How many of them were told.
+    /// How many of them were told; O(1).
     pub fn told(&self) -> u64
         ensures { result ≡ self.now.told }
     {
-        self.told.len() as u64
+        self.line.told()
     }
 
-    /// An item begins to wait, behind all others.
+    /// An item begins to wait, behind all others; O(1).
     pub fn park(&mut self, item: u32)
         requires room { 0 < self.old.spare }
         requires absent { Contains self.old.items item → ⊥ }
         ensures { self.new ≡ waits (self.old.items ++ item ∷ []) self.old.told (self.old.spare - 1) }
     {
-        self.rest.push_last(item, 0);
+        self.line.park(item, 0);
     }
 
-    /// An item waits no longer. The others close up: where it was told, one less is told afterwards.
+    /// An item waits no longer; O(1). The others close up: where it was told, one less is told afterwards.
+    #[tactic(auto, using(crate::proofs::WaitLemmas::left_list))]
     pub fn remove(&mut self, item: u32)
         requires { Contains self.old.items item }
         ensures { self.new ≡ waits (without item self.old.items) (told_without item self.old.told self.old.items) (self.old.spare + 1) }
     {
-        if self.told.contains(item) {
-            self.told.remove(item);
-        } else {
-            self.rest.remove(item);
-        }
+        self.line.remove(item);
     }
 
-    /// Tells one more item, where fewer than `target` were told and one is left.
+    /// Tells one more item, where fewer than `target` were told and one is left; O(1).
     pub fn grow(&mut self, target: u64) -> Option<u32>
         ensures none { (result ≡ None) ↔ (min target (length self.old.items) ≤ self.old.told) }
         ensures kept { IfNone result (self.new ≡ self.old) }
         ensures item { IfSome result (λ item. slice_get self.old.items self.old.told ≡ Some item) }
         ensures grown { IfSome result (λ _. self.new ≡ waits self.old.items (self.old.told + 1) self.old.spare) }
     {
-        if self.told.len() as u64 >= target {
+        if self.line.told() >= target {
             return None;
         }
-        match self.rest.first() {
-            None => None,
-            Some((first, number)) => {
-                self.rest.remove(first);
-                self.told.push_last(first, number);
-                Some(first)
-            }
-        }
+        self.line.tell()
     }
 
-    /// Takes its leave back from the last item that was told, where more than `target` were.
+    /// Lets the last item that was told wait again, where more than `target` were told, and gives it; O(1).
     pub fn shrink(&mut self, target: u64) -> Option<u32>
         ensures none { (result ≡ None) ↔ (self.old.told ≤ target) }
         ensures kept { IfNone result (self.new ≡ self.old) }
         ensures item { IfSome result (λ item. slice_get self.old.items (self.old.told - 1) ≡ Some item) }
         ensures shrunk { IfSome result (λ _. self.new ≡ waits self.old.items (self.old.told - 1) self.old.spare) }
     {
-        if self.told.len() as u64 <= target {
+        if self.line.told() <= target {
             return None;
         }
-        match self.told.last() {
-            None => None,
-            Some((last, number)) => {
-                self.told.remove(last);
-                self.rest.push_first(last, number);
-                Some(last)
-            }
-        }
+        self.line.untell()
     }
 
-    /// How many items stand before this one.
+    /// How many items stand before this one; a walk past these, since no other order is kept than that of waiting.
     pub fn rank_of(&self, item: u32) -> u64
         requires { Contains self.now.items item }
         ensures { slice_get self.now.items result ≡ Some item }
     {
-        if self.told.contains(item) {
-            self.told.rank_of(item) as u64
-        } else {
-            let _limit = self.limit;
-            (self.told.len() + self.rest.rank_of(item)) as u64
-        }
+        self.line.rank_of(item)
     }
 }
