@@ -6,6 +6,8 @@ mod connection_tests;
 #[cfg(test)]
 mod fault_tests;
 #[cfg(test)]
+mod newcomer_tests;
+#[cfg(test)]
 mod profile_tests;
 #[cfg(test)]
 mod run_tests;
