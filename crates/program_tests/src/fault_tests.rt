@@ -91,6 +91,7 @@ const REQUEST: &[u8] = b"GET / HTTP/1.1\r\n\r\n";
 
 /// A peer that sends one request after another, two in all, and notes before each read and before the end how many
 /// bytes had reached it by then.
+#[derive(Drop)]
 struct Peer<'a> {
     reached: &'a Cell<usize>,
     reads: usize,
@@ -117,6 +118,7 @@ impl Source for Peer<'_> {
 }
 
 /// The way to that peer: what is written reaches it once it is flushed.
+#[derive(Drop)]
 struct Way<'a> {
     reached: &'a Cell<usize>,
     held: usize,
