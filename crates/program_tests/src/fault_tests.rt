@@ -136,7 +136,8 @@ impl Sink for Way<'_> {
     }
 
     fn flush(&mut self) -> Result<(), Failed> {
-        self.reached.set(self.reached.get().saturating_add(self.held));
+        self.reached
+            .set(self.reached.get().saturating_add(self.held));
         self.held = 0;
         Ok(())
     }

@@ -30,12 +30,18 @@ fn texts_of_newcomers(rt: HostRuntime) -> Result<(), Fail> {
         ("try\nexcept", "gvr: line 5: reason 6: line too short\n"),
         ("while i < 3", long),
         ("print 1 # hi", long),
-        ("if true\nelse if false", "gvr: line 5: reason 7: line too long\n"),
+        (
+            "if true\nelse if false",
+            "gvr: line 5: reason 7: line too long\n",
+        ),
         ("join a b", long),
         ("sleep n", spelling),
         ("sleep 0.5", spelling),
         ("let list 1", "gvr: line 4: reason 10: name not allowed\n"),
-        ("print\t1", "gvr: line 4: reason 2: byte that is not printable ASCII\n"),
+        (
+            "print\t1",
+            "gvr: line 4: reason 2: byte that is not printable ASCII\n",
+        ),
     ];
     for (line, wanted) in table {
         let text = in_main(alloc, line)?;

@@ -21,10 +21,7 @@ fn old_forms_run_in_profile_2(rt: HostRuntime) -> Result<(), Fail> {
 #[test]
 fn printed_form_of_profile_2(rt: HostRuntime) -> Result<(), Fail> {
     let table = [
-        (
-            "profile 2\ndef main\nend\n",
-            "profile 2\ndef main\nend\n",
-        ),
+        ("profile 2\ndef main\nend\n", "profile 2\ndef main\nend\n"),
         (
             "# x\nprofile 2\n channel c\nqueue q fifo none\ndef main\ncput c 1\nx <- cget c\nqshut q\nqshut q immediate\nend\n",
             "profile 2\nchannel c\nqueue q fifo none\ndef main\n  cput c 1\n  x <- cget c\n  qshut q\n  qshut q immediate\nend\n",
