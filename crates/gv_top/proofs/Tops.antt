@@ -1,14 +1,20 @@
 -- From a verdict and its line to what the call answers.
-use Rattle.std.proofs.Common.{◌≡◌, ◌≢◌, ◌⊎◌, inl, inr, refl, ap, sym, ◌∙◌, ℕ, List, Option, arith}
+use Rattle.std.proofs.Common.{◌≡◌, ◌≢◌, ◌⊎◌, inl, inr, refl, ap, sym, subst, ◌∙◌, ℕ, List, [], Option, Some, drop, arith}
 use Rattle.gv_io.specs.Faults.{HasRisen}
 use Rattle.gv_io.specs.Streams.{appended, AppendsPrefix}
-use Rattle.gv_io.proofs.StreamLaws.{AppendsPrefix-all}
+use Rattle.gv_io.proofs.StreamLaws.{appended-nothing, AppendsPrefix-all, AppendsPrefix-nothing}
 use Rattle.hub_engine.specs.declared.run.End.{End}
 use Rattle.wsgi_connection.specs.declared.connection.ConnectionEnd.{ConnectionEnd}
 use Rattle.gv_top.specs.declared.status.Verdict.{Verdict}
-use Rattle.gv_top.specs.Answers.{Answer, memory_line, read_fault_line}
+use Rattle.gv_top.specs.declared.words.Command.{Command}
+use Rattle.gv_top.specs.declared.words.TextCommand.{TextCommand}
+use Rattle.gv_top.specs.Answers.{Answer, answer_to, memory_line, most_read, read_fault_line, write_fault_line}
 use Rattle.gv_top.specs.Verdicts.{number_of, line_of}
-use Rattle.gv_top.specs.Top.{Fits, Decided, HasLine, FailsLine, AnswersConnection, IsAnswered, IsOfConnection, HasFaultLine}
+use Rattle.gv_top.specs.Top.{Fits, Decided, CameTo, Ended, FailsToWrite, IsOr, IsTold, IsTried, AnswersConnection, IsAnswered, IsOfConnection, HasFaultLine}
+
+-- nothing was appended
+left_as_it_was : (old new : Option (List ℕ)) (text : List ℕ) → new ≡ old → AppendsPrefix old new text
+left_as_it_was old new text e = let P : Option (List ℕ) → Type 0 = λ x. AppendsPrefix old x text in subst P (sym e) (AppendsPrefix-nothing old text)
 
 -- out has a prefix, and the status is one of a fault or of want of memory
 record Broke (v : Verdict) (a : Answer) (old new : Option (List ℕ)) : Type 0 where
@@ -17,7 +23,7 @@ record Broke (v : Verdict) (a : Answer) (old new : Option (List ℕ)) : Type 0 w
 
 decided : (v : Verdict) (a : Answer) (old new : Option (List ℕ)) → Decided v a old new → Fits v a old new ⊎ Broke v a old new
 decided Verdict.Usage a old new d = inl d
-decided Verdict.ReadFault a old new d = inr (record { prefix = d; number = inl refl })
+decided Verdict.ReadFault a old new d = inr (record { prefix = left_as_it_was old new a.out d; number = inl refl })
 decided (Verdict.Refused place) a old new d = inl d
 decided (Verdict.NotBuilt n) a old new d = inl d
 decided Verdict.Formatted a old new d = inl d
@@ -55,21 +61,48 @@ record Said (n : ℕ) (v : Verdict) (old new : Option (List ℕ)) : Type 0 where
   number : n ≡ number_of v
   line : new ≡ appended old (line_of v)
 
-said : (n : ℕ) (v : Verdict) (old new : Option (List ℕ)) → HasLine n v old new → n ≢ 5 → n ≢ 7 → Said n v old new
-said n v old new (inl p) h5 h7 = record { number = p.0; line = p.1 }
-said n v old new (inr (inl p)) h5 h7 = absurd (h7 p.0)
-said n v old new (inr (inr p)) h5 h7 = absurd (h5 p.0)
+said : (n : ℕ) (v : Verdict) (old new : Option (List ℕ)) (e0 e1 : ℕ) → IsTold n v old new e0 e1 → n ≢ 5 → Said n v old new
+said n v old new e0 e1 (inl p) h5 = record { number = p.0; line = p.1 }
+said n v old new e0 e1 (inr p) h5 = absurd (h5 p.0)
 
-pub answered : (n : ℕ) (v : Verdict) (a : Answer) (out0 out1 err0 err1 : Option (List ℕ)) →
-    Decided v a out0 out1 → HasLine n v err0 err1 → IsAnswered n a out0 out1 err0 err1
-answered n v a out0 out1 err0 err1 d l =
+answered : (n : ℕ) (v : Verdict) (a : Answer) (out0 out1 err0 err1 : Option (List ℕ)) (e0 e1 : ℕ) →
+    Decided v a out0 out1 → IsTold n v err0 err1 e0 e1 → IsAnswered n a out0 out1 err0 err1
+answered n v a out0 out1 err0 err1 e0 e1 d l =
     let c = decided v a out0 out1 d in
     record {
       prefix = prefix_of v a out0 out1 c;
-      status = λ h4 h5 h7. let s = said n v err0 err1 l h5 h7 in s.number ∙ (whole_of n v a out0 out1 c s.number h4 h5 h7).1;
-      out = λ h4 h5 h7. let s = said n v err0 err1 l h5 h7 in (whole_of n v a out0 out1 c s.number h4 h5 h7).0;
-      err = λ h4 h5 h7. let s = said n v err0 err1 l h5 h7 in s.line ∙ ap (appended err0) (whole_of n v a out0 out1 c s.number h4 h5 h7).2;
+      status = λ h4 h5 h7. let s = said n v err0 err1 e0 e1 l h5 in s.number ∙ (whole_of n v a out0 out1 c s.number h4 h5 h7).1;
+      out = λ h4 h5 h7. let s = said n v err0 err1 e0 e1 l h5 in (whole_of n v a out0 out1 c s.number h4 h5 h7).0;
+      err = λ h4 h5 h7. let s = said n v err0 err1 e0 e1 l h5 in s.line ∙ ap (appended err0) (whole_of n v a out0 out1 c s.number h4 h5 h7).2;
     }
+
+-- ---- the verdict that is told
+
+-- where there is no memory for the line of a verdict, the command came to want of memory
+out_of_memory : (v : Verdict) (c : Option Command) (in0 in1 out0 out1 : Option (List ℕ)) (r0 r1 w0 w1 : ℕ) → CameTo v c in0 in1 out0 out1 r0 r1 w0 w1 →
+    number_of v ≢ 0 → number_of v ≢ 5 → CameTo (Verdict.Ran End.Memory) c in0 in1 out0 out1 r0 r1 w0 w1
+out_of_memory v c in0 in1 out0 out1 r0 r1 w0 w1 h n0 n5 =
+    record {
+      answer = λ left told. prefix_of v (answer_to c left) out0 out1 (decided v (answer_to c left) out0 out1 (h.answer left told));
+      usage = λ e. absurd (omega arith);
+      read_fault = λ e. absurd (omega arith);
+      write_fault = λ e. absurd (omega arith);
+      unread = λ text is e. absurd (omega arith);
+      unprinted = λ is h0 h5. h.unprinted is n0 n5;
+      read_whole = λ text is h4 h7. absurd (h7 refl);
+    }
+
+came_to : (v w : Verdict) (c : Option Command) (in0 in1 out0 out1 : Option (List ℕ)) (r0 r1 w0 w1 : ℕ) → CameTo v c in0 in1 out0 out1 r0 r1 w0 w1 →
+    IsOr v w → CameTo w c in0 in1 out0 out1 r0 r1 w0 w1
+came_to v w c in0 in1 out0 out1 r0 r1 w0 w1 h (inl e) =
+    let P : Verdict → Type 0 = λ x. CameTo x c in0 in1 out0 out1 r0 r1 w0 w1 in subst P (sym e) h
+came_to v w c in0 in1 out0 out1 r0 r1 w0 w1 h (inr p) =
+    let P : Verdict → Type 0 = λ x. CameTo x c in0 in1 out0 out1 r0 r1 w0 w1 in subst P (sym p.0) (out_of_memory v c in0 in1 out0 out1 r0 r1 w0 w1 h p.1 p.2)
+
+pub ended : (n : ℕ) (v w : Verdict) (c : Option Command) (in0 in1 out0 out1 err0 err1 : Option (List ℕ)) (r0 r1 w0 w1 e0 e1 : ℕ) →
+    CameTo v c in0 in1 out0 out1 r0 r1 w0 w1 → IsOr v w → IsTold n w err0 err1 e0 e1 → Ended n c in0 in1 out0 out1 err0 err1 r0 r1 w0 w1 e0 e1
+ended n v w c in0 in1 out0 out1 err0 err1 r0 r1 w0 w1 e0 e1 h o l =
+    record { verdict = w; came_to = came_to v w c in0 in1 out0 out1 r0 r1 w0 w1 h o; told = l }
 
 -- ---- the lines of faults
 
@@ -115,54 +148,132 @@ line_of_memory (Verdict.Connection ConnectionEnd.ReadFault) e = absurd (omega ar
 line_of_memory (Verdict.Connection ConnectionEnd.WriteFault) e = absurd (omega arith)
 line_of_memory (Verdict.Connection ConnectionEnd.Memory) e = refl
 
-read_line : (n : ℕ) (v : Verdict) (old new : Option (List ℕ)) → HasLine n v old new → n ≡ 4 → new ≡ appended old read_fault_line
-read_line n v old new (inl p) e = p.1 ∙ ap (appended old) (line_of_read v (sym p.0 ∙ e))
-read_line n v old new (inr (inl p)) e = let q = p.0 in absurd (omega arith)
-read_line n v old new (inr (inr p)) e = let q = p.0 in absurd (omega arith)
+pub line_of_write : (v : Verdict) → number_of v ≡ 5 → line_of v ≡ write_fault_line
+line_of_write Verdict.Usage e = absurd (omega arith)
+line_of_write Verdict.ReadFault e = absurd (omega arith)
+line_of_write (Verdict.Refused place) e = absurd (omega arith)
+line_of_write (Verdict.NotBuilt n) e = absurd (omega arith)
+line_of_write Verdict.Formatted e = absurd (omega arith)
+line_of_write (Verdict.Ran End.MainValue) e = absurd (omega arith)
+line_of_write (Verdict.Ran (End.MainFault f)) e = absurd (omega arith)
+line_of_write (Verdict.Ran End.NoTurns) e = absurd (omega arith)
+line_of_write (Verdict.Ran End.NoMoves) e = absurd (omega arith)
+line_of_write (Verdict.Ran End.NoGreenlets) e = absurd (omega arith)
+line_of_write (Verdict.Ran End.NoLinks) e = absurd (omega arith)
+line_of_write (Verdict.Ran End.NoKills) e = absurd (omega arith)
+line_of_write (Verdict.Ran End.WriteFault) e = refl
+line_of_write (Verdict.Ran End.Memory) e = absurd (omega arith)
+line_of_write (Verdict.Connection ConnectionEnd.Closed) e = absurd (omega arith)
+line_of_write (Verdict.Connection ConnectionEnd.TooLong) e = absurd (omega arith)
+line_of_write (Verdict.Connection ConnectionEnd.ReadFault) e = absurd (omega arith)
+line_of_write (Verdict.Connection ConnectionEnd.WriteFault) e = refl
+line_of_write (Verdict.Connection ConnectionEnd.Memory) e = absurd (omega arith)
 
-no_memory_line : (n : ℕ) (v : Verdict) (old new : Option (List ℕ)) → HasLine n v old new → n ≡ 7 → new ≡ appended old memory_line
-no_memory_line n v old new (inl p) e = p.1 ∙ ap (appended old) (line_of_memory v (sym p.0 ∙ e))
-no_memory_line n v old new (inr (inl p)) e = p.1
-no_memory_line n v old new (inr (inr p)) e = let q = p.0 in absurd (omega arith)
+no_line : (v : Verdict) → number_of v ≡ 0 → line_of v ≡ []
+no_line Verdict.Usage e = absurd (omega arith)
+no_line Verdict.ReadFault e = absurd (omega arith)
+no_line (Verdict.Refused place) e = absurd (omega arith)
+no_line (Verdict.NotBuilt n) e = absurd (omega arith)
+no_line Verdict.Formatted e = refl
+no_line (Verdict.Ran End.MainValue) e = refl
+no_line (Verdict.Ran (End.MainFault f)) e = absurd (omega arith)
+no_line (Verdict.Ran End.NoTurns) e = absurd (omega arith)
+no_line (Verdict.Ran End.NoMoves) e = absurd (omega arith)
+no_line (Verdict.Ran End.NoGreenlets) e = absurd (omega arith)
+no_line (Verdict.Ran End.NoLinks) e = absurd (omega arith)
+no_line (Verdict.Ran End.NoKills) e = absurd (omega arith)
+no_line (Verdict.Ran End.WriteFault) e = absurd (omega arith)
+no_line (Verdict.Ran End.Memory) e = absurd (omega arith)
+no_line (Verdict.Connection ConnectionEnd.Closed) e = refl
+no_line (Verdict.Connection ConnectionEnd.TooLong) e = absurd (omega arith)
+no_line (Verdict.Connection ConnectionEnd.ReadFault) e = absurd (omega arith)
+no_line (Verdict.Connection ConnectionEnd.WriteFault) e = absurd (omega arith)
+no_line (Verdict.Connection ConnectionEnd.Memory) e = absurd (omega arith)
 
-write_line : (n : ℕ) (v : Verdict) (old new : Option (List ℕ)) → HasLine n v old new → n ≡ 5 → (w : Verdict) × AppendsPrefix old new (line_of w)
-write_line n v old new (inl p) e = (v, AppendsPrefix-all old new (line_of v) p.1)
-write_line n v old new (inr (inl p)) e = let q = p.0 in absurd (omega arith)
-write_line n v old new (inr (inr p)) e = by p.1
+-- status 0 is told by no line
+pub told_nothing : (v : Verdict) (err : Option (List ℕ)) (faults : ℕ) → number_of v ≡ 0 → (w : Verdict) × IsOr v w × IsTold 0 w err err faults faults
+told_nothing v err faults h = (v, inl refl, inl (sym h, sym (appended-nothing err) ∙ ap (appended err) (sym (no_line v h))))
+
+read_line : (n : ℕ) (v : Verdict) (old new : Option (List ℕ)) (e0 e1 : ℕ) → IsTold n v old new e0 e1 → n ≡ 4 → new ≡ appended old read_fault_line
+read_line n v old new e0 e1 (inl p) e = p.1 ∙ ap (appended old) (line_of_read v (sym p.0 ∙ e))
+read_line n v old new e0 e1 (inr p) e = let q = p.0 in absurd (omega arith)
+
+no_memory_line : (n : ℕ) (v : Verdict) (old new : Option (List ℕ)) (e0 e1 : ℕ) → IsTold n v old new e0 e1 → n ≡ 7 → new ≡ appended old memory_line
+no_memory_line n v old new e0 e1 (inl p) e = p.1 ∙ ap (appended old) (line_of_memory v (sym p.0 ∙ e))
+no_memory_line n v old new e0 e1 (inr p) e = let q = p.0 in absurd (omega arith)
+
+-- ---- what an end says
+
+pub is_answered : {n : ℕ} {c : Option Command} {in0 in1 out0 out1 err0 err1 : Option (List ℕ)} {r0 r1 w0 w1 e0 e1 : ℕ} →
+    Ended n c in0 in1 out0 out1 err0 err1 r0 r1 w0 w1 e0 e1 → (left : List ℕ) → in0 ≡ Some left → IsAnswered n (answer_to c left) out0 out1 err0 err1
+is_answered h left told = answered _ h.verdict _ _ _ _ _ _ _ (h.came_to.answer left told) h.told
+
+pub fault_line : {n : ℕ} {c : Option Command} {in0 in1 out0 out1 err0 err1 : Option (List ℕ)} {r0 r1 w0 w1 e0 e1 : ℕ} →
+    Ended n c in0 in1 out0 out1 err0 err1 r0 r1 w0 w1 e0 e1 → HasFaultLine n err0 err1
+fault_line h = record { read = read_line _ h.verdict _ _ _ _ h.told; memory = no_memory_line _ h.verdict _ _ _ _ h.told }
+
+-- a status that is not 5 is the verdict's
+verdict_of : (n m : ℕ) (v : Verdict) (old new : Option (List ℕ)) (e0 e1 : ℕ) → IsTold n v old new e0 e1 → n ≡ m → m ≢ 5 → number_of v ≡ m
+verdict_of n m v old new e0 e1 (inl p) e h5 = sym p.0 ∙ e
+verdict_of n m v old new e0 e1 (inr p) e h5 = absurd (h5 (sym e ∙ p.0))
+
+pub status_is : {n : ℕ} {c : Option Command} {in0 in1 out0 out1 err0 err1 : Option (List ℕ)} {r0 r1 w0 w1 e0 e1 : ℕ} (m : ℕ) →
+    (h : Ended n c in0 in1 out0 out1 err0 err1 r0 r1 w0 w1 e0 e1) → n ≡ m → m ≢ 5 → number_of h.verdict ≡ m
+status_is m h e h5 = verdict_of _ m h.verdict _ _ _ _ h.told e h5
+
+-- the status is the verdict's, or 5 where it has a line, or 7
+status_or : (n : ℕ) (v w : Verdict) (old new : Option (List ℕ)) (e0 e1 : ℕ) → IsOr v w → IsTold n w old new e0 e1 →
+    (n ≡ number_of v) ⊎ ((number_of v ≢ 0) × ((n ≡ 5) ⊎ (n ≡ 7)))
+status_or n v w old new e0 e1 (inl e) (inl p) = inl (p.0 ∙ ap number_of e)
+status_or n v w old new e0 e1 (inl e) (inr p) = inr ((λ z. p.1 (ap number_of e ∙ z)), inl p.0)
+status_or n v w old new e0 e1 (inr q) (inl p) = inr (q.1, inr (p.0 ∙ ap number_of q.0))
+status_or n v w old new e0 e1 (inr q) (inr p) = inr (q.1, inl p.0)
+
+-- the words are no command, and the status is that of this, 5 or 7
+pub usage_status : (n : ℕ) (v w : Verdict) (old new : Option (List ℕ)) (e0 e1 : ℕ) → IsOr v w → IsTold n w old new e0 e1 → number_of v ≡ 2 → (n ≡ 2) ⊎ (n ≡ 5) ⊎ (n ≡ 7)
+usage_status n v w old new e0 e1 o l e = by (status_or n v w old new e0 e1 o l)
   where
-    by : AppendsPrefix old new (line_of v) ⊎ AppendsPrefix old new memory_line → (w : Verdict) × AppendsPrefix old new (line_of w)
-    by (inl q) = (v, q)
-    by (inr q) = (Verdict.Ran End.Memory, q)
+    by : (n ≡ number_of v) ⊎ ((number_of v ≢ 0) × ((n ≡ 5) ⊎ (n ≡ 7))) → (n ≡ 2) ⊎ (n ≡ 5) ⊎ (n ≡ 7)
+    by (inl p) = inl (p ∙ e)
+    by (inr p) = inr p.1
 
-pub fault_line : (n : ℕ) (v : Verdict) (old new : Option (List ℕ)) → HasLine n v old new → HasFaultLine n old new
-fault_line n v old new l = record { read = read_line n v old new l; memory = no_memory_line n v old new l; write = write_line n v old new l }
+-- the line of a write that failed was tried
+tried : (n : ℕ) (v : Verdict) (old new : Option (List ℕ)) (e0 e1 : ℕ) → number_of v ≡ 5 → IsTold n v old new e0 e1 → IsTried write_fault_line old new e0 e1
+tried n v old new e0 e1 e (inl p) = inl (p.1 ∙ ap (appended old) (line_of_write v e))
+tried n v old new e0 e1 e (inr p) =
+    let P : List ℕ → Type 0 = λ l. AppendsPrefix old new l in inr (p.2, subst P (line_of_write v e) p.3)
 
--- ---- the causes
+fails : (n : ℕ) (v : Verdict) (old new : Option (List ℕ)) (w0 w1 e0 e1 : ℕ) → (number_of v ≡ 5 → HasRisen w0 w1) → IsTold n v old new e0 e1 → n ≡ 5 →
+    FailsToWrite old new w0 w1 e0 e1
+fails n v old new w0 w1 e0 e1 f (inl p) e = let is = sym p.0 ∙ e in inl (f is, tried n v old new e0 e1 is (inl p))
+fails n v old new w0 w1 e0 e1 f (inr p) e = inr (v, p.1, p.2, p.3)
 
--- a status that is neither 5 nor 7 is the verdict's
-pub verdict_of : (n m : ℕ) (v : Verdict) (old new : Option (List ℕ)) → HasLine n v old new → n ≡ m → m ≢ 5 → m ≢ 7 → number_of v ≡ m
-verdict_of n m v old new (inl p) e h5 h7 = sym p.0 ∙ e
-verdict_of n m v old new (inr (inl p)) e h5 h7 = absurd (h7 (sym e ∙ p.0))
-verdict_of n m v old new (inr (inr p)) e h5 h7 = absurd (h5 (sym e ∙ p.0))
+pub fails_to_write : {n : ℕ} {c : Option Command} {in0 in1 out0 out1 err0 err1 : Option (List ℕ)} {r0 r1 w0 w1 e0 e1 : ℕ} →
+    Ended n c in0 in1 out0 out1 err0 err1 r0 r1 w0 w1 e0 e1 → n ≡ 5 → FailsToWrite err0 err1 w0 w1 e0 e1
+fails_to_write h e = fails _ h.verdict _ _ _ _ _ _ h.came_to.write_fault h.told e
 
--- the status is the verdict's, 5 or 7
-pub status_of_verdict : (n m : ℕ) (v : Verdict) (old new : Option (List ℕ)) → HasLine n v old new → number_of v ≡ m → (n ≡ m) ⊎ (n ≡ 5) ⊎ (n ≡ 7)
-status_of_verdict n m v old new (inl p) e = inl (p.0 ∙ e)
-status_of_verdict n m v old new (inr (inl p)) e = inr (inr p.0)
-status_of_verdict n m v old new (inr (inr p)) e = inr (inl p.0)
+-- `fmt` leaves out as it was
+pub prints_nothing : {n : ℕ} {c : Option Command} {in0 in1 out0 out1 err0 err1 : Option (List ℕ)} {r0 r1 w0 w1 e0 e1 : ℕ} →
+    Ended n c in0 in1 out0 out1 err0 err1 r0 r1 w0 w1 e0 e1 → c ≡ Some (Command.Text TextCommand.Format) → n ≢ 0 → n ≢ 5 → out1 ≡ out0
+prints_nothing {n} h is h0 h5 =
+    let e = status_is n h refl h5 in h.came_to.unprinted is (λ z. h0 (sym e ∙ z)) (λ z. h5 (sym e ∙ z))
 
-pub written_5 : (n : ℕ) (v : Verdict) (o0 o1 e0 e1 : ℕ) → FailsLine n v e0 e1 → (number_of v ≡ 5 → HasRisen o0 o1) → n ≡ 5 → HasRisen o0 o1 ⊎ HasRisen e0 e1
-written_5 n v o0 o1 e0 e1 (inl p) t e = inl (t (sym p ∙ e))
-written_5 n v o0 o1 e0 e1 (inr (inl p)) t e = absurd (omega arith)
-written_5 n v o0 o1 e0 e1 (inr (inr p)) t e = inr p
+-- the text was read whole
+pub reads_whole : {n : ℕ} {c : Option Command} {in0 in1 out0 out1 err0 err1 : Option (List ℕ)} {r0 r1 w0 w1 e0 e1 : ℕ} (text : TextCommand) →
+    Ended n c in0 in1 out0 out1 err0 err1 r0 r1 w0 w1 e0 e1 → c ≡ Some (Command.Text text) → n ≢ 4 → n ≢ 5 → n ≢ 7 →
+    (left : List ℕ) → in0 ≡ Some left → in1 ≡ Some (drop most_read left)
+reads_whole {n} text h is h4 h5 h7 left told =
+    let e = status_is n h refl h5 in h.came_to.read_whole text is (λ z. h4 (sym e ∙ z)) (λ z. h7 (sym e ∙ z)) left told
 
--- what holds by the verdict's number holds by the status
-pub by_status : (n : ℕ) (v : Verdict) (old new : Option (List ℕ)) (P : Type 0) → HasLine n v old new → (number_of v ≢ 4 → number_of v ≢ 7 → P) →
-    n ≢ 4 → n ≢ 5 → n ≢ 7 → P
-by_status n v old new P l f h4 h5 h7 = let s = said n v old new l h5 h7 in f (λ e. h4 (s.number ∙ e)) (λ e. h7 (s.number ∙ e))
+-- the verdict has no line, and err is left alone
+pub is_silent : (n : ℕ) (v w : Verdict) (old new : Option (List ℕ)) (e0 e1 : ℕ) → IsOr v w → IsTold n w old new e0 e1 → n ≡ 0 → number_of v ≡ 0
+is_silent n v w old new e0 e1 (inl e) (inl p) z = sym (ap number_of e) ∙ sym p.0 ∙ z
+is_silent n v w old new e0 e1 (inr q) (inl p) z = let s = sym z ∙ p.0 ∙ ap number_of q.0 in absurd (omega arith)
+is_silent n v w old new e0 e1 o (inr p) z = let s = sym z ∙ p.0 in absurd (omega arith)
 
 -- the connection that was answered
-pub answers_connection : (n : ℕ) (v : Verdict) (err0 err1 in0 in1 out0 out1 : Option (List ℕ)) → HasLine n v err0 err1 →
+pub answers_connection : (n : ℕ) (v w : Verdict) (err0 err1 in0 in1 out0 out1 : Option (List ℕ)) (e0 e1 : ℕ) → IsOr v w → IsTold n w err0 err1 e0 e1 →
     IsOfConnection v in0 in1 out0 out1 → AnswersConnection n in0 in1 out0 out1
-answers_connection n v err0 err1 in0 in1 out0 out1 l c =
-    record { end = c.end; exchanged = c.exchanged; status = status_of_verdict n _ v err0 err1 l (ap number_of c.is) }
+answers_connection n v w err0 err1 in0 in1 out0 out1 e0 e1 o l c =
+    let P : Verdict → Type 0 = λ x. (n ≡ number_of x) ⊎ ((number_of x ≢ 0) × ((n ≡ 5) ⊎ (n ≡ 7))) in
+    record { end = c.end; exchanged = c.exchanged; status = subst P c.is (status_or n v w err0 err1 e0 e1 o l) }

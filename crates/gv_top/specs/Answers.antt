@@ -9,6 +9,7 @@ use Rattle.scenario_grammar.specs.Printed.{printed}
 use Rattle.scenario_lang.specs.ReasonTexts.{text_of as reason_text}
 use Rattle.scenario_rules.specs.Rules.{place_of}
 use Rattle.wsgi_core.specs.Answers.{Sent}
+use Rattle.wsgi_core.specs.Sessions.{answers}
 use Rattle.wsgi_core.specs.Shipped.{shipped}
 use Rattle.wsgi_connection.specs.Connections.{whole_session}
 use Rattle.gv_top.specs.declared.words.Command.{Command}
@@ -106,7 +107,7 @@ no_port = 0
 abbrev pub answer_to : Option Command → List ℕ → Answer
 answer_to None left = usage
 answer_to (Some (Text command)) left = answer_to_text command (take most_read left)
-answer_to (Some Wsgi) left = answer_of_session (whole_session shipped no_port left)
+answer_to (Some Wsgi) left = answer_of_session (whole_session answers shipped no_port left)
 
 abbrev pub read_fault_line : List ℕ
 read_fault_line = line (codes "read fault")

@@ -1,21 +1,27 @@
 -- What the call leaves behind.
-use Rattle.std.specs.Prelude.{◌≡◌, ◌≢◌, ◌⊎◌, ℕ, List, Option}
+use Rattle.std.specs.Prelude.{◌≡◌, ◌≢◌, ◌⊎◌, ℕ, List, Option, Some, None, drop}
 use Rattle.gv_io.specs.Faults.{HasRisen}
 use Rattle.gv_io.specs.Streams.{appended, AppendsPrefix}
 use Rattle.hub_engine.specs.declared.run.End.{End}
+use Rattle.wsgi_core.specs.Sessions.{answers}
 use Rattle.wsgi_core.specs.Shipped.{shipped}
 use Rattle.wsgi_connection.specs.Connections.{Exchanged}
 use Rattle.wsgi_connection.specs.declared.connection.ConnectionEnd.{ConnectionEnd}
 use Rattle.gv_top.specs.declared.status.Verdict.{Verdict}
-use Rattle.gv_top.specs.Answers.{Answer, memory_line, no_port, read_fault_line}
+use Rattle.gv_top.specs.declared.words.Command.{Command}
+use Rattle.gv_top.specs.declared.words.TextCommand.{TextCommand}
+use Rattle.gv_top.specs.Answers.{Answer, answer_to, memory_line, most_read, no_port, read_fault_line, write_fault_line}
 use Rattle.gv_top.specs.Verdicts.{number_of, line_of}
+
+-- ---- a verdict
 
 -- the verdict is the answer's, and out has its whole text
 abbrev pub Fits : Verdict → Answer → Option (List ℕ) → Option (List ℕ) → Type 0
 Fits v a old new = (new ≡ appended old a.out) × (number_of v ≡ a.status) × (line_of v ≡ a.err)
 
+-- the verdict fits; or a fault or want of memory cut the text of the answer short; a text that could not be read leaves out as it was
 abbrev pub Decided : Verdict → Answer → Option (List ℕ) → Option (List ℕ) → Type 0
-Decided Verdict.ReadFault a old new = AppendsPrefix old new a.out
+Decided Verdict.ReadFault a old new = new ≡ old
 Decided (Verdict.Ran End.WriteFault) a old new = AppendsPrefix old new a.out
 Decided (Verdict.Ran End.Memory) a old new = AppendsPrefix old new a.out
 Decided (Verdict.Connection ConnectionEnd.ReadFault) a old new = AppendsPrefix old new a.out
@@ -27,18 +33,44 @@ Decided v a old new = Fits v a old new
 pub record IsOfConnection (v : Verdict) (in0 in1 out0 out1 : Option (List ℕ)) : Type 0 where
   pub end : ConnectionEnd
   pub is : v ≡ Verdict.Connection end
-  pub exchanged : Exchanged end shipped no_port in0 in1 out0 out1
+  pub exchanged : Exchanged end answers shipped no_port in0 in1 out0 out1
 
--- err has the verdict's line and its status is answered; or the line of want of memory with 7; or a prefix of one of the two with 5
-abbrev pub HasLine : ℕ → Verdict → Option (List ℕ) → Option (List ℕ) → Type 0
-HasLine n v old new =
+-- What a command came to, by the bytes of its input and of out and by the counts of their faults.
+pub record CameTo (v : Verdict) (command : Option Command) (in0 in1 out0 out1 : Option (List ℕ)) (reads0 reads1 writes0 writes1 : ℕ) : Type 0 where
+  -- where the input is told, the answer is decided
+  pub answer : (left : List ℕ) → in0 ≡ Some left → Decided v (answer_to command left) out0 out1
+  -- the words are no command
+  pub usage : number_of v ≡ 2 → command ≡ None
+  -- a read or a write failed
+  pub read_fault : number_of v ≡ 4 → HasRisen reads0 reads1
+  pub write_fault : number_of v ≡ 5 → HasRisen writes0 writes1
+  -- a text that could not be read leaves out as it was
+  pub unread : (text : TextCommand) → command ≡ Some (Command.Text text) → number_of v ≡ 4 → out1 ≡ out0
+  -- so does a text that is not printed
+  pub unprinted : command ≡ Some (Command.Text TextCommand.Format) → number_of v ≢ 0 → number_of v ≢ 5 → out1 ≡ out0
+  -- any other text was read to its end, or to one byte past the most
+  pub read_whole : (text : TextCommand) → command ≡ Some (Command.Text text) → number_of v ≢ 4 → number_of v ≢ 7 →
+      (left : List ℕ) → in0 ≡ Some left → in1 ≡ Some (drop most_read left)
+
+-- ---- its line on err
+
+-- the verdict, or want of memory where it has a line for which there is none
+abbrev pub IsOr : Verdict → Verdict → Type 0
+IsOr v w = (w ≡ v) ⊎ ((w ≡ Verdict.Ran End.Memory) × (number_of v ≢ 0) × (number_of v ≢ 5))
+
+-- err has the whole line of the verdict, whose status is answered; or the verdict has a line, err failed at it and has a prefix of it, and the status is 5
+abbrev pub IsTold : ℕ → Verdict → Option (List ℕ) → Option (List ℕ) → ℕ → ℕ → Type 0
+IsTold n v old new faults0 faults1 =
     ((n ≡ number_of v) × (new ≡ appended old (line_of v)))
-    ⊎ ((n ≡ 7) × (new ≡ appended old memory_line))
-    ⊎ ((n ≡ 5) × (AppendsPrefix old new (line_of v) ⊎ AppendsPrefix old new memory_line))
+    ⊎ ((n ≡ 5) × (number_of v ≢ 0) × HasRisen faults0 faults1 × AppendsPrefix old new (line_of v))
 
--- another status than the verdict's and 7 comes only where the count has risen
-abbrev pub FailsLine : ℕ → Verdict → ℕ → ℕ → Type 0
-FailsLine n v old new = (n ≡ number_of v) ⊎ (n ≡ 7) ⊎ HasRisen old new
+-- the verdict of a command, and what of its line came to err
+pub record Ended (n : ℕ) (command : Option Command) (in0 in1 out0 out1 err0 err1 : Option (List ℕ)) (reads0 reads1 writes0 writes1 faults0 faults1 : ℕ) : Type 0 where
+  pub verdict : Verdict
+  pub came_to : CameTo verdict command in0 in1 out0 out1 reads0 reads1 writes0 writes1
+  pub told : IsTold n verdict err0 err1 faults0 faults1
+
+-- ---- by the status
 
 -- what the call leaves where the input is told: out has a prefix of the answer's text, and with a status
 -- that tells no fault and no want of memory the status, out and err are the answer's
@@ -48,15 +80,24 @@ pub record IsAnswered (n : ℕ) (a : Answer) (out0 out1 err0 err1 : Option (List
   pub out : n ≢ 4 → n ≢ 5 → n ≢ 7 → out1 ≡ appended out0 a.out
   pub err : n ≢ 4 → n ≢ 5 → n ≢ 7 → err1 ≡ appended err0 a.err
 
--- The input and out are a connection that was answered by the shipped application, and the status is that of its end,
--- unless its line failed or memory for the line ran out.
+-- The input and out are a connection that was answered by the shipped application. The status is that of its end; where
+-- that has a line on err, it is 5 if the line failed, and 7 if memory for it ran out.
 pub record AnswersConnection (n : ℕ) (in0 in1 out0 out1 : Option (List ℕ)) : Type 0 where
   pub end : ConnectionEnd
-  pub exchanged : Exchanged end shipped no_port in0 in1 out0 out1
-  pub status : (n ≡ number_of (Verdict.Connection end)) ⊎ (n ≡ 5) ⊎ (n ≡ 7)
+  pub exchanged : Exchanged end answers shipped no_port in0 in1 out0 out1
+  pub status : (n ≡ number_of (Verdict.Connection end)) ⊎ ((number_of (Verdict.Connection end) ≢ 0) × ((n ≡ 5) ⊎ (n ≡ 7)))
 
--- the line that err has with a status of a fault or of want of memory, whole but with 5
+-- the whole line is there, or err failed and a prefix of it is there
+abbrev pub IsTried : List ℕ → Option (List ℕ) → Option (List ℕ) → ℕ → ℕ → Type 0
+IsTried line old new faults0 faults1 = (new ≡ appended old line) ⊎ (HasRisen faults0 faults1 × AppendsPrefix old new line)
+
+-- the line that err has with the statuses of a read that failed and of want of memory
 pub record HasFaultLine (n : ℕ) (err0 err1 : Option (List ℕ)) : Type 0 where
   pub read : n ≡ 4 → err1 ≡ appended err0 read_fault_line
   pub memory : n ≡ 7 → err1 ≡ appended err0 memory_line
-  pub write : n ≡ 5 → (v : Verdict) × (AppendsPrefix err0 err1 (line_of v))
+
+-- what led to status 5: out failed, and its line was tried; or err failed at the line of another status, and has a prefix of it
+abbrev pub FailsToWrite : Option (List ℕ) → Option (List ℕ) → ℕ → ℕ → ℕ → ℕ → Type 0
+FailsToWrite err0 err1 writes0 writes1 faults0 faults1 =
+    (HasRisen writes0 writes1 × IsTried write_fault_line err0 err1 faults0 faults1)
+    ⊎ ((v : Verdict) × (number_of v ≢ 0) × HasRisen faults0 faults1 × AppendsPrefix err0 err1 (line_of v))

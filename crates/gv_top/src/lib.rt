@@ -10,8 +10,3 @@ mod words;
 
 pub use laws::{budgets_are_in_range, texts_are_answered};
 pub use top::gvr;
-
-#[cfg(test)]
-mod connection_tests;
-#[cfg(test)]
-mod tests;

@@ -120,4 +120,3 @@ fn up_to(most: u64, number: u64) -> Option<u64>
         None
     }
 }
-

@@ -9,10 +9,11 @@ ghost use Rattle.scenario_tree.specs.declared.tree.Scenario.{Scenario as AnyScen
 ghost use Rattle.unbuilt_forms.specs.Built.{IsBuilt, first_unbuilt};
 ghost use Rattle.hub_engine.specs.Ends.{RanTo};
 ghost use Rattle.hub_engine.specs.declared.run.Budgets.{Budgets as AnyBudgets};
-ghost use Rattle.gv_top.specs.Answers.{answer_of_run, answer_to, answer_to_scenario, answer_to_text, formatted, memory_line, most_read, not_built, refusal, run_of};
+ghost use Rattle.gv_top.specs.Answers.{answer_of_run, answer_to, answer_to_scenario, answer_to_text, formatted, memory_line, most_read, not_built, refusal, run_of, write_fault_line};
+ghost use Rattle.gv_top.specs.declared.status.Verdict.{Verdict as AnyVerdict};
 ghost use Rattle.gv_top.specs.Refusals.{IsRefusedAt};
-ghost use Rattle.gv_top.specs.Top.{Decided, AnswersConnection, IsAnswered, IsOfConnection, HasLine, FailsLine, HasFaultLine};
-ghost use Rattle.gv_top.specs.Verdicts.{IsExplained, number_of, verdict_on};
+ghost use Rattle.gv_top.specs.Top.{AnswersConnection, Decided, Ended, FailsToWrite, HasFaultLine, IsAnswered, IsOfConnection, IsOr, IsTold};
+ghost use Rattle.gv_top.specs.Verdicts.{IsExplained, line_of, number_of, verdict_on};
 ghost use Rattle.gv_top.specs.Words.{command_of};
 
 use crate::reading::read_scenario;
@@ -24,7 +25,7 @@ use scenario_check::Checked;
 use scenario_lang::{ParseRefusal, Scenario, print};
 use std::alloc::Global;
 use wsgi_connection::answer_connection;
-use wsgi_core::ShippedApp;
+use wsgi_core::{Session, ShippedApp};
 
 /// The most bytes of a text.
 const MOST_BYTES: usize = 1048576;
@@ -66,6 +67,8 @@ fn decides<S: Source, K: Sink>(
         IsOfConnection result (S.remaining input.old) (S.remaining input.new) (K.written out.old) (K.written out.new) }
     ensures read_fault { number_of result ≡ 4 → HasRisen (S.faults input.old) (S.faults input.new) }
     ensures write_fault { number_of result ≡ 5 → HasRisen (K.faults out.old) (K.faults out.new) }
+    ensures unread { (command : TextCommand) → command_of (map string_bytes words.now) ≡ Some (Command.Text command) → number_of result ≡ 4 → K.written out.new ≡ K.written out.old }
+    ensures unprinted { command_of (map string_bytes words.now) ≡ Some (Command.Text TextCommand.Format) → number_of result ≢ 0 → number_of result ≢ 5 → K.written out.new ≡ K.written out.old }
     ensures explained { IsExplained result }
     ensures read_whole { (command : TextCommand) → command_of (map string_bytes words.now) ≡ Some (Command.Text command) →
         (left : List ℕ) → S.remaining input.old ≡ Some left → number_of result ≢ 4 → number_of result ≢ 7 → S.remaining input.new ≡ Some (drop most_read left) }
@@ -76,7 +79,14 @@ fn decides<S: Source, K: Sink>(
         None => Verdict::Usage,
         Some(Command::Text(command)) => answers_input(alloc, command, input, out),
         Some(Command::Wsgi) => {
-            Verdict::Connection(answer_connection(alloc, NO_PORT, input, out, &ShippedApp))
+            let end = answer_connection::<Session, S, K, ShippedApp>(
+                alloc,
+                NO_PORT,
+                input,
+                out,
+                &ShippedApp,
+            );
+            Verdict::Connection(end)
         }
     }
 }
@@ -91,6 +101,8 @@ fn answers_input<S: Source, K: Sink>(
     ensures answer { (left : List ℕ) → S.remaining input.old ≡ Some left →
         Decided result (answer_to_text command (take most_read left)) (K.written out.old) (K.written out.new) }
     ensures command { number_of result ≢ 2 }
+    ensures unread { number_of result ≡ 4 → K.written out.new ≡ K.written out.old }
+    ensures unprinted { command ≡ TextCommand.Format → number_of result ≢ 0 → number_of result ≢ 5 → K.written out.new ≡ K.written out.old }
     ensures explained { IsExplained result }
     ensures read_fault { number_of result ≡ 4 → HasRisen (S.faults input.old) (S.faults input.new) }
     ensures write_fault { number_of result ≡ 5 → HasRisen (K.faults out.old) (K.faults out.new) }
@@ -110,6 +122,7 @@ fn answers_text<K: Sink>(alloc: Global, command: TextCommand, bytes: &[u8], out:
     ensures answer { Decided result (answer_to_text command bytes.now) (K.written out.old) (K.written out.new) }
     ensures command { number_of result ≢ 2 }
     ensures read { number_of result ≢ 4 }
+    ensures unprinted { command ≡ TextCommand.Format → number_of result ≢ 0 → number_of result ≢ 5 → K.written out.new ≡ K.written out.old }
     ensures explained { IsExplained result }
     ensures write_fault { number_of result ≡ 5 → HasRisen (K.faults out.old) (K.faults out.new) }
     ensures never_falls { K.faults out.old ≤ K.faults out.new }
@@ -140,6 +153,7 @@ fn answers_scenario<K: Sink>(
     ensures answer { Decided result (answer_to_scenario command checked) (K.written out.old) (K.written out.new) }
     ensures command { number_of result ≢ 2 }
     ensures read { number_of result ≢ 4 }
+    ensures unprinted { command ≡ TextCommand.Format → number_of result ≢ 0 → number_of result ≢ 5 → K.written out.new ≡ K.written out.old }
     ensures explained { IsExplained result }
     ensures write_fault { number_of result ≡ 5 → HasRisen (K.faults out.old) (K.faults out.new) }
     ensures never_falls { K.faults out.old ≤ K.faults out.new }
@@ -171,6 +185,7 @@ fn formats<K: Sink>(alloc: Global, scenario: &Scenario, out: &mut K) -> Verdict
     ensures answer { Decided result (formatted scenario.now) (K.written out.old) (K.written out.new) }
     ensures command { number_of result ≢ 2 }
     ensures read { number_of result ≢ 4 }
+    ensures unprinted { number_of result ≢ 0 → number_of result ≢ 5 → K.written out.new ≡ K.written out.old }
     ensures explained { IsExplained result }
     ensures write_fault { number_of result ≡ 5 → HasRisen (K.faults out.old) (K.faults out.new) }
     ensures never_falls { K.faults out.old ≤ K.faults out.new }
@@ -205,22 +220,53 @@ fn memory_line() -> &'static [u8]
     b"gvr: out of memory\n"
 }
 
-/// The line of the verdict is written to err, and its status answered.
-fn tells<E: Sink>(alloc: Global, verdict: Verdict, err: &mut E) -> u8
-    requires { IsExplained verdict }
-    ensures line { HasLine result verdict (E.written err.old) (E.written err.new) }
-    ensures failed { FailsLine result verdict (E.faults err.old) (E.faults err.new) }
+/// The line of a write that failed, which takes no memory.
+fn write_fault_line() -> &'static [u8]
+    ensures { result.now ≡ write_fault_line }
+{
+    b"gvr: write fault\n"
+}
+
+/// Tries the verdict's line, once.
+fn tries<E: Sink>(verdict: Verdict, line: &[u8], err: &mut E) -> u8
+    requires line { line.now ≡ line_of verdict }
+    requires has_line { number_of verdict ≢ 0 }
+    ensures told { IsTold result verdict (E.written err.old) (E.written err.new) (E.faults err.old) (E.faults err.new) }
     ensures never_falls { E.faults err.old ≤ E.faults err.new }
 {
+    match sends(err, line) {
+        Ok(()) => verdict.number(),
+        Err(_) => 5,
+    }
+}
+
+/// Tells the verdict where there is no memory for its line: a write that failed has one that takes none, and any
+/// other verdict is want of memory.
+fn tells_without_memory<E: Sink>(verdict: Verdict, err: &mut E) -> u8
+    requires has_line { number_of verdict ≢ 0 }
+    ensures told { (w : AnyVerdict) × IsOr verdict w × IsTold result w (E.written err.old) (E.written err.new) (E.faults err.old) (E.faults err.new) }
+    ensures never_falls { E.faults err.old ≤ E.faults err.new }
+{
+    if verdict.number() == 5 {
+        return tries(verdict, write_fault_line(), err);
+    }
+    tries(Verdict::Ran(End::Memory), memory_line(), err)
+}
+
+/// Tells the verdict: its line goes to err, where it has one, and its status is answered. Status 0 has no line, and err
+/// is left alone then.
+fn tells<E: Sink>(alloc: Global, verdict: Verdict, err: &mut E) -> u8
+    requires { IsExplained verdict }
+    ensures told { (w : AnyVerdict) × IsOr verdict w × IsTold result w (E.written err.old) (E.written err.new) (E.faults err.old) (E.faults err.new) }
+    ensures silent { number_of verdict ≡ 0 → (result ≡ 0) × (E.faults err.new ≡ E.faults err.old) }
+    ensures never_falls { E.faults err.old ≤ E.faults err.new }
+{
+    if verdict.number() == 0 {
+        return 0;
+    }
     match verdict.line(alloc) {
-        Ok(line) => match sends(err, line.as_slice()) {
-            Ok(()) => verdict.number(),
-            Err(_) => 5,
-        },
-        Err(_) => match sends(err, memory_line()) {
-            Ok(()) => 7,
-            Err(_) => 5,
-        },
+        Ok(line) => tries(verdict, line.as_slice(), err),
+        Err(_) => tells_without_memory(verdict, err),
     }
 }
 
@@ -274,11 +320,22 @@ pub fn gvr<S: Source, K: Sink, E: Sink>(
     ensures answer { (left : List ℕ) → S.remaining input.old ≡ Some left →
         IsAnswered result (answer_to (command_of (map string_bytes words.now)) left)
         (K.written out.old) (K.written out.new) (E.written err.old) (E.written err.new) }
+    // It ended with a verdict, which the streams bear out, and whose line was tried on err.
+    ensures ended { Ended result (command_of (map string_bytes words.now)) (S.remaining input.old) (S.remaining input.new)
+        (K.written out.old) (K.written out.new) (E.written err.old) (E.written err.new)
+        (S.faults input.old) (S.faults input.new) (K.faults out.old) (K.faults out.new) (E.faults err.old) (E.faults err.new) }
     ensures fault_line { HasFaultLine result (E.written err.old) (E.written err.new) }
+    // Status 0 has no line on err, and err is left alone.
+    ensures silent { result ≡ 0 → E.faults err.new ≡ E.faults err.old }
+    // A text that could not be read leaves out as it was; so does `fmt` with every status but 0 and 5.
+    ensures unread { (command : TextCommand) → command_of (map string_bytes words.now) ≡ Some (Command.Text command) → result ≡ 4 → K.written out.new ≡ K.written out.old }
+    ensures unprinted { command_of (map string_bytes words.now) ≡ Some (Command.Text TextCommand.Format) → result ≢ 0 → result ≢ 5 → K.written out.new ≡ K.written out.old }
     ensures usage_only { result ≡ 2 → command_of (map string_bytes words.now) ≡ None }
     ensures usage_always { command_of (map string_bytes words.now) ≡ None → (result ≡ 2) ⊎ (result ≡ 5) ⊎ (result ≡ 7) }
     ensures read_fault { result ≡ 4 → HasRisen (S.faults input.old) (S.faults input.new) }
-    ensures write_fault { result ≡ 5 → HasRisen (K.faults out.old) (K.faults out.new) ⊎ HasRisen (E.faults err.old) (E.faults err.new) }
+    // Status 5 comes where out failed, whatever became of its line; or where err failed at the line of another status.
+    ensures write_fault { result ≡ 5 →
+        FailsToWrite (E.written err.old) (E.written err.new) (K.faults out.old) (K.faults out.new) (E.faults err.old) (E.faults err.new) }
     // With `run` and `fmt`, every status but 4, 5 and 7 comes only where the input was read to its end or to one byte past the most that a text may have.
     ensures read_whole { (command : TextCommand) → command_of (map string_bytes words.now) ≡ Some (Command.Text command) → result ≢ 4 → result ≢ 5 → result ≢ 7 →
         (left : List ℕ) → S.remaining input.old ≡ Some left → S.remaining input.new ≡ Some (drop most_read left) }

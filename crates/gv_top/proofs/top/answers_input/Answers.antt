@@ -1,9 +1,10 @@
+use Rattle.std.proofs.Common.{refl}
 use Rattle.gv_io.proofs.StreamLaws.{AppendsPrefix-nothing}
 use Rattle.gv_top.proofs.Deciding.{left_behind}
 use Rattle.gv_top.proofs.top.answers_input.Goals as goal
 
 pub returns-in-Err-Fault-clause-answer : goal.returns-in-Err-Fault-clause-answer
-returns-in-Err-Fault-clause-answer g c = λ left told. AppendsPrefix-nothing _ _
+returns-in-Err-Fault-clause-answer g c = λ left told. refl
 
 pub returns-in-Err-Memory-clause-answer : goal.returns-in-Err-Memory-clause-answer
 returns-in-Err-Memory-clause-answer g c = λ left told. AppendsPrefix-nothing _ _

@@ -1,50 +1,72 @@
 use Rattle.std.proofs.Common.{arith}
 use Rattle.gv_top.specs.declared.words.TextCommand.{TextCommand}
 use Rattle.gv_top.proofs.ReadTexts.{answered_as, answered_so, refuses_the_rest, runs_no_other, runs_the_text}
-use Rattle.gv_top.proofs.Tops.{answered, answers_connection, by_status, fault_line, status_of_verdict, verdict_of, written_5}
+use Rattle.gv_top.proofs.Tops.{answers_connection, ended, fails_to_write, fault_line, is_answered, is_silent, prints_nothing, reads_whole, status_is, usage_status}
 use Rattle.gv_top.proofs.top.gvr.Goals as goal
+
+pub returns-clause-ended : goal.returns-clause-ended
+returns-clause-ended g c =
+    let t = c.tells.ensures.told in
+    let d = c.decides-verdict.ensures in
+    ended _ c.decides-verdict.result t.0 _ _ _ _ _ _ _ _ _ _ _ _ _
+    (record {
+      answer = d.answer;
+      usage = d.usage.0;
+      read_fault = d.read_fault;
+      write_fault = d.write_fault;
+      unread = d.unread;
+      unprinted = d.unprinted;
+      read_whole = λ text is h4 h7 left told. d.read_whole text is left told h4 h7;
+    }) t.1 t.2
 
 pub returns-clause-trace : goal.returns-clause-trace
 returns-clause-trace g c = λ budgets s left runs told text well built.
-    answered_so _ _ (TextCommand.Run budgets) _ left _ _ _ _ runs (runs_the_text budgets s _ text well built)
-    (answered _ _ _ _ _ _ _ (c.decides-verdict.ensures.answer left told) c.tells.ensures.line)
+    answered_so _ _ (TextCommand.Run budgets) _ left _ _ _ _ runs (runs_the_text budgets s _ text well built) (is_answered (returns-clause-ended g c) left told)
 
 pub returns-clause-not_built : goal.returns-clause-not_built
 returns-clause-not_built g c = λ budgets s left n runs told text well other.
-    answered_so _ _ (TextCommand.Run budgets) _ left _ _ _ _ runs (runs_no_other budgets s _ n text well other)
-    (answered _ _ _ _ _ _ _ (c.decides-verdict.ensures.answer left told) c.tells.ensures.line)
+    answered_so _ _ (TextCommand.Run budgets) _ left _ _ _ _ runs (runs_no_other budgets s _ n text well other) (is_answered (returns-clause-ended g c) left told)
 
 pub returns-clause-formatted : goal.returns-clause-formatted
 returns-clause-formatted g c = λ s left formats told text well.
-    answered_so _ _ TextCommand.Format _ left _ _ _ _ formats (answered_as TextCommand.Format s _ text well)
-    (answered _ _ _ _ _ _ _ (c.decides-verdict.ensures.answer left told) c.tells.ensures.line)
+    answered_so _ _ TextCommand.Format _ left _ _ _ _ formats (answered_as TextCommand.Format s _ text well) (is_answered (returns-clause-ended g c) left told)
 
 pub returns-clause-refused : goal.returns-clause-refused
 returns-clause-refused g c = λ command left wanted told none.
     let r = refuses_the_rest command _ none in
-    (r.0, r.1, answered_so _ _ command _ left _ _ _ _ wanted r.2 (answered _ _ _ _ _ _ _ (c.decides-verdict.ensures.answer left told) c.tells.ensures.line))
+    (r.0, r.1, answered_so _ _ command _ left _ _ _ _ wanted r.2 (is_answered (returns-clause-ended g c) left told))
 
 pub returns-clause-connection : goal.returns-clause-connection
-returns-clause-connection g c = λ named. answers_connection _ _ _ _ _ _ _ _ c.tells.ensures.line (c.decides-verdict.ensures.connection named)
+returns-clause-connection g c = λ named.
+    let t = c.tells.ensures.told in answers_connection _ _ t.0 _ _ _ _ _ _ _ _ t.1 t.2 (c.decides-verdict.ensures.connection named)
 
 pub returns-clause-answer : goal.returns-clause-answer
-returns-clause-answer g c = λ left told. answered _ _ _ _ _ _ _ (c.decides-verdict.ensures.answer left told) c.tells.ensures.line
+returns-clause-answer g c = λ left told. is_answered (returns-clause-ended g c) left told
 
 pub returns-clause-fault_line : goal.returns-clause-fault_line
-returns-clause-fault_line g c = fault_line _ _ _ _ c.tells.ensures.line
+returns-clause-fault_line g c = fault_line (returns-clause-ended g c)
+
+pub returns-clause-silent : goal.returns-clause-silent
+returns-clause-silent g c = λ z. let t = c.tells.ensures.told in (c.tells.ensures.silent (is_silent _ _ t.0 _ _ _ _ t.1 t.2 z)).1
+
+pub returns-clause-unread : goal.returns-clause-unread
+returns-clause-unread g c = λ command wanted e.
+    let h = returns-clause-ended g c in h.came_to.unread command wanted (status_is 4 h e (λ z. omega arith))
+
+pub returns-clause-unprinted : goal.returns-clause-unprinted
+returns-clause-unprinted g c = λ formats h0 h5. prints_nothing (returns-clause-ended g c) formats h0 h5
 
 pub returns-clause-usage_only : goal.returns-clause-usage_only
-returns-clause-usage_only g c = λ e. c.decides-verdict.ensures.usage.0 (verdict_of _ 2 _ _ _ c.tells.ensures.line e (λ h. omega arith) (λ h. omega arith))
+returns-clause-usage_only g c = λ e. let h = returns-clause-ended g c in h.came_to.usage (status_is 2 h e (λ z. omega arith))
 
 pub returns-clause-usage_always : goal.returns-clause-usage_always
-returns-clause-usage_always g c = λ none. status_of_verdict _ 2 _ _ _ c.tells.ensures.line (c.decides-verdict.ensures.usage.1 none)
+returns-clause-usage_always g c = λ none. let t = c.tells.ensures.told in usage_status _ _ t.0 _ _ _ _ t.1 t.2 (c.decides-verdict.ensures.usage.1 none)
 
 pub returns-clause-read_fault : goal.returns-clause-read_fault
-returns-clause-read_fault g c = λ e. c.decides-verdict.ensures.read_fault (verdict_of _ 4 _ _ _ c.tells.ensures.line e (λ h. omega arith) (λ h. omega arith))
+returns-clause-read_fault g c = λ e. let h = returns-clause-ended g c in h.came_to.read_fault (status_is 4 h e (λ z. omega arith))
 
 pub returns-clause-write_fault : goal.returns-clause-write_fault
-returns-clause-write_fault g c = λ e. written_5 _ _ _ _ _ _ c.tells.ensures.failed c.decides-verdict.ensures.write_fault e
+returns-clause-write_fault g c = λ e. fails_to_write (returns-clause-ended g c) e
 
 pub returns-clause-read_whole : goal.returns-clause-read_whole
-returns-clause-read_whole g c = λ command wanted h4 h5 h7 left told.
-    by_status _ _ _ _ _ c.tells.ensures.line (c.decides-verdict.ensures.read_whole command wanted left told) h4 h5 h7
+returns-clause-read_whole g c = λ command wanted h4 h5 h7 left told. reads_whole command (returns-clause-ended g c) wanted h4 h5 h7 left told

@@ -1,20 +1,21 @@
 //! Worked runs through the call.
 ghost use Rattle.std.specs.Prelude.{◌<◌};
 
-use crate::gvr;
 use gv_io::{MemorySink, MemorySource};
+use gv_top::gvr;
 use std::alloc::{AllocError, Global};
 use std::test::Fail;
 
+/// What a call left.
 #[derive(Drop)]
-struct Called {
-    status: u8,
-    out: MemorySink,
-    err: MemorySink,
+pub(crate) struct Called {
+    pub(crate) status: u8,
+    pub(crate) out: MemorySink,
+    pub(crate) err: MemorySink,
 }
 
 /// The words of a line, which single blanks part.
-fn words_of(alloc: Global, line: &str) -> Result<Vec<String>, AllocError> {
+pub(crate) fn words_of(alloc: Global, line: &str) -> Result<Vec<String>, AllocError> {
     let mut words = Vec::new(alloc);
     for word in line.split_whitespace() {
         words.push(String::from_str(alloc, word)?)?;
@@ -23,7 +24,7 @@ fn words_of(alloc: Global, line: &str) -> Result<Vec<String>, AllocError> {
 }
 
 /// Calls with the words of a line over these bytes, in pieces of so many, with a sink of so much room.
-fn call(
+pub(crate) fn call(
     alloc: Global,
     line: &str,
     text: &str,
@@ -42,7 +43,7 @@ fn call(
     Ok(Called { status, out, err })
 }
 
-const PRINTS_ONE: &str = "def main\nprint 1\nend\n";
+pub(crate) const PRINTS_ONE: &str = "def main\nprint 1\nend\n";
 
 const TWO_SLEEPERS: &str =
     "def w n\nprint n\nsleep 0\nprint n\nend\ndef main\na <- spawn w 1\nb <- spawn w 2\njoin a\njoin b\nend\n";

@@ -1,8 +1,8 @@
 //! Connections through the call.
 ghost use Rattle.std.specs.Prelude.{◌<◌};
 
-use crate::gvr;
 use gv_io::{MemorySink, MemorySource};
+use gv_top::gvr;
 use std::alloc::{AllocError, Global};
 use std::test::Fail;
 
@@ -116,7 +116,7 @@ fn connections_in_any_pieces(rt: HostRuntime) -> Result<(), Fail> {
     Ok(())
 }
 
-const HELLO: &str =
+pub(crate) const HELLO: &str =
     "HTTP/1.1 200 OK\r\nContent-Type: text/plain\r\nContent-Length: 6\r\n\r\nhello\n";
 
 /// Fifteen requests of 1048576 bytes each, and then this text with so many bytes behind it.

@@ -1,0 +1,13 @@
+//! Tests of the call that the program makes.
+#![tactic(auto)]
+
+#[cfg(test)]
+mod connection_tests;
+#[cfg(test)]
+mod fault_tests;
+#[cfg(test)]
+mod newcomer_tests;
+#[cfg(test)]
+mod profile_tests;
+#[cfg(test)]
+mod run_tests;
