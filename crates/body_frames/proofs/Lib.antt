@@ -1,2 +1,5 @@
-pub mod Gone
-pub mod Made
+pub mod Answered
+pub mod AtMoves
+pub mod Coming
+pub mod Few
+pub mod Keeping

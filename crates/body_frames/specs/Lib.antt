@@ -1,5 +1,8 @@
-pub mod Going
-pub mod Held
+pub mod Answers
+pub mod Few
+pub mod Laws
 pub mod Places
 pub mod Standings
-pub mod Timeouts
+pub mod Steady
+pub mod Steps
+pub mod Unwinding

@@ -5,7 +5,7 @@ use Rattle.gv_values.specs.declared.value.Outcome.{Outcome}
 use Rattle.machine.specs.declared.state.Frame.{Frame}
 use Rattle.machine.specs.declared.state.Local.{Local}
 use Rattle.machine.specs.declared.state.Todo.{Todo}
-use Rattle.machine.specs.Bodies.{Step}
+use Rattle.machine.specs.declared.request.Request.{Request}
 use Rattle.machine.specs.BodyMoves.{Did}
 use Rattle.machine.specs.Ends.{outcome_of_leaving}
 use Rattle.machine.specs.Unwinding.{Unwound, unwind}
@@ -32,12 +32,12 @@ pub data Came : Type 0 where
   -- it stays in the body
   Comes : Place → Came
   -- it asks, and stands so until it is answered
-  Asks : Step → Frame → Came
+  Asks : Request → Frame → Came
   -- it enters a timeout block, with its time if it has one
   Enters : Option ℕ → Entered → Came
 
--- the same of what the move did
+-- what comes of what the move did
 abbrev pub came_by : List Local → Did → Came
 came_by locals (Did.GoesOn how after todo) = Came.Comes (place_of (unwind todo [] how after))
 came_by locals (Did.Enters ms silent body todo) = Came.Enters ms (record { silent = silent; body = body; locals = locals; todo = todo })
-came_by locals (Did.Asks request x todo) = Came.Asks (Step.Asks request) (record { locals = locals; todo = todo; gives = x })
+came_by locals (Did.Asks request x todo) = Came.Asks request (record { locals = locals; todo = todo; gives = x })

@@ -1,14 +1,49 @@
--- What the answers of this crate are seen as.
-use Rattle.body_moves.specs.Requests.{asking}
-use Rattle.body_frames.specs.Places.{Place, Came}
-use Rattle.body_frames.specs.declared.Reached.{Reached}
-use Rattle.body_frames.specs.declared.Moved.{Moved}
+-- What the types of the code stand for.
+use Rattle.std.specs.Prelude.{ℕ}
+use Rattle.machine.specs.Bodies.{Body, Step, Stepped}
+use Rattle.machine.specs.Unwinding.{Unwound}
+use Rattle.body_frames.specs.declared.frame.Standing.{Standing}
+use Rattle.body_frames.specs.declared.places.Moved.{Moved}
+use Rattle.body_frames.specs.declared.places.Reached.{Reached}
+use Rattle.body_frames.specs.declared.stack.Made.{Made}
+use Rattle.body_frames.specs.declared.stack.Stack.{Stack}
+use Rattle.body_frames.specs.declared.step.Step.{Step as Told}
+use Rattle.body_frames.specs.Places.{Came, Place}
+use Rattle.body_frames.specs.Steps.{step_of}
+use Rattle.body_frames.specs.Unwinding.{unwound_of}
 
+-- the body of the definitions
+abbrev pub body_of : Standing → Stack → Body
+body_of (Standing.Ready at) s = Body.Ready (unwound_of at s.left s.locals s.todo)
+body_of (Standing.Waits x) s = Body.Waits (record { locals = s.locals; todo = s.todo; gives = x })
+body_of (Standing.Enters silent body) s = Body.Enters silent body s.locals s.todo
+body_of Standing.Gone s = Body.Gone
+
+-- a step, where the body then stands, and the moves that are left
+abbrev pub stepped : Told → Body → ℕ → Stepped
+stepped step body moves = record { step = step_of step; body = body; moves = moves }
+
+-- what came of a move, where the body goes on so by itself
+abbrev pub made_of : ℕ → (Unwound → Stepped) → Made → Stack → Stepped
+made_of moves go (Made.Asks request x) s = record { step = Step.Asks request; body = Body.Waits (record { locals = s.locals; todo = s.todo; gives = x }); moves = moves }
+made_of moves go (Made.Enters ms silent body) s = record { step = Step.EntersTimeout ms silent; body = Body.Enters silent body s.locals s.todo; moves = moves }
+made_of moves go (Made.Further at) s = go (unwound_of at s.left s.locals s.todo)
+
+-- a body stands where it goes on
+abbrev pub stands : Unwound → Stepped
+stands u = record { step = Step.MovesOut; body = Body.Ready u; moves = 0 }
+
+-- the body after the move
+abbrev pub body_after : Made → Stack → Body
+body_after made s = (made_of 0 stands made s).body
+
+-- where a body came to
 abbrev pub reached_of : Reached → Place
 reached_of (Reached.Move left moving) = Place.AtMove left moving
 reached_of (Reached.End left outcome) = Place.AtEnd left outcome
 
+-- what came of its move
 abbrev pub moved_of : Moved → Came
 moved_of (Moved.Comes reached) = Came.Comes (reached_of reached)
-moved_of (Moved.Asks request parked) = Came.Asks (asking request) parked
+moved_of (Moved.Asks request parked) = Came.Asks request parked
 moved_of (Moved.Enters time entering) = Came.Enters time entering

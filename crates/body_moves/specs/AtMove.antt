@@ -3,7 +3,7 @@ use Rattle.std.specs.Prelude.{List, ◌∷◌, ⊤}
 use Rattle.scenario_tree.specs.declared.tree.Action.{out-Action}
 use Rattle.scenario_tree.specs.declared.tree.Statement.{out-Statement}
 use Rattle.machine.specs.declared.state.Todo.{Todo}
-use Rattle.machine_arguments.specs.Few.{HasFewParts}
+use Rattle.body_values.specs.Few.{HasFewParts}
 
 -- a statement, or the test of a while, stands at the head of what is still to do
 abbrev pub IsAtMove : List Todo → Type 0

@@ -12,7 +12,6 @@ use Rattle.machine.specs.Unwinding.{Unwound, unwind}
 use Rattle.machine.specs.Bodies.{Body, Step, Stepped, after_move}
 use Rattle.body_moves.specs.declared.chosen.Chosen.{Chosen}
 use Rattle.machine.specs.State.{Name}
-use Rattle.body_moves.specs.Requests.{asking}
 
 -- with this to do after the statement, and these moves left
 abbrev pub came_of : ℕ → List Local → (Unwound → Stepped) → List Todo → Chosen → Stepped
@@ -22,7 +21,7 @@ came_of moves locals go todo (Chosen.Opens entries) = go (unwind (entries ++ tod
 came_of moves locals go todo (Chosen.Enters ms silent body) =
     record { step = Step.EntersTimeout ms silent; body = Body.Enters silent body locals todo; moves = moves }
 came_of moves locals go todo (Chosen.Asks request x) =
-    record { step = asking request; body = Body.Waits (record { locals = locals; todo = todo; gives = x }); moves = moves }
+    record { step = Step.Asks request; body = Body.Waits (record { locals = locals; todo = todo; gives = x }); moves = moves }
 
 -- the choice does what the move does, whatever is to do after it
 abbrev pub DoesAs : Chosen → List Local → (List Todo → Did) → Type 0

@@ -1,3 +1,2 @@
 pub mod AtMove
 pub mod Chosen
-pub mod Requests

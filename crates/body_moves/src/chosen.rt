@@ -8,19 +8,19 @@ ghost use Rattle.machine.specs.declared.state.Leaving.TheVariants as leaving;
 ghost use Rattle.machine.specs.declared.state.Todo.TheVariants as undone;
 ghost use Rattle.machine.specs.Bodies.{around, after_move, Stepped as Went};
 ghost use Rattle.machine.specs.Unwinding.{Unwound as Place};
-ghost use Rattle.machine.specs.BodyMoves.{body_move, action_move, command_move, while_move, raised, timed, at_once, values};
+ghost use Rattle.machine.specs.BodyMoves.{body_move, action_move, command_move, while_move, raised, timed, at_once, link_kind, values};
 ghost use Rattle.scenario_tree.specs.Limits.{most_parameters};
-ghost use Rattle.machine_arguments.specs.Few.{HasFewArguments, HasFewParts};
+ghost use Rattle.body_values.specs.Few.{HasFewArguments, HasFewParts};
 ghost use Rattle.body_moves.specs.AtMove.{HasFewAhead, IsAtMove};
 ghost use Rattle.body_moves.specs.Chosen.{DoesAs, came_of, after_first, branch_move, giving_move};
 
-use crate::arguments::Arguments;
 use crate::copies::{copy_block, copy_excepts};
-use crate::request::Request;
 use body_values::{Code, Look};
-use gv_values::{FaultKind, Name, Outcome, Value};
+use gv_values::{FaultKind, LinkKind, Name, Outcome, Value};
+use machine::arguments::Arguments;
+use machine::request::Request;
 use machine::state::{Leaving, Local, Todo};
-use scenario_tree::{Action, Command, Except, Expression, Giving, Items, Statement, Wait};
+use scenario_tree::{Action, Command, Except, Expression, Giving, Items, LinkEnd, Statement, Wait};
 use std::alloc::{AllocError, Global};
 
 /// What a move does.
@@ -53,6 +53,17 @@ fn at_once(now: bool) -> Wait
     if now { Wait::Now } else { Wait::Block }
 }
 
+/// The kind of a link whose function is called.
+fn link_kind(end: LinkEnd) -> LinkKind
+    ensures { result ≡ link_kind end }
+{
+    match end {
+        LinkEnd::Any => LinkKind::Any,
+        LinkEnd::Value => LinkKind::Value,
+        LinkEnd::Fault => LinkKind::Fault,
+    }
+}
+
 /// `raise`: the operand is a fault.
 fn raised(value: Value) -> Leaving
     ensures { result ≡ raised value }
@@ -68,7 +79,7 @@ macro_rules! value_of {
     ($outcome:expr) => {
         match $outcome {
             Outcome::Value(value) => value,
-            Outcome::Fault(kind) => return Ok(raising(kind)),
+            Outcome::Fault(kind) => return Ok(raise(kind)),
         }
     };
 }
@@ -78,13 +89,13 @@ macro_rules! values_of {
     ($values:expr) => {
         match $values {
             Ok(values) => values,
-            Err(kind) => return Ok(raising(kind)),
+            Err(kind) => return Ok(raise(kind)),
         }
     };
 }
 
 /// What the next move of the body does.
-pub fn chooses<L: Look>(
+pub fn choose_move<L: Look>(
     alloc: Global,
     code: &Code,
     look: &L,
@@ -98,16 +109,16 @@ pub fn chooses<L: Look>(
 {
     match todo {
         [Todo::Statements(statements), ..] => match statements.as_slice() {
-            [statement, ..] => Ok(chooses_action(alloc, code, look, locals, &statement.action)?),
+            [statement, ..] => Ok(choose_action(alloc, code, look, locals, &statement.action)?),
             [] => unreachable!(),
         },
-        [Todo::Again(test, body), ..] => Ok(chooses_again(alloc, code, look, locals, test, body)?),
+        [Todo::Again(test, body), ..] => Ok(choose_again(alloc, code, look, locals, test, body)?),
         _ => unreachable!(),
     }
 }
 
 #[tactic(auto, using(crate::proofs::Actions::command_out, crate::proofs::Actions::giving_out, crate::proofs::Actions::if_out, crate::proofs::Actions::while_out, crate::proofs::Actions::try_out, crate::proofs::Actions::timeout_out))]
-fn chooses_action<L: Look>(
+fn choose_action<L: Look>(
     alloc: Global,
     code: &Code,
     look: &L,
@@ -118,15 +129,15 @@ fn chooses_action<L: Look>(
     ensures { IfOk result (λ chosen. DoesAs chosen locals.now (action_move (out-Action action.now) (around code.now (L.answers look.now) locals.now))) }
 {
     match action {
-        Action::Command(command) => Ok(chooses_command(alloc, code, look, locals, command)?),
+        Action::Command(command) => Ok(choose_command(alloc, code, look, locals, command)?),
         Action::Giving(name, giving) => {
-            Ok(chooses_giving(alloc, code, look, locals, *name, giving)?)
+            Ok(choose_giving(alloc, code, look, locals, *name, giving)?)
         }
         Action::If(test, yes, no) => {
-            Ok(chooses_branch(alloc, code, look, locals, test, yes, no)?)
+            Ok(choose_branch(alloc, code, look, locals, test, yes, no)?)
         }
-        Action::While(test, body) => Ok(chooses_again(alloc, code, look, locals, test, body)?),
-        Action::Try(body, excepts, finally) => Ok(guarded(alloc, body, excepts, finally)?),
+        Action::While(test, body) => Ok(choose_again(alloc, code, look, locals, test, body)?),
+        Action::Try(body, excepts, finally) => Ok(guard(alloc, body, excepts, finally)?),
         Action::Timeout(time, silent, body) => {
             Ok(Chosen::Enters(*time, *silent, copy_block(alloc, body)?))
         }
@@ -134,7 +145,7 @@ fn chooses_action<L: Look>(
 }
 
 /// One evaluation of a while's condition.
-fn chooses_again<L: Look>(
+fn choose_again<L: Look>(
     alloc: Global,
     code: &Code,
     look: &L,
@@ -152,13 +163,13 @@ fn chooses_again<L: Look>(
             Ok(Chosen::Opens(entries))
         }
         Outcome::Value(Value::Bool(false)) => Ok(Chosen::Goes(Leaving::Normally)),
-        Outcome::Value(_) => Ok(raising(FaultKind::TypeError)),
-        Outcome::Fault(kind) => Ok(raising(kind)),
+        Outcome::Value(_) => Ok(raise(FaultKind::TypeError)),
+        Outcome::Fault(kind) => Ok(raise(kind)),
     }
 }
 
 #[tactic(auto, using(crate::proofs::Branches::raises_past))]
-fn chooses_branch<L: Look>(
+fn choose_branch<L: Look>(
     alloc: Global,
     code: &Code,
     look: &L,
@@ -170,17 +181,17 @@ fn chooses_branch<L: Look>(
     ensures { IfOk result (λ chosen. DoesAs chosen locals.now (branch_move test.now yes.now no.now (around code.now (L.answers look.now) locals.now))) }
 {
     match code.meaning(alloc, look, locals, test)? {
-        Outcome::Value(Value::Bool(true)) => Ok(opens(alloc, copy_block(alloc, yes)?)?),
+        Outcome::Value(Value::Bool(true)) => Ok(open(alloc, copy_block(alloc, yes)?)?),
         Outcome::Value(Value::Bool(false)) => match no {
-            Some(no) => Ok(opens(alloc, copy_block(alloc, no)?)?),
-            None => Ok(opens(alloc, Items::new(alloc))?),
+            Some(no) => Ok(open(alloc, copy_block(alloc, no)?)?),
+            None => Ok(open(alloc, Items::new(alloc))?),
         },
-        Outcome::Value(_) => Ok(raising(FaultKind::TypeError)),
-        Outcome::Fault(kind) => Ok(raising(kind)),
+        Outcome::Value(_) => Ok(raise(FaultKind::TypeError)),
+        Outcome::Fault(kind) => Ok(raise(kind)),
     }
 }
 
-fn chooses_command<L: Look>(
+fn choose_command<L: Look>(
     alloc: Global,
     code: &Code,
     look: &L,
@@ -260,6 +271,17 @@ fn chooses_command<L: Look>(
         Command::SetParent(child, parent) => Ok(set_parent(
             alloc, code, look, locals, child, parent,
         )?),
+        Command::ChannelPut(name, e) => Ok(Chosen::Asks(
+            Request::ChannelPut(
+                code.object(name),
+                value_of!(code.meaning(alloc, look, locals, e)?),
+            ),
+            None,
+        )),
+        Command::QueueShut(name, immediate) => Ok(Chosen::Asks(
+            Request::QueueShut(code.object(name), *immediate),
+            None,
+        )),
     }
 }
 
@@ -346,7 +368,7 @@ fn set_parent<L: Look>(
     Ok(Chosen::Asks(Request::SetParent(value, second), None))
 }
 
-fn chooses_giving<L: Look>(
+fn choose_giving<L: Look>(
     alloc: Global,
     code: &Code,
     look: &L,
@@ -395,19 +417,24 @@ fn chooses_giving<L: Look>(
         Giving::Link(kind, e, function) => Ok(Chosen::Asks(
             Request::Link(
                 value_of!(code.meaning(alloc, look, locals, e)?),
-                *kind,
+                link_kind(*kind),
                 code.function(function),
             ),
             name,
         )),
         Giving::LinkMark(e, mark) => Ok(Chosen::Asks(
-            Request::LinkMark(value_of!(code.meaning(alloc, look, locals, e)?), *mark),
+            Request::Link(
+                value_of!(code.meaning(alloc, look, locals, e)?),
+                LinkKind::Mark(*mark),
+                0,
+            ),
             name,
         )),
         Giving::LinkSet(e, event) => Ok(Chosen::Asks(
-            Request::LinkSet(
+            Request::Link(
                 value_of!(code.meaning(alloc, look, locals, e)?),
-                code.object(event),
+                LinkKind::Set(code.object(event)),
+                0,
             ),
             name,
         )),
@@ -467,6 +494,10 @@ fn chooses_giving<L: Look>(
         Giving::Raw(function, e) => Ok(raw(alloc, code, look, locals, name, function, e)?),
         Giving::Switch(e, value) => Ok(switch(alloc, code, look, locals, name, e, value)?),
         Giving::Throw(e, fault) => Ok(throw(alloc, code, look, locals, name, e, fault)?),
+        Giving::ChannelGet(channel) => Ok(Chosen::Asks(
+            Request::ChannelGet(code.object(channel)),
+            name,
+        )),
     }
 }
 
@@ -545,14 +576,14 @@ fn arguments_of<L: Look>(
 }
 
 /// The fault is raised at the statement.
-fn raising(kind: FaultKind) -> Chosen
+fn raise(kind: FaultKind) -> Chosen
     ensures { result ≡ choice.Goes (leaving.Raising kind) }
 {
     Chosen::Goes(Leaving::Raising(kind))
 }
 
 /// The block is to do before what follows.
-fn opens(alloc: Global, block: Items<Statement>) -> Result<Chosen, AllocError>
+fn open(alloc: Global, block: Items<Statement>) -> Result<Chosen, AllocError>
     ensures { IfOk result (λ chosen. chosen ≡ choice.Opens (undone.Statements block ∷ [])) }
 {
     let mut entries = Items::new(alloc);
@@ -561,7 +592,7 @@ fn opens(alloc: Global, block: Items<Statement>) -> Result<Chosen, AllocError>
 }
 
 /// A try is entered.
-fn guarded(
+fn guard(
     alloc: Global,
     body: &Items<Statement>,
     excepts: &Items<Except>,

@@ -61,6 +61,8 @@ fn copy_command(alloc: Global, command: &Command) -> Result<Command, AllocError>
         Command::SetParent(child, parent) => {
             Command::SetParent(child.copy(alloc)?, parent.copy(alloc)?)
         }
+        Command::ChannelPut(name, e) => Command::ChannelPut(*name, e.copy(alloc)?),
+        Command::QueueShut(name, immediate) => Command::QueueShut(*name, *immediate),
     })
 }
 
@@ -95,6 +97,7 @@ fn copy_giving(alloc: Global, giving: &Giving) -> Result<Giving, AllocError>
         Giving::Raw(name, e) => Giving::Raw(*name, copy_optional(alloc, e)?),
         Giving::Switch(e, value) => Giving::Switch(e.copy(alloc)?, value.copy(alloc)?),
         Giving::Throw(e, fault) => Giving::Throw(e.copy(alloc)?, copy_optional(alloc, fault)?),
+        Giving::ChannelGet(name) => Giving::ChannelGet(*name),
     })
 }
 

@@ -1,7 +1,7 @@
 //! What bodies are run from.
 ghost use Rattle.std.specs.Prelude.{◌≡◌, ◌<◌, ◌≤◌, ◌^◌, length};
 ghost use Rattle.machine.specs.Expressions.{object_number, function_number};
-ghost use Rattle.machine_arguments.specs.Few.{HasFew, HasFewCalls};
+ghost use Rattle.body_values.specs.Few.{HasFew, HasFewCalls};
 ghost use Rattle.body_values.specs.Functions.{IsFunction, function_at};
 ghost use Rattle.body_values.specs.Small.{IsSmall};
 
@@ -19,17 +19,13 @@ pub struct Code {
 
 impl Model for Code {
     ghost use Rattle.scenario_tree.specs.declared.tree.Scenario.{Scenario};
-    ghost use Rattle.machine_arguments.specs.Few.{HasFewCalls};
+    ghost use Rattle.scenario_tree.specs.Trees.{trees};
+    ghost use Rattle.body_values.specs.Few.{HasFewCalls};
     ghost use Rattle.body_values.specs.Small.{IsSmall};
-    ghost use Rattle.std.specs.Coded.{codes};
-    ghost use Rattle.scenario_tree.specs.contracts.tree.Expression as expression;
-    ghost use Rattle.scenario_tree.specs.contracts.tree.Action as action;
-    ghost use Rattle.scenario_tree.specs.contracts.tree.Except as except;
-    ghost use Rattle.scenario_tree.specs.contracts.tree.Statement as statement;
 
     ghost Value = { Scenario };
 
-    ghost coded = { Prim.hlevel (codes, expression.the_row.coded, action.the_row.coded, except.the_row.coded, statement.the_row.coded) };
+    ghost coded = { Prim.hlevel trees };
 
     ghost view = { λ c. c.scenario };
 
@@ -46,14 +42,21 @@ impl Code {
         Code { scenario }
     }
 
-    /// The number of the object with this name.
+    /// The objects in the order of their declarations.
+    pub fn objects(&self) -> &[Declaration]
+        ensures { result.now ≡ self.now.objects }
+    {
+        self.scenario.objects.as_slice()
+    }
+
+    /// The number of the object with this name, and past the last where there is none.
     pub fn object(&self, name: &Name) -> u32
         ensures { result ≡ object_number name.now self.now.objects }
     {
         place_of_object(name, self.scenario.objects.as_slice()) as u32
     }
 
-    /// The number of the function with this name.
+    /// The number of the function with this name, and past the last where there is none.
     pub fn function(&self, name: &Name) -> u32
         ensures { result ≡ function_number name.now self.now.functions }
     {

@@ -10,12 +10,14 @@ use machine::state::Local;
 use scenario_tree::Items;
 use std::alloc::{AllocError, Global};
 
+/// Whether these are the same bytes.
 pub fn bytes_eq(a: &[u8], b: &[u8]) -> bool
     ensures { result ≡ name_eq a.now b.now }
 {
     a == b
 }
 
+/// Whether these are the same name.
 pub fn name_eq(a: &Name, b: &Name) -> bool
     ensures { result ≡ name_eq a.now b.now }
 {

@@ -1,4 +1,1 @@
-pub mod Answered
-pub mod Keeping
 pub mod Limits
-pub mod Moving

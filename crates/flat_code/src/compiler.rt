@@ -1,14 +1,14 @@
 //! Code from a scenario that is well formed.
 ghost use Rattle.std.specs.Prelude.{◌≡◌, IfOk};
 
-use machine_arguments::calls_have_few;
+use body_frames::Code;
 use body_moves::copy_block;
-use body_values::Code;
+use machine_arguments::calls_have_few;
 use scenario_check::Checked;
 use scenario_tree::{Function, Items, Scenario};
 use std::alloc::{AllocError, Global};
 
-/// The code of a scenario.
+/// The code of a scenario: its objects and functions as they stand. `AllocError`: memory is wanting.
 #[tactic(auto, using(crate::proofs::Limits::well_formed_is_small))]
 pub fn compile(alloc: Global, checked: &Checked) -> Result<Code, AllocError>
     ensures { IfOk result (λ code. code ≡ checked.now) }

@@ -1,18 +1,7 @@
-//! Bodies of greenlets: where one stands between two of its requests, its moves, and raising.
-//!
-//! A frame is a stack of statement lists over the syntax. It knows no hub: what an expression may ask
-//! comes through `Look`, and what a statement wants done is a `Request`.
+//! The code of bodies, from a scenario that is well formed, and the frames that run it.
 #![tactic(auto)]
 
 mod compiler;
-mod frame;
-mod step;
-#[cfg(test)]
-mod tests;
-mod unwind;
 
+pub use body_frames::{Arguments, Code, Frame, Input, Look, Request, Step};
 pub use compiler::compile;
-pub use body_moves::{Arguments, Request};
-pub use body_values::{Code, Look};
-pub use frame::Frame;
-pub use step::{Input, Step};

@@ -2,7 +2,7 @@
 use Rattle.std.specs.Prelude.{◌≡◌, ℕ, ◌+◌, ◌-◌, ◌≤◌, ◌==◌, Bool, true, List, [], ◌∷◌, ◌++◌, length, take, filter, Option, Some, None, if◌then◌else◌}
 use Rattle.std.specs.List.{Contains}
 use Rattle.gv_values.specs.declared.value.Value.{Value}
-use Rattle.machine.specs.Waits.{without_next}
+use Rattle.machine.specs.Objects.{without_next}
 use Rattle.scenario_tree.specs.declared.tree.QueueKind.{QueueKind}
 use Rattle.linked_items.specs.Items.{items_of, without, without_entry, Differ}
 use Rattle.wait_lines.specs.Lines.{told_left}

@@ -3,7 +3,7 @@ ghost use Rattle.std.specs.Prelude.{◌≡◌, ◌≢◌, ℕ, ◌+◌, ◌-◌,
 ghost use Rattle.std.specs.List.{Contains};
 ghost use Rattle.linked_items.specs.Items.{items_of, Differ};
 ghost use Rattle.waiters.specs.OneSide.{IsAmongFirst};
-ghost use Rattle.machine.specs.Waits.{next_value};
+ghost use Rattle.machine.specs.Objects.{next_value};
 ghost use Rattle.gqueues.specs.Seen.{SeenQueue, IsSound, free_places, put_places, take_places, join_places, taker_gone, putter_gone, join_gone, with_value_in, with_next_out, shut_now};
 ghost use Rattle.queue_items.specs.Seen.{Takes};
 ghost use Rattle.queue_waiters.specs.Seen.{getters, gets, peeks, getters_before, of_kind, IsServed, items_put, value_put};

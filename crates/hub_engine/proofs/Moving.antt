@@ -14,14 +14,15 @@ use Rattle.machine.specs.declared.state.Frame.{Frame}
 use Rattle.machine.specs.declared.state.Greenlet.{Greenlet}
 use Rattle.machine.specs.declared.state.Local.{Local}
 use Rattle.machine.specs.declared.state.Phase.{Phase}
-use Rattle.machine.specs.Bodies.{Step, around}
+use Rattle.machine.specs.Bodies.{around}
+use Rattle.machine.specs.declared.request.Request.{Request}
 use Rattle.machine.specs.Expressions.{Look}
 use Rattle.machine.specs.BodyMoves.{Did, body_move}
 use Rattle.machine.specs.Holds.{delivery_holds, holds, link_holds, outcome_of, outcome_of_phase, phase_of, wait_holds}
 use Rattle.machine.specs.Landing.{Next, lands}
 use Rattle.machine.specs.Greenlets.{frame_of, greenlet, no_frame, nobody, with_phase}
 use Rattle.machine.specs.Moves.{does, look, move}
-use Rattle.machine.specs.Requests.{follows}
+use Rattle.machine.specs.Requests.{follows, performs}
 use Rattle.machine.specs.Unwinding.{unwind}
 use Rattle.machine.specs.Settle.{numbers_after, settle, settled}
 use Rattle.machine.specs.Soundness.{is_under_way}
@@ -33,7 +34,7 @@ use Rattle.machine_built.proofs.Bodies.{next-runnable}
 use Rattle.body_frames.specs.Places.{Came, Place, came_by}
 use Rattle.hub_state.specs.Sights.{AreCounted, look_of, outcome_seen}
 use Rattle.hub_engine.specs.Asking.{does_came, is_run}
-use Rattle.hub_engine.specs.Stands.{goes_to, next_at, performs_step}
+use Rattle.hub_engine.specs.Stands.{goes_to, next_at}
 use Rattle.hub_engine.specs.declared.stand.Stand.{Stand}
 use Rattle.hub_engine.proofs.Blind.{goes_to_blind, phased, with_phase_twice}
 use Rattle.hub_engine.proofs.Bodies.{goes_as_placed}
@@ -129,10 +130,10 @@ settles_under_way g before place s t u v at e f h =
     ∙ ap (goes_to lands g place) (ap settle (sym e) ∙ sym f)
     ∙ h
 
-pub asks_blind : (g : ℕ) (before body : Frame) (step : Step) (s v : State) (at : Stand) → follows g (performs_step step g (with_phase g (Phase.Live body) s)) ≡ next_at at v →
-    follows g (performs_step step g (with_phase g (Phase.Live body) (with_phase g (Phase.Live before) s))) ≡ next_at at v
-asks_blind g before body step s v at h =
-    ap (λ (y : State). follows g (performs_step step g y)) (with_phase_twice g (Phase.Live before) (Phase.Live body) s) ∙ h
+pub asks_blind : (g : ℕ) (before body : Frame) (request : Request) (s v : State) (at : Stand) → follows g (performs request g (with_phase g (Phase.Live body) s)) ≡ next_at at v →
+    follows g (performs request g (with_phase g (Phase.Live body) (with_phase g (Phase.Live before) s))) ≡ next_at at v
+asks_blind g before body request s v at h =
+    ap (λ (y : State). follows g (performs request g y)) (with_phase_twice g (Phase.Live before) (Phase.Live body) s) ∙ h
 
 -- ---- the move
 

@@ -2,11 +2,9 @@
 use Rattle.std.specs.Prelude.{ℕ}
 use Rattle.machine.specs.declared.state.Phase.{Phase}
 use Rattle.machine.specs.State.{State}
-use Rattle.machine.specs.Bodies.{Step}
 use Rattle.machine.specs.Landing.{Next, Landing, after_end}
 use Rattle.machine.specs.Items.{drop_items, is_timeout_of}
 use Rattle.machine.specs.Greenlets.{with_phase}
-use Rattle.machine.specs.Requests.{performs}
 use Rattle.machine.specs.Waits.{Performed}
 use Rattle.body_frames.specs.Places.{Place}
 use Rattle.hub_engine.specs.declared.stand.Stand.{Stand}
@@ -23,12 +21,8 @@ abbrev pub goes_to : Landing → ℕ → Place → State → Next
 goes_to up g (Place.AtMove left body) s = Next.Going g (with_phase g (Phase.Live body) (drop_items (is_timeout_of g left) s))
 goes_to up g (Place.AtEnd left o) s = after_end up g o (drop_items (is_timeout_of g left) s)
 
+-- what came of a request, in this state
 abbrev pub performed_of : Came → State → Performed
 performed_of (Came.Answers o) s = Performed.Answers o s
 performed_of Came.Parks s = Performed.Parks s
 performed_of (Came.Stops cause) s = Performed.Stops cause s
-
--- the effect of what a body asks; the other steps ask nothing of the hub
-abbrev pub performs_step : Step → ℕ → State → Performed
-performs_step (Step.Asks request) g s = performs request g s
-performs_step step g s = Performed.Parks s

@@ -9,8 +9,8 @@ ghost use Rattle.gv_values.specs.Ends.{kept};
 ghost use Rattle.hub_engine.specs.Stands.{goes_to, next_at};
 
 use crate::stand::Stand;
+use body_frames::{Reached, answer_body, begin_body};
 use gv_values::{FaultKind, Outcome, Value};
-use body_frames::Reached;
 use hub_state::{Gone, Hub, Stage};
 use scenario_tree::Items;
 use std::alloc::{AllocError, Global};
@@ -28,6 +28,7 @@ fn kept(outcome: Outcome) -> Outcome
     }
 }
 
+/// Why the run stops when main ends like this.
 fn stop_of(outcome: Outcome) -> StopCause
     ensures { result ≡ stop_of outcome }
 {
@@ -47,8 +48,8 @@ fn unheard(answer: Outcome) -> Outcome
     }
 }
 
-/// The greenlet ends like this.
-fn ends(alloc: Global, hub: &mut Hub, g: u32, outcome: &Outcome) -> Result<(), AllocError>
+/// Ends the greenlet like this.
+fn end_greenlet(alloc: Global, hub: &mut Hub, g: u32, outcome: &Outcome) -> Result<(), AllocError>
     ensures { OnOk result (hub.new ≡ ended g outcome.now hub.old) }
 {
     hub.say(Line::End {
@@ -61,41 +62,51 @@ fn ends(alloc: Global, hub: &mut Hub, g: u32, outcome: &Outcome) -> Result<(), A
     hub.settle(alloc)
 }
 
-/// The greenlet ends, and the run with it where it is main. It is not raw, so that its outcome goes to no
+/// Ends the greenlet, and the run with it where it is main. It is not raw, so that its outcome goes to no
 /// parent.
-fn after_end(alloc: Global, hub: &mut Hub, g: u32, outcome: Outcome) -> Result<Stand, AllocError>
+fn go_on_after_end(
+    alloc: Global,
+    hub: &mut Hub,
+    g: u32,
+    outcome: Outcome,
+) -> Result<Stand, AllocError>
     ensures { IfOk result (λ at. (up : Landing) → after_end up g outcome hub.old ≡ next_at at hub.new) }
 {
     if hub.is_raw(g) {
         unreachable!();
     }
     let outcome = kept(outcome);
-    ends(alloc, hub, g, &outcome)?;
+    end_greenlet(alloc, hub, g, &outcome)?;
     if g == 0 {
         return Ok(Stand::Over(stop_of(outcome)));
     }
     Ok(Stand::Resting)
 }
 
-/// The greenlet goes on to where its body came.
-pub fn reaches(alloc: Global, hub: &mut Hub, g: u32, reached: Reached) -> Result<Stand, AllocError>
+/// Lets the greenlet go on to where its body came.
+pub fn place_greenlet(
+    alloc: Global,
+    hub: &mut Hub,
+    g: u32,
+    reached: Reached,
+) -> Result<Stand, AllocError>
     ensures { IfOk result (λ at. (up : Landing) → goes_to up g (reached_of reached) hub.old ≡ next_at at hub.new) }
 {
     match reached {
         Reached::Move(left, body) => {
-            hub.drop_items(&Gone::TimeoutsOf(g, left));
+            hub.drop_timeouts(g, left);
             Ok(Stand::Going(g, body))
         }
         Reached::End(left, outcome) => {
-            hub.drop_items(&Gone::TimeoutsOf(g, left));
-            Ok(after_end(alloc, hub, g, outcome)?)
+            hub.drop_timeouts(g, left);
+            Ok(go_on_after_end(alloc, hub, g, outcome)?)
         }
     }
 }
 
-/// The body of the greenlet starts with these arguments.
+/// Starts the body of the greenlet with these arguments.
 #[tactic(auto, using(crate::proofs::Bodies::start_goes))]
-pub fn begins(
+pub fn start_body(
     alloc: Global,
     hub: &mut Hub,
     g: u32,
@@ -106,27 +117,32 @@ pub fn begins(
 {
     let function = hub.function_of(g);
     let name = hub.code().function_at(function).name;
-    let reached = body_frames::begins(alloc, hub.code(), function, arguments)?;
+    let reached = begin_body(alloc, hub.code(), function, arguments)?;
     hub.say(Line::Start {
         greenlet: g,
         function: name,
     })?;
-    Ok(reaches(alloc, hub, g, reached)?)
+    Ok(place_greenlet(alloc, hub, g, reached)?)
 }
 
-/// The statement of the greenlet is answered.
+/// Answers the statement of the greenlet.
 #[tactic(auto, using(crate::proofs::Bodies::answer_goes, crate::proofs::Bodies::answer_unheard))]
-pub fn answered(alloc: Global, hub: &mut Hub, g: u32, answer: Outcome) -> Result<Stand, AllocError>
+pub fn answer_greenlet(
+    alloc: Global,
+    hub: &mut Hub,
+    g: u32,
+    answer: Outcome,
+) -> Result<Stand, AllocError>
     ensures { IfOk result (λ at. answered g answer hub.old ≡ next_at at hub.new) }
 {
     match hub.take_body(g) {
         Some(body) => {
-            let reached = body_frames::answered(alloc, hub.code(), body, answer)?;
-            Ok(reaches(alloc, hub, g, reached)?)
+            let reached = answer_body(alloc, body, answer)?;
+            Ok(place_greenlet(alloc, hub, g, reached)?)
         }
         None => {
             let end = Reached::End(Items::new(alloc), unheard(answer));
-            Ok(reaches(alloc, hub, g, end)?)
+            Ok(place_greenlet(alloc, hub, g, end)?)
         }
     }
 }

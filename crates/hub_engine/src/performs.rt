@@ -3,18 +3,17 @@ ghost use Rattle.std.specs.Prelude.{◌≡◌, true, false, None, IfOk};
 ghost use Rattle.scenario_tree.specs.declared.tree.Wait.TheVariants as wait;
 ghost use Rattle.machine.specs.Requests.{performs, follows, makes, starts_at, plain_greenlet};
 ghost use Rattle.machine.specs.declared.request.Request.{Request as Asked};
-ghost use Rattle.body_moves.specs.Requests.{asking};
-ghost use Rattle.hub_engine.specs.Asking.{is_run_step};
+ghost use Rattle.machine_built.specs.Runnable.{is_runnable_request};
 ghost use Rattle.hub_engine.specs.Making.{MayMake};
-ghost use Rattle.hub_engine.specs.Stands.{next_at, performed_of, performs_step};
+ghost use Rattle.hub_engine.specs.Stands.{next_at, performed_of};
 
-use crate::life::answered;
+use crate::life::answer_greenlet;
 use crate::stand::Stand;
-use crate::waits::{joins, sleeps};
-use flat_code::Request;
+use crate::waits::{join_greenlet, sleep_until};
+use body_frames::Request;
 use gv_values::{FaultKind, Outcome, Value};
-use machine::items::Delivery;
 use hub_state::Hub;
+use machine::items::Delivery;
 use scenario_tree::{Items, Wait};
 use std::alloc::{AllocError, Global};
 use trace_text::{Line, StopCause};
@@ -30,9 +29,9 @@ pub enum Performed {
     Stops(StopCause),
 }
 
-/// The greenlet makes a new one of the function, with a start item.
+/// Makes a new greenlet of the function, with a start item.
 #[tactic(auto, using(crate::proofs::Soundly::fresh_start))]
-fn spawns(
+fn spawn_greenlet(
     hub: &mut Hub,
     g: u32,
     function: u32,
@@ -59,32 +58,34 @@ fn plain_greenlet(hub: &Hub, value: &Value) -> Option<u32>
     }
 }
 
+/// Lets the greenlet wait for the end of the one that the value names.
 #[tactic(auto, unfolding(machine::specs::Requests::performs))]
-fn joins_handle(hub: &mut Hub, g: u32, value: Value) -> Result<Performed, AllocError>
+fn join_handle(hub: &mut Hub, g: u32, value: Value) -> Result<Performed, AllocError>
     requires { MayMake g hub.old }
     ensures { IfOk result (λ p. performs (Asked.Join value wait.Block) g hub.old ≡ performed_of p hub.new) }
 {
     match plain_greenlet(hub, &value) {
         None => Ok(Performed::Answers(Outcome::Fault(FaultKind::TypeError))),
-        Some(other) => Ok(joins(hub, g, other)?),
+        Some(other) => Ok(join_greenlet(hub, g, other)?),
     }
 }
 
+/// Lets the greenlet sleep for so many milliseconds.
 #[tactic(auto, unfolding(machine::specs::Requests::performs))]
-fn sleeps_for(hub: &mut Hub, g: u32, time: u64) -> Result<Performed, AllocError>
+fn sleep_for(hub: &mut Hub, g: u32, time: u64) -> Result<Performed, AllocError>
     requires { MayMake g hub.old }
     ensures { IfOk result (λ p. performs (Asked.Sleep time) g hub.old ≡ performed_of p hub.new) }
 {
     let until = hub.moment().checked_add(time).ok_or(AllocError)?;
-    Ok(sleeps(hub, g, until)?)
+    Ok(sleep_until(hub, g, until)?)
 }
 
-/// The effect of the request of the greenlet.
+/// Performs the request of the greenlet.
 #[tactic(auto, unfolding(machine::specs::Requests::performs))]
-pub fn performs(hub: &mut Hub, request: Request, g: u32) -> Result<Performed, AllocError>
+pub fn perform(hub: &mut Hub, request: Request, g: u32) -> Result<Performed, AllocError>
     requires may_make { MayMake g hub.old }
-    requires is_run { is_run_step hub.old.scenario (asking request) ≡ true }
-    ensures { IfOk result (λ p. performs_step (asking request) g hub.old ≡ performed_of p hub.new) }
+    requires is_run { is_runnable_request hub.old.scenario request ≡ true }
+    ensures { IfOk result (λ p. performs request g hub.old ≡ performed_of p hub.new) }
 {
     match request {
         Request::Print(value) => {
@@ -92,16 +93,16 @@ pub fn performs(hub: &mut Hub, request: Request, g: u32) -> Result<Performed, Al
             Ok(Performed::Answers(Outcome::Value(Value::Nothing)))
         }
         Request::Spawn(function, arguments) => {
-            Ok(spawns(hub, g, function, arguments.into_values())?)
+            Ok(spawn_greenlet(hub, g, function, arguments.into_values())?)
         }
-        Request::Sleep(time) => Ok(sleeps_for(hub, g, time)?),
-        Request::Join(value, Wait::Block) => Ok(joins_handle(hub, g, value)?),
+        Request::Sleep(time) => Ok(sleep_for(hub, g, time)?),
+        Request::Join(value, Wait::Block) => Ok(join_handle(hub, g, value)?),
         _ => unreachable!(),
     }
 }
 
-/// The hub goes on after a request of the greenlet.
-pub fn follows(
+/// Goes on after a request of the greenlet.
+pub fn go_on_after(
     alloc: Global,
     hub: &mut Hub,
     g: u32,
@@ -112,7 +113,7 @@ pub fn follows(
     match performed {
         Performed::Answers(outcome) => {
             hub.settle(alloc)?;
-            Ok(answered(alloc, hub, g, outcome)?)
+            Ok(answer_greenlet(alloc, hub, g, outcome)?)
         }
         Performed::Parks => {
             hub.settle(alloc)?;

@@ -9,10 +9,11 @@ ghost use Rattle.hub_engine.specs.declared.run.End.TheVariants as ends;
 
 use crate::broken::Broken;
 use crate::turns::run;
+use flat_code::compile;
 use gv_io::Sink;
 use gv_values::FaultKind;
-use machine_built::main_is_numbered;
 use hub_state::Hub;
+use machine_built::main_is_numbered;
 use scenario_check::Checked;
 use std::alloc::{AllocError, Global};
 use std::marker::Model;
@@ -43,17 +44,24 @@ pub enum End {
 /// How many turns and moves a run may make.
 #[derive(Clone, Copy, Debug, PartialEq, Eq)]
 pub struct Budgets {
+    /// The most turns.
     pub turns: u64,
+    /// The most moves.
     pub moves: u64,
 }
 
-/// How a run ended, and the counts and the moment, in milliseconds, of its last state.
+/// How a run ended, and the counts and the moment of its last state.
 #[derive(Clone, Copy, Debug, PartialEq, Eq)]
 pub struct Ran {
+    /// How the run ended.
     pub end: End,
+    /// How many greenlets were made, with main.
     pub greenlets: u32,
+    /// How many turns began.
     pub turns: u64,
+    /// How many moves were made.
     pub moves: u64,
+    /// The moment, in milliseconds from the beginning of the run.
     pub moment: u64,
 }
 
@@ -67,15 +75,11 @@ pub struct Engine {
 impl Model for Engine {
     ghost use Rattle.hub_engine.specs.Prepared.{Prepared};
     ghost use Rattle.hub_engine.specs.Ready.{IsPrepared};
-    ghost use Rattle.std.specs.Coded.{codes};
-    ghost use Rattle.scenario_tree.specs.contracts.tree.Expression as expression;
-    ghost use Rattle.scenario_tree.specs.contracts.tree.Action as action;
-    ghost use Rattle.scenario_tree.specs.contracts.tree.Except as except;
-    ghost use Rattle.scenario_tree.specs.contracts.tree.Statement as statement;
+    ghost use Rattle.scenario_tree.specs.Trees.{trees};
 
     ghost Value = { Prepared };
 
-    ghost coded = { Prim.hlevel (codes, expression.the_row.coded, action.the_row.coded, except.the_row.coded, statement.the_row.coded) };
+    ghost coded = { Prim.hlevel trees };
 
     ghost view = { λ e. record { scenario = e.hub.scenario; turns = e.budgets.turns; moves = e.budgets.moves } };
 
@@ -89,7 +93,7 @@ impl Engine {
         ensures first { result ≡ first_unbuilt checked.now }
         ensures built { (result ≡ None) ↔ IsBuilt checked.now }
     {
-        unbuilt_forms::unbuilt(checked)
+        unbuilt_forms::unbuilt(checked.scenario().tree())
     }
 
     /// The scenario before its run. `AllocError`: memory is wanting, and the scenario is given up.
@@ -98,7 +102,7 @@ impl Engine {
         ensures { IfOk result (λ engine. engine ≡ record { scenario = checked; turns = budgets.turns; moves = budgets.moves }) }
     {
         has_main(&checked);
-        let hub = Hub::new(alloc, &checked)?;
+        let hub = Hub::new(alloc, compile(alloc, &checked)?)?;
         Ok(Engine { hub, budgets })
     }
 

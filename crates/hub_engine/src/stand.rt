@@ -8,12 +8,15 @@ pub enum Stand {
     Going(u32, Moving),
     /// No greenlet is under way.
     Resting,
+    /// The run is over, for this cause.
     Over(StopCause),
 }
 
 /// Whether a part of the run came to rest, or the run is over.
 #[derive(Drop)]
 pub enum Came {
+    /// No greenlet is under way, and the run goes on.
     ToRest,
+    /// The run is over, for this cause.
     ToAnEnd(StopCause),
 }

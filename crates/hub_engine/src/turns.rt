@@ -11,18 +11,18 @@ ghost use Rattle.hub_engine.specs.Stands.{next_at};
 ghost use Rattle.hub_engine.specs.Written.{AreLike, CameTo, Gives, Tells};
 
 use crate::broken::Broken;
-use crate::deliver::{deliver, interrupts};
-use crate::life::begins;
-use crate::moves::make_move;
+use crate::deliver::{deliver_item, throw_into};
+use crate::life::start_body;
+use crate::moves::step_greenlet;
 use crate::run::End;
 use crate::stand::{Came, Stand};
 use gv_io::Sink;
 use gv_values::FaultKind;
 use hub_state::Hub;
-use world_rules::Question;
 use scenario_tree::Items;
 use std::alloc::{AllocError, Global};
 use trace_text::{Line, StopCause, write_line};
+use world_rules::Question;
 
 /// The texts of the lines, each with LF.
 #[tactic(auto, using(crate::proofs::Passing::text_more))]
@@ -81,7 +81,7 @@ fn runs<K: Sink>(
                     return Ok(Came::ToAnEnd(StopCause::NoMoves));
                 }
                 left -= 1;
-                at = make_move(alloc, hub, g, body)?;
+                at = step_greenlet(alloc, hub, g, body)?;
             }
         }
     }
@@ -141,7 +141,7 @@ fn delivers_one<K: Sink>(
     ensures failed { Tells result (K.faults sink.old) (K.faults sink.new) }
 {
     let left = budget.saturating_sub(hub.moves());
-    let next = deliver(alloc, hub, at)?;
+    let next = deliver_item(alloc, hub, at)?;
     Ok(runs(alloc, hub, sink, next, left)?)
 }
 
@@ -185,7 +185,7 @@ fn asks_world<K: Sink>(
 }
 
 /// LoopExit is thrown into main, after its block line.
-#[tactic(auto, using(gv_io::proofs::StreamLaws::writes, crate::proofs::Readily::ready_exit))]
+#[tactic(auto, using(gv_io::proofs::StreamLaws::writes, crate::proofs::Readily::ready_exit, crate::proofs::Delivered::no_objects))]
 fn exits<K: Sink>(alloc: Global, hub: &mut Hub, sink: &mut K, budget: u64) -> Result<Came, Broken>
     requires ready { IsReady hub.old }
     ensures ready { IfOk result (λ came. IsReadyAfter came hub.new) }
@@ -197,7 +197,7 @@ fn exits<K: Sink>(alloc: Global, hub: &mut Hub, sink: &mut K, budget: u64) -> Re
 {
     hub.block()?;
     let left = budget.saturating_sub(hub.moves());
-    let at = interrupts(alloc, hub, 0, FaultKind::LoopExit)?;
+    let at = throw_into(alloc, hub, 0, FaultKind::LoopExit)?;
     Ok(runs(alloc, hub, sink, at, left)?)
 }
 
@@ -271,13 +271,14 @@ pub fn run<K: Sink>(
     ensures never_falls { K.faults sink.old ≤ K.faults sink.new }
     ensures failed { Tells result (K.faults sink.old) (K.faults sink.new) }
 {
-    let at = begins(alloc, hub, 0, Items::new(alloc))?;
+    let at = start_body(alloc, hub, 0, Items::new(alloc))?;
     match runs(alloc, hub, sink, at, moves)? {
         Came::ToAnEnd(cause) => Ok(stops(alloc, hub, sink, cause)?),
         Came::ToRest => Ok(runs_turns(alloc, hub, sink, turns, moves)?),
     }
 }
 
+/// The end that callers are told of this cause.
 fn end_of(cause: &StopCause) -> End
     ensures { result ≡ end_of cause.now }
 {

@@ -10,8 +10,8 @@ ghost use Rattle.hub_engine.specs.Stands.{performed_of};
 
 use crate::performs::Performed;
 use gv_values::{Outcome, Value, Whom};
-use machine::items::{Delivery, Waiting};
 use hub_state::Hub;
+use machine::items::{Delivery, Waiting};
 use std::alloc::AllocError;
 use trace_text::{Awaited, Line};
 
@@ -25,7 +25,7 @@ fn until_of(waiting: &Waiting) -> Option<u64>
     }
 }
 
-/// The greenlet parks without a deadline of its own.
+/// Parks the greenlet without a deadline of its own.
 #[tactic(auto, using(machine_soundness::proofs::Singles::wake_unclaimed))]
 fn park(hub: &mut Hub, g: u32, awaited: Awaited, waiting: Waiting) -> Result<(), AllocError>
     requires { MayMake g hub.old }
@@ -40,8 +40,8 @@ fn park(hub: &mut Hub, g: u32, awaited: Awaited, waiting: Waiting) -> Result<(),
     Ok(())
 }
 
-/// The greenlet sleeps until the moment.
-pub fn sleeps(hub: &mut Hub, g: u32, until: u64) -> Result<Performed, AllocError>
+/// Lets the greenlet sleep until the moment, in milliseconds.
+pub fn sleep_until(hub: &mut Hub, g: u32, until: u64) -> Result<Performed, AllocError>
     requires { MayMake g hub.old }
     ensures { IfOk result (λ p. comes g awaited.Sleep (waiting.Sleep until) wait.Block hub.old ≡ performed_of p hub.new) }
 {
@@ -49,8 +49,8 @@ pub fn sleeps(hub: &mut Hub, g: u32, until: u64) -> Result<Performed, AllocError
     Ok(Performed::Parks)
 }
 
-/// The greenlet waits for the end of another, unless that has ended.
-pub fn joins(hub: &mut Hub, g: u32, other: u32) -> Result<Performed, AllocError>
+/// Lets the greenlet wait for the end of another, unless that has ended.
+pub fn join_greenlet(hub: &mut Hub, g: u32, other: u32) -> Result<Performed, AllocError>
     requires { MayMake g hub.old }
     ensures { IfOk result (λ p. comes g (awaited.Join (whom.Greenlet other)) (waiting.Join other) wait.Block hub.old ≡ performed_of p hub.new) }
 {

@@ -3,3 +3,4 @@ pub mod Leaving
 pub mod PhaseSets
 pub mod Removals
 pub mod Sounds
+pub mod Timeouts

@@ -1,6 +1,6 @@
 pub mod Gone
 pub mod Phases
 pub mod Places
-pub mod Queues
 pub mod Sights
 pub mod Sound
+pub mod WaitKinds

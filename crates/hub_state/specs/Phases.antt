@@ -8,7 +8,7 @@ use Rattle.hub_state.specs.declared.greenlets.Stage.{Stage}
 -- the phase of the machine; the body of a greenlet that is under way is with the hub's step
 abbrev pub phase_of : Stage → Phase
 phase_of (Stage.New args) = Phase.New args
-phase_of (Stage.Live frame) = Phase.Live frame
+phase_of (Stage.Parked frame) = Phase.Live frame
 phase_of Stage.UnderWay = Phase.Live no_frame
 phase_of (Stage.Done o) = Phase.Done o
 

@@ -5,13 +5,13 @@ ghost use Rattle.machine.specs.Run.{first_state, object_of};
 
 use crate::greenlets::Greenlets;
 use crate::hub::Hub;
-use flat_code::{Code, compile};
+use body_frames::Code;
 use gv_values::Name;
 use machine::state::Object;
-use scenario_check::Checked;
 use scenario_tree::{Declaration, Items, Object as Kind};
 use std::alloc::{AllocError, Global};
 
+/// The object before the first move.
 fn object_of(alloc: Global, kind: Kind) -> Object
     ensures { result ≡ object_of kind }
 {
@@ -21,13 +21,15 @@ fn object_of(alloc: Global, kind: Kind) -> Object
         Kind::Semaphore(n) => Object::Semaphore(n, None),
         Kind::BoundedSemaphore(n) => Object::Semaphore(n, Some(n)),
         Kind::Lock => Object::Lock(None, 0),
-        Kind::Queue(order, size) => Object::Queue(order, size, Items::new(alloc), 0),
+        Kind::Queue(order, size) => Object::Queue(order, size, Items::new(alloc), 0, false),
+        Kind::Channel => Object::Channel(Items::new(alloc)),
         Kind::Group => Object::Crew(None, Items::new(alloc)),
         Kind::Pool(n) => Object::Crew(Some(n), Items::new(alloc)),
         Kind::Native(n) => Object::Native(n, 0),
     }
 }
 
+/// The objects before the first move, in the order of their declarations.
 fn objects_of(alloc: Global, declarations: &[Declaration]) -> Result<Vec<Object>, AllocError>
     ensures { IfOk result (λ objects. objects.items ≡ map (λ d. object_of d.object) declarations.now) }
 {
@@ -38,6 +40,7 @@ fn objects_of(alloc: Global, declarations: &[Declaration]) -> Result<Vec<Object>
     Ok(objects)
 }
 
+/// The number of the function `main`.
 fn number_of_main(code: &Code) -> u32
     ensures { result ≡ function_number (codes "main") code.now.functions }
 {
@@ -48,13 +51,13 @@ fn number_of_main(code: &Code) -> u32
 }
 
 impl Hub {
-    /// The state at the beginning of a run of the scenario: nothing is made but main, which has not started.
+    /// The state at the beginning of a run of the code: nothing is made but main, which has not started.
+    /// `AllocError`: memory is wanting.
     #[tactic(auto, using(crate::proofs::Sounds::sound_none))]
-    pub fn new(alloc: Global, checked: &Checked) -> Result<Hub, AllocError>
-        ensures { IfOk result (λ hub. hub ≡ first_state checked.now) }
+    pub fn new(alloc: Global, code: Code) -> Result<Hub, AllocError>
+        ensures { IfOk result (λ hub. hub ≡ first_state code) }
     {
-        let objects = objects_of(alloc, checked.scenario().tree().objects.as_slice())?;
-        let code = compile(alloc, checked)?;
+        let objects = objects_of(alloc, code.objects())?;
         let greenlets = Greenlets::first(alloc, number_of_main(&code))?;
         Ok(Hub {
             code,

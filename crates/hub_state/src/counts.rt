@@ -3,7 +3,7 @@ ghost use Rattle.std.specs.Prelude.{◌≡◌, ◌+◌, [], length, OnOk};
 ghost use Rattle.machine.specs.Run.{silent};
 
 use crate::hub::Hub;
-use flat_code::Code;
+use body_frames::Code;
 use std::alloc::AllocError;
 use trace_text::Line;
 
@@ -50,7 +50,7 @@ impl Hub {
         self.items.len()
     }
 
-    /// One turn more has begun.
+    /// Counts one turn more. `AllocError`: its number would pass 64 bits, and nothing changes.
     pub fn count_turn(&mut self) -> Result<(), AllocError>
         ensures { OnOk result (self.new ≡ record self.old { turns = self.old.turns + 1 }) }
     {
@@ -58,7 +58,7 @@ impl Hub {
         Ok(())
     }
 
-    /// One move more is made.
+    /// Counts one move more. `AllocError`: its number would pass 64 bits, and nothing changes.
     pub fn count_move(&mut self) -> Result<(), AllocError>
         ensures { OnOk result (self.new ≡ record self.old { moves = self.old.moves + 1 }) }
     {
@@ -74,7 +74,7 @@ impl Hub {
         &self.lines
     }
 
-    /// The lines of the step under way are given out.
+    /// Drops the lines of the step under way, which were given out.
     pub fn forget_lines(&mut self)
         ensures { self.new ≡ silent self.old }
     {

@@ -6,8 +6,8 @@ ghost use Rattle.machine.specs.Holds.{outcome_of_phase};
 ghost use Rattle.machine.specs.Greenlets.{nobody};
 ghost use Rattle.hub_state.specs.Phases.{phase_of, phase_at, shown};
 
-use gv_values::{Outcome, Value};
 use body_frames::Parked;
+use gv_values::{Outcome, Value};
 use scenario_tree::Items;
 use std::alloc::{AllocError, Global};
 use std::marker::Model;
@@ -22,9 +22,10 @@ pub enum Stage {
     /// Not started, with the arguments of its function.
     New(Items<Value>),
     /// Its body waits for an answer.
-    Live(Parked),
+    Parked(Parked),
     /// It makes its moves; its body is with the step of the hub.
     UnderWay,
+    /// It ended so.
     Done(Outcome),
 }
 
@@ -38,15 +39,11 @@ pub struct Greenlet {
 impl Model for Greenlet {
     ghost use Rattle.machine.specs.declared.state.Greenlet.{Greenlet as Shown};
     ghost use Rattle.hub_state.specs.Phases.{phase_of, shown};
-    ghost use Rattle.std.specs.Coded.{codes};
-    ghost use Rattle.scenario_tree.specs.contracts.tree.Expression as expression;
-    ghost use Rattle.scenario_tree.specs.contracts.tree.Action as action;
-    ghost use Rattle.scenario_tree.specs.contracts.tree.Except as except;
-    ghost use Rattle.scenario_tree.specs.contracts.tree.Statement as statement;
+    ghost use Rattle.scenario_tree.specs.Trees.{trees};
 
     ghost Value = { Shown };
 
-    ghost coded = { Prim.hlevel (codes, expression.the_row.coded, action.the_row.coded, except.the_row.coded, statement.the_row.coded) };
+    ghost coded = { Prim.hlevel trees };
 
     ghost view = { λ g. shown g.function (phase_of g.stage) };
 }
@@ -105,15 +102,11 @@ pub struct Greenlets {
 impl Model for Greenlets {
     ghost use Rattle.std.specs.Prelude.{◌≤◌, List, length};
     ghost use Rattle.machine.specs.declared.state.Greenlet.{Greenlet as Shown};
-    ghost use Rattle.std.specs.Coded.{codes};
-    ghost use Rattle.scenario_tree.specs.contracts.tree.Expression as expression;
-    ghost use Rattle.scenario_tree.specs.contracts.tree.Action as action;
-    ghost use Rattle.scenario_tree.specs.contracts.tree.Except as except;
-    ghost use Rattle.scenario_tree.specs.contracts.tree.Statement as statement;
+    ghost use Rattle.scenario_tree.specs.Trees.{trees};
 
     ghost Value = { List Shown };
 
-    ghost coded = { Prim.hlevel (codes, expression.the_row.coded, action.the_row.coded, except.the_row.coded, statement.the_row.coded) };
+    ghost coded = { Prim.hlevel trees };
 
     ghost view = { λ gs. gs.all.items };
 

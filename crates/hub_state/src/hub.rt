@@ -1,6 +1,6 @@
 //! The state itself.
 use crate::greenlets::Greenlets;
-use flat_code::Code;
+use body_frames::Code;
 use machine::items::Item;
 use machine::state::Object;
 use std::marker::Model;
@@ -27,16 +27,12 @@ pub struct Hub {
 impl Model for Hub {
     ghost use Rattle.std.specs.Prelude.{[]};
     ghost use Rattle.machine.specs.State.{State};
-    ghost use Rattle.std.specs.Coded.{codes};
-    ghost use Rattle.scenario_tree.specs.contracts.tree.Expression as expression;
-    ghost use Rattle.scenario_tree.specs.contracts.tree.Action as action;
-    ghost use Rattle.scenario_tree.specs.contracts.tree.Except as except;
-    ghost use Rattle.scenario_tree.specs.contracts.tree.Statement as statement;
+    ghost use Rattle.scenario_tree.specs.Trees.{trees};
     ghost use Rattle.hub_state.specs.Sound.{IsSound};
 
     ghost Value = { State };
 
-    ghost coded = { Prim.hlevel (codes, expression.the_row.coded, action.the_row.coded, except.the_row.coded, statement.the_row.coded) };
+    ghost coded = { Prim.hlevel trees };
 
     ghost view = { λ h. record {
       scenario = h.code;

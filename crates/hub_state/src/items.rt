@@ -27,7 +27,7 @@ pub enum Gone {
 }
 
 impl Hub {
-    /// A line of the step under way.
+    /// Writes a line of the step under way. `AllocError`: memory is wanting, and nothing changes.
     pub fn say(&mut self, line: Line) -> Result<(), AllocError>
         ensures { OnOk result (self.new ≡ say line self.old) }
     {
@@ -35,7 +35,7 @@ impl Hub {
         Ok(())
     }
 
-    /// One item more, the newest, which says what no other says.
+    /// Makes one item more, the newest, which says what no other says. `AllocError`: memory is wanting.
     pub fn add_item(&mut self, delivery: Delivery) -> Result<(), AllocError>
         requires { is_unclaimed (claim_of delivery) self.old.items ≡ true }
         ensures { OnOk result (self.new ≡ add_item delivery self.old) }
@@ -50,13 +50,26 @@ impl Hub {
         Ok(())
     }
 
-    /// The items that are to go go.
+    /// Removes the items that `gone` names.
     pub fn drop_items(&mut self, gone: &Gone)
         ensures { self.new ≡ drop_items (gone_of gone.now) self.old }
     {
         drop_gone(&mut self.items, gone);
     }
+
+    /// Removes the timeouts of the greenlet with these numbers.
+    #[tactic(auto, using(crate::proofs::Timeouts::none_dropped))]
+    pub fn drop_timeouts(&mut self, g: u32, numbers: Items<u32>)
+        ensures { self.new ≡ drop_items (is_timeout_of g numbers) self.old }
+    {
+        // Most moves leave no timeout block, and then no item is looked at.
+        if !numbers.is_empty() {
+            self.drop_items(&Gone::TimeoutsOf(g, numbers));
+        }
+    }
 }
+
+/// Removes the items that `gone` names.
 
 fn drop_gone(items: &mut Vec<Item>, gone: &Gone)
     ensures { items.new.items ≡ filter (λ i. not (gone_of gone.now i.delivery)) items.old.items }

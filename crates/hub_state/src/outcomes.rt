@@ -6,8 +6,8 @@ ghost use Rattle.gv_values.specs.declared.value.Whom.{Whom as Target};
 ghost use Rattle.machine.specs.Holds.{holds, wait_holds, outcome_of, is_done, all_done, done_among};
 
 use crate::holds::{
-    all_finished_at, has_item_at, has_place_at, has_result_at, has_room_at, has_set_since_at,
-    has_slot_at, has_unit_at, is_deserted_at, is_free_at, link_fits,
+    all_finished_at, has_item_at, has_offer_at, has_place_at, has_result_at, has_room_at,
+    has_set_since_at, has_slot_at, has_unit_at, is_deserted_at, is_free_at, is_taken_at, link_fits,
 };
 use crate::hub::Hub;
 use gv_values::{Outcome, Whom};
@@ -24,6 +24,7 @@ impl Hub {
         }
     }
 
+    /// Whether the greenlet or job has ended.
     pub fn has_ended(&self, whom: Whom) -> bool
         ensures { result ≡ is_some (outcome_of self.now whom) }
     {
@@ -33,7 +34,7 @@ impl Hub {
         }
     }
 
-    /// There are no jobs.
+    /// What the job came to: none, since there are no jobs.
     pub fn outcome_of_job(&self, j: u32) -> Option<&Outcome>
         ensures { option_copied result ≡ outcome_of self.now (Target.Job j) }
     {
@@ -42,6 +43,7 @@ impl Hub {
         None
     }
 
+    /// Whether the greenlet has ended.
     pub fn is_done(&self, g: u32) -> bool
         ensures { result ≡ is_done self.now g }
     {
@@ -95,6 +97,8 @@ impl Hub {
             Waiting::MapEnd(_, made) => self.all_done(made.as_slice()),
             Waiting::Members(o) => is_deserted_at(&self.objects, *o),
             Waiting::Slot(o, _, _) => has_slot_at(&self.objects, &self.items, *o, since),
+            Waiting::Offered(o) => is_taken_at(&self.objects, *o, since),
+            Waiting::TakeOffer(o) => has_offer_at(&self.objects, &self.items, *o, since),
         }
     }
 

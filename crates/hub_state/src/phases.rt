@@ -7,8 +7,8 @@ ghost use Rattle.hub_state.specs.Phases.{phase_of};
 
 use crate::greenlets::{Greenlet, Stage};
 use crate::hub::Hub;
-use gv_values::Value;
 use body_frames::Parked;
+use gv_values::Value;
 use scenario_tree::Items;
 use std::alloc::{AllocError, Global};
 
@@ -34,7 +34,7 @@ impl Hub {
         }
     }
 
-    /// The greenlet has come so far.
+    /// Lets the greenlet have come so far.
     pub fn set_stage(&mut self, g: u32, stage: Stage)
         ensures { self.new ≡ with_phase g (phase_of stage) self.old }
     {
@@ -49,7 +49,7 @@ impl Hub {
         ensures taken { self.new ≡ with_phase g (Phase.Live no_frame) self.old }
     {
         match self.greenlets.swap(g, Stage::UnderWay) {
-            Some(Stage::Live(body)) => Some(body),
+            Some(Stage::Parked(body)) => Some(body),
             _ => None,
         }
     }

@@ -6,9 +6,9 @@ ghost use Rattle.world_rules.specs.Script.{scripted};
 use crate::hub::Hub;
 use gv_values::Answer;
 use machine::items::{Delivery, Item, Waiting};
-use world_rules::Question;
 use std::alloc::{AllocError, Global};
 use trace_text::{Blocked, Line};
+use world_rules::Question;
 
 /// The greatest moment.
 const LAST_MOMENT: u64 = 4611686018427387903;

@@ -5,7 +5,7 @@ ghost use Rattle.machine.specs.Moves.{is_set_object, size_of_object, unfinished_
 ghost use Rattle.hub_state.specs.Sights.{AreCounted, look_of};
 
 use crate::hub::Hub;
-use flat_code::Look;
+use body_frames::Look;
 use gv_values::{Outcome, Whom};
 use machine::state::Object;
 use std::marker::Model;
@@ -19,15 +19,11 @@ pub struct Seen<'a> {
 
 impl<'a> Model for Seen<'a> {
     ghost use Rattle.hub_state.specs.Sights.{AreCounted, Sight};
-    ghost use Rattle.std.specs.Coded.{codes};
-    ghost use Rattle.scenario_tree.specs.contracts.tree.Expression as expression;
-    ghost use Rattle.scenario_tree.specs.contracts.tree.Action as action;
-    ghost use Rattle.scenario_tree.specs.contracts.tree.Except as except;
-    ghost use Rattle.scenario_tree.specs.contracts.tree.Statement as statement;
+    ghost use Rattle.scenario_tree.specs.Trees.{trees};
 
     ghost Value = { Sight };
 
-    ghost coded = { Prim.hlevel (codes, expression.the_row.coded, action.the_row.coded, except.the_row.coded, statement.the_row.coded) };
+    ghost coded = { Prim.hlevel trees };
 
     ghost view = { λ s. record { current = s.current; state = s.hub.now } };
 
@@ -104,7 +100,7 @@ fn size_of_object(object: Option<&Object>) -> u64
 {
     match object {
         Some(Object::Semaphore(counter, _)) => *counter,
-        Some(Object::Queue(_, _, items, _)) => items.len() as u64,
+        Some(Object::Queue(_, _, items, _, _)) => items.len() as u64,
         Some(Object::Crew(_, members)) => members.len() as u64,
         _ => 0,
     }
@@ -115,7 +111,7 @@ fn unfinished_of_object(object: Option<&Object>) -> u64
     ensures { result ≡ unfinished_of_object (option_copied object.entry) }
 {
     match object {
-        Some(Object::Queue(_, _, _, unfinished)) => *unfinished,
+        Some(Object::Queue(_, _, _, unfinished, _)) => *unfinished,
         _ => 0,
     }
 }

@@ -5,7 +5,7 @@ use Rattle.std.proofs.lemmas.Bool.Decides.{nat_tests}
 use Rattle.std.proofs.lemmas.List.{length-map}
 use Rattle.std.proofs.lemmas.List.Folds.{list_all-append}
 use Rattle.std.proofs.lemmas.Option.{slice_get_cases}
-use Rattle.std.specs.Prelude.{not, ◌==◌, if◌then◌else◌, nat_eq, nat_le, slice_get, unwrap_or}
+use Rattle.std.specs.Prelude.{not, ◌==◌, if◌then◌else◌, nat_eq, nat_le, slice_get}
 use Rattle.std.specs.List.{flat_map, list_all}
 use Rattle.std.specs.Map.{lookup}
 use Rattle.std.specs.Option.{is_some}
@@ -14,7 +14,8 @@ use Rattle.gv_values.specs.declared.name.Name.{Name}
 use Rattle.scenario_tree.specs.declared.tree.Declaration.{Declaration}
 use Rattle.scenario_tree.specs.declared.tree.Function.{Function}
 use Rattle.scenario_tree.specs.declared.tree.Scenario.{Scenario}
-use Rattle.scenario_grammar.specs.Reasons.{Reason}
+use Rattle.scenario_grammar.specs.declared.reason.RuleReason.{RuleReason}
+use Rattle.scenario_grammar.specs.declared.reason.RuleReason.TheVariants as rule
 use Rattle.scenario_rules.specs.declared.declared.Declared.{Declared}
 use Rattle.scenario_rules.specs.declared.declared.Declared.TheVariants as declared
 use Rattle.scenario_rules.specs.declared.mention.Mention.{Mention}
@@ -23,12 +24,10 @@ use Rattle.scenario_rules.specs.declared.mention.Says.{Says}
 use Rattle.scenario_rules.specs.declared.mention.Says.TheVariants as says
 use Rattle.scenario_rules.specs.Declarations.{declarations, declared_as, function_as, function_entry, object_entry, parameters}
 use Rattle.scenario_rules.specs.Mentions.{block_mentions, mentions, most_timeouts, on}
-use Rattle.scenario_rules.specs.Reasons.{too_many, undeclared, wrong_count, wrong_kind}
 use Rattle.scenario_rules.specs.Rules.{IsWellFormed, function_refusals, is_undeclared, is_wrong_count, is_wrong_kind, past, refused, refused_names, word_refusals}
 use Rattle.scenario_tree.specs.Limits.{most_parameters}
-use Rattle.machine.specs.Greenlets.{no_function}
-use Rattle.machine_arguments.specs.Few.{HasFew, HasFewCalls, are_few, has_few, is_few}
-use Rattle.machine_arguments.proofs.Parts.{AreFew, few-right, none-few}
+use Rattle.body_values.specs.Few.{HasFewCalls, has_few_function}
+use Rattle.machine_arguments.proofs.Parts.{AreFew, are_few, every-block, few-right, is_few}
 
 -- ---- what is not refused
 
@@ -40,11 +39,11 @@ none-right : {X : Type 0} (xs ys : List X) → xs ++ ys ≡ [] → ys ≡ []
 none-right [] ys h = h
 none-right (x ∷ xs) ys h = absurd (cc h)
 
-not-refused : (reason : Reason) (line : ℕ) (so : Bool) → refused reason line so ≡ [] → so ≡ false
+not-refused : (reason : RuleReason) (line : ℕ) (so : Bool) → refused reason line so ≡ [] → so ≡ false
 not-refused reason line true h = absurd (cc h)
 not-refused reason line false h = refl
 
-no-names : (reason : Reason) (names : List Named) → refused_names reason names ≡ [] → names ≡ []
+no-names : (reason : RuleReason) (names : List Named) → refused_names reason names ≡ [] → names ≡ []
 no-names reason [] h = refl
 no-names reason (n ∷ ns) h = absurd (cc h)
 
@@ -94,7 +93,7 @@ function-few f h = by f.is_raw
 
 parameters-few : (c : Scenario) (f : Function) → function_refusals c f ≡ [] → length f.parameters ≤ most_parameters
 parameters-few c f h =
-    rw length-map at (none-past most_parameters (parameters f) (no-names too_many (past most_parameters (parameters f)) (none-right _ _ (none-left _ _ (none-left _ _ h)))))
+    rw length-map at (none-past most_parameters (parameters f) (no-names rule.TooMany (past most_parameters (parameters f)) (none-right _ _ (none-left _ _ (none-left _ _ h)))))
 
 functions-few : (c : Scenario) (fs : List Function) → flat_map (function_refusals c) fs ≡ [] → list_all is_few_entry (map function_entry fs) ≡ true
 functions-few c [] h = refl
@@ -122,14 +121,14 @@ call-few n (Some d) h i j k = absurd (cc j)
 word-few : (c : Scenario) (f : Function) (m : Mention) → ((x : Name) → declares_few_if_any (declared_as c x) ≡ true) → word_refusals c f m ≡ [] → is_few m.says ≡ true
 word-few c f m known h = by m.says (none-left _ _ (none-left _ _ first)) (none-right _ _ (none-left _ _ first)) (none-right _ _ first)
   where
-    first : refused undeclared m.line (is_undeclared c f m.says) ++ refused wrong_kind m.line (is_wrong_kind c f m.says) ++ refused wrong_count m.line (is_wrong_count c f m.says) ≡ []
+    first : refused rule.Undeclared m.line (is_undeclared c f m.says) ++ refused rule.WrongKind m.line (is_wrong_kind c f m.says) ++ refused rule.WrongCount m.line (is_wrong_count c f m.says) ≡ []
     first = none-left _ _ (none-left _ _ h)
 
-    by : (w : Says) → refused undeclared m.line (is_undeclared c f w) ≡ [] → refused wrong_kind m.line (is_wrong_kind c f w) ≡ [] →
-        refused wrong_count m.line (is_wrong_count c f w) ≡ [] → is_few w ≡ true
+    by : (w : Says) → refused rule.Undeclared m.line (is_undeclared c f w) ≡ [] → refused rule.WrongKind m.line (is_wrong_kind c f w) ≡ [] →
+        refused rule.WrongCount m.line (is_wrong_count c f w) ≡ [] → is_few w ≡ true
     by (says.Calls n x) i j k =
-        call-few n (declared_as c x) (known x) (not-refused undeclared m.line (is_undeclared c f (says.Calls n x)) i) (not-refused wrong_kind m.line (is_wrong_kind c f (says.Calls n x)) j)
-        (not-refused wrong_count m.line (is_wrong_count c f (says.Calls n x)) k)
+        call-few n (declared_as c x) (known x) (not-refused rule.Undeclared m.line (is_undeclared c f (says.Calls n x)) i) (not-refused rule.WrongKind m.line (is_wrong_kind c f (says.Calls n x)) j)
+        (not-refused rule.WrongCount m.line (is_wrong_count c f (says.Calls n x)) k)
     by w i j k = refl
 
 words-few : (c : Scenario) (f : Function) (ms : List Mention) → ((x : Name) → declares_few_if_any (declared_as c x) ≡ true) → flat_map (word_refusals c f) ms ≡ [] → AreFew ms
@@ -137,15 +136,16 @@ words-few c f [] known h = refl
 words-few c f (m ∷ ms) known h =
     and_from (is_few m.says) (are_few ms) (word-few c f m known (none-left _ _ h)) (words-few c f ms known (none-right (word_refusals c f m) _ h))
 
-body-few : (c : Scenario) (f : Function) → ((x : Name) → declares_few_if_any (declared_as c x) ≡ true) → function_refusals c f ≡ [] → has_few f ≡ true
+body-few : (c : Scenario) (f : Function) → ((x : Name) → declares_few_if_any (declared_as c x) ≡ true) → function_refusals c f ≡ [] → has_few_function f ≡ true
 body-few c f known h =
-    few-right (on f.line (map (λ x. says.Gives x) f.parameters)) (block_mentions most_timeouts f.body)
-    (words-few c f (mentions f) known (none-right _ (flat_map (word_refusals c f) (mentions f)) h))
+    every-block f.body most_timeouts
+    (few-right (on f.line (map (λ x. says.Gives x) f.parameters)) (block_mentions most_timeouts f.body)
+    (words-few c f (mentions f) known (none-right _ (flat_map (word_refusals c f) (mentions f)) h)))
 
-bodies-few : (c : Scenario) (fs : List Function) → ((x : Name) → declares_few_if_any (declared_as c x) ≡ true) → flat_map (function_refusals c) fs ≡ [] → list_all has_few fs ≡ true
+bodies-few : (c : Scenario) (fs : List Function) → ((x : Name) → declares_few_if_any (declared_as c x) ≡ true) → flat_map (function_refusals c) fs ≡ [] → list_all has_few_function fs ≡ true
 bodies-few c [] known h = refl
 bodies-few c (f ∷ fs) known h =
-    and_from (has_few f) (list_all has_few fs) (body-few c f known (none-left _ _ h)) (bodies-few c fs known (none-right (function_refusals c f) _ h))
+    and_from (has_few_function f) (list_all has_few_function fs) (body-few c f known (none-left _ _ h)) (bodies-few c fs known (none-right (function_refusals c f) _ h))
 
 -- each call of a well-formed scenario has few arguments
 pub calls-few : (c : Scenario) → IsWellFormed c → HasFewCalls c
@@ -153,21 +153,3 @@ unfolding IsWellFormed
 calls-few c w =
     let none : flat_map (function_refusals c) c.functions ≡ [] = none-right _ (flat_map (function_refusals c) c.functions) w in
     bodies-few c c.functions (λ x. declared-few c x none) none
-
--- what is found of a list passes its test
-found : (fs : List Function) (n : ℕ) (f : Function) → slice_get fs n ≡ Some f → list_all has_few fs ≡ true → has_few f ≡ true
-found [] n f e h = absurd (cc e)
-found (g ∷ fs) zero f e h = let same : g ≡ f = cc e in subst (λ (k : Function). has_few k ≡ true) same (and_parts (has_few g) (list_all has_few fs) h).0
-found (g ∷ fs) (suc n) f e h = found fs n f e (and_parts (has_few g) (list_all has_few fs) h).1
-
--- so has each call of a function that is found in such a scenario
-pub function-has-few : (c : Scenario) (n : ℕ) (f : Function) → slice_get c.functions n ≡ Some f → HasFewCalls c → HasFew f.body
-function-has-few c n f e h = (most_timeouts, found c.functions n f e h)
-
--- also where there is no function of this number
-pub function-at-few : (c : Scenario) (n : ℕ) → HasFewCalls c → HasFew (unwrap_or (slice_get c.functions n) no_function).body
-function-at-few c n h = by (slice_get c.functions n) refl
-  where
-    by : (o : Option Function) → slice_get c.functions n ≡ o → HasFew (unwrap_or o no_function).body
-    by None e = none-few
-    by (Some f) e = function-has-few c n f e h

@@ -10,7 +10,8 @@ use Rattle.gv_values.specs.declared.name.Name.{Name}
 use Rattle.scenario_tree.specs.declared.tree.Declaration.{Declaration}
 use Rattle.scenario_tree.specs.declared.tree.Function.{Function}
 use Rattle.scenario_tree.specs.declared.tree.Scenario.{Scenario}
-use Rattle.scenario_grammar.specs.Reasons.{Reason}
+use Rattle.scenario_grammar.specs.declared.reason.RuleReason.{RuleReason}
+use Rattle.scenario_grammar.specs.declared.reason.RuleReason.TheVariants as rule
 use Rattle.scenario_grammar.specs.Spells.{is_main}
 use Rattle.scenario_rules.specs.declared.mention.Mention.{Mention}
 use Rattle.scenario_rules.specs.declared.mention.Says.{Says}
@@ -18,7 +19,6 @@ use Rattle.scenario_rules.specs.declared.mention.Says.TheVariants as says
 use Rattle.scenario_rules.specs.Declarations.{function_entry, object_entry}
 use Rattle.scenario_rules.specs.Mentions.{block_mentions, mentions, most_timeouts, on}
 use Rattle.scenario_rules.specs.Rules.{IsWellFormed, function_refusals, is_declared, is_undeclared, refused, word_refusals}
-use Rattle.scenario_rules.specs.Reasons.{undeclared}
 use Rattle.unbuilt_forms.specs.Built.{IsBuilt, unbuilt_in_function, unless}
 use Rattle.machine.specs.Expressions.{function_number}
 use Rattle.machine.specs.Landing.{lands, starts}
@@ -45,7 +45,7 @@ found x (f ∷ fs) h = by (pointwise nat_eq x f.name) h (found x fs)
 
 -- ---- the rules
 
-kept : (reason : Reason) (line : ℕ) (so : Bool) → refused reason line (not so) ≡ [] → so ≡ true
+kept : (reason : RuleReason) (line : ℕ) (so : Bool) → refused reason line (not so) ≡ [] → so ≡ true
 kept reason line true h = refl
 kept reason line false h = absurd (cc h)
 
@@ -56,8 +56,8 @@ word-known c f m o h = by m.says (none-left _ _ (none-left _ _ (none-left _ _ (n
     declared : (x : Name) → is_declared c x ≡ true → is_some (lookup (pointwise nat_eq x) (map function_entry c.functions)) ≡ true
     declared x e = sym (ap (λ (ds : List Declaration). is_some (lookup (pointwise nat_eq x) (map object_entry ds ++ map function_entry c.functions))) o) ∙ e
 
-    by : (w : Says) → refused undeclared m.line (is_undeclared c f w) ≡ [] → knows c w ≡ true
-    by (says.Calls n x) e = tested _ _ (found x c.functions (declared x (kept undeclared m.line (is_declared c x) e)))
+    by : (w : Says) → refused rule.Undeclared m.line (is_undeclared c f w) ≡ [] → knows c w ≡ true
+    by (says.Calls n x) e = tested _ _ (found x c.functions (declared x (kept rule.Undeclared m.line (is_declared c x) e)))
     by w e = refl
 
 words-known : (c : Scenario) (f : Function) (ms : List Mention) → c.objects ≡ [] → flat_map (word_refusals c f) ms ≡ [] → AreKnown c ms

@@ -17,13 +17,12 @@ use Rattle.unbuilt_forms.specs.Built.{is_built, is_built_command}
 use Rattle.machine.specs.declared.state.Leaving.{Leaving}
 use Rattle.machine.specs.declared.state.Local.{Local}
 use Rattle.machine.specs.declared.state.Todo.{Todo}
-use Rattle.machine.specs.State.{Name}
+use Rattle.machine.specs.State.{Name, State}
 use Rattle.machine.specs.Expressions.{Around, meaning, function_number}
 use Rattle.machine.specs.BodyMoves.{Asked, Did, action_move, asked, body_move, command_move, giving_request, many, on_value, one, tested, timed, values, while_move}
 use Rattle.machine.specs.declared.request.Request.{Request}
 use Rattle.machine.specs.Unwinding.{Caught, Unwound, bind_if, block_first, catching, finally_first, unwind}
 use Rattle.machine_soundness.proofs.Lists.{left, right, both}
-use Rattle.machine.specs.State.{State}
 use Rattle.machine.specs.Greenlets.{frame_of, greenlet}
 use Rattle.machine_soundness.specs.Going.{IsGoing, is_meant_did, is_meant_move, is_meant_request, is_plain, next_did}
 use Rattle.machine_soundness.proofs.Greenlets.{live-found, plain-here}
@@ -208,12 +207,12 @@ pub next-runnable : (g : ℕ) (s : State) → IsRunnable s → is_runnable_did s
 next-runnable g s h = body_move-runnable (frame_of (greenlet g s).phase).todo _ (frame-runnable g s h)
 
 -- one that is not raw may ask what is run so far
-did-meant : (c : Scenario) (count : ℕ) (d : Did) → is_runnable_did c d ≡ true → is_meant_did true count d ≡ true
-did-meant c count (Did.GoesOn how locals todo) h = refl
-did-meant c count (Did.Enters ms silent body todo) h = refl
-did-meant c count (Did.Asks request x todo) h = by request (left _ (is_runnable_rest c todo) h)
+did-meant : (c : Scenario) (d : Did) → is_runnable_did c d ≡ true → is_meant_did true d ≡ true
+did-meant c (Did.GoesOn how locals todo) h = refl
+did-meant c (Did.Enters ms silent body todo) h = refl
+did-meant c (Did.Asks request x todo) h = by request (left _ (is_runnable_rest c todo) h)
   where
-    by : (r : Request) → is_runnable_request c r ≡ true → is_meant_request true count r ≡ true
+    by : (r : Request) → is_runnable_request c r ≡ true → is_meant_request true r ≡ true
     by (Request.Print v) e = refl
     by (Request.Spawn f args) e = refl
     by (Request.Sleep ms) e = refl
@@ -222,7 +221,7 @@ did-meant c count (Did.Asks request x todo) h = by request (left _ (is_runnable_
 
 pub move-meant : (g : ℕ) (s : State) → IsRunnable s → is_plain s.greenlets g ≡ true → is_meant_move g s ≡ true
 move-meant g s h p =
-    subst (λ (b : Bool). is_meant_did b (length s.greenlets) (next_did g s) ≡ true) (sym p) (did-meant s.scenario (length s.greenlets) (next_did g s) (next-runnable g s h))
+    subst (λ (b : Bool). is_meant_did b (next_did g s) ≡ true) (sym p) (did-meant s.scenario (next_did g s) (next-runnable g s h))
 
 -- one that may go on is there
 pub going-plain : (g : ℕ) (s : State) → IsRunnable s → IsGoing g s → is_plain s.greenlets g ≡ true

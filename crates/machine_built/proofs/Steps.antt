@@ -1,5 +1,5 @@
 -- Each step of a run leads from a runnable state to one.
-use Rattle.std.proofs.Common.{◌≡◌, refl, sym, subst, ℕ, ◌+◌, ◌-◌, Bool, true, false, List, [], ◌∷◌, length}
+use Rattle.std.proofs.Common.{◌≡◌, ◌∙◌, refl, ap, sym, subst, ℕ, zero, suc, ◌+◌, Bool, true, false, List, [], ◌∷◌, length, map}
 use Rattle.std.specs.Prelude.{◌==◌, slice_get, Option, Some, None, if◌then◌else◌}
 use Rattle.gv_values.specs.declared.value.Value.{Value}
 use Rattle.gv_values.specs.declared.value.Outcome.{Outcome}
@@ -22,10 +22,10 @@ use Rattle.machine.specs.declared.state.Local.{Local}
 use Rattle.machine.specs.declared.state.Phase.{Phase}
 use Rattle.machine.specs.State.{State, say}
 use Rattle.machine.specs.Questions.{any_numbered, arrives, block_line, job_done, take_answer}
-use Rattle.machine.specs.Deliveries.{arguments, deliver, delivers, interrupts, without, without_item, without_wait}
+use Rattle.machine.specs.Deliveries.{arguments, deliver, delivers, interrupts, since_of_wake, without, without_item, without_offer_by, without_wait}
 use Rattle.machine.specs.BodyMoves.{Did}
 use Rattle.machine.specs.declared.request.Request.{Request}
-use Rattle.machine.specs.Holds.{newcomer_completes}
+use Rattle.machine.specs.Holds.{job_at, newcomer_completes}
 use Rattle.machine.specs.Landing.{Landing, Next, after_end, answered, given, goes_on, lands, starts}
 use Rattle.machine.specs.Greenlets.{add_greenlet, frame_of, function_of, greenlet, has_greenlet_left, named, with_phase}
 use Rattle.machine.specs.Items.{drop_items, is_timeout_of, is_wait_of}
@@ -37,6 +37,7 @@ use Rattle.machine.specs.Unwinding.{Unwound, unwind}
 use Rattle.machine.specs.Run.{silent}
 use Rattle.machine.specs.Settle.{settle}
 use Rattle.machine.specs.Waits.{Performed, comes, completes, parked, until_of, waits}
+use Rattle.machine.specs.Objects.{without_offer}
 use Rattle.machine.specs.declared.state.Todo.{Todo}
 use Rattle.machine_soundness.specs.Going.{next_did}
 use Rattle.machine_soundness.proofs.Lists.{left, right, both}
@@ -97,17 +98,17 @@ runs-spawn f args s e h = by (has_greenlet_left s)
 pub runs-parked : (g : ℕ) (word : Awaited) (w : Waiting) (s : State) → is_runnable_delivery (Delivery.Wake g w) ≡ true → IsRunnable s → IsRunnable (parked g word w None s)
 runs-parked g word w s e h = runs-add (Delivery.Wake g w) (say (Line.Park g word (until_of w None)) s) e (runs-say (Line.Park g word (until_of w None)) s h)
 
-pub runs-completes : (g : ℕ) (w : Waiting) (s : State) → is_runnable_delivery (Delivery.Wake g w) ≡ true → IsRunnable s → IsPerformedRunnably (completes g w s)
-runs-completes g (Waiting.Sleep until) s e h = h
-runs-completes g (Waiting.Join k) s e h = h
-runs-completes g w s e h = absurd (cc e)
+pub runs-completes : (g since : ℕ) (w : Waiting) (s : State) → is_runnable_delivery (Delivery.Wake g w) ≡ true → IsRunnable s → IsPerformedRunnably (completes g since w s)
+runs-completes g since (Waiting.Sleep until) s e h = h
+runs-completes g since (Waiting.Join k) s e h = h
+runs-completes g since w s e h = absurd (cc e)
 
 pub runs-comes : (g : ℕ) (word : Awaited) (w : Waiting) (s : State) → is_runnable_delivery (Delivery.Wake g w) ≡ true → IsRunnable s →
     IsPerformedRunnably (comes g word w Wait.Block s)
 runs-comes g word w s e h = by (newcomer_completes s g w)
   where
-    by : (b : Bool) → IsPerformedRunnably (if b then completes g w s else waits g word w Wait.Block s)
-    by true = runs-completes g w s e h
+    by : (b : Bool) → IsPerformedRunnably (if b then completes g s.next_since w s else waits g word w Wait.Block s)
+    by true = runs-completes g s.next_since w s e h
     by false = runs-parked g word w s e h
 
 runs-typed : {A : Type 0} (x : Option A) (s : State) (go : A → Performed) → IsRunnable s → ((y : A) → IsPerformedRunnably (go y)) → IsPerformedRunnably (typed x s go)
@@ -151,40 +152,43 @@ runs-move g s h = runs-does g _ (next_did g s) (record s { moves = s.moves + 1 }
 
 -- ---- deliveries
 
+-- there is no channel whose offer could go
+runs-no-offer : (since : Option ℕ) (s : State) → IsRunnable s → IsRunnable (without_offer_by since s)
+runs-no-offer None s h = h
+runs-no-offer (Some since) s h =
+    record { bodies = h.bodies; some_function = h.some_function; greenlets = h.greenlets; items = h.items; objects = ap (map (without_offer since)) h.objects; jobs = h.jobs }
+
 pub runs-interrupts : (g : ℕ) (f : FaultKind) (s : State) → IsRunnable s → IsRunnableAt (interrupts g f s)
 unfolding interrupts
 runs-interrupts g f s h =
-    let t = say (Line.Throw g f) (without_wait g s) in
-    runs-answered g (Outcome.Fault f) (settle t) (runs-settle t (runs-say (Line.Throw g f) (without_wait g s) (runs-drop (is_wait_of g) s h)))
+    let r = without_offer_by (since_of_wake g s.items) s in
+    let t = say (Line.Throw g f) (without_wait g r) in
+    runs-answered g (Outcome.Fault f) (settle t) (runs-settle t (runs-say (Line.Throw g f) (without_wait g r) (runs-drop (is_wait_of g) r (runs-no-offer (since_of_wake g s.items) s h))))
 
 pub runs-without : (i : Item) (s : State) → IsRunnable s → IsRunnable (without_item i s)
 runs-without i s h = runs-items (without i.since s.items) s (all-without _ i.since s.items h.items) h
 
-pub runs-delivers : (d : Delivery) (s : State) → is_runnable_delivery d ≡ true → IsRunnable s → IsRunnableAt (delivers d s)
-runs-delivers (Delivery.Start g None) s e h = runs-starts lands g (arguments (greenlet g s).phase) s h
-runs-delivers (Delivery.Wake g w) s e h =
+pub runs-delivers : (since : ℕ) (d : Delivery) (s : State) → is_runnable_delivery d ≡ true → IsRunnable s → IsRunnableAt (delivers since d s)
+runs-delivers since (Delivery.Start g None) s e h = runs-starts lands g (arguments (greenlet g s).phase) s h
+runs-delivers since (Delivery.Wake g w) s e h =
     let t = without_wait g (say (Line.Resume g Resumed.Wake) s) in
-    runs-follows g (completes g w t) (runs-completes g w t e (runs-drop (is_wait_of g) _ (runs-say (Line.Resume g Resumed.Wake) s h)))
-runs-delivers d s e h = absurd (cc e)
+    runs-follows g (completes g since w t) (runs-completes g since w t e (runs-drop (is_wait_of g) _ (runs-say (Line.Resume g Resumed.Wake) s h)))
+runs-delivers since d s e h = absurd (cc e)
 
 pub runs-deliver : (at : ℕ) (i : Item) (s : State) → slice_get s.items at ≡ Some i → IsRunnable s → IsRunnableAt (deliver i s)
 unfolding deliver
-runs-deliver at i s there h = by i.delivery (item-runnable at i s there h) (runs-delivers i.delivery (without_item i s) (item-runnable at i s there h) (runs-without i s h))
-  where
-    by : (d : Delivery) → is_runnable_delivery d ≡ true → IsRunnableAt (delivers i.delivery (without_item i s)) →
-        IsRunnableAt (elim d [ Delivery.Late g deadline m ↦ delivers i.delivery s | _ ↦ delivers i.delivery (without_item i s) ])
-    by (Delivery.Late g deadline m) e t = absurd (cc e)
-    by (Delivery.Start g deadline) e t = t
-    by (Delivery.Wake g w) e t = t
-    by (Delivery.Timeout g m deadline) e t = t
-    by (Delivery.Kill g f) e t = t
-    by (Delivery.Link k g kind f) e t = t
+runs-deliver at i s there h = runs-delivers i.since i.delivery (without_item i s) (item-runnable at i s there h) (runs-without i s h)
 
 -- ---- answers
 
 -- there are no jobs
-runs-arrives : (j : ℕ) (o : JobOutcome) (js : List JobState) (s : State) → js ≡ [] → IsRunnable s → IsRunnable (arrives j o (slice_get js (j - 1)) s)
-runs-arrives j o js s e h = subst (λ (ks : List JobState). IsRunnable (arrives j o (slice_get ks (j - 1)) s)) (sym e) h
+no-job : (j : ℕ) → job_at j [] ≡ None
+no-job zero = refl
+no-job (suc j) = refl
+
+runs-arrives : (j : ℕ) (o : JobOutcome) (js : List JobState) (s : State) → js ≡ [] → IsRunnable s → IsRunnable (arrives j o (job_at j js) s)
+runs-arrives j o js s e h =
+    let none : job_at j js ≡ None = ap (job_at j) e ∙ no-job j in subst (λ (job : Option JobState). IsRunnable (arrives j o job s)) (sym none) h
 
 pub runs-job_done : (answer : Answer) (s : State) → IsRunnable s → IsRunnable (job_done answer s)
 runs-job_done (Answer.Nothing t) s h = h

@@ -11,8 +11,9 @@ use Rattle.machine.specs.declared.items.Item.{Item}
 use Rattle.machine.specs.declared.items.Delivery.{Delivery}
 use Rattle.machine.specs.declared.items.Waiting.{Waiting}
 use Rattle.machine.specs.Holds.{has_set_since, has_result, has_unit, is_free, has_room, has_item, all_finished, has_place, is_deserted, is_taken, has_offer, is_offer_of, wakes, is_take, below_room}
-use Rattle.machine.specs.Waits.{with_object, with_offer_taken, offer_of}
-use Rattle.machine.specs.Moves.{done, after_release, takes_value, finishes, with_shut}
+use Rattle.machine.specs.Objects.{with_object, with_offer_taken, offer_of}
+use Rattle.machine.specs.Requests.{done, finishes}
+use Rattle.machine.specs.Objects.{after_release, takes_value, with_shut}
 use Rattle.linked_items.specs.Items.{Lacks, Differ}
 use Rattle.linked_items.proofs.ItemLemmas.{differ_parts}
 use Rattle.waiters.proofs.PrefixLemmas.{not_among}

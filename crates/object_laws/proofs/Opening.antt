@@ -3,7 +3,7 @@ use Rattle.std.proofs.Common.{◌≡◌, ◌≢◌, ℕ, zero, suc, ◌+◌, ◌
 use Rattle.std.proofs.lemmas.Bool.{cases_lt}
 use Rattle.gv_values.specs.declared.value.Value.{Value}
 use Rattle.scenario_tree.specs.declared.tree.QueueKind.{QueueKind}
-use Rattle.machine.specs.Waits.{next_place, without_next}
+use Rattle.machine.specs.Objects.{next_place, without_next}
 use Rattle.linked_items.specs.Items.{items_of, without, without_entry, Differ}
 use Rattle.linked_items.proofs.ItemLemmas.{length_items, contains_at}
 use Rattle.wait_lines.specs.Lines.{told_left}

@@ -5,9 +5,10 @@ use Rattle.gv_values.specs.declared.value.Value.{Value}
 use Rattle.machine.specs.State.{State}
 use Rattle.machine.specs.declared.items.Item.{Item}
 use Rattle.machine.specs.Holds.{has_set_since, has_result, has_unit, is_free, has_room, has_item, all_finished, has_place, is_deserted, is_taken, has_offer, earlier, is_take}
-use Rattle.machine.specs.Waits.{with_object, next_value, with_unit_taken, with_owner, with_item, with_item_taken, item_of, is_shut, is_left, with_member, with_offer, with_offer_taken, offer_of, without_offer}
-use Rattle.machine.specs.Moves.{done, with_flag, after_release, takes_value, finishes, with_shut}
-use Rattle.machine.specs.Life.{without_member}
+use Rattle.machine.specs.Objects.{with_object, next_value, with_unit_taken, with_owner, with_item, with_item_taken, item_of, is_shut, is_left, with_member, with_offer, with_offer_taken, offer_of, without_offer}
+use Rattle.machine.specs.Requests.{done, finishes}
+use Rattle.machine.specs.Objects.{with_flag, after_release, takes_value, with_shut}
+use Rattle.machine.specs.Objects.{without_member}
 use Rattle.linked_items.specs.Items.{without, Differ}
 use Rattle.waiters.specs.OneSide.{IsAmongFirst}
 use Rattle.events_locks.specs.Seen.{SeenEvent, SeenResult, SeenSemaphore, SeenLock, free_places, owned_by, after_release as released}

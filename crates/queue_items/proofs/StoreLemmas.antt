@@ -3,7 +3,7 @@ use Rattle.std.proofs.Common.{◌≡◌, ℕ, ◌<◌, ◌-◌, List, length, Op
 use Rattle.std.proofs.lemmas.Option.{slice_get-get_or}
 use Rattle.gv_values.specs.declared.value.Value.{Value}
 use Rattle.scenario_tree.specs.declared.tree.QueueKind.{QueueKind}
-use Rattle.machine.specs.Waits.{next_value}
+use Rattle.machine.specs.Objects.{next_value}
 
 -- what a call gave of the last place is what is next
 pub newest : (kind : QueueKind) (r : Option Value) (vs : List Value) (n : ℕ) → kind ≡ QueueKind.Lifo → n ≡ length vs → (IsSome r → 0 < n) → IfSome r (λ v. v ≡ get_or vs (n - 1) v) → IfSome r (λ v. v ≡ next_value kind vs)

@@ -12,7 +12,7 @@ use Rattle.std.proofs.lemmas.Map.Keys.{IsDistinct-IsPermutation}
 use Rattle.std.proofs.lemmas.Bool.{cases_eq, cases_lt, eqb-true}
 use Rattle.gv_values.specs.declared.value.Value.{Value}
 use Rattle.scenario_tree.specs.declared.tree.QueueKind.{QueueKind}
-use Rattle.machine.specs.Waits.{least_from, least_place, next_value, without_next}
+use Rattle.machine.specs.Objects.{least_from, least_place, next_value, without_next}
 use Rattle.linked_items.specs.Items.{Lacks, Differ}
 use Rattle.linked_items.proofs.ItemLemmas.{absent_of_lacks}
 use Rattle.queue_items.specs.Parts.{find_number, added_int, by_number, ranks, numbers, rank_cmp}

@@ -1,6 +1,6 @@
 //! The items of a queue, with room that calls can count on.
 ghost use Rattle.std.specs.Prelude.{◌≡◌, ℕ, ◌+◌, ◌-◌, ◌<◌, ◌≤◌, List, [], ◌∷◌, ◌++◌, length, Option, Some, None, OnOk, OnErr, IfOk, IfSome, IfNone, IsTrue, ◌↔◌, option_copied};
-ghost use Rattle.machine.specs.Waits.{next_value, without_next};
+ghost use Rattle.machine.specs.Objects.{next_value, without_next};
 ghost use Rattle.queue_items.specs.Seen.{store, Takes, HasNumber, numbered_after};
 
 use crate::urgent::Urgent;

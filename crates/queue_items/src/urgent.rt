@@ -1,6 +1,6 @@
 //! Integers of which the least leaves first.
 ghost use Rattle.std.specs.Prelude.{◌≡◌, ℕ, ◌+◌, ◌-◌, ◌<◌, ◌≤◌, ◌^◌, List, [], ◌∷◌, ◌++◌, length, Option, Some, None, OnOk, OnErr, IfSome, IfNone, ◌↔◌};
-ghost use Rattle.machine.specs.Waits.{next_value, without_next};
+ghost use Rattle.machine.specs.Objects.{next_value, without_next};
 ghost use Rattle.gv_values.specs.declared.value.Value.{Value};
 ghost use Rattle.scenario_tree.specs.declared.tree.QueueKind.{QueueKind};
 ghost use Rattle.queue_items.specs.Seen.{urgent};

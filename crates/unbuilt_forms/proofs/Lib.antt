@@ -1,4 +1,3 @@
 pub mod ByForm
 pub mod FirstLine
 pub mod Layers
-mod Rows

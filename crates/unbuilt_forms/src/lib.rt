@@ -5,8 +5,6 @@ mod blocks;
 mod commands;
 mod expressions;
 mod lines;
-#[cfg(test)]
-mod tests;
 mod whole;
 
 pub use whole::unbuilt;

@@ -6,7 +6,6 @@ ghost use Rattle.unbuilt_forms.specs.Built.{IsBuilt, first_line, first_unbuilt, 
 
 use crate::blocks::in_block;
 use crate::lines::noted;
-use scenario_check::Checked;
 use scenario_tree::{Declaration, Function, Scenario};
 
 fn in_objects(found: Option<u32>, objects: &[Declaration]) -> Option<u32>
@@ -38,20 +37,20 @@ fn in_functions(found: Option<u32>, functions: &[Function]) -> Option<u32>
     first
 }
 
+/// The first line of the scenario that has a form which is not run so far; none exactly where every
+/// line is run. The line `profile 2` by itself is no such form.
+#[tactic(auto, using(crate::proofs::FirstLine::none_is_built))]
+pub fn unbuilt(scenario: &Scenario) -> Option<u32>
+    ensures first { result ≡ first_unbuilt scenario.now }
+    ensures built { (result ≡ None) ↔ IsBuilt scenario.now }
+{
+    first_unbuilt(scenario)
+}
+
 #[tactic(auto, using(crate::proofs::FirstLine::first_both), unfolding(crate::specs::Built::first_unbuilt))]
 fn first_unbuilt(scenario: &Scenario) -> Option<u32>
     ensures { result ≡ first_unbuilt scenario.now }
 {
     let found = in_objects(None, scenario.objects.as_slice());
     in_functions(found, scenario.functions.as_slice())
-}
-
-/// The first line of the scenario that has a form which is not run so far; none exactly where every
-/// line is run.
-#[tactic(auto, using(crate::proofs::FirstLine::none_is_built))]
-pub fn unbuilt(checked: &Checked) -> Option<u32>
-    ensures first { result ≡ first_unbuilt checked.now }
-    ensures built { (result ≡ None) ↔ IsBuilt checked.now }
-{
-    first_unbuilt(checked.scenario().tree())
 }

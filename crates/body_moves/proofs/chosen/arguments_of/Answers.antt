@@ -1,7 +1,7 @@
 use Rattle.std.proofs.Common.{◌≡◌, ◌∙◌, ap, subst, sym, length, Ok, arith}
 use Rattle.machine.specs.Bodies.{around}
 use Rattle.machine.specs.BodyMoves.{values}
-use Rattle.machine_arguments.proofs.Bodies.{HasLength, values-length}
+use Rattle.body_moves.proofs.Counts.{HasLength, values-length}
 use Rattle.body_moves.proofs.chosen.arguments_of.Goals as goal
 
 pub new-requires : goal.new-requires

@@ -43,7 +43,7 @@ returns-then-left-eq0-clause-next g c =
 pub loop-at-preserved : goal.loop-at-preserved
 loop-at-preserved g c =
     let some : 0 < c.loop-at.left = omega (arith, c.if-left-eq0.false) in (
-      moved_on _ _ _ _ c.loop-at.left c.loop-at.at _ _ _ c.loop-at.hub c.give_out.new.hub c.make_move.new.hub some c.in-Going.is c.loop-at.invariant.0
+      moved_on _ _ _ _ c.loop-at.left c.loop-at.at _ _ _ c.loop-at.hub c.give_out.new.hub c.step_greenlet.new.hub some c.in-Going.is c.loop-at.invariant.0
           c.in_ok-give_out.ensures.posts c.in_ok-give_out.ensures.written c.in_ok-give_out.ensures.silent c.in_ok-at-in-Going.ensures.moved,
       omega (arith, c.loop-at.invariant.1, c.give_out.ensures.never_falls),
       c.in_ok-at-in-Going.ensures.ready,

@@ -1,6 +1,6 @@
 use Rattle.std.proofs.Common.{subst}
-use Rattle.machine_arguments.specs.Few.{HasFewCalls}
-use Rattle.machine_arguments.proofs.Calls.{function-at-few}
+use Rattle.body_values.specs.Few.{HasFewCalls}
+use Rattle.body_values.proofs.Few.{function-at-few}
 use Rattle.body_values.proofs.code.Code.function_at.Goals as goal
 
 pub returns-clause-few : goal.returns-clause-few
