@@ -37,6 +37,7 @@ fn is_kind(kind: Wanted, object: Object) -> bool
         Wanted::JoinQueue => matches!(object, Object::Queue(QueueKind::Join, _)),
         Wanted::GroupOrPool => matches!(object, Object::Group | Object::Pool(_)),
         Wanted::NativePool => matches!(object, Object::Native(_)),
+        Wanted::Channel => matches!(object, Object::Channel),
     }
 }
 

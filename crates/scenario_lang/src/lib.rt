@@ -6,8 +6,6 @@ mod kind;
 mod reason;
 mod role;
 mod scenario;
-#[cfg(test)]
-mod tests;
 mod text;
 
 pub use reason::reason_text;

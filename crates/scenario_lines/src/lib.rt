@@ -5,10 +5,10 @@ mod cursor;
 mod expression;
 mod giving;
 mod head;
+mod kind;
 mod layout;
 mod phrase;
 mod refusal;
-mod row;
 mod token;
 
 pub use cursor::Cursor;
@@ -17,5 +17,5 @@ pub use giving::read_giving;
 pub use head::expression_head;
 pub use layout::{Front, cut_at, first_line, line_tokens, skip_blanks};
 pub use phrase::{is_given_line, read_phrase};
-pub use refusal::{BLANK_OUT_OF_PLACE, LineRefusal};
+pub use refusal::LineRefusal;
 pub use token::read_token;
