@@ -2,7 +2,6 @@ pub mod Bare
 pub mod Blocks
 pub mod Building
 pub mod Expressions
-pub mod FirstForm
 pub mod Keywords
 pub mod Layout
 pub mod Parsed
@@ -11,6 +10,5 @@ pub mod Places
 pub mod Printed
 pub mod Reading
 pub mod Reasons
-pub mod Refusals
 pub mod Spells
 pub mod Tokens

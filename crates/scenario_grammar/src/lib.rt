@@ -8,6 +8,7 @@ mod keyword;
 mod laws;
 mod phrase;
 mod place;
+mod reason;
 mod token;
 
 pub use building::{OpenBlock, Opening};
@@ -19,4 +20,5 @@ pub use laws::{
 };
 pub use phrase::Phrase;
 pub use place::Place;
+pub use reason::{RuleReason, TextReason, reason_text};
 pub use token::Token;

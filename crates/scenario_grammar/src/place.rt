@@ -3,6 +3,6 @@
 pub struct Place {
     /// The number of the line, from 1.
     pub line: u32,
-    /// The number of the reason.
+    /// The number of a [`TextReason`](crate::TextReason) or of a [`RuleReason`](crate::RuleReason).
     pub reason: u8,
 }

@@ -77,19 +77,19 @@ role_of_word k.ChannelGet = role.Gives
 role_of_word _ = role.Nothing
 
 -- what the word makes of its line, as the grammar names it
-abbrev pub line_role : WordRole → places.Role
-line_role role.Profiles = places.Profiles
-line_role role.Declares = places.Declares
-line_role role.Defines = places.Defines
-line_role role.Opens = places.Opens
-line_role role.Parts = places.Parts
-line_role role.Catches = places.Catches
-line_role role.Finishes = places.Finishes
-line_role role.Ends = places.Ends
-line_role role.Commands = places.States
-line_role role.CommandsObject = places.States
-line_role role.Gives = places.States
-line_role role.Nothing = places.Unknown
+abbrev pub grammar_role : WordRole → places.Role
+grammar_role role.Profiles = places.Profiles
+grammar_role role.Declares = places.Declares
+grammar_role role.Defines = places.Defines
+grammar_role role.Opens = places.Opens
+grammar_role role.Parts = places.Parts
+grammar_role role.Catches = places.Catches
+grammar_role role.Finishes = places.Finishes
+grammar_role role.Ends = places.Ends
+grammar_role role.Commands = places.States
+grammar_role role.CommandsObject = places.States
+grammar_role role.Gives = places.States
+grammar_role role.Nothing = places.Unknown
 
 -- whether it begins a statement that gives a value
 abbrev pub gives_value : WordRole → Bool

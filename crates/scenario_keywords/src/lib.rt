@@ -5,4 +5,4 @@ mod keyword;
 mod role;
 
 pub use keyword::{find_keyword, keyword_text};
-pub use role::{WordRole, word_profile, word_role};
+pub use role::{WordRole, gives_value, word_profile, word_role};

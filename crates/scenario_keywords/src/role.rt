@@ -3,7 +3,7 @@ ghost use Rattle.std.specs.Prelude.{◌≡◌};
 ghost use Rattle.scenario_grammar.specs.Keywords.{profile_of};
 ghost use Rattle.scenario_grammar.specs.Places.{role_by};
 ghost use Rattle.scenario_grammar.specs.Reading.{gives};
-ghost use Rattle.scenario_keywords.specs.Roles.{gives_value, line_role, role_of_word};
+ghost use Rattle.scenario_keywords.specs.Roles.{gives_value, grammar_role, role_of_word};
 
 use scenario_grammar::Keyword;
 
@@ -39,7 +39,7 @@ pub enum WordRole {
 /// The one table of the words that begin lines.
 pub fn word_role(word: Keyword) -> WordRole
     ensures role { result ≡ role_of_word word }
-    ensures line { line_role result ≡ role_by word }
+    ensures line { grammar_role result ≡ role_by word }
     ensures value { gives_value result ≡ gives word }
 {
     match word {
@@ -125,4 +125,11 @@ pub fn word_profile(word: Keyword) -> u8
         | Keyword::Immediate => 2,
         _ => 1,
     }
+}
+
+/// Whether the word begins a statement that gives a value.
+pub fn gives_value(word: Keyword) -> bool
+    ensures { result ≡ gives word }
+{
+    matches!(word_role(word), WordRole::Gives)
 }

@@ -28,19 +28,21 @@ impl<'a> Model for Cursor<'a> {
 }
 
 impl<'a> Cursor<'a> {
+    /// Before the first of these tokens.
     pub fn new(rest: &'a [Token]) -> Cursor<'a>
         ensures { result ≡ rest.now }
     {
         Cursor { rest }
     }
 
+    /// Whether no token is left.
     pub fn is_empty(&self) -> bool
         ensures { IsTrue result ↔ (self.now ≡ []) }
     {
         self.rest.is_empty()
     }
 
-    /// Takes the next token.
+    /// Takes the next token, none at the line's end.
     pub fn next(&mut self) -> Option<&'a Token>
         ensures { NextToken self.old (option_copied result) self.new }
     {
@@ -53,6 +55,7 @@ impl<'a> Cursor<'a> {
         }
     }
 
+    /// Takes a name. Where another word stands there, that word is taken and refused.
     #[tactic(auto, unfolding(scenario_grammar::specs::Reading::name_at))]
     pub fn name(&mut self) -> Result<Name, LineRefusal>
         ensures { Reads (name_at self.old) result self.new }
@@ -64,6 +67,7 @@ impl<'a> Cursor<'a> {
         }
     }
 
+    /// Takes `within` and its time in milliseconds, where that stands there.
     pub fn timed(&mut self) -> Result<Option<u64>, LineRefusal>
         ensures { Reads (timed_at self.old) result self.new }
     {
@@ -76,6 +80,7 @@ impl<'a> Cursor<'a> {
         }
     }
 
+    /// Takes `within` and its time in milliseconds, or `now`, where one of them stands there.
     pub fn wait(&mut self) -> Result<Wait, LineRefusal>
         ensures { Reads (wait_at self.old) result self.new }
     {
@@ -92,6 +97,7 @@ impl<'a> Cursor<'a> {
         }
     }
 
+    /// Takes an integer of 64 bits. Where another word stands there, that word is taken and refused.
     #[tactic(auto, unfolding(scenario_grammar::specs::Reading::integer_at))]
     pub fn integer(&mut self) -> Result<i64, LineRefusal>
         ensures { Reads (integer_at self.old) result self.new }
@@ -104,6 +110,8 @@ impl<'a> Cursor<'a> {
         }
     }
 
+    /// Takes a number of this range. Where another word stands there, that word is taken and
+    /// refused.
     #[tactic(auto, unfolding(scenario_grammar::specs::Reading::number_at))]
     pub fn number(&mut self, least: u64, greatest: u64) -> Result<u64, LineRefusal>
         ensures read { Reads (number_at least greatest self.old) result self.new }

@@ -14,6 +14,7 @@ use std::alloc::{AllocError, Global};
 /// How deep the levels of an expression are at most.
 const MOST_NESTED: u32 = 32;
 
+/// An expression that is no operand of another: of at most 32 levels.
 pub fn read_expression(alloc: Global, cursor: &mut Cursor<'_>) -> Result<Expression, LineRefusal>
     ensures { Reads (expression_at cursor.old) result cursor.new }
 {

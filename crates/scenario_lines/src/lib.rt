@@ -11,11 +11,6 @@ mod phrase;
 mod refusal;
 mod token;
 
-pub use cursor::Cursor;
-pub use expression::read_expression;
-pub use giving::read_giving;
-pub use head::expression_head;
 pub use layout::{Front, cut_at, first_line, line_tokens, skip_blanks};
 pub use phrase::{is_given_line, read_phrase};
 pub use refusal::LineRefusal;
-pub use token::read_token;

@@ -1,4 +1,3 @@
 pub mod Declarations
 pub mod Mentions
-pub mod Reasons
 pub mod Rules

@@ -1,0 +1,134 @@
+//! Why a text or a scenario is refused, by names; the numbers are those that a refusal shows.
+ghost use Rattle.std.specs.Prelude.{◌≡◌, ◌≤◌};
+ghost use Rattle.scenario_grammar.specs.Reasons.{reason_text, rule_number, text_number};
+
+/// Why bytes are no text of a scenario.
+#[derive(Clone, Copy, Debug, PartialEq, Eq)]
+pub enum TextReason {
+    /// The text is longer than 1048576 bytes.
+    TooLarge,
+    /// A byte is neither LF nor printable ASCII.
+    NotPrintable,
+    /// The last line is not ended by LF.
+    NotEnded,
+    /// Two blanks stand between words, or one at the end of a line.
+    BlankOutOfPlace,
+    /// A fixed word is wanted, and none fits.
+    UnknownWord,
+    /// A word is wanted, and none is left.
+    TooShort,
+    /// Words are left.
+    TooLong,
+    /// A number is not in its one spelling.
+    MisspelledNumber,
+    /// A number is out of its range.
+    OutOfRange,
+    /// A name is wanted.
+    NotAName,
+    /// `end`, `else`, `except` or `finally` where none may stand, or a `try` that ends with neither
+    /// an except nor a finally.
+    BlockWordOutOfPlace,
+    /// A block is open at the end of the text.
+    NotClosed,
+    /// A declaration stands after a function, a statement outside one, a function inside one, or a
+    /// line of the profile behind another line.
+    LineOutOfPlace,
+    /// No line is a `def` of `main`.
+    NoMain,
+    /// Blocks or an expression nest past 32 levels.
+    NestedTooDeep,
+}
+
+impl TextReason {
+    /// The number that a refusal shows.
+    pub fn number(self) -> u8
+        ensures { result ≡ text_number self }
+    {
+        match self {
+            TextReason::TooLarge => 1,
+            TextReason::NotPrintable => 2,
+            TextReason::NotEnded => 3,
+            TextReason::BlankOutOfPlace => 4,
+            TextReason::UnknownWord => 5,
+            TextReason::TooShort => 6,
+            TextReason::TooLong => 7,
+            TextReason::MisspelledNumber => 8,
+            TextReason::OutOfRange => 9,
+            TextReason::NotAName => 10,
+            TextReason::BlockWordOutOfPlace => 11,
+            TextReason::NotClosed => 12,
+            TextReason::LineOutOfPlace => 13,
+            TextReason::NoMain => 14,
+            TextReason::NestedTooDeep => 21,
+        }
+    }
+}
+
+/// Why a scenario that has a text breaks the rules on its names, counts and limits.
+#[derive(Clone, Copy, Debug, PartialEq, Eq)]
+pub enum RuleReason {
+    /// A name is used that nothing declares.
+    Undeclared,
+    /// The later of two declarations of one name.
+    DeclaredTwice,
+    /// A name stands for what it is not declared as.
+    WrongKind,
+    /// The count of parameters or of arguments is wrong.
+    WrongCount,
+    /// A statement that asks the hub stands in a raw body.
+    HubInRawBody,
+    /// Timeout blocks nest past 8.
+    TimeoutsTooDeep,
+    /// There are more objects, functions, parameters or local names than there may be.
+    TooMany,
+}
+
+impl RuleReason {
+    /// The number that a refusal shows.
+    pub fn number(self) -> u8
+        ensures { result ≡ rule_number self }
+    {
+        match self {
+            RuleReason::Undeclared => 15,
+            RuleReason::DeclaredTwice => 16,
+            RuleReason::WrongKind => 17,
+            RuleReason::WrongCount => 18,
+            RuleReason::HubInRawBody => 19,
+            RuleReason::TimeoutsTooDeep => 20,
+            RuleReason::TooMany => 22,
+        }
+    }
+}
+
+/// The text that a refusal shows for the reason of this number, of which there are 22.
+pub fn reason_text(reason: u8) -> &'static str
+    requires from_one { 1 ≤ reason }
+    requires to_22 { reason ≤ 22 }
+    ensures { result.now ≡ reason_text reason }
+{
+    match reason {
+        1 => "text longer than 1048576 bytes",
+        2 => "byte that is not printable ASCII",
+        3 => "last line not ended",
+        4 => "blank out of place",
+        5 => "unknown word",
+        6 => "line too short",
+        7 => "line too long",
+        8 => "number not in its one spelling",
+        9 => "number out of range",
+        10 => "name not allowed",
+        11 => "block word out of place",
+        12 => "block not closed",
+        13 => "line out of place",
+        14 => "no main",
+        15 => "undeclared name",
+        16 => "name declared twice",
+        17 => "wrong kind of name",
+        18 => "wrong count of parameters or arguments",
+        19 => "hub statement in a raw body",
+        20 => "timeout blocks nested past 8",
+        21 => "nesting past 32",
+        22 => "too many declarations",
+        _ => unreachable!(),
+    }
+}
