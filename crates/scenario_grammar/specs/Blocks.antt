@@ -1,5 +1,5 @@
 -- The lines of blocks, functions and scenarios.
-use Rattle.std.specs.Prelude.{ℕ, zero, suc, Bool, true, false, ◌==◌, if◌then◌else◌, List, [], ◌∷◌, Option, Some, None}
+use Rattle.std.specs.Prelude.{ℕ, zero, suc, Bool, true, false, List, [], ◌∷◌, Option, Some, None}
 use Rattle.scenario_tree.specs.declared.tree.Action.{Action, Action-F, out-Action}
 use Rattle.scenario_tree.specs.declared.tree.Declaration.{Declaration}
 use Rattle.scenario_tree.specs.declared.tree.Except.{Except, out-Except}
@@ -75,10 +75,6 @@ declaration_rows d = line d.line (phrase.Declaration d.name d.object)
 abbrev pub function_rows : Function → Written Row
 function_rows f = line f.line (phrase.Function f.is_raw f.name f.parameters) ⊕ block_within most_levels f.body ⊕ mark phrase.End
 
--- The line `profile 2` where the tree is of profile 2. A tree of profile 1 has no such line, and one of another profile has no text.
-abbrev pub profile_rows : ℕ → Written Row
-profile_rows profile = if profile == 1 then Some [] else only_if (profile == 2) (mark phrase.Profile)
-
--- all lines of a tree: its profile, the declarations, then the functions
+-- all lines of a tree: the declarations, then the functions
 unfoldable pub scenario_rows : Scenario → Written Row
-scenario_rows s = profile_rows s.profile ⊕ each declaration_rows s.objects ⊕ each function_rows s.functions
+scenario_rows s = each declaration_rows s.objects ⊕ each function_rows s.functions

@@ -13,9 +13,8 @@ use Rattle.scenario_grammar.specs.declared.building.OpenBlock.{OpenBlock}
 use Rattle.scenario_grammar.specs.declared.building.Opening.{Opening}
 use Rattle.scenario_grammar.specs.declared.building.Opening.TheVariants as opening
 
--- the profile, the objects and functions so far, and the open blocks, the innermost first
+-- the objects and functions so far, and the open blocks, the innermost first
 pub record Building : Type 0 where
-  pub profile : ℕ
   pub objects : List Declaration
   pub functions : List Function
   pub open_blocks : List OpenBlock
@@ -77,7 +76,6 @@ ended b = elim b.open_blocks [ [] ↦ b | o ∷ os ↦ closed_by b o o.opening o
 
 -- one more line
 abbrev pub step : Building → ℕ → Phrase → Building
-step b n phrase.Profile = record b { profile = 2 }
 step b n (phrase.Declaration name object) = record b { objects = b.objects ++ record { line = n; name = name; object = object } ∷ [] }
 step b n (phrase.Function is_raw name parameters) = opened n (opening.Function is_raw name parameters) b
 step b n (phrase.Command c) = added (at n (a.Command c) ∷ []) b

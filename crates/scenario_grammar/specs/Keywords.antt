@@ -139,7 +139,7 @@ spelling k.Error = codes "Error"
 abbrev pub is_spelled : List ℕ → Keyword → Bool
 is_spelled w k = pointwise nat_eq (spelling k) w
 
--- all fixed words, of every profile
+-- all fixed words, those that are reserved for later among them
 unfoldable pub keywords : List Keyword
 keywords =
     k.Event ∷ k.Result ∷ k.Sem ∷ k.BoundedSem ∷ k.Lock ∷ k.Queue ∷ k.Fifo ∷ k.Lifo ∷ k.Priority ∷ k.Join
@@ -161,12 +161,3 @@ keywords =
 -- the fixed word that this is
 unfoldable pub keyword_of : List ℕ → Option Keyword
 keyword_of w = find (is_spelled w) keywords
-
--- the profile that brought the word; `profile` itself is a fixed word of each
-abbrev pub profile_of : Keyword → ℕ
-profile_of k.Channel = 2
-profile_of k.ChannelPut = 2
-profile_of k.ChannelGet = 2
-profile_of k.QueueShut = 2
-profile_of k.Immediate = 2
-profile_of _ = 1

@@ -2,6 +2,7 @@ pub mod Bare
 pub mod Blocks
 pub mod Building
 pub mod Expressions
+pub mod FirstForm
 pub mod Keywords
 pub mod Layout
 pub mod Parsed
@@ -10,5 +11,6 @@ pub mod Places
 pub mod Printed
 pub mod Reading
 pub mod Reasons
+pub mod Refusals
 pub mod Spells
 pub mod Tokens

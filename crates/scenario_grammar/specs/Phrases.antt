@@ -83,8 +83,6 @@ command_tokens (command.QueueDone n) = k.QueueDone ▹ name n
 command_tokens (command.GroupJoin n t) = k.GroupJoin ▹ name n ⊕ timed t
 command_tokens (command.GroupKill n f now) = k.GroupKill ▹ name n ⊕ with_fault f ⊕ flag k.Now now
 command_tokens (command.SetParent e f) = k.SetParent ▹ expression e ⊕ expression f
-command_tokens (command.ChannelPut n e) = k.ChannelPut ▹ name n ⊕ expression e
-command_tokens (command.QueueShut n immediate) = k.QueueShut ▹ name n ⊕ flag k.Immediate immediate
 
 -- which ends a link is for
 abbrev pub link_keyword : LinkEnd → Keyword
@@ -130,7 +128,6 @@ giving_tokens (giving.NativeSpawn p kind e t) = k.NativeSpawn ▹ name p ⊕ fix
 giving_tokens (giving.Raw n e) = k.Raw ▹ name n ⊕ marked k.Under e
 giving_tokens (giving.Switch e f) = k.Switch ▹ expression e ⊕ expression f
 giving_tokens (giving.Throw e f) = k.Throw ▹ expression e ⊕ with_fault f
-giving_tokens (giving.ChannelGet n) = k.ChannelGet ▹ name n
 
 -- `NAME <-`
 abbrev pub target_tokens : Name → Written Token
@@ -182,7 +179,6 @@ object_tokens (object.Queue kind size) n = k.Queue ▹ name n ⊕ fixed (queue_k
 object_tokens object.Group n = k.Group ▹ name n
 object_tokens (object.Pool x) n = k.Pool ▹ name n ⊕ number 1 10000 x
 object_tokens (object.Native x) n = k.Native ▹ name n ⊕ number 1 64 x
-object_tokens object.Channel n = k.Channel ▹ name n
 
 -- `rawdef` has one parameter
 abbrev pub head_tokens : Bool → Name → List Name → Written Token
@@ -192,7 +188,6 @@ head_tokens true n _ = None
 
 -- the tokens of a line
 unfoldable pub phrase_tokens : Phrase → Written Token
-phrase_tokens phrase.Profile = k.Profile ▹ number 2 2 2
 phrase_tokens (phrase.Declaration n o) = object_tokens o n
 phrase_tokens (phrase.Function is_raw n parameters) = head_tokens is_raw n parameters
 phrase_tokens (phrase.Command c) = command_tokens c

@@ -31,19 +31,18 @@ use Rattle.scenario_grammar.specs.declared.phrase.Phrase.{Phrase}
 use Rattle.scenario_grammar.specs.declared.phrase.Phrase.TheVariants as phrase
 use Rattle.scenario_grammar.specs.Expressions.{most_nested}
 use Rattle.scenario_grammar.specs.Phrases.{most_ms}
-use Rattle.scenario_grammar.specs.declared.reason.TextReason.{TextReason}
-use Rattle.scenario_grammar.specs.declared.reason.TextReason.TheVariants as reason
+use Rattle.scenario_grammar.specs.Reasons.{Reason, unknown_word, too_short, too_long, misspelled_number, out_of_range, not_a_name, nested_too_deep}
 
 -- a part of a line, and the tokens after it
 abbrev pub Reading : Type 0 → Type 0
-Reading A = Result (A × List Token) TextReason
+Reading A = Result (A × List Token) Reason
 
 -- how a part is read from the tokens that are left
 abbrev pub Reader : Type 0 → Type 0
 Reader A = List Token → Reading A
 
 infixl 10 ◌>>=◌
-abbrev pub ◌>>=◌ : {A B : Type 0} → Result A TextReason → (A → Result B TextReason) → Result B TextReason
+abbrev pub ◌>>=◌ : {A B : Type 0} → Result A Reason → (A → Result B Reason) → Result B Reason
 (Ok x) >>= f = f x
 (Err r) >>= f = Err r
 
@@ -62,28 +61,28 @@ abbrev pub ◌<*>◌ : {A B : Type 0} → Reader (A → B) → Reader A → Read
 
 -- a NAME
 unfoldable pub name_at : Reader Name
-name_at [] = Err reason.TooShort
+name_at [] = Err too_short
 name_at (token.Name n ∷ ts) = Ok (n, ts)
-name_at (t ∷ ts) = Err reason.NotAName
+name_at (t ∷ ts) = Err not_a_name
 
 -- an integer as a number of this range
 abbrev pub in_range_of : ℕ → ℕ → ℤ → Reader ℕ
-in_range_of least greatest (pos n) ts = if nat_le least n && nat_le n greatest then Ok (n, ts) else Err reason.OutOfRange
-in_range_of least greatest (negsuc n) ts = Err reason.OutOfRange
+in_range_of least greatest (pos n) ts = if nat_le least n && nat_le n greatest then Ok (n, ts) else Err out_of_range
+in_range_of least greatest (negsuc n) ts = Err out_of_range
 
 -- a number of this range
 unfoldable pub number_at : ℕ → ℕ → Reader ℕ
-number_at least greatest [] = Err reason.TooShort
+number_at least greatest [] = Err too_short
 number_at least greatest (token.Number z ∷ ts) = in_range_of least greatest z ts
-number_at least greatest (token.Oversized ∷ ts) = Err reason.OutOfRange
-number_at least greatest (t ∷ ts) = Err reason.MisspelledNumber
+number_at least greatest (token.Oversized ∷ ts) = Err out_of_range
+number_at least greatest (t ∷ ts) = Err misspelled_number
 
 -- an integer of 64 bits
 unfoldable pub integer_at : Reader ℤ
-integer_at [] = Err reason.TooShort
+integer_at [] = Err too_short
 integer_at (token.Number z ∷ ts) = Ok (z, ts)
-integer_at (token.Oversized ∷ ts) = Err reason.OutOfRange
-integer_at (t ∷ ts) = Err reason.MisspelledNumber
+integer_at (token.Oversized ∷ ts) = Err out_of_range
+integer_at (t ∷ ts) = Err misspelled_number
 
 -- as many parts as the number says
 abbrev pub count_at : {A : Type 0} → Reader A → ℕ → Reader (List A)
@@ -159,22 +158,22 @@ headed_at operand head.And = e.And <$> operand <*> operand
 headed_at operand head.Or = e.Or <$> operand <*> operand
 headed_at operand head.List = list_at operand
 headed_at operand (head.Query asked) = (λ n. e.Query asked n) <$> name_at
-headed_at operand head.Other = λ ts. Err reason.UnknownWord
+headed_at operand head.Other = λ ts. Err unknown_word
 
 -- an expression by its first token
 abbrev pub term_at : Reader Expression → Token → Reader Expression
 term_at operand (token.Fixed word) = headed_at operand (head_of word)
 term_at operand (token.Name n) = pure (e.Local n)
 term_at operand (token.Number z) = pure (e.Int z)
-term_at operand token.Oversized = λ ts. Err reason.OutOfRange
-term_at operand token.Misspelled = λ ts. Err reason.MisspelledNumber
-term_at operand token.Unknown = λ ts. Err reason.UnknownWord
+term_at operand token.Oversized = λ ts. Err out_of_range
+term_at operand token.Misspelled = λ ts. Err misspelled_number
+term_at operand token.Unknown = λ ts. Err unknown_word
 
 -- an expression of at most so many levels
 unfoldable pub nested_at : ℕ → Reader Expression
-nested_at zero [] = Err reason.TooShort
-nested_at zero (t ∷ ts) = Err reason.NestedTooDeep
-nested_at (suc depth) [] = Err reason.TooShort
+nested_at zero [] = Err too_short
+nested_at zero (t ∷ ts) = Err nested_too_deep
+nested_at (suc depth) [] = Err too_short
 nested_at (suc depth) (t ∷ ts) = term_at (nested_at depth) t ts
 
 -- an expression that is no operand of another
@@ -226,11 +225,6 @@ abbrev pub silent_at : Reader Bool
 silent_at (token.Fixed k.Silent ∷ ts) = Ok (true, ts)
 silent_at ts = Ok (false, ts)
 
--- whether `immediate` stands there
-abbrev pub immediate_at : Reader Bool
-immediate_at (token.Fixed k.Immediate ∷ ts) = Ok (true, ts)
-immediate_at ts = Ok (false, ts)
-
 -- a time or `none`
 abbrev pub after_at : Reader (Option ℕ)
 after_at (token.Fixed k.Nothing ∷ ts) = Ok (None, ts)
@@ -238,9 +232,9 @@ after_at ts = (Some <$> ms_at) ts
 
 -- one of some fixed words, by what it stands for
 abbrev pub word_at : {A : Type 0} → (Keyword → Option A) → Reader A
-word_at meaning [] = Err reason.TooShort
-word_at meaning (token.Fixed word ∷ ts) = elim (meaning word) [ Some x ↦ Ok (x, ts) | None ↦ Err reason.UnknownWord ]
-word_at meaning (t ∷ ts) = Err reason.UnknownWord
+word_at meaning [] = Err too_short
+word_at meaning (token.Fixed word ∷ ts) = elim (meaning word) [ Some x ↦ Ok (x, ts) | None ↦ Err unknown_word ]
+word_at meaning (t ∷ ts) = Err unknown_word
 
 -- the words of jobs
 abbrev pub job_of : Keyword → Option JobKind
@@ -293,10 +287,10 @@ size_at ts = (Some <$> number_at 1 1000000) ts
 
 -- `mark` and a number, or `set` and a name
 abbrev pub raw_link_at : Expression → Reader Giving
-raw_link_at x [] = Err reason.TooShort
+raw_link_at x [] = Err too_short
 raw_link_at x (token.Fixed k.Mark ∷ ts) = ((λ a. giving.LinkMark x a) <$> number_at 0 1000000) ts
 raw_link_at x (token.Fixed k.Set ∷ ts) = ((λ a. giving.LinkSet x a) <$> name_at) ts
-raw_link_at x (t ∷ ts) = Err reason.UnknownWord
+raw_link_at x (t ∷ ts) = Err unknown_word
 
 -- the rest of a statement that gives a value, by its word
 abbrev pub giving_by : Keyword → Reader Giving
@@ -322,8 +316,7 @@ giving_by k.NativeSpawn = (λ a b c d. giving.NativeSpawn a b c d) <$> name_at <
 giving_by k.Raw = (λ a b. giving.Raw a b) <$> name_at <*> under_at
 giving_by k.Switch = (λ a b. giving.Switch a b) <$> expression_at <*> expression_at
 giving_by k.Throw = (λ a b. giving.Throw a b) <$> expression_at <*> with_at
-giving_by k.ChannelGet = (λ a. giving.ChannelGet a) <$> name_at
-giving_by _ = λ ts. Err reason.UnknownWord
+giving_by _ = λ ts. Err unknown_word
 
 -- the words of the statements that give a value
 abbrev pub gives : Keyword → Bool
@@ -349,18 +342,16 @@ gives k.NativeSpawn = true
 gives k.Raw = true
 gives k.Switch = true
 gives k.Throw = true
-gives k.ChannelGet = true
 gives _ = false
 
 -- a statement that gives a value
 abbrev pub giving_at : Reader Giving
-giving_at [] = Err reason.TooShort
+giving_at [] = Err too_short
 giving_at (token.Fixed word ∷ ts) = giving_by word ts
-giving_at (t ∷ ts) = Err reason.UnknownWord
+giving_at (t ∷ ts) = Err unknown_word
 
 -- the rest of a line, by its first word
 abbrev pub phrase_by : Keyword → Reader Phrase
-phrase_by k.Profile = (λ n. phrase.Profile) <$> number_at 2 2
 phrase_by k.Event = (λ n. phrase.Declaration n object.Event) <$> name_at
 phrase_by k.Result = (λ n. phrase.Declaration n object.Result) <$> name_at
 phrase_by k.Sem = (λ n x. phrase.Declaration n (object.Semaphore x)) <$> name_at <*> number_at 0 1000000
@@ -370,7 +361,6 @@ phrase_by k.Queue = (λ n kind size. phrase.Declaration n (object.Queue kind siz
 phrase_by k.Group = (λ n. phrase.Declaration n object.Group) <$> name_at
 phrase_by k.Pool = (λ n x. phrase.Declaration n (object.Pool x)) <$> name_at <*> number_at 1 10000
 phrase_by k.Native = (λ n x. phrase.Declaration n (object.Native x)) <$> name_at <*> number_at 1 64
-phrase_by k.Channel = (λ n. phrase.Declaration n object.Channel) <$> name_at
 phrase_by k.Function = (λ a b. phrase.Function false a b) <$> name_at <*> all_at name_at
 phrase_by k.RawFunction = (λ n p. phrase.Function true n (p ∷ [])) <$> name_at <*> name_at
 phrase_by k.Print = (λ x. phrase.Command (command.Print x)) <$> expression_at
@@ -393,8 +383,6 @@ phrase_by k.QueueDone = (λ n. phrase.Command (command.QueueDone n)) <$> name_at
 phrase_by k.GroupJoin = (λ n t. phrase.Command (command.GroupJoin n t)) <$> name_at <*> timed_at
 phrase_by k.GroupKill = (λ n f now. phrase.Command (command.GroupKill n f now)) <$> name_at <*> with_at <*> now_at
 phrase_by k.SetParent = (λ x y. phrase.Command (command.SetParent x y)) <$> expression_at <*> expression_at
-phrase_by k.ChannelPut = (λ n x. phrase.Command (command.ChannelPut n x)) <$> name_at <*> expression_at
-phrase_by k.QueueShut = (λ n immediate. phrase.Command (command.QueueShut n immediate)) <$> name_at <*> immediate_at
 phrase_by k.If = (λ a. phrase.If a) <$> expression_at
 phrase_by k.Else = pure phrase.Else
 phrase_by k.While = (λ a. phrase.While a) <$> expression_at
@@ -412,7 +400,7 @@ is_given _ = false
 
 -- `<-`, which is known to stand there
 abbrev pub arrow_at : Reader (Unit {0})
-arrow_at [] = Err reason.TooShort
+arrow_at [] = Err too_short
 arrow_at (t ∷ ts) = Ok (tt, ts)
 
 -- `NAME <-` and a statement that gives a value
@@ -421,16 +409,16 @@ given_at = (λ n arrow g. phrase.Giving (Some n) g) <$> name_at <*> arrow_at <*>
 
 -- a line without `<-`
 abbrev pub unmarked_at : Reader Phrase
-unmarked_at [] = Err reason.TooShort
+unmarked_at [] = Err too_short
 unmarked_at (token.Fixed word ∷ ts) = phrase_by word ts
-unmarked_at (t ∷ ts) = Err reason.UnknownWord
+unmarked_at (t ∷ ts) = Err unknown_word
 
 -- a line has no word left
-abbrev pub whole : {A : Type 0} → Reading A → Result A TextReason
+abbrev pub whole : {A : Type 0} → Reading A → Result A Reason
 whole (Ok (x, [])) = Ok x
-whole (Ok (x, t ∷ ts)) = Err reason.TooLong
+whole (Ok (x, t ∷ ts)) = Err too_long
 whole (Err r) = Err r
 
 -- what a line says
-unfoldable pub phrase_of : List Token → Result Phrase TextReason
+unfoldable pub phrase_of : List Token → Result Phrase Reason
 phrase_of ts = whole (if is_given ts then given_at ts else unmarked_at ts)

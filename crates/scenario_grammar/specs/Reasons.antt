@@ -1,73 +1,66 @@
--- Why a text or a scenario is refused: the numbers that a refusal shows, and their texts.
-use Rattle.std.specs.Prelude.{ℕ, ◌-◌, Bool, ◌&&◌, ◌||◌, ◌==◌, nat_le, List, [], ◌∷◌, codes, slice_index_or}
-use Rattle.scenario_grammar.specs.declared.reason.TextReason.{TextReason}
-use Rattle.scenario_grammar.specs.declared.reason.TextReason.TheVariants as text
-use Rattle.scenario_grammar.specs.declared.reason.RuleReason.{RuleReason}
-use Rattle.scenario_grammar.specs.declared.reason.RuleReason.TheVariants as rule
+-- Why a text is refused, by the numbers that a refusal shows.
+use Rattle.std.specs.Prelude.{ℕ}
 
--- the number of a reason why bytes are no text
-abbrev pub text_number : TextReason → ℕ
-text_number text.TooLarge = 1
-text_number text.NotPrintable = 2
-text_number text.NotEnded = 3
-text_number text.BlankOutOfPlace = 4
-text_number text.UnknownWord = 5
-text_number text.TooShort = 6
-text_number text.TooLong = 7
-text_number text.MisspelledNumber = 8
-text_number text.OutOfRange = 9
-text_number text.NotAName = 10
-text_number text.BlockWordOutOfPlace = 11
-text_number text.NotClosed = 12
-text_number text.LineOutOfPlace = 13
-text_number text.NoMain = 14
-text_number text.NestedTooDeep = 21
+-- a number of the list below, or 12 and more, which the place names
+abbrev pub Reason : Type 0
+Reason = ℕ
 
--- the number of a reason why a scenario breaks its rules
-abbrev pub rule_number : RuleReason → ℕ
-rule_number rule.Undeclared = 15
-rule_number rule.DeclaredTwice = 16
-rule_number rule.WrongKind = 17
-rule_number rule.WrongCount = 18
-rule_number rule.HubInRawBody = 19
-rule_number rule.TimeoutsTooDeep = 20
-rule_number rule.TooMany = 22
+-- text longer than 1048576 bytes
+abbrev pub too_large : Reason
+too_large = 1
 
--- the numbers of the first kind: 1 to 14 and 21
-abbrev pub is_text_reason : ℕ → Bool
-is_text_reason r = nat_le 1 r && nat_le r 14 || r == 21
+-- byte that is not printable ASCII
+abbrev pub not_printable : Reason
+not_printable = 2
 
--- the numbers of the second kind: 15 to 20 and 22
-abbrev pub is_rule_reason : ℕ → Bool
-is_rule_reason r = nat_le 15 r && nat_le r 20 || r == 22
+-- last line not ended
+abbrev pub not_ended : Reason
+not_ended = 3
 
--- what a refusal says, from number 1 on
-abbrev pub texts : List (List ℕ)
-texts =
-    codes "text longer than 1048576 bytes"
-    ∷ codes "byte that is not printable ASCII"
-    ∷ codes "last line not ended"
-    ∷ codes "blank out of place"
-    ∷ codes "unknown word"
-    ∷ codes "line too short"
-    ∷ codes "line too long"
-    ∷ codes "number not in its one spelling"
-    ∷ codes "number out of range"
-    ∷ codes "name not allowed"
-    ∷ codes "block word out of place"
-    ∷ codes "block not closed"
-    ∷ codes "line out of place"
-    ∷ codes "no main"
-    ∷ codes "undeclared name"
-    ∷ codes "name declared twice"
-    ∷ codes "wrong kind of name"
-    ∷ codes "wrong count of parameters or arguments"
-    ∷ codes "hub statement in a raw body"
-    ∷ codes "timeout blocks nested past 8"
-    ∷ codes "nesting past 32"
-    ∷ codes "too many declarations"
-    ∷ []
+-- two blanks between words, or one at the end
+abbrev pub blank_out_of_place : Reason
+blank_out_of_place = 4
 
--- the text of the reason of this number
-abbrev pub reason_text : ℕ → List ℕ
-reason_text reason = slice_index_or texts (reason - 1) []
+-- a fixed word is wanted, and none fits
+abbrev pub unknown_word : Reason
+unknown_word = 5
+
+-- a word is wanted, and none is left
+abbrev pub too_short : Reason
+too_short = 6
+
+-- words are left
+abbrev pub too_long : Reason
+too_long = 7
+
+-- number not in its one spelling
+abbrev pub misspelled_number : Reason
+misspelled_number = 8
+
+-- number out of range
+abbrev pub out_of_range : Reason
+out_of_range = 9
+
+-- a NAME is wanted
+abbrev pub not_a_name : Reason
+not_a_name = 10
+
+-- end, else, except or finally where none may stand, or a try that ends with neither
+abbrev pub block_word_out_of_place : Reason
+block_word_out_of_place = 11
+
+-- block not closed
+abbrev pub not_closed : Reason
+not_closed = 12
+
+-- a declaration after a function, a statement outside one, a function inside one
+abbrev pub line_out_of_place : Reason
+line_out_of_place = 13
+
+-- no line is a `def` of `main`
+abbrev pub no_main : Reason
+no_main = 14
+
+-- blocks or an expression nested past 32
+abbrev pub nested_too_deep : Reason
+nested_too_deep = 21

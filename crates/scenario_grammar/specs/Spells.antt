@@ -6,32 +6,28 @@ use Rattle.std.specs.Option.{IsSomeAnd}
 use Rattle.scenario_tree.specs.declared.tree.Function.{Function}
 use Rattle.scenario_tree.specs.declared.tree.Scenario.{Scenario}
 use Rattle.scenario_grammar.specs.Layout.{Line, lines, IsText}
-use Rattle.scenario_grammar.specs.Tokens.{token_in}
+use Rattle.scenario_grammar.specs.Tokens.{token_of}
 use Rattle.scenario_grammar.specs.Phrases.{phrase_tokens}
 use Rattle.scenario_grammar.specs.Blocks.{Row, scenario_rows}
 
--- the words say, in this profile, what the tree has there, on the line that the tree keeps
-abbrev pub IsRow : ℕ → Line → Row → Type 0
-IsRow profile l r = (phrase_tokens r.says ≡ Some (map (token_in profile) l.words)) × IfSome r.at (λ n. l.number ≡ n)
+-- the words say what the tree has there, on the line that the tree keeps
+abbrev pub IsRow : Line → Row → Type 0
+IsRow l r = (phrase_tokens r.says ≡ Some (map token_of l.words)) × IfSome r.at (λ n. l.number ≡ n)
 
 -- line by line
-abbrev pub AreRows : ℕ → List Line → List Row → Type 0
-AreRows profile [] [] = Unit {0}
-AreRows profile [] (r ∷ rs) = ⊥
-AreRows profile (l ∷ ls) [] = ⊥
-AreRows profile (l ∷ ls) (r ∷ rs) = IsRow profile l r × AreRows profile ls rs
+abbrev pub AreRows : List Line → List Row → Type 0
+AreRows [] [] = Unit {0}
+AreRows [] (r ∷ rs) = ⊥
+AreRows (l ∷ ls) [] = ⊥
+AreRows (l ∷ ls) (r ∷ rs) = IsRow l r × AreRows ls rs
 
 -- a function of the name `main`, not a raw one
 abbrev pub is_main : Function → Bool
 is_main f = not f.is_raw && pointwise nat_eq f.name (codes "main")
 
--- The bytes are a text of the tree: line by line they say what it says, in its profile, and there is a `main`. A tree whose profile is neither
--- 1 nor 2 has no rows, and so no text.
+-- The bytes are a text of the tree: line by line they say what it says, and there is a `main`.
 pub record Spells (s : Scenario) (bytes : List ℕ) : Type 0 where
   pub text : IsText bytes
-  pub rows : IsSomeAnd (scenario_rows s) (AreRows s.profile (lines bytes))
+  pub rows : IsSomeAnd (scenario_rows s) (AreRows (lines bytes))
   pub has_main : IsTrue (list_any is_main s.functions)
-
--- Some bytes are a text of the tree. Then its printed form is one too, but for the numbers of the lines, where it is no longer than a text may be.
-abbrev pub IsSpelt : Scenario → Type 0
-IsSpelt s = (bytes : List ℕ) × Spells s bytes
+  pub profile : s.profile ≡ 1

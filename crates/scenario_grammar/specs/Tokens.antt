@@ -10,7 +10,7 @@ use Rattle.gv_values.specs.declared.name.Name.{Name}
 use Rattle.scenario_grammar.specs.declared.keyword.Keyword.{Keyword}
 use Rattle.scenario_grammar.specs.declared.token.Token.{Token}
 use Rattle.scenario_grammar.specs.declared.token.Token.TheVariants as token
-use Rattle.scenario_grammar.specs.Keywords.{spelling, keyword_of, profile_of}
+use Rattle.scenario_grammar.specs.Keywords.{spelling, keyword_of}
 use Rattle.scenario_grammar.specs.Layout.{Word}
 
 -- how a token is written; only those of the first three kinds are
@@ -101,15 +101,6 @@ number_token w = if is_integer w then (if in_64_bits (signed_digits_value 10 w) 
 abbrev pub loose_token : Word → Token
 loose_token w = if is_name w then token.Name w else (if begins_number w then number_token w else token.Unknown)
 
--- what a word is by itself, in the profile that knows all words
+-- what a word is by itself
 unfoldable pub token_of : Word → Token
 token_of w = elim (keyword_of w) [ Some k ↦ token.Fixed k | None ↦ loose_token w ]
-
--- a fixed word that this profile has not yet is unknown in it
-abbrev pub known_in : ℕ → Token → Token
-known_in profile (token.Fixed k) = if nat_le (profile_of k) profile then token.Fixed k else token.Unknown
-known_in profile t = t
-
--- what a word is in a text of this profile
-abbrev pub token_in : ℕ → Word → Token
-token_in profile w = known_in profile (token_of w)

@@ -1,4 +1,4 @@
-/// A fixed word of the language; those that profile 2 brought are reserved in profile 1.
+/// A fixed word of the language, reserved ones of later profiles among them.
 #[derive(Clone, Copy, Debug, PartialEq, Eq)]
 pub enum Keyword {
     Event,

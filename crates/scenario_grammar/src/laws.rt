@@ -7,7 +7,7 @@ ghost use Rattle.scenario_grammar.specs.Layout.{most_bytes};
 ghost use Rattle.scenario_grammar.specs.Parsed.{reading};
 ghost use Rattle.scenario_grammar.specs.Places.{place};
 ghost use Rattle.scenario_grammar.specs.Printed.{printed};
-ghost use Rattle.scenario_grammar.specs.Reasons.{is_text_reason};
+ghost use Rattle.scenario_grammar.specs.Refusals.{is_text_reason};
 ghost use Rattle.scenario_grammar.specs.Spells.{Spells};
 
 /// A text that a tree spells is read as that tree.

@@ -8,7 +8,6 @@ mod keyword;
 mod laws;
 mod phrase;
 mod place;
-mod reason;
 mod token;
 
 pub use building::{OpenBlock, Opening};
@@ -20,5 +19,4 @@ pub use laws::{
 };
 pub use phrase::Phrase;
 pub use place::Place;
-pub use reason::{RuleReason, TextReason, reason_text};
 pub use token::Token;

@@ -3,6 +3,6 @@
 pub struct Place {
     /// The number of the line, from 1.
     pub line: u32,
-    /// The number of a [`TextReason`](crate::TextReason) or of a [`RuleReason`](crate::RuleReason).
+    /// The number of the reason.
     pub reason: u8,
 }

@@ -109,7 +109,67 @@ pub fn word_role(word: Keyword) -> WordRole
         | Keyword::Switch
         | Keyword::Throw
         | Keyword::ChannelGet => WordRole::Gives,
-        _ => WordRole::Nothing,
+        Keyword::Fifo
+        | Keyword::Lifo
+        | Keyword::Priority
+        | Keyword::Nothing
+        | Keyword::True
+        | Keyword::False
+        | Keyword::Current
+        | Keyword::Not
+        | Keyword::And
+        | Keyword::Or
+        | Keyword::List => WordRole::Nothing,
+        Keyword::Push
+        | Keyword::At
+        | Keyword::Length
+        | Keyword::Ready
+        | Keyword::Successful
+        | Keyword::Value
+        | Keyword::ExceptionOf
+        | Keyword::IsSet
+        | Keyword::Counter
+        | Keyword::QueueSize
+        | Keyword::Unfinished => WordRole::Nothing,
+        Keyword::Members
+        | Keyword::Within
+        | Keyword::Now
+        | Keyword::Silent
+        | Keyword::With
+        | Keyword::Count
+        | Keyword::Mark
+        | Keyword::Sum
+        | Keyword::Collatz
+        | Keyword::Fail
+        | Keyword::Echo => WordRole::Nothing,
+        Keyword::Takes
+        | Keyword::Under
+        | Keyword::Any
+        | Keyword::Immediate
+        | Keyword::Plus
+        | Keyword::Minus
+        | Keyword::Times
+        | Keyword::Slash
+        | Keyword::Percent
+        | Keyword::Equal
+        | Keyword::NotEqual => WordRole::Nothing,
+        Keyword::Less
+        | Keyword::AtMost
+        | Keyword::Arrow
+        | Keyword::AnException
+        | Keyword::GreenletExit
+        | Keyword::ATimeout
+        | Keyword::LoopExit
+        | Keyword::Empty
+        | Keyword::Full
+        | Keyword::ShutDown
+        | Keyword::ValueError => WordRole::Nothing,
+        Keyword::RuntimeError
+        | Keyword::TypeError
+        | Keyword::OverflowError
+        | Keyword::ZeroDivisionError
+        | Keyword::InvalidSwitch
+        | Keyword::Error => WordRole::Nothing,
     }
 }
 

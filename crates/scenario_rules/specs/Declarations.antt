@@ -111,5 +111,4 @@ is_kind wanted.JoinQueue (object.Queue queue.Join size) = true
 is_kind wanted.GroupOrPool object.Group = true
 is_kind wanted.GroupOrPool (object.Pool n) = true
 is_kind wanted.NativePool (object.Native n) = true
-is_kind wanted.Channel object.Channel = true
 is_kind wanted kind = false

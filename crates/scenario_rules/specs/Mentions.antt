@@ -92,8 +92,6 @@ command_says (command.QueueDone x) = hub ++ object wanted.JoinQueue x
 command_says (command.GroupJoin x t) = hub ++ object wanted.GroupOrPool x
 command_says (command.GroupKill x f now) = hub ++ object wanted.GroupOrPool x ++ perhaps_says f
 command_says (command.SetParent e f) = expression_says e ++ expression_says f
-command_says (command.ChannelPut x e) = hub ++ object wanted.Channel x ++ expression_says e
-command_says (command.QueueShut x immediate) = hub ++ object wanted.Queue x
 
 -- the function of a link and of `map` takes one argument
 abbrev pub giving_says : Giving → List Says
@@ -118,7 +116,6 @@ giving_says (giving.NativeSpawn x job e t) = hub ++ object wanted.NativePool x +
 giving_says (giving.Raw f e) = says.Runs f ∷ perhaps_says e
 giving_says (giving.Switch e f) = expression_says e ++ expression_says f
 giving_says (giving.Throw e f) = expression_says e ++ perhaps_says f
-giving_says (giving.ChannelGet x) = hub ++ object wanted.Channel x
 
 -- the name before `<-` or after the class of an except
 abbrev pub target_says : Option Name → List Says

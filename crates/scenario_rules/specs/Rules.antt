@@ -7,9 +7,7 @@ use Rattle.scenario_tree.specs.declared.tree.Function.{Function}
 use Rattle.scenario_tree.specs.declared.tree.Scenario.{Scenario}
 use Rattle.scenario_tree.specs.Limits.{most_parameters}
 use Rattle.scenario_grammar.specs.declared.place.Place.{Place}
-use Rattle.scenario_grammar.specs.declared.reason.RuleReason.{RuleReason}
-use Rattle.scenario_grammar.specs.declared.reason.RuleReason.TheVariants as rule
-use Rattle.scenario_grammar.specs.Reasons.{rule_number}
+use Rattle.scenario_grammar.specs.Reasons.{Reason}
 use Rattle.scenario_grammar.specs.Spells.{is_main}
 use Rattle.scenario_rules.specs.declared.declared.Declared.TheVariants as declared
 use Rattle.scenario_rules.specs.declared.mention.Mention.{Mention}
@@ -18,6 +16,7 @@ use Rattle.scenario_rules.specs.declared.mention.Says.{Says}
 use Rattle.scenario_rules.specs.declared.mention.Says.TheVariants as says
 use Rattle.scenario_rules.specs.Declarations.{declared_as, named_objects, named_functions, repeated, different, parameters, given_names, is_local, is_kind}
 use Rattle.scenario_rules.specs.Mentions.{mentions}
+use Rattle.scenario_rules.specs.Reasons.{undeclared, declared_twice, wrong_kind, wrong_count, hub_in_raw_body, timeouts_too_deep, too_many}
 
 -- ---- what a word may break
 
@@ -60,12 +59,12 @@ is_too_deep s f _ = false
 -- ---- the lines that break a rule
 
 -- the line is refused for this reason, where it is so
-abbrev pub refused : RuleReason → ℕ → Bool → List Place
-refused reason line so = if so then record { line = line; reason = rule_number reason } ∷ [] else []
+abbrev pub refused : Reason → ℕ → Bool → List Place
+refused reason line so = if so then record { line = line; reason = reason } ∷ [] else []
 
 -- each line where one of these names stands
-abbrev pub refused_names : RuleReason → List Named → List Place
-refused_names reason names = map (λ (n : Named). record { line = n.line; reason = rule_number reason }) names
+abbrev pub refused_names : Reason → List Named → List Place
+refused_names reason names = map (λ (n : Named). record { line = n.line; reason = reason }) names
 
 -- the first name past so many
 abbrev pub past : ℕ → List Named → List Named
@@ -74,11 +73,11 @@ past most names = elim (slice_get names most) [ None ↦ [] | Some n ↦ n ∷ [
 -- what a word of a function breaks
 abbrev pub word_refusals : Scenario → Function → Mention → List Place
 word_refusals s f m =
-    refused rule.Undeclared m.line (is_undeclared s f m.says)
-    ++ refused rule.WrongKind m.line (is_wrong_kind s f m.says)
-    ++ refused rule.WrongCount m.line (is_wrong_count s f m.says)
-    ++ refused rule.HubInRawBody m.line (is_hub_in_raw_body s f m.says)
-    ++ refused rule.TimeoutsTooDeep m.line (is_too_deep s f m.says)
+    refused undeclared m.line (is_undeclared s f m.says)
+    ++ refused wrong_kind m.line (is_wrong_kind s f m.says)
+    ++ refused wrong_count m.line (is_wrong_count s f m.says)
+    ++ refused hub_in_raw_body m.line (is_hub_in_raw_body s f m.says)
+    ++ refused timeouts_too_deep m.line (is_too_deep s f m.says)
 
 -- `main` has parameters, or a raw body has not one
 abbrev pub is_wrong_head : Function → Bool
@@ -92,10 +91,10 @@ most_local_names = 64
 -- names than there may be, or a word breaks a rule
 abbrev pub function_refusals : Scenario → Function → List Place
 function_refusals s f =
-    refused_names rule.DeclaredTwice (repeated (parameters f))
-    ++ refused rule.WrongCount f.line (is_wrong_head f)
-    ++ refused_names rule.TooMany (past most_parameters (parameters f))
-    ++ refused_names rule.TooMany (past most_local_names (different (given_names f)))
+    refused_names declared_twice (repeated (parameters f))
+    ++ refused wrong_count f.line (is_wrong_head f)
+    ++ refused_names too_many (past most_parameters (parameters f))
+    ++ refused_names too_many (past most_local_names (different (given_names f)))
     ++ flat_map (word_refusals s f) (mentions f)
 
 -- ---- the whole
@@ -110,9 +109,9 @@ most_functions = 256
 -- function breaks a rule
 abbrev pub refusals : Scenario → List Place
 refusals s =
-    refused_names rule.TooMany (past most_objects (named_objects s))
-    ++ refused_names rule.TooMany (past most_functions (named_functions s))
-    ++ refused_names rule.DeclaredTwice (repeated (named_objects s ++ named_functions s))
+    refused_names too_many (past most_objects (named_objects s))
+    ++ refused_names too_many (past most_functions (named_functions s))
+    ++ refused_names declared_twice (repeated (named_objects s ++ named_functions s))
     ++ flat_map (function_refusals s) s.functions
 
 -- A scenario is well formed: none of its lines breaks a rule.

@@ -14,7 +14,6 @@ pub enum Wanted {
     JoinQueue,
     GroupOrPool,
     NativePool,
-    Channel,
 }
 
 /// What a line of a function says that the rules look at.
