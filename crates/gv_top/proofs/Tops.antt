@@ -1,6 +1,6 @@
 -- From a verdict and its line to what the call answers.
 use Rattle.std.proofs.Common.{◌≡◌, ◌≢◌, ◌⊎◌, inl, inr, refl, ap, sym, subst, ◌∙◌, ℕ, List, [], Option, Some, drop, arith}
-use Rattle.gv_io.specs.Faults.{HasRisen}
+use Rattle.gv_values.specs.Counts.{HasRisen}
 use Rattle.gv_io.specs.Streams.{appended, AppendsPrefix}
 use Rattle.gv_io.proofs.StreamLaws.{appended-nothing, AppendsPrefix-all, AppendsPrefix-nothing}
 use Rattle.hub_engine.specs.declared.run.End.{End}

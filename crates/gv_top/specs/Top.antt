@@ -1,6 +1,6 @@
 -- What the call leaves behind.
 use Rattle.std.specs.Prelude.{◌≡◌, ◌≢◌, ◌⊎◌, ℕ, List, Option, Some, None, drop}
-use Rattle.gv_io.specs.Faults.{HasRisen}
+use Rattle.gv_values.specs.Counts.{HasRisen}
 use Rattle.gv_io.specs.Streams.{appended, AppendsPrefix}
 use Rattle.hub_engine.specs.declared.run.End.{End}
 use Rattle.wsgi_core.specs.Sessions.{answers}

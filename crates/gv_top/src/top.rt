@@ -1,6 +1,6 @@
 //! The call that the program makes.
 ghost use Rattle.std.specs.Prelude.{◌≡◌, ◌≢◌, ◌≤◌, ◌⊎◌, ◌↔◌, ℕ, List, Some, None, map, take, drop, string_bytes, OnOk, OnErr};
-ghost use Rattle.gv_io.specs.Faults.{HasRisen};
+ghost use Rattle.gv_values.specs.Counts.{HasRisen};
 ghost use Rattle.gv_io.specs.Streams.{appended, AppendsPrefix};
 ghost use Rattle.scenario_grammar.specs.declared.place.Place.{Place};
 ghost use Rattle.scenario_grammar.specs.Spells.{Spells};

@@ -1,6 +1,6 @@
 //! The engine as its callers see it: prepared, and then run once.
 ghost use Rattle.std.specs.Prelude.{◌≡◌, ◌≤◌, ◌↔◌, None, IfOk};
-ghost use Rattle.gv_io.specs.Faults.{HasRisen};
+ghost use Rattle.gv_values.specs.Counts.{HasRisen};
 ghost use Rattle.unbuilt_forms.specs.Built.{IsBuilt, first_unbuilt};
 ghost use Rattle.machine.specs.Run.{script_run};
 ghost use Rattle.machine_built.specs.Laws.{HasMain};

@@ -19,6 +19,7 @@ use Rattle.trace_text.specs.declared.line.Line.{Line}
 use Rattle.trace_text.specs.declared.line.Awaited.{Awaited}
 use Rattle.machine.specs.State.{State, say}
 use Rattle.machine.specs.Holds.{outcome_of}
+use Rattle.gv_values.specs.JobParts.{job_of}
 use Rattle.gv_values.specs.Ends.{link_fits, kept}
 use Rattle.machine.specs.Settle.{settle}
 use Rattle.machine.specs.declared.request.Request.{Request}
@@ -171,13 +172,6 @@ acquires o object = Waiting.Acquire o
 abbrev pub finishes : ℕ → Object → State → Performed
 finishes o (Object.Queue kind size items (suc n) shut) s = done (with_object o (Object.Queue kind size items n shut) s)
 finishes o object s = raises FaultKind.ValueError s
-
--- the job of this word
-abbrev pub job_of : JobKind → ℤ → Job
-job_of JobKind.Sum z = Job.Sum z
-job_of JobKind.Collatz z = Job.Collatz z
-job_of JobKind.Fail z = Job.Fail z
-job_of JobKind.Echo z = Job.Echo z
 
 -- the operand is an integer
 abbrev pub int_operand : Value → Option ℤ

@@ -46,7 +46,8 @@ use Rattle.machine.specs.Items.{add_item, drop_items, is_timeout_of}
 use Rattle.machine.specs.Ends.{ended, leaving_of, outcome_of_leaving, stop_of}
 use Rattle.machine.specs.Hosts.{host_of, is_above}
 use Rattle.gv_values.specs.Ends.{kept}
-use Rattle.machine.specs.Requests.{Sending, acquires, any_greenlet, done, fault_operand, finishes, follows, has_start, int_operand, is_link, is_new, job_of, kills, kills_standing, links, list_operand, makes, on_host, performs, plain_greenlet, plain_greenlet_list, put_result, raw_greenlet, releases, sends, sends_all, sets_parent, start_of, starts_at, typed, whom_operand}
+use Rattle.machine.specs.Requests.{Sending, acquires, any_greenlet, done, fault_operand, finishes, follows, has_start, int_operand, is_link, is_new, kills, kills_standing, links, list_operand, makes, on_host, performs, plain_greenlet, plain_greenlet_list, put_result, raw_greenlet, releases, sends, sends_all, sets_parent, start_of, starts_at, typed, whom_operand}
+use Rattle.gv_values.specs.JobParts.{job_of}
 use Rattle.machine.specs.Objects.{after_release, at_bound, members_of, sets_of, takes_value}
 use Rattle.machine.specs.Moves.{does, look, move, timeout_item}
 use Rattle.machine.specs.Quiet.{blocked_states}
