@@ -10,8 +10,6 @@ mod link;
 mod list;
 mod name;
 mod scalar;
-#[cfg(test)]
-mod tests;
 mod texts;
 mod value;
 

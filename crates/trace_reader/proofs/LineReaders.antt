@@ -19,7 +19,7 @@ use Rattle.trace_text.specs.LineTexts.{line_text, awaited_text, until_text, link
 use Rattle.trace_reader.specs.Ranges.{FaultFits, ValueFits, OutcomeFits, WhomFits, NameFits, AwaitedFits, UntilFits, LinkCallFits, JobFits, BlockedFits, JobOutcomeFits, AnswerFits, CauseFits, LineFits}
 use Rattle.trace_reader.specs.Fronts.{Front, and_then, after, or_else, strip, number_front, small_front, greenlet_front, job_front, int_front, name_front}
 use Rattle.trace_reader.specs.ValueFronts.{fault_front, starts_numeral, value_front, outcome_front}
-use Rattle.trace_reader.specs.LineFronts.{whom_front, awaited_front, joined_front, named_front, queued_front, grouped_front, until_front, link_call_front, job_call_front, blocked_front, job_outcome_front, done_front, answer_front, cause_front, limit_front, of_greenlet, start_front, print_front, park_front, throw_front, into_front, end_front, link_front, job_line_front, turn_front, stop_front, greenlet_line_front, resumed_line_front, line_front}
+use Rattle.trace_reader.specs.LineFronts.{whom_front, awaited_front, joined_front, named_front, queued_front, grouped_front, channel_front, until_front, link_call_front, job_call_front, blocked_front, job_outcome_front, done_front, answer_front, cause_front, limit_front, of_greenlet, start_front, print_front, park_front, throw_front, into_front, end_front, link_front, job_line_front, turn_front, stop_front, greenlet_line_front, resumed_line_front, line_front}
 use Rattle.trace_reader.proofs.Readers.{Stops, Ends, and_then-is, number_read, small_read, greenlet_read, job_read, int_read, name_read, decimal_start}
 use Rattle.trace_reader.proofs.ValueReaders.{digit_starts, fault_read, value_read, outcome_read}
 
@@ -40,7 +40,7 @@ whom_read (Whom.Greenlet g) r h e = and_then-is (small_front (decimal g ++ r)) g
 whom_read (Whom.Job j) r h e = and_then-is (small_front (decimal j ++ r)) j r _ (small_read j r h e)
 
 awaited_read : (a : Awaited) (r : Text) → AwaitedFits a → Ends r → awaited_front (awaited_text a ++ r) ≡ Some (a, r)
-unfolding awaited_front joined_front named_front queued_front grouped_front or_else after strip
+unfolding awaited_front joined_front named_front queued_front grouped_front channel_front or_else after strip
 awaited_read Awaited.Sleep r h e = refl
 awaited_read (Awaited.Join w) r h e = and_then-is (whom_front (whom_text w ++ r)) w r _ (whom_read w r h (ends_stop r e))
 awaited_read (Awaited.Get w) r h e = and_then-is (whom_front (whom_text w ++ r)) w r _ (whom_read w r h (ends_stop r e))
@@ -60,6 +60,8 @@ awaited_read (Awaited.GroupJoin n) r h e = and_then-is (name_front (n ++ r)) n r
 awaited_read (Awaited.GroupKill n) r h e = and_then-is (name_front (n ++ r)) n r _ (name_read n r h e)
 awaited_read (Awaited.Map n) r h e = and_then-is (name_front (n ++ r)) n r _ (name_read n r h e)
 awaited_read (Awaited.NativeSpawn n) r h e = and_then-is (name_front (n ++ r)) n r _ (name_read n r h e)
+awaited_read (Awaited.ChannelPut n) r h e = and_then-is (name_front (n ++ r)) n r _ (name_read n r h e)
+awaited_read (Awaited.ChannelGet n) r h e = and_then-is (name_front (n ++ r)) n r _ (name_read n r h e)
 
 until_ends : (u : Option ℕ) → Ends (until_text u ++ [])
 until_ends None = tt

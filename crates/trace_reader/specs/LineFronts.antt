@@ -25,14 +25,21 @@ of_whom kind rest = and_then (whom_front rest) (as_kind kind)
 abbrev pub of_name : (Text → Awaited) → Text → Front Awaited
 of_name kind rest = and_then (name_front rest) (as_kind kind)
 
--- a wait on groups and pools
+-- a wait on channels
+unfoldable pub channel_front : Text → Front Awaited
+channel_front text =
+    or_else (strip (codes "cput ") text) (of_name (λ n. Awaited.ChannelPut n))
+    (after (strip (codes "cget ") text) (of_name (λ n. Awaited.ChannelGet n)))
+
+-- a wait on groups and pools, or on these
 unfoldable pub grouped_front : Text → Front Awaited
 grouped_front text =
     or_else (strip (codes "gspawn ") text) (of_name (λ n. Awaited.GroupSpawn n))
     (or_else (strip (codes "gjoin ") text) (of_name (λ n. Awaited.GroupJoin n))
     (or_else (strip (codes "gkill ") text) (of_name (λ n. Awaited.GroupKill n))
     (or_else (strip (codes "map ") text) (of_name (λ n. Awaited.Map n))
-    (after (strip (codes "nspawn ") text) (of_name (λ n. Awaited.NativeSpawn n))))))
+    (or_else (strip (codes "nspawn ") text) (of_name (λ n. Awaited.NativeSpawn n))
+    (channel_front text)))))
 
 -- a wait on queues, or on these
 unfoldable pub queued_front : Text → Front Awaited

@@ -76,6 +76,8 @@ AwaitedFits (Awaited.GroupJoin n) = NameFits n
 AwaitedFits (Awaited.GroupKill n) = NameFits n
 AwaitedFits (Awaited.Map n) = NameFits n
 AwaitedFits (Awaited.NativeSpawn n) = NameFits n
+AwaitedFits (Awaited.ChannelPut n) = NameFits n
+AwaitedFits (Awaited.ChannelGet n) = NameFits n
 
 abbrev pub UntilFits : Option ℕ → Type 0
 UntilFits None = Unit {0}

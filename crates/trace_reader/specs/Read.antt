@@ -3,8 +3,8 @@ use Rattle.std.specs.Prelude.{◌≡◌, ◌≢◌, ◌↔◌, Result, Ok, Err, 
 use Rattle.gv_values.specs.ValueTexts.{Text}
 use Rattle.trace_text.specs.declared.line.Line.{Line}
 use Rattle.trace_text.specs.LineTexts.{line_text}
-use Rattle.trace_reader.specs.declared.refusal.LineRefusal.{LineRefusal}
-use Rattle.trace_reader.specs.declared.refusal.LineRefusal.TheVariants as refusal
+use Rattle.trace_reader.specs.declared.fault.LineFault.{LineFault}
+use Rattle.trace_reader.specs.declared.fault.LineFault.TheVariants as fault
 use Rattle.trace_reader.specs.Ranges.{LineFits}
 
 -- no line has this text
@@ -12,12 +12,12 @@ abbrev pub IsNoLine : Text → Type 0
 IsNoLine text = (l : Line) → LineFits l → line_text l ≢ text
 
 -- the line was read, unless memory ran out
-abbrev pub IsRead : Line → Result Line LineRefusal → Type 0
+abbrev pub IsRead : Line → Result Line LineFault → Type 0
 IsRead line (Ok read) = read ≡ line
-IsRead line (Err refusal.NotALine) = ⊥
-IsRead line (Err refusal.Memory) = Unit {0}
+IsRead line (Err fault.NotALine) = ⊥
+IsRead line (Err fault.Memory) = Unit {0}
 
 -- NotALine exactly where no line has the text, unless memory ran out
-abbrev pub IsRefused : Text → Result Line LineRefusal → Type 0
-IsRefused text (Err refusal.Memory) = Unit {0}
-IsRefused text result = IsErrOf result refusal.NotALine ↔ IsNoLine text
+abbrev pub IsRefused : Text → Result Line LineFault → Type 0
+IsRefused text (Err fault.Memory) = Unit {0}
+IsRefused text result = IsErrOf result fault.NotALine ↔ IsNoLine text

@@ -9,7 +9,7 @@ ghost use Rattle.trace_reader.specs.Ranges.{IntFits, NameFits};
 ghost use Rattle.trace_reader.specs.Reads.{Reads, Takes, Passes};
 ghost use Rattle.trace_reader.specs.ValueFronts.{starts_numeral};
 
-use crate::refusal::LineRefusal;
+use crate::fault::LineFault;
 use gv_values::Name;
 use std::marker::Model;
 
@@ -49,13 +49,13 @@ impl<'a> Cursor<'a> {
     }
 
     /// Takes the word, which has to come next.
-    pub(crate) fn pass(&mut self, word: &[u8]) -> Result<(), LineRefusal>
+    pub(crate) fn pass(&mut self, word: &[u8]) -> Result<(), LineFault>
         ensures { Passes word.now self.old result self.new }
     {
         if self.takes(word) {
             Ok(())
         } else {
-            Err(LineRefusal::NotALine)
+            Err(LineFault::NotALine)
         }
     }
 
@@ -72,7 +72,7 @@ impl<'a> Cursor<'a> {
 
     /// Takes the digits that come next, as a number of 64 bits.
     #[tactic(auto, unfolding(crate::specs::Fronts::number_on))]
-    pub(crate) fn number(&mut self) -> Result<u64, LineRefusal>
+    pub(crate) fn number(&mut self) -> Result<u64, LineFault>
         ensures { Reads (number_front self.old) result self.new }
     {
         let mut number = 0;
@@ -84,15 +84,15 @@ impl<'a> Cursor<'a> {
     }
 
     #[tactic(auto, unfolding(crate::specs::Fronts::and_then, crate::specs::Fronts::small_front))]
-    pub(crate) fn small(&mut self) -> Result<u32, LineRefusal>
+    pub(crate) fn small(&mut self) -> Result<u32, LineFault>
         ensures { Reads (small_front self.old) result self.new }
     {
         let number = self.number()?;
-        u32::try_from(number).map_err(|_| LineRefusal::NotALine)
+        u32::try_from(number).map_err(|_| LineFault::NotALine)
     }
 
     #[tactic(auto, unfolding(crate::specs::Fronts::after, crate::specs::Fronts::greenlet_front))]
-    pub(crate) fn greenlet(&mut self) -> Result<u32, LineRefusal>
+    pub(crate) fn greenlet(&mut self) -> Result<u32, LineFault>
         ensures { Reads (greenlet_front self.old) result self.new }
     {
         self.pass(b"g")?;
@@ -100,7 +100,7 @@ impl<'a> Cursor<'a> {
     }
 
     #[tactic(auto, unfolding(crate::specs::Fronts::after, crate::specs::Fronts::job_front))]
-    pub(crate) fn job(&mut self) -> Result<u32, LineRefusal>
+    pub(crate) fn job(&mut self) -> Result<u32, LineFault>
         ensures { Reads (job_front self.old) result self.new }
     {
         self.pass(b"j")?;
@@ -108,7 +108,7 @@ impl<'a> Cursor<'a> {
     }
 
     #[tactic(auto, unfolding(crate::specs::Fronts::and_then, crate::specs::Fronts::or_else, crate::specs::Fronts::int_front))]
-    pub(crate) fn int(&mut self) -> Result<i64, LineRefusal>
+    pub(crate) fn int(&mut self) -> Result<i64, LineFault>
         ensures reads { Reads (int_front self.old) result self.new }
         ensures fits { IfOk result IntFits }
     {
@@ -122,7 +122,7 @@ impl<'a> Cursor<'a> {
     }
 
     #[tactic(auto, unfolding(crate::specs::Fronts::name_front))]
-    pub(crate) fn name(&mut self) -> Result<Name, LineRefusal>
+    pub(crate) fn name(&mut self) -> Result<Name, LineFault>
         ensures reads { Reads (name_front self.old) result self.new }
         ensures fits { IfOk result NameFits }
     {
@@ -132,13 +132,13 @@ impl<'a> Cursor<'a> {
                 self.rest = rest;
                 Ok(name)
             }
-            None => Err(LineRefusal::NotALine),
+            None => Err(LineFault::NotALine),
         }
     }
 }
 
 /// The number with one more digit; not past 64 bits.
-fn with_digit(so_far: u64, digit: u8) -> Result<u64, LineRefusal>
+fn with_digit(so_far: u64, digit: u8) -> Result<u64, LineFault>
     ensures { Reads (if nat_lt (so_far * 10 + (digit - 48)) (2 ^ 64) then Some (so_far * 10 + (digit - 48), []) else None) result [] }
 {
     let digit = u64::from(digit.saturating_sub(b'0'));
@@ -147,30 +147,30 @@ fn with_digit(so_far: u64, digit: u8) -> Result<u64, LineRefusal>
         .and_then(|tens| tens.checked_add(digit))
     {
         Some(number) => Ok(number),
-        None => Err(LineRefusal::NotALine),
+        None => Err(LineFault::NotALine),
     }
 }
 
 #[tactic(auto, unfolding(crate::specs::Fronts::below_zero))]
-fn below_zero(magnitude: u64) -> Result<i64, LineRefusal>
+fn below_zero(magnitude: u64) -> Result<i64, LineFault>
     ensures reads { (rest : Text) → Reads (below_zero magnitude rest) result rest }
     ensures fits { IfOk result IntFits }
 {
     if magnitude == 0 || magnitude > 1 << 63 {
-        return Err(LineRefusal::NotALine);
+        return Err(LineFault::NotALine);
     }
     Ok(-((magnitude - 1) as i64) - 1)
 }
 
 #[tactic(auto, unfolding(crate::specs::Fronts::not_below_zero))]
-fn not_below_zero(magnitude: u64) -> Result<i64, LineRefusal>
+fn not_below_zero(magnitude: u64) -> Result<i64, LineFault>
     ensures reads { (rest : Text) → Reads (not_below_zero magnitude rest) result rest }
     ensures fits { IfOk result IntFits }
 {
     if magnitude < 1 << 63 {
         Ok(magnitude as i64)
     } else {
-        Err(LineRefusal::NotALine)
+        Err(LineFault::NotALine)
     }
 }
 

@@ -6,11 +6,9 @@ mod laws;
 mod lines;
 mod parts;
 mod read;
-mod refusal;
-#[cfg(test)]
-mod tests;
+mod fault;
 mod values;
 
 pub use laws::texts_tell_lines;
 pub use read::read_line;
-pub use refusal::LineRefusal;
+pub use fault::LineFault;

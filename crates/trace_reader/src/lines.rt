@@ -10,13 +10,13 @@ use crate::cursor::Cursor;
 use crate::parts::{
     read_answer, read_awaited, read_blocked, read_cause, read_job_call, read_link_call, read_until,
 };
-use crate::refusal::LineRefusal;
+use crate::fault::LineFault;
 use crate::values::{read_fault, read_outcome, read_value};
 use std::alloc::Global;
 use trace_text::{Line, Resumed};
 
 #[tactic(auto, unfolding(crate::specs::Fronts::and_then, crate::specs::Fronts::or_else, crate::specs::LineFronts::line_front))]
-pub(crate) fn read_front(alloc: Global, cursor: &mut Cursor<'_>) -> Result<Line, LineRefusal>
+pub(crate) fn read_front(alloc: Global, cursor: &mut Cursor<'_>) -> Result<Line, LineFault>
     ensures reads { Reads (line_front cursor.old) result cursor.new }
     ensures fits { IfOk result LineFits }
 {
@@ -37,7 +37,7 @@ pub(crate) fn read_front(alloc: Global, cursor: &mut Cursor<'_>) -> Result<Line,
 
 /// The lines whose second word is a greenlet.
 #[tactic(auto, unfolding(crate::specs::Fronts::and_then, crate::specs::Fronts::or_else, crate::specs::LineFronts::greenlet_line_front))]
-fn read_of_greenlet(alloc: Global, cursor: &mut Cursor<'_>) -> Result<Line, LineRefusal>
+fn read_of_greenlet(alloc: Global, cursor: &mut Cursor<'_>) -> Result<Line, LineFault>
     ensures reads { Reads (greenlet_line_front cursor.old) result cursor.new }
     ensures fits { IfOk result LineFits }
 {
@@ -59,7 +59,7 @@ fn read_of_greenlet(alloc: Global, cursor: &mut Cursor<'_>) -> Result<Line, Line
 
 /// A greenlet that goes on or ends.
 #[tactic(auto, unfolding(crate::specs::Fronts::and_then, crate::specs::Fronts::after, crate::specs::Fronts::or_else, crate::specs::LineFronts::resumed_line_front))]
-fn read_resumed(alloc: Global, cursor: &mut Cursor<'_>) -> Result<Line, LineRefusal>
+fn read_resumed(alloc: Global, cursor: &mut Cursor<'_>) -> Result<Line, LineFault>
     ensures reads { Reads (resumed_line_front cursor.old) result cursor.new }
     ensures fits { IfOk result LineFits }
 {
@@ -79,7 +79,7 @@ fn read_resumed(alloc: Global, cursor: &mut Cursor<'_>) -> Result<Line, LineRefu
 }
 
 #[tactic(auto, unfolding(crate::specs::Fronts::and_then, crate::specs::Fronts::after, crate::specs::LineFronts::start_front))]
-fn read_start(cursor: &mut Cursor<'_>) -> Result<Line, LineRefusal>
+fn read_start(cursor: &mut Cursor<'_>) -> Result<Line, LineFault>
     ensures reads { Reads (of_greenlet start_front cursor.old) result cursor.new }
     ensures fits { IfOk result LineFits }
 {
@@ -90,7 +90,7 @@ fn read_start(cursor: &mut Cursor<'_>) -> Result<Line, LineRefusal>
 }
 
 #[tactic(auto, unfolding(crate::specs::Fronts::and_then, crate::specs::Fronts::after, crate::specs::LineFronts::print_front))]
-fn read_print(alloc: Global, cursor: &mut Cursor<'_>) -> Result<Line, LineRefusal>
+fn read_print(alloc: Global, cursor: &mut Cursor<'_>) -> Result<Line, LineFault>
     ensures reads { Reads (of_greenlet print_front cursor.old) result cursor.new }
     ensures fits { IfOk result LineFits }
 {
@@ -101,7 +101,7 @@ fn read_print(alloc: Global, cursor: &mut Cursor<'_>) -> Result<Line, LineRefusa
 }
 
 #[tactic(auto, unfolding(crate::specs::Fronts::and_then, crate::specs::Fronts::after, crate::specs::LineFronts::park_front))]
-fn read_park(cursor: &mut Cursor<'_>) -> Result<Line, LineRefusal>
+fn read_park(cursor: &mut Cursor<'_>) -> Result<Line, LineFault>
     ensures reads { Reads (of_greenlet park_front cursor.old) result cursor.new }
     ensures fits { IfOk result LineFits }
 {
@@ -117,7 +117,7 @@ fn read_park(cursor: &mut Cursor<'_>) -> Result<Line, LineRefusal>
 }
 
 #[tactic(auto, unfolding(crate::specs::Fronts::and_then, crate::specs::Fronts::after, crate::specs::LineFronts::throw_front))]
-fn read_throw(cursor: &mut Cursor<'_>) -> Result<Line, LineRefusal>
+fn read_throw(cursor: &mut Cursor<'_>) -> Result<Line, LineFault>
     ensures reads { Reads (of_greenlet throw_front cursor.old) result cursor.new }
     ensures fits { IfOk result LineFits }
 {
@@ -128,7 +128,7 @@ fn read_throw(cursor: &mut Cursor<'_>) -> Result<Line, LineRefusal>
 }
 
 #[tactic(auto, unfolding(crate::specs::Fronts::and_then, crate::specs::Fronts::after, crate::specs::LineFronts::into_front))]
-fn read_into(alloc: Global, cursor: &mut Cursor<'_>) -> Result<Line, LineRefusal>
+fn read_into(alloc: Global, cursor: &mut Cursor<'_>) -> Result<Line, LineFault>
     ensures reads { Reads (of_greenlet into_front cursor.old) result cursor.new }
     ensures fits { IfOk result LineFits }
 {
@@ -139,7 +139,7 @@ fn read_into(alloc: Global, cursor: &mut Cursor<'_>) -> Result<Line, LineRefusal
 }
 
 #[tactic(auto, unfolding(crate::specs::Fronts::and_then, crate::specs::Fronts::after, crate::specs::LineFronts::end_front))]
-fn read_end(alloc: Global, cursor: &mut Cursor<'_>) -> Result<Line, LineRefusal>
+fn read_end(alloc: Global, cursor: &mut Cursor<'_>) -> Result<Line, LineFault>
     ensures reads { Reads (of_greenlet end_front cursor.old) result cursor.new }
     ensures fits { IfOk result LineFits }
 {
@@ -150,7 +150,7 @@ fn read_end(alloc: Global, cursor: &mut Cursor<'_>) -> Result<Line, LineRefusal>
 }
 
 #[tactic(auto, unfolding(crate::specs::Fronts::and_then, crate::specs::Fronts::after, crate::specs::LineFronts::link_front))]
-fn read_link(cursor: &mut Cursor<'_>) -> Result<Line, LineRefusal>
+fn read_link(cursor: &mut Cursor<'_>) -> Result<Line, LineFault>
     ensures reads { Reads (link_front cursor.old) result cursor.new }
     ensures fits { IfOk result LineFits }
 {
@@ -167,7 +167,7 @@ fn read_link(cursor: &mut Cursor<'_>) -> Result<Line, LineRefusal>
 }
 
 #[tactic(auto, unfolding(crate::specs::Fronts::and_then, crate::specs::Fronts::after, crate::specs::LineFronts::job_line_front))]
-fn read_job(cursor: &mut Cursor<'_>) -> Result<Line, LineRefusal>
+fn read_job(cursor: &mut Cursor<'_>) -> Result<Line, LineFault>
     ensures reads { Reads (job_line_front cursor.old) result cursor.new }
     ensures fits { IfOk result LineFits }
 {
@@ -184,7 +184,7 @@ fn read_job(cursor: &mut Cursor<'_>) -> Result<Line, LineRefusal>
 }
 
 #[tactic(auto, unfolding(crate::specs::Fronts::and_then, crate::specs::Fronts::after, crate::specs::LineFronts::turn_front))]
-fn read_turn(cursor: &mut Cursor<'_>) -> Result<Line, LineRefusal>
+fn read_turn(cursor: &mut Cursor<'_>) -> Result<Line, LineFault>
     ensures reads { Reads (turn_front cursor.old) result cursor.new }
     ensures fits { IfOk result LineFits }
 {
@@ -195,7 +195,7 @@ fn read_turn(cursor: &mut Cursor<'_>) -> Result<Line, LineRefusal>
 }
 
 #[tactic(auto, unfolding(crate::specs::Fronts::and_then, crate::specs::Fronts::after, crate::specs::LineFronts::stop_front))]
-fn read_stop(alloc: Global, cursor: &mut Cursor<'_>) -> Result<Line, LineRefusal>
+fn read_stop(alloc: Global, cursor: &mut Cursor<'_>) -> Result<Line, LineFault>
     ensures reads { Reads (stop_front cursor.old) result cursor.new }
     ensures fits { IfOk result LineFits }
 {

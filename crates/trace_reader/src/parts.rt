@@ -4,10 +4,10 @@
 ghost use Rattle.std.specs.Prelude.{◌≡◌, IfOk};
 ghost use Rattle.trace_reader.specs.Ranges.{AwaitedFits, UntilFits, LinkCallFits, JobFits, BlockedFits, JobOutcomeFits, AnswerFits, CauseFits};
 ghost use Rattle.trace_reader.specs.Reads.{Reads};
-ghost use Rattle.trace_reader.specs.LineFronts.{grouped_front, queued_front, named_front, joined_front, awaited_front, until_front, link_call_front, job_call_front, blocked_front, job_outcome_front, done_front, answer_front, limit_front, cause_front};
+ghost use Rattle.trace_reader.specs.LineFronts.{channel_front, grouped_front, queued_front, named_front, joined_front, awaited_front, until_front, link_call_front, job_call_front, blocked_front, job_outcome_front, done_front, answer_front, limit_front, cause_front};
 
 use crate::cursor::Cursor;
-use crate::refusal::LineRefusal;
+use crate::fault::LineFault;
 use crate::values::{read_fault, read_value, read_whom};
 use gv_values::{Answer, Job, JobOutcome};
 use std::alloc::Global;
@@ -15,7 +15,7 @@ use trace_text::{Awaited, Blocked, LinkCall, StopCause};
 
 /// A wait, and what it waits on.
 #[tactic(auto, unfolding(crate::specs::Fronts::and_then, crate::specs::Fronts::or_else, crate::specs::LineFronts::awaited_front))]
-pub(crate) fn read_awaited(cursor: &mut Cursor<'_>) -> Result<Awaited, LineRefusal>
+pub(crate) fn read_awaited(cursor: &mut Cursor<'_>) -> Result<Awaited, LineFault>
     ensures reads { Reads (awaited_front cursor.old) result cursor.new }
     ensures fits { IfOk result AwaitedFits }
 {
@@ -34,7 +34,7 @@ pub(crate) fn read_awaited(cursor: &mut Cursor<'_>) -> Result<Awaited, LineRefus
 
 /// A wait on several greenlets, or on what has a name.
 #[tactic(auto, unfolding(crate::specs::Fronts::or_else, crate::specs::LineFronts::joined_front))]
-fn read_joined(cursor: &mut Cursor<'_>) -> Result<Awaited, LineRefusal>
+fn read_joined(cursor: &mut Cursor<'_>) -> Result<Awaited, LineFault>
     ensures reads { Reads (joined_front cursor.old) result cursor.new }
     ensures fits { IfOk result AwaitedFits }
 {
@@ -47,9 +47,9 @@ fn read_joined(cursor: &mut Cursor<'_>) -> Result<Awaited, LineRefusal>
     }
 }
 
-/// A wait on an event, a result or a lock, or on a queue, a group or a pool.
+/// A wait on an event, a result or a lock, or on a queue, a group, a pool or a channel.
 #[tactic(auto, unfolding(crate::specs::Fronts::and_then, crate::specs::Fronts::or_else, crate::specs::LineFronts::named_front))]
-fn read_named(cursor: &mut Cursor<'_>) -> Result<Awaited, LineRefusal>
+fn read_named(cursor: &mut Cursor<'_>) -> Result<Awaited, LineFault>
     ensures reads { Reads (named_front cursor.old) result cursor.new }
     ensures fits { IfOk result AwaitedFits }
 {
@@ -66,9 +66,9 @@ fn read_named(cursor: &mut Cursor<'_>) -> Result<Awaited, LineRefusal>
     }
 }
 
-/// A wait on a queue, a group or a pool.
+/// A wait on a queue, a group, a pool or a channel.
 #[tactic(auto, unfolding(crate::specs::Fronts::and_then, crate::specs::Fronts::or_else, crate::specs::LineFronts::queued_front))]
-fn read_queued(cursor: &mut Cursor<'_>) -> Result<Awaited, LineRefusal>
+fn read_queued(cursor: &mut Cursor<'_>) -> Result<Awaited, LineFault>
     ensures reads { Reads (queued_front cursor.old) result cursor.new }
     ensures fits { IfOk result AwaitedFits }
 {
@@ -85,9 +85,9 @@ fn read_queued(cursor: &mut Cursor<'_>) -> Result<Awaited, LineRefusal>
     }
 }
 
-/// A wait on a group or a pool.
-#[tactic(auto, unfolding(crate::specs::Fronts::and_then, crate::specs::Fronts::after, crate::specs::Fronts::or_else, crate::specs::LineFronts::grouped_front))]
-fn read_grouped(cursor: &mut Cursor<'_>) -> Result<Awaited, LineRefusal>
+/// A wait on a group, a pool or a channel.
+#[tactic(auto, unfolding(crate::specs::Fronts::and_then, crate::specs::Fronts::or_else, crate::specs::LineFronts::grouped_front))]
+fn read_grouped(cursor: &mut Cursor<'_>) -> Result<Awaited, LineFault>
     ensures reads { Reads (grouped_front cursor.old) result cursor.new }
     ensures fits { IfOk result AwaitedFits }
 {
@@ -99,14 +99,29 @@ fn read_grouped(cursor: &mut Cursor<'_>) -> Result<Awaited, LineRefusal>
         Ok(Awaited::GroupKill(cursor.name()?))
     } else if cursor.takes(b"map ") {
         Ok(Awaited::Map(cursor.name()?))
-    } else {
-        cursor.pass(b"nspawn ")?;
+    } else if cursor.takes(b"nspawn ") {
         Ok(Awaited::NativeSpawn(cursor.name()?))
+    } else {
+        read_channel(cursor)
+    }
+}
+
+/// A wait on a channel.
+#[tactic(auto, unfolding(crate::specs::Fronts::and_then, crate::specs::Fronts::after, crate::specs::Fronts::or_else, crate::specs::LineFronts::channel_front))]
+fn read_channel(cursor: &mut Cursor<'_>) -> Result<Awaited, LineFault>
+    ensures reads { Reads (channel_front cursor.old) result cursor.new }
+    ensures fits { IfOk result AwaitedFits }
+{
+    if cursor.takes(b"cput ") {
+        Ok(Awaited::ChannelPut(cursor.name()?))
+    } else {
+        cursor.pass(b"cget ")?;
+        Ok(Awaited::ChannelGet(cursor.name()?))
     }
 }
 
 #[tactic(auto, unfolding(crate::specs::Fronts::and_then, crate::specs::Fronts::or_else, crate::specs::LineFronts::until_front))]
-pub(crate) fn read_until(cursor: &mut Cursor<'_>) -> Result<Option<u64>, LineRefusal>
+pub(crate) fn read_until(cursor: &mut Cursor<'_>) -> Result<Option<u64>, LineFault>
     ensures reads { Reads (until_front cursor.old) result cursor.new }
     ensures fits { IfOk result UntilFits }
 {
@@ -118,7 +133,7 @@ pub(crate) fn read_until(cursor: &mut Cursor<'_>) -> Result<Option<u64>, LineRef
 }
 
 #[tactic(auto, unfolding(crate::specs::Fronts::and_then, crate::specs::Fronts::or_else, crate::specs::LineFronts::link_call_front))]
-pub(crate) fn read_link_call(cursor: &mut Cursor<'_>) -> Result<LinkCall, LineRefusal>
+pub(crate) fn read_link_call(cursor: &mut Cursor<'_>) -> Result<LinkCall, LineFault>
     ensures reads { Reads (link_call_front cursor.old) result cursor.new }
     ensures fits { IfOk result LinkCallFits }
 {
@@ -132,7 +147,7 @@ pub(crate) fn read_link_call(cursor: &mut Cursor<'_>) -> Result<LinkCall, LineRe
 }
 
 #[tactic(auto, unfolding(crate::specs::Fronts::and_then, crate::specs::Fronts::after, crate::specs::Fronts::or_else, crate::specs::LineFronts::job_call_front))]
-pub(crate) fn read_job_call(cursor: &mut Cursor<'_>) -> Result<Job, LineRefusal>
+pub(crate) fn read_job_call(cursor: &mut Cursor<'_>) -> Result<Job, LineFault>
     ensures reads { Reads (job_call_front cursor.old) result cursor.new }
     ensures fits { IfOk result JobFits }
 {
@@ -149,7 +164,7 @@ pub(crate) fn read_job_call(cursor: &mut Cursor<'_>) -> Result<Job, LineRefusal>
 }
 
 #[tactic(auto, unfolding(crate::specs::Fronts::and_then, crate::specs::Fronts::after, crate::specs::Fronts::or_else, crate::specs::LineFronts::blocked_front))]
-pub(crate) fn read_blocked(cursor: &mut Cursor<'_>) -> Result<Blocked, LineRefusal>
+pub(crate) fn read_blocked(cursor: &mut Cursor<'_>) -> Result<Blocked, LineFault>
     ensures reads { Reads (blocked_front cursor.old) result cursor.new }
     ensures fits { IfOk result BlockedFits }
 {
@@ -164,7 +179,7 @@ pub(crate) fn read_blocked(cursor: &mut Cursor<'_>) -> Result<Blocked, LineRefus
 }
 
 #[tactic(auto, unfolding(crate::specs::Fronts::and_then, crate::specs::Fronts::after, crate::specs::Fronts::or_else, crate::specs::LineFronts::answer_front))]
-pub(crate) fn read_answer(cursor: &mut Cursor<'_>) -> Result<Answer, LineRefusal>
+pub(crate) fn read_answer(cursor: &mut Cursor<'_>) -> Result<Answer, LineFault>
     ensures reads { Reads (answer_front cursor.old) result cursor.new }
     ensures fits { IfOk result AnswerFits }
 {
@@ -183,7 +198,7 @@ pub(crate) fn read_answer(cursor: &mut Cursor<'_>) -> Result<Answer, LineRefusal
 }
 
 #[tactic(auto, unfolding(crate::specs::Fronts::and_then, crate::specs::Fronts::after, crate::specs::LineFronts::done_front))]
-fn read_done(cursor: &mut Cursor<'_>) -> Result<Answer, LineRefusal>
+fn read_done(cursor: &mut Cursor<'_>) -> Result<Answer, LineFault>
     ensures reads { Reads (done_front cursor.old) result cursor.new }
     ensures fits { IfOk result AnswerFits }
 {
@@ -200,7 +215,7 @@ fn read_done(cursor: &mut Cursor<'_>) -> Result<Answer, LineRefusal>
 }
 
 #[tactic(auto, unfolding(crate::specs::Fronts::and_then, crate::specs::Fronts::after, crate::specs::Fronts::or_else, crate::specs::LineFronts::job_outcome_front))]
-fn read_job_outcome(cursor: &mut Cursor<'_>) -> Result<JobOutcome, LineRefusal>
+fn read_job_outcome(cursor: &mut Cursor<'_>) -> Result<JobOutcome, LineFault>
     ensures reads { Reads (job_outcome_front cursor.old) result cursor.new }
     ensures fits { IfOk result JobOutcomeFits }
 {
@@ -213,7 +228,7 @@ fn read_job_outcome(cursor: &mut Cursor<'_>) -> Result<JobOutcome, LineRefusal>
 }
 
 #[tactic(auto, unfolding(crate::specs::Fronts::and_then, crate::specs::Fronts::or_else, crate::specs::LineFronts::cause_front))]
-pub(crate) fn read_cause(alloc: Global, cursor: &mut Cursor<'_>) -> Result<StopCause, LineRefusal>
+pub(crate) fn read_cause(alloc: Global, cursor: &mut Cursor<'_>) -> Result<StopCause, LineFault>
     ensures reads { Reads (cause_front cursor.old) result cursor.new }
     ensures fits { IfOk result CauseFits }
 {
@@ -228,7 +243,7 @@ pub(crate) fn read_cause(alloc: Global, cursor: &mut Cursor<'_>) -> Result<StopC
 
 /// What there is no more of.
 #[tactic(auto, unfolding(crate::specs::Fronts::after, crate::specs::Fronts::or_else, crate::specs::LineFronts::limit_front))]
-fn read_limit(cursor: &mut Cursor<'_>) -> Result<StopCause, LineRefusal>
+fn read_limit(cursor: &mut Cursor<'_>) -> Result<StopCause, LineFault>
     ensures reads { Reads (limit_front cursor.old) result cursor.new }
     ensures fits { IfOk result CauseFits }
 {

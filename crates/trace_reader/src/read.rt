@@ -9,14 +9,14 @@ ghost use Rattle.trace_reader.specs.Read.{IsRead, IsRefused};
 use crate::cursor::Cursor;
 use crate::laws::texts_tell_lines;
 use crate::lines::read_front;
-use crate::refusal::LineRefusal;
+use crate::fault::LineFault;
 use std::alloc::Global;
 use trace_text::{Line, write_line};
 
 /// The line whose text the bytes are, without LF.
 ///
 /// `NotALine` exactly where no line has this text; `Memory` where memory ran out.
-pub fn read_line(alloc: Global, bytes: &[u8]) -> Result<Line, LineRefusal>
+pub fn read_line(alloc: Global, bytes: &[u8]) -> Result<Line, LineFault>
     ensures line { IfOk result (λ line. line_text line ≡ bytes.now) }
     ensures again { (line : LineOf) → LineFits line → line_text line ≡ bytes.now → IsRead line result }
     ensures refused { IsRefused bytes.now result }
@@ -30,6 +30,6 @@ pub fn read_line(alloc: Global, bytes: &[u8]) -> Result<Line, LineRefusal>
     if text.as_slice() == bytes {
         Ok(line)
     } else {
-        Err(LineRefusal::NotALine)
+        Err(LineFault::NotALine)
     }
 }

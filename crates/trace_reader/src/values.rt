@@ -8,12 +8,12 @@ ghost use Rattle.trace_reader.specs.LineFronts.{whom_front};
 ghost use Rattle.trace_reader.specs.ValueFronts.{error_front, call_fault_front, timeout_front, fault_front, word_front, scalar_front, list_front, value_front, outcome_front};
 
 use crate::cursor::Cursor;
-use crate::refusal::LineRefusal;
+use crate::fault::LineFault;
 use gv_values::{FaultKind, LIST_LIMIT, List, Outcome, Scalar, Value, Whom};
 use std::alloc::Global;
 
 #[tactic(auto, unfolding(crate::specs::Fronts::or_else, crate::specs::ValueFronts::fault_front))]
-pub(crate) fn read_fault(cursor: &mut Cursor<'_>) -> Result<FaultKind, LineRefusal>
+pub(crate) fn read_fault(cursor: &mut Cursor<'_>) -> Result<FaultKind, LineFault>
     ensures reads { Reads (fault_front cursor.old) result cursor.new }
     ensures fits { IfOk result FaultFits }
 {
@@ -30,7 +30,7 @@ pub(crate) fn read_fault(cursor: &mut Cursor<'_>) -> Result<FaultKind, LineRefus
 
 /// The number of a timeout, and its bracket.
 #[tactic(auto, unfolding(crate::specs::Fronts::and_then, crate::specs::Fronts::after, crate::specs::ValueFronts::timeout_front, crate::specs::ValueFronts::closed))]
-fn read_timeout(cursor: &mut Cursor<'_>) -> Result<FaultKind, LineRefusal>
+fn read_timeout(cursor: &mut Cursor<'_>) -> Result<FaultKind, LineFault>
     ensures reads { Reads (timeout_front cursor.old) result cursor.new }
     ensures fits { IfOk result FaultFits }
 {
@@ -41,7 +41,7 @@ fn read_timeout(cursor: &mut Cursor<'_>) -> Result<FaultKind, LineRefusal>
 
 /// A fault of queues or of switches, or one named an error.
 #[tactic(auto, unfolding(crate::specs::Fronts::or_else, crate::specs::ValueFronts::call_fault_front))]
-fn read_call_fault(cursor: &mut Cursor<'_>) -> Result<FaultKind, LineRefusal>
+fn read_call_fault(cursor: &mut Cursor<'_>) -> Result<FaultKind, LineFault>
     ensures reads { Reads (call_fault_front cursor.old) result cursor.new }
     ensures fits { IfOk result FaultFits }
 {
@@ -60,7 +60,7 @@ fn read_call_fault(cursor: &mut Cursor<'_>) -> Result<FaultKind, LineRefusal>
 
 /// The faults whose names end with `Error`.
 #[tactic(auto, unfolding(crate::specs::Fronts::and_then, crate::specs::Fronts::after, crate::specs::Fronts::or_else, crate::specs::ValueFronts::error_front, crate::specs::ValueFronts::closed))]
-fn read_error(cursor: &mut Cursor<'_>) -> Result<FaultKind, LineRefusal>
+fn read_error(cursor: &mut Cursor<'_>) -> Result<FaultKind, LineFault>
     ensures reads { Reads (error_front cursor.old) result cursor.new }
     ensures fits { IfOk result FaultFits }
 {
@@ -79,12 +79,12 @@ fn read_error(cursor: &mut Cursor<'_>) -> Result<FaultKind, LineRefusal>
         cursor.pass(b")")?;
         Ok(FaultKind::Error(number))
     } else {
-        Err(LineRefusal::NotALine)
+        Err(LineFault::NotALine)
     }
 }
 
 #[tactic(auto, unfolding(crate::specs::Fronts::and_then, crate::specs::ValueFronts::scalar_front))]
-fn read_scalar(cursor: &mut Cursor<'_>) -> Result<Scalar, LineRefusal>
+fn read_scalar(cursor: &mut Cursor<'_>) -> Result<Scalar, LineFault>
     ensures reads { Reads (scalar_front cursor.old) result cursor.new }
     ensures fits { IfOk result ScalarFits }
 {
@@ -97,7 +97,7 @@ fn read_scalar(cursor: &mut Cursor<'_>) -> Result<Scalar, LineRefusal>
 
 /// A scalar that is no integer.
 #[tactic(auto, unfolding(crate::specs::Fronts::and_then, crate::specs::Fronts::or_else, crate::specs::ValueFronts::word_front))]
-fn read_word(cursor: &mut Cursor<'_>) -> Result<Scalar, LineRefusal>
+fn read_word(cursor: &mut Cursor<'_>) -> Result<Scalar, LineFault>
     ensures reads { Reads (word_front cursor.old) result cursor.new }
     ensures fits { IfOk result ScalarFits }
 {
@@ -118,7 +118,7 @@ fn read_word(cursor: &mut Cursor<'_>) -> Result<Scalar, LineRefusal>
 
 /// The scalars of a list, up to its bracket.
 #[tactic(auto, using(crate::proofs::Lists::no_scalar, crate::proofs::Lists::closed_here, crate::proofs::Lists::broken_here, crate::proofs::Lists::more_here, crate::proofs::Lists::none_left, crate::proofs::Lists::fits_behind), unfolding(crate::specs::Fronts::or_else, crate::specs::ValueFronts::list_front))]
-fn read_list(alloc: Global, cursor: &mut Cursor<'_>) -> Result<List, LineRefusal>
+fn read_list(alloc: Global, cursor: &mut Cursor<'_>) -> Result<List, LineFault>
     ensures reads { Reads (list_front cursor.old) result cursor.new }
     ensures fits { IfOk result (λ list. (length list ≤ 64) × ScalarsFit list) }
 {
@@ -130,18 +130,18 @@ fn read_list(alloc: Global, cursor: &mut Cursor<'_>) -> Result<List, LineRefusal
         let scalar = read_scalar(cursor)?;
         let Ok(()) = list.push(scalar) else {
             // The list has fewer than 64 scalars, so it was memory.
-            return Err(LineRefusal::Memory);
+            return Err(LineFault::Memory);
         };
         if cursor.takes(b"]") {
             return Ok(list);
         }
         cursor.pass(b", ")?;
     }
-    Err(LineRefusal::NotALine)
+    Err(LineFault::NotALine)
 }
 
 #[tactic(auto, unfolding(crate::specs::Fronts::and_then, crate::specs::Fronts::or_else, crate::specs::ValueFronts::value_front))]
-pub(crate) fn read_value(alloc: Global, cursor: &mut Cursor<'_>) -> Result<Value, LineRefusal>
+pub(crate) fn read_value(alloc: Global, cursor: &mut Cursor<'_>) -> Result<Value, LineFault>
     ensures reads { Reads (value_front cursor.old) result cursor.new }
     ensures fits { IfOk result ValueFits }
 {
@@ -153,7 +153,7 @@ pub(crate) fn read_value(alloc: Global, cursor: &mut Cursor<'_>) -> Result<Value
 }
 
 #[tactic(auto, unfolding(crate::specs::Fronts::and_then, crate::specs::Fronts::after, crate::specs::Fronts::or_else, crate::specs::ValueFronts::outcome_front))]
-pub(crate) fn read_outcome(alloc: Global, cursor: &mut Cursor<'_>) -> Result<Outcome, LineRefusal>
+pub(crate) fn read_outcome(alloc: Global, cursor: &mut Cursor<'_>) -> Result<Outcome, LineFault>
     ensures reads { Reads (outcome_front cursor.old) result cursor.new }
     ensures fits { IfOk result OutcomeFits }
 {
@@ -166,7 +166,7 @@ pub(crate) fn read_outcome(alloc: Global, cursor: &mut Cursor<'_>) -> Result<Out
 }
 
 #[tactic(auto, unfolding(crate::specs::Fronts::and_then, crate::specs::Fronts::after, crate::specs::Fronts::or_else, crate::specs::LineFronts::whom_front))]
-pub(crate) fn read_whom(cursor: &mut Cursor<'_>) -> Result<Whom, LineRefusal>
+pub(crate) fn read_whom(cursor: &mut Cursor<'_>) -> Result<Whom, LineFault>
     ensures reads { Reads (whom_front cursor.old) result cursor.new }
     ensures fits { IfOk result WhomFits }
 {

@@ -2,8 +2,6 @@
 #![tactic(auto)]
 
 mod line;
-#[cfg(test)]
-mod tests;
 mod write;
 
 pub use line::{Awaited, Blocked, Line, LinkCall, Resumed, StopCause};

@@ -6,8 +6,6 @@
 
 mod evaluate;
 mod question;
-#[cfg(test)]
-mod tests;
 
 pub use evaluate::eval;
 pub use question::{DueJob, LogEntry, PostedJob, Question};

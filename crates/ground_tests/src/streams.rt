@@ -1,6 +1,11 @@
+//! Bytes read to their end, and bytes written.
+#![tactic(auto)]
+
 ghost use Rattle.std.specs.Prelude.{◌≡◌, IfOk};
 
-use super::*;
+use gv_io::{
+    Failed, MemorySink, MemorySource, ReadRefusal, Sink, Source, StdSink, StdSource, read_limited,
+};
 use std::alloc::{AllocError, Global};
 use std::io::Cursor;
 use std::test::Fail;

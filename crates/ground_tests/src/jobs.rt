@@ -1,5 +1,8 @@
-use crate::eval;
+//! What jobs come to.
+#![tactic(auto)]
+
 use gv_values::{FaultKind, Job, JobOutcome};
+use world_rules::eval;
 
 const VALUE_ERROR: JobOutcome = JobOutcome::Fault(FaultKind::ValueError);
 

@@ -3,7 +3,7 @@ use thiserror::Error;
 
 /// Why a line was not read.
 #[derive(Clone, Copy, Debug, PartialEq, Eq, Error)]
-pub enum LineRefusal {
+pub enum LineFault {
     /// No line has this text.
     #[error("not a line of a trace")]
     NotALine,
@@ -12,13 +12,13 @@ pub enum LineRefusal {
     Memory,
 }
 
-impl From<AllocError> for LineRefusal {
+impl From<AllocError> for LineFault {
     ghost use Rattle.std.specs.Prelude.{◌≡◌};
-    ghost use Rattle.trace_reader.specs.declared.refusal.LineRefusal.TheVariants.{Memory};
+    ghost use Rattle.trace_reader.specs.declared.fault.LineFault.TheVariants.{Memory};
 
     ghost from_gives = { λ _ e. e ≡ Memory };
 
-    fn from(_: AllocError) -> LineRefusal {
-        LineRefusal::Memory
+    fn from(_: AllocError) -> LineFault {
+        LineFault::Memory
     }
 }

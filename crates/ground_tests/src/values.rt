@@ -1,5 +1,12 @@
-use super::*;
-use crate::arithmetic::arith;
+//! Arithmetic, classes, names, lists, and the texts of values.
+#![tactic(auto)]
+
+use gv_values::arithmetic::arith;
+use gv_values::digits::{are_digits, is_plain_number, same_bytes};
+use gv_values::{
+    Arith, Class, FaultKind, List, Name, Outcome, PushRefusal, Scalar, Value, Whom, decimal_text,
+    fault_text, int_text, outcome_text, value_text, whom_text,
+};
 use std::alloc::{AllocError, Global};
 use std::test::Fail;
 
@@ -127,4 +134,20 @@ fn shows_ends_and_faults(rt: HostRuntime) -> Result<(), Fail> {
     let wanted: &[u8] = b"Timeout(1) value GreenletExit fault LoopExit j3 0 -10";
     assert_eq!(rt; out.as_slice(), wanted);
     Ok(())
+}
+
+#[test]
+fn numbers_have_one_spelling(rt: HostRuntime) {
+    let taken: [&[u8]; 4] = [b"0", b"7", b"10", b"18446744073709551616"];
+    for text in taken {
+        assert!(rt; is_plain_number(text));
+    }
+    let refused: [&[u8]; 6] = [b"", b"00", b"07", b"-1", b"+1", b"1a"];
+    for text in refused {
+        assert!(rt; !is_plain_number(text));
+    }
+    assert!(rt; are_digits(b"007"));
+    assert!(rt; !are_digits(b"0x7"));
+    assert!(rt; same_bytes(b"main", b"main"));
+    assert!(rt; !same_bytes(b"main", b"mai"));
 }

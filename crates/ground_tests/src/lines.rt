@@ -1,7 +1,10 @@
-use super::*;
+//! The lines of a trace as they are written.
+#![tactic(auto)]
+
 use gv_values::{Answer, FaultKind, Job, JobOutcome, Name, Outcome, Value, Whom};
 use std::alloc::Global;
 use std::test::Fail;
+use trace_text::{Awaited, Blocked, Line, LinkCall, Resumed, StopCause, write_line};
 
 fn name(bytes: &[u8]) -> Result<Name, Fail> {
     match Name::new(bytes) {

@@ -1,7 +1,10 @@
-use super::*;
+//! Lines of a trace that are read, and texts that are none.
+#![tactic(auto)]
+
 use gv_values::{Answer, FaultKind, JobOutcome, Outcome, Scalar, Value, Whom};
 use std::alloc::Global;
 use std::test::Fail;
+use trace_reader::{LineFault, read_line};
 use trace_text::{Awaited, Line, write_line};
 
 fn read_and_written(alloc: Global, text: &[u8]) -> Result<Vec<u8>, Fail> {
@@ -28,7 +31,7 @@ fn reads_the_lines_of_runs(rt: HostRuntime) -> Result<(), Fail> {
 
 #[test]
 fn reads_lines_of_every_kind(rt: HostRuntime) -> Result<(), Fail> {
-    let texts: [&[u8]; 46] = [
+    let texts: [&[u8]; 48] = [
         b"print g4294967295 [true, false, none, -1, g1, j2, Timeout(3), Error(-4)]",
         b"print g0 []",
         b"print g0 -9223372036854775808",
@@ -50,6 +53,8 @@ fn reads_lines_of_every_kind(rt: HostRuntime) -> Result<(), Fail> {
         b"park g1 gjoin p",
         b"park g1 gkill p",
         b"park g1 map abcdefghijklmnopqrstuv_9 until 3",
+        b"park g1 cput c",
+        b"park g1 cget c",
         b"late g3",
         b"throw g3 Timeout(1)",
         b"throw g3 LoopExit",
@@ -127,7 +132,7 @@ fn reads_what_the_line_says(rt: HostRuntime) -> Result<(), Fail> {
 
 #[test]
 fn refuses_what_is_no_line(rt: HostRuntime) {
-    let texts: [&[u8]; 30] = [
+    let texts: [&[u8]; 33] = [
         b"",
         b"start",
         b"start g0",
@@ -153,6 +158,9 @@ fn refuses_what_is_no_line(rt: HostRuntime) {
         b"print g0 Timeout(4294967296)",
         b"park g0 sleep until",
         b"park g0 sleep until 18446744073709551616",
+        b"park g0 cput",
+        b"park g0 cget ",
+        b"park g0 cpeek c",
         b"block 05",
         b"turn 1 done j1 5 value none",
         b"turn 1 nothing",
@@ -161,7 +169,7 @@ fn refuses_what_is_no_line(rt: HostRuntime) {
     ];
     for text in texts {
         let read = read_line(rt.alloc(), text);
-        assert!(rt; matches!(read, Err(LineRefusal::NotALine)));
+        assert!(rt; matches!(read, Err(LineFault::NotALine)));
     }
 }
 
@@ -183,6 +191,6 @@ fn a_list_has_at_most_64_scalars(rt: HostRuntime) -> Result<(), Fail> {
     assert_eq!(rt; again.as_slice(), full.as_slice());
     let more = zeros(rt.alloc(), 65)?;
     let read = read_line(rt.alloc(), more.as_slice());
-    assert!(rt; matches!(read, Err(LineRefusal::NotALine)));
+    assert!(rt; matches!(read, Err(LineFault::NotALine)));
     Ok(())
 }
