@@ -6,7 +6,8 @@ use Rattle.gv_values.specs.declared.name.Name.{Name}
 use Rattle.scenario_tree.specs.declared.tree.Function.{Function}
 use Rattle.scenario_tree.specs.declared.tree.Scenario.{Scenario}
 use Rattle.scenario_grammar.specs.declared.place.Place.{Place}
-use Rattle.scenario_grammar.specs.Reasons.{Reason}
+use Rattle.scenario_grammar.specs.declared.reason.RuleReason.{RuleReason}
+use Rattle.scenario_grammar.specs.declared.reason.RuleReason.TheVariants as rule
 use Rattle.scenario_rules.specs.declared.declared.Declared.{Declared}
 use Rattle.scenario_rules.specs.declared.declared.Declared.TheVariants as declared
 use Rattle.scenario_rules.specs.declared.mention.Mention.{Mention}
@@ -16,7 +17,6 @@ use Rattle.scenario_rules.specs.declared.mention.Wanted.{Wanted}
 use Rattle.scenario_rules.specs.declared.mention.Named.{Named}
 use Rattle.scenario_rules.specs.Declarations.{declared_as, different, given_by, given_names, is_among, is_kind, is_local, parameters, repeated}
 use Rattle.scenario_rules.specs.Mentions.{mentions}
-use Rattle.scenario_rules.specs.Reasons.{declared_twice, too_many, undeclared, wrong_kind, wrong_count, hub_in_raw_body}
 use Rattle.scenario_rules.specs.Rules.{first_after, function_refusals, is_wrong_head, most_local_names, past, refused, refused_names, word_refusals}
 use Rattle.scenario_tree.specs.Limits.{most_parameters}
 use Rattle.scenario_check.specs.Sorting.{pair}
@@ -26,53 +26,53 @@ use Rattle.std.specs.Cmp.Lexicographic.{pointwise}
 use Rattle.std.specs.Map.{lookup}
 use Rattle.scenario_check.specs.Words.{call_reason, object_reason, placed, run_reason, use_reason, word_reason}
 
-pub refused_if : (r : Reason) (line : ℕ) (b : Bool) → placed line (if b then Some r else None) ≡ refused r line b
+pub refused_if : (r : RuleReason) (line : ℕ) (b : Bool) → placed line (if b then Some r else None) ≡ refused r line b
 refused_if r line true = refl
 refused_if r line false = refl
 
-uses : (line : ℕ) (d : Option Declared) (l : Bool) → refused undeclared line (not (is_some d) && not l) ++ refused wrong_kind line (is_some d) ++ [] ++ [] ++ [] ≡ placed line (use_reason d l)
+uses : (line : ℕ) (d : Option Declared) (l : Bool) → refused rule.Undeclared line (not (is_some d) && not l) ++ refused rule.WrongKind line (is_some d) ++ [] ++ [] ++ [] ≡ placed line (use_reason d l)
 uses line (Some d) l = refl
 uses line None true = refl
 uses line None false = refl
 
 objects : (line : ℕ) (kind : Wanted) (d : Option Declared) →
-    refused undeclared line (not (is_some d))
-    ++ refused wrong_kind line (elim d [ Some (declared.Object o) ↦ not (is_kind kind o) | Some d ↦ true | None ↦ false ]) ++ [] ++ [] ++ [] ≡ placed line (object_reason kind d)
+    refused rule.Undeclared line (not (is_some d))
+    ++ refused rule.WrongKind line (elim d [ Some (declared.Object o) ↦ not (is_kind kind o) | Some d ↦ true | None ↦ false ]) ++ [] ++ [] ++ [] ≡ placed line (object_reason kind d)
 objects line kind None = refl
 objects line kind (Some (declared.Object o)) = by (is_kind kind o)
   where
-    by : (b : Bool) → refused wrong_kind line (not b) ++ [] ++ [] ++ [] ≡ placed line (if b then None else Some wrong_kind)
+    by : (b : Bool) → refused rule.WrongKind line (not b) ++ [] ++ [] ++ [] ≡ placed line (if b then None else Some rule.WrongKind)
     by true = refl
     by false = refl
 objects line kind (Some (declared.Function n)) = refl
 objects line kind (Some declared.RawBody) = refl
 
 calls : (line n : ℕ) (d : Option Declared) →
-    refused undeclared line (not (is_some d))
-    ++ refused wrong_kind line (elim d [ Some (declared.Function count) ↦ false | Some d ↦ true | None ↦ false ])
-    ++ refused wrong_count line (elim d [ Some (declared.Function count) ↦ not (n == count) | Some d ↦ false | None ↦ false ]) ++ [] ++ [] ≡ placed line (call_reason n d)
+    refused rule.Undeclared line (not (is_some d))
+    ++ refused rule.WrongKind line (elim d [ Some (declared.Function count) ↦ false | Some d ↦ true | None ↦ false ])
+    ++ refused rule.WrongCount line (elim d [ Some (declared.Function count) ↦ not (n == count) | Some d ↦ false | None ↦ false ]) ++ [] ++ [] ≡ placed line (call_reason n d)
 calls line n None = refl
 calls line n (Some (declared.Object o)) = refl
 calls line n (Some (declared.Function count)) = by (n == count)
   where
-    by : (b : Bool) → refused wrong_count line (not b) ++ [] ++ [] ≡ placed line (if b then None else Some wrong_count)
+    by : (b : Bool) → refused rule.WrongCount line (not b) ++ [] ++ [] ≡ placed line (if b then None else Some rule.WrongCount)
     by true = refl
     by false = refl
 calls line n (Some declared.RawBody) = refl
 
 runs : (line : ℕ) (d : Option Declared) →
-    refused undeclared line (not (is_some d))
-    ++ refused wrong_kind line (elim d [ Some declared.RawBody ↦ false | Some d ↦ true | None ↦ false ]) ++ [] ++ [] ++ [] ≡ placed line (run_reason d)
+    refused rule.Undeclared line (not (is_some d))
+    ++ refused rule.WrongKind line (elim d [ Some declared.RawBody ↦ false | Some d ↦ true | None ↦ false ]) ++ [] ++ [] ++ [] ≡ placed line (run_reason d)
 runs line None = refl
 runs line (Some (declared.Object o)) = refl
 runs line (Some (declared.Function n)) = refl
 runs line (Some declared.RawBody) = refl
 
-gives : (line : ℕ) (d : Option Declared) → refused wrong_kind line (is_some d) ++ [] ++ [] ++ [] ≡ placed line (Rattle.scenario_check.specs.Words.give_reason d)
+gives : (line : ℕ) (d : Option Declared) → refused rule.WrongKind line (is_some d) ++ [] ++ [] ++ [] ≡ placed line (Rattle.scenario_check.specs.Words.give_reason d)
 gives line None = refl
 gives line (Some d) = refl
 
-hubs : (line : ℕ) (b : Bool) → refused hub_in_raw_body line b ++ [] ≡ placed line (if b then Some hub_in_raw_body else None)
+hubs : (line : ℕ) (b : Bool) → refused rule.HubInRawBody line b ++ [] ≡ placed line (if b then Some rule.HubInRawBody else None)
 hubs line true = refl
 hubs line false = refl
 
@@ -106,17 +106,17 @@ words_by s f names locals h k (m ∷ ms) =
 
 -- ---- the parts of a function, one after the other
 
-pub head_judged : (first p q r : Option Place) (f : Function) (again list : List Named) (reason : Option Reason) →
-    again ≡ repeated (parameters f) → list ≡ parameters f → reason ≡ (if is_wrong_head f then Some wrong_count else None) →
-    p ≡ first_after first (refused_names declared_twice again) → q ≡ first_after p (placed f.line reason) → r ≡ first_after q (refused_names too_many (past most_parameters list)) →
-    r ≡ first_after first (refused_names declared_twice (repeated (parameters f)) ++ refused wrong_count f.line (is_wrong_head f) ++ refused_names too_many (past most_parameters (parameters f)))
+pub head_judged : (first p q r : Option Place) (f : Function) (again list : List Named) (reason : Option RuleReason) →
+    again ≡ repeated (parameters f) → list ≡ parameters f → reason ≡ (if is_wrong_head f then Some rule.WrongCount else None) →
+    p ≡ first_after first (refused_names rule.DeclaredTwice again) → q ≡ first_after p (placed f.line reason) → r ≡ first_after q (refused_names rule.TooMany (past most_parameters list)) →
+    r ≡ first_after first (refused_names rule.DeclaredTwice (repeated (parameters f)) ++ refused rule.WrongCount f.line (is_wrong_head f) ++ refused_names rule.TooMany (past most_parameters (parameters f)))
 head_judged first p q r f again list reason a l e h i j =
-    let twice = refused_names declared_twice (repeated (parameters f)) in
-    let head = refused wrong_count f.line (is_wrong_head f) in
-    let many = refused_names too_many (past most_parameters (parameters f)) in
-    let p_is : p ≡ first_after first twice = h ∙ ap (λ ns. first_after first (refused_names declared_twice ns)) a in
-    let q_is : q ≡ first_after p head = i ∙ ap (λ x. first_after p (placed f.line x)) e ∙ ap (λ ps. first_after p ps) (refused_if wrong_count f.line (is_wrong_head f)) in
-    j ∙ ap (λ ns. first_after q (refused_names too_many (past most_parameters ns))) l
+    let twice = refused_names rule.DeclaredTwice (repeated (parameters f)) in
+    let head = refused rule.WrongCount f.line (is_wrong_head f) in
+    let many = refused_names rule.TooMany (past most_parameters (parameters f)) in
+    let p_is : p ≡ first_after first twice = h ∙ ap (λ ns. first_after first (refused_names rule.DeclaredTwice ns)) a in
+    let q_is : q ≡ first_after p head = i ∙ ap (λ x. first_after p (placed f.line x)) e ∙ ap (λ ps. first_after p ps) (refused_if rule.WrongCount f.line (is_wrong_head f)) in
+    j ∙ ap (λ ns. first_after q (refused_names rule.TooMany (past most_parameters ns))) l
     ∙ ap (λ z. first_after z many) (q_is ∙ ap (λ z. first_after z head) p_is)
     ∙ sym (first_both first (twice ++ head) many ∙ ap (λ z. first_after z many) (first_both first twice head))
 
@@ -125,24 +125,24 @@ known_among = among_by
 
 pub body_judged : (s : Scenario) (f : Function) (first p q : Option Place) (names : Name → Option Declared) (locals : Name → Option ℕ) (given new : List Named) (said : List Mention) →
     ((x : Name) → names x ≡ declared_as s x) → said ≡ mentions f → given ≡ flat_map given_by said → ((x : Name) → locals x ≡ lookup (pointwise nat_eq x) (map pair given)) → new ≡ different given →
-    p ≡ first_after first (refused_names too_many (past most_local_names new)) →
+    p ≡ first_after first (refused_names rule.TooMany (past most_local_names new)) →
     q ≡ first_after p (flat_map (λ (m : Mention). placed m.line (word_reason names (λ x. is_some (locals x)) f.is_raw m.says)) said) →
-    q ≡ first_after first (refused_names too_many (past most_local_names (different (given_names f))) ++ flat_map (word_refusals s f) (mentions f))
+    q ≡ first_after first (refused_names rule.TooMany (past most_local_names (different (given_names f))) ++ flat_map (word_refusals s f) (mentions f))
 body_judged s f first p q names locals given new said h m g k d i j =
     let all : given ≡ given_names f = g ∙ ap (λ ms. flat_map given_by ms) m in
     let local : (x : Name) → is_some (locals x) ≡ is_local f x = λ x. known_among locals given k x ∙ ap (λ ns. is_among x ns) all in
-    let many = refused_names too_many (past most_local_names (different (given_names f))) in
+    let many = refused_names rule.TooMany (past most_local_names (different (given_names f))) in
     j ∙ ap (λ ps. first_after p ps) (words_by s f names (λ x. is_some (locals x)) h local said)
     ∙ ap (λ ms. first_after p (flat_map (word_refusals s f) ms)) m
-    ∙ ap (λ z. first_after z (flat_map (word_refusals s f) (mentions f))) (i ∙ ap (λ ns. first_after first (refused_names too_many (past most_local_names ns))) (d ∙ ap different all))
+    ∙ ap (λ z. first_after z (flat_map (word_refusals s f) (mentions f))) (i ∙ ap (λ ns. first_after first (refused_names rule.TooMany (past most_local_names ns))) (d ∙ ap different all))
     ∙ sym (first_both first many (flat_map (word_refusals s f) (mentions f)))
 
 pub function_judged : (s : Scenario) (f : Function) (first p q : Option Place) →
-    p ≡ first_after first (refused_names declared_twice (repeated (parameters f)) ++ refused wrong_count f.line (is_wrong_head f) ++ refused_names too_many (past most_parameters (parameters f))) →
-    q ≡ first_after p (refused_names too_many (past most_local_names (different (given_names f))) ++ flat_map (word_refusals s f) (mentions f)) →
+    p ≡ first_after first (refused_names rule.DeclaredTwice (repeated (parameters f)) ++ refused rule.WrongCount f.line (is_wrong_head f) ++ refused_names rule.TooMany (past most_parameters (parameters f))) →
+    q ≡ first_after p (refused_names rule.TooMany (past most_local_names (different (given_names f))) ++ flat_map (word_refusals s f) (mentions f)) →
     q ≡ first_after first (function_refusals s f)
 function_judged s f first p q h i =
-    let head = refused_names declared_twice (repeated (parameters f)) ++ refused wrong_count f.line (is_wrong_head f) ++ refused_names too_many (past most_parameters (parameters f)) in
-    let many = refused_names too_many (past most_local_names (different (given_names f))) in
+    let head = refused_names rule.DeclaredTwice (repeated (parameters f)) ++ refused rule.WrongCount f.line (is_wrong_head f) ++ refused_names rule.TooMany (past most_parameters (parameters f)) in
+    let many = refused_names rule.TooMany (past most_local_names (different (given_names f))) in
     let words = flat_map (word_refusals s f) (mentions f) in
     i ∙ ap (λ z. first_after z (many ++ words)) h ∙ sym (first_both first head (many ++ words)) ∙ ap (λ ps. first_after first ps) (sym (append_assoc head many words))

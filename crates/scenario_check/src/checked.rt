@@ -19,13 +19,11 @@ impl Model for Checked {
     ghost use Rattle.scenario_tree.specs.declared.tree.Scenario.{Scenario as Tree};
     ghost use Rattle.scenario_rules.specs.Rules.{IsWellFormed};
     ghost use Rattle.scenario_lang.specs.Written.{DefinesMain};
-    ghost use Rattle.scenario_tree.specs.contracts.tree.Action as a;
-    ghost use Rattle.scenario_tree.specs.contracts.tree.Expression as e;
-    ghost use Rattle.std.specs.Coded.{codes};
+    ghost use Rattle.scenario_tree.specs.Trees.{trees};
 
     ghost Value = { Tree };
 
-    ghost coded = { Prim.hlevel (codes, a.the_row.coded, e.the_row.coded) };
+    ghost coded = { Prim.hlevel trees };
 
     ghost view = { λ c. c.scenario };
 
@@ -40,15 +38,6 @@ impl Checked {
         ensures main { DefinesMain self.now }
     {
         &self.scenario
-    }
-
-    /// The scenario alone.
-    pub fn into_scenario(self) -> Scenario
-        ensures same { result ≡ self }
-        ensures well_formed { IsWellFormed self }
-        ensures main { DefinesMain self }
-    {
-        self.scenario
     }
 }
 

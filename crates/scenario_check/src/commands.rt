@@ -60,5 +60,9 @@ pub(crate) fn say_command(
             Ok(say_hub_object_perhaps(said, line, Wanted::GroupOrPool, x, fault)?)
         }
         Command::SetParent(child, parent) => Ok(say_two(said, line, child, parent)?),
+        Command::ChannelPut(x, e) => {
+            Ok(say_hub_object_expression(said, line, Wanted::Channel, x, e)?)
+        }
+        Command::QueueShut(x, _) => Ok(say_hub_object(said, line, Wanted::Queue, x)?),
     }
 }

@@ -120,5 +120,6 @@ pub(crate) fn say_giving(
         Giving::Raw(f, e) => Ok(say_raw(said, line, f, e)?),
         Giving::Switch(target, value) => Ok(say_two(said, line, target, value)?),
         Giving::Throw(target, fault) => Ok(say_and_perhaps(said, line, target, fault)?),
+        Giving::ChannelGet(x) => Ok(say_hub_object(said, line, Wanted::Channel, x)?),
     }
 }

@@ -1,13 +1,10 @@
 //! A scenario, part by part, and the first place where it breaks a rule.
-ghost use Rattle.std.specs.Prelude.{◌≡◌, ◌==◌, ◌&&◌, ◌++◌, not, if◌then◌else◌, nat_eq, length, Some, None, IfOk};
+ghost use Rattle.std.specs.Prelude.{◌≡◌, ◌++◌, if◌then◌else◌, Some, None, IfOk};
 ghost use Rattle.std.specs.List.{flat_map};
-ghost use Rattle.std.specs.Cmp.Lexicographic.{pointwise};
-ghost use Rattle.scenario_grammar.specs.Spells.{is_main};
 ghost use Rattle.scenario_tree.specs.declared.tree.Scenario.{Scenario as AnyScenario};
 ghost use Rattle.scenario_rules.specs.declared.mention.Mention.{Mention as AnyMention};
 ghost use Rattle.scenario_rules.specs.Declarations.{declarations, different, given_by, given_names, named_functions, named_objects, parameters, repeated};
 ghost use Rattle.scenario_rules.specs.Mentions.{mentions};
-ghost use Rattle.scenario_rules.specs.Reasons.{declared_twice, too_many, wrong_count};
 ghost use Rattle.scenario_rules.specs.Rules.{first_after, function_refusals, is_wrong_head, most_functions, most_local_names, most_objects, past, place_of, refused, refused_names, word_refusals};
 ghost use Rattle.scenario_tree.specs.Limits.{most_parameters};
 ghost use Rattle.scenario_check.specs.Tables.{Holds};
@@ -17,14 +14,11 @@ use crate::different::sort_names;
 use crate::lists::{add_all_given, add_functions, add_names, add_objects, declarations};
 use crate::names::Names;
 use crate::places::{noted, noted_names, noted_past, noted_words};
-use crate::words::WRONG_COUNT;
-use gv_values::digits::same_bytes;
-use scenario_grammar::Place;
+use scenario_grammar::{Place, RuleReason};
+use scenario_lang::is_main;
 use scenario_rules::{Declared, Mention};
 use scenario_tree::{Function, Items, Scenario};
 use std::alloc::{AllocError, Global};
-
-const DECLARED_TWICE: u8 = 16;
 
 const MOST_OBJECTS: usize = 256;
 
@@ -33,12 +27,6 @@ const MOST_FUNCTIONS: usize = 256;
 const MOST_PARAMETERS: usize = 16;
 
 const MOST_LOCAL_NAMES: usize = 64;
-
-fn is_main(function: &Function) -> bool
-    ensures { result ≡ is_main function.now }
-{
-    !function.is_raw && same_bytes(function.name.bytes(), b"main")
-}
 
 fn is_wrong_head(function: &Function) -> bool
     ensures { result ≡ is_wrong_head function.now }
@@ -51,11 +39,11 @@ fn is_wrong_head(function: &Function) -> bool
     }
 }
 
-fn head_reason(function: &Function) -> Option<u8>
-    ensures { result ≡ (if is_wrong_head function.now then Some wrong_count else None) }
+fn head_reason(function: &Function) -> Option<RuleReason>
+    ensures { result ≡ (if is_wrong_head function.now then Some RuleReason.WrongCount else None) }
 {
     if is_wrong_head(function) {
-        Some(WRONG_COUNT)
+        Some(RuleReason::WrongCount)
     } else {
         None
     }
@@ -67,8 +55,8 @@ fn judge_head(
     first: Option<Place>,
     function: &Function,
 ) -> Result<Option<Place>, AllocError>
-    ensures { IfOk result (λ p. p ≡ first_after first (refused_names declared_twice (repeated (parameters function.now))
-        ++ refused wrong_count function.now.line (is_wrong_head function.now) ++ refused_names too_many (past most_parameters (parameters function.now)))) }
+    ensures { IfOk result (λ p. p ≡ first_after first (refused_names RuleReason.DeclaredTwice (repeated (parameters function.now))
+        ++ refused RuleReason.WrongCount function.now.line (is_wrong_head function.now) ++ refused_names RuleReason.TooMany (past most_parameters (parameters function.now)))) }
 {
     let mut parameters = Items::new(alloc);
     add_names(
@@ -77,7 +65,7 @@ fn judge_head(
         function.parameters.as_slice(),
     )?;
     let sorted = sort_names(alloc, parameters.as_slice())?;
-    let repeated = noted_names(first, DECLARED_TWICE, sorted.repeated.as_slice());
+    let repeated = noted_names(first, RuleReason::DeclaredTwice, sorted.repeated.as_slice());
     let head = noted(repeated, function.line, head_reason(function));
     Ok(noted_past(head, MOST_PARAMETERS, parameters.as_slice()))
 }
@@ -91,7 +79,7 @@ fn judge_body(
     said: &[Mention],
 ) -> Result<Option<Place>, AllocError>
     requires { said.now ≡ mentions function.now }
-    ensures { (s : AnyScenario) → Holds names.now (declarations s) → IfOk result (λ p. p ≡ first_after first (refused_names too_many (past most_local_names (different (given_names function.now)))
+    ensures { (s : AnyScenario) → Holds names.now (declarations s) → IfOk result (λ p. p ≡ first_after first (refused_names RuleReason.TooMany (past most_local_names (different (given_names function.now)))
         ++ flat_map (word_refusals s function.now) (mentions function.now))) }
 {
     let mut given = Items::new(alloc);
@@ -131,9 +119,9 @@ fn judge_functions(
 
 /// The declarations of objects and functions.
 fn judge_declarations(alloc: Global, scenario: &Scenario) -> Result<Option<Place>, AllocError>
-    ensures { IfOk result (λ p. p ≡ first_after None (refused_names too_many (past most_objects (named_objects scenario.now))
-        ++ refused_names too_many (past most_functions (named_functions scenario.now))
-        ++ refused_names declared_twice (repeated (named_objects scenario.now ++ named_functions scenario.now)))) }
+    ensures { IfOk result (λ p. p ≡ first_after None (refused_names RuleReason.TooMany (past most_objects (named_objects scenario.now))
+        ++ refused_names RuleReason.TooMany (past most_functions (named_functions scenario.now))
+        ++ refused_names RuleReason.DeclaredTwice (repeated (named_objects scenario.now ++ named_functions scenario.now)))) }
 {
     let mut names = Items::new(alloc);
     let mut functions = Items::new(alloc);
@@ -143,7 +131,7 @@ fn judge_declarations(alloc: Global, scenario: &Scenario) -> Result<Option<Place
     let past_functions = noted_past(past_objects, MOST_FUNCTIONS, functions.as_slice());
     names.append(functions)?;
     let sorted = sort_names(alloc, names.as_slice())?;
-    Ok(noted_names(past_functions, DECLARED_TWICE, sorted.repeated.as_slice()))
+    Ok(noted_names(past_functions, RuleReason::DeclaredTwice, sorted.repeated.as_slice()))
 }
 
 /// Where the scenario is refused, if it is.

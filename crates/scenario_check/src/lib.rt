@@ -13,8 +13,6 @@ mod lists;
 mod names;
 mod parts;
 mod places;
-#[cfg(test)]
-mod tests;
 mod words;
 
 pub use checked::{Checked, check};

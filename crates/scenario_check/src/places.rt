@@ -3,17 +3,14 @@ ghost use Rattle.std.specs.Prelude.{◌≡◌, Some, [], ◌∷◌};
 ghost use Rattle.std.specs.Option.{is_some};
 ghost use Rattle.std.specs.List.{flat_map};
 ghost use Rattle.scenario_rules.specs.declared.mention.Mention.{Mention as AnyMention};
-ghost use Rattle.scenario_rules.specs.Reasons.{too_many};
 ghost use Rattle.scenario_rules.specs.Rules.{earlier, first_after, is_before, past, refused_names};
 ghost use Rattle.scenario_check.specs.Tables.{found};
 ghost use Rattle.scenario_check.specs.Words.{placed, word_reason};
 
 use crate::names::Names;
 use crate::words::word_reason;
-use scenario_grammar::Place;
+use scenario_grammar::{Place, RuleReason};
 use scenario_rules::{Declared, Mention, Named};
-
-const TOO_MANY: u8 = 22;
 
 fn is_before(p: Place, q: Place) -> bool
     ensures { result ≡ is_before p q }
@@ -37,33 +34,43 @@ fn earlier(first: Option<Place>, place: Place) -> Place
 }
 
 /// The first place, where one more may be refused.
-pub(crate) fn noted(first: Option<Place>, line: u32, reason: Option<u8>) -> Option<Place>
+pub(crate) fn noted(first: Option<Place>, line: u32, reason: Option<RuleReason>) -> Option<Place>
     ensures { result ≡ first_after first (placed line reason) }
 {
     match reason {
         None => first,
-        Some(reason) => Some(earlier(first, Place { line, reason })),
+        Some(reason) => Some(earlier(
+            first,
+            Place {
+                line,
+                reason: reason.number(),
+            },
+        )),
     }
 }
 
-/// The same of the lines of these names.
-pub(crate) fn noted_names(first: Option<Place>, reason: u8, names: &[Named]) -> Option<Place>
+/// The first place, where the lines of these names may be refused too.
+pub(crate) fn noted_names(
+    first: Option<Place>,
+    reason: RuleReason,
+    names: &[Named],
+) -> Option<Place>
     ensures { result ≡ first_after first (refused_names reason names.now) }
 {
     let mut least = first;
     for named in names {
         let place = Place {
             line: named.line,
-            reason,
+            reason: reason.number(),
         };
         least = Some(earlier(least, place));
     }
     least
 }
 
-/// The same where there are more than so many names.
+/// The first place, where the first name past so many may be refused too.
 pub(crate) fn noted_past(first: Option<Place>, most: usize, names: &[Named]) -> Option<Place>
-    ensures { result ≡ first_after first (refused_names too_many (past most names.now)) }
+    ensures { result ≡ first_after first (refused_names RuleReason.TooMany (past most names.now)) }
 {
     match names.get(most) {
         None => first,
@@ -71,13 +78,13 @@ pub(crate) fn noted_past(first: Option<Place>, most: usize, names: &[Named]) -> 
             first,
             Place {
                 line: named.line,
-                reason: TOO_MANY,
+                reason: RuleReason::TooMany.number(),
             },
         )),
     }
 }
 
-/// The same of the words of a function.
+/// The first place, where the words of a function may be refused too.
 #[tactic(auto, using(crate::proofs::FirstPlace::first_both))]
 pub(crate) fn noted_words(
     first: Option<Place>,

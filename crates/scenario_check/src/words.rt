@@ -6,18 +6,9 @@ ghost use Rattle.scenario_check.specs.Tables.{found};
 ghost use Rattle.scenario_check.specs.Words.{call_reason, give_reason, object_reason, run_reason, use_reason, word_reason};
 
 use crate::names::Names;
+use scenario_grammar::RuleReason;
 use scenario_rules::{Declared, Says, Wanted};
 use scenario_tree::{Object, QueueKind};
-
-const UNDECLARED: u8 = 15;
-
-const WRONG_KIND: u8 = 17;
-
-pub(crate) const WRONG_COUNT: u8 = 18;
-
-const HUB_IN_RAW_BODY: u8 = 19;
-
-const TIMEOUTS_TOO_DEEP: u8 = 20;
 
 fn is_kind(kind: Wanted, object: Object) -> bool
     ensures { result ≡ is_kind kind object }
@@ -37,66 +28,67 @@ fn is_kind(kind: Wanted, object: Object) -> bool
         Wanted::JoinQueue => matches!(object, Object::Queue(QueueKind::Join, _)),
         Wanted::GroupOrPool => matches!(object, Object::Group | Object::Pool(_)),
         Wanted::NativePool => matches!(object, Object::Native(_)),
+        Wanted::Channel => matches!(object, Object::Channel),
     }
 }
 
-fn use_reason(declared: Option<Declared>, is_local: bool) -> Option<u8>
+fn use_reason(declared: Option<Declared>, is_local: bool) -> Option<RuleReason>
     ensures { result ≡ use_reason declared is_local }
 {
     match declared {
-        Some(_) => Some(WRONG_KIND),
-        None => { if is_local { None } else { Some(UNDECLARED) } }
+        Some(_) => Some(RuleReason::WrongKind),
+        None => { if is_local { None } else { Some(RuleReason::Undeclared) } }
     }
 }
 
-fn give_reason(declared: Option<Declared>) -> Option<u8>
+fn give_reason(declared: Option<Declared>) -> Option<RuleReason>
     ensures { result ≡ give_reason declared }
 {
     match declared {
-        Some(_) => Some(WRONG_KIND),
+        Some(_) => Some(RuleReason::WrongKind),
         None => None,
     }
 }
 
-fn object_reason(kind: Wanted, declared: Option<Declared>) -> Option<u8>
+fn object_reason(kind: Wanted, declared: Option<Declared>) -> Option<RuleReason>
     ensures { result ≡ object_reason kind declared }
 {
     match declared {
-        None => Some(UNDECLARED),
+        None => Some(RuleReason::Undeclared),
         Some(Declared::Object(object)) => {
             if is_kind(kind, object) {
                 None
             } else {
-                Some(WRONG_KIND)
+                Some(RuleReason::WrongKind)
             }
         }
-        Some(_) => Some(WRONG_KIND),
+        Some(_) => Some(RuleReason::WrongKind),
     }
 }
 
-fn call_reason(count: usize, declared: Option<Declared>) -> Option<u8>
+fn call_reason(count: usize, declared: Option<Declared>) -> Option<RuleReason>
     ensures { result ≡ call_reason count declared }
 {
     match declared {
-        None => Some(UNDECLARED),
+        None => Some(RuleReason::Undeclared),
         Some(Declared::Function(parameters)) => {
             if count == parameters {
                 None
             } else {
-                Some(WRONG_COUNT)
+                Some(RuleReason::WrongCount)
             }
         }
-        Some(_) => Some(WRONG_KIND),
+        Some(_) => Some(RuleReason::WrongKind),
     }
 }
 
-fn run_reason(declared: Option<Declared>) -> Option<u8>
+fn run_reason(declared: Option<Declared>) -> Option<RuleReason>
     ensures { result ≡ run_reason declared }
 {
     match declared {
-        None => Some(UNDECLARED),
+        None => Some(RuleReason::Undeclared),
         Some(Declared::RawBody) => None,
-        Some(_) => Some(WRONG_KIND),
+        Some(_) => Some(RuleReason::WrongKind),
     }
 }
 
@@ -106,7 +98,7 @@ pub(crate) fn word_reason(
     locals: &Names<u32>,
     is_raw: bool,
     says: Says,
-) -> Option<u8>
+) -> Option<RuleReason>
     ensures { result ≡ word_reason (found names.now) (λ x. is_some (found locals.now x)) is_raw says }
 {
     match says {
@@ -118,7 +110,7 @@ pub(crate) fn word_reason(
         Says::Object(kind, name) => object_reason(kind, names.find(name.bytes())),
         Says::Calls(count, name) => call_reason(count, names.find(name.bytes())),
         Says::Runs(name) => run_reason(names.find(name.bytes())),
-        Says::AsksHub => { if is_raw { Some(HUB_IN_RAW_BODY) } else { None } }
-        Says::NestsTooDeep => Some(TIMEOUTS_TOO_DEEP),
+        Says::AsksHub => { if is_raw { Some(RuleReason::HubInRawBody) } else { None } }
+        Says::NestsTooDeep => Some(RuleReason::TimeoutsTooDeep),
     }
 }

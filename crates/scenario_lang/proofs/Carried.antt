@@ -6,8 +6,9 @@ use Rattle.scenario_grammar.specs.declared.token.Token.{Token}
 use Rattle.scenario_grammar.specs.Building.{Building}
 use Rattle.scenario_grammar.specs.Layout.{drop_blanks, is_blank, is_empty}
 use Rattle.scenario_grammar.specs.Parsed.{read_line, read_words}
-use Rattle.scenario_grammar.specs.Reasons.{Reason}
-use Rattle.scenario_grammar.specs.Tokens.{token_of}
+use Rattle.scenario_grammar.specs.declared.reason.TextReason.{TextReason}
+use Rattle.scenario_grammar.specs.declared.reason.TextReason.TheVariants as reason
+use Rattle.scenario_grammar.specs.Tokens.{token_in}
 use Rattle.scenario_lines.specs.Fronts.{spaced_tokens}
 use Rattle.scenario_lang.specs.Lines.{Takes, carried, carries, line_text}
 use Rattle.scenario_lines.specs.declared.refusal.LineRefusal.{LineRefusal}
@@ -29,7 +30,7 @@ busy : (b : Building) (n : ℕ) (text d : List ℕ) → d ≡ drop_blanks text �
 unfolding line_text
 busy b n text d e h = ap (carried b n) (sym e) ∙ busy_carried b n d h
 
-some_if : (t : Bool) (xs ys : List Token) (r s : Result Building Reason) → Some xs ≡ (if t then Some ys else None) → (xs ≡ ys → r ≡ s) → (e : Result Building Reason) → (if t then r else e) ≡ s
+some_if : (t : Bool) (xs ys : List Token) (r s : Result Building TextReason) → Some xs ≡ (if t then Some ys else None) → (xs ≡ ys → r ≡ s) → (e : Result Building TextReason) → (if t then r else e) ≡ s
 some_if true xs ys r s h f e = f cc
 some_if false xs ys r s h f e = cc
 
@@ -37,16 +38,16 @@ none_if : (t : Bool) (ys : List Token) → (let o : Option (List Token) = None i
 none_if true ys h = cc
 none_if false ys h = refl
 
-pub spaced_line : (b : Building) (n : ℕ) (text d : List ℕ) (ts : List Token) → d ≡ drop_blanks text → carries d ≡ true → Some ts ≡ spaced_tokens d → line_text b n text ≡ read_words b n ts
+pub spaced_line : (b : Building) (n : ℕ) (text d : List ℕ) (ts : List Token) → d ≡ drop_blanks text → carries d ≡ true → Some ts ≡ spaced_tokens b.profile d → line_text b n text ≡ read_words b n ts
 unfolding spaced_tokens
 spaced_line b n text d ts e h s =
     busy b n text d e h
-    ∙ some_if (list_all (λ word. not (is_empty word)) (slice_split is_blank d)) ts (map token_of (slice_split is_blank d)) (read_words b n (map token_of (slice_split is_blank d))) (read_words b n ts) s (λ q. ap (read_words b n) (sym q)) (Err 4)
+    ∙ some_if (list_all (λ word. not (is_empty word)) (slice_split is_blank d)) ts (map (token_in b.profile) (slice_split is_blank d)) (read_words b n (map (token_in b.profile) (slice_split is_blank d))) (read_words b n ts) s (λ q. ap (read_words b n) (sym q)) (Err reason.BlankOutOfPlace)
 
-pub unspaced_line : (b : Building) (n : ℕ) (text d : List ℕ) → d ≡ drop_blanks text → carries d ≡ true → None ≡ spaced_tokens d → line_text b n text ≡ Err 4
+pub unspaced_line : (b : Building) (n : ℕ) (text d : List ℕ) → d ≡ drop_blanks text → carries d ≡ true → None ≡ spaced_tokens b.profile d → line_text b n text ≡ Err reason.BlankOutOfPlace
 unfolding spaced_tokens
 unspaced_line b n text d e h s =
-    busy b n text d e h ∙ cond-false _ _ _ (none_if (list_all (λ word. not (is_empty word)) (slice_split is_blank d)) (map token_of (slice_split is_blank d)) s)
+    busy b n text d e h ∙ cond-false _ _ _ (none_if (list_all (λ word. not (is_empty word)) (slice_split is_blank d)) (map (token_in b.profile) (slice_split is_blank d)) s)
 
-pub takes_at : (r s : Result Building Reason) (result : Result (Unit {0}) LineRefusal) (new : Builder) → r ≡ s → Takes s result new → Takes r result new
+pub takes_at : (r s : Result Building TextReason) (result : Result (Unit {0}) LineRefusal) (new : Builder) → r ≡ s → Takes s result new → Takes r result new
 takes_at r s result new e h = rw e h

@@ -4,3 +4,4 @@ mod Last
 mod Laws
 mod Marked
 mod Scan
+mod Standings

@@ -11,7 +11,9 @@ use Rattle.scenario_grammar.specs.Building.{Building}
 use Rattle.scenario_grammar.specs.Layout.{Line, lines, lines_from, with_line, drop_blanks, is_end, is_text_byte, is_ended, is_blank, most_bytes}
 use Rattle.scenario_grammar.specs.Parsed.{finished, read_line, read_lines, read_text, reading, nothing_yet, standing, scenario}
 use Rattle.scenario_grammar.specs.Places.{at_the_end, line_at, last_line, place_in_bytes}
-use Rattle.scenario_grammar.specs.Reasons.{Reason, not_printable, not_ended}
+use Rattle.scenario_grammar.specs.declared.reason.TextReason.{TextReason}
+use Rattle.scenario_grammar.specs.declared.reason.TextReason.TheVariants as reason
+use Rattle.scenario_grammar.specs.Reasons.{text_number}
 use Rattle.scenario_lines.specs.Fronts.{is_printable}
 use Rattle.scenario_lang.specs.Lines.{after_line, carried, ended_at, fault_from, line_text, outcome, placed, then_lines}
 
@@ -41,7 +43,7 @@ fault_line n [] (c ∷ cs) h = refl
 fault_line n (b ∷ []) rest h = fault_printable n b 10 rest (and_first _ _ h) ∙ fault_line n [] rest refl
 fault_line n (b ∷ c ∷ cs) rest h = fault_printable n b c (cs ++ 10 ∷ rest) (and_first _ _ h) ∙ fault_line n (c ∷ cs) rest (and_second _ _ h)
 
-fault_byte : (n : ℕ) (front : List ℕ) (b : ℕ) (rest : List ℕ) → list_all is_printable front ≡ true → is_text_byte b ≡ false → fault_from n (front ++ b ∷ rest) ≡ Some (record { line = n; reason = not_printable })
+fault_byte : (n : ℕ) (front : List ℕ) (b : ℕ) (rest : List ℕ) → list_all is_printable front ≡ true → is_text_byte b ≡ false → fault_from n (front ++ b ∷ rest) ≡ Some (record { line = n; reason = text_number reason.NotPrintable })
 fault_byte n [] b [] h e =
     let o : ((b == 10) ≡ false) × ((nat_le 32 b && nat_le b 126) ≡ false) = or_parts _ _ e in
     rw (o.0, o.1) refl
@@ -51,7 +53,7 @@ fault_byte n [] b (c ∷ cs) h e =
 fault_byte n (a ∷ []) b rest h e = fault_printable n a b rest (and_first _ _ h) ∙ fault_byte n [] b rest refl e
 fault_byte n (a ∷ c ∷ cs) b rest h e = fault_printable n a c (cs ++ b ∷ rest) (and_first _ _ h) ∙ fault_byte n (c ∷ cs) b rest (and_second _ _ h) e
 
-fault_unended : (n : ℕ) (b : ℕ) (bs : List ℕ) → list_all is_printable (b ∷ bs) ≡ true → fault_from n (b ∷ bs) ≡ Some (record { line = n; reason = not_ended })
+fault_unended : (n : ℕ) (b : ℕ) (bs : List ℕ) → list_all is_printable (b ∷ bs) ≡ true → fault_from n (b ∷ bs) ≡ Some (record { line = n; reason = text_number reason.NotEnded })
 fault_unended n b [] h = let p = printable b (and_first _ _ h) in rw (p.1, p.0) refl
 fault_unended n b (c ∷ cs) h = fault_printable n b c cs (and_first _ _ h) ∙ fault_unended n c cs (and_second _ _ h)
 
@@ -90,7 +92,7 @@ abbrev go_on : List Line → Result Building Place → Result Building Place
 go_on more (Ok b) = read_lines b more
 go_on more (Err p) = Err p
 
-placed_on : (n : ℕ) (more : List Line) (r : Result Building Reason) → go_on more (placed n r) ≡ elim r [ Ok c ↦ read_lines c more | Err e ↦ Err (record { line = n; reason = e }) ]
+placed_on : (n : ℕ) (more : List Line) (r : Result Building TextReason) → go_on more (placed n r) ≡ elim r [ Ok c ↦ read_lines c more | Err e ↦ Err (record { line = n; reason = text_number e }) ]
 placed_on n more (Ok b) = refl
 placed_on n more (Err r) = refl
 
@@ -126,10 +128,10 @@ outcome_line n before front rest more h =
     let c : n - 1 + count_by is_end (front ++ 10 ∷ rest) ≡ n + 1 - 1 + count_by is_end rest = omega (arith, count_line front rest h) in
     λ i. choose (fault_line n front rest h i) (ended_at (max 1 (c i)) (lines_line n before front rest h i))
 
-pub outcome_byte : (n : ℕ) (before : Result Building Place) (front : List ℕ) (b : ℕ) (rest : List ℕ) → list_all is_printable front ≡ true → is_text_byte b ≡ false → outcome n before (front ++ b ∷ rest) ≡ Err (record { line = n; reason = not_printable })
+pub outcome_byte : (n : ℕ) (before : Result Building Place) (front : List ℕ) (b : ℕ) (rest : List ℕ) → list_all is_printable front ≡ true → is_text_byte b ≡ false → outcome n before (front ++ b ∷ rest) ≡ Err (record { line = n; reason = text_number reason.NotPrintable })
 outcome_byte n before front b rest h e = ap (λ o. choose o (ended_at (max 1 (n - 1 + count_by is_end (front ++ b ∷ rest))) (then_lines n before (front ++ b ∷ rest)))) (fault_byte n front b rest h e)
 
-pub outcome_unended : (n : ℕ) (before : Result Building Place) (b : ℕ) (bs : List ℕ) → list_all is_printable (b ∷ bs) ≡ true → outcome n before (b ∷ bs) ≡ Err (record { line = n; reason = not_ended })
+pub outcome_unended : (n : ℕ) (before : Result Building Place) (b : ℕ) (bs : List ℕ) → list_all is_printable (b ∷ bs) ≡ true → outcome n before (b ∷ bs) ≡ Err (record { line = n; reason = text_number reason.NotEnded })
 outcome_unended n before b bs h = ap (λ o. choose o (ended_at (max 1 (n - 1 + count_by is_end (b ∷ bs))) (then_lines n before (b ∷ bs)))) (fault_unended n b bs h)
 
 position_later : (a l : ℕ) → cond (nat_lt (1 + a) (suc l)) (Some (1 + a)) None ≡ option_map (λ i. suc i) (cond (nat_lt a l) (Some a) None)
@@ -146,16 +148,16 @@ position_cons p x xs = elim (cases_Bool (p x)) [
 
 abbrev fault_by : ℕ → List ℕ → Option ℕ → Option Place
 fault_by n bytes o = elim o [
-  | Some i ↦ Some (record { line = count_by is_end (take i bytes) + n; reason = not_printable })
-  | None ↦ if is_ended bytes then None else Some (record { line = count_by is_end bytes + n; reason = not_ended })
+  | Some i ↦ Some (record { line = count_by is_end (take i bytes) + n; reason = text_number reason.NotPrintable })
+  | None ↦ if is_ended bytes then None else Some (record { line = count_by is_end bytes + n; reason = text_number reason.NotEnded })
 ]
 
 -- the fault of the bytes from line n on, as the grammar says it
 abbrev fault_at : ℕ → List ℕ → Option Place
 fault_at n bytes = fault_by n bytes (position (λ b. not (is_text_byte b)) bytes)
 
-abbrev marked : ℕ → Reason → Option Place
-marked n r = Some (record { line = n; reason = r })
+abbrev marked : ℕ → TextReason → Option Place
+marked n r = Some (record { line = n; reason = text_number r })
 
 count_move : (n b : ℕ) (bs : List ℕ) → count_by is_end (b ∷ bs) + n ≡ count_by is_end bs + (if is_end b then n + 1 else n)
 count_move n b bs = elim (cases_Bool (is_end b)) [
@@ -164,8 +166,8 @@ count_move n b bs = elim (cases_Bool (is_end b)) [
 ]
 
 fault_move : (n b c : ℕ) (cs : List ℕ) (o : Option ℕ) → fault_by n (b ∷ c ∷ cs) (option_map (λ i. suc i) o) ≡ fault_by (if is_end b then n + 1 else n) (c ∷ cs) o
-fault_move n b c cs (Some i) = ap (λ k. marked k not_printable) (count_move n b (take i (c ∷ cs)))
-fault_move n b c cs None = ap (λ k. if is_ended (c ∷ cs) then None else marked k not_ended) (count_move n b (c ∷ cs))
+fault_move n b c cs (Some i) = ap (λ k. marked k reason.NotPrintable) (count_move n b (take i (c ∷ cs)))
+fault_move n b c cs None = ap (λ k. if is_ended (c ∷ cs) then None else marked k reason.NotEnded) (count_move n b (c ∷ cs))
 
 at_bad : (b : ℕ) (bs : List ℕ) → is_text_byte b ≡ false → position (λ x. not (is_text_byte x)) (b ∷ bs) ≡ Some 0
 at_bad b bs e = position_cons (λ x. not (is_text_byte x)) b bs ∙ cond-true _ _ _ (not_from_false _ e)
@@ -176,14 +178,14 @@ past_text b bs e = position_cons (λ x. not (is_text_byte x)) b bs ∙ cond-fals
 fault_here : (n b : ℕ) (bs : List ℕ) → is_text_byte b ≡ false → fault_at n (b ∷ bs) ≡ fault_from n (b ∷ bs)
 fault_here n b bs e =
     let z : 0 + n ≡ n = omega arith in
-    ap (fault_by n (b ∷ bs)) (at_bad b bs e) ∙ ap (λ k. marked k not_printable) z ∙ sym (fault_byte n [] b bs refl e)
+    ap (fault_by n (b ∷ bs)) (at_bad b bs e) ∙ ap (λ k. marked k reason.NotPrintable) z ∙ sym (fault_byte n [] b bs refl e)
 
-last_if : (t : Bool) (k n : ℕ) → (t ≡ false → k ≡ n) → (let p : Option Place = if t then None else Some (record { line = k; reason = not_ended }) in p) ≡ (if t then None else Some (record { line = n; reason = not_ended }))
+last_if : (t : Bool) (k n : ℕ) → (t ≡ false → k ≡ n) → (let p : Option Place = if t then None else Some (record { line = k; reason = text_number reason.NotEnded }) in p) ≡ (if t then None else Some (record { line = n; reason = text_number reason.NotEnded }))
 last_if true k n e = refl
-last_if false k n e = ap (λ m. let p : Option Place = Some (record { line = m; reason = not_ended }) in p) (e refl)
+last_if false k n e = ap (λ m. let p : Option Place = Some (record { line = m; reason = text_number reason.NotEnded }) in p) (e refl)
 
-last_from : (n b : ℕ) → is_text_byte b ≡ true → fault_from n (b ∷ []) ≡ (if is_end b then None else marked n not_ended)
-last_from n b e = ap (λ t. if is_end b then None else marked n (if t then not_ended else not_printable)) e
+last_from : (n b : ℕ) → is_text_byte b ≡ true → fault_from n (b ∷ []) ≡ (if is_end b then None else marked n reason.NotEnded)
+last_from n b e = ap (λ t. if is_end b then None else marked n (if t then reason.NotEnded else reason.NotPrintable)) e
 
 fault_last : (n b : ℕ) → is_text_byte b ≡ true → fault_at n (b ∷ []) ≡ fault_from n (b ∷ [])
 fault_last n b e =
@@ -224,7 +226,7 @@ pub too_long : (bytes : List ℕ) → most_bytes < length bytes → reading byte
 unfolding reading
 too_long bytes h = ap (λ o. choose o (read_text bytes)) (cond-true _ _ _ (lt-ltb most_bytes (length bytes) h))
 
-pub outcome_unended_all : (n : ℕ) (before : Result Building Place) (bytes : List ℕ) → 0 < length bytes → list_all is_printable bytes ≡ true → outcome n before bytes ≡ Err (record { line = n; reason = not_ended })
+pub outcome_unended_all : (n : ℕ) (before : Result Building Place) (bytes : List ℕ) → 0 < length bytes → list_all is_printable bytes ≡ true → outcome n before bytes ≡ Err (record { line = n; reason = text_number reason.NotEnded })
 outcome_unended_all n before [] more h = absurd (omega (arith, more))
 outcome_unended_all n before (b ∷ bs) more h = outcome_unended n before b bs h
 

@@ -9,9 +9,11 @@ use Rattle.scenario_lang.specs.declared.builder.Builder.{Builder}
 abbrev pub open_of : Builder → List OpenBlock
 open_of b = reverse b.blocks.items
 
+-- what the lines so far begin
 abbrev pub building : Builder → Building
-building b = record { objects = b.objects; functions = b.functions; open_blocks = open_of b }
+building b = record { profile = b.profile; objects = b.objects; functions = b.functions; open_blocks = open_of b }
 
+-- with these open blocks
 abbrev pub with_open : List OpenBlock → Building → Building
 with_open os b = record b { open_blocks = os }
 

@@ -8,7 +8,9 @@ use Rattle.scenario_grammar.specs.Layout.{drop_blanks, is_blank, is_end, is_text
 use Rattle.scenario_grammar.specs.Parsed.{read_line, read_lines, scenario, standing}
 use Rattle.scenario_grammar.specs.Places.{at_the_end, place}
 use Rattle.scenario_grammar.specs.Spells.{Spells}
-use Rattle.scenario_grammar.specs.Reasons.{Reason, not_printable, not_ended}
+use Rattle.scenario_grammar.specs.declared.reason.TextReason.{TextReason}
+use Rattle.scenario_grammar.specs.declared.reason.TextReason.TheVariants as reason
+use Rattle.scenario_grammar.specs.Reasons.{text_number}
 use Rattle.scenario_lines.specs.declared.refusal.LineRefusal.{LineRefusal}
 use Rattle.scenario_lines.specs.declared.refusal.LineRefusal.TheVariants as refusal
 use Rattle.scenario_lang.specs.declared.builder.Builder.{Builder}
@@ -17,7 +19,8 @@ use Rattle.scenario_lang.specs.declared.text.Reader.{Reader}
 use Rattle.scenario_lang.specs.declared.text.ParseRefusal.TheVariants as parse
 use Rattle.scenario_lang.specs.Builders.{building}
 
-abbrev pub carried : Building → ℕ → List ℕ → Result Building Reason
+-- line n, what stands past its leading blanks: nothing, a comment, or words
+abbrev pub carried : Building → ℕ → List ℕ → Result Building TextReason
 carried b n [] = Ok b
 carried b n (c ∷ cs) = if c == 35 then Ok b else read_line b (record { number = n; words = slice_split is_blank (c ∷ cs) })
 
@@ -27,11 +30,11 @@ carries [] = false
 carries (c ∷ cs) = not (c == 35)
 
 -- line n with this text, its LF left out
-unfoldable pub line_text : Building → ℕ → List ℕ → Result Building Reason
+unfoldable pub line_text : Building → ℕ → List ℕ → Result Building TextReason
 line_text b n text = carried b n (drop_blanks text)
 
 -- what a function that takes one line ensures: what the grammar says, unless memory runs out
-abbrev pub Takes : Result Building Reason → Result (Unit {0}) LineRefusal → Builder → Type 0
+abbrev pub Takes : Result Building TextReason → Result (Unit {0}) LineRefusal → Builder → Type 0
 Takes taken (Ok done) new = taken ≡ Ok (building new)
 Takes taken (Err refusal.Memory) new = Unit {0}
 Takes taken (Err (refusal.Reason r)) new = taken ≡ Err r
@@ -45,15 +48,16 @@ Parses read (Err parse.Memory) = Unit {0}
 -- the fault of the bytes from line n on
 abbrev pub fault_from : ℕ → List ℕ → Option Place
 fault_from n [] = None
-fault_from n (b ∷ []) = if is_end b then None else Some (record { line = n; reason = if is_text_byte b then not_ended else not_printable })
+fault_from n (b ∷ []) = if is_end b then None else Some (record { line = n; reason = text_number (if is_text_byte b then reason.NotEnded else reason.NotPrintable) })
 fault_from n (b ∷ c ∷ bs) =
-    if is_text_byte b then fault_from (if is_end b then n + 1 else n) (c ∷ bs) else Some (record { line = n; reason = not_printable })
+    if is_text_byte b then fault_from (if is_end b then n + 1 else n) (c ∷ bs) else Some (record { line = n; reason = text_number reason.NotPrintable })
 
 -- what the lines from line n on make of what the lines before made
 abbrev pub then_lines : ℕ → Result Building Place → List ℕ → Result Building Place
 then_lines n (Ok b) bytes = read_lines b (lines_from n (slice_split is_end bytes))
 then_lines n (Err p) bytes = Err p
 
+-- the whole, where the text ends behind these lines
 abbrev pub ended_at : ℕ → Result Building Place → Result Scenario Place
 ended_at last (Ok b) = elim (at_the_end last (standing b)) [ Some p ↦ Err p | None ↦ Ok (scenario b) ]
 ended_at last (Err p) = Err p
@@ -65,10 +69,12 @@ outcome n before bytes = elim (fault_from n bytes) [
   | None ↦ ended_at (max 1 (n - 1 + count_by is_end bytes)) (then_lines n before bytes)
 ]
 
-abbrev pub placed : ℕ → Result Building Reason → Result Building Place
+-- a line's refusal, at its place
+abbrev pub placed : ℕ → Result Building TextReason → Result Building Place
 placed n (Ok b) = Ok b
-placed n (Err r) = Err (record { line = n; reason = r })
+placed n (Err r) = Err (record { line = n; reason = text_number r })
 
+-- what line n makes of what the lines before made
 abbrev pub after_line : ℕ → Result Building Place → List ℕ → Result Building Place
 after_line n (Ok b) text = placed n (line_text b n text)
 after_line n (Err p) text = Err p

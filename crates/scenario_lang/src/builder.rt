@@ -1,31 +1,29 @@
 //! The tree that the lines so far begin.
-ghost use Rattle.std.specs.Prelude.{◌≡◌, [], ◌∷◌, ◌++◌, IfOk, OnOk, List, ◌<◌, length, IsTrue, ◌↔◌, Some, None, Ok};
+ghost use Rattle.std.specs.Prelude.{◌≡◌, [], ◌∷◌, ◌++◌, IfOk, OnOk, ◌<◌, length, None, Ok};
 ghost use Rattle.scenario_grammar.specs.Building.{step, opened, added, changed, closed_by, ended, else_of, except_by, finally_by, caught, at};
 ghost use Rattle.std.specs.List.{list_any};
 ghost use Rattle.std.specs.Option.{option_map};
-ghost use Rattle.scenario_grammar.specs.Parsed.{is_begun, standing};
+ghost use Rattle.scenario_grammar.specs.Parsed.{is_begun, nothing_yet, standing};
 ghost use Rattle.scenario_grammar.specs.Places.{misplaced};
 ghost use Rattle.scenario_grammar.specs.Spells.{is_main};
 ghost use Rattle.scenario_lang.specs.Builders.{building, open_of, with_open, with_one_more};
 ghost use Rattle.scenario_lang.specs.Lines.{ended_at};
 ghost use Rattle.scenario_lang.specs.Roles.{as_open, as_role, innermost_of};
 
-use crate::kind::{Kind, block_kind, why_misplaced};
+use crate::kind::{Kind, Standing, block_kind, why_misplaced};
 use crate::role::Role;
+use gv_values::digits::same_bytes;
 use gv_values::{Class, Name};
-use scenario_grammar::{OpenBlock, Opening, Phrase, Place};
+use scenario_grammar::{OpenBlock, Opening, Phrase, Place, TextReason};
 use scenario_tree::{Action, Block, Declaration, Except, Function, Items, Scenario, Statement};
 use std::alloc::{AllocError, Global};
 
 const MOST_LEVELS: usize = 32;
 
-const NOT_CLOSED: u8 = 12;
-
-const NO_MAIN: u8 = 14;
-
-/// The objects, the functions and the open blocks so far.
+/// The profile, the objects, the functions and the open blocks so far.
 #[derive(Drop)]
 pub(crate) struct Builder {
+    pub(crate) profile: u8,
     pub(crate) objects: Items<Declaration>,
     pub(crate) functions: Items<Function>,
     /// The outermost first.
@@ -34,9 +32,10 @@ pub(crate) struct Builder {
 
 impl Builder {
     pub(crate) fn new(alloc: Global) -> Builder
-        ensures { building result ≡ record { objects = []; functions = []; open_blocks = [] } }
+        ensures { building result ≡ nothing_yet }
     {
         Builder {
+            profile: 1,
             objects: Items::new(alloc),
             functions: Items::new(alloc),
             blocks: Vec::new(alloc),
@@ -53,6 +52,10 @@ impl Builder {
         ensures { OnOk result (building self.new ≡ step (building self.old) line phrase) }
     {
         match phrase {
+            Phrase::Profile => {
+                self.profile = 2;
+                Ok(())
+            }
             Phrase::Declaration(name, object) => {
                 self.objects.push(Declaration { line, name, object })
             }
@@ -78,11 +81,23 @@ impl Builder {
     }
 
     /// Why a line of this role may not stand next, if it may not.
-    pub(crate) fn misplaced(&self, line_role: Role) -> Option<u8>
+    pub(crate) fn misplaced(&self, line_role: Role) -> Option<TextReason>
         ensures { result ≡ misplaced (standing (building self.now)) (as_role line_role) }
     {
-        let is_full = self.blocks.len() >= MOST_LEVELS;
-        why_misplaced(self.has_begun(), is_full, self.innermost(), line_role)
+        let before = Standing {
+            any_line: self.has_line(),
+            has_begun: self.has_begun(),
+            is_full: self.blocks.len() >= MOST_LEVELS,
+            innermost: self.innermost(),
+        };
+        why_misplaced(before, line_role)
+    }
+
+    /// Whether a line was taken.
+    fn has_line(&self) -> bool
+        ensures { result ≡ (standing (building self.now)).any_line }
+    {
+        self.has_begun() || !self.objects.is_empty() || self.profile != 1
     }
 
     fn has_begun(&self) -> bool
@@ -108,6 +123,7 @@ impl Builder {
         ensures { result ≡ ended_at last_line (Ok (building self)) }
     {
         let Builder {
+            profile,
             objects,
             functions,
             blocks,
@@ -115,17 +131,17 @@ impl Builder {
         if !blocks.is_empty() {
             return Err(Place {
                 line: last_line,
-                reason: NOT_CLOSED,
+                reason: TextReason::NotClosed.number(),
             });
         }
         if !defines_main(functions.as_slice()) {
             return Err(Place {
                 line: last_line,
-                reason: NO_MAIN,
+                reason: TextReason::NoMain.number(),
             });
         }
         Ok(Scenario {
-            profile: 1,
+            profile,
             objects,
             functions,
         })
@@ -302,13 +318,14 @@ impl Builder {
 fn defines_main(functions: &[Function]) -> bool
     ensures { result ≡ list_any is_main functions.now }
 {
-    functions.iter().any(|function| is_main_function(function))
+    functions.iter().any(|function| is_main(function))
 }
 
-fn is_main_function(function: &Function) -> bool
+/// Whether the function is the main one: not a body of raw greenlets, and of the name `main`.
+pub fn is_main(function: &Function) -> bool
     ensures { result ≡ is_main function.now }
 {
-    !function.is_raw && function.name.bytes() == b"main".as_slice()
+    !function.is_raw && same_bytes(function.name.bytes(), b"main")
 }
 
 /// A statement that stands on this line.

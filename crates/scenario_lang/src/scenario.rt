@@ -1,13 +1,15 @@
 //! Scenarios that have a text and a main, and their printed form.
 ghost use Rattle.std.specs.Prelude.{◌≡◌, ◌++◌, OnOk, OnErr};
 ghost use Rattle.scenario_grammar.specs.Printed.{printed};
-ghost use Rattle.scenario_lang.specs.Written.{IsWritten};
+ghost use Rattle.scenario_lang.specs.Written.{IsReadAgain, IsWritten};
 
+use scenario_grammar::{printed_forms_are_spelt, spelt_texts_are_read};
 use scenario_tree::Scenario as Tree;
 use std::alloc::AllocError;
 use std::marker::Model;
 
-/// A scenario that has a text by the grammar, and a main. It is seen as its tree.
+/// A scenario that has a text by the grammar, in the profile that it names, and a main. It is seen as
+/// its tree.
 #[derive(Drop)]
 pub struct Scenario {
     tree: Tree,
@@ -15,14 +17,12 @@ pub struct Scenario {
 
 impl Model for Scenario {
     ghost use Rattle.scenario_tree.specs.declared.tree.Scenario.{Scenario as Tree};
-    ghost use Rattle.scenario_tree.specs.contracts.tree.Action as a;
-    ghost use Rattle.scenario_tree.specs.contracts.tree.Expression as e;
+    ghost use Rattle.scenario_tree.specs.Trees.{trees};
     ghost use Rattle.scenario_lang.specs.Written.{IsWritten};
-    ghost use Rattle.std.specs.Coded.{codes};
 
     ghost Value = { Tree };
 
-    ghost coded = { Prim.hlevel (codes, a.the_row.coded, e.the_row.coded) };
+    ghost coded = { Prim.hlevel trees };
 
     ghost view = { λ s. s.tree };
 
@@ -45,18 +45,13 @@ impl Scenario {
     {
         &self.tree
     }
-
-    /// Its tree alone.
-    pub fn into_tree(self) -> Tree
-        ensures same { result ≡ self }
-        ensures written { IsWritten self }
-    {
-        self.tree
-    }
 }
 
 /// Appends the printed form of the scenario: its one text with two blanks for each open block and
-/// no line that carries nothing.
+/// no line that carries nothing. A scenario of profile 2 has `profile 2` as the first line.
+///
+/// Where the printed form has at most 1048576 bytes, [`parse`](crate::parse) of it gives the tree
+/// again, but for the numbers of its lines.
 ///
 /// # Errors
 ///
@@ -64,6 +59,9 @@ impl Scenario {
 pub fn print(scenario: &Scenario, out: &mut Vec<u8>) -> Result<(), AllocError>
     ensures ok { OnOk result (out.new.items ≡ out.old.items ++ printed scenario.now) }
     ensures err { OnErr result (out.new.items ≡ out.old.items) }
+    ensures again { IsReadAgain scenario.now }
 {
+    printed_forms_are_spelt();
+    spelt_texts_are_read();
     scenario_print::print(&scenario.tree, out)
 }

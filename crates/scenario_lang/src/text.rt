@@ -3,29 +3,26 @@ ghost use Rattle.std.specs.Prelude.{◌≡◌, ◌+◌, ◌-◌, ◌≤◌, ◌<
 ghost use Rattle.scenario_grammar.specs.Layout.{is_end, most_bytes};
 ghost use Rattle.scenario_grammar.specs.Parsed.{nothing_yet, read_words, reading};
 ghost use Rattle.scenario_grammar.specs.Places.{line_at};
+ghost use Rattle.scenario_grammar.specs.Reasons.{text_number};
 ghost use Rattle.scenario_lang.specs.Builders.{building};
 ghost use Rattle.scenario_lang.specs.Lines.{IsRefused, IsSpelt, Parses, Takes, after_line, carries, ended_at, line_text, outcome, placed, state_of};
 
 use crate::builder::Builder;
 use crate::role::line_role;
 use crate::scenario::Scenario;
-use scenario_grammar::{Place, Token, read_texts_are_spelt, texts_without_a_place_are_spelt};
+use scenario_grammar::{
+    Place, TextReason, Token, read_texts_are_spelt, texts_without_a_place_are_spelt,
+};
 use scenario_print::spelt_trees_have_text;
 use scenario_tree::Scenario as Tree;
 use scenario_lines::{
-    BLANK_OUT_OF_PLACE, Front, LineRefusal, cut_at, first_line, line_tokens, read_phrase,
+    Front, LineRefusal, cut_at, first_line, line_tokens, read_phrase,
     skip_blanks,
 };
 use std::alloc::{AllocError, Global};
 
 /// How many bytes a text has at most.
 pub const MOST_BYTES: usize = 1_048_576;
-
-const TOO_LARGE: u8 = 1;
-
-const NOT_PRINTABLE: u8 = 2;
-
-const NOT_ENDED: u8 = 3;
 
 /// Why a text gives no scenario.
 #[derive(Clone, Copy, Debug, PartialEq, Eq)]
@@ -77,8 +74,8 @@ fn take_line(
     if !carries_words(words) {
         return Ok(());
     }
-    match line_tokens(alloc, words)? {
-        None => Err(BLANK_OUT_OF_PLACE),
+    match line_tokens(alloc, builder.profile, words)? {
+        None => Err(LineRefusal::Reason(TextReason::BlankOutOfPlace)),
         Some(tokens) => take_words(alloc, builder, line, tokens.as_slice()),
     }
 }
@@ -140,7 +137,7 @@ impl Reader {
             Err(LineRefusal::Reason(reason)) => {
                 self.fault = Some(Place {
                     line: self.line,
-                    reason,
+                    reason: reason.number(),
                 });
                 Ok(())
             }
@@ -180,17 +177,20 @@ fn read_text(alloc: Global, bytes: &[u8]) -> Result<Tree, ParseRefusal>
                 reader.take(alloc, text)?;
                 rest = more;
             }
-            Front::NotPrintable => return Err(refused(reader.line, NOT_PRINTABLE)),
-            Front::NotEnded => return Err(refused(reader.line, NOT_ENDED)),
+            Front::NotPrintable => return Err(refused(reader.line, TextReason::NotPrintable)),
+            Front::NotEnded => return Err(refused(reader.line, TextReason::NotEnded)),
         }
     }
     reader.finish()
 }
 
-fn refused(line: u32, reason: u8) -> ParseRefusal
-    ensures { result ≡ ParseRefusal.Refused (record { line = line; reason = reason }) }
+fn refused(line: u32, reason: TextReason) -> ParseRefusal
+    ensures { result ≡ ParseRefusal.Refused (record { line = line; reason = text_number reason }) }
 {
-    ParseRefusal::Refused(Place { line, reason })
+    ParseRefusal::Refused(Place {
+        line,
+        reason: reason.number(),
+    })
 }
 
 /// The scenario that has this text.
@@ -226,7 +226,10 @@ fn read_bytes(alloc: Global, bytes: &[u8]) -> Result<Tree, ParseRefusal>
     ensures { Parses (reading bytes.now) result }
 {
     if bytes.len() > MOST_BYTES {
-        return Err(refused(line_behind(bytes, MOST_BYTES), TOO_LARGE));
+        return Err(refused(
+            line_behind(bytes, MOST_BYTES),
+            TextReason::TooLarge,
+        ));
     }
     read_text(alloc, bytes)
 }

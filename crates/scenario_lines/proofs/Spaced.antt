@@ -5,7 +5,7 @@ use Rattle.std.proofs.lemmas.List.Splits.{slice_split_first, slice_split-cons_no
 use Rattle.std.proofs.lemmas.Bool.{cases_Bool, eqb-true, ltb-true, ltb-false}
 use Rattle.scenario_grammar.specs.declared.token.Token.{Token}
 use Rattle.scenario_grammar.specs.Layout.{is_blank, is_empty}
-use Rattle.scenario_grammar.specs.Tokens.{token_of}
+use Rattle.scenario_grammar.specs.Tokens.{token_in}
 use Rattle.scenario_lines.specs.Fronts.{spaced_tokens, tokens_if_spaced}
 
 -- the tokens of all words, where those of the first are known
@@ -53,28 +53,28 @@ full_rest : (t : List Token) (x : Token) (spaced : Bool) (xs : List Token) → b
 full_rest t x true xs = ap Some (sym (append_assoc t (x ∷ []) xs))
 full_rest t x false xs = refl
 
-full : (t : List Token) (w : List ℕ) (ws : List (List ℕ)) → is_empty w ≡ false → behind t (tokens_if_spaced (w ∷ ws)) ≡ behind (t ++ token_of w ∷ []) (tokens_if_spaced ws)
-full t w ws e = rw e (full_rest t (token_of w) (list_all (λ word. not (is_empty word)) ws) (map token_of ws))
+full : (p : ℕ) (t : List Token) (w : List ℕ) (ws : List (List ℕ)) → is_empty w ≡ false → behind t (tokens_if_spaced p (w ∷ ws)) ≡ behind (t ++ token_in p w ∷ []) (tokens_if_spaced p ws)
+full p t w ws e = rw e (full_rest t (token_in p w) (list_all (λ word. not (is_empty word)) ws) (map (token_in p) ws))
 
 -- one word more
-pub word_next : (front : List Token) (text : List ℕ) (i : ℕ) → position is_blank text ≡ Some i → 0 < i → behind (front ++ token_of (take i text) ∷ []) (spaced_tokens (drop (i + 1) text)) ≡ behind front (spaced_tokens text)
+pub word_next : (p : ℕ) (front : List Token) (text : List ℕ) (i : ℕ) → position is_blank text ≡ Some i → 0 < i → behind (front ++ token_in p (take i text) ∷ []) (spaced_tokens p (drop (i + 1) text)) ≡ behind front (spaced_tokens p text)
 unfolding spaced_tokens
-word_next front text i e h = rw (split_at_position is_blank text i e) (sym (full front (take i text) (slice_split is_blank (drop (i + 1) text)) (taken text i h ((position-found is_blank text i e).1))))
+word_next p front text i e h = rw (split_at_position is_blank text i e) (sym (full p front (take i text) (slice_split is_blank (drop (i + 1) text)) (taken text i h ((position-found is_blank text i e).1))))
 
 -- a blank where a word is to begin
-pub word_missing : (front : List Token) (text : List ℕ) → position is_blank text ≡ Some 0 → behind front (spaced_tokens text) ≡ None
+pub word_missing : (p : ℕ) (front : List Token) (text : List ℕ) → position is_blank text ≡ Some 0 → behind front (spaced_tokens p text) ≡ None
 unfolding spaced_tokens
-word_missing front text e = rw (split_at_position is_blank text 0 e) refl
+word_missing p front text e = rw (split_at_position is_blank text 0 e) refl
 
 unempty : (text : List ℕ) → (length text == 0) ≡ false → is_empty text ≡ false
 unempty [] h = cc
 unempty (b ∷ bs) h = refl
 
-pub word_last : (front : List Token) (text : List ℕ) → position is_blank text ≡ None → (length text == 0) ≡ false → behind front (spaced_tokens text) ≡ Some (front ++ token_of text ∷ [])
+pub word_last : (p : ℕ) (front : List Token) (text : List ℕ) → position is_blank text ≡ None → (length text == 0) ≡ false → behind front (spaced_tokens p text) ≡ Some (front ++ token_in p text ∷ [])
 unfolding spaced_tokens
-word_last front text e h = rw (split_unfound is_blank text e, unempty text h) refl
+word_last p front text e h = rw (split_unfound is_blank text e, unempty text h) refl
 
-pub word_end : (front : List Token) (text : List ℕ) → (length text == 0) ≡ true → behind front (spaced_tokens text) ≡ None
+pub word_end : (p : ℕ) (front : List Token) (text : List ℕ) → (length text == 0) ≡ true → behind front (spaced_tokens p text) ≡ None
 unfolding spaced_tokens
-word_end front [] e = refl
-word_end front (b ∷ bs) e = absurd (omega (arith, eqb-true (length (b ∷ bs)) 0 e))
+word_end p front [] e = refl
+word_end p front (b ∷ bs) e = absurd (omega (arith, eqb-true (length (b ∷ bs)) 0 e))

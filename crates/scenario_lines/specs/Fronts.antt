@@ -3,7 +3,7 @@ use Rattle.std.specs.Prelude.{ℕ, Bool, ◌&&◌, not, nat_le, ◌==◌, if◌t
 use Rattle.std.specs.List.{list_all, slice_split}
 use Rattle.scenario_grammar.specs.declared.token.Token.{Token}
 use Rattle.scenario_grammar.specs.Layout.{Word, is_blank, is_empty, is_end}
-use Rattle.scenario_grammar.specs.Tokens.{token_of}
+use Rattle.scenario_grammar.specs.Tokens.{token_in}
 use Rattle.scenario_lines.specs.declared.layout.Front.{Front}
 use Rattle.scenario_lines.specs.declared.layout.Front.TheVariants as front
 
@@ -18,9 +18,10 @@ front_of bytes = elim (position (λ b. not (is_printable b)) bytes) [
   | Some at ↦ if is_end (slice_index bytes at) then front.Line at else front.NotPrintable
 ]
 
-abbrev pub tokens_if_spaced : List Word → Option (List Token)
-tokens_if_spaced words = if list_all (λ word. not (is_empty word)) words then Some (map token_of words) else None
+-- what the words are in this profile, none where one is empty
+abbrev pub tokens_if_spaced : ℕ → List Word → Option (List Token)
+tokens_if_spaced profile words = if list_all (λ word. not (is_empty word)) words then Some (map (token_in profile) words) else None
 
--- none where a word is empty: two blanks between two words, or one at an end
-unfoldable pub spaced_tokens : List ℕ → Option (List Token)
-spaced_tokens text = tokens_if_spaced (slice_split is_blank text)
+-- none where a word is empty: two blanks stand between two words, or one at an end
+unfoldable pub spaced_tokens : ℕ → List ℕ → Option (List Token)
+spaced_tokens profile text = tokens_if_spaced profile (slice_split is_blank text)

@@ -1,4 +1,4 @@
 pub mod Reads
-pub mod Rows
+pub mod Kinds
 pub mod Fronts
 pub mod Numbers

@@ -1,11 +1,11 @@
-ghost use Rattle.std.specs.Prelude.{◌≡◌, [], IsTrue, ◌↔◌};
+ghost use Rattle.std.specs.Prelude.{◌≡◌, ◌≤◌, [], IfOk, IsTrue, ◌↔◌};
 ghost use Rattle.std.specs.Option.{option_copied};
 ghost use Rattle.scenario_grammar.specs.Reading.{name_at, number_at, integer_at, in_range_of, timed_at, wait_at};
 ghost use Rattle.scenario_lines.specs.Reads.{Reads, NextToken};
 
-use crate::refusal::{LineRefusal, MISSPELLED_NUMBER, NOT_A_NAME, OUT_OF_RANGE, TOO_SHORT};
+use crate::refusal::LineRefusal;
 use gv_values::Name;
-use scenario_grammar::{Keyword, Token};
+use scenario_grammar::{Keyword, TextReason, Token};
 use scenario_tree::Wait;
 use std::marker::Model;
 
@@ -28,19 +28,21 @@ impl<'a> Model for Cursor<'a> {
 }
 
 impl<'a> Cursor<'a> {
+    /// Before the first of these tokens.
     pub fn new(rest: &'a [Token]) -> Cursor<'a>
         ensures { result ≡ rest.now }
     {
         Cursor { rest }
     }
 
+    /// Whether no token is left.
     pub fn is_empty(&self) -> bool
         ensures { IsTrue result ↔ (self.now ≡ []) }
     {
         self.rest.is_empty()
     }
 
-    /// Takes the next token.
+    /// Takes the next token, none at the line's end.
     pub fn next(&mut self) -> Option<&'a Token>
         ensures { NextToken self.old (option_copied result) self.new }
     {
@@ -53,17 +55,19 @@ impl<'a> Cursor<'a> {
         }
     }
 
+    /// Takes a name. Where another word stands there, that word is taken and refused.
     #[tactic(auto, unfolding(scenario_grammar::specs::Reading::name_at))]
     pub fn name(&mut self) -> Result<Name, LineRefusal>
         ensures { Reads (name_at self.old) result self.new }
     {
         match self.next() {
-            None => Err(TOO_SHORT),
+            None => Err(LineRefusal::Reason(TextReason::TooShort)),
             Some(Token::Name(name)) => Ok(*name),
-            Some(_) => Err(NOT_A_NAME),
+            Some(_) => Err(LineRefusal::Reason(TextReason::NotAName)),
         }
     }
 
+    /// Takes `within` and its time in milliseconds, where that stands there.
     pub fn timed(&mut self) -> Result<Option<u64>, LineRefusal>
         ensures { Reads (timed_at self.old) result self.new }
     {
@@ -76,6 +80,7 @@ impl<'a> Cursor<'a> {
         }
     }
 
+    /// Takes `within` and its time in milliseconds, or `now`, where one of them stands there.
     pub fn wait(&mut self) -> Result<Wait, LineRefusal>
         ensures { Reads (wait_at self.old) result self.new }
     {
@@ -92,41 +97,46 @@ impl<'a> Cursor<'a> {
         }
     }
 
+    /// Takes an integer of 64 bits. Where another word stands there, that word is taken and refused.
     #[tactic(auto, unfolding(scenario_grammar::specs::Reading::integer_at))]
     pub fn integer(&mut self) -> Result<i64, LineRefusal>
         ensures { Reads (integer_at self.old) result self.new }
     {
         match self.next() {
-            None => Err(TOO_SHORT),
+            None => Err(LineRefusal::Reason(TextReason::TooShort)),
             Some(Token::Number(number)) => Ok(*number),
-            Some(Token::Oversized) => Err(OUT_OF_RANGE),
-            Some(_) => Err(MISSPELLED_NUMBER),
+            Some(Token::Oversized) => Err(LineRefusal::Reason(TextReason::OutOfRange)),
+            Some(_) => Err(LineRefusal::Reason(TextReason::MisspelledNumber)),
         }
     }
 
+    /// Takes a number of this range. Where another word stands there, that word is taken and
+    /// refused.
     #[tactic(auto, unfolding(scenario_grammar::specs::Reading::number_at))]
     pub fn number(&mut self, least: u64, greatest: u64) -> Result<u64, LineRefusal>
-        ensures { Reads (number_at least greatest self.old) result self.new }
+        ensures read { Reads (number_at least greatest self.old) result self.new }
+        ensures range { IfOk result (λ n. n ≤ greatest) }
     {
         match self.next() {
-            None => Err(TOO_SHORT),
+            None => Err(LineRefusal::Reason(TextReason::TooShort)),
             Some(Token::Number(number)) => in_range(*number, least, greatest),
-            Some(Token::Oversized) => Err(OUT_OF_RANGE),
-            Some(_) => Err(MISSPELLED_NUMBER),
+            Some(Token::Oversized) => Err(LineRefusal::Reason(TextReason::OutOfRange)),
+            Some(_) => Err(LineRefusal::Reason(TextReason::MisspelledNumber)),
         }
     }
 }
 
 fn in_range(number: i64, least: u64, greatest: u64) -> Result<u64, LineRefusal>
-    ensures { Reads (in_range_of least greatest number []) result [] }
+    ensures read { Reads (in_range_of least greatest number []) result [] }
+    ensures range { IfOk result (λ n. n ≤ greatest) }
 {
     if number < 0 {
-        return Err(OUT_OF_RANGE);
+        return Err(LineRefusal::Reason(TextReason::OutOfRange));
     }
     let number = number as u64;
     if least <= number && number <= greatest {
         Ok(number)
     } else {
-        Err(OUT_OF_RANGE)
+        Err(LineRefusal::Reason(TextReason::OutOfRange))
     }
 }

@@ -5,17 +5,16 @@ ghost use Rattle.scenario_lines.specs.Reads.{Reads};
 
 use crate::cursor::Cursor;
 use crate::head::expression_head;
-use crate::refusal::{
-    LineRefusal, MISSPELLED_NUMBER, NESTED_TOO_DEEP, OUT_OF_RANGE, TOO_SHORT, UNKNOWN_WORD,
-};
+use crate::refusal::LineRefusal;
 use gv_values::FaultKind;
-use scenario_grammar::{Head, Token};
+use scenario_grammar::{Head, TextReason, Token};
 use scenario_tree::{Binary, Boxed, Expression, Items, Unary};
 use std::alloc::{AllocError, Global};
 
 /// How deep the levels of an expression are at most.
 const MOST_NESTED: u32 = 32;
 
+/// An expression that is no operand of another: of at most 32 levels.
 pub fn read_expression(alloc: Global, cursor: &mut Cursor<'_>) -> Result<Expression, LineRefusal>
     ensures { Reads (expression_at cursor.old) result cursor.new }
 {
@@ -52,18 +51,18 @@ fn nested(alloc: Global, cursor: &mut Cursor<'_>, depth: u32) -> Result<Expressi
     ensures { Reads (nested_at depth cursor.old) result cursor.new }
 {
     match cursor.next() {
-        None => Err(TOO_SHORT),
+        None => Err(LineRefusal::Reason(TextReason::TooShort)),
         Some(token) => {
             if depth == 0 {
-                return Err(NESTED_TOO_DEEP);
+                return Err(LineRefusal::Reason(TextReason::NestedTooDeep));
             }
             match token {
                 Token::Fixed(word) => headed(alloc, cursor, depth - 1, expression_head(*word)),
                 Token::Name(name) => Ok(Expression::Local(*name)),
                 Token::Number(number) => Ok(Expression::Int(*number)),
-                Token::Oversized => Err(OUT_OF_RANGE),
-                Token::Misspelled => Err(MISSPELLED_NUMBER),
-                Token::Unknown => Err(UNKNOWN_WORD),
+                Token::Oversized => Err(LineRefusal::Reason(TextReason::OutOfRange)),
+                Token::Misspelled => Err(LineRefusal::Reason(TextReason::MisspelledNumber)),
+                Token::Unknown => Err(LineRefusal::Reason(TextReason::UnknownWord)),
             }
         }
     }
@@ -106,7 +105,7 @@ fn headed(
         }
         Head::List => list(alloc, cursor, depth),
         Head::Query(asked) => Ok(Expression::Query(asked, cursor.name()?)),
-        Head::Other => Err(UNKNOWN_WORD),
+        Head::Other => Err(LineRefusal::Reason(TextReason::UnknownWord)),
     }
 }
 

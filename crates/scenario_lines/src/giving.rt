@@ -1,15 +1,18 @@
 //! Reading the rest of a statement that gives a value.
 ghost use Rattle.std.specs.Prelude.{◌≡◌, ◌-◌, length};
-ghost use Rattle.scenario_grammar.specs.Reading.{with_at, under_at, job_of, word_at, all_at, expression_at, raw_link_at, count_of_at, takes_at, giving_by};
+ghost use Rattle.scenario_grammar.specs.Reading.{with_at, under_at, job_of, word_at, all_at, expression_at, raw_link_at, count_of_at, number_at, takes_at, giving_by};
 ghost use Rattle.scenario_lines.specs.Reads.{Reads};
 
 use crate::cursor::{Cursor, MOST_MS};
 use crate::expression::read_expression;
-use crate::refusal::{LineRefusal, TOO_SHORT, UNKNOWN_WORD};
-use scenario_grammar::{Keyword, Token};
+use crate::refusal::LineRefusal;
 use gv_values::JobKind;
+use scenario_grammar::{Keyword, TextReason, Token};
 use scenario_tree::{Expression, Giving, Items, LinkEnd};
 use std::alloc::Global;
+
+/// The greatest number of a mark.
+const MOST_MARK: u64 = 1_000_000;
 
 pub(crate) fn with_fault(
     alloc: Global,
@@ -66,12 +69,12 @@ fn job(cursor: &mut Cursor<'_>) -> Result<JobKind, LineRefusal>
     ensures { Reads (word_at job_of cursor.old) result cursor.new }
 {
     match cursor.next() {
-        None => Err(TOO_SHORT),
+        None => Err(LineRefusal::Reason(TextReason::TooShort)),
         Some(Token::Fixed(Keyword::Sum)) => Ok(JobKind::Sum),
         Some(Token::Fixed(Keyword::Collatz)) => Ok(JobKind::Collatz),
         Some(Token::Fixed(Keyword::Fail)) => Ok(JobKind::Fail),
         Some(Token::Fixed(Keyword::Echo)) => Ok(JobKind::Echo),
-        Some(_) => Err(UNKNOWN_WORD),
+        Some(_) => Err(LineRefusal::Reason(TextReason::UnknownWord)),
     }
 }
 
@@ -90,6 +93,13 @@ fn arguments(alloc: Global, cursor: &mut Cursor<'_>) -> Result<Items<Expression>
     Ok(arguments)
 }
 
+/// The number of a mark.
+fn mark(cursor: &mut Cursor<'_>) -> Result<u32, LineRefusal>
+    ensures { Reads (number_at 0 1000000 cursor.old) result cursor.new }
+{
+    Ok(cursor.number(0, MOST_MARK)? as u32)
+}
+
 fn raw_link(
     alloc: Global,
     cursor: &mut Cursor<'_>,
@@ -98,12 +108,12 @@ fn raw_link(
     ensures { Reads (raw_link_at greenlet cursor.old) result cursor.new }
 {
     match cursor.next() {
-        None => Err(TOO_SHORT),
+        None => Err(LineRefusal::Reason(TextReason::TooShort)),
         Some(Token::Fixed(Keyword::Mark)) => {
-            Ok(Giving::LinkMark(greenlet, cursor.number(0, 1_000_000)?))
+            Ok(Giving::LinkMark(greenlet, mark(cursor)?))
         }
         Some(Token::Fixed(Keyword::Set)) => Ok(Giving::LinkSet(greenlet, cursor.name()?)),
-        Some(_) => Err(UNKNOWN_WORD),
+        Some(_) => Err(LineRefusal::Reason(TextReason::UnknownWord)),
     }
 }
 
@@ -179,7 +189,8 @@ pub fn read_giving(
             read_expression(alloc, cursor)?,
             takes(cursor)?,
         )),
+        Keyword::ChannelGet => Ok(Giving::ChannelGet(cursor.name()?)),
         Keyword::Raw => Ok(Giving::Raw(cursor.name()?, under(alloc, cursor)?)),
-        _ => Err(UNKNOWN_WORD),
+        _ => Err(LineRefusal::Reason(TextReason::UnknownWord)),
     }
 }

@@ -58,9 +58,13 @@ pub fn skip_blanks(text: &[u8]) -> &[u8]
     rest
 }
 
-/// What the words of a line are, none where a blank is out of place.
-pub fn line_tokens(alloc: Global, text: &[u8]) -> Result<Option<Items<Token>>, AllocError>
-    ensures { IfOk result (λ found. found ≡ spaced_tokens text.now) }
+/// What the words of a line are in a text of this profile, none where a blank is out of place.
+pub fn line_tokens(
+    alloc: Global,
+    profile: u8,
+    text: &[u8],
+) -> Result<Option<Items<Token>>, AllocError>
+    ensures { IfOk result (λ found. found ≡ spaced_tokens profile text.now) }
 {
     let mut tokens = Items::new(alloc);
     let mut rest = text;
@@ -69,13 +73,13 @@ pub fn line_tokens(alloc: Global, text: &[u8]) -> Result<Option<Items<Token>>, A
             return Ok(None);
         }
         let (word, more) = cut_at(rest, at);
-        tokens.push(read_token(word))?;
+        tokens.push(read_token(profile, word))?;
         rest = more;
     }
     if rest.is_empty() {
         return Ok(None);
     }
-    tokens.push(read_token(rest))?;
+    tokens.push(read_token(profile, rest))?;
     Ok(Some(tokens))
 }
 

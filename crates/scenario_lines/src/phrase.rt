@@ -1,16 +1,16 @@
 //! Reading what a line says.
 ghost use Rattle.std.specs.Prelude.{◌≡◌, if◌then◌else◌};
-ghost use Rattle.scenario_grammar.specs.Reading.{after_at, all_at, binding_at, class_at, class_of, given_at, giving_at, name_at, now_at, phrase_by, phrase_of, queue_of, silent_at, size_at, unmarked_at, word_at, is_given};
+ghost use Rattle.scenario_grammar.specs.Reading.{after_at, all_at, binding_at, class_at, class_of, given_at, giving_at, immediate_at, name_at, now_at, phrase_by, phrase_of, queue_of, silent_at, size_at, unmarked_at, word_at, is_given};
 ghost use Rattle.scenario_lines.specs.Reads.{IsBoxed, Reads, ReadsWhole};
-ghost use Rattle.scenario_lines.specs.Rows.{row_by};
+ghost use Rattle.scenario_lines.specs.Kinds.{kind_by};
 
 use crate::cursor::{Cursor, MOST_MS};
 use crate::expression::read_expression;
 use crate::giving::{read_giving, with_fault};
-use crate::refusal::{LineRefusal, TOO_LONG, TOO_SHORT, UNKNOWN_WORD};
-use crate::row::{Row, row_of};
+use crate::refusal::LineRefusal;
+use crate::kind::{LineKind, line_kind};
 use gv_values::{Class, Name};
-use scenario_grammar::{Keyword, Phrase, Token};
+use scenario_grammar::{Keyword, Phrase, TextReason, Token};
 use scenario_tree::{Boxed, Command, Items, Object, QueueKind};
 use std::alloc::Global;
 
@@ -29,7 +29,7 @@ pub fn read_phrase(alloc: Global, tokens: &[Token]) -> Result<Boxed<Phrase>, Lin
             if cursor.is_empty() {
                 Ok(phrase)
             } else {
-                Err(TOO_LONG)
+                Err(LineRefusal::Reason(TextReason::TooLong))
             }
         }
     }
@@ -72,14 +72,14 @@ fn read_given(alloc: Global, cursor: &mut Cursor<'_>) -> Result<Phrase, LineRefu
 {
     let name = cursor.name()?;
     if cursor.next().is_none() {
-        return Err(TOO_SHORT);
+        return Err(LineRefusal::Reason(TextReason::TooShort));
     }
     match cursor.next() {
-        None => Err(TOO_SHORT),
+        None => Err(LineRefusal::Reason(TextReason::TooShort)),
         Some(Token::Fixed(word)) => {
             Ok(Phrase::Giving(Some(name), read_giving(alloc, cursor, *word)?))
         }
-        Some(_) => Err(UNKNOWN_WORD),
+        Some(_) => Err(LineRefusal::Reason(TextReason::UnknownWord)),
     }
 }
 
@@ -87,9 +87,9 @@ fn read_unmarked(alloc: Global, cursor: &mut Cursor<'_>) -> Result<Phrase, LineR
     ensures { Reads (unmarked_at cursor.old) result cursor.new }
 {
     match cursor.next() {
-        None => Err(TOO_SHORT),
+        None => Err(LineRefusal::Reason(TextReason::TooShort)),
         Some(Token::Fixed(word)) => read_by_word(alloc, cursor, *word),
-        Some(_) => Err(UNKNOWN_WORD),
+        Some(_) => Err(LineRefusal::Reason(TextReason::UnknownWord)),
     }
 }
 
@@ -97,12 +97,12 @@ fn queue_kind(cursor: &mut Cursor<'_>) -> Result<QueueKind, LineRefusal>
     ensures { Reads (word_at queue_of cursor.old) result cursor.new }
 {
     match cursor.next() {
-        None => Err(TOO_SHORT),
+        None => Err(LineRefusal::Reason(TextReason::TooShort)),
         Some(Token::Fixed(Keyword::Fifo)) => Ok(QueueKind::Fifo),
         Some(Token::Fixed(Keyword::Lifo)) => Ok(QueueKind::Lifo),
         Some(Token::Fixed(Keyword::Priority)) => Ok(QueueKind::Priority),
         Some(Token::Fixed(Keyword::Join)) => Ok(QueueKind::Join),
-        Some(_) => Err(UNKNOWN_WORD),
+        Some(_) => Err(LineRefusal::Reason(TextReason::UnknownWord)),
     }
 }
 
@@ -123,9 +123,9 @@ fn class(cursor: &mut Cursor<'_>) -> Result<Class, LineRefusal>
     ensures { Reads (class_at cursor.old) result cursor.new }
 {
     match cursor.next() {
-        None => Err(TOO_SHORT),
-        Some(Token::Fixed(word)) => class_by(*word).ok_or(UNKNOWN_WORD),
-        Some(_) => Err(UNKNOWN_WORD),
+        None => Err(LineRefusal::Reason(TextReason::TooShort)),
+        Some(Token::Fixed(word)) => class_by(*word).ok_or(LineRefusal::Reason(TextReason::UnknownWord)),
+        Some(_) => Err(LineRefusal::Reason(TextReason::UnknownWord)),
     }
 }
 
@@ -199,6 +199,19 @@ fn now(cursor: &mut Cursor<'_>) -> Result<bool, LineRefusal>
     }
 }
 
+/// Whether `immediate` stands there.
+fn immediate(cursor: &mut Cursor<'_>) -> Result<bool, LineRefusal>
+    ensures { Reads (immediate_at cursor.old) result cursor.new }
+{
+    match cursor.rest {
+        [Token::Fixed(Keyword::Immediate), rest @ ..] => {
+            cursor.rest = rest;
+            Ok(true)
+        }
+        _ => Ok(false),
+    }
+}
+
 /// Names up to the line's end.
 fn parameters(alloc: Global, cursor: &mut Cursor<'_>) -> Result<Items<Name>, LineRefusal>
     ensures { Reads (all_at name_at cursor.old) result cursor.new }
@@ -212,6 +225,14 @@ fn parameters(alloc: Global, cursor: &mut Cursor<'_>) -> Result<Items<Name>, Lin
         parameters.push(parameter)?;
     }
     Ok(parameters)
+}
+
+/// `profile` names the one profile that has such a line.
+fn read_profile(cursor: &mut Cursor<'_>) -> Result<Phrase, LineRefusal>
+    ensures { Reads (phrase_by Keyword.Profile cursor.old) result cursor.new }
+{
+    cursor.number(2, 2)?;
+    Ok(Phrase::Profile)
 }
 
 /// `rawdef` has exactly one parameter.
@@ -233,18 +254,18 @@ fn read_by_word(
 ) -> Result<Phrase, LineRefusal>
     ensures { Reads (phrase_by word cursor.old) result cursor.new }
 {
-    match row_of(word) {
-        Row::Declaration => read_declaration(cursor, word),
-        Row::Block => read_block(alloc, cursor, word),
-        Row::Command => read_command(alloc, cursor, word),
-        Row::ObjectCommand => read_object_command(alloc, cursor, word),
-        Row::Other => Ok(Phrase::Giving(None, read_giving(alloc, cursor, word)?)),
+    match line_kind(word) {
+        LineKind::Declaration => read_declaration(cursor, word),
+        LineKind::Block => read_block(alloc, cursor, word),
+        LineKind::Command => read_command(alloc, cursor, word),
+        LineKind::ObjectCommand => read_object_command(alloc, cursor, word),
+        LineKind::Other => Ok(Phrase::Giving(None, read_giving(alloc, cursor, word)?)),
     }
 }
 
 /// The rest of a declaration.
 fn read_declaration(cursor: &mut Cursor<'_>, word: Keyword) -> Result<Phrase, LineRefusal>
-    requires { row_by word ≡ Row.Declaration }
+    requires { kind_by word ≡ LineKind.Declaration }
     ensures { Reads (phrase_by word cursor.old) result cursor.new }
 {
     match word {
@@ -272,16 +293,18 @@ fn read_declaration(cursor: &mut Cursor<'_>, word: Keyword) -> Result<Phrase, Li
             cursor.name()?,
             Object::Native(cursor.number(1, 64)?),
         )),
-        _ => Err(UNKNOWN_WORD),
+        Keyword::Channel => Ok(Phrase::Declaration(cursor.name()?, Object::Channel)),
+        _ => Err(LineRefusal::Reason(TextReason::UnknownWord)),
     }
 }
 
-/// The rest of a line that opens, parts or ends a block.
+/// The rest of a line that names the profile, or opens, parts or ends a block.
 fn read_block(alloc: Global, cursor: &mut Cursor<'_>, word: Keyword) -> Result<Phrase, LineRefusal>
-    requires { row_by word ≡ Row.Block }
+    requires { kind_by word ≡ LineKind.Block }
     ensures { Reads (phrase_by word cursor.old) result cursor.new }
 {
     match word {
+        Keyword::Profile => read_profile(cursor),
         Keyword::Function => Ok(Phrase::Function(
             false,
             cursor.name()?,
@@ -296,7 +319,7 @@ fn read_block(alloc: Global, cursor: &mut Cursor<'_>, word: Keyword) -> Result<P
         Keyword::Finally => Ok(Phrase::Finally),
         Keyword::Timeout => Ok(Phrase::Timeout(after(cursor)?, silent(cursor)?)),
         Keyword::End => Ok(Phrase::End),
-        _ => Err(UNKNOWN_WORD),
+        _ => Err(LineRefusal::Reason(TextReason::UnknownWord)),
     }
 }
 
@@ -306,7 +329,7 @@ fn read_command(
     cursor: &mut Cursor<'_>,
     word: Keyword,
 ) -> Result<Phrase, LineRefusal>
-    requires { row_by word ≡ Row.Command }
+    requires { kind_by word ≡ LineKind.Command }
     ensures { Reads (phrase_by word cursor.old) result cursor.new }
 {
     match word {
@@ -321,7 +344,7 @@ fn read_command(
         Keyword::KillAll => read_kill_all(alloc, cursor),
         Keyword::Unlink => Ok(Phrase::Command(Command::Unlink(read_expression(alloc, cursor)?))),
         Keyword::SetParent => read_set_parent(alloc, cursor),
-        _ => Err(UNKNOWN_WORD),
+        _ => Err(LineRefusal::Reason(TextReason::UnknownWord)),
     }
 }
 
@@ -377,7 +400,7 @@ fn read_object_command(
     cursor: &mut Cursor<'_>,
     word: Keyword,
 ) -> Result<Phrase, LineRefusal>
-    requires { row_by word ≡ Row.ObjectCommand }
+    requires { kind_by word ≡ LineKind.ObjectCommand }
     ensures { Reads (phrase_by word cursor.old) result cursor.new }
 {
     match word {
@@ -398,6 +421,14 @@ fn read_object_command(
             cursor.wait()?,
         ))),
         Keyword::QueueDone => Ok(Phrase::Command(Command::QueueDone(cursor.name()?))),
+        Keyword::QueueShut => Ok(Phrase::Command(Command::QueueShut(
+            cursor.name()?,
+            immediate(cursor)?,
+        ))),
+        Keyword::ChannelPut => Ok(Phrase::Command(Command::ChannelPut(
+            cursor.name()?,
+            read_expression(alloc, cursor)?,
+        ))),
         Keyword::GroupJoin => Ok(Phrase::Command(Command::GroupJoin(
             cursor.name()?,
             cursor.timed()?,
@@ -407,6 +438,6 @@ fn read_object_command(
             with_fault(alloc, cursor)?,
             now(cursor)?,
         ))),
-        _ => Err(UNKNOWN_WORD),
+        _ => Err(LineRefusal::Reason(TextReason::UnknownWord)),
     }
 }

@@ -1,12 +1,13 @@
+use scenario_grammar::TextReason;
 use std::alloc::AllocError;
 
 /// Why the words of a line were not read.
 #[derive(Clone, Copy, Debug, PartialEq, Eq)]
 pub enum LineRefusal {
-    /// Memory ran out.
+    /// Memory ran out; whether the line says something is open.
     Memory,
-    /// The line says nothing, for the reason of this number.
-    Reason(u8),
+    /// The line says nothing, for this reason.
+    Reason(TextReason),
 }
 
 impl From<AllocError> for LineRefusal {
@@ -19,19 +20,3 @@ impl From<AllocError> for LineRefusal {
         LineRefusal::Memory
     }
 }
-
-pub const BLANK_OUT_OF_PLACE: LineRefusal = LineRefusal::Reason(4);
-
-pub const UNKNOWN_WORD: LineRefusal = LineRefusal::Reason(5);
-
-pub const TOO_SHORT: LineRefusal = LineRefusal::Reason(6);
-
-pub const TOO_LONG: LineRefusal = LineRefusal::Reason(7);
-
-pub const MISSPELLED_NUMBER: LineRefusal = LineRefusal::Reason(8);
-
-pub const OUT_OF_RANGE: LineRefusal = LineRefusal::Reason(9);
-
-pub const NOT_A_NAME: LineRefusal = LineRefusal::Reason(10);
-
-pub const NESTED_TOO_DEEP: LineRefusal = LineRefusal::Reason(21);

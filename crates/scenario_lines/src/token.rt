@@ -4,17 +4,39 @@ ghost use Rattle.std.specs.Option.{option_copied};
 ghost use Rattle.std.specs.Str.Parse.{digits_value};
 ghost use Rattle.gv_values.specs.Names.{is_digit};
 ghost use Rattle.gv_values.specs.Digits.{is_plain_number};
-ghost use Rattle.scenario_grammar.specs.Tokens.{begins_number, is_integer, number_token, loose_token, token_of};
+ghost use Rattle.scenario_grammar.specs.Tokens.{begins_number, is_integer, known_in, number_token, loose_token, token_in, token_of};
 ghost use Rattle.scenario_lines.specs.Numbers.{integer_token, minus_digits};
 
 use gv_values::Name;
 use gv_values::digits::is_plain_number;
 use scenario_grammar::Token;
-use scenario_keywords::find_keyword;
+use scenario_keywords::{find_keyword, word_profile};
 
-/// What a word is by itself.
+/// What a word is in a text of this profile. A fixed word of a later profile is unknown.
+pub fn read_token(profile: u8, word: &[u8]) -> Token
+    ensures { result ≡ token_in profile word.now }
+{
+    known_in(profile, any_token(word))
+}
+
+fn known_in(profile: u8, token: Token) -> Token
+    ensures { result ≡ known_in profile token }
+{
+    match token {
+        Token::Fixed(word) => {
+            if word_profile(word) <= profile {
+                Token::Fixed(word)
+            } else {
+                Token::Unknown
+            }
+        }
+        token => token,
+    }
+}
+
+/// What a word is in the profile that has all fixed words.
 #[tactic(auto, unfolding(scenario_grammar::specs::Tokens::token_of))]
-pub fn read_token(word: &[u8]) -> Token
+fn any_token(word: &[u8]) -> Token
     ensures { result ≡ token_of word.now }
 {
     match find_keyword(word) {

@@ -48,5 +48,10 @@ pub(crate) fn push_command(command: &Command, out: &mut Vec<u8>) -> Result<(), A
             push_flag(Keyword::Now, *is_now, out)
         }
         Command::SetParent(e, parent) => { start_expressions(Keyword::SetParent, e, parent, out) }
+        Command::ChannelPut(n, e) => start_name_expression(Keyword::ChannelPut, n, e, out),
+        Command::QueueShut(n, is_immediate) => {
+            start_name(Keyword::QueueShut, n, out)?;
+            push_flag(Keyword::Immediate, *is_immediate, out)
+        }
     }
 }

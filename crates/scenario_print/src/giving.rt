@@ -80,7 +80,7 @@ pub(crate) fn push_giving(giving: &Giving, out: &mut Vec<u8>) -> Result<(), Allo
         Giving::LinkMark(e, mark) => {
             start_expression(Keyword::RawLink, e, out)?;
             push_fixed(Keyword::Mark, out)?;
-            push_number(*mark, out)
+            push_number(u64::from(*mark), out)
         }
         Giving::LinkSet(e, n) => {
             start_expression(Keyword::RawLink, e, out)?;
@@ -119,6 +119,7 @@ pub(crate) fn push_giving(giving: &Giving, out: &mut Vec<u8>) -> Result<(), Allo
             start_expression(Keyword::Throw, e, out)?;
             push_marked(Keyword::With, fault, out)
         }
+        Giving::ChannelGet(n) => start_name(Keyword::ChannelGet, n, out),
     }
 }
 

@@ -87,6 +87,7 @@ pub(crate) fn push_object(object: Object, n: &Name, out: &mut Vec<u8>) -> Result
             start_name(Keyword::Native, n, out)?;
             push_number(number, out)
         }
+        Object::Channel => start_name(Keyword::Channel, n, out),
     }
 }
 

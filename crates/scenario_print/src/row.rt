@@ -9,7 +9,7 @@ ghost use Rattle.scenario_print.specs.Written.{Appended};
 use crate::command::push_command;
 use crate::giving::push_given;
 use crate::head::{push_except, push_head, push_object, push_timeout};
-use crate::start::start_expression;
+use crate::start::{start_expression, start_number};
 use crate::word::push_first;
 use gv_values::{Class, Name};
 use scenario_grammar::Keyword;
@@ -36,6 +36,14 @@ fn push_line_end(out: &mut Vec<u8>) -> Result<(), AllocError>
     ensures { Appended out.old.items out.new.items result (10 ∷ []) }
 {
     out.extend_from_slice(b"\n")
+}
+
+/// The line that names profile 2.
+pub(crate) fn push_profile_row(out: &mut Vec<u8>) -> Result<(), AllocError>
+    ensures { WroteRow out.old.items out.new.items result 0 phrase.Profile }
+{
+    start_number(Keyword::Profile, 2, out)?;
+    push_line_end(out)
 }
 
 pub(crate) fn push_declaration_row(

@@ -2,7 +2,7 @@
 #![tactic(auto, using(crate::proofs::Words::through, gv_values::proofs::Fronts::fronts))]
 
 ghost use Rattle.std.specs.Prelude.{◌≡◌, ◌++◌, List, ℕ, OnOk, OnErr};
-ghost use Rattle.scenario_grammar.specs.Blocks.{declaration_rows, function_rows};
+ghost use Rattle.scenario_grammar.specs.Blocks.{declaration_rows, function_rows, profile_rows};
 ghost use Rattle.scenario_grammar.specs.Printed.{printed};
 ghost use Rattle.scenario_grammar.specs.Spells.{Spells};
 ghost use Rattle.scenario_grammar.specs.Tokens.{each};
@@ -11,7 +11,7 @@ ghost use Rattle.scenario_print.specs.Rows.{Laid, WroteScenario};
 ghost use Rattle.scenario_print.specs.Texts.{HasText};
 
 use crate::block::push_block;
-use crate::row::{push_declaration_row, push_fixed_row, push_function_row};
+use crate::row::{push_declaration_row, push_fixed_row, push_function_row, push_profile_row};
 use scenario_grammar::Keyword;
 use scenario_tree::{Declaration, Function, Scenario};
 use std::alloc::AllocError;
@@ -22,8 +22,8 @@ pub fn spelt_trees_have_text()
 {}
 
 /// Appends the printed form of a scenario that has a text: its one text with two blanks for each
-/// open block and no line that carries nothing. Where there is no memory for it, nothing is
-/// appended.
+/// open block and no line that carries nothing, after `profile 2` where that is its profile. Where
+/// there is no memory for it, nothing is appended.
 pub fn print(s: &Scenario, out: &mut Vec<u8>) -> Result<(), AllocError>
     ensures ok { OnOk result (HasText s.now → out.new.items ≡ out.old.items ++ printed s.now) }
     ensures err { OnErr result (out.new.items ≡ out.old.items) }
@@ -39,8 +39,19 @@ pub fn print(s: &Scenario, out: &mut Vec<u8>) -> Result<(), AllocError>
 fn push_scenario(s: &Scenario, out: &mut Vec<u8>) -> Result<(), AllocError>
     ensures { WroteScenario out.old.items out.new.items result s.now }
 {
+    push_profile(s.profile, out)?;
     push_declarations(s.objects.as_slice(), out)?;
     push_functions(s.functions.as_slice(), out)
+}
+
+/// The line `profile 2`, which a scenario of profile 1 does not have.
+fn push_profile(profile: u8, out: &mut Vec<u8>) -> Result<(), AllocError>
+    ensures { Laid out.old.items out.new.items result 0 0 (profile_rows profile) }
+{
+    if profile == 1 {
+        return Ok(());
+    }
+    push_profile_row(out)
 }
 
 fn push_declarations(declarations: &[Declaration], out: &mut Vec<u8>) -> Result<(), AllocError>

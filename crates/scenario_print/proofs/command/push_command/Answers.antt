@@ -61,3 +61,9 @@ returns-in_ok-push_marked-in-GroupKill c = rw c.in-GroupKill.is (line (further (
 
 pub returns-in-SetParent : goal.returns-in-SetParent
 returns-in-SetParent c = rw c.in-SetParent.is (line c.start_expressions.ensures)
+
+pub returns-in-ChannelPut : goal.returns-in-ChannelPut
+returns-in-ChannelPut c = rw c.in-ChannelPut.is (line c.start_name_expression-in-ChannelPut.ensures)
+
+pub returns-in_ok-start_name-in-QueueShut : goal.returns-in_ok-start_name-in-QueueShut
+returns-in_ok-start_name-in-QueueShut c = rw c.in-QueueShut.is (line (further c.in_ok-start_name-in-QueueShut.ensures c.push_flag-in-QueueShut.ensures))

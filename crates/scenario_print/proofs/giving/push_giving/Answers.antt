@@ -65,3 +65,6 @@ returns-in-Switch c = rw c.in-Switch.is (line c.start_expressions.ensures)
 
 pub returns-in_ok-start_expression-in-Throw : goal.returns-in_ok-start_expression-in-Throw
 returns-in_ok-start_expression-in-Throw c = rw c.in-Throw.is (line (further c.in_ok-start_expression-in-Throw.ensures c.push_marked-in-Throw.ensures))
+
+pub returns-in-ChannelGet : goal.returns-in-ChannelGet
+returns-in-ChannelGet c = rw c.in-ChannelGet.is (line c.start_name-in-ChannelGet.ensures)

@@ -27,3 +27,6 @@ returns-in_ok-start_name-in-Pool c = rw c.in-Pool.is (line (further c.in_ok-star
 
 pub returns-in_ok-start_name-in-Native : goal.returns-in_ok-start_name-in-Native
 returns-in_ok-start_name-in-Native c = rw c.in-Native.is (line (further c.in_ok-start_name-in-Native.ensures (in_range 1 64 c.push_number-in-Native.ensures)))
+
+pub returns-in-Channel : goal.returns-in-Channel
+returns-in-Channel c = rw c.in-Channel.is (line c.start_name-in-Channel.ensures)

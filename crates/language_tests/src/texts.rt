@@ -1,5 +1,8 @@
-use crate::{ParseRefusal, parse, print, reason_text};
+//! Texts that are read, refused and printed again.
+#![tactic(auto)]
+
 use scenario_grammar::Place;
+use scenario_lang::{ParseRefusal, parse, print, reason_text};
 use std::alloc::Global;
 use std::process::Abort;
 use std::test::Fail;
@@ -204,4 +207,11 @@ fn printed_forms(rt: HostRuntime) -> Result<(), Fail> {
         );
     }
     Ok(())
+}
+
+#[test]
+fn reasons_have_texts(rt: HostRuntime) {
+    assert_eq!(rt; reason_text(1), "text longer than 1048576 bytes");
+    assert_eq!(rt; reason_text(9), "number out of range");
+    assert_eq!(rt; reason_text(22), "too many declarations");
 }

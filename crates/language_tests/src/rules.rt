@@ -1,4 +1,7 @@
-use crate::check;
+//! Scenarios that keep the rules, and scenarios that break one.
+#![tactic(auto)]
+
+use scenario_check::check;
 use scenario_grammar::Place;
 use scenario_lang::{ParseRefusal, Scenario, parse};
 use std::alloc::Global;
@@ -33,6 +36,15 @@ fn taken_and_refused(rt: HostRuntime) -> Result<(), Fail> {
         ("group e\ndef main\nset e\nend\n", (3, 17)),
         ("def w n\nend\ndef main\nspawn w\nend\n", (4, 18)),
         ("rawdef r v\nsleep 0\nend\ndef main\nend\n", (2, 19)),
+        (
+            "profile 2\nchannel c\nqueue q join 2\ndef main\ncput c 1\nx <- cget c\nqshut q immediate\nend\n",
+            (0, 0),
+        ),
+        ("profile 2\nqueue q join 2\ndef main\ncput q 1\nend\n", (4, 17)),
+        ("profile 2\nqueue q join 2\ndef main\nx <- cget q\nend\n", (4, 17)),
+        ("profile 2\nchannel c\ndef main\nqshut c\nend\n", (4, 17)),
+        ("profile 2\ndef main\ncput c 1\nend\n", (3, 15)),
+        ("profile 2\nchannel c\nrawdef r v\ncput c 1\nend\ndef main\nend\n", (4, 19)),
     ];
     for (text, expected) in table {
         assert_eq!(rt; place_of_text(rt.alloc(), text), expected);
