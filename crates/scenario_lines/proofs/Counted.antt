@@ -46,3 +46,12 @@ count_refused part n k items ts us refusal.Memory r h f same = tt
 count_refused part n k items ts us (refusal.Reason why) r h f same =
     let more : n - k ≡ suc (n - (k + 1)) = omega (arith, h) in
     sym same ∙ rw (more, f) refl
+
+-- the same of parts up to the line's end, which has not come
+pub end_refused : {A : Type 0} (part : Reader A) (n k : ℕ) (items : List A) (ts us : List Token) (e : LineRefusal) (r : Reading (List A)) → k < n → (ts ≡ [] → ⊥)
+    → Reads (part ts) (Err e) us → with_front items (to_the_end part (n - k) ts) ≡ r → Reads r (Err e) us
+end_refused part n k items ts us refusal.Memory r h unended f same = tt
+end_refused part n k items [] us (refusal.Reason why) r h unended f same = absurd (unended refl)
+end_refused part n k items (t ∷ ts) us (refusal.Reason why) r h unended f same =
+    let more : n - k ≡ suc (n - (k + 1)) = omega (arith, h) in
+    sym same ∙ rw (more, f) refl
