@@ -81,6 +81,7 @@ impl Builder {
     }
 
     /// Why a line of this role may not stand next, if it may not.
+    #[tactic(auto, using(crate::proofs::Standings::misplaced_is))]
     pub(crate) fn misplaced(&self, line_role: Role) -> Option<TextReason>
         ensures { result ≡ misplaced (standing (building self.now)) (as_role line_role) }
     {

@@ -1,10 +1,11 @@
 //! What the first words make of a line.
-ghost use Rattle.std.specs.Prelude.{◌≡◌};
+ghost use Rattle.std.specs.Prelude.{◌≡◌, if◌then◌else◌};
 ghost use Rattle.scenario_grammar.specs.Places.{role_of, outside};
+ghost use Rattle.scenario_grammar.specs.Reading.{gives};
 ghost use Rattle.scenario_keywords.specs.Roles.{grammar_role};
 ghost use Rattle.scenario_lang.specs.Roles.{as_role, role_unmarked};
 
-use scenario_grammar::{TextReason, Token};
+use scenario_grammar::{Keyword, TextReason, Token};
 use scenario_keywords::{WordRole, gives_value, word_role};
 use scenario_lines::is_given_line;
 
@@ -44,14 +45,19 @@ fn reason_outside(tokens: &[Token]) -> TextReason
 {
     match tokens {
         [Token::Name(_), _] => TextReason::TooShort,
-        [Token::Name(_), _, Token::Fixed(word), ..] => {
-            if gives_value(*word) {
-                TextReason::LineOutOfPlace
-            } else {
-                TextReason::UnknownWord
-            }
-        }
+        [Token::Name(_), _, Token::Fixed(word), ..] => reason_of_third(*word),
         [Token::Name(_), _, _, ..] => TextReason::UnknownWord,
         _ => TextReason::NotAName,
+    }
+}
+
+/// Why such a line is refused whose first word is a name and whose third is this fixed word.
+fn reason_of_third(word: Keyword) -> TextReason
+    ensures { result ≡ (if gives word then TextReason.LineOutOfPlace else TextReason.UnknownWord) }
+{
+    if gives_value(word) {
+        TextReason::LineOutOfPlace
+    } else {
+        TextReason::UnknownWord
     }
 }

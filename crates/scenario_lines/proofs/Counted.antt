@@ -2,7 +2,9 @@
 use Rattle.std.proofs.Common.{◌≡◌, ℕ, zero, suc, ◌+◌, ◌-◌, ◌<◌, List, [], ◌∷◌, ◌++◌, Result, Ok, Err, refl, arith, ap, sym, ◌∙◌, append_assoc}
 use Rattle.scenario_grammar.specs.declared.token.Token.{Token}
 use Rattle.scenario_grammar.specs.Reading.{Reader, Reading, ◌>>=◌, ◌<$>◌, ◌<*>◌, count_at, to_the_end, nested_at, term_at}
-use Rattle.scenario_tree.specs.declared.tree.Expression.{Expression}
+use Rattle.scenario_lines.specs.declared.refusal.LineRefusal.{LineRefusal}
+use Rattle.scenario_lines.specs.declared.refusal.LineRefusal.TheVariants as refusal
+use Rattle.scenario_lines.specs.Reads.{Reads}
 
 abbrev pub with_front : {A : Type 0} → List A → Reading (List A) → Reading (List A)
 with_front front r = r >>= λ x. Ok (front ++ x.0, x.1)
@@ -36,3 +38,20 @@ end_next part n k items (t ∷ ts) us x h unended e =
 pub end_here : {A : Type 0} (part : Reader A) (n : ℕ) (ts : List Token) → ts ≡ [] → to_the_end part n ts ≡ Ok ([], [])
 end_here part n [] e = refl
 end_here part n (t ∷ ts) e = cc
+
+-- a part that is refused refuses them all
+pub count_refused : {A : Type 0} (part : Reader A) (n k : ℕ) (items : List A) (ts us : List Token) (e : LineRefusal) (r : Reading (List A)) → k < n
+    → Reads (part ts) (Err e) us → with_front items (count_at part (n - k) ts) ≡ r → Reads r (Err e) us
+count_refused part n k items ts us refusal.Memory r h f same = tt
+count_refused part n k items ts us (refusal.Reason why) r h f same =
+    let more : n - k ≡ suc (n - (k + 1)) = omega (arith, h) in
+    sym same ∙ rw (more, f) refl
+
+-- the same of parts up to the line's end, which has not come
+pub end_refused : {A : Type 0} (part : Reader A) (n k : ℕ) (items : List A) (ts us : List Token) (e : LineRefusal) (r : Reading (List A)) → k < n → (ts ≡ [] → ⊥)
+    → Reads (part ts) (Err e) us → with_front items (to_the_end part (n - k) ts) ≡ r → Reads r (Err e) us
+end_refused part n k items ts us refusal.Memory r h unended f same = tt
+end_refused part n k items [] us (refusal.Reason why) r h unended f same = absurd (unended refl)
+end_refused part n k items (t ∷ ts) us (refusal.Reason why) r h unended f same =
+    let more : n - k ≡ suc (n - (k + 1)) = omega (arith, h) in
+    sym same ∙ rw (more, f) refl

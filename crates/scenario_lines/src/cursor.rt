@@ -112,8 +112,15 @@ impl<'a> Cursor<'a> {
 
     /// Takes a number of this range. Where another word stands there, that word is taken and
     /// refused.
-    #[tactic(auto, unfolding(scenario_grammar::specs::Reading::number_at))]
     pub fn number(&mut self, least: u64, greatest: u64) -> Result<u64, LineRefusal>
+        ensures { Reads (number_at least greatest self.old) result self.new }
+    {
+        self.bounded(least, greatest)
+    }
+
+    /// Takes such a number, of which the caller knows then that it is at most the greatest.
+    #[tactic(auto, unfolding(scenario_grammar::specs::Reading::number_at))]
+    pub fn bounded(&mut self, least: u64, greatest: u64) -> Result<u64, LineRefusal>
         ensures read { Reads (number_at least greatest self.old) result self.new }
         ensures range { IfOk result (λ n. n ≤ greatest) }
     {

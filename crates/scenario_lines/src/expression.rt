@@ -119,6 +119,7 @@ fn list(alloc: Global, cursor: &mut Cursor<'_>, depth: u32) -> Result<Expression
 }
 
 #[cycle(expression)]
+#[tactic(auto, using(crate::proofs::Counted::count_refused))]
 fn counted(
     alloc: Global,
     cursor: &mut Cursor<'_>,

@@ -97,7 +97,7 @@ fn arguments(alloc: Global, cursor: &mut Cursor<'_>) -> Result<Items<Expression>
 fn mark(cursor: &mut Cursor<'_>) -> Result<u32, LineRefusal>
     ensures { Reads (number_at 0 1000000 cursor.old) result cursor.new }
 {
-    Ok(cursor.number(0, MOST_MARK)? as u32)
+    Ok(cursor.bounded(0, MOST_MARK)? as u32)
 }
 
 fn raw_link(

@@ -213,6 +213,7 @@ fn immediate(cursor: &mut Cursor<'_>) -> Result<bool, LineRefusal>
 }
 
 /// Names up to the line's end.
+#[tactic(auto, using(crate::proofs::Counted::end_refused))]
 fn parameters(alloc: Global, cursor: &mut Cursor<'_>) -> Result<Items<Name>, LineRefusal>
     ensures { Reads (all_at name_at cursor.old) result cursor.new }
 {

@@ -22,7 +22,7 @@ pub returns-in_ok-start_expression-in-Link : goal.returns-in_ok-start_expression
 returns-in_ok-start_expression-in-Link c = rw (c.in-Link.is, ← c.link_word.ensures) (line (further c.in_ok-start_expression-in-Link.ensures c.push_name-in-Link.ensures))
 
 pub returns-in_ok-push_fixed-in-LinkMark : goal.returns-in_ok-push_fixed-in-LinkMark
-returns-in_ok-push_fixed-in-LinkMark c = rw c.in-LinkMark.is (line (further (further c.in_ok-start_expression-in-LinkMark.ensures c.in_ok-push_fixed-in-LinkMark.ensures) (in_range 0 1000000 c.push_number.ensures)))
+returns-in_ok-push_fixed-in-LinkMark c = rw (c.in-LinkMark.is, ← c.from.ensures) (line (further (further c.in_ok-start_expression-in-LinkMark.ensures c.in_ok-push_fixed-in-LinkMark.ensures) (in_range 0 1000000 c.push_number.ensures)))
 
 pub returns-in_ok-push_fixed-in-LinkSet : goal.returns-in_ok-push_fixed-in-LinkSet
 returns-in_ok-push_fixed-in-LinkSet c = rw c.in-LinkSet.is (line (further (further c.in_ok-start_expression-in-LinkSet.ensures c.in_ok-push_fixed-in-LinkSet.ensures) c.push_name-in-LinkSet.ensures))
