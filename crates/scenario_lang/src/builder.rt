@@ -3,7 +3,7 @@ ghost use Rattle.std.specs.Prelude.{◌≡◌, [], ◌∷◌, ◌++◌, IfOk, On
 ghost use Rattle.scenario_grammar.specs.Building.{step, opened, added, changed, closed_by, ended, else_of, except_by, finally_by, caught, at};
 ghost use Rattle.std.specs.List.{list_any};
 ghost use Rattle.std.specs.Option.{option_map};
-ghost use Rattle.scenario_grammar.specs.Parsed.{is_begun, nothing_yet, standing};
+ghost use Rattle.scenario_grammar.specs.Parsed.{has_objects, is_begun, nothing_yet, standing};
 ghost use Rattle.scenario_grammar.specs.Places.{misplaced};
 ghost use Rattle.scenario_grammar.specs.Spells.{is_main};
 ghost use Rattle.scenario_lang.specs.Builders.{building, open_of, with_open, with_one_more};
@@ -98,7 +98,22 @@ impl Builder {
     fn has_line(&self) -> bool
         ensures { result ≡ (standing (building self.now)).any_line }
     {
-        self.has_begun() || !self.objects.is_empty() || self.profile != 1
+        if self.has_begun() {
+            return true;
+        }
+        if self.has_objects() {
+            return true;
+        }
+        self.profile != 1
+    }
+
+    fn has_objects(&self) -> bool
+        ensures { result ≡ has_objects (building self.now) }
+    {
+        if self.objects.is_empty() {
+            return false;
+        }
+        true
     }
 
     fn has_begun(&self) -> bool
