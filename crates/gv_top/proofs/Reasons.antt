@@ -3,13 +3,12 @@ use Rattle.std.proofs.Common.{◌≡◌, ℕ, true, List, Some, Result, Ok, Err,
 use Rattle.scenario_tree.specs.declared.tree.Scenario.{Scenario}
 use Rattle.scenario_grammar.specs.declared.place.Place.{Place}
 use Rattle.scenario_grammar.specs.Parsed.{reading}
-use Rattle.scenario_grammar.specs.Refusals.{is_text_reason}
+use Rattle.scenario_grammar.specs.Reasons.{is_rule_reason, is_text_reason}
 use Rattle.scenario_lang.specs.declared.text.ParseRefusal.{ParseRefusal}
 use Rattle.scenario_lang.specs.declared.text.ParseRefusal.TheVariants as parse
 use Rattle.scenario_grammar.specs.Spells.{Spells}
 use Rattle.scenario_lang.specs.Lines.{IsSpelt, Parses}
 use Rattle.scenario_check.specs.Checks.{IsPlaced}
-use Rattle.scenario_rules.specs.Reasons.{is_rule_reason}
 use Rattle.scenario_rules.specs.Rules.{place_of}
 use Rattle.gv_top.specs.Verdicts.{HasReason, IsRefusedWithReason}
 

@@ -6,7 +6,7 @@ use Rattle.scenario_tree.specs.declared.tree.Scenario.{Scenario}
 use Rattle.scenario_grammar.specs.declared.place.Place.{Place}
 use Rattle.scenario_grammar.specs.Parsed.{reading}
 use Rattle.scenario_grammar.specs.Printed.{printed}
-use Rattle.scenario_lang.specs.ReasonTexts.{text_of as reason_text}
+use Rattle.scenario_grammar.specs.Reasons.{reason_text}
 use Rattle.scenario_rules.specs.Rules.{place_of}
 use Rattle.wsgi_core.specs.Answers.{Sent}
 use Rattle.wsgi_core.specs.Sessions.{answers}

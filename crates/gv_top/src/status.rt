@@ -4,8 +4,7 @@ ghost use Rattle.gv_top.specs.Verdicts.{HasReason, IsExplained, number_of, line_
 
 use gv_values::{FaultKind, decimal_text, fault_text};
 use hub_engine::End;
-use scenario_grammar::Place;
-use scenario_lang::reason_text;
+use scenario_grammar::{Place, reason_text};
 use std::alloc::{AllocError, Global};
 use wsgi_connection::ConnectionEnd;
 
