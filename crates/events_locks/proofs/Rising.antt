@@ -139,9 +139,9 @@ set_before_told l new sets (Some x) e at lt kept grown before = subst (λ m. IsS
     more k f before_k at_k = elim (cases_lt k l.told) [
       | inl earlier ↦ before k f earlier at_k
       | inr later ↦ (
-        let here : k ≡ l.told = omega arith in
-        let same : e ≡ f = (let at_told = ap (slice_get l.entries) (sym here) ∙ at_k in cc) in
-        subst (λ (x : ℕ × ℕ). x.1 < sets) same lt)
+          let here : k ≡ l.told = omega arith in
+          let same : e ≡ f = (let at_told = ap (slice_get l.entries) (sym here) ∙ at_k in cc) in
+          subst (λ (x : ℕ × ℕ). x.1 < sets) same lt)
     ]
 
 pub entries_kept : (l new : SeenLine) (r : Option ℕ) → IfNone r (new ≡ l) → IfSome r (λ _. new ≡ line l.entries (l.told + 1) l.spare) → new.entries ≡ l.entries

@@ -195,7 +195,9 @@ impl GQueue {
         ensures shut { (result ≡ Err GetRefusal.ShutDown) ↔ ((self.old.shut ≡ true) × (length self.old.items ≤ getters self.old.takers)) }
         ensures not_now { (result ≡ Err GetRefusal.NotNow) ↔ ((self.old.shut ≡ false) × (length self.old.items ≤ getters self.old.takers)) }
     {
-        if self.store.len() <= self.takers.getters() {
+        let items = self.store.len();
+        let getting = self.takers.getters();
+        if items <= getting {
             return Err(if self.shut {
                 GetRefusal::ShutDown
             } else {

@@ -10,23 +10,11 @@ ghost use Rattle.hub_engine.specs.Stands.{goes_to, next_at};
 
 use crate::stand::Stand;
 use body_frames::{Reached, answer_body, begin_body};
-use gv_values::{FaultKind, Outcome, Value};
+use gv_values::{FaultKind, Outcome, Value, kept_outcome};
 use hub_state::{Gone, Hub, Stage};
 use scenario_tree::Items;
 use std::alloc::{AllocError, Global};
 use trace_text::{Line, StopCause};
-
-/// The outcome as it is kept: GreenletExit as a fault becomes the value GreenletExit.
-fn kept(outcome: Outcome) -> Outcome
-    ensures { result ≡ kept outcome }
-{
-    match outcome {
-        Outcome::Fault(FaultKind::GreenletExit) => {
-            Outcome::Value(Value::Fault(FaultKind::GreenletExit))
-        }
-        outcome => outcome,
-    }
-}
 
 /// Why the run stops when main ends like this.
 fn stop_of(outcome: Outcome) -> StopCause
@@ -75,7 +63,7 @@ fn go_on_after_end(
     if hub.is_raw(g) {
         unreachable!();
     }
-    let outcome = kept(outcome);
+    let outcome = kept_outcome(outcome);
     end_greenlet(alloc, hub, g, &outcome)?;
     if g == 0 {
         return Ok(Stand::Over(stop_of(outcome)));

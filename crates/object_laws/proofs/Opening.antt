@@ -128,7 +128,7 @@ leavers_keep_open q item open' = (
   record {
     puts = open'.puts;
     takes =
-      takes_left q.shut (getters (take (told_left item q.told_takers q.takers) (without_entry item q.takers))) (getters (take q.told_takers q.takers)) (length q.takers) (length (without_entry item q.takers)) (length q.items) (getters_left item q.told_takers q.takers) (few_told (told_left item q.told_takers q.takers) (without_entry item q.takers)) open'.takes;
+        takes_left q.shut (getters (take (told_left item q.told_takers q.takers) (without_entry item q.takers))) (getters (take q.told_takers q.takers)) (length q.takers) (length (without_entry item q.takers)) (length q.items) (getters_left item q.told_takers q.takers) (few_told (told_left item q.told_takers q.takers) (without_entry item q.takers)) open'.takes;
   },
   record {
     puts = puts_left q.shut q.size q.items (told_without item q.told_putters (items_put q.putters)) q.told_putters (length q.putters) (length (without_putter item q.putters)) open'.puts (told_without_le item q.told_putters (items_put q.putters)) (putters_left item q);
@@ -147,8 +147,8 @@ put_completed q item v sound open' unshut among =
     let fits : told_without item q.told_putters (items_put q.putters) ≤ free_places (length q.putters) q.size q.items - 1 = subst (λ n. told_without item q.told_putters (items_put q.putters) ≤ n - 1) places left in
     record {
       puts =
-        subst (λ b. told_without item q.told_putters (items_put q.putters) ≤ cond b (length (without_putter item q.putters)) (free_places (length (without_putter item q.putters)) q.size (q.items ++ v ∷ []))) (sym unshut)
-        (put_in q.size q.items v (told_without item q.told_putters (items_put q.putters)) (length q.putters) (length (without_putter item q.putters)) fits (putters_left item q));
+          subst (λ b. told_without item q.told_putters (items_put q.putters) ≤ cond b (length (without_putter item q.putters)) (free_places (length (without_putter item q.putters)) q.size (q.items ++ v ∷ []))) (sym unshut)
+          (put_in q.size q.items v (told_without item q.told_putters (items_put q.putters)) (length q.putters) (length (without_putter item q.putters)) fits (putters_left item q));
       takes = more_items q v open';
     }
 
@@ -159,14 +159,14 @@ getter_goes es t item items differ within fits there (k, n, at, few) =
     let len = length_take es t within in
     elim (cases_lt k t) [
       | inl front ↦ (
-        let at_front : slice_get (items_of (take t es)) k ≡ Some item = ap (λ l. slice_get l k) (take_items t es) ∙ taken_at (items_of es) t k item front (item_at es k (item, n) at) in
-        let fewer = fewer_entries item (take t es) (differ_in_front t es differ) (contains_at (items_of (take t es)) k item at_front) in
-        let a = both.1 in
-        omega arith)
+          let at_front : slice_get (items_of (take t es)) k ≡ Some item = ap (λ l. slice_get l k) (take_items t es) ∙ taken_at (items_of es) t k item front (item_at es k (item, n) at) in
+          let fewer = fewer_entries item (take t es) (differ_in_front t es differ) (contains_at (items_of (take t es)) k item at_front) in
+          let a = both.1 in
+          omega arith)
       | inr behind ↦ (
-        let rise = kind_rise gets es t k behind in
-        let less = getters_left item t es in
-        omega arith)
+          let rise = kind_rise gets es t k behind in
+          let less = getters_left item t es in
+          omega arith)
     ]
 
 get_completed : (q : SeenQueue) (item : ℕ) → IsSound q → IsOpen q → Contains (of_kind gets q.takers) item → IsServed (take_places q) q.takers item → IsOpen (with_next_out (taker_gone item q))
@@ -194,10 +194,10 @@ take_parked : (q : SeenQueue) (e : ℕ × ℕ) (n : ℕ) → IsSound q → IsOpe
 take_parked q e n sound open' = record {
   puts = open'.puts;
   takes = (
-    let m = length-append q.takers (e ∷ []) in
-    let same = ap getters (take_short q.takers q.told_takers e sound.takers_within) in
-    subst (λ k. k ≤ cond q.shut (length (q.takers ++ e ∷ [])) (length q.items)) (sym same)
-    (takes_more q.shut (getters (take q.told_takers q.takers)) (length q.takers) (length (q.takers ++ e ∷ [])) (length q.items) (length q.items) (omega arith) (omega arith) open'.takes));
+      let m = length-append q.takers (e ∷ []) in
+      let same = ap getters (take_short q.takers q.told_takers e sound.takers_within) in
+      subst (λ k. k ≤ cond q.shut (length (q.takers ++ e ∷ [])) (length q.items)) (sym same)
+      (takes_more q.shut (getters (take q.told_takers q.takers)) (length q.takers) (length (q.takers ++ e ∷ [])) (length q.items) (length q.items) (omega arith) (omega arith) open'.takes));
 }
 
 putter_told : (q : SeenQueue) → IsOpen q → q.told_putters < put_places q → IsOpen (record q { told_putters = q.told_putters + 1 })
@@ -224,9 +224,9 @@ pub only_peekers_lose : OnlyPeekersLose
 only_peekers_lose q open' = (
   λ lt. (let fits = open'.puts in omega arith),
   λ item kind some at unserved getter. (
-    let next = getters_next q.takers (q.told_takers - 1) (item, kind) at in
-    let all : getters (take (q.told_takers - 1 + 1) q.takers) ≡ getters (take q.told_takers q.takers) = (let same : q.told_takers - 1 + 1 ≡ q.told_takers = omega arith in ap (λ n. getters (take n q.takers)) same) in
-    let one : ◌≡◌ {A = ℕ} (cond (gets (item, kind)) 1 0) 1 = ap (λ (n : ℕ). cond (eqb n 0) 1 0) getter in
-    let fits = open'.takes in
-    omega arith),
+      let next = getters_next q.takers (q.told_takers - 1) (item, kind) at in
+      let all : getters (take (q.told_takers - 1 + 1) q.takers) ≡ getters (take q.told_takers q.takers) = (let same : q.told_takers - 1 + 1 ≡ q.told_takers = omega arith in ap (λ n. getters (take n q.takers)) same) in
+      let one : ◌≡◌ {A = ℕ} (cond (gets (item, kind)) 1 0) 1 = ap (λ (n : ℕ). cond (eqb n 0) 1 0) getter in
+      let fits = open'.takes in
+      omega arith),
 )

@@ -10,7 +10,7 @@ use std::collections::HashMap;
 use std::marker::Model;
 use waiters::WaitList;
 
-/// Putters in order of waiting, each with its value.
+/// Putters in order of waiting, each with the value that it puts (gevent API reference, `gevent.queue.Queue.put`).
 #[derive(Drop)]
 pub struct Putters {
     list: WaitList,
@@ -28,7 +28,7 @@ impl Model for Putters {
 }
 
 impl Putters {
-    /// Nobody waits.
+    /// Nobody waits; O(1).
     pub fn new(alloc: Global) -> Self
         ensures { result ≡ putting [] 0 0 }
     {
@@ -38,7 +38,7 @@ impl Putters {
         }
     }
 
-    /// Makes room for `n` more; their values take theirs when they come.
+    /// Makes room for `n` more; their values take theirs when they come. O(1) where there is room; otherwise each that waits is moved once.
     pub fn reserve(&mut self, n: usize) -> Result<(), AllocError>
         ensures room { OnOk result (n ≤ self.new.spare) }
         ensures kept { self.new ≡ putting self.old.entries self.old.told self.new.spare }
@@ -48,7 +48,7 @@ impl Putters {
         self.list.reserve(n)
     }
 
-    /// How many wait.
+    /// How many wait; O(1).
     pub fn len(&self) -> u64
         ensures len { result ≡ length self.now.entries }
         ensures differ { Differ (items_put self.now.entries) }
@@ -57,14 +57,14 @@ impl Putters {
         self.list.len()
     }
 
-    /// Whether a putter waits.
+    /// Whether a putter waits; O(1).
     pub fn contains(&self, item: u32) -> bool
         ensures { IsTrue result ↔ Contains (items_put self.now.entries) item }
     {
         self.list.contains(item)
     }
 
-    /// A putter begins to wait, behind all others. Without memory its value comes back.
+    /// A putter begins to wait, behind all others; O(1). Without memory its value comes back, and nothing is changed.
     pub fn park(&mut self, item: u32, value: Value) -> Result<(), Value>
         requires room { 0 < self.old.spare }
         requires absent { Contains (items_put self.old.entries) item → ⊥ }
@@ -81,7 +81,7 @@ impl Putters {
         }
     }
 
-    /// A putter waits no longer, and its value is given.
+    /// A putter waits no longer, and its value is given; O(1).
     pub fn remove(&mut self, item: u32) -> Value
         requires { Contains (items_put self.old.entries) item }
         ensures value { result ≡ value_put item self.old.entries }
@@ -92,7 +92,7 @@ impl Putters {
         value
     }
 
-    /// Tells one more, where fewer than `target` were told and one is left.
+    /// Tells one more, where fewer than `target` were told and one is left; O(1).
     pub fn grow(&mut self, target: u64) -> Option<u32>
         ensures none { (result ≡ None) ↔ (min target (length self.old.entries) ≤ self.old.told) }
         ensures kept { IfNone result (self.new ≡ self.old) }
@@ -102,7 +102,7 @@ impl Putters {
         self.list.grow(target)
     }
 
-    /// Takes its leave back from the last that was told, where more than `target` were.
+    /// Lets the last that was told wait again, where more than `target` were, and gives it; O(1).
     pub fn shrink(&mut self, target: u64) -> Option<u32>
         ensures none { (result ≡ None) ↔ (self.old.told ≤ target) }
         ensures kept { IfNone result (self.new ≡ self.old) }

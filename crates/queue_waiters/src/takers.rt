@@ -55,7 +55,7 @@ fn without_one(n: u64, kind: u64) -> u64
 }
 
 impl Takers {
-    /// Nobody waits.
+    /// Nobody waits; O(1).
     pub fn new(alloc: Global) -> Self
         ensures { result ≡ line [] 0 0 }
     {
@@ -67,7 +67,7 @@ impl Takers {
         }
     }
 
-    /// Makes room for `n` more.
+    /// Makes room for `n` more, so that as many may park without memory. O(1) where there is room; otherwise each that waits is moved once.
     pub fn reserve(&mut self, n: usize) -> Result<(), AllocError>
         ensures room { OnOk result (n ≤ self.new.spare) }
         ensures kept { self.new ≡ line self.old.entries self.old.told self.new.spare }
@@ -87,7 +87,7 @@ impl Takers {
         self.line.reserve(n)
     }
 
-    /// How many wait.
+    /// How many wait; O(1).
     pub fn len(&self) -> u64
         ensures len { result ≡ length self.now.entries }
         ensures differ { Differ (items_of self.now.entries) }
@@ -96,21 +96,21 @@ impl Takers {
         self.line.len()
     }
 
-    /// How many getters wait.
+    /// How many getters wait; O(1).
     pub fn getters(&self) -> u64
         ensures { result ≡ getters self.now.entries }
     {
         self.getters.len() as u64
     }
 
-    /// How many more fit without memory.
+    /// How many more fit without memory; O(1).
     pub fn spare(&self) -> usize
         ensures { result ≡ self.now.spare }
     {
         self.line.spare()
     }
 
-    /// A getter begins to wait, behind all others.
+    /// A getter begins to wait, behind all others; O(1).
     pub fn park_getter(&mut self, item: u32)
         requires room { 0 < self.old.spare }
         requires absent { Contains (items_of self.old.entries) item → ⊥ }
@@ -121,7 +121,7 @@ impl Takers {
         self.getters.push_last(item, GETTER);
     }
 
-    /// A peeker begins to wait, behind all others.
+    /// A peeker begins to wait, behind all others; O(1).
     pub fn park_peeker(&mut self, item: u32)
         requires room { 0 < self.old.spare }
         requires absent { Contains (items_of self.old.entries) item → ⊥ }
@@ -132,7 +132,7 @@ impl Takers {
         self.peekers.push_last(item, PEEKER);
     }
 
-    /// A getter waits no longer.
+    /// A getter waits no longer; O(1).
     pub fn remove_getter(&mut self, item: u32)
         requires { Contains (of_kind gets self.old.entries) item }
         ensures { self.new ≡ left item self.old }
@@ -144,7 +144,7 @@ impl Takers {
         self.getters.remove(item);
     }
 
-    /// A peeker waits no longer.
+    /// A peeker waits no longer; O(1).
     pub fn remove_peeker(&mut self, item: u32)
         requires { Contains (of_kind peeks self.old.entries) item }
         ensures { self.new ≡ left item self.old }
@@ -154,7 +154,7 @@ impl Takers {
         self.peekers.remove(item);
     }
 
-    /// Tells the first that wasn't told, where fewer getters than `places` were told.
+    /// Tells the first that wasn't told, where fewer getters than `places` were told, and gives it; O(1).
     pub fn tell(&mut self, places: u64) -> Option<u32>
         ensures none { IfNone result ((length self.old.entries ≤ self.old.told) ⊎ (places ≤ getters (take self.old.told self.old.entries))) }
         ensures kept { IfNone result (self.new ≡ self.old) }
@@ -176,7 +176,7 @@ impl Takers {
         }
     }
 
-    /// Takes its leave back from the last that was told, where `places` getters or more stand before it.
+    /// Lets the last that was told wait again, where `places` getters or more stand before it, and gives it; O(1).
     pub fn untell(&mut self, places: u64) -> Option<u32>
         ensures none { IfNone result ((self.old.told ≡ 0) ⊎ (getters (take (self.old.told - 1) self.old.entries) < places)) }
         ensures kept { IfNone result (self.new ≡ self.old) }

@@ -5,3 +5,4 @@ mod Laws
 mod Marked
 mod Scan
 mod Standings
+mod Objects

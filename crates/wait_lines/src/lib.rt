@@ -12,7 +12,9 @@ use std::marker::Model;
 
 /// Items in order of waiting, each with a number that it keeps, of which the first `told` were told to go.
 ///
-/// The told ones stand in a list of their own, so that the border moves, and an item leaves, in constant time.
+/// That waiters are served in order of waiting is this project's own rule; gevent leaves the order open (gevent API reference,
+/// `gevent.lock`, `gevent.queue`). The told ones stand in a list of their own, so that the border moves, and an item leaves, in
+/// constant time.
 #[derive(Drop)]
 pub struct WaitLine {
     told: ItemList,
@@ -39,7 +41,7 @@ impl Model for WaitLine {
 }
 
 impl WaitLine {
-    /// A line in which nobody waits.
+    /// A line in which nobody waits; O(1).
     pub fn new(alloc: Global) -> Self
         ensures { result ≡ line [] 0 0 }
     {
@@ -50,7 +52,8 @@ impl WaitLine {
         }
     }
 
-    /// Makes room for `n` more items, so that as many calls of `park` take no memory.
+    /// Makes room for `n` more items, so that as many calls of `park` take no memory. O(1) where there is room; otherwise each item that
+    /// waits is moved once. After an error the line is as before.
     pub fn reserve(&mut self, n: usize) -> Result<(), AllocError>
         ensures room { OnOk result (n ≤ self.new.spare) }
         ensures kept { self.new ≡ line self.old.entries self.old.told self.new.spare }
@@ -74,7 +77,7 @@ impl WaitLine {
         Ok(())
     }
 
-    /// How many items wait. No item waits twice, and no more were told than wait.
+    /// How many items wait; O(1). No item waits twice, and no more were told than wait.
     pub fn len(&self) -> u64
         ensures len { result ≡ length self.now.entries }
         ensures differ { Differ (items_of self.now.entries) }
@@ -95,21 +98,21 @@ impl WaitLine {
         }
     }
 
-    /// How many more items fit without memory.
+    /// How many more items fit without memory; O(1).
     pub fn spare(&self) -> usize
         ensures { result ≡ self.now.spare }
     {
         self.limit - (self.told.len() + self.rest.len())
     }
 
-    /// How many of them were told.
+    /// How many of them were told; O(1).
     pub fn told(&self) -> u64
         ensures { result ≡ self.now.told }
     {
         self.told.len() as u64
     }
 
-    /// An item begins to wait, behind all others.
+    /// An item begins to wait, behind all others; O(1).
     pub fn park(&mut self, item: u32, number: u64)
         requires room { 0 < self.old.spare }
         requires absent { Contains (items_of self.old.entries) item → ⊥ }
@@ -118,7 +121,7 @@ impl WaitLine {
         self.rest.push_last(item, number);
     }
 
-    /// An item waits no longer. The others close up: where it was told, one less is told afterwards.
+    /// An item waits no longer; O(1). The others close up: where it was told, one less is told afterwards.
     pub fn remove(&mut self, item: u32)
         requires { Contains (items_of self.old.entries) item }
         ensures { self.new ≡ left item self.old }
@@ -130,21 +133,21 @@ impl WaitLine {
         }
     }
 
-    /// The first item that wasn't told, with its number.
+    /// The first item that wasn't told, with its number; O(1).
     pub fn first_untold(&self) -> Option<(u32, u64)>
         ensures { result ≡ slice_get self.now.entries self.now.told }
     {
         self.rest.first()
     }
 
-    /// The last item that was told, with its number.
+    /// The last item that was told, with its number; O(1).
     pub fn last_told(&self) -> Option<(u32, u64)>
         ensures { result ≡ slice_get (take self.now.told self.now.entries) (self.now.told - 1) }
     {
         self.told.last()
     }
 
-    /// Tells the first item that wasn't told.
+    /// Tells the first item that wasn't told, and gives it; O(1).
     pub fn tell(&mut self) -> Option<u32>
         ensures none { (result ≡ None) ↔ (length self.old.entries ≤ self.old.told) }
         ensures kept { IfNone result (self.new ≡ self.old) }
@@ -161,7 +164,7 @@ impl WaitLine {
         }
     }
 
-    /// Takes its leave back from the last item that was told.
+    /// Lets the last item that was told wait again, and gives it; O(1).
     pub fn untell(&mut self) -> Option<u32>
         ensures none { (result ≡ None) ↔ (self.old.told ≡ 0) }
         ensures kept { IfNone result (self.new ≡ self.old) }
@@ -178,7 +181,7 @@ impl WaitLine {
         }
     }
 
-    /// How many stand before an item; a walk past these.
+    /// How many stand before an item; a walk past these, since no places are counted.
     pub fn rank_of(&self, item: u32) -> u64
         requires { Contains (items_of self.now.entries) item }
         ensures { slice_get (items_of self.now.entries) result ≡ Some item }

@@ -1,1 +1,2 @@
 mod Below
+pub mod Steps
