@@ -5,12 +5,11 @@ ghost use Rattle.body_frames.specs.Standings.{reached_of};
 ghost use Rattle.machine.specs.Landing.{Landing, after_end, starts, answered, lands};
 ghost use Rattle.machine.specs.Ends.{outcome_of_leaving, leaving_of, stop_of, ended};
 ghost use Rattle.machine.specs.Greenlets.{greenlet};
-ghost use Rattle.gv_values.specs.Ends.{kept};
 ghost use Rattle.hub_engine.specs.Stands.{goes_to, next_at};
 
 use crate::stand::Stand;
 use body_frames::{Reached, answer_body, begin_body};
-use gv_values::{FaultKind, Outcome, Value, kept_outcome};
+use gv_values::{Outcome, Value, kept_outcome};
 use hub_state::{Gone, Hub, Stage};
 use scenario_tree::Items;
 use std::alloc::{AllocError, Global};
