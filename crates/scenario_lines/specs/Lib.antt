@@ -2,3 +2,4 @@ pub mod Reads
 pub mod Kinds
 pub mod Fronts
 pub mod Numbers
+pub mod Nothing

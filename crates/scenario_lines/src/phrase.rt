@@ -1,8 +1,9 @@
 //! Reading what a line says.
-ghost use Rattle.std.specs.Prelude.{◌≡◌, if◌then◌else◌};
-ghost use Rattle.scenario_grammar.specs.Reading.{after_at, all_at, binding_at, class_at, class_of, given_at, giving_at, immediate_at, name_at, now_at, phrase_by, phrase_of, queue_of, silent_at, size_at, unmarked_at, word_at, is_given};
+ghost use Rattle.std.specs.Prelude.{◌≡◌, Some, if◌then◌else◌};
+ghost use Rattle.scenario_grammar.specs.Reading.{◌<$>◌, number_at, after_at, all_at, binding_at, class_at, class_of, given_at, giving_at, immediate_at, name_at, now_at, phrase_by, phrase_of, queue_of, silent_at, size_at, unmarked_at, word_at, is_given};
 ghost use Rattle.scenario_lines.specs.Reads.{IsBoxed, Reads, ReadsWhole};
 ghost use Rattle.scenario_lines.specs.Kinds.{kind_by};
+ghost use Rattle.scenario_lines.specs.Nothing.{TakesNone};
 
 use crate::cursor::{Cursor, MOST_MS};
 use crate::expression::read_expression;
@@ -107,16 +108,38 @@ fn queue_kind(cursor: &mut Cursor<'_>) -> Result<QueueKind, LineRefusal>
 }
 
 /// The size of a queue, or `none`.
+#[tactic(auto, using(crate::proofs::Unless::size_other))]
 fn size(cursor: &mut Cursor<'_>) -> Result<Option<u64>, LineRefusal>
     ensures { Reads (size_at cursor.old) result cursor.new }
+{
+    if takes_none(cursor) {
+        return Ok(None);
+    }
+    some_number(cursor, 1, 1_000_000)
+}
+
+/// Takes `none` where it stands there, and tells whether it does.
+fn takes_none(cursor: &mut Cursor<'_>) -> bool
+    ensures { TakesNone cursor.old result cursor.new }
 {
     match cursor.rest {
         [Token::Fixed(Keyword::Nothing), rest @ ..] => {
             cursor.rest = rest;
-            Ok(None)
+            true
         }
-        _ => Ok(Some(cursor.number(1, 1_000_000)?)),
+        _ => false,
     }
+}
+
+/// A number of this range.
+fn some_number(
+    cursor: &mut Cursor<'_>,
+    least: u64,
+    greatest: u64,
+) -> Result<Option<u64>, LineRefusal>
+    ensures { Reads ((Some <$> number_at least greatest) cursor.old) result cursor.new }
+{
+    Ok(Some(cursor.number(least, greatest)?))
 }
 
 fn class(cursor: &mut Cursor<'_>) -> Result<Class, LineRefusal>
@@ -163,16 +186,14 @@ fn binding(cursor: &mut Cursor<'_>) -> Result<Option<Name>, LineRefusal>
 }
 
 /// The time of a timeout block, or `none`.
+#[tactic(auto, using(crate::proofs::Unless::after_other))]
 fn after(cursor: &mut Cursor<'_>) -> Result<Option<u64>, LineRefusal>
     ensures { Reads (after_at cursor.old) result cursor.new }
 {
-    match cursor.rest {
-        [Token::Fixed(Keyword::Nothing), rest @ ..] => {
-            cursor.rest = rest;
-            Ok(None)
-        }
-        _ => Ok(Some(cursor.number(0, MOST_MS)?)),
+    if takes_none(cursor) {
+        return Ok(None);
     }
+    some_number(cursor, 0, MOST_MS)
 }
 
 fn silent(cursor: &mut Cursor<'_>) -> Result<bool, LineRefusal>
