@@ -1,8 +1,9 @@
 //! The tree that the lines so far begin.
-ghost use Rattle.std.specs.Prelude.{◌≡◌, [], ◌∷◌, ◌++◌, IfOk, OnOk, ◌<◌, length, None, Ok};
+ghost use Rattle.std.specs.Prelude.{◌≡◌, [], ◌∷◌, ◌++◌, IfOk, OnOk, ◌<◌, length, None, Ok, nat_le};
 ghost use Rattle.scenario_grammar.specs.Building.{step, opened, added, changed, closed_by, ended, else_of, except_by, finally_by, caught, at};
 ghost use Rattle.std.specs.List.{list_any};
 ghost use Rattle.std.specs.Option.{option_map};
+ghost use Rattle.scenario_grammar.specs.Blocks.{most_levels};
 ghost use Rattle.scenario_grammar.specs.Parsed.{has_objects, is_begun, nothing_yet, standing};
 ghost use Rattle.scenario_grammar.specs.Places.{misplaced};
 ghost use Rattle.scenario_grammar.specs.Spells.{is_main};
@@ -81,17 +82,23 @@ impl Builder {
     }
 
     /// Why a line of this role may not stand next, if it may not.
-    #[tactic(auto, using(crate::proofs::Standings::misplaced_is))]
     pub(crate) fn misplaced(&self, line_role: Role) -> Option<TextReason>
         ensures { result ≡ misplaced (standing (building self.now)) (as_role line_role) }
     {
         let before = Standing {
             any_line: self.has_line(),
             has_begun: self.has_begun(),
-            is_full: self.blocks.len() >= MOST_LEVELS,
+            is_full: self.is_full(),
             innermost: self.innermost(),
         };
         why_misplaced(before, line_role)
+    }
+
+    /// Whether so many blocks are open as may be.
+    fn is_full(&self) -> bool
+        ensures { result ≡ nat_le most_levels (length (standing (building self.now)).open_blocks) }
+    {
+        self.blocks.len() >= MOST_LEVELS
     }
 
     /// Whether a line was taken.
