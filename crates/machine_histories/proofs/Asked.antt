@@ -37,7 +37,7 @@ use Rattle.machine.specs.Objects.{with_slot_taken, is_left, is_shut, item_of, na
 use Rattle.machine.specs.Waits.{Performed, add_member, comes, completes, drawn, draws, gathered, made_member, map_ends, map_goes_on, maps, nothing, offered, outcome_of_greenlet, parked, peeks_item, posted, puts_item, raises, takes_item, until_of, waits}
 use Rattle.machine_soundness.specs.Going.{has_no_wait, is_plain, IsKept}
 use Rattle.machine_soundness.specs.Laws.{is_wake_of}
-use Rattle.machine_soundness.proofs.Lists.{all-end, both, equal, left, right, length-set}
+use Rattle.machine_soundness.proofs.Lists.{all-end, both, equal, left, right}
 use Rattle.machine_soundness.proofs.Greenlets.{host-plain, plain-more, plain-raw}
 use Rattle.machine_soundness.proofs.Landings.{going-free}
 use Rattle.machine_soundness.proofs.Requests.{completes-fine, item-plain, kept-parked, moves-change, moves-member, moves-spawned, offered-fine, own-host, taken-plain}

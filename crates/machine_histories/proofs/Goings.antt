@@ -15,7 +15,6 @@ use Rattle.machine.specs.declared.state.Object.{Object}
 use Rattle.machine.specs.declared.state.Phase.{Phase}
 use Rattle.machine.specs.State.{State, say}
 use Rattle.machine.specs.Holds.{holds, phase_of}
-use Rattle.std.proofs.lemmas.List.{length-map}
 use Rattle.machine.specs.Expressions.{function_number}
 use Rattle.machine.specs.TraceLaws.{is_of, is_some_number, is_end_of, is_park, throws_at_parked}
 use Rattle.machine.specs.Landing.{Next}
@@ -29,7 +28,7 @@ use Rattle.machine.specs.Soundness.{Claim, claim_of, is_under_way, same_claim}
 use Rattle.machine.specs.Objects.{object_at, with_object}
 use Rattle.machine_soundness.specs.Going.{has_no_wait, is_plain, IsKept}
 use Rattle.machine_soundness.specs.Laws.{is_wake_of}
-use Rattle.machine_soundness.proofs.Lists.{length-set, left, right, both, all-end, all-get, all-imply, all-filter, all-of, all-set, equal, unequal}
+use Rattle.machine_soundness.proofs.Lists.{left, right, both, all-end, all-get, all-imply, all-filter, all-of, all-set, equal, unequal}
 use Rattle.machine_soundness.proofs.Greenlets.{phase-more, phase-other, live-more}
 use Rattle.machine_soundness.proofs.Landings.{going-free}
 use Rattle.machine_soundness.proofs.States.{IsHost, Moves, all-settle, going, plain-phased, moves-say, moves-settle, moves-drop, moves-made, moves-timeout}

@@ -14,7 +14,7 @@ use Rattle.machine.specs.declared.state.Offer.{Offer}
 use Rattle.machine.specs.State.{State}
 use Rattle.machine.specs.Deliveries.{since_of_wake}
 use Rattle.machine.specs.Holds.{holds, is_offer_of, is_taken}
-use Rattle.machine.specs.Items.{add_item, is_wait_of}
+use Rattle.machine.specs.Items.{is_wait_of}
 use Rattle.machine.specs.Objects.{no_object, with_flag, with_item, with_item_taken, with_member, with_offer, with_offer_taken, with_owner, with_shut, with_slot_freed, with_slot_taken, with_unit_taken, without_member, without_offer}
 use Rattle.machine.specs.Questions.{is_numbered}
 use Rattle.machine.specs.Run.{object_of}
@@ -25,7 +25,7 @@ use Rattle.machine_soundness.specs.Laws.{is_late_of, is_wake_of}
 use Rattle.machine_soundness.proofs.Lists.{all-end, all-filter, all-get, all-imply, both, equal, left, right}
 use Rattle.machine_soundness.proofs.States.{all-settle}
 use Rattle.machine_histories.specs.Offers.{awaits_taking, is_offered_on, offers_at, offers_of}
-use Rattle.machine_histories.proofs.Ties.{any-end, any-filter, any-imply, any-kept}
+use Rattle.machine_histories.proofs.Ties.{any-end, any-filter, any-kept}
 
 -- ---- what is so of offers
 
@@ -252,13 +252,13 @@ offers-first ds next =
 
 -- ---- items go
 
+twins-left : (items now : List Item) (k : ℕ) → ((p : Item → Bool) → list_all p items ≡ true → list_all p now ≡ true) → HasNoLate k items ⊎ HasNoOffer k items → HasNoLate k now ⊎ HasNoOffer k now
+twins-left items now k f (inl e) = inl (f (λ (i : Item). not (is_late_of k i.delivery)) e)
+twins-left items now k f (inr e) = inr (f (λ (i : Item). not (is_offering k i.delivery)) e)
+
 pub offers-items : (objects : List Object) (items now : List Item) (next : ℕ) → ((p : Item → Bool) → list_all p items ≡ true → list_all p now ≡ true) →
     ((o n : ℕ) → list_any (awaits_taking o n) items ≡ true → list_any (awaits_taking o n) now ≡ true) → AreKeptOffers objects items next → AreKeptOffers objects now next
-offers-items objects items now next f g m = record { waited = λ o n e. g o n (m.waited o n e); rising = m.rising; twins = λ k. by k (m.twins k) }
-  where
-    by : (k : ℕ) → HasNoLate k items ⊎ HasNoOffer k items → HasNoLate k now ⊎ HasNoOffer k now
-    by k (inl e) = inl (f (λ (i : Item). not (is_late_of k i.delivery)) e)
-    by k (inr e) = inr (f (λ (i : Item). not (is_offering k i.delivery)) e)
+offers-items objects items now next f g m = record { waited = λ o n e. g o n (m.waited o n e); rising = m.rising; twins = λ k. twins-left items now k f (m.twins k) }
 
 awaits-offered : (o n : ℕ) (i : Item) → awaits_taking o n i ≡ true → is_offered_on o i.delivery ≡ true
 awaits-offered o n i e = right (i.since == n) (is_offered_on o i.delivery) (left (i.since == n && is_offered_on o i.delivery) (not (is_numbered i)) e)
@@ -309,13 +309,13 @@ waits-spared g o (Delivery.Timeout k n deadline) e z = refl
 waits-spared g o (Delivery.Kill k f) e z = refl
 waits-spared g o (Delivery.Link n k kind f) e z = refl
 
+itself : (n : ℕ) → (n == n) ≡ true
+itself n = grind (arith, nat_tests)
+
 -- who has a Late offers nothing
 pub late-offerless : (g deadline k n : ℕ) (i : Item) (objects : List Object) (items : List Item) (next : ℕ) → Delivery.Late g deadline k ≡ i.delivery → slice_get items n ≡ Some i → AreKeptOffers objects items next → HasNoOffer g items
 late-offerless g deadline k n i objects items next e there m = by (m.twins g)
   where
-    itself : (a : ℕ) → (a == a) ≡ true
-    itself a = grind (arith, nat_tests)
-
     by : HasNoLate g items ⊎ HasNoOffer g items → HasNoOffer g items
     by (inl h) =
         let free = all-get (λ (j : Item). not (is_late_of g j.delivery)) items n i there h in
@@ -388,9 +388,6 @@ or-true : (a : Bool) → (a || true) ≡ true
 or-true true = refl
 or-true false = refl
 
-itself : (n : ℕ) → (n == n) ≡ true
-itself n = grind (arith, nat_tests)
-
 -- what a channel that takes the offer comes to have
 pub offered-offers : (v : Value) (since : ℕ) (y : Object) → (offers_of (with_offer v since y) ≡ offers_of y) ⊎ (offers_of (with_offer v since y) ≡ offers_of y ++ record { value = v; since = since } ∷ [])
 offered-offers v since (Object.Channel offers) = inr refl
@@ -399,8 +396,7 @@ offered-offers v since y = inl refl
 pub offers-offered : (g o : ℕ) (v : Value) (objects : List Object) (items : List Item) (next : ℕ) → HasNoLate g items → AreKeptOffers objects items next →
     AreKeptOffers (slice_set objects o (with_offer v next (unwrap_or (slice_get objects o) no_object))) (items ++ record { since = next; delivery = Delivery.Wake g (Waiting.Offered o); ready = None } ∷ []) (next + 1)
 offers-offered g o v objects items next free m =
-    let more = offers-add (Delivery.Wake g (Waiting.Offered o)) objects items next free m in
-    record { waited = λ p n e. (by p (at-set objects o x p)).0 n e; rising = λ p. (by p (at-set objects o x p)).1; twins = more.twins }
+    record { waited = λ p n e. (by p (at-set objects o x p)).0 n e; rising = λ p. (by p (at-set objects o x p)).1; twins = old.twins }
   where
     x : Object
     x = with_offer v next (unwrap_or (slice_get objects o) no_object)
@@ -528,33 +524,25 @@ wake-since g (i ∷ items) h = by i.delivery refl (left _ (are_single items) h) 
         subst (λ (o : Option ℕ). list_all (has_since g o) (i ∷ items) ≡ true) (sym same)
         (both (has_since g (since_of_wake g items) i) _ (others (since_of_wake g items) (ap (λ x. not (is_wake_of g x)) e ∙ ap not f)) rest)
 
+    reads : (d : Delivery) → i.delivery ≡ d → (o : Option ℕ) → since_of_wake g (record { since = i.since; delivery = d; ready = i.ready } ∷ items) ≡ o → since_of_wake g (i ∷ items) ≡ o
+    reads d e o z = subst (λ (x : Delivery). since_of_wake g (record { since = i.since; delivery = x; ready = i.ready } ∷ items) ≡ o) (sym e) z
+
     wake : (k : ℕ) (w : Waiting) → i.delivery ≡ Delivery.Wake k w → (b : Bool) → (g == k) ≡ b → is_unclaimed (Some (Claim.WakeOf k)) items ≡ true → list_all (has_since g (since_of_wake g items)) items ≡ true →
         list_all (has_since g (since_of_wake g (i ∷ items))) (i ∷ items) ≡ true
     wake k w e true z u rest =
-        let found : since_of_wake g (i ∷ items) ≡ Some i.since = told e ∙ ap (λ (b : Bool). if b then Some i.since else since_of_wake g items) z in
-        subst (λ (o : Option ℕ). list_all (has_since g o) (i ∷ items) ≡ true) (sym found)
+        subst (λ (o : Option ℕ). list_all (has_since g o) (i ∷ items) ≡ true)
+        (sym (reads (Delivery.Wake k w) e (Some i.since) (ap (λ (b : Bool). if b then Some i.since else since_of_wake g items) z)))
         (both (has_since g (Some i.since) i) _ (second (not (is_wake_of g i.delivery)) (i.since == i.since) (itself i.since)) (unsaid k i.since z u))
-      where
-        told : i.delivery ≡ Delivery.Wake k w → since_of_wake g (i ∷ items) ≡ (if g == k then Some i.since else since_of_wake g items)
-        told e = first i.delivery e
-          where
-            first : (d : Delivery) → d ≡ Delivery.Wake k w → since_of_wake g (record { since = i.since; delivery = d; ready = i.ready } ∷ items) ≡ (if g == k then Some i.since else since_of_wake g items)
-            first d e = subst (λ (x : Delivery). since_of_wake g (record { since = i.since; delivery = x; ready = i.ready } ∷ items) ≡ (if g == k then Some i.since else since_of_wake g items)) (sym e) refl
     wake k w e false z u rest =
-        other (Delivery.Wake k w) e
-        (subst (λ (x : Delivery). since_of_wake g (record { since = i.since; delivery = x; ready = i.ready } ∷ items) ≡ since_of_wake g items) (sym e)
-        (ap (λ (b : Bool). if b then Some i.since else since_of_wake g items) z)) z rest
-
-    same : (d : Delivery) → i.delivery ≡ d → since_of_wake g (record { since = i.since; delivery = d; ready = i.ready } ∷ items) ≡ since_of_wake g items → since_of_wake g (i ∷ items) ≡ since_of_wake g items
-    same d e z = subst (λ (x : Delivery). since_of_wake g (record { since = i.since; delivery = x; ready = i.ready } ∷ items) ≡ since_of_wake g items) (sym e) z
+        other (Delivery.Wake k w) e (reads (Delivery.Wake k w) e (since_of_wake g items) (ap (λ (b : Bool). if b then Some i.since else since_of_wake g items) z)) z rest
 
     by : (d : Delivery) → i.delivery ≡ d → is_unclaimed (claim_of i.delivery) items ≡ true → list_all (has_since g (since_of_wake g items)) items ≡ true → list_all (has_since g (since_of_wake g (i ∷ items))) (i ∷ items) ≡ true
     by (Delivery.Wake k w) e u rest = wake k w e (g == k) refl (subst (λ (x : Delivery). is_unclaimed (claim_of x) items ≡ true) e u) rest
-    by (Delivery.Start k deadline) e u rest = other (Delivery.Start k deadline) e (same (Delivery.Start k deadline) e refl) refl rest
-    by (Delivery.Late k deadline n) e u rest = other (Delivery.Late k deadline n) e (same (Delivery.Late k deadline n) e refl) refl rest
-    by (Delivery.Timeout k n deadline) e u rest = other (Delivery.Timeout k n deadline) e (same (Delivery.Timeout k n deadline) e refl) refl rest
-    by (Delivery.Kill k f) e u rest = other (Delivery.Kill k f) e (same (Delivery.Kill k f) e refl) refl rest
-    by (Delivery.Link n k kind f) e u rest = other (Delivery.Link n k kind f) e (same (Delivery.Link n k kind f) e refl) refl rest
+    by (Delivery.Start k deadline) e u rest = other (Delivery.Start k deadline) e (reads (Delivery.Start k deadline) e (since_of_wake g items) refl) refl rest
+    by (Delivery.Late k deadline n) e u rest = other (Delivery.Late k deadline n) e (reads (Delivery.Late k deadline n) e (since_of_wake g items) refl) refl rest
+    by (Delivery.Timeout k n deadline) e u rest = other (Delivery.Timeout k n deadline) e (reads (Delivery.Timeout k n deadline) e (since_of_wake g items) refl) refl rest
+    by (Delivery.Kill k f) e u rest = other (Delivery.Kill k f) e (reads (Delivery.Kill k f) e (since_of_wake g items) refl) refl rest
+    by (Delivery.Link n k kind f) e u rest = other (Delivery.Link n k kind f) e (reads (Delivery.Link n k kind f) e (since_of_wake g items) refl) refl rest
 
 -- no Wake of the greenlet has the since of an offer that is left
 left-over : (n m : ℕ) (fs : List Offer) → list_any (is_offer_of m) (filter (λ (f : Offer). not (is_offer_of n f)) fs) ≡ true → (m == n) ≡ false
@@ -580,7 +568,6 @@ pub offers-broken_off : (g since : ℕ) (objects : List Object) (items : List It
     AreKeptOffers (map (without_offer since) objects) (filter (λ (i : Item). not (is_wait_of g i.delivery)) items) next
 offers-broken_off g since objects items next single found m =
     let fewer = offers-gone since objects items next m in
-    let twins = offers-drop_twins g objects items next m in
     record {
       waited = λ o n e.
           let rest = subst (λ fs. list_any (is_offer_of n) fs ≡ true) (at-gone since objects o) e in
@@ -588,17 +575,9 @@ offers-broken_off g since objects items next single found m =
           (subst (λ (x : Option ℕ). list_all (has_since g x) items ≡ true) found (wake-since g items single))
           (λ i z y. spared o n i (left-over since n (offers_at o objects) rest) z y) (fewer.waited o n e);
       rising = fewer.rising;
-      twins = twins;
+      twins = λ k. twins-left items (filter (λ (i : Item). not (is_wait_of g i.delivery)) items) k (λ p e. all-filter _ p p items (λ i z y. y) e) (m.twins k);
     }
   where
-    offers-drop_twins : (g : ℕ) (objects : List Object) (items : List Item) (next : ℕ) → AreKeptOffers objects items next → (k : ℕ) →
-        HasNoLate k (filter (λ (i : Item). not (is_wait_of g i.delivery)) items) ⊎ HasNoOffer k (filter (λ (i : Item). not (is_wait_of g i.delivery)) items)
-    offers-drop_twins g objects items next m k = of (m.twins k)
-      where
-        of : HasNoLate k items ⊎ HasNoOffer k items → HasNoLate k (filter (λ (i : Item). not (is_wait_of g i.delivery)) items) ⊎ HasNoOffer k (filter (λ (i : Item). not (is_wait_of g i.delivery)) items)
-        of (inl e) = inl (all-filter _ _ _ items (λ i z y. y) e)
-        of (inr e) = inr (all-filter _ _ _ items (λ i z y. y) e)
-
     by : (d : Delivery) (o : ℕ) → is_offered_on o d ≡ true → (c : Bool) → c ≡ false → (not (is_wake_of g d) || c) ≡ true → not (is_wait_of g d) ≡ true
     by d o e true z y = absurd (cc z)
     by (Delivery.Wake k (Waiting.Offered p)) o e false z y = or (not (g == k)) y

@@ -4,7 +4,6 @@ use Rattle.std.proofs.lemmas.Bool.Decides.{nat_tests}
 use Rattle.std.proofs.lemmas.List.Sums.{sum_by-cons}
 use Rattle.std.specs.Prelude.{not, ◌==◌, ◌&&◌, ◌||◌, slice_get, slice_set, Option, Some, None, if◌then◌else◌, is_none, nat_le, find, count_by, unwrap_or, Contains}
 use Rattle.std.specs.List.{list_any, list_all}
-use Rattle.std.proofs.lemmas.List.{length-map}
 use Rattle.gv_values.specs.declared.value.Value.{Value}
 use Rattle.gv_values.specs.declared.value.Outcome.{Outcome}
 use Rattle.gv_values.specs.declared.value.Whom.{Whom}
