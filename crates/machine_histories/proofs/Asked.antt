@@ -175,11 +175,12 @@ parks-rests b s k m = record { kept = k; story = m.story; tells = m.tells; ties 
 own-goes : (b : History) (g h : ℕ) (s : State) → is_plain s.greenlets g ≡ true → Goes b g h s → Goes b g g s
 own-goes b g h s p m = subst (λ z. Goes b g z s) (sym m.moves.same ∙ host-plain (length s.greenlets) s.greenlets g (plain-raw s.greenlets g p)) m
 
--- an offer is no wait with a deadline
+-- it waits until what it offered is taken; such a wait has no deadline
 abbrev pub is_offer : Waiting → Bool
 is_offer (Waiting.Offered o) = true
 is_offer w = false
 
+-- where another wait parks, nothing is offered
 offerless-wake : (g : ℕ) (w : Waiting) (s : State) → is_offer w ≡ false → has_no_wait g s.items ≡ true → HasNoOffer g (drawn w (add_item (Delivery.Wake g w) s)).items
 offerless-wake g w s e free = by (draws w)
   where

@@ -108,7 +108,7 @@ rise-lower low high next (f ∷ fs) h k =
 rise-on : (low since next : ℕ) (fs : List Offer) → nat_le low since ≡ true → rise (since + 1) next fs ≡ true → rise low next fs ≡ true
 rise-on low since next fs h k = let lower : nat_le low (since + 1) ≡ true = grind (arith, nat_tests, h) in rise-lower low (since + 1) next fs lower k
 
-pub fewer-taken : (old : List Offer) → IsFewer old (drop 1 old)
+fewer-taken : (old : List Offer) → IsFewer old (drop 1 old)
 fewer-taken [] = fewer-same [] [] refl
 fewer-taken (f ∷ fs) = record { some = λ n h. or (is_offer_of n f) (list_any (is_offer_of n) fs) h; rises = λ next h. rise-on 0 f.since next fs (left _ (rise (f.since + 1) next fs) h) (right (nat_le 0 f.since) _ h) }
   where
@@ -127,7 +127,7 @@ rise-filter kept low next (f ∷ fs) h = by (kept f) (rise-filter kept (f.since 
     by true e = both (nat_le low f.since) _ own e
     by false e = rise-on low f.since next (filter kept fs) own e
 
-pub fewer-filter : (kept : Offer → Bool) (old : List Offer) → IsFewer old (filter kept old)
+fewer-filter : (kept : Offer → Bool) (old : List Offer) → IsFewer old (filter kept old)
 fewer-filter kept old = record { some = λ n h. any-filter kept (is_offer_of n) old h; rises = λ next h. rise-filter kept 0 next old h }
 
 -- another object in the place of one
@@ -143,7 +143,7 @@ at-set (y ∷ ys) (suc o) x (suc p) = by (at-set ys o x p)
     by (inl e) = inl e
     by (inr e) = inr (e.0, ap suc e.1)
 
-pub offers-objects : (objects now : List Object) (items : List Item) (next : ℕ) → ((o : ℕ) → IsFewer (offers_at o objects) (offers_at o now)) → AreKeptOffers objects items next → AreKeptOffers now items next
+offers-objects : (objects now : List Object) (items : List Item) (next : ℕ) → ((o : ℕ) → IsFewer (offers_at o objects) (offers_at o now)) → AreKeptOffers objects items next → AreKeptOffers now items next
 offers-objects objects now items next f m = record { waited = λ o n e. m.waited o n ((f o).some n e); rising = λ o. (f o).rises next (m.rising o); twins = m.twins }
 
 pub offers-set : (objects : List Object) (o : ℕ) (x : Object) (items : List Item) (next : ℕ) → IsFewer (offers_at o objects) (offers_of x) → AreKeptOffers objects items next → AreKeptOffers (slice_set objects o x) items next
@@ -389,7 +389,7 @@ or-true true = refl
 or-true false = refl
 
 -- what a channel that takes the offer comes to have
-pub offered-offers : (v : Value) (since : ℕ) (y : Object) → (offers_of (with_offer v since y) ≡ offers_of y) ⊎ (offers_of (with_offer v since y) ≡ offers_of y ++ record { value = v; since = since } ∷ [])
+offered-offers : (v : Value) (since : ℕ) (y : Object) → (offers_of (with_offer v since y) ≡ offers_of y) ⊎ (offers_of (with_offer v since y) ≡ offers_of y ++ record { value = v; since = since } ∷ [])
 offered-offers v since (Object.Channel offers) = inr refl
 offered-offers v since y = inl refl
 
