@@ -1,7 +1,6 @@
 pub mod Histories
 pub mod Ties
 pub mod Settled
-pub mod Offers
 pub mod Goings
 pub mod Placed
 pub mod Landed

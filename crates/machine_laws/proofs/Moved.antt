@@ -58,9 +58,10 @@ use Rattle.machine_texts.specs.Kinds.{kind_of}
 use Rattle.machine_texts.proofs.KindLemmas.{acquires-fits, flag-kept, result-kept, shut-kept}
 use Rattle.machine_histories.proofs.Histories.{History, tells-line, with_line}
 use Rattle.machine_histories.proofs.Settled.{settled-settle}
-use Rattle.machine_histories.specs.Offers.{offers_at, offers_of}
-use Rattle.machine_histories.proofs.Offers.{fewer-none, flag-offers, offers-add, shut-offers}
-use Rattle.machine_histories.proofs.Ties.{IsOwn, Ties, any-end, any-settle, phase-here, free-wakeless, is_over, is_begun, lawful-own, live-not-over, ties-add, ties-greenlets, ties-live, ties-loose, ties-own, ties-say, ties-settle}
+use Rattle.machine_offers.specs.Offers.{offers_at, offers_of}
+use Rattle.machine_offers.proofs.Offers.{fewer-none, flag-offers, offers-add, shut-offers}
+use Rattle.machine_offers.proofs.Anys.{any-end}
+use Rattle.machine_histories.proofs.Ties.{IsOwn, Ties, any-settle, phase-here, free-wakeless, is_over, is_begun, lawful-own, live-not-over, ties-add, ties-greenlets, ties-live, ties-loose, ties-own, ties-say, ties-settle}
 use Rattle.machine_histories.proofs.Goings.{AreHeldBy, At, Ends, Goes, Loose, greenlet-fit, held-by, held-ended, held-phases, is_held_by, count-end, goes-add, goes-drop, goes-made, goes-object, goes-put, goes-say, goes-settle, hosted-settle, lawful-ended, main-ended, parked-ended, rests-settle, sides-add, sides-ended, sides-settle, ties-ended, known-add, known-set}
 use Rattle.machine_texts.specs.Texts.{fits_phase, fits_request, fits_rest, is_among, is_fit_greenlet, is_raw_function, withins, withins_at, HasMain, fits_link, is_function, is_wanted}
 use Rattle.machine_texts.proofs.Bodies.{IsFitDid, IsFitUnwound, body_move-fit, unwind-fit}

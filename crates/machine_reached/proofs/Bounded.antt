@@ -40,7 +40,7 @@ use Rattle.machine_laws.specs.Reached.{Reached, state_of}
 use Rattle.machine_texts.specs.Texts.{IsFitText, fits_phase, fits_rest, fits_todo, is_among, is_fit_greenlet, is_held, is_raw_function, left_in, withins, withins_at}
 use Rattle.machine_histories.proofs.Histories.{History, at_first}
 use Rattle.machine_histories.proofs.Settled.{count-same}
-use Rattle.machine_histories.proofs.Ties.{any-imply}
+use Rattle.machine_offers.proofs.Anys.{any-imply}
 use Rattle.machine_histories.proofs.Landed.{cons-distinct, goes-frame}
 use Rattle.machine_histories.proofs.Placed.{any-both, frame-fits}
 use Rattle.machine_texts.proofs.Bodies.{IsFitDid, body_move-fit}

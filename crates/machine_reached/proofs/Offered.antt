@@ -7,8 +7,8 @@ use Rattle.machine.specs.declared.state.Offer.{Offer}
 use Rattle.machine.specs.State.{State}
 use Rattle.machine.specs.Holds.{is_offer_of}
 use Rattle.machine_soundness.proofs.Lists.{left, right}
-use Rattle.machine_histories.specs.Offers.{offers_at}
-use Rattle.machine_histories.proofs.Offers.{AreKeptOffers, rise}
+use Rattle.machine_offers.specs.Offers.{offers_at}
+use Rattle.machine_offers.proofs.Offers.{AreKeptOffers, rise}
 use Rattle.machine_reached.specs.Offers.{AreOffered}
 
 any-get : (p : Offer → Bool) (fs : List Offer) (k : ℕ) (f : Offer) → slice_get fs k ≡ Some f → p f ≡ true → list_any p fs ≡ true

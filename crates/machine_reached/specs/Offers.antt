@@ -6,7 +6,7 @@ use Rattle.scenario_rules.specs.Rules.{IsWellFormed}
 use Rattle.machine.specs.declared.state.Offer.{Offer}
 use Rattle.machine.specs.State.{State}
 use Rattle.machine.specs.Landing.{Next}
-use Rattle.machine_histories.specs.Offers.{awaits_taking, offers_at}
+use Rattle.machine_offers.specs.Offers.{awaits_taking, offers_at}
 use Rattle.machine_laws.specs.Reached.{Reached, state_of}
 
 pub record AreOffered (s : State) : Type 0 where

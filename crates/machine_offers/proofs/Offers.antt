@@ -24,8 +24,8 @@ use Rattle.machine_soundness.specs.Going.{has_no_wait}
 use Rattle.machine_soundness.specs.Laws.{is_late_of, is_wake_of}
 use Rattle.machine_soundness.proofs.Lists.{all-end, all-filter, all-get, all-imply, both, equal, left, right}
 use Rattle.machine_soundness.proofs.States.{all-settle}
-use Rattle.machine_histories.specs.Offers.{awaits_taking, is_offered_on, offers_at, offers_of}
-use Rattle.machine_histories.proofs.Ties.{any-end, any-filter, any-kept}
+use Rattle.machine_offers.specs.Offers.{awaits_taking, is_offered_on, offers_at, offers_of}
+use Rattle.machine_offers.proofs.Anys.{any-end, any-filter, any-kept}
 
 -- ---- what is so of offers
 
