@@ -2,7 +2,7 @@
 use Rattle.std.proofs.Common.{◌≡◌, refl, ap, ◌∙◌, sym, subst, ℕ, zero, suc, ◌+◌, Bool, true, false, List, [], ◌∷◌, ◌++◌, length, cond, arith}
 use Rattle.std.proofs.lemmas.Bool.Decides.{nat_tests}
 use Rattle.std.proofs.lemmas.List.Sums.{sum_by-cons}
-use Rattle.std.specs.Prelude.{not, ◌==◌, ◌&&◌, ◌||◌, Option, Some, None, is_none, nat_le, find, filter, count_by, slice_get, slice_set, Contains}
+use Rattle.std.specs.Prelude.{not, ◌==◌, ◌&&◌, ◌||◌, Option, Some, None, is_none, nat_le, find, count_by, slice_get, slice_set, Contains}
 use Rattle.std.specs.List.{list_any, list_all}
 use Rattle.gv_values.specs.declared.job.Answer.{Answer}
 use Rattle.gv_values.specs.declared.job.Job.{Job}
@@ -28,7 +28,7 @@ use Rattle.machine_soundness.specs.Laws.{is_wake_of}
 use Rattle.machine_soundness.proofs.Lists.{left, right, both, all-imply, all-end, all-filter, equal, unequal, not-true}
 use Rattle.machine_soundness.proofs.Greenlets.{phase-other}
 use Rattle.machine_soundness.proofs.States.{all-settle}
-use Rattle.machine_offers.proofs.Anys.{any-all, any-end, any-filter, any-imply, any-kept}
+use Rattle.machine_offers.proofs.Anys.{any-all, any-end}
 use Rattle.machine_histories.proofs.Histories.{History, IsLawful, with_line}
 
 -- ---- how far greenlets came
