@@ -2,7 +2,7 @@
 use Rattle.std.proofs.Common.{◌≡◌, refl, ap, ◌∙◌, sym, subst, ℕ, zero, suc, ◌+◌, Bool, true, false, List, [], ◌∷◌, ◌++◌, length, length-append, map, cond, inl, inr, ◌⊎◌, arith}
 use Rattle.std.proofs.lemmas.Bool.Decides.{nat_tests}
 use Rattle.std.proofs.lemmas.List.Sums.{sum_by-cons}
-use Rattle.std.specs.Prelude.{not, ◌==◌, ◌||◌, Option, Some, None, is_none, find, count_by, nat_le, slice_get, Contains, if◌then◌else◌, ℤ, pos, negsuc, slice_set}
+use Rattle.std.specs.Prelude.{not, ◌==◌, ◌&&◌, ◌||◌, Option, Some, None, is_none, is_some, find, count_by, nat_le, slice_get, Contains, if◌then◌else◌, ℤ, pos, negsuc, slice_set}
 use Rattle.std.specs.Ordering.{int_eq}
 use Rattle.gv_values.specs.declared.fault.FaultKind.{FaultKind}
 use Rattle.gv_values.specs.declared.job.Job.{Job}
@@ -35,9 +35,9 @@ use Rattle.machine.specs.Requests.{on_host, typed}
 use Rattle.machine.specs.Soundness.{is_under_way}
 use Rattle.machine.specs.Objects.{with_slot_taken, is_left, is_shut, item_of, name_of_object, object_at, with_item, with_item_taken, with_member, with_object, with_offer, with_offer_taken, with_owner, with_unit_taken}
 use Rattle.machine.specs.Waits.{Performed, add_member, comes, completes, drawn, draws, gathered, made_member, map_ends, map_goes_on, maps, nothing, offered, outcome_of_greenlet, parked, peeks_item, posted, puts_item, raises, takes_item, until_of, waits}
-use Rattle.machine_soundness.specs.Going.{is_plain, IsKept}
+use Rattle.machine_soundness.specs.Going.{has_no_wait, is_plain, IsKept}
 use Rattle.machine_soundness.specs.Laws.{is_wake_of}
-use Rattle.machine_soundness.proofs.Lists.{all-end, both, equal, left, right, length-set}
+use Rattle.machine_soundness.proofs.Lists.{all-end, both, equal, left, right}
 use Rattle.machine_soundness.proofs.Greenlets.{host-plain, plain-more, plain-raw}
 use Rattle.machine_soundness.proofs.Landings.{going-free}
 use Rattle.machine_soundness.proofs.Requests.{completes-fine, item-plain, kept-parked, moves-change, moves-member, moves-spawned, offered-fine, own-host, taken-plain}
@@ -45,8 +45,11 @@ use Rattle.machine_soundness.proofs.States.{Moves, going}
 use Rattle.machine_texts.specs.Texts.{HasMain, fits_wait, is_function, is_wanted}
 use Rattle.machine_texts.proofs.KindLemmas.{item-kept, kinds-set, member-kept, offer-kept, offer_taken-kept, owner-kept, slot-kept, taken-kept, unit-kept}
 use Rattle.machine_histories.proofs.Histories.{History, IsLawful, Tells, as_posted, tells-line, tells-post, with_line, with_post}
-use Rattle.machine_histories.proofs.Ties.{IsHeard, IsJobTold, are_counted, IsOwn, Ties, any-end, count-other, find-other, free-wakeless, has_wake, is_begun, live-begun, live-not-over, lawful-own, told-other, ties-add, ties-own, ties-say}
-use Rattle.machine_histories.proofs.Goings.{AreHeld, AreParkedBut, Ends, Goes, Hosted, Rests, Sides, goes-add, goes-made, goes-object, goes-timeout, rests-objects, sides-add, known-objects}
+use Rattle.machine_offers.specs.Offers.{offers_at, offers_of}
+use Rattle.machine_offers.proofs.Offers.{HasNoOffer, fewer-same, free-lateless, free-offerless, is_offering, item-offers, more-offers, offers-offered, offers-set, owner-offers, slot-offers, taken-fewer, taken-offers, unit-offers}
+use Rattle.machine_offers.proofs.Anys.{any-end}
+use Rattle.machine_histories.proofs.Ties.{IsHeard, IsJobTold, are_counted, IsOwn, Ties, count-other, find-other, free-wakeless, has_wake, is_begun, live-begun, live-not-over, lawful-own, told-other, ties-add, ties-own, ties-say}
+use Rattle.machine_histories.proofs.Goings.{AreHeld, AreParkedBut, Ends, Goes, Hosted, Rests, Sides, goes-add, goes-made, goes-object, goes-put, goes-timeout, rests-objects, sides-add, known-objects}
 
 -- what comes of a request of a greenlet with this host
 abbrev pub IsFineAt : History → ℕ → ℕ → Performed → Type 0
@@ -107,7 +110,8 @@ parks-wake : (b : History) (g : ℕ) (word : Awaited) (w : Waiting) (until : Opt
 parks-wake b g word w until s z m =
     let line = Line.Park g word until in
     let own = own-park g word until in
-    let free = free-wakeless g s.items (going-free g s m.moves.kept (going g g s m.moves)) in
+    let alone = going-free g s m.moves.kept (going g g s m.moves) in
+    let free = free-wakeless g s.items alone in
     let told = ties-own None g line m.story s own (λ e. live-begun _ m.moves.live) free m.ties in
     record {
       story = with_line line m.story;
@@ -115,7 +119,7 @@ parks-wake b g word w until s z m =
       ties = ties-add None (with_line line m.story) (Delivery.Wake g w) (say line s) (λ k e. ap (λ z. is_park (cond z (Some line) (find (is_of k) m.story.past))) e) (λ k e. refl) (ties-say None (with_line line m.story) line s told);
       parking = λ k e p l. any-end (λ (i : Item). is_wake_of k i.delivery) s.items _ ∙ by k (k == g) refl p l;
       main = m.main;
-      sides = sides-add (Delivery.Wake g w) (say line s) refl z (record { kills = m.sides.kills; bodies = m.sides.bodies; fit = m.sides.fit; known = m.sides.known });
+      sides = sides-add (Delivery.Wake g w) (say line s) refl z (free-lateless g s.items alone) (record { kills = m.sides.kills; bodies = m.sides.bodies; fit = m.sides.fit; known = m.sides.known; offers = m.sides.offers });
       held = all-end _ s.items _ m.held refl;
     }
   where
@@ -127,15 +131,15 @@ parks-wake b g word w until s z m =
     by k true e p l = or (has_wake k s.items)
     by k false e p l = ap (λ z. z || false) (m.parking k e p l)
 
-parks-late : (b : History) (g deadline n : ℕ) (s : State) → Parks b s → Parks b (add_item (Delivery.Late g deadline n) s)
-parks-late b g deadline n s m =
+parks-late : (b : History) (g deadline n : ℕ) (s : State) → HasNoOffer g s.items → Parks b s → Parks b (add_item (Delivery.Late g deadline n) s)
+parks-late b g deadline n s none m =
     record {
       story = m.story;
       tells = m.tells;
       ties = ties-add None m.story (Delivery.Late g deadline n) s (λ k e. absurd (cc e)) (λ k e. refl) m.ties;
       parking = λ k e p l. any-end (λ (i : Item). is_wake_of k i.delivery) s.items _ ∙ ap (λ z. z || false) (m.parking k e p l);
       main = m.main;
-      sides = sides-add (Delivery.Late g deadline n) s refl (λ w. refl) m.sides;
+      sides = sides-add (Delivery.Late g deadline n) s refl (λ w. refl) none m.sides;
       held = all-end _ s.items _ m.held refl;
     }
 
@@ -160,7 +164,7 @@ parks-drawn b w s m = by (draws w)
           };
           parking = m.parking;
           main = m.main;
-          sides = record { kills = m.sides.kills; bodies = m.sides.bodies; fit = m.sides.fit; known = m.sides.known };
+          sides = record { kills = m.sides.kills; bodies = m.sides.bodies; fit = m.sides.fit; known = m.sides.known; offers = m.sides.offers };
           held = m.held;
         }
     by false = m
@@ -172,15 +176,36 @@ parks-rests b s k m = record { kept = k; story = m.story; tells = m.tells; ties 
 own-goes : (b : History) (g h : ℕ) (s : State) → is_plain s.greenlets g ≡ true → Goes b g h s → Goes b g g s
 own-goes b g h s p m = subst (λ z. Goes b g z s) (sym m.moves.same ∙ host-plain (length s.greenlets) s.greenlets g (plain-raw s.greenlets g p)) m
 
-pub parked-rests : (b : History) (g h : ℕ) (word : Awaited) (w : Waiting) (deadline : Option ℕ) (s : State) → is_plain s.greenlets g ≡ true → (HasMain s.scenario → fits_wait s.scenario w ≡ true) → Goes b g h s →
+-- it waits until what it offered is taken; such a wait has no deadline
+abbrev pub is_offer : Waiting → Bool
+is_offer (Waiting.Offered o) = true
+is_offer w = false
+
+-- where another wait parks, nothing is offered
+offerless-wake : (g : ℕ) (w : Waiting) (s : State) → is_offer w ≡ false → has_no_wait g s.items ≡ true → HasNoOffer g (drawn w (add_item (Delivery.Wake g w) s)).items
+offerless-wake g w s e free = by (draws w)
+  where
+    none : (w : Waiting) → is_offer w ≡ false → not (is_offering g (Delivery.Wake g w)) ≡ true
+    none (Waiting.Offered o) e = absurd (cc e)
+    none w e = refl
+
+    all : HasNoOffer g (add_item (Delivery.Wake g w) s).items
+    all = all-end (λ (i : Item). not (is_offering g i.delivery)) s.items _ (free-offerless g s.items free) (none w e)
+
+    by : (c : Bool) → HasNoOffer g (if c then record (add_item (Delivery.Wake g w) s) { timeouts = s.timeouts + 1 } else add_item (Delivery.Wake g w) s).items
+    by true = all
+    by false = all
+
+pub parked-rests : (b : History) (g h : ℕ) (word : Awaited) (w : Waiting) (deadline : Option ℕ) (s : State) → is_plain s.greenlets g ≡ true → (is_some deadline && is_offer w) ≡ false →
+    (HasMain s.scenario → fits_wait s.scenario w ≡ true) → Goes b g h s →
     Rests b (parked g word w deadline s)
-parked-rests b g h word w None s p z m =
+parked-rests b g h word w None s p u z m =
     parks-rests b (parked g word w None s) (kept-parked g word w None s (own-host g h s p m.moves) m.moves.kept) (parks-wake b g word w (until_of w None) s z (own-goes b g h s p m))
-parked-rests b g h word w (Some deadline) s p z m =
+parked-rests b g h word w (Some deadline) s p u z m =
     let t = add_item (Delivery.Wake g w) (say (Line.Park g word (Some deadline)) s) in
     let n = (if draws w then (drawn w t).timeouts else 0) in
     parks-rests b (parked g word w (Some deadline) s) (kept-parked g word w (Some deadline) s (own-host g h s p m.moves) m.moves.kept)
-    (parks-late b g deadline n (drawn w t) (parks-drawn b w t (parks-wake b g word w (Some deadline) s z (own-goes b g h s p m))))
+    (parks-late b g deadline n (drawn w t) (offerless-wake g w (say (Line.Park g word (Some deadline)) s) u (going-free g s m.moves.kept (going g h s m.moves))) (parks-drawn b w t (parks-wake b g word w (Some deadline) s z (own-goes b g h s p m))))
 
 pub goes-drawn : (b : History) (w : Waiting) (g h : ℕ) (s : State) → Goes b g h s → Goes b g h (drawn w s)
 goes-drawn b w g h s m = by (draws w)
@@ -189,10 +214,10 @@ goes-drawn b w g h s m = by (draws w)
     by true = goes-timeout b g h s m
     by false = m
 
-waits-at : (b : History) (g h : ℕ) (word : Awaited) (w : Waiting) (how : Wait) (s : State) → is_plain s.greenlets g ≡ true → (HasMain s.scenario → fits_wait s.scenario w ≡ true) → Goes b g h s → IsFineAt b g h (waits g word w how s)
-waits-at b g h word w Wait.Block s p z m = parked-rests b g h word w None s p z m
-waits-at b g h word w (Wait.Within ms) s p z m = parked-rests b g h word w (Some (s.moment + ms)) s p z m
-waits-at b g h word w Wait.Now s p z m = goes-drawn b w g h s m
+waits-at : (b : History) (g h : ℕ) (word : Awaited) (w : Waiting) (how : Wait) (s : State) → is_plain s.greenlets g ≡ true → is_offer w ≡ false → (HasMain s.scenario → fits_wait s.scenario w ≡ true) → Goes b g h s → IsFineAt b g h (waits g word w how s)
+waits-at b g h word w Wait.Block s p u z m = parked-rests b g h word w None s p refl z m
+waits-at b g h word w (Wait.Within ms) s p u z m = parked-rests b g h word w (Some (s.moment + ms)) s p u z m
+waits-at b g h word w Wait.Now s p u z m = goes-drawn b w g h s m
 
 -- ---- members
 
@@ -200,14 +225,14 @@ waits-at b g h word w Wait.Now s p z m = goes-drawn b w g h s m
 pub goes-spawned : (b : History) (deadline : Option ℕ) (parent f : ℕ) (args : List Value) (g h : ℕ) (s : State) → (HasMain s.scenario → is_function s.scenario f ≡ true) → Goes b g h s →
     Goes b g h (add_item (Delivery.Start (length s.greenlets) deadline) (add_greenlet false parent f args s))
 goes-spawned b deadline parent f args g h s e m =
-    goes-add b g h (Delivery.Start (length s.greenlets) deadline) (add_greenlet false parent f args s) (moves-spawned deadline parent f args g h s m.moves) (λ k. refl) refl (λ n. refl) refl (λ w. refl)
+    goes-add b g h (Delivery.Start (length s.greenlets) deadline) (add_greenlet false parent f args s) (moves-spawned deadline parent f args g h s m.moves) (λ k. refl) refl (λ n. refl) refl (λ w. refl) tt
     (goes-made b false parent f args g h s refl e m)
 
 pub goes-member : (b : History) (o f : ℕ) (args : List Value) (g h : ℕ) (s : State) → (HasMain s.scenario → is_function s.scenario f ≡ true) → Goes b g h s → Goes b g h (add_member o f args s)
 goes-member b o f args g h s e m =
     let k = length s.greenlets in
     let t = add_item (Delivery.Start k None) (add_greenlet false 0 f args s) in
-    goes-object b o (with_member k (object_at o t)) g h t (member-kept k (object_at o t)) (moves-member o f args g h s m.moves) (goes-spawned b None 0 f args g h s e m)
+    goes-object b o (with_member k (object_at o t)) g h t (member-kept k (object_at o t)) (more-offers k (object_at o t)) (moves-member o f args g h s m.moves) (goes-spawned b None 0 f args g h s e m)
 
 -- ---- a job is posted
 
@@ -288,7 +313,7 @@ goes-posted b g h o job takes s moves m =
       };
       parking = m.parking;
       main = m.main;
-      sides = record { kills = m.sides.kills; bodies = m.sides.bodies; fit = m.sides.fit; known = known-objects s.scenario s.greenlets s.items s.objects (slice_set s.objects o (with_slot_taken (object_at o s))) (λ w d. kinds-set s.objects o (with_slot_taken (object_at o s)) (slot-kept (object_at o s))) m.sides.known };
+      sides = record { kills = m.sides.kills; bodies = m.sides.bodies; fit = m.sides.fit; known = known-objects s.scenario s.greenlets s.items s.objects (slice_set s.objects o (with_slot_taken (object_at o s))) (λ w d. kinds-set s.objects o (with_slot_taken (object_at o s)) (slot-kept (object_at o s))) m.sides.known; offers = offers-set s.objects o (with_slot_taken (object_at o s)) s.items s.next_since (fewer-same (offers_at o s.objects) (offers_of (with_slot_taken (object_at o s))) (slot-offers (object_at o s))) m.sides.offers };
       held = m.held;
     }
   where
@@ -377,7 +402,7 @@ map_ends-at b g h o made s p zo m = by (newcomer_completes s g (Waiting.MapEnd o
     by : (c : Bool) → IsFineAt b g h (if c then Performed.Answers (gathered (map (outcome_of_greenlet s) made) []) s
         else Performed.Parks (parked g (Awaited.Map (name_of_object o s)) (Waiting.MapEnd o made) None s))
     by true = m
-    by false = parked-rests b g h (Awaited.Map (name_of_object o s)) (Waiting.MapEnd o made) None s p zo m
+    by false = parked-rests b g h (Awaited.Map (name_of_object o s)) (Waiting.MapEnd o made) None s p refl zo m
 
 pub maps-at : (xs : List Scalar) (b : History) (g h o f : ℕ) (made : List ℕ) (s : State) → is_plain s.greenlets g ≡ true → (HasMain s.scenario → is_wanted s.scenario wanted.GroupOrPool o ≡ true) → (HasMain s.scenario → is_function s.scenario f ≡ true) → Goes b g h s → IsFineAt b g h (maps xs g o f made s)
 maps-at [] b g h o f made s p zo e m = map_ends-at b g h o made s p zo m
@@ -394,7 +419,7 @@ maps-at (x ∷ xs) b g h o f made s p zo e m =
             | true ↦ maps xs g o f (made ++ length s.greenlets ∷ []) (add_member o f (value_of_scalar x ∷ []) s)
           ]
         ])
-    by false d rest = parked-rests b g h (Awaited.Map (name_of_object o s)) (Waiting.MapPlace o f (x ∷ xs) made) None s p (λ w. both _ _ (zo w) (e w)) m
+    by false d rest = parked-rests b g h (Awaited.Map (name_of_object o s)) (Waiting.MapPlace o f (x ∷ xs) made) None s p refl (λ w. both _ _ (zo w) (e w)) m
     by true false rest = goes-ends b g h s m
     by true true rest = rest
 
@@ -418,13 +443,13 @@ puts-at b g h o v s m = by (is_shut (object_at o s))
   where
     by : (c : Bool) → IsFineAt b g h (if c then raises FaultKind.ShutDown s else Performed.Answers nothing (with_object o (with_item v (object_at o s)) s))
     by true = m
-    by false = goes-object b o (with_item v (object_at o s)) g h s (item-kept v (object_at o s)) (moves-change (with_item v) o g h s (item-plain s.greenlets v) m.moves) m
+    by false = goes-object b o (with_item v (object_at o s)) g h s (item-kept v (object_at o s)) (item-offers v (object_at o s)) (moves-change (with_item v) o g h s (item-plain s.greenlets v) m.moves) m
 
 takes-at : (b : History) (g h o before : ℕ) (s : State) → Goes b g h s → IsFineAt b g h (takes_item o before (object_at o s) s)
 takes-at b g h o before s m = by (is_left before (object_at o s))
   where
     by : (c : Bool) → IsFineAt b g h (if c then Performed.Answers (Outcome.Value (item_of (object_at o s))) (with_object o (with_item_taken (object_at o s)) s) else raises FaultKind.ShutDown s)
-    by true = goes-object b o (with_item_taken (object_at o s)) g h s (taken-kept (object_at o s)) (moves-change with_item_taken o g h s (taken-plain s.greenlets) m.moves) m
+    by true = goes-object b o (with_item_taken (object_at o s)) g h s (taken-kept (object_at o s)) (taken-offers (object_at o s)) (moves-change with_item_taken o g h s (taken-plain s.greenlets) m.moves) m
     by false = m
 
 peeks-at : (b : History) (g h o before : ℕ) (s : State) → Goes b g h s → IsFineAt b g h (peeks_item before (object_at o s) s)
@@ -436,31 +461,32 @@ peeks-at b g h o before s m = by (is_left before (object_at o s))
 
 pub completes-at : (b : History) (g h since : ℕ) (w : Waiting) (s : State) → is_plain s.greenlets g ≡ true → (HasMain s.scenario → fits_wait s.scenario w ≡ true) → Goes b g h s →
     IsFineAt b g h (completes g since w s)
-completes-at b g h since (Waiting.Acquire o) s p z m = goes-object b o (with_unit_taken (object_at o s)) g h s (unit-kept (object_at o s)) (completes-fine g h since (Waiting.Acquire o) s p m.moves) m
-completes-at b g h since (Waiting.Lock o) s p z m = goes-object b o (with_owner g (object_at o s)) g h s (owner-kept g (object_at o s)) (completes-fine g h since (Waiting.Lock o) s p m.moves) m
+completes-at b g h since (Waiting.Acquire o) s p z m = goes-object b o (with_unit_taken (object_at o s)) g h s (unit-kept (object_at o s)) (unit-offers (object_at o s)) (completes-fine g h since (Waiting.Acquire o) s p m.moves) m
+completes-at b g h since (Waiting.Lock o) s p z m = goes-object b o (with_owner g (object_at o s)) g h s (owner-kept g (object_at o s)) (owner-offers g (object_at o s)) (completes-fine g h since (Waiting.Lock o) s p m.moves) m
 completes-at b g h since (Waiting.Put o v) s p z m = puts-at b g h o v s m
 completes-at b g h since (Waiting.Take o) s p z m = takes-at b g h o (earlier (is_take o) since s.items) s m
 completes-at b g h since (Waiting.Peek o) s p z m = peeks-at b g h o (earlier (is_take o) since s.items) s m
-completes-at b g h since (Waiting.TakeOffer o) s p z m = goes-object b o (with_offer_taken (object_at o s)) g h s (offer_taken-kept (object_at o s)) (completes-fine g h since (Waiting.TakeOffer o) s p m.moves) m
+completes-at b g h since (Waiting.TakeOffer o) s p z m = goes-put b o (with_offer_taken (object_at o s)) g h s (λ w d. offer_taken-kept (object_at o s)) (taken-fewer (object_at o s)) (completes-fine g h since (Waiting.TakeOffer o) s p m.moves) m
 completes-at b g h since (Waiting.Place o f args) s p z m = made_member-at b g h o f args s (λ w. right (is_wanted s.scenario wanted.GroupOrPool o) _ (z w)) m
 completes-at b g h since (Waiting.MapPlace o f xs made) s p z m =
     map_goes_on-at xs b g h o f made s p (λ w. left _ (is_function s.scenario f) (z w)) (λ w. right (is_wanted s.scenario wanted.GroupOrPool o) _ (z w)) m
 completes-at b g h since (Waiting.Slot o job takes) s p z m = goes-posted b g h o job takes s (completes-fine g h since (Waiting.Slot o job takes) s p m.moves) m
 completes-at b g h since w s p z m = m
 
-pub comes-at : (b : History) (g h : ℕ) (word : Awaited) (w : Waiting) (how : Wait) (s : State) → is_plain s.greenlets g ≡ true → (HasMain s.scenario → fits_wait s.scenario w ≡ true) → Goes b g h s → IsFineAt b g h (comes g word w how s)
-comes-at b g h word w how s p z m = by (newcomer_completes s g w)
+pub comes-at : (b : History) (g h : ℕ) (word : Awaited) (w : Waiting) (how : Wait) (s : State) → is_plain s.greenlets g ≡ true → is_offer w ≡ false → (HasMain s.scenario → fits_wait s.scenario w ≡ true) → Goes b g h s → IsFineAt b g h (comes g word w how s)
+comes-at b g h word w how s p u z m = by (newcomer_completes s g w)
   where
     by : (c : Bool) → IsFineAt b g h (if c then completes g s.next_since w s else waits g word w how s)
     by true = completes-at b g h s.next_since w s p z m
-    by false = waits-at b g h word w how s p z m
+    by false = waits-at b g h word w how s p u z m
 
 -- an offer parks
 pub offered-at : (b : History) (g h o : ℕ) (v : Value) (s : State) → is_plain s.greenlets g ≡ true → (HasMain s.scenario → is_wanted s.scenario wanted.Channel o ≡ true) → Goes b g h s → Rests b (offered g o v s)
 offered-at b g h o v s p z m =
     let t = parked g (Awaited.ChannelPut (name_of_object o s)) (Waiting.Offered o) None s in
     rests-objects b (slice_set s.objects o (with_offer v s.next_since (object_at o s))) t (kinds-set s.objects o (with_offer v s.next_since (object_at o s)) (offer-kept v s.next_since (object_at o s)))
-    (offered-fine g h o v s p m.moves) (parked-rests b g h (Awaited.ChannelPut (name_of_object o s)) (Waiting.Offered o) None s p z m)
+    (offers-offered g o v s.objects s.items s.next_since (free-lateless g s.items (going-free g s m.moves.kept (going g h s m.moves))) m.sides.offers)
+    (offered-fine g h o v s p m.moves) (parked-rests b g h (Awaited.ChannelPut (name_of_object o s)) (Waiting.Offered o) None s p refl z m)
 
 -- ---- kinds of operands
 

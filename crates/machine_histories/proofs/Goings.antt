@@ -15,7 +15,6 @@ use Rattle.machine.specs.declared.state.Object.{Object}
 use Rattle.machine.specs.declared.state.Phase.{Phase}
 use Rattle.machine.specs.State.{State, say}
 use Rattle.machine.specs.Holds.{holds, phase_of}
-use Rattle.std.proofs.lemmas.List.{length-map}
 use Rattle.machine.specs.Expressions.{function_number}
 use Rattle.machine.specs.TraceLaws.{is_of, is_some_number, is_end_of, is_park, throws_at_parked}
 use Rattle.machine.specs.Landing.{Next}
@@ -27,9 +26,9 @@ use Rattle.machine.specs.Requests.{is_kill, kills_standing}
 use Rattle.machine.specs.Settle.{settle}
 use Rattle.machine.specs.Soundness.{Claim, claim_of, is_under_way, same_claim}
 use Rattle.machine.specs.Objects.{object_at, with_object}
-use Rattle.machine_soundness.specs.Going.{is_plain, IsKept}
+use Rattle.machine_soundness.specs.Going.{has_no_wait, is_plain, IsKept}
 use Rattle.machine_soundness.specs.Laws.{is_wake_of}
-use Rattle.machine_soundness.proofs.Lists.{length-set, left, right, both, all-end, all-get, all-imply, all-filter, all-of, all-set, equal, unequal}
+use Rattle.machine_soundness.proofs.Lists.{left, right, both, all-end, all-get, all-imply, all-filter, all-of, all-set, equal, unequal}
 use Rattle.machine_soundness.proofs.Greenlets.{phase-more, phase-other, live-more}
 use Rattle.machine_soundness.proofs.Landings.{going-free}
 use Rattle.machine_soundness.proofs.States.{IsHost, Moves, all-settle, going, plain-phased, moves-say, moves-settle, moves-drop, moves-made, moves-timeout}
@@ -38,7 +37,10 @@ use Rattle.machine_texts.specs.Texts.{IsFitText, fits_phase, is_among, is_fit_gr
 use Rattle.machine_texts.proofs.KindLemmas.{KeepsKind, kinds-map, kinds-set, left-kept}
 use Rattle.machine_histories.proofs.Histories.{History, IsLawful, Tells, tells-line, with_line}
 use Rattle.machine_histories.proofs.Settled.{count-settled, is_settled, settled-settle}
-use Rattle.machine_histories.proofs.Ties.{Ties, IsOwn, is_over, is_begun, has_wake, any-all, any-end, any-filter, any-kept, any-settle, begun-more, count-other, find-other, free-wakeless, lawful-own, live-begun, live-not-over, over-more, phase-here, ties-add, ties-drop, ties-greenlets, ties-own, ties-say, ties-settle, told-other}
+use Rattle.machine_offers.specs.Offers.{is_offered_on, offers_at, offers_of}
+use Rattle.machine_offers.proofs.Offers.{AreKeptOffers, FitsTwins, IsFewer, fewer-same, free-offerless, is_offering, member-offers, offers-add, offers-drop, offers-drop_of, offers-map, offers-set, offers-settle, waits-spared}
+use Rattle.machine_offers.proofs.Anys.{any-all, any-end, any-filter, any-kept}
+use Rattle.machine_histories.proofs.Ties.{Ties, IsOwn, is_over, is_begun, has_wake, any-settle, begun-more, count-other, find-other, free-wakeless, lawful-own, live-begun, live-not-over, over-more, phase-here, ties-add, ties-drop, ties-greenlets, ties-own, ties-say, ties-settle, told-other}
 
 -- ---- what is parked
 
@@ -85,12 +87,13 @@ known-set c gs g x items objects e k w =
     let m = k w in
     record { functions = all-set (λ (y : Greenlet). is_function c y.function) gs g x (ap (is_function c) e ∙ function-known c g gs w m.functions) m.functions; named = m.named; declared = m.declared }
 
--- so many kills stand at most, and each body fits
+-- so many kills stand at most, each body fits, what texts name is there, and each offer has its Wake
 pub record Sides (s : State) : Type 0 where
   pub kills : kills_standing s ≤ 1000000
   pub bodies : IsFitText s.scenario
   pub fit : list_all (is_fit_greenlet s.scenario) s.greenlets ≡ true
   pub known : KnownIf s.scenario s.greenlets s.items s.objects
+  pub offers : AreKeptOffers s.objects s.items s.next_since
 
 -- each timeout is that of a block in which its greenlet is
 abbrev pub AreHeld : List Greenlet → List Item → Type 0
@@ -179,17 +182,17 @@ count-end p (y ∷ xs) x =
     omega (arith, l, r, rest)
 
 pub sides-settle : (s : State) → Sides s → Sides (settle s)
-sides-settle s m = record { kills = subst (λ n. n ≤ 1000000) (sym (count-settled (λ n d. is_kill d) (map (holds s) s.items) s.next_ready s.items)) m.kills; bodies = m.bodies; fit = m.fit; known = known-settle s m.known }
+sides-settle s m = record { kills = subst (λ n. n ≤ 1000000) (sym (count-settled (λ n d. is_kill d) (map (holds s) s.items) s.next_ready s.items)) m.kills; bodies = m.bodies; fit = m.fit; known = known-settle s m.known; offers = offers-settle s m.offers }
 
-pub sides-drop : (test : Delivery → Bool) (s : State) → Sides s → Sides (drop_items test s)
-sides-drop test s m = let less = count-less (λ (i : Item). not (test i.delivery)) (λ (i : Item). is_kill i.delivery) s.items in let k = m.kills in record { kills = omega (arith, less, k); bodies = m.bodies; fit = m.fit; known = known-items s.scenario s.greenlets s.items (drop_items test s).items s.objects (λ p e. all-filter _ p p s.items (λ i k z. z) e) m.known }
+pub sides-drop : (test : Delivery → Bool) (s : State) → AreKeptOffers s.objects (drop_items test s).items s.next_since → Sides s → Sides (drop_items test s)
+sides-drop test s offers m = let less = count-less (λ (i : Item). not (test i.delivery)) (λ (i : Item). is_kill i.delivery) s.items in let k = m.kills in record { kills = omega (arith, less, k); bodies = m.bodies; fit = m.fit; known = known-items s.scenario s.greenlets s.items (drop_items test s).items s.objects (λ p e. all-filter _ p p s.items (λ i k z. z) e) m.known; offers = offers }
 
-pub sides-add : (d : Delivery) (s : State) → is_kill d ≡ false → (HasMain s.scenario → fits_item s.scenario d ≡ true) → Sides s → Sides (add_item d s)
-sides-add d s e f m =
+pub sides-add : (d : Delivery) (s : State) → is_kill d ≡ false → (HasMain s.scenario → fits_item s.scenario d ≡ true) → FitsTwins d s.items → Sides s → Sides (add_item d s)
+sides-add d s e f twins m =
     let all : kills_standing (add_item d s) ≡ kills_standing s + cond (is_kill d) 1 0 = count-end (λ (i : Item). is_kill i.delivery) s.items _ in
     let none : ◌≡◌ {A = ℕ} (cond (is_kill d) 1 0) 0 = ap (λ b. cond b 1 0) e in
     let k = m.kills in
-    record { kills = omega (arith, all, none, k); bodies = m.bodies; fit = m.fit; known = known-add d s f m.known }
+    record { kills = omega (arith, all, none, k); bodies = m.bodies; fit = m.fit; known = known-add d s f m.known; offers = offers-add d s.objects s.items s.next_since twins m.offers }
 
 -- ---- where the hub stands
 
@@ -264,7 +267,7 @@ goes-say b g h line s o calm m =
       ties = ties-say None (with_line line m.story) line s (ties-own None g line m.story s o (λ e. live-begun _ m.moves.live) (free-wakeless g s.items (going-free g s m.moves.kept (going g h s m.moves))) m.ties);
       parking = m.parking;
       main = m.main;
-      sides = record { kills = m.sides.kills; bodies = m.sides.bodies; fit = m.sides.fit; known = m.sides.known };
+      sides = record { kills = m.sides.kills; bodies = m.sides.bodies; fit = m.sides.fit; known = m.sides.known; offers = m.sides.offers };
       held = m.held;
     }
 
@@ -321,14 +324,26 @@ goes-drop b g h test s f m =
       ties = ties-drop None m.story test s m.ties;
       parking = λ k e p l. any-kept (λ (i : Item). not (test i.delivery)) (λ (i : Item). is_wake_of k i.delivery) s.items (λ i. f k i.delivery) (m.parking k e p l);
       main = m.main;
-      sides = sides-drop test s m.sides;
+      sides = sides-drop test s (offers-drop test s.objects s.items s.next_since (λ o d e. spared o d e) m.sides.offers) m.sides;
       held = all-filter _ _ _ s.items (λ i k z. z) m.held;
     }
+  where
+    itself : (k : ℕ) → (k == k) ≡ true
+    itself k = grind (arith, nat_tests)
+
+    spared : (o : ℕ) (d : Delivery) → is_offered_on o d ≡ true → not (test d) ≡ true
+    spared o (Delivery.Wake k w) e = f k (Delivery.Wake k w) (itself k)
+    spared o (Delivery.Start k deadline) e = absurd (cc e)
+    spared o (Delivery.Late k deadline n) e = absurd (cc e)
+    spared o (Delivery.Timeout k n deadline) e = absurd (cc e)
+    spared o (Delivery.Kill k x) e = absurd (cc e)
+    spared o (Delivery.Link n k kind x) e = absurd (cc e)
 
 -- an item comes that is no Wake, Kill or Link
 pub goes-add : (b : History) (g h : ℕ) (d : Delivery) (s : State) → Moves g h (add_item d s) → ((k : ℕ) → is_wake_of k d ≡ false) → is_kill d ≡ false →
-    ((n : ℕ) → not (same_claim (Some (Claim.LinkNumbered n)) (claim_of d)) ≡ true) → is_held s.greenlets d ≡ true → (HasMain s.scenario → fits_item s.scenario d ≡ true) → Goes b g h s → Goes b g h (add_item d s)
-goes-add b g h d s moves w c u z f m =
+    ((n : ℕ) → not (same_claim (Some (Claim.LinkNumbered n)) (claim_of d)) ≡ true) → is_held s.greenlets d ≡ true → (HasMain s.scenario → fits_item s.scenario d ≡ true) → FitsTwins d s.items → Goes b g h s →
+    Goes b g h (add_item d s)
+goes-add b g h d s moves w c u z f twins m =
     record {
       moves = moves;
       story = m.story;
@@ -336,16 +351,16 @@ goes-add b g h d s moves w c u z f m =
       ties = ties-add None m.story d s (λ k e. absurd (cc (w k, e))) (λ n e. u n) m.ties;
       parking = λ k e p l. any-end (λ (i : Item). is_wake_of k i.delivery) s.items _ ∙ ap (λ z. z || is_wake_of k d) (m.parking k e p l);
       main = m.main;
-      sides = sides-add d s c f m.sides;
+      sides = sides-add d s c f twins m.sides;
       held = all-end _ s.items _ m.held z;
     }
 
 -- ---- objects and greenlets
 
--- another object, which in a scenario with a main is of the kind of the one before it
-pub goes-put : (b : History) (o : ℕ) (x : Object) (g h : ℕ) (s : State) → (HasMain s.scenario → kinds s.objects ≡ declared_kinds s.scenario → KeepsKind (object_at o s) x) → Moves g h (with_object o x s) →
-    Goes b g h s → Goes b g h (with_object o x s)
-goes-put b o x g h s kept moves m =
+-- another object, which in a scenario with a main is of the kind of the one before it, and has no more offers
+pub goes-put : (b : History) (o : ℕ) (x : Object) (g h : ℕ) (s : State) → (HasMain s.scenario → kinds s.objects ≡ declared_kinds s.scenario → KeepsKind (object_at o s) x) →
+    IsFewer (offers_at o s.objects) (offers_of x) → Moves g h (with_object o x s) → Goes b g h s → Goes b g h (with_object o x s)
+goes-put b o x g h s kept fewer moves m =
     record {
       moves = moves;
       story = m.story;
@@ -363,17 +378,19 @@ goes-put b o x g h s kept moves m =
       };
       parking = m.parking;
       main = m.main;
-      sides = record { kills = m.sides.kills; bodies = m.sides.bodies; fit = m.sides.fit; known = known-objects s.scenario s.greenlets s.items s.objects (slice_set s.objects o x) (λ w d. kinds-set s.objects o x (kept w d)) m.sides.known };
+      sides = record { kills = m.sides.kills; bodies = m.sides.bodies; fit = m.sides.fit; known = known-objects s.scenario s.greenlets s.items s.objects (slice_set s.objects o x) (λ w d. kinds-set s.objects o x (kept w d)) m.sides.known; offers = offers-set s.objects o x s.items s.next_since fewer m.sides.offers };
       held = m.held;
     }
 
--- another object of the same kind
-abbrev pub goes-object : (b : History) (o : ℕ) (x : Object) (g h : ℕ) (s : State) → KeepsKind (object_at o s) x → Moves g h (with_object o x s) → Goes b g h s → Goes b g h (with_object o x s)
-goes-object b o x g h s kept moves m = goes-put b o x g h s (λ w d. kept) moves m
+-- another object of the same kind, with the same offers
+abbrev pub goes-object : (b : History) (o : ℕ) (x : Object) (g h : ℕ) (s : State) → KeepsKind (object_at o s) x → offers_of x ≡ offers_of (object_at o s) → Moves g h (with_object o x s) → Goes b g h s →
+    Goes b g h (with_object o x s)
+goes-object b o x g h s kept same moves m = goes-put b o x g h s (λ w d. kept) (fewer-same (offers_at o s.objects) (offers_of x) same) moves m
 
 -- other objects of the same kinds
-pub rests-objects : (b : History) (objects : List Object) (s : State) → kinds objects ≡ kinds s.objects → IsKept (record s { objects = objects }) → Rests b s → Rests b (record s { objects = objects })
-rests-objects b objects s same kept m =
+pub rests-objects : (b : History) (objects : List Object) (s : State) → kinds objects ≡ kinds s.objects → AreKeptOffers objects s.items s.next_since → IsKept (record s { objects = objects }) → Rests b s →
+    Rests b (record s { objects = objects })
+rests-objects b objects s same offers kept m =
     record {
       kept = kept;
       story = m.story;
@@ -391,7 +408,7 @@ rests-objects b objects s same kept m =
       };
       parking = m.parking;
       main = m.main;
-      sides = record { kills = m.sides.kills; bodies = m.sides.bodies; fit = m.sides.fit; known = known-objects s.scenario s.greenlets s.items s.objects objects (λ w d. same) m.sides.known };
+      sides = record { kills = m.sides.kills; bodies = m.sides.bodies; fit = m.sides.fit; known = known-objects s.scenario s.greenlets s.items s.objects objects (λ w d. same) m.sides.known; offers = offers };
       held = m.held;
     }
 
@@ -414,7 +431,7 @@ goes-timeout b g h s m =
       };
       parking = m.parking;
       main = m.main;
-      sides = record { kills = m.sides.kills; bodies = m.sides.bodies; fit = m.sides.fit; known = m.sides.known };
+      sides = record { kills = m.sides.kills; bodies = m.sides.bodies; fit = m.sides.fit; known = m.sides.known; offers = m.sides.offers };
       held = m.held;
     }
 
@@ -446,7 +463,7 @@ goes-made b raw parent f args g h s z e m =
       ties = ties-greenlets None m.story (s.greenlets ++ y ∷ []) s (λ k. over-more s.greenlets y k refl) (λ k. begun-more s.greenlets y k) m.ties;
       parking = parked-more (Some h) y s refl m.parking;
       main = live-more s.greenlets _ 0 m.main;
-      sides = record { kills = m.sides.kills; bodies = m.sides.bodies; fit = all-end (is_fit_greenlet s.scenario) s.greenlets y m.sides.fit (both _ true z refl); known = known-made s.scenario s.greenlets y s.items s.objects e m.sides.known };
+      sides = record { kills = m.sides.kills; bodies = m.sides.bodies; fit = all-end (is_fit_greenlet s.scenario) s.greenlets y m.sides.fit (both _ true z refl); known = known-made s.scenario s.greenlets y s.items s.objects e m.sides.known; offers = m.sides.offers };
       held = held-more s.greenlets (y ∷ []) s.items m.held;
     }
 
@@ -510,10 +527,10 @@ pub lawful-ended : (x : Option ℕ) (g : ℕ) (o : Outcome) (h : History) (s : S
 lawful-ended x g o h s u t =
     record { once = ap not (t.ended g ∙ u); last = ap not (t.ended g ∙ u); parked = refl; links = refl; rising = refl; jobs = refl }
 
-pub sides-ended : (g : ℕ) (o : Outcome) (s : State) → Sides s → Sides (ended g o s)
-sides-ended g o s m =
+pub sides-ended : (g : ℕ) (o : Outcome) (s : State) → has_no_wait g s.items ≡ true → Sides s → Sides (ended g o s)
+sides-ended g o s free m =
     let u = drop_items (goes_at_end g o) (with_phase g (Phase.Done o) (say (Line.End g o) s)) in
-    let less = sides-drop (goes_at_end g o) s m in
+    let less = sides-drop (goes_at_end g o) s (offers-drop_of g (goes_at_end g o) s.objects s.items s.next_since (λ p d. spared p d) (free-offerless g s.items free) m.offers) m in
     let new : Greenlet = record (greenlet g s) { phase = Phase.Done o } in
     let own : is_fit_greenlet s.scenario new ≡ true =
     both (if new.raw then is_raw_function s.scenario new.function else true) true
@@ -524,7 +541,16 @@ sides-ended g o s m =
       bodies = m.bodies;
       fit = all-set (is_fit_greenlet s.scenario) s.greenlets g new own m.fit;
       known = known-objects s.scenario u.greenlets u.items s.objects (map (without_member g) s.objects) (λ w d. kinds-map (without_member g) (left-kept g) s.objects) (known-set s.scenario s.greenlets g new u.items s.objects refl less.known);
+      offers = offers-map (without_member g) s.objects u.items s.next_since (member-offers g) less.offers;
     })
+  where
+    spared : (p : ℕ) (d : Delivery) → not (is_offering g d) ≡ true → is_offered_on p d ≡ true → not (goes_at_end g o d) ≡ true
+    spared p (Delivery.Wake k w) e z = waits-spared g p (Delivery.Wake k w) e z
+    spared p (Delivery.Start k deadline) e z = absurd (cc z)
+    spared p (Delivery.Late k deadline n) e z = absurd (cc z)
+    spared p (Delivery.Timeout k n deadline) e z = absurd (cc z)
+    spared p (Delivery.Kill k f) e z = absurd (cc z)
+    spared p (Delivery.Link n k kind f) e z = absurd (cc z)
 
 -- the timeouts of others are held as before
 pub held-ended : (g : ℕ) (o : Outcome) (ns : List ℕ) (s : State) → AreHeldBy g ns s.greenlets s.items → AreHeld (ended g o s).greenlets (ended g o s).items

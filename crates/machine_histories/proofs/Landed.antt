@@ -35,7 +35,10 @@ use Rattle.machine_soundness.proofs.Landings.{goes_on-plain, goes_on-raw, land-s
 use Rattle.machine_soundness.proofs.States.{IsHost, Moves, host_of-phased, length-phased, host-drop, host-ended, host-say, kept-drop, kept-ended, kept-say, live-unclaimed, moving, plain-phased}
 use Rattle.machine_histories.proofs.Histories.{History, tells-line, with_line}
 use Rattle.machine_histories.proofs.Settled.{is_settled, settled-live, settled-timeouts}
-use Rattle.machine_histories.proofs.Ties.{IsOwn, is_over, any-kept, free-wakeless, has_wake, lawful-own, live-not-over, ties-drop, ties-live, ties-loose, ties-own, ties-say}
+use Rattle.machine_offers.specs.Offers.{is_offered_on}
+use Rattle.machine_offers.proofs.Offers.{offers-drop}
+use Rattle.machine_offers.proofs.Anys.{any-kept}
+use Rattle.machine_histories.proofs.Ties.{IsOwn, is_over, free-wakeless, has_wake, lawful-own, live-not-over, ties-drop, ties-live, ties-loose, ties-own, ties-say}
 use Rattle.machine_texts.specs.Texts.{fits_phase, fits_rest, is_fit_greenlet, is_raw_function}
 use Rattle.machine_histories.proofs.Placed.{IsPlaced, held-live, placed-frame, placed-start, unstarted-free}
 use Rattle.machine_histories.proofs.Goings.{AreHeld, AreHeldBy, At, Ends, Goes, Hosted, Loose, greenlet-fit, held-ended, lawful-ended, main-ended, parked-all, parked-ended, settled-ended, sides-drop, sides-ended, ties-ended, known-set}
@@ -100,7 +103,7 @@ loose-drop b g h ns s m =
       ties = ties-drop (Some g) m.story (is_timeout_of g ns) s m.ties;
       parking = λ k e p l. any-kept (λ (i : Item). not (is_timeout_of g ns i.delivery)) (λ (i : Item). is_wake_of k i.delivery) s.items (λ i. by k i.delivery) (m.parking k e p l);
       main = m.main;
-      sides = sides-drop (is_timeout_of g ns) s m.sides;
+      sides = sides-drop (is_timeout_of g ns) s (offers-drop (is_timeout_of g ns) s.objects s.items s.next_since (λ o d e. spared o d e) m.sides.offers) m.sides;
     }
   where
     by : (k : ℕ) (d : Delivery) → is_wake_of k d ≡ true → not (is_timeout_of g ns d) ≡ true
@@ -110,6 +113,10 @@ loose-drop b g h ns s m =
     by k (Delivery.Timeout j n deadline) z = absurd (cc z)
     by k (Delivery.Kill j f) z = absurd (cc z)
     by k (Delivery.Link n j kind f) z = absurd (cc z)
+
+    spared : (o : ℕ) (d : Delivery) → is_offered_on o d ≡ true → not (is_timeout_of g ns d) ≡ true
+    spared o (Delivery.Timeout j n deadline) z = absurd (cc z)
+    spared o d z = refl
 
 -- a line of it
 pub loose-say : (b : History) (g h : ℕ) (line : Line) (s : State) → IsOwn g line → ((before : List Line) → throws_at_parked before line ≡ true) → has_wake g s.items ≡ false → Loose b g h s → Loose b g h (say line s)
@@ -124,7 +131,7 @@ loose-say b g h line s o calm w m =
           (ties-own (Some g) g line m.story s o (λ e. absurd (unsame g e)) w m.ties);
       parking = m.parking;
       main = m.main;
-      sides = record { kills = m.sides.kills; bodies = m.sides.bodies; fit = m.sides.fit; known = m.sides.known };
+      sides = record { kills = m.sides.kills; bodies = m.sides.bodies; fit = m.sides.fit; known = m.sides.known; offers = m.sides.offers };
     }
   where
     unsame : (a : ℕ) → (a == a) ≡ false → ⊥
@@ -144,7 +151,7 @@ now-live b g h frame s fits held moves apart m =
           let q : is_plain s.greenlets k ≡ true = sym (plain-phased g (Phase.Live frame) s k) ∙ p in
           m.parking k e q (ap is_under_way (sym (phase-other s.greenlets g k new (unequal g k (apart k e q)))) ∙ l);
       main = main (0 == g) refl;
-      sides = record { kills = m.sides.kills; bodies = m.sides.bodies; fit = all-set (is_fit_greenlet s.scenario) s.greenlets g new own m.sides.fit; known = known-set s.scenario s.greenlets g new s.items s.objects refl m.sides.known };
+      sides = record { kills = m.sides.kills; bodies = m.sides.bodies; fit = all-set (is_fit_greenlet s.scenario) s.greenlets g new own m.sides.fit; known = known-set s.scenario s.greenlets g new s.items s.objects refl m.sides.known; offers = m.sides.offers };
       held = held;
     }
   where
@@ -164,14 +171,15 @@ now-live b g h frame s fits held moves apart m =
 
 -- ---- one that is not raw
 
-after_end-plain-at : (up : Landing) (b : History) (g : ℕ) (ns : List ℕ) (o : Outcome) (s : State) → (greenlet g s).raw ≡ false → AreHeldBy g ns s.greenlets s.items → Loose b g g s → At b (after_end up g o s)
-after_end-plain-at up b g ns o s e held m = by (greenlet g s).raw e (g == 0) refl
+after_end-plain-at : (up : Landing) (b : History) (g : ℕ) (ns : List ℕ) (o : Outcome) (s : State) → (greenlet g s).raw ≡ false → has_no_wait g s.items ≡ true → AreHeldBy g ns s.greenlets s.items → Loose b g g s →
+    At b (after_end up g o s)
+after_end-plain-at up b g ns o s e free held m = by (greenlet g s).raw e (g == 0) refl
   where
     out : Outcome
     out = kept o
 
     told : Ends b (ended g (kept o) s)
-    told = record { story = with_line (Line.End g out) m.story; tells = tells-line b m.story s.lines s.posts (Line.End g out) (lawful-ended (Some g) g out m.story s m.going m.ties) m.tells; kept = kept-ended g out s m.kept; sides = sides-ended g out s m.sides; held = held-ended g out ns s held }
+    told = record { story = with_line (Line.End g out) m.story; tells = tells-line b m.story s.lines s.posts (Line.End g out) (lawful-ended (Some g) g out m.story s m.going m.ties) m.tells; kept = kept-ended g out s m.kept; sides = sides-ended g out s free m.sides; held = held-ended g out ns s held }
 
     turned : (a : ℕ) → (a == 0) ≡ false → (0 == a) ≡ false
     turned a e = grind (arith, nat_tests, e)
@@ -189,7 +197,7 @@ after_end-plain-at up b g ns o s e held m = by (greenlet g s).raw e (g == 0) ref
         ties = ties-ended g out m.story s m.there m.ties;
         parking = parked-all g out s m.there m.parking;
         main = main-ended g out s (unequal g 0 z) (m.main (turned g z));
-        sides = sides-ended g out s m.sides;
+        sides = sides-ended g out s free m.sides;
         held = held-ended g out ns s held;
       },
       settled-ended g out s,
@@ -210,7 +218,7 @@ goes_on-plain-at up b g (Unwound.Runs left locals todo) s p u f h placed m =
     (g, now-live b g g frame t placed.fits (held-live g left (record (greenlet g s) { phase = Phase.Live frame }) (greenlet g s) frame s.greenlets s.items m.there refl placed.held) moves (λ k e q. itself-only g k e) (loose-drop b g g left s m), settled-live g frame t m.going m.there (settled-timeouts g left s h))
 goes_on-plain-at up b g (Unwound.Out left how) s p u f h placed m =
     after_end-plain-at up b g left (outcome_of_leaving how) (drop_items (is_timeout_of g left) s) (plain-raw s.greenlets g p)
-    (all-filter _ _ _ s.items (λ i k z. z) placed.held) (loose-drop b g g left s m)
+    (all-filter _ _ _ s.items (λ i k z. z) f) (all-filter _ _ _ s.items (λ i k z. z) placed.held) (loose-drop b g g left s m)
 
 -- ---- a raw one
 
@@ -265,7 +273,7 @@ after_end-raw-at n up b g h k ns o s l few within e c host held m = by (greenlet
       ties = ties-ended g out m.story s m.there m.ties;
       parking = parked-ended (Some h) g out s m.there m.parking;
       main = main-ended g out s not-main (m.main (apart g not-main));
-      sides = sides-ended g out s m.sides;
+      sides = sides-ended g out s (raw-free g s e m.kept) m.sides;
       held = held-ended g out ns s held;
     }
 

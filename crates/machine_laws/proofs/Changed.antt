@@ -1,6 +1,6 @@
 -- Worked traces whose lines are changed, and the laws that each change breaks: by computation.
-use Rattle.std.proofs.Common.{◌≡◌, refl, ℕ, ◌+◌, List, [], ◌∷◌, ◌++◌, map, Bool, true, false, codes, pos}
-use Rattle.std.specs.Prelude.{Option, Some, None, take, drop, if◌then◌else◌}
+use Rattle.std.proofs.Common.{◌≡◌, refl, ℕ, ◌+◌, List, [], ◌∷◌, ◌++◌, map, Bool, codes, pos}
+use Rattle.std.specs.Prelude.{Some, None, take, drop, if◌then◌else◌}
 use Rattle.gv_values.specs.declared.fault.FaultKind.{FaultKind}
 use Rattle.gv_values.specs.declared.job.Answer.{Answer}
 use Rattle.gv_values.specs.declared.job.Job.{Job}

@@ -4,7 +4,6 @@ use Rattle.std.proofs.lemmas.Bool.Decides.{nat_tests}
 use Rattle.std.proofs.lemmas.List.Sums.{sum_by-cons}
 use Rattle.std.specs.Prelude.{not, ◌==◌, ◌&&◌, ◌||◌, slice_get, slice_set, Option, Some, None, if◌then◌else◌, is_none, nat_le, find, count_by, unwrap_or, Contains}
 use Rattle.std.specs.List.{list_any, list_all}
-use Rattle.std.proofs.lemmas.List.{length-map}
 use Rattle.gv_values.specs.declared.value.Value.{Value}
 use Rattle.gv_values.specs.declared.value.Outcome.{Outcome}
 use Rattle.gv_values.specs.declared.value.Whom.{Whom}
@@ -61,7 +60,10 @@ use Rattle.machine_texts.specs.Kinds.{kinds}
 use Rattle.machine_texts.proofs.KindLemmas.{first-kinds, flag-kept, freed-kept, kinds-map, kinds-set, offer_gone-kept}
 use Rattle.machine_histories.proofs.Histories.{History, IsLawful, Tells, at_first, tells-line, tells-nothing, with_line}
 use Rattle.machine_histories.proofs.Settled.{is_settled, outcome-phase, outcome_at, same-equal, same_bool, settled-more, settled-settle, settled-taken}
-use Rattle.machine_histories.proofs.Ties.{IsJobTold, IsOwn, Ties, any-end, any-kept, any-settle, begun-more, count-other, free-wakeless, is_over, lawful-own, live-begun, live-not-over, over-more, told-other, ties-drop, ties-greenlets, ties-items, ties-loose, ties-own, ties-say, ties-settle}
+use Rattle.machine_offers.specs.Offers.{awaits_taking, offers_at, offers_of}
+use Rattle.machine_offers.proofs.Offers.{AreKeptOffers, HasNoOffer, fewer-same, flag-offers, freed-offers, late-offerless, numbered-unawaited, offers-broken_off, offers-drop_of, offers-first, offers-gone, offers-items, offers-set, unclaimed-offerless, unfound-offerless, waits-spared}
+use Rattle.machine_offers.proofs.Anys.{any-end, any-kept}
+use Rattle.machine_histories.proofs.Ties.{IsJobTold, IsOwn, Ties, any-settle, begun-more, count-other, free-wakeless, is_over, lawful-own, live-begun, live-not-over, over-more, told-other, ties-drop, ties-greenlets, ties-items, ties-loose, ties-own, ties-say, ties-settle}
 use Rattle.machine_texts.specs.Texts.{IsFitText, is_fit_greenlet, is_held, HasMain, fits_item, fits_link, is_function}
 use Rattle.machine_histories.proofs.Placed.{placed-start}
 use Rattle.machine_histories.proofs.Goings.{AreHeld, AreParkedBut, At, Ends, Goes, Loose, Rests, Sides, goes-settle, held-more, parked-more, rests-objects, rests-settle, sides-drop, sides-settle, known-items, known-made, known-objects}
@@ -117,16 +119,16 @@ claim-gone low next (suc n) c (j ∷ items) i f h k e =
     let mine : not (same_claim (Some c) (claim_of j.delivery)) ≡ true = ap not (same-turned (Some c) (claim_of j.delivery)) ∙ told in
     subst (λ (b : Bool). is_unclaimed (Some c) (if b then items else (j ∷ without i.since items)) ≡ true) (sym other) (both _ _ mine rest)
 
-sides-taken : (i : Item) (s : State) → Sides s → Sides (without_item i s)
-sides-taken i s m = let less = count-fewer (λ (j : Item). is_kill j.delivery) i.since s.items in let k = m.kills in record { kills = omega (arith, less, k); bodies = m.bodies; fit = m.fit; known = known-items s.scenario s.greenlets s.items (without i.since s.items) s.objects (λ p e. all-without p i.since s.items e) m.known }
+sides-taken : (n : ℕ) (i : Item) (s : State) → IsKept s → slice_get s.items n ≡ Some i → is_numbered i ≡ true → Sides s → Sides (without_item i s)
+sides-taken n i s kept there numbered m = let less = count-fewer (λ (j : Item). is_kill j.delivery) i.since s.items in let k = m.kills in record { kills = omega (arith, less, k); bodies = m.bodies; fit = m.fit; known = known-items s.scenario s.greenlets s.items (without i.since s.items) s.objects (λ p e. all-without p i.since s.items e) m.known; offers = offers-items s.objects s.items (without i.since s.items) s.next_since (λ p e. all-without p i.since s.items e) (λ o k e. any-without (awaits_taking o k) 0 s.next_since n s.items i (ascends s kept.sound) there (numbered-unawaited o k i numbered) ∙ e) m.offers }
 
 parked-taken : (x : Option ℕ) (n : ℕ) (i : Item) (s : State) → IsKept s → slice_get s.items n ≡ Some i → ((k : ℕ) → is_some_number k x ≡ false → is_wake_of k i.delivery ≡ false) →
     AreParkedBut x s → AreParkedBut x (without_item i s)
 parked-taken x n i s kept there w f k e p l =
     any-without (λ (j : Item). is_wake_of k j.delivery) 0 s.next_since n s.items i (ascends s kept.sound) there (w k e) ∙ f k e p l
 
-rests-taken : (b : History) (n : ℕ) (i : Item) (s : State) → slice_get s.items n ≡ Some i → ((k : ℕ) → is_wake_of k i.delivery ≡ false) → Rests b s → Rests b (without_item i s)
-rests-taken b n i s there w m =
+rests-taken : (b : History) (n : ℕ) (i : Item) (s : State) → slice_get s.items n ≡ Some i → is_numbered i ≡ true → ((k : ℕ) → is_wake_of k i.delivery ≡ false) → Rests b s → Rests b (without_item i s)
+rests-taken b n i s there numbered w m =
     record {
       kept = kept-without i s m.kept;
       story = m.story;
@@ -134,7 +136,7 @@ rests-taken b n i s there w m =
       ties = ties-items None m.story (without i.since s.items) s (λ p e. all-without p i.since s.items e) m.ties;
       parking = parked-taken None n i s m.kept there (λ k e. w k) m.parking;
       main = m.main;
-      sides = sides-taken i s m.sides;
+      sides = sides-taken n i s m.kept there numbered m.sides;
       held = all-without _ i.since s.items m.held;
     }
 
@@ -161,8 +163,8 @@ turned a b = grind (arith, nat_tests)
 -- its wait goes, with a line of its own
 unparked : (b : History) (g : ℕ) (line : Line) (s : State) (story : History) → IsOwn g line → throws_at_parked story.past line ≡ true → is_plain s.greenlets g ≡ true →
     is_under_way (phase_of g s.greenlets) ≡ true → IsKept s → Tells b story s.lines s.posts → Ties None story s → AreParkedBut (Some g) s →
-    is_under_way (phase_of 0 s.greenlets) ≡ true → Sides s → AreHeld s.greenlets s.items → Goes b g g (say line (without_wait g s))
-unparked b g line s story o parked p l kept tells ties parking main sides held =
+    is_under_way (phase_of 0 s.greenlets) ≡ true → Sides s → AreKeptOffers s.objects (without_wait g s).items s.next_since → AreHeld s.greenlets s.items → Goes b g g (say line (without_wait g s))
+unparked b g line s story o parked p l kept tells ties parking main sides offers held =
     let t = without_wait g s in
     record {
       moves = free-moves g (say line t) p l (no-wait-left g s) (kept-say line t (kept-drop (is_wait_of g) s kept));
@@ -172,7 +174,7 @@ unparked b g line s story o parked p l kept tells ties parking main sides held =
           (ties-own None g line story t o (λ e. live-begun _ l) (free-wakeless g t.items (no-wait-left g s)) (ties-drop None story (is_wait_of g) s ties));
       parking = λ k e q d. any-kept (λ (i : Item). not (is_wait_of g i.delivery)) (λ (i : Item). is_wake_of k i.delivery) s.items (λ i. by k e i.delivery) (parking k e q d);
       main = main;
-      sides = record { kills = (sides-drop (is_wait_of g) s sides).kills; bodies = sides.bodies; fit = sides.fit; known = (sides-drop (is_wait_of g) s sides).known };
+      sides = record { kills = (sides-drop (is_wait_of g) s offers sides).kills; bodies = sides.bodies; fit = sides.fit; known = (sides-drop (is_wait_of g) s offers sides).known; offers = offers };
       held = all-filter _ _ _ s.items (λ i k z. z) held;
     }
   where
@@ -186,7 +188,8 @@ unparked b g line s story o parked p l kept tells ties parking main sides held =
 
 pub interrupts-at : (b : History) (g : ℕ) (f : FaultKind) (s : State) → is_plain s.greenlets g ≡ true → is_under_way (phase_of g s.greenlets) ≡ true → Rests b s → At b (interrupts g f s)
 unfolding interrupts
-interrupts-at b g f s p l m = of (without_offer_by (since_of_wake g s.items) s) (plain (since_of_wake g s.items)) (going (since_of_wake g s.items)) (rests (since_of_wake g s.items))
+interrupts-at b g f s p l m =
+    of (without_offer_by (since_of_wake g s.items) s) (plain (since_of_wake g s.items)) (going (since_of_wake g s.items)) (rests (since_of_wake g s.items)) (offers (since_of_wake g s.items) refl)
   where
     plain : (o : Option ℕ) → is_plain (without_offer_by o s).greenlets g ≡ true
     plain None = p
@@ -198,21 +201,27 @@ interrupts-at b g f s p l m = of (without_offer_by (since_of_wake g s.items) s) 
 
     rests : (o : Option ℕ) → Rests b (without_offer_by o s)
     rests None = m
-    rests (Some since) = rests-objects b (map (without_offer since) s.objects) s (kinds-map (without_offer since) (offer_gone-kept since) s.objects) (offer-gone (Some since) s m.kept) m
+    rests (Some since) = rests-objects b (map (without_offer since) s.objects) s (kinds-map (without_offer since) (offer_gone-kept since) s.objects) (offers-gone since s.objects s.items s.next_since m.sides.offers) (offer-gone (Some since) s m.kept) m
 
-    of : (u : State) → is_plain u.greenlets g ≡ true → is_under_way (phase_of g u.greenlets) ≡ true → Rests b u → At b (answered g (Outcome.Fault f) (settle (say (Line.Throw g f) (without_wait g u))))
-    of u p l m =
+    offers : (o : Option ℕ) → since_of_wake g s.items ≡ o → AreKeptOffers (without_offer_by o s).objects (without_wait g (without_offer_by o s)).items (without_offer_by o s).next_since
+    offers None e = offers-drop_of g (is_wait_of g) s.objects s.items s.next_since (λ o d. waits-spared g o d) (unfound-offerless g s.items (singles s m.kept.sound) e) m.sides.offers
+    offers (Some since) e = offers-broken_off g since s.objects s.items s.next_since (singles s m.kept.sound) e m.sides.offers
+
+    of : (u : State) → is_plain u.greenlets g ≡ true → is_under_way (phase_of g u.greenlets) ≡ true → Rests b u → AreKeptOffers u.objects (without_wait g u).items u.next_since → At b (answered g (Outcome.Fault f) (settle (say (Line.Throw g f) (without_wait g u))))
+    of u p l m offers =
         let t = say (Line.Throw g f) (without_wait g u) in
         let park = m.ties.parked g (m.parking g refl p l) in
         answered-at b g g (Outcome.Fault f) (settle t) (settled-settle t)
-        (goes-settle b g g t (unparked b g (Line.Throw g f) u m.story (own-throw g f) park p l m.kept m.tells m.ties (λ k e q d. m.parking k refl q d) m.main m.sides m.held))
+        (goes-settle b g g t (unparked b g (Line.Throw g f) u m.story (own-throw g f) park p l m.kept m.tells m.ties (λ k e q d. m.parking k refl q d) m.main m.sides offers m.held))
 
-late-at : (b : History) (g n : ℕ) (w : Option Waiting) (s : State) → is_plain s.greenlets g ≡ true → is_under_way (phase_of g s.greenlets) ≡ true → is_settled s ≡ true → Rests b s → At b (late g n w s)
-late-at b g n None s p l st m = (m, st)
-late-at b g n (Some w) s p l st m =
+late-at : (b : History) (g n : ℕ) (w : Option Waiting) (s : State) → is_plain s.greenlets g ≡ true → is_under_way (phase_of g s.greenlets) ≡ true → is_settled s ≡ true → HasNoOffer g s.items → Rests b s →
+    At b (late g n w s)
+late-at b g n None s p l st none m = (m, st)
+late-at b g n (Some w) s p l st none m =
     let t = without_wait g (say (Line.Resume g Resumed.Late) s) in
     answered-at b g g (late_outcome w n (settle t)) (settle t) (settled-settle t)
-    (goes-settle b g g t (unparked b g (Line.Resume g Resumed.Late) s m.story (own-resume g Resumed.Late) refl p l m.kept m.tells m.ties (λ k e q d. m.parking k refl q d) m.main m.sides m.held))
+    (goes-settle b g g t (unparked b g (Line.Resume g Resumed.Late) s m.story (own-resume g Resumed.Late) refl p l m.kept m.tells m.ties (λ k e q d. m.parking k refl q d) m.main m.sides
+    (offers-drop_of g (is_wait_of g) s.objects s.items s.next_since (λ o d. waits-spared g o d) none m.sides.offers) m.held))
 
 -- ---- starts
 
@@ -272,7 +281,7 @@ calls-at b k g f s e st m over = by (has_greenlet_left s)
         (settled-more y t refl st) (kept-made false 0 f (Value.Greenlet g ∷ []) t m.kept) m.story m.tells
         (ties-greenlets None m.story (s.greenlets ++ y ∷ []) t (λ j. over-more s.greenlets y j refl) (λ j. begun-more s.greenlets y j) m.ties)
         (λ j e. parked-more None y t refl m.parking j refl) (λ e. live-more s.greenlets _ 0 m.main)
-        (record { kills = m.sides.kills; bodies = m.sides.bodies; fit = all-end (is_fit_greenlet s.scenario) s.greenlets y m.sides.fit refl; known = known-made s.scenario s.greenlets y s.items s.objects e m.sides.known })
+        (record { kills = m.sides.kills; bodies = m.sides.bodies; fit = all-end (is_fit_greenlet s.scenario) s.greenlets y m.sides.fit refl; known = known-made s.scenario s.greenlets y s.items s.objects e m.sides.known; offers = m.sides.offers })
         (held-more s.greenlets (y ∷ []) s.items m.held)
     by false = over
 
@@ -282,7 +291,7 @@ linked : (b : History) (n k g : ℕ) (kind : LinkKind) (f : ℕ) (call : LinkCal
 linked b n k g kind f call i s is there numbered st m =
     let line = Line.Link k g call in
     let t = without_item i s in
-    let r = rests-taken b n i s there (λ j. ap (is_wake_of j) is) m in
+    let r = rests-taken b n i s there numbered (λ j. ap (is_wake_of j) is) m in
     record {
       kept = kept-say line t (kept-without i s m.kept);
       story = with_line line m.story;
@@ -290,7 +299,7 @@ linked b n k g kind f call i s is there numbered st m =
       ties = ties-say None (with_line line m.story) line t (ties (ties-items None m.story (without i.since s.items) s (λ p e. all-without p i.since s.items e) m.ties));
       parking = r.parking;
       main = m.main;
-      sides = record { kills = r.sides.kills; bodies = r.sides.bodies; fit = r.sides.fit; known = r.sides.known };
+      sides = record { kills = r.sides.kills; bodies = r.sides.bodies; fit = r.sides.fit; known = r.sides.known; offers = r.sides.offers };
       held = r.held;
     }
   where
@@ -382,7 +391,7 @@ called-at b k g (LinkKind.Set o) f s z st over m =
         };
         parking = r.parking;
         main = r.main;
-        sides = record { kills = r.sides.kills; bodies = r.sides.bodies; fit = r.sides.fit; known = known-objects s.scenario s.greenlets s.items s.objects (slice_set s.objects o (with_flag true (object_at o s))) (λ w d. kinds-set s.objects o (with_flag true (object_at o s)) (flag-kept true (object_at o s))) r.sides.known };
+        sides = record { kills = r.sides.kills; bodies = r.sides.bodies; fit = r.sides.fit; known = known-objects s.scenario s.greenlets s.items s.objects (slice_set s.objects o (with_flag true (object_at o s))) (λ w d. kinds-set s.objects o (with_flag true (object_at o s)) (flag-kept true (object_at o s))) r.sides.known; offers = offers-set s.objects o (with_flag true (object_at o s)) s.items s.next_since (fewer-same (offers_at o s.objects) (offers_of (with_flag true (object_at o s))) (flag-offers true (object_at o s))) r.sides.offers };
         held = r.held;
       }),
       settled-settle t,
@@ -411,28 +420,32 @@ taken-at b n i (Delivery.Start g deadline) s e there numbered st m =
     (all-without _ i.since s.items (asleep-free g s (unstarted-not-live (phase_of g s.greenlets) new) m.kept))
     (settled-free n i (Delivery.Start g deadline) s e there (λ test. refl) st m.kept) (kept-without i s m.kept) m.story m.tells
     (ties-items None m.story (without i.since s.items) s (λ p h. all-without p i.since s.items h) m.ties)
-    (λ k z. parked-taken None n i s m.kept there (λ j y. ap (is_wake_of j) (sym e)) m.parking k refl) (λ z. m.main) (sides-taken i s m.sides) (all-without _ i.since s.items m.held)
+    (λ k z. parked-taken None n i s m.kept there (λ j y. ap (is_wake_of j) (sym e)) m.parking k refl) (λ z. m.main) (sides-taken n i s m.kept there numbered m.sides) (all-without _ i.since s.items m.held)
 taken-at b n i (Delivery.Wake g w) s e there numbered st m =
     let u = without_item i s in
     let line = Line.Resume g Resumed.Wake in
     let t = without_wait g (say line u) in
     let plain : is_plain u.greenlets g ≡ true = owned n i (Delivery.Wake g w) s e there m.kept in
+    let sides : Sides u = sides-taken n i s m.kept there numbered m.sides in
     let went : Goes b g g t =
     unparked b g line u m.story (own-resume g Resumed.Wake) refl plain (claimed n i (Delivery.Wake g w) s e there m.kept) (kept-without i s m.kept) m.tells
     (ties-items None m.story (without i.since s.items) s (λ p h. all-without p i.since s.items h) m.ties)
-    (parked-taken (Some g) n i s m.kept there (λ k z. ap (is_wake_of k) (sym e) ∙ z) (λ k z. m.parking k refl)) m.main (sides-taken i s m.sides) (all-without _ i.since s.items m.held) in
+    (parked-taken (Some g) n i s m.kept there (λ k z. ap (is_wake_of k) (sym e) ∙ z) (λ k z. m.parking k refl)) m.main sides
+    (offers-drop_of g (is_wait_of g) u.objects u.items u.next_since (λ o d. waits-spared g o d)
+    (unclaimed-offerless g u.items (claim-gone 0 s.next_since n (Claim.WakeOf g) s.items i (ap claim_of (sym e)) (ascends s m.kept.sound) (singles s m.kept.sound) there)) sides.offers) (all-without _ i.since s.items m.held) in
     follows-at b g g (completes g i.since w t) (completes-at b g g i.since w t plain (item-fits b n i (Delivery.Wake g w) s e there m) went)
 taken-at b n i (Delivery.Late g deadline j) s e there numbered st m =
     late-at b g j (waiting_of g (without_item i s).items) (without_item i s) (owned n i (Delivery.Late g deadline j) s e there m.kept) (claimed n i (Delivery.Late g deadline j) s e there m.kept)
-    (settled-free n i (Delivery.Late g deadline j) s e there (λ test. refl) st m.kept) (rests-taken b n i s there (λ k. ap (is_wake_of k) (sym e)) m)
+    (settled-free n i (Delivery.Late g deadline j) s e there (λ test. refl) st m.kept)
+    (all-without _ i.since s.items (late-offerless g deadline j n i s.objects s.items s.next_since e there m.sides.offers)) (rests-taken b n i s there numbered (λ k. ap (is_wake_of k) (sym e)) m)
 taken-at b n i (Delivery.Timeout g j deadline) s e there numbered st m =
     interrupts-at b g (FaultKind.Timeout j) (without_item i s) (owned n i (Delivery.Timeout g j deadline) s e there m.kept)
-    (left _ (nat_le j s.timeouts) (claimed n i (Delivery.Timeout g j deadline) s e there m.kept)) (rests-taken b n i s there (λ k. ap (is_wake_of k) (sym e)) m)
+    (left _ (nat_le j s.timeouts) (claimed n i (Delivery.Timeout g j deadline) s e there m.kept)) (rests-taken b n i s there numbered (λ k. ap (is_wake_of k) (sym e)) m)
 taken-at b n i (Delivery.Kill g f) s e there numbered st m =
     interrupts-at b g f (without_item i s) (owned n i (Delivery.Kill g f) s e there m.kept) (claimed n i (Delivery.Kill g f) s e there m.kept)
-    (rests-taken b n i s there (λ k. ap (is_wake_of k) (sym e)) m)
+    (rests-taken b n i s there numbered (λ k. ap (is_wake_of k) (sym e)) m)
 taken-at b n i (Delivery.Link k g kind f) s e there numbered st m =
-    called-at b k g kind f (without_item i s) (item-fits b n i (Delivery.Link k g kind f) s e there m) (settled-free n i (Delivery.Link k g kind f) s e there (λ test. refl) st m.kept) (record { story = m.story; tells = m.tells; kept = kept-without i s m.kept; sides = sides-taken i s m.sides; held = all-without _ i.since s.items m.held })
+    called-at b k g kind f (without_item i s) (item-fits b n i (Delivery.Link k g kind f) s e there m) (settled-free n i (Delivery.Link k g kind f) s e there (λ test. refl) st m.kept) (record { story = m.story; tells = m.tells; kept = kept-without i s m.kept; sides = sides-taken n i s m.kept there numbered m.sides; held = all-without _ i.since s.items m.held })
     (λ call. linked b n k g kind f call i s (sym e) there numbered st m)
 
 pub deliver-at : (b : History) (n : ℕ) (i : Item) (s : State) → slice_get s.items n ≡ Some i → is_numbered i ≡ true → is_settled s ≡ true → Rests b s → At b (deliver i s)
@@ -489,11 +502,11 @@ answered-later a q h s l m j e = any-end (is_done_of j) h.answers a ∙ ap (λ b
     by q (Answer.Elapsed t) l = refl
     by q (Answer.Nothing t) l = refl
 
-turned-at : (b : History) (q : Question) (a : Answer) (moment : ℕ) (objects : List Object) (jobs : List JobState) (s : State) → kinds objects ≡ kinds s.objects → length jobs ≡ length s.jobs → moment ≡ moment_of a →
+turned-at : (b : History) (q : Question) (a : Answer) (moment : ℕ) (objects : List Object) (jobs : List JobState) (s : State) → kinds objects ≡ kinds s.objects → AreKeptOffers objects s.items s.next_since → length jobs ≡ length s.jobs → moment ≡ moment_of a →
     ((p : ℕ) (x : JobState) → slice_get jobs p ≡ Some x → is_none x.outcome ≡ true → (slice_get s.jobs p ≡ Some x) × (is_done_of (p + 1) a ≡ false)) → (m : Rests b s) →
     IsLegal m.story.posts m.story.answers q a → IsKept (settle (say (Line.Turn s.turns a) (record s { moment = moment; objects = objects; jobs = jobs }))) →
     Rests (with_answer a b) (settle (say (Line.Turn s.turns a) (record s { moment = moment; objects = objects; jobs = jobs })))
-turned-at b q a moment objects jobs s all same same-moment still m l kept =
+turned-at b q a moment objects jobs s all offers same same-moment still m l kept =
     let line = Line.Turn s.turns a in
     let story = with_answer a (with_line line m.story) in
     let t = record s { moment = moment; objects = objects; jobs = jobs } in
@@ -535,7 +548,7 @@ turned-at b q a moment objects jobs s all same same-moment still m l kept =
       ties = ties-settle None story (say line t) (ties-say None story line t ties);
       parking = λ k e p d. any-settle (is_wake_of k) (say line t) ∙ m.parking k e p d;
       main = m.main;
-      sides = sides-settle (say line t) (record { kills = m.sides.kills; bodies = m.sides.bodies; fit = m.sides.fit; known = known-objects s.scenario s.greenlets s.items s.objects objects (λ w d. all) m.sides.known });
+      sides = sides-settle (say line t) (record { kills = m.sides.kills; bodies = m.sides.bodies; fit = m.sides.fit; known = known-objects s.scenario s.greenlets s.items s.objects objects (λ w d. all) m.sides.known; offers = offers });
       held = all-settle (is_held s.greenlets) (say line t) ∙ m.held;
     }
 
@@ -599,10 +612,11 @@ take_answer-at b q a s m l = (by a refl, settled-settle (say (Line.Turn s.turns 
     of : (j : ℕ) (o : JobOutcome) (t : ℕ) (job : Option JobState) → job_at j s.jobs ≡ job → a ≡ Answer.Done j o t →
         IsKept (settle (say (Line.Turn s.turns a) (arrives j o job (record s { moment = moment_of a })))) → Rests (with_answer a b) (settle (say (Line.Turn s.turns a) (arrives j o job (record s { moment = moment_of a }))))
     of j o t None there e k =
-        turned-at b q a (moment_of a) s.objects s.jobs s refl refl refl (λ p x f z. (f, ap (is_done_of (p + 1)) e ∙ none-there j p x there f)) m l k
+        turned-at b q a (moment_of a) s.objects s.jobs s refl m.sides.offers refl refl (λ p x f z. (f, ap (is_done_of (p + 1)) e ∙ none-there j p x there f)) m l k
     of j o t (Some job) there e k =
         turned-at b q a (moment_of a) (slice_set s.objects job.pool (with_slot_freed (object_at job.pool s))) (slice_set s.jobs (j - 1) (record job { outcome = Some o })) s
-        (kinds-set s.objects job.pool (with_slot_freed (object_at job.pool s)) (freed-kept (object_at job.pool s))) (length-set s.jobs (j - 1) (record job { outcome = Some o })) refl
+        (kinds-set s.objects job.pool (with_slot_freed (object_at job.pool s)) (freed-kept (object_at job.pool s)))
+        (offers-set s.objects job.pool (with_slot_freed (object_at job.pool s)) s.items s.next_since (fewer-same (offers_at job.pool s.objects) (offers_of (with_slot_freed (object_at job.pool s))) (freed-offers (object_at job.pool s))) m.sides.offers) (length-set s.jobs (j - 1) (record job { outcome = Some o })) refl
         (λ p x f z. let u = still-open s.jobs j o job there p x f z in (u.0, ap (is_done_of (p + 1)) e ∙ u.1)) m l k
 
     by : (c : Answer) → a ≡ c → Rests (with_answer a b) (settle (say (Line.Turn s.turns a) (job_done a (record s { moment = moment_of a }))))
@@ -611,11 +625,11 @@ take_answer-at b q a s m l = (by a refl, settled-settle (say (Line.Turn s.turns 
         (of j o t (job_at j s.jobs) refl e (subst (λ z. IsKept (settle (say (Line.Turn s.turns a) (job_done z (record s { moment = moment_of a }))))) e kept))
     by (Answer.Elapsed t) e =
         subst (λ z. Rests (with_answer a b) (settle (say (Line.Turn s.turns a) (job_done z (record s { moment = moment_of a }))))) (sym e)
-        (turned-at b q a (moment_of a) s.objects s.jobs s refl refl refl (λ p x f z. (f, ap (is_done_of (p + 1)) e)) m l
+        (turned-at b q a (moment_of a) s.objects s.jobs s refl m.sides.offers refl refl (λ p x f z. (f, ap (is_done_of (p + 1)) e)) m l
         (subst (λ z. IsKept (settle (say (Line.Turn s.turns a) (job_done z (record s { moment = moment_of a }))))) e kept))
     by (Answer.Nothing t) e =
         subst (λ z. Rests (with_answer a b) (settle (say (Line.Turn s.turns a) (job_done z (record s { moment = moment_of a }))))) (sym e)
-        (turned-at b q a (moment_of a) s.objects s.jobs s refl refl refl (λ p x f z. (f, ap (is_done_of (p + 1)) e)) m l
+        (turned-at b q a (moment_of a) s.objects s.jobs s refl m.sides.offers refl refl (λ p x f z. (f, ap (is_done_of (p + 1)) e)) m l
         (subst (λ z. IsKept (settle (say (Line.Turn s.turns a) (job_done z (record s { moment = moment_of a }))))) e kept))
 
 -- ---- the beginning
@@ -663,7 +677,7 @@ first-ties c =
 pub begins-at : (c : Scenario) → IsFitText c → At at_first (starts lands 0 [] (first_state c))
 begins-at c text =
     starts-new at_first 0 [] (first_state c) refl refl refl refl refl (first-kept c) at_first (tells-nothing at_first) (first-ties c)
-    (λ k e p l. absurd (parked k l)) (λ e. absurd (cc e)) (record { kills = omega arith; bodies = text; fit = refl; known = λ w. record { functions = both _ true w refl; named = refl; declared = first-kinds c.objects } }) refl
+    (λ k e p l. absurd (parked k l)) (λ e. absurd (cc e)) (record { kills = omega arith; bodies = text; fit = refl; known = λ w. record { functions = both _ true w refl; named = refl; declared = first-kinds c.objects }; offers = offers-first c.objects (first_state c).next_since }) refl
   where
     parked : (k : ℕ) → is_under_way (phase_of k (first_state c).greenlets) ≡ true → ⊥
     parked zero l = cc l

@@ -59,13 +59,16 @@ use Rattle.machine_texts.specs.Kinds.{kind_of}
 use Rattle.machine_texts.proofs.KindLemmas.{acquires-fits, flag-kept, result-kept, shut-kept}
 use Rattle.machine_histories.proofs.Histories.{History, tells-line, with_line}
 use Rattle.machine_histories.proofs.Settled.{settled-settle}
-use Rattle.machine_histories.proofs.Ties.{IsOwn, Ties, any-end, any-settle, phase-here, free-wakeless, is_over, is_begun, lawful-own, live-not-over, ties-add, ties-greenlets, ties-live, ties-loose, ties-own, ties-say, ties-settle}
+use Rattle.machine_offers.specs.Offers.{offers_at, offers_of}
+use Rattle.machine_offers.proofs.Offers.{fewer-none, flag-offers, offers-add, shut-offers}
+use Rattle.machine_offers.proofs.Anys.{any-end}
+use Rattle.machine_histories.proofs.Ties.{IsOwn, Ties, any-settle, phase-here, free-wakeless, is_over, is_begun, lawful-own, live-not-over, ties-add, ties-greenlets, ties-live, ties-loose, ties-own, ties-say, ties-settle}
 use Rattle.machine_histories.proofs.Goings.{AreHeldBy, At, Ends, Goes, Loose, greenlet-fit, held-by, held-ended, held-phases, is_held_by, count-end, goes-add, goes-drop, goes-made, goes-object, goes-put, goes-say, goes-settle, hosted-settle, lawful-ended, main-ended, parked-ended, rests-settle, sides-add, sides-ended, sides-settle, ties-ended, known-add, known-set}
-use Rattle.machine_texts.specs.Texts.{fits_phase, fits_request, fits_rest, is_among, is_fit_greenlet, is_raw_function, withins, withins_at, HasMain, fits_link, fits_wait, is_function, is_wanted}
+use Rattle.machine_texts.specs.Texts.{fits_phase, fits_request, fits_rest, is_among, is_fit_greenlet, is_raw_function, withins, withins_at, HasMain, fits_link, is_function, is_wanted}
 use Rattle.machine_texts.proofs.Bodies.{IsFitDid, IsFitUnwound, body_move-fit, unwind-fit}
 use Rattle.machine_histories.proofs.Placed.{frame-fits, placed-of, unstarted-free}
 use Rattle.machine_histories.proofs.Landed.{answered-at, goes-frame, goes-loose, goes_on-at, lands-at}
-use Rattle.machine_histories.proofs.Asked.{IsFineAt, comes-at, goes-ends, goes-hosted, goes-spawned, maps-at, offered-at, on_host-at, own-print, typed-at}
+use Rattle.machine_histories.proofs.Asked.{IsFineAt, is_offer, comes-at, goes-ends, goes-hosted, goes-spawned, maps-at, offered-at, on_host-at, own-print, typed-at}
 
 -- ---- kills
 
@@ -118,7 +121,7 @@ goes-unrun b f k g h args s e m =
       ties = ties-ended k o (with_line line m.story) t there thrown;
       parking = parked-ended (Some h) k o t there m.parking;
       main = main-ended k o t (not-live s.greenlets k 0 args e m.main) m.main;
-      sides = sides-ended k o t (record { kills = m.sides.kills; bodies = m.sides.bodies; fit = m.sides.fit; known = m.sides.known });
+      sides = sides-ended k o t (asleep-free k s asleep m.moves.kept) (record { kills = m.sides.kills; bodies = m.sides.bodies; fit = m.sides.fit; known = m.sides.known; offers = m.sides.offers });
       held = held-ended k o [] t (unstarted-free k [] s.greenlets s.items (ap is_unstarted phase) m.held);
     }
 
@@ -133,7 +136,7 @@ goes-kill b f k g h s moves low m =
       ties = ties-add None m.story (Delivery.Kill k f) s (λ j e. absurd (cc e)) (λ n e. refl) m.ties;
       parking = λ j e p l. any-end (λ (i : Item). is_wake_of j i.delivery) s.items _ ∙ ap (λ z. z || false) (m.parking j e p l);
       main = m.main;
-      sides = record { kills = grind (arith, nat_tests, all, low); bodies = m.sides.bodies; fit = m.sides.fit; known = known-add (Delivery.Kill k f) s (λ w. refl) m.sides.known };
+      sides = record { kills = grind (arith, nat_tests, all, low); bodies = m.sides.bodies; fit = m.sides.fit; known = known-add (Delivery.Kill k f) s (λ w. refl) m.sides.known; offers = offers-add (Delivery.Kill k f) s.objects s.items s.next_since tt m.sides.offers };
       held = all-end _ s.items _ m.held refl;
     }
 
@@ -175,7 +178,7 @@ kills-at b g word f ks how s a m = by (sends_all f ks s) (sends_all-at b f ks g 
   where
     by : (r : Sending) → IsSentAt b g g r → IsFineAt b g g (elim r [ Sending.TooMany t ↦ Performed.Stops StopCause.NoKills t | Sending.Sent t ↦ comes g word (Waiting.Kill ks) how t ])
     by (Sending.TooMany t) n = n
-    by (Sending.Sent t) n = comes-at b g g word (Waiting.Kill ks) how t n.moves.host.plain (λ w. refl) n
+    by (Sending.Sent t) n = comes-at b g g word (Waiting.Kill ks) how t n.moves.host.plain refl (λ w. refl) n
 
 -- ---- links, starts, greenlets
 
@@ -202,7 +205,7 @@ goes-link b g h s m =
       ties = ties-linked m.story s m.ties;
       parking = m.parking;
       main = m.main;
-      sides = record { kills = m.sides.kills; bodies = m.sides.bodies; fit = m.sides.fit; known = m.sides.known };
+      sides = record { kills = m.sides.kills; bodies = m.sides.bodies; fit = m.sides.fit; known = m.sides.known; offers = m.sides.offers };
       held = m.held;
     }
 
@@ -219,7 +222,7 @@ goes-linked b k kind f g h s z m =
       ties = ties-add None m.story (Delivery.Link (s.links + 1) k kind f) t (λ j e. absurd (cc e)) (λ j e. other j e) (ties-linked m.story s m.ties);
       parking = λ j e p l. any-end (λ (i : Item). is_wake_of j i.delivery) s.items _ ∙ ap (λ z. z || false) (m.parking j e p l);
       main = m.main;
-      sides = sides-add (Delivery.Link (s.links + 1) k kind f) t refl z (record { kills = m.sides.kills; bodies = m.sides.bodies; fit = m.sides.fit; known = m.sides.known });
+      sides = sides-add (Delivery.Link (s.links + 1) k kind f) t refl z tt (record { kills = m.sides.kills; bodies = m.sides.bodies; fit = m.sides.fit; known = m.sides.known; offers = m.sides.offers });
       held = all-end _ s.items _ m.held (above-none s.links);
     }
   where
@@ -265,7 +268,7 @@ start_of-at : (b : History) (k g h : ℕ) (s : State) → (greenlet k s).raw ≡
 start_of-at b k g h s r m = by (is_new (greenlet k s).phase && not (has_start k s)) (start_of-fine k g h s r m.moves)
   where
     by : (c : Bool) → Moves g h (if c then starts_at None k s else s) → Goes b g h (if c then starts_at None k s else s)
-    by true moves = goes-add b g h (Delivery.Start k None) s moves (λ j. refl) refl (λ n. refl) refl (λ w. refl) m
+    by true moves = goes-add b g h (Delivery.Start k None) s moves (λ j. refl) refl (λ n. refl) refl (λ w. refl) tt m
     by false moves = m
 
 makes-at : (b : History) (raw : Bool) (parent f : ℕ) (args : List Value) (more : ℕ → State → State) (g h : ℕ) (s : State) →
@@ -283,11 +286,11 @@ releases-at b k o g h (Object.Semaphore counter bound) s e m = by (at_bound coun
   where
     by : (c : Bool) → IsFineAt b g h (if c then raises FaultKind.ValueError s else Performed.Answers nothing (with_object o (Object.Semaphore (counter + 1) bound) s))
     by true = m
-    by false = goes-object b o (Object.Semaphore (counter + 1) bound) g h s (sym (ap kind_of e)) (moves-object o (Object.Semaphore (counter + 1) bound) g h s refl m.moves) m
+    by false = goes-object b o (Object.Semaphore (counter + 1) bound) g h s (sym (ap kind_of e)) (sym (ap offers_of e)) (moves-object o (Object.Semaphore (counter + 1) bound) g h s refl m.moves) m
 releases-at b k o g h (Object.Lock (Some j) depth) s e m = by (k == j)
   where
     by : (c : Bool) → IsFineAt b g h (if c then Performed.Answers nothing (with_object o (Object.Lock (after_release k (depth - 1)) (depth - 1)) s) else raises FaultKind.RuntimeError s)
-    by true = goes-object b o (Object.Lock (after_release k (depth - 1)) (depth - 1)) g h s (sym (ap kind_of e)) (moves-object o (Object.Lock (after_release k (depth - 1)) (depth - 1)) g h s refl m.moves) m
+    by true = goes-object b o (Object.Lock (after_release k (depth - 1)) (depth - 1)) g h s (sym (ap kind_of e)) (sym (ap offers_of e)) (moves-object o (Object.Lock (after_release k (depth - 1)) (depth - 1)) g h s refl m.moves) m
     by false = m
 releases-at b k o g h (Object.Lock None depth) s e m = m
 releases-at b k o g h (Object.Event flag sets) s e m = m
@@ -298,7 +301,7 @@ releases-at b k o g h (Object.Native slots outstanding) s e m = m
 releases-at b k o g h (Object.Channel offers) s e m = m
 
 finishes-at : (b : History) (o g h : ℕ) (x : Object) (s : State) → object_at o s ≡ x → Goes b g h s → IsFineAt b g h (finishes o x s)
-finishes-at b o g h (Object.Queue kind size items (suc n) shut) s e m = goes-object b o (Object.Queue kind size items n shut) g h s (sym (ap kind_of e)) (moves-object o (Object.Queue kind size items n shut) g h s refl m.moves) m
+finishes-at b o g h (Object.Queue kind size items (suc n) shut) s e m = goes-object b o (Object.Queue kind size items n shut) g h s (sym (ap kind_of e)) (sym (ap offers_of e)) (moves-object o (Object.Queue kind size items n shut) g h s refl m.moves) m
 finishes-at b o g h (Object.Queue kind size items zero shut) s e m = m
 finishes-at b o g h (Object.Event flag sets) s e m = m
 finishes-at b o g h (Object.Result x) s e m = m
@@ -307,6 +310,10 @@ finishes-at b o g h (Object.Lock owner depth) s e m = m
 finishes-at b o g h (Object.Crew size members) s e m = m
 finishes-at b o g h (Object.Native slots outstanding) s e m = m
 finishes-at b o g h (Object.Channel offers) s e m = m
+
+acquires-no_offer : (o : ℕ) (y : Object) → is_offer (acquires o y) ≡ false
+acquires-no_offer o (Object.Lock owner depth) = refl
+acquires-no_offer o y = refl
 
 -- ---- parents
 
@@ -323,7 +330,7 @@ goes-parent b child parent g h s moves m =
       ties = ties-greenlets None m.story (slice_set s.greenlets child x) s (λ k. ap is_over (phase k)) (λ k e. ap is_begun (sym (phase k)) ∙ e) m.ties;
       parking = λ k e p l. m.parking k e (sym (parent-plain child parent k s) ∙ p) (ap is_under_way (sym (phase k)) ∙ l);
       main = ap is_under_way (phase 0) ∙ m.main;
-      sides = record { kills = m.sides.kills; bodies = m.sides.bodies; fit = all-set (is_fit_greenlet s.scenario) s.greenlets child x (greenlet-fit s.scenario child s.greenlets m.sides.fit) m.sides.fit; known = known-set s.scenario s.greenlets child x s.items s.objects refl m.sides.known };
+      sides = record { kills = m.sides.kills; bodies = m.sides.bodies; fit = all-set (is_fit_greenlet s.scenario) s.greenlets child x (greenlet-fit s.scenario child s.greenlets m.sides.fit) m.sides.fit; known = known-set s.scenario s.greenlets child x s.items s.objects refl m.sides.known; offers = m.sides.offers };
       held = held-phases s.greenlets (slice_set s.greenlets child x) s.items (λ k. ap withins_at (phase k)) m.held;
     }
   where
@@ -373,11 +380,11 @@ performs-at b (Request.SpawnLater ms f args) g h s e q m =
 performs-at b (Request.New f args) g h s e q m = makes-at b false 0 f args (λ k t. t) g h s m (goes-made b false 0 f args g h s refl (λ w. q) m)
 performs-at b (Request.Start v) g h s e q m =
     typed-at b g h (plain_greenlet s v) s (λ k. done (start_of k s)) m (λ k z. start_of-at b k g h s (plain_greenlet-raw s v k z) m)
-performs-at b (Request.Sleep ms) g h s e q m = comes-at b g h Awaited.Sleep (Waiting.Sleep (s.moment + ms)) Wait.Block s e (λ w. refl) m
+performs-at b (Request.Sleep ms) g h s e q m = comes-at b g h Awaited.Sleep (Waiting.Sleep (s.moment + ms)) Wait.Block s e refl (λ w. refl) m
 performs-at b (Request.Join v how) g h s e q m =
-    typed-at b g h (plain_greenlet s v) s (λ k. comes g (Awaited.Join (Whom.Greenlet k)) (Waiting.Join k) how s) m (λ k z. comes-at b g h (Awaited.Join (Whom.Greenlet k)) (Waiting.Join k) how s e (λ w. refl) m)
+    typed-at b g h (plain_greenlet s v) s (λ k. comes g (Awaited.Join (Whom.Greenlet k)) (Waiting.Join k) how s) m (λ k z. comes-at b g h (Awaited.Join (Whom.Greenlet k)) (Waiting.Join k) how s e refl (λ w. refl) m)
 performs-at b (Request.Get v how) g h s e q m =
-    typed-at b g h (whom_operand s v) s (λ whom. comes g (Awaited.Get whom) (Waiting.Get whom) how s) m (λ whom z. comes-at b g h (Awaited.Get whom) (Waiting.Get whom) how s e (λ w. refl) m)
+    typed-at b g h (whom_operand s v) s (λ whom. comes g (Awaited.Get whom) (Waiting.Get whom) how s) m (λ whom z. comes-at b g h (Awaited.Get whom) (Waiting.Get whom) how s e refl (λ w. refl) m)
 performs-at b (Request.Kill v f how) g h s e q m =
     alone b g h s (typed (plain_greenlet s v) s (λ k. typed (fault_operand f) s (λ fault. kills g (Awaited.Kill (Whom.Greenlet k)) fault (k ∷ []) how s))) e m
     (λ n. typed-at b g g (plain_greenlet s v) s (λ k. typed (fault_operand f) s (λ fault. kills g (Awaited.Kill (Whom.Greenlet k)) fault (k ∷ []) how s)) n
@@ -390,32 +397,32 @@ performs-at b (Request.KillAll v f how) g h s e q m =
     (λ fault y. kills-at b g Awaited.KillAll fault ks how s (plain_greenlet_list-raw s v ks z) n)))
 performs-at b (Request.JoinAll v n how) g h s e q m =
     typed-at b g h (plain_greenlet_list s v) s (λ hs. comes g Awaited.JoinAll (Waiting.JoinAll hs (min (unwrap_or n (length hs)) (length hs))) how s) m
-    (λ hs z. comes-at b g h Awaited.JoinAll (Waiting.JoinAll hs (min (unwrap_or n (length hs)) (length hs))) how s e (λ w. refl) m)
+    (λ hs z. comes-at b g h Awaited.JoinAll (Waiting.JoinAll hs (min (unwrap_or n (length hs)) (length hs))) how s e refl (λ w. refl) m)
 performs-at b (Request.Link v kind f) g h s e q m = typed-at b g h (plain_greenlet s v) s (λ k. links k kind f s) m (λ k z. links-at b k kind f g h s (λ w. q) m)
 performs-at b (Request.Unlink v) g h s e q m = typed-at b g h (int_operand v) s (λ n. done (drop_items (is_link n) s)) m (λ n z. goes-drop b g h (is_link n) s (no-link-wake n) m)
-performs-at b (Request.Set o) g h s e q m = goes-object b o (with_flag true (object_at o s)) g h s (flag-kept true (object_at o s)) (moves-flag true o g h s m.moves) m
-performs-at b (Request.Clear o) g h s e q m = goes-object b o (with_flag false (object_at o s)) g h s (flag-kept false (object_at o s)) (moves-flag false o g h s m.moves) m
-performs-at b (Request.WaitEvent o how) g h s e q m = comes-at b g h (Awaited.Wait (name_of_object o s)) (Waiting.Event o (sets_of (object_at o s))) how s e (λ w. q) m
+performs-at b (Request.Set o) g h s e q m = goes-object b o (with_flag true (object_at o s)) g h s (flag-kept true (object_at o s)) (flag-offers true (object_at o s)) (moves-flag true o g h s m.moves) m
+performs-at b (Request.Clear o) g h s e q m = goes-object b o (with_flag false (object_at o s)) g h s (flag-kept false (object_at o s)) (flag-offers false (object_at o s)) (moves-flag false o g h s m.moves) m
+performs-at b (Request.WaitEvent o how) g h s e q m = comes-at b g h (Awaited.Wait (name_of_object o s)) (Waiting.Event o (sets_of (object_at o s))) how s e refl (λ w. q) m
 performs-at b (Request.ResultSet o v) g h s e q m =
-    goes-put b o (Object.Result (Some (Outcome.Value v))) g h s (λ w d. result-kept s.scenario s.objects o (Object.Result (Some (Outcome.Value v))) q d refl) (moves-object o (Object.Result (Some (Outcome.Value v))) g h s refl m.moves) m
+    goes-put b o (Object.Result (Some (Outcome.Value v))) g h s (λ w d. result-kept s.scenario s.objects o (Object.Result (Some (Outcome.Value v))) q d refl) (fewer-none (offers_at o s.objects)) (moves-object o (Object.Result (Some (Outcome.Value v))) g h s refl m.moves) m
 performs-at b (Request.ResultFail o v) g h s e q m =
     typed-at b g h (fault_operand (Some v)) s (λ f. put_result o (Outcome.Fault f) s) m
-    (λ f z. goes-put b o (Object.Result (Some (Outcome.Fault f))) g h s (λ w d. result-kept s.scenario s.objects o (Object.Result (Some (Outcome.Fault f))) q d refl) (moves-object o (Object.Result (Some (Outcome.Fault f))) g h s refl m.moves) m)
-performs-at b (Request.ResultGet o how) g h s e q m = comes-at b g h (Awaited.ResultGet (name_of_object o s)) (Waiting.ResultGet o) how s e (λ w. q) m
-performs-at b (Request.ResultWait o how) g h s e q m = comes-at b g h (Awaited.ResultWait (name_of_object o s)) (Waiting.ResultWait o) how s e (λ w. q) m
-performs-at b (Request.Acquire o how) g h s e q m = comes-at b g h (Awaited.Acquire (name_of_object o s)) (acquires o (object_at o s)) how s e (λ w. acquires-fits s.scenario s.objects o q (m.sides.known w).declared) m
+    (λ f z. goes-put b o (Object.Result (Some (Outcome.Fault f))) g h s (λ w d. result-kept s.scenario s.objects o (Object.Result (Some (Outcome.Fault f))) q d refl) (fewer-none (offers_at o s.objects)) (moves-object o (Object.Result (Some (Outcome.Fault f))) g h s refl m.moves) m)
+performs-at b (Request.ResultGet o how) g h s e q m = comes-at b g h (Awaited.ResultGet (name_of_object o s)) (Waiting.ResultGet o) how s e refl (λ w. q) m
+performs-at b (Request.ResultWait o how) g h s e q m = comes-at b g h (Awaited.ResultWait (name_of_object o s)) (Waiting.ResultWait o) how s e refl (λ w. q) m
+performs-at b (Request.Acquire o how) g h s e q m = comes-at b g h (Awaited.Acquire (name_of_object o s)) (acquires o (object_at o s)) how s e (acquires-no_offer o (object_at o s)) (λ w. acquires-fits s.scenario s.objects o q (m.sides.known w).declared) m
 performs-at b (Request.Release o) g h s e q m = releases-at b g o g h (object_at o s) s refl m
 performs-at b (Request.QueuePut o v how) g h s e q m = by (takes_value (object_at o s) v)
   where
     by : (c : Bool) → IsFineAt b g h (if c then comes g (Awaited.QueuePut (name_of_object o s)) (Waiting.Put o v) how s else raises FaultKind.TypeError s)
-    by true = comes-at b g h (Awaited.QueuePut (name_of_object o s)) (Waiting.Put o v) how s e (λ w. q) m
+    by true = comes-at b g h (Awaited.QueuePut (name_of_object o s)) (Waiting.Put o v) how s e refl (λ w. q) m
     by false = m
-performs-at b (Request.QueueGet o how) g h s e q m = comes-at b g h (Awaited.QueueGet (name_of_object o s)) (Waiting.Take o) how s e (λ w. q) m
-performs-at b (Request.QueuePeek o how) g h s e q m = comes-at b g h (Awaited.QueuePeek (name_of_object o s)) (Waiting.Peek o) how s e (λ w. q) m
+performs-at b (Request.QueueGet o how) g h s e q m = comes-at b g h (Awaited.QueueGet (name_of_object o s)) (Waiting.Take o) how s e refl (λ w. q) m
+performs-at b (Request.QueuePeek o how) g h s e q m = comes-at b g h (Awaited.QueuePeek (name_of_object o s)) (Waiting.Peek o) how s e refl (λ w. q) m
 performs-at b (Request.QueueDone o) g h s e q m = finishes-at b o g h (object_at o s) s refl m
-performs-at b (Request.QueueJoin o how) g h s e q m = comes-at b g h (Awaited.QueueJoin (name_of_object o s)) (Waiting.Tasks o) how s e (λ w. q) m
-performs-at b (Request.GroupSpawn o f args) g h s e q m = comes-at b g h (Awaited.GroupSpawn (name_of_object o s)) (Waiting.Place o f args) Wait.Block s e (λ w. q) m
-performs-at b (Request.GroupJoin o how) g h s e q m = comes-at b g h (Awaited.GroupJoin (name_of_object o s)) (Waiting.Members o) how s e (λ w. q) m
+performs-at b (Request.QueueJoin o how) g h s e q m = comes-at b g h (Awaited.QueueJoin (name_of_object o s)) (Waiting.Tasks o) how s e refl (λ w. q) m
+performs-at b (Request.GroupSpawn o f args) g h s e q m = comes-at b g h (Awaited.GroupSpawn (name_of_object o s)) (Waiting.Place o f args) Wait.Block s e refl (λ w. q) m
+performs-at b (Request.GroupJoin o how) g h s e q m = comes-at b g h (Awaited.GroupJoin (name_of_object o s)) (Waiting.Members o) how s e refl (λ w. q) m
 performs-at b (Request.GroupKill o f how) g h s e q m =
     alone b g h s (typed (fault_operand f) s (λ fault. kills g (Awaited.GroupKill (name_of_object o s)) fault (members_of (object_at o s)) how s)) e m
     (λ n. typed-at b g g (fault_operand f) s (λ fault. kills g (Awaited.GroupKill (name_of_object o s)) fault (members_of (object_at o s)) how s) n
@@ -423,7 +430,7 @@ performs-at b (Request.GroupKill o f how) g h s e q m =
 performs-at b (Request.Map o f v) g h s e q m = typed-at b g h (list_operand v) s (λ xs. maps xs g o f [] s) m (λ xs z. maps-at xs b g h o f [] s e (λ w. left _ (is_function s.scenario f) q) (λ w. right (is_wanted s.scenario wanted.GroupOrPool o) _ q) m)
 performs-at b (Request.NativeSpawn o kind v ms) g h s e q m =
     typed-at b g h (int_operand v) s (λ z. comes g (Awaited.NativeSpawn (name_of_object o s)) (Waiting.Slot o (job_of kind z) ms) Wait.Block s) m
-    (λ z x. comes-at b g h (Awaited.NativeSpawn (name_of_object o s)) (Waiting.Slot o (job_of kind z) ms) Wait.Block s e (λ w. q) m)
+    (λ z x. comes-at b g h (Awaited.NativeSpawn (name_of_object o s)) (Waiting.Slot o (job_of kind z) ms) Wait.Block s e refl (λ w. q) m)
 performs-at b (Request.Raw f None) g h s e q m = makes-at b true g f [] (λ k t. t) g h s m (goes-made b true g f [] g h s q (λ w. raw-known s.scenario f q) m)
 performs-at b (Request.Raw f (Some v)) g h s e q m =
     typed-at b g h (any_greenlet v) s (λ k. on_host g k s (makes true k f [] (λ j t. t) s)) m
@@ -436,8 +443,8 @@ performs-at b (Request.Throw v f) g h s e q m =
     (λ k z. typed-at b g h (fault_operand f) s (λ fault. on_host g k s (Performed.Lands k (Outcome.Fault fault) s)) m
     (λ fault y. on_host-at b g h k s (Performed.Lands k (Outcome.Fault fault) s) m (λ same. (same, goes-hosted b g h s m))))
 performs-at b (Request.ChannelPut o v) g h s e q m = offered-at b g h o v s e (λ w. q) m
-performs-at b (Request.ChannelGet o) g h s e q m = comes-at b g h (Awaited.ChannelGet (name_of_object o s)) (Waiting.TakeOffer o) Wait.Block s e (λ w. q) m
-performs-at b (Request.QueueShut o immediate) g h s e q m = goes-object b o (with_shut immediate (object_at o s)) g h s (shut-kept immediate (object_at o s)) (moves-shut immediate o g h s m.moves) m
+performs-at b (Request.ChannelGet o) g h s e q m = comes-at b g h (Awaited.ChannelGet (name_of_object o s)) (Waiting.TakeOffer o) Wait.Block s e refl (λ w. q) m
+performs-at b (Request.QueueShut o immediate) g h s e q m = goes-object b o (with_shut immediate (object_at o s)) g h s (shut-kept immediate (object_at o s)) (shut-offers immediate (object_at o s)) (moves-shut immediate o g h s m.moves) m
 performs-at b (Request.SetParent v w) g h s e q m =
     typed-at b g h (raw_greenlet s v) s (λ child. typed (any_greenlet w) s (λ parent. sets_parent g child parent s)) m
     (λ child z. typed-at b g h (any_greenlet w) s (λ parent. sets_parent g child parent s) m (λ parent y. sets_parent-at b child parent g h s (raw_greenlet-raw s v child z) m))
@@ -474,7 +481,7 @@ loose-drawn b g h s m =
       };
       parking = m.parking;
       main = m.main;
-      sides = record { kills = m.sides.kills; bodies = m.sides.bodies; fit = m.sides.fit; known = m.sides.known };
+      sides = record { kills = m.sides.kills; bodies = m.sides.bodies; fit = m.sides.fit; known = m.sides.known; offers = m.sides.offers };
     }
 
 loose-timed : (b : History) (g h n deadline : ℕ) (s : State) → IsKept (add_item (Delivery.Timeout g n deadline) s) → Loose b g h s → Loose b g h (add_item (Delivery.Timeout g n deadline) s)
@@ -488,7 +495,7 @@ loose-timed b g h n deadline s kept m =
       ties = ties-add (Some g) m.story (Delivery.Timeout g n deadline) s (λ k e. absurd (cc e)) (λ k e. refl) m.ties;
       parking = λ k e p l. any-end (λ (i : Item). is_wake_of k i.delivery) s.items _ ∙ ap (λ z. z || false) (m.parking k e p l);
       main = m.main;
-      sides = sides-add (Delivery.Timeout g n deadline) s refl (λ w. refl) m.sides;
+      sides = sides-add (Delivery.Timeout g n deadline) s refl (λ w. refl) tt m.sides;
     }
 
 loose-settle : (b : History) (g h : ℕ) (s : State) → Loose b g h s → Loose b g h (settle s)
@@ -574,7 +581,7 @@ goes-live b g h frame s fits same m =
       ties = ties-live g frame m.story s there (live-not-over _ m.moves.live) (ties-loose (Some g) m.story s m.ties);
       parking = λ k e p l. m.parking k e (sym (plain-phased g (Phase.Live frame) s k) ∙ p) (was k (g == k) refl l);
       main = live-set s.greenlets g 0 new refl m.main;
-      sides = record { kills = m.sides.kills; bodies = m.sides.bodies; fit = all-set (is_fit_greenlet s.scenario) s.greenlets g new own m.sides.fit; known = known-set s.scenario s.greenlets g new s.items s.objects refl m.sides.known };
+      sides = record { kills = m.sides.kills; bodies = m.sides.bodies; fit = all-set (is_fit_greenlet s.scenario) s.greenlets g new own m.sides.fit; known = known-set s.scenario s.greenlets g new s.items s.objects refl m.sides.known; offers = m.sides.offers };
       held = held-phases s.greenlets (slice_set s.greenlets g new) s.items (λ k. blocks k (g == k) refl) m.held;
     }
   where
@@ -646,7 +653,7 @@ move-at b g h s m =
       };
       parking = m.parking;
       main = m.main;
-      sides = record { kills = m.sides.kills; bodies = m.sides.bodies; fit = m.sides.fit; known = m.sides.known };
+      sides = record { kills = m.sides.kills; bodies = m.sides.bodies; fit = m.sides.fit; known = m.sides.known; offers = m.sides.offers };
       held = m.held;
     } in
     let frame = frame_of (greenlet g s).phase in

@@ -37,7 +37,10 @@ use Rattle.machine_texts.specs.Kinds.{kinds}
 use Rattle.machine_texts.proofs.KindLemmas.{freed-kept, kinds-set}
 use Rattle.machine_histories.proofs.Histories.{History, at_first, tells-nothing}
 use Rattle.machine_histories.proofs.Settled.{is_settled, same_bool, settled-settle}
-use Rattle.machine_histories.proofs.Ties.{IsJobTold, Ties, any-all, any-end, any-settle, count-other, told-other, ties-say, ties-settle}
+use Rattle.machine_offers.specs.Offers.{offers_at, offers_of}
+use Rattle.machine_offers.proofs.Offers.{AreKeptOffers, fewer-same, freed-offers, offers-set}
+use Rattle.machine_offers.proofs.Anys.{any-all, any-end}
+use Rattle.machine_histories.proofs.Ties.{IsJobTold, Ties, any-settle, count-other, told-other, ties-say, ties-settle}
 use Rattle.machine_histories.proofs.Goings.{Rests, sides-settle, known-objects}
 use Rattle.machine.specs.TraceLaws.{is_job_line}
 use Rattle.machine_laws.proofs.Delivered.{begins-at, last-end, still-open}
@@ -263,11 +266,11 @@ or-none : (b : Bool) → (b || false) ≡ b
 or-none true = refl
 or-none false = refl
 
-unheard : (b : History) (line : Line) (moment : ℕ) (objects : List Object) (jobs : List JobState) (s : State) → kinds objects ≡ kinds s.objects → length jobs ≡ length s.jobs →
+unheard : (b : History) (line : Line) (moment : ℕ) (objects : List Object) (jobs : List JobState) (s : State) → kinds objects ≡ kinds s.objects → AreKeptOffers objects s.items s.next_since → length jobs ≡ length s.jobs →
     ((p : ℕ) (x : JobState) → slice_get jobs p ≡ Some x → is_none x.outcome ≡ true → slice_get s.jobs p ≡ Some x) → (m : Rests b s) →
     IsKept (settle (say line (record s { moment = moment; objects = objects; jobs = jobs }))) →
     Rests (with_silence moment m.story) (silent (settle (say line (record s { moment = moment; objects = objects; jobs = jobs }))))
-unheard b line moment objects jobs s all same still m kept =
+unheard b line moment objects jobs s all offers same still m kept =
     let t = record s { moment = moment; objects = objects; jobs = jobs } in
     let story = with_silence moment m.story in
     let passing = Line.Turn 0 (Answer.Elapsed moment) in
@@ -293,7 +296,7 @@ unheard b line moment objects jobs s all same still m kept =
     } in
     let more = ties-settle None story (say line t) (ties-say None story line t ties) in
     let sides = sides-settle (say line t)
-    (record { kills = m.sides.kills; bodies = m.sides.bodies; fit = m.sides.fit; known = known-objects s.scenario s.greenlets s.items s.objects objects (λ w d. all) m.sides.known }) in
+    (record { kills = m.sides.kills; bodies = m.sides.bodies; fit = m.sides.fit; known = known-objects s.scenario s.greenlets s.items s.objects objects (λ w d. all) m.sides.known; offers = offers }) in
     record {
       kept = record { sound = kept.sound; owners = kept.owners; members = kept.members; main = kept.main };
       story = story;
@@ -311,7 +314,7 @@ unheard b line moment objects jobs s all same still m kept =
       };
       parking = λ k e p d. any-settle (is_wake_of k) (say line t) ∙ m.parking k e p d;
       main = m.main;
-      sides = record { kills = sides.kills; bodies = sides.bodies; fit = sides.fit; known = sides.known };
+      sides = record { kills = sides.kills; bodies = sides.bodies; fit = sides.fit; known = sides.known; offers = sides.offers };
       held = all-settle (is_held s.greenlets) (say line t) ∙ m.held;
     }
 
@@ -324,10 +327,11 @@ answer-unheard b a s m = by a refl
 
     of : (j : ℕ) (o : JobOutcome) (job : Option JobState) → job_at j s.jobs ≡ job → IsKept (settle (say (Line.Turn s.turns a) (arrives j o job (record s { moment = moment_of a })))) →
         Rests (with_silence (moment_of a) m.story) (silent (settle (say (Line.Turn s.turns a) (arrives j o job (record s { moment = moment_of a })))))
-    of j o None there k = unheard b (Line.Turn s.turns a) (moment_of a) s.objects s.jobs s refl refl (λ p x e z. e) m k
+    of j o None there k = unheard b (Line.Turn s.turns a) (moment_of a) s.objects s.jobs s refl m.sides.offers refl (λ p x e z. e) m k
     of j o (Some job) there k =
         unheard b (Line.Turn s.turns a) (moment_of a) (slice_set s.objects job.pool (with_slot_freed (object_at job.pool s))) (slice_set s.jobs (j - 1) (record job { outcome = Some o })) s
-        (kinds-set s.objects job.pool (with_slot_freed (object_at job.pool s)) (freed-kept (object_at job.pool s))) (length-set s.jobs (j - 1) (record job { outcome = Some o })) (λ p x e z. (still-open s.jobs j o job there p x e z).0) m k
+        (kinds-set s.objects job.pool (with_slot_freed (object_at job.pool s)) (freed-kept (object_at job.pool s)))
+        (offers-set s.objects job.pool (with_slot_freed (object_at job.pool s)) s.items s.next_since (fewer-same (offers_at job.pool s.objects) (offers_of (with_slot_freed (object_at job.pool s))) (freed-offers (object_at job.pool s))) m.sides.offers) (length-set s.jobs (j - 1) (record job { outcome = Some o })) (λ p x e z. (still-open s.jobs j o job there p x e z).0) m k
 
     by : (c : Answer) → a ≡ c → Rests (with_silence (moment_of a) m.story) (silent (settle (say (Line.Turn s.turns a) (job_done a (record s { moment = moment_of a })))))
     by (Answer.Done j o t) e =
@@ -335,10 +339,10 @@ answer-unheard b a s m = by a refl
         (of j o (job_at j s.jobs) refl (subst (λ z. IsKept (settle (say (Line.Turn s.turns a) (job_done z (record s { moment = moment_of a }))))) e kept))
     by (Answer.Elapsed t) e =
         subst (λ z. Rests (with_silence (moment_of a) m.story) (silent (settle (say (Line.Turn s.turns a) (job_done z (record s { moment = moment_of a })))))) (sym e)
-        (unheard b (Line.Turn s.turns a) (moment_of a) s.objects s.jobs s refl refl (λ p x f z. f) m (subst (λ z. IsKept (settle (say (Line.Turn s.turns a) (job_done z (record s { moment = moment_of a }))))) e kept))
+        (unheard b (Line.Turn s.turns a) (moment_of a) s.objects s.jobs s refl m.sides.offers refl (λ p x f z. f) m (subst (λ z. IsKept (settle (say (Line.Turn s.turns a) (job_done z (record s { moment = moment_of a }))))) e kept))
     by (Answer.Nothing t) e =
         subst (λ z. Rests (with_silence (moment_of a) m.story) (silent (settle (say (Line.Turn s.turns a) (job_done z (record s { moment = moment_of a })))))) (sym e)
-        (unheard b (Line.Turn s.turns a) (moment_of a) s.objects s.jobs s refl refl (λ p x f z. f) m (subst (λ z. IsKept (settle (say (Line.Turn s.turns a) (job_done z (record s { moment = moment_of a }))))) e kept))
+        (unheard b (Line.Turn s.turns a) (moment_of a) s.objects s.jobs s refl m.sides.offers refl (λ p x f z. f) m (subst (λ z. IsKept (settle (say (Line.Turn s.turns a) (job_done z (record s { moment = moment_of a }))))) e kept))
 
 pub settled-answered : (a : Answer) (s : State) → is_settled (silent (take_answer a s)) ≡ true
 unfolding take_answer

@@ -58,7 +58,7 @@ goes-silent b g h s m =
       };
       parking = m.parking;
       main = m.main;
-      sides = record { kills = m.sides.kills; bodies = m.sides.bodies; fit = m.sides.fit; known = m.sides.known };
+      sides = record { kills = m.sides.kills; bodies = m.sides.bodies; fit = m.sides.fit; known = m.sides.known; offers = m.sides.offers };
       held = m.held;
     }
 
@@ -81,7 +81,7 @@ rests-silent b s m =
       };
       parking = m.parking;
       main = m.main;
-      sides = record { kills = m.sides.kills; bodies = m.sides.bodies; fit = m.sides.fit; known = m.sides.known };
+      sides = record { kills = m.sides.kills; bodies = m.sides.bodies; fit = m.sides.fit; known = m.sides.known; offers = m.sides.offers };
       held = m.held;
     }
 
@@ -91,7 +91,7 @@ ends-silent b s m =
       story = m.story;
       tells = tells-nothing m.story;
       kept = record { sound = m.kept.sound; owners = m.kept.owners; members = m.kept.members; main = m.kept.main };
-      sides = record { kills = m.sides.kills; bodies = m.sides.bodies; fit = m.sides.fit; known = m.sides.known };
+      sides = record { kills = m.sides.kills; bodies = m.sides.bodies; fit = m.sides.fit; known = m.sides.known; offers = m.sides.offers };
       held = m.held;
     }
 
@@ -114,7 +114,7 @@ rests-turned b n s m =
       };
       parking = m.parking;
       main = m.main;
-      sides = record { kills = m.sides.kills; bodies = m.sides.bodies; fit = m.sides.fit; known = m.sides.known };
+      sides = record { kills = m.sides.kills; bodies = m.sides.bodies; fit = m.sides.fit; known = m.sides.known; offers = m.sides.offers };
       held = m.held;
     }
 
@@ -139,7 +139,7 @@ rests-blocked b false x s m =
       };
       parking = m.parking;
       main = m.main;
-      sides = record { kills = m.sides.kills; bodies = m.sides.bodies; fit = m.sides.fit; known = m.sides.known };
+      sides = record { kills = m.sides.kills; bodies = m.sides.bodies; fit = m.sides.fit; known = m.sides.known; offers = m.sides.offers };
       held = m.held;
     }
 

@@ -31,14 +31,16 @@ use Rattle.machine_soundness.proofs.States.{meants, singles}
 use Rattle.machine.specs.BodyMoves.{Did}
 use Rattle.machine_soundness.specs.Going.{is_meant_did, next_did}
 use Rattle.machine_soundness.proofs.Greenlets.{live-found}
+use Rattle.machine_reached.proofs.Offered.{offered}
 use Rattle.machine_reached.proofs.Same.{reached-same}
 use Rattle.machine_reached.specs.Bounds.{IsBounded}
+use Rattle.machine_reached.specs.Offers.{AreOffered}
 use Rattle.machine_reached.specs.Meant.{IsMeantText, KnowsText, fits_did}
 use Rattle.machine_laws.specs.Reached.{Reached, state_of}
 use Rattle.machine_texts.specs.Texts.{IsFitText, fits_phase, fits_rest, fits_todo, is_among, is_fit_greenlet, is_held, is_raw_function, left_in, withins, withins_at}
 use Rattle.machine_histories.proofs.Histories.{History, at_first}
 use Rattle.machine_histories.proofs.Settled.{count-same}
-use Rattle.machine_histories.proofs.Ties.{any-imply}
+use Rattle.machine_offers.proofs.Anys.{any-imply}
 use Rattle.machine_histories.proofs.Landed.{cons-distinct, goes-frame}
 use Rattle.machine_histories.proofs.Placed.{any-both, frame-fits}
 use Rattle.machine_texts.proofs.Bodies.{IsFitDid, body_move-fit}
@@ -533,6 +535,21 @@ reached-known c next text r = by next (reached-stands c text next r)
     by (Next.Going g s) a = silent-known s a.1.1.sides.known
     by (Next.Resting s) a = silent-known s a.1.0.sides.known
     by (Next.Over cause s) a = silent-known s a.1.sides.known
+
+-- ---- offers
+
+silent-offered : (s : State) → AreOffered (silent s) → AreOffered s
+silent-offered s m = record { waited = m.waited; apart = m.apart }
+
+pub reached-offered : (c : Scenario) (next : Next) → IsFitText c → Reached c next → AreOffered (state_of next)
+reached-offered c next text r = by next (reached-stands c text next r)
+  where
+    by : (next : Next) → StandsSomehow next → AreOffered (state_of next)
+    by (Next.Going g s) a = silent-offered s (offered (silent s) a.1.1.sides.offers)
+    by (Next.Resting s) a = silent-offered s (offered (silent s) a.1.0.sides.offers)
+    by (Next.Over cause s) a = silent-offered s (offered (silent s) a.1.sides.offers)
+
+-- ---- the next move
 
 did-meant : (c : Scenario) (hub : Bool) (ns : List ℕ) (d : Did) → IsFitDid c hub ns d → is_meant_did hub d ≡ true
 did-meant c hub ns (Did.GoesOn how locals todo) f = refl

@@ -1,3 +1,4 @@
 pub mod Bounded
 pub mod Last
+pub mod Offered
 pub mod Same

@@ -11,9 +11,9 @@ use Rattle.world_rules.specs.Legal.{moment_of}
 use Rattle.machine.specs.declared.state.JobState.{JobState}
 use Rattle.machine.specs.State.{State, say}
 use Rattle.machine.specs.Questions.{any_numbered, arrives, block_line, job_done, take_answer}
-use Rattle.machine.specs.Deliveries.{deliver, interrupts, without_item}
+use Rattle.machine.specs.Deliveries.{deliver, without_item}
 use Rattle.machine.specs.Holds.{job_at}
-use Rattle.machine.specs.Landing.{Next, lands, starts}
+use Rattle.machine.specs.Landing.{Next, lands}
 use Rattle.machine.specs.Run.{first_state, silent}
 use Rattle.machine_turns.proofs.Steps.{Core, Keeps, Stands, delivers-keeps, interrupts-keeps, lands-keeps, move-keeps, starts-keeps}
 use Rattle.machine_laws.specs.Reached.{Reached, state_of}
