@@ -48,7 +48,10 @@ fn a_connection_ends_where_it_says_so_or_at_a_fault(rt: HostRuntime) -> Result<(
 }
 
 /// What one side of a connection says to the bytes, and whether it goes on, once it was told of their end and fed more.
-fn said_at_the_end<T: Talk + Drop>(alloc: Global, bytes: &[u8]) -> Result<(Vec<u8>, SessionPhase), AllocError> {
+fn said_at_the_end<T: Talk + Drop>(
+    alloc: Global,
+    bytes: &[u8],
+) -> Result<(Vec<u8>, SessionPhase), AllocError> {
     let mut talk = T::begin(alloc, 80);
     talk.feed(bytes, &ShippedApp)?;
     talk.end();

@@ -40,11 +40,20 @@ fn taken_and_refused(rt: HostRuntime) -> Result<(), Fail> {
             "profile 2\nchannel c\nqueue q join 2\ndef main\ncput c 1\nx <- cget c\nqshut q immediate\nend\n",
             (0, 0),
         ),
-        ("profile 2\nqueue q join 2\ndef main\ncput q 1\nend\n", (4, 17)),
-        ("profile 2\nqueue q join 2\ndef main\nx <- cget q\nend\n", (4, 17)),
+        (
+            "profile 2\nqueue q join 2\ndef main\ncput q 1\nend\n",
+            (4, 17),
+        ),
+        (
+            "profile 2\nqueue q join 2\ndef main\nx <- cget q\nend\n",
+            (4, 17),
+        ),
         ("profile 2\nchannel c\ndef main\nqshut c\nend\n", (4, 17)),
         ("profile 2\ndef main\ncput c 1\nend\n", (3, 15)),
-        ("profile 2\nchannel c\nrawdef r v\ncput c 1\nend\ndef main\nend\n", (4, 19)),
+        (
+            "profile 2\nchannel c\nrawdef r v\ncput c 1\nend\ndef main\nend\n",
+            (4, 19),
+        ),
     ];
     for (text, expected) in table {
         assert_eq!(rt; place_of_text(rt.alloc(), text), expected);

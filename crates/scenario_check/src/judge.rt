@@ -131,7 +131,11 @@ fn judge_declarations(alloc: Global, scenario: &Scenario) -> Result<Option<Place
     let past_functions = noted_past(past_objects, MOST_FUNCTIONS, functions.as_slice());
     names.append(functions)?;
     let sorted = sort_names(alloc, names.as_slice())?;
-    Ok(noted_names(past_functions, RuleReason::DeclaredTwice, sorted.repeated.as_slice()))
+    Ok(noted_names(
+        past_functions,
+        RuleReason::DeclaredTwice,
+        sorted.repeated.as_slice(),
+    ))
 }
 
 /// Where the scenario is refused, if it is.

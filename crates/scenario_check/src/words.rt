@@ -37,7 +37,13 @@ fn use_reason(declared: Option<Declared>, is_local: bool) -> Option<RuleReason>
 {
     match declared {
         Some(_) => Some(RuleReason::WrongKind),
-        None => { if is_local { None } else { Some(RuleReason::Undeclared) } }
+        None => {
+            if is_local {
+                None
+            } else {
+                Some(RuleReason::Undeclared)
+            }
+        }
     }
 }
 
@@ -110,7 +116,13 @@ pub(crate) fn word_reason(
         Says::Object(kind, name) => object_reason(kind, names.find(name.bytes())),
         Says::Calls(count, name) => call_reason(count, names.find(name.bytes())),
         Says::Runs(name) => run_reason(names.find(name.bytes())),
-        Says::AsksHub => { if is_raw { Some(RuleReason::HubInRawBody) } else { None } }
+        Says::AsksHub => {
+            if is_raw {
+                Some(RuleReason::HubInRawBody)
+            } else {
+                None
+            }
+        }
         Says::NestsTooDeep => Some(RuleReason::TimeoutsTooDeep),
     }
 }

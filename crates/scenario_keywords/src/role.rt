@@ -54,12 +54,8 @@ pub fn word_role(word: Keyword) -> WordRole
         | Keyword::Pool
         | Keyword::Native
         | Keyword::Channel => WordRole::Declares,
-        Keyword::Function
-        | Keyword::RawFunction => WordRole::Defines,
-        Keyword::If
-        | Keyword::While
-        | Keyword::Try
-        | Keyword::Timeout => WordRole::Opens,
+        Keyword::Function | Keyword::RawFunction => WordRole::Defines,
+        Keyword::If | Keyword::While | Keyword::Try | Keyword::Timeout => WordRole::Opens,
         Keyword::Else => WordRole::Parts,
         Keyword::Except => WordRole::Catches,
         Keyword::Finally => WordRole::Finishes,

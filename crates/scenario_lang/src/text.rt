@@ -13,12 +13,11 @@ use crate::scenario::Scenario;
 use scenario_grammar::{
     Place, TextReason, Token, read_texts_are_spelt, texts_without_a_place_are_spelt,
 };
+use scenario_lines::{
+    Front, LineRefusal, cut_at, first_line, line_tokens, read_phrase, skip_blanks,
+};
 use scenario_print::spelt_trees_have_text;
 use scenario_tree::Scenario as Tree;
-use scenario_lines::{
-    Front, LineRefusal, cut_at, first_line, line_tokens, read_phrase,
-    skip_blanks,
-};
 use std::alloc::{AllocError, Global};
 
 /// How many bytes a text has at most.
@@ -226,10 +225,7 @@ fn read_bytes(alloc: Global, bytes: &[u8]) -> Result<Tree, ParseRefusal>
     ensures { Parses (reading bytes.now) result }
 {
     if bytes.len() > MOST_BYTES {
-        return Err(refused(
-            line_behind(bytes, MOST_BYTES),
-            TextReason::TooLarge,
-        ));
+        return Err(refused(line_behind(bytes, MOST_BYTES), TextReason::TooLarge));
     }
     read_text(alloc, bytes)
 }

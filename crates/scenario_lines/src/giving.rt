@@ -109,9 +109,7 @@ fn raw_link(
 {
     match cursor.next() {
         None => Err(LineRefusal::Reason(TextReason::TooShort)),
-        Some(Token::Fixed(Keyword::Mark)) => {
-            Ok(Giving::LinkMark(greenlet, mark(cursor)?))
-        }
+        Some(Token::Fixed(Keyword::Mark)) => { Ok(Giving::LinkMark(greenlet, mark(cursor)?)) }
         Some(Token::Fixed(Keyword::Set)) => Ok(Giving::LinkSet(greenlet, cursor.name()?)),
         Some(_) => Err(LineRefusal::Reason(TextReason::UnknownWord)),
     }

@@ -1,15 +1,15 @@
 //! Reading what a line says.
 ghost use Rattle.std.specs.Prelude.{◌≡◌, Some, if◌then◌else◌};
-ghost use Rattle.scenario_grammar.specs.Reading.{◌<$>◌, number_at, after_at, all_at, binding_at, class_at, class_of, given_at, giving_at, immediate_at, name_at, now_at, phrase_by, phrase_of, queue_of, silent_at, size_at, unmarked_at, word_at, is_given};
+ghost use Rattle.scenario_grammar.specs.Reading.{number_at, after_at, all_at, binding_at, class_at, class_of, given_at, giving_at, immediate_at, name_at, now_at, phrase_by, phrase_of, queue_of, silent_at, size_at, unmarked_at, word_at, is_given};
 ghost use Rattle.scenario_lines.specs.Reads.{IsBoxed, Reads, ReadsWhole};
 ghost use Rattle.scenario_lines.specs.Kinds.{kind_by};
-ghost use Rattle.scenario_lines.specs.Nothing.{TakesNone};
+ghost use Rattle.scenario_lines.specs.Nothing.{TakesNone, some_number_at};
 
 use crate::cursor::{Cursor, MOST_MS};
 use crate::expression::read_expression;
 use crate::giving::{read_giving, with_fault};
-use crate::refusal::LineRefusal;
 use crate::kind::{LineKind, line_kind};
+use crate::refusal::LineRefusal;
 use gv_values::{Class, Name};
 use scenario_grammar::{Keyword, Phrase, TextReason, Token};
 use scenario_tree::{Boxed, Command, Items, Object, QueueKind};
@@ -137,7 +137,7 @@ fn some_number(
     least: u64,
     greatest: u64,
 ) -> Result<Option<u64>, LineRefusal>
-    ensures { Reads ((Some <$> number_at least greatest) cursor.old) result cursor.new }
+    ensures { Reads (some_number_at least greatest cursor.old) result cursor.new }
 {
     Ok(Some(cursor.number(least, greatest)?))
 }
@@ -147,7 +147,9 @@ fn class(cursor: &mut Cursor<'_>) -> Result<Class, LineRefusal>
 {
     match cursor.next() {
         None => Err(LineRefusal::Reason(TextReason::TooShort)),
-        Some(Token::Fixed(word)) => class_by(*word).ok_or(LineRefusal::Reason(TextReason::UnknownWord)),
+        Some(Token::Fixed(word)) => class_by(*word).ok_or(LineRefusal::Reason(
+            TextReason::UnknownWord,
+        )),
         Some(_) => Err(LineRefusal::Reason(TextReason::UnknownWord)),
     }
 }

@@ -2,13 +2,13 @@
 #![tactic(auto)]
 
 mod cursor;
+mod fault;
 mod laws;
 mod lines;
 mod parts;
 mod read;
-mod fault;
 mod values;
 
+pub use fault::LineFault;
 pub use laws::texts_tell_lines;
 pub use read::read_line;
-pub use fault::LineFault;

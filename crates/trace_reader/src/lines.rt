@@ -7,10 +7,10 @@ ghost use Rattle.trace_reader.specs.Reads.{Reads};
 ghost use Rattle.trace_reader.specs.LineFronts.{of_greenlet, start_front, print_front, park_front, throw_front, into_front, end_front, link_front, job_line_front, turn_front, stop_front, resumed_line_front, greenlet_line_front, line_front};
 
 use crate::cursor::Cursor;
+use crate::fault::LineFault;
 use crate::parts::{
     read_answer, read_awaited, read_blocked, read_cause, read_job_call, read_link_call, read_until,
 };
-use crate::fault::LineFault;
 use crate::values::{read_fault, read_outcome, read_value};
 use std::alloc::Global;
 use trace_text::{Line, Resumed};

@@ -7,9 +7,9 @@ ghost use Rattle.trace_reader.specs.Ranges.{LineFits};
 ghost use Rattle.trace_reader.specs.Read.{IsRead, IsRefused};
 
 use crate::cursor::Cursor;
+use crate::fault::LineFault;
 use crate::laws::texts_tell_lines;
 use crate::lines::read_front;
-use crate::fault::LineFault;
 use std::alloc::Global;
 use trace_text::{Line, write_line};
 

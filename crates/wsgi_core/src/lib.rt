@@ -9,9 +9,7 @@ mod session;
 mod shipped;
 mod talk;
 
-pub use answer::{
-    Ending, Stated, ending_of, is_faulty, push_answer, push_body, push_headers,
-};
+pub use answer::{Ending, Stated, ending_of, is_faulty, push_answer, push_body, push_headers};
 pub use gateway::{
     WSGI_MULTIPROCESS, WSGI_MULTITHREAD, WSGI_RUN_ONCE, WSGI_URL_SCHEME, WSGI_VERSION,
 };

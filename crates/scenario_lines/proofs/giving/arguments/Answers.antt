@@ -17,6 +17,6 @@ returns-in_err-argument c =
     let unended : c.loop.cursor ≡ [] → ⊥ = λ e. let t = c.is_empty.ensures.1 e in let f = c.if-is_empty.false in cc in
     let below : c.loop.counter < length c.args.cursor.now = rw (sym c.cursor.view_is) c.loop-test.true in
     let refused : (e : LineRefusal) (r : Reading (List Expression)) → Reads (expression_at c.loop.cursor) (Err e) c.read_expression.new.cursor →
-        with_front c.loop.arguments (to_the_end expression_at (length c.args.cursor.now - c.loop.counter) c.loop.cursor) ≡ r → Reads r (Err e) c.read_expression.new.cursor
-      = λ e r read same. end_refused expression_at (length c.args.cursor.now) c.loop.counter c.loop.arguments c.loop.cursor c.read_expression.new.cursor e r below unended read same in
+    with_front c.loop.arguments (to_the_end expression_at (length c.args.cursor.now - c.loop.counter) c.loop.cursor) ≡ r → Reads r (Err e) c.read_expression.new.cursor
+    = λ e r read same. end_refused expression_at (length c.args.cursor.now) c.loop.counter c.loop.arguments c.loop.cursor c.read_expression.new.cursor e r below unended read same in
     search (rules, refused)

@@ -17,6 +17,6 @@ returns-in_err-parameter c =
     let unended : c.loop.cursor ≡ [] → ⊥ = λ e. let t = c.is_empty.ensures.1 e in let f = c.if-is_empty.false in cc in
     let below : c.loop.counter < length c.args.cursor.now = rw (sym c.cursor.view_is) c.loop-test.true in
     let refused : (e : LineRefusal) (r : Reading (List Name)) → Reads (name_at c.loop.cursor) (Err e) c.name.new.self →
-        with_front c.loop.parameters (to_the_end name_at (length c.args.cursor.now - c.loop.counter) c.loop.cursor) ≡ r → Reads r (Err e) c.name.new.self
-      = λ e r read same. end_refused name_at (length c.args.cursor.now) c.loop.counter c.loop.parameters c.loop.cursor c.name.new.self e r below unended read same in
+    with_front c.loop.parameters (to_the_end name_at (length c.args.cursor.now - c.loop.counter) c.loop.cursor) ≡ r → Reads r (Err e) c.name.new.self
+    = λ e r read same. end_refused name_at (length c.args.cursor.now) c.loop.counter c.loop.parameters c.loop.cursor c.name.new.self e r below unended read same in
     search (rules, refused)
