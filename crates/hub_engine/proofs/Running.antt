@@ -12,7 +12,7 @@ use Rattle.hub_engine.specs.declared.stand.Came.{Came}
 use Rattle.machine.specs.State.{State}
 use Rattle.machine.specs.Landing.{Next, starts, lands}
 use Rattle.machine.specs.Questions.{question, block_line}
-use Rattle.machine.specs.Run.{Passed, Ran, Source, GoingOn, given_out, after_turn, after_question, after_exit, with_posts, turn, loop_exit, run_turns, stopped, silent, runs, script_run, first_state, after_start}
+use Rattle.machine.specs.Run.{Passed, Ran, Source, GoingOn, given_out, after_turn, after_question, first_blocked, after_exit, with_posts, turn, loop_exit, run_turns, stopped, silent, runs, script_run, first_state, after_start}
 use Rattle.hub_engine.specs.Stands.{next_at}
 use Rattle.hub_engine.specs.Written.{AreLike, CameTo, HasRun, IsPartWritten, IsRunning, IsStopping}
 use Rattle.hub_engine.specs.declared.stand.Stand.{Stand}
@@ -129,7 +129,7 @@ asked_broken old now new r go b q t w p =
 -- ---- LoopExit
 
 exit_step : (go : GoingOn) (b : ℕ) (t : State) → (loop_exit b (block_line t)).posts ≡ [] →
-    after_question go b None script t ≡ given_out (loop_exit b (block_line t)) (after_exit go script (loop_exit b (block_line t)).next)
+    after_question go b None script t ≡ first_blocked (t ∷ []) (given_out (loop_exit b (block_line t)) (after_exit go script (loop_exit b (block_line t)).next))
 exit_step go b t e = rw e
 
 pub exited : (old now new : Option (List ℕ)) (r : Ran) (go : GoingOn) (b : ℕ) (t u : State) → IsRunning old now r (after_question go b None script t) →
@@ -137,8 +137,8 @@ pub exited : (old now new : Option (List ℕ)) (r : Ran) (go : GoingOn) (b : ℕ
     new ≡ appended now (text_of (loop_exit b (block_line t)).lines) → IsRunning old new r (go script u)
 exited old now new r go b t u w e f m =
     let q = go script u in
-    onward old now new r (given_out (loop_exit b (block_line t)) q) q (loop_exit b (block_line t)).lines
-    (rw (exit_step go b t e ∙ ap (λ next. given_out (loop_exit b (block_line t)) (after_exit go script next)) f) at w) refl refl refl m
+    onward old now new r (first_blocked (t ∷ []) (given_out (loop_exit b (block_line t)) q)) q (loop_exit b (block_line t)).lines
+    (rw (exit_step go b t e ∙ ap (λ next. first_blocked (t ∷ []) (given_out (loop_exit b (block_line t)) (after_exit go script next))) f) at w) refl refl refl m
 
 pub exited_over : (old now new : Option (List ℕ)) (r : Ran) (go : GoingOn) (b : ℕ) (c : StopCause) (t u : State) → IsRunning old now r (after_question go b None script t) →
     (loop_exit b (block_line t)).posts ≡ [] → CameTo (Came.ToAnEnd c) (loop_exit b (block_line t)).next u →
@@ -146,8 +146,8 @@ pub exited_over : (old now new : Option (List ℕ)) (r : Ran) (go : GoingOn) (b 
 exited_over old now new r go b c t u w e f m =
     let q = stopped c f.0 in
     ending old new r c u f.0
-    (onward old now new r (given_out (loop_exit b (block_line t)) q) q (loop_exit b (block_line t)).lines
-    (rw (exit_step go b t e ∙ ap (λ next. given_out (loop_exit b (block_line t)) (after_exit go script next)) f.1) at w) refl refl refl m) f.2
+    (onward old now new r (first_blocked (t ∷ []) (given_out (loop_exit b (block_line t)) q)) q (loop_exit b (block_line t)).lines
+    (rw (exit_step go b t e ∙ ap (λ next. first_blocked (t ∷ []) (given_out (loop_exit b (block_line t)) (after_exit go script next))) f.1) at w) refl refl refl m) f.2
 
 pub exited_broken : (old now new : Option (List ℕ)) (r : Ran) (go : GoingOn) (b : ℕ) (t : State) → IsRunning old now r (after_question go b None script t) →
     AppendsPrefix now new (text_of (loop_exit b (block_line t)).lines) → AppendsPrefix old new (text_of r.lines)

@@ -6,7 +6,12 @@ use Rattle.machine.specs.Run.{runs}
 use Rattle.hub_engine.specs.Stands.{next_at}
 use Rattle.hub_engine.specs.Written.{CameTo}
 use Rattle.hub_engine.proofs.Passing.{rested, ended, out_of_budget, move_given_up, moved_on, runs_broken}
+use Rattle.hub_engine.proofs.Readily.{going_given_out}
 use Rattle.hub_engine.proofs.turns.runs.Goals as goal
+
+pub step_greenlet-requires : goal.step_greenlet-requires
+step_greenlet-requires g c =
+    record { ready = going_given_out c.loop-at.at _ _ c.loop-at.hub c.give_out.new.hub c.in-Going.is c.loop-at.invariant.2 c.in_ok-give_out.ensures.silent }
 
 pub returns-in_err-give_out-clause-written : goal.returns-in_err-give_out-clause-written
 returns-in_err-give_out-clause-written g c =
