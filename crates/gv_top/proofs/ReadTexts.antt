@@ -1,5 +1,7 @@
 -- What is answered to a text: its scenario's run or printed form, or the place where it is refused.
 use Rattle.std.proofs.Common.{◌≡◌, ℕ, inl, inr, List, Option, Some, None, Result, Ok, Err, refl, ap, subst, ◌∙◌, take}
+use Rattle.trace_text.specs.LineTexts.{text_of}
+use Rattle.trace_text.specs.declared.line.StopCause.{StopCause}
 use Rattle.scenario_tree.specs.declared.tree.Scenario.{Scenario}
 use Rattle.scenario_grammar.specs.declared.place.Place.{Place}
 use Rattle.scenario_grammar.specs.Parsed.{reading}
@@ -9,11 +11,12 @@ use Rattle.scenario_grammar.proofs.Placed.{refused_there}
 use Rattle.scenario_grammar.proofs.Sound.{sound}
 use Rattle.scenario_rules.specs.Rules.{IsWellFormed, place_of}
 use Rattle.scenario_check.proofs.FirstPlace.{well_formed, not_well_formed}
+use Rattle.machine.specs.Run.{Ran, End}
 use Rattle.unbuilt_forms.specs.Built.{first_unbuilt}
 use Rattle.hub_engine.specs.declared.run.Budgets.{Budgets}
 use Rattle.gv_top.specs.Refusals.{IsRefusedAt}
-use Rattle.gv_top.specs.Top.{IsAnswered}
-use Rattle.gv_top.specs.Answers.{Answer, answer_to, answer_to_scenario, answer_to_text, answer_of_run, checked, judged, most_read, not_built, run_of, refusal}
+use Rattle.gv_top.specs.Top.{AnswersRun, IsAnswered}
+use Rattle.gv_top.specs.Answers.{Answer, answer_to, answer_to_scenario, answer_to_text, answer_of_run, checked, err_of, judged, most_read, not_built, run_of, refusal, status_of}
 use Rattle.gv_top.specs.declared.words.Command.{Command}
 use Rattle.gv_top.specs.declared.words.TextCommand.{TextCommand}
 
@@ -88,6 +91,13 @@ pub refuses_the_rest : (command : TextCommand) (bytes : List ℕ) → ((s : Scen
 refuses_the_rest command bytes none = let r = refuses command bytes (reading bytes) refl none in (r.0, r.1.at, r.1.answer)
 
 -- ---- what is left behind
+
+-- a run whose end is the stop for a cause is answered by that cause
+pub answers_run : (n : ℕ) (r : Ran) (cause : StopCause) (out0 out1 err0 err1 : Option (List ℕ)) → r.end ≡ End.Stopped cause →
+    IsAnswered n (answer_of_run r) out0 out1 err0 err1 → AnswersRun n r out0 out1 err0 err1
+answers_run n r cause out0 out1 err0 err1 stops h =
+    let P : End → Type 0 = λ e. IsAnswered n (record { status = status_of e; out = text_of r.lines; err = err_of e }) out0 out1 err0 err1 in
+    record { cause = cause; stops = stops; answered = subst P stops h }
 
 -- what is said of the answer to the command is said of this answer
 pub answered_so : (n : ℕ) (c : Option Command) (command : TextCommand) (a : Answer) (left : List ℕ) (out0 out1 err0 err1 : Option (List ℕ)) →

@@ -1,6 +1,7 @@
 -- What the call answers: its status, what it writes to out, and its line on err.
 use Rattle.std.specs.Prelude.{ℕ, if◌then◌else◌, List, [], ◌++◌, Option, Some, None, Ok, Err, codes, take, Result}
 use Rattle.trace_text.specs.LineTexts.{text_of}
+use Rattle.trace_text.specs.declared.line.StopCause.{StopCause}
 use Rattle.gv_values.specs.ValueTexts.{decimal}
 use Rattle.scenario_tree.specs.declared.tree.Scenario.{Scenario}
 use Rattle.scenario_grammar.specs.declared.place.Place.{Place}
@@ -74,6 +75,10 @@ formatted s = record { status = 0; out = printed s; err = [] }
 -- the run of the scenario within these budgets
 abbrev pub run_of : Budgets → Scenario → Ran
 run_of budgets s = script_run s budgets.turns budgets.moves 0
+
+-- what is answered to a run that stopped for this cause
+abbrev pub answer_of_stop : StopCause → Ran → Answer
+answer_of_stop cause r = record { status = status cause; out = text_of r.lines; err = err_line cause }
 
 abbrev pub answer_of_run : Ran → Answer
 answer_of_run r = record { status = status_of r.end; out = text_of r.lines; err = err_of r.end }

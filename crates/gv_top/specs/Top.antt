@@ -1,7 +1,15 @@
 -- What the call leaves behind.
-use Rattle.std.specs.Prelude.{◌≡◌, ◌≢◌, ◌⊎◌, ℕ, List, Option, Some, None, drop}
+use Rattle.std.specs.Prelude.{◌≡◌, ◌≢◌, ◌⊎◌, ℕ, true, List, Option, Some, None, drop, filter}
+use Rattle.std.specs.List.{list_all, flat_map}
 use Rattle.gv_values.specs.Counts.{HasRisen}
 use Rattle.gv_io.specs.Streams.{appended, AppendsPrefix}
+use Rattle.trace_text.specs.LineTexts.{text_of}
+use Rattle.trace_text.specs.declared.line.Line.{Line}
+use Rattle.trace_text.specs.declared.line.StopCause.{StopCause}
+use Rattle.machine.specs.Quiet.{is_quiet}
+use Rattle.machine.specs.Run.{Ran, End as RunEnd}
+use Rattle.machine.specs.TraceLaws.{meets_laws}
+use Rattle.machine_blocks.specs.Blocks.{block_lines, is_block}
 use Rattle.hub_engine.specs.declared.run.End.{End}
 use Rattle.wsgi_core.specs.Sessions.{answers}
 use Rattle.wsgi_core.specs.Shipped.{shipped}
@@ -10,7 +18,7 @@ use Rattle.wsgi_connection.specs.declared.connection.ConnectionEnd.{ConnectionEn
 use Rattle.gv_top.specs.declared.status.Verdict.{Verdict}
 use Rattle.gv_top.specs.declared.words.Command.{Command}
 use Rattle.gv_top.specs.declared.words.TextCommand.{TextCommand}
-use Rattle.gv_top.specs.Answers.{Answer, answer_to, memory_line, most_read, no_port, read_fault_line, write_fault_line}
+use Rattle.gv_top.specs.Answers.{Answer, answer_of_stop, answer_to, memory_line, most_read, no_port, read_fault_line, write_fault_line}
 use Rattle.gv_top.specs.Verdicts.{number_of, line_of}
 
 -- ---- a verdict
@@ -79,6 +87,24 @@ pub record IsAnswered (n : ℕ) (a : Answer) (out0 out1 err0 err1 : Option (List
   pub status : n ≢ 4 → n ≢ 5 → n ≢ 7 → n ≡ a.status
   pub out : n ≢ 4 → n ≢ 5 → n ≢ 7 → out1 ≡ appended out0 a.out
   pub err : n ≢ 4 → n ≢ 5 → n ≢ 7 → err1 ≡ appended err0 a.err
+
+-- the run stopped for a cause, and what is left is answered to it
+pub record AnswersRun (n : ℕ) (r : Ran) (out0 out1 err0 err1 : Option (List ℕ)) : Type 0 where
+  pub cause : StopCause
+  pub stops : r.end ≡ RunEnd.Stopped cause
+  pub answered : IsAnswered n (answer_of_stop cause r) out0 out1 err0 err1
+
+-- out has lines that meet the laws of a trace: whole but with the statuses 4, 5 and 7, and with these a beginning of their text
+pub record HasLawfulLines (n : ℕ) (out0 out1 : Option (List ℕ)) : Type 0 where
+  pub lines : List Line
+  pub lawful : meets_laws lines ≡ true
+  pub prefix : AppendsPrefix out0 out1 (text_of lines)
+  pub whole : n ≢ 4 → n ≢ 5 → n ≢ 7 → out1 ≡ appended out0 (text_of lines)
+
+-- the run's block lines are those that are said at its blocked states, and at each of these nothing that waits could go on
+pub record BlocksAtQuiet (r : Ran) : Type 0 where
+  pub told : filter is_block r.lines ≡ flat_map block_lines r.blocked
+  pub quiet : list_all is_quiet r.blocked ≡ true
 
 -- The input and out are a connection that was answered by the shipped application. The status is that of its end; where
 -- that has a line on err, it is 5 if the line failed, and 7 if memory for it ran out.

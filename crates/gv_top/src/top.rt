@@ -9,10 +9,10 @@ ghost use Rattle.scenario_tree.specs.declared.tree.Scenario.{Scenario as AnyScen
 ghost use Rattle.unbuilt_forms.specs.Built.{IsBuilt, first_unbuilt};
 ghost use Rattle.hub_engine.specs.Ends.{RanTo};
 ghost use Rattle.hub_engine.specs.declared.run.Budgets.{Budgets as AnyBudgets};
-ghost use Rattle.gv_top.specs.Answers.{answer_of_run, answer_to, answer_to_scenario, answer_to_text, formatted, memory_line, most_read, not_built, refusal, run_of, write_fault_line};
+ghost use Rattle.gv_top.specs.Answers.{answer_to, answer_to_scenario, answer_to_text, formatted, memory_line, most_read, not_built, refusal, run_of, write_fault_line};
 ghost use Rattle.gv_top.specs.declared.status.Verdict.{Verdict as AnyVerdict};
 ghost use Rattle.gv_top.specs.Refusals.{IsRefusedAt};
-ghost use Rattle.gv_top.specs.Top.{AnswersConnection, Decided, Ended, FailsToWrite, HasFaultLine, IsAnswered, IsOfConnection, IsOr, IsTold};
+ghost use Rattle.gv_top.specs.Top.{AnswersConnection, AnswersRun, BlocksAtQuiet, Decided, Ended, FailsToWrite, HasFaultLine, HasLawfulLines, IsAnswered, IsOfConnection, IsOr, IsTold};
 ghost use Rattle.gv_top.specs.Verdicts.{IsExplained, line_of, number_of, verdict_on};
 ghost use Rattle.gv_top.specs.Words.{command_of};
 
@@ -21,6 +21,9 @@ use crate::status::Verdict;
 use crate::words::{Command, TextCommand, command_of};
 use gv_io::{Failed, ReadRefusal, Sink, Source, read_limited};
 use hub_engine::{Budgets, End, Engine};
+use machine_blocks::blocks_are_told;
+use machine_laws::{blocks_are_quiet, scripts_run_lawfully};
+use machine_turns::scripts_stop;
 use scenario_check::Checked;
 use scenario_lang::{ParseRefusal, Scenario, print};
 use std::alloc::Global;
@@ -299,7 +302,15 @@ pub fn gvr<S: Source, K: Sink, E: Sink>(
     // A text of a well-formed scenario all of whose forms are run is run: out has the text of the one run's lines, the status and the line on err are those of its end.
     ensures trace { (budgets : AnyBudgets) (s : AnyScenario) (left : List ℕ) → command_of (map string_bytes words.now) ≡ Some (Command.Text (TextCommand.Run budgets)) →
         S.remaining input.old ≡ Some left → Spells s (take most_read left) → IsWellFormed s → first_unbuilt s ≡ None →
-        IsAnswered result (answer_of_run (run_of budgets s)) (K.written out.old) (K.written out.new) (E.written err.old) (E.written err.new) }
+        AnswersRun result (run_of budgets s) (K.written out.old) (K.written out.new) (E.written err.old) (E.written err.new) }
+    // What out has then are lines that meet the laws of a trace.
+    ensures lawful { (budgets : AnyBudgets) (s : AnyScenario) (left : List ℕ) → command_of (map string_bytes words.now) ≡ Some (Command.Text (TextCommand.Run budgets)) →
+        S.remaining input.old ≡ Some left → Spells s (take most_read left) → IsWellFormed s → first_unbuilt s ≡ None →
+        HasLawfulLines result (K.written out.old) (K.written out.new) }
+    // And at each of its block lines nothing that waits could go on.
+    ensures quiet { (budgets : AnyBudgets) (s : AnyScenario) (left : List ℕ) → command_of (map string_bytes words.now) ≡ Some (Command.Text (TextCommand.Run budgets)) →
+        S.remaining input.old ≡ Some left → Spells s (take most_read left) → IsWellFormed s → first_unbuilt s ≡ None →
+        BlocksAtQuiet (run_of budgets s) }
     // One that has a form that is not run yet is not run: err has the first line that has one.
     ensures not_built { (budgets : AnyBudgets) (s : AnyScenario) (left : List ℕ) (n : ℕ) → command_of (map string_bytes words.now) ≡ Some (Command.Text (TextCommand.Run budgets)) →
         S.remaining input.old ≡ Some left → Spells s (take most_read left) → IsWellFormed s → first_unbuilt s ≡ Some n →
@@ -343,6 +354,10 @@ pub fn gvr<S: Source, K: Sink, E: Sink>(
     ensures out_never_falls { K.faults out.old ≤ K.faults out.new }
     ensures err_never_falls { E.faults err.old ≤ E.faults err.new }
 {
+    scripts_stop();
+    scripts_run_lawfully();
+    blocks_are_quiet();
+    blocks_are_told();
     let verdict = decides(alloc, words, input, out);
     tells(alloc, verdict, err)
 }

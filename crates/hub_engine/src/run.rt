@@ -1,8 +1,11 @@
 //! The engine as its callers see it: prepared, and then run once.
-ghost use Rattle.std.specs.Prelude.{◌≡◌, ◌≤◌, ◌↔◌, None, IfOk};
+ghost use Rattle.std.specs.Prelude.{◌≡◌, ◌≤◌, ◌↔◌, true, [], None, IfOk};
+ghost use Rattle.std.specs.List.{list_all};
 ghost use Rattle.gv_values.specs.Counts.{HasRisen};
 ghost use Rattle.unbuilt_forms.specs.Built.{IsBuilt, first_unbuilt};
-ghost use Rattle.machine.specs.Run.{script_run};
+ghost use Rattle.machine.specs.Quiet.{blocked_states, is_quiet};
+ghost use Rattle.machine.specs.Run.{Source, script_run};
+ghost use Rattle.machine.specs.TraceLaws.{meets_laws};
 ghost use Rattle.machine_built.specs.Laws.{HasMain};
 ghost use Rattle.hub_engine.specs.Ends.{HasNumbers, RanTo};
 ghost use Rattle.hub_engine.specs.declared.run.End.TheVariants as ends;
@@ -14,6 +17,7 @@ use gv_io::Sink;
 use gv_values::FaultKind;
 use hub_state::Hub;
 use machine_built::main_is_numbered;
+use machine_laws::{blocks_are_quiet, scripts_run_lawfully};
 use scenario_check::Checked;
 use std::alloc::{AllocError, Global};
 use std::marker::Model;
@@ -113,7 +117,12 @@ impl Engine {
         ensures numbers { HasNumbers result (script_run self.scenario self.turns self.moves 0).state }
         ensures write_fault { result.end ≡ ends.WriteFault → HasRisen (K.faults sink.old) (K.faults sink.new) }
         ensures never_falls { K.faults sink.old ≤ K.faults sink.new }
+        // the lines meet the laws of a trace, and at each block line nothing that waits could go on
+        ensures lawful { meets_laws (script_run self.scenario self.turns self.moves 0).lines ≡ true }
+        ensures quiet { list_all is_quiet (blocked_states (Source.Scripted 0 []) self.turns self.moves self.scenario) ≡ true }
     {
+        scripts_run_lawfully();
+        blocks_are_quiet();
         let Engine { hub, budgets } = self;
         let mut hub = hub;
         let end = match run(alloc, &mut hub, sink, budgets.turns, budgets.moves) {

@@ -1,6 +1,8 @@
-use Rattle.std.proofs.Common.{arith}
+use Rattle.std.proofs.Common.{[], arith}
+use Rattle.machine.specs.Run.{Source}
+use Rattle.gv_top.specs.Answers.{run_of}
 use Rattle.gv_top.specs.declared.words.TextCommand.{TextCommand}
-use Rattle.gv_top.proofs.ReadTexts.{answered_as, answered_so, refuses_the_rest, runs_no_other, runs_the_text}
+use Rattle.gv_top.proofs.ReadTexts.{answered_as, answered_so, answers_run, refuses_the_rest, runs_no_other, runs_the_text}
 use Rattle.gv_top.proofs.Tops.{answers_connection, ended, fails_to_write, fault_line, is_answered, is_silent, prints_nothing, reads_whole, status_is, usage_status}
 use Rattle.gv_top.proofs.top.gvr.Goals as goal
 
@@ -21,7 +23,26 @@ returns-clause-ended g c =
 
 pub returns-clause-trace : goal.returns-clause-trace
 returns-clause-trace g c = λ budgets s left runs told text well built.
-    answered_so _ _ (TextCommand.Run budgets) _ left _ _ _ _ runs (runs_the_text budgets s _ text well built) (is_answered (returns-clause-ended g c) left told)
+    let stop = c.scripts_stop.ensures s budgets.turns budgets.moves 0 in
+    answers_run _ _ stop.0 _ _ _ _ stop.1
+    (answered_so _ _ (TextCommand.Run budgets) _ left _ _ _ _ runs (runs_the_text budgets s _ text well built) (is_answered (returns-clause-ended g c) left told))
+
+pub returns-clause-lawful : goal.returns-clause-lawful
+returns-clause-lawful g c = λ budgets s left runs told text well built.
+    let h = answered_so _ _ (TextCommand.Run budgets) _ left _ _ _ _ runs (runs_the_text budgets s _ text well built) (is_answered (returns-clause-ended g c) left told) in
+    record {
+      lines = (run_of budgets s).lines;
+      lawful = (c.scripts_run_lawfully.ensures s budgets.turns budgets.moves 0 well).lawful;
+      prefix = h.prefix;
+      whole = h.out;
+    }
+
+pub returns-clause-quiet : goal.returns-clause-quiet
+returns-clause-quiet g c = λ budgets s left runs told text well built.
+    record {
+      told = c.blocks_are_told.ensures s (Source.Scripted 0 []) budgets.turns budgets.moves;
+      quiet = c.blocks_are_quiet.ensures s (Source.Scripted 0 []) budgets.turns budgets.moves well;
+    }
 
 pub returns-clause-not_built : goal.returns-clause-not_built
 returns-clause-not_built g c = λ budgets s left n runs told text well other.
