@@ -13,6 +13,6 @@ pub use edge::{Clock, Ear, OpenGate, PollEar, SteadyClock, WakerBell};
 pub use history::History;
 pub use pool::ThreadWorld;
 pub use spawner::{
-    NeverStarted, NoThreads, NotStarted, Spawner, StartThread, Thread, ThreadSpawner, spawn_worker,
+    NoThreads, NotStarted, Spawner, StartThread, Thread, ThreadSpawner, spawn_worker,
 };
 pub use task::{Gate, WorkerTask, worker};

@@ -124,10 +124,6 @@ impl<H: Threads> Spawner<WakerBell, OpenGate> for ThreadSpawner<H> {
     }
 }
 
-/// A worker that is never started: there is no value of this type.
-#[derive(Drop)]
-pub enum NeverStarted {}
-
 /// Refuses every start, so that the hub evaluates all jobs itself.
 #[derive(Drop)]
 pub struct NoThreads {
@@ -142,17 +138,17 @@ impl NoThreads {
 }
 
 impl<B: Bell + Drop, G: Gate + Drop> Spawner<B, G> for NoThreads {
-    type Running = NeverStarted;
+    type Running = NotStarted;
 
     type Refused = NotStarted;
 
     ghost refusals = { λ s. s.refused };
 
-    ghost running_cell = { λ _. 0 };
+    ghost running_cell = { λ running. running.cell };
 
     ghost refused_cell = { λ refused. refused.cell };
 
-    fn start(&mut self, task: WorkerTask<B, G>) -> Result<NeverStarted, NotStarted>
+    fn start(&mut self, task: WorkerTask<B, G>) -> Result<NotStarted, NotStarted>
         ensures running { IsErr result }
         ensures refused { IfErr result (λ refused. refused.cell ≡ (worker_view task.pass).cell) }
         ensures count { self.old.refused ≤ self.new.refused }
@@ -163,7 +159,7 @@ impl<B: Bell + Drop, G: Gate + Drop> Spawner<B, G> for NoThreads {
         Err(NotStarted { cell: task.cell() })
     }
 
-    fn join(&mut self, running: NeverStarted) {
-        match running {}
+    fn join(&mut self, running: NotStarted) {
+        let _ = running;
     }
 }
