@@ -1,1 +1,1 @@
-mod Unbuilt
+mod UnbuiltRows
