@@ -1,0 +1,35 @@
+use gv_values::{Class, Name};
+use scenario_tree::{Command, Expression, Giving, Items};
+use std::rc::Rc;
+
+/// A statement whose blocks stand beside it in the code, by their numbers.
+#[derive(Drop)]
+pub struct FlatStatement {
+    /// The line on which it stands, or on which its block opens.
+    pub line: u32,
+    pub action: FlatAction,
+}
+
+/// What a statement does. What a body under way has to keep of it is shared, and never copied.
+#[derive(Drop)]
+pub enum FlatAction {
+    Command(Command),
+    /// The name stands before `<-`.
+    Giving(Option<Name>, Giving),
+    If(Expression, usize, Option<usize>),
+    While(Rc<Expression>, usize),
+    /// The body, the excepts and the finally.
+    Try(usize, Rc<Items<FlatExcept>>, Option<usize>),
+    /// The time, none where it never fires, and whether it is silent.
+    Timeout(Option<u64>, bool, usize),
+}
+
+/// One except of a try.
+#[derive(Drop)]
+pub struct FlatExcept {
+    pub line: u32,
+    pub class: Class,
+    /// The name stands behind the class.
+    pub name: Option<Name>,
+    pub body: usize,
+}
