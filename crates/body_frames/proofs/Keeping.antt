@@ -9,7 +9,7 @@ use Rattle.machine.specs.BodyMoves.{Did, body_move}
 use Rattle.machine.specs.Unwinding.{Unwound, unwind}
 use Rattle.body_frames.specs.Few.{HasFewBody, HasFewDid, HasFewToDo, HasFewUnwound}
 use Rattle.body_values.proofs.Few.{head-few}
-use Rattle.body_moves.specs.AtMove.{HasFewAhead}
+use Rattle.body_frames.specs.AtMove.{HasFewAhead}
 use Rattle.body_frames.specs.declared.stack.Made.{Made}
 use Rattle.body_frames.specs.declared.stack.Stack.{Stack}
 use Rattle.body_frames.specs.Standings.{body_after, made_of, stands}

@@ -1,4 +1,6 @@
 pub mod Answers
+pub mod AtMove
+pub mod Entries
 pub mod Few
 pub mod Laws
 pub mod Places

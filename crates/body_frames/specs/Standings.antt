@@ -1,41 +1,49 @@
--- What the types of the code stand for.
-use Rattle.std.specs.Prelude.{ℕ}
+-- What the types of the code stand for, where these are the blocks of its code.
+use Rattle.std.specs.Prelude.{ℕ, List}
+use Rattle.scenario_tree.specs.declared.tree.Statement.{Statement}
 use Rattle.machine.specs.Bodies.{Body, Step, Stepped}
 use Rattle.machine.specs.Unwinding.{Unwound}
+use Rattle.body_blocks.specs.Trees.{block_at}
 use Rattle.body_frames.specs.declared.frame.Standing.{Standing}
 use Rattle.body_frames.specs.declared.places.Moved.{Moved}
 use Rattle.body_frames.specs.declared.places.Reached.{Reached}
 use Rattle.body_frames.specs.declared.stack.Made.{Made}
 use Rattle.body_frames.specs.declared.stack.Stack.{Stack}
 use Rattle.body_frames.specs.declared.step.Step.{Step as Told}
+use Rattle.body_frames.specs.declared.unwind.Unwound.{Unwound as Left}
+use Rattle.body_frames.specs.Entries.{todo_of}
 use Rattle.body_frames.specs.Places.{Came, Place}
 use Rattle.body_frames.specs.Steps.{step_of}
 use Rattle.body_frames.specs.Unwinding.{unwound_of}
 
+-- where the body goes on by itself
+abbrev pub goes_from : List (List Statement) → Left → Stack → Unwound
+goes_from t at s = unwound_of at s.left s.locals (todo_of t s.todo)
+
 -- the body of the definitions
-abbrev pub body_of : Standing → Stack → Body
-body_of (Standing.Ready at) s = Body.Ready (unwound_of at s.left s.locals s.todo)
-body_of (Standing.Waits x) s = Body.Waits (record { locals = s.locals; todo = s.todo; gives = x })
-body_of (Standing.Enters silent body) s = Body.Enters silent body s.locals s.todo
-body_of Standing.Gone s = Body.Gone
+abbrev pub body_of : List (List Statement) → Standing → Stack → Body
+body_of t (Standing.Ready at) s = Body.Ready (goes_from t at s)
+body_of t (Standing.Waits x) s = Body.Waits (record { locals = s.locals; todo = todo_of t s.todo; gives = x })
+body_of t (Standing.Enters silent b) s = Body.Enters silent (block_at b t) s.locals (todo_of t s.todo)
+body_of t Standing.Gone s = Body.Gone
 
 -- a step, where the body then stands, and the moves that are left
 abbrev pub stepped : Told → Body → ℕ → Stepped
 stepped step body moves = record { step = step_of step; body = body; moves = moves }
 
 -- what came of a move, where the body goes on so by itself
-abbrev pub made_of : ℕ → (Unwound → Stepped) → Made → Stack → Stepped
-made_of moves go (Made.Asks request x) s = record { step = Step.Asks request; body = Body.Waits (record { locals = s.locals; todo = s.todo; gives = x }); moves = moves }
-made_of moves go (Made.Enters ms silent body) s = record { step = Step.EntersTimeout ms silent; body = Body.Enters silent body s.locals s.todo; moves = moves }
-made_of moves go (Made.Further at) s = go (unwound_of at s.left s.locals s.todo)
+abbrev pub made_of : List (List Statement) → ℕ → (Unwound → Stepped) → Made → Stack → Stepped
+made_of t moves go (Made.Asks request x) s = record { step = Step.Asks request; body = Body.Waits (record { locals = s.locals; todo = todo_of t s.todo; gives = x }); moves = moves }
+made_of t moves go (Made.Enters ms silent b) s = record { step = Step.EntersTimeout ms silent; body = Body.Enters silent (block_at b t) s.locals (todo_of t s.todo); moves = moves }
+made_of t moves go (Made.Further at) s = go (goes_from t at s)
 
 -- a body stands where it goes on
 abbrev pub stands : Unwound → Stepped
 stands u = record { step = Step.MovesOut; body = Body.Ready u; moves = 0 }
 
 -- the body after the move
-abbrev pub body_after : Made → Stack → Body
-body_after made s = (made_of 0 stands made s).body
+abbrev pub body_after : List (List Statement) → Made → Stack → Body
+body_after t made s = (made_of t 0 stands made s).body
 
 -- where a body came to
 abbrev pub reached_of : Reached → Place

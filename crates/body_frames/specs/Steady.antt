@@ -2,7 +2,7 @@
 use Rattle.std.specs.Prelude.{⊤}
 use Rattle.machine.specs.Bodies.{Body}
 use Rattle.machine.specs.Unwinding.{Unwound}
-use Rattle.body_moves.specs.AtMove.{IsAtMove}
+use Rattle.body_frames.specs.AtMove.{IsAtMove}
 
 -- where the body is not left, it stands at a move
 abbrev pub HasMove : Unwound → Type 0

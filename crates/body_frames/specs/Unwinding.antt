@@ -1,9 +1,12 @@
 -- What the steps outwards through the blocks stand for.
 use Rattle.std.specs.Prelude.{ℕ, List, ⊤, ◌≡◌}
-use Rattle.scenario_tree.specs.declared.tree.Except.{Except, out-Except}
+use Rattle.scenario_tree.specs.declared.tree.Statement.{Statement}
+use Rattle.body_blocks.specs.Trees.{block_at}
+use Rattle.body_blocks.specs.declared.statement.FlatExcept.{FlatExcept}
 use Rattle.machine.specs.declared.state.Local.{Local}
 use Rattle.machine.specs.declared.state.Todo.{Todo}
 use Rattle.machine.specs.Unwinding.{Caught, Unwound, unwind}
+use Rattle.body_frames.specs.declared.entry.Entry.{Entry}
 use Rattle.body_frames.specs.declared.unwind.Unwound.{Unwound as Came}
 use Rattle.body_frames.specs.declared.unwind.Stepped.{Stepped}
 
@@ -11,14 +14,14 @@ abbrev pub unwound_of : Came → List ℕ → List Local → List Todo → Unwou
 unwound_of Came.Runs left locals todo = Unwound.Runs left locals todo
 unwound_of (Came.Out how) left locals todo = Unwound.Out left how
 
-abbrev pub caught_of : Except → Caught
-caught_of e = record { name = (out-Except e).name; body = (out-Except e).body }
+abbrev pub caught_of : List (List Statement) → FlatExcept → Caught
+caught_of t e = record { name = e.name; body = block_at e.body t }
 
 abbrev pub stepped_of : Stepped → List ℕ → List Local → List Todo → Unwound
 stepped_of Stepped.Runs left locals todo = Unwound.Runs left locals todo
 stepped_of (Stepped.Further how) left locals todo = unwind todo left how locals
 
 -- where it goes on outwards, no more is to do than before
-abbrev pub KeepsIfFurther : Stepped → List Todo → List Todo → Type 0
+abbrev pub KeepsIfFurther : Stepped → List Entry → List Entry → Type 0
 KeepsIfFurther Stepped.Runs old new = ⊤
 KeepsIfFurther (Stepped.Further how) old new = new ≡ old

@@ -60,7 +60,7 @@ impl Model for Moving {
     ghost use Rattle.std.specs.Prelude.{None};
     ghost use Rattle.machine.specs.declared.state.Frame.{Frame as Body};
     ghost use Rattle.scenario_tree.specs.Trees.{trees};
-    ghost use Rattle.body_moves.specs.AtMove.{IsAtMove};
+    ghost use Rattle.body_frames.specs.AtMove.{IsAtMove};
     ghost use Rattle.body_frames.specs.Few.{HasFewToDo};
 
     ghost Value = { Body };

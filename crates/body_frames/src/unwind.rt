@@ -1,20 +1,35 @@
 //! How a block is left.
-ghost use Rattle.std.specs.Prelude.{◌≡◌, ◌∷◌, [], ◌++◌, ℕ, List, Option, Some, None, IfOk, IfSome, IfNone, OnOk, option_map};
-ghost use Rattle.machine.specs.Unwinding.{unwind, catching, past_timeout, bind_if, finally_first, block_first};
+ghost use Rattle.std.specs.Prelude.{◌≡◌, ◌∷◌, [], ℕ, List, Option, map, option_map, unwrap_or, IfOk, OnOk};
+ghost use Rattle.std.specs.Option.{option_copied};
+ghost use Rattle.machine.specs.declared.state.Local.{Local as Named};
+ghost use Rattle.machine.specs.declared.state.Leaving.TheVariants as leaving;
+ghost use Rattle.machine.specs.declared.state.Todo.TheVariants as undone;
+ghost use Rattle.machine.specs.Unwinding.{unwind, catching, past_timeout, bind_if, finally_first};
+ghost use Rattle.body_blocks.specs.Trees.{except_of};
+ghost use Rattle.body_frames.specs.Entries.{begins, entry_of, optional_block, rest, todo_of};
 ghost use Rattle.body_frames.specs.Unwinding.{unwound_of, caught_of, stepped_of, KeepsIfFurther};
 
+use crate::entry::Entry;
+use crate::pile::Pile;
+use body_blocks::{Blocks, FlatExcept};
 use body_values::bind;
-use body_values::front::{pop_first, put_first};
 use gv_values::{FaultKind, Name, Value};
-use machine::state::{Leaving, Local, Todo};
-use scenario_tree::{Except, Items, Statement};
-use std::alloc::{AllocError, Global};
+use machine::state::{Leaving, Local};
+use scenario_tree::Items;
+use std::alloc::AllocError;
 
 /// Whether the body goes on, or how it is left.
 #[derive(Drop)]
 pub enum Unwound {
     Runs,
     Out(Leaving),
+}
+
+/// What came of one entry of what is still to do.
+#[derive(Drop)]
+pub enum Stepped {
+    Runs,
+    Further(Leaving),
 }
 
 fn past_timeout(n: u32, silent: bool, how: Leaving) -> Leaving
@@ -32,27 +47,6 @@ fn past_timeout(n: u32, silent: bool, how: Leaving) -> Leaving
     }
 }
 
-/// The first except that catches the fault.
-fn catching(f: FaultKind, excepts: Items<Except>) -> Option<Except>
-    ensures { option_map caught_of result ≡ catching f excepts }
-{
-    let mut excepts = excepts;
-    while !excepts.is_empty() {
-        let except = excepts.remove(0);
-        if except.class.catches(f) {
-            return Some(except);
-        }
-    }
-    None
-}
-
-/// What came of one entry of what is still to do.
-#[derive(Drop)]
-pub enum Stepped {
-    Runs,
-    Further(Leaving),
-}
-
 fn bind_if(name: Option<Name>, f: FaultKind, locals: &mut Items<Local>) -> Result<(), AllocError>
     ensures { OnOk result (locals.new ≡ bind_if name (Value.Fault f) locals.old) }
 {
@@ -62,118 +56,168 @@ fn bind_if(name: Option<Name>, f: FaultKind, locals: &mut Items<Local>) -> Resul
     Ok(())
 }
 
-/// The finally runs first, where it has statements.
-fn finally_first(
-    alloc: Global,
-    todo: &mut Items<Todo>,
-    finally: Items<Statement>,
-    how: Leaving,
-) -> Result<Stepped, AllocError>
-    ensures keeps { IfOk result (λ s. KeepsIfFurther s todo.old todo.new) }
-    ensures meaning { IfOk result (λ s. (left : List ℕ) (locals : List Local) →
-        finally_first finally left how locals todo.old (unwind todo.old left how locals) ≡ stepped_of s left locals todo.new) }
+/// The first except that catches the fault.
+#[tactic(auto, using(crate::proofs::Catches::catches_here, crate::proofs::Catches::passes_here))]
+fn catching<'a>(f: FaultKind, excepts: &'a [FlatExcept]) -> Option<&'a FlatExcept>
+    ensures { (t : _) → option_map (caught_of t) (option_copied result) ≡ catching f (map (except_of t) excepts.now) }
 {
-    if finally.len() > 0 {
-        put_first(alloc, todo, Todo::Afterwards(how))?;
-        put_first(alloc, todo, Todo::Statements(finally))?;
-        return Ok(Stepped::Runs);
+    for except in excepts {
+        if except.class.catches(f) {
+            return Some(except);
+        }
     }
-    Ok(Stepped::Further(how))
+    None
 }
 
-fn step(
-    alloc: Global,
-    todo: &mut Items<Todo>,
-    left: &mut Items<u32>,
+/// The finally runs first, where it has statements.
+#[tactic(auto, using(crate::proofs::Leavings::finally_runs, crate::proofs::Leavings::finally_ends))]
+fn finally_first(
+    blocks: &Blocks,
+    todo: &mut Pile<Entry>,
+    finally: Option<usize>,
     how: Leaving,
-    locals: &mut Items<Local>,
-    entry: Todo,
 ) -> Result<Stepped, AllocError>
     ensures keeps { IfOk result (λ s. KeepsIfFurther s todo.old todo.new) }
-    ensures meaning { IfOk result (λ s.
-        unwind (entry ∷ todo.old) left.old how locals.old ≡ stepped_of s left.new locals.new todo.new) }
+    ensures meaning { IfOk result (λ s. (left : List ℕ) (locals : List Named) →
+        finally_first (unwrap_or (optional_block blocks.now finally) []) left how locals (todo_of blocks.now todo.old) (unwind (todo_of blocks.now todo.old) left how locals)
+        ≡ stepped_of s left locals (todo_of blocks.now todo.new)) }
 {
-    match entry {
-        Todo::Statements(statements) => {
-            if let Leaving::Normally = &how {
-                if statements.len() > 0 {
-                    put_first(alloc, todo, Todo::Statements(statements))?;
-                    return Ok(Stepped::Runs);
-                }
-            }
-            Ok(Stepped::Further(how))
-        }
-        Todo::Again(condition, body) => {
-            if let Leaving::Normally = &how {
-                put_first(alloc, todo, Todo::Again(condition, body))?;
+    match finally {
+        Some(finally) => {
+            if begins(blocks, finally, 0) {
+                todo.push(Entry::Afterwards(how))?;
+                todo.push(Entry::Rest(finally, 0))?;
                 return Ok(Stepped::Runs);
             }
             Ok(Stepped::Further(how))
         }
-        Todo::Within(n, silent) => {
-            left.push(n)?;
-            Ok(Stepped::Further(past_timeout(n, silent, how)))
-        }
-        Todo::Afterwards(before) => match how {
-            Leaving::Normally => Ok(Stepped::Further(before)),
-            how => Ok(Stepped::Further(how)),
-        },
-        Todo::Guard(excepts, finally) => match how {
-            Leaving::Raising(f) => guard(alloc, todo, f, locals, excepts, finally),
-            how => finally_first(alloc, todo, finally, how),
-        },
+        None => Ok(Stepped::Further(how)),
     }
 }
 
 /// A fault comes to a try.
+#[tactic(auto, using(crate::proofs::Leavings::block_runs, crate::proofs::Leavings::block_ends))]
 fn guard(
-    alloc: Global,
-    todo: &mut Items<Todo>,
+    blocks: &Blocks,
+    todo: &mut Pile<Entry>,
     f: FaultKind,
     locals: &mut Items<Local>,
-    excepts: Items<Except>,
-    finally: Items<Statement>,
+    excepts: &Items<FlatExcept>,
+    finally: Option<usize>,
 ) -> Result<Stepped, AllocError>
     ensures keeps { IfOk result (λ s. KeepsIfFurther s todo.old todo.new) }
     ensures meaning { IfOk result (λ s. (left : List ℕ) →
-        unwind (Todo.Guard excepts finally ∷ todo.old) left (Leaving.Raising f) locals.old ≡ stepped_of s left locals.new todo.new) }
+        unwind (undone.Guard (map (except_of blocks.now) excepts.now) (unwrap_or (optional_block blocks.now finally) []) ∷ todo_of blocks.now todo.old) left (leaving.Raising f) locals.old
+        ≡ stepped_of s left locals.new (todo_of blocks.now todo.new)) }
 {
-    match catching(f, excepts) {
-        None => finally_first(alloc, todo, finally, Leaving::Raising(f)),
+    match catching(f, excepts.as_slice()) {
+        None => Ok(finally_first(blocks, todo, finally, Leaving::Raising(f))?),
         Some(except) => {
-            let Except {
-                line: _,
-                class: _,
-                name,
-                body,
-            } = except;
-            bind_if(name, f, locals)?;
-            if body.len() > 0 {
-                put_first(alloc, todo, Todo::Guard(Items::new(alloc), finally))?;
-                put_first(alloc, todo, Todo::Statements(body))?;
+            bind_if(except.name, f, locals)?;
+            if begins(blocks, except.body, 0) {
+                todo.push(Entry::Final(finally))?;
+                todo.push(Entry::Rest(except.body, 0))?;
                 return Ok(Stepped::Runs);
             }
-            finally_first(alloc, todo, finally, Leaving::Normally)
+            Ok(finally_first(blocks, todo, finally, Leaving::Normally)?)
         }
+    }
+}
+
+/// One entry is left in this way.
+fn step(
+    blocks: &Blocks,
+    todo: &mut Pile<Entry>,
+    left: &mut Items<u32>,
+    how: Leaving,
+    locals: &mut Items<Local>,
+    entry: Entry,
+) -> Result<Stepped, AllocError>
+    ensures keeps { IfOk result (λ s. KeepsIfFurther s todo.old todo.new) }
+    ensures meaning { IfOk result (λ s.
+        unwind (entry_of blocks.now entry ∷ todo_of blocks.now todo.old) left.old how locals.old ≡ stepped_of s left.new locals.new (todo_of blocks.now todo.new)) }
+{
+    match entry {
+        Entry::Rest(block, at) => Ok(leave_rest(blocks, todo, how, block, at)?),
+        Entry::Again(test, body) => match how {
+            Leaving::Normally => {
+                todo.push(Entry::Again(test, body))?;
+                Ok(Stepped::Runs)
+            }
+            how => Ok(Stepped::Further(how)),
+        },
+        Entry::Guard(excepts, finally) => match how {
+            Leaving::Raising(f) => Ok(guard(blocks, todo, f, locals, &excepts, finally)?),
+            how => Ok(finally_first(blocks, todo, finally, how)?),
+        },
+        Entry::Final(finally) => match how {
+            Leaving::Raising(f) => Ok(finally_first(blocks, todo, finally, Leaving::Raising(f))?),
+            how => Ok(finally_first(blocks, todo, finally, how)?),
+        },
+        Entry::Within(n, silent) => {
+            left.push(n)?;
+            Ok(Stepped::Further(past_timeout(n, silent, how)))
+        }
+        Entry::Afterwards(before) => match how {
+            Leaving::Normally => Ok(Stepped::Further(before)),
+            how => Ok(Stepped::Further(how)),
+        },
+    }
+}
+
+/// Whether a statement stands there.
+#[tactic(auto, using(crate::proofs::Readings::begins_there, crate::proofs::Readings::begins_not))]
+fn begins(blocks: &Blocks, block: usize, at: usize) -> bool
+    ensures { result ≡ begins (rest blocks.now block at) }
+{
+    match blocks.ahead(block, at) {
+        Some(_) => true,
+        None => false,
+    }
+}
+
+/// The rest of a block is left.
+#[tactic(auto, using(crate::proofs::Leavings::rest_runs, crate::proofs::Leavings::rest_ends, crate::proofs::Leavings::rest_raises, crate::proofs::Leavings::rest_returns))]
+fn leave_rest(
+    blocks: &Blocks,
+    todo: &mut Pile<Entry>,
+    how: Leaving,
+    block: usize,
+    at: usize,
+) -> Result<Stepped, AllocError>
+    ensures keeps { IfOk result (λ s. KeepsIfFurther s todo.old todo.new) }
+    ensures meaning { IfOk result (λ s. (left : List ℕ) (locals : List Named) →
+        unwind (undone.Statements (rest blocks.now block at) ∷ todo_of blocks.now todo.old) left how locals ≡ stepped_of s left locals (todo_of blocks.now todo.new)) }
+{
+    match how {
+        Leaving::Normally => {
+            if begins(blocks, block, at) {
+                todo.push(Entry::Rest(block, at))?;
+                return Ok(Stepped::Runs);
+            }
+            Ok(Stepped::Further(Leaving::Normally))
+        }
+        Leaving::Raising(f) => Ok(Stepped::Further(Leaving::Raising(f))),
+        Leaving::Returning(value) => Ok(Stepped::Further(Leaving::Returning(value))),
     }
 }
 
 /// Goes outwards to the next statement, or out of the body. A timeout block that is left gives its number.
 pub fn unwind(
-    alloc: Global,
-    todo: &mut Items<Todo>,
+    blocks: &Blocks,
+    todo: &mut Pile<Entry>,
     left: &mut Items<u32>,
     how: Leaving,
     locals: &mut Items<Local>,
 ) -> Result<Unwound, AllocError>
     ensures { IfOk result (λ u.
-        unwind todo.old left.old how locals.old ≡ unwound_of u left.new locals.new todo.new) }
+        unwind (todo_of blocks.now todo.old) left.old how locals.old ≡ unwound_of u left.new locals.new (todo_of blocks.now todo.new)) }
 {
     let mut how = how;
     loop {
-        match pop_first(todo) {
+        match todo.pop() {
             None => return Ok(Unwound::Out(how)),
-            Some(entry) => match step(alloc, todo, left, how, locals, entry)? {
+            Some(entry) => match step(blocks, todo, left, how, locals, entry)? {
                 Stepped::Runs => return Ok(Unwound::Runs),
                 Stepped::Further(next) => how = next,
             },

@@ -17,21 +17,12 @@ use Rattle.machine.specs.State.{Name}
 abbrev pub came_of : ℕ → List Local → (Unwound → Stepped) → List Todo → Chosen → Stepped
 came_of moves locals go todo (Chosen.Goes how) = go (unwind todo [] how locals)
 came_of moves locals go todo (Chosen.Binds x v) = go (unwind todo [] Leaving.Normally (bind x v locals))
-came_of moves locals go todo (Chosen.Opens entries) = go (unwind (entries ++ todo) [] Leaving.Normally locals)
-came_of moves locals go todo (Chosen.Enters ms silent body) =
-    record { step = Step.EntersTimeout ms silent; body = Body.Enters silent body locals todo; moves = moves }
 came_of moves locals go todo (Chosen.Asks request x) =
     record { step = Step.Asks request; body = Body.Waits (record { locals = locals; todo = todo; gives = x }); moves = moves }
 
 -- the choice does what the move does, whatever is to do after it
 abbrev pub DoesAs : Chosen → List Local → (List Todo → Did) → Type 0
 DoesAs chosen locals move = (moves : ℕ) (go : Unwound → Stepped) (todo : List Todo) → after_move moves locals go (move todo) ≡ came_of moves locals go todo chosen
-
--- what is to do after the move at the head
-abbrev pub after_first : List Todo → List Todo
-after_first (Todo.Statements (s ∷ ss) ∷ todo) = Todo.Statements ss ∷ todo
-after_first (Todo.Again e body ∷ todo) = todo
-after_first todo = todo
 
 -- the rows of the definitions for `if` and for a statement that gives a value
 abbrev pub branch_move : Expression → List Statement → Option (List Statement) → Around → List Todo → Did

@@ -1,2 +1,1 @@
-pub mod AtMove
 pub mod Chosen

@@ -1,27 +1,21 @@
-//! What the next move of a body does, by the statement at the head of what is still to do.
-ghost use Rattle.std.specs.Prelude.{◌≡◌, ◌≤◌, ◌∷◌, [], ℕ, IfOk, length, unwrap_or};
-ghost use Rattle.scenario_tree.specs.declared.tree.Action.{out-Action};
+//! What a statement of one line does.
+ghost use Rattle.std.specs.Prelude.{◌≡◌, IfOk};
 ghost use Rattle.scenario_tree.specs.declared.tree.Command.{Command as Word};
 ghost use Rattle.scenario_tree.specs.declared.tree.Giving.{Giving as Grant};
 ghost use Rattle.body_moves.specs.declared.chosen.Chosen.TheVariants as choice;
 ghost use Rattle.machine.specs.declared.state.Leaving.TheVariants as leaving;
-ghost use Rattle.machine.specs.declared.state.Todo.TheVariants as undone;
-ghost use Rattle.machine.specs.Bodies.{around, after_move, Stepped as Went};
-ghost use Rattle.machine.specs.Unwinding.{Unwound as Place};
-ghost use Rattle.machine.specs.BodyMoves.{body_move, action_move, command_move, while_move, raised, timed, at_once, link_kind, values};
-ghost use Rattle.scenario_tree.specs.Limits.{most_parameters};
-ghost use Rattle.body_values.specs.Few.{HasFewArguments, HasFewParts};
-ghost use Rattle.body_moves.specs.AtMove.{HasFewAhead, IsAtMove};
-ghost use Rattle.body_moves.specs.Chosen.{DoesAs, came_of, after_first, branch_move, giving_move};
+ghost use Rattle.machine.specs.Bodies.{around};
+ghost use Rattle.machine.specs.BodyMoves.{command_move, raised, timed, at_once, link_kind};
+ghost use Rattle.body_values.specs.Few.{HasFewArguments};
+ghost use Rattle.body_moves.specs.Chosen.{DoesAs, giving_move};
 
-use crate::copies::{copy_block, copy_excepts};
-use body_values::{Code, Look};
+use crate::evaluation::Evaluation;
+use body_values::Look;
 use gv_values::{FaultKind, LinkKind, Name, Outcome, Value};
-use machine::arguments::Arguments;
 use machine::request::Request;
-use machine::state::{Leaving, Local, Todo};
-use scenario_tree::{Action, Command, Except, Expression, Giving, Items, LinkEnd, Statement, Wait};
-use std::alloc::{AllocError, Global};
+use machine::state::Leaving;
+use scenario_tree::{Command, Expression, Giving, LinkEnd, Wait};
+use std::alloc::AllocError;
 
 /// What a move does.
 #[derive(Drop)]
@@ -32,10 +26,6 @@ pub enum Chosen {
     Goes(Leaving),
     /// The name takes the value.
     Binds(Name, Value),
-    /// These are to do before what follows.
-    Opens(Items<Todo>),
-    /// A timeout block is entered, with its time if it has one, silent or not, and its body.
-    Enters(Option<u64>, bool, Items<Statement>),
 }
 
 fn timed(within: Option<u64>) -> Wait
@@ -94,259 +84,146 @@ macro_rules! values_of {
     };
 }
 
-/// What the next move of the body does.
-pub fn choose_move<L: Look>(
-    alloc: Global,
-    code: &Code,
-    look: &L,
-    locals: &[Local],
-    todo: &[Todo],
-) -> Result<Chosen, AllocError>
-    requires moves { IsAtMove todo.now }
-    requires few { HasFewAhead todo.now }
-    ensures { IfOk result (λ chosen. (moves : ℕ) (go : Place → Went) →
-        after_move moves locals.now go (body_move todo.now (around code.now (L.answers look.now) locals.now)) ≡ came_of moves locals.now go (after_first todo.now) chosen) }
-{
-    match todo {
-        [Todo::Statements(statements), ..] => match statements.as_slice() {
-            [statement, ..] => Ok(choose_action(alloc, code, look, locals, &statement.action)?),
-            [] => unreachable!(),
-        },
-        [Todo::Again(test, body), ..] => Ok(choose_again(alloc, code, look, locals, test, body)?),
-        _ => unreachable!(),
-    }
-}
-
-#[tactic(auto, using(crate::proofs::Actions::command_out, crate::proofs::Actions::giving_out, crate::proofs::Actions::if_out, crate::proofs::Actions::while_out, crate::proofs::Actions::try_out, crate::proofs::Actions::timeout_out))]
-fn choose_action<L: Look>(
-    alloc: Global,
-    code: &Code,
-    look: &L,
-    locals: &[Local],
-    action: &Action,
-) -> Result<Chosen, AllocError>
-    requires { HasFewParts (out-Action action.now) }
-    ensures { IfOk result (λ chosen. DoesAs chosen locals.now (action_move (out-Action action.now) (around code.now (L.answers look.now) locals.now))) }
-{
-    match action {
-        Action::Command(command) => Ok(choose_command(alloc, code, look, locals, command)?),
-        Action::Giving(name, giving) => {
-            Ok(choose_giving(alloc, code, look, locals, *name, giving)?)
-        }
-        Action::If(test, yes, no) => {
-            Ok(choose_branch(alloc, code, look, locals, test, yes, no)?)
-        }
-        Action::While(test, body) => Ok(choose_again(alloc, code, look, locals, test, body)?),
-        Action::Try(body, excepts, finally) => Ok(guard(alloc, body, excepts, finally)?),
-        Action::Timeout(time, silent, body) => {
-            Ok(Chosen::Enters(*time, *silent, copy_block(alloc, body)?))
-        }
-    }
-}
-
-/// One evaluation of a while's condition.
-fn choose_again<L: Look>(
-    alloc: Global,
-    code: &Code,
-    look: &L,
-    locals: &[Local],
-    test: &Expression,
-    body: &Items<Statement>,
-) -> Result<Chosen, AllocError>
-    ensures { IfOk result (λ chosen. DoesAs chosen locals.now (while_move test.now body.now (around code.now (L.answers look.now) locals.now))) }
-{
-    match code.meaning(alloc, look, locals, test)? {
-        Outcome::Value(Value::Bool(true)) => {
-            let mut entries = Items::new(alloc);
-            entries.push(Todo::Statements(copy_block(alloc, body)?))?;
-            entries.push(Todo::Again(test.copy(alloc)?, copy_block(alloc, body)?))?;
-            Ok(Chosen::Opens(entries))
-        }
-        Outcome::Value(Value::Bool(false)) => Ok(Chosen::Goes(Leaving::Normally)),
-        Outcome::Value(_) => Ok(raise(FaultKind::TypeError)),
-        Outcome::Fault(kind) => Ok(raise(kind)),
-    }
-}
-
-#[tactic(auto, using(crate::proofs::Branches::raises_past))]
-fn choose_branch<L: Look>(
-    alloc: Global,
-    code: &Code,
-    look: &L,
-    locals: &[Local],
-    test: &Expression,
-    yes: &Items<Statement>,
-    no: &Option<Items<Statement>>,
-) -> Result<Chosen, AllocError>
-    ensures { IfOk result (λ chosen. DoesAs chosen locals.now (branch_move test.now yes.now no.now (around code.now (L.answers look.now) locals.now))) }
-{
-    match code.meaning(alloc, look, locals, test)? {
-        Outcome::Value(Value::Bool(true)) => Ok(open(alloc, copy_block(alloc, yes)?)?),
-        Outcome::Value(Value::Bool(false)) => match no {
-            Some(no) => Ok(open(alloc, copy_block(alloc, no)?)?),
-            None => Ok(open(alloc, Items::new(alloc))?),
-        },
-        Outcome::Value(_) => Ok(raise(FaultKind::TypeError)),
-        Outcome::Fault(kind) => Ok(raise(kind)),
-    }
-}
-
-fn choose_command<L: Look>(
-    alloc: Global,
-    code: &Code,
-    look: &L,
-    locals: &[Local],
+/// What a statement does that gives no value.
+pub fn choose_command<L: Look>(
+    evaluation: &Evaluation<'_, L>,
     command: &Command,
 ) -> Result<Chosen, AllocError>
-    ensures { IfOk result (λ chosen. DoesAs chosen locals.now (command_move command.now (around code.now (L.answers look.now) locals.now))) }
+    ensures { IfOk result (λ chosen. DoesAs chosen evaluation.now.locals.now (command_move command.now (around evaluation.now.code.now (L.answers evaluation.now.look.now) evaluation.now.locals.now))) }
 {
     match command {
-        Command::Let(name, e) => Ok(Chosen::Binds(
-            *name,
-            value_of!(code.meaning(alloc, look, locals, e)?),
-        )),
-        Command::Return(e) => Ok(Chosen::Goes(Leaving::Returning(value_of!(code.meaning(
-            alloc, look, locals, e
+        Command::Let(name, e) => Ok(Chosen::Binds(*name, value_of!(evaluation.meaning(e)?))),
+        Command::Return(e) => Ok(Chosen::Goes(Leaving::Returning(value_of!(evaluation.meaning(
+            e
         )?)))),
-        Command::Raise(e) => Ok(Chosen::Goes(raised(value_of!(code.meaning(
-            alloc, look, locals, e
-        )?)))),
+        Command::Raise(e) => Ok(Chosen::Goes(raised(value_of!(evaluation.meaning(e)?)))),
         Command::Print(e) => Ok(Chosen::Asks(
-            Request::Print(value_of!(code.meaning(alloc, look, locals, e)?)),
+            Request::Print(value_of!(evaluation.meaning(e)?)),
             None,
         )),
         Command::Start(e) => Ok(Chosen::Asks(
-            Request::Start(value_of!(code.meaning(alloc, look, locals, e)?)),
+            Request::Start(value_of!(evaluation.meaning(e)?)),
             None,
         )),
         Command::Sleep(time) => Ok(Chosen::Asks(Request::Sleep(*time), None)),
         Command::Join(e, within) => Ok(Chosen::Asks(
-            Request::Join(
-                value_of!(code.meaning(alloc, look, locals, e)?),
-                timed(*within),
-            ),
+            Request::Join(value_of!(evaluation.meaning(e)?), timed(*within)),
             None,
         )),
-        Command::Kill(e, fault, wait) => Ok(kill(alloc, code, look, locals, e, fault, *wait)?),
-        Command::KillAll(e, fault, wait) => Ok(kill_all(
-            alloc, code, look, locals, e, fault, *wait,
-        )?),
+        Command::Kill(e, fault, wait) => Ok(kill(evaluation, e, fault, *wait)?),
+        Command::KillAll(e, fault, wait) => Ok(kill_all(evaluation, e, fault, *wait)?),
         Command::Unlink(e) => Ok(Chosen::Asks(
-            Request::Unlink(value_of!(code.meaning(alloc, look, locals, e)?)),
+            Request::Unlink(value_of!(evaluation.meaning(e)?)),
             None,
         )),
-        Command::Set(name) => Ok(Chosen::Asks(Request::Set(code.object(name)), None)),
-        Command::Clear(name) => Ok(Chosen::Asks(Request::Clear(code.object(name)), None)),
+        Command::Set(name) => Ok(Chosen::Asks(Request::Set(evaluation.code.object(name)), None)),
+        Command::Clear(name) => Ok(Chosen::Asks(
+            Request::Clear(evaluation.code.object(name)),
+            None,
+        )),
         Command::ResultSet(name, e) => Ok(Chosen::Asks(
             Request::ResultSet(
-                code.object(name),
-                value_of!(code.meaning(alloc, look, locals, e)?),
+                evaluation.code.object(name),
+                value_of!(evaluation.meaning(e)?),
             ),
             None,
         )),
         Command::ResultFail(name, e) => Ok(Chosen::Asks(
             Request::ResultFail(
-                code.object(name),
-                value_of!(code.meaning(alloc, look, locals, e)?),
+                evaluation.code.object(name),
+                value_of!(evaluation.meaning(e)?),
             ),
             None,
         )),
-        Command::Release(name) => Ok(Chosen::Asks(Request::Release(code.object(name)), None)),
+        Command::Release(name) => Ok(Chosen::Asks(
+            Request::Release(evaluation.code.object(name)),
+            None,
+        )),
         Command::QueuePut(name, e, wait) => Ok(Chosen::Asks(
             Request::QueuePut(
-                code.object(name),
-                value_of!(code.meaning(alloc, look, locals, e)?),
+                evaluation.code.object(name),
+                value_of!(evaluation.meaning(e)?),
                 *wait,
             ),
             None,
         )),
-        Command::QueueDone(name) => Ok(Chosen::Asks(Request::QueueDone(code.object(name)), None)),
-        Command::GroupJoin(name, within) => Ok(Chosen::Asks(
-            Request::GroupJoin(code.object(name), timed(*within)),
+        Command::QueueDone(name) => Ok(Chosen::Asks(
+            Request::QueueDone(evaluation.code.object(name)),
             None,
         )),
-        Command::GroupKill(name, fault, now) => Ok(group_kill(
-            alloc, code, look, locals, name, fault, *now,
-        )?),
-        Command::SetParent(child, parent) => Ok(set_parent(
-            alloc, code, look, locals, child, parent,
-        )?),
+        Command::GroupJoin(name, within) => Ok(Chosen::Asks(
+            Request::GroupJoin(evaluation.code.object(name), timed(*within)),
+            None,
+        )),
+        Command::GroupKill(name, fault, now) => Ok(group_kill(evaluation, name, fault, *now)?),
+        Command::SetParent(child, parent) => Ok(set_parent(evaluation, child, parent)?),
         Command::ChannelPut(name, e) => Ok(Chosen::Asks(
             Request::ChannelPut(
-                code.object(name),
-                value_of!(code.meaning(alloc, look, locals, e)?),
+                evaluation.code.object(name),
+                value_of!(evaluation.meaning(e)?),
             ),
             None,
         )),
         Command::QueueShut(name, immediate) => Ok(Chosen::Asks(
-            Request::QueueShut(code.object(name), *immediate),
+            Request::QueueShut(evaluation.code.object(name), *immediate),
             None,
         )),
     }
 }
 
 fn kill<L: Look>(
-    alloc: Global,
-    code: &Code,
-    look: &L,
-    locals: &[Local],
+    evaluation: &Evaluation<'_, L>,
     e: &Expression,
     second: &Option<Expression>,
     wait: Wait,
 ) -> Result<Chosen, AllocError>
-    ensures { IfOk result (λ chosen. DoesAs chosen locals.now (command_move (Word.Kill e.now second.now wait) (around code.now (L.answers look.now) locals.now))) }
+    ensures { IfOk result (λ chosen. DoesAs chosen evaluation.now.locals.now (command_move (Word.Kill e.now second.now wait) (around evaluation.now.code.now (L.answers evaluation.now.look.now) evaluation.now.locals.now))) }
 {
-    let value = value_of!(code.meaning(alloc, look, locals, e)?);
+    let value = value_of!(evaluation.meaning(e)?);
     match second {
         None => Ok(Chosen::Asks(Request::Kill(value, None, wait), None)),
         Some(second) => {
-            let second = value_of!(code.meaning(alloc, look, locals, second)?);
+            let second = value_of!(evaluation.meaning(second)?);
             Ok(Chosen::Asks(Request::Kill(value, Some(second), wait), None))
         }
     }
 }
 
 fn kill_all<L: Look>(
-    alloc: Global,
-    code: &Code,
-    look: &L,
-    locals: &[Local],
+    evaluation: &Evaluation<'_, L>,
     e: &Expression,
     second: &Option<Expression>,
     wait: Wait,
 ) -> Result<Chosen, AllocError>
-    ensures { IfOk result (λ chosen. DoesAs chosen locals.now (command_move (Word.KillAll e.now second.now wait) (around code.now (L.answers look.now) locals.now))) }
+    ensures { IfOk result (λ chosen. DoesAs chosen evaluation.now.locals.now (command_move (Word.KillAll e.now second.now wait) (around evaluation.now.code.now (L.answers evaluation.now.look.now) evaluation.now.locals.now))) }
 {
-    let value = value_of!(code.meaning(alloc, look, locals, e)?);
+    let value = value_of!(evaluation.meaning(e)?);
     match second {
         None => Ok(Chosen::Asks(Request::KillAll(value, None, wait), None)),
         Some(second) => {
-            let second = value_of!(code.meaning(alloc, look, locals, second)?);
+            let second = value_of!(evaluation.meaning(second)?);
             Ok(Chosen::Asks(Request::KillAll(value, Some(second), wait), None))
         }
     }
 }
 
 fn group_kill<L: Look>(
-    alloc: Global,
-    code: &Code,
-    look: &L,
-    locals: &[Local],
+    evaluation: &Evaluation<'_, L>,
     group: &Name,
     second: &Option<Expression>,
     now: bool,
 ) -> Result<Chosen, AllocError>
-    ensures { IfOk result (λ chosen. DoesAs chosen locals.now (command_move (Word.GroupKill group.now second.now now) (around code.now (L.answers look.now) locals.now))) }
+    ensures { IfOk result (λ chosen. DoesAs chosen evaluation.now.locals.now (command_move (Word.GroupKill group.now second.now now) (around evaluation.now.code.now (L.answers evaluation.now.look.now) evaluation.now.locals.now))) }
 {
     match second {
         None => Ok(Chosen::Asks(
-            Request::GroupKill(code.object(group), None, at_once(now)),
+            Request::GroupKill(evaluation.code.object(group), None, at_once(now)),
             None,
         )),
         Some(second) => {
-            let second = value_of!(code.meaning(alloc, look, locals, second)?);
+            let second = value_of!(evaluation.meaning(second)?);
             Ok(Chosen::Asks(
-                Request::GroupKill(code.object(group), Some(second), at_once(now)),
+                Request::GroupKill(evaluation.code.object(group), Some(second), at_once(now)),
                 None,
             ))
         }
@@ -354,224 +231,188 @@ fn group_kill<L: Look>(
 }
 
 fn set_parent<L: Look>(
-    alloc: Global,
-    code: &Code,
-    look: &L,
-    locals: &[Local],
+    evaluation: &Evaluation<'_, L>,
     e: &Expression,
     second: &Expression,
 ) -> Result<Chosen, AllocError>
-    ensures { IfOk result (λ chosen. DoesAs chosen locals.now (command_move (Word.SetParent e.now second.now) (around code.now (L.answers look.now) locals.now))) }
+    ensures { IfOk result (λ chosen. DoesAs chosen evaluation.now.locals.now (command_move (Word.SetParent e.now second.now) (around evaluation.now.code.now (L.answers evaluation.now.look.now) evaluation.now.locals.now))) }
 {
-    let value = value_of!(code.meaning(alloc, look, locals, e)?);
-    let second = value_of!(code.meaning(alloc, look, locals, second)?);
+    let value = value_of!(evaluation.meaning(e)?);
+    let second = value_of!(evaluation.meaning(second)?);
     Ok(Chosen::Asks(Request::SetParent(value, second), None))
 }
 
-fn choose_giving<L: Look>(
-    alloc: Global,
-    code: &Code,
-    look: &L,
-    locals: &[Local],
+/// What a statement does that gives a value, which the name takes.
+pub fn choose_giving<L: Look>(
+    evaluation: &Evaluation<'_, L>,
     name: Option<Name>,
     giving: &Giving,
 ) -> Result<Chosen, AllocError>
     requires { HasFewArguments giving.now }
-    ensures { IfOk result (λ chosen. DoesAs chosen locals.now (giving_move name giving.now (around code.now (L.answers look.now) locals.now))) }
+    ensures { IfOk result (λ chosen. DoesAs chosen evaluation.now.locals.now (giving_move name giving.now (around evaluation.now.code.now (L.answers evaluation.now.look.now) evaluation.now.locals.now))) }
 {
     match giving {
         Giving::Spawn(function, arguments) => Ok(Chosen::Asks(
             Request::Spawn(
-                code.function(function),
-                values_of!(arguments_of(alloc, code, look, locals, arguments)?),
+                evaluation.code.function(function),
+                values_of!(evaluation.arguments(arguments)?),
             ),
             name,
         )),
         Giving::SpawnLater(time, function, arguments) => Ok(Chosen::Asks(
             Request::SpawnLater(
                 *time,
-                code.function(function),
-                values_of!(arguments_of(alloc, code, look, locals, arguments)?),
+                evaluation.code.function(function),
+                values_of!(evaluation.arguments(arguments)?),
             ),
             name,
         )),
         Giving::New(function, arguments) => Ok(Chosen::Asks(
             Request::New(
-                code.function(function),
-                values_of!(arguments_of(alloc, code, look, locals, arguments)?),
+                evaluation.code.function(function),
+                values_of!(evaluation.arguments(arguments)?),
             ),
             name,
         )),
         Giving::Get(e, wait) => Ok(Chosen::Asks(
-            Request::Get(value_of!(code.meaning(alloc, look, locals, e)?), *wait),
+            Request::Get(value_of!(evaluation.meaning(e)?), *wait),
             name,
         )),
         Giving::JoinAll(e, count, within) => Ok(Chosen::Asks(
-            Request::JoinAll(
-                value_of!(code.meaning(alloc, look, locals, e)?),
-                *count,
-                timed(*within),
-            ),
+            Request::JoinAll(value_of!(evaluation.meaning(e)?), *count, timed(*within)),
             name,
         )),
         Giving::Link(kind, e, function) => Ok(Chosen::Asks(
             Request::Link(
-                value_of!(code.meaning(alloc, look, locals, e)?),
+                value_of!(evaluation.meaning(e)?),
                 link_kind(*kind),
-                code.function(function),
+                evaluation.code.function(function),
             ),
             name,
         )),
         Giving::LinkMark(e, mark) => Ok(Chosen::Asks(
-            Request::Link(
-                value_of!(code.meaning(alloc, look, locals, e)?),
-                LinkKind::Mark(*mark),
-                0,
-            ),
+            Request::Link(value_of!(evaluation.meaning(e)?), LinkKind::Mark(*mark), 0),
             name,
         )),
         Giving::LinkSet(e, event) => Ok(Chosen::Asks(
             Request::Link(
-                value_of!(code.meaning(alloc, look, locals, e)?),
-                LinkKind::Set(code.object(event)),
+                value_of!(evaluation.meaning(e)?),
+                LinkKind::Set(evaluation.code.object(event)),
                 0,
             ),
             name,
         )),
         Giving::WaitEvent(object, within) => Ok(Chosen::Asks(
-            Request::WaitEvent(code.object(object), timed(*within)),
+            Request::WaitEvent(evaluation.code.object(object), timed(*within)),
             name,
         )),
         Giving::ResultGet(object, wait) => Ok(Chosen::Asks(
-            Request::ResultGet(code.object(object), *wait),
+            Request::ResultGet(evaluation.code.object(object), *wait),
             name,
         )),
         Giving::ResultWait(object, within) => Ok(Chosen::Asks(
-            Request::ResultWait(code.object(object), timed(*within)),
+            Request::ResultWait(evaluation.code.object(object), timed(*within)),
             name,
         )),
         Giving::Acquire(object, wait) => Ok(Chosen::Asks(
-            Request::Acquire(code.object(object), *wait),
+            Request::Acquire(evaluation.code.object(object), *wait),
             name,
         )),
         Giving::QueueGet(object, wait) => Ok(Chosen::Asks(
-            Request::QueueGet(code.object(object), *wait),
+            Request::QueueGet(evaluation.code.object(object), *wait),
             name,
         )),
         Giving::QueuePeek(object, wait) => Ok(Chosen::Asks(
-            Request::QueuePeek(code.object(object), *wait),
+            Request::QueuePeek(evaluation.code.object(object), *wait),
             name,
         )),
         Giving::QueueJoin(object, within) => Ok(Chosen::Asks(
-            Request::QueueJoin(code.object(object), timed(*within)),
+            Request::QueueJoin(evaluation.code.object(object), timed(*within)),
             name,
         )),
         Giving::GroupSpawn(group, function, arguments) => Ok(Chosen::Asks(
             Request::GroupSpawn(
-                code.object(group),
-                code.function(function),
-                values_of!(arguments_of(alloc, code, look, locals, arguments)?),
+                evaluation.code.object(group),
+                evaluation.code.function(function),
+                values_of!(evaluation.arguments(arguments)?),
             ),
             name,
         )),
         Giving::Map(group, function, e) => Ok(Chosen::Asks(
             Request::Map(
-                code.object(group),
-                code.function(function),
-                value_of!(code.meaning(alloc, look, locals, e)?),
+                evaluation.code.object(group),
+                evaluation.code.function(function),
+                value_of!(evaluation.meaning(e)?),
             ),
             name,
         )),
         Giving::NativeSpawn(pool, job, e, takes) => Ok(Chosen::Asks(
             Request::NativeSpawn(
-                code.object(pool),
+                evaluation.code.object(pool),
                 *job,
-                value_of!(code.meaning(alloc, look, locals, e)?),
+                value_of!(evaluation.meaning(e)?),
                 takes.unwrap_or(0),
             ),
             name,
         )),
-        Giving::Raw(function, e) => Ok(raw(alloc, code, look, locals, name, function, e)?),
-        Giving::Switch(e, value) => Ok(switch(alloc, code, look, locals, name, e, value)?),
-        Giving::Throw(e, fault) => Ok(throw(alloc, code, look, locals, name, e, fault)?),
+        Giving::Raw(function, e) => Ok(raw(evaluation, name, function, e)?),
+        Giving::Switch(e, value) => Ok(switch(evaluation, name, e, value)?),
+        Giving::Throw(e, fault) => Ok(throw(evaluation, name, e, fault)?),
         Giving::ChannelGet(channel) => Ok(Chosen::Asks(
-            Request::ChannelGet(code.object(channel)),
+            Request::ChannelGet(evaluation.code.object(channel)),
             name,
         )),
     }
 }
 
 fn raw<L: Look>(
-    alloc: Global,
-    code: &Code,
-    look: &L,
-    locals: &[Local],
+    evaluation: &Evaluation<'_, L>,
     name: Option<Name>,
     function: &Name,
     second: &Option<Expression>,
 ) -> Result<Chosen, AllocError>
-    ensures { IfOk result (λ chosen. DoesAs chosen locals.now (giving_move name (Grant.Raw function.now second.now) (around code.now (L.answers look.now) locals.now))) }
+    ensures { IfOk result (λ chosen. DoesAs chosen evaluation.now.locals.now (giving_move name (Grant.Raw function.now second.now) (around evaluation.now.code.now (L.answers evaluation.now.look.now) evaluation.now.locals.now))) }
 {
     match second {
-        None => Ok(Chosen::Asks(Request::Raw(code.function(function), None), name)),
+        None => Ok(Chosen::Asks(Request::Raw(evaluation.code.function(function), None), name)),
         Some(second) => {
-            let second = value_of!(code.meaning(alloc, look, locals, second)?);
-            Ok(Chosen::Asks(Request::Raw(code.function(function), Some(second)), name))
+            let second = value_of!(evaluation.meaning(second)?);
+            Ok(Chosen::Asks(
+                Request::Raw(evaluation.code.function(function), Some(second)),
+                name,
+            ))
         }
     }
 }
 
 fn switch<L: Look>(
-    alloc: Global,
-    code: &Code,
-    look: &L,
-    locals: &[Local],
+    evaluation: &Evaluation<'_, L>,
     name: Option<Name>,
     e: &Expression,
     second: &Expression,
 ) -> Result<Chosen, AllocError>
-    ensures { IfOk result (λ chosen. DoesAs chosen locals.now (giving_move name (Grant.Switch e.now second.now) (around code.now (L.answers look.now) locals.now))) }
+    ensures { IfOk result (λ chosen. DoesAs chosen evaluation.now.locals.now (giving_move name (Grant.Switch e.now second.now) (around evaluation.now.code.now (L.answers evaluation.now.look.now) evaluation.now.locals.now))) }
 {
-    let value = value_of!(code.meaning(alloc, look, locals, e)?);
-    let second = value_of!(code.meaning(alloc, look, locals, second)?);
+    let value = value_of!(evaluation.meaning(e)?);
+    let second = value_of!(evaluation.meaning(second)?);
     Ok(Chosen::Asks(Request::Switch(value, second), name))
 }
 
 fn throw<L: Look>(
-    alloc: Global,
-    code: &Code,
-    look: &L,
-    locals: &[Local],
+    evaluation: &Evaluation<'_, L>,
     name: Option<Name>,
     e: &Expression,
     second: &Option<Expression>,
 ) -> Result<Chosen, AllocError>
-    ensures { IfOk result (λ chosen. DoesAs chosen locals.now (giving_move name (Grant.Throw e.now second.now) (around code.now (L.answers look.now) locals.now))) }
+    ensures { IfOk result (λ chosen. DoesAs chosen evaluation.now.locals.now (giving_move name (Grant.Throw e.now second.now) (around evaluation.now.code.now (L.answers evaluation.now.look.now) evaluation.now.locals.now))) }
 {
-    let value = value_of!(code.meaning(alloc, look, locals, e)?);
+    let value = value_of!(evaluation.meaning(e)?);
     match second {
         None => Ok(Chosen::Asks(Request::Throw(value, None), name)),
         Some(second) => {
-            let second = value_of!(code.meaning(alloc, look, locals, second)?);
+            let second = value_of!(evaluation.meaning(second)?);
             Ok(Chosen::Asks(Request::Throw(value, Some(second)), name))
         }
-    }
-}
-
-/// The values of the arguments, or the first fault.
-fn arguments_of<L: Look>(
-    alloc: Global,
-    code: &Code,
-    look: &L,
-    locals: &[Local],
-    arguments: &Items<Expression>,
-) -> Result<Result<Arguments, FaultKind>, AllocError>
-    requires { length arguments.now ≤ most_parameters }
-    ensures { IfOk result (λ given. given ≡ values arguments.now (around code.now (L.answers look.now) locals.now)) }
-{
-    match code.values(alloc, look, locals, arguments.as_slice())? {
-        Ok(values) => Ok(Ok(Arguments::new(values))),
-        Err(kind) => Ok(Err(kind)),
     }
 }
 
@@ -580,33 +421,4 @@ fn raise(kind: FaultKind) -> Chosen
     ensures { result ≡ choice.Goes (leaving.Raising kind) }
 {
     Chosen::Goes(Leaving::Raising(kind))
-}
-
-/// The block is to do before what follows.
-fn open(alloc: Global, block: Items<Statement>) -> Result<Chosen, AllocError>
-    ensures { IfOk result (λ chosen. chosen ≡ choice.Opens (undone.Statements block ∷ [])) }
-{
-    let mut entries = Items::new(alloc);
-    entries.push(Todo::Statements(block))?;
-    Ok(Chosen::Opens(entries))
-}
-
-/// A try is entered.
-fn guard(
-    alloc: Global,
-    body: &Items<Statement>,
-    excepts: &Items<Except>,
-    finally: &Option<Items<Statement>>,
-) -> Result<Chosen, AllocError>
-    ensures { IfOk result (λ chosen.
-        chosen ≡ choice.Opens (undone.Statements body.now ∷ undone.Guard excepts.now (unwrap_or finally.now []) ∷ [])) }
-{
-    let last = match finally {
-        Some(finally) => copy_block(alloc, finally)?,
-        None => Items::new(alloc),
-    };
-    let mut entries = Items::new(alloc);
-    entries.push(Todo::Statements(copy_block(alloc, body)?))?;
-    entries.push(Todo::Guard(copy_excepts(alloc, excepts)?, last))?;
-    Ok(Chosen::Opens(entries))
 }

@@ -1,8 +1,8 @@
-//! Moves: what the next statement of a body does, and what it asks of its hub.
+//! Moves: what a statement of one line does, and what it asks of its hub.
 #![tactic(auto)]
 
 mod chosen;
-mod copies;
+mod evaluation;
 
-pub use chosen::{Chosen, choose_move};
-pub use copies::copy_block;
+pub use chosen::{Chosen, choose_command, choose_giving};
+pub use evaluation::Evaluation;

@@ -1,25 +1,35 @@
 //! What bodies are run from.
-ghost use Rattle.std.specs.Prelude.{◌≡◌, ◌<◌, ◌≤◌, ◌^◌, length};
+ghost use Rattle.std.specs.Prelude.{◌≡◌, ◌<◌, ◌≤◌, ◌^◌, IfOk, length};
+ghost use Rattle.body_blocks.specs.Trees.{block_at};
 ghost use Rattle.machine.specs.Expressions.{object_number, function_number};
 ghost use Rattle.body_values.specs.Few.{HasFew, HasFewCalls};
 ghost use Rattle.body_values.specs.Functions.{IsFunction, function_at};
 ghost use Rattle.body_values.specs.Small.{IsSmall};
 
+use crate::functions::{FlatFunction, add_functions, function_of_number, place_of_function};
 use crate::locals::name_eq;
+use body_blocks::Blocks;
 use gv_values::Name;
-use scenario_tree::{Declaration, Function, Scenario};
+use scenario_tree::{Declaration, Items, Scenario};
+use std::alloc::{AllocError, Global};
 use std::marker::Model;
+use std::rc::Rc;
 
-/// What bodies are run from: the scenario, which has at most 256 objects and 256 functions, and no call with more
-/// arguments than a function may have parameters.
+/// What bodies are run from: the objects, the functions and the blocks of a scenario, which has at most 256 objects
+/// and 256 functions, and no call with more arguments than a function may have parameters. The bodies that run share
+/// its blocks.
 #[derive(Drop)]
 pub struct Code {
-    scenario: Scenario,
+    profile: u8,
+    objects: Items<Declaration>,
+    functions: Items<FlatFunction>,
+    blocks: Rc<Blocks>,
 }
 
 impl Model for Code {
     ghost use Rattle.scenario_tree.specs.declared.tree.Scenario.{Scenario};
     ghost use Rattle.scenario_tree.specs.Trees.{trees};
+    ghost use Rattle.body_values.specs.Codes.{scenario_of};
     ghost use Rattle.body_values.specs.Few.{HasFewCalls};
     ghost use Rattle.body_values.specs.Small.{IsSmall};
 
@@ -27,49 +37,85 @@ impl Model for Code {
 
     ghost coded = { Prim.hlevel trees };
 
-    ghost view = { λ c. c.scenario };
+    ghost view = { λ c. scenario_of c.profile c.objects c.functions c.blocks.value };
 
-    ghost invariant = { λ c. IsSmall c.scenario × HasFewCalls c.scenario };
+    ghost invariant = { λ c. IsSmall (scenario_of c.profile c.objects c.functions c.blocks.value) × HasFewCalls (scenario_of c.profile c.objects c.functions c.blocks.value) };
+}
+
+/// Where a body of a function begins: the blocks of its code, and the number of its own.
+#[derive(Drop)]
+pub struct Start {
+    pub blocks: Rc<Blocks>,
+    pub body: usize,
 }
 
 impl Code {
-    /// The code of this scenario.
-    pub fn new(scenario: Scenario) -> Code
-        requires small { IsSmall scenario }
-        requires few { HasFewCalls scenario }
-        ensures { result ≡ scenario }
+    /// The code of this scenario. `AllocError`: memory is wanting.
+    pub fn new(alloc: Global, scenario: &Scenario) -> Result<Code, AllocError>
+        requires small { IsSmall scenario.now }
+        requires few { HasFewCalls scenario.now }
+        ensures { IfOk result (λ code. code ≡ scenario.now) }
     {
-        Code { scenario }
+        let objects = Items::from_slice(alloc, scenario.objects.as_slice())?;
+        let mut blocks = Blocks::new(alloc);
+        let functions = add_functions(alloc, &mut blocks, scenario.functions.as_slice())?;
+        let blocks = Rc::new(alloc, blocks)?;
+        Ok(Code {
+            profile: scenario.profile,
+            objects,
+            functions,
+            blocks,
+        })
     }
 
     /// The objects in the order of their declarations.
     pub fn objects(&self) -> &[Declaration]
         ensures { result.now ≡ self.now.objects }
     {
-        self.scenario.objects.as_slice()
+        self.objects.as_slice()
     }
 
     /// The number of the object with this name, and past the last where there is none.
     pub fn object(&self, name: &Name) -> u32
         ensures { result ≡ object_number name.now self.now.objects }
     {
-        place_of_object(name, self.scenario.objects.as_slice()) as u32
+        place_of_object(name, self.objects.as_slice()) as u32
     }
 
     /// The number of the function with this name, and past the last where there is none.
     pub fn function(&self, name: &Name) -> u32
         ensures { result ≡ function_number name.now self.now.functions }
     {
-        place_of_function(name, self.scenario.functions.as_slice()) as u32
+        place_of_function(name, self.functions.as_slice()) as u32
     }
 
-    /// The function of this number.
-    pub fn function_at(&self, number: u32) -> &Function
+    /// The name of the function of this number.
+    pub fn function_name(&self, number: u32) -> Name
         requires declared { IsFunction self.now number }
-        ensures same { result.now ≡ function_at number self.now }
+        ensures { result ≡ (function_at number self.now).name }
+    {
+        function_of_number(self.functions.as_slice(), number).name
+    }
+
+    /// The names that the arguments of the function of this number take, in order.
+    pub fn parameters(&self, number: u32) -> &[Name]
+        requires declared { IsFunction self.now number }
+        ensures { result.now ≡ (function_at number self.now).parameters }
+    {
+        function_of_number(self.functions.as_slice(), number)
+            .parameters
+            .as_slice()
+    }
+
+    /// Where a body of the function of this number begins. `AllocError`: the blocks have too many owners.
+    pub fn start(&self, number: u32) -> Result<Start, AllocError>
+        requires declared { IsFunction self.now number }
+        ensures same { IfOk result (λ start. block_at start.body start.blocks.value ≡ (function_at number self.now).body) }
         ensures few { HasFew (function_at number self.now).body }
     {
-        &self.scenario.functions.as_slice()[number as usize]
+        let body = function_of_number(self.functions.as_slice(), number).body;
+        let blocks = self.blocks.clone()?;
+        Ok(Start { blocks, body })
     }
 }
 
@@ -84,17 +130,4 @@ fn place_of_object(name: &Name, objects: &[Declaration]) -> usize
         }
     }
     objects.len()
-}
-
-/// The place of the function with this name, and past the end where there is none.
-fn place_of_function(name: &Name, functions: &[Function]) -> usize
-    ensures place { result ≡ function_number name.now functions.now }
-    ensures within { result ≤ length functions.now }
-{
-    for i in 0..functions.len() {
-        if name_eq(name, &functions[i].name) {
-            return i;
-        }
-    }
-    functions.len()
 }

@@ -1,0 +1,22 @@
+use body_blocks::FlatExcept;
+use machine::state::Leaving;
+use scenario_tree::{Expression, Items};
+use std::rc::Rc;
+
+/// What is still to do in a body, one entry of its pile. What stands in the code is shared with it, or named by the
+/// number of its block.
+#[derive(Drop)]
+pub enum Entry {
+    /// The rest of the block, from this place on.
+    Rest(usize, usize),
+    /// The test of a while, and its body.
+    Again(Rc<Expression>, usize),
+    /// The excepts of the try whose body is inside it, and its finally.
+    Guard(Rc<Items<FlatExcept>>, Option<usize>),
+    /// The finally of the try, where one of its excepts is inside it.
+    Final(Option<usize>),
+    /// How the try was left whose finally is inside it.
+    Afterwards(Leaving),
+    /// The number of the timeout block inside it, and whether it is silent.
+    Within(u32, bool),
+}

@@ -1,0 +1,255 @@
+//! One move of a body.
+ghost use Rattle.std.specs.Prelude.{◌≡◌, ◌∷◌, [], ℕ, true, IfOk};
+ghost use Rattle.machine.specs.declared.state.Todo.TheVariants as undone;
+ghost use Rattle.machine.specs.Bodies.{around, after_move, Stepped as Went};
+ghost use Rattle.machine.specs.BodyMoves.{action_move, body_move, while_move};
+ghost use Rattle.machine.specs.Unwinding.{Unwound as Place};
+ghost use Rattle.body_blocks.specs.Trees.{block_at};
+ghost use Rattle.body_values.specs.Few.{HasFew, HasFewParts};
+ghost use Rattle.body_moves.specs.Chosen.{branch_move, came_of};
+ghost use Rattle.body_frames.specs.AtMove.{IsAtMove};
+ghost use Rattle.body_frames.specs.Entries.{begins, form_of, optional_block, rest, todo_of};
+ghost use Rattle.body_frames.specs.Few.{HasFewBody, HasFewToDo};
+ghost use Rattle.body_frames.specs.Standings.{body_after, made_of};
+ghost use Rattle.body_frames.specs.Steady.{IsSteady};
+
+use crate::entry::Entry;
+use crate::stack::{Made, Stack, leave};
+use body_blocks::{Blocks, FlatAction};
+use body_moves::{Chosen, Evaluation, choose_command, choose_giving};
+use body_values::{Code, Look, bind};
+use gv_values::{FaultKind, Outcome, Value};
+use machine::state::Leaving;
+use scenario_tree::Expression;
+use std::alloc::{AllocError, Global};
+use std::rc::Rc;
+
+/// Makes the move at the head of what is still to do.
+pub fn make_move<L: Look>(
+    alloc: Global,
+    code: &Code,
+    blocks: &Blocks,
+    look: &L,
+    stack: &mut Stack,
+) -> Result<Made, AllocError>
+    requires told { stack.old.left ≡ [] }
+    requires moves { IsAtMove (todo_of blocks.now stack.old.todo) }
+    requires few { HasFewToDo (todo_of blocks.now stack.old.todo) }
+    ensures steady { IfOk result (λ made. IsSteady (body_after blocks.now made stack.new)) }
+    ensures few { IfOk result (λ made. HasFewBody (body_after blocks.now made stack.new)) }
+    ensures made { IfOk result (λ made. (moves : ℕ) (go : Place → Went) →
+        after_move moves stack.old.locals go (body_move (todo_of blocks.now stack.old.todo) (around code.now (L.answers look.now) stack.old.locals))
+        ≡ made_of blocks.now moves go made stack.new) }
+{
+    Ok(do_move(alloc, code, blocks, look, stack)?)
+}
+
+/// Makes the move. The caller shows that the calls of the body have few arguments after it, as a law of what a move does.
+fn do_move<L: Look>(
+    alloc: Global,
+    code: &Code,
+    blocks: &Blocks,
+    look: &L,
+    stack: &mut Stack,
+) -> Result<Made, AllocError>
+    requires told { stack.old.left ≡ [] }
+    requires moves { IsAtMove (todo_of blocks.now stack.old.todo) }
+    requires few { HasFewToDo (todo_of blocks.now stack.old.todo) }
+    ensures steady { IfOk result (λ made. IsSteady (body_after blocks.now made stack.new)) }
+    ensures made { IfOk result (λ made. (moves : ℕ) (go : Place → Went) →
+        after_move moves stack.old.locals go (body_move (todo_of blocks.now stack.old.todo) (around code.now (L.answers look.now) stack.old.locals))
+        ≡ made_of blocks.now moves go made stack.new) }
+{
+    match stack.todo.pop() {
+        Some(Entry::Rest(block, at)) => Ok(move_rest(alloc, code, blocks, look, stack, block, at)?),
+        Some(Entry::Again(test, body)) => Ok(test_while(alloc, code, blocks, look, stack, test, body)?),
+        Some(Entry::Guard(_, _)) => unreachable!(),
+        Some(Entry::Final(_)) => unreachable!(),
+        Some(Entry::Afterwards(_)) => unreachable!(),
+        Some(Entry::Within(_, _)) => unreachable!(),
+        None => unreachable!(),
+    }
+}
+
+/// Makes the move of the statement at this place.
+fn move_rest<L: Look>(
+    alloc: Global,
+    code: &Code,
+    blocks: &Blocks,
+    look: &L,
+    stack: &mut Stack,
+    block: usize,
+    at: usize,
+) -> Result<Made, AllocError>
+    requires told { stack.old.left ≡ [] }
+    requires moves { begins (rest blocks.now block at) ≡ true }
+    requires few { HasFew (rest blocks.now block at) }
+    ensures steady { IfOk result (λ made. IsSteady (body_after blocks.now made stack.new)) }
+    ensures made { IfOk result (λ made. (moves : ℕ) (go : Place → Went) →
+        after_move moves stack.old.locals go (body_move (undone.Statements (rest blocks.now block at) ∷ todo_of blocks.now stack.old.todo) (around code.now (L.answers look.now) stack.old.locals))
+        ≡ made_of blocks.now moves go made stack.new) }
+{
+    match blocks.ahead(block, at) {
+        Some(statement) => {
+            stack.todo.push(Entry::Rest(block, at + 1))?;
+            Ok(act(alloc, code, blocks, look, stack, &statement.action)?)
+        }
+        None => unreachable!(),
+    }
+}
+
+/// Makes the move of a statement that is passed already.
+fn act<L: Look>(
+    alloc: Global,
+    code: &Code,
+    blocks: &Blocks,
+    look: &L,
+    stack: &mut Stack,
+    action: &FlatAction,
+) -> Result<Made, AllocError>
+    requires told { stack.old.left ≡ [] }
+    requires few { HasFewParts (form_of blocks.now action.now) }
+    ensures steady { IfOk result (λ made. IsSteady (body_after blocks.now made stack.new)) }
+    ensures made { IfOk result (λ made. (moves : ℕ) (go : Place → Went) →
+        after_move moves stack.old.locals go (action_move (form_of blocks.now action.now) (around code.now (L.answers look.now) stack.old.locals) (todo_of blocks.now stack.old.todo))
+        ≡ made_of blocks.now moves go made stack.new) }
+{
+    match action {
+        FlatAction::Command(command) => {
+            let chosen = choose_command(
+                &Evaluation {
+                    alloc,
+                    code,
+                    look,
+                    locals: stack.locals.as_slice(),
+                },
+                command,
+            )?;
+            Ok(do_chosen(blocks, stack, chosen)?)
+        }
+        FlatAction::Giving(name, giving) => {
+            let chosen = choose_giving(
+                &Evaluation {
+                    alloc,
+                    code,
+                    look,
+                    locals: stack.locals.as_slice(),
+                },
+                *name,
+                giving,
+            )?;
+            Ok(do_chosen(blocks, stack, chosen)?)
+        }
+        FlatAction::If(test, yes, no) => {
+            Ok(branch(alloc, code, blocks, look, stack, test, *yes, *no)?)
+        }
+        FlatAction::While(test, body) => {
+            let test = test.clone()?;
+            Ok(test_while(alloc, code, blocks, look, stack, test, *body)?)
+        }
+        FlatAction::Try(body, excepts, finally) => {
+            stack.todo.push(Entry::Guard(excepts.clone()?, *finally))?;
+            stack.todo.push(Entry::Rest(*body, 0))?;
+            Ok(Made::Further(leave(blocks, stack, Leaving::Normally)?))
+        }
+        FlatAction::Timeout(time, silent, body) => Ok(Made::Enters(*time, *silent, *body)),
+    }
+}
+
+/// Does what was chosen.
+fn do_chosen(blocks: &Blocks, stack: &mut Stack, chosen: Chosen) -> Result<Made, AllocError>
+    requires told { stack.old.left ≡ [] }
+    ensures steady { IfOk result (λ made. IsSteady (body_after blocks.now made stack.new)) }
+    ensures done { IfOk result (λ made. (moves : ℕ) (go : Place → Went) →
+        came_of moves stack.old.locals go (todo_of blocks.now stack.old.todo) chosen ≡ made_of blocks.now moves go made stack.new) }
+{
+    match chosen {
+        Chosen::Asks(request, gives) => Ok(Made::Asks(request, gives)),
+        Chosen::Goes(how) => Ok(Made::Further(leave(blocks, stack, how)?)),
+        Chosen::Binds(name, value) => {
+            bind(&name, value, &mut stack.locals)?;
+            Ok(Made::Further(leave(blocks, stack, Leaving::Normally)?))
+        }
+    }
+}
+
+/// Makes the move of an `if`.
+#[tactic(auto, using(crate::proofs::Leavings::rest_raises))]
+fn branch<L: Look>(
+    alloc: Global,
+    code: &Code,
+    blocks: &Blocks,
+    look: &L,
+    stack: &mut Stack,
+    test: &Expression,
+    yes: usize,
+    no: Option<usize>,
+) -> Result<Made, AllocError>
+    requires told { stack.old.left ≡ [] }
+    ensures steady { IfOk result (λ made. IsSteady (body_after blocks.now made stack.new)) }
+    ensures made { IfOk result (λ made. (moves : ℕ) (go : Place → Went) →
+        after_move moves stack.old.locals go (branch_move test.now (block_at yes blocks.now) (optional_block blocks.now no) (around code.now (L.answers look.now) stack.old.locals) (todo_of blocks.now stack.old.todo))
+        ≡ made_of blocks.now moves go made stack.new) }
+{
+    match code.meaning(alloc, look, stack.locals.as_slice(), test)? {
+        Outcome::Value(Value::Bool(true)) => {
+            stack.todo.push(Entry::Rest(yes, 0))?;
+            Ok(Made::Further(leave(blocks, stack, Leaving::Normally)?))
+        }
+        Outcome::Value(Value::Bool(false)) => match no {
+            Some(no) => {
+                stack.todo.push(Entry::Rest(no, 0))?;
+                Ok(Made::Further(leave(blocks, stack, Leaving::Normally)?))
+            }
+            None => Ok(Made::Further(leave(blocks, stack, Leaving::Normally)?)),
+        },
+        Outcome::Value(_) => Ok(Made::Further(leave(
+            blocks,
+            stack,
+            Leaving::Raising(FaultKind::TypeError),
+        )?)),
+        Outcome::Fault(kind) => Ok(Made::Further(leave(
+            blocks,
+            stack,
+            Leaving::Raising(kind),
+        )?)),
+    }
+}
+
+/// Evaluates the condition of a while once.
+fn test_while<L: Look>(
+    alloc: Global,
+    code: &Code,
+    blocks: &Blocks,
+    look: &L,
+    stack: &mut Stack,
+    test: Rc<Expression>,
+    body: usize,
+) -> Result<Made, AllocError>
+    requires told { stack.old.left ≡ [] }
+    ensures steady { IfOk result (λ made. IsSteady (body_after blocks.now made stack.new)) }
+    ensures made { IfOk result (λ made. (moves : ℕ) (go : Place → Went) →
+        after_move moves stack.old.locals go (while_move test.value (block_at body blocks.now) (around code.now (L.answers look.now) stack.old.locals) (todo_of blocks.now stack.old.todo))
+        ≡ made_of blocks.now moves go made stack.new) }
+{
+    match code.meaning(alloc, look, stack.locals.as_slice(), &test)? {
+        Outcome::Value(Value::Bool(true)) => {
+            stack.todo.push(Entry::Again(test, body))?;
+            stack.todo.push(Entry::Rest(body, 0))?;
+            Ok(Made::Further(leave(blocks, stack, Leaving::Normally)?))
+        }
+        Outcome::Value(Value::Bool(false)) => {
+            Ok(Made::Further(leave(blocks, stack, Leaving::Normally)?))
+        }
+        Outcome::Value(_) => Ok(Made::Further(leave(
+            blocks,
+            stack,
+            Leaving::Raising(FaultKind::TypeError),
+        )?)),
+        Outcome::Fault(kind) => Ok(Made::Further(leave(
+            blocks,
+            stack,
+            Leaving::Raising(kind),
+        )?)),
+    }
+}

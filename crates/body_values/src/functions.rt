@@ -1,0 +1,81 @@
+//! The functions of some code, whose bodies are blocks of it.
+ghost use Rattle.std.specs.Prelude.{◌≡◌, ◌<◌, ◌≤◌, ◌++◌, List, map, length, IfOk, slice_get, unwrap_or};
+ghost use Rattle.scenario_tree.specs.declared.tree.Statement.{Statement as Line};
+ghost use Rattle.body_blocks.specs.Trees.{Grows};
+ghost use Rattle.machine.specs.Expressions.{function_number};
+ghost use Rattle.machine.specs.Greenlets.{no_function};
+ghost use Rattle.body_values.specs.Codes.{function_of};
+
+use crate::locals::name_eq;
+use body_blocks::{Blocks, add_block};
+use gv_values::Name;
+use scenario_tree::{Function, Items};
+use std::alloc::{AllocError, Global};
+
+/// A function whose body is a block of the code, by its number.
+#[derive(Drop)]
+pub struct FlatFunction {
+    pub line: u32,
+    pub is_raw: bool,
+    pub name: Name,
+    pub parameters: Items<Name>,
+    pub body: usize,
+}
+
+/// The functions, with their blocks put to the code.
+pub fn add_functions(
+    alloc: Global,
+    blocks: &mut Blocks,
+    functions: &[Function],
+) -> Result<Items<FlatFunction>, AllocError>
+    ensures { IfOk result (λ flat. map (function_of blocks.new) flat ≡ functions.now) }
+{
+    let mut flat = Items::new(alloc);
+    for function in functions {
+        let one = add_function(alloc, blocks, function)?;
+        flat.push(one)?;
+    }
+    Ok(flat)
+}
+
+fn add_function(
+    alloc: Global,
+    blocks: &mut Blocks,
+    function: &Function,
+) -> Result<FlatFunction, AllocError>
+    ensures grows { IfOk result (λ _. Grows blocks.old blocks.new) }
+    ensures same { IfOk result (λ f. (more : List (List Line)) → function_of (blocks.new ++ more) f ≡ function.now) }
+{
+    let parameters = Items::from_slice(alloc, function.parameters.as_slice())?;
+    let body = add_block(alloc, blocks, &function.body)?;
+    Ok(FlatFunction {
+        line: function.line,
+        is_raw: function.is_raw,
+        name: function.name,
+        parameters,
+        body,
+    })
+}
+
+/// The place of the function with this name, and past the end where there is none.
+#[tactic(auto, using(crate::proofs::Codes::function_here, crate::proofs::Codes::function_passed))]
+pub fn place_of_function(name: &Name, functions: &[FlatFunction]) -> usize
+    ensures place { (t : List (List Line)) → result ≡ function_number name.now (map (function_of t) functions.now) }
+    ensures within { result ≤ length functions.now }
+{
+    for i in 0..functions.len() {
+        if name_eq(name, &functions[i].name) {
+            return i;
+        }
+    }
+    functions.len()
+}
+
+/// The function of this number.
+#[tactic(auto, using(crate::proofs::Codes::function_there))]
+pub fn function_of_number(functions: &[FlatFunction], number: u32) -> &FlatFunction
+    requires { number < length functions.now }
+    ensures { (t : List (List Line)) → unwrap_or (slice_get (map (function_of t) functions.now) number) no_function ≡ function_of t result.now }
+{
+    &functions[number as usize]
+}
