@@ -1,14 +1,16 @@
 -- What comes of one move.
 use Rattle.std.proofs.Common.{◌≡◌, refl, ap, sym, ◌∙◌, ℕ, List, []}
+use Rattle.scenario_tree.specs.declared.tree.Statement.{Statement}
 use Rattle.machine.specs.declared.state.Local.{Local}
 use Rattle.machine.specs.Bodies.{Body, Step, Stepped, after_move}
 use Rattle.machine.specs.BodyMoves.{Did}
 use Rattle.machine.specs.Unwinding.{Unwound}
+use Rattle.body_blocks.specs.Trees.{block_at}
 use Rattle.body_frames.specs.declared.stack.Made.{Made}
 use Rattle.body_frames.specs.declared.stack.Stack.{Stack}
 use Rattle.body_frames.specs.Places.{Came, came_by, place_of}
-use Rattle.body_frames.specs.Standings.{made_of, stands}
-use Rattle.body_frames.specs.Unwinding.{unwound_of}
+use Rattle.body_frames.specs.Entries.{todo_of}
+use Rattle.body_frames.specs.Standings.{goes_from, made_of, stands}
 
 -- what comes of a step, after which the body stands so
 came_from : Step → Body → Came
@@ -24,18 +26,18 @@ by_move locals (Did.Enters ms silent body todo) = refl
 by_move locals (Did.Asks request x todo) = refl
 
 -- what was made of the move
-abbrev pub came_of_made : Made → Stack → Came
-came_of_made (Made.Asks request x) s = Came.Asks request (record { locals = s.locals; todo = s.todo; gives = x })
-came_of_made (Made.Enters ms silent body) s = Came.Enters ms (record { silent = silent; body = body; locals = s.locals; todo = s.todo })
-came_of_made (Made.Further at) s = Came.Comes (place_of (unwound_of at s.left s.locals s.todo))
+abbrev pub came_of_made : List (List Statement) → Made → Stack → Came
+came_of_made t (Made.Asks request x) s = Came.Asks request (record { locals = s.locals; todo = todo_of t s.todo; gives = x })
+came_of_made t (Made.Enters ms silent b) s = Came.Enters ms (record { silent = silent; body = block_at b t; locals = s.locals; todo = todo_of t s.todo })
+came_of_made t (Made.Further at) s = Came.Comes (place_of (goes_from t at s))
 
-by_made : (made : Made) (s : Stack) → came_from (made_of 0 stands made s).step (made_of 0 stands made s).body ≡ came_of_made made s
+by_made : (t : List (List Statement)) (made : Made) (s : Stack) → came_from (made_of t 0 stands made s).step (made_of t 0 stands made s).body ≡ came_of_made t made s
 unfolding came_from
-by_made (Made.Asks request x) s = refl
-by_made (Made.Enters ms silent body) s = refl
-by_made (Made.Further at) s = refl
+by_made t (Made.Asks request x) s = refl
+by_made t (Made.Enters ms silent b) s = refl
+by_made t (Made.Further at) s = refl
 
-pub comes_of_move : (locals : List Local) (did : Did) (made : Made) (s : Stack) →
-    ((moves : ℕ) (go : Unwound → Stepped) → after_move moves locals go did ≡ made_of moves go made s) → came_of_made made s ≡ came_by locals did
-comes_of_move locals did made s e =
-    sym (by_made made s) ∙ ap (λ (x : Stepped). came_from x.step x.body) (sym (e 0 stands)) ∙ by_move locals did
+pub comes_of_move : (t : List (List Statement)) (locals : List Local) (did : Did) (made : Made) (s : Stack) →
+    ((moves : ℕ) (go : Unwound → Stepped) → after_move moves locals go did ≡ made_of t moves go made s) → came_of_made t made s ≡ came_by locals did
+comes_of_move t locals did made s e =
+    sym (by_made t made s) ∙ ap (λ (x : Stepped). came_from x.step x.body) (sym (e 0 stands)) ∙ by_move locals did

@@ -1,5 +1,9 @@
 pub mod Answered
 pub mod AtMoves
+pub mod Catches
 pub mod Coming
 pub mod Few
 pub mod Keeping
+pub mod Leavings
+pub mod Piles
+pub mod Readings

@@ -7,23 +7,23 @@ ghost use Rattle.body_values.specs.Functions.{IsFunction, function_at};
 ghost use Rattle.body_frames.specs.Answers.{Answers, IsAnswer, IsNumber};
 ghost use Rattle.body_frames.specs.declared.step.Input.{Input as Given};
 ghost use Rattle.body_frames.specs.Few.{HasFewBody, HasFewUnwound};
-ghost use Rattle.body_frames.specs.Standings.{stepped, body_of};
+ghost use Rattle.body_frames.specs.Standings.{body_of, goes_from, stepped};
 ghost use Rattle.body_frames.specs.Steady.{HasMove, IsSteady};
 ghost use Rattle.body_frames.specs.Steps.{answer_of, step_of};
-ghost use Rattle.body_frames.specs.Unwinding.{unwound_of};
 
-use crate::stack::{
-    Made, Stack, begin_function, go_inside, go_on_with, make_move, outcome_of_leaving,
-};
+use crate::moves::make_move;
+use crate::stack::{Made, Stack, begin_function, go_inside, go_on_with, outcome_of_leaving};
 use crate::step::{Input, Step};
 use crate::unwind::Unwound;
+use body_blocks::Blocks;
 use body_values::front::pop_first;
-use body_values::{Code, Look};
+use body_values::{Code, Look, Start};
 use gv_values::{Name, Outcome, Value};
-use scenario_tree::{Items, Statement};
+use scenario_tree::Items;
 use std::alloc::{AllocError, Global};
 use std::marker::Model;
 use std::mem;
+use std::rc::Rc;
 
 /// How a body stands between two steps.
 #[derive(Drop)]
@@ -33,14 +33,15 @@ pub enum Standing {
     /// It waits for the answer to its request, which the name takes.
     Waits(Option<Name>),
     /// It waits for the number of the timeout block that it enters: whether that is silent, and its body.
-    Enters(bool, Items<Statement>),
+    Enters(bool, usize),
     /// It has ended.
     Gone,
 }
 
-/// A body that is under way: what it does next, between two of its requests.
+/// A body that is under way: what it does next, between two of its requests. It shares the blocks of its code.
 #[derive(Drop)]
 pub struct Frame {
+    blocks: Rc<Blocks>,
     stack: Stack,
     standing: Standing,
 }
@@ -56,9 +57,9 @@ impl Model for Frame {
 
     ghost coded = { Prim.hlevel trees };
 
-    ghost view = { λ f. body_of f.standing f.stack };
+    ghost view = { λ f. body_of f.blocks.value f.standing f.stack };
 
-    ghost invariant = { λ f. IsSteady (body_of f.standing f.stack) × HasFewBody (body_of f.standing f.stack) };
+    ghost invariant = { λ f. IsSteady (body_of f.blocks.value f.standing f.stack) × HasFewBody (body_of f.blocks.value f.standing f.stack) };
 }
 
 impl Frame {
@@ -72,8 +73,11 @@ impl Frame {
         requires declared { IsFunction code.now function }
         ensures { IfOk result (λ frame. frame ≡ begins (function_at function code.now) arguments) }
     {
-        let (stack, at) = begin_function(alloc, code.function_at(function), arguments)?;
+        let Start { blocks, body } = code.start(function)?;
+        let parameters = code.parameters(function);
+        let (stack, at) = begin_function(alloc, &blocks, body, parameters, arguments)?;
         Ok(Frame {
+            blocks,
             stack,
             standing: Standing::Ready(at),
         })
@@ -113,11 +117,43 @@ impl Frame {
             stepped step self.new moves.new ≡ resume moves.old (around code.now (L.answers look.now)) self.old (answer_of input)) }
     {
         let standing = mem::replace(&mut self.standing, Standing::Gone);
-        let at = take_input(alloc, &mut self.stack, standing, input)?;
-        let (step, standing) = go_on(alloc, code, look, &mut self.stack, at, moves)?;
+        let (step, standing) = resume_from(
+            alloc,
+            code,
+            &self.blocks,
+            look,
+            &mut self.stack,
+            standing,
+            input,
+            moves,
+        )?;
         self.standing = standing;
         Ok(step)
     }
+}
+
+/// The body goes on with this input, from where it stands.
+fn resume_from<L: Look>(
+    alloc: Global,
+    code: &Code,
+    blocks: &Blocks,
+    look: &L,
+    stack: &mut Stack,
+    standing: Standing,
+    input: Input,
+    moves: &mut u64,
+) -> Result<(Step, Standing), AllocError>
+    requires answer { IsAnswer (body_of blocks.now standing stack.old) input }
+    requires steady { IsSteady (body_of blocks.now standing stack.old) }
+    requires few { HasFewBody (body_of blocks.now standing stack.old) }
+    ensures steady { IfOk result (λ came. IsSteady (body_of blocks.now came.1 stack.new)) }
+    ensures few { IfOk result (λ came. HasFewBody (body_of blocks.now came.1 stack.new)) }
+    ensures next { IfOk result (λ came.
+        stepped came.0 (body_of blocks.now came.1 stack.new) moves.new
+        ≡ resume moves.old (around code.now (L.answers look.now)) (body_of blocks.now standing stack.old) (answer_of input)) }
+{
+    let at = take_input(alloc, blocks, stack, standing, input)?;
+    Ok(go_on(alloc, code, blocks, look, stack, at, moves)?)
 }
 
 fn outcome_of_input(input: Input) -> Outcome
@@ -133,29 +169,30 @@ fn outcome_of_input(input: Input) -> Outcome
 /// The input comes to the body, which then goes on by itself.
 fn take_input(
     alloc: Global,
+    blocks: &Blocks,
     stack: &mut Stack,
     standing: Standing,
     input: Input,
 ) -> Result<Unwound, AllocError>
-    requires answer { IsAnswer (body_of standing stack.old) input }
-    requires steady { IsSteady (body_of standing stack.old) }
-    requires few { HasFewBody (body_of standing stack.old) }
-    ensures steady { IfOk result (λ at. HasMove (unwound_of at stack.new.left stack.new.locals stack.new.todo)) }
-    ensures few { IfOk result (λ at. HasFewUnwound (unwound_of at stack.new.left stack.new.locals stack.new.todo)) }
+    requires answer { IsAnswer (body_of blocks.now standing stack.old) input }
+    requires steady { IsSteady (body_of blocks.now standing stack.old) }
+    requires few { HasFewBody (body_of blocks.now standing stack.old) }
+    ensures steady { IfOk result (λ at. HasMove (goes_from blocks.now at stack.new)) }
+    ensures few { IfOk result (λ at. HasFewUnwound (goes_from blocks.now at stack.new)) }
     ensures resumed { IfOk result (λ at. (moves : ℕ) (around : List Named → Around) →
-        resume moves around (body_of standing stack.old) (answer_of input)
-        ≡ goes moves around (unwound_of at stack.new.left stack.new.locals stack.new.todo)) }
+        resume moves around (body_of blocks.now standing stack.old) (answer_of input)
+        ≡ goes moves around (goes_from blocks.now at stack.new)) }
 {
     match standing {
         Standing::Ready(at) => Ok(at),
         Standing::Waits(gives) => {
             stack.left = Items::new(alloc);
-            Ok(go_on_with(alloc, stack, gives, outcome_of_input(input))?)
+            Ok(go_on_with(blocks, stack, gives, outcome_of_input(input))?)
         }
         Standing::Enters(silent, body) => match input {
             Input::Value(Value::Int(number)) => {
                 stack.left = Items::new(alloc);
-                Ok(go_inside(alloc, stack, silent, body, number_of(number))?)
+                Ok(go_inside(blocks, stack, silent, body, number_of(number))?)
             }
             // A timeout block is answered with its number.
             _ => unreachable!(),
@@ -169,18 +206,19 @@ fn take_input(
 fn go_on<L: Look>(
     alloc: Global,
     code: &Code,
+    blocks: &Blocks,
     look: &L,
     stack: &mut Stack,
     at: Unwound,
     moves: &mut u64,
 ) -> Result<(Step, Standing), AllocError>
-    requires steady { HasMove (unwound_of at stack.old.left stack.old.locals stack.old.todo) }
-    requires few { HasFewUnwound (unwound_of at stack.old.left stack.old.locals stack.old.todo) }
-    ensures steady { IfOk result (λ came. IsSteady (body_of came.1 stack.new)) }
-    ensures few { IfOk result (λ came. HasFewBody (body_of came.1 stack.new)) }
+    requires steady { HasMove (goes_from blocks.now at stack.old) }
+    requires few { HasFewUnwound (goes_from blocks.now at stack.old) }
+    ensures steady { IfOk result (λ came. IsSteady (body_of blocks.now came.1 stack.new)) }
+    ensures few { IfOk result (λ came. HasFewBody (body_of blocks.now came.1 stack.new)) }
     ensures gone { IfOk result (λ came.
-        goes moves.old (around code.now (L.answers look.now)) (unwound_of at stack.old.left stack.old.locals stack.old.todo)
-        ≡ stepped came.0 (body_of came.1 stack.new) moves.new) }
+        goes moves.old (around code.now (L.answers look.now)) (goes_from blocks.now at stack.old)
+        ≡ stepped came.0 (body_of blocks.now came.1 stack.new) moves.new) }
 {
     let mut at = at;
     'moves: loop {
@@ -194,7 +232,7 @@ fn go_on<L: Look>(
             return Ok((Step::MovesOut, Standing::Ready(Unwound::Runs)));
         }
         *moves -= 1;
-        match make_move(alloc, code, look, stack)? {
+        match make_move(alloc, code, blocks, look, stack)? {
             Made::Asks(request, gives) => {
                 return Ok((Step::Request(request), Standing::Waits(gives)));
             }

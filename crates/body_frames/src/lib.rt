@@ -1,13 +1,17 @@
 //! Bodies of greenlets: where one stands, its moves, and raising.
 //!
-//! What a body has still to do is a stack of statement lists over the syntax. It knows no hub: what an expression
-//! may ask comes through `Look`, and what a statement wants done is a `Request`. A `Frame` runs from one request to
+//! What a body has still to do is a pile of entries that name blocks of its code and places in them: a move copies
+//! no syntax. It knows no hub: what an expression may ask comes through `Look`, and what a statement wants done is a
+//! `Request`. A `Frame` runs from one request to
 //! the next within a budget of moves. A hub that settles after each move hands a body one move at a time: there the
 //! type says where the body stands, so that an answer can only come to one that waits for it.
 #![tactic(auto)]
 
+mod entry;
 mod frame;
 mod laws;
+mod moves;
+mod pile;
 mod places;
 mod stack;
 mod step;

@@ -62,7 +62,9 @@ fn do_move<L: Look>(
 {
     match stack.todo.pop() {
         Some(Entry::Rest(block, at)) => Ok(move_rest(alloc, code, blocks, look, stack, block, at)?),
-        Some(Entry::Again(test, body)) => Ok(test_while(alloc, code, blocks, look, stack, test, body)?),
+        Some(Entry::Again(test, body)) => Ok(test_while(
+            alloc, code, blocks, look, stack, test, body,
+        )?),
         Some(Entry::Guard(_, _)) => unreachable!(),
         Some(Entry::Final(_)) => unreachable!(),
         Some(Entry::Afterwards(_)) => unreachable!(),
@@ -148,7 +150,8 @@ fn act<L: Look>(
             Ok(test_while(alloc, code, blocks, look, stack, test, *body)?)
         }
         FlatAction::Try(body, excepts, finally) => {
-            stack.todo.push(Entry::Guard(excepts.clone()?, *finally))?;
+            let excepts = excepts.clone()?;
+            stack.todo.push(Entry::Guard(excepts, *finally))?;
             stack.todo.push(Entry::Rest(*body, 0))?;
             Ok(Made::Further(leave(blocks, stack, Leaving::Normally)?))
         }
@@ -208,11 +211,7 @@ fn branch<L: Look>(
             stack,
             Leaving::Raising(FaultKind::TypeError),
         )?)),
-        Outcome::Fault(kind) => Ok(Made::Further(leave(
-            blocks,
-            stack,
-            Leaving::Raising(kind),
-        )?)),
+        Outcome::Fault(kind) => Ok(Made::Further(leave(blocks, stack, Leaving::Raising(kind))?)),
     }
 }
 
@@ -246,10 +245,6 @@ fn test_while<L: Look>(
             stack,
             Leaving::Raising(FaultKind::TypeError),
         )?)),
-        Outcome::Fault(kind) => Ok(Made::Further(leave(
-            blocks,
-            stack,
-            Leaving::Raising(kind),
-        )?)),
+        Outcome::Fault(kind) => Ok(Made::Further(leave(blocks, stack, Leaving::Raising(kind))?)),
     }
 }

@@ -11,49 +11,54 @@ ghost use Rattle.machine.specs.Unwinding.{unwind};
 ghost use Rattle.body_values.specs.Functions.{IsFunction, function_at};
 ghost use Rattle.body_frames.specs.Few.{HasFewUnwound};
 ghost use Rattle.body_frames.specs.Places.{place_of, came_by};
-ghost use Rattle.body_frames.specs.Standings.{reached_of, moved_of};
+ghost use Rattle.body_frames.specs.Standings.{goes_from, reached_of, moved_of};
 ghost use Rattle.body_frames.specs.Steady.{HasMove};
-ghost use Rattle.body_frames.specs.Unwinding.{unwound_of};
 
-use crate::stack::{
-    Made, Stack, begin_function, go_inside, go_on_with, make_move, outcome_of_leaving,
-};
+use crate::entry::Entry;
+use crate::moves::make_move;
+use crate::pile::Pile;
+use crate::stack::{Made, Stack, begin_function, go_inside, go_on_with, outcome_of_leaving};
 use crate::unwind::Unwound;
-use body_values::{Code, Look};
+use body_blocks::Blocks;
+use body_values::{Code, Look, Start};
 use gv_values::{Name, Outcome, Value};
 use machine::request::Request;
-use machine::state::{Local, Todo as Entry};
-use scenario_tree::{Items, Statement};
+use machine::state::Local;
+use scenario_tree::Items;
 use std::alloc::{AllocError, Global};
 use std::marker::Model;
+use std::rc::Rc;
 
 /// A body that waits for the answer to its request.
 #[derive(Drop)]
 pub struct Parked {
+    blocks: Rc<Blocks>,
     locals: Items<Local>,
-    todo: Items<Entry>,
+    todo: Pile<Entry>,
     gives: Option<Name>,
 }
 
 impl Model for Parked {
     ghost use Rattle.machine.specs.declared.state.Frame.{Frame as Body};
     ghost use Rattle.scenario_tree.specs.Trees.{trees};
+    ghost use Rattle.body_frames.specs.Entries.{todo_of};
     ghost use Rattle.body_frames.specs.Few.{HasFewToDo};
 
     ghost Value = { Body };
 
     ghost coded = { Prim.hlevel trees };
 
-    ghost view = { λ p. record { locals = p.locals; todo = p.todo; gives = p.gives } };
+    ghost view = { λ p. record { locals = p.locals; todo = todo_of p.blocks.value p.todo; gives = p.gives } };
 
-    ghost invariant = { λ p. HasFewToDo p.todo };
+    ghost invariant = { λ p. HasFewToDo (todo_of p.blocks.value p.todo) };
 }
 
 /// A body at its next move.
 #[derive(Drop)]
 pub struct Moving {
+    blocks: Rc<Blocks>,
     locals: Items<Local>,
-    todo: Items<Entry>,
+    todo: Pile<Entry>,
 }
 
 impl Model for Moving {
@@ -61,29 +66,33 @@ impl Model for Moving {
     ghost use Rattle.machine.specs.declared.state.Frame.{Frame as Body};
     ghost use Rattle.scenario_tree.specs.Trees.{trees};
     ghost use Rattle.body_frames.specs.AtMove.{IsAtMove};
+    ghost use Rattle.body_frames.specs.Entries.{todo_of};
     ghost use Rattle.body_frames.specs.Few.{HasFewToDo};
 
     ghost Value = { Body };
 
     ghost coded = { Prim.hlevel trees };
 
-    ghost view = { λ m. record { locals = m.locals; todo = m.todo; gives = None } };
+    ghost view = { λ m. record { locals = m.locals; todo = todo_of m.blocks.value m.todo; gives = None } };
 
-    ghost invariant = { λ m. IsAtMove m.todo × HasFewToDo m.todo };
+    ghost invariant = { λ m. IsAtMove (todo_of m.blocks.value m.todo) × HasFewToDo (todo_of m.blocks.value m.todo) };
 }
 
 /// A body that is about to enter a timeout block, whose number it waits for.
 #[derive(Drop)]
 pub struct Entering {
+    blocks: Rc<Blocks>,
     locals: Items<Local>,
-    todo: Items<Entry>,
+    todo: Pile<Entry>,
     silent: bool,
-    body: Items<Statement>,
+    body: usize,
 }
 
 impl Model for Entering {
     ghost use Rattle.scenario_tree.specs.Trees.{trees};
+    ghost use Rattle.body_blocks.specs.Trees.{block_at};
     ghost use Rattle.body_values.specs.Few.{HasFew};
+    ghost use Rattle.body_frames.specs.Entries.{todo_of};
     ghost use Rattle.body_frames.specs.Few.{HasFewToDo};
     ghost use Rattle.body_frames.specs.Places.{Entered};
 
@@ -91,9 +100,9 @@ impl Model for Entering {
 
     ghost coded = { Prim.hlevel trees };
 
-    ghost view = { λ e. record { silent = e.silent; body = e.body; locals = e.locals; todo = e.todo } };
+    ghost view = { λ e. record { silent = e.silent; body = block_at e.body e.blocks.value; locals = e.locals; todo = todo_of e.blocks.value e.todo } };
 
-    ghost invariant = { λ e. HasFew e.body × HasFewToDo e.todo };
+    ghost invariant = { λ e. HasFew (block_at e.body e.blocks.value) × HasFewToDo (todo_of e.blocks.value e.todo) };
 }
 
 /// Where a body comes to by itself. First the numbers of the timeout blocks that it left, innermost first.
@@ -127,8 +136,10 @@ pub fn begin_body(
     ensures { IfOk result (λ reached. reached_of reached
         ≡ place_of (unwind (Todo.Statements (function_at function code.now).body ∷ []) [] Leaving.Normally (named (function_at function code.now).parameters arguments))) }
 {
-    let (stack, at) = begin_function(alloc, code.function_at(function), arguments)?;
-    Ok(reach(stack, at))
+    let Start { blocks, body } = code.start(function)?;
+    let parameters = code.parameters(function);
+    let (stack, at) = begin_function(alloc, &blocks, body, parameters, arguments)?;
+    Ok(reach(blocks, stack, at))
 }
 
 /// Answers the request of the body, with a value or a fault. `AllocError`: memory is wanting.
@@ -136,6 +147,7 @@ pub fn answer_body(alloc: Global, body: Parked, answer: Outcome) -> Result<Reach
     ensures { IfOk result (λ reached. reached_of reached ≡ place_of (unwind body.todo [] (leaving_of answer) (given body answer))) }
 {
     let Parked {
+        blocks,
         locals,
         todo,
         gives,
@@ -145,8 +157,8 @@ pub fn answer_body(alloc: Global, body: Parked, answer: Outcome) -> Result<Reach
         todo,
         left: Items::new(alloc),
     };
-    let at = go_on_with(alloc, &mut stack, gives, answer)?;
-    Ok(reach(stack, at))
+    let at = go_on_with(&blocks, &mut stack, gives, answer)?;
+    Ok(reach(blocks, stack, at))
 }
 
 /// Lets the body enter its timeout block, which has this number. `AllocError`: memory is wanting.
@@ -155,6 +167,7 @@ pub fn enter_timeout(alloc: Global, body: Entering, number: u32) -> Result<Reach
         ≡ place_of (unwind (Todo.Statements body.body ∷ Todo.Within number body.silent ∷ body.todo) [] Leaving.Normally body.locals)) }
 {
     let Entering {
+        blocks,
         locals,
         todo,
         silent,
@@ -165,8 +178,8 @@ pub fn enter_timeout(alloc: Global, body: Entering, number: u32) -> Result<Reach
         todo,
         left: Items::new(alloc),
     };
-    let at = go_inside(alloc, &mut stack, silent, body, number)?;
-    Ok(reach(stack, at))
+    let at = go_inside(&blocks, &mut stack, silent, body, number)?;
+    Ok(reach(blocks, stack, at))
 }
 
 /// Makes the next move of the body, where this may be asked of its hub. `AllocError`: memory is wanting.
@@ -179,18 +192,23 @@ pub fn move_body<L: Look>(
 ) -> Result<Moved, AllocError>
     ensures { IfOk result (λ moved. moved_of moved ≡ came_by body.locals (body_move body.todo (around code.now (L.answers look.now) body.locals))) }
 {
-    let Moving { locals, todo } = body;
+    let Moving {
+        blocks,
+        locals,
+        todo,
+    } = body;
     let mut stack = Stack {
         locals,
         todo,
         left: Items::new(alloc),
     };
-    match make_move(alloc, code, look, &mut stack)? {
+    match make_move(alloc, code, &blocks, look, &mut stack)? {
         Made::Asks(request, gives) => {
             let Stack { locals, todo, .. } = stack;
             Ok(Moved::Asks(
                 request,
                 Parked {
+                    blocks,
                     locals,
                     todo,
                     gives,
@@ -202,6 +220,7 @@ pub fn move_body<L: Look>(
             Ok(Moved::Enters(
                 time,
                 Entering {
+                    blocks,
                     locals,
                     todo,
                     silent,
@@ -209,19 +228,26 @@ pub fn move_body<L: Look>(
                 },
             ))
         }
-        Made::Further(at) => Ok(Moved::Comes(reach(stack, at))),
+        Made::Further(at) => Ok(Moved::Comes(reach(blocks, stack, at))),
     }
 }
 
 /// Where the body comes to.
-fn reach(stack: Stack, at: Unwound) -> Reached
-    requires moves { HasMove (unwound_of at stack.left stack.locals stack.todo) }
-    requires few { HasFewUnwound (unwound_of at stack.left stack.locals stack.todo) }
-    ensures { reached_of result ≡ place_of (unwound_of at stack.left stack.locals stack.todo) }
+fn reach(blocks: Rc<Blocks>, stack: Stack, at: Unwound) -> Reached
+    requires moves { HasMove (goes_from blocks.value at stack) }
+    requires few { HasFewUnwound (goes_from blocks.value at stack) }
+    ensures { reached_of result ≡ place_of (goes_from blocks.value at stack) }
 {
     let Stack { locals, todo, left } = stack;
     match at {
-        Unwound::Runs => Reached::Move(left, Moving { locals, todo }),
+        Unwound::Runs => Reached::Move(
+            left,
+            Moving {
+                blocks,
+                locals,
+                todo,
+            },
+        ),
         Unwound::Out(how) => Reached::End(left, outcome_of_leaving(how)),
     }
 }

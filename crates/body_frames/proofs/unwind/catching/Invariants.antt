@@ -1,9 +1,8 @@
-use Rattle.std.proofs.Common.{◌≡◌, length}
+use Rattle.std.proofs.Common.{◌≡◌, List, map, drop}
+use Rattle.scenario_tree.specs.declared.tree.Statement.{Statement}
 use Rattle.machine.specs.Unwinding.{catching}
+use Rattle.body_blocks.specs.Trees.{except_of}
 use Rattle.body_frames.proofs.unwind.catching.Given as goal
 
-abbrev pub invariant-loop-f : goal.invariant-loop-f
-invariant-loop-f l = catching l.f l.fn.excepts ≡ catching l.f l.excepts
-
-abbrev pub decreases-loop-f : goal.decreases-loop-f
-decreases-loop-f l = length l.excepts
+abbrev pub invariant-loop-except : goal.invariant-loop-except
+invariant-loop-except l = (t : List (List Statement)) → catching l.f (map (except_of t) l.fn.excepts) ≡ catching l.f (map (except_of t) (drop l.except-index l.fn.excepts))

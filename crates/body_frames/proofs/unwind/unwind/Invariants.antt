@@ -1,10 +1,11 @@
 use Rattle.std.proofs.Common.{◌≡◌, length}
 use Rattle.machine.specs.Unwinding.{unwind}
+use Rattle.body_frames.specs.Entries.{todo_of}
 use Rattle.body_frames.proofs.unwind.unwind.Given as goal
 
 abbrev pub invariant-loop-how : goal.invariant-loop-how
 invariant-loop-how l =
-    unwind l.initial.todo l.initial.left l.fn.how l.initial.locals ≡ unwind l.todo l.left l.how l.locals
+    unwind (todo_of l.fn.blocks l.initial.todo) l.initial.left l.fn.how l.initial.locals ≡ unwind (todo_of l.fn.blocks l.todo) l.left l.how l.locals
 
 abbrev pub decreases-loop-how : goal.decreases-loop-how
 decreases-loop-how l = length l.todo

@@ -1,0 +1,53 @@
+-- What is read at a place of the code.
+use Rattle.std.proofs.Common.{◌≡◌, refl, ap, sym, subst, ◌∙◌, ℕ, suc, true, false, List, [], ◌∷◌, Some, None}
+use Rattle.std.specs.Prelude.{map}
+use Rattle.scenario_tree.specs.declared.tree.Action.{out-Action}
+use Rattle.scenario_tree.specs.declared.tree.Action.TheVariants as A
+use Rattle.scenario_tree.specs.declared.tree.Statement.{Statement, out-Statement}
+use Rattle.machine.specs.declared.state.Todo.{Todo}
+use Rattle.machine.specs.Expressions.{Around}
+use Rattle.machine.specs.BodyMoves.{action_move, body_move}
+use Rattle.body_blocks.specs.Trees.{IsAhead, action_of, block_at, except_of, statement_of}
+use Rattle.body_blocks.specs.declared.statement.FlatAction.{FlatAction}
+use Rattle.body_blocks.specs.declared.statement.FlatStatement.{FlatStatement}
+use Rattle.body_values.specs.Few.{HasFew, HasFewParts}
+use Rattle.body_values.proofs.Few.{head-few}
+use Rattle.body_frames.specs.AtMove.{IsAtMove}
+use Rattle.body_frames.specs.Entries.{Form, begins, form_of, optional_block, rest}
+
+-- one level of a flat statement is that of its tree
+pub out_form : (t : List (List Statement)) (a : FlatAction) → out-Action (action_of t a) ≡ form_of t a
+out_form t (FlatAction.Command c) = A.outs-Command c
+out_form t (FlatAction.Giving x g) = A.outs-Giving x g
+out_form t (FlatAction.If e y n) = A.outs-If e (block_at y t) (optional_block t n)
+out_form t (FlatAction.While e b) = A.outs-While e.value (block_at b t)
+out_form t (FlatAction.Try b es f) = A.outs-Try (block_at b t) (map (except_of t) es.value) (optional_block t f)
+out_form t (FlatAction.Timeout ms silent b) = A.outs-Timeout ms silent (block_at b t)
+
+pub begins_there : (t : List (List Statement)) (b p : ℕ) (s : FlatStatement) → IsAhead t b p (Some s) → begins (rest t b p) ≡ true
+begins_there t b p s h = ap begins h
+
+pub begins_not : (t : List (List Statement)) (b p : ℕ) → IsAhead t b p None → begins (rest t b p) ≡ false
+begins_not t b p h = ap begins h
+
+-- the move of the statement at the head
+pub move_there : (t : List (List Statement)) (b p : ℕ) (s : FlatStatement) (todo : List Todo) (a : Around) → IsAhead t b p (Some s) →
+    body_move (Todo.Statements (rest t b p) ∷ todo) a ≡ action_move (form_of t s.action) a (Todo.Statements (rest t b (suc p)) ∷ todo)
+move_there t b p s todo a h =
+    ap (λ (ss : List Statement). body_move (Todo.Statements ss ∷ todo) a) h
+    ∙ ap (λ (form : Form). action_move form a (Todo.Statements (rest t b (suc p)) ∷ todo)) (out_form t s.action)
+
+-- ---- at a move
+
+pub begins_none : (t : List (List Statement)) (b p : ℕ) → IsAhead t b p None → begins (rest t b p) ≡ true → ⊥
+begins_none t b p h k = absurd_false (sym (begins_not t b p h) ∙ k)
+  where
+    absurd_false : false ≡ true → ⊥
+    absurd_false e = cc
+
+pub few_there : (t : List (List Statement)) (b p : ℕ) (s : FlatStatement) → IsAhead t b p (Some s) → HasFew (rest t b p) → HasFewParts (form_of t s.action)
+few_there t b p s h few = subst HasFewParts (out_form t s.action) (head-few (statement_of t s) (rest t b (suc p)) (subst HasFew h few))
+
+pub rest_at_move : (ss : List Statement) (todo : List Todo) → IsAtMove (Todo.Statements ss ∷ todo) → begins ss ≡ true
+rest_at_move [] todo h = absurd h
+rest_at_move (s ∷ ss) todo h = refl
