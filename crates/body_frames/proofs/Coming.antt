@@ -1,11 +1,14 @@
 -- What comes of one move.
-use Rattle.std.proofs.Common.{◌≡◌, refl, ap, sym, ◌∙◌, ℕ, List, []}
+use Rattle.std.proofs.Common.{◌≡◌, refl, ap, sym, ◌∙◌, ℕ, List, [], None}
 use Rattle.scenario_tree.specs.declared.tree.Statement.{Statement}
+use Rattle.machine.specs.declared.state.Frame.{Frame}
 use Rattle.machine.specs.declared.state.Local.{Local}
 use Rattle.machine.specs.Bodies.{Body, Step, Stepped, after_move}
-use Rattle.machine.specs.BodyMoves.{Did}
+use Rattle.machine.specs.BodyMoves.{Did, body_move}
+use Rattle.machine.specs.Expressions.{Around}
 use Rattle.machine.specs.Unwinding.{Unwound}
 use Rattle.body_blocks.specs.Trees.{block_at}
+use Rattle.body_frames.specs.declared.entry.Entry.{Entry}
 use Rattle.body_frames.specs.declared.stack.Made.{Made}
 use Rattle.body_frames.specs.declared.stack.Stack.{Stack}
 use Rattle.body_frames.specs.Places.{Came, came_by, place_of}
@@ -37,7 +40,18 @@ by_made t (Made.Asks request x) s = refl
 by_made t (Made.Enters ms silent b) s = refl
 by_made t (Made.Further at) s = refl
 
-pub comes_of_move : (t : List (List Statement)) (locals : List Local) (did : Did) (made : Made) (s : Stack) →
+comes_of_move : (t : List (List Statement)) (locals : List Local) (did : Did) (made : Made) (s : Stack) →
     ((moves : ℕ) (go : Unwound → Stepped) → after_move moves locals go did ≡ made_of t moves go made s) → came_of_made t made s ≡ came_by locals did
 comes_of_move t locals did made s e =
     sym (by_made t made s) ∙ ap (λ (x : Stepped). came_from x.step x.body) (sym (e 0 stands)) ∙ by_move locals did
+
+-- the same, of a body by its pile, where these are the blocks that it shares
+pub comes_as : (t u : List (List Statement)) (f : Frame) (locals : List Local) (todo : List Entry) (a : List Local → Around) (made came : Made) (s : Stack) → u ≡ t →
+    record { locals = locals; todo = todo_of t todo; gives = None } ≡ f → made ≡ came →
+    ((moves : ℕ) (go : Unwound → Stepped) → after_move moves locals go (body_move (todo_of u todo) (a locals)) ≡ made_of u moves go made s) →
+    came_of_made t came s ≡ came_by f.locals (body_move f.todo (a f.locals))
+comes_as t u f locals todo a made came s shared view same e =
+    ap (λ (w : List (List Statement)). came_of_made w came s) (sym shared) ∙ ap (λ (m : Made). came_of_made u m s) (sym same)
+    ∙ comes_of_move u locals (body_move (todo_of u todo) (a locals)) made s e
+    ∙ ap (λ (w : List (List Statement)). came_by locals (body_move (todo_of w todo) (a locals))) shared
+    ∙ ap (λ (g : Frame). came_by g.locals (body_move g.todo (a g.locals))) view

@@ -12,12 +12,12 @@ ghost use Rattle.body_frames.specs.Steady.{HasMove, IsSteady};
 ghost use Rattle.body_frames.specs.Steps.{answer_of, step_of};
 
 use crate::moves::make_move;
-use crate::stack::{Made, Stack, begin_function, go_inside, go_on_with, outcome_of_leaving};
+use crate::stack::{Begun, Made, Stack, begin_function, go_inside, go_on_with, outcome_of_leaving};
 use crate::step::{Input, Step};
 use crate::unwind::Unwound;
 use body_blocks::Blocks;
 use body_values::front::pop_first;
-use body_values::{Code, Look, Start};
+use body_values::{Code, Look};
 use gv_values::{Name, Outcome, Value};
 use scenario_tree::Items;
 use std::alloc::{AllocError, Global};
@@ -73,9 +73,7 @@ impl Frame {
         requires declared { IsFunction code.now function }
         ensures { IfOk result (λ frame. frame ≡ begins (function_at function code.now) arguments) }
     {
-        let Start { blocks, body } = code.start(function)?;
-        let parameters = code.parameters(function);
-        let (stack, at) = begin_function(alloc, &blocks, body, parameters, arguments)?;
+        let Begun { blocks, stack, at } = begin_function(alloc, code, function, arguments)?;
         Ok(Frame {
             blocks,
             stack,

@@ -17,10 +17,10 @@ ghost use Rattle.body_frames.specs.Steady.{HasMove};
 use crate::entry::Entry;
 use crate::moves::make_move;
 use crate::pile::Pile;
-use crate::stack::{Made, Stack, begin_function, go_inside, go_on_with, outcome_of_leaving};
+use crate::stack::{Begun, Made, Stack, begin_function, go_inside, go_on_with, outcome_of_leaving};
 use crate::unwind::Unwound;
 use body_blocks::Blocks;
-use body_values::{Code, Look, Start};
+use body_values::{Code, Look};
 use gv_values::{Name, Outcome, Value};
 use machine::request::Request;
 use machine::state::Local;
@@ -136,9 +136,7 @@ pub fn begin_body(
     ensures { IfOk result (λ reached. reached_of reached
         ≡ place_of (unwind (Todo.Statements (function_at function code.now).body ∷ []) [] Leaving.Normally (named (function_at function code.now).parameters arguments))) }
 {
-    let Start { blocks, body } = code.start(function)?;
-    let parameters = code.parameters(function);
-    let (stack, at) = begin_function(alloc, &blocks, body, parameters, arguments)?;
+    let Begun { blocks, stack, at } = begin_function(alloc, code, function, arguments)?;
     Ok(reach(blocks, stack, at))
 }
 
@@ -183,7 +181,6 @@ pub fn enter_timeout(alloc: Global, body: Entering, number: u32) -> Result<Reach
 }
 
 /// Makes the next move of the body, where this may be asked of its hub. `AllocError`: memory is wanting.
-#[tactic(auto, using(crate::proofs::Coming::comes_of_move))]
 pub fn move_body<L: Look>(
     alloc: Global,
     code: &Code,

@@ -2,12 +2,14 @@
 ghost use Rattle.std.specs.Prelude.{◌≡◌, ◌∷◌, [], List, OnOk, IfOk};
 ghost use Rattle.machine.specs.declared.state.Todo.{Todo as Undone};
 ghost use Rattle.machine.specs.declared.state.Leaving.TheVariants as leaving;
+ghost use Rattle.machine.specs.Bodies.{Body, begins};
 ghost use Rattle.machine.specs.Landing.{given};
 ghost use Rattle.machine.specs.Ends.{leaving_of, outcome_of_leaving};
 ghost use Rattle.machine.specs.Greenlets.{named};
 ghost use Rattle.machine.specs.Unwinding.{unwind};
 ghost use Rattle.body_blocks.specs.Trees.{block_at};
 ghost use Rattle.body_values.specs.Few.{HasFew};
+ghost use Rattle.body_values.specs.Functions.{IsFunction, function_at};
 ghost use Rattle.body_frames.specs.Entries.{todo_of};
 ghost use Rattle.body_frames.specs.Few.{HasFewToDo, HasFewUnwound};
 ghost use Rattle.body_frames.specs.Standings.{goes_from};
@@ -17,12 +19,13 @@ use crate::entry::Entry;
 use crate::pile::Pile;
 use crate::unwind::{Unwound, unwind};
 use body_blocks::Blocks;
-use body_values::{bind, named};
+use body_values::{Code, Start, bind, named};
 use gv_values::{Name, Outcome, Value};
 use machine::request::Request;
 use machine::state::{Leaving, Local};
 use scenario_tree::Items;
 use std::alloc::{AllocError, Global};
+use std::rc::Rc;
 
 /// The locals, what is still to do, and the timeout blocks that were left and not told yet, innermost first.
 #[derive(Drop)]
@@ -43,8 +46,34 @@ pub enum Made {
     Further(Unwound),
 }
 
-/// A body of these statements, whose parameters take the arguments, at its first move or its end.
+/// A body at its first move or its end, with the blocks of its code.
+#[derive(Drop)]
+pub struct Begun {
+    pub blocks: Rc<Blocks>,
+    pub stack: Stack,
+    pub at: Unwound,
+}
+
+/// A body of the function of this number with these arguments.
 pub fn begin_function(
+    alloc: Global,
+    code: &Code,
+    function: u32,
+    arguments: Items<Value>,
+) -> Result<Begun, AllocError>
+    requires declared { IsFunction code.now function }
+    ensures begun { IfOk result (λ b. Body.Ready (goes_from b.blocks.value b.at b.stack) ≡ begins (function_at function code.now) arguments) }
+    ensures moves { IfOk result (λ b. HasMove (goes_from b.blocks.value b.at b.stack)) }
+    ensures few { IfOk result (λ b. HasFewUnwound (goes_from b.blocks.value b.at b.stack)) }
+{
+    let Start { blocks, body } = code.start(function)?;
+    let parameters = code.parameters(function);
+    let (stack, at) = begin_block(alloc, &blocks, body, parameters, arguments)?;
+    Ok(Begun { blocks, stack, at })
+}
+
+/// A body of these statements, whose parameters take the arguments.
+fn begin_block(
     alloc: Global,
     blocks: &Blocks,
     body: usize,
