@@ -1,5 +1,5 @@
 -- A body whose calls have few arguments asks with few, and keeps that.
-use Rattle.std.proofs.Common.{◌≡◌, ◌≤◌, refl, ap, sym, subst, ℕ, zero, suc, Bool, true, false, List, [], ◌∷◌, length, map, Option, Some, None, Result, Ok, Err}
+use Rattle.std.proofs.Common.{◌≤◌, refl, sym, subst, ℕ, zero, suc, Bool, true, false, List, [], ◌∷◌, length, Option, Some, None, Result, Ok, Err}
 use Rattle.std.specs.Prelude.{if◌then◌else◌, pos, unwrap_or}
 use Rattle.gv_values.specs.declared.fault.FaultKind.{FaultKind}
 use Rattle.gv_values.specs.declared.value.Outcome.{Outcome}
@@ -19,7 +19,7 @@ use Rattle.machine.specs.declared.state.Local.{Local}
 use Rattle.machine.specs.declared.state.Todo.{Todo}
 use Rattle.machine.specs.State.{Name}
 use Rattle.machine.specs.Bodies.{Body, Stepped, after_move, begins, goes, resume}
-use Rattle.machine.specs.Expressions.{Around, Meaning, meaning, meanings}
+use Rattle.machine.specs.Expressions.{Around, meaning}
 use Rattle.machine.specs.BodyMoves.{Asked, Did, action_move, asked, asked_only, at_once, body_move, command_move, function, giving_request, if_any, link_kind, many, meaning_if, object, on_value, one, one_or_two, tested, timed, two, values, while_move}
 use Rattle.machine.specs.declared.request.Request.{Request}
 use Rattle.machine.specs.Landing.{given}

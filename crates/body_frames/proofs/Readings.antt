@@ -3,7 +3,7 @@ use Rattle.std.proofs.Common.{◌≡◌, refl, ap, sym, subst, ◌∙◌, ℕ, s
 use Rattle.std.specs.Prelude.{map}
 use Rattle.scenario_tree.specs.declared.tree.Action.{out-Action}
 use Rattle.scenario_tree.specs.declared.tree.Action.TheVariants as A
-use Rattle.scenario_tree.specs.declared.tree.Statement.{Statement, out-Statement}
+use Rattle.scenario_tree.specs.declared.tree.Statement.{Statement}
 use Rattle.machine.specs.declared.state.Todo.{Todo}
 use Rattle.machine.specs.Expressions.{Around}
 use Rattle.machine.specs.BodyMoves.{action_move, body_move}
