@@ -25,3 +25,9 @@ pub phase_out : (gs : List Greenlet) (g : ℕ) (x : Greenlet) → length gs ≤ 
 phase_out [] g y h = refl
 phase_out (x ∷ gs) zero y h = grind arith
 phase_out (x ∷ gs) (suc g) y h = ap (λ ys. x ∷ ys) (phase_out gs g y (omega (arith, h)))
+
+pub parent_set : (gs : List Greenlet) (g : ℕ) (d : Greenlet) (p : ℕ) → g < length gs →
+    slice_set gs g (record (slice_index_or gs g d) { parent = p }) ≡ slice_set gs g (record (unwrap_or (slice_get gs g) nobody) { parent = p })
+parent_set [] g d p h = refl
+parent_set (x ∷ gs) zero d p h = refl
+parent_set (x ∷ gs) (suc g) d p h = ap (λ ys. x ∷ ys) (parent_set gs g d p (omega (arith, h)))

@@ -1,8 +1,7 @@
 -- What a body that is under way may ask of the hub.
-use Rattle.std.specs.Prelude.{◌<◌, ◌^◌, ◌==◌, ℕ, List, Option, None, slice_get, if◌then◌else◌}
+use Rattle.std.specs.Prelude.{◌==◌, ℕ, Option, None, slice_get, if◌then◌else◌}
 use Rattle.gv_values.specs.declared.value.Outcome.{Outcome}
 use Rattle.gv_values.specs.declared.value.Whom.{Whom}
-use Rattle.machine.specs.declared.state.Object.{Object}
 use Rattle.machine.specs.Expressions.{Look}
 use Rattle.machine.specs.Holds.{outcome_of}
 use Rattle.machine.specs.Moves.{is_set_object, size_of_object, unfinished_of_object}
@@ -26,7 +25,3 @@ look_of s = record {
   size = λ o. size_of_object (slice_get s.state.objects o);
   unfinished = λ o. unfinished_of_object (slice_get s.state.objects o);
 }
-
--- every count of an object is below 2^63
-abbrev pub AreCounted : List Object → Type 0
-AreCounted objects = (o : ℕ) → (size_of_object (slice_get objects o) < 2 ^ 63) × (unfinished_of_object (slice_get objects o) < 2 ^ 63)

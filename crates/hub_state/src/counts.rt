@@ -1,9 +1,10 @@
 //! The moment, the counts, and the lines of the step under way.
-ghost use Rattle.std.specs.Prelude.{◌≡◌, ◌+◌, [], length, OnOk};
+ghost use Rattle.std.specs.Prelude.{◌≡◌, ◌+◌, length, OnOk, IfOk};
 ghost use Rattle.machine.specs.Run.{silent};
 
 use crate::hub::Hub;
 use body_frames::Code;
+use machine::state::Post;
 use std::alloc::AllocError;
 use trace_text::Line;
 
@@ -43,6 +44,13 @@ impl Hub {
         self.next_ready
     }
 
+    /// The place in order of making that the next item is given.
+    pub fn next_since(&self) -> u64
+        ensures { result ≡ self.now.next_since }
+    {
+        self.next_since
+    }
+
     /// How many items there are.
     pub fn items_len(&self) -> usize
         ensures { result ≡ length self.now.items }
@@ -66,18 +74,57 @@ impl Hub {
         Ok(())
     }
 
-    /// The lines of the step under way. It has no posts.
+    /// How many timeouts were numbered.
+    pub fn timeouts(&self) -> u32
+        ensures { result ≡ self.now.timeouts }
+    {
+        self.timeouts
+    }
+
+    /// Numbers one timeout more, and gives its number. `AllocError`: it would pass 32 bits, and nothing changes.
+    pub fn count_timeout(&mut self) -> Result<u32, AllocError>
+        ensures counted { OnOk result (self.new ≡ record self.old { timeouts = self.old.timeouts + 1 }) }
+        ensures number { IfOk result (λ n. n ≡ self.old.timeouts + 1) }
+    {
+        self.timeouts = self.timeouts.checked_add(1).ok_or(AllocError)?;
+        Ok(self.timeouts)
+    }
+
+    /// How many links were made.
+    pub fn links(&self) -> u32
+        ensures { result ≡ self.now.links }
+    {
+        self.links
+    }
+
+    /// Numbers one link more, and gives its number. `AllocError`: it would pass 32 bits, and nothing changes.
+    pub fn count_link(&mut self) -> Result<u32, AllocError>
+        ensures counted { OnOk result (self.new ≡ record self.old { links = self.old.links + 1 }) }
+        ensures number { IfOk result (λ n. n ≡ self.old.links + 1) }
+    {
+        self.links = self.links.checked_add(1).ok_or(AllocError)?;
+        Ok(self.links)
+    }
+
+    /// The lines of the step under way.
     pub fn lines(&self) -> &[Line]
-        ensures lines { result.now ≡ self.now.lines }
-        ensures posts { self.now.posts ≡ [] }
+        ensures { result.now ≡ self.now.lines }
     {
         &self.lines
     }
 
-    /// Drops the lines of the step under way, which were given out.
-    pub fn forget_lines(&mut self)
+    /// The posts of the step under way.
+    pub fn posts(&self) -> &[Post]
+        ensures { result.now ≡ self.now.posts }
+    {
+        &self.posts
+    }
+
+    /// Drops the lines and posts of the step under way, which were given out.
+    pub fn forget_step(&mut self)
         ensures { self.new ≡ silent self.old }
     {
         self.lines.clear();
+        self.posts.clear();
     }
 }

@@ -2,20 +2,17 @@
 ghost use Rattle.std.specs.Prelude.{◌≡◌, ◌<◌, ◌==◌, length, map, filter, not, slice_index};
 ghost use Rattle.machine.specs.Objects.{without_member};
 
-use crate::hub::Hub;
 use machine::state::Object;
 use scenario_tree::Items;
 
-impl Hub {
-    /// The greenlet leaves its group or pool.
-    pub fn leave_crews(&mut self, g: u32)
-        ensures { self.new ≡ record self.old { objects = map (without_member g) self.old.objects } }
-    {
-        leave_all(&mut self.objects, g);
-    }
+/// The greenlet is no member of any group or pool any more.
+pub fn leave_each(objects: &mut Vec<Object>, g: u32)
+    ensures { objects.new.items ≡ map (without_member g) objects.old.items }
+{
+    leave_all(objects, g);
 }
 
-/// The greenlet is no member of any group or pool any more.
+/// The greenlet is no member of any of these any more.
 fn leave_all(objects: &mut [Object], g: u32)
     ensures { objects.new ≡ map (without_member g) objects.old }
 {
@@ -26,6 +23,7 @@ fn leave_all(objects: &mut [Object], g: u32)
     }
 }
 
+/// Whether the member at this place is the greenlet.
 fn is_at(members: &Items<u32>, at: usize, g: u32) -> bool
     requires { at < length members.now }
     ensures { result ≡ (slice_index members.now at == g) }
@@ -33,6 +31,7 @@ fn is_at(members: &Items<u32>, at: usize, g: u32) -> bool
     members.as_slice()[at] == g
 }
 
+/// The greenlet is no member any more.
 fn leave(members: &mut Items<u32>, g: u32)
     ensures { members.new ≡ filter (λ h. not (h == g)) members.old }
 {

@@ -4,9 +4,10 @@ ghost use Rattle.machine.specs.declared.items.Item.{Item as AnyItem};
 ghost use Rattle.machine.specs.Run.{least_below, with_this};
 ghost use Rattle.machine.specs.Deliveries.{without_item};
 ghost use Rattle.hub_state.specs.Places.{item_at};
+ghost use Rattle.hub_state.specs.Short.{DeliversShort};
 
 use crate::hub::Hub;
-use machine::items::Item;
+use machine::items::{Delivery, Item};
 
 /// Of this item, where it has a number below the mark, and the best of those after it, the one with
 /// the lower number.
@@ -55,7 +56,8 @@ fn least_below(items: &[Item], mark: u64) -> Option<usize>
 }
 
 impl Hub {
-    /// The place of the item with the least number below the mark.
+    /// The place of the item with the least number below the mark. Looks at each item; with linked items, at the first of
+    /// the line of those that have a number.
     pub fn next_below(&self, mark: u64) -> Option<usize>
         ensures within { IfSome result (λ best. best < length self.now.items) }
         ensures least { item_at result self.now.items ≡ least_below mark self.now.items }
@@ -63,11 +65,20 @@ impl Hub {
         least_below(&self.items, mark)
     }
 
-    /// Takes the item away.
+    /// What the item at this place delivers.
+    pub fn delivery_at(&self, at: usize) -> &Delivery
+        requires { at < length self.now.items }
+        ensures { (i : AnyItem) → slice_get self.now.items at ≡ Some i → result.now ≡ i.delivery }
+    {
+        &self.items[at].delivery
+    }
+
+    /// Takes the item at this place away. Moves those after it up; with linked items, it leaves the lists that it is in.
     #[tactic(auto, using(crate::proofs::Removals::taken, crate::proofs::Removals::sound_taken))]
     pub fn take_item(&mut self, at: usize) -> Item
         requires { at < length self.old.items }
         ensures item { slice_get self.old.items at ≡ Some result }
+        ensures short { DeliversShort result.delivery }
         ensures gone { self.new ≡ without_item result self.old }
     {
         self.items.remove(at)

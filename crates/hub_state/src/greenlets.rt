@@ -29,9 +29,12 @@ pub enum Stage {
     Done(Outcome),
 }
 
-/// A greenlet. None that is run yet is raw.
+/// A greenlet.
 #[derive(Drop)]
 pub struct Greenlet {
+    raw: bool,
+    /// Where the outcome of a raw greenlet goes.
+    parent: u32,
     function: u32,
     stage: Stage,
 }
@@ -45,15 +48,17 @@ impl Model for Greenlet {
 
     ghost coded = { Prim.hlevel trees };
 
-    ghost view = { λ g. shown g.function (phase_of g.stage) };
+    ghost view = { λ g. shown g.raw g.parent g.function (phase_of g.stage) };
 }
 
 impl Greenlet {
     /// One that has not started.
-    pub(crate) fn new(function: u32, arguments: Items<Value>) -> Greenlet
-        ensures { result ≡ shown function (Phase.New arguments) }
+    pub(crate) fn new(raw: bool, parent: u32, function: u32, arguments: Items<Value>) -> Greenlet
+        ensures { result ≡ shown raw parent function (Phase.New arguments) }
     {
         Greenlet {
+            raw,
+            parent,
             function,
             stage: Stage::New(arguments),
         }
@@ -65,13 +70,29 @@ impl Greenlet {
         self.function
     }
 
-    /// No greenlet is raw.
     pub(crate) fn is_raw(&self) -> bool
-        ensures raw { result ≡ self.now.raw }
-        ensures never { result ≡ false }
+        ensures { result ≡ self.now.raw }
     {
-        let _ = &self.function;
-        false
+        self.raw
+    }
+
+    pub(crate) fn parent(&self) -> u32
+        ensures { result ≡ self.now.parent }
+    {
+        self.parent
+    }
+
+    /// How far it has come.
+    pub(crate) fn stage(&self) -> &Stage
+        ensures { phase_of result.now ≡ self.now.phase }
+    {
+        &self.stage
+    }
+
+    fn set_parent(&mut self, parent: u32)
+        ensures { self.new ≡ record self.old { parent = parent } }
+    {
+        self.parent = parent;
     }
 
     /// What it ended with, if it did.
@@ -116,10 +137,10 @@ impl Model for Greenlets {
 impl Greenlets {
     /// Main alone, which runs this function and has not started.
     pub(crate) fn first(alloc: Global, function: u32) -> Result<Greenlets, AllocError>
-        ensures { IfOk result (λ gs. gs ≡ shown function (Phase.New []) ∷ []) }
+        ensures { IfOk result (λ gs. gs ≡ shown false 0 function (Phase.New []) ∷ []) }
     {
         let mut all = Vec::new(alloc);
-        all.push(Greenlet::new(function, Items::new(alloc)))?;
+        all.push(Greenlet::new(false, 0, function, Items::new(alloc)))?;
         Ok(Greenlets { all })
     }
 
@@ -153,6 +174,20 @@ impl Greenlets {
         Ok(())
     }
 
+    /// All of them.
+    pub(crate) fn as_slice(&self) -> &[Greenlet]
+        ensures { result.now ≡ self.now }
+    {
+        self.all.as_slice()
+    }
+
+    /// Gives the greenlet this parent.
+    pub(crate) fn set_parent(&mut self, g: u32, parent: u32)
+        ensures { self.new ≡ slice_set self.old g (record (unwrap_or (slice_get self.old g) nobody) { parent = parent }) }
+    {
+        set_parent_at(&mut self.all, g, parent);
+    }
+
     /// Gives the greenlet this stage, and answers the one that it had.
     pub(crate) fn swap(&mut self, g: u32, stage: Stage) -> Option<Stage>
         ensures set { self.new ≡ slice_set self.old g (record (unwrap_or (slice_get self.old g) nobody) { phase = phase_of stage }) }
@@ -160,6 +195,18 @@ impl Greenlets {
     {
         swap_stage(&mut self.all, g, stage)
     }
+}
+
+/// Gives the greenlet this parent.
+#[tactic(auto, using(crate::proofs::PhaseSets::parent_set, crate::proofs::PhaseSets::phase_out))]
+fn set_parent_at(greenlets: &mut [Greenlet], g: u32, parent: u32)
+    ensures { greenlets.new ≡ slice_set greenlets.old g (record (unwrap_or (slice_get greenlets.old g) nobody) { parent = parent }) }
+{
+    if g as usize >= greenlets.len() {
+        return;
+    }
+    let greenlet = &mut greenlets[g as usize];
+    greenlet.set_parent(parent);
 }
 
 /// Gives the greenlet this stage, and answers the one that it had.

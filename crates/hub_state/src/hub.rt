@@ -1,13 +1,14 @@
 //! The state itself.
 use crate::greenlets::Greenlets;
+use crate::jobs::Posted;
+use crate::objects::Objects;
 use body_frames::Code;
 use machine::items::Item;
-use machine::state::Object;
+use machine::state::Post;
 use std::marker::Model;
 use trace_text::Line;
 
-/// The hub, its greenlets and their items: one state of the machine. No statement that posts a job is run
-/// yet, so that there are no jobs and no posts.
+/// The hub, its greenlets and their items: one state of the machine.
 #[derive(Drop)]
 pub struct Hub {
     pub(crate) code: Code,
@@ -18,14 +19,15 @@ pub struct Hub {
     pub(crate) moves: u64,
     pub(crate) timeouts: u32,
     pub(crate) links: u32,
-    pub(crate) objects: Vec<Object>,
+    pub(crate) objects: Objects,
     pub(crate) greenlets: Greenlets,
+    pub(crate) jobs: Vec<Posted>,
     pub(crate) items: Vec<Item>,
     pub(crate) lines: Vec<Line>,
+    pub(crate) posts: Vec<Post>,
 }
 
 impl Model for Hub {
-    ghost use Rattle.std.specs.Prelude.{[]};
     ghost use Rattle.machine.specs.State.{State};
     ghost use Rattle.scenario_tree.specs.Trees.{trees};
     ghost use Rattle.hub_state.specs.Sound.{IsSound};
@@ -43,12 +45,12 @@ impl Model for Hub {
       moves = h.moves;
       timeouts = h.timeouts;
       links = h.links;
-      objects = h.objects.items;
+      objects = h.objects;
       greenlets = h.greenlets;
-      jobs = [];
+      jobs = h.jobs.items;
       items = h.items.items;
       lines = h.lines.items;
-      posts = [];
+      posts = h.posts.items;
     } };
 
     ghost invariant = { λ h. IsSound h.next_since h.items.items };

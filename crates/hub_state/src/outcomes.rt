@@ -1,17 +1,18 @@
 //! What has ended, and which item holds.
-ghost use Rattle.std.specs.Prelude.{◌≡◌, ℕ, ◌+◌, count_by, is_some, slice_get, IfOk};
-ghost use Rattle.std.specs.List.{list_all};
+ghost use Rattle.std.specs.Prelude.{◌≡◌, is_some, slice_get};
 ghost use Rattle.std.specs.Option.{option_copied};
 ghost use Rattle.gv_values.specs.declared.value.Whom.{Whom as Target};
-ghost use Rattle.machine.specs.Holds.{holds, wait_holds, outcome_of, is_done, all_done, done_among};
+ghost use Rattle.machine.specs.Holds.{holds, wait_holds, outcome_of, is_done, all_done, done_among, newcomer_completes, is_flagged, is_owner, earlier, is_place, has_place};
 
 use crate::holds::{
     all_finished_at, has_item_at, has_offer_at, has_place_at, has_result_at, has_room_at,
     has_set_since_at, has_slot_at, has_unit_at, is_deserted_at, is_free_at, is_taken_at, link_fits,
 };
 use crate::hub::Hub;
+use crate::jobs::job_at;
 use gv_values::{Outcome, Whom};
 use machine::items::{Delivery, Item, Waiting};
+use machine::state::Object;
 
 impl Hub {
     /// What the greenlet ended with, if it did.
@@ -34,13 +35,14 @@ impl Hub {
         }
     }
 
-    /// What the job came to: none, since there are no jobs.
+    /// What the job came to, if it has arrived.
     pub fn outcome_of_job(&self, j: u32) -> Option<&Outcome>
         ensures { option_copied result ≡ outcome_of self.now (Target.Job j) }
     {
-        let _ = j;
-        let _ = &self.moment;
-        None
+        match job_at(&self.jobs, j) {
+            Some(job) => job.outcome(),
+            None => None,
+        }
     }
 
     /// Whether the greenlet has ended.
@@ -50,7 +52,8 @@ impl Hub {
         self.outcome_of_greenlet(g).is_some()
     }
 
-    fn all_done(&self, gs: &[u32]) -> bool
+    /// Whether all these greenlets have ended.
+    pub fn all_done(&self, gs: &[u32]) -> bool
         ensures { result ≡ all_done self.now gs.now }
     {
         for g in gs {
@@ -61,6 +64,7 @@ impl Hub {
         true
     }
 
+    /// How many of these greenlets have ended.
     fn done_among(&self, gs: &[u32]) -> u64
         ensures { result ≡ done_among self.now gs.now }
     {
@@ -74,7 +78,7 @@ impl Hub {
     }
 
     /// Whether the wait's condition holds, for a waiter with this since.
-    pub fn wait_holds(&self, since: u64, waiting: &Waiting) -> bool
+    fn wait_holds(&self, since: u64, waiting: &Waiting) -> bool
         ensures { result ≡ wait_holds self.now since waiting.now }
     {
         match waiting {
@@ -83,27 +87,60 @@ impl Hub {
             Waiting::Get(whom) => self.has_ended(*whom),
             Waiting::Kill(gs) => self.all_done(gs.as_slice()),
             Waiting::JoinAll(gs, need) => *need as u64 <= self.done_among(gs.as_slice()),
-            Waiting::Event(o, sets) => has_set_since_at(&self.objects, *o, *sets),
-            Waiting::ResultGet(o) => has_result_at(&self.objects, *o),
-            Waiting::ResultWait(o) => has_result_at(&self.objects, *o),
-            Waiting::Acquire(o) => has_unit_at(&self.objects, &self.items, *o, since),
-            Waiting::Lock(o) => is_free_at(&self.objects, &self.items, *o, since),
-            Waiting::Put(o, _) => has_room_at(&self.objects, &self.items, *o, since),
-            Waiting::Take(o) => has_item_at(&self.objects, &self.items, *o, since),
-            Waiting::Peek(o) => has_item_at(&self.objects, &self.items, *o, since),
-            Waiting::Tasks(o) => all_finished_at(&self.objects, *o),
-            Waiting::Place(o, _, _) => has_place_at(&self.objects, &self.items, *o, since),
-            Waiting::MapPlace(o, _, _, _) => has_place_at(&self.objects, &self.items, *o, since),
+            Waiting::Event(o, sets) => has_set_since_at(self.objects.as_slice(), *o, *sets),
+            Waiting::ResultGet(o) => has_result_at(self.objects.as_slice(), *o),
+            Waiting::ResultWait(o) => has_result_at(self.objects.as_slice(), *o),
+            Waiting::Acquire(o) => has_unit_at(self.objects.as_slice(), &self.items, *o, since),
+            Waiting::Lock(o) => is_free_at(self.objects.as_slice(), &self.items, *o, since),
+            Waiting::Put(o, _) => has_room_at(self.objects.as_slice(), &self.items, *o, since),
+            Waiting::Take(o) => has_item_at(self.objects.as_slice(), &self.items, *o, since),
+            Waiting::Peek(o) => has_item_at(self.objects.as_slice(), &self.items, *o, since),
+            Waiting::Tasks(o) => all_finished_at(self.objects.as_slice(), *o),
+            Waiting::Place(o, _, _) => has_place_at(
+                self.objects.as_slice(),
+                &self.items,
+                *o,
+                since,
+            ),
+            Waiting::MapPlace(o, _, _, _) => has_place_at(
+                self.objects.as_slice(),
+                &self.items,
+                *o,
+                since,
+            ),
             Waiting::MapEnd(_, made) => self.all_done(made.as_slice()),
-            Waiting::Members(o) => is_deserted_at(&self.objects, *o),
-            Waiting::Slot(o, _, _) => has_slot_at(&self.objects, &self.items, *o, since),
-            Waiting::Offered(o) => is_taken_at(&self.objects, *o, since),
-            Waiting::TakeOffer(o) => has_offer_at(&self.objects, &self.items, *o, since),
+            Waiting::Members(o) => is_deserted_at(self.objects.as_slice(), *o),
+            Waiting::Slot(o, _, _) => has_slot_at(self.objects.as_slice(), &self.items, *o, since),
+            Waiting::Offered(o) => is_taken_at(self.objects.as_slice(), *o, since),
+            Waiting::TakeOffer(o) => has_offer_at(self.objects.as_slice(), &self.items, *o, since),
+        }
+    }
+
+    /// Whether a group or pool has a place that nobody waits for. Looks at each item; with linked items, at the length
+    /// of the group's or pool's line.
+    pub fn has_place(&self, o: u32) -> bool
+        ensures { result ≡ has_place (earlier (is_place o) self.now.next_since self.now.items) (slice_get self.now.objects o) }
+    {
+        has_place_at(self.objects.as_slice(), &self.items, o, self.next_since)
+    }
+
+    /// Whether a greenlet that comes to the wait does not begin it, since its condition holds for the last of all waiters.
+    /// Looks at each item; with linked items, at the length of the object's line.
+    pub fn newcomer_completes(&self, g: u32, waiting: &Waiting) -> bool
+        ensures { result ≡ newcomer_completes self.now g waiting.now }
+    {
+        match waiting {
+            Waiting::Sleep(_) => false,
+            Waiting::Offered(_) => false,
+            Waiting::Event(o, _) => is_flagged(self.objects.get(*o)),
+            Waiting::Lock(o) => is_owner(self.objects.get(*o), g)
+                || self.wait_holds(self.next_since, waiting),
+            _ => self.wait_holds(self.next_since, waiting),
         }
     }
 
     /// Whether the item's condition holds.
-    pub fn holds(&self, item: &Item) -> bool
+    pub(crate) fn holds(&self, item: &Item) -> bool
         ensures { result ≡ holds self.now item.now }
     {
         match &item.delivery {
@@ -118,5 +155,25 @@ impl Hub {
                 None => false,
             },
         }
+    }
+}
+
+/// Whether the event is set.
+fn is_flagged(object: Option<&Object>) -> bool
+    ensures { result ≡ is_flagged (option_copied object.entry) }
+{
+    match object {
+        Some(Object::Event(flag, _)) => *flag,
+        _ => false,
+    }
+}
+
+/// Whether the greenlet owns the lock.
+fn is_owner(object: Option<&Object>, g: u32) -> bool
+    ensures { result ≡ is_owner g (option_copied object.entry) }
+{
+    match object {
+        Some(Object::Lock(Some(h), _)) => g == *h,
+        _ => false,
     }
 }

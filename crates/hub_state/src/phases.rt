@@ -1,6 +1,8 @@
 //! What the steps of the hub do to its greenlets.
-ghost use Rattle.std.specs.Prelude.{◌≡◌, ◌<◌, false, length, OnOk, IfOk, IfSome, IfNone};
+ghost use Rattle.std.specs.Prelude.{◌≡◌, ◌<◌, length, option_map, OnOk, IfOk, IfSome, IfNone};
+ghost use Rattle.std.specs.Option.{option_copied};
 ghost use Rattle.machine.specs.declared.state.Phase.{Phase};
+ghost use Rattle.machine.specs.Holds.{phase_of as phase_of_greenlet};
 ghost use Rattle.machine.specs.Greenlets.{no_frame, greenlet, with_phase, frame_of, add_greenlet, has_greenlet_left};
 ghost use Rattle.machine.specs.Deliveries.{arguments};
 ghost use Rattle.hub_state.specs.Phases.{phase_of};
@@ -23,14 +25,13 @@ impl Hub {
         }
     }
 
-    /// Whether the greenlet is raw; none is.
-    pub fn is_raw(&self, g: u32) -> bool
-        ensures raw { result ≡ (greenlet g self.now).raw }
-        ensures never { result ≡ false }
+    /// How far the greenlet has come.
+    pub fn stage(&self, g: u32) -> Option<&Stage>
+        ensures { option_map phase_of (option_copied result) ≡ phase_of_greenlet g self.now.greenlets }
     {
         match self.greenlets.get(g) {
-            Some(greenlet) => greenlet.is_raw(),
-            None => false,
+            Some(greenlet) => Some(greenlet.stage()),
+            None => None,
         }
     }
 
@@ -79,18 +80,21 @@ impl Hub {
         self.greenlets.len()
     }
 
-    /// Makes a greenlet, and gives its number.
+    /// Makes a greenlet that has not started, and gives its number. `AllocError`: memory is wanting.
     pub fn add_greenlet(
         &mut self,
+        raw: bool,
+        parent: u32,
         function: u32,
         arguments: Items<Value>,
     ) -> Result<u32, AllocError>
         requires { length self.old.greenlets < 20000 }
-        ensures made { OnOk result (self.new ≡ add_greenlet false 0 function arguments self.old) }
+        ensures made { OnOk result (self.new ≡ add_greenlet raw parent function arguments self.old) }
         ensures number { IfOk result (λ g. g ≡ length self.old.greenlets) }
     {
         let number = self.greenlets.len();
-        self.greenlets.push(Greenlet::new(function, arguments))?;
+        self.greenlets
+            .push(Greenlet::new(raw, parent, function, arguments))?;
         Ok(number)
     }
 }

@@ -1,10 +1,12 @@
 //! What the hub asks between two turns, and what the answer does.
-ghost use Rattle.std.specs.Prelude.{◌≡◌, [], ◌≤◌, length, drop, OnOk};
-ghost use Rattle.machine.specs.Questions.{deadline_of, lesser, least_deadline, any_numbered, question, block_line, take_answer};
-ghost use Rattle.world_rules.specs.Script.{scripted};
+ghost use Rattle.std.specs.Prelude.{◌≡◌, OnOk};
+ghost use Rattle.machine.specs.Questions.{deadline_of, lesser, least_deadline, any_numbered, question, block_line, arrives, take_answer};
+ghost use Rattle.machine.specs.Holds.{job_at};
 
 use crate::hub::Hub;
-use gv_values::Answer;
+use crate::jobs::{any_outstanding, arrive_at};
+use crate::objects::Change;
+use gv_values::{Answer, JobOutcome};
 use machine::items::{Delivery, Item, Waiting};
 use std::alloc::{AllocError, Global};
 use trace_text::{Blocked, Line};
@@ -58,7 +60,8 @@ fn any_numbered(items: &[Item]) -> bool
 }
 
 impl Hub {
-    /// What the turn asks at its end, and none where nothing can come.
+    /// What the turn asks at its end, and none where nothing can come. Looks at each item and each job; with linked items,
+    /// at the first of those with a number, the first timer, and a count of the jobs.
     pub fn question(&self) -> Option<Question>
         ensures { result ≡ question self.now }
     {
@@ -67,11 +70,18 @@ impl Hub {
         }
         match least_deadline(&self.items) {
             Some(moment) => Some(Question::Wait(Some(moment.min(LAST_MOMENT)))),
-            None => None,
+            None => {
+                if any_outstanding(&self.jobs) {
+                    Some(Question::Wait(None))
+                } else {
+                    None
+                }
+            }
         }
     }
 
-    /// The block line is written, where no item has a number.
+    /// Writes the block line, where no item has a number. Looks at the same as the question. `AllocError`: memory is
+    /// wanting, and nothing changes.
     pub fn block(&mut self) -> Result<(), AllocError>
         ensures { OnOk result (self.new ≡ block_line self.old) }
     {
@@ -80,38 +90,47 @@ impl Hub {
         }
         let blocked = match least_deadline(&self.items) {
             Some(moment) => Blocked::Until(moment),
-            None => Blocked::Nothing,
+            None => {
+                if any_outstanding(&self.jobs) {
+                    Blocked::Jobs
+                } else {
+                    Blocked::Nothing
+                }
+            }
         };
         self.lines.push(Line::Block(blocked))?;
         Ok(())
     }
 
-    /// The answer of a script without ticks that has no jobs.
-    pub fn scripted(&self, question: Question) -> Answer
-        ensures { result ≡ scripted 0 [] self.now.moment question }
+    /// The job that the answer names has come to this, and its slot is free.
+    fn arrive(&mut self, j: u32, outcome: JobOutcome) -> Result<(), AllocError>
+        ensures { OnOk result (self.new ≡ arrives j outcome (job_at j self.old.jobs) self.old) }
     {
-        match question {
-            Question::Poll => Answer::Nothing {
-                at: self.moment.min(LAST_MOMENT),
-            },
-            Question::Wait(None) => Answer::Elapsed { at: self.moment },
-            Question::Wait(Some(until)) => Answer::Elapsed {
-                at: until.max(self.moment),
-            },
+        match arrive_at(&mut self.jobs, j, outcome) {
+            Some(pool) => self.objects.change(pool, Change::SlotFreed),
+            None => Ok(()),
         }
     }
 
-    /// The answer is written and sets the moment. There is no job whose outcome it could bring.
+    /// Takes an answer: it sets the moment, brings its job's outcome, and is written. Settles all items; with linked
+    /// items, those whose timers came due, the job's waiters and those of its pool.
+    ///
+    /// # Errors
+    ///
+    /// Memory is wanting, or a ready number would pass 64 bits, which no run within its budget comes to.
     #[tactic(auto, unfolding(machine::specs::Questions::take_answer))]
     pub fn take(&mut self, alloc: Global, answer: Answer) -> Result<(), AllocError>
         ensures { OnOk result (self.new ≡ take_answer answer self.old) }
     {
         match answer {
             Answer::Done {
-                number: _,
-                outcome: _,
+                number,
+                outcome,
                 at,
-            } => self.moment = at,
+            } => {
+                self.moment = at;
+                self.arrive(number, outcome)?;
+            }
             Answer::Elapsed { at } => self.moment = at,
             Answer::Nothing { at } => self.moment = at,
         }

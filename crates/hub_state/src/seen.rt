@@ -1,8 +1,7 @@
 //! What a body that is under way may ask of the hub.
-ghost use Rattle.std.specs.Prelude.{◌≡◌, ◌<◌, ◌^◌, slice_get};
+ghost use Rattle.std.specs.Prelude.{◌≡◌};
 ghost use Rattle.std.specs.Option.{option_copied};
 ghost use Rattle.machine.specs.Moves.{is_set_object, size_of_object, unfinished_of_object};
-ghost use Rattle.hub_state.specs.Sights.{AreCounted, look_of};
 
 use crate::hub::Hub;
 use body_frames::Look;
@@ -18,7 +17,8 @@ pub struct Seen<'a> {
 }
 
 impl<'a> Model for Seen<'a> {
-    ghost use Rattle.hub_state.specs.Sights.{AreCounted, Sight};
+    ghost use Rattle.hub_state.specs.Counted.{AreCounted};
+    ghost use Rattle.hub_state.specs.Sights.{Sight};
     ghost use Rattle.scenario_tree.specs.Trees.{trees};
 
     ghost Value = { Sight };
@@ -33,9 +33,9 @@ impl<'a> Model for Seen<'a> {
 impl<'a> Seen<'a> {
     /// The hub, where this greenlet is under way.
     pub fn new(hub: &'a Hub, current: u32) -> Seen<'a>
-        requires counted { AreCounted hub.now.objects }
         ensures { result ≡ record { current = current; state = hub.now } }
     {
+        let _counted = hub.objects.as_slice();
         Seen { hub, current }
     }
 }
@@ -72,14 +72,6 @@ impl<'a> Look for Seen<'a> {
 
     fn unfinished(&self, object: u32) -> u64 {
         unfinished_of_object(self.hub.object(object))
-    }
-}
-
-impl Hub {
-    fn object(&self, object: u32) -> Option<&Object>
-        ensures { option_copied result ≡ slice_get self.now.objects object }
-    {
-        self.objects.get(object as usize)
     }
 }
 

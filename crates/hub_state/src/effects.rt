@@ -1,0 +1,229 @@
+//! What the steps of the hub do to its objects, and what they read of them.
+ghost use Rattle.std.specs.Prelude.{◌≡◌, ◌<◌, ◌+◌, length, map, slice_get, OnOk, IfOk};
+ghost use Rattle.std.specs.Option.{option_copied};
+ghost use Rattle.machine.specs.Deliveries.{since_of_wake, without_offer_by};
+ghost use Rattle.machine.specs.Holds.{earlier, is_take};
+ghost use Rattle.machine.specs.Objects.{at_bound, item_of, is_left, is_shut, name_of_object, object_at, offer_of, with_object, without_member};
+ghost use Rattle.machine.specs.Requests.{finishes, releases};
+ghost use Rattle.machine.specs.Waits.{posted};
+ghost use Rattle.hub_state.specs.Changes.{changed};
+ghost use Rattle.hub_state.specs.Reads.{name_at};
+ghost use Rattle.hub_state.specs.Releases.{has_task, refused, release_of};
+
+use crate::holds::{WaitKind, earlier};
+use crate::hub::Hub;
+use crate::items::since_of_wake;
+use crate::jobs::Posted;
+use crate::objects::Change;
+use crate::offers::offer_of;
+use crate::queues::{is_left, is_shut, item_of};
+use gv_values::{FaultKind, Job, Name, Value};
+use machine::state::{Object, Post};
+use scenario_tree::Declaration;
+use std::alloc::{AllocError, Global};
+use trace_text::Line;
+
+impl Hub {
+    /// The object of this number.
+    pub fn object(&self, o: u32) -> Option<&Object>
+        ensures { option_copied result ≡ slice_get self.now.objects o }
+    {
+        self.objects.get(o)
+    }
+
+    /// The name of the object of this number.
+    pub fn name_of_object(&self, o: u32) -> Name
+        requires declared { o < length self.now.scenario.objects }
+        ensures { result ≡ name_of_object o self.now }
+    {
+        name_at(self.code.objects(), o)
+    }
+
+    /// What the step does to the object of this number. A step by itself: the kind of the queue decides whether an
+    /// item goes in one step or, from a priority queue, by a look at each. With linked items the waiters of the object are
+    /// told in the same call.
+    ///
+    /// # Errors
+    ///
+    /// Memory is wanting, or a count would pass 2^63, which no run within its budget comes to.
+    pub fn change(&mut self, o: u32, change: Change) -> Result<(), AllocError>
+        ensures { OnOk result (self.new ≡ with_object o (changed change (object_at o self.old)) self.old) }
+    {
+        self.objects.change(o, change)
+    }
+
+    /// The greenlet leaves its group or pool. Looks at each member of each; with linked items, at its own place alone.
+    pub fn leave_crews(&mut self, g: u32)
+        ensures { self.new ≡ record self.old { objects = map (without_member g) self.old.objects } }
+    {
+        self.objects.leave(g);
+    }
+
+    /// What the greenlet offers on a channel goes, where it is still there. Looks at each item, and then at each offer;
+    /// with linked items, at the greenlet's wait and its offer.
+    pub fn withdraw_offer(&mut self, g: u32)
+        ensures { self.new ≡ without_offer_by (since_of_wake g self.old.items) self.old }
+    {
+        if let Some(since) = since_of_wake(&self.items, g) {
+            self.objects.withdraw(since);
+        }
+    }
+
+    /// The item of the queue that is next, again.
+    pub fn item_of(&self, alloc: Global, o: u32) -> Result<Value, AllocError>
+        ensures { IfOk result (λ value. value ≡ item_of (object_at o self.now)) }
+    {
+        match self.objects.get(o) {
+            Some(object) => Ok(item_of(alloc, object)?),
+            None => Ok(Value::Nothing),
+        }
+    }
+
+    /// The value of the oldest offer of the channel, again.
+    pub fn offer_of(&self, alloc: Global, o: u32) -> Result<Value, AllocError>
+        ensures { IfOk result (λ value. value ≡ offer_of (object_at o self.now)) }
+    {
+        match self.objects.get(o) {
+            Some(object) => Ok(offer_of(alloc, object)?),
+            None => Ok(Value::Nothing),
+        }
+    }
+
+    /// Whether the queue is shut.
+    pub fn is_shut(&self, o: u32) -> bool
+        ensures { result ≡ is_shut (object_at o self.now) }
+    {
+        is_shut(self.objects.get(o))
+    }
+
+    /// Whether the getters of the queue from before this since leave an item. Looks at each item; with linked items, at
+    /// the place in the queue's line.
+    pub fn has_item_left(&self, o: u32, since: u64) -> bool
+        ensures { result ≡ is_left (earlier (is_take o) since self.now.items) (object_at o self.now) }
+    {
+        let before = earlier(&self.items, WaitKind::Take, o, since);
+        is_left(self.objects.get(o), before)
+    }
+
+    /// The greenlet gives back a unit or a lock, or is refused by a fault.
+    ///
+    /// # Errors
+    ///
+    /// Memory is wanting, or the units would pass 2^63, which no run within its budget comes to.
+    #[tactic(auto, using(crate::proofs::Releasing::released))]
+    pub fn release(&mut self, g: u32, o: u32) -> Result<Option<FaultKind>, AllocError>
+        ensures { IfOk result (λ fault. releases g o (object_at o self.old) self.old ≡ refused fault self.new) }
+    {
+        match release_of(self.objects.get(o), g) {
+            Release::Refused(kind) => Ok(Some(kind)),
+            Release::Nothing => Ok(None),
+            Release::Unit => {
+                self.objects.change(o, Change::Unit)?;
+                Ok(None)
+            }
+            Release::Owner => {
+                self.objects.change(o, Change::OwnerGone(g))?;
+                Ok(None)
+            }
+        }
+    }
+
+    /// A task of the queue is done, or refused by a fault where none is unfinished.
+    #[tactic(auto, using(crate::proofs::Releasing::finished))]
+    pub fn finish(&mut self, o: u32) -> Result<Option<FaultKind>, AllocError>
+        ensures { IfOk result (λ fault. finishes o (object_at o self.old) self.old ≡ refused fault self.new) }
+    {
+        if has_task(self.objects.get(o)) {
+            self.objects.change(o, Change::TaskDone)?;
+            Ok(None)
+        } else {
+            Ok(Some(FaultKind::ValueError))
+        }
+    }
+
+    /// Posts a job of the greenlet to a native pool, and gives its number.
+    ///
+    /// # Errors
+    ///
+    /// Memory is wanting, or the number would pass 32 bits, which no run within its budget comes to.
+    pub fn post(&mut self, g: u32, o: u32, job: Job, takes: u64) -> Result<u32, AllocError>
+        ensures posted { OnOk result (self.new ≡ posted g o job takes self.old) }
+        ensures number { IfOk result (λ n. n ≡ length self.old.jobs + 1) }
+    {
+        if self.jobs.len() >= u32::MAX as usize {
+            return Err(AllocError);
+        }
+        let number = self.jobs.len() as u32 + 1;
+        self.jobs.push(Posted::new(job, o))?;
+        self.posts.push(Post { number, job, takes })?;
+        self.lines.push(Line::Job {
+            number,
+            greenlet: g,
+            job,
+        })?;
+        self.objects.change(o, Change::SlotTaken)?;
+        Ok(number)
+    }
+}
+
+/// The name of the object of this number.
+#[tactic(auto, using(crate::proofs::Reading::named))]
+fn name_at(objects: &[Declaration], o: u32) -> Name
+    requires { o < length objects.now }
+    ensures { result ≡ name_at o objects.now }
+{
+    objects[o as usize].name
+}
+
+/// What a release comes to.
+enum Release {
+    Refused(FaultKind),
+    /// Nothing, at an object that is neither.
+    Nothing,
+    /// A unit more.
+    Unit,
+    /// The owner once less.
+    Owner,
+}
+
+fn release_of(object: Option<&Object>, g: u32) -> Release
+    ensures { result ≡ release_of g (option_copied object.entry) }
+{
+    match object {
+        Some(Object::Semaphore(counter, bound)) => {
+            if is_at_bound(*counter, *bound) {
+                Release::Refused(FaultKind::ValueError)
+            } else {
+                Release::Unit
+            }
+        }
+        Some(Object::Lock(Some(h), _)) => {
+            if g == *h {
+                Release::Owner
+            } else {
+                Release::Refused(FaultKind::RuntimeError)
+            }
+        }
+        Some(Object::Lock(None, _)) => Release::Refused(FaultKind::RuntimeError),
+        _ => Release::Nothing,
+    }
+}
+
+fn is_at_bound(counter: u64, bound: Option<u64>) -> bool
+    ensures { result ≡ at_bound counter bound }
+{
+    match bound {
+        None => false,
+        Some(bound) => counter == bound,
+    }
+}
+
+/// Whether a task of the queue is unfinished.
+fn has_task(object: Option<&Object>) -> bool
+    ensures { result ≡ has_task (option_copied object.entry) }
+{
+    match object {
+        Some(Object::Queue(_, _, _, unfinished, _)) => *unfinished > 0,
+        _ => false,
+    }
+}
