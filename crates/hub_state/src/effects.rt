@@ -39,9 +39,8 @@ impl Hub {
         name_at(self.code.objects(), o)
     }
 
-    /// What the step does to the object of this number. A step by itself: the kind of the queue decides whether an
-    /// item goes in one step or, from a priority queue, by a look at each. With linked items the waiters of the object are
-    /// told in the same call.
+    /// Changes the object of this number. Takes one step, but where an item of a queue or an offer goes: the others are
+    /// looked at or moved up. With linked items it leaves its list, and the waiters of the object are told in the same call.
     ///
     /// # Errors
     ///

@@ -91,6 +91,7 @@ pub fn any_outstanding(jobs: &[Posted]) -> bool
 }
 
 /// The job of this number; they are counted from 1.
+#[tactic(auto, using(crate::proofs::JobSets::numbered, crate::proofs::JobSets::none_zero))]
 pub fn job_at(jobs: &[Posted], number: u32) -> Option<&Posted>
     ensures { option_copied result ≡ job_at number jobs.now }
 {
@@ -105,7 +106,10 @@ pub fn job_at(jobs: &[Posted], number: u32) -> Option<&Posted>
 pub fn arrive_at(jobs: &mut [Posted], number: u32, outcome: JobOutcome) -> Option<u32>
     ensures { job_came number outcome jobs.old result jobs.new }
 {
-    if number == 0 || number as usize > jobs.len() {
+    if number == 0 {
+        return None;
+    }
+    if number as usize > jobs.len() {
         return None;
     }
     let job = &mut jobs[number as usize - 1];

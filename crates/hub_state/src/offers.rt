@@ -1,5 +1,6 @@
 //! The offers of a channel: one comes, the oldest is taken, and one goes with its wait.
-ghost use Rattle.std.specs.Prelude.{◌≡◌, ◌<◌, length, map, filter, not, slice_index, OnOk, IfOk};
+ghost use Rattle.std.specs.Prelude.{◌≡◌, ◌<◌, length, map, filter, not, drop, slice_get, Some, OnOk, IfOk};
+ghost use Rattle.machine.specs.declared.state.Offer.{Offer as AnyOffer};
 ghost use Rattle.machine.specs.Holds.{is_offer_of};
 ghost use Rattle.machine.specs.Objects.{with_offer, with_offer_taken, without_offer, offer_of};
 ghost use Rattle.hub_state.specs.Counted.{IsCounted};
@@ -26,10 +27,19 @@ pub fn take_offer(object: &mut Object)
     ensures counted { IsCounted object.old → IsCounted object.new }
 {
     if let Object::Channel(offers) = object {
-        if offers.len() > 0 {
-            offers.remove(0);
-        }
+        drop_first(offers);
     }
+}
+
+/// The first offer goes, where there is one.
+#[tactic(auto, using(crate::proofs::Leaving::none_first))]
+fn drop_first(offers: &mut Items<Offer>)
+    ensures { offers.new ≡ drop 1 offers.old }
+{
+    if offers.len() == 0 {
+        return;
+    }
+    offers.remove(0);
 }
 
 /// The value of the oldest offer of a channel, again.
@@ -66,7 +76,7 @@ fn withdraw_all(objects: &mut [Object], since: u64)
 /// Whether the offer at this place is that of the Wake with this since.
 fn is_at(offers: &Items<Offer>, at: usize, since: u64) -> bool
     requires { at < length offers.now }
-    ensures { result ≡ is_offer_of since (slice_index offers.now at) }
+    ensures { (offer : AnyOffer) → slice_get offers.now at ≡ Some offer → result ≡ is_offer_of since offer }
 {
     offers.as_slice()[at].since == since
 }

@@ -54,11 +54,14 @@ pub fn take_next(kind: QueueKind, items: &mut Items<Value>)
 }
 
 /// All items go.
+#[tactic(auto, using(crate::proofs::Leaving::none_left, crate::proofs::Leaving::one_less))]
 pub fn clear(items: &mut Items<Value>)
     ensures { items.new ≡ [] }
 {
-    while items.len() > 0 {
-        items.remove(items.len() - 1);
+    let mut left = items.len();
+    while left > 0 {
+        left -= 1;
+        items.remove(left);
     }
 }
 
