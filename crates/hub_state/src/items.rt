@@ -8,7 +8,7 @@ ghost use Rattle.machine.specs.Requests.{has_start, is_kill, is_link, kills_stan
 ghost use Rattle.machine.specs.Deliveries.{waiting_of, since_of_wake};
 ghost use Rattle.machine.specs.Soundness.{claim_of, is_unclaimed};
 ghost use Rattle.hub_state.specs.Gone.{gone_of};
-ghost use Rattle.hub_state.specs.Short.{AreShort, DeliversShort, IsShort};
+ghost use Rattle.hub_state.specs.Short.{DeliversShort, IsShort};
 
 use crate::holds::link_fits;
 use crate::hub::Hub;
@@ -149,8 +149,7 @@ fn kills(items: &[Item]) -> u64
 }
 
 fn waiting_of(items: &[Item], g: u32) -> Option<&Waiting>
-    ensures waiting { option_copied result ≡ waiting_of g items.now }
-    ensures short { AreShort items.now → IfSome (option_copied result) IsShort }
+    ensures { option_copied result ≡ waiting_of g items.now }
 {
     for item in items {
         if let Delivery::Wake(h, waiting) = &item.delivery {

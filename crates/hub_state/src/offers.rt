@@ -1,5 +1,5 @@
 //! The offers of a channel: one comes, the oldest is taken, and one goes with its wait.
-ghost use Rattle.std.specs.Prelude.{◌≡◌, ◌<◌, length, map, filter, not, drop, slice_get, Some, OnOk, IfOk};
+ghost use Rattle.std.specs.Prelude.{◌≡◌, ◌<◌, length, map, filter, not, drop, remove, slice_get, Some, OnOk, IfOk};
 ghost use Rattle.machine.specs.declared.state.Offer.{Offer as AnyOffer};
 ghost use Rattle.machine.specs.Holds.{is_offer_of};
 ghost use Rattle.machine.specs.Objects.{with_offer, with_offer_taken, without_offer, offer_of};
@@ -81,6 +81,14 @@ fn is_at(offers: &Items<Offer>, at: usize, since: u64) -> bool
     offers.as_slice()[at].since == since
 }
 
+/// The offer at this place goes.
+fn drop_at(offers: &mut Items<Offer>, at: usize)
+    requires { at < length offers.old }
+    ensures { offers.new ≡ remove offers.old at }
+{
+    offers.remove(at);
+}
+
 /// The offer of the Wake with this since goes.
 fn withdraw(offers: &mut Items<Offer>, since: u64)
     ensures { offers.new ≡ filter (λ offer. not (is_offer_of since offer)) offers.old }
@@ -88,7 +96,7 @@ fn withdraw(offers: &mut Items<Offer>, since: u64)
     let mut i = 0;
     while i < offers.len() {
         if is_at(offers, i, since) {
-            offers.remove(i);
+            drop_at(offers, i);
         } else {
             i += 1;
         }
