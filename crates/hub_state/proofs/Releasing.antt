@@ -1,5 +1,5 @@
 -- What a release and the end of a task come to.
-use Rattle.std.proofs.Common.{◌≡◌, refl, ap, sym, subst, ◌∙◌, ℕ, zero, suc, ◌+◌, ◌-◌, ◌==◌, Bool, true, false, List, Option, Some, None, slice_get, slice_set, unwrap_or, arith}
+use Rattle.std.proofs.Common.{◌≡◌, refl, ℕ, zero, suc, ◌+◌, ◌-◌, ◌==◌, Bool, true, false, Option, Some, None, unwrap_or, arith}
 use Rattle.std.specs.Prelude.{if◌then◌else◌, nat_lt}
 use Rattle.std.proofs.lemmas.Bool.Decides.{nat_tests}
 use Rattle.gv_values.specs.declared.fault.FaultKind.{FaultKind}
@@ -9,7 +9,7 @@ use Rattle.machine.specs.Requests.{done, finishes, releases}
 use Rattle.machine.specs.State.{State}
 use Rattle.machine.specs.Waits.{Performed, raises}
 use Rattle.hub_state.specs.Changes.{with_owner_gone, with_task_done, with_unit}
-use Rattle.hub_state.specs.Releases.{has_task, refused, release_of}
+use Rattle.hub_state.specs.Releases.{has_task, release_of}
 use Rattle.hub_state.specs.declared.effects.Release.{Release}
 
 -- what is done of a release

@@ -68,7 +68,8 @@ impl Hub {
         }
     }
 
-    /// The item of the queue that is next, again.
+    /// The item of the queue that is next, again. Looks at each item of a priority queue; with linked items, at the first.
+    /// `AllocError`: memory is wanting.
     pub fn item_of(&self, alloc: Global, o: u32) -> Result<Value, AllocError>
         ensures { IfOk result (λ value. value ≡ item_of (object_at o self.now)) }
     {
@@ -78,7 +79,7 @@ impl Hub {
         }
     }
 
-    /// The value of the oldest offer of the channel, again.
+    /// The value of the oldest offer of the channel, again. `AllocError`: memory is wanting.
     pub fn offer_of(&self, alloc: Global, o: u32) -> Result<Value, AllocError>
         ensures { IfOk result (λ value. value ≡ offer_of (object_at o self.now)) }
     {
@@ -127,7 +128,7 @@ impl Hub {
         }
     }
 
-    /// A task of the queue is done, or refused by a fault where none is unfinished.
+    /// A task of the queue is done, or refused by a fault where none is unfinished. `AllocError`: memory is wanting.
     #[tactic(auto, using(crate::proofs::Releasing::finished))]
     pub fn finish(&mut self, o: u32) -> Result<Option<FaultKind>, AllocError>
         ensures { IfOk result (λ fault. finishes o (object_at o self.old) self.old ≡ refused fault self.new) }
