@@ -1,3 +1,4 @@
 pub mod Filtered
 pub mod Sound
+pub mod Finding
 pub mod Listing

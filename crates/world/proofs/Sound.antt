@@ -87,10 +87,10 @@ sound_answer posts answers jobs moment question answer s legal =
       fits = legal.2;
     }
 
-contains_head : {A : Type 0} (x : A) (xs : List A) → Contains (x ∷ xs) x
+pub contains_head : {A : Type 0} (x : A) (xs : List A) → Contains (x ∷ xs) x
 contains_head x xs = (0, omega arith, refl)
 
-contains_tail : {A : Type 0} (x y : A) (xs : List A) → Contains xs y → Contains (x ∷ xs) y
+pub contains_tail : {A : Type 0} (x y : A) (xs : List A) → Contains xs y → Contains (x ∷ xs) y
 contains_tail x y xs h = (suc h.0, (let l = h.1 in omega arith), h.2)
 
 chosen : (b : Bool) (x y : DueJob) (xs : List DueJob) → Contains xs y → Contains (x ∷ xs) (if b then x else y)
@@ -112,13 +112,13 @@ some_first : (jobs : List DueJob) → 0 < length jobs → (x : DueJob) × (first
 some_first [] l = absurd (omega arith)
 some_first (job ∷ jobs) l = (sooner job (first_due jobs), refl)
 
-contains_filter : {A : Type 0} (q : A → Bool) (xs : List A) (x : A) → Contains (filter q xs) x → Contains xs x × (q x ≡ true)
+pub contains_filter : {A : Type 0} (q : A → Bool) (xs : List A) (x : A) → Contains (filter q xs) x → Contains xs x × (q x ≡ true)
 contains_filter q xs x h = (
   All-contains (Contains xs) (filter q xs) x (All-filter q (Contains xs) xs (All-contains_itself xs)) h,
   All-contains (λ y. q y ≡ true) (filter q xs) x (filter_passes q xs) h,
 )
 
-not_true : (b : Bool) → not b ≡ true → b ≡ false
+pub not_true : (b : Bool) → not b ≡ true → b ≡ false
 not_true true e = absurd (false≢true e)
 not_true false e = refl
 
@@ -184,7 +184,7 @@ scripted_legal tick posts answers jobs moment (Question.Wait (Some until)) s may
 
 -- ---- what is legal, by the outstanding jobs
 
-kept_each : {A : Type 0} (q : A → Bool) (xs : List A) → All (λ x. q x ≡ true → Contains (filter q xs) x) xs
+pub kept_each : {A : Type 0} (q : A → Bool) (xs : List A) → All (λ x. q x ≡ true → Contains (filter q xs) x) xs
 kept_each {A = A} q [] = All-nil (λ x. q x ≡ true → Contains (filter q []) x)
 kept_each {A = A} q (y ∷ ys) =
     let f = filter q ys in

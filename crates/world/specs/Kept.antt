@@ -20,7 +20,7 @@ script_meaning w = record {
 
 -- what its next answer depends on, where these answers are still listed
 abbrev pub rule_state : ScriptWorld → List Answer → RuleState
-rule_state w listed = record { listed = listed; posts = w.posts.items; answers = w.answers.items; jobs = w.jobs.items; moment = w.moment }
+rule_state w listed = record { listed = listed; posts = w.posts.items; answers = w.answers.items; jobs = w.outstanding.jobs.items; moment = w.moment }
 
 -- a script world stands for the logs that its rule leads through, from its beginning to where it is
 abbrev pub script_log : ScriptWorld → List LogEntry → Type 0
@@ -37,5 +37,5 @@ pub record SameScript (v w : ScriptWorld) : Type 0 where
   pub setting : SameSetting v w
   pub posts : w.posts.items ≡ v.posts.items
   pub answers : w.answers.items ≡ v.answers.items
-  pub jobs : w.jobs.items ≡ v.jobs.items
+  pub jobs : w.outstanding.jobs.items ≡ v.outstanding.jobs.items
   pub moment : w.moment ≡ v.moment

@@ -1,5 +1,6 @@
 pub mod Worlds
 pub mod Ruled
+pub mod Outstanding
 pub mod Kept
 pub mod Logged
 pub mod Listed

@@ -5,6 +5,7 @@ mod due;
 mod legal;
 mod list;
 mod outside;
+mod outstanding;
 mod script;
 
 pub use list::ListWorld;

@@ -1,9 +1,10 @@
 //! A world that answers by a script.
 ghost use Rattle.world.specs.Ruled.{IsSound};
 
-use crate::due::{due_at, moment_of, scripted, take_off};
+use crate::due::{due_at, moment_of, scripted};
 use crate::legal::is_legal;
 use crate::outside::World;
+use crate::outstanding::OutstandingJobs;
 use gv_values::{Answer, Job};
 use std::alloc::{AllocError, Global};
 use world_rules::{DueJob, PostedJob, Question};
@@ -17,8 +18,8 @@ pub struct ScriptWorld {
     moment: u64,
     posts: Vec<PostedJob>,
     answers: Vec<Answer>,
-    jobs: Vec<DueJob>,
-    ghost sound: { IsSound posts.items answers.items jobs.items moment },
+    outstanding: OutstandingJobs,
+    ghost sound: { IsSound posts.items answers.items outstanding.jobs.items moment },
 }
 
 impl ScriptWorld {
@@ -40,7 +41,7 @@ impl ScriptWorld {
             moment: 0,
             posts: Vec::new(alloc),
             answers: Vec::new(alloc),
-            jobs: Vec::new(alloc),
+            outstanding: OutstandingJobs::new(alloc),
         }
     }
 
@@ -51,7 +52,7 @@ impl ScriptWorld {
     {
         self.posts.clear();
         self.answers.clear();
-        self.jobs.clear();
+        self.outstanding.clear();
         self.moment = 0;
         self.workers = workers;
         self.running = true;
@@ -73,7 +74,7 @@ impl ScriptWorld {
     {
         self.posts.reserve(1)?;
         let due = due_at(self.moment, takes);
-        self.jobs.push(DueJob { number, job, due })?;
+        self.outstanding.add(DueJob { number, job, due })?;
         self.posts.push_reserved(PostedJob { number, job });
         Ok(())
     }
@@ -81,17 +82,22 @@ impl ScriptWorld {
     /// What the script answers, which is legal where the question may be asked.
     pub(crate) fn by_script(&self, question: Question) -> Answer
         requires { MayAsk self.now.posts.items self.now.answers.items question }
-        ensures script { result ≡ scripted self.now.tick self.now.jobs.items self.now.moment question }
+        ensures script { result ≡ scripted self.now.tick self.now.outstanding.jobs.items self.now.moment question }
         ensures legal { IsLegal self.now.posts.items self.now.answers.items question result }
     {
-        scripted(self.tick, &self.jobs, self.moment, question)
+        scripted(
+            self.tick,
+            self.outstanding.as_slice(),
+            self.moment,
+            question,
+        )
     }
 
     /// Whether an answer to the question is legal now.
     pub(crate) fn is_legal(&self, question: Question, answer: Answer) -> bool
         ensures { IsTrue result ↔ IsLegal self.now.posts.items self.now.answers.items question answer }
     {
-        is_legal(&self.jobs, self.moment, question, answer)
+        is_legal(&self.outstanding, self.moment, question, answer)
     }
 
     /// Stores a legal answer to the question.
@@ -104,7 +110,7 @@ impl ScriptWorld {
     {
         let _ = question;
         self.answers.push(answer)?;
-        take_off(&mut self.jobs, answer);
+        self.outstanding.take_off(answer);
         self.moment = moment_of(answer);
         Ok(())
     }
