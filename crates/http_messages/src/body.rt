@@ -16,7 +16,7 @@ use std::alloc::{AllocError, Global};
 /// The most bytes that a chunk line may have.
 const CHUNK_LINE_LIMIT: usize = 1024;
 
-/// The most bytes that the lines after the last chunk may have.
+/// The most bytes that the lines after the last chunk (RFC 9112, section 7.1.2) may have.
 const TRAILERS_LIMIT: usize = 8192;
 
 /// The body before its first byte.
@@ -126,7 +126,8 @@ fn read_part(alloc: Global, awaited: Awaited, kept: &mut ByteQueue) -> Result<Bo
     }
 }
 
-/// Reads what is left of a body, and takes the bytes that it read.
+/// Reads what is left of a body, by its length (RFC 9112, section 6.2) or by chunks (section 7.1), and takes the bytes
+/// that it read.
 pub fn read_body(
     alloc: Global,
     awaited: Awaited,

@@ -276,7 +276,8 @@ fn request_pairs(alloc: Global, head: &Head<'_>) -> Result<Environ, AllocError>
     Ok(Environ { pairs })
 }
 
-/// The environ of the request that the head asks for.
+/// The environ of the request that the head asks for (PEP 3333, "environ Variables"). The path is decoded (RFC 3986,
+/// section 2.1).
 pub fn environ_of(alloc: Global, head: &Head<'_>) -> Result<Environ, AllocError>
     ensures { IfOk result (λ environ. (pairs : List Pair) → AreFields head.now.fields pairs
         → environ ≡ environ_of head.now.port head.now.method.now head.now.target.now head.now.minor pairs) }

@@ -18,7 +18,7 @@ use std::alloc::{AllocError, Global};
 /// one name stand in order of appearance (section 5.3). Each is a part of the head's bytes.
 pub type Fields<'a> = HeaderMap<&'a [u8]>;
 
-/// A head that was read, at the server's port.
+/// A head that was read (RFC 9112, sections 3 and 5), at the server's port.
 #[derive(Drop)]
 pub struct Head<'a> {
     /// The server's port.

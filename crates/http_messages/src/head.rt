@@ -82,7 +82,7 @@ pub fn read_head(head: &[u8], headers: &mut [HeaderSpan]) -> Option<RequestSpans
 }
 
 /// Reads the request at the front up to its body, and takes its bytes. Empty lines before it are taken
-/// in any case.
+/// in any case (RFC 9112, section 2.2).
 pub fn read_request(
     alloc: Global,
     port: u16,

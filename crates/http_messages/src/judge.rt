@@ -29,7 +29,7 @@ pub const MOST_BODY: usize = 1048576;
 /// The most digits of a length.
 const MOST_DIGITS: usize = 19;
 
-/// The number that 1 to 19 digits write; `None` exactly where the bytes are none.
+/// The number that 1 to 19 digits write (RFC 9110, section 8.6); `None` exactly where the bytes are none.
 pub fn parse_length(digits: &[u8]) -> Option<u64>
     ensures { result ≡ (if is_length digits.now then Some (digits_value 10 digits.now) else None) }
 {
@@ -255,7 +255,7 @@ fn request_of(alloc: Global, head: &Head<'_>) -> Result<Result<Request, Refusal>
     }
 }
 
-/// The request of the head that these bytes are.
+/// The request of the head that these bytes are (RFC 9112, section 3), or why it is refused.
 pub fn request_of_head(
     alloc: Global,
     port: u16,

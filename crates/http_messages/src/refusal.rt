@@ -1,10 +1,11 @@
 /// Why the bytes of a connection are refused.
 #[derive(Clone, Copy, Debug, PartialEq, Eq, Drop)]
 pub enum Refusal {
-    /// 400 Bad Request: the bytes are no request of the grammar.
+    /// 400 Bad Request (RFC 9110, section 15.5.1): the bytes are no request of the grammar.
     BadRequest,
-    /// 413 Request Entity Too Large: the body is announced or sent with more than 1048576 bytes.
+    /// 413 Request Entity Too Large (RFC 9110, section 15.5.14): the body is announced or sent with more than 1048576
+    /// bytes.
     TooLarge,
-    /// 414 Request URI Too Long: the first line does not end within 8191 bytes.
+    /// 414 Request URI Too Long (RFC 9110, section 15.5.15): the first line does not end within 8191 bytes.
     TooLong,
 }

@@ -90,7 +90,7 @@ pub fn scan_line(bytes: &[u8], scanned: usize) -> Option<usize>
     None
 }
 
-/// Whether two words are the same in any case of ASCII letters.
+/// Whether two words are the same in any case of ASCII letters, as field names are (RFC 9110, section 5.1).
 pub fn eq_any_case(word: &[u8], other: &[u8]) -> bool
     ensures { result ≡ str_eq_ignore_ascii_case word.now other.now }
 {

@@ -9,7 +9,7 @@ use http_messages::{Bytes, Headers, Request, eq_any_case, parse_length};
 use httparse::{is_header_value, is_token};
 use std::alloc::{AllocError, Global};
 
-/// What the headers state as the body's length.
+/// What the headers state as the body's length (RFC 9110, section 8.6).
 #[derive(Clone, Copy, Debug, PartialEq, Eq)]
 pub enum Stated {
     /// Nothing.
@@ -20,7 +20,7 @@ pub enum Stated {
     Wrong,
 }
 
-/// How the end of a body is told.
+/// How the end of a body is told (RFC 9112, section 6.3; PEP 3333, "Handling the Content-Length Header").
 #[derive(Clone, Copy, Debug, PartialEq, Eq)]
 pub enum Ending {
     /// By a length, in bytes.
@@ -199,7 +199,8 @@ fn are_empty(pieces: &Pieces) -> bool
     true
 }
 
-/// Whether the reply can't be sent.
+/// Whether the reply can't be sent: it raised before a byte of its body, its status or a header is not of the grammar
+/// (RFC 9112, sections 4 and 5), or it states a length that it can't have (RFC 9110, section 8.6).
 pub fn is_faulty(reply: &Reply) -> bool
     ensures { result ≡ is_faulty reply.now }
 {
@@ -219,7 +220,7 @@ pub fn is_faulty(reply: &Reply) -> bool
     }
 }
 
-/// How the end of a reply's body is told.
+/// How the end of a reply's body is told (RFC 9112, section 6.3).
 pub fn ending_of(minor: u8, status: &[u8], headers: &Headers) -> Ending
     ensures { result ≡ ending_by (has_place status.now) minor (stated headers.now) }
 {
@@ -253,7 +254,7 @@ fn push_connection(out: &mut Vec<u8>, request: &Request, ending: Ending) -> Resu
     Ok(())
 }
 
-/// Appends the headers as lines.
+/// Appends the headers as lines (RFC 9112, section 5), with names as the application spelt them.
 pub fn push_headers(out: &mut Vec<u8>, headers: &Headers) -> Result<(), AllocError>
     ensures { OnOk result (out.new.items ≡ out.old.items ++ flat_map header_line headers.now) }
 {
@@ -361,7 +362,7 @@ fn push_pieces(out: &mut Vec<u8>, pieces: &Pieces) -> Result<(), AllocError>
     Ok(())
 }
 
-/// Appends a body; answers whether the pieces fall short of the stated length.
+/// Appends a body, plain or by chunks (RFC 9112, section 7.1); answers whether the pieces fall short of the stated length.
 pub fn push_body(
     alloc: Global,
     out: &mut Vec<u8>,
@@ -427,7 +428,7 @@ fn push_started(
     Ok(closes || short)
 }
 
-/// Appends the answer to a request; answers whether the session closes after it.
+/// Appends the answer to a request; answers whether the session closes after it (RFC 9112, sections 9.3 and 9.6).
 pub fn push_answer(
     alloc: Global,
     out: &mut Vec<u8>,

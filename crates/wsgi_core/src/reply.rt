@@ -8,7 +8,7 @@ use std::alloc::{AllocError, Global};
 /// The pieces of a body, in order.
 pub type Pieces = Sequence<Bytes>;
 
-/// An application's answer to a request.
+/// An application's answer to a request (PEP 3333, "The start_response() Callable").
 #[derive(Drop)]
 pub enum Reply {
     /// It raised before it started a response.
@@ -26,7 +26,7 @@ pub enum Reply {
     },
 }
 
-/// An application: a function of the environ and the body.
+/// An application: a function of the environ and the body (PEP 3333, "The Application/Framework Side").
 pub trait Application {
     /// The reply to each environ and body.
     ghost answer_of: { Self → List (List ℕ × List ℕ) → List ℕ → Reply };

@@ -37,7 +37,7 @@ pub enum Stage {
     Asked(Request, Bytes),
 }
 
-/// The session of one connection.
+/// The session of one connection (RFC 9112, section 9).
 #[derive(Drop)]
 pub struct Session {
     alloc: Global,
