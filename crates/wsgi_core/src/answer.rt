@@ -362,7 +362,8 @@ fn push_pieces(out: &mut Vec<u8>, pieces: &Pieces) -> Result<(), AllocError>
     Ok(())
 }
 
-/// Appends a body, plain or by chunks (RFC 9112, section 7.1); answers whether the pieces fall short of the stated length.
+/// Appends a body, plain or by chunks (RFC 9112, section 7.1); answers whether the pieces fall short of the stated
+/// length.
 pub fn push_body(
     alloc: Global,
     out: &mut Vec<u8>,
