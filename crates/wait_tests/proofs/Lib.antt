@@ -1,2 +1,3 @@
 mod Below
 pub mod Steps
+pub mod Waiting

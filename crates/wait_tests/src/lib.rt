@@ -8,4 +8,6 @@ mod ends;
 #[cfg(test)]
 mod lives;
 #[cfg(test)]
+mod locks;
+#[cfg(test)]
 mod raws;

@@ -1,0 +1,73 @@
+use events_locks::{AboveBound, AsyncResult, Event, NotOwner, RLock, Semaphore};
+use gv_values::{Outcome, Value};
+use std::test::*;
+use waiters::{Parking, Side};
+
+#[test]
+fn a_clear_keeps_those_of_the_set(rt: HostRuntime) -> Result<(), Fail> {
+    let mut event = Event::new(rt.alloc())?;
+    event.reserve(3)?;
+    event.begin(1);
+    event.begin(2);
+    event.set();
+    event.clear();
+    event.begin(3);
+    assert_eq!(rt; event.next_ready(), Some(1));
+    assert_eq!(rt; event.next_ready(), Some(2));
+    assert_eq!(rt; (event.next_ready(), event.is_set()), (None, false));
+    Ok(())
+}
+
+#[test]
+fn a_unit_stays_when_its_waiter_leaves(rt: HostRuntime) -> Result<(), Fail> {
+    let mut units = Semaphore::new(rt.alloc(), 1, false)?;
+    units.reserve(2)?;
+    units.park(Side::Only, 1);
+    units.park(Side::Only, 2);
+    assert_eq!(rt; units.next_ready(), Some(1));
+    assert_eq!(rt; units.next_ready(), None);
+    units.cancel(Side::Only, 1);
+    assert!(rt; !units.try_now());
+    assert_eq!(rt; units.next_ready(), Some(2));
+    assert_eq!(rt; units.counter(), 1);
+    Ok(())
+}
+
+#[test]
+fn no_unit_above_the_bound(rt: HostRuntime) -> Result<(), Fail> {
+    let mut units = Semaphore::new(rt.alloc(), 1, true)?;
+    assert_eq!(rt; units.release(), Err(AboveBound));
+    assert_eq!(rt; units.counter(), 1);
+    assert!(rt; units.try_now());
+    assert!(rt; !units.try_now());
+    assert_eq!(rt; units.counter(), 0);
+    assert_eq!(rt; units.release(), Ok(()));
+    Ok(())
+}
+
+#[test]
+fn a_lock_waits_for_its_owner(rt: HostRuntime) -> Result<(), Fail> {
+    let mut lock = RLock::new(rt.alloc())?;
+    assert!(rt; lock.try_now(1));
+    lock.reserve(1)?;
+    lock.park(Side::Only, 5);
+    assert_eq!(rt; lock.next_ready(), None);
+    assert_eq!(rt; lock.release(2), Err(NotOwner));
+    assert_eq!(rt; lock.next_ready(), None);
+    assert_eq!(rt; lock.release(1), Ok(()));
+    assert_eq!(rt; lock.next_ready(), Some(5));
+    Ok(())
+}
+
+#[test]
+fn the_later_result_is_read(rt: HostRuntime) -> Result<(), Fail> {
+    let mut result = AsyncResult::new(rt.alloc())?;
+    result.reserve(1)?;
+    result.park(Side::Only, 1);
+    assert_eq!(rt; result.next_ready(), None);
+    result.put(Outcome::Value(Value::Int(1)));
+    result.put(Outcome::Value(Value::Int(2)));
+    assert_eq!(rt; result.next_ready(), Some(1));
+    assert!(rt; matches!(result.read(), Some(Outcome::Value(Value::Int(2)))));
+    Ok(())
+}
