@@ -1,0 +1,140 @@
+-- A net in memory, one line at a time.
+use Rattle.std.proofs.Common.{◌≡◌, ◌≢◌, ℕ, zero, suc, ◌+◌, ◌-◌, ◌<◌, ◌≤◌, Bool, not, cond, List, [], ◌∷◌, ◌++◌, length, take, drop, map, get_or, set, Option, Some, refl, sym, ap, ◌∙◌, subst, arith, slice_set, append-nil, append_assoc, take-add, min, length-drop, length-take-le}
+use Rattle.std.specs.List.{count_by}
+use Rattle.gv_values.specs.Counts.{HasRisen}
+use Rattle.std.proofs.lemmas.Grind.{common_steps}
+use Rattle.std.proofs.lemmas.List.Concat.{flat_map-append}
+use Rattle.std.proofs.lemmas.List.{length-map, get_or-map, take_all, take-append-le}
+use Rattle.std.proofs.lemmas.List.Sums.{sum_by-cons}
+use Rattle.stream_net.specs.declared.account.Account.{Account}
+use Rattle.stream_net.specs.declared.line.Line.{Line}
+use Rattle.stream_net.specs.declared.net.ReadEnd.{ReadEnd}
+use Rattle.stream_net.specs.declared.net.WriteEnd.{WriteEnd}
+use Rattle.stream_net.specs.declared.script.Piece.{Piece}
+use Rattle.stream_net.specs.Accounts.{account_meaning, read_after}
+use Rattle.stream_net.specs.Lines.{joined, bytes_at, read_of, line_meaning, no_piece}
+use Rattle.stream_net.specs.MemoryNets.{meaning_by}
+use Rattle.stream_net.specs.Nets.{Connection, Changes, connection_at, nobody, live_count, is_open}
+use Rattle.stream_net.specs.Reads.{Reads, after_read}
+use Rattle.stream_net.specs.Writes.{Writes, after_write}
+use Rattle.stream_net.specs.Taken.{written_after}
+use Rattle.stream_net.specs.Waits.{woken, woken_if, IsInTime}
+use Rattle.stream_net.specs.declared.net.Ready.{Ready}
+use Rattle.stream_net.specs.declared.net.Ready.TheVariants.{Incoming, Readable, Writable, Elapsed}
+
+pub map_set : {A B : Type 0} (f : A → B) (xs : List A) (k : ℕ) (y : A) → map f (set xs k y) ≡ set (map f xs) k (f y)
+map_set f [] k y = refl
+map_set f (x ∷ xs) zero y = refl
+map_set f (x ∷ xs) (suc k) y = ap (λ (zs : List _). f x ∷ zs) (map_set f xs k y)
+
+pub line_at : (lines : List Line) (k : ℕ) (l : Line) → k < length lines → l ≡ get_or lines k l → connection_at (map line_meaning lines) k ≡ line_meaning l
+line_at lines k l within is = get_or-map line_meaning lines k l nobody within ∙ ap line_meaning (sym is)
+
+module _ (lines : List Line) (k : ℕ) (old new : Line) (most moment : ℕ) (listens : Bool) (faults : ℕ) (blocked : Bool)
+    (within : k < length (map line_meaning lines)) (is : old ≡ get_or lines k old) where
+  in_lines : k < length lines
+  in_lines = subst (λ (n : ℕ). k < n) (length-map lines line_meaning) within
+
+  pub one_changed : (change : Connection → Connection) → line_meaning new ≡ change (line_meaning old)
+      → Changes (meaning_by lines most moment listens faults blocked) (meaning_by (slice_set lines k new) most moment listens faults blocked) k change
+  one_changed change e = record {
+    connections = map_set line_meaning lines k new ∙ ap (λ (c : Connection). set (map line_meaning lines) k c) (e ∙ ap change (sym (line_at lines k old in_lines is)));
+    rest = record { most = refl; moment = omega arith; listens = refl; faults = refl; blocked = refl };
+  }
+
+  at_old : connection_at (map line_meaning lines) k ≡ line_meaning old
+  at_old = line_at lines k old in_lines is
+
+  pub one_read : (end : ReadEnd) (bytes : List ℕ) → line_meaning new ≡ after_read end bytes moment new.account.faults (line_meaning old) → old.account.faults ≤ new.account.faults
+      → (end ≡ ReadEnd.Failed → HasRisen old.account.faults new.account.faults)
+      → Reads (meaning_by lines most moment listens faults blocked) (meaning_by (slice_set lines k new) most moment listens faults blocked) k end bytes
+  one_read end bytes e rises failed = record {
+    faults = new.account.faults;
+    changes = one_changed (after_read end bytes moment new.account.faults) e;
+    never_falls = subst (λ (c : Connection). c.faults ≤ new.account.faults) (sym at_old) rises;
+    failed = λ f. subst (λ (c : Connection). HasRisen c.faults new.account.faults) (sym at_old) (failed f);
+  }
+
+  pub one_written : (end : WriteEnd) (bytes : List ℕ) → line_meaning new ≡ after_write end bytes moment new.account.faults (line_meaning old) → old.account.faults ≤ new.account.faults
+      → (end ≡ WriteEnd.Failed → HasRisen old.account.faults new.account.faults)
+      → Writes (meaning_by lines most moment listens faults blocked) (meaning_by (slice_set lines k new) most moment listens faults blocked) k end bytes
+  one_written end bytes e rises failed = record {
+    faults = new.account.faults;
+    changes = one_changed (after_write end bytes moment new.account.faults) e;
+    never_falls = subst (λ (c : Connection). c.faults ≤ new.account.faults) (sym at_old) rises;
+    failed = λ f. subst (λ (c : Connection). HasRisen c.faults new.account.faults) (sym at_old) (failed f);
+  }
+
+-- the next piece, once all of one was read
+joined_more : (pieces : List Piece) (k : ℕ) → k < length pieces → joined (take (k + 1) pieces) ≡ joined (take k pieces) ++ bytes_at pieces k
+joined_more pieces k within = grind (arith, common_steps, flat_map-append)
+
+pub next_piece : (pieces : List Piece) (k offset : ℕ) → k < length pieces → length (bytes_at pieces k) ≤ offset → read_of pieces (k + 1) 0 ≡ read_of pieces k offset
+next_piece pieces k offset within long =
+    ap (λ (z : List ℕ). z ++ []) (joined_more pieces k within) ∙ append-nil _ ∙ ap (λ (z : List ℕ). joined (take k pieces) ++ z) (sym (take_all offset (bytes_at pieces k) long))
+
+-- the live ones
+pub live_lines_are : (lines : List Line) → count_by (λ (l : Line). not l.account.closed) lines ≡ live_count (map line_meaning lines)
+live_lines_are [] = refl
+live_lines_are (l ∷ lines) =
+    let f : Line → ℕ = λ l. cond (not l.account.closed) 1 0 in
+    let h : Connection → ℕ = λ c. cond (is_open c) 1 0 in
+    sum_by-cons f l lines ∙ ap (λ (n : ℕ). f l + n) (live_lines_are lines) ∙ sym (sum_by-cons h (line_meaning l) (map line_meaning lines))
+
+-- a read or write that failed: the call was counted, and nothing else is changed but what is kept
+pub failed_write : (l m : Line) (a : Account) (calls moment : ℕ) (bytes : List ℕ) → m ≡ record l { calls = calls }
+    → ((read written : Option (List ℕ)) (bytes : List ℕ) → account_meaning a read (written_after WriteEnd.Failed bytes written) ≡ after_write WriteEnd.Failed bytes moment a.faults (account_meaning m.account read written))
+    → line_meaning (record m { account = a }) ≡ after_write WriteEnd.Failed bytes moment a.faults (line_meaning l)
+failed_write l m a calls moment bytes e h = h (Some (read_of m.script.pieces m.place m.offset)) (Some m.written.items) bytes ∙ ap (λ (x : Line). after_write WriteEnd.Failed bytes moment a.faults (line_meaning x)) e
+
+pub told_one : (lines : List Line) (k : ℕ) (old new : Line) → k < length lines → line_meaning new ≡ woken_if (get_or lines k old).account.closed (line_meaning (get_or lines k old))
+    → map line_meaning (slice_set lines k new) ≡ woken k (map line_meaning lines)
+told_one lines k old new within e =
+    let at : connection_at (map line_meaning lines) k ≡ line_meaning (get_or lines k old) = get_or-map line_meaning lines k old nobody within in
+    map_set line_meaning lines k new ∙ ap (λ (c : Connection). set (map line_meaning lines) k c) (e ∙ ap (λ (c : Connection). woken_if c.closed c) (sym at))
+
+-- bytes of a piece were given
+pub given_more : (pieces : List Piece) (place offset count : ℕ) (before given behind : List ℕ) → read_of pieces place offset ≡ before → given ≡ take count (drop offset (bytes_at pieces place)) → length given ≡ count
+    → read_of pieces place (offset + count) ≡ before ++ take count (given ++ behind)
+given_more pieces place offset count before given behind was is long =
+    ap (λ (z : List ℕ). joined (take place pieces) ++ z) (take-add offset count (bytes_at pieces place))
+    ∙ sym (append_assoc (joined (take place pieces)) (take offset (bytes_at pieces place)) (take count (drop offset (bytes_at pieces place))))
+    ∙ ap (λ (z : List ℕ). read_of pieces place offset ++ z) (sym is)
+    ∙ ap (λ (z : List ℕ). z ++ given) was
+    ∙ ap (λ (z : List ℕ). before ++ z) (sym (take-append-le count given behind (omega (arith, long)) ∙ take_all count given (omega (arith, long))))
+
+-- what was changed through a slice of all
+pub took : (old new : List Line) (n : ℕ) → n ≡ length old → length new ≡ length old → take n (new ++ drop (length new) old) ≡ new
+took old new n e f = take-append-le n new (drop (length new) old) (omega (arith, e, f)) ∙ take_all n new (omega (arith, e, f))
+
+pub in_time : (ready : Ready) (until : Option ℕ) (moment : ℕ) → ready ≢ Elapsed → IsInTime ready until moment
+in_time Incoming until moment h = tt
+in_time (Readable k) until moment h = tt
+in_time (Writable k) until moment h = tt
+in_time Elapsed until moment h = absurd (h refl)
+
+any_default : {A : Type 0} (xs : List A) (k : ℕ) (d e : A) → k < length xs → get_or xs k d ≡ get_or xs k e
+any_default [] k d e lt = absurd (omega (arith, lt))
+any_default (x ∷ xs) zero d e lt = refl
+any_default (x ∷ xs) (suc k) d e lt = any_default xs k d e (omega (arith, lt))
+
+pub bytes_of_piece : (pieces : List Piece) (place : ℕ) (p : Piece) (bytes : List ℕ) → place < length pieces → p ≡ get_or pieces place p → bytes ≡ p.bytes → bytes ≡ bytes_at pieces place
+bytes_of_piece pieces place p bytes within is e = e ∙ ap (λ (q : Piece). q.bytes) (is ∙ any_default pieces place p no_piece within)
+
+pub given_from : (pieces qs rs : List Piece) (place offset count room : ℕ) (p : Piece) (bytes given before behind : List ℕ) → read_of pieces place offset ≡ before
+    → given ≡ take (offset + count - offset) (drop offset bytes) → count ≡ min (length bytes - offset) room → bytes ≡ (get_or qs place p).bytes → qs ≡ pieces → place < length rs → rs ≡ pieces
+    → read_of pieces place (offset + count) ≡ before ++ take count (given ++ behind)
+given_from pieces qs rs place offset count room p bytes given before behind was is least e same within also =
+    let n : offset + count - offset ≡ count = omega arith in
+    let inside : place < length pieces = subst (λ (xs : List Piece). place < length xs) also within in
+    let all : bytes ≡ bytes_at pieces place = e ∙ ap (λ (xs : List Piece). (get_or xs place p).bytes) same ∙ ap (λ (q : Piece). q.bytes) (any_default pieces place p no_piece inside) in
+    let cut : given ≡ take count (drop offset bytes) = is ∙ ap (λ (k : ℕ). take k (drop offset bytes)) n in
+    let d = length-drop offset bytes in
+    let fits : count ≤ length (drop offset bytes) = omega (arith, least, d) in
+    let long : length given ≡ count = ap (λ (xs : List ℕ). length xs) cut ∙ length-take-le count (drop offset bytes) fits in
+    given_more pieces place offset count before given behind was (cut ∙ ap (λ (xs : List ℕ). take count (drop offset xs)) all) long
+
+pub failed_read : (l m : Line) (a : Account) (calls moment : ℕ) (bytes : List ℕ) → m ≡ record l { calls = calls }
+    → ((read written : Option (List ℕ)) (bytes : List ℕ) → account_meaning a (read_after ReadEnd.Failed bytes read) written ≡ after_read ReadEnd.Failed bytes moment a.faults (account_meaning m.account read written))
+    → line_meaning (record m { account = a }) ≡ after_read ReadEnd.Failed bytes moment a.faults (line_meaning l)
+failed_read l m a calls moment bytes e h = h (Some (read_of m.script.pieces m.place m.offset)) (Some m.written.items) bytes ∙ ap (λ (x : Line). after_read ReadEnd.Failed bytes moment a.faults (line_meaning x)) e
