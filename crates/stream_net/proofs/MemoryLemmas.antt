@@ -30,7 +30,7 @@ map_set f (x ∷ xs) (suc k) y = ap (λ (zs : List _). f x ∷ zs) (map_set f xs
 pub line_at : (lines : List Line) (k : ℕ) (l : Line) → k < length lines → l ≡ get_or lines k l → connection_at (map line_meaning lines) k ≡ line_meaning l
 line_at lines k l within is = get_or-map line_meaning lines k l nobody within ∙ ap line_meaning (sym is)
 
-module _ (lines : List Line) (k : ℕ) (old new : Line) (most moment : ℕ) (listens : Bool) (faults : ℕ) (blocked : Bool)
+module _ (lines : List Line) (k : ℕ) (old new : Line) (most moment : ℕ) (listens : Option ℕ) (faults : ℕ) (blocked : Bool)
     (within : k < length (map line_meaning lines)) (is : old ≡ get_or lines k old) where
   in_lines : k < length lines
   in_lines = subst (λ (n : ℕ). k < n) (length-map lines line_meaning) within

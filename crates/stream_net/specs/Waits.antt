@@ -34,7 +34,8 @@ IsInTime (Readable k) until moment = Unit {0}
 IsInTime (Writable k) until moment = Unit {0}
 IsInTime Elapsed until moment = HasCome until moment
 
--- when a net may be waited for: each live connection that isn't held is quiet; where one is live the wait has an end; where none is, nothing is there to be accepted
+-- when a net may be waited for: each live connection that isn't held is quiet; where one is live the wait has an end;
+-- where none is, nobody was there to be accepted
 pub record MayWait (m : Meaning) (until : Option ℕ) : Type 0 where
   pub quiet : All IsAtRest m.connections
   pub ends : 0 < live_count m.connections → IsSome until

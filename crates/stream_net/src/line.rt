@@ -1,8 +1,8 @@
 //! A connection that goes by its script.
-ghost use Rattle.std.specs.Prelude.{◌≡◌, ◌≢◌, ◌↔◌, ℕ, ◌+◌, ◌<◌, ◌≤◌, ◌++◌, Some, List, length, take, Bool, true, false, IfSome, IfNone};
+ghost use Rattle.std.specs.Prelude.{◌≡◌, ◌≢◌, ◌↔◌, ℕ, ◌+◌, ◌<◌, ◌≤◌, ◌++◌, Some, List, length, take, drop, Bool, true, false, IfSome, IfNone};
 ghost use Rattle.gv_values.specs.Counts.{HasRisen, one_more as count_after};
 ghost use Rattle.stream_net.specs.Accounts.{read_after};
-ghost use Rattle.stream_net.specs.Lines.{bytes_at, is_failing, line_meaning, read_of};
+ghost use Rattle.stream_net.specs.Lines.{bytes_at, has_bytes, is_failing, is_past, is_readable, is_writable, line_meaning, next_byte, read_of, until_end};
 ghost use Rattle.stream_net.specs.Nets.{IsNew, closed_at, held_as};
 ghost use Rattle.stream_net.specs.Reads.{after_read};
 ghost use Rattle.stream_net.specs.Taken.{written_after};
@@ -41,6 +41,7 @@ pub struct Line {
 fn settled(pieces: &[Piece], place: usize, offset: usize) -> (usize, usize)
     ensures same { read_of pieces.now result.0 result.1 ≡ read_of pieces.now place offset }
     ensures some { result.0 < length pieces.now → result.1 < length (bytes_at pieces.now result.0) }
+    ensures next { next_byte (drop result.0 pieces.now) result.1 ≡ next_byte (drop place pieces.now) offset }
 {
     let mut left = offset;
     for at in place..pieces.len() {
@@ -52,12 +53,29 @@ fn settled(pieces: &[Piece], place: usize, offset: usize) -> (usize, usize)
     (pieces.len().max(place), left)
 }
 
-/// How many arrivals there were by this moment, the end among them.
-fn arrivals_by(script: &ConnScript, moment: u64) -> usize {
-    let by = match script.ends {
+/// The last moment whose bytes have come: none come behind the end.
+fn last_moment(ends: Option<u64>, moment: u64) -> u64
+    ensures { result ≡ until_end ends moment }
+{
+    match ends {
         Some(end) => end.min(moment),
         None => moment,
-    };
+    }
+}
+
+/// Whether the end has come.
+fn has_ended(ends: Option<u64>, moment: u64) -> bool
+    ensures { result ≡ is_past ends moment }
+{
+    match ends {
+        Some(end) => end <= moment,
+        None => false,
+    }
+}
+
+/// How many arrivals there were by this moment, the end among them.
+fn arrivals_by(script: &ConnScript, moment: u64) -> usize {
+    let by = last_moment(script.ends, moment);
     let mut count: usize = 0;
     for piece in script.pieces.items() {
         if piece.at > by {
@@ -65,10 +83,10 @@ fn arrivals_by(script: &ConnScript, moment: u64) -> usize {
         }
         count = count.saturating_add(1);
     }
-    match script.ends {
-        Some(end) if end <= moment => count.saturating_add(1),
-        _ => count,
+    if has_ended(script.ends, moment) {
+        return count.saturating_add(1);
     }
+    count
 }
 
 /// The moment of the next arrival behind this one, the end among them.
@@ -131,11 +149,9 @@ fn give(line: &mut Line, moment: u64, buf: &mut [u8]) -> Option<usize>
     ensures account { line.new.account ≡ line.old.account }
     ensures written { line.new.written ≡ line.old.written }
     ensures script { line.new.script ≡ line.old.script }
+    ensures none { IfNone result (has_bytes line.old moment ≡ false) }
 {
-    let by = match line.script.ends {
-        Some(end) => end.min(moment),
-        None => moment,
-    };
+    let by = last_moment(line.script.ends, moment);
     let (place, offset) = settled(line.script.pieces.items(), line.place, line.offset);
     line.place = place;
     line.offset = offset;
@@ -163,15 +179,16 @@ fn find(line: &mut Line, moment: u64, buf: &mut [u8]) -> ReadEnd
     ensures account { line.new.account ≡ line.old.account }
     ensures written { line.new.written ≡ line.old.written }
     ensures script { line.new.script ≡ line.old.script }
+    ensures blocks { result ≡ ReadEnd.WouldBlock → is_readable line.old moment ≡ false }
 {
     if let Some(count) = give(line, moment, buf) {
         return ReadEnd::Got(count);
     }
     line.told = arrivals_by(&line.script, moment);
-    match line.script.ends {
-        Some(end) if end <= moment => ReadEnd::End,
-        _ => ReadEnd::WouldBlock,
+    if has_ended(line.script.ends, moment) {
+        return ReadEnd::End;
     }
+    ReadEnd::WouldBlock
 }
 
 /// Reads the next bytes.
@@ -183,6 +200,7 @@ pub fn read_line(line: &mut Line, moment: u64, buf: &mut [u8]) -> ReadEnd
     ensures some { (n : ℕ) → result ≡ ReadEnd.Got n → 0 < n }
     ensures fits { (n : ℕ) → result ≡ ReadEnd.Got n → n ≤ length buf.new }
     ensures fails { (result ≡ ReadEnd.Failed) ↔ (is_failing line.old ≡ true) }
+    ensures blocks { result ≡ ReadEnd.WouldBlock → is_readable line.old moment ≡ false }
 {
     if fails_now(line) {
         line.account.note_read(ReadEnd::Failed, moment);
@@ -203,6 +221,7 @@ fn put(line: &mut Line, bytes: &[u8]) -> WriteEnd
     ensures faultless { result ≢ WriteEnd.Failed }
     ensures account { line.new.account ≡ line.old.account }
     ensures read { read_of line.new.script.pieces line.new.place line.new.offset ≡ read_of line.old.script.pieces line.old.place line.old.offset }
+    ensures blocks { result ≡ WriteEnd.WouldBlock → is_writable line.old ≡ false }
 {
     let count = match line.script.room.items().get(line.writes) {
         Some(room) => bytes.len().min(*room as usize),
@@ -231,6 +250,7 @@ pub fn write_line(line: &mut Line, moment: u64, bytes: &[u8]) -> WriteEnd
     ensures some { (n : ℕ) → result ≡ WriteEnd.Took n → 0 < n }
     ensures fits { (n : ℕ) → result ≡ WriteEnd.Took n → n ≤ length bytes.now }
     ensures fails { (result ≡ WriteEnd.Failed) ↔ (is_failing line.old ≡ true) }
+    ensures blocks { result ≡ WriteEnd.WouldBlock → is_writable line.old ≡ false }
 {
     if fails_now(line) {
         line.account.note_write(WriteEnd::Failed, moment);

@@ -1,5 +1,5 @@
 //! What a net is to a server.
-ghost use Rattle.std.specs.Prelude.{◌≡◌, ℕ, ◌<◌, ◌≤◌, true, false, length, IsOk, OnOk, OnErr};
+ghost use Rattle.std.specs.Prelude.{◌≡◌, ℕ, ◌<◌, ◌≤◌, Some, false, length, IfOk, IsSome, OnOk, OnErr};
 ghost use Rattle.gv_values.specs.Counts.{HasRisen};
 ghost use Rattle.stream_net.specs.Nets.{Changes, IsLive, IsNotReady, Meaning, Readiness, closed_at, connection_at, held_as};
 ghost use Rattle.stream_net.specs.Reads.{Reads};
@@ -86,7 +86,7 @@ pub trait Net {
 
     /// Begins to listen, at this port or at any for 0, and answers the port.
     fn listen(&mut self, port: u16) -> Result<u16, Failed>
-        ensures listens { OnOk result ((meaning self.new).listens ≡ true) }
+        ensures listens { IfOk result (λ port. (meaning self.new).listens ≡ Some port) }
         ensures asks_again { OnOk result ((meaning self.new).blocked ≡ false) }
         ensures kept { OnErr result ((meaning self.new).listens ≡ (meaning self.old).listens) }
         ensures failed { OnErr result (HasRisen (meaning self.old).faults (meaning self.new).faults) }
@@ -102,7 +102,7 @@ pub trait Net {
 
     /// Accepts a connection.
     fn accept(&mut self) -> Accepted
-        requires { (meaning self.old).listens ≡ true }
+        requires { IsSome (meaning self.old).listens }
         ensures accepts { Accepts (meaning self.old) (meaning self.new) result }
         ensures not_ready { result ≡ Accepted.WouldBlock → IsNotReady (readiness self.old).incoming };
 
