@@ -1,0 +1,47 @@
+-- What is left of the connections, by their bytes that are told.
+use Rattle.std.proofs.Common.{◌≡◌, ◌≢◌, ℕ, true, List, ◌++◌, Option, Some, IfSome, refl, sym, ap, ◌∙◌, subst, arith}
+use Rattle.stream_net.specs.Nets.{Connection, Meaning, connection_at}
+use Rattle.stream_net.specs.declared.net.Quiet.{Quiet}
+use Rattle.stream_net.specs.declared.net.Quiet.TheVariants.{Awake, ByRead, ByWrite}
+use Rattle.stream_server.specs.declared.limits.Limits.{Limits}
+use Rattle.stream_server.specs.Served.{Speech, IsServed, RestsBy, Cause, Closing, Ended, Failing, Idle}
+use Rattle.stream_server.specs.Serving.{IsLeft, EachTold, BeginsSo, IsClosedWell}
+use Rattle.stream_net.proofs.Lists.{at_all}
+
+told_is : (o : Option (List ℕ)) (bytes all : List ℕ) → o ≡ Some bytes → IfSome o (λ b. b ≡ all) → bytes ≡ all
+told_is o bytes all e h = subst (λ (x : Option (List ℕ)). IfSome x (λ b. b ≡ all)) e h
+
+module _ (said : Speech) (limits : Limits) (m : Meaning) (h : IsLeft said limits m) where
+  pub own_of : EachTold m.connections (λ c bytes out. BeginsSo (said bytes c.ended).bytes out)
+  own_of k bytes out in' reads writes =
+      let c = connection_at m.connections k in
+      let b = (at_all (IsServed said limits.idle) m.connections h.served k in').begun in
+      let e = told_is c.read bytes b.fed reads b.reads in
+      let f = told_is c.written out b.taken writes b.writes in
+      record { tail = b.tail; is = ap (λ (z : List ℕ). (said z c.ended).bytes) e ∙ b.begins ∙ ap (λ (z : List ℕ). z ++ b.tail) (sym f) }
+
+  pub cause_of : EachTold m.connections (λ c bytes out. c.closed ≡ true → Cause (said bytes c.ended) out limits.idle c)
+  cause_of k bytes out in' reads writes closed =
+      let c = connection_at m.connections k in
+      let x = at_all (IsServed said limits.idle) m.connections h.served k in' in
+      let b = x.begun in
+      let e = told_is c.read bytes b.fed reads b.reads in
+      let f = told_is c.written out b.taken writes b.writes in
+      subst (λ (z : List ℕ). Cause (said z c.ended) out limits.idle c) (sym e) (subst (λ (z : List ℕ). Cause (said b.fed c.ended) z limits.idle c) (sym f) (x.cause closed))
+
+  pub whole_of : EachTold m.connections (λ c bytes out. IsClosedWell c → out ≡ (said bytes c.ended).bytes)
+  whole_of k bytes out in' reads writes well = by (cause_of k bytes out in' reads writes well.closed)
+    where
+      c : Connection
+      c = connection_at m.connections k
+
+      rested : (q : Quiet) → q ≢ ByWrite → RestsBy q (out ≡ (said bytes c.ended).bytes) → out ≡ (said bytes c.ended).bytes
+      rested Awake n r = absurd r
+      rested ByRead n r = r
+      rested ByWrite n r = absurd (n refl)
+
+      by : Cause (said bytes c.ended) out limits.idle c → out ≡ (said bytes c.ended).bytes
+      by (Closing x all) = all
+      by (Ended x all) = all
+      by (Failing x) = absurd (omega (arith, x, well.faultless))
+      by (Idle x r) = rested c.quiet well.waits_for_no_write r

@@ -1,0 +1,5 @@
+pub mod Endings
+pub mod Members
+pub mod Stepping
+pub mod Tabling
+pub mod Turns

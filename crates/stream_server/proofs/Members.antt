@@ -1,0 +1,145 @@
+-- The crew of a table: who is a member when one comes, is taken out, is listed again and goes.
+use Rattle.std.proofs.Common.{◌≡◌, ◌≢◌, inl, inr, ℕ, zero, suc, ◌+◌, ◌-◌, ◌<◌, ◌≤◌, ◌==◌, Bool, true, false, not, cond, List, [], ◌∷◌, ◌++◌, length, get_or, Option, Some, None, refl, sym, ap, ◌∙◌, subst, arith, length-append}
+use Rattle.std.specs.List.{Contains}
+use Rattle.std.proofs.lemmas.Bool.{cases_eq}
+use Rattle.std.proofs.lemmas.List.Elements.{Contains-append_left, Contains-append_right}
+use Rattle.linked_items.specs.Items.{without, Lacks, Differ}
+use Rattle.linked_items.proofs.ItemLemmas.{test_keeps, test_drops}
+use Rattle.groups_pools.specs.Seen.{SeenCrew, free_places, AreBelow, AreAbove, IsRising, HasPlace}
+use Rattle.stream_net.specs.Nets.{Meaning}
+use Rattle.stream_server.specs.declared.client.Client.{Client}
+use Rattle.stream_server.specs.declared.limits.Limits.{Limits}
+use Rattle.stream_server.specs.Served.{Speech}
+use Rattle.stream_server.specs.Steps.{TalkState}
+use Rattle.stream_server.specs.Serving.{IsServing, IsServingBut}
+use Rattle.stream_server.specs.Tables.{SeenTable, AreAdmitted, AreAdmittedBut, IsAbsent, IsListed, Relists, client_count, with_members}
+use Rattle.stream_net.proofs.Lists.{everywhere}
+
+-- ---- lists of members
+
+below_more : (n : ℕ) (ms : List ℕ) → AreBelow n ms → AreBelow (n + 1) (ms ++ n ∷ [])
+below_more n [] h = (omega arith, tt)
+below_more n (m ∷ ms) h = (let a = h.0 in omega (arith, a), below_more n ms h.1)
+
+below_without : (n g : ℕ) (ms : List ℕ) → AreBelow n ms → AreBelow n (without g ms)
+below_without n g [] h = tt
+below_without n g (m ∷ ms) h = by (not (m == g)) (below_without n g ms h.1)
+  where
+    by : (b : Bool) → AreBelow n (without g ms) → AreBelow n (cond b (m ∷ without g ms) (without g ms))
+    by true more = (h.0, more)
+    by false more = more
+
+contains_without : (g x : ℕ) (ms : List ℕ) → x ≢ g → Contains ms x → Contains (without g ms) x
+contains_without g x [] other h = absurd (omega (arith, h.1))
+contains_without g x (m ∷ ms) other h = by (contains_without g x ms other) h.0 h.1 h.2
+  where
+    put_behind : Contains (without g ms) x → Contains (without g (m ∷ ms)) x
+    put_behind r = under (not (m == g)) r
+      where
+        under : (b : Bool) → Contains (without g ms) x → Contains (cond b (m ∷ without g ms) (without g ms)) x
+        under true r = (suc r.0, omega (arith, r.1), r.2)
+        under false r = r
+
+    by : (Contains ms x → Contains (without g ms) x) → (k : ℕ) → k < suc (length ms) → get_or (m ∷ ms) k x ≡ x → Contains (without g (m ∷ ms)) x
+    by more zero within found = rw (test_keeps m g (λ e. other (sym found ∙ sym e))) (zero, omega arith, found)
+    by more (suc k) within found = put_behind (more (k, omega (arith, within), found))
+
+above_lacks : (m : ℕ) (ms : List ℕ) → AreAbove m ms → Lacks m ms
+above_lacks m [] h = tt
+above_lacks m (x ∷ ms) h = (λ e. let lt = h.0 in omega (arith, lt, e), above_lacks m ms h.1)
+
+-- members whose numbers rise differ
+pub rising_differ : (ms : List ℕ) → IsRising ms → Differ ms
+rising_differ [] r = tt
+rising_differ (m ∷ ms) r = (above_lacks m ms r.0, rising_differ ms r.1)
+
+-- ---- a crew with so many places, for which nobody waits
+
+place_to : (c : SeenCrew) (limit : ℕ) → c.size ≡ Some limit → c.places ≡ [] → HasPlace c → length c.members < limit
+place_to c limit size none h =
+    let a : length {A = ℕ} [] < free_places (length {A = ℕ} [] + 1) c.size c.members = subst (λ (ps : List ℕ). length ps < free_places (length ps + 1) c.size c.members) none h in
+    let b : 0 < limit - length c.members = subst (λ (s : Option ℕ). 0 < free_places 1 s c.members) size a in
+    omega (arith, b)
+
+place_from : (c : SeenCrew) (limit : ℕ) → c.size ≡ Some limit → c.places ≡ [] → length c.members < limit → HasPlace c
+place_from c limit size none h =
+    let b : 0 < limit - length c.members = omega (arith, h) in
+    let a : length {A = ℕ} [] < free_places (length {A = ℕ} [] + 1) c.size c.members = subst (λ (s : Option ℕ). 0 < free_places 1 s c.members) (sym size) b in
+    subst (λ (ps : List ℕ). length ps < free_places (length ps + 1) c.size c.members) (sym none) a
+
+pub place_is : (c : SeenCrew) (limit : ℕ) → c.size ≡ Some limit → c.places ≡ [] → (HasPlace c → length c.members < limit) × (length c.members < limit → HasPlace c)
+place_is c limit size none = (place_to c limit size none, place_from c limit size none)
+
+-- ---- who was admitted
+
+module _ {T : Type 0} where
+  pub none_admitted : (table : SeenTable T) (next : ℕ) → table.members ≡ [] → ((k : ℕ) → IsListed table k None) → client_count table ≡ 0 → AreAdmitted table next
+  none_admitted table next none nobody count = record {
+    count = ap (λ (ms : List ℕ). length ms) none ∙ sym count;
+    each = λ k client row. absurd (nobody k row.0 row.1);
+    below = subst (AreBelow next) (sym none) tt;
+  }
+
+  -- nobody more was accepted
+  pub admitted_still : (table : SeenTable T) (next next' : ℕ) → next' ≡ next → AreAdmitted table next → AreAdmitted table next'
+  admitted_still table next next' same h = subst (AreAdmitted table) (sym same) h
+
+  -- one more
+  pub one_admitted : (old new : SeenTable T) (next next' k : ℕ) → AreAdmitted old next → k ≡ next → next' ≡ next + 1 → new ≡ with_members (old.members ++ k ∷ []) old → AreAdmittedBut new next' k
+  one_admitted old new next next' k h is more now = subst (λ (t : SeenTable T). AreAdmittedBut t next' k) (sym now) record {
+    count = length-append old.members (k ∷ []) ∙ ap (λ (n : ℕ). n + 1) h.count;
+    each = λ j client row. Contains-append_left old.members (k ∷ []) j (h.each j client row);
+    here = Contains-append_right old.members (k ∷ []) k (0, omega arith, refl);
+    below = subst (λ (n : ℕ). AreBelow n (old.members ++ k ∷ [])) (ap (λ (n : ℕ). n + 1) is ∙ sym more) (below_more k old.members (subst (λ (n : ℕ). AreBelow n old.members) (sym is) h.below));
+  }
+
+  -- it is listed
+  pub listed_again : (old new : SeenTable T) (next next' k j : ℕ) (client : Client T) → AreAdmittedBut old next k → Relists old new j (Some client) → j ≡ k → next' ≡ next → client_count new ≡ client_count old + 1
+      → AreAdmitted new next'
+  listed_again old new next next' k j client h relists same still count = record {
+    count = ap (λ (ms : List ℕ). length ms) relists.members ∙ h.count ∙ sym count;
+    each = everywhere j (λ i. (c : Client T) → IsListed new i (Some c) → Contains new.members i)
+        (λ c row. subst (λ (ms : List ℕ). Contains ms j) (sym relists.members) (subst (Contains old.members) (sym same) h.here))
+        (λ i other c row. subst (λ (ms : List ℕ). Contains ms i) (sym relists.members) (h.each i c (relists.others i (Some c) other row)));
+    below = subst (λ (ms : List ℕ). AreBelow next' ms) (sym relists.members) (subst (λ (n : ℕ). AreBelow n old.members) (sym still) h.below);
+  }
+
+  -- one is taken out of the list
+  pub taken_out : (old new : SeenTable T) (next k j : ℕ) (client : Client T) → AreAdmitted old next → IsListed old k (Some client) → Relists old new k None → j ≡ k → client_count new + 1 ≡ client_count old
+      → AreAdmittedBut new next j
+  taken_out old new next k j client h row relists same count = record {
+    count = ap (λ (ms : List ℕ). length ms) relists.members ∙ h.count ∙ sym count;
+    each = everywhere k (λ i. (c : Client T) → IsListed new i (Some c) → Contains new.members i)
+        (λ c now. absurd (never_some c (relists.only (Some c) now)))
+        (λ i other c now. subst (λ (ms : List ℕ). Contains ms i) (sym relists.members) (h.each i c (relists.others i (Some c) other now)));
+    here = subst (λ (ms : List ℕ). Contains ms j) (sym relists.members) (subst (Contains old.members) (sym same) (h.each k client row));
+    below = subst (λ (ms : List ℕ). AreBelow next ms) (sym relists.members) h.below;
+  }
+    where
+      never_some : (c : Client T) → Some c ≡ None → ⊥
+      never_some c e = absurd (cc)
+
+  -- it goes
+  pub released : (old new : SeenTable T) (next next' k : ℕ) → AreAdmittedBut old next k → ((slot : Option (Client T)) → IsListed old k slot → slot ≡ None) → next' ≡ next
+      → new ≡ with_members (without k old.members) old → length new.members + 1 ≡ length old.members → AreAdmitted new next'
+  released old new next next' k h only still now fewer = subst (λ (t : SeenTable T). AreAdmitted t next') (sym now) record {
+    count = let e = ap (λ (t : SeenTable T). length t.members) now in omega (arith, e, fewer, h.count);
+    each = everywhere k (λ i. (c : Client T) → IsListed old i (Some c) → Contains (without k old.members) i)
+        (λ c row. absurd (never_some c (only (Some c) row)))
+        (λ i other c row. contains_without k i old.members other (h.each i c row));
+    below = below_without next' k old.members (subst (λ (n : ℕ). AreBelow n old.members) (sym still) h.below);
+  }
+    where
+      never_some : (c : Client T) → Some c ≡ None → ⊥
+      never_some c e = absurd (cc)
+
+  -- the loop's laws don't speak of members
+  pub serving_with : (said : Speech) (at : TalkState T) (due : T → List ℕ) (limits : Limits) (m : Meaning) (old new : SeenTable T) (members : List ℕ) → new ≡ with_members members old
+      → IsServing said at due limits m (IsListed old) (client_count old) old.limit → IsServing said at due limits m (IsListed new) (client_count new) new.limit
+  serving_with said at due limits m old new members now h =
+      subst (λ (t : SeenTable T). IsServing said at due limits m (IsListed t) (client_count t) t.limit) (sym now) h
+
+  pub serving_but_with : (said : Speech) (at : TalkState T) (due : T → List ℕ) (limits : Limits) (m : Meaning) (old new : SeenTable T) (members : List ℕ) (k : ℕ) → new ≡ with_members members old
+      → IsServingBut said at due limits m (IsListed old) (client_count old) old.limit k → IsServingBut said at due limits m (IsListed new) (client_count new) new.limit k
+  serving_but_with said at due limits m old new members k now h =
+      subst (λ (t : SeenTable T). IsServingBut said at due limits m (IsListed t) (client_count t) t.limit k) (sym now) h

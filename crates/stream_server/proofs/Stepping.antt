@@ -1,0 +1,181 @@
+-- A client under way, step by step.
+use Rattle.std.proofs.Common.{◌≡◌, ◌==◌, inl, ℕ, zero, suc, ◌+◌, ◌<◌, ◌≤◌, min, Bool, true, false, List, [], ◌∷◌, ◌++◌, length, take, set, Option, Some, None, IfSome, refl, sym, ap, ◌∙◌, subst, arith, slice_set, append_assoc}
+use Rattle.std.proofs.lemmas.List.{get_or-set_same, set-get_or, length-set}
+use Rattle.gv_io.specs.Streams.{appended}
+use Rattle.wsgi_core.specs.Steps.{phase_by}
+use Rattle.wsgi_core.specs.declared.session.SessionPhase.{SessionPhase}
+use Rattle.stream_net.specs.Nets.{Connection, Meaning, Changes, GoesOn, IsLive, connection_at, nobody}
+use Rattle.stream_net.specs.declared.net.ReadEnd.TheVariants.{Got}
+use Rattle.stream_net.specs.declared.net.WriteEnd.TheVariants.{Took}
+use Rattle.stream_net.specs.Reads.{after_read, Reads}
+use Rattle.stream_net.specs.Writes.{after_write, Writes}
+use Rattle.stream_server.specs.Served.{Speech}
+use Rattle.stream_server.specs.Steps.{TalkState, IsOpen, IsOver, IsCut, OnlyAt}
+use Rattle.stream_server.specs.declared.client.Client.{Client}
+
+-- what stands at a place that was changed
+pub changed_at : (v w : Meaning) (k : ℕ) (change : Connection → Connection) → Changes v w k change → k < length v.connections
+    → connection_at w.connections k ≡ change (connection_at v.connections k)
+changed_at v w k change h within =
+    ap (λ (cs : List Connection). connection_at cs k) h.connections ∙ get_or-set_same v.connections k (change (connection_at v.connections k)) nobody within
+
+pub changed_length : (v w : Meaning) (k : ℕ) (change : Connection → Connection) → Changes v w k change → length w.connections ≡ length v.connections
+changed_length v w k change h =
+    ap (λ (cs : List Connection). length cs) h.connections ∙ length-set v.connections k (change (connection_at v.connections k))
+
+-- told bytes with a piece after them
+told_more : (told : Option (List ℕ)) (all piece : List ℕ) → IfSome told (λ bytes. bytes ≡ all) → IfSome (appended told piece) (λ bytes. bytes ≡ all ++ piece)
+unfolding appended
+told_more None all piece h = h
+told_more (Some bytes) all piece h = ap (λ (z : List ℕ). z ++ piece) h
+
+pub timely_after : (moment idle deadline : ℕ) → deadline ≡ min (moment + idle) 18446744073709551615 → deadline < 18446744073709551615 → moment + idle ≤ deadline
+timely_after moment idle deadline e h = omega (arith, e, h)
+
+-- a piece was read
+pub was_read : {T : Type 0} (at : TalkState T) (idle k : ℕ) (v w : Meaning) (g : Client T) (t : T) (n moment deadline : ℕ) (bytes piece : List ℕ) → Reads v w k (Got n) bytes
+    → k < length v.connections → IsOpen at idle (connection_at v.connections k) g → g.ended ≡ false
+    → moment ≡ w.moment → deadline ≡ min (moment + idle) 18446744073709551615 → piece ≡ take n bytes
+    → ((fed taken : List ℕ) → at fed false taken g.talk → at (fed ++ piece) false taken t)
+    → IsOpen at idle (connection_at w.connections k) record { conn = g.conn; talk = t; ended = g.ended; deadline = deadline }
+was_read {T} at idle k v w g t n moment deadline bytes piece r within h goes now at_last is feeds =
+    let c = connection_at v.connections k in
+    let client : Client T = record { conn = g.conn; talk = t; ended = g.ended; deadline = deadline } in
+    let P : Connection → Type 0 = λ d. IsOpen at idle d client in
+    let still : c.ended ≡ false = sym h.same_end ∙ goes in
+    let before : at h.fed false h.taken g.talk = subst (λ (b : Bool). at h.fed b h.taken g.talk) still h.is_at in
+    let after : at (h.fed ++ take n bytes) false h.taken t = subst (λ (z : List ℕ). at (h.fed ++ z) false h.taken t) is (feeds h.fed h.taken before) in
+    let last : deadline ≡ min (w.moment + idle) 18446744073709551615 = at_last ∙ ap (λ (m : ℕ). min (m + idle) 18446744073709551615) now in
+    subst P (sym (changed_at v w k (after_read (Got n) bytes w.moment r.faults) r.changes within)) record {
+      fed = h.fed ++ take n bytes;
+      taken = h.taken;
+      reads = told_more c.read h.fed (take n bytes) h.reads;
+      writes = h.writes;
+      still_open = h.still_open;
+      free = h.free;
+      same_end = h.same_end;
+      timely = timely_after w.moment idle deadline last;
+      is_at = subst (λ (b : Bool). at (h.fed ++ take n bytes) b h.taken t) (sym still) after;
+    }
+
+-- a piece was read for which memory ran out
+pub was_cut : {T : Type 0} (said : Speech) (at : TalkState T) (idle k : ℕ) (v w : Meaning) (g : Client T) (n : ℕ) (bytes piece pending : List ℕ) → Reads v w k (Got n) bytes
+    → k < length v.connections → IsOpen at idle (connection_at v.connections k) g → g.ended ≡ false → piece ≡ take n bytes
+    → ((fed taken : List ℕ) → at fed false taken g.talk → (tail : List ℕ) × ((said (fed ++ piece) false).bytes ≡ taken ++ pending ++ tail))
+    → IsCut said (connection_at w.connections k)
+was_cut {T} said at idle k v w g n bytes piece pending r within h goes is feeds =
+    let c = connection_at v.connections k in
+    let P : Connection → Type 0 = λ d. IsCut said d in
+    let still : c.ended ≡ false = sym h.same_end ∙ goes in
+    let before : at h.fed false h.taken g.talk = subst (λ (b : Bool). at h.fed b h.taken g.talk) still h.is_at in
+    let x = feeds h.fed h.taken before in
+    let e : (said (h.fed ++ take n bytes) c.ended).bytes ≡ h.taken ++ (pending ++ x.0) =
+    ap (λ (b : Bool). (said (h.fed ++ take n bytes) b).bytes) still ∙ ap (λ (z : List ℕ). (said (h.fed ++ z) false).bytes) (sym is) ∙ x.1 ∙ append_assoc h.taken pending x.0 in
+    subst P (sym (changed_at v w k (after_read (Got n) bytes w.moment r.faults) r.changes within)) record {
+      begun = record {
+        fed = h.fed ++ take n bytes;
+        taken = h.taken;
+        reads = told_more c.read h.fed (take n bytes) h.reads;
+        writes = h.writes;
+        tail = pending ++ x.0;
+        begins = e;
+      };
+      still_open = h.still_open;
+    }
+
+-- some of what was pending was written
+pub was_written : {T : Type 0} (at : TalkState T) (idle k : ℕ) (v w : Meaning) (g : Client T) (t : T) (n moment deadline : ℕ) (bytes pending : List ℕ) → Writes v w k (Took n) bytes
+    → k < length v.connections → IsOpen at idle (connection_at v.connections k) g
+    → moment ≡ w.moment → deadline ≡ min (moment + idle) 18446744073709551615 → bytes ≡ pending
+    → ((fed : List ℕ) (ended : Bool) (taken : List ℕ) → at fed ended taken g.talk → at fed ended (taken ++ take n pending) t)
+    → IsOpen at idle (connection_at w.connections k) record { conn = g.conn; talk = t; ended = g.ended; deadline = deadline }
+was_written {T} at idle k v w g t n moment deadline bytes pending r within h now at_last is takes =
+    let c = connection_at v.connections k in
+    let client : Client T = record { conn = g.conn; talk = t; ended = g.ended; deadline = deadline } in
+    let P : Connection → Type 0 = λ d. IsOpen at idle d client in
+    let last : deadline ≡ min (w.moment + idle) 18446744073709551615 = at_last ∙ ap (λ (m : ℕ). min (m + idle) 18446744073709551615) now in
+    let after : at h.fed c.ended (h.taken ++ take n bytes) t = subst (λ (z : List ℕ). at h.fed c.ended (h.taken ++ take n z) t) (sym is) (takes h.fed c.ended h.taken h.is_at) in
+    subst P (sym (changed_at v w k (after_write (Took n) bytes w.moment r.faults) r.changes within)) record {
+      fed = h.fed;
+      taken = h.taken ++ take n bytes;
+      reads = h.reads;
+      writes = told_more c.written h.taken (take n bytes) h.writes;
+      still_open = h.still_open;
+      free = h.free;
+      same_end = h.same_end;
+      timely = timely_after w.moment idle deadline last;
+      is_at = after;
+    }
+
+-- ---- one connection alone
+
+set_twice : {A : Type 0} (xs : List A) (k : ℕ) (x y : A) → set (set xs k x) k y ≡ set xs k y
+set_twice [] k x y = refl
+set_twice (z ∷ xs) zero x y = refl
+set_twice (z ∷ xs) (suc k) x y = ap (λ (zs : List _). z ∷ zs) (set_twice xs k x y)
+
+pub only_changed : (v w : Meaning) (k : ℕ) (change : Connection → Connection) → Changes v w k change → k < length v.connections
+    → (change (connection_at v.connections k)).closed ≡ (connection_at v.connections k).closed → OnlyAt v w k
+only_changed v w k change h within same =
+    let at = changed_at v w k change h within in
+    record {
+      connections = h.connections ∙ ap (λ (c : Connection). slice_set v.connections k c) (sym at);
+      same_closed = ap (λ (c : Connection). c.closed) at ∙ same;
+      rest = h.rest;
+    }
+
+pub only_none : (v : Meaning) (k : ℕ) → OnlyAt v v k
+only_none v k = record {
+  connections = sym (set-get_or v.connections k nobody);
+  same_closed = refl;
+  rest = record { most = refl; moment = omega arith; listens = refl; faults = refl; blocked = refl };
+}
+
+pub goes_on_twice : (u v w : Meaning) → GoesOn u v → GoesOn v w → GoesOn u w
+goes_on_twice u v w h g = record { most = g.most ∙ h.most; moment = omega (arith, h.moment, g.moment); listens = g.listens ∙ h.listens; faults = g.faults ∙ h.faults; blocked = g.blocked ∙ h.blocked }
+
+pub only_twice : (u v w : Meaning) (k : ℕ) → OnlyAt u v k → OnlyAt v w k → OnlyAt u w k
+only_twice u v w k h g =
+    let d = connection_at w.connections k in
+    record {
+      connections = g.connections ∙ ap (λ (cs : List Connection). slice_set cs k d) h.connections ∙ set_twice u.connections k (connection_at v.connections k) d;
+      same_closed = g.same_closed ∙ h.same_closed;
+      rest = goes_on_twice u v w h.rest g.rest;
+    }
+
+pub only_length : (v w : Meaning) (k : ℕ) → OnlyAt v w k → length w.connections ≡ length v.connections
+only_length v w k h = ap (λ (cs : List Connection). length cs) h.connections ∙ length-set v.connections k (connection_at w.connections k)
+
+pub still_live : (v w : Meaning) (k : ℕ) → OnlyAt v w k → IsLive v k → IsLive w k
+still_live v w k h live = record { accepted = omega (arith, only_length v w k h, live.accepted); still_open = h.same_closed ∙ live.still_open }
+
+-- a talk that is done
+pub is_done : {T : Type 0} (said : Speech) (at : TalkState T) (due : T → List ℕ) (idle : ℕ) (c : Connection) (g : Client T) → IsOpen at idle c g → due g.talk ≡ []
+    → ((fed : List ℕ) (ended : Bool) (taken : List ℕ) → at fed ended taken g.talk → (said fed ended).closes ≡ true) → IsOver said at due idle c g
+is_done said at due idle c g h none closes = record { is_open = h; why = inl (closes h.fed c.ended h.taken h.is_at, none) }
+
+-- ---- several steps, where the client keeps its number
+
+pub only_more : (u v w : Meaning) (k j : ℕ) → j ≡ k → OnlyAt u v k → OnlyAt v w j → OnlyAt u w k
+only_more u v w k j same h g = only_twice u v w k h (subst (λ (n : ℕ). OnlyAt v w n) same g)
+
+pub live_more : (v w : Meaning) (k j : ℕ) → j ≡ k → OnlyAt v w j → IsLive v k → IsLive w k
+live_more v w k j same g live = still_live v w k (subst (λ (n : ℕ). OnlyAt v w n) same g) live
+
+pub live_same : (v : Meaning) (k j : ℕ) → j ≡ k → IsLive v k → IsLive v j
+live_same v k j same live = subst (λ (n : ℕ). IsLive v n) (sym same) live
+
+-- what a step leaves, by the number at the start
+pub leaves_more : (v w : Meaning) (k j : ℕ) → j ≡ k → (P Q : Connection → Type 0) → (P (connection_at v.connections j) → Q (connection_at w.connections j))
+    → P (connection_at v.connections k) → Q (connection_at w.connections k)
+leaves_more v w k j same P Q f =
+    let F : ℕ → Type 0 = λ n. P (connection_at v.connections n) → Q (connection_at w.connections n) in
+    subst F same f
+
+pub none_left : (b : Bool) (bytes pending : List ℕ) → b ≡ (length bytes == 0) → b ≡ true → bytes ≡ pending → pending ≡ []
+none_left b [] pending e f p = sym p
+none_left b (x ∷ bytes) pending e f p = absurd (grind (arith))
+
+pub is_closing : (b : Bool) → SessionPhase.Closing ≡ phase_by b → b ≡ true
+is_closing true e = refl
+is_closing false e = cc

@@ -1,0 +1,320 @@
+-- The structures of a table against one another.
+use Rattle.std.proofs.Common.{◌≡◌, ◌≢◌, ◌⊎◌, inl, inr, ℕ, zero, suc, ◌+◌, ◌<◌, ◌≤◌, ◌==◌, Bool, true, false, cond, List, [], ◌∷◌, length, get_or, Option, Some, None, refl, sym, ap, ◌∙◌, subst, arith, IsSome, is_some, count_by}
+use Rattle.std.specs.List.{All, Contains, sum_by}
+use Rattle.std.specs.List.Sorted.{IsPermutation}
+use Rattle.std.proofs.lemmas.Bool.{cases_eq, eq-eqb, eqb-true}
+use Rattle.std.proofs.lemmas.List.{length-map, get_or-map}
+use Rattle.std.proofs.lemmas.List.Elements.{All-cons, All-head, All-tail, All-contains, Contains-get_or, Contains-append_right, Contains-append_cases, All-nil}
+use Rattle.std.proofs.lemmas.List.Sorted.{All-permutation, Contains-permutation, IsPermutation-map, length_permutation, sum_by-IsPermutation}
+use Rattle.std.proofs.lemmas.List.Sums.{sum_by-cons}
+use Rattle.slab.specs.Slab.{Slab, get, slab_len, Updates}
+use Rattle.linked_items.specs.declared.places.Slot.{Slot}
+use Rattle.linked_items.specs.Table.{Has, Gains, Loses}
+use Rattle.linked_items.specs.Items.{Differ, Lacks}
+use Rattle.due_timers.specs.declared.heap.Timer.{Timer}
+use Rattle.groups_pools.specs.Seen.{SeenCrew}
+use Rattle.due_timers.specs.SeenTimers.{items_in}
+use Rattle.stream_server.specs.declared.client.Client.{Client}
+use Rattle.stream_server.specs.Tables.{SeenTable, IsListed, IsAbsent, Relists}
+use Rattle.stream_server.specs.TableParts.{Stands, IsTied, IsSound}
+use Rattle.stream_server.specs.declared.table.ClientTable.TheInside.{Inside}
+
+-- ---- items that differ
+
+abbrev one_of : ℕ → ℕ → ℕ
+one_of x y = cond (y == x) 1 0
+
+abbrev times : ℕ → List ℕ → ℕ
+times x ys = sum_by (one_of x) ys
+
+one_same : (x : ℕ) → one_of x x ≡ 1
+one_same x = ap (λ (b : Bool). cond b 1 0) (eq-eqb x x refl)
+
+one_other : (x y : ℕ) → y ≢ x → one_of x y ≡ 0
+one_other x y other = by (y == x) refl
+  where
+    by : (b : Bool) → (y == x) ≡ b → one_of x y ≡ 0
+    by true e = absurd (other (eqb-true y x e))
+    by false e = ap (λ (b : Bool). cond b 1 0) e
+
+times_lacks : (x : ℕ) (ys : List ℕ) → Lacks x ys → times x ys ≡ 0
+times_lacks x [] h = refl
+times_lacks x (y ∷ ys) h = sum_by-cons (one_of x) y ys ∙ (let a = one_other x y (λ e. h.0 (sym e)) in let b = times_lacks x ys h.1 in omega (arith, a, b))
+
+times_differ : (x : ℕ) (ys : List ℕ) → Differ ys → times x ys ≤ 1
+times_differ x [] h = omega arith
+times_differ x (y ∷ ys) h = elim (cases_eq y x) [
+  | inl e ↦ (let a : times x ys ≡ 0 = times_lacks x ys (subst (λ (n : ℕ). Lacks n ys) e h.0) in let b : one_of x y ≡ 1 = ap (one_of x) e ∙ one_same x in let c = sum_by-cons (one_of x) y ys in omega (arith, a, b, c))
+  | inr n ↦ (let a = times_differ x ys h.1 in let b = one_other x y n in let c = sum_by-cons (one_of x) y ys in omega (arith, a, b, c))
+]
+
+-- none of them is x where it occurs no time
+lacks_times : (x : ℕ) (ys : List ℕ) → times x ys ≡ 0 → All (λ y. y ≢ x) ys
+lacks_times x [] h = All-nil (λ y. y ≢ x)
+lacks_times x (y ∷ ys) h =
+    let c = sum_by-cons (one_of x) y ys in
+    let a : one_of x y ≡ 0 = omega (arith, c, h) in
+    let b : times x ys ≡ 0 = omega (arith, c, h) in
+    All-cons (λ z. z ≢ x) y ys (λ e. let one : one_of x y ≡ 1 = ap (one_of x) e ∙ one_same x in omega (arith, a, one)) (lacks_times x ys b)
+
+All-unmap : (P : ℕ → Type 0) (ts : List Timer) → All P (items_in ts) → All (λ (t : Timer). P t.item) ts
+All-unmap P [] h = All-nil (λ (t : Timer). P t.item)
+All-unmap P (t ∷ ts) h = All-cons (λ (u : Timer). P u.item) t ts (All-head P t.item (items_in ts) h) (All-unmap P ts (All-tail P t.item (items_in ts) h))
+
+-- a timer that was taken out leaves none of its item
+pub others_left : (x : ℕ) (old new : List Timer) (t : Timer) → Differ (items_in old) → t.item ≡ x → IsPermutation old (t ∷ new) → All (λ (u : Timer). u.item ≢ x) new
+others_left x old new t differ is moves =
+    let few = times_differ x (items_in old) differ in
+    let same = sum_by-IsPermutation (one_of x) (items_in old) (items_in (t ∷ new)) (IsPermutation-map (λ (u : Timer). u.item) old (t ∷ new) moves) in
+    let parts = sum_by-cons (one_of x) t.item (items_in new) in
+    let one : one_of x t.item ≡ 1 = ap (one_of x) is ∙ one_same x in
+    All-unmap (λ n. n ≢ x) new (lacks_times x (items_in new) (omega (arith, few, same, parts, one)))
+
+contains_item : (x : ℕ) (ts : List Timer) → Contains (items_in ts) x → (t : Timer) × Contains ts t × (t.item ≡ x)
+contains_item x ts h = (get_or ts h.0 none, Contains-get_or ts h.0 none in', sym at ∙ h.2)
+  where
+    none : Timer
+    none = record { item = x; since = 0; deadline = 0 }
+
+    in' : h.0 < length ts
+    in' = subst (λ (n : ℕ). h.0 < n) (length-map ts (λ (u : Timer). u.item)) h.1
+
+    at : get_or (items_in ts) h.0 x ≡ (get_or ts h.0 none).item
+    at = get_or-map (λ (u : Timer). u.item) ts h.0 none x in'
+
+contains_at : (x : ℕ) (ts : List Timer) (t : Timer) → Contains ts t → t.item ≡ x → Contains (items_in ts) x
+contains_at x ts t h is = subst (Contains (items_in ts)) is (h.0, subst (λ (n : ℕ). h.0 < n) (sym (length-map ts (λ (u : Timer). u.item))) h.1, get_or-map (λ (u : Timer). u.item) ts h.0 t t.item h.1 ∙ ap (λ (u : Timer). u.item) h.2)
+
+-- ---- a table
+
+none_some : {A : Type 0} (o : Option A) (a : A) → o ≡ None → o ≡ Some a → ⊥
+none_some o a e f = absurd (cc)
+
+some_same : {A : Type 0} (a b : A) → Some a ≡ Some b → a ≡ b
+some_same a b e = cc
+
+-- a client that comes
+pub stands_more : {T : Type 0} (old new : List Slot) (clients after : Slab (Client T)) (g : Client T) (key : ℕ) → ((k j : ℕ) → Has old k j → Stands clients k j)
+    → Gains old new g.conn key → get clients key ≡ None → Updates clients after key (Some g) → (k j : ℕ) → Has new k j → Stands after k j
+stands_more old new clients after g key stands gains vacant updates k j has = by (gains.only k j has)
+  where
+    by : Has old k j ⊎ ((k ≡ g.conn) × (j ≡ key)) → Stands after k j
+    by (inl was) = let s = stands k j was in record { client = s.client; is = updates.others j (λ e. none_some (get clients key) s.client vacant (ap (get clients) (sym e) ∙ s.is)) ∙ s.is; number = s.number }
+    by (inr e) = record { client = g; is = ap (get after) e.1 ∙ updates.changed; number = sym e.0 }
+
+-- a client that goes
+pub stands_less : {T : Type 0} (old new : List Slot) (clients after : Slab (Client T)) (x key : ℕ) → ((k j : ℕ) → Has old k j → Stands clients k j)
+    → Has old x key → Loses old new x → Updates clients after key None → (k j : ℕ) → Has new k j → Stands after k j
+stands_less old new clients after x key stands here loses updates k j has =
+    let s = stands k j (loses.only k j has) in
+    let t = stands x key here in
+    record {
+      client = s.client;
+      is = updates.others j (λ e. absurd (loses.gone j (subst (λ (n : ℕ). Has new n j) (sym s.number ∙ ap (λ (h : Client _). h.conn) (some_same _ _ (sym s.is ∙ ap (get clients) e ∙ t.is)) ∙ t.number) has))) ∙ s.is;
+      number = s.number;
+    }
+
+first_of : (k x : ℕ) → Contains (x ∷ []) k → x ≡ k
+first_of k x h = by h.0 h.1 h.2
+  where
+    by : (i : ℕ) → i < 1 → get_or (x ∷ []) i k ≡ k → x ≡ k
+    by zero lt e = e
+    by (suc i) lt e = absurd (omega (arith, lt))
+
+-- a slot that holds one now and isn't the new one held it before
+kept_before : {T : Type 0} (clients after : Slab (Client T)) (key j : ℕ) (slot : Option (Client T)) (g : Client T) → Updates clients after key slot → j ≢ key → get after j ≡ Some g → get clients j ≡ Some g
+kept_before clients after key j slot g updates other is = sym (updates.others j other) ∙ is
+
+module _ {T : Type 0} (old new : List Slot) (clients after : Slab (Client T)) (g : Client T) (key : ℕ)
+    (stands : (k j : ℕ) → Has old k j → Stands clients k j) (absent : (j : ℕ) → Has old g.conn j → ⊥)
+    (gains : Gains old new g.conn key) (vacant : get clients key ≡ None) (updates : Updates clients after key (Some g)) where
+  -- a place of old isn't the new key
+  old_key : (k j : ℕ) → Has old k j → j ≢ key
+  old_key k j has e = let s = stands k j has in none_some (get clients key) s.client vacant (ap (get clients) (sym e) ∙ s.is)
+
+  tied_more : (t : Timer) → IsTied old clients t → IsTied new after t
+  tied_more t h = record { key = h.key; placed = gains.kept t.item h.key h.placed; deadline = λ j client has is. by j client is (gains.only t.item j has) }
+    where
+      by : (j : ℕ) (client : Client T) → get after j ≡ Some client → Has old t.item j ⊎ ((t.item ≡ g.conn) × (j ≡ key)) → client.deadline ≡ t.deadline
+      by j client is (inl was) = h.deadline j client was (kept_before clients after key j (Some g) client updates (old_key t.item j was) is)
+      by j client is (inr e) = absurd (absent h.key (subst (λ (n : ℕ). Has old n h.key) e.0 h.placed))
+
+  tied_new : (since : ℕ) → IsTied new after record { item = g.conn; since = since; deadline = g.deadline }
+  tied_new since = record { key = key; placed = gains.here; deadline = λ j client has is. by j client is (gains.only g.conn j has) }
+    where
+      by : (j : ℕ) (client : Client T) → get after j ≡ Some client → Has old g.conn j ⊎ ((g.conn ≡ g.conn) × (j ≡ key)) → client.deadline ≡ g.deadline
+      by j client is (inl was) = absurd (absent j was)
+      by j client is (inr e) = ap (λ (x : Client T). x.deadline) (some_same client g (sym is ∙ ap (get after) e.1 ∙ updates.changed))
+
+  pub all_tied_more : (since : ℕ) (ts us : List Timer) → IsPermutation (record { item = g.conn; since = since; deadline = g.deadline } ∷ ts) us → All (IsTied old clients) ts → All (IsTied new after) us
+  all_tied_more since ts us moves h =
+      let t : Timer = record { item = g.conn; since = since; deadline = g.deadline } in
+      All-permutation (IsTied new after) (t ∷ ts) us moves (All-cons (IsTied new after) t ts (tied_new since) (λ k d in'. tied_more (get_or ts k d) (h k d in')))
+
+  pub timed_more : (since : ℕ) (ts us : List Timer) → IsPermutation (record { item = g.conn; since = since; deadline = g.deadline } ∷ ts) us
+      → ((k j : ℕ) → Has old k j → Contains (items_in ts) k) → (k j : ℕ) → Has new k j → Contains (items_in us) k
+  timed_more since ts us moves timed k j has = Contains-permutation (items_in (t ∷ ts)) (items_in us) k (IsPermutation-map (λ (u : Timer). u.item) (t ∷ ts) us moves) (by (gains.only k j has))
+    where
+      t : Timer
+      t = record { item = g.conn; since = since; deadline = g.deadline }
+
+      by : Has old k j ⊎ ((k ≡ g.conn) × (j ≡ key)) → Contains (items_in (t ∷ ts)) k
+      by (inl was) = Contains-append_right (g.conn ∷ []) (items_in ts) k (timed k j was)
+      by (inr e) = subst (λ (n : ℕ). Contains (items_in (t ∷ ts)) n) (sym e.0) (0, omega arith, refl)
+
+  pub relists_more : (members : List ℕ) (limit : ℕ) → Relists (record { places = old; clients = clients; members = members; limit = limit }) (record { places = new; clients = after; members = members; limit = limit }) g.conn (Some g)
+  relists_more members limit = record { here = (key, gains.here, updates.changed); only = only; others = others; members = refl; limit = refl }
+    where
+      was : SeenTable T
+      was = record { places = old; clients = clients; members = members; limit = limit }
+
+      is : SeenTable T
+      is = record { places = new; clients = after; members = members; limit = limit }
+
+      only : (s : Option (Client T)) → IsListed is g.conn s → s ≡ Some g
+      only None h = absurd (h key gains.here)
+      only (Some x) h = by (gains.only g.conn h.0 h.1)
+        where
+          by : Has old g.conn h.0 ⊎ ((g.conn ≡ g.conn) × (h.0 ≡ key)) → Some x ≡ Some g
+          by (inl y) = absurd (absent h.0 y)
+          by (inr e) = sym h.2 ∙ ap (get after) e.1 ∙ updates.changed
+
+      others : (j : ℕ) (s : Option (Client T)) → j ≢ g.conn → IsListed is j s → IsListed was j s
+      others j None other h = λ k has. h k (gains.kept j k has)
+      others j (Some x) other h = by (gains.only j h.0 h.1)
+        where
+          by : Has old j h.0 ⊎ ((j ≡ g.conn) × (h.0 ≡ key)) → IsListed was j (Some x)
+          by (inl y) = (h.0, y, kept_before clients after key h.0 (Some g) x updates (old_key j h.0 y) h.2)
+          by (inr e) = absurd (other e.0)
+
+module _ {T : Type 0} (old new : List Slot) (clients after : Slab (Client T)) (x key : ℕ)
+    (stands : (k j : ℕ) → Has old k j → Stands clients k j) (here : Has old x key)
+    (loses : Loses old new x) (updates : Updates clients after key None) where
+  -- what is held now stands elsewhere
+  other_key : (j : ℕ) (g : Client T) → get after j ≡ Some g → j ≢ key
+  other_key j g is e = none_some (get after key) g updates.changed (ap (get after) (sym e) ∙ is)
+
+  tied_less : (t : Timer) → t.item ≢ x → IsTied old clients t → IsTied new after t
+  tied_less t other h = record {
+    key = h.key;
+    placed = loses.kept t.item h.key h.placed other;
+    deadline = λ j client has is. h.deadline j client (loses.only t.item j has) (kept_before clients after key j None client updates (other_key j client is) is);
+  }
+
+  pub all_tied_less : (ts us : List Timer) (t : Timer) → Differ (items_in ts) → t.item ≡ x → IsPermutation ts (t ∷ us) → All (IsTied old clients) ts → All (IsTied new after) us
+  all_tied_less ts us t differ is moves h =
+      let left = others_left x ts us t differ is moves in
+      let rest = All-tail (IsTied old clients) t us (All-permutation (IsTied old clients) ts (t ∷ us) moves h) in
+      λ k d in'. tied_less (get_or us k d) (left k d in') (rest k d in')
+
+  pub timed_less : (ts us : List Timer) (t : Timer) → t.item ≡ x → IsPermutation ts (t ∷ us) → ((k j : ℕ) → Has old k j → Contains (items_in ts) k) → (k j : ℕ) → Has new k j → Contains (items_in us) k
+  timed_less ts us t is moves timed k j has =
+      by (Contains-append_cases (t.item ∷ []) (items_in us) k (Contains-permutation (items_in ts) (items_in (t ∷ us)) k (IsPermutation-map (λ (u : Timer). u.item) ts (t ∷ us) moves) (timed k j (loses.only k j has))))
+    where
+      by : Contains (t.item ∷ []) k ⊎ Contains (items_in us) k → Contains (items_in us) k
+      by (inr y) = y
+      by (inl y) = absurd (loses.gone j (subst (λ (n : ℕ). Has new n j) (sym (first_of k t.item y) ∙ is) has))
+
+  pub relists_less : (members : List ℕ) (limit : ℕ) → Relists (record { places = old; clients = clients; members = members; limit = limit }) (record { places = new; clients = after; members = members; limit = limit }) x None
+  relists_less members limit = record { here = λ k has. loses.gone k has; only = only; others = others; members = refl; limit = refl }
+    where
+      was : SeenTable T
+      was = record { places = old; clients = clients; members = members; limit = limit }
+
+      is : SeenTable T
+      is = record { places = new; clients = after; members = members; limit = limit }
+
+      only : (s : Option (Client T)) → IsListed is x s → s ≡ None
+      only None h = refl
+      only (Some g) h = absurd (loses.gone h.0 h.1)
+
+      others : (j : ℕ) (s : Option (Client T)) → j ≢ x → IsListed is j s → IsListed was j s
+      others j None other h = λ k has. h k (loses.kept j k has other)
+      others j (Some g) other h = (h.0, loses.only j h.0 h.1, kept_before clients after key h.0 None g updates (other_key h.0 g h.2) h.2)
+
+-- nobody has a timer whom nobody has a place for
+pub no_timer : {T : Type 0} (places : List Slot) (clients : Slab (Client T)) (ts : List Timer) (x : ℕ) → All (IsTied places clients) ts → ((j : ℕ) → Has places x j → ⊥) → Contains (items_in ts) x → ⊥
+no_timer places clients ts x tied absent h =
+    let found = contains_item x ts h in
+    let t = All-contains (IsTied places clients) ts found.0 tied found.1 in
+    absent t.key (subst (λ (n : ℕ). Has places n t.key) found.2 t.placed)
+
+pub no_place : {T : Type 0} (places : List Slot) (clients : Slab (Client T)) (members : List ℕ) (limit x : ℕ) → ((k j : ℕ) → Has places k j → Stands clients k j) → IsAbsent (record { places = places; clients = clients; members = members; limit = limit }) x → (j : ℕ) → Has places x j → ⊥
+no_place places clients members limit x stands absent j has = let s = stands x j has in absent s.client (j, has, s.is)
+
+some_is : {A : Type 0} (o : Option A) (a : A) → o ≡ Some a → IsSome o
+some_is o a e = subst IsSome (sym e) refl
+
+pub key_is_held : {T : Type 0} (clients : Slab (Client T)) (k key : ℕ) → Stands clients k key → IsSome (get clients key)
+key_is_held clients k key s = some_is (get clients key) s.client s.is
+
+pub its_number : {T : Type 0} (clients : Slab (Client T)) (k key : ℕ) (g : Client T) → Stands clients k key → get clients key ≡ Some g → g.conn ≡ k
+its_number clients k key g s is = ap (λ (x : Client _). x.conn) (some_same g s.client (sym is ∙ s.is)) ∙ s.number
+
+-- a table that a client has left
+pub less_sound : {T : Type 0} (h i : Inside T) (x key : ℕ) (t : Timer) → IsSound h → Differ (items_in h.timers.timers) → t.item ≡ x → IsPermutation h.timers.timers (t ∷ i.timers.timers)
+    → Has h.places.slots x key → Loses h.places.slots i.places.slots x → Updates h.clients i.clients key None → i.limit ≡ h.limit → slab_len i.clients + 1 ≡ slab_len h.clients
+    → i.clients.capacity ≡ h.clients.capacity → i.crew ≡ h.crew → i.places.spare ≡ h.places.spare + 1 → i.timers.spare ≡ h.timers.spare + 1 → IsSound i
+less_sound h i x key t s differ is moves here loses updates limit len capacity crew places timers =
+    let long = length_permutation h.timers.timers (t ∷ i.timers.timers) moves in
+    record {
+      stands = stands_less h.places.slots i.places.slots h.clients i.clients x key s.stands here loses updates;
+      timed = timed_less h.places.slots i.places.slots h.clients i.clients x key s.stands here loses updates h.timers.timers i.timers.timers t is moves s.timed;
+      tied = all_tied_less h.places.slots i.places.slots h.clients i.clients x key s.stands here loses updates h.timers.timers i.timers.timers t differ is moves s.tied;
+      count = omega (arith, long, s.count, len);
+      few = omega (arith, s.few, len, limit);
+      room = omega (arith, s.room, capacity, limit);
+      places_room = omega (arith, s.places_room, places, len, limit);
+      timers_room = omega (arith, s.timers_room, timers, len, limit);
+      size = ap (λ (c : SeenCrew). c.size) crew ∙ s.size ∙ ap Some (sym limit);
+      none_waits = ap (λ (c : SeenCrew). c.places) crew ∙ s.none_waits;
+    }
+
+-- the client of a timer that was taken
+pub due_deadline : {T : Type 0} (places : List Slot) (clients : Slab (Client T)) (ts us : List Timer) (t : Timer) (x key now : ℕ) (g : Client T) → All (IsTied places clients) ts → IsPermutation ts (t ∷ us)
+    → t.item ≡ x → Has places x key → get clients key ≡ Some g → t.deadline ≤ now → g.deadline ≤ now
+due_deadline places clients ts us t x key now g tied moves is has at due =
+    let h : IsTied places clients t = All-head (IsTied places clients) t us (All-permutation (IsTied places clients) ts (t ∷ us) moves tied) in
+    let e = h.deadline key g (subst (λ (n : ℕ). Has places n key) (sym is) has) at in
+    omega (arith, e, due)
+
+pub due_place : {T : Type 0} (places : List Slot) (clients : Slab (Client T)) (ts us : List Timer) (t : Timer) (x : ℕ) → All (IsTied places clients) ts → IsPermutation ts (t ∷ us)
+    → t.item ≡ x → (key : ℕ) × Has places x key
+due_place places clients ts us t x tied moves is =
+    let h : IsTied places clients t = All-head (IsTied places clients) t us (All-permutation (IsTied places clients) ts (t ∷ us) moves tied) in
+    (h.key, subst (λ (n : ℕ). Has places n h.key) is h.placed)
+
+-- an empty table
+pub new_sound : {T : Type 0} (h : Inside T) → h.clients.slots ≡ [] → ((q k : ℕ) → Has h.places.slots q k → ⊥) → h.timers.timers ≡ [] → slab_len h.clients + h.limit ≤ h.clients.capacity
+    → h.limit ≤ h.places.spare → h.limit ≤ h.timers.spare
+    → h.crew.size ≡ Some h.limit → h.crew.places ≡ [] → IsSound h
+new_sound h clients places timers room places_room timers_room size none_waits =
+    let len : slab_len h.clients ≡ 0 = ap (λ (xs : List (Option _)). count_by is_some xs) clients in
+    let long : length h.timers.timers ≡ 0 = ap (λ (ts : List Timer). length ts) timers in
+    record {
+      stands = λ k key has. absurd (places k key has);
+      timed = λ k key has. absurd (places k key has);
+      tied = subst (All (IsTied h.places.slots h.clients)) (sym timers) (All-nil (IsTied h.places.slots h.clients));
+      count = omega (arith, len, long);
+      few = omega (arith, len);
+      room = omega (arith, len, room);
+      places_room = omega (arith, places_room);
+      timers_room = omega (arith, timers_room);
+      size = size;
+      none_waits = none_waits;
+    }
+
+-- members come and go
+pub crew_sound : {T : Type 0} (h : Inside T) (crew : SeenCrew) → IsSound h → crew.size ≡ h.crew.size → crew.places ≡ h.crew.places → IsSound (record h { crew = crew })
+crew_sound h crew s size places = record {
+  stands = s.stands;
+  timed = s.timed;
+  tied = s.tied;
+  count = s.count;
+  few = s.few;
+  room = s.room;
+  places_room = s.places_room;
+  timers_room = s.timers_room;
+  size = size ∙ s.size;
+  none_waits = places ∙ s.none_waits;
+}

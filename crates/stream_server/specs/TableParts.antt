@@ -1,0 +1,35 @@
+-- What holds of the fields of a `ClientTable`.
+use Rattle.std.specs.Prelude.{◌≡◌, ℕ, ◌+◌, ◌≤◌, List, [], length, Some}
+use Rattle.std.specs.List.{All, Contains}
+use Rattle.slab.specs.Slab.{Slab, get, slab_len}
+use Rattle.linked_items.specs.declared.places.Slot.{Slot}
+use Rattle.linked_items.specs.Table.{Has}
+use Rattle.due_timers.specs.declared.heap.Timer.{Timer}
+use Rattle.due_timers.specs.SeenTimers.{items_in}
+use Rattle.stream_server.specs.declared.client.Client.{Client}
+use Rattle.stream_server.specs.declared.table.ClientTable.TheInside.{Inside}
+
+-- a client of that number stands under the key
+pub record Stands {T : Type 0} (clients : Slab (Client T)) (k key : ℕ) : Type 0 where
+  pub client : Client T
+  pub is : get clients key ≡ Some client
+  pub number : client.conn ≡ k
+
+-- the timer is that of a client, with its deadline
+pub record IsTied {T : Type 0} (places : List Slot) (clients : Slab (Client T)) (t : Timer) : Type 0 where
+  pub key : ℕ
+  pub placed : Has places t.item key
+  pub deadline : (j : ℕ) (client : Client T) → Has places t.item j → get clients j ≡ Some client → client.deadline ≡ t.deadline
+
+-- the three agree, there is room for so many, and the crew has as many places, for which nobody waits
+pub record IsSound {T : Type 0} (h : Inside T) : Type 0 where
+  pub stands : (k key : ℕ) → Has h.places.slots k key → Stands h.clients k key
+  pub timed : (k key : ℕ) → Has h.places.slots k key → Contains (items_in h.timers.timers) k
+  pub tied : All (IsTied h.places.slots h.clients) h.timers.timers
+  pub count : length h.timers.timers ≡ slab_len h.clients
+  pub few : slab_len h.clients ≤ h.limit
+  pub room : h.limit ≤ h.clients.capacity
+  pub places_room : h.limit ≤ slab_len h.clients + h.places.spare
+  pub timers_room : h.limit ≤ slab_len h.clients + h.timers.spare
+  pub size : h.crew.size ≡ Some h.limit
+  pub none_waits : h.crew.places ≡ []

@@ -1,0 +1,158 @@
+//! The clients of a server, by their numbers and by their deadlines, and the crew that has a place for each.
+ghost use Rattle.std.specs.Prelude.{◌≡◌, ◌↔◌, ℕ, ◌+◌, ◌<◌, ◌≤◌, ◌==◌, ◌++◌, [], ◌∷◌, length, IfOk, IfNone, IfSome, IsSome, IsTrue, OnErr, OnOk, Some, None};
+ghost use Rattle.std.specs.List.{Contains};
+ghost use Rattle.linked_items.specs.Items.{without};
+ghost use Rattle.groups_pools.specs.Seen.{AreBelow};
+
+use crate::client::Client;
+use due_timers::Timers;
+use groups_pools::Crew;
+use linked_items::places::Places;
+use slab::Slab;
+use std::alloc::{AllocError, Global};
+use std::marker::Model;
+
+/// Clients in a slab, each found by the number of its connection, and the numbers of all that were admitted.
+///
+/// A client is taken out while its connection is gone on with; its number is a member all the time, until it is
+/// released.
+#[derive(Drop)]
+pub struct ClientTable<T> {
+    clients: Slab<Client<T>>,
+    // The key of each client.
+    places: Places,
+    // The deadline of each client.
+    timers: Timers,
+    // The numbers of the live connections.
+    crew: Crew,
+    // So many fit.
+    limit: u32,
+}
+
+impl<T> Model for ClientTable<T> {
+    ghost use Rattle.stream_server.specs.Tables.{SeenTable};
+
+    ghost Value = { SeenTable T };
+
+    ghost view = { λ h. record { places = h.places.slots; clients = h.clients; members = h.crew.members; limit = h.limit } };
+
+    ghost use Rattle.stream_server.specs.TableParts.{IsSound};
+
+    ghost invariant = { IsSound };
+}
+
+impl<T: Drop> ClientTable<T> {
+    ghost use Rattle.stream_server.specs.Tables.{IsAbsent, IsListed, Relists, client_count, with_members};
+
+    /// Nobody is listed or admitted, and so many fit.
+    pub fn new(alloc: Global, limit: u32) -> Result<Self, AllocError>
+        ensures nobody { IfOk result (λ table. (k : ℕ) → IsListed table k None) }
+        ensures count { IfOk result (λ table. client_count table ≡ 0) }
+        ensures members { IfOk result (λ table. table.members ≡ []) }
+        ensures limit { IfOk result (λ table. table.limit ≡ limit) }
+    {
+        let mut clients = Slab::new(alloc);
+        clients.reserve(limit as usize)?;
+        let mut places = Places::new(alloc);
+        places.reserve(limit as usize)?;
+        let mut timers = Timers::new(alloc);
+        timers.reserve(limit as usize)?;
+        let crew = Crew::new(alloc, Some(limit))?;
+        let _room = clients.capacity();
+        Ok(ClientTable {
+            clients,
+            places,
+            timers,
+            crew,
+            limit,
+        })
+    }
+
+    /// Whether one more may be admitted.
+    pub fn has_place(&self) -> bool
+        ensures { IsTrue result ↔ (length self.now.members < self.now.limit) }
+    {
+        self.crew.admit_now()
+    }
+
+    /// Admits a connection. Its number is above all that were admitted. Without memory nothing is changed.
+    pub fn admit(&mut self, conn: u32) -> Result<(), AllocError>
+        requires place { length self.old.members < self.old.limit }
+        requires rising { AreBelow conn self.old.members }
+        ensures ok { OnOk result (self.new ≡ with_members (self.old.members ++ conn ∷ []) self.old) }
+        ensures err { OnErr result (self.new ≡ self.old) }
+    {
+        self.crew.admit(conn)?;
+        Ok(())
+    }
+
+    /// Lets a connection go, so that its place is free.
+    pub fn release(&mut self, conn: u32)
+        requires { Contains self.old.members conn }
+        ensures released { self.new ≡ with_members (without conn self.old.members) self.old }
+        ensures fewer { length self.new.members + 1 ≡ length self.old.members }
+    {
+        let _members = self.crew.members();
+        self.crew.member_ended(conn);
+    }
+
+    /// Whether nobody is listed.
+    pub fn is_empty(&self) -> bool
+        ensures { result ≡ (client_count self.now == 0) }
+    {
+        self.clients.is_empty()
+    }
+
+    /// The least deadline of those that are listed.
+    pub fn least(&self) -> Option<u64>
+        ensures { 0 < client_count self.now → IsSome result }
+    {
+        self.timers.least()
+    }
+
+    /// Lists a client.
+    pub fn insert(&mut self, client: Client<T>)
+        requires place { client_count self.old < self.old.limit }
+        requires absent { IsAbsent self.old client.conn }
+        ensures relists { Relists self.old self.new client.conn (Some client) }
+        ensures count { client_count self.new ≡ client_count self.old + 1 }
+    {
+        let conn = client.conn;
+        self.timers.add(conn, 0, client.deadline);
+        let key = self.clients.insert_reserved(client);
+        self.places.insert(conn, key);
+    }
+
+    /// Takes the client of this number out, if one is listed.
+    pub fn remove(&mut self, conn: u32) -> Option<Client<T>>
+        ensures was { IsListed self.old conn result }
+        ensures number { IfSome result (λ client. client.conn ≡ conn) }
+        ensures relists { IfSome result (λ _. Relists self.old self.new conn None) }
+        ensures count { IfSome result (λ _. client_count self.new + 1 ≡ client_count self.old) }
+        ensures same { IfNone result (self.new ≡ self.old) }
+    {
+        let Some(key) = self.places.find(conn) else {
+            return None;
+        };
+        let _timers = self.timers.len();
+        self.timers.cancel(conn);
+        self.places.remove(conn);
+        Some(self.clients.remove(key))
+    }
+
+    /// Takes a client out whose deadline has come, the least deadline first.
+    pub fn remove_due(&mut self, now: u64) -> Option<Client<T>>
+        ensures was { IfSome result (λ client. IsListed self.old client.conn (Some client)) }
+        ensures due { IfSome result (λ client. client.deadline ≤ now) }
+        ensures relists { IfSome result (λ client. Relists self.old self.new client.conn None) }
+        ensures count { IfSome result (λ _. client_count self.new + 1 ≡ client_count self.old) }
+        ensures same { IfNone result (self.new ≡ self.old) }
+    {
+        let _timers = self.timers.len();
+        let Some(conn) = self.timers.take_due(now) else {
+            return None;
+        };
+        let key = self.places.remove(conn);
+        Some(self.clients.remove(key))
+    }
+}
