@@ -1,0 +1,94 @@
+//! A connection of the system.
+ghost use Rattle.std.specs.Prelude.{◌≡◌, ◌<◌, ◌≤◌, map, ℕ, List, length};
+ghost use Rattle.gv_values.specs.Counts.{HasRisen};
+ghost use Rattle.mio_net.specs.Endpoints.{endpoint_meaning};
+ghost use Rattle.stream_net.specs.Nets.{closed_at, held_as};
+ghost use Rattle.stream_net.specs.Reads.{after_read};
+ghost use Rattle.stream_net.specs.Waits.{named, woken, woken_if};
+ghost use Rattle.stream_net.specs.Writes.{after_write};
+
+use crate::sockets::{read_stream, write_stream};
+use mio::net::TcpStream;
+use stream_net::{Account, ReadEnd, Ready, WriteEnd};
+
+/// A connection, whose stream is given up when it is closed.
+#[derive(Drop)]
+pub struct Endpoint {
+    /// What is kept of it.
+    pub account: Account,
+    /// Its stream.
+    pub stream: Option<TcpStream>,
+}
+
+/// Reads what came.
+#[tactic(auto, unfolding(gv_io::specs::Streams::appended))]
+pub fn read_endpoint(endpoint: &mut Endpoint, moment: u64, buf: &mut [u8]) -> ReadEnd
+    requires { 0 < length buf.old }
+    ensures after { endpoint_meaning endpoint.new ≡ after_read result buf.new moment endpoint.new.account.faults (endpoint_meaning endpoint.old) }
+    ensures never_falls { endpoint.old.account.faults ≤ endpoint.new.account.faults }
+    ensures failed { result ≡ ReadEnd.Failed → HasRisen endpoint.old.account.faults endpoint.new.account.faults }
+    ensures some { (n : ℕ) → result ≡ ReadEnd.Got n → 0 < n }
+    ensures fits { (n : ℕ) → result ≡ ReadEnd.Got n → n ≤ length buf.new }
+{
+    let end = read_stream(&endpoint.stream, buf);
+    endpoint.account.note_read(end, moment);
+    end
+}
+
+/// Writes what is taken.
+#[tactic(auto, unfolding(gv_io::specs::Streams::appended))]
+pub fn write_endpoint(endpoint: &mut Endpoint, moment: u64, bytes: &[u8]) -> WriteEnd
+    requires { 0 < length bytes.now }
+    ensures after { endpoint_meaning endpoint.new ≡ after_write result bytes.now moment endpoint.new.account.faults (endpoint_meaning endpoint.old) }
+    ensures never_falls { endpoint.old.account.faults ≤ endpoint.new.account.faults }
+    ensures failed { result ≡ WriteEnd.Failed → HasRisen endpoint.old.account.faults endpoint.new.account.faults }
+    ensures some { (n : ℕ) → result ≡ WriteEnd.Took n → 0 < n }
+    ensures fits { (n : ℕ) → result ≡ WriteEnd.Took n → n ≤ length bytes.now }
+{
+    let end = write_stream(&endpoint.stream, bytes);
+    endpoint.account.note_write(end, moment);
+    end
+}
+
+/// Closes it.
+pub fn close_endpoint(endpoint: &mut Endpoint, moment: u64)
+    ensures { endpoint_meaning endpoint.new ≡ closed_at moment (endpoint_meaning endpoint.old) }
+{
+    endpoint.stream = None;
+    endpoint.account.note_close(moment);
+}
+
+/// Holds it, or releases it.
+pub fn hold_endpoint(endpoint: &mut Endpoint, held: bool)
+    ensures { endpoint_meaning endpoint.new ≡ held_as held (endpoint_meaning endpoint.old) }
+{
+    endpoint.account.note_hold(held);
+}
+
+/// Notes that a wait named it.
+fn note_named(endpoint: &mut Endpoint)
+    ensures { endpoint_meaning endpoint.new ≡ woken_if endpoint.old.account.closed (endpoint_meaning endpoint.old) }
+{
+    endpoint.account.note_named();
+}
+
+/// Notes that a wait named the connection, if there is one of the number.
+fn name_at(endpoints: &mut [Endpoint], conn: u32)
+    ensures { map endpoint_meaning endpoints.new ≡ woken conn (map endpoint_meaning endpoints.old) }
+{
+    if (conn as usize) < endpoints.len() {
+        note_named(&mut endpoints[conn as usize]);
+    }
+}
+
+/// Notes what a wait named.
+pub fn name_endpoint(endpoints: &mut [Endpoint], ready: Ready)
+    ensures { map endpoint_meaning endpoints.new ≡ named ready (map endpoint_meaning endpoints.old) }
+{
+    match ready {
+        Ready::Incoming => {}
+        Ready::Elapsed => {}
+        Ready::Readable(conn) => name_at(endpoints, conn),
+        Ready::Writable(conn) => name_at(endpoints, conn),
+    }
+}

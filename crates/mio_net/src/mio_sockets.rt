@@ -1,0 +1,239 @@
+//! The net over the system.
+ghost use Rattle.std.specs.Prelude.{◌≡◌, ◌<◌, ◌≤◌, ◌^◌, length, map, false, IfOk};
+ghost use Rattle.gv_values.specs.Counts.{one_more as count_after};
+ghost use Rattle.mio_net.specs.Endpoints.{endpoint_meaning};
+ghost use Rattle.stream_net.specs.Nets.{live_count};
+
+use crate::endpoint::{
+    Endpoint, close_endpoint, hold_endpoint, name_endpoint, read_endpoint, write_endpoint,
+};
+use crate::sockets::{LISTENER, Taken, next_stream, poll_into};
+use gv_io::Failed;
+use mio::net::TcpListener;
+use mio::{Events, Interest, Poll};
+use std::alloc::Global;
+use std::io;
+use std::net::{Ipv4Addr, SocketAddr};
+use std::rt::Clock;
+use std::time::{Duration, Instant};
+use stream_net::{Accepted, Account, Net, ReadEnd, Ready, WriteEnd};
+
+/// How many events one poll takes.
+const EVENTS: usize = 256;
+
+/// The most connections, so that each has a number.
+const MOST: usize = 4294967295;
+
+/// The count after one more; it stands still at its last value.
+fn one_more(count: u64) -> u64
+    ensures { result ≡ count_after count }
+{
+    if count < u64::MAX { count + 1 } else { count }
+}
+
+/// The listener and the connections of the system, on 127.0.0.1.
+///
+/// Its moment is the milliseconds since it was made, as the clock gave them at the last wait, acceptance, read or
+/// write. It keeps the account of each connection that was ever accepted, since its clauses speak of the closed ones
+/// too, and the streams of those that are open. Where the system has no room for another stream (`EMFILE`), nobody is
+/// accepted until something else has happened.
+#[derive(Drop)]
+pub struct MioNet<R> {
+    rt: R,
+    start: Instant,
+    poll: Option<Poll>,
+    events: Events<Global>,
+    // What was told and wasn't yet named, the last first.
+    queue: Vec<Ready>,
+    listener: Option<TcpListener>,
+    // Whether somebody may wait: the listener was told of since nobody was found.
+    arrived: bool,
+    endpoints: Vec<Endpoint>,
+    live: usize,
+    most: usize,
+    moment: u64,
+    listens: Option<u16>,
+    faults: u64,
+    blocked: bool,
+    ghost live_is: { live ≡ live_count (map endpoint_meaning endpoints.items) },
+    ghost few: { length endpoints.items < 2 ^ 32 },
+}
+
+/// Begins to listen at the port, or at any for 0, and answers the port.
+fn listen_at<R: std::net::Net>(rt: &R, poll: &Poll, port: u16) -> io::Result<(TcpListener, u16)> {
+    let mut listener = TcpListener::bind(rt, SocketAddr::from((Ipv4Addr::LOCALHOST, port)))?;
+    let port = listener.local_addr()?.port();
+    poll.registry()
+        .register(&mut listener, LISTENER, Interest::READABLE)?;
+    Ok((listener, port))
+}
+
+/// Whether the listener was told of.
+fn is_incoming(ready: Ready) -> bool {
+    matches!(ready, Ready::Incoming)
+}
+
+/// The milliseconds since the start, or as many as before where the clock gives fewer or none.
+fn reading<R: Clock>(rt: &R, start: &Instant, before: u64) -> u64
+    ensures { before ≤ result }
+{
+    match start.elapsed(rt) {
+        Ok(passed) => before.max(
+            passed
+                .as_secs()
+                .saturating_mul(1000)
+                .saturating_add(u64::from(passed.subsec_millis())),
+        ),
+        Err(_) => before,
+    }
+}
+
+impl<R: std::net::Net + Clock + Drop> MioNet<R> {
+    ghost use Rattle.mio_net.specs.Endpoints.{meaning_by};
+    ghost use Rattle.stream_net.specs.Nets.{IsFresh};
+
+    /// A net that doesn't listen yet. Without a poll of the system it never will.
+    pub fn new(rt: R, alloc: Global) -> io::Result<MioNet<R>>
+        ensures { IfOk result (λ net. IsFresh (meaning_by net.endpoints.items net.most net.moment net.listens net.faults net.blocked)) }
+    {
+        let start = Instant::now(&rt)?;
+        let poll = Poll::new(&rt).ok();
+        let events = Events::with_capacity(alloc, EVENTS)?;
+        let queue = Vec::with_capacity(alloc, EVENTS)?;
+        Ok(MioNet {
+            rt,
+            start,
+            poll,
+            events,
+            queue,
+            listener: None,
+            arrived: false,
+            endpoints: Vec::new(alloc),
+            live: 0,
+            most: 0,
+            moment: 0,
+            listens: None,
+            faults: 0,
+            blocked: false,
+        })
+    }
+}
+
+impl<R: std::net::Net + Clock + Drop> Net for MioNet<R> {
+    ghost use Rattle.mio_net.specs.Endpoints.{meaning_by, readiness_of_none};
+
+    ghost meaning = { λ n. meaning_by n.endpoints.items n.most n.moment n.listens n.faults n.blocked };
+
+    ghost readiness = { λ _. readiness_of_none };
+
+    fn listen(&mut self, port: u16) -> Result<u16, Failed> {
+        if let Some(poll) = &self.poll {
+            if let Ok((listener, port)) = listen_at(&self.rt, poll, port) {
+                self.listener = Some(listener);
+                self.arrived = true;
+                self.listens = Some(port);
+                self.blocked = false;
+                return Ok(port);
+            }
+        }
+        self.faults = one_more(self.faults);
+        Err(Failed)
+    }
+
+    fn next(&mut self, until: Option<u64>) -> Result<Ready, Failed> {
+        self.blocked = false;
+        if self.queue.is_empty() {
+            self.moment = reading(&self.rt, &self.start, self.moment);
+            let timeout = match until {
+                Some(limit) => Some(Duration::from_millis(limit.saturating_sub(self.moment))),
+                None => None,
+            };
+            let polled = match &mut self.poll {
+                Some(poll) => poll_into(poll, &mut self.events, &mut self.queue, timeout),
+                None => Err(Failed),
+            };
+            self.moment = reading(&self.rt, &self.start, self.moment);
+            if polled.is_err() {
+                self.faults = one_more(self.faults);
+                return Err(Failed);
+            }
+        }
+        match self.queue.pop() {
+            Some(ready) => {
+                if let Ready::Elapsed = ready {
+                    return Ok(Ready::Incoming);
+                }
+                self.arrived = self.arrived | is_incoming(ready);
+                name_endpoint(&mut self.endpoints, ready);
+                Ok(ready)
+            }
+            None => match until {
+                Some(limit) if limit <= self.moment => Ok(Ready::Elapsed),
+                _ => Ok(Ready::Incoming),
+            },
+        }
+    }
+
+    fn accept(&mut self) -> Accepted {
+        self.blocked = false;
+        if self.endpoints.len() >= MOST {
+            return Accepted::Memory;
+        }
+        if !self.arrived {
+            self.blocked = true;
+            return Accepted::WouldBlock;
+        }
+        if self.endpoints.reserve(1).is_err() {
+            return Accepted::Memory;
+        }
+        let number = self.endpoints.len();
+        match next_stream(&self.poll, &self.listener, number) {
+            Taken::Stream(stream) => {
+                self.moment = reading(&self.rt, &self.start, self.moment);
+                self.endpoints.push_reserved(Endpoint {
+                    account: Account::new(self.moment),
+                    stream: Some(stream),
+                });
+                self.live += 1;
+                self.most = self.most.max(self.live);
+                Accepted::New(number as u32)
+            }
+            Taken::WouldBlock => {
+                self.arrived = false;
+                self.blocked = true;
+                Accepted::WouldBlock
+            }
+            Taken::Full => {
+                self.blocked = true;
+                Accepted::WouldBlock
+            }
+            Taken::Failed => {
+                self.faults = one_more(self.faults);
+                Accepted::Failed
+            }
+        }
+    }
+
+    fn read(&mut self, conn: u32, buf: &mut [u8]) -> ReadEnd {
+        self.moment = reading(&self.rt, &self.start, self.moment);
+        read_endpoint(&mut self.endpoints[conn as usize], self.moment, buf)
+    }
+
+    fn write(&mut self, conn: u32, bytes: &[u8]) -> WriteEnd {
+        self.moment = reading(&self.rt, &self.start, self.moment);
+        write_endpoint(&mut self.endpoints[conn as usize], self.moment, bytes)
+    }
+
+    fn close(&mut self, conn: u32) {
+        close_endpoint(&mut self.endpoints[conn as usize], self.moment);
+        self.live -= 1;
+    }
+
+    fn hold(&mut self, conn: u32, held: bool) {
+        hold_endpoint(&mut self.endpoints[conn as usize], held);
+    }
+
+    fn now(&self) -> u64 {
+        self.moment
+    }
+}

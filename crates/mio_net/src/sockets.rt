@@ -1,0 +1,169 @@
+//! What is asked of the system.
+ghost use Rattle.std.specs.Prelude.{◌≡◌, ◌≢◌, ◌<◌, ◌≤◌, ℕ, length};
+
+use gv_io::Failed;
+use mio::net::{TcpListener, TcpStream};
+use mio::{Events, Interest, Poll, Token};
+use std::alloc::Global;
+use std::io::{Error, ErrorKind, Read, Write};
+use std::time::Duration;
+use stream_net::{ReadEnd, Ready, WriteEnd};
+
+/// How often a call that a signal interrupted is made again.
+const TRIES: usize = 16;
+
+/// The token of the listener.
+pub const LISTENER: Token = Token(usize::MAX);
+
+/// What an acceptance gave.
+#[derive(Drop)]
+pub enum Taken {
+    /// A stream that is polled.
+    Stream(TcpStream),
+    /// Nobody waits.
+    WouldBlock,
+    /// Somebody waits, and the system has no room for another stream.
+    Full,
+    /// It failed.
+    Failed,
+}
+
+/// Reads what came.
+pub fn read_stream(stream: &Option<TcpStream>, buf: &mut [u8]) -> ReadEnd
+    requires { 0 < length buf.old }
+    ensures some { (n : ℕ) → result ≡ ReadEnd.Got n → 0 < n }
+    ensures fits { (n : ℕ) → result ≡ ReadEnd.Got n → n ≤ length buf.new }
+{
+    let Some(stream) = stream else {
+        return ReadEnd::Failed;
+    };
+    let mut stream = stream;
+    for _ in 0..TRIES {
+        match stream.read(buf) {
+            Ok(0) => return ReadEnd::End,
+            Ok(count) => return ReadEnd::Got(count),
+            Err(error) => match error.kind() {
+                ErrorKind::WouldBlock => return ReadEnd::WouldBlock,
+                ErrorKind::Interrupted => {}
+                _ => return ReadEnd::Failed,
+            },
+        }
+    }
+    ReadEnd::Failed
+}
+
+/// Writes what is taken.
+pub fn write_stream(stream: &Option<TcpStream>, bytes: &[u8]) -> WriteEnd
+    requires { 0 < length bytes.now }
+    ensures some { (n : ℕ) → result ≡ WriteEnd.Took n → 0 < n }
+    ensures fits { (n : ℕ) → result ≡ WriteEnd.Took n → n ≤ length bytes.now }
+{
+    let Some(stream) = stream else {
+        return WriteEnd::Failed;
+    };
+    let mut stream = stream;
+    for _ in 0..TRIES {
+        match stream.write(bytes) {
+            Ok(0) => return WriteEnd::Failed,
+            Ok(count) => return WriteEnd::Took(count),
+            Err(error) => match error.kind() {
+                ErrorKind::WouldBlock => return WriteEnd::WouldBlock,
+                ErrorKind::Interrupted => {}
+                _ => return WriteEnd::Failed,
+            },
+        }
+    }
+    WriteEnd::Failed
+}
+
+/// What an acceptance that the system refused leads to; nothing where the next is to be tried (accept(2), "Error
+/// handling in accept").
+fn refused(error: &Error) -> Option<Taken> {
+    if error.kind() == ErrorKind::WouldBlock {
+        return Some(Taken::WouldBlock);
+    }
+    match error.raw_os_error() {
+        // EINTR, ECONNABORTED, EPROTO, EPERM, and the faults of a network that the waiting connection has.
+        Some(4 | 103 | 71 | 1 | 64 | 92 | 95 | 100 | 101 | 112 | 113) => None,
+        // EMFILE, ENFILE, ENOBUFS, ENOMEM.
+        Some(24 | 23 | 105 | 12) => Some(Taken::Full),
+        _ => Some(Taken::Failed),
+    }
+}
+
+/// Has the stream polled under the token, and its bytes sent at once (`TCP_NODELAY`).
+fn polled(poll: &Poll, stream: TcpStream, token: usize) -> Taken {
+    let mut stream = stream;
+    // A stream that can't be set so is served all the same.
+    let _set = stream.set_nodelay(true);
+    match poll.registry().register(
+        &mut stream,
+        Token(token),
+        Interest::READABLE | Interest::WRITABLE,
+    ) {
+        Ok(()) => Taken::Stream(stream),
+        Err(_) => Taken::Full,
+    }
+}
+
+/// Accepts a connection, and has it polled under the token.
+fn take_stream(poll: &Poll, listener: &TcpListener, token: usize) -> Taken {
+    for _ in 0..TRIES {
+        match listener.accept() {
+            Ok((stream, _)) => return polled(poll, stream, token),
+            Err(error) => match refused(&error) {
+                Some(taken) => return taken,
+                None => {}
+            },
+        }
+    }
+    Taken::Full
+}
+
+/// Accepts a connection where there is a poll and a listener.
+pub fn next_stream(poll: &Option<Poll>, listener: &Option<TcpListener>, token: usize) -> Taken {
+    let Some(poll) = poll else {
+        return Taken::Failed;
+    };
+    let Some(listener) = listener else {
+        return Taken::Failed;
+    };
+    take_stream(poll, listener, token)
+}
+
+/// What an event tells.
+fn told(token: usize, readable: bool) -> Ready {
+    match u32::try_from(token) {
+        Ok(conn) => {
+            if readable {
+                Ready::Readable(conn)
+            } else {
+                Ready::Writable(conn)
+            }
+        }
+        Err(_) => Ready::Incoming,
+    }
+}
+
+/// Polls, and puts what was told into the queue, which is empty and has room for it, so that the first is taken first.
+pub fn poll_into(
+    poll: &mut Poll,
+    events: &mut Events<Global>,
+    queue: &mut Vec<Ready>,
+    timeout: Option<Duration>,
+) -> Result<(), Failed> {
+    if let Err(error) = poll.poll(events, timeout) {
+        return match error.kind() {
+            ErrorKind::Interrupted => Ok(()),
+            _ => Err(Failed),
+        };
+    }
+    for event in events.iter() {
+        let readable = event.is_readable() || event.is_read_closed() || event.is_error();
+        if queue.push(told(event.token().0, readable)).is_err() {
+            return Err(Failed);
+        }
+    }
+    queue.reverse();
+    Ok(())
+}
