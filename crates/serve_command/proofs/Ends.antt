@@ -1,0 +1,76 @@
+-- The command's ends, one by one.
+use Rattle.std.proofs.Common.{◌≡◌, ◌⊎◌, inr, ℕ, ◌+◌, ◌<◌, ◌≤◌, true, List, [], ◌∷◌, ◌++◌, length, Option, Some, refl, sym, ap, ◌∙◌, subst, arith, take}
+use Rattle.gv_io.specs.Streams.{appended, AppendsPrefix}
+use Rattle.gv_io.proofs.StreamLaws.{appended-appended, AppendsPrefix-after, AppendsPrefix-all, AppendsPrefix-longer, AppendsPrefix-whole}
+use Rattle.wsgi_core.specs.Applications.{App}
+use Rattle.wsgi_core.specs.Sessions.{session}
+use Rattle.stream_net.specs.Nets.{Connection, Meaning}
+use Rattle.stream_server.specs.declared.limits.Limits.{Limits}
+use Rattle.stream_server.specs.Served.{Cause}
+use Rattle.stream_server.specs.Serving.{BeginsSo, EachTold, IsAllServed, IsClosedWell}
+use Rattle.serve_command.specs.declared.serving.Served.{Served}
+use Rattle.serve_command.specs.Served.{ServesAt, listening, served}
+
+-- nothing is said of no connections
+no_connection : (cs : List Connection) (P : Connection → List ℕ → List ℕ → Type 0) → cs ≡ [] → EachTold cs P
+no_connection cs P none = λ k bytes out within. absurd (let e = ap (λ (xs : List Connection). length xs) none in omega (arith, within, e))
+
+pub listener_unfinished : Served.Listener ≡ Served.Finished → ⊥
+listener_unfinished e = absurd (cc)
+
+pub memory_unfinished : Served.Memory ≡ Served.Finished → ⊥
+memory_unfinished e = absurd (cc)
+
+-- nobody was accepted
+pub none_served : (end : Served) (app : App) (limits : Limits) (w : Meaning) (out0 out1 : Option (List ℕ)) (port : ℕ) → (end ≡ Served.Finished → ⊥) → w.connections ≡ [] → w.most ≡ 0
+    → AppendsPrefix out0 out1 (listening port) → (out1 ≡ out0) ⊎ (w.listens ≡ Some port) → ServesAt end app limits w out0 out1
+none_served end app limits w out0 out1 port unfinished none most begins listens = record {
+  port = port;
+  listens = listens;
+  begins = AppendsPrefix-longer out0 out1 (listening port) (served limits.conns) begins;
+  both = λ e. absurd (unfinished e);
+  told = λ some. absurd (let e = ap (λ (xs : List Connection). length xs) none in omega (arith, some, e));
+  own = no_connection w.connections (λ c bytes sent. BeginsSo (session app port bytes c.ended).bytes sent) none;
+  whole = no_connection w.connections (λ c bytes sent. IsClosedWell c → sent ≡ (session app port bytes c.ended).bytes) none;
+  cause = no_connection w.connections (λ c bytes sent. c.closed ≡ true → Cause (session app port bytes c.ended) sent limits.idle c) none;
+  most = omega (arith, most);
+  all = λ e. absurd (unfinished e);
+}
+
+module _ (app : App) (limits : Limits) (w : Meaning) (out0 out1 : Option (List ℕ)) (port : ℕ) (told : out1 ≡ appended out0 (listening port))
+    (own : EachTold w.connections (λ c bytes sent. BeginsSo (session app port bytes c.ended).bytes sent))
+    (whole : EachTold w.connections (λ c bytes sent. IsClosedWell c → sent ≡ (session app port bytes c.ended).bytes))
+    (cause : EachTold w.connections (λ c bytes sent. c.closed ≡ true → Cause (session app port bytes c.ended) sent limits.idle c))
+    (most : w.most ≤ limits.pool) (listens : w.listens ≡ Some port) where
+  -- out has the first line, and a beginning of the second
+  pub some_served : (end : Served) (out2 : Option (List ℕ)) → (end ≡ Served.Finished → ⊥) → AppendsPrefix out1 out2 (served limits.conns) → ServesAt end app limits w out0 out2
+  some_served end out2 unfinished more = record {
+    port = port;
+    listens = inr listens;
+    begins = AppendsPrefix-after out0 out1 out2 (listening port) (served limits.conns) told more;
+    both = λ e. absurd (unfinished e);
+    told = λ _. (take more.count (served limits.conns), more.is ∙ ap (λ (o : Option (List ℕ)). appended o (take more.count (served limits.conns))) told ∙ appended-appended out0 (listening port) (take more.count (served limits.conns)));
+    own = own;
+    whole = whole;
+    cause = cause;
+    most = most;
+    all = λ e. absurd (unfinished e);
+  }
+
+  -- and both
+  pub all_served : (out2 : Option (List ℕ)) → out2 ≡ appended out1 (served limits.conns) → IsAllServed w limits.conns → ServesAt Served.Finished app limits w out0 out2
+  all_served out2 last all =
+      let both : out2 ≡ appended out0 (listening port ++ served limits.conns) =
+      last ∙ ap (λ (o : Option (List ℕ)). appended o (served limits.conns)) told ∙ appended-appended out0 (listening port) (served limits.conns) in
+      record {
+        port = port;
+        listens = inr listens;
+        begins = AppendsPrefix-all out0 out2 (listening port ++ served limits.conns) both;
+        both = λ _. both;
+        told = λ _. (served limits.conns, both);
+        own = own;
+        whole = whole;
+        cause = cause;
+        most = most;
+        all = λ _. all;
+      }

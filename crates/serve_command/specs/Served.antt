@@ -1,0 +1,41 @@
+-- What the command `serve` leaves behind.
+use Rattle.std.specs.Prelude.{◌≡◌, ◌⊎◌, ℕ, ◌<◌, ◌≤◌, true, List, [], ◌∷◌, ◌++◌, length, Option, Some, codes}
+use Rattle.gv_io.specs.Streams.{appended, AppendsPrefix}
+use Rattle.gv_values.specs.ValueTexts.{decimal}
+use Rattle.wsgi_core.specs.Applications.{App}
+use Rattle.wsgi_core.specs.Sessions.{session}
+use Rattle.stream_net.specs.Nets.{Meaning}
+use Rattle.stream_server.specs.declared.limits.Limits.{Limits}
+use Rattle.stream_server.specs.Served.{Cause}
+use Rattle.stream_server.specs.Serving.{BeginsSo, EachTold, IsAllServed, IsClosedWell}
+use Rattle.serve_command.specs.declared.serving.Served.{Served}
+
+-- a word, a number and LF
+abbrev pub number_line : List ℕ → ℕ → List ℕ
+number_line word number = word ++ codes " " ++ decimal number ++ codes "\n"
+
+-- the line that tells the port, and the line that tells how many connections were served
+abbrev pub listening : ℕ → List ℕ
+listening port = number_line (codes "listening") port
+
+abbrev pub served : ℕ → List ℕ
+served conns = number_line (codes "served") conns
+
+-- The net served each connection by itself, at a port, with this application, and out has the lines.
+pub record ServesAt (end : Served) (app : App) (limits : Limits) (w : Meaning) (out0 out1 : Option (List ℕ)) : Type 0 where
+  -- the port that the net listens at, or out is as it was
+  pub port : ℕ
+  pub listens : (out1 ≡ out0) ⊎ (w.listens ≡ Some port)
+  -- out has the two lines, or a beginning of them; both where all were served
+  pub begins : AppendsPrefix out0 out1 (listening port ++ served limits.conns)
+  pub both : end ≡ Served.Finished → out1 ≡ appended out0 (listening port ++ served limits.conns)
+  -- the port was told before the first connection was accepted
+  pub told : 0 < length w.connections → (rest : List ℕ) × (out1 ≡ appended out0 (listening port ++ rest))
+  -- what was written to a connection begins what the session of what was read from it sends, and is all of it where it was closed well
+  pub own : EachTold w.connections (λ c bytes sent. BeginsSo (session app port bytes c.ended).bytes sent)
+  pub whole : EachTold w.connections (λ c bytes sent. IsClosedWell c → sent ≡ (session app port bytes c.ended).bytes)
+  -- each closed one was closed for a cause, and no more were open than there are places
+  pub cause : EachTold w.connections (λ c bytes sent. c.closed ≡ true → Cause (session app port bytes c.ended) sent limits.idle c)
+  pub most : w.most ≤ limits.pool
+  -- as many as asked for were accepted, and all are closed
+  pub all : end ≡ Served.Finished → IsAllServed w limits.conns

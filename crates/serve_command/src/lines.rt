@@ -1,0 +1,57 @@
+//! The lines that tell the port and the number of connections.
+ghost use Rattle.std.specs.Prelude.{◌≡◌, ◌≤◌, IfOk, IsErrOf, OnErr, OnOk};
+ghost use Rattle.gv_io.specs.Streams.{AppendsPrefix, appended};
+ghost use Rattle.gv_values.specs.Counts.{HasRisen};
+ghost use Rattle.serve_command.specs.Served.{number_line};
+
+use gv_io::Sink;
+use gv_values::decimal_text;
+use std::alloc::{AllocError, Global};
+use thiserror::Error;
+
+/// Why a line isn't out.
+#[derive(Clone, Copy, Debug, PartialEq, Eq, Error)]
+pub enum Unwritten {
+    /// The sink failed.
+    #[error("write fault")]
+    Fault,
+    #[error("out of memory")]
+    Memory,
+}
+
+/// The word, the number and LF.
+fn number_line(alloc: Global, word: &[u8], number: u64) -> Result<Vec<u8>, AllocError>
+    ensures { IfOk result (λ line. line.items ≡ number_line word.now number) }
+{
+    let mut line = Vec::new(alloc);
+    line.extend_from_slice(word)?;
+    line.push(b' ')?;
+    decimal_text(number, &mut line)?;
+    line.push(b'\n')?;
+    Ok(line)
+}
+
+/// Writes the line, and hands it on, so that a reader of out has it at once.
+#[tactic(auto, using(gv_io::proofs::StreamLaws::writes))]
+pub fn write_line<K: Sink>(
+    alloc: Global,
+    word: &[u8],
+    number: u64,
+    out: &mut K,
+) -> Result<(), Unwritten>
+    ensures whole { OnOk result (K.written out.new ≡ appended (K.written out.old) (number_line word.now number)) }
+    ensures cut { OnErr result (AppendsPrefix (K.written out.old) (K.written out.new) (number_line word.now number)) }
+    ensures failed { IsErrOf result Unwritten.Fault → HasRisen (K.faults out.old) (K.faults out.new) }
+    ensures never_falls { K.faults out.old ≤ K.faults out.new }
+{
+    let Ok(line) = number_line(alloc, word, number) else {
+        return Err(Unwritten::Memory);
+    };
+    let Ok(()) = out.write_all(line.as_slice()) else {
+        return Err(Unwritten::Fault);
+    };
+    match out.flush() {
+        Ok(()) => Ok(()),
+        Err(_) => Err(Unwritten::Fault),
+    }
+}
