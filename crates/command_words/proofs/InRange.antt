@@ -1,0 +1,109 @@
+-- The numbers of a command that words name are those that its options take.
+use Rattle.std.proofs.Common.{◌≡◌, ◌&&◌, ℕ, ◌≤◌, Bool, true, false, if◌then◌else◌, List, [], ◌∷◌, Option, Some, None, option_map, is_some, nat_le, refl, subst, leb-true}
+use Rattle.std.proofs.lemmas.Bool.{and_parts}
+use Rattle.std.specs.Str.{bytes_eq}
+use Rattle.std.specs.Str.Parse.{digits_value}
+use Rattle.gv_values.specs.Digits.{is_plain_number}
+use Rattle.command_words.specs.declared.command.Command.{Command}
+use Rattle.command_words.specs.declared.command.Command.TheVariants.{Text, Wsgi, Storm}
+use Rattle.command_words.specs.declared.command.RunWorld.{RunWorld}
+use Rattle.command_words.specs.declared.command.RunWorld.TheVariants.{Script, Native}
+use Rattle.command_words.specs.declared.command.TextCommand.TheVariants.{Format}
+use Rattle.command_words.specs.Words.{Look, OptionRow, Word, command_by, command_of, conns, given, idle, moves, native, number_by, number_in, option_names, options, pool, port, row_of, run, run_by, format, wsgi, serve, serve_by, size, storm, storm_by, tick, turns, value_in, world_by}
+use Rattle.command_words.specs.Ranges.{IsInRange, IsWorldInRange, Takes, takes_usual}
+
+-- ---- what gave a value
+
+record Given {A B : Type 0} (o : Option A) (f : A → Option B) (b : B) : Type 0 where
+  value : A
+  is : o ≡ Some value
+  gives : f value ≡ Some b
+
+some_given : {A B : Type 0} (o : Option A) (f : A → Option B) (b : B) → given o f ≡ Some b → Given o f b
+some_given None f b e = absurd (cc e)
+some_given (Some a) f b e = record { value = a; is = refl; gives = e }
+
+record Mapped {A B : Type 0} (o : Option A) (f : A → B) (b : B) : Type 0 where
+  value : A
+  is : o ≡ Some value
+  gives : f value ≡ b
+
+some_mapped : {A B : Type 0} (o : Option A) (f : A → B) (b : B) → option_map f o ≡ Some b → Mapped o f b
+some_mapped None f b e = absurd (cc e)
+some_mapped (Some a) f b e = record { value = a; is = refl; gives = cc e }
+
+-- ---- numbers
+
+from_test : (least most n m : ℕ) (b : Bool) → (if b && nat_le least n && nat_le n most then Some n else None) ≡ Some m → (least ≤ m) × (m ≤ most)
+from_test least most n m b e = by (nat_le least n) (nat_le n most) b refl refl e
+  where
+    by : (l u p : Bool) → nat_le least n ≡ l → nat_le n most ≡ u → (if p && l && u then Some n else None) ≡ Some m → (least ≤ m) × (m ≤ most)
+    by true true true el eu h = let same : n ≡ m = cc h in subst (λ k. (least ≤ k) × (k ≤ most)) same (leb-true least n el, leb-true n most eu)
+    by l u false el eu h = absurd (cc h)
+    by false u true el eu h = absurd (cc h)
+    by true false true el eu h = absurd (cc h)
+
+usual_takes : (o : OptionRow) (n : ℕ) → takes_usual o ≡ true → o.usual ≡ Some n → Takes o n
+usual_takes o n h e =
+    let P : Option ℕ → Type 0 = λ u. (elim u [ Some n ↦ nat_le o.least n && nat_le n o.most | None ↦ true ]) ≡ true in
+    let p = and_parts _ _ (subst P e h) in (leb-true o.least n p.0, leb-true n o.most p.1)
+
+number_takes : (o : OptionRow) (look : Look) (n : ℕ) → takes_usual o ≡ true → number_by o look ≡ Some n → Takes o n
+number_takes o look n h e = by (look o.name) e
+  where
+    by : (w : Option Word) → (elim w [ Some word ↦ number_in o.least o.most word | None ↦ o.usual ]) ≡ Some n → Takes o n
+    by (Some word) f = from_test o.least o.most (digits_value 10 word) n (is_plain_number word) f
+    by None f = usual_takes o n h f
+
+-- ---- commands
+
+world_takes : (look : Look) (w : RunWorld) → world_by look ≡ Some w → IsWorldInRange w
+world_takes look w e = by (is_some (look native.name)) (is_some (look tick.name)) e
+  where
+    by : (n t : Bool) → (if n then (if t then None else option_map (λ k. Native k) (number_by native look)) else option_map (λ k. Script k) (number_by tick look)) ≡ Some w
+        → IsWorldInRange w
+    by false t f = let m = some_mapped (number_by tick look) (λ k. Script k) w f in subst IsWorldInRange m.gives (number_takes tick look m.value refl m.is)
+    by true false f = let m = some_mapped (number_by native look) (λ k. Native k) w f in subst IsWorldInRange m.gives (number_takes native look m.value refl m.is)
+    by true true f = absurd (cc f)
+
+same_some : {A : Type 0} (a b : A) → Some a ≡ Some b → a ≡ b
+same_some a b e = cc e
+
+run_takes : (look : Look) (c : Command) → run_by look ≡ Some c → IsInRange c
+run_takes look c e =
+    let t = some_given (number_by turns look) _ c e in
+    let m = some_given (number_by moves look) _ c t.gives in
+    let w = some_given (world_by look) _ c m.gives in
+    subst IsInRange (same_some _ _ w.gives) (number_takes turns look t.value refl t.is, number_takes moves look m.value refl m.is, world_takes look w.value w.is)
+
+serve_takes : (look : Look) (c : Command) → serve_by look ≡ Some c → IsInRange c
+serve_takes look c e =
+    let p = some_given (number_by port look) _ c e in
+    let n = some_given (number_by conns look) _ c p.gives in
+    let m = some_given (number_by pool look) _ c n.gives in
+    let i = some_given (number_by idle look) _ c m.gives in
+    subst IsInRange (same_some _ _ i.gives)
+    (number_takes port look p.value refl p.is, number_takes conns look n.value refl n.is, number_takes pool look m.value refl m.is, number_takes idle look i.value refl i.is)
+
+storm_takes : (look : Look) (c : Command) → storm_by look ≡ Some c → IsInRange c
+storm_takes look c e = let s = some_mapped (number_by size look) (λ n. Storm n) c e in subst IsInRange s.gives (number_takes size look s.value refl s.is)
+
+by_name : (name : Word) (look : Look) (c : Command) → command_by name look ≡ Some c → IsInRange c
+by_name name look c e =
+    by (bytes_eq name run.name) (bytes_eq name format.name) (bytes_eq name wsgi.name) (bytes_eq name serve.name) (bytes_eq name storm.name) e
+  where
+    by : (r f w s t : Bool) → (if r then run_by look else if f then Some (Text Format) else if w then Some Wsgi else if s then serve_by look else if t then storm_by look else None) ≡ Some c
+        → IsInRange c
+    by true f w s t h = run_takes look c h
+    by false true w s t h = subst IsInRange (same_some _ _ h) tt
+    by false false true s t h = subst IsInRange (same_some _ _ h) tt
+    by false false false true t h = serve_takes look c h
+    by false false false false true h = storm_takes look c h
+    by false false false false false h = absurd (cc h)
+
+pub in_range : (words : List Word) (c : Command) → command_of words ≡ Some c → IsInRange c
+in_range [] c e = absurd (cc e)
+in_range (name ∷ words) c e =
+    let r = some_given (row_of name) (λ row. given (options (option_names row) words None []) (λ said. command_by row.name (value_in said))) c e in
+    let s = some_given (options (option_names r.value) words None []) (λ said. command_by r.value.name (value_in said)) c r.gives in
+    by_name r.value.name (value_in s.value) c s.gives

@@ -1,0 +1,7 @@
+pub mod Spelled
+pub mod Adding
+pub mod Rules
+pub mod Entered
+pub mod Walks
+pub mod Answered
+pub mod InRange

@@ -1,0 +1,27 @@
+-- The numbers that commands have.
+use Rattle.std.specs.Prelude.{ℕ, ◌≤◌, ◌&&◌, Bool, true, nat_le, Some, None}
+use Rattle.command_words.specs.Words.{OptionRow, turns, moves, tick, native, port, conns, pool, idle, size}
+use Rattle.command_words.specs.declared.command.Command.{Command}
+use Rattle.command_words.specs.declared.command.Command.TheVariants.{Text, Wsgi, Serve, Storm}
+use Rattle.command_words.specs.declared.command.RunWorld.{RunWorld}
+use Rattle.command_words.specs.declared.command.RunWorld.TheVariants.{Script, Native}
+use Rattle.command_words.specs.declared.command.TextCommand.TheVariants.{Run, Format}
+
+-- the usual number of the option is one that it takes
+abbrev pub takes_usual : OptionRow → Bool
+takes_usual option = elim option.usual [ Some n ↦ nat_le option.least n && nat_le n option.most | None ↦ true ]
+
+-- the option takes this number
+abbrev pub Takes : OptionRow → ℕ → Type 0
+Takes option n = (option.least ≤ n) × (n ≤ option.most)
+
+abbrev pub IsWorldInRange : RunWorld → Type 0
+IsWorldInRange (Script n) = Takes tick n
+IsWorldInRange (Native n) = Takes native n
+
+abbrev pub IsInRange : Command → Type 0
+IsInRange (Text (Run options)) = Takes turns options.turns × Takes moves options.moves × IsWorldInRange options.world
+IsInRange (Text Format) = Unit {0}
+IsInRange Wsgi = Unit {0}
+IsInRange (Serve options) = Takes port options.port × Takes conns options.conns × Takes pool options.pool × Takes idle options.idle
+IsInRange (Storm n) = Takes size n

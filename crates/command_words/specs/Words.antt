@@ -1,0 +1,202 @@
+-- Which lists of words are commands, and what they ask for.
+use Rattle.std.specs.Prelude.{◌==◌, ◌&&◌, ℕ, Bool, false, not, nat_le, if◌then◌else◌, List, [], ◌∷◌, ◌++◌, map, find, is_some, Option, Some, None, option_map, option_and_then, codes}
+use Rattle.std.specs.List.{list_any, before_first, after_first}
+use Rattle.std.specs.Str.{bytes_eq}
+use Rattle.std.specs.Str.Parse.{digits_value}
+use Rattle.gv_values.specs.Digits.{is_plain_number}
+use Rattle.command_words.specs.declared.command.Command.{Command}
+use Rattle.command_words.specs.declared.command.Command.TheVariants.{Text, Wsgi, Serve, Storm}
+use Rattle.command_words.specs.declared.command.RunWorld.{RunWorld}
+use Rattle.command_words.specs.declared.command.RunWorld.TheVariants.{Script, Native}
+use Rattle.command_words.specs.declared.command.TextCommand.TheVariants.{Run, Format}
+
+abbrev pub Word : Type 0
+Word = List ℕ
+
+-- ---- the table
+
+-- an option: its name, the least and the most number that it takes, and the one that stands where it is left out; none
+-- where it has to be given
+pub record OptionRow : Type 0 where
+  pub name : Word
+  pub least : ℕ
+  pub most : ℕ
+  pub usual : Option ℕ
+
+abbrev pub turns : OptionRow
+turns = record { name = codes "turns"; least = 1; most = 10000000; usual = Some 1000000 }
+
+abbrev pub moves : OptionRow
+moves = record { name = codes "moves"; least = 1; most = 100000000; usual = Some 10000000 }
+
+abbrev pub tick : OptionRow
+tick = record { name = codes "tick"; least = 0; most = 1000; usual = Some 0 }
+
+abbrev pub native : OptionRow
+native = record { name = codes "native"; least = 1; most = 16; usual = None }
+
+abbrev pub port : OptionRow
+port = record { name = codes "port"; least = 0; most = 65535; usual = None }
+
+abbrev pub conns : OptionRow
+conns = record { name = codes "conns"; least = 1; most = 1000000; usual = None }
+
+abbrev pub pool : OptionRow
+pool = record { name = codes "pool"; least = 1; most = 1024; usual = Some 100 }
+
+abbrev pub idle : OptionRow
+idle = record { name = codes "idle"; least = 1; most = 3600000; usual = Some 60000 }
+
+abbrev pub size : OptionRow
+size = record { name = codes "size"; least = 1; most = 19000; usual = None }
+
+-- a command: its name, and its options
+pub record CommandRow : Type 0 where
+  pub name : Word
+  pub options : List OptionRow
+
+abbrev pub run : CommandRow
+run = record { name = codes "run"; options = turns ∷ moves ∷ tick ∷ native ∷ [] }
+
+abbrev pub format : CommandRow
+format = record { name = codes "fmt"; options = [] }
+
+abbrev pub wsgi : CommandRow
+wsgi = record { name = codes "wsgi"; options = [] }
+
+abbrev pub serve : CommandRow
+serve = record { name = codes "serve"; options = port ∷ conns ∷ pool ∷ idle ∷ [] }
+
+abbrev pub storm : CommandRow
+storm = record { name = codes "storm"; options = size ∷ [] }
+
+abbrev pub commands : List CommandRow
+commands = run ∷ format ∷ wsgi ∷ serve ∷ storm ∷ []
+
+-- ---- options
+
+-- the options that were given, each as its name and its value
+abbrev pub Said : Type 0
+Said = List (Word × Word)
+
+-- the byte `=`
+abbrev pub is_equals : ℕ → Bool
+is_equals b = b == 61
+
+-- the byte `-`
+abbrev pub is_dash : ℕ → Bool
+is_dash b = b == 45
+
+abbrev pub begins_with_dash : Word → Bool
+begins_with_dash [] = false
+begins_with_dash (b ∷ bs) = is_dash b
+
+-- the name, and the value that stands behind a first `=` in the same word
+abbrev pub name_and_value : Word → Word × Option Word
+name_and_value text = (before_first is_equals text, if list_any is_equals text then Some (after_first is_equals text) else None)
+
+-- `--name` or `--name=value`
+abbrev pub option_word : Word → Option (Word × Option Word)
+option_word (a ∷ b ∷ c ∷ rest) = if is_dash a && is_dash b then Some (name_and_value (c ∷ rest)) else None
+option_word _ = None
+
+abbrev pub is_among : List Word → Word → Bool
+is_among names name = list_any (λ n. bytes_eq n name) names
+
+abbrev pub was_said : Word → Said → Bool
+was_said name said = list_any (λ (p : Word × Word). bytes_eq p.0 name) said
+
+-- the option of this name is given this value: it is one of these, and was not given before
+abbrev pub says : List Word → Word → Word → Said → Option Said
+says names name value said = if is_among names name && not (was_said name said) then Some (said ++ (name, value) ∷ []) else None
+
+-- what the words say after what was said before, where `waiting` is the option whose value comes next
+abbrev pub options : (names : List Word) → List Word → (waiting : Option Word) → Said → Option Said
+options names [] None said = Some said
+options names [] (Some name) said = None
+options names (word ∷ words) None said = elim (option_word word) [
+  | None ↦ None
+  | Some p ↦ elim p.1 [
+    | Some value ↦ option_and_then (options names words None) (says names p.0 value said)
+    | None ↦ if is_among names p.0 then options names words (Some p.0) said else None
+  ]
+]
+options names (word ∷ words) (Some name) said =
+    if begins_with_dash word then None else option_and_then (options names words None) (says names name word said)
+
+-- ---- numbers
+
+-- the number from `least` to `most` that the word spells, in decimal digits without a leading zero
+abbrev pub number_in : ℕ → ℕ → Word → Option ℕ
+number_in least most word =
+    if is_plain_number word && nat_le least (digits_value 10 word) && nat_le (digits_value 10 word) most
+    then Some (digits_value 10 word) else None
+
+-- the value of each option that was given, by its name
+abbrev pub Look : Type 0
+Look = Word → Option Word
+
+abbrev pub value_in : Said → Look
+value_in said name = option_map (λ (p : Word × Word). p.1) (find (λ (p : Word × Word). bytes_eq p.0 name) said)
+
+-- the number of an option: the one that it was given, or else its usual one; none where there is no such number
+abbrev pub number_by : OptionRow → Look → Option ℕ
+number_by option look = elim (look option.name) [
+  | Some word ↦ number_in option.least option.most word
+  | None ↦ option.usual
+]
+
+-- ---- commands
+
+-- what comes of the value, where there is one
+abbrev pub given : {A B : Type 0} → Option A → (A → Option B) → Option B
+given value go = option_and_then go value
+
+-- the world of a run: that of its tick; or native workers, and then no tick
+abbrev pub world_by : Look → Option RunWorld
+world_by look =
+    if is_some (look native.name)
+    then (if is_some (look tick.name) then None else option_map (λ n. Native n) (number_by native look))
+    else option_map (λ n. Script n) (number_by tick look)
+
+abbrev pub run_by : Look → Option Command
+run_by look =
+    given (number_by turns look) (λ turns.
+    given (number_by moves look) (λ moves.
+    given (world_by look) (λ world.
+    Some (Text (Run (record { turns = turns; moves = moves; world = world }))))))
+
+abbrev pub serve_by : Look → Option Command
+serve_by look =
+    given (number_by port look) (λ port.
+    given (number_by conns look) (λ conns.
+    given (number_by pool look) (λ pool.
+    given (number_by idle look) (λ idle.
+    Some (Serve (record { port = port; conns = conns; pool = pool; idle = idle }))))))
+
+abbrev pub storm_by : Look → Option Command
+storm_by look = option_map (λ n. Storm n) (number_by size look)
+
+-- the command of this name, by the values of its options
+abbrev pub command_by : Word → Look → Option Command
+command_by name look =
+    if bytes_eq name run.name then run_by look
+    else if bytes_eq name format.name then Some (Text Format)
+    else if bytes_eq name wsgi.name then Some Wsgi
+    else if bytes_eq name serve.name then serve_by look
+    else if bytes_eq name storm.name then storm_by look
+    else None
+
+abbrev pub row_of : Word → Option CommandRow
+row_of name = find (λ (row : CommandRow). bytes_eq name row.name) commands
+
+abbrev pub option_names : CommandRow → List Word
+option_names row = map (λ (option : OptionRow). option.name) row.options
+
+-- the command that the words name, if they name one: its name comes first, and then its options
+abbrev pub command_of : List Word → Option Command
+command_of [] = None
+command_of (name ∷ words) =
+    given (row_of name) (λ row.
+    given (options (option_names row) words None []) (λ said.
+    command_by row.name (value_in said)))

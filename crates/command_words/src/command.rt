@@ -1,0 +1,56 @@
+//! Commands with their options.
+
+/// The world of a run: what answers its questions.
+#[derive(Clone, Copy, Debug, PartialEq, Eq)]
+pub enum RunWorld {
+    /// A script, whose moment grows by so many milliseconds at each look that finds nothing.
+    Script(u64),
+    /// So many native workers.
+    Native(u32),
+}
+
+/// The options of a run.
+#[derive(Clone, Copy, Debug, PartialEq, Eq)]
+pub struct RunOptions {
+    /// The most turns that it makes.
+    pub turns: u64,
+    /// The most moves that it makes.
+    pub moves: u64,
+    /// What answers its questions.
+    pub world: RunWorld,
+}
+
+/// What is done with the scenario that the input spells.
+#[derive(Clone, Copy, Debug, PartialEq, Eq)]
+pub enum TextCommand {
+    /// Run it.
+    Run(RunOptions),
+    /// Write its printed form.
+    Format,
+}
+
+/// The options of a server.
+#[derive(Clone, Copy, Debug, PartialEq, Eq)]
+pub struct ServeOptions {
+    /// The port that it listens on; at 0 the system chooses one.
+    pub port: u16,
+    /// How many connections it serves before it ends.
+    pub conns: u32,
+    /// The most connections that it serves at a time.
+    pub pool: u32,
+    /// How many milliseconds a connection may be quiet before it is closed.
+    pub idle: u64,
+}
+
+/// What the program is asked to do.
+#[derive(Clone, Copy, Debug, PartialEq, Eq)]
+pub enum Command {
+    /// Do this with the scenario that the input spells.
+    Text(TextCommand),
+    /// Answer the connection whose bytes the input gives.
+    Wsgi,
+    /// Serve connections.
+    Serve(ServeOptions),
+    /// Run the storm of so many greenlets.
+    Storm(u32),
+}

@@ -1,0 +1,13 @@
+//! What the words after the program's name ask for, read with `clap`.
+#![tactic(auto)]
+
+mod clap_command;
+mod command;
+mod laws;
+mod numbers;
+mod reading;
+mod table;
+
+pub use command::{Command, RunOptions, RunWorld, ServeOptions, TextCommand};
+pub use laws::commands_are_in_range;
+pub use reading::command_of;

@@ -1,0 +1,148 @@
+//! The command that the words name.
+ghost use Rattle.std.specs.Prelude.{◌≡◌, IfOk, map, string_bytes};
+ghost use Rattle.std.specs.List.{list_any};
+ghost use Rattle.clap.specs.Words.{first_of, found_of, rows_of, subcommand_rows_of};
+ghost use Rattle.command_words.specs.Words.{command_by, command_of, run_by, serve_by, storm_by, world_by};
+ghost use Rattle.command_words.specs.Clap.{by_clap, command_in, is_stray};
+
+use crate::clap_command::program;
+use crate::command::{Command, RunOptions, RunWorld, ServeOptions, TextCommand};
+use crate::numbers::{given, number_by};
+use crate::table::{CONNS, IDLE, MOVES, NATIVE, POOL, PORT, SIZE, TICK, TURNS};
+use clap::ArgMatches;
+use clap::error::ErrorKind;
+use std::alloc::{AllocError, Global};
+
+/// The command that the words after the program's name name, if they name one.
+///
+/// The command is the first word. Each option is one word `--name` followed by one word, or the one word
+/// `--name=value`; options stand in any order, each at most once. A value is a number in decimal digits without a
+/// leading zero, in the option's range. All other words are no command, and neither are those of a run with a tick and
+/// native workers.
+///
+/// # Errors
+///
+/// `AllocError` where memory ran out.
+pub fn command_of(alloc: Global, words: &[String]) -> Result<Option<Command>, AllocError>
+    ensures { IfOk result (λ r. r ≡ command_of (map string_bytes words.now)) }
+{
+    if has_stray(words) {
+        return Ok(None);
+    }
+    Ok(by_clap(alloc, words)?)
+}
+
+/// One of the words begins with `-` and is no long option: `--`, behind which `clap` would take no option, `-`, or a
+/// short option.
+fn has_stray(words: &[String]) -> bool
+    ensures { result ≡ list_any (λ w. is_stray (string_bytes w)) words.now }
+{
+    words.iter().any(|word| is_stray(word))
+}
+
+fn is_stray(word: &String) -> bool
+    ensures { result ≡ is_stray (string_bytes word.now) }
+{
+    is_stray_text(word.as_bytes())
+}
+
+fn is_stray_text(word: &[u8]) -> bool
+    ensures { result ≡ is_stray word.now }
+{
+    match word {
+        [b'-', b'-', _, ..] => false,
+        [b'-', ..] => true,
+        _ => false,
+    }
+}
+
+/// The command that `clap` finds in the words.
+fn by_clap(alloc: Global, words: &[String]) -> Result<Option<Command>, AllocError>
+    ensures { IfOk result (λ r. r ≡ by_clap (map string_bytes words.now)) }
+{
+    let command = program(alloc)?;
+    match command.try_get_matches_from(words) {
+        Ok(matches) => Ok(command_in(&matches)),
+        Err(error) => {
+            if error.kind() == ErrorKind::OutOfMemory {
+                Err(AllocError)
+            } else {
+                Ok(None)
+            }
+        }
+    }
+}
+
+/// The command of what a parse entered.
+fn command_in(matches: &ArgMatches) -> Option<Command>
+    ensures { result ≡ command_in (subcommand_rows_of matches.now) }
+{
+    match matches.subcommand() {
+        Some((name, matches)) => command_by(name, matches),
+        None => None,
+    }
+}
+
+/// The command of this name with these options.
+fn command_by(name: &str, matches: &ArgMatches) -> Option<Command>
+    ensures { result ≡ command_by name.now (λ n. first_of n (rows_of (found_of matches.now))) }
+{
+    match name {
+        "run" => run_by(matches),
+        "fmt" => Some(Command::Text(TextCommand::Format)),
+        "wsgi" => Some(Command::Wsgi),
+        "serve" => serve_by(matches),
+        "storm" => storm_by(matches),
+        _ => None,
+    }
+}
+
+/// The world that a run is asked for: that of its tick, or native workers and then no tick.
+fn world_by(matches: &ArgMatches) -> Option<RunWorld>
+    ensures { result ≡ world_by (λ n. first_of n (rows_of (found_of matches.now))) }
+{
+    if given(NATIVE, matches).is_none() {
+        let tick = number_by(TICK, matches)?;
+        return Some(RunWorld::Script(tick));
+    }
+    if given(TICK, matches).is_some() {
+        return None;
+    }
+    let workers = number_by(NATIVE, matches)?;
+    Some(RunWorld::Native(workers as u32))
+}
+
+fn run_by(matches: &ArgMatches) -> Option<Command>
+    ensures { result ≡ run_by (λ n. first_of n (rows_of (found_of matches.now))) }
+{
+    let turns = number_by(TURNS, matches)?;
+    let moves = number_by(MOVES, matches)?;
+    let world = world_by(matches)?;
+    Some(Command::Text(TextCommand::Run(RunOptions {
+        turns,
+        moves,
+        world,
+    })))
+}
+
+fn serve_by(matches: &ArgMatches) -> Option<Command>
+    ensures { result ≡ serve_by (λ n. first_of n (rows_of (found_of matches.now))) }
+{
+    let port = number_by(PORT, matches)?;
+    let conns = number_by(CONNS, matches)?;
+    let pool = number_by(POOL, matches)?;
+    let idle = number_by(IDLE, matches)?;
+    Some(Command::Serve(ServeOptions {
+        port: port as u16,
+        conns: conns as u32,
+        pool: pool as u32,
+        idle,
+    }))
+}
+
+fn storm_by(matches: &ArgMatches) -> Option<Command>
+    ensures { result ≡ storm_by (λ n. first_of n (rows_of (found_of matches.now))) }
+{
+    let size = number_by(SIZE, matches)?;
+    Some(Command::Storm(size as u32))
+}

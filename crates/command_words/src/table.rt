@@ -1,0 +1,125 @@
+//! The table of the commands and their options.
+
+/// An option, whose value is a number.
+#[derive(Clone, Copy, Debug, PartialEq, Eq)]
+pub struct NumberOption {
+    /// Its name, which stands behind `--`.
+    pub name: &'static str,
+    /// The least number that it takes.
+    pub least: u64,
+    /// The most that it takes.
+    pub most: u64,
+    /// The number that stands where it is left out; none where it has to be given.
+    pub usual: Option<u64>,
+}
+
+/// A command: its name, and its options.
+#[derive(Clone, Copy, Debug)]
+pub struct CommandRow {
+    /// Its name.
+    pub name: &'static str,
+    /// Its options.
+    pub options: &'static [NumberOption],
+}
+
+/// The most turns of a run.
+pub const TURNS: NumberOption = NumberOption {
+    name: "turns",
+    least: 1,
+    most: 10000000,
+    usual: Some(1000000),
+};
+
+/// The most moves of a run.
+pub const MOVES: NumberOption = NumberOption {
+    name: "moves",
+    least: 1,
+    most: 100000000,
+    usual: Some(10000000),
+};
+
+/// The tick of a run's script, in milliseconds.
+pub const TICK: NumberOption = NumberOption {
+    name: "tick",
+    least: 0,
+    most: 1000,
+    usual: Some(0),
+};
+
+/// The native workers of a run.
+pub const NATIVE: NumberOption = NumberOption {
+    name: "native",
+    least: 1,
+    most: 16,
+    usual: None,
+};
+
+/// The port of a server.
+pub const PORT: NumberOption = NumberOption {
+    name: "port",
+    least: 0,
+    most: 65535,
+    usual: None,
+};
+
+/// The connections of a server.
+pub const CONNS: NumberOption = NumberOption {
+    name: "conns",
+    least: 1,
+    most: 1000000,
+    usual: None,
+};
+
+/// The most connections of a server at a time.
+pub const POOL: NumberOption = NumberOption {
+    name: "pool",
+    least: 1,
+    most: 1024,
+    usual: Some(100),
+};
+
+/// The time after which a server closes a quiet connection, in milliseconds.
+pub const IDLE: NumberOption = NumberOption {
+    name: "idle",
+    least: 1,
+    most: 3600000,
+    usual: Some(60000),
+};
+
+/// The size of a storm.
+pub const SIZE: NumberOption = NumberOption {
+    name: "size",
+    least: 1,
+    most: 19000,
+    usual: None,
+};
+
+const OF_RUN: [NumberOption; 4] = [TURNS, MOVES, TICK, NATIVE];
+
+const OF_SERVE: [NumberOption; 4] = [PORT, CONNS, POOL, IDLE];
+
+const OF_STORM: [NumberOption; 1] = [SIZE];
+
+/// The commands, each with its options.
+pub const COMMANDS: [CommandRow; 5] = [
+    CommandRow {
+        name: "run",
+        options: &OF_RUN,
+    },
+    CommandRow {
+        name: "fmt",
+        options: &[],
+    },
+    CommandRow {
+        name: "wsgi",
+        options: &[],
+    },
+    CommandRow {
+        name: "serve",
+        options: &OF_SERVE,
+    },
+    CommandRow {
+        name: "storm",
+        options: &OF_STORM,
+    },
+];
