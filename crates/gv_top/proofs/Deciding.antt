@@ -1,15 +1,15 @@
 -- From the parts of the call to its verdict.
-use Rattle.std.proofs.Common.{◌≡◌, ◌≢◌, ℕ, List, ◌++◌, take, drop, Option, Some, None, Ok, Err, refl, ap, sym, subst, ◌∙◌, unwrap_or, IfSome, take-append-drop}
+use Rattle.std.proofs.Common.{◌≡◌, ◌≢◌, ℕ, List, [], ◌++◌, take, drop, Option, Some, None, Ok, Err, refl, ap, sym, subst, ◌∙◌, unwrap_or, IfSome, take-append-drop, arith}
 use Rattle.std.proofs.lemmas.List.{append_cancel_left}
 use Rattle.trace_text.specs.LineTexts.{text_of}
 use Rattle.trace_text.specs.declared.line.StopCause.{StopCause}
 use Rattle.scenario_tree.specs.declared.tree.Scenario.{Scenario}
 use Rattle.gv_io.specs.Streams.{prepended, AppendsPrefix}
-use Rattle.gv_io.proofs.StreamLaws.{appended-nothing, AppendsPrefix-all, AppendsPrefix-nothing}
+use Rattle.gv_io.proofs.StreamLaws.{appended-nothing, AppendsPrefix-all, AppendsPrefix-nothing, prepended-nothing}
 use Rattle.unbuilt_forms.specs.Built.{first_unbuilt}
 use Rattle.machine.specs.Run.{Ran, End as RunEnd, script_run}
 use Rattle.machine.specs.Status.{status, err_line}
-use Rattle.hub_engine.specs.declared.run.Budgets.{Budgets}
+use Rattle.command_words.specs.declared.command.RunOptions.{RunOptions}
 use Rattle.hub_engine.specs.declared.run.End.{End}
 use Rattle.hub_engine.specs.Ends.{RanTo, end_of, end_of_run}
 use Rattle.hub_engine.specs.Prepared.{Prepared}
@@ -19,11 +19,12 @@ use Rattle.scenario_grammar.specs.declared.place.Place.{Place}
 use Rattle.scenario_lang.specs.declared.text.ParseRefusal.{ParseRefusal}
 use Rattle.scenario_lang.specs.declared.text.ParseRefusal.TheVariants as parse
 use Rattle.scenario_lang.specs.Lines.{Parses}
-use Rattle.gv_top.specs.declared.words.TextCommand.{TextCommand}
+use Rattle.command_words.specs.declared.command.TextCommand.{TextCommand}
 use Rattle.gv_top.proofs.ReadTexts.{answer_by, run_if}
 use Rattle.gv_top.specs.Answers.{Answer, answer_to, answer_to_scenario, answer_to_text, answer_of_run, err_of, judged, most_read, run_of, status_of}
 use Rattle.gv_top.specs.Verdicts.{IsExplained, IsRefusedWithReason, number_of, line_of, verdict_on}
-use Rattle.gv_top.specs.Top.{Decided}
+use Rattle.wsgi_connection.specs.declared.connection.ConnectionEnd.{ConnectionEnd}
+use Rattle.gv_top.specs.Top.{Decided, IsOfConnection}
 
 -- ---- the run
 
@@ -40,13 +41,13 @@ prefix_of_trace End.NoLinks r old new h = AppendsPrefix-all old new (text_of r.l
 prefix_of_trace End.NoKills r old new h = AppendsPrefix-all old new (text_of r.lines) h.0
 
 -- where out could not be handed on after the run, it has a prefix of the trace
-pub cut_at_the_flush : (end : End) (engine : Prepared) (budgets : Budgets) (s : Scenario) (old middle new : Option (List ℕ))
-    → engine ≡ record { scenario = s; turns = budgets.turns; moves = budgets.moves } → RanTo end (script_run engine.scenario engine.turns engine.moves 0) old middle
-    → new ≡ middle → RanTo End.WriteFault (run_of budgets s) old new
-cut_at_the_flush end engine budgets s old middle new e h is =
+pub cut_at_the_flush : (end : End) (engine : Prepared) (options : RunOptions) (s : Scenario) (old middle new : Option (List ℕ))
+    → engine ≡ record { scenario = s; turns = options.turns; moves = options.moves } → RanTo end (script_run engine.scenario engine.turns engine.moves 0) old middle
+    → new ≡ middle → RanTo End.WriteFault (run_of options s) old new
+cut_at_the_flush end engine options s old middle new e h is =
     let P : Prepared → Type 0 = λ x. RanTo end (script_run x.scenario x.turns x.moves 0) old middle in
-    let Q : Option (List ℕ) → Type 0 = λ x. AppendsPrefix old x (text_of (run_of budgets s).lines) in
-    subst Q (sym is) (prefix_of_trace end (run_of budgets s) old middle (subst P e h))
+    let Q : Option (List ℕ) → Type 0 = λ x. AppendsPrefix old x (text_of (run_of options s).lines) in
+    subst Q (sym is) (prefix_of_trace end (run_of options s) old middle (subst P e h))
 
 -- ---- the verdict of a run
 
@@ -132,16 +133,16 @@ refusal_explained e v is h = subst IsExplained (sym is) (by e h)
     by parse.Memory h = tt
 
 -- a scenario all of whose forms are run is run
-pub built_decided : (budgets : Budgets) (s : Scenario) (end : End) (old new : Option (List ℕ)) → first_unbuilt s ≡ None → RanTo end (run_of budgets s) old new
-    → Decided (Verdict.Ran end) (answer_to_scenario (TextCommand.Run budgets) s) old new
-built_decided budgets s end old new e h =
-    let P : Answer → Type 0 = λ a. Decided (Verdict.Ran end) a old new in subst P (sym (ap (run_if budgets s) e)) (run_decided end (run_of budgets s) old new h)
+pub built_decided : (options : RunOptions) (s : Scenario) (end : End) (old new : Option (List ℕ)) → first_unbuilt s ≡ None → RanTo end (run_of options s) old new
+    → Decided (Verdict.Ran end) (answer_to_scenario (TextCommand.Run options) s) old new
+built_decided options s end old new e h =
+    let P : Answer → Type 0 = λ a. Decided (Verdict.Ran end) a old new in subst P (sym (ap (run_if options s) e)) (run_decided end (run_of options s) old new h)
 
 -- another is not
-pub unbuilt_decided : (budgets : Budgets) (s : Scenario) (n : ℕ) (old : Option (List ℕ)) → first_unbuilt s ≡ Some n
-    → Decided (Verdict.NotBuilt n) (answer_to_scenario (TextCommand.Run budgets) s) old old
-unbuilt_decided budgets s n old e =
-    let P : Answer → Type 0 = λ a. Decided (Verdict.NotBuilt n) a old old in subst P (sym (ap (run_if budgets s) e)) (sym (appended-nothing old), refl, refl)
+pub unbuilt_decided : (options : RunOptions) (s : Scenario) (n : ℕ) (old : Option (List ℕ)) → first_unbuilt s ≡ Some n
+    → Decided (Verdict.NotBuilt n) (answer_to_scenario (TextCommand.Run options) s) old old
+unbuilt_decided options s n old e =
+    let P : Answer → Type 0 = λ a. Decided (Verdict.NotBuilt n) a old old in subst P (sym (ap (run_if options s) e)) (sym (appended-nothing old), refl, refl)
 
 -- what is decided of a command is decided of one that is the same
 pub decided_of_this : (command given : TextCommand) (s : Scenario) (v : Verdict) (old new : Option (List ℕ)) → command ≡ given
@@ -160,6 +161,15 @@ no_command c d P e f = absurd (none_is_some d (sym e ∙ f))
   where
     none_is_some : (d : Command) → None ≡ Some d → ⊥
     none_is_some d h = cc
+
+-- where memory ran out at once, nothing was exchanged
+pub nothing_exchanged : (input out : Option (List ℕ)) → IsOfConnection (Verdict.Ran End.Memory) input input out out
+nothing_exchanged input out =
+    record {
+      end = ConnectionEnd.Memory;
+      number = refl;
+      exchanged = record { read = []; is_read = sym (prepended-nothing input); within = omega arith; sent = AppendsPrefix-nothing out _ };
+    }
 
 -- ---- what was read
 

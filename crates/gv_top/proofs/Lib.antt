@@ -2,4 +2,4 @@ pub mod Tops
 pub mod ReadTexts
 pub mod Deciding
 pub mod Reasons
-pub mod Budgets
+pub mod Built

@@ -13,12 +13,12 @@ use Rattle.scenario_rules.specs.Rules.{IsWellFormed, place_of}
 use Rattle.scenario_check.proofs.FirstPlace.{well_formed, not_well_formed}
 use Rattle.machine.specs.Run.{Ran, End}
 use Rattle.unbuilt_forms.specs.Built.{first_unbuilt}
-use Rattle.hub_engine.specs.declared.run.Budgets.{Budgets}
+use Rattle.command_words.specs.declared.command.RunOptions.{RunOptions}
 use Rattle.gv_top.specs.Refusals.{IsRefusedAt}
 use Rattle.gv_top.specs.Top.{AnswersRun, IsAnswered}
 use Rattle.gv_top.specs.Answers.{Answer, answer_to, answer_to_scenario, answer_to_text, answer_of_run, checked, err_of, judged, most_read, not_built, run_of, refusal, status_of}
 use Rattle.gv_top.specs.declared.words.Command.{Command}
-use Rattle.gv_top.specs.declared.words.TextCommand.{TextCommand}
+use Rattle.command_words.specs.declared.command.TextCommand.{TextCommand}
 
 -- ---- what comes of the bytes
 
@@ -56,18 +56,18 @@ unfolding answer_to_text
 answered_as command s bytes t w = ap (answer_by command bytes) (spelt_is_judged s bytes t w)
 
 -- what `run` answers to a scenario of which this is the first line that is not run
-abbrev pub run_if : Budgets → Scenario → Option ℕ → Answer
-run_if budgets s o = elim o as (λ x. Answer) [ Some n ↦ not_built n | None ↦ answer_of_run (run_of budgets s) ]
+abbrev pub run_if : RunOptions → Scenario → Option ℕ → Answer
+run_if options s o = elim o as (λ x. Answer) [ Some n ↦ not_built n | None ↦ answer_of_run (run_of options s) ]
 
 -- a text all of whose forms are run is run
-pub runs_the_text : (budgets : Budgets) (s : Scenario) (bytes : List ℕ) → Spells s bytes → IsWellFormed s → first_unbuilt s ≡ None
-    → answer_to_text (TextCommand.Run budgets) bytes ≡ answer_of_run (run_of budgets s)
-runs_the_text budgets s bytes t w e = answered_as (TextCommand.Run budgets) s bytes t w ∙ ap (run_if budgets s) e
+pub runs_the_text : (options : RunOptions) (s : Scenario) (bytes : List ℕ) → Spells s bytes → IsWellFormed s → first_unbuilt s ≡ None
+    → answer_to_text (TextCommand.Run options) bytes ≡ answer_of_run (run_of options s)
+runs_the_text options s bytes t w e = answered_as (TextCommand.Run options) s bytes t w ∙ ap (run_if options s) e
 
 -- a text that has others is not
-pub runs_no_other : (budgets : Budgets) (s : Scenario) (bytes : List ℕ) (n : ℕ) → Spells s bytes → IsWellFormed s → first_unbuilt s ≡ Some n
-    → answer_to_text (TextCommand.Run budgets) bytes ≡ not_built n
-runs_no_other budgets s bytes n t w e = answered_as (TextCommand.Run budgets) s bytes t w ∙ ap (run_if budgets s) e
+pub runs_no_other : (options : RunOptions) (s : Scenario) (bytes : List ℕ) (n : ℕ) → Spells s bytes → IsWellFormed s → first_unbuilt s ≡ Some n
+    → answer_to_text (TextCommand.Run options) bytes ≡ not_built n
+runs_no_other options s bytes n t w e = answered_as (TextCommand.Run options) s bytes t w ∙ ap (run_if options s) e
 
 -- bytes that are no text of a well-formed scenario are refused at their place
 record Refused (command : TextCommand) (bytes : List ℕ) (p : Place) : Type 0 where

@@ -7,7 +7,7 @@ use Rattle.hub_engine.specs.declared.run.End.{End}
 use Rattle.wsgi_connection.specs.declared.connection.ConnectionEnd.{ConnectionEnd}
 use Rattle.gv_top.specs.declared.status.Verdict.{Verdict}
 use Rattle.gv_top.specs.declared.words.Command.{Command}
-use Rattle.gv_top.specs.declared.words.TextCommand.{TextCommand}
+use Rattle.command_words.specs.declared.command.TextCommand.{TextCommand}
 use Rattle.gv_top.specs.Answers.{Answer, answer_to, memory_line, most_read, read_fault_line, write_fault_line}
 use Rattle.gv_top.specs.Verdicts.{number_of, line_of}
 use Rattle.gv_top.specs.Top.{Fits, Decided, CameTo, Ended, FailsToWrite, IsOr, IsTold, IsTried, AnswersConnection, IsAnswered, IsOfConnection, HasFaultLine}
@@ -91,6 +91,25 @@ out_of_memory v c in0 in1 out0 out1 r0 r1 w0 w1 h n0 n5 =
       unprinted = λ is h0 h5. h.unprinted is n0 n5;
       read_whole = λ text is h4 h7. absurd (h7 refl);
     }
+
+-- memory ran out before anything was done
+pub out_of_memory_at_once : (c : Option Command) (input out : Option (List ℕ)) (reads writes : ℕ) → CameTo (Verdict.Ran End.Memory) c input input out out reads reads writes writes
+out_of_memory_at_once c input out reads writes =
+    record {
+      answer = λ left told. AppendsPrefix-nothing out (answer_to c left).out;
+      usage = λ e. absurd (omega arith);
+      read_fault = λ e. absurd (omega arith);
+      write_fault = λ e. absurd (omega arith);
+      unread = λ text is e. refl;
+      unprinted = λ is h0 h5. refl;
+      read_whole = λ text is h4 h7. absurd (h7 refl);
+    }
+
+-- what a command came to, another that is the same came to
+pub came_as : {v : Verdict} {c d : Option Command} {in0 in1 out0 out1 : Option (List ℕ)} {r0 r1 w0 w1 : ℕ} → c ≡ d →
+    CameTo v c in0 in1 out0 out1 r0 r1 w0 w1 → CameTo v d in0 in1 out0 out1 r0 r1 w0 w1
+came_as {v} {in0 = in0} {in1 = in1} {out0 = out0} {out1 = out1} {r0 = r0} {r1 = r1} {w0 = w0} {w1 = w1} e h =
+    let P : Option Command → Type 0 = λ x. CameTo v x in0 in1 out0 out1 r0 r1 w0 w1 in subst P e h
 
 came_to : (v w : Verdict) (c : Option Command) (in0 in1 out0 out1 : Option (List ℕ)) (r0 r1 w0 w1 : ℕ) → CameTo v c in0 in1 out0 out1 r0 r1 w0 w1 →
     IsOr v w → CameTo w c in0 in1 out0 out1 r0 r1 w0 w1
@@ -229,13 +248,15 @@ status_or n v w old new e0 e1 (inl e) (inr p) = inr ((λ z. p.1 (ap number_of e 
 status_or n v w old new e0 e1 (inr q) (inl p) = inr (q.1, inr (p.0 ∙ ap number_of q.0))
 status_or n v w old new e0 e1 (inr q) (inr p) = inr (q.1, inl p.0)
 
--- the words are no command, and the status is that of this, 5 or 7
-pub usage_status : (n : ℕ) (v w : Verdict) (old new : Option (List ℕ)) (e0 e1 : ℕ) → IsOr v w → IsTold n w old new e0 e1 → number_of v ≡ 2 → (n ≡ 2) ⊎ (n ≡ 5) ⊎ (n ≡ 7)
-usage_status n v w old new e0 e1 o l e = by (status_or n v w old new e0 e1 o l)
+-- the words are no command, or memory ran out, and the status is that of this, 5 or 7
+pub usage_status : (n : ℕ) (v w : Verdict) (old new : Option (List ℕ)) (e0 e1 : ℕ) → IsOr v w → IsTold n w old new e0 e1 → (number_of v ≡ 2) ⊎ (number_of v ≡ 7)
+    → (n ≡ 2) ⊎ (n ≡ 5) ⊎ (n ≡ 7)
+usage_status n v w old new e0 e1 o l e = by e (status_or n v w old new e0 e1 o l)
   where
-    by : (n ≡ number_of v) ⊎ ((number_of v ≢ 0) × ((n ≡ 5) ⊎ (n ≡ 7))) → (n ≡ 2) ⊎ (n ≡ 5) ⊎ (n ≡ 7)
-    by (inl p) = inl (p ∙ e)
-    by (inr p) = inr p.1
+    by : (number_of v ≡ 2) ⊎ (number_of v ≡ 7) → (n ≡ number_of v) ⊎ ((number_of v ≢ 0) × ((n ≡ 5) ⊎ (n ≡ 7))) → (n ≡ 2) ⊎ (n ≡ 5) ⊎ (n ≡ 7)
+    by (inl e) (inl p) = inl (p ∙ e)
+    by (inr e) (inl p) = inr (inr (p ∙ e))
+    by e (inr p) = inr p.1
 
 -- the line of a write that failed was tried
 tried : (n : ℕ) (v : Verdict) (old new : Option (List ℕ)) (e0 e1 : ℕ) → number_of v ≡ 5 → IsTold n v old new e0 e1 → IsTried write_fault_line old new e0 e1
@@ -275,5 +296,5 @@ is_silent n v w old new e0 e1 o (inr p) z = let s = sym z ∙ p.0 in absurd (ome
 pub answers_connection : (n : ℕ) (v w : Verdict) (err0 err1 in0 in1 out0 out1 : Option (List ℕ)) (e0 e1 : ℕ) → IsOr v w → IsTold n w err0 err1 e0 e1 →
     IsOfConnection v in0 in1 out0 out1 → AnswersConnection n in0 in1 out0 out1
 answers_connection n v w err0 err1 in0 in1 out0 out1 e0 e1 o l c =
-    let P : Verdict → Type 0 = λ x. (n ≡ number_of x) ⊎ ((number_of x ≢ 0) × ((n ≡ 5) ⊎ (n ≡ 7))) in
-    record { end = c.end; exchanged = c.exchanged; status = subst P c.is (status_or n v w err0 err1 e0 e1 o l) }
+    let P : ℕ → Type 0 = λ m. (n ≡ m) ⊎ ((m ≢ 0) × ((n ≡ 5) ⊎ (n ≡ 7))) in
+    record { end = c.end; exchanged = c.exchanged; status = subst P c.number (status_or n v w err0 err1 e0 e1 o l) }

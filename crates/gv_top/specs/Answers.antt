@@ -15,11 +15,11 @@ use Rattle.wsgi_core.specs.Shipped.{shipped}
 use Rattle.wsgi_connection.specs.Connections.{whole_session}
 use Rattle.gv_top.specs.declared.words.Command.{Command}
 use Rattle.gv_top.specs.declared.words.Command.TheVariants.{Text, Wsgi}
-use Rattle.gv_top.specs.declared.words.TextCommand.{TextCommand}
-use Rattle.gv_top.specs.declared.words.TextCommand.TheVariants.{Run, Format}
+use Rattle.command_words.specs.declared.command.RunOptions.{RunOptions}
+use Rattle.command_words.specs.declared.command.TextCommand.{TextCommand}
+use Rattle.command_words.specs.declared.command.TextCommand.TheVariants.{Run, Format}
 use Rattle.machine.specs.Run.{Ran, End, script_run}
 use Rattle.machine.specs.Status.{status, err_line, line_of}
-use Rattle.hub_engine.specs.declared.run.Budgets.{Budgets}
 use Rattle.unbuilt_forms.specs.Built.{first_unbuilt}
 
 -- a line on err
@@ -72,9 +72,9 @@ not_built n = record { status = 3; out = []; err = line (place_text n 23 (codes 
 abbrev pub formatted : Scenario → Answer
 formatted s = record { status = 0; out = printed s; err = [] }
 
--- the run of the scenario within these budgets
-abbrev pub run_of : Budgets → Scenario → Ran
-run_of budgets s = script_run s budgets.turns budgets.moves 0
+-- the run of the scenario with these options
+abbrev pub run_of : RunOptions → Scenario → Ran
+run_of options s = script_run s options.turns options.moves 0
 
 -- what is answered to a run that stopped for this cause
 abbrev pub answer_of_stop : StopCause → Ran → Answer
@@ -85,7 +85,7 @@ answer_of_run r = record { status = status_of r.end; out = text_of r.lines; err 
 
 -- what is answered to a well-formed scenario; only `run` minds a form that is not run yet
 abbrev pub answer_to_scenario : TextCommand → Scenario → Answer
-answer_to_scenario (Run budgets) s = elim (first_unbuilt s) [ Some n ↦ not_built n | None ↦ answer_of_run (run_of budgets s) ]
+answer_to_scenario (Run options) s = elim (first_unbuilt s) [ Some n ↦ not_built n | None ↦ answer_of_run (run_of options s) ]
 answer_to_scenario Format s = formatted s
 
 -- what is answered to a text

@@ -3,6 +3,7 @@ use Rattle.std.specs.Prelude.{◌≡◌, ◌≢◌, ◌⊎◌, ℕ, true, List, 
 use Rattle.std.specs.List.{list_all, flat_map}
 use Rattle.gv_values.specs.Counts.{HasRisen}
 use Rattle.gv_io.specs.Streams.{appended, AppendsPrefix}
+use Rattle.command_words.specs.declared.command.TextCommand.{TextCommand}
 use Rattle.trace_text.specs.LineTexts.{text_of}
 use Rattle.trace_text.specs.declared.line.Line.{Line}
 use Rattle.trace_text.specs.declared.line.StopCause.{StopCause}
@@ -17,7 +18,6 @@ use Rattle.wsgi_connection.specs.Connections.{Exchanged}
 use Rattle.wsgi_connection.specs.declared.connection.ConnectionEnd.{ConnectionEnd}
 use Rattle.gv_top.specs.declared.status.Verdict.{Verdict}
 use Rattle.gv_top.specs.declared.words.Command.{Command}
-use Rattle.gv_top.specs.declared.words.TextCommand.{TextCommand}
 use Rattle.gv_top.specs.Answers.{Answer, answer_of_stop, answer_to, memory_line, most_read, no_port, read_fault_line, write_fault_line}
 use Rattle.gv_top.specs.Verdicts.{number_of, line_of}
 
@@ -40,7 +40,7 @@ Decided v a old new = Fits v a old new
 -- the verdict is the end of the connection that the input and out are
 pub record IsOfConnection (v : Verdict) (in0 in1 out0 out1 : Option (List ℕ)) : Type 0 where
   pub end : ConnectionEnd
-  pub is : v ≡ Verdict.Connection end
+  pub number : number_of v ≡ number_of (Verdict.Connection end)
   pub exchanged : Exchanged end answers shipped no_port in0 in1 out0 out1
 
 -- What a command came to, by the bytes of its input and of out and by the counts of their faults.

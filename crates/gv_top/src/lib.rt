@@ -2,7 +2,6 @@
 #![tactic(auto)]
 
 mod laws;
-mod options;
 mod reading;
 mod status;
 mod top;

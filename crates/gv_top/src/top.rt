@@ -1,24 +1,25 @@
 //! The call that the program makes.
-ghost use Rattle.std.specs.Prelude.{◌≡◌, ◌≢◌, ◌≤◌, ◌⊎◌, ◌↔◌, ℕ, List, Some, None, map, take, drop, string_bytes, OnOk, OnErr};
+ghost use Rattle.std.specs.Prelude.{◌≡◌, ◌≢◌, ◌≤◌, ◌⊎◌, ℕ, List, Some, None, map, take, drop, string_bytes, OnOk, OnErr};
 ghost use Rattle.gv_values.specs.Counts.{HasRisen};
 ghost use Rattle.gv_io.specs.Streams.{appended, AppendsPrefix};
+ghost use Rattle.command_words.specs.declared.command.RunOptions.{RunOptions as AnyOptions};
 ghost use Rattle.scenario_grammar.specs.declared.place.Place.{Place};
 ghost use Rattle.scenario_grammar.specs.Spells.{Spells};
 ghost use Rattle.scenario_rules.specs.Rules.{IsWellFormed};
 ghost use Rattle.scenario_tree.specs.declared.tree.Scenario.{Scenario as AnyScenario};
 ghost use Rattle.unbuilt_forms.specs.Built.{IsBuilt, first_unbuilt};
 ghost use Rattle.hub_engine.specs.Ends.{RanTo};
-ghost use Rattle.hub_engine.specs.declared.run.Budgets.{Budgets as AnyBudgets};
 ghost use Rattle.gv_top.specs.Answers.{answer_to, answer_to_scenario, answer_to_text, formatted, memory_line, most_read, not_built, refusal, run_of, write_fault_line};
 ghost use Rattle.gv_top.specs.declared.status.Verdict.{Verdict as AnyVerdict};
 ghost use Rattle.gv_top.specs.Refusals.{IsRefusedAt};
-ghost use Rattle.gv_top.specs.Top.{AnswersConnection, AnswersRun, BlocksAtQuiet, Decided, Ended, FailsToWrite, HasFaultLine, HasLawfulLines, IsAnswered, IsOfConnection, IsOr, IsTold};
+ghost use Rattle.gv_top.specs.Top.{AnswersConnection, AnswersRun, BlocksAtQuiet, CameTo, Decided, Ended, FailsToWrite, HasFaultLine, HasLawfulLines, IsAnswered, IsOfConnection, IsOr, IsTold};
 ghost use Rattle.gv_top.specs.Verdicts.{IsExplained, line_of, number_of, verdict_on};
 ghost use Rattle.gv_top.specs.Words.{command_of};
 
 use crate::reading::read_scenario;
 use crate::status::Verdict;
-use crate::words::{Command, TextCommand, command_of};
+use crate::words::{Command, command_of};
+use command_words::{RunOptions, TextCommand};
 use gv_io::{Failed, ReadRefusal, Sink, Source, read_limited};
 use hub_engine::{Budgets, End, Engine};
 use machine_blocks::blocks_are_told;
@@ -37,12 +38,16 @@ const MOST_BYTES: usize = 1048576;
 const NO_PORT: u16 = 0;
 
 /// Runs the scenario, all of whose forms are run, and writes its trace to out.
-fn run_scenario<K: Sink>(alloc: Global, checked: Checked, budgets: Budgets, out: &mut K) -> End
+fn run_scenario<K: Sink>(alloc: Global, checked: Checked, options: RunOptions, out: &mut K) -> End
     requires built { IsBuilt checked }
-    ensures written { RanTo result (run_of budgets checked) (K.written out.old) (K.written out.new) }
+    ensures written { RanTo result (run_of options checked) (K.written out.old) (K.written out.new) }
     ensures never_falls { K.faults out.old ≤ K.faults out.new }
     ensures failed { result ≡ End.WriteFault → HasRisen (K.faults out.old) (K.faults out.new) }
 {
+    let budgets = Budgets {
+        turns: options.turns,
+        moves: options.moves,
+    };
     let Ok(engine) = Engine::new(alloc, checked, budgets) else {
         return End::Memory;
     };
@@ -63,22 +68,45 @@ fn decides<S: Source, K: Sink>(
     input: &mut S,
     out: &mut K,
 ) -> Verdict
-    ensures answer { (left : List ℕ) → S.remaining input.old ≡ Some left →
-        Decided result (answer_to (command_of (map string_bytes words.now)) left) (K.written out.old) (K.written out.new) }
-    ensures usage { (number_of result ≡ 2) ↔ (command_of (map string_bytes words.now) ≡ None) }
+    ensures came_to { CameTo result (command_of (map string_bytes words.now)) (S.remaining input.old) (S.remaining input.new)
+        (K.written out.old) (K.written out.new) (S.faults input.old) (S.faults input.new) (K.faults out.old) (K.faults out.new) }
+    ensures no_command { command_of (map string_bytes words.now) ≡ None → (number_of result ≡ 2) ⊎ (number_of result ≡ 7) }
     ensures connection { command_of (map string_bytes words.now) ≡ Some Command.Wsgi →
+        IsOfConnection result (S.remaining input.old) (S.remaining input.new) (K.written out.old) (K.written out.new) }
+    ensures explained { IsExplained result }
+    ensures input_never_falls { S.faults input.old ≤ S.faults input.new }
+    ensures out_never_falls { K.faults out.old ≤ K.faults out.new }
+{
+    let Ok(command) = command_of(alloc, words) else {
+        return Verdict::Ran(End::Memory);
+    };
+    answers_command(alloc, command, input, out)
+}
+
+/// Does what the command wants, or answers that the words named none.
+fn answers_command<S: Source, K: Sink>(
+    alloc: Global,
+    command: Option<Command>,
+    input: &mut S,
+    out: &mut K,
+) -> Verdict
+    ensures answer { (left : List ℕ) → S.remaining input.old ≡ Some left →
+        Decided result (answer_to command left) (K.written out.old) (K.written out.new) }
+    ensures usage { number_of result ≡ 2 → command ≡ None }
+    ensures no_command { command ≡ None → (number_of result ≡ 2) ⊎ (number_of result ≡ 7) }
+    ensures connection { command ≡ Some Command.Wsgi →
         IsOfConnection result (S.remaining input.old) (S.remaining input.new) (K.written out.old) (K.written out.new) }
     ensures read_fault { number_of result ≡ 4 → HasRisen (S.faults input.old) (S.faults input.new) }
     ensures write_fault { number_of result ≡ 5 → HasRisen (K.faults out.old) (K.faults out.new) }
-    ensures unread { (command : TextCommand) → command_of (map string_bytes words.now) ≡ Some (Command.Text command) → number_of result ≡ 4 → K.written out.new ≡ K.written out.old }
-    ensures unprinted { command_of (map string_bytes words.now) ≡ Some (Command.Text TextCommand.Format) → number_of result ≢ 0 → number_of result ≢ 5 → K.written out.new ≡ K.written out.old }
+    ensures unread { (text : TextCommand) → command ≡ Some (Command.Text text) → number_of result ≡ 4 → K.written out.new ≡ K.written out.old }
+    ensures unprinted { command ≡ Some (Command.Text TextCommand.Format) → number_of result ≢ 0 → number_of result ≢ 5 → K.written out.new ≡ K.written out.old }
     ensures explained { IsExplained result }
-    ensures read_whole { (command : TextCommand) → command_of (map string_bytes words.now) ≡ Some (Command.Text command) →
+    ensures read_whole { (text : TextCommand) → command ≡ Some (Command.Text text) →
         (left : List ℕ) → S.remaining input.old ≡ Some left → number_of result ≢ 4 → number_of result ≢ 7 → S.remaining input.new ≡ Some (drop most_read left) }
     ensures input_never_falls { S.faults input.old ≤ S.faults input.new }
     ensures out_never_falls { K.faults out.old ≤ K.faults out.new }
 {
-    match command_of(words) {
+    match command {
         None => Verdict::Usage,
         Some(Command::Text(command)) => answers_input(alloc, command, input, out),
         Some(Command::Wsgi) => {
@@ -162,14 +190,19 @@ fn answers_scenario<K: Sink>(
     ensures never_falls { K.faults out.old ≤ K.faults out.new }
 {
     match command {
-        TextCommand::Run(budgets) => runs_within(alloc, checked, budgets, out),
+        TextCommand::Run(options) => runs_scenario(alloc, checked, options, out),
         TextCommand::Format => formats(alloc, checked.scenario(), out),
     }
 }
 
-/// Runs the scenario within these budgets, unless it has a form that is not run yet.
-fn runs_within<K: Sink>(alloc: Global, checked: Checked, budgets: Budgets, out: &mut K) -> Verdict
-    ensures answer { Decided result (answer_to_scenario (TextCommand.Run budgets) checked) (K.written out.old) (K.written out.new) }
+/// Runs the scenario with these options, unless it has a form that is not run yet.
+fn runs_scenario<K: Sink>(
+    alloc: Global,
+    checked: Checked,
+    options: RunOptions,
+    out: &mut K,
+) -> Verdict
+    ensures answer { Decided result (answer_to_scenario (TextCommand.Run options) checked) (K.written out.old) (K.written out.new) }
     ensures command { number_of result ≢ 2 }
     ensures read { number_of result ≢ 4 }
     ensures explained { IsExplained result }
@@ -178,7 +211,7 @@ fn runs_within<K: Sink>(alloc: Global, checked: Checked, budgets: Budgets, out: 
 {
     match Engine::unbuilt(&checked) {
         Some(line) => Verdict::NotBuilt(line),
-        None => Verdict::Ran(run_scenario(alloc, checked, budgets, out)),
+        None => Verdict::Ran(run_scenario(alloc, checked, options, out)),
     }
 }
 
@@ -300,19 +333,19 @@ pub fn gvr<S: Source, K: Sink, E: Sink>(
     err: &mut E,
 ) -> u8
     // A text of a well-formed scenario all of whose forms are run is run: out has the text of the one run's lines, the status and the line on err are those of its end.
-    ensures trace { (budgets : AnyBudgets) (s : AnyScenario) (left : List ℕ) → command_of (map string_bytes words.now) ≡ Some (Command.Text (TextCommand.Run budgets)) →
+    ensures trace { (options : AnyOptions) (s : AnyScenario) (left : List ℕ) → command_of (map string_bytes words.now) ≡ Some (Command.Text (TextCommand.Run options)) →
         S.remaining input.old ≡ Some left → Spells s (take most_read left) → IsWellFormed s → first_unbuilt s ≡ None →
-        AnswersRun result (run_of budgets s) (K.written out.old) (K.written out.new) (E.written err.old) (E.written err.new) }
+        AnswersRun result (run_of options s) (K.written out.old) (K.written out.new) (E.written err.old) (E.written err.new) }
     // What out has then are lines that meet the laws of a trace.
-    ensures lawful { (budgets : AnyBudgets) (s : AnyScenario) (left : List ℕ) → command_of (map string_bytes words.now) ≡ Some (Command.Text (TextCommand.Run budgets)) →
+    ensures lawful { (options : AnyOptions) (s : AnyScenario) (left : List ℕ) → command_of (map string_bytes words.now) ≡ Some (Command.Text (TextCommand.Run options)) →
         S.remaining input.old ≡ Some left → Spells s (take most_read left) → IsWellFormed s → first_unbuilt s ≡ None →
         HasLawfulLines result (K.written out.old) (K.written out.new) }
     // And at each of its block lines nothing that waits could go on.
-    ensures quiet { (budgets : AnyBudgets) (s : AnyScenario) (left : List ℕ) → command_of (map string_bytes words.now) ≡ Some (Command.Text (TextCommand.Run budgets)) →
+    ensures quiet { (options : AnyOptions) (s : AnyScenario) (left : List ℕ) → command_of (map string_bytes words.now) ≡ Some (Command.Text (TextCommand.Run options)) →
         S.remaining input.old ≡ Some left → Spells s (take most_read left) → IsWellFormed s → first_unbuilt s ≡ None →
-        BlocksAtQuiet (run_of budgets s) }
+        BlocksAtQuiet (run_of options s) }
     // One that has a form that is not run yet is not run: err has the first line that has one.
-    ensures not_built { (budgets : AnyBudgets) (s : AnyScenario) (left : List ℕ) (n : ℕ) → command_of (map string_bytes words.now) ≡ Some (Command.Text (TextCommand.Run budgets)) →
+    ensures not_built { (options : AnyOptions) (s : AnyScenario) (left : List ℕ) (n : ℕ) → command_of (map string_bytes words.now) ≡ Some (Command.Text (TextCommand.Run options)) →
         S.remaining input.old ≡ Some left → Spells s (take most_read left) → IsWellFormed s → first_unbuilt s ≡ Some n →
         IsAnswered result (not_built n) (K.written out.old) (K.written out.new) (E.written err.old) (E.written err.new) }
     // A text of a well-formed scenario is printed: out has its printed form.

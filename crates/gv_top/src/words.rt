@@ -1,19 +1,9 @@
-//! The words after the program's name.
-ghost use Rattle.std.specs.Prelude.{◌≡◌, map, string_bytes, bytes_eq};
-ghost use Rattle.gv_top.specs.Words.{command_of, plain_command, run_command};
+//! The commands that are built, of those that words name.
+ghost use Rattle.std.specs.Prelude.{◌≡◌, IfOk, map, string_bytes};
+ghost use Rattle.gv_top.specs.Words.{built, built_run, command_of};
 
-use crate::options::{Said, budgets_of, options};
-use gv_values::digits::same_bytes;
-use hub_engine::Budgets;
-
-/// What is done with the scenario that the input spells.
-#[derive(Clone, Copy, Debug, PartialEq, Eq)]
-pub enum TextCommand {
-    /// Run it within these budgets.
-    Run(Budgets),
-    /// Write its printed form.
-    Format,
-}
+use command_words::{Command as NamedCommand, RunOptions, RunWorld, TextCommand};
+use std::alloc::{AllocError, Global};
 
 /// What the program is asked to do.
 #[derive(Clone, Copy, Debug, PartialEq, Eq)]
@@ -24,48 +14,35 @@ pub enum Command {
     Wsgi,
 }
 
-/// The command that the words name, if they name one.
-pub fn command_of(words: &[String]) -> Option<Command>
-    ensures { result ≡ command_of (map string_bytes words.now) }
+/// The command that the words name, if they name one that is built. `AllocError`: memory is wanting.
+pub fn command_of(alloc: Global, words: &[String]) -> Result<Option<Command>, AllocError>
+    ensures { IfOk result (λ r. r ≡ command_of (map string_bytes words.now)) }
 {
-    match words {
-        [] => None,
-        [name, options @ ..] => {
-            if same_bytes(name.as_bytes(), b"run") {
-                run_command(options)
-            } else {
-                plain_command(name.as_bytes(), options)
-            }
-        }
+    match command_words::command_of(alloc, words)? {
+        Some(command) => Ok(built(command)),
+        None => Ok(None),
     }
 }
 
-/// `run` with these options.
-fn run_command(words: &[String]) -> Option<Command>
-    ensures { result ≡ run_command (map string_bytes words.now) }
+/// The command, if it is built.
+fn built(command: NamedCommand) -> Option<Command>
+    ensures { result ≡ built command }
 {
-    let nothing = Said {
-        turns: None,
-        moves: None,
-    };
-    match options(words, nothing) {
-        Some(said) => Some(Command::Text(TextCommand::Run(budgets_of(said)))),
-        None => None,
+    match command {
+        NamedCommand::Text(TextCommand::Run(options)) => built_run(options),
+        NamedCommand::Text(TextCommand::Format) => Some(Command::Text(TextCommand::Format)),
+        NamedCommand::Wsgi => Some(Command::Wsgi),
+        NamedCommand::Serve(_) => None,
+        NamedCommand::Storm(_) => None,
     }
 }
 
-/// The command of this name, which takes no options.
-fn plain_command(name: &[u8], options: &[String]) -> Option<Command>
-    ensures { result ≡ plain_command name.now (map string_bytes options.now) }
+/// The run, if its world is built.
+fn built_run(options: RunOptions) -> Option<Command>
+    ensures { result ≡ built_run options }
 {
-    if !options.is_empty() {
-        return None;
+    match options.world {
+        RunWorld::Script(0) => Some(Command::Text(TextCommand::Run(options))),
+        _ => None,
     }
-    if same_bytes(name, b"fmt") {
-        return Some(Command::Text(TextCommand::Format));
-    }
-    if same_bytes(name, b"wsgi") {
-        return Some(Command::Wsgi);
-    }
-    None
 }

@@ -11,3 +11,5 @@ mod newcomer_tests;
 mod profile_tests;
 #[cfg(test)]
 mod run_tests;
+#[cfg(test)]
+mod words_tests;

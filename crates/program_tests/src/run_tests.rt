@@ -288,33 +288,3 @@ fn text_limit(rt: HostRuntime) -> Result<(), Fail> {
     assert_eq!(rt; refused.err.bytes(), line.as_bytes());
     Ok(())
 }
-
-#[test]
-fn words_that_are_no_command(rt: HostRuntime) -> Result<(), Fail> {
-    for line in [
-        "",
-        "walk",
-        "help",
-        "fmt x",
-        "run -h",
-        "run --",
-        "run --turns",
-        "run --turns=",
-        "run --turns 0",
-        "run --turns=05",
-        "run --turns +5",
-        "run --turns 10000001",
-        "run --moves 100000001",
-        "run --turns 99999999999999999999",
-        "run --turn 5",
-        "run --turns=5 --turns 5",
-        "run --tick 1 --native 1",
-    ] {
-        let called = call(rt.alloc(), line, PRINTS_ONE, 4096, &[], 1000)?;
-        assert_eq!(rt; called.status, 2);
-        assert_eq!(rt; called.out.bytes(), "".as_bytes());
-        let usage = "gvr: usage: gvr run, fmt, wsgi, serve or storm\n";
-        assert_eq!(rt; called.err.bytes(), usage.as_bytes());
-    }
-    Ok(())
-}

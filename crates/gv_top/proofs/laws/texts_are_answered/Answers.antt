@@ -1,12 +1,12 @@
 use Rattle.gv_top.proofs.ReadTexts.{answered_as, refuses_the_rest, runs_no_other, runs_the_text}
-use Rattle.gv_top.specs.declared.words.TextCommand.{TextCommand}
+use Rattle.command_words.specs.declared.command.TextCommand.{TextCommand}
 use Rattle.gv_top.proofs.laws.texts_are_answered.Goals as goal
 
 pub returns-clause-run : goal.returns-clause-run
-returns-clause-run c = λ budgets s bytes t w e. runs_the_text budgets s bytes t w e
+returns-clause-run c = λ options s bytes t w e. runs_the_text options s bytes t w e
 
 pub returns-clause-not_built : goal.returns-clause-not_built
-returns-clause-not_built c = λ budgets s bytes n t w e. runs_no_other budgets s bytes n t w e
+returns-clause-not_built c = λ options s bytes n t w e. runs_no_other options s bytes n t w e
 
 pub returns-clause-formatted : goal.returns-clause-formatted
 returns-clause-formatted c = λ s bytes t w. answered_as TextCommand.Format s bytes t w

@@ -1,7 +1,7 @@
 use Rattle.std.proofs.Common.{[], arith}
 use Rattle.machine.specs.Run.{Source}
 use Rattle.gv_top.specs.Answers.{run_of}
-use Rattle.gv_top.specs.declared.words.TextCommand.{TextCommand}
+use Rattle.command_words.specs.declared.command.TextCommand.{TextCommand}
 use Rattle.gv_top.proofs.ReadTexts.{answered_as, answered_so, answers_run, refuses_the_rest, runs_no_other, runs_the_text}
 use Rattle.gv_top.proofs.Tops.{answers_connection, ended, fails_to_write, fault_line, is_answered, is_silent, prints_nothing, reads_whole, status_is, usage_status}
 use Rattle.gv_top.proofs.top.gvr.Goals as goal
@@ -9,44 +9,34 @@ use Rattle.gv_top.proofs.top.gvr.Goals as goal
 pub returns-clause-ended : goal.returns-clause-ended
 returns-clause-ended g c =
     let t = c.tells.ensures.told in
-    let d = c.decides-verdict.ensures in
-    ended _ c.decides-verdict.result t.0 _ _ _ _ _ _ _ _ _ _ _ _ _
-    (record {
-      answer = d.answer;
-      usage = d.usage.0;
-      read_fault = d.read_fault;
-      write_fault = d.write_fault;
-      unread = d.unread;
-      unprinted = d.unprinted;
-      read_whole = λ text is h4 h7 left told. d.read_whole text is left told h4 h7;
-    }) t.1 t.2
+    ended _ c.decides-verdict.result t.0 _ _ _ _ _ _ _ _ _ _ _ _ _ c.decides-verdict.ensures.came_to t.1 t.2
 
 pub returns-clause-trace : goal.returns-clause-trace
-returns-clause-trace g c = λ budgets s left runs told text well built.
-    let stop = c.scripts_stop.ensures s budgets.turns budgets.moves 0 in
+returns-clause-trace g c = λ options s left runs told text well built.
+    let stop = c.scripts_stop.ensures s options.turns options.moves 0 in
     answers_run _ _ stop.0 _ _ _ _ stop.1
-    (answered_so _ _ (TextCommand.Run budgets) _ left _ _ _ _ runs (runs_the_text budgets s _ text well built) (is_answered (returns-clause-ended g c) left told))
+    (answered_so _ _ (TextCommand.Run options) _ left _ _ _ _ runs (runs_the_text options s _ text well built) (is_answered (returns-clause-ended g c) left told))
 
 pub returns-clause-lawful : goal.returns-clause-lawful
-returns-clause-lawful g c = λ budgets s left runs told text well built.
-    let h = answered_so _ _ (TextCommand.Run budgets) _ left _ _ _ _ runs (runs_the_text budgets s _ text well built) (is_answered (returns-clause-ended g c) left told) in
+returns-clause-lawful g c = λ options s left runs told text well built.
+    let h = answered_so _ _ (TextCommand.Run options) _ left _ _ _ _ runs (runs_the_text options s _ text well built) (is_answered (returns-clause-ended g c) left told) in
     record {
-      lines = (run_of budgets s).lines;
-      lawful = (c.scripts_run_lawfully.ensures s budgets.turns budgets.moves 0 well).lawful;
+      lines = (run_of options s).lines;
+      lawful = (c.scripts_run_lawfully.ensures s options.turns options.moves 0 well).lawful;
       prefix = h.prefix;
       whole = h.out;
     }
 
 pub returns-clause-quiet : goal.returns-clause-quiet
-returns-clause-quiet g c = λ budgets s left runs told text well built.
+returns-clause-quiet g c = λ options s left runs told text well built.
     record {
-      told = c.blocks_are_told.ensures s (Source.Scripted 0 []) budgets.turns budgets.moves;
-      quiet = c.blocks_are_quiet.ensures s (Source.Scripted 0 []) budgets.turns budgets.moves well;
+      told = c.blocks_are_told.ensures s (Source.Scripted 0 []) options.turns options.moves;
+      quiet = c.blocks_are_quiet.ensures s (Source.Scripted 0 []) options.turns options.moves well;
     }
 
 pub returns-clause-not_built : goal.returns-clause-not_built
-returns-clause-not_built g c = λ budgets s left n runs told text well other.
-    answered_so _ _ (TextCommand.Run budgets) _ left _ _ _ _ runs (runs_no_other budgets s _ n text well other) (is_answered (returns-clause-ended g c) left told)
+returns-clause-not_built g c = λ options s left n runs told text well other.
+    answered_so _ _ (TextCommand.Run options) _ left _ _ _ _ runs (runs_no_other options s _ n text well other) (is_answered (returns-clause-ended g c) left told)
 
 pub returns-clause-formatted : goal.returns-clause-formatted
 returns-clause-formatted g c = λ s left formats told text well.
@@ -81,7 +71,7 @@ pub returns-clause-usage_only : goal.returns-clause-usage_only
 returns-clause-usage_only g c = λ e. let h = returns-clause-ended g c in h.came_to.usage (status_is 2 h e (λ z. omega arith))
 
 pub returns-clause-usage_always : goal.returns-clause-usage_always
-returns-clause-usage_always g c = λ none. let t = c.tells.ensures.told in usage_status _ _ t.0 _ _ _ _ t.1 t.2 (c.decides-verdict.ensures.usage.1 none)
+returns-clause-usage_always g c = λ none. let t = c.tells.ensures.told in usage_status _ _ t.0 _ _ _ _ t.1 t.2 (c.decides-verdict.ensures.no_command none)
 
 pub returns-clause-read_fault : goal.returns-clause-read_fault
 returns-clause-read_fault g c = λ e. let h = returns-clause-ended g c in h.came_to.read_fault (status_is 4 h e (λ z. omega arith))
