@@ -5,7 +5,7 @@ use Rattle.gv_values.specs.declared.job.Answer.{Answer}
 use Rattle.world_rules.specs.declared.question.LogEntry.{LogEntry}
 use Rattle.world_rules.specs.declared.question.PostedJob.{PostedJob}
 use Rattle.world_rules.specs.declared.question.Question.{Question}
-use Rattle.world_rules.specs.Legal.{AreLegal, IsLegal, MayAsk, is_answered, posted}
+use Rattle.world_rules.specs.Legal.{AreLegal, IsLegal, MayAsk, answers_of, is_answered, posted}
 use Rattle.scenario_tree.specs.declared.tree.Scenario.{Scenario}
 use Rattle.trace_text.specs.declared.line.StopCause.{StopCause}
 use Rattle.machine.specs.declared.items.Item.{Item}
@@ -16,7 +16,7 @@ use Rattle.machine.specs.Questions.{question, take_answer}
 use Rattle.machine.specs.Deliveries.{deliver, interrupts}
 use Rattle.machine.specs.Landing.{Next, starts, lands}
 use Rattle.machine.specs.Moves.{move}
-use Rattle.machine.specs.Run.{End, Source, first_state, run_from, script_run}
+use Rattle.machine.specs.Run.{End, Source, first_state, run, run_from, script_run}
 
 -- ---- what a state knows of its jobs
 
@@ -113,3 +113,14 @@ LegalAnswersMakeLegalLogs =
 -- a run under the rule of a script finds an answer to each of its questions, so it stops
 abbrev pub ScriptsStop : Type 0
 ScriptsStop = (c : Scenario) (turns moves tick : ℕ) → (cause : StopCause) × ((script_run c turns moves tick).end ≡ End.Stopped cause)
+
+-- ---- the answers
+
+-- the answers of the log are the first of those that were given
+pub record TakesFirst (answers : List Answer) (log : List LogEntry) : Type 0 where
+  pub left : List Answer
+  pub are : answers ≡ answers_of log ++ left
+
+-- so are those of each run
+abbrev pub RunsTakeTheirAnswers : Type 0
+RunsTakeTheirAnswers = (c : Scenario) (turns moves : ℕ) (answers : List Answer) → TakesFirst answers (run c turns moves answers).log

@@ -2,7 +2,7 @@
 //! a body of its own.
 #![tactic(auto)]
 
-ghost use Rattle.machine_turns.specs.Logs.{AnswersKnowing, DeliversKnowing, ExitsKnowing, LegalAnswersMakeLegalLogs, MayAskItsQuestion, MovesKnowing, RunsAskLegally, ScriptsStop, StartsKnowing};
+ghost use Rattle.machine_turns.specs.Logs.{AnswersKnowing, DeliversKnowing, ExitsKnowing, LegalAnswersMakeLegalLogs, MayAskItsQuestion, MovesKnowing, RunsAskLegally, RunsTakeTheirAnswers, ScriptsStop, StartsKnowing};
 ghost use Rattle.machine_turns.specs.Turns.{TurnsDeliverAll};
 
 /// Where the hub rests after the deliveries of a turn, no item has a number below the mark.
@@ -32,4 +32,9 @@ pub fn runs_ask_legally()
 /// status and the line of that cause.
 pub fn scripts_stop()
     ensures { ScriptsStop }
+{}
+
+/// The answers in the log of a run are the first of those that it was given.
+pub fn runs_take_their_answers()
+    ensures { RunsTakeTheirAnswers }
 {}
