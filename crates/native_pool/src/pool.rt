@@ -328,7 +328,6 @@ impl<
     fn post(&mut self, number: u32, job: Job, takes: u64) -> Result<(), AllocError>
         requires runs { (pool_meaning self.old).runs ≡ true }
         requires new { is_posted number (pool_meaning self.old).posts ≡ false }
-        requires short { takes ≤ 1000000000 }
         ensures posted { OnOk result (Posts (pool_meaning self.old) (pool_meaning self.new) number job) }
         ensures log { OnOk result ((log : List LogEntry) → pool_log self.old log → pool_log self.new (log ++ entry.Post number job takes ∷ [])) }
         ensures refused { OnErr result (pool_meaning self.new ≡ pool_meaning self.old) }

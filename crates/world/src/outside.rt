@@ -34,7 +34,6 @@ pub trait World {
     fn post(&mut self, number: u32, job: Job, takes: u64) -> Result<(), AllocError>
         requires runs { (meaning self.old).runs ≡ true }
         requires new { is_posted number (meaning self.old).posts ≡ false }
-        requires short { takes ≤ 1000000000 }
         ensures posted { OnOk result (Posts (meaning self.old) (meaning self.new) number job) }
         ensures log { OnOk result ((log : List LogEntry) → stands_for self.old log → stands_for self.new (log ++ entry.Post number job takes ∷ [])) }
         ensures refused { OnErr result (meaning self.new ≡ meaning self.old) }
