@@ -1,0 +1,6 @@
+use Rattle.std.proofs.Common.{◌≡◌, drop}
+use Rattle.machine.specs.Requests.{sends_all}
+use Rattle.hub_requests.proofs.kills.send_kills.Given as goal
+
+abbrev pub invariant-loop-target : goal.invariant-loop-target
+invariant-loop-target l = sends_all l.kind l.targets l.initial.hub ≡ sends_all l.kind (drop l.target-index l.targets) l.hub

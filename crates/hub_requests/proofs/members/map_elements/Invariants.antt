@@ -1,0 +1,17 @@
+use Rattle.std.proofs.Common.{◌≡◌, ◌≤◌, ◌+◌, ◌-◌, length, drop}
+use Rattle.machine.specs.Waits.{maps}
+use Rattle.hub_requests.specs.Making.{MayMake}
+use Rattle.hub_requests.specs.Naming.{IsObject}
+use Rattle.hub_requests.proofs.members.map_elements.Given as goal
+
+abbrev pub invariant-loop-at : goal.invariant-loop-at
+invariant-loop-at l = record {
+  same : maps l.elements l.g l.o l.function l.initial.made l.initial.hub ≡ maps (drop l.at l.elements) l.g l.o l.function l.made l.hub;
+  sound : MayMake l.g l.hub;
+  named : IsObject l.hub.scenario l.o;
+  within : l.at ≤ length l.elements;
+  few : length l.elements + length l.made ≤ 64 + l.at;
+}
+
+abbrev pub decreases-loop-at : goal.decreases-loop-at
+decreases-loop-at l = length l.elements - l.at

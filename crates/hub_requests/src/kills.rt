@@ -1,0 +1,98 @@
+//! Kills.
+ghost use Rattle.std.specs.Prelude.{◌≡◌, OnOk, IfOk};
+ghost use Rattle.gv_values.specs.declared.value.Outcome.{Outcome as AnyOutcome};
+ghost use Rattle.gv_values.specs.Ends.{kept};
+ghost use Rattle.trace_text.specs.declared.line.Line.TheVariants as line;
+ghost use Rattle.machine.specs.Ends.{ended};
+ghost use Rattle.machine.specs.State.{say};
+ghost use Rattle.machine.specs.Requests.{kills, sends, sends_all};
+ghost use Rattle.hub_requests.specs.Making.{MayMake};
+ghost use Rattle.hub_requests.specs.Performing.{performed_of};
+ghost use Rattle.hub_requests.specs.Sendings.{AreNotRaw, sent};
+
+use crate::ends::end_greenlet;
+use crate::far::{Far, how_far};
+use crate::performed::Performed;
+use crate::waits::come_to_wait;
+use gv_values::{FaultKind, Outcome, kept_outcome};
+use hub_state::Hub;
+use machine::items::{Delivery, Waiting};
+use scenario_tree::{Items, Wait};
+use std::alloc::{AllocError, Global};
+use trace_text::{Awaited, Line, StopCause};
+
+/// The most kills that may stand.
+const MOST_KILLS: u64 = 1000000;
+
+/// Ends a greenlet that has not started, by the kill.
+fn end_unrun(alloc: Global, hub: &mut Hub, kind: FaultKind, target: u32) -> Result<(), AllocError>
+    ensures { OnOk result (hub.new ≡ ended target (kept (AnyOutcome.Fault kind)) (say (line.Throw target kind) hub.old)) }
+{
+    hub.say(Line::Throw {
+        greenlet: target,
+        fault: kind,
+    })?;
+    let outcome = kept_outcome(Outcome::Fault(kind));
+    end_greenlet(alloc, hub, target, &outcome)
+}
+
+/// Sends a kill to the greenlet; false where one more may not stand.
+#[tactic(auto, using(crate::proofs::Sent::sends_done, crate::proofs::Sent::sends_new, crate::proofs::Sent::sends_live, crate::proofs::Sent::sends_many, crate::proofs::Sent::kill_free))]
+fn send_kill(alloc: Global, hub: &mut Hub, kind: FaultKind, target: u32) -> Result<bool, AllocError>
+    ensures { IfOk result (λ b. sends kind target hub.old ≡ sent b hub.new) }
+{
+    match how_far(hub, target) {
+        Far::Done => Ok(true),
+        Far::New => {
+            end_unrun(alloc, hub, kind, target)?;
+            Ok(true)
+        }
+        Far::Live => {
+            if hub.kills_standing() >= MOST_KILLS {
+                return Ok(false);
+            }
+            hub.add_item(Delivery::Kill(target, kind))?;
+            Ok(true)
+        }
+    }
+}
+
+/// Sends kills in order, as far as the limit allows; false where one was too many.
+#[tactic(auto, using(crate::proofs::Sent::sent_first, crate::proofs::Sent::sent_not))]
+fn send_kills(
+    alloc: Global,
+    hub: &mut Hub,
+    kind: FaultKind,
+    targets: &[u32],
+) -> Result<bool, AllocError>
+    ensures { IfOk result (λ b. sends_all kind targets.now hub.old ≡ sent b hub.new) }
+{
+    for target in targets {
+        if !send_kill(alloc, hub, kind, *target)? {
+            return Ok(false);
+        }
+    }
+    Ok(true)
+}
+
+/// Sends the kills, and then waits for their ends.
+#[tactic(auto, using(crate::proofs::Soundly::sound_sent))]
+pub fn kill_greenlets(
+    alloc: Global,
+    hub: &mut Hub,
+    g: u32,
+    awaited: Awaited,
+    kind: FaultKind,
+    targets: Items<u32>,
+    how: Wait,
+) -> Result<Performed, AllocError>
+    requires may_make { MayMake g hub.old }
+    requires plain { AreNotRaw hub.old.greenlets targets }
+    ensures { IfOk result (λ p. kills g awaited kind targets how hub.old ≡ performed_of p hub.new) }
+{
+    let are_sent = send_kills(alloc, hub, kind, targets.as_slice())?;
+    if !are_sent {
+        return Ok(Performed::Stops(StopCause::NoKills));
+    }
+    Ok(come_to_wait(alloc, hub, g, awaited, Waiting::Kill(targets), how)?)
+}

@@ -1,0 +1,175 @@
+//! Members of groups and pools, and maps.
+ghost use Rattle.std.specs.Prelude.{◌≡◌, ◌<◌, ◌≤◌, ◌+◌, ◌∷◌, [], drop, OnOk, IfOk, length};
+ghost use Rattle.gv_values.specs.Values.{value_of_scalar};
+ghost use Rattle.machine.specs.Waits.{made_member, map_ends, maps, map_goes_on, add_member};
+ghost use Rattle.hub_requests.specs.Making.{MayMake};
+ghost use Rattle.hub_requests.specs.Naming.{IsObject};
+ghost use Rattle.hub_requests.specs.Performing.{performed_of};
+
+use crate::gathering::gather;
+use crate::parking::park;
+use crate::performed::Performed;
+use gv_values::{Outcome, Scalar, Value};
+use hub_state::{Change, Hub};
+use machine::items::{Delivery, Waiting};
+use scenario_tree::Items;
+use std::alloc::{AllocError, Global};
+use trace_text::{Awaited, StopCause};
+
+/// Makes a member of the group or pool, with its start; its number is the answer.
+#[tactic(auto, using(crate::proofs::Soundly::start_free))]
+fn add_member(
+    hub: &mut Hub,
+    g: u32,
+    o: u32,
+    function: u32,
+    arguments: Items<Value>,
+) -> Result<u32, AllocError>
+    requires may_make { MayMake g hub.old }
+    requires room { length hub.old.greenlets < 20000 }
+    ensures added { OnOk result (hub.new ≡ add_member o function arguments hub.old) }
+    ensures number { IfOk result (λ n. n ≡ length hub.old.greenlets) }
+{
+    let made = hub.add_greenlet(false, 0, function, arguments)?;
+    hub.add_item(Delivery::Start(made, None))?;
+    hub.change(o, Change::Member(made))?;
+    Ok(made)
+}
+
+/// Makes a member, whose handle is the answer.
+pub fn make_member(
+    hub: &mut Hub,
+    g: u32,
+    o: u32,
+    function: u32,
+    arguments: Items<Value>,
+) -> Result<Performed, AllocError>
+    requires { MayMake g hub.old }
+    ensures { IfOk result (λ p. made_member o function arguments hub.old ≡ performed_of p hub.new) }
+{
+    if !hub.has_greenlet_left() {
+        return Ok(Performed::Stops(StopCause::NoGreenlets));
+    }
+    let made = add_member(hub, g, o, function, arguments)?;
+    Ok(Performed::Answers(Outcome::Value(Value::Greenlet(made))))
+}
+
+/// Ends the map where all its members are Done, and else lets its greenlet wait for that.
+fn end_map(
+    alloc: Global,
+    hub: &mut Hub,
+    g: u32,
+    o: u32,
+    made: Items<u32>,
+) -> Result<Performed, AllocError>
+    requires may_make { MayMake g hub.old }
+    requires named { IsObject hub.old.scenario o }
+    requires short { length made ≤ 64 }
+    ensures { IfOk result (λ p. map_ends g o made hub.old ≡ performed_of p hub.new) }
+{
+    if hub.all_done(made.as_slice()) {
+        return Ok(Performed::Answers(gather(alloc, hub, made.as_slice())?));
+    }
+    let name = hub.name_of_object(o);
+    park(hub, g, Awaited::Map(name), Waiting::MapEnd(o, made))?;
+    Ok(Performed::Parks)
+}
+
+/// The arguments of a member of a map.
+fn argument_of(alloc: Global, element: Scalar) -> Result<Items<Value>, AllocError>
+    ensures { IfOk result (λ arguments. arguments ≡ value_of_scalar element ∷ []) }
+{
+    let mut arguments = Items::new(alloc);
+    arguments.push(Value::from(element))?;
+    Ok(arguments)
+}
+
+/// The elements from this one on.
+fn rest_of(alloc: Global, elements: &[Scalar], at: usize) -> Result<Items<Scalar>, AllocError>
+    requires { at ≤ length elements.now }
+    ensures rest { IfOk result (λ rest. rest ≡ drop at elements.now) }
+    ensures few { IfOk result (λ rest. length rest + at ≡ length elements.now) }
+{
+    let rest = &elements[at..];
+    Ok(Items::from_slice(alloc, rest)?)
+}
+
+/// Goes on with a map at these elements: a member for each, where there is a place for it.
+pub fn map_elements(
+    alloc: Global,
+    hub: &mut Hub,
+    g: u32,
+    o: u32,
+    function: u32,
+    elements: &[Scalar],
+    made: Items<u32>,
+) -> Result<Performed, AllocError>
+    requires may_make { MayMake g hub.old }
+    requires named { IsObject hub.old.scenario o }
+    requires short { length elements.now + length made ≤ 64 }
+    ensures { IfOk result (λ p. maps elements.now g o function made hub.old ≡ performed_of p hub.new) }
+{
+    let mut made = made;
+    let mut at = 0;
+    while at < elements.len() {
+        let free = hub.has_place(o);
+        if !free {
+            let rest = rest_of(alloc, elements, at)?;
+            let name = hub.name_of_object(o);
+            park(
+                hub,
+                g,
+                Awaited::Map(name),
+                Waiting::MapPlace(o, function, rest, made),
+            )?;
+            return Ok(Performed::Parks);
+        }
+        let left = hub.has_greenlet_left();
+        if !left {
+            return Ok(Performed::Stops(StopCause::NoGreenlets));
+        }
+        let arguments = argument_of(alloc, elements[at])?;
+        let member = add_member(hub, g, o, function, arguments)?;
+        made.push(member)?;
+        at += 1;
+    }
+    Ok(end_map(alloc, hub, g, o, made)?)
+}
+
+/// The elements after the first.
+fn after_first(elements: &[Scalar]) -> &[Scalar]
+    requires { 0 < length elements.now }
+    ensures rest { result.now ≡ drop 1 elements.now }
+    ensures few { length result.now + 1 ≡ length elements.now }
+{
+    &elements[1..]
+}
+
+/// Goes on with a map whose first element has its place.
+pub fn go_on_mapping(
+    alloc: Global,
+    hub: &mut Hub,
+    g: u32,
+    o: u32,
+    function: u32,
+    elements: Items<Scalar>,
+    made: Items<u32>,
+) -> Result<Performed, AllocError>
+    requires may_make { MayMake g hub.old }
+    requires named { IsObject hub.old.scenario o }
+    requires short { length elements + length made ≤ 64 }
+    ensures { IfOk result (λ p. map_goes_on elements g o function made hub.old ≡ performed_of p hub.new) }
+{
+    if elements.len() == 0 {
+        return Ok(end_map(alloc, hub, g, o, made)?);
+    }
+    if !hub.has_greenlet_left() {
+        return Ok(Performed::Stops(StopCause::NoGreenlets));
+    }
+    let mut made = made;
+    let arguments = argument_of(alloc, elements.as_slice()[0])?;
+    let member = add_member(hub, g, o, function, arguments)?;
+    made.push(member)?;
+    let rest = after_first(elements.as_slice());
+    Ok(map_elements(alloc, hub, g, o, function, rest, made)?)
+}

@@ -1,0 +1,85 @@
+//! The table of requests.
+ghost use Rattle.std.specs.Prelude.{◌≡◌, true, IfOk};
+ghost use Rattle.machine.specs.Requests.{performs};
+ghost use Rattle.machine_texts.specs.Texts.{fits_request};
+ghost use Rattle.hub_requests.specs.Making.{MayMake};
+ghost use Rattle.hub_requests.specs.Performing.{performed_of};
+
+use crate::crew_requests::{join_crew, kill_crew, map_list, spawn_job, spawn_member};
+use crate::greenlet_requests::{
+    get_outcome, join_all, join_handle, kill_all, kill_one, link_handle, make_new, print_value,
+    sleep_for, spawn_later, spawn_now, start_handle, unlink,
+};
+use crate::object_requests::{
+    acquire, clear_event, fail_result, get_result, release, set_event, set_result, wait_for_event,
+    wait_for_result,
+};
+use crate::performed::Performed;
+use crate::queue_requests::{
+    end_task, get_item, get_offer, join_queue, peek_item, put_item, put_offer, shut_queue,
+};
+use crate::raw_requests::{make_raw, set_parent, switch_to, throw_to};
+use hub_state::Hub;
+use machine::request::Request;
+use std::alloc::{AllocError, Global};
+
+/// Performs the request of the greenlet, which is under way. `AllocError`: memory is wanting.
+#[tactic(auto, using(crate::proofs::Named::fits_there))]
+pub fn perform(
+    alloc: Global,
+    hub: &mut Hub,
+    request: Request,
+    g: u32,
+) -> Result<Performed, AllocError>
+    requires may_make { MayMake g hub.old }
+    requires fits { fits_request hub.old.scenario request ≡ true }
+    ensures { IfOk result (λ p. performs request g hub.old ≡ performed_of p hub.new) }
+{
+    match request {
+        Request::Print(value) => Ok(print_value(hub, g, value)?),
+        Request::Spawn(function, arguments) => Ok(spawn_now(hub, g, function, arguments)?),
+        Request::SpawnLater(time, function, arguments) => {
+            Ok(spawn_later(hub, g, time, function, arguments)?)
+        }
+        Request::New(function, arguments) => Ok(make_new(hub, g, function, arguments)?),
+        Request::Start(value) => Ok(start_handle(hub, g, value)?),
+        Request::Sleep(time) => Ok(sleep_for(alloc, hub, g, time)?),
+        Request::Join(value, how) => Ok(join_handle(alloc, hub, g, value, how)?),
+        Request::Get(value, how) => Ok(get_outcome(alloc, hub, g, value, how)?),
+        Request::Kill(value, fault, how) => Ok(kill_one(alloc, hub, g, value, fault, how)?),
+        Request::KillAll(value, fault, how) => Ok(kill_all(alloc, hub, g, value, fault, how)?),
+        Request::JoinAll(value, count, how) => Ok(join_all(alloc, hub, g, value, count, how)?),
+        Request::Link(value, kind, function) => Ok(link_handle(hub, g, value, kind, function)?),
+        Request::Unlink(value) => Ok(unlink(hub, g, value)?),
+        Request::Set(o) => Ok(set_event(hub, g, o)?),
+        Request::Clear(o) => Ok(clear_event(hub, g, o)?),
+        Request::WaitEvent(o, how) => Ok(wait_for_event(alloc, hub, g, o, how)?),
+        Request::ResultSet(o, value) => Ok(set_result(hub, g, o, value)?),
+        Request::ResultFail(o, value) => Ok(fail_result(hub, g, o, value)?),
+        Request::ResultGet(o, how) => Ok(get_result(alloc, hub, g, o, how)?),
+        Request::ResultWait(o, how) => Ok(wait_for_result(alloc, hub, g, o, how)?),
+        Request::Acquire(o, how) => Ok(acquire(alloc, hub, g, o, how)?),
+        Request::Release(o) => Ok(release(hub, g, o)?),
+        Request::QueuePut(o, value, how) => Ok(put_item(alloc, hub, g, o, value, how)?),
+        Request::QueueGet(o, how) => Ok(get_item(alloc, hub, g, o, how)?),
+        Request::QueuePeek(o, how) => Ok(peek_item(alloc, hub, g, o, how)?),
+        Request::QueueDone(o) => Ok(end_task(hub, g, o)?),
+        Request::QueueJoin(o, how) => Ok(join_queue(alloc, hub, g, o, how)?),
+        Request::GroupSpawn(o, function, arguments) => {
+            Ok(spawn_member(alloc, hub, g, o, function, arguments)?)
+        }
+        Request::GroupJoin(o, how) => Ok(join_crew(alloc, hub, g, o, how)?),
+        Request::GroupKill(o, fault, how) => Ok(kill_crew(alloc, hub, g, o, fault, how)?),
+        Request::Map(o, function, value) => Ok(map_list(alloc, hub, g, o, function, value)?),
+        Request::NativeSpawn(o, kind, value, time) => {
+            Ok(spawn_job(alloc, hub, g, o, kind, value, time)?)
+        }
+        Request::Raw(function, under) => Ok(make_raw(alloc, hub, g, function, under)?),
+        Request::Switch(value, input) => Ok(switch_to(hub, g, value, input)?),
+        Request::Throw(value, fault) => Ok(throw_to(hub, g, value, fault)?),
+        Request::SetParent(value, other) => Ok(set_parent(hub, g, value, other)?),
+        Request::ChannelPut(o, value) => Ok(put_offer(hub, g, o, value)?),
+        Request::ChannelGet(o) => Ok(get_offer(alloc, hub, g, o)?),
+        Request::QueueShut(o, immediate) => Ok(shut_queue(hub, g, o, immediate)?),
+    }
+}
