@@ -1,3 +1,0 @@
-pub mod ByForm
-pub mod FirstLine
-pub mod Layers
