@@ -10,4 +10,6 @@ mod lives;
 #[cfg(test)]
 mod locks;
 #[cfg(test)]
+mod queues;
+#[cfg(test)]
 mod raws;

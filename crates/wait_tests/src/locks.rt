@@ -71,3 +71,21 @@ fn the_later_result_is_read(rt: HostRuntime) -> Result<(), Fail> {
     assert!(rt; matches!(result.read(), Some(Outcome::Value(Value::Int(2)))));
     Ok(())
 }
+
+#[test]
+fn each_waiter_is_told_of_three_million_releases_once(rt: HostRuntime) -> Result<(), Fail> {
+    let mut units = Semaphore::new(rt.alloc(), 0, false)?;
+    units.reserve(18_000)?;
+    for item in 0..18_000u32 {
+        units.park(Side::Only, item);
+    }
+    let mut told = 0u64;
+    for released in 0..3_000_000u64 {
+        assert!(rt; units.counter() == released);
+        assert!(rt; units.release().is_ok());
+        assert_eq!(rt; units.next_unready(), None);
+        told = told.saturating_add(u64::from(units.next_ready().is_some()));
+    }
+    assert_eq!(rt; (told, units.counter()), (18_000, 3_000_000));
+    Ok(())
+}
