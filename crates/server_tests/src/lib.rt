@@ -1,0 +1,9 @@
+//! Tests of the server by its public calls.
+#![tactic(auto)]
+
+#[cfg(test)]
+mod commands;
+#[cfg(test)]
+mod loopback;
+#[cfg(test)]
+mod scripted;
