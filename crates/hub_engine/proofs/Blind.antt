@@ -29,7 +29,7 @@ phase_twice [] g p q = refl
 phase_twice (x ∷ gs) zero p q = refl
 phase_twice (x ∷ gs) (suc g) p q = ap (λ ys. x ∷ ys) (phase_twice gs g p q)
 
-same_raw : (gs : List Greenlet) (g : ℕ) (p : Phase) →
+pub same_raw : (gs : List Greenlet) (g : ℕ) (p : Phase) →
     (unwrap_or (slice_get (slice_set gs g (phased gs g p)) g) nobody).raw ≡ (unwrap_or (slice_get gs g) nobody).raw
 same_raw [] g p = refl
 same_raw (x ∷ gs) zero p = refl
@@ -41,7 +41,7 @@ same_parent [] g p = refl
 same_parent (x ∷ gs) zero p = refl
 same_parent (x ∷ gs) (suc g) p = same_parent gs g p
 
-same_function : (gs : List Greenlet) (g : ℕ) (p : Phase) →
+pub same_function : (gs : List Greenlet) (g : ℕ) (p : Phase) →
     (unwrap_or (slice_get (slice_set gs g (phased gs g p)) g) nobody).function ≡ (unwrap_or (slice_get gs g) nobody).function
 same_function [] g p = refl
 same_function (x ∷ gs) zero p = refl

@@ -6,47 +6,48 @@ use Rattle.std.specs.Prelude.{is_some, nat_le, count_by}
 use Rattle.std.specs.List.{list_all}
 use Rattle.gv_values.specs.declared.value.Outcome.{Outcome}
 use Rattle.gv_values.specs.declared.value.Whom.{Whom}
-use Rattle.scenario_tree.specs.declared.tree.Scenario.{Scenario}
+use Rattle.scenario_tree.specs.declared.tree.Statement.{Statement}
 use Rattle.machine.specs.declared.items.Delivery.{Delivery}
 use Rattle.machine.specs.declared.items.Item.{Item}
 use Rattle.machine.specs.declared.items.Waiting.{Waiting}
 use Rattle.machine.specs.declared.state.Frame.{Frame}
 use Rattle.machine.specs.declared.state.Greenlet.{Greenlet}
+use Rattle.machine.specs.declared.state.Leaving.{Leaving}
 use Rattle.machine.specs.declared.state.Local.{Local}
+use Rattle.machine.specs.declared.state.Todo.{Todo}
 use Rattle.machine.specs.declared.state.Phase.{Phase}
 use Rattle.machine.specs.Bodies.{around}
-use Rattle.machine.specs.declared.request.Request.{Request}
 use Rattle.machine.specs.Expressions.{Look}
 use Rattle.machine.specs.BodyMoves.{Did, body_move}
 use Rattle.machine.specs.Holds.{delivery_holds, holds, link_holds, outcome_of, outcome_of_phase, phase_of, wait_holds}
-use Rattle.machine.specs.Landing.{Next, lands}
+use Rattle.machine.specs.Landing.{Next, goes_on, lands}
+use Rattle.machine.specs.Items.{add_item}
 use Rattle.machine.specs.Greenlets.{frame_of, greenlet, no_frame, nobody, with_phase}
-use Rattle.machine.specs.Moves.{does, look, move}
-use Rattle.machine.specs.Requests.{follows, performs}
+use Rattle.machine.specs.Moves.{does, enters, look, move, timeout_item}
+use Rattle.machine.specs.Requests.{follows}
 use Rattle.machine.specs.Unwinding.{unwind}
 use Rattle.machine.specs.Settle.{numbers_after, settle, settled}
 use Rattle.machine.specs.Soundness.{is_under_way}
 use Rattle.machine.specs.State.{State}
-use Rattle.machine_soundness.specs.Going.{IsSoundAt, next_did}
-use Rattle.machine_soundness.proofs.Lists.{left}
-use Rattle.machine_built.specs.Runnable.{IsRunnable, is_runnable_did, is_runnable_rest}
-use Rattle.machine_built.proofs.Bodies.{next-runnable}
-use Rattle.body_frames.specs.Places.{Came, Place, came_by}
-use Rattle.hub_state.specs.Sights.{AreCounted, look_of, outcome_seen}
-use Rattle.hub_engine.specs.Asking.{does_came, is_run}
-use Rattle.hub_engine.specs.Stands.{goes_to, next_at}
+use Rattle.machine_soundness.specs.Going.{IsSoundAt}
+use Rattle.body_frames.specs.Places.{Came, Place, came_by, place_of}
+use Rattle.hub_state.specs.Sights.{look_of, outcome_seen}
+use Rattle.hub_engine.specs.Asking.{IsDeclaredAfter, does_came, fits_came}
+use Rattle.hub_engine.specs.Ready.{AreDeclared, IsReadyToMove}
+use Rattle.hub_engine.proofs.Readily.{declared_ready, going_fits, going_sound, ready_move}
+use Rattle.machine_laws.specs.Reached.{state_of}
+use Rattle.machine_reached.specs.Meant.{fits_did}
+use Rattle.machine_soundness.specs.Going.{next_did}
+use Rattle.scenario_tree.specs.declared.tree.Scenario.{Scenario}
+use Rattle.machine.specs.declared.request.Request.{Request}
+use Rattle.machine.specs.Requests.{performs}
+use Rattle.hub_engine.specs.Stands.{goes_to, hopped, next_at}
+use Rattle.hub_engine.specs.declared.stand.Hop.{Hop}
 use Rattle.hub_engine.specs.declared.stand.Stand.{Stand}
-use Rattle.hub_engine.proofs.Blind.{goes_to_blind, phased, with_phase_twice}
+use Rattle.hub_engine.proofs.Blind.{goes_on_blind, goes_to_blind, phased, same_raw, with_phase_twice}
 use Rattle.hub_engine.proofs.Bodies.{goes_as_placed}
 
 -- ---- what the body may ask of the hub
-
-counted-none : AreCounted []
-counted-none o = (omega arith, omega arith)
-
--- there is nothing to count yet
-pub counted : (g : ℕ) (body : Frame) (s : State) → IsRunnable (with_phase g (Phase.Live body) s) → AreCounted s.objects
-counted g body s r = subst AreCounted (sym r.objects) counted-none
 
 -- what the greenlet at this place has ended with
 abbrev ended_at : List Greenlet → ℕ → Option Outcome
@@ -120,20 +121,52 @@ settle-under-way g body s =
     ap outcome_of (with_phase_twice g (Phase.Live no_frame) (Phase.Live body) s) ∙ outcomes-seen g body s ∙ sym (outcomes-seen g no_frame s) in
     ap (settled_by u) (holds-same t u.greenlets same)
 
-pub settles_under_way : (g : ℕ) (before : Frame) (place : Place) (s t u v : State) (at : Stand) → t ≡ with_phase g (Phase.Live no_frame) s → u ≡ settle t →
-    goes_to lands g place u ≡ next_at at v → goes_to lands g place (settle (with_phase g (Phase.Live before) s)) ≡ next_at at v
-settles_under_way g before place s t u v at e f h =
+pub settles_under_way : (g : ℕ) (before : Frame) (place : Place) (s t u v w : State) (hop : Hop) (at : Stand) → t ≡ with_phase g (Phase.Live no_frame) s → u ≡ settle t →
+    goes_to lands g place u ≡ hopped lands hop v → hopped lands hop v ≡ next_at at w → goes_to lands g place (settle (with_phase g (Phase.Live before) s)) ≡ next_at at w
+settles_under_way g before place s t u v w hop at e f h k =
     let x = with_phase g (Phase.Live no_frame) s in
     ap (λ (y : State). goes_to lands g place (settle y)) (sym (with_phase_twice g (Phase.Live no_frame) (Phase.Live before) s))
     ∙ ap (goes_to lands g place) (settle-under-way g before s)
     ∙ goes_to_blind lands g place (Phase.Live before) (settle x)
     ∙ ap (goes_to lands g place) (ap settle (sym e) ∙ sym f)
-    ∙ h
+    ∙ h ∙ k
+
+-- a timeout item comes whatever phase its greenlet has
+timeout-blind : (g n : ℕ) (ms : Option ℕ) (p : Phase) (s : State) → timeout_item g n ms (with_phase g p s) ≡ with_phase g p (timeout_item g n ms s)
+timeout-blind g n None p s = refl
+timeout-blind g n (Some ms) p s = refl
+
+pub enters_under_way : (g n : ℕ) (ms : Option ℕ) (silent : Bool) (body : List Statement) (locals : List Local) (todo : List Todo) (before : Frame) (place : Place) (s t u v w x y : State)
+    (hop : Hop) (at : Stand) → t ≡ with_phase g (Phase.Live no_frame) s → n ≡ t.timeouts + 1 → u ≡ record t { timeouts = t.timeouts + 1 } → v ≡ timeout_item g n ms u → w ≡ settle v →
+    place ≡ place_of (unwind (Todo.Statements body ∷ Todo.Within n silent ∷ todo) [] Leaving.Normally locals) → goes_to lands g place w ≡ hopped lands hop x → hopped lands hop x ≡ next_at at y →
+    enters g ms silent body locals todo (with_phase g (Phase.Live before) s) ≡ next_at at y
+enters_under_way g n ms silent body locals todo before place s t u v w x y hop at e f k l m p q r =
+    let s1 = record s { timeouts = s.timeouts + 1 } in
+    let number : n ≡ s.timeouts + 1 = f ∙ ap (λ (z : State). z.timeouts + 1) e in
+    let there = λ (m : ℕ). unwind (Todo.Statements body ∷ Todo.Within m silent ∷ todo) [] Leaving.Normally locals in
+    let item = timeout_item g n ms s1 in
+    let gone : with_phase g (Phase.Live no_frame) item ≡ v =
+    sym (timeout-blind g n ms (Phase.Live no_frame) s1) ∙ ap (timeout_item g n ms) (sym (k ∙ ap (λ (z : State). record z { timeouts = z.timeouts + 1 }) e)) ∙ sym l in
+    ap (λ (m : ℕ). goes_on lands g (there m) (settle (timeout_item g m ms (with_phase g (Phase.Live before) s1)))) (sym number)
+    ∙ ap (λ (z : State). goes_on lands g (there n) (settle z)) (timeout-blind g n ms (Phase.Live before) s1 ∙ sym (with_phase_twice g (Phase.Live no_frame) (Phase.Live before) item))
+    ∙ ap (goes_on lands g (there n)) (settle-under-way g before item)
+    ∙ goes_on_blind lands g (there n) (Phase.Live before) (settle (with_phase g (Phase.Live no_frame) item))
+    ∙ ap (λ (z : State). goes_on lands g (there n) (settle z)) gone
+    ∙ ap (goes_on lands g (there n)) (sym m)
+    ∙ goes_as_placed lands g (there n) w
+    ∙ ap (λ (z : Place). goes_to lands g z w) (sym p)
+    ∙ q ∙ r
 
 pub asks_blind : (g : ℕ) (before body : Frame) (request : Request) (s v : State) (at : Stand) → follows g (performs request g (with_phase g (Phase.Live body) s)) ≡ next_at at v →
     follows g (performs request g (with_phase g (Phase.Live body) (with_phase g (Phase.Live before) s))) ≡ next_at at v
 asks_blind g before body request s v at h =
     ap (λ (y : State). follows g (performs request g y)) (with_phase_twice g (Phase.Live before) (Phase.Live body) s) ∙ h
+
+-- where what is asked is done, functions are known
+pub asks_declared : (g : ℕ) (request : Request) (body : Frame) (s : State) → IsDeclaredAfter g (Came.Asks request body) s →
+    AreDeclared (state_of (follows g (performs request g (with_phase g (Phase.Live body) s))))
+asks_declared g request body s m =
+    subst (λ (y : State). AreDeclared (state_of (follows g (performs request g y)))) (with_phase_twice g (Phase.Live m.before) (Phase.Live body) s) m.here
 
 -- ---- the move
 
@@ -162,30 +195,45 @@ came-same : (g : ℕ) (body : Frame) (s : State) (came : Came) → came ≡ came
     came ≡ came_by body.locals (did_by g (with_phase g (Phase.Live body) s) body)
 came-same g body s came e = e ∙ ap (λ (l : Look). came_by body.locals (body_move body.todo (around s.scenario l body.locals))) (look-same g body s)
 
-pub moved : (g : ℕ) (body : Frame) (s t v : State) (came : Came) (at : Stand) → IsSoundAt (Next.Going g (with_phase g (Phase.Live body) s)) →
+-- the move is by what came of it
+move-came : (g : ℕ) (body : Frame) (s t : State) (came : Came) → is_under_way (phase_of g (with_phase g (Phase.Live body) s).greenlets) ≡ true →
     came ≡ came_by body.locals (body_move body.todo (around s.scenario (look_of (record { current = g; state = s })) body.locals)) →
-    t ≡ record s { moves = s.moves + 1 } → ((before : Frame) → does_came g came (with_phase g (Phase.Live before) t) ≡ next_at at v) →
-    move g (with_phase g (Phase.Live body) s) ≡ next_at at v
-moved g body s t v came at h e f d =
+    t ≡ record s { moves = s.moves + 1 } → move g (with_phase g (Phase.Live body) s) ≡ does_came g came (with_phase g (Phase.Live body) t)
+move-came g body s t came h e f =
     let u = with_phase g (Phase.Live body) s in
-    move-is g u body (body-at s.greenlets g body h.1.live)
+    move-is g u body (body-at s.greenlets g body h)
     ∙ does-as g body.locals (did_by g u body) (record u { moves = u.moves + 1 })
     ∙ ap (λ (c : Came). does_came g c (record u { moves = u.moves + 1 })) (sym (came-same g body s came e))
     ∙ ap (λ (x : State). does_came g came (with_phase g (Phase.Live body) x)) (sym f)
-    ∙ d body
 
-did-runs : (c : Scenario) (locals : List Local) (did : Did) → is_runnable_did c did ≡ true → is_run c (came_by locals did) ≡ true
-did-runs c locals (Did.GoesOn how after todo) h = refl
-did-runs c locals (Did.Enters ms silent body todo) h = h
-did-runs c locals (Did.Asks request x todo) h = left _ (is_runnable_rest c todo) h
-
--- what the body asks is run
-pub runs_it : (g : ℕ) (body : Frame) (s t : State) (came : Came) → IsSoundAt (Next.Going g (with_phase g (Phase.Live body) s)) → IsRunnable (with_phase g (Phase.Live body) s) →
+pub moved : (g : ℕ) (body : Frame) (s t v : State) (came : Came) (at : Stand) → IsReadyToMove g (with_phase g (Phase.Live body) s) →
     came ≡ came_by body.locals (body_move body.todo (around s.scenario (look_of (record { current = g; state = s })) body.locals)) →
-    t ≡ record s { moves = s.moves + 1 } → is_run t.scenario came ≡ true
-runs_it g body s t came h r e f =
+    t ≡ record s { moves = s.moves + 1 } → ((before : Frame) → does_came g came (with_phase g (Phase.Live before) t) ≡ next_at at v) →
+    move g (with_phase g (Phase.Live body) s) ≡ next_at at v
+moved g body s t v came at h e f d = move-came g body s t came (going_sound g _ h).1.live e f ∙ d body
+
+-- functions are known after the move
+pub moves_declared : (g : ℕ) (body : Frame) (s t : State) (came : Came) → IsReadyToMove g (with_phase g (Phase.Live body) s) →
+    came ≡ came_by body.locals (body_move body.todo (around s.scenario (look_of (record { current = g; state = s })) body.locals)) →
+    t ≡ record s { moves = s.moves + 1 } → IsDeclaredAfter g came t
+moves_declared g body s t came h e f =
+    record {
+      before = body;
+      here = subst (λ (x : Next). AreDeclared (state_of x)) (move-came g body s t came (going_sound g _ h).1.live e f) (declared_ready _ (ready_move g _ h));
+    }
+
+did-fits : (c : Scenario) (locals : List Local) (did : Did) → fits_did c did ≡ true → fits_came c (came_by locals did) ≡ true
+did-fits c locals (Did.GoesOn how after todo) h = refl
+did-fits c locals (Did.Enters ms silent body todo) h = refl
+did-fits c locals (Did.Asks request x todo) h = h
+
+-- what the body asks is what its text may ask
+pub moves_fit : (g : ℕ) (body : Frame) (s t : State) (came : Came) → IsReadyToMove g (with_phase g (Phase.Live body) s) →
+    came ≡ came_by body.locals (body_move body.todo (around s.scenario (look_of (record { current = g; state = s })) body.locals)) →
+    t ≡ record s { moves = s.moves + 1 } → fits_came t.scenario came ≡ true
+moves_fit g body s t came h e f =
     let u = with_phase g (Phase.Live body) s in
-    let here : next_did g u ≡ did_by g u body = ap (did_by g u) (body-at s.greenlets g body h.1.live) in
-    let did : is_runnable_did s.scenario (did_by g u body) ≡ true = subst (λ (d : Did). is_runnable_did s.scenario d ≡ true) here (next-runnable g u r) in
-    subst (λ (x : State). is_run x.scenario came ≡ true) (sym f)
-    (subst (λ (c : Came). is_run s.scenario c ≡ true) (sym (came-same g body s came e)) (did-runs s.scenario body.locals (did_by g u body) did))
+    let here : next_did g u ≡ did_by g u body = ap (did_by g u) (body-at s.greenlets g body (going_sound g u h).1.live) in
+    let did : fits_did s.scenario (did_by g u body) ≡ true = subst (λ (d : Did). fits_did s.scenario d ≡ true) here (going_fits g u h) in
+    subst (λ (x : State). fits_came x.scenario came ≡ true) (sym f)
+    (subst (λ (c : Came). fits_came s.scenario c ≡ true) (sym (came-same g body s came e)) (did-fits s.scenario body.locals (did_by g u body) did))

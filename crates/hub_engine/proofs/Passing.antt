@@ -1,104 +1,82 @@
--- How the text of a run is written part after part.
-use Rattle.std.proofs.Common.{◌≡◌, refl, ap, sym, ◌∙◌, subst, ℕ, zero, suc, ◌+◌, ◌-◌, ◌<◌, List, [], ◌∷◌, ◌++◌, length, take, get_or, append_assoc, Option, arith}
+-- How the moves of a greenlet are given out one after another.
+use Rattle.std.proofs.Common.{◌≡◌, refl, ap, sym, ◌∙◌, subst, ℕ, zero, suc, ◌-◌, ◌<◌, List, [], ◌∷◌, ◌++◌, append_assoc, map, arith}
 use Rattle.std.proofs.lemmas.List.{append-nil}
 use Rattle.trace_text.specs.declared.line.Line.{Line}
 use Rattle.trace_text.specs.declared.line.StopCause.{StopCause}
-use Rattle.trace_text.specs.LineTexts.{text_of, line_text}
-use Rattle.gv_io.specs.Streams.{appended, AppendsPrefix}
-use Rattle.gv_io.proofs.StreamLaws.{appended-nothing, appended-appended, AppendsPrefix-whole, AppendsPrefix-after, AppendsPrefix-longer}
-use Rattle.hub_engine.specs.declared.stand.Came.{Came}
-use Rattle.machine.specs.State.{State}
-use Rattle.machine.specs.Landing.{Next}
-use Rattle.machine.specs.Moves.{move}
-use Rattle.machine.specs.Run.{Passed, passed, said, silent, runs}
 use Rattle.machine.specs.declared.state.Frame.{Frame}
 use Rattle.machine.specs.declared.state.Phase.{Phase}
+use Rattle.machine.specs.declared.state.Post.{Post}
 use Rattle.machine.specs.Greenlets.{with_phase}
-use Rattle.hub_engine.specs.Stands.{next_at}
+use Rattle.machine.specs.Landing.{Next}
+use Rattle.machine.specs.Moves.{move}
+use Rattle.machine.specs.Run.{Passed, logged, passed, runs, said, silent}
+use Rattle.machine.specs.State.{State}
 use Rattle.machine_soundness.proofs.States.{length-phased}
-use Rattle.hub_engine.specs.Written.{AreLike, CameTo, HasPassed, IsPartWritten, IsPassing}
+use Rattle.hub_engine.specs.declared.stand.Came.{Came}
 use Rattle.hub_engine.specs.declared.stand.Stand.{Stand}
-
-pub text_of_append : (xs ys : List Line) → text_of (xs ++ ys) ≡ text_of xs ++ text_of ys
-text_of_append [] ys = refl
-text_of_append (x ∷ xs) ys = rw (text_of_append xs ys) (cc (append_assoc (line_text x) (10 ∷ text_of xs) (text_of ys)))
-
--- the texts of one line more
-pub text_more : (lines : List Line) (i : ℕ) (d : Line) → i < length lines →
-    text_of (take (i + 1) lines) ≡ (text_of (take i lines) ++ line_text (get_or lines i d)) ++ 10 ∷ []
-text_more [] i d h = grind arith
-text_more (x ∷ lines) zero d h = refl
-text_more (x ∷ lines) (suc i) d h =
-    let one : suc i + 1 ≡ suc (i + 1) = omega arith in
-    let t = text_of (take i lines) in
-    let l = line_text (get_or lines i d) in
-    rw one
-    (ap (λ z. line_text x ++ 10 ∷ z) (text_more lines i d (omega (arith, h)))
-    ∙ sym (append_assoc (line_text x) (10 ∷ (t ++ l)) (10 ∷ []))
-    ∙ ap (λ z. z ++ 10 ∷ []) (sym (append_assoc (line_text x) (10 ∷ t) l)))
-
--- ---- texts
-
-pub begun : (old : Option (List ℕ)) (whole : List ℕ) → IsPartWritten old old whole whole
-begun old whole = record { part = []; is = sym (appended-nothing old); rest = refl }
-
-pub more_written : (old now new : Option (List ℕ)) (whole left text rest : List ℕ) → IsPartWritten old now whole left →
-    left ≡ text ++ rest → new ≡ appended now text → IsPartWritten old new whole rest
-more_written old now new whole left text rest w e f =
-    record {
-      part = w.part ++ text;
-      is = f ∙ ap (λ m. appended m text) w.is ∙ appended-appended old w.part text;
-      rest = w.rest ∙ ap (λ z. w.part ++ z) e ∙ sym (append_assoc w.part text rest);
-    }
-
-pub whole_written : (old now : Option (List ℕ)) (whole : List ℕ) → IsPartWritten old now whole [] → now ≡ appended old whole
-whole_written old now whole w = w.is ∙ ap (appended old) (sym (w.rest ∙ append-nil w.part))
-
-pub cut_off : (old now new : Option (List ℕ)) (whole left text rest : List ℕ) → IsPartWritten old now whole left →
-    left ≡ text ++ rest → AppendsPrefix now new text → AppendsPrefix old new whole
-cut_off old now new whole left text rest w e p =
-    subst (λ (z : List ℕ). AppendsPrefix old new z) (sym (w.rest ∙ ap (λ z. w.part ++ z) e))
-    (AppendsPrefix-after old now new w.part (text ++ rest) w.is (AppendsPrefix-longer now new text rest p))
-
-pub left_off : (old now : Option (List ℕ)) (whole left : List ℕ) → IsPartWritten old now whole left → AppendsPrefix old now whole
-left_off old now whole left w =
-    subst (λ (z : List ℕ). AppendsPrefix old now z) (sym w.rest) (AppendsPrefix-whole old now w.part left w.is)
+use Rattle.hub_engine.specs.Outside.{HasGiven, HasGivenPart, Outside}
+use Rattle.hub_engine.specs.Stands.{next_at}
+use Rattle.hub_engine.specs.Written.{AreLike, CameTo}
+use Rattle.hub_engine.proofs.Giving.{given_nothing, part_after, part_longer, part_whole, posts_given_then}
 
 -- ---- parts of a run
 
-pub passing : (old : Option (List ℕ)) (p : Passed) → IsPassing old old p p
-passing old p = record { text = begun old (text_of p.lines); posts = refl; next = refl }
+-- these lines and posts come first
+abbrev pub behind : List Line → List Post → Passed → Passed
+behind lines posts p = record { lines = lines ++ p.lines; posts = posts ++ p.posts; next = p.next }
 
--- a step's lines were written, and the rest is to come
-pub onward : (old now new : Option (List ℕ)) (p q r : Passed) (ls : List Line) → IsPassing old now p q →
-    q.lines ≡ ls ++ r.lines → q.posts ≡ r.posts → q.next ≡ r.next → new ≡ appended now (text_of ls) → IsPassing old new p r
-onward old now new p q r ls w e f h n =
-    record {
-      text = more_written old now new (text_of p.lines) (text_of q.lines) (text_of ls) (text_of r.lines) w.text (ap text_of e ∙ text_of_append ls r.lines) n;
-      posts = w.posts ∙ f;
-      next = w.next ∙ h;
-    }
+-- of a part of a run a first piece was given out, and the rest is left
+pub record IsPassing (v w : Outside) (whole left : Passed) : Type 0 where
+  pub lines : List Line
+  pub posts : List Post
+  pub given : HasGiven v w lines (map logged posts)
+  pub is : whole ≡ behind lines posts left
+
+-- a part of a run was given out whole
+pub record HasPassed (v w : Outside) (p : Passed) (came : Came) (s : State) : Type 0 where
+  pub given : HasGiven v w p.lines (map logged p.posts)
+  pub next : CameTo came p.next s
+
+pub passing : (v : Outside) (p : Passed) → IsPassing v v p p
+passing v p = record { lines = []; posts = []; given = given_nothing v; is = refl }
+
+behind_behind : (lines more : List Line) (posts later : List Post) (p : Passed) → behind lines posts (behind more later p) ≡ behind (lines ++ more) (posts ++ later) p
+behind_behind lines more posts later p =
+    ap (λ ls. record { lines = ls; posts = posts ++ (later ++ p.posts); next = p.next }) (sym (append_assoc lines more p.lines))
+    ∙ ap (λ ps. record { lines = (lines ++ more) ++ p.lines; posts = ps; next = p.next }) (sym (append_assoc posts later p.posts))
+
+-- one piece more was given out
+pub onward : (u v w : Outside) (p q r : Passed) (lines : List Line) (posts : List Post) → IsPassing u v p q → q ≡ behind lines posts r → HasGiven v w lines (map logged posts) →
+    IsPassing u w p r
+onward u v w p q r lines posts i e g = record {
+  lines = i.lines ++ lines;
+  posts = i.posts ++ posts;
+  given = posts_given_then u v w i.lines lines i.posts posts i.given g;
+  is = i.is ∙ ap (behind i.lines i.posts) e ∙ behind_behind i.lines lines i.posts posts r;
+}
 
 -- a state is like itself
 pub like : (s : State) → AreLike s s
 like s = record { greenlets = refl; turns = refl; moves = refl; moment = refl }
 
-pub over : (old now new : Option (List ℕ)) (p q : Passed) (ls : List Line) (came : Came) (s : State) → IsPassing old now p q →
-    q.lines ≡ ls → q.posts ≡ [] → CameTo came q.next s → new ≡ appended now (text_of ls) → HasPassed old new p came s
-over old now new p q ls came s w e f h n =
-    record {
-      text = whole_written old new (text_of p.lines) (more_written old now new (text_of p.lines) (text_of q.lines) (text_of ls) [] w.text (ap text_of e ∙ sym (append-nil (text_of ls))) n);
-      next = subst (λ (x : Next). CameTo came x s) (sym w.next) h;
-      posts = w.posts ∙ f;
-    }
+-- what was left was given out whole
+pub over : (u v w : Outside) (p q : Passed) (came : Came) (s : State) → IsPassing u v p q → CameTo came q.next s → HasGiven v w q.lines (map logged q.posts) → HasPassed u w p came s
+over u v w p q came s i c g = record {
+  given = subst (λ (x : Passed). HasGiven u w x.lines (map logged x.posts)) (sym i.is) (posts_given_then u v w i.lines q.lines i.posts q.posts i.given g);
+  next = subst (λ (x : Passed). CameTo came x.next s) (sym i.is) c;
+}
 
-pub broken : (old now new : Option (List ℕ)) (p q : Passed) (ls rest : List Line) → IsPassing old now p q →
-    q.lines ≡ ls ++ rest → AppendsPrefix now new (text_of ls) → AppendsPrefix old new (text_of p.lines)
-broken old now new p q ls rest w e n =
-    cut_off old now new (text_of p.lines) (text_of q.lines) (text_of ls) (text_of rest) w.text (ap text_of e ∙ text_of_append ls rest) n
+-- it broke off in what is left
+pub broken : (u v w : Outside) (p q r : Passed) (lines : List Line) (posts : List Post) → IsPassing u v p q → q ≡ behind lines posts r → HasGivenPart v w lines posts →
+    HasGivenPart u w p.lines p.posts
+broken u v w p q r lines posts i e g =
+    let here : p ≡ behind i.lines i.posts (behind lines posts r) = i.is ∙ ap (behind i.lines i.posts) e in
+    subst (λ (x : Passed). HasGivenPart u w x.lines x.posts) (sym here)
+    (part_after u v w i.lines (lines ++ r.lines) i.posts (posts ++ r.posts) i.given (part_longer v w lines r.lines posts r.posts g))
 
-pub given_up : (old now : Option (List ℕ)) (p q : Passed) → IsPassing old now p q → AppendsPrefix old now (text_of p.lines)
-given_up old now p q w = left_off old now (text_of p.lines) (text_of q.lines) w.text
+-- it broke off before what is left
+pub given_up : (u v : Outside) (p q : Passed) → IsPassing u v p q → HasGivenPart u v p.lines p.posts
+given_up u v p q i = subst (λ (x : Passed). HasGivenPart u v x.lines x.posts) (sym i.is) (part_whole u v i.lines q.lines i.posts q.posts i.given)
 
 -- ---- moves
 
@@ -106,72 +84,78 @@ runs_step : (n g : ℕ) (s : State) → 0 < n → runs n (Next.Going g s) ≡ sa
 runs_step zero g s h = grind arith
 runs_step (suc n) g s h = let e : suc n - 1 ≡ n = omega arith in rw e
 
-pub goes : (old now new : Option (List ℕ)) (p : Passed) (n g : ℕ) (s : State) → 0 < n → IsPassing old now p (runs n (Next.Going g s)) →
-    s.posts ≡ [] → new ≡ appended now (text_of s.lines) → IsPassing old new p (runs (n - 1) (move g (silent s)))
-goes old now new p n g s h w e f =
-    let r = runs (n - 1) (move g (silent s)) in
-    onward old now new p (said s r) r s.lines (rw (runs_step n g s h) at w) refl (ap (λ z. z ++ r.posts) e) refl f
+pub rested : (u v w : Outside) (p : Passed) (n : ℕ) (at : Stand) (s : State) → at ≡ Stand.Resting → IsPassing u v p (runs n (next_at at s)) → HasGiven v w s.lines (map logged s.posts) →
+    HasPassed u w p Came.ToRest (silent s)
+rested u v w p n at s k i g = by n (subst (λ (x : Stand). IsPassing u v p (runs n (next_at x s))) k i)
+  where
+    by : (n : ℕ) → IsPassing u v p (runs n (Next.Resting s)) → HasPassed u w p Came.ToRest (silent s)
+    by zero i = over u v w p (passed s Next.Resting) Came.ToRest (silent s) i refl g
+    by (suc n) i = over u v w p (passed s Next.Resting) Came.ToRest (silent s) i refl g
 
-pub came_to_rest : (old now new : Option (List ℕ)) (p : Passed) (n : ℕ) (s : State) → IsPassing old now p (runs n (Next.Resting s)) →
-    s.posts ≡ [] → new ≡ appended now (text_of s.lines) → HasPassed old new p Came.ToRest (silent s)
-came_to_rest old now new p zero s w e f = over old now new p (passed s Next.Resting) s.lines Came.ToRest (silent s) w refl e refl f
-came_to_rest old now new p (suc n) s w e f = over old now new p (passed s Next.Resting) s.lines Came.ToRest (silent s) w refl e refl f
+pub ended : (u v w : Outside) (p : Passed) (n : ℕ) (at : Stand) (c : StopCause) (s : State) → at ≡ Stand.Over c → IsPassing u v p (runs n (next_at at s)) →
+    HasGiven v w s.lines (map logged s.posts) → HasPassed u w p (Came.ToAnEnd c) (silent s)
+ended u v w p n at c s k i g = by n (subst (λ (x : Stand). IsPassing u v p (runs n (next_at x s))) k i)
+  where
+    by : (n : ℕ) → IsPassing u v p (runs n (Next.Over c s)) → HasPassed u w p (Came.ToAnEnd c) (silent s)
+    by zero i = over u v w p (passed s (Next.Over c)) (Came.ToAnEnd c) (silent s) i (silent s, refl, like (silent s)) g
+    by (suc n) i = over u v w p (passed s (Next.Over c)) (Came.ToAnEnd c) (silent s) i (silent s, refl, like (silent s)) g
 
-pub came_to_end : (old now new : Option (List ℕ)) (p : Passed) (n : ℕ) (c : StopCause) (s : State) → IsPassing old now p (runs n (Next.Over c s)) →
-    s.posts ≡ [] → new ≡ appended now (text_of s.lines) → HasPassed old new p (Came.ToAnEnd c) (silent s)
-came_to_end old now new p zero c s w e f = over old now new p (passed s (Next.Over c)) s.lines (Came.ToAnEnd c) (silent s) w refl e (silent s, refl, like (silent s)) f
-came_to_end old now new p (suc n) c s w e f = over old now new p (passed s (Next.Over c)) s.lines (Came.ToAnEnd c) (silent s) w refl e (silent s, refl, like (silent s)) f
-
-pub out_of_moves : (old now new : Option (List ℕ)) (p : Passed) (g : ℕ) (body : Frame) (s : State) → IsPassing old now p (runs 0 (Next.Going g (with_phase g (Phase.Live body) s))) →
-    s.posts ≡ [] → new ≡ appended now (text_of s.lines) → HasPassed old new p (Came.ToAnEnd StopCause.NoMoves) (silent s)
-out_of_moves old now new p g body s w e f =
+pub out_of_budget : (u v w : Outside) (p : Passed) (n : ℕ) (at : Stand) (g : ℕ) (body : Frame) (s : State) → n ≡ 0 → at ≡ Stand.Going g body → IsPassing u v p (runs n (next_at at s)) →
+    HasGiven v w s.lines (map logged s.posts) → HasPassed u w p (Came.ToAnEnd StopCause.NoMoves) (silent s)
+out_of_budget u v w p n at g body s z k i h =
     let t = with_phase g (Phase.Live body) s in
     let as' : AreLike (silent t) (silent s) = record { greenlets = length-phased g (Phase.Live body) s; turns = refl; moves = refl; moment = refl } in
-    over old now new p (passed t (Next.Over StopCause.NoMoves)) s.lines (Came.ToAnEnd StopCause.NoMoves) (silent s) w refl e (silent t, refl, as') f
+    let here : IsPassing u v p (runs 0 (Next.Going g t)) =
+    subst (λ (m : ℕ). IsPassing u v p (runs m (Next.Going g t))) z (subst (λ (x : Stand). IsPassing u v p (runs n (next_at x s))) k i) in
+    over u v w p (passed t (Next.Over StopCause.NoMoves)) (Came.ToAnEnd StopCause.NoMoves) (silent s) here (silent t, refl, as') h
 
--- the same, where it is known what the hub came to
-pub rested : (old now new : Option (List ℕ)) (p : Passed) (n : ℕ) (at : Stand) (s : State) → at ≡ Stand.Resting → IsPassing old now p (runs n (next_at at s)) →
-    s.posts ≡ [] → new ≡ appended now (text_of s.lines) → HasPassed old new p Came.ToRest (silent s)
-rested old now new p n at s k w e f = came_to_rest old now new p n s (subst (λ (x : Stand). IsPassing old now p (runs n (next_at x s))) k w) e f
-
-pub ended : (old now new : Option (List ℕ)) (p : Passed) (n : ℕ) (at : Stand) (c : StopCause) (s : State) → at ≡ Stand.Over c → IsPassing old now p (runs n (next_at at s)) →
-    s.posts ≡ [] → new ≡ appended now (text_of s.lines) → HasPassed old new p (Came.ToAnEnd c) (silent s)
-ended old now new p n at c s k w e f = came_to_end old now new p n c s (subst (λ (x : Stand). IsPassing old now p (runs n (next_at x s))) k w) e f
-
-pub out_of_budget : (old now new : Option (List ℕ)) (p : Passed) (n : ℕ) (at : Stand) (g : ℕ) (body : Frame) (s : State) → n ≡ 0 → at ≡ Stand.Going g body → IsPassing old now p (runs n (next_at at s)) →
-    s.posts ≡ [] → new ≡ appended now (text_of s.lines) → HasPassed old new p (Came.ToAnEnd StopCause.NoMoves) (silent s)
-out_of_budget old now new p n at g body s z k w e f =
-    out_of_moves old now new p g body s
-    (subst (λ (m : ℕ). IsPassing old now p (runs m (Next.Going g (with_phase g (Phase.Live body) s)))) z (subst (λ (x : Stand). IsPassing old now p (runs n (next_at x s))) k w)) e f
-
-pub move_given_up : (old now new : Option (List ℕ)) (p : Passed) (n : ℕ) (at : Stand) (g : ℕ) (body : Frame) (s : State) → 0 < n → at ≡ Stand.Going g body → IsPassing old now p (runs n (next_at at s)) →
-    s.posts ≡ [] → new ≡ appended now (text_of s.lines) → AppendsPrefix old new (text_of p.lines)
-move_given_up old now new p n at g body s h k w e f =
+-- the step under way was given out, and a move is to be made
+moves_on : (u v w : Outside) (p : Passed) (n : ℕ) (at : Stand) (g : ℕ) (body : Frame) (s : State) → 0 < n → at ≡ Stand.Going g body → IsPassing u v p (runs n (next_at at s)) →
+    HasGiven v w s.lines (map logged s.posts) → IsPassing u w p (runs (n - 1) (move g (silent (with_phase g (Phase.Live body) s))))
+moves_on u v w p n at g body s h k i o =
     let t = with_phase g (Phase.Live body) s in
-    given_up old new p (runs (n - 1) (move g (silent t))) (goes old now new p n g t h (subst (λ (x : Stand). IsPassing old now p (runs n (next_at x s))) k w) e f)
+    let here : IsPassing u v p (runs n (Next.Going g t)) = subst (λ (x : Stand). IsPassing u v p (runs n (next_at x s))) k i in
+    onward u v w p (runs n (Next.Going g t)) (runs (n - 1) (move g (silent t))) s.lines s.posts here (runs_step n g t h) o
+
+pub move_given_up : (u v w : Outside) (p : Passed) (n : ℕ) (at : Stand) (g : ℕ) (body : Frame) (s : State) → 0 < n → at ≡ Stand.Going g body → IsPassing u v p (runs n (next_at at s)) →
+    HasGiven v w s.lines (map logged s.posts) → HasGivenPart u w p.lines p.posts
+move_given_up u v w p n at g body s h k i o = given_up u w p _ (moves_on u v w p n at g body s h k i o)
 
 -- a move was made from where the step under way was given out
-pub moved_on : (old now new : Option (List ℕ)) (p : Passed) (n : ℕ) (at to : Stand) (g : ℕ) (body : Frame) (s t u : State) → 0 < n → at ≡ Stand.Going g body →
-    IsPassing old now p (runs n (next_at at s)) → s.posts ≡ [] → new ≡ appended now (text_of s.lines) → t ≡ silent s →
-    move g (with_phase g (Phase.Live body) t) ≡ next_at to u → IsPassing old new p (runs (n - 1) (next_at to u))
-moved_on old now new p n at to g body s t u h z w e f k m =
-    let x = with_phase g (Phase.Live body) s in
-    let here : move g (silent x) ≡ next_at to u = subst (λ (y : State). move g (with_phase g (Phase.Live body) y) ≡ next_at to u) k m in
-    subst (λ (y : Next). IsPassing old new p (runs (n - 1) y)) here
-    (goes old now new p n g x h (subst (λ (y : Stand). IsPassing old now p (runs n (next_at y s))) z w) e f)
+pub moved_on : (u v w : Outside) (p : Passed) (n : ℕ) (at to : Stand) (g : ℕ) (body : Frame) (s t x : State) → 0 < n → at ≡ Stand.Going g body →
+    IsPassing u v p (runs n (next_at at s)) → HasGiven v w s.lines (map logged s.posts) → t ≡ silent s →
+    move g (with_phase g (Phase.Live body) t) ≡ next_at to x → IsPassing u w p (runs (n - 1) (next_at to x))
+moved_on u v w p n at to g body s t x h z i o k m =
+    let here : move g (silent (with_phase g (Phase.Live body) s)) ≡ next_at to x = subst (λ (y : State). move g (with_phase g (Phase.Live body) y) ≡ next_at to x) k m in
+    subst (λ (y : Next). IsPassing u w p (runs (n - 1) y)) here (moves_on u v w p n at g body s h z i o)
 
--- the lines of the step under way come first
-runs_lines : (n : ℕ) (at : Stand) (s : State) → (rest : List Line) × ((runs n (next_at at s)).lines ≡ s.lines ++ rest)
-runs_lines zero (Stand.Going g body) s = ([], sym (append-nil s.lines))
-runs_lines (suc n) (Stand.Going g body) s = ((runs n (move g (silent (with_phase g (Phase.Live body) s)))).lines, refl)
-runs_lines zero Stand.Resting s = ([], sym (append-nil s.lines))
-runs_lines (suc n) Stand.Resting s = ([], sym (append-nil s.lines))
-runs_lines zero (Stand.Over c) s = ([], sym (append-nil s.lines))
-runs_lines (suc n) (Stand.Over c) s = ([], sym (append-nil s.lines))
+-- the lines and posts of the step under way come first
+runs_first : (n : ℕ) (at : Stand) (s : State) → (rest : Passed) × (runs n (next_at at s) ≡ behind s.lines s.posts rest)
+runs_first n at s = by n at
+  where
+    alone : (next : State → Next) → passed s next ≡ behind s.lines s.posts (record { lines = []; posts = []; next = next (silent s) })
+    alone next =
+        ap (λ ls. record { lines = ls; posts = s.posts; next = next (silent s) }) (sym (append-nil s.lines))
+        ∙ ap (λ ps. record { lines = s.lines ++ []; posts = ps; next = next (silent s) }) (sym (append-nil s.posts))
 
-pub runs_broken : (old now new : Option (List ℕ)) (p : Passed) (n : ℕ) (at : Stand) (s : State) → IsPassing old now p (runs n (next_at at s)) →
-    AppendsPrefix now new (text_of s.lines) → AppendsPrefix old new (text_of p.lines)
-runs_broken old now new p n at s w e = let r = runs_lines n at s in broken old now new p (runs n (next_at at s)) s.lines r.0 w r.1 e
+    none : (State → Next) → Passed
+    none next = record { lines = []; posts = []; next = next (silent s) }
+
+    by : (n : ℕ) (at : Stand) → (rest : Passed) × (runs n (next_at at s) ≡ behind s.lines s.posts rest)
+    by zero (Stand.Going g body) =
+        let t = with_phase g (Phase.Live body) s in (
+          record { lines = []; posts = []; next = Next.Over StopCause.NoMoves (silent t) },
+          ap (λ ls. record { lines = ls; posts = s.posts; next = Next.Over StopCause.NoMoves (silent t) }) (sym (append-nil s.lines))
+              ∙ ap (λ ps. record { lines = s.lines ++ []; posts = ps; next = Next.Over StopCause.NoMoves (silent t) }) (sym (append-nil s.posts)),
+        )
+    by (suc n) (Stand.Going g body) = (runs n (move g (silent (with_phase g (Phase.Live body) s))), refl)
+    by zero Stand.Resting = (none Next.Resting, alone Next.Resting)
+    by (suc n) Stand.Resting = (none Next.Resting, alone Next.Resting)
+    by zero (Stand.Over c) = (none (Next.Over c), alone (Next.Over c))
+    by (suc n) (Stand.Over c) = (none (Next.Over c), alone (Next.Over c))
+
+pub runs_broken : (u v w : Outside) (p : Passed) (n : ℕ) (at : Stand) (s : State) → IsPassing u v p (runs n (next_at at s)) → HasGivenPart v w s.lines s.posts → HasGivenPart u w p.lines p.posts
+runs_broken u v w p n at s i g = let r = runs_first n at s in broken u v w p (runs n (next_at at s)) r.0 s.lines s.posts i r.1 g
 
 -- ---- what a part came to
 

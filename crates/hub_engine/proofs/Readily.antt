@@ -1,142 +1,205 @@
 -- That each part of a run leaves the hub ready for the next.
-use Rattle.std.proofs.Common.{◌≡◌, refl, ap, sym, ◌∙◌, subst, ℕ, ◌+◌, ◌<◌, Bool, true, false, [], length, Some, slice_get}
+use Rattle.std.proofs.Common.{◌≡◌, refl, ap, sym, ◌∙◌, subst, ℕ, ◌+◌, ◌<◌, Bool, true, false, length, Some, slice_get, [], arith}
 use Rattle.std.specs.Prelude.{if◌then◌else◌}
+use Rattle.std.proofs.lemmas.Bool.Decides.{nat_tests}
 use Rattle.gv_values.specs.declared.fault.FaultKind.{FaultKind}
-use Rattle.world_rules.specs.declared.question.Question.{Question}
-use Rattle.world_rules.specs.Script.{scripted}
+use Rattle.gv_values.specs.declared.job.Answer.{Answer}
+use Rattle.scenario_tree.specs.declared.tree.Scenario.{Scenario}
+use Rattle.scenario_rules.specs.Rules.{IsWellFormed}
 use Rattle.trace_text.specs.declared.line.Line.{Line}
+use Rattle.body_values.specs.Functions.{IsFunction}
 use Rattle.machine.specs.declared.items.Item.{Item}
-use Rattle.machine.specs.declared.state.Frame.{Frame}
-use Rattle.machine.specs.declared.state.Phase.{Phase}
 use Rattle.machine.specs.State.{State, say}
-use Rattle.machine.specs.Questions.{any_numbered, block_line}
+use Rattle.machine.specs.Questions.{any_numbered, block_line, is_numbered, take_answer}
 use Rattle.machine.specs.Deliveries.{deliver, interrupts}
-use Rattle.hub_engine.specs.declared.stand.Came.{Came}
 use Rattle.machine.specs.Landing.{Next, lands, starts}
 use Rattle.machine.specs.Greenlets.{greenlet, with_phase}
+use Rattle.machine.specs.declared.state.Frame.{Frame}
+use Rattle.machine.specs.declared.state.Phase.{Phase}
 use Rattle.machine.specs.Moves.{move}
 use Rattle.machine.specs.Run.{first_state, silent}
-use Rattle.machine_soundness.specs.Going.{IsKept}
+use Rattle.machine_soundness.specs.Going.{IsGoing, IsKept, IsSoundAt, next_did}
 use Rattle.machine_soundness.proofs.Deliveries.{begins-soundly, deliver-soundly, interrupts-soundly, take_answer-kept}
+use Rattle.machine_soundness.proofs.Lists.{both}
 use Rattle.machine_soundness.proofs.Performs.{move-soundly}
-use Rattle.machine_built.specs.Runnable.{IsRunnable}
-use Rattle.machine_built.proofs.Begins.{begins-runnable, starts-runnable}
-use Rattle.machine_built.proofs.Bodies.{going-plain, move-meant}
-use Rattle.machine_built.proofs.States.{function-known}
-use Rattle.machine_built.proofs.Steps.{runs-deliver, runs-interrupts, runs-move, runs-take_answer}
+use Rattle.machine_texts.specs.Texts.{HasMain, IsKnown, fits_item, is_function}
+use Rattle.machine_texts.proofs.WellFormed.{well-formed-fits}
+use Rattle.machine_histories.proofs.Goings.{function-known}
+use Rattle.machine_laws.specs.Reached.{Reached, state_of}
+use Rattle.machine_reached.specs.Meant.{IsMeantText, fits_did}
+use Rattle.machine_reached.proofs.Bounded.{text-meant}
 use Rattle.hub_state.proofs.Leasts.{item_there}
-use Rattle.hub_engine.specs.Ends.{answered}
-use Rattle.hub_engine.specs.Ready.{IsPrepared, IsReady, IsReadyAfter, IsReadyAt}
+use Rattle.hub_engine.specs.Ready.{AreDeclared, IsReady, IsReadyAt, IsReadyToMove, MayRun}
 use Rattle.hub_engine.specs.Stands.{next_at}
 use Rattle.hub_engine.specs.declared.stand.Stand.{Stand}
+use Rattle.hub_engine.proofs.Functions.{declared_unphased}
 
--- ---- a move, and a delivery
+-- ---- what the text sees to
 
-pub ready_moved : (g : ℕ) (s t : State) (at : Stand) → IsReadyAt (Next.Going g s) → move g s ≡ next_at at t → IsReadyAt (next_at at t)
-ready_moved g s t at h e =
-    let meant = move-meant g s h.runnable (going-plain g s h.runnable h.sound.1) in
-    subst IsReadyAt e (record { sound = move-soundly g s meant h.sound.0 h.sound.1; runnable = runs-move g s h.runnable })
+meant : (c : Scenario) → IsWellFormed c → IsMeantText c
+meant c w = text-meant c (well-formed-fits c w)
 
-pub ready_delivered : (n : ℕ) (s t : State) (at : Stand) → n < length s.items → IsReady s → ((i : Item) → slice_get s.items n ≡ Some i → deliver i s ≡ next_at at t) →
-    IsReadyAt (next_at at t)
-ready_delivered n s t at w h f =
-    let r = item_there n s.items w in
-    subst IsReadyAt (f r.0 r.1.got) (record { sound = deliver-soundly n r.0 s r.1.got h.kept; runnable = runs-deliver n r.0 s r.1.got h.runnable })
+-- what the text names is there
+pub known_ready : (next : Next) → IsReadyAt next → IsKnown (state_of next).scenario (state_of next).greenlets (state_of next).items (state_of next).objects
+known_ready next h =
+    let m = meant h.scenario h.well_formed in
+    m.known next h.reached (subst HasMain (sym (m.same next h.reached)) h.main)
 
--- ---- what is given out, and counted
+main-here : (next : Next) → IsReadyAt next → HasMain (state_of next).scenario
+main-here next h = subst HasMain (sym ((meant h.scenario h.well_formed).same next h.reached)) h.main
+
+pub is_function_there : (c : Scenario) (n : ℕ) → is_function c n ≡ true → IsFunction c n
+is_function_there c n e = grind (arith, nat_tests, e)
+
+-- each greenlet runs a function that there is
+pub declared_ready : (next : Next) → IsReadyAt next → AreDeclared (state_of next)
+declared_ready next h =
+    let s = state_of next in
+    record { each = λ g. is_function_there s.scenario (greenlet g s).function (function-known s.scenario g s.greenlets (main-here next h) (known_ready next h).functions) }
+
+-- ---- a move
 
 kept-silent : (s : State) → IsKept s → IsKept (silent s)
 kept-silent s h = record { sound = h.sound; owners = h.owners; members = h.members; main = h.main }
 
-runnable-silent : (s : State) → IsRunnable s → IsRunnable (silent s)
-runnable-silent s r = record { bodies = r.bodies; some_function = r.some_function; greenlets = r.greenlets; items = r.items; objects = r.objects; jobs = r.jobs }
+going-silent : (g : ℕ) (s : State) → IsGoing g s → IsGoing g (silent s)
+going-silent g s h = record { live = h.live; host = h.host; host_live = h.host_live; free = h.free }
 
-ready-silent : (s t : State) → t ≡ silent s → IsReady s → IsReady t
-ready-silent s t e h = subst IsReady (sym e) (record { kept = kept-silent s h.kept; runnable = runnable-silent s h.runnable })
+pub going_sound : (g : ℕ) (s : State) → IsReadyToMove g s → IsSoundAt (Next.Going g s)
+going_sound g s h =
+    subst (λ (x : State). IsSoundAt (Next.Going g x)) (sym h.same) (kept-silent h.before h.ready.sound.0, going-silent g h.before h.ready.sound.1)
 
-pub ready_turn : (s t : State) → t ≡ record s { turns = s.turns + 1 } → IsReady s → IsReady t
-ready_turn s t e h =
+pub going_fits : (g : ℕ) (s : State) → IsReadyToMove g s → fits_did s.scenario (next_did g s) ≡ true
+going_fits g s h =
+    let m = meant h.ready.scenario h.ready.well_formed in
+    subst (λ (x : State). fits_did x.scenario (next_did g x) ≡ true) (sym h.same) (m.fit g h.before h.ready.reached)
+
+pub ready_move : (g : ℕ) (s : State) → IsReadyToMove g s → IsReadyAt (move g s)
+ready_move g s h =
+    let m = meant h.ready.scenario h.ready.well_formed in
+    subst (λ (x : State). IsReadyAt (move g x)) (sym h.same)
+    (record {
+      scenario = h.ready.scenario;
+      well_formed = h.ready.well_formed;
+      main = h.ready.main;
+      reached = Reached.Moved g h.before h.ready.reached;
+      sound = move-soundly g (silent h.before) (m.meant g h.before h.ready.reached) (kept-silent h.before h.ready.sound.0) (going-silent g h.before h.ready.sound.1);
+    })
+
+pub ready_moved : (g : ℕ) (s t : State) (at : Stand) → IsReadyToMove g s → move g s ≡ next_at at t → IsReadyAt (next_at at t)
+ready_moved g s t at h e = subst IsReadyAt e (ready_move g s h)
+
+pub ready_going : (g : ℕ) (s t : State) → IsReadyAt (Next.Going g s) → t ≡ silent s → IsReadyToMove g t
+ready_going g s t h e = record { before = s; ready = h; same = e }
+
+pub declared_moving : (g : ℕ) (s : State) → IsReadyToMove g s → AreDeclared s
+declared_moving g s h = subst AreDeclared (sym h.same) (record { each = (declared_ready (Next.Going g h.before) h.ready).each })
+
+-- also where the move is counted, and its body stands with the hub's step
+pub declared_counted : (g : ℕ) (body : Frame) (s t : State) → IsReadyToMove g (with_phase g (Phase.Live body) s) → t ≡ record s { moves = s.moves + 1 } → AreDeclared t
+declared_counted g body s t h e =
+    let d = declared_unphased g (Phase.Live body) s (declared_moving g (with_phase g (Phase.Live body) s) h) in
+    subst AreDeclared (sym e) (record { each = d.each })
+
+-- ---- a delivery
+
+pub ready_deliver : (n : ℕ) (i : Item) (s : State) → slice_get s.items n ≡ Some i → is_numbered i ≡ true → IsReady s → IsReadyAt (deliver i s)
+ready_deliver n i s there numbered h =
+    record {
+      scenario = h.at.scenario;
+      well_formed = h.at.well_formed;
+      main = h.at.main;
+      reached = Reached.Delivered n i s there numbered h.silent h.at.reached;
+      sound = deliver-soundly n i s there h.at.sound;
+    }
+
+pub ready_delivered : (n : ℕ) (s t : State) (at : Stand) → n < length s.items → IsReady s → ((i : Item) → slice_get s.items n ≡ Some i → is_numbered i ≡ true) →
+    ((i : Item) → slice_get s.items n ≡ Some i → deliver i s ≡ next_at at t) → IsReadyAt (next_at at t)
+ready_delivered n s t at w h numbered f =
+    let r = item_there n s.items w in
+    subst IsReadyAt (f r.0 r.1.got) (ready_deliver n r.0 s r.1.got (numbered r.0 r.1.got) h)
+
+-- ---- what is given out, and counted
+
+pub ready_at_rest : (s t : State) → IsReadyAt (Next.Resting s) → t ≡ silent s → IsReady t
+ready_at_rest s t h e =
     subst IsReady (sym e)
     (record {
-      kept = record { sound = h.kept.sound; owners = h.kept.owners; members = h.kept.members; main = h.kept.main };
-      runnable = record {
-        bodies = h.runnable.bodies;
-        some_function = h.runnable.some_function;
-        greenlets = h.runnable.greenlets;
-        items = h.runnable.items;
-        objects = h.runnable.objects;
-        jobs = h.runnable.jobs;
+      silent = refl;
+      at = record {
+        scenario = h.scenario;
+        well_formed = h.well_formed;
+        main = h.main;
+        reached = Reached.GaveOut s h.reached;
+        sound = kept-silent s h.sound;
       };
     })
 
-ready-said : (line : Line) (s : State) → IsReady s → IsReady (say line s)
-ready-said line s h =
+pub ready_turned : (n : ℕ) (s : State) → IsReady s → IsReady (record s { turns = n })
+ready_turned n s h =
     record {
-      kept = record { sound = h.kept.sound; owners = h.kept.owners; members = h.kept.members; main = h.kept.main };
-      runnable = record {
-        bodies = h.runnable.bodies;
-        some_function = h.runnable.some_function;
-        greenlets = h.runnable.greenlets;
-        items = h.runnable.items;
-        objects = h.runnable.objects;
-        jobs = h.runnable.jobs;
+      silent = ap (λ (x : State). record x { turns = n }) h.silent;
+      at = record {
+        scenario = h.at.scenario;
+        well_formed = h.at.well_formed;
+        main = h.at.main;
+        reached = Reached.Turned n s h.at.reached;
+        sound = record { sound = h.at.sound.sound; owners = h.at.sound.owners; members = h.at.sound.members; main = h.at.sound.main };
       };
     }
 
-ready-block : (s : State) → IsReady s → IsReady (block_line s)
-ready-block s h = by (any_numbered s.items) _
+-- ---- the block line, LoopExit, and answers
+
+kept-block : (s : State) → IsKept s → IsKept (block_line s)
+kept-block s h = by (any_numbered s.items) _
   where
-    by : (b : Bool) (line : Line) → IsReady (if b then s else say line s)
+    by : (b : Bool) (line : Line) → IsKept (if b then s else say line s)
     by true line = h
-    by false line = ready-said line s h
+    by false line = record { sound = h.sound; owners = h.owners; members = h.members; main = h.main }
 
--- no greenlet is under way
-pub resting_given_out : (at : Stand) (s t : State) → at ≡ Stand.Resting → IsReadyAt (next_at at s) → t ≡ silent s → IsReady t
-resting_given_out at s t z h e =
-    let own : IsReadyAt (Next.Resting s) = subst (λ (x : Stand). IsReadyAt (next_at x s)) z h in
-    ready-silent s t e (record { kept = own.sound; runnable = own.runnable })
+pub ready_blocked : (s : State) → IsReady s → IsReadyAt (Next.Resting (block_line s))
+ready_blocked s h =
+    record {
+      scenario = h.at.scenario;
+      well_formed = h.at.well_formed;
+      main = h.at.main;
+      reached = Reached.Blocked s h.silent h.at.reached;
+      sound = kept-block s h.at.sound;
+    }
 
-pub going_given_out : (at : Stand) (g : ℕ) (body : Frame) (s t : State) → at ≡ Stand.Going g body → IsReadyAt (next_at at s) → t ≡ silent s →
-    IsReadyAt (Next.Going g (with_phase g (Phase.Live body) t))
-going_given_out at g body s t z h e =
-    let u = with_phase g (Phase.Live body) s in
-    let own : IsReadyAt (Next.Going g u) = subst (λ (x : Stand). IsReadyAt (next_at x s)) z h in
-    subst (λ (x : State). IsReadyAt (Next.Going g (with_phase g (Phase.Live body) x))) (sym e)
+pub ready_exit : (s t : State) (at : Stand) → IsReady s → interrupts 0 FaultKind.LoopExit (block_line s) ≡ next_at at t → IsReadyAt (next_at at t)
+ready_exit s t at h e =
+    let k = kept-block s h.at.sound in
+    subst IsReadyAt e
     (record {
-      sound = (kept-silent u own.sound.0, record { live = own.sound.1.live; host = own.sound.1.host; host_live = own.sound.1.host_live; free = own.sound.1.free });
-      runnable = runnable-silent u own.runnable;
+      scenario = h.at.scenario;
+      well_formed = h.at.well_formed;
+      main = h.at.main;
+      reached = Reached.Exited s h.silent h.at.reached;
+      sound = interrupts-soundly 0 FaultKind.LoopExit (block_line s) k.main k;
     })
 
--- ---- LoopExit, and answers
-
-pub ready_exit : (at : Stand) (s t u : State) → t ≡ block_line s → IsReady s → interrupts 0 FaultKind.LoopExit t ≡ next_at at u → IsReadyAt (next_at at u)
-ready_exit at s t u e h f =
-    let k : IsReady t = subst IsReady (sym e) (ready-block s h) in
-    subst IsReadyAt f (record { sound = interrupts-soundly 0 FaultKind.LoopExit t k.kept.main k.kept; runnable = runs-interrupts 0 FaultKind.LoopExit t k.runnable })
-
-pub ready_answered : (q : Question) (s t : State) → t ≡ silent (answered q s) → IsReady s → IsReady t
-ready_answered q s t e h =
-    let u = silent (block_line s) in
-    let k : IsReady u = ready-silent (block_line s) u refl (ready-block s h) in
-    let a = scripted 0 [] u.moment q in
-    ready-silent (answered q s) t e (record { kept = take_answer-kept a u k.kept; runnable = runs-take_answer a u k.runnable })
-
--- ---- parts of a run
-
-pub ready_at_rest : (came : Came) (s : State) → came ≡ Came.ToRest → IsReadyAfter came s → IsReady s
-ready_at_rest came s e h = subst (λ (x : Came). IsReadyAfter x s) e h
+pub ready_answered : (a : Answer) (s : State) → IsReady s → IsReadyAt (Next.Resting (take_answer a s))
+ready_answered a s h =
+    record {
+      scenario = h.at.scenario;
+      well_formed = h.at.well_formed;
+      main = h.at.main;
+      reached = Reached.Answered a s h.silent h.at.reached;
+      sound = take_answer-kept a s h.at.sound;
+    }
 
 -- ---- the beginning
 
-pub declared_first : (s : State) → IsPrepared s → (greenlet 0 s).function < length s.scenario.functions
-declared_first s p =
-    let may = p.may_run in
-    subst (λ (x : State). (greenlet 0 x).function < length x.scenario.functions) (sym p.first)
-    (function-known 0 (first_state s.scenario) (begins-runnable s.scenario may.well_formed may.built may.main))
+pub ready_started : (c : Scenario) → MayRun c → IsReadyAt (starts lands 0 [] (first_state c))
+ready_started c h =
+    record {
+      scenario = c;
+      well_formed = h.well_formed;
+      main = h.main;
+      reached = Reached.Started;
+      sound = begins-soundly c;
+    }
 
-pub ready_started : (s t : State) (at : Stand) → IsPrepared s → starts lands 0 [] s ≡ next_at at t → IsReadyAt (next_at at t)
-ready_started s t at p e =
-    let may = p.may_run in
-    let c = s.scenario in
-    subst IsReadyAt (ap (starts lands 0 []) (sym p.first) ∙ e)
-    (record { sound = begins-soundly c; runnable = starts-runnable c may.well_formed may.built may.main })
+pub declared_first : (c : Scenario) → HasMain c → AreDeclared (first_state c)
+declared_first c main = record { each = λ g. is_function_there c (greenlet g (first_state c)).function (function-known c g (first_state c).greenlets main (both _ true main refl)) }

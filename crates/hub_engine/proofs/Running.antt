@@ -1,283 +1,463 @@
--- How a run is written turn after turn.
-use Rattle.std.proofs.Common.{◌≡◌, refl, ap, sym, ◌∙◌, subst, ℕ, zero, suc, ◌-◌, ◌<◌, ◌≤◌, List, [], ◌∷◌, ◌++◌, append_assoc, Option, Some, None, arith}
+-- How a run is given out part after part, whatever answers are still to come.
+use Rattle.std.proofs.Common.{◌≡◌, refl, ap, sym, ◌∙◌, subst, ℕ, zero, suc, ◌-◌, ◌<◌, ◌≤◌, List, [], ◌∷◌, ◌++◌, append_assoc, map, take, Option, Some, None, arith}
+use Rattle.std.specs.Prelude.{Result, Ok, Err}
 use Rattle.std.proofs.lemmas.List.{append-nil}
 use Rattle.trace_text.specs.declared.line.Line.{Line}
 use Rattle.trace_text.specs.declared.line.StopCause.{StopCause}
 use Rattle.trace_text.specs.LineTexts.{text_of}
-use Rattle.world_rules.specs.declared.question.Question.{Question}
 use Rattle.gv_io.specs.Streams.{appended, AppendsPrefix}
-use Rattle.gv_io.proofs.StreamLaws.{appended-appended, AppendsPrefix-whole, AppendsPrefix-after, AppendsPrefix-longer}
+use Rattle.gv_io.proofs.StreamLaws.{appended-nothing, appended-appended, AppendsPrefix-nothing, AppendsPrefix-after, AppendsPrefix-longer}
+use Rattle.gv_values.specs.declared.fault.FaultKind.{FaultKind}
+use Rattle.gv_values.specs.declared.job.Answer.{Answer}
+use Rattle.world_rules.specs.declared.question.LogEntry.{LogEntry}
+use Rattle.world_rules.specs.declared.question.Question.{Question}
+use Rattle.world_rules.specs.Legal.{IsLegal, answers_of}
+use Rattle.world.specs.Worlds.{Meaning, Stores}
 use Rattle.scenario_tree.specs.declared.tree.Scenario.{Scenario}
-use Rattle.hub_engine.specs.declared.stand.Came.{Came}
+use Rattle.machine.specs.declared.state.Post.{Post}
+use Rattle.machine.specs.Landing.{Next, lands, starts}
+use Rattle.machine.specs.Deliveries.{interrupts}
+use Rattle.machine.specs.Questions.{block_line, question, take_answer}
+use Rattle.machine.specs.Run.{GoingOn, Passed, Ran, Source, blocked_at, after_exit, after_question, after_start, after_turn, asks, first_state, given_out, logged, loop_exit, run, run_turns, runs, silent, stopped, turn}
 use Rattle.machine.specs.State.{State}
-use Rattle.machine.specs.Landing.{Next, starts, lands}
-use Rattle.machine.specs.Questions.{question, block_line}
-use Rattle.machine.specs.Run.{Passed, Ran, Source, GoingOn, given_out, after_turn, after_question, first_blocked, after_exit, with_posts, turn, loop_exit, run_turns, stopped, silent, runs, script_run, first_state, after_start}
-use Rattle.hub_engine.specs.Stands.{next_at}
-use Rattle.hub_engine.specs.Written.{AreLike, CameTo, HasRun, IsPartWritten, IsRunning, IsStopping}
-use Rattle.hub_engine.specs.declared.stand.Stand.{Stand}
+use Rattle.hub_engine.specs.declared.broken.Broken.{Broken}
 use Rattle.hub_engine.specs.declared.run.End.{End as Ended}
-use Rattle.hub_engine.specs.Ends.{answered, end_of, end_of_run}
-use Rattle.hub_engine.proofs.Passing.{text_of_append, begun, more_written, whole_written, cut_off, left_off, like, at_rest, at_an_end}
+use Rattle.hub_engine.specs.declared.stand.Came.{Came}
+use Rattle.hub_engine.specs.declared.stand.Stand.{Stand}
+use Rattle.hub_engine.specs.Ends.{end_of}
+use Rattle.hub_engine.specs.Outside.{HasDone, HasGiven, HasGivenPart, Outside}
+use Rattle.hub_engine.specs.Stands.{next_at}
+use Rattle.hub_engine.specs.Written.{AreLike, CameTo, HasBroken, HasEnded, IsRunning, IsStopping, RunsTo, Rounds, Runs, RunsOn, Writes, finished, from_turn, preceded}
+use Rattle.hub_engine.proofs.Giving.{answers_of_append, answers_of_logged, done_asked, done_nothing, done_then, given_nothing, given_then, logged_then}
+use Rattle.hub_engine.proofs.Passing.{like}
+use Rattle.hub_engine.proofs.Posting.{done_refused}
+use Rattle.hub_engine.proofs.Texts.{text_of_append}
 
-abbrev script : Source
-script = Source.Scripted 0 []
+-- ---- one part after another
 
--- ---- two texts one after another
+preceded_preceded : (lines more : List Line) (entries later : List LogEntry) (blocked others : List State) (r : Ran) →
+    preceded lines entries blocked (preceded more later others r) ≡ preceded (lines ++ more) (entries ++ later) (blocked ++ others) r
+preceded_preceded lines more entries later blocked others r =
+    ap (λ x. record { lines = x; log = entries ++ (later ++ r.log); blocked = blocked ++ (others ++ r.blocked); end = r.end; state = r.state }) (sym (append_assoc lines more r.lines))
+    ∙ ap (λ x. record { lines = (lines ++ more) ++ r.lines; log = x; blocked = blocked ++ (others ++ r.blocked); end = r.end; state = r.state }) (sym (append_assoc entries later r.log))
+    ∙ ap (λ x. record { lines = (lines ++ more) ++ r.lines; log = (entries ++ later) ++ r.log; blocked = x; end = r.end; state = r.state }) (sym (append_assoc blocked others r.blocked))
 
-pub both_written : (old now new : Option (List ℕ)) (xs ys : List Line) → now ≡ appended old (text_of xs) → new ≡ appended now (text_of ys) →
-    new ≡ appended old (text_of (xs ++ ys))
-both_written old now new xs ys e f =
-    f ∙ ap (λ m. appended m (text_of ys)) e ∙ appended-appended old (text_of xs) (text_of ys) ∙ ap (appended old) (sym (text_of_append xs ys))
+-- no answers have a last one
+none_last : {A : Type 0} (before : List A) (last : A) → [] ≡ before ++ last ∷ [] → ⊥
+none_last [] last e = cc e
+none_last (x ∷ before) last e = cc e
 
-pub first_broken : (old new : Option (List ℕ)) (xs ys : List Line) → AppendsPrefix old new (text_of xs) → AppendsPrefix old new (text_of (xs ++ ys))
-first_broken old new xs ys p =
-    subst (λ (z : List ℕ). AppendsPrefix old new z) (sym (text_of_append xs ys)) (AppendsPrefix-longer old new (text_of xs) (text_of ys) p)
+-- a list is empty or has a last element
+data HasLast {A : Type 0} (xs : List A) : Type 0 where
+  Empty : xs ≡ [] → HasLast xs
+  Ends : (before : List A) (last : A) → xs ≡ before ++ last ∷ [] → HasLast xs
 
-pub second_broken : (old now new : Option (List ℕ)) (xs ys : List Line) → now ≡ appended old (text_of xs) → AppendsPrefix now new (text_of ys) →
-    AppendsPrefix old new (text_of (xs ++ ys))
-second_broken old now new xs ys e p =
-    subst (λ (z : List ℕ). AppendsPrefix old new z) (sym (text_of_append xs ys)) (AppendsPrefix-after old now new (text_of xs) (text_of ys) e p)
+has_last : {A : Type 0} (xs : List A) → HasLast xs
+has_last [] = HasLast.Empty refl
+has_last (x ∷ xs) = by (has_last xs)
+  where
+    by : HasLast xs → HasLast (x ∷ xs)
+    by (HasLast.Empty e) = HasLast.Ends [] x (ap (λ ys. x ∷ ys) e)
+    by (HasLast.Ends before last e) = HasLast.Ends (x ∷ before) last (ap (λ ys. x ∷ ys) e)
 
-pub first_alone : (old now : Option (List ℕ)) (xs ys : List Line) → now ≡ appended old (text_of xs) → AppendsPrefix old now (text_of (xs ++ ys))
-first_alone old now xs ys e =
-    subst (λ (z : List ℕ). AppendsPrefix old now z) (sym (text_of_append xs ys)) (AppendsPrefix-whole old now (text_of xs) (text_of ys) e)
+-- what stands before the last is told by the list
+same_before : {A : Type 0} (xs ys : List A) (x y : A) → xs ++ x ∷ [] ≡ ys ++ y ∷ [] → xs ≡ ys
+same_before [] [] x y e = refl
+same_before [] (z ∷ ys) x y e = absurd (none_last ys y (let f : [] ≡ ys ++ y ∷ [] = cc e in f))
+same_before (z ∷ xs) [] x y e = absurd (none_last xs x (let f : [] ≡ xs ++ x ∷ [] = cc e in f))
+same_before (z ∷ xs) (w ∷ ys) x y e =
+    let first : z ≡ w = cc e in
+    let rest : xs ++ x ∷ [] ≡ ys ++ y ∷ [] = cc e in
+    ap (λ v. v ∷ xs) first ∙ ap (λ zs. w ∷ zs) (same_before xs ys x y rest)
 
--- ---- runs
+-- ---- what was said before the last answer
 
-pub running : (old : Option (List ℕ)) (r : Ran) → IsRunning old old r r
-running old r = record { text = begun old (text_of r.lines); end = refl; state = refl }
+-- the lines begin with those of the run under these answers
+abbrev pub BeginWith : Runs → List Answer → List Line → Type 0
+BeginWith whole before lines = (more : List Line) × (lines ≡ (whole before).lines ++ more)
 
-onward : (old now new : Option (List ℕ)) (r q f : Ran) (ls : List Line) → IsRunning old now r q →
-    q.lines ≡ ls ++ f.lines → q.end ≡ f.end → q.state ≡ f.state → new ≡ appended now (text_of ls) → IsRunning old new r f
-onward old now new r q f ls w e g h n =
+ahead_then : (whole left : Runs) (lines more : List Line) (entries later : List LogEntry) (blocked : List State) →
+    ((rest : List Answer) → whole (answers_of entries ++ rest) ≡ preceded lines entries blocked (left rest)) →
+    ((before : List Answer) (last : Answer) → answers_of entries ≡ before ++ last ∷ [] → BeginWith whole before lines) →
+    ((before : List Answer) (last : Answer) → answers_of later ≡ before ++ last ∷ [] → BeginWith left before more) →
+    (before : List Answer) (last : Answer) → answers_of (entries ++ later) ≡ before ++ last ∷ [] → BeginWith whole before (lines ++ more)
+ahead_then whole left lines more entries later blocked is f g before last e = by (has_last (answers_of later))
+  where
+    both : answers_of entries ++ answers_of later ≡ before ++ last ∷ []
+    both = sym (answers_of_append entries later) ∙ e
+
+    by : HasLast (answers_of later) → BeginWith whole before (lines ++ more)
+    by (HasLast.Empty none) =
+        let own = f before last (sym (append-nil (answers_of entries)) ∙ ap (λ z. answers_of entries ++ z) (sym none) ∙ both) in
+        (own.0 ++ more, ap (λ ls. ls ++ more) own.1 ∙ append_assoc (whole before).lines own.0 more)
+    by (HasLast.Ends front end is_end) =
+        let own = g front end is_end in
+        let same : answers_of entries ++ front ≡ before =
+        same_before (answers_of entries ++ front) before end last (append_assoc (answers_of entries) front (end ∷ []) ∙ ap (λ z. answers_of entries ++ z) (sym is_end) ∙ both) in
+        let whole_lines : (whole before).lines ≡ lines ++ (left front).lines = ap (λ z. (whole z).lines) (sym same) ∙ ap (λ (r : Ran). r.lines) (is front) in
+        (own.0, ap (λ ls. lines ++ ls) own.1 ∙ sym (append_assoc lines (left front).lines own.0) ∙ ap (λ ls. ls ++ own.0) (sym whole_lines))
+
+-- ---- a run
+
+pub running : (v : Outside) (whole : Runs) → IsRunning v v whole whole
+running v whole = record { lines = []; entries = []; blocked = []; given = given_nothing v; is = λ later. refl; ahead = λ before last e. absurd (none_last before last e) }
+
+pub running_then : (u v w : Outside) (whole left next : Runs) → IsRunning u v whole left → IsRunning v w left next → IsRunning u w whole next
+running_then u v w whole left next r q = record {
+  lines = r.lines ++ q.lines;
+  entries = r.entries ++ q.entries;
+  blocked = r.blocked ++ q.blocked;
+  given = given_then u v w r.lines q.lines r.entries q.entries r.given q.given;
+  is = λ later.
+      ap (λ z. whole (z ++ later)) (answers_of_append r.entries q.entries) ∙ ap whole (append_assoc (answers_of r.entries) (answers_of q.entries) later)
+      ∙ r.is (answers_of q.entries ++ later) ∙ ap (preceded r.lines r.entries r.blocked) (q.is later)
+      ∙ preceded_preceded r.lines q.lines r.entries q.entries r.blocked q.blocked (next later);
+  ahead = ahead_then whole left r.lines q.lines r.entries q.entries r.blocked r.is r.ahead q.ahead;
+}
+
+-- the run under the answers of both parts
+whole_at : (u v : Outside) (whole left : Runs) (r : IsRunning u v whole left) (later : List LogEntry) →
+    whole (answers_of (r.entries ++ later)) ≡ preceded r.lines r.entries r.blocked (left (answers_of later))
+whole_at u v whole left r later = ap whole (answers_of_append r.entries later) ∙ r.is (answers_of later)
+
+pub running_broken : (u v w : Outside) (whole left : Runs) → IsRunning u v whole left → HasBroken v w left → HasBroken u w whole
+running_broken u v w whole left r b =
+    let here = whole_at u v whole left r b.entries in
     record {
-      text = more_written old now new (text_of r.lines) (text_of q.lines) (text_of ls) (text_of f.lines) w.text (ap text_of e ∙ text_of_append ls f.lines) n;
-      end = w.end ∙ g;
-      state = w.state ∙ h;
+      entries = r.entries ++ b.entries;
+      later = b.later;
+      done = done_then u v w r.entries b.entries r.given.done b.done;
+      is = ap (λ (x : Ran). x.log) here ∙ ap (λ z. r.entries ++ z) b.is ∙ sym (append_assoc r.entries b.entries b.later);
+      text = subst (AppendsPrefix u.written w.written) (sym (ap (λ (x : Ran). text_of x.lines) here ∙ text_of_append r.lines (left (answers_of b.entries)).lines))
+          (AppendsPrefix-after u.written v.written w.written (text_of r.lines) (text_of (left (answers_of b.entries)).lines) r.given.text b.text);
+      ahead = λ before last e. by before last e (has_last (answers_of b.entries));
     }
+  where
+    by : (before : List Answer) (last : Answer) → answers_of (r.entries ++ b.entries) ≡ before ++ last ∷ [] → HasLast (answers_of b.entries) →
+        (more : List ℕ) × (w.written ≡ appended u.written (text_of (whole before).lines ++ more))
+    by before last e (HasLast.Empty none) =
+        let own = r.ahead before last (sym (append-nil (answers_of r.entries)) ∙ ap (λ z. answers_of r.entries ++ z) (sym none) ∙ sym (answers_of_append r.entries b.entries) ∙ e) in
+        let rest = take b.text.count (text_of (left (answers_of b.entries)).lines) in (
+          text_of own.0 ++ rest,
+          b.text.is ∙ ap (λ m. appended m rest) r.given.text ∙ appended-appended u.written (text_of r.lines) rest
+              ∙ ap (λ z. appended u.written (z ++ rest)) (ap text_of own.1 ∙ text_of_append (whole before).lines own.0)
+              ∙ ap (appended u.written) (append_assoc (text_of (whole before).lines) (text_of own.0) rest),
+        )
+    by before last e (HasLast.Ends front end is_end) =
+        let own = b.ahead front end is_end in
+        let same : answers_of r.entries ++ front ≡ before =
+        same_before (answers_of r.entries ++ front) before end last
+        (append_assoc (answers_of r.entries) front (end ∷ []) ∙ ap (λ z. answers_of r.entries ++ z) (sym is_end) ∙ sym (answers_of_append r.entries b.entries) ∙ e) in
+        let lines : text_of (whole before).lines ≡ text_of r.lines ++ text_of (left front).lines =
+        ap (λ z. text_of (whole z).lines) (sym same) ∙ ap (λ (x : Ran). text_of x.lines) (r.is front) ∙ text_of_append r.lines (left front).lines in (
+          own.0,
+          own.1 ∙ ap (λ m. appended m (text_of (left front).lines ++ own.0)) r.given.text ∙ appended-appended u.written (text_of r.lines) (text_of (left front).lines ++ own.0)
+              ∙ ap (appended u.written) (sym (append_assoc (text_of r.lines) (text_of (left front).lines) own.0) ∙ ap (λ z. z ++ own.0) (sym lines)),
+        )
 
-broken : (old now new : Option (List ℕ)) (r q : Ran) (ls rest : List Line) → IsRunning old now r q →
-    q.lines ≡ ls ++ rest → AppendsPrefix now new (text_of ls) → AppendsPrefix old new (text_of r.lines)
-broken old now new r q ls rest w e n =
-    cut_off old now new (text_of r.lines) (text_of q.lines) (text_of ls) (text_of rest) w.text (ap text_of e ∙ text_of_append ls rest) n
+-- nothing of it was done
+pub broken_first : (v : Outside) (whole : Runs) → HasBroken v v whole
+broken_first v whole = record {
+  entries = [];
+  later = (whole []).log;
+  done = done_nothing v;
+  is = refl;
+  text = AppendsPrefix-nothing v.written (text_of (whole []).lines);
+  ahead = λ before last e. absurd (none_last before last e);
+}
 
-pub run_given_up : (old now : Option (List ℕ)) (r q : Ran) → IsRunning old now r q → AppendsPrefix old now (text_of r.lines)
-run_given_up old now r q w = left_off old now (text_of r.lines) (text_of q.lines) w.text
+pub running_given_up : (u v : Outside) (whole left : Runs) → IsRunning u v whole left → HasBroken u v whole
+running_given_up u v whole left r = running_broken u v v whole left r (broken_first v left)
 
--- ---- a turn
+-- ---- a part without answers
 
-turns_step : (n b : ℕ) (s : State) → 0 < n → (turn b s).posts ≡ [] →
-    run_turns n b script s ≡ given_out (turn b s) (after_turn (run_turns (n - 1) b) b script (turn b s).next)
-turns_step zero b s h e = grind arith
-turns_step (suc n) b s h e =
-    let one : suc n - 1 ≡ n = omega arith in
-    rw (one, e)
+pub part_run : (v w : Outside) (whole left : Runs) (lines : List Line) (posts : List Post) (blocked : List State) →
+    ((later : List Answer) → whole later ≡ preceded lines (map logged posts) blocked (left later)) → HasGiven v w lines (map logged posts) → IsRunning v w whole left
+part_run v w whole left lines posts blocked is g = record {
+  lines = lines;
+  entries = map logged posts;
+  blocked = blocked;
+  given = g;
+  is = λ later. ap (λ z. whole (z ++ later)) (answers_of_logged posts) ∙ is later;
+  ahead = λ before last e. absurd (none_last before last (sym (answers_of_logged posts) ∙ e));
+}
 
-pub turned : (old now new : Option (List ℕ)) (r : Ran) (n b : ℕ) (s t : State) → 0 < n → IsRunning old now r (run_turns n b script s) →
-    (turn b s).posts ≡ [] → (turn b s).next ≡ Next.Resting t → new ≡ appended now (text_of (turn b s).lines) →
-    IsRunning old new r (after_question (run_turns (n - 1) b) b (question t) script t)
-turned old now new r n b s t h w e f m =
-    let q = after_question (run_turns (n - 1) b) b (question t) script t in
-    onward old now new r (given_out (turn b s) q) q (turn b s).lines
-    (rw (turns_step n b s h e ∙ ap (λ next. given_out (turn b s) (after_turn (run_turns (n - 1) b) b script next)) f) at w) refl refl refl m
-
--- of the run only the stop line is left, in a state that is like this
-pub ending : (old now : Option (List ℕ)) (r : Ran) (c : StopCause) (t u : State) → IsRunning old now r (stopped c u) → AreLike u t → IsStopping old now r c t
-ending old now r c t u w same =
-    let text : text_of (stopped c u).lines ≡ text_of (stopped c t).lines =
-    ap (λ (n : ℕ). text_of (Line.Stop c n u.moves ∷ [])) same.turns ∙ ap (λ (n : ℕ). text_of (Line.Stop c t.turns n ∷ [])) same.moves in
+pub part_broken : (v w : Outside) (whole left : Runs) (lines : List Line) (posts : List Post) (blocked : List State) →
+    ((later : List Answer) → whole later ≡ preceded lines (map logged posts) blocked (left later)) → HasGivenPart v w lines posts → HasBroken v w whole
+part_broken v w whole left lines posts blocked is g =
+    let part = g.made.part in
+    let here : whole (answers_of (map logged part)) ≡ preceded lines (map logged posts) blocked (left []) = ap whole (answers_of_logged part) ∙ is [] in
     record {
-      text = subst (λ (z : List ℕ). IsPartWritten old now (text_of r.lines) z) text w.text;
-      end = w.end;
-      state = subst (λ (x : State). AreLike x t) (sym w.state) same;
+      entries = map logged part;
+      later = map logged g.made.later ++ (left []).log;
+      done = g.made.done;
+      is = ap (λ (x : Ran). x.log) here ∙ ap (λ ps. map logged ps ++ (left []).log) g.made.is ∙ ap (λ z. z ++ (left []).log) (logged_then part g.made.later)
+          ∙ append_assoc (map logged part) (map logged g.made.later) (left []).log;
+      text = subst (AppendsPrefix v.written w.written) (sym (ap (λ (x : Ran). text_of x.lines) here ∙ text_of_append lines (left []).lines))
+          (AppendsPrefix-longer v.written w.written (text_of lines) (text_of (left []).lines) g.text);
+      ahead = λ before last e. absurd (none_last before last (sym (answers_of_logged part) ∙ e));
     }
-
-pub turned_over : (old now new : Option (List ℕ)) (r : Ran) (n b : ℕ) (c : StopCause) (s t : State) → 0 < n → IsRunning old now r (run_turns n b script s) →
-    (turn b s).posts ≡ [] → CameTo (Came.ToAnEnd c) (turn b s).next t → new ≡ appended now (text_of (turn b s).lines) →
-    IsStopping old new r c t
-turned_over old now new r n b c s t h w e f m =
-    let q = stopped c f.0 in
-    ending old new r c t f.0
-    (onward old now new r (given_out (turn b s) q) q (turn b s).lines
-    (rw (turns_step n b s h e ∙ ap (λ next. given_out (turn b s) (after_turn (run_turns (n - 1) b) b script next)) f.1) at w) refl refl refl m) f.2
-
-turn_lines : (n b : ℕ) (s : State) → 0 < n → (rest : List Line) × ((run_turns n b script s).lines ≡ (turn b s).lines ++ rest)
-turn_lines zero b s h = grind arith
-turn_lines (suc n) b s h = ((after_turn (run_turns n b) b (with_posts s.moment (turn b s).posts script) (turn b s).next).lines, refl)
-
-pub turned_broken : (old now new : Option (List ℕ)) (r : Ran) (n b : ℕ) (s : State) → 0 < n → IsRunning old now r (run_turns n b script s) →
-    AppendsPrefix now new (text_of (turn b s).lines) → AppendsPrefix old new (text_of r.lines)
-turned_broken old now new r n b s h w p = let t = turn_lines n b s h in broken old now new r (run_turns n b script s) (turn b s).lines t.0 w t.1 p
 
 -- ---- a question
 
-pub asked : (old now new : Option (List ℕ)) (r : Ran) (go : GoingOn) (b : ℕ) (q : Question) (t : State) →
-    IsRunning old now r (after_question go b (Some q) script t) →
-    new ≡ appended now (text_of ((block_line t).lines ++ (answered q t).lines)) → IsRunning old new r (go script (silent (answered q t)))
-asked old now new r go b q t w m =
-    onward old now new r (after_question go b (Some q) script t) (go script (silent (answered q t))) ((block_line t).lines ++ (answered q t).lines) w
-    (sym (append_assoc (block_line t).lines (answered q t).lines (go script (silent (answered q t))).lines)) refl refl m
+-- the answer was stored, and its turn line was given out
+pub answered_on : (v w x : Outside) (go : GoingOn) (q : Question) (a : Answer) (s t u : State) → v.written ≡ w.written → IsLegal v.means.posts v.means.answers q a → Stores v.means w.means a →
+    ((before : List LogEntry) → v.stands before → w.stands (before ++ LogEntry.Asked q a ∷ [])) → t ≡ take_answer a s → t.posts ≡ [] → HasGiven w x t.lines (map logged t.posts) → u ≡ silent t →
+    IsRunning v x (λ later. asks go q (Source.Given later) s) (λ later. go (Source.Given later) u)
+answered_on v w x go q a s t u same legal stored log e none g f =
+    let d = done_asked v w q a legal stored log in
+    let h : HasGiven w x t.lines [] = subst (λ ps. HasGiven w x t.lines (map logged ps)) none g in
+    record {
+      lines = t.lines;
+      entries = LogEntry.Asked q a ∷ [];
+      blocked = [];
+      given = record { text = h.text ∙ ap (λ m. appended m (text_of t.lines)) (sym same); done = done_then v w x (LogEntry.Asked q a ∷ []) [] d h.done };
+      is = λ later. goes later;
+      ahead = λ before last z. (t.lines, ap (λ b. (asks go q (Source.Given b) s).lines ++ t.lines) (sym (single before last z)));
+    }
+  where
+    single : (before : List Answer) (last : Answer) → a ∷ [] ≡ before ++ last ∷ [] → before ≡ []
+    single [] last z = refl
+    single (b ∷ before) last z = absurd (none_last before last (let r : [] ≡ before ++ last ∷ [] = cc z in r))
 
-pub asked_broken : (old now new : Option (List ℕ)) (r : Ran) (go : GoingOn) (b : ℕ) (q : Question) (t : State) →
-    IsRunning old now r (after_question go b (Some q) script t) →
-    AppendsPrefix now new (text_of ((block_line t).lines ++ (answered q t).lines)) → AppendsPrefix old new (text_of r.lines)
-asked_broken old now new r go b q t w p =
-    broken old now new r (after_question go b (Some q) script t) ((block_line t).lines ++ (answered q t).lines) (go script (silent (answered q t))).lines w
-    (sym (append_assoc (block_line t).lines (answered q t).lines (go script (silent (answered q t))).lines)) p
+    goes : (later : List Answer) → asks go q (Source.Given (a ∷ later)) s ≡ preceded t.lines (LogEntry.Asked q a ∷ []) [] (go (Source.Given later) u)
+    goes later = subst (λ (y : State). asks go q (Source.Given (a ∷ later)) s ≡ preceded t.lines (LogEntry.Asked q a ∷ []) [] (go (Source.Given later) y)) (sym f)
+        (subst (λ (y : State). asks go q (Source.Given (a ∷ later)) s ≡ preceded y.lines (LogEntry.Asked q a ∷ []) [] (go (Source.Given later) (silent y))) (sym e) refl)
+
+-- the answer was stored, and a part of its turn line was given out, or nothing
+pub answered_broken : (v w x : Outside) (go : GoingOn) (q : Question) (a : Answer) (s t : State) → v.written ≡ w.written → IsLegal v.means.posts v.means.answers q a → Stores v.means w.means a →
+    ((before : List LogEntry) → v.stands before → w.stands (before ++ LogEntry.Asked q a ∷ [])) → t ≡ take_answer a s → AppendsPrefix w.written x.written (text_of t.lines) → HasDone w x [] →
+    HasBroken v x (λ later. asks go q (Source.Given later) s)
+answered_broken v w x go q a s t same legal stored log e p d =
+    let whole = λ (later : List Answer). asks go q (Source.Given later) s in
+    let first = done_asked v w q a legal stored log in
+    let lines : (whole (a ∷ [])).lines ≡ t.lines ++ (go (Source.Given []) (silent (take_answer a s))).lines = ap (λ (y : State). y.lines ++ (go (Source.Given []) (silent (take_answer a s))).lines) (sym e) in
+    record {
+      entries = LogEntry.Asked q a ∷ [];
+      later = (go (Source.Given []) (silent (take_answer a s))).log;
+      done = done_then v w x (LogEntry.Asked q a ∷ []) [] first d;
+      is = refl;
+      text = subst (AppendsPrefix v.written x.written) (sym (ap text_of lines ∙ text_of_append t.lines (go (Source.Given []) (silent (take_answer a s))).lines))
+          (AppendsPrefix-longer v.written x.written (text_of t.lines) (text_of (go (Source.Given []) (silent (take_answer a s))).lines)
+          (subst (λ m. AppendsPrefix m x.written (text_of t.lines)) (sym same) p));
+      ahead = λ before last z. begun before (single before last z);
+    }
+  where
+    single : (before : List Answer) (last : Answer) → a ∷ [] ≡ before ++ last ∷ [] → before ≡ []
+    single [] last z = refl
+    single (b ∷ before) last z = absurd (none_last before last (let r : [] ≡ before ++ last ∷ [] = cc z in r))
+
+    begun : (before : List Answer) → before ≡ [] → (more : List ℕ) × (x.written ≡ appended v.written (text_of (asks go q (Source.Given before) s).lines ++ more))
+    begun before z = (
+      take p.count (text_of t.lines),
+      p.is ∙ ap (λ m. appended m (take p.count (text_of t.lines))) (sym same)
+          ∙ ap (λ b. appended v.written (text_of (asks go q (Source.Given b) s).lines ++ take p.count (text_of t.lines))) (sym z),
+    )
+
+-- the question was refused
+pub asked_refused : (v w : Outside) (go : GoingOn) (q : Question) (s : State) → v.written ≡ w.written → w.means ≡ v.means → ((l : List LogEntry) → v.stands l → w.stands l) →
+    HasBroken v w (λ later. asks go q (Source.Given later) s)
+asked_refused v w go q s same e f = record {
+  entries = [];
+  later = [];
+  done = done_refused v v w [] e f (done_nothing v);
+  is = refl;
+  text = subst (λ m. AppendsPrefix v.written m []) same (AppendsPrefix-nothing v.written []);
+  ahead = λ before last z. absurd (none_last before last z);
+}
+
+-- the block line before it
+question_part : (go : GoingOn) (b : ℕ) (q : Question) (s t u : State) → t ≡ block_line s → u ≡ silent t → (later : List Answer) →
+    after_question go b (Some q) (Source.Given later) s ≡ preceded t.lines [] (blocked_at q s) (asks go q (Source.Given later) u)
+question_part go b q s t u e f later =
+    subst (λ (y : State). after_question go b (Some q) (Source.Given later) s ≡ preceded t.lines [] (blocked_at q s) (asks go q (Source.Given later) y)) (sym f)
+    (subst (λ (y : State). after_question go b (Some q) (Source.Given later) s ≡ preceded y.lines [] (blocked_at q s) (asks go q (Source.Given later) (silent y))) (sym e) refl)
+
+pub blocked_on : (v w : Outside) (go : GoingOn) (b : ℕ) (q : Question) (s t u : State) → t ≡ block_line s → t.posts ≡ [] → u ≡ silent t → HasGiven v w t.lines (map logged t.posts) →
+    IsRunning v w (λ later. after_question go b (Some q) (Source.Given later) s) (λ later. asks go q (Source.Given later) u)
+blocked_on v w go b q s t u e none f g =
+    part_run v w (λ later. after_question go b (Some q) (Source.Given later) s) (λ later. asks go q (Source.Given later) u) t.lines [] (blocked_at q s) (question_part go b q s t u e f)
+    (subst (λ ps. HasGiven v w t.lines (map logged ps)) none g)
+
+pub blocked_broken : (v w : Outside) (go : GoingOn) (b : ℕ) (q : Question) (s t : State) → t ≡ block_line s → t.posts ≡ [] → HasGivenPart v w t.lines t.posts →
+    HasBroken v w (λ later. after_question go b (Some q) (Source.Given later) s)
+blocked_broken v w go b q s t e none g =
+    part_broken v w (λ later. after_question go b (Some q) (Source.Given later) s) (λ later. asks go q (Source.Given later) (silent t)) t.lines [] (blocked_at q s)
+    (question_part go b q s t (silent t) e refl) (subst (λ ps. HasGivenPart v w t.lines ps) none g)
+
+-- ---- what a part came to
+
+-- a part of the run was given out, and it goes on as `after` says
+pub rounded : (v w : Outside) (whole : Runs) (after : Next → Runs) (goes : State → Runs) (came : Came) (p : Passed) (s : State) (blocked : List State) →
+    ((later : List Answer) → whole later ≡ preceded p.lines (map logged p.posts) blocked (after p.next later)) →
+    ((t : State) → after (Next.Resting t) ≡ goes t) → ((c : StopCause) (t : State) → after (Next.Over c t) ≡ (λ later. stopped c t)) →
+    CameTo came p.next s → HasGiven v w p.lines (map logged p.posts) → Rounds (Ok came) v w whole goes s
+rounded v w whole after goes Came.ToRest p s blocked is rest over c g =
+    let r = part_run v w whole (after p.next) p.lines p.posts blocked is g in
+    subst (IsRunning v w whole) (ap after c ∙ rest s) r
+rounded v w whole after goes (Came.ToAnEnd cause) p s blocked is rest over c g =
+    let r = part_run v w whole (after p.next) p.lines p.posts blocked is g in
+    record { last = c.0; like = c.2; running = subst (IsRunning v w whole) (ap after c.1 ∙ over cause c.0) r }
 
 -- ---- LoopExit
 
-exit_step : (go : GoingOn) (b : ℕ) (t : State) → (loop_exit b (block_line t)).posts ≡ [] →
-    after_question go b None script t ≡ first_blocked (t ∷ []) (given_out (loop_exit b (block_line t)) (after_exit go script (loop_exit b (block_line t)).next))
-exit_step go b t e = rw e
+exit_part : (go : GoingOn) (b : ℕ) (s t : State) → t ≡ block_line s → (later : List Answer) →
+    after_question go b None (Source.Given later) s ≡ preceded (loop_exit b t).lines (map logged (loop_exit b t).posts) (s ∷ []) (after_exit go (Source.Given later) (loop_exit b t).next)
+exit_part go b s t e later =
+    subst (λ (y : State). after_question go b None (Source.Given later) s ≡ preceded (loop_exit b y).lines (map logged (loop_exit b y).posts) (s ∷ []) (after_exit go (Source.Given later) (loop_exit b y).next))
+    (sym e) refl
 
-pub exited : (old now new : Option (List ℕ)) (r : Ran) (go : GoingOn) (b : ℕ) (t u : State) → IsRunning old now r (after_question go b None script t) →
-    (loop_exit b (block_line t)).posts ≡ [] → (loop_exit b (block_line t)).next ≡ Next.Resting u →
-    new ≡ appended now (text_of (loop_exit b (block_line t)).lines) → IsRunning old new r (go script u)
-exited old now new r go b t u w e f m =
-    let q = go script u in
-    onward old now new r (first_blocked (t ∷ []) (given_out (loop_exit b (block_line t)) q)) q (loop_exit b (block_line t)).lines
-    (rw (exit_step go b t e ∙ ap (λ next. first_blocked (t ∷ []) (given_out (loop_exit b (block_line t)) (after_exit go script next))) f) at w) refl refl refl m
+pub exited : (v w : Outside) (go : GoingOn) (b : ℕ) (came : Came) (s t u : State) → t ≡ block_line s →
+    CameTo came (loop_exit b t).next u → HasGiven v w (loop_exit b t).lines (map logged (loop_exit b t).posts) →
+    Rounds (Ok came) v w (λ later. after_question go b None (Source.Given later) s) (λ x later. go (Source.Given later) x) u
+exited v w go b came s t u e c g =
+    rounded v w (λ later. after_question go b None (Source.Given later) s) (λ next later. after_exit go (Source.Given later) next) (λ x later. go (Source.Given later) x) came (loop_exit b t) u (s ∷ [])
+    (exit_part go b s t e) (λ x. refl) (λ k x. refl) c g
 
-pub exited_over : (old now new : Option (List ℕ)) (r : Ran) (go : GoingOn) (b : ℕ) (c : StopCause) (t u : State) → IsRunning old now r (after_question go b None script t) →
-    (loop_exit b (block_line t)).posts ≡ [] → CameTo (Came.ToAnEnd c) (loop_exit b (block_line t)).next u →
-    new ≡ appended now (text_of (loop_exit b (block_line t)).lines) → IsStopping old new r c u
-exited_over old now new r go b c t u w e f m =
-    let q = stopped c f.0 in
-    ending old new r c u f.0
-    (onward old now new r (first_blocked (t ∷ []) (given_out (loop_exit b (block_line t)) q)) q (loop_exit b (block_line t)).lines
-    (rw (exit_step go b t e ∙ ap (λ next. first_blocked (t ∷ []) (given_out (loop_exit b (block_line t)) (after_exit go script next))) f.1) at w) refl refl refl m) f.2
+pub exited_broken : (v w : Outside) (go : GoingOn) (b : ℕ) (s t : State) → t ≡ block_line s → HasGivenPart v w (loop_exit b t).lines (loop_exit b t).posts →
+    HasBroken v w (λ later. after_question go b None (Source.Given later) s)
+exited_broken v w go b s t e g =
+    part_broken v w (λ later. after_question go b None (Source.Given later) s) (λ later. after_exit go (Source.Given later) (loop_exit b t).next) (loop_exit b t).lines (loop_exit b t).posts (s ∷ [])
+    (exit_part go b s t e) g
 
-pub exited_broken : (old now new : Option (List ℕ)) (r : Ran) (go : GoingOn) (b : ℕ) (t : State) → IsRunning old now r (after_question go b None script t) →
-    AppendsPrefix now new (text_of (loop_exit b (block_line t)).lines) → AppendsPrefix old new (text_of r.lines)
-exited_broken old now new r go b t w p =
-    let x = loop_exit b (block_line t) in
-    broken old now new r (after_question go b None script t) x.lines (after_exit go (with_posts t.moment x.posts script) x.next).lines w refl p
+-- the same from where LoopExit was thrown
+thrown : (b left : ℕ) (at : Stand) (t x : State) → left ≡ b - t.moves → interrupts 0 FaultKind.LoopExit t ≡ next_at at x → loop_exit b t ≡ runs left (next_at at x)
+thrown b left at t x e f = ap (runs (b - t.moves)) f ∙ ap (λ n. runs n (next_at at x)) (sym e)
 
--- ---- the stop
+pub exited_at : (v w : Outside) (go : GoingOn) (b left : ℕ) (at : Stand) (came : Came) (s t x u : State) → t ≡ block_line s → left ≡ b - t.moves → interrupts 0 FaultKind.LoopExit t ≡ next_at at x →
+    CameTo came (runs left (next_at at x)).next u → HasGiven v w (runs left (next_at at x)).lines (map logged (runs left (next_at at x)).posts) →
+    Rounds (Ok came) v w (λ later. after_question go b None (Source.Given later) s) (λ y later. go (Source.Given later) y) u
+exited_at v w go b left at came s t x u e f k c g =
+    let here = sym (thrown b left at t x f k) in
+    exited v w go b came s t u e (subst (λ (p : Passed). CameTo came p.next u) here c) (subst (λ (p : Passed). HasGiven v w p.lines (map logged p.posts)) here g)
 
-pub stopped_run : (old now new : Option (List ℕ)) (r : Ran) (c : StopCause) (t : State) → IsStopping old now r c t →
-    new ≡ appended now (text_of (stopped c t).lines) → HasRun old new r c t
-stopped_run old now new r c t w m =
-    record {
-      text = whole_written old new (text_of r.lines) (more_written old now new (text_of r.lines) (text_of (stopped c t).lines) (text_of (stopped c t).lines) [] w.text (sym (append-nil (text_of (stopped c t).lines))) m);
-      end = w.end;
-      state = w.state;
-    }
+pub exit_broken_at : (v w : Outside) (go : GoingOn) (b left : ℕ) (at : Stand) (s t x : State) → t ≡ block_line s → left ≡ b - t.moves → interrupts 0 FaultKind.LoopExit t ≡ next_at at x →
+    HasGivenPart v w (runs left (next_at at x)).lines (runs left (next_at at x)).posts → HasBroken v w (λ later. after_question go b None (Source.Given later) s)
+exit_broken_at v w go b left at s t x e f k g =
+    exited_broken v w go b s t e (subst (λ (p : Passed). HasGivenPart v w p.lines p.posts) (sym (thrown b left at t x f k)) g)
 
-pub stop_broken : (old now new : Option (List ℕ)) (r : Ran) (c : StopCause) (t : State) → IsStopping old now r c t →
-    AppendsPrefix now new (text_of (stopped c t).lines) → AppendsPrefix old new (text_of r.lines)
-stop_broken old now new r c t w p =
-    cut_off old now new (text_of r.lines) (text_of (stopped c t).lines) (text_of (stopped c t).lines) [] w.text (sym (append-nil (text_of (stopped c t).lines))) p
+-- ---- what is asked at the end of a turn
 
-pub no_turns : (b : ℕ) (s : State) → run_turns 0 b script s ≡ stopped StopCause.NoTurns s
-no_turns b s = refl
+pub asked_at_end : (v w : Outside) (go : GoingOn) (b : ℕ) (q : Question) (s u : State) → Some q ≡ question s →
+    IsRunning v w (λ later. after_question go b (Some q) (Source.Given later) s) (λ later. go (Source.Given later) u) →
+    IsRunning v w (λ later. after_question go b (question s) (Source.Given later) s) (λ later. go (Source.Given later) u)
+asked_at_end v w go b q s u e r = subst (λ (o : Option Question). IsRunning v w (λ later. after_question go b o (Source.Given later) s) (λ later. go (Source.Given later) u)) e r
+
+pub ask_broken : (v w : Outside) (go : GoingOn) (b : ℕ) (q : Question) (s : State) → Some q ≡ question s →
+    HasBroken v w (λ later. after_question go b (Some q) (Source.Given later) s) → HasBroken v w (λ later. after_question go b (question s) (Source.Given later) s)
+ask_broken v w go b q s e r = subst (λ (o : Option Question). HasBroken v w (λ later. after_question go b o (Source.Given later) s)) e r
+
+pub none_asked : (v w : Outside) (go : GoingOn) (b : ℕ) (result : Result Came Broken) (s u : State) → None ≡ question s →
+    Rounds result v w (λ later. after_question go b None (Source.Given later) s) (λ y later. go (Source.Given later) y) u →
+    Rounds result v w (λ later. after_question go b (question s) (Source.Given later) s) (λ y later. go (Source.Given later) y) u
+none_asked v w go b result s u e r =
+    subst (λ (o : Option Question). Rounds result v w (λ later. after_question go b o (Source.Given later) s) (λ y later. go (Source.Given later) y) u) e r
+
+-- ---- turns
+
+-- what was left came to this
+pub rounds_then : (u v w : Outside) (result : Result Came Broken) (whole left : Runs) (goes : State → Runs) (s : State) → IsRunning u v whole left → Rounds result v w left goes s → Rounds result u w whole goes s
+rounds_then u v w (Ok Came.ToRest) whole left goes s r q = running_then u v w whole left (goes s) r q
+rounds_then u v w (Ok (Came.ToAnEnd cause)) whole left goes s r q =
+    record { last = q.last; like = q.like; running = running_then u v w whole left (λ later. stopped cause q.last) r q.running }
+rounds_then u v w (Err e) whole left goes s r q = running_broken u v w whole left r q
+
+pub rests_on : (v w : Outside) (came : Came) (whole : Runs) (goes : State → Runs) (s : State) → came ≡ Came.ToRest → Rounds (Ok came) v w whole goes s → IsRunning v w whole (goes s)
+rests_on v w came whole goes s e r = subst (λ (x : Came). Rounds (Ok x) v w whole goes s) e r
+
+pub stops_at : (v w : Outside) (came : Came) (cause : StopCause) (whole : Runs) (goes : State → Runs) (s : State) → came ≡ Came.ToAnEnd cause → Rounds (Ok came) v w whole goes s → IsStopping v w whole cause s
+stops_at v w came cause whole goes s e r = subst (λ (x : Came). Rounds (Ok x) v w whole goes s) e r
+
+-- the end of a turn that came to rest
+abbrev pub at_turn_end : ℕ → ℕ → State → Runs
+at_turn_end n b t later = after_question (run_turns n b) b (question t) (Source.Given later) t
+
+pub turned : (v w : Outside) (n b : ℕ) (came : Came) (s t : State) → CameTo came (turn b s).next t → HasGiven v w (turn b s).lines (map logged (turn b s).posts) →
+    Rounds (Ok came) v w (from_turn (suc n) b s) (at_turn_end n b) t
+turned v w n b came s t c g =
+    rounded v w (from_turn (suc n) b s) (λ next later. after_turn (run_turns n b) b (Source.Given later) next) (at_turn_end n b) came (turn b s) t [] (λ later. refl) (λ x. refl) (λ k x. refl) c g
+
+pub turned_broken : (v w : Outside) (n b : ℕ) (s : State) → HasGivenPart v w (turn b s).lines (turn b s).posts → HasBroken v w (from_turn (suc n) b s)
+turned_broken v w n b s g =
+    part_broken v w (from_turn (suc n) b s) (λ later. after_turn (run_turns n b) b (Source.Given later) (turn b s).next) (turn b s).lines (turn b s).posts [] (λ later. refl) g
+
+-- the end of the turn comes to what the turn comes to
+pub round_ended : (u v w : Outside) (n b : ℕ) (came : Came) (result : Result Came Broken) (s t x : State) → came ≡ Came.ToRest → Rounds (Ok came) u v (from_turn (suc n) b s) (at_turn_end n b) t →
+    Rounds result v w (λ later. after_question (run_turns n b) b (question t) (Source.Given later) t) (λ y later. run_turns n b (Source.Given later) y) x →
+    Rounds result u w (from_turn (suc n) b s) (from_turn n b) x
+round_ended u v w n b came result s t x e r q = rounds_then u v w result (from_turn (suc n) b s) (at_turn_end n b t) (from_turn n b) x (rests_on u v came (from_turn (suc n) b s) (at_turn_end n b) t e r) q
+
+-- one turn less is left
+pub turns_left : (n b : ℕ) (s : State) → 0 < n → from_turn n b s ≡ from_turn (suc (n - 1)) b s
+turns_left zero b s h = grind arith
+turns_left (suc n) b s h = let one : suc n - 1 ≡ n = omega arith in rw one refl
+
+pub next_round : (u v w : Outside) (n b : ℕ) (result : Result Came Broken) (whole : Runs) (s t : State) → 0 < n → IsRunning u v whole (from_turn n b s) →
+    ((turns : ℕ) → Rounds result v w (from_turn (suc turns) b s) (from_turn turns b) t) → Rounds result u w whole (from_turn (n - 1) b) t
+next_round u v w n b result whole s t h r q =
+    rounds_then u v w result whole (from_turn (suc (n - 1)) b s) (from_turn (n - 1) b) t (subst (IsRunning u v whole) (turns_left n b s h) r) (q (n - 1))
+
+pub out_of_turns : (u v : Outside) (n b : ℕ) (whole : Runs) (s : State) → n ≤ 0 → IsRunning u v whole (from_turn n b s) → IsStopping u v whole StopCause.NoTurns s
+out_of_turns u v zero b whole s h r = record { last = s; like = like s; running = r }
+out_of_turns u v (suc n) b whole s h r = grind arith
 
 -- ---- the beginning
 
--- main's first part
-abbrev pub first_part : ℕ → Scenario → Passed
-first_part moves c = runs moves (starts lands 0 [] (first_state c))
+start_part : (turns moves : ℕ) (c : Scenario) (next : Next) → starts lands 0 [] (first_state c) ≡ next → (later : List Answer) →
+    run c turns moves later ≡ preceded (runs moves next).lines (map logged (runs moves next).posts) [] (after_start (Source.Given later) turns moves (runs moves next).next)
+start_part turns moves c next e later =
+    subst (λ (x : Next). run c turns moves later ≡ preceded (runs moves x).lines (map logged (runs moves x).posts) [] (after_start (Source.Given later) turns moves (runs moves x).next)) e refl
 
-script_step : (turns moves : ℕ) (c : Scenario) → (first_part moves c).posts ≡ [] →
-    script_run c turns moves 0 ≡ given_out (first_part moves c) (after_start script turns moves (first_part moves c).next)
-script_step turns moves c e = rw e
+begun_at : (c : Scenario) (at : Stand) (s t : State) → s ≡ first_state c → starts lands 0 [] s ≡ next_at at t → starts lands 0 [] (first_state c) ≡ next_at at t
+begun_at c at s t e f = ap (starts lands 0 []) (sym e) ∙ f
 
-pub began_resting : (old now : Option (List ℕ)) (turns moves : ℕ) (c : Scenario) (s : State) → (first_part moves c).posts ≡ [] → (first_part moves c).next ≡ Next.Resting s →
-    now ≡ appended old (text_of (first_part moves c).lines) → IsRunning old now (script_run c turns moves 0) (run_turns turns moves script s)
-began_resting old now turns moves c s e f m =
-    let q = run_turns turns moves script s in
-    let r = script_run c turns moves 0 in
-    let here : r ≡ given_out (first_part moves c) q = script_step turns moves c e ∙ ap (λ next. given_out (first_part moves c) (after_start script turns moves next)) f in
-    onward old old now r (given_out (first_part moves c) q) q (first_part moves c).lines (subst (λ (q : Ran). IsRunning old old r q) here (running old r)) refl refl refl m
+pub began : (v w : Outside) (turns moves : ℕ) (c : Scenario) (at : Stand) (came : Came) (s t u : State) → s ≡ first_state c → starts lands 0 [] s ≡ next_at at t →
+    CameTo came (runs moves (next_at at t)).next u → HasGiven v w (runs moves (next_at at t)).lines (map logged (runs moves (next_at at t)).posts) →
+    Rounds (Ok came) v w (run c turns moves) (from_turn turns moves) u
+began v w turns moves c at came s t u e f k g =
+    rounded v w (run c turns moves) (λ next later. after_start (Source.Given later) turns moves next) (from_turn turns moves) came (runs moves (next_at at t)) u []
+    (start_part turns moves c (next_at at t) (begun_at c at s t e f)) (λ x. refl) (λ k x. refl) k g
 
-pub began_over : (old now : Option (List ℕ)) (turns moves : ℕ) (c : Scenario) (cause : StopCause) (s : State) → (first_part moves c).posts ≡ [] →
-    CameTo (Came.ToAnEnd cause) (first_part moves c).next s →
-    now ≡ appended old (text_of (first_part moves c).lines) → IsStopping old now (script_run c turns moves 0) cause s
-began_over old now turns moves c cause s e f m =
-    let q = stopped cause f.0 in
-    let r = script_run c turns moves 0 in
-    let here : r ≡ given_out (first_part moves c) q = script_step turns moves c e ∙ ap (λ next. given_out (first_part moves c) (after_start script turns moves next)) f.1 in
-    ending old now r cause s f.0
-    (onward old old now r (given_out (first_part moves c) q) q (first_part moves c).lines (subst (λ (q : Ran). IsRunning old old r q) here (running old r)) refl refl refl m) f.2
+pub began_broken : (v w : Outside) (turns moves : ℕ) (c : Scenario) (at : Stand) (s t : State) → s ≡ first_state c → starts lands 0 [] s ≡ next_at at t →
+    HasGivenPart v w (runs moves (next_at at t)).lines (runs moves (next_at at t)).posts → HasBroken v w (run c turns moves)
+began_broken v w turns moves c at s t e f g =
+    part_broken v w (run c turns moves) (λ later. after_start (Source.Given later) turns moves (runs moves (next_at at t)).next) (runs moves (next_at at t)).lines (runs moves (next_at at t)).posts []
+    (start_part turns moves c (next_at at t) (begun_at c at s t e f)) g
 
-pub began_broken : (old now : Option (List ℕ)) (turns moves : ℕ) (c : Scenario) → AppendsPrefix old now (text_of (first_part moves c).lines) →
-    AppendsPrefix old now (text_of (script_run c turns moves 0).lines)
-began_broken old now turns moves c p =
-    let x = first_part moves c in
-    let r = script_run c turns moves 0 in
-    broken old old now r r x.lines (after_start (with_posts 0 x.posts script) turns moves x.next).lines (running old r) refl p
+-- the turns after it
+pub ran_then : (u v w : Outside) (result : Result Ended Broken) (whole left : Runs) (s : State) → IsRunning u v whole left → RunsTo result v w left s → RunsTo result u w whole s
+ran_then u v w (Ok end) whole left s r q =
+    record { cause = q.cause; is_end = q.is_end; last = q.last; like = q.like; running = running_then u v w whole left (λ later. finished q.cause q.last) r q.running }
+ran_then u v w (Err e) whole left s r q = running_broken u v w whole left r q
 
--- ---- the same, by what a part came to
+-- ---- the stop
 
-pub rest_else : (came : Came) → ((c : StopCause) → came ≡ Came.ToAnEnd c → ⊥) → came ≡ Came.ToRest
-rest_else Came.ToRest f = refl
-rest_else (Came.ToAnEnd c) f = absurd (f c refl)
+stop_texts : (cause : StopCause) (s t : State) → AreLike s t → text_of (stopped cause s).lines ≡ text_of (stopped cause t).lines
+stop_texts cause s t same =
+    ap (λ (n : ℕ). text_of (Line.Stop cause n s.moves ∷ [])) same.turns ∙ ap (λ (n : ℕ). text_of (Line.Stop cause t.turns n ∷ [])) same.moves
 
--- the turn is over, and the hub asks this question or none
-pub turned_to : (old now new : Option (List ℕ)) (r : Ran) (n b : ℕ) (came : Came) (q : Option Question) (s t : State) → 0 < n → IsRunning old now r (run_turns n b script s) →
-    came ≡ Came.ToRest → (turn b s).posts ≡ [] → CameTo came (turn b s).next t → new ≡ appended now (text_of (turn b s).lines) → q ≡ question t →
-    IsRunning old new r (after_question (run_turns (n - 1) b) b q script t)
-turned_to old now new r n b came q s t h w z e f m a =
-    let next = at_rest came (turn b s).next t z f in
-    subst (λ (x : Option Question). IsRunning old new r (after_question (run_turns (n - 1) b) b x script t)) (sym a) (turned old now new r n b s t h w e next m)
+-- the stop line was written
+pub stopped_on : (u v w : Outside) (whole : Runs) (cause : StopCause) (end : Ended) (s : State) → IsStopping u v whole cause s →
+    w.written ≡ appended v.written (text_of (stopped cause s).lines) → HasDone v w [] → end ≡ end_of cause → HasEnded u w whole end s
+stopped_on u v w whole cause end s r e d f =
+    let lines = (stopped cause r.last).lines in
+    let given : HasGiven v w lines [] = record { text = e ∙ ap (appended v.written) (sym (stop_texts cause r.last s r.like)); done = d } in
+    let last = part_run v w (λ later. stopped cause r.last) (λ later. finished cause r.last) lines [] [] (λ later. refl) given in
+    record {
+      cause = cause;
+      is_end = f;
+      last = r.last;
+      like = r.like;
+      running = running_then u v w whole (λ later. stopped cause r.last) (λ later. finished cause r.last) r.running last;
+    }
 
-pub turned_at_end : (old now new : Option (List ℕ)) (r : Ran) (n b : ℕ) (came : Came) (c : StopCause) (s t : State) → 0 < n → IsRunning old now r (run_turns n b script s) →
-    came ≡ Came.ToAnEnd c → (turn b s).posts ≡ [] → CameTo came (turn b s).next t → new ≡ appended now (text_of (turn b s).lines) →
-    IsStopping old new r c t
-turned_at_end old now new r n b came c s t h w z e f m = turned_over old now new r n b c s t h w e (at_an_end came c (turn b s).next t z f) m
-
-pub asked_on : (old now new : Option (List ℕ)) (r : Ran) (go : GoingOn) (b : ℕ) (q : Question) (t u : State) →
-    IsRunning old now r (after_question go b (Some q) script t) →
-    new ≡ appended now (text_of ((block_line t).lines ++ (answered q t).lines)) → u ≡ silent (answered q t) → IsRunning old new r (go script u)
-asked_on old now new r go b q t u w m e = subst (λ (x : State). IsRunning old new r (go script x)) (sym e) (asked old now new r go b q t w m)
-
-pub exited_at_rest : (old now new : Option (List ℕ)) (r : Ran) (go : GoingOn) (b : ℕ) (came : Came) (t u : State) → IsRunning old now r (after_question go b None script t) →
-    came ≡ Came.ToRest → (loop_exit b (block_line t)).posts ≡ [] → CameTo came (loop_exit b (block_line t)).next u →
-    new ≡ appended now (text_of (loop_exit b (block_line t)).lines) → IsRunning old new r (go script u)
-exited_at_rest old now new r go b came t u w z e f m = exited old now new r go b t u w e (at_rest came (loop_exit b (block_line t)).next u z f) m
-
-pub exited_at_end : (old now new : Option (List ℕ)) (r : Ran) (go : GoingOn) (b : ℕ) (came : Came) (c : StopCause) (t u : State) → IsRunning old now r (after_question go b None script t) →
-    came ≡ Came.ToAnEnd c → (loop_exit b (block_line t)).posts ≡ [] → CameTo came (loop_exit b (block_line t)).next u →
-    new ≡ appended now (text_of (loop_exit b (block_line t)).lines) → IsStopping old new r c u
-exited_at_end old now new r go b came c t u w z e f m = exited_over old now new r go b c t u w e (at_an_end came c (loop_exit b (block_line t)).next u z f) m
-
-pub out_of_turns : (old now : Option (List ℕ)) (r : Ran) (n b : ℕ) (s : State) → n ≤ 0 → IsRunning old now r (run_turns n b script s) → IsStopping old now r StopCause.NoTurns s
-out_of_turns old now r zero b s h w = ending old now r StopCause.NoTurns s s w (like s)
-out_of_turns old now r (suc n) b s h w = grind arith
-
-pub stopped_end : (old new : Option (List ℕ)) (r : Ran) (c : StopCause) (t : State) (e : Ended) → HasRun old new r c t → e ≡ end_of c → Some e ≡ end_of_run r.end
-stopped_end old new r c t e h f = ap (λ (x : Ended). Some x) f ∙ sym (ap end_of_run h.end)
-
--- the other part was written too, or broke off
-pub rest_written : (old now new : Option (List ℕ)) (r q : Ran) → IsRunning old now r q → new ≡ appended now (text_of q.lines) → new ≡ appended old (text_of r.lines)
-rest_written old now new r q w m =
-    whole_written old new (text_of r.lines) (more_written old now new (text_of r.lines) (text_of q.lines) (text_of q.lines) [] w.text (sym (append-nil (text_of q.lines))) m)
-
-pub rest_broken : (old now new : Option (List ℕ)) (r q : Ran) → IsRunning old now r q → AppendsPrefix now new (text_of q.lines) → AppendsPrefix old new (text_of r.lines)
-rest_broken old now new r q w p = broken old now new r q q.lines [] w (sym (append-nil q.lines)) p
-
--- main's first part, from where it was begun
-begun_at : (c : Scenario) (at : Stand) (s t : State) → s ≡ first_state c → starts lands 0 [] s ≡ next_at at t → next_at at t ≡ starts lands 0 [] (first_state c)
-begun_at c at s t e f = sym f ∙ ap (starts lands 0 []) e
-
-pub began_at_rest : (old now : Option (List ℕ)) (turns moves : ℕ) (c : Scenario) (at : Stand) (came : Came) (s t u : State) → s ≡ first_state c → starts lands 0 [] s ≡ next_at at t →
-    came ≡ Came.ToRest → (runs moves (next_at at t)).posts ≡ [] → CameTo came (runs moves (next_at at t)).next u → now ≡ appended old (text_of (runs moves (next_at at t)).lines) →
-    IsRunning old now (script_run c turns moves 0) (run_turns turns moves script u)
-began_at_rest old now turns moves c at came s t u e f z k l m =
-    let here = begun_at c at s t e f in
-    began_resting old now turns moves c u
-    (subst (λ (x : Next). (runs moves x).posts ≡ []) here k)
-    (subst (λ (x : Next). (runs moves x).next ≡ Next.Resting u) here (at_rest came (runs moves (next_at at t)).next u z l))
-    (subst (λ (x : Next). now ≡ appended old (text_of (runs moves x).lines)) here m)
-
-pub began_at_end : (old now : Option (List ℕ)) (turns moves : ℕ) (c : Scenario) (at : Stand) (came : Came) (cause : StopCause) (s t u : State) → s ≡ first_state c → starts lands 0 [] s ≡ next_at at t →
-    came ≡ Came.ToAnEnd cause → (runs moves (next_at at t)).posts ≡ [] → CameTo came (runs moves (next_at at t)).next u → now ≡ appended old (text_of (runs moves (next_at at t)).lines) →
-    IsStopping old now (script_run c turns moves 0) cause u
-began_at_end old now turns moves c at came cause s t u e f z k l m =
-    let here = begun_at c at s t e f in
-    began_over old now turns moves c cause u
-    (subst (λ (x : Next). (runs moves x).posts ≡ []) here k)
-    (subst (λ (x : Next). CameTo (Came.ToAnEnd cause) (runs moves x).next u) here (at_an_end came cause (runs moves (next_at at t)).next u z l))
-    (subst (λ (x : Next). now ≡ appended old (text_of (runs moves x).lines)) here m)
+pub stop_broken : (u v w : Outside) (whole : Runs) (cause : StopCause) (s : State) → IsStopping u v whole cause s →
+    AppendsPrefix v.written w.written (text_of (stopped cause s).lines) → HasDone v w [] → HasBroken u w whole
+stop_broken u v w whole cause s r p d =
+    let lines = (stopped cause r.last).lines in
+    let given : HasGivenPart v w lines [] = record {
+      text = subst (AppendsPrefix v.written w.written) (sym (stop_texts cause r.last s r.like)) p;
+      made = record { part = []; later = []; is = refl; done = d };
+    } in
+    running_broken u v w whole (λ later. stopped cause r.last) r.running
+    (part_broken v w (λ later. stopped cause r.last) (λ later. finished cause r.last) lines [] [] (λ later. refl) given)

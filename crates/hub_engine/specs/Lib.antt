@@ -1,7 +1,10 @@
 pub mod Asking
+pub mod Delivering
 pub mod Ends
 pub mod Making
+pub mod Outside
 pub mod Prepared
 pub mod Ready
 pub mod Stands
+pub mod Tied
 pub mod Written

@@ -1,10 +1,11 @@
 -- What lets a greenlet make items at its move.
-use Rattle.std.specs.Prelude.{◌≡◌, ℕ, true, Some, length}
+use Rattle.std.specs.Prelude.{ℕ}
+use Rattle.machine.specs.declared.state.Frame.{Frame}
+use Rattle.machine.specs.declared.state.Phase.{Phase}
+use Rattle.machine.specs.Greenlets.{with_phase}
 use Rattle.machine.specs.State.{State}
-use Rattle.machine.specs.Soundness.{Claim, is_unclaimed}
-use Rattle.machine_soundness.specs.Going.{has_no_wait}
+use Rattle.hub_requests.specs.Making.{MayMake}
 
--- it waits for nothing, and the greenlet that is made next has no start yet
-pub record MayMake (g : ℕ) (s : State) : Type 0 where
-  pub free : has_no_wait g s.items ≡ true
-  pub fresh : is_unclaimed (Some (Claim.StartOf (length s.greenlets))) s.items ≡ true
+-- it may, with whatever body, where that stands with the hub's step
+pub record MayMove (g : ℕ) (s : State) : Type 0 where
+  pub any : (frame : Frame) → MayMake g (with_phase g (Phase.Live frame) s)

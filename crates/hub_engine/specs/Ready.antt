@@ -1,30 +1,43 @@
 -- What is so of the states of a run, and of the state that it begins from.
-use Rattle.std.specs.Prelude.{◌≡◌, ⊤}
+use Rattle.std.specs.Prelude.{◌≡◌, ℕ, ⊤}
 use Rattle.scenario_tree.specs.declared.tree.Scenario.{Scenario}
 use Rattle.scenario_rules.specs.Rules.{IsWellFormed}
-use Rattle.unbuilt_forms.specs.Built.{IsBuilt}
-use Rattle.hub_engine.specs.declared.stand.Came.{Came}
+use Rattle.body_values.specs.Functions.{IsFunction}
 use Rattle.machine.specs.State.{State}
+use Rattle.machine.specs.Greenlets.{greenlet}
 use Rattle.machine.specs.Landing.{Next}
-use Rattle.machine.specs.Run.{first_state}
-use Rattle.machine_soundness.specs.Going.{IsKept, IsSoundAt}
-use Rattle.machine_built.specs.Laws.{HasMain}
-use Rattle.machine_built.specs.Runnable.{IsRunnable, IsRunnableAt}
+use Rattle.machine.specs.Run.{first_state, silent}
+use Rattle.machine_laws.specs.Reached.{Reached}
+use Rattle.machine_soundness.specs.Going.{IsSoundAt}
+use Rattle.machine_texts.specs.Texts.{HasMain}
+use Rattle.hub_engine.specs.declared.stand.Came.{Came}
 
--- the state is sound, and all that is in it is run
-pub record IsReady (s : State) : Type 0 where
-  pub kept : IsKept s
-  pub runnable : IsRunnable s
-
--- the same wherever the hub stands
+-- the hub comes to stand so in a run of a well-formed scenario that has a main
 pub record IsReadyAt (next : Next) : Type 0 where
+  pub scenario : Scenario
+  pub well_formed : IsWellFormed scenario
+  pub main : HasMain scenario
+  pub reached : Reached scenario next
   pub sound : IsSoundAt next
-  pub runnable : IsRunnableAt next
 
--- the scenario may be run: it is well formed, all its lines are run, and it has a main
+-- it rests so, and all that was said is given out
+pub record IsReady (s : State) : Type 0 where
+  pub silent : s ≡ silent s
+  pub at : IsReadyAt (Next.Resting s)
+
+-- the greenlet is at its next move so, and all that was said is given out
+pub record IsReadyToMove (g : ℕ) (s : State) : Type 0 where
+  pub before : State
+  pub ready : IsReadyAt (Next.Going g before)
+  pub same : s ≡ silent before
+
+-- each greenlet, of whatever number, runs a function of the scenario
+pub record AreDeclared (s : State) : Type 0 where
+  pub each : (g : ℕ) → IsFunction s.scenario (greenlet g s).function
+
+-- the scenario may be run: it is well formed, and has a main
 pub record MayRun (c : Scenario) : Type 0 where
   pub well_formed : IsWellFormed c
-  pub built : IsBuilt c
   pub main : HasMain c
 
 -- nothing of the run has begun

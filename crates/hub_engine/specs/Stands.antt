@@ -1,14 +1,16 @@
 -- Where the hub stands between two steps, and what the code's steps come to.
-use Rattle.std.specs.Prelude.{ℕ}
+use Rattle.std.specs.Prelude.{ℕ, [], ◌∷◌}
+use Rattle.gv_values.specs.Ends.{kept}
+use Rattle.gv_values.specs.declared.value.Outcome.{Outcome}
+use Rattle.trace_text.specs.declared.line.Line.{Line}
 use Rattle.machine.specs.declared.state.Phase.{Phase}
-use Rattle.machine.specs.State.{State}
-use Rattle.machine.specs.Landing.{Next, Landing, after_end}
+use Rattle.machine.specs.State.{State, say}
+use Rattle.machine.specs.Landing.{Next, Landing, after_end, resumes, starts}
 use Rattle.machine.specs.Items.{drop_items, is_timeout_of}
-use Rattle.machine.specs.Greenlets.{with_phase}
-use Rattle.machine.specs.Waits.{Performed}
+use Rattle.machine.specs.Greenlets.{greenlet, with_phase}
 use Rattle.body_frames.specs.Places.{Place}
+use Rattle.hub_engine.specs.declared.stand.Hop.{Hop}
 use Rattle.hub_engine.specs.declared.stand.Stand.{Stand}
-use Rattle.hub_engine.specs.declared.performs.Performed.{Performed as Came}
 
 -- the body of the greenlet under way stands with the hub's step, and not in the state
 abbrev pub next_at : Stand → State → Next
@@ -16,13 +18,24 @@ next_at (Stand.Going g body) s = Next.Going g (with_phase g (Phase.Live body) s)
 next_at Stand.Resting s = Next.Resting s
 next_at (Stand.Over cause) s = Next.Over cause s
 
+-- what goes up lands there
+abbrev pub hopped : Landing → Hop → State → Next
+hopped up (Hop.At at) s = next_at at s
+hopped up (Hop.Up g o) s = up g o s
+
 -- the greenlet goes on to the place that its body came to
 abbrev pub goes_to : Landing → ℕ → Place → State → Next
 goes_to up g (Place.AtMove left body) s = Next.Going g (with_phase g (Phase.Live body) (drop_items (is_timeout_of g left) s))
 goes_to up g (Place.AtEnd left o) s = after_end up g o (drop_items (is_timeout_of g left) s)
 
--- what came of a request, in this state
-abbrev pub performed_of : Came → State → Performed
-performed_of (Came.Answers o) s = Performed.Answers o s
-performed_of Came.Parks s = Performed.Parks s
-performed_of (Came.Stops cause) s = Performed.Stops cause s
+-- one landing, after which what goes up is taken up
+abbrev pub lands_at : Landing → Landing
+lands_at up g input s =
+    elim (greenlet g s).phase [
+      | Phase.Done o ↦ up (greenlet g s).parent (kept input) s
+      | Phase.Live frame ↦ resumes up g frame input (say (Line.Into g input) s)
+      | Phase.New args ↦ elim input [
+        | Outcome.Value v ↦ starts up g (v ∷ []) s
+        | Outcome.Fault f ↦ after_end up g (Outcome.Fault f) s
+      ]
+    ]

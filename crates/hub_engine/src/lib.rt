@@ -6,10 +6,8 @@ mod broken;
 mod deliver;
 mod life;
 mod moves;
-mod performs;
 mod run;
 mod stand;
 mod turns;
-mod waits;
 
 pub use run::{Budgets, End, Engine, Ran};

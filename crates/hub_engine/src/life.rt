@@ -1,16 +1,18 @@
-//! Greenlets: how one starts, goes on and ends.
-ghost use Rattle.std.specs.Prelude.{◌≡◌, OnOk, IfOk};
+//! Greenlets: how one starts, goes on and ends, and how an input lands at a raw one.
+ghost use Rattle.std.specs.Prelude.{◌≡◌, IfOk};
 ghost use Rattle.body_values.specs.Functions.{IsFunction};
 ghost use Rattle.body_frames.specs.Standings.{reached_of};
-ghost use Rattle.machine.specs.Landing.{Landing, after_end, starts, answered, lands};
-ghost use Rattle.machine.specs.Ends.{outcome_of_leaving, leaving_of, stop_of, ended};
-ghost use Rattle.machine.specs.Greenlets.{greenlet};
-ghost use Rattle.hub_engine.specs.Stands.{goes_to, next_at};
+ghost use Rattle.machine.specs.Landing.{Landing, after_end, starts, resumes, answered, lands};
+ghost use Rattle.machine.specs.Ends.{outcome_of_leaving, leaving_of, stop_of};
+ghost use Rattle.machine.specs.Greenlets.{frame_of, greenlet};
+ghost use Rattle.hub_engine.specs.Ready.{AreDeclared};
+ghost use Rattle.hub_engine.specs.Stands.{goes_to, hopped, lands_at, next_at};
 
-use crate::stand::Stand;
+use crate::stand::{Hop, Stand};
 use body_frames::{Reached, answer_body, begin_body};
 use gv_values::{Outcome, Value, kept_outcome};
-use hub_state::{Gone, Hub, Stage};
+use hub_requests::{Far, end_greenlet, how_far};
+use hub_state::Hub;
 use scenario_tree::Items;
 use std::alloc::{AllocError, Global};
 use trace_text::{Line, StopCause};
@@ -35,39 +37,26 @@ fn unheard(answer: Outcome) -> Outcome
     }
 }
 
-/// Ends the greenlet like this.
-fn end_greenlet(alloc: Global, hub: &mut Hub, g: u32, outcome: &Outcome) -> Result<(), AllocError>
-    ensures { OnOk result (hub.new ≡ ended g outcome.now hub.old) }
-{
-    hub.say(Line::End {
-        greenlet: g,
-        outcome: outcome.copy(alloc)?,
-    })?;
-    hub.set_stage(g, Stage::Done(outcome.copy(alloc)?));
-    hub.drop_items(&Gone::AtEnd(g, outcome.copy(alloc)?));
-    hub.leave_crews(g);
-    hub.settle(alloc)
-}
-
-/// Ends the greenlet, and the run with it where it is main. It is not raw, so that its outcome goes to no
-/// parent.
+/// Ends the greenlet: the outcome of a raw one goes up to its parent, and with main the run ends.
 fn go_on_after_end(
     alloc: Global,
     hub: &mut Hub,
     g: u32,
     outcome: Outcome,
-) -> Result<Stand, AllocError>
-    ensures { IfOk result (λ at. (up : Landing) → after_end up g outcome hub.old ≡ next_at at hub.new) }
+) -> Result<Hop, AllocError>
+    ensures { IfOk result (λ hop. (up : Landing) → after_end up g outcome hub.old ≡ hopped up hop hub.new) }
 {
-    if hub.is_raw(g) {
-        unreachable!();
-    }
+    let raw = hub.is_raw(g);
+    let parent = hub.parent_of(g);
     let outcome = kept_outcome(outcome);
     end_greenlet(alloc, hub, g, &outcome)?;
-    if g == 0 {
-        return Ok(Stand::Over(stop_of(outcome)));
+    if raw {
+        return Ok(Hop::Up(parent, outcome));
     }
-    Ok(Stand::Resting)
+    if g == 0 {
+        return Ok(Hop::At(Stand::Over(stop_of(outcome))));
+    }
+    Ok(Hop::At(Stand::Resting))
 }
 
 /// Lets the greenlet go on to where its body came.
@@ -76,13 +65,13 @@ pub fn place_greenlet(
     hub: &mut Hub,
     g: u32,
     reached: Reached,
-) -> Result<Stand, AllocError>
-    ensures { IfOk result (λ at. (up : Landing) → goes_to up g (reached_of reached) hub.old ≡ next_at at hub.new) }
+) -> Result<Hop, AllocError>
+    ensures { IfOk result (λ hop. (up : Landing) → goes_to up g (reached_of reached) hub.old ≡ hopped up hop hub.new) }
 {
     match reached {
         Reached::Move(left, body) => {
             hub.drop_timeouts(g, left);
-            Ok(Stand::Going(g, body))
+            Ok(Hop::At(Stand::Going(g, body)))
         }
         Reached::End(left, outcome) => {
             hub.drop_timeouts(g, left);
@@ -91,19 +80,19 @@ pub fn place_greenlet(
     }
 }
 
-/// Starts the body of the greenlet with these arguments.
+/// Begins the body of the greenlet with these arguments.
 #[tactic(auto, using(crate::proofs::Bodies::start_goes))]
-pub fn start_body(
+fn begin_greenlet(
     alloc: Global,
     hub: &mut Hub,
     g: u32,
     arguments: Items<Value>,
-) -> Result<Stand, AllocError>
+) -> Result<Hop, AllocError>
     requires declared { IsFunction hub.old.scenario (greenlet g hub.old).function }
-    ensures { IfOk result (λ at. starts lands g arguments hub.old ≡ next_at at hub.new) }
+    ensures { IfOk result (λ hop. (up : Landing) → starts up g arguments hub.old ≡ hopped up hop hub.new) }
 {
     let function = hub.function_of(g);
-    let name = hub.code().function_at(function).name;
+    let name = hub.code().function_name(function);
     let reached = begin_body(alloc, hub.code(), function, arguments)?;
     hub.say(Line::Start {
         greenlet: g,
@@ -112,15 +101,10 @@ pub fn start_body(
     Ok(place_greenlet(alloc, hub, g, reached)?)
 }
 
-/// Answers the statement of the greenlet.
+/// Gives the answer to the statement of the greenlet.
 #[tactic(auto, using(crate::proofs::Bodies::answer_goes, crate::proofs::Bodies::answer_unheard))]
-pub fn answer_greenlet(
-    alloc: Global,
-    hub: &mut Hub,
-    g: u32,
-    answer: Outcome,
-) -> Result<Stand, AllocError>
-    ensures { IfOk result (λ at. answered g answer hub.old ≡ next_at at hub.new) }
+fn resume_greenlet(alloc: Global, hub: &mut Hub, g: u32, answer: Outcome) -> Result<Hop, AllocError>
+    ensures { IfOk result (λ hop. (up : Landing) → resumes up g (frame_of (greenlet g hub.old).phase) answer hub.old ≡ hopped up hop hub.new) }
 {
     match hub.take_body(g) {
         Some(body) => {
@@ -132,4 +116,93 @@ pub fn answer_greenlet(
             Ok(place_greenlet(alloc, hub, g, end)?)
         }
     }
+}
+
+/// Lets the input land at the greenlet, once.
+#[tactic(auto, using(crate::proofs::Landing::lands_done, crate::proofs::Landing::lands_live, crate::proofs::Landing::lands_value, crate::proofs::Landing::lands_fault))]
+fn land_once(alloc: Global, hub: &mut Hub, g: u32, input: Outcome) -> Result<Hop, AllocError>
+    requires declared { IsFunction hub.old.scenario (greenlet g hub.old).function }
+    ensures { IfOk result (λ hop. (up : Landing) → lands_at up g input hub.old ≡ hopped up hop hub.new) }
+{
+    match how_far(hub, g) {
+        Far::Done => Ok(Hop::Up(hub.parent_of(g), kept_outcome(input))),
+        Far::Live => {
+            hub.say(Line::Into {
+                greenlet: g,
+                input: input.copy(alloc)?,
+            })?;
+            Ok(resume_greenlet(alloc, hub, g, input)?)
+        }
+        Far::New => match input {
+            Outcome::Value(value) => {
+                let mut arguments = Items::new(alloc);
+                arguments.push(value)?;
+                Ok(begin_greenlet(alloc, hub, g, arguments)?)
+            }
+            Outcome::Fault(kind) => Ok(go_on_after_end(alloc, hub, g, Outcome::Fault(kind))?),
+        },
+    }
+}
+
+/// Lets the input land at the greenlet, and go on to parents.
+#[tactic(auto, using(crate::proofs::Landing::land_step, crate::proofs::Functions::declared_landed))]
+pub fn land(alloc: Global, hub: &mut Hub, g: u32, input: Outcome) -> Result<Stand, AllocError>
+    requires declared { AreDeclared hub.old }
+    ensures { IfOk result (λ at. lands g input hub.old ≡ next_at at hub.new) }
+{
+    let mut left = hub.greenlets_len();
+    let mut at = g;
+    let mut input = input;
+    while left > 0 {
+        left -= 1;
+        match land_once(alloc, hub, at, input)? {
+            Hop::At(stand) => return Ok(stand),
+            Hop::Up(parent, outcome) => {
+                at = parent;
+                input = outcome;
+            }
+        }
+    }
+    Ok(Stand::Resting)
+}
+
+/// Lets what goes up land.
+pub fn hop_on(alloc: Global, hub: &mut Hub, hop: Hop) -> Result<Stand, AllocError>
+    requires declared { AreDeclared hub.old }
+    ensures { IfOk result (λ at. hopped lands hop hub.old ≡ next_at at hub.new) }
+{
+    match hop {
+        Hop::At(stand) => Ok(stand),
+        Hop::Up(parent, outcome) => Ok(land(alloc, hub, parent, outcome)?),
+    }
+}
+
+/// Starts the body of the greenlet with these arguments.
+#[tactic(auto, using(crate::proofs::Functions::declared_started))]
+pub fn start_body(
+    alloc: Global,
+    hub: &mut Hub,
+    g: u32,
+    arguments: Items<Value>,
+) -> Result<Stand, AllocError>
+    requires declared { AreDeclared hub.old }
+    ensures { IfOk result (λ at. starts lands g arguments hub.old ≡ next_at at hub.new) }
+{
+    let hop = begin_greenlet(alloc, hub, g, arguments)?;
+    Ok(hop_on(alloc, hub, hop)?)
+}
+
+/// Answers the statement of the greenlet.
+#[tactic(auto, using(crate::proofs::Functions::declared_resumed))]
+pub fn answer_greenlet(
+    alloc: Global,
+    hub: &mut Hub,
+    g: u32,
+    answer: Outcome,
+) -> Result<Stand, AllocError>
+    requires declared { AreDeclared hub.old }
+    ensures { IfOk result (λ at. answered g answer hub.old ≡ next_at at hub.new) }
+{
+    let hop = resume_greenlet(alloc, hub, g, answer)?;
+    Ok(hop_on(alloc, hub, hop)?)
 }

@@ -1,26 +1,28 @@
 //! The engine as its callers see it: prepared, and then run once.
-ghost use Rattle.std.specs.Prelude.{◌≡◌, ◌≤◌, ◌↔◌, true, [], None, IfOk};
+ghost use Rattle.std.specs.Prelude.{◌≡◌, ◌≤◌, true, [], IfOk};
 ghost use Rattle.std.specs.List.{list_all};
 ghost use Rattle.gv_values.specs.Counts.{HasRisen};
-ghost use Rattle.unbuilt_forms.specs.Built.{IsBuilt, first_unbuilt};
+ghost use Rattle.scenario_rules.specs.Rules.{IsWellFormed};
 ghost use Rattle.machine.specs.Quiet.{blocked_states, is_quiet};
-ghost use Rattle.machine.specs.Run.{Source, script_run};
+ghost use Rattle.machine.specs.Run.{Source, first_state, run};
 ghost use Rattle.machine.specs.TraceLaws.{meets_laws};
-ghost use Rattle.machine_built.specs.Laws.{HasMain};
-ghost use Rattle.hub_engine.specs.Ends.{HasNumbers, RanTo};
+ghost use Rattle.machine_texts.specs.Texts.{HasMain};
+ghost use Rattle.world.specs.Worlds.{GoesOn};
+ghost use Rattle.world_rules.specs.Legal.{AreLegal};
+ghost use Rattle.hub_state.specs.Counted.{AreCounted};
+ghost use Rattle.hub_engine.specs.Ends.{HasLogged, HasNumbers, RanTo, WroteAhead};
 ghost use Rattle.hub_engine.specs.declared.run.End.TheVariants as ends;
 
-use crate::broken::Broken;
-use crate::turns::run;
+use crate::turns::{ended_as, run};
 use flat_code::compile;
 use gv_io::Sink;
 use gv_values::FaultKind;
 use hub_state::Hub;
-use machine_built::main_is_numbered;
-use machine_laws::{blocks_are_quiet, scripts_run_lawfully};
+use machine_laws::{blocks_are_quiet, runs_are_lawful};
 use scenario_check::Checked;
 use std::alloc::{AllocError, Global};
 use std::marker::Model;
+use world::World;
 
 /// How a run ends.
 #[derive(Clone, Copy, Debug, PartialEq, Eq)]
@@ -91,47 +93,41 @@ impl Model for Engine {
 }
 
 impl Engine {
-    /// The first line of the scenario that is not run yet: of a declaration, or of a statement with its
-    /// expressions. None exactly where every line is run.
-    pub fn unbuilt(checked: &Checked) -> Option<u32>
-        ensures first { result ≡ first_unbuilt checked.now }
-        ensures built { (result ≡ None) ↔ IsBuilt checked.now }
-    {
-        unbuilt_forms::unbuilt(checked.scenario().tree())
-    }
-
     /// The scenario before its run. `AllocError`: memory is wanting, and the scenario is given up.
     pub fn new(alloc: Global, checked: Checked, budgets: Budgets) -> Result<Engine, AllocError>
-        requires built { IsBuilt checked }
         ensures { IfOk result (λ engine. engine ≡ record { scenario = checked; turns = budgets.turns; moves = budgets.moves }) }
     {
-        has_main(&checked);
+        may_run(&checked);
         let hub = Hub::new(alloc, compile(alloc, &checked)?)?;
         Ok(Engine { hub, budgets })
     }
 
-    /// The whole run under the rule of a script without ticks. Its trace is given out to the sink step by
-    /// step: whole with every end but a fault of the sink and want of memory, and with these a prefix of it.
-    pub fn run<K: Sink>(self, alloc: Global, sink: &mut K) -> Ran
-        ensures written { RanTo result.end (script_run self.scenario self.turns self.moves 0) (K.written sink.old) (K.written sink.new) }
-        ensures numbers { HasNumbers result (script_run self.scenario self.turns self.moves 0).state }
+    /// The whole run under the answers of the world, which runs and stands for the empty log: nothing was posted or
+    /// asked since it began. The trace is given out to the sink step by step, each line before the next question: whole
+    /// with every end but a fault of the sink and want of memory, and with these a prefix of it. The world then stands
+    /// for the log of the run, or for a first part of it that has all its answers.
+    pub fn run<W: World, K: Sink>(self, alloc: Global, world: &mut W, sink: &mut K) -> Ran
+        requires runs { (W.meaning world.old).runs ≡ true }
+        requires begun { W.stands_for world.old [] }
+        ensures written { RanTo result.end (run self.scenario self.turns self.moves (W.meaning world.new).answers) (K.written sink.old) (K.written sink.new) }
+        ensures ahead { WroteAhead (run self.scenario self.turns self.moves) (W.meaning world.new).answers (K.written sink.old) (K.written sink.new) }
+        ensures numbers { HasNumbers result (run self.scenario self.turns self.moves (W.meaning world.new).answers).state }
+        ensures log { HasLogged result.end (run self.scenario self.turns self.moves (W.meaning world.new).answers).log (W.meaning world.new).answers (W.stands_for world.new) }
+        ensures legal { AreLegal [] [] (run self.scenario self.turns self.moves (W.meaning world.new).answers).log }
+        ensures rule { GoesOn (W.meaning world.old) (W.meaning world.new) }
         ensures write_fault { result.end ≡ ends.WriteFault → HasRisen (K.faults sink.old) (K.faults sink.new) }
         ensures never_falls { K.faults sink.old ≤ K.faults sink.new }
         // the lines meet the laws of a trace, and at each block line nothing that waits could go on
-        ensures lawful { meets_laws (script_run self.scenario self.turns self.moves 0).lines ≡ true }
-        ensures quiet { list_all is_quiet (blocked_states (Source.Scripted 0 []) self.turns self.moves self.scenario) ≡ true }
+        ensures lawful { meets_laws (run self.scenario self.turns self.moves (W.meaning world.new).answers).lines ≡ true }
+        ensures quiet { list_all is_quiet (blocked_states (Source.Given (W.meaning world.new).answers) self.turns self.moves self.scenario) ≡ true }
     {
-        scripts_run_lawfully();
+        runs_are_lawful();
         blocks_are_quiet();
         let Engine { hub, budgets } = self;
         let mut hub = hub;
-        let end = match run(alloc, &mut hub, sink, budgets.turns, budgets.moves) {
-            Ok(end) => end,
-            Err(Broken::Memory) => End::Memory,
-            Err(Broken::Write) => End::WriteFault,
-        };
+        let ran = run(alloc, &mut hub, world, sink, budgets.turns, budgets.moves);
         Ran {
-            end,
+            end: ended_as(ran),
             greenlets: hub.greenlets_len(),
             turns: hub.turns(),
             moves: hub.moves(),
@@ -140,10 +136,12 @@ impl Engine {
     }
 }
 
-/// A scenario that is checked has a main, which has a number.
-fn has_main(checked: &Checked)
-    ensures { HasMain checked.now }
+/// A scenario that is checked may be run: its main has a number, and what its objects count fits.
+#[tactic(auto, using(crate::proofs::Mains::main_there))]
+fn may_run(checked: &Checked)
+    ensures well_formed { IsWellFormed checked.now }
+    ensures main { HasMain checked.now }
+    ensures counted { AreCounted (first_state checked.now).objects }
 {
-    main_is_numbered();
-    let _with_main = checked.scenario();
+    let _written = checked.scenario().tree();
 }

@@ -1,4 +1,5 @@
 use body_frames::Moving;
+use gv_values::Outcome;
 use trace_text::StopCause;
 
 /// Where the hub stands between two steps.
@@ -10,6 +11,15 @@ pub enum Stand {
     Resting,
     /// The run is over, for this cause.
     Over(StopCause),
+}
+
+/// Where the hub stands, or what goes up to the parent of a raw greenlet that has ended.
+#[derive(Drop)]
+pub enum Hop {
+    /// The hub stands here.
+    At(Stand),
+    /// This input is to land at this greenlet.
+    Up(u32, Outcome),
 }
 
 /// Whether a part of the run came to rest, or the run is over.

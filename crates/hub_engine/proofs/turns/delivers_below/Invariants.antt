@@ -1,13 +1,16 @@
 use Rattle.std.proofs.Common.{◌≤◌}
 use Rattle.machine.specs.Run.{deliveries}
-use Rattle.hub_engine.specs.Ready.{IsReady}
-use Rattle.hub_engine.specs.Written.{IsPassing}
+use Rattle.hub_engine.specs.Outside.{outside}
+use Rattle.hub_engine.specs.Tied.{IsTied}
+use Rattle.hub_engine.proofs.Passing.{IsPassing}
 use Rattle.hub_engine.proofs.turns.delivers_below.Given as goal
 
 abbrev pub invariant-loop-left : goal.invariant-loop-left
 invariant-loop-left g l =
-    IsPassing (g.K.Sink.written l.initial.sink) (g.K.Sink.written l.sink) (deliveries l.most l.budget l.mark l.initial.hub) (deliveries l.left l.budget l.mark l.hub)
-    × (g.K.Sink.faults l.initial.sink ≤ g.K.Sink.faults l.sink) × IsReady l.hub
+    IsPassing (outside (g.K.Sink.written l.initial.sink) (g.W.World.meaning l.initial.world) (g.W.World.stands_for l.initial.world))
+    (outside (g.K.Sink.written l.sink) (g.W.World.meaning l.world) (g.W.World.stands_for l.world))
+    (deliveries l.most l.budget l.mark l.initial.hub) (deliveries l.left l.budget l.mark l.hub)
+    × (g.K.Sink.faults l.initial.sink ≤ g.K.Sink.faults l.sink) × IsTied (g.W.World.meaning l.world) l.hub
 
 abbrev pub decreases-loop-left : goal.decreases-loop-left
 decreases-loop-left g l = l.left

@@ -1,45 +1,64 @@
 use Rattle.std.proofs.Common.{rules, ◌≡◌, []}
-use Rattle.machine.specs.Landing.{starts, lands}
-use Rattle.machine.specs.Run.{run_turns, script_run, Source}
+use Rattle.std.specs.Prelude.{Ok, Err}
+use Rattle.machine.specs.Landing.{lands, starts}
+use Rattle.machine.specs.Run.{run}
+use Rattle.hub_engine.specs.Outside.{outside}
 use Rattle.hub_engine.specs.Stands.{next_at}
-use Rattle.hub_engine.proofs.Readily.{declared_first, ready_started}
-use Rattle.hub_engine.proofs.Running.{began_at_rest, began_at_end, rest_written, rest_broken, stopped_run, stop_broken}
+use Rattle.hub_engine.specs.Written.{from_turn}
+use Rattle.hub_engine.proofs.Giving.{done_nothing}
+use Rattle.hub_engine.proofs.Running.{began, began_broken, broken_first, ran_then, rests_on, stop_broken, stopped_on, stops_at}
+use Rattle.hub_engine.proofs.Tying.{declared_started, tied_after, tied_started}
 use Rattle.hub_engine.proofs.turns.run.Goals as goal
 
 pub start_body-requires : goal.start_body-requires
-start_body-requires g c = record { declared = declared_first c.args.hub.now c.requires.prepared }
+start_body-requires g c = record { declared = declared_started c.args.hub.now.scenario c.args.hub.now c.requires.prepared.may_run c.requires.prepared.first }
+
+pub returns-in_err-at-clause-ran : goal.returns-in_err-at-clause-ran
+returns-in_err-at-clause-ran g c =
+    let broken = broken_first (outside (g.K.Sink.written c.args.sink.now) (g.W.World.meaning c.args.world.now) (g.W.World.stands_for c.args.world.now)) (run c.args.hub.now.scenario c.args.turns c.args.moves) in search (rules, broken)
 
 pub runs-requires : goal.runs-requires
 runs-requires g c =
     let begun : starts lands 0 [] c.args.hub.now ≡ next_at c.in_ok-at.at c.start_body.new.hub = search (rules, c.in_ok-at.ensures, c.new.ensures) in
-    record { ready = ready_started c.args.hub.now c.start_body.new.hub c.in_ok-at.at c.requires.prepared begun }
+    record { tied = tied_started _ c.args.hub.now.scenario c.args.hub.now c.start_body.new.hub c.in_ok-at.at c.requires.prepared.may_run c.requires.runs c.requires.no_posts c.requires.no_answers c.requires.prepared.first begun }
 
-pub returns-in_err-stops-in-ToAnEnd-clause-written : goal.returns-in_err-stops-in-ToAnEnd-clause-written
-returns-in_err-stops-in-ToAnEnd-clause-written g c =
+pub returns-in_err-cause-clause-ran : goal.returns-in_err-cause-clause-ran
+returns-in_err-cause-clause-ran g c =
     let begun : starts lands 0 [] c.args.hub.now ≡ next_at c.in_ok-at.at c.start_body.new.hub = search (rules, c.in_ok-at.ensures, c.new.ensures) in
-    let stop = began_at_end _ _ c.args.turns c.args.moves c.args.hub.now.scenario c.in_ok-at.at _ c.in-ToAnEnd.cause c.args.hub.now c.start_body.new.hub c.runs.new.hub c.requires.prepared.first begun c.in-ToAnEnd.is
-    c.in_ok-cause.ensures.posts c.in_ok-cause.ensures.next c.in_ok-cause.ensures.written in
-    let broken = stop_broken _ _ _ _ c.in-ToAnEnd.cause c.runs.new.hub stop c.in_err-stops-in-ToAnEnd.ensures.written in
+    let broken = began_broken (outside (g.K.Sink.written c.args.sink.now) (g.W.World.meaning c.args.world.now) (g.W.World.stands_for c.args.world.now)) (outside (g.K.Sink.written c.runs.new.sink) (g.W.World.meaning c.runs.new.world) (g.W.World.stands_for c.runs.new.world)) c.args.turns c.args.moves c.args.hub.now.scenario c.in_ok-at.at c.args.hub.now c.start_body.new.hub c.requires.prepared.first begun c.in_err-cause.ensures.given in
     search (rules, broken)
 
-pub returns-in_err-runs_turns-in-ToRest-clause-written : goal.returns-in_err-runs_turns-in-ToRest-clause-written
-returns-in_err-runs_turns-in-ToRest-clause-written g c =
+pub returns-in_err-stops-in-ToAnEnd-clause-ran : goal.returns-in_err-stops-in-ToAnEnd-clause-ran
+returns-in_err-stops-in-ToAnEnd-clause-ran g c =
     let begun : starts lands 0 [] c.args.hub.now ≡ next_at c.in_ok-at.at c.start_body.new.hub = search (rules, c.in_ok-at.ensures, c.new.ensures) in
-    let part = began_at_rest _ _ c.args.turns c.args.moves c.args.hub.now.scenario c.in_ok-at.at _ c.args.hub.now c.start_body.new.hub c.runs.new.hub c.requires.prepared.first begun c.in-ToRest.is
-    c.in_ok-cause.ensures.posts c.in_ok-cause.ensures.next c.in_ok-cause.ensures.written in
-    let broken = rest_broken _ _ _ (script_run c.args.hub.now.scenario c.args.turns c.args.moves 0) (run_turns c.args.turns c.args.moves (Source.Scripted 0 []) c.runs.new.hub) part c.in_err-runs_turns-in-ToRest.ensures.written in
+    let part = began (outside (g.K.Sink.written c.args.sink.now) (g.W.World.meaning c.args.world.now) (g.W.World.stands_for c.args.world.now)) (outside (g.K.Sink.written c.runs.new.sink) (g.W.World.meaning c.runs.new.world) (g.W.World.stands_for c.runs.new.world)) c.args.turns c.args.moves c.args.hub.now.scenario c.in_ok-at.at _ c.args.hub.now c.start_body.new.hub c.runs.new.hub c.requires.prepared.first begun c.in_ok-cause.ensures.next c.in_ok-cause.ensures.given in
+    let stop = stops_at (outside (g.K.Sink.written c.args.sink.now) (g.W.World.meaning c.args.world.now) (g.W.World.stands_for c.args.world.now)) (outside (g.K.Sink.written c.runs.new.sink) (g.W.World.meaning c.runs.new.world) (g.W.World.stands_for c.runs.new.world)) _ c.in-ToAnEnd.cause (run c.args.hub.now.scenario c.args.turns c.args.moves) (from_turn c.args.turns c.args.moves) c.runs.new.hub c.in-ToAnEnd.is part in
+    let broken = stop_broken (outside (g.K.Sink.written c.args.sink.now) (g.W.World.meaning c.args.world.now) (g.W.World.stands_for c.args.world.now)) (outside (g.K.Sink.written c.runs.new.sink) (g.W.World.meaning c.runs.new.world) (g.W.World.stands_for c.runs.new.world)) (outside (g.K.Sink.written c.stops.new.sink) (g.W.World.meaning c.runs.new.world) (g.W.World.stands_for c.runs.new.world)) (run c.args.hub.now.scenario c.args.turns c.args.moves) c.in-ToAnEnd.cause c.runs.new.hub stop c.in_err-stops-in-ToAnEnd.ensures.written (done_nothing (outside (g.K.Sink.written c.runs.new.sink) (g.W.World.meaning c.runs.new.world) (g.W.World.stands_for c.runs.new.world))) in
     search (rules, broken)
 
-pub returns-in_ok-stops-in-ToAnEnd-clause-written : goal.returns-in_ok-stops-in-ToAnEnd-clause-written
-returns-in_ok-stops-in-ToAnEnd-clause-written g c =
+pub returns-in_ok-stops-in-ToAnEnd-clause-ran : goal.returns-in_ok-stops-in-ToAnEnd-clause-ran
+returns-in_ok-stops-in-ToAnEnd-clause-ran g c =
     let begun : starts lands 0 [] c.args.hub.now ≡ next_at c.in_ok-at.at c.start_body.new.hub = search (rules, c.in_ok-at.ensures, c.new.ensures) in
-    let stop = began_at_end _ _ c.args.turns c.args.moves c.args.hub.now.scenario c.in_ok-at.at _ c.in-ToAnEnd.cause c.args.hub.now c.start_body.new.hub c.runs.new.hub c.requires.prepared.first begun c.in-ToAnEnd.is
-    c.in_ok-cause.ensures.posts c.in_ok-cause.ensures.next c.in_ok-cause.ensures.written in
-    (stopped_run _ _ _ _ c.in-ToAnEnd.cause c.runs.new.hub stop c.in_ok-stops-in-ToAnEnd.ensures.written).text
+    let part = began (outside (g.K.Sink.written c.args.sink.now) (g.W.World.meaning c.args.world.now) (g.W.World.stands_for c.args.world.now)) (outside (g.K.Sink.written c.runs.new.sink) (g.W.World.meaning c.runs.new.world) (g.W.World.stands_for c.runs.new.world)) c.args.turns c.args.moves c.args.hub.now.scenario c.in_ok-at.at _ c.args.hub.now c.start_body.new.hub c.runs.new.hub c.requires.prepared.first begun c.in_ok-cause.ensures.next c.in_ok-cause.ensures.given in
+    let stop = stops_at (outside (g.K.Sink.written c.args.sink.now) (g.W.World.meaning c.args.world.now) (g.W.World.stands_for c.args.world.now)) (outside (g.K.Sink.written c.runs.new.sink) (g.W.World.meaning c.runs.new.world) (g.W.World.stands_for c.runs.new.world)) _ c.in-ToAnEnd.cause (run c.args.hub.now.scenario c.args.turns c.args.moves) (from_turn c.args.turns c.args.moves) c.runs.new.hub c.in-ToAnEnd.is part in
+    stopped_on (outside (g.K.Sink.written c.args.sink.now) (g.W.World.meaning c.args.world.now) (g.W.World.stands_for c.args.world.now)) (outside (g.K.Sink.written c.runs.new.sink) (g.W.World.meaning c.runs.new.world) (g.W.World.stands_for c.runs.new.world)) (outside (g.K.Sink.written c.stops.new.sink) (g.W.World.meaning c.runs.new.world) (g.W.World.stands_for c.runs.new.world)) (run c.args.hub.now.scenario c.args.turns c.args.moves) c.in-ToAnEnd.cause _ c.runs.new.hub stop c.in_ok-stops-in-ToAnEnd.ensures.written (done_nothing (outside (g.K.Sink.written c.runs.new.sink) (g.W.World.meaning c.runs.new.world) (g.W.World.stands_for c.runs.new.world))) c.in_ok-stops-in-ToAnEnd.ensures.end
 
-pub returns-in_ok-runs_turns-in-ToRest-clause-written : goal.returns-in_ok-runs_turns-in-ToRest-clause-written
-returns-in_ok-runs_turns-in-ToRest-clause-written g c =
+pub runs_turns-requires : goal.runs_turns-requires
+runs_turns-requires g c = record { tied = tied_after _ _ c.runs.new.hub c.in-ToRest.is c.in_ok-cause.ensures.tied }
+
+pub returns-in_err-runs_turns-in-ToRest-clause-ran : goal.returns-in_err-runs_turns-in-ToRest-clause-ran
+returns-in_err-runs_turns-in-ToRest-clause-ran g c =
     let begun : starts lands 0 [] c.args.hub.now ≡ next_at c.in_ok-at.at c.start_body.new.hub = search (rules, c.in_ok-at.ensures, c.new.ensures) in
-    let part = began_at_rest _ _ c.args.turns c.args.moves c.args.hub.now.scenario c.in_ok-at.at _ c.args.hub.now c.start_body.new.hub c.runs.new.hub c.requires.prepared.first begun c.in-ToRest.is
-    c.in_ok-cause.ensures.posts c.in_ok-cause.ensures.next c.in_ok-cause.ensures.written in
-    rest_written _ _ _ (script_run c.args.hub.now.scenario c.args.turns c.args.moves 0) (run_turns c.args.turns c.args.moves (Source.Scripted 0 []) c.runs.new.hub) part c.in_ok-runs_turns-in-ToRest.ensures.written
+    let part = began (outside (g.K.Sink.written c.args.sink.now) (g.W.World.meaning c.args.world.now) (g.W.World.stands_for c.args.world.now)) (outside (g.K.Sink.written c.runs.new.sink) (g.W.World.meaning c.runs.new.world) (g.W.World.stands_for c.runs.new.world)) c.args.turns c.args.moves c.args.hub.now.scenario c.in_ok-at.at _ c.args.hub.now c.start_body.new.hub c.runs.new.hub c.requires.prepared.first begun c.in_ok-cause.ensures.next c.in_ok-cause.ensures.given in
+    let rest = rests_on (outside (g.K.Sink.written c.args.sink.now) (g.W.World.meaning c.args.world.now) (g.W.World.stands_for c.args.world.now)) (outside (g.K.Sink.written c.runs.new.sink) (g.W.World.meaning c.runs.new.world) (g.W.World.stands_for c.runs.new.world)) _ (run c.args.hub.now.scenario c.args.turns c.args.moves) (from_turn c.args.turns c.args.moves) c.runs.new.hub c.in-ToRest.is part in
+    let broken = ran_then (outside (g.K.Sink.written c.args.sink.now) (g.W.World.meaning c.args.world.now) (g.W.World.stands_for c.args.world.now)) (outside (g.K.Sink.written c.runs.new.sink) (g.W.World.meaning c.runs.new.world) (g.W.World.stands_for c.runs.new.world)) (outside (g.K.Sink.written c.runs_turns.new.sink) (g.W.World.meaning c.runs_turns.new.world) (g.W.World.stands_for c.runs_turns.new.world)) (Err c.in_err-runs_turns-in-ToRest.field-0.0) (run c.args.hub.now.scenario c.args.turns c.args.moves) (from_turn c.args.turns c.args.moves c.runs.new.hub) c.runs_turns.new.hub rest
+    c.in_err-runs_turns-in-ToRest.ensures.ran in
+    search (rules, broken)
+
+pub returns-in_ok-runs_turns-in-ToRest-clause-ran : goal.returns-in_ok-runs_turns-in-ToRest-clause-ran
+returns-in_ok-runs_turns-in-ToRest-clause-ran g c =
+    let begun : starts lands 0 [] c.args.hub.now ≡ next_at c.in_ok-at.at c.start_body.new.hub = search (rules, c.in_ok-at.ensures, c.new.ensures) in
+    let part = began (outside (g.K.Sink.written c.args.sink.now) (g.W.World.meaning c.args.world.now) (g.W.World.stands_for c.args.world.now)) (outside (g.K.Sink.written c.runs.new.sink) (g.W.World.meaning c.runs.new.world) (g.W.World.stands_for c.runs.new.world)) c.args.turns c.args.moves c.args.hub.now.scenario c.in_ok-at.at _ c.args.hub.now c.start_body.new.hub c.runs.new.hub c.requires.prepared.first begun c.in_ok-cause.ensures.next c.in_ok-cause.ensures.given in
+    let rest = rests_on (outside (g.K.Sink.written c.args.sink.now) (g.W.World.meaning c.args.world.now) (g.W.World.stands_for c.args.world.now)) (outside (g.K.Sink.written c.runs.new.sink) (g.W.World.meaning c.runs.new.world) (g.W.World.stands_for c.runs.new.world)) _ (run c.args.hub.now.scenario c.args.turns c.args.moves) (from_turn c.args.turns c.args.moves) c.runs.new.hub c.in-ToRest.is part in
+    ran_then (outside (g.K.Sink.written c.args.sink.now) (g.W.World.meaning c.args.world.now) (g.W.World.stands_for c.args.world.now)) (outside (g.K.Sink.written c.runs.new.sink) (g.W.World.meaning c.runs.new.world) (g.W.World.stands_for c.runs.new.world)) (outside (g.K.Sink.written c.runs_turns.new.sink) (g.W.World.meaning c.runs_turns.new.world) (g.W.World.stands_for c.runs_turns.new.world)) (Ok c.in_ok-runs_turns-in-ToRest.field-0) (run c.args.hub.now.scenario c.args.turns c.args.moves) (from_turn c.args.turns c.args.moves c.runs.new.hub) c.runs_turns.new.hub rest
+    c.in_ok-runs_turns-in-ToRest.ensures.ran

@@ -1,14 +1,15 @@
-use Rattle.std.proofs.Common.{◌≤◌, []}
-use Rattle.machine.specs.Run.{run_turns, Source}
-use Rattle.hub_engine.specs.Ready.{IsReady}
-use Rattle.hub_engine.specs.Written.{IsRunning}
+use Rattle.std.proofs.Common.{◌≤◌}
+use Rattle.hub_engine.specs.Outside.{outside}
+use Rattle.hub_engine.specs.Tied.{IsTied}
+use Rattle.hub_engine.specs.Written.{IsRunning, from_turn}
 use Rattle.hub_engine.proofs.turns.runs_turns.Given as goal
 
 abbrev pub invariant-loop-left : goal.invariant-loop-left
 invariant-loop-left g l =
-    IsRunning (g.K.Sink.written l.initial.sink) (g.K.Sink.written l.sink)
-    (run_turns l.turns l.moves (Source.Scripted 0 []) l.initial.hub) (run_turns l.left l.moves (Source.Scripted 0 []) l.hub)
-    × (g.K.Sink.faults l.initial.sink ≤ g.K.Sink.faults l.sink) × IsReady l.hub
+    IsRunning (outside (g.K.Sink.written l.initial.sink) (g.W.World.meaning l.initial.world) (g.W.World.stands_for l.initial.world))
+    (outside (g.K.Sink.written l.sink) (g.W.World.meaning l.world) (g.W.World.stands_for l.world))
+    (from_turn l.turns l.moves l.initial.hub) (from_turn l.left l.moves l.hub)
+    × (g.K.Sink.faults l.initial.sink ≤ g.K.Sink.faults l.sink) × IsTied (g.W.World.meaning l.world) l.hub
 
 abbrev pub decreases-loop-left : goal.decreases-loop-left
 decreases-loop-left g l = l.left

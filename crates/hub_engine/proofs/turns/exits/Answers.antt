@@ -1,0 +1,35 @@
+use Rattle.std.proofs.Common.{rules, ◌≡◌, ◌-◌, None, arith}
+use Rattle.machine.specs.Run.{Source, after_question}
+use Rattle.hub_engine.specs.Outside.{outside}
+use Rattle.hub_engine.proofs.Running.{broken_first, exit_broken_at, exited_at}
+use Rattle.hub_engine.proofs.Tying.{declared_blocked, tied_exit}
+use Rattle.hub_engine.proofs.turns.exits.Goals as goal
+
+pub returns-in_err-block-clause-ran : goal.returns-in_err-block-clause-ran
+returns-in_err-block-clause-ran g c = λ go.
+    let broken = broken_first (outside (g.K.Sink.written c.args.sink.now) (g.W.World.meaning c.args.world.now) (g.W.World.stands_for c.args.world.now)) (λ later. after_question go c.args.budget None (Source.Given later) c.args.hub.now) in
+    search (rules, broken)
+
+pub throw_into-requires : goal.throw_into-requires
+throw_into-requires g c = record { declared = declared_blocked _ c.args.hub.now c.block.new.self c.requires.tied c.in_ok-block.ensures }
+
+pub returns-in_err-at-clause-ran : goal.returns-in_err-at-clause-ran
+returns-in_err-at-clause-ran g c = λ go.
+    let broken = broken_first (outside (g.K.Sink.written c.args.sink.now) (g.W.World.meaning c.args.world.now) (g.W.World.stands_for c.args.world.now)) (λ later. after_question go c.args.budget None (Source.Given later) c.args.hub.now) in
+    search (rules, broken)
+
+pub runs-requires : goal.runs-requires
+runs-requires g c = record { tied = tied_exit _ c.args.hub.now c.block.new.self c.throw_into.new.hub c.in_ok-at.at c.requires.tied c.in_ok-block.ensures c.in_ok-at.ensures }
+
+pub returns-in_err-runs-clause-ran : goal.returns-in_err-runs-clause-ran
+returns-in_err-runs-clause-ran g c = λ go.
+    let left : c.saturating_sub-left.result ≡ c.args.budget - c.block.new.self.moves = omega (arith, c.saturating_sub-left.ensures, c.moves.ensures) in
+    let broken = exit_broken_at (outside (g.K.Sink.written c.args.sink.now) (g.W.World.meaning c.args.world.now) (g.W.World.stands_for c.args.world.now)) (outside (g.K.Sink.written c.runs.new.sink) (g.W.World.meaning c.runs.new.world) (g.W.World.stands_for c.runs.new.world)) go c.args.budget c.saturating_sub-left.result c.in_ok-at.at c.args.hub.now c.block.new.self c.throw_into.new.hub
+    c.in_ok-block.ensures left c.in_ok-at.ensures c.in_err-runs.ensures.given in
+    search (rules, broken)
+
+pub returns-clause-ran : goal.returns-clause-ran
+returns-clause-ran g c = λ go.
+    let left : c.saturating_sub-left.result ≡ c.args.budget - c.block.new.self.moves = omega (arith, c.saturating_sub-left.ensures, c.moves.ensures) in
+    exited_at (outside (g.K.Sink.written c.args.sink.now) (g.W.World.meaning c.args.world.now) (g.W.World.stands_for c.args.world.now)) (outside (g.K.Sink.written c.runs.new.sink) (g.W.World.meaning c.runs.new.world) (g.W.World.stands_for c.runs.new.world)) go c.args.budget c.saturating_sub-left.result c.in_ok-at.at _ c.args.hub.now c.block.new.self c.throw_into.new.hub c.runs.new.hub
+    c.in_ok-block.ensures left c.in_ok-at.ensures c.in_ok-runs.ensures.next c.in_ok-runs.ensures.given

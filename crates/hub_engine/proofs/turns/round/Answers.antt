@@ -1,0 +1,34 @@
+use Rattle.std.proofs.Common.{rules, suc}
+use Rattle.std.specs.Prelude.{Ok, Err}
+use Rattle.machine.specs.Run.{run_turns}
+use Rattle.hub_engine.specs.Outside.{outside}
+use Rattle.hub_engine.specs.Written.{from_turn}
+use Rattle.hub_engine.proofs.Running.{at_turn_end, round_ended, stops_at, turned, turned_broken}
+use Rattle.hub_engine.proofs.Tying.{tied_after}
+use Rattle.hub_engine.proofs.turns.round.Goals as goal
+
+pub returns-in_err-cause-clause-ran : goal.returns-in_err-cause-clause-ran
+returns-in_err-cause-clause-ran g c = λ n.
+    let broken = turned_broken (outside (g.K.Sink.written c.args.sink.now) (g.W.World.meaning c.args.world.now) (g.W.World.stands_for c.args.world.now)) (outside (g.K.Sink.written c.turn.new.sink) (g.W.World.meaning c.turn.new.world) (g.W.World.stands_for c.turn.new.world)) n c.args.budget c.args.hub.now c.in_err-cause.ensures.given in
+    search (rules, broken)
+
+pub returns-in-ToAnEnd-clause-ran : goal.returns-in-ToAnEnd-clause-ran
+returns-in-ToAnEnd-clause-ran g c = λ n.
+    stops_at (outside (g.K.Sink.written c.args.sink.now) (g.W.World.meaning c.args.world.now) (g.W.World.stands_for c.args.world.now)) (outside (g.K.Sink.written c.turn.new.sink) (g.W.World.meaning c.turn.new.world) (g.W.World.stands_for c.turn.new.world)) _ c.in-ToAnEnd.cause (from_turn (suc n) c.args.budget c.args.hub.now) (at_turn_end n c.args.budget) c.turn.new.hub c.in-ToAnEnd.is
+    (turned (outside (g.K.Sink.written c.args.sink.now) (g.W.World.meaning c.args.world.now) (g.W.World.stands_for c.args.world.now)) (outside (g.K.Sink.written c.turn.new.sink) (g.W.World.meaning c.turn.new.world) (g.W.World.stands_for c.turn.new.world)) n c.args.budget _ c.args.hub.now c.turn.new.hub c.in_ok-cause.ensures.next c.in_ok-cause.ensures.given)
+
+pub ends_turn-requires : goal.ends_turn-requires
+ends_turn-requires g c = record { tied = tied_after _ _ c.turn.new.hub c.in-ToRest.is c.in_ok-cause.ensures.tied }
+
+pub returns-in_err-ends_turn-in-ToRest-clause-ran : goal.returns-in_err-ends_turn-in-ToRest-clause-ran
+returns-in_err-ends_turn-in-ToRest-clause-ran g c = λ n.
+    let broken = round_ended (outside (g.K.Sink.written c.args.sink.now) (g.W.World.meaning c.args.world.now) (g.W.World.stands_for c.args.world.now)) (outside (g.K.Sink.written c.turn.new.sink) (g.W.World.meaning c.turn.new.world) (g.W.World.stands_for c.turn.new.world)) (outside (g.K.Sink.written c.ends_turn.new.sink) (g.W.World.meaning c.ends_turn.new.world) (g.W.World.stands_for c.ends_turn.new.world)) n c.args.budget _ (Err c.in_err-ends_turn-in-ToRest.field-0.0) c.args.hub.now c.turn.new.hub c.ends_turn.new.hub c.in-ToRest.is
+    (turned (outside (g.K.Sink.written c.args.sink.now) (g.W.World.meaning c.args.world.now) (g.W.World.stands_for c.args.world.now)) (outside (g.K.Sink.written c.turn.new.sink) (g.W.World.meaning c.turn.new.world) (g.W.World.stands_for c.turn.new.world)) n c.args.budget _ c.args.hub.now c.turn.new.hub c.in_ok-cause.ensures.next c.in_ok-cause.ensures.given)
+    (c.in_err-ends_turn-in-ToRest.ensures.ran (run_turns n c.args.budget)) in
+    search (rules, broken)
+
+pub returns-in_ok-ends_turn-in-ToRest-clause-ran : goal.returns-in_ok-ends_turn-in-ToRest-clause-ran
+returns-in_ok-ends_turn-in-ToRest-clause-ran g c = λ n.
+    round_ended (outside (g.K.Sink.written c.args.sink.now) (g.W.World.meaning c.args.world.now) (g.W.World.stands_for c.args.world.now)) (outside (g.K.Sink.written c.turn.new.sink) (g.W.World.meaning c.turn.new.world) (g.W.World.stands_for c.turn.new.world)) (outside (g.K.Sink.written c.ends_turn.new.sink) (g.W.World.meaning c.ends_turn.new.world) (g.W.World.stands_for c.ends_turn.new.world)) n c.args.budget _ (Ok c.in_ok-ends_turn-in-ToRest.field-0) c.args.hub.now c.turn.new.hub c.ends_turn.new.hub c.in-ToRest.is
+    (turned (outside (g.K.Sink.written c.args.sink.now) (g.W.World.meaning c.args.world.now) (g.W.World.stands_for c.args.world.now)) (outside (g.K.Sink.written c.turn.new.sink) (g.W.World.meaning c.turn.new.world) (g.W.World.stands_for c.turn.new.world)) n c.args.budget _ c.args.hub.now c.turn.new.hub c.in_ok-cause.ensures.next c.in_ok-cause.ensures.given)
+    (c.in_ok-ends_turn-in-ToRest.ensures.ran (run_turns n c.args.budget))

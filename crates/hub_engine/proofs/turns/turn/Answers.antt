@@ -1,0 +1,15 @@
+use Rattle.std.proofs.Common.{rules}
+use Rattle.machine.specs.Run.{turn}
+use Rattle.hub_engine.specs.Outside.{outside}
+use Rattle.hub_engine.proofs.Giving.{part_nothing}
+use Rattle.hub_engine.proofs.Tying.{tied_turned}
+use Rattle.hub_engine.proofs.turns.turn.Goals as goal
+
+pub returns-in_err-count_turn-clause-given : goal.returns-in_err-count_turn-clause-given
+returns-in_err-count_turn-clause-given g c =
+    let p = turn c.args.budget c.args.hub.now in
+    let broken = part_nothing (outside (g.K.Sink.written c.args.sink.now) (g.W.World.meaning c.args.world.now) (g.W.World.stands_for c.args.world.now)) p.lines p.posts in
+    search (rules, broken)
+
+pub delivers_below-requires : goal.delivers_below-requires
+delivers_below-requires g c = record { tied = tied_turned _ _ c.args.hub.now c.count_turn.new.self c.in_ok-count_turn.ensures c.requires.tied }

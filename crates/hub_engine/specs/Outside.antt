@@ -1,0 +1,65 @@
+-- What a part of a run does outside of the hub: the text that it writes to the sink, and what it does with the world.
+use Rattle.std.specs.Prelude.{◌≡◌, ℕ, false, List, [], ◌∷◌, ◌++◌, map, ⊤, Option, Result, Ok, Err}
+use Rattle.trace_text.specs.declared.line.Line.{Line}
+use Rattle.trace_text.specs.LineTexts.{text_of}
+use Rattle.gv_io.specs.Streams.{appended, AppendsPrefix}
+use Rattle.world_rules.specs.declared.question.LogEntry.{LogEntry}
+use Rattle.world_rules.specs.declared.question.PostedJob.{PostedJob}
+use Rattle.world_rules.specs.Legal.{AreLegal, answers_of, is_posted, posted, posts_of}
+use Rattle.world.specs.Worlds.{GoesOn, Meaning}
+use Rattle.machine.specs.declared.state.Post.{Post}
+use Rattle.machine.specs.Run.{logged}
+use Rattle.hub_engine.specs.declared.broken.Broken.{Broken}
+
+-- what the sink was written, where it is told; what the world means; and the logs for which it stands
+pub record Outside : Type 1 where
+  pub written : Option (List ℕ)
+  pub means : Meaning
+  pub stands : List LogEntry → Type 0
+
+abbrev pub outside : Option (List ℕ) → Meaning → (List LogEntry → Type 0) → Outside
+outside written means stands = record { written = written; means = means; stands = stands }
+
+-- each of the posts has a number that was not posted before
+abbrev pub ArePostable : List PostedJob → List Post → Type 0
+ArePostable before [] = ⊤
+ArePostable before (p ∷ posts) = (is_posted p.number before ≡ false) × ArePostable (before ++ posted p.number p.job ∷ []) posts
+
+-- this was done with a world, and each answer was legal; what its rule rests on is as before
+pub record DoneWith (v w : Meaning) (old new : List LogEntry → Type 0) (entries : List LogEntry) : Type 0 where
+  pub posts : w.posts ≡ v.posts ++ posts_of entries
+  pub answers : w.answers ≡ v.answers ++ answers_of entries
+  pub legal : AreLegal v.posts v.answers entries
+  pub rest : GoesOn v w
+  pub log : (before : List LogEntry) → old before → new (before ++ entries)
+
+-- the same, of the world outside
+abbrev pub HasDone : Outside → Outside → List LogEntry → Type 0
+HasDone v w entries = DoneWith v.means w.means v.stands w.stands entries
+
+-- the first of these posts were made
+pub record HasPostedPart (v w : Outside) (posts : List Post) : Type 0 where
+  pub part : List Post
+  pub later : List Post
+  pub is : posts ≡ part ++ later
+  pub done : HasDone v w (map logged part)
+
+-- the posts were made, or the first of them where a call was refused
+abbrev pub PostsOn : {A E : Type 0} → Result A E → Outside → Outside → List Post → Type 0
+PostsOn (Ok x) v w posts = HasDone v w (map logged posts)
+PostsOn (Err e) v w posts = HasPostedPart v w posts
+
+-- the text of these lines was written, and this was done with the world
+pub record HasGiven (v w : Outside) (lines : List Line) (entries : List LogEntry) : Type 0 where
+  pub text : w.written ≡ appended v.written (text_of lines)
+  pub done : HasDone v w entries
+
+-- a prefix of the text was written, and the first of these posts were made
+pub record HasGivenPart (v w : Outside) (lines : List Line) (posts : List Post) : Type 0 where
+  pub text : AppendsPrefix v.written w.written (text_of lines)
+  pub made : HasPostedPart v w posts
+
+-- the lines and posts of a part of a run were given out, or a part of them where it broke off
+abbrev pub Gives : {A : Type 0} → Result A Broken → Outside → Outside → List Line → List Post → Type 0
+Gives (Ok x) v w lines posts = HasGiven v w lines (map logged posts)
+Gives (Err e) v w lines posts = HasGivenPart v w lines posts
