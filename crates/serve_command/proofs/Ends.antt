@@ -1,7 +1,7 @@
 -- The command's ends, one by one.
-use Rattle.std.proofs.Common.{◌≡◌, ◌⊎◌, inr, ℕ, ◌+◌, ◌<◌, ◌≤◌, true, List, [], ◌∷◌, ◌++◌, length, Option, Some, refl, sym, ap, ◌∙◌, subst, arith, take}
+use Rattle.std.proofs.Common.{◌≡◌, ◌⊎◌, inr, ℕ, ◌≤◌, true, List, [], ◌++◌, length, Option, Some, ap, ◌∙◌, arith, take}
 use Rattle.gv_io.specs.Streams.{appended, AppendsPrefix}
-use Rattle.gv_io.proofs.StreamLaws.{appended-appended, AppendsPrefix-after, AppendsPrefix-all, AppendsPrefix-longer, AppendsPrefix-whole}
+use Rattle.gv_io.proofs.StreamLaws.{appended-appended, AppendsPrefix-after, AppendsPrefix-all, AppendsPrefix-longer}
 use Rattle.wsgi_core.specs.Applications.{App}
 use Rattle.wsgi_core.specs.Sessions.{session}
 use Rattle.stream_net.specs.Nets.{Connection, Meaning}

@@ -1,10 +1,9 @@
 -- The crew of a table: who is a member when one comes, is taken out, is listed again and goes.
-use Rattle.std.proofs.Common.{◌≡◌, ◌≢◌, inl, inr, ℕ, zero, suc, ◌+◌, ◌-◌, ◌<◌, ◌≤◌, ◌==◌, Bool, true, false, not, cond, List, [], ◌∷◌, ◌++◌, length, get_or, Option, Some, None, refl, sym, ap, ◌∙◌, subst, arith, length-append}
+use Rattle.std.proofs.Common.{◌≡◌, ◌≢◌, ℕ, zero, suc, ◌+◌, ◌-◌, ◌<◌, ◌==◌, Bool, true, false, not, cond, List, [], ◌∷◌, ◌++◌, length, get_or, Option, Some, None, refl, sym, ap, ◌∙◌, subst, arith, length-append}
 use Rattle.std.specs.List.{Contains}
-use Rattle.std.proofs.lemmas.Bool.{cases_eq}
 use Rattle.std.proofs.lemmas.List.Elements.{Contains-append_left, Contains-append_right}
 use Rattle.linked_items.specs.Items.{without, Lacks, Differ}
-use Rattle.linked_items.proofs.ItemLemmas.{test_keeps, test_drops}
+use Rattle.linked_items.proofs.ItemLemmas.{test_keeps}
 use Rattle.groups_pools.specs.Seen.{SeenCrew, free_places, AreBelow, AreAbove, IsRising, HasPlace}
 use Rattle.stream_net.specs.Nets.{Meaning}
 use Rattle.stream_server.specs.declared.client.Client.{Client}
@@ -12,7 +11,7 @@ use Rattle.stream_server.specs.declared.limits.Limits.{Limits}
 use Rattle.stream_server.specs.Served.{Speech}
 use Rattle.stream_server.specs.Steps.{TalkState}
 use Rattle.stream_server.specs.Serving.{IsServing, IsServingBut}
-use Rattle.stream_server.specs.Tables.{SeenTable, AreAdmitted, AreAdmittedBut, IsAbsent, IsListed, Relists, client_count, with_members}
+use Rattle.stream_server.specs.Tables.{SeenTable, AreAdmitted, AreAdmittedBut, IsListed, Relists, client_count, with_members}
 use Rattle.stream_net.proofs.Lists.{everywhere}
 
 -- ---- lists of members

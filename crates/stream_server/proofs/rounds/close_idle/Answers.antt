@@ -1,4 +1,4 @@
-use Rattle.std.proofs.Common.{ℕ, arith, List, Some, None, ◌∙◌, sym, subst, refl}
+use Rattle.std.proofs.Common.{ℕ, arith, List, Some, sym, subst, refl}
 use Rattle.std.specs.List.{Contains}
 use Rattle.wsgi_core.specs.Gateways.{said_by}
 use Rattle.stream_server.specs.Tables.{IsListed, client_count}

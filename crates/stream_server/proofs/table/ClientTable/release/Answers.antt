@@ -1,4 +1,4 @@
-use Rattle.std.proofs.Common.{◌≡◌, ◌+◌, ap, length, subst, sym, ◌∙◌}
+use Rattle.std.proofs.Common.{◌+◌, ap, length, subst, sym, ◌∙◌}
 use Rattle.std.specs.List.{Contains}
 use Rattle.linked_items.proofs.ItemLemmas.{without_length}
 use Rattle.groups_pools.specs.Seen.{SeenCrew}
