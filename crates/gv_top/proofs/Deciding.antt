@@ -1,18 +1,16 @@
 -- From the parts of the call to its verdict.
 use Rattle.std.proofs.Common.{◌≡◌, ◌≢◌, ℕ, List, [], ◌++◌, take, drop, Option, Some, None, Ok, Err, refl, ap, sym, subst, ◌∙◌, unwrap_or, IfSome, take-append-drop, arith}
 use Rattle.std.proofs.lemmas.List.{append_cancel_left}
+use Rattle.gv_values.specs.declared.job.Answer.{Answer as Given}
 use Rattle.trace_text.specs.LineTexts.{text_of}
 use Rattle.trace_text.specs.declared.line.StopCause.{StopCause}
 use Rattle.scenario_tree.specs.declared.tree.Scenario.{Scenario}
 use Rattle.gv_io.specs.Streams.{prepended, AppendsPrefix}
 use Rattle.gv_io.proofs.StreamLaws.{appended-nothing, AppendsPrefix-all, AppendsPrefix-nothing, prepended-nothing}
-use Rattle.unbuilt_forms.specs.Built.{first_unbuilt}
-use Rattle.machine.specs.Run.{Ran, End as RunEnd, script_run}
+use Rattle.machine.specs.Run.{Ran, End as RunEnd}
 use Rattle.machine.specs.Status.{status, err_line}
-use Rattle.command_words.specs.declared.command.RunOptions.{RunOptions}
 use Rattle.hub_engine.specs.declared.run.End.{End}
 use Rattle.hub_engine.specs.Ends.{RanTo, end_of, end_of_run}
-use Rattle.hub_engine.specs.Prepared.{Prepared}
 use Rattle.gv_top.specs.declared.words.Command.{Command}
 use Rattle.gv_top.specs.declared.status.Verdict.{Verdict}
 use Rattle.scenario_grammar.specs.declared.place.Place.{Place}
@@ -20,8 +18,8 @@ use Rattle.scenario_lang.specs.declared.text.ParseRefusal.{ParseRefusal}
 use Rattle.scenario_lang.specs.declared.text.ParseRefusal.TheVariants as parse
 use Rattle.scenario_lang.specs.Lines.{Parses}
 use Rattle.command_words.specs.declared.command.TextCommand.{TextCommand}
-use Rattle.gv_top.proofs.ReadTexts.{answer_by, run_if}
-use Rattle.gv_top.specs.Answers.{Answer, answer_to, answer_to_scenario, answer_to_text, answer_of_run, err_of, judged, most_read, run_of, status_of}
+use Rattle.gv_top.proofs.ReadTexts.{answer_by}
+use Rattle.gv_top.specs.Answers.{Answer, answer_to, answer_to_scenario, answer_to_text, answer_of_run, err_of, judged, most_read, status_of}
 use Rattle.gv_top.specs.Verdicts.{IsExplained, IsRefusedWithReason, number_of, line_of, verdict_on}
 use Rattle.wsgi_connection.specs.declared.connection.ConnectionEnd.{ConnectionEnd}
 use Rattle.gv_top.specs.Top.{Decided, IsOfConnection}
@@ -39,15 +37,6 @@ prefix_of_trace End.NoMoves r old new h = AppendsPrefix-all old new (text_of r.l
 prefix_of_trace End.NoGreenlets r old new h = AppendsPrefix-all old new (text_of r.lines) h.0
 prefix_of_trace End.NoLinks r old new h = AppendsPrefix-all old new (text_of r.lines) h.0
 prefix_of_trace End.NoKills r old new h = AppendsPrefix-all old new (text_of r.lines) h.0
-
--- where out could not be handed on after the run, it has a prefix of the trace
-pub cut_at_the_flush : (end : End) (engine : Prepared) (options : RunOptions) (s : Scenario) (old middle new : Option (List ℕ))
-    → engine ≡ record { scenario = s; turns = options.turns; moves = options.moves } → RanTo end (script_run engine.scenario engine.turns engine.moves 0) old middle
-    → new ≡ middle → RanTo End.WriteFault (run_of options s) old new
-cut_at_the_flush end engine options s old middle new e h is =
-    let P : Prepared → Type 0 = λ x. RanTo end (script_run x.scenario x.turns x.moves 0) old middle in
-    let Q : Option (List ℕ) → Type 0 = λ x. AppendsPrefix old x (text_of (run_of options s).lines) in
-    subst Q (sym is) (prefix_of_trace end (run_of options s) old middle (subst P e h))
 
 -- ---- the verdict of a run
 
@@ -97,25 +86,25 @@ run_decided End.NoKills r old new h = (h.0, number_is _ r.end h.1, line_is _ r.e
 
 -- ---- the verdict on a text
 
-refused_decided : (command : TextCommand) (bytes : List ℕ) (p : Place) (old : Option (List ℕ)) → judged bytes ≡ Err p
-    → Decided (Verdict.Refused p) (answer_to_text command bytes) old old
+refused_decided : (command : TextCommand) (given : List Given) (bytes : List ℕ) (p : Place) (old : Option (List ℕ)) → judged bytes ≡ Err p
+    → Decided (Verdict.Refused p) (answer_to_text command given bytes) old old
 unfolding answer_to_text
-refused_decided command bytes p old e =
-    let P : Answer → Type 0 = λ a. Decided (Verdict.Refused p) a old old in subst P (sym (ap (answer_by command bytes) e)) (sym (appended-nothing old), refl, refl)
+refused_decided command given bytes p old e =
+    let P : Answer → Type 0 = λ a. Decided (Verdict.Refused p) a old old in subst P (sym (ap (answer_by command given) e)) (sym (appended-nothing old), refl, refl)
 
 -- the text was judged so, and its scenario decided
-pub judged_decided : (command : TextCommand) (bytes : List ℕ) (s : Scenario) (v : Verdict) (old new : Option (List ℕ)) → judged bytes ≡ Ok s
-    → Decided v (answer_to_scenario command s) old new → Decided v (answer_to_text command bytes) old new
+pub judged_decided : (command : TextCommand) (given : List Given) (bytes : List ℕ) (s : Scenario) (v : Verdict) (old new : Option (List ℕ)) → judged bytes ≡ Ok s
+    → Decided v (answer_to_scenario command given s) old new → Decided v (answer_to_text command given bytes) old new
 unfolding answer_to_text
-judged_decided command bytes s v old new e h = let P : Answer → Type 0 = λ a. Decided v a old new in subst P (sym (ap (answer_by command bytes) e)) h
+judged_decided command given bytes s v old new e h = let P : Answer → Type 0 = λ a. Decided v a old new in subst P (sym (ap (answer_by command given) e)) h
 
-pub refusal_decided : (command : TextCommand) (bytes : List ℕ) (e : ParseRefusal) (v : Verdict) (old : Option (List ℕ)) → v ≡ verdict_on e → Parses (judged bytes) (Err e)
-    → Decided v (answer_to_text command bytes) old old
-refusal_decided command bytes e v old is h = let P : Verdict → Type 0 = λ v. Decided v (answer_to_text command bytes) old old in subst P (sym is) (by e h)
+pub refusal_decided : (command : TextCommand) (given : List Given) (bytes : List ℕ) (e : ParseRefusal) (v : Verdict) (old : Option (List ℕ)) → v ≡ verdict_on e → Parses (judged bytes) (Err e)
+    → Decided v (answer_to_text command given bytes) old old
+refusal_decided command given bytes e v old is h = let P : Verdict → Type 0 = λ v. Decided v (answer_to_text command given bytes) old old in subst P (sym is) (by e h)
   where
-    by : (e : ParseRefusal) → Parses (judged bytes) (Err e) → Decided (verdict_on e) (answer_to_text command bytes) old old
-    by (parse.Refused p) h = refused_decided command bytes p old h
-    by parse.Memory h = AppendsPrefix-nothing old (answer_to_text command bytes).out
+    by : (e : ParseRefusal) → Parses (judged bytes) (Err e) → Decided (verdict_on e) (answer_to_text command given bytes) old old
+    by (parse.Refused p) h = refused_decided command given bytes p old h
+    by parse.Memory h = AppendsPrefix-nothing old (answer_to_text command given bytes).out
 
 -- such a verdict is of no command and of no fault
 pub refusal_number : (e : ParseRefusal) (v : Verdict) (n : ℕ) → v ≡ verdict_on e → number_of v ≡ n → n ≢ 3 → n ≢ 7 → ⊥
@@ -132,28 +121,16 @@ refusal_explained e v is h = subst IsExplained (sym is) (by e h)
     by (parse.Refused p) h = h
     by parse.Memory h = tt
 
--- a scenario all of whose forms are run is run
-pub built_decided : (options : RunOptions) (s : Scenario) (end : End) (old new : Option (List ℕ)) → first_unbuilt s ≡ None → RanTo end (run_of options s) old new
-    → Decided (Verdict.Ran end) (answer_to_scenario (TextCommand.Run options) s) old new
-built_decided options s end old new e h =
-    let P : Answer → Type 0 = λ a. Decided (Verdict.Ran end) a old new in subst P (sym (ap (run_if options s) e)) (run_decided end (run_of options s) old new h)
-
--- another is not
-pub unbuilt_decided : (options : RunOptions) (s : Scenario) (n : ℕ) (old : Option (List ℕ)) → first_unbuilt s ≡ Some n
-    → Decided (Verdict.NotBuilt n) (answer_to_scenario (TextCommand.Run options) s) old old
-unbuilt_decided options s n old e =
-    let P : Answer → Type 0 = λ a. Decided (Verdict.NotBuilt n) a old old in subst P (sym (ap (run_if options s) e)) (sym (appended-nothing old), refl, refl)
-
 -- what is decided of a command is decided of one that is the same
-pub decided_of_this : (command given : TextCommand) (s : Scenario) (v : Verdict) (old new : Option (List ℕ)) → command ≡ given
-    → Decided v (answer_to_scenario given s) old new → Decided v (answer_to_scenario command s) old new
-decided_of_this command given s v old new is h = let Q : TextCommand → Type 0 = λ d. Decided v (answer_to_scenario d s) old new in subst Q (sym is) h
+pub decided_of_this : (command wanted : TextCommand) (given : List Given) (s : Scenario) (v : Verdict) (old new : Option (List ℕ)) → command ≡ wanted
+    → Decided v (answer_to_scenario wanted given s) old new → Decided v (answer_to_scenario command given s) old new
+decided_of_this command wanted given s v old new is h = let Q : TextCommand → Type 0 = λ d. Decided v (answer_to_scenario d given s) old new in subst Q (sym is) h
 
 -- ---- the verdict of a command
 
-pub usage_decided : (c : Option Command) (left : List ℕ) (old : Option (List ℕ)) → c ≡ None → Decided Verdict.Usage (answer_to c left) old old
-usage_decided c left old e =
-    let P : Option Command → Type 0 = λ d. Decided Verdict.Usage (answer_to d left) old old in subst P (sym e) (sym (appended-nothing old), refl, refl)
+pub usage_decided : (c : Option Command) (given : List Given) (left : List ℕ) (old : Option (List ℕ)) → c ≡ None → Decided Verdict.Usage (answer_to c given left) old old
+usage_decided c given left old e =
+    let P : Option Command → Type 0 = λ d. Decided Verdict.Usage (answer_to d given left) old old in subst P (sym e) (sym (appended-nothing old), refl, refl)
 
 -- another command than this one is named
 pub no_command : (c : Option Command) (d : Command) (P : Type 0) → c ≡ None → c ≡ Some d → P
@@ -188,7 +165,7 @@ some_read : (items rest left : List ℕ) → Some left ≡ prepended items (Some
 unfolding prepended
 some_read items rest left e = some_left left (items ++ rest) e
 
-read_first : (left items : List ℕ) (old : Option (List ℕ)) → old ≡ Some left → IfSome old (λ all. items ≡ take most_read all) → items ≡ take most_read left
+pub read_first : (left items : List ℕ) (old : Option (List ℕ)) → old ≡ Some left → IfSome old (λ all. items ≡ take most_read all) → items ≡ take most_read left
 read_first left items None e f = cc
 read_first left items (Some all) e f = f ∙ ap (take most_read) (some_left all left e)
 

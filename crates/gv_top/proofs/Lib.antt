@@ -1,5 +1,6 @@
 pub mod Tops
 pub mod ReadTexts
 pub mod Deciding
+pub mod InWorlds
 pub mod Reasons
 pub mod Built

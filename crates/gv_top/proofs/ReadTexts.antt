@@ -1,7 +1,7 @@
 -- What is answered to a text: its scenario's run or printed form, or the place where it is refused.
-use Rattle.std.proofs.Common.{◌≡◌, ℕ, inl, inr, List, Option, Some, None, Result, Ok, Err, refl, ap, subst, ◌∙◌, take}
-use Rattle.trace_text.specs.LineTexts.{text_of}
-use Rattle.trace_text.specs.declared.line.StopCause.{StopCause}
+use Rattle.std.proofs.Common.{◌≡◌, ◌≢◌, ℕ, inl, inr, List, Option, Some, None, Result, Ok, Err, refl, ap, subst, ◌∙◌, take}
+use Rattle.gv_values.specs.declared.job.Answer.{Answer as Given}
+use Rattle.gv_io.specs.Streams.{appended}
 use Rattle.scenario_tree.specs.declared.tree.Scenario.{Scenario}
 use Rattle.scenario_grammar.specs.declared.place.Place.{Place}
 use Rattle.scenario_grammar.specs.Parsed.{reading}
@@ -12,11 +12,9 @@ use Rattle.scenario_grammar.proofs.Sound.{sound}
 use Rattle.scenario_rules.specs.Rules.{IsWellFormed, place_of}
 use Rattle.scenario_check.proofs.FirstPlace.{well_formed, not_well_formed}
 use Rattle.machine.specs.Run.{Ran, End}
-use Rattle.unbuilt_forms.specs.Built.{first_unbuilt}
-use Rattle.command_words.specs.declared.command.RunOptions.{RunOptions}
 use Rattle.gv_top.specs.Refusals.{IsRefusedAt}
-use Rattle.gv_top.specs.Top.{AnswersRun, IsAnswered}
-use Rattle.gv_top.specs.Answers.{Answer, answer_to, answer_to_scenario, answer_to_text, answer_of_run, checked, err_of, judged, most_read, not_built, run_of, refusal, status_of}
+use Rattle.gv_top.specs.Top.{AnswersRun, IsAnswered, IsWholeRun}
+use Rattle.gv_top.specs.Answers.{Answer, answer_to, answer_to_scenario, answer_to_text, answer_of_run, checked, err_of, judged, most_read, refusal, status_of}
 use Rattle.gv_top.specs.declared.words.Command.{Command}
 use Rattle.command_words.specs.declared.command.TextCommand.{TextCommand}
 
@@ -42,66 +40,55 @@ no_place s w = by (place_of s) refl
     by None e = e
     by (Some p) e = absurd (not_well_formed s p e w)
 
-spelt_is_judged : (s : Scenario) (bytes : List ℕ) → Spells s bytes → IsWellFormed s → judged bytes ≡ Ok s
+pub spelt_is_judged : (s : Scenario) (bytes : List ℕ) → Spells s bytes → IsWellFormed s → judged bytes ≡ Ok s
 spelt_is_judged s bytes t w = judged_read bytes s None (complete s bytes t) (no_place s w)
 
 -- ---- what is answered to it
 
-abbrev pub answer_by : TextCommand → List ℕ → Result Scenario Place → Answer
-answer_by command bytes r = elim r as (λ x. Answer) [ Ok s ↦ answer_to_scenario command s | Err place ↦ refusal place ]
+abbrev pub answer_by : TextCommand → List Given → Result Scenario Place → Answer
+answer_by command given r = elim r as (λ x. Answer) [ Ok s ↦ answer_to_scenario command given s | Err place ↦ refusal place ]
 
 -- a text of a well-formed scenario is answered as that scenario
-pub answered_as : (command : TextCommand) (s : Scenario) (bytes : List ℕ) → Spells s bytes → IsWellFormed s → answer_to_text command bytes ≡ answer_to_scenario command s
+pub answered_as : (command : TextCommand) (given : List Given) (s : Scenario) (bytes : List ℕ) → Spells s bytes → IsWellFormed s → answer_to_text command given bytes ≡ answer_to_scenario command given s
 unfolding answer_to_text
-answered_as command s bytes t w = ap (answer_by command bytes) (spelt_is_judged s bytes t w)
-
--- what `run` answers to a scenario of which this is the first line that is not run
-abbrev pub run_if : RunOptions → Scenario → Option ℕ → Answer
-run_if options s o = elim o as (λ x. Answer) [ Some n ↦ not_built n | None ↦ answer_of_run (run_of options s) ]
-
--- a text all of whose forms are run is run
-pub runs_the_text : (options : RunOptions) (s : Scenario) (bytes : List ℕ) → Spells s bytes → IsWellFormed s → first_unbuilt s ≡ None
-    → answer_to_text (TextCommand.Run options) bytes ≡ answer_of_run (run_of options s)
-runs_the_text options s bytes t w e = answered_as (TextCommand.Run options) s bytes t w ∙ ap (run_if options s) e
-
--- a text that has others is not
-pub runs_no_other : (options : RunOptions) (s : Scenario) (bytes : List ℕ) (n : ℕ) → Spells s bytes → IsWellFormed s → first_unbuilt s ≡ Some n
-    → answer_to_text (TextCommand.Run options) bytes ≡ not_built n
-runs_no_other options s bytes n t w e = answered_as (TextCommand.Run options) s bytes t w ∙ ap (run_if options s) e
+answered_as command given s bytes t w = ap (answer_by command given) (spelt_is_judged s bytes t w)
 
 -- bytes that are no text of a well-formed scenario are refused at their place
-record Refused (command : TextCommand) (bytes : List ℕ) (p : Place) : Type 0 where
+record Refused (command : TextCommand) (given : List Given) (bytes : List ℕ) (p : Place) : Type 0 where
   at : IsRefusedAt bytes p
-  answer : answer_to_text command bytes ≡ refusal p
+  answer : answer_to_text command given bytes ≡ refusal p
 
-refuses : (command : TextCommand) (bytes : List ℕ) (r : Result Scenario Place) → reading bytes ≡ r → ((s : Scenario) → Spells s bytes → IsWellFormed s → ⊥)
-    → (p : Place) × Refused command bytes p
+refuses : (command : TextCommand) (given : List Given) (bytes : List ℕ) (r : Result Scenario Place) → reading bytes ≡ r → ((s : Scenario) → Spells s bytes → IsWellFormed s → ⊥)
+    → (p : Place) × Refused command given bytes p
 unfolding answer_to_text
-refuses command bytes (Err p) e none =
-    (p, record { at = inl (refused_there bytes p e); answer = ap (answer_by command bytes) (judged_unread bytes p e) })
-refuses command bytes (Ok s) e none = by (place_of s) refl
+refuses command given bytes (Err p) e none =
+    (p, record { at = inl (refused_there bytes p e); answer = ap (answer_by command given) (judged_unread bytes p e) })
+refuses command given bytes (Ok s) e none = by (place_of s) refl
   where
-    by : (o : Option Place) → place_of s ≡ o → (p : Place) × Refused command bytes p
+    by : (o : Option Place) → place_of s ≡ o → (p : Place) × Refused command given bytes p
     by None placed = absurd (none s (sound s bytes e) (well_formed s placed))
     by (Some p) placed =
-        (p, record { at = inr (s, sound s bytes e, placed); answer = ap (answer_by command bytes) (judged_read bytes s (Some p) e placed) })
+        (p, record { at = inr (s, sound s bytes e, placed); answer = ap (answer_by command given) (judged_read bytes s (Some p) e placed) })
 
-pub refuses_the_rest : (command : TextCommand) (bytes : List ℕ) → ((s : Scenario) → Spells s bytes → IsWellFormed s → ⊥)
-    → (p : Place) × IsRefusedAt bytes p × (answer_to_text command bytes ≡ refusal p)
-refuses_the_rest command bytes none = let r = refuses command bytes (reading bytes) refl none in (r.0, r.1.at, r.1.answer)
+pub refuses_the_rest : (command : TextCommand) (given : List Given) (bytes : List ℕ) → ((s : Scenario) → Spells s bytes → IsWellFormed s → ⊥)
+    → (p : Place) × IsRefusedAt bytes p × (answer_to_text command given bytes ≡ refusal p)
+refuses_the_rest command given bytes none = let r = refuses command given bytes (reading bytes) refl none in (r.0, r.1.at, r.1.answer)
 
 -- ---- what is left behind
 
--- a run whose end is the stop for a cause is answered by that cause
-pub answers_run : (n : ℕ) (r : Ran) (cause : StopCause) (out0 out1 err0 err1 : Option (List ℕ)) → r.end ≡ End.Stopped cause →
-    IsAnswered n (answer_of_run r) out0 out1 err0 err1 → AnswersRun n r out0 out1 err0 err1
-answers_run n r cause out0 out1 err0 err1 stops h =
-    let P : End → Type 0 = λ e. IsAnswered n (record { status = status_of e; out = text_of r.lines; err = err_of e }) out0 out1 err0 err1 in
-    record { cause = cause; stops = stops; answered = subst P stops h }
+-- where the status is none of a fault and not that of want of memory, the run stopped
+stopped_whole : (n : ℕ) (r : Ran) (out0 out1 err0 err1 : Option (List ℕ)) → IsAnswered n (answer_of_run r) out0 out1 err0 err1 → n ≢ 4 → n ≢ 5 → n ≢ 7
+    → (e : End) → r.end ≡ e → IsWholeRun n r out0 out1 err0 err1
+stopped_whole n r out0 out1 err0 err1 h h4 h5 h7 (End.Stopped cause) e =
+    record { cause = cause; stops = e; status = h.status h4 h5 h7 ∙ ap status_of e; out = h.out h4 h5 h7; err = h.err h4 h5 h7 ∙ ap (λ x. appended err0 (err_of x)) e }
+stopped_whole n r out0 out1 err0 err1 h h4 h5 h7 End.Asking e = absurd (h7 (h.status h4 h5 h7 ∙ ap status_of e))
+
+pub answers_run : (n : ℕ) (r : Ran) (out0 out1 err0 err1 : Option (List ℕ)) → IsAnswered n (answer_of_run r) out0 out1 err0 err1 → AnswersRun n r out0 out1 err0 err1
+answers_run n r out0 out1 err0 err1 h = record { prefix = h.prefix; whole = λ h4 h5 h7. stopped_whole n r out0 out1 err0 err1 h h4 h5 h7 r.end refl }
 
 -- what is said of the answer to the command is said of this answer
-pub answered_so : (n : ℕ) (c : Option Command) (command : TextCommand) (a : Answer) (left : List ℕ) (out0 out1 err0 err1 : Option (List ℕ)) →
-    c ≡ Some (Command.Text command) → answer_to_text command (take most_read left) ≡ a → IsAnswered n (answer_to c left) out0 out1 err0 err1 →
+pub answered_so : (n : ℕ) (c : Option Command) (command : TextCommand) (given : List Given) (a : Answer) (left : List ℕ) (out0 out1 err0 err1 : Option (List ℕ)) →
+    c ≡ Some (Command.Text command) → answer_to_text command given (take most_read left) ≡ a → IsAnswered n (answer_to c given left) out0 out1 err0 err1 →
     IsAnswered n a out0 out1 err0 err1
-answered_so n c command a left out0 out1 err0 err1 e is h =
-    let P : Answer → Type 0 = λ a. IsAnswered n a out0 out1 err0 err1 in subst P (ap (λ d. answer_to d left) e ∙ is) h
+answered_so n c command given a left out0 out1 err0 err1 e is h =
+    let P : Answer → Type 0 = λ a. IsAnswered n a out0 out1 err0 err1 in subst P (ap (λ d. answer_to d given left) e ∙ is) h

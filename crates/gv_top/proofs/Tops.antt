@@ -1,16 +1,20 @@
 -- From a verdict and its line to what the call answers.
-use Rattle.std.proofs.Common.{◌≡◌, ◌≢◌, ◌⊎◌, inl, inr, refl, ap, sym, subst, ◌∙◌, ℕ, List, [], Option, Some, drop, arith}
+use Rattle.std.proofs.Common.{◌≡◌, ◌≢◌, ◌⊎◌, inl, inr, refl, ap, sym, subst, ◌∙◌, ℕ, List, [], Option, Some, Ok, drop, take, arith}
 use Rattle.gv_values.specs.Counts.{HasRisen}
 use Rattle.gv_io.specs.Streams.{appended, AppendsPrefix}
 use Rattle.gv_io.proofs.StreamLaws.{appended-nothing, AppendsPrefix-all, AppendsPrefix-nothing}
+use Rattle.world.specs.Worlds.{Meaning}
+use Rattle.world_rules.specs.declared.question.LogEntry.{LogEntry}
 use Rattle.hub_engine.specs.declared.run.End.{End}
 use Rattle.wsgi_connection.specs.declared.connection.ConnectionEnd.{ConnectionEnd}
 use Rattle.gv_top.specs.declared.status.Verdict.{Verdict}
 use Rattle.gv_top.specs.declared.words.Command.{Command}
 use Rattle.command_words.specs.declared.command.TextCommand.{TextCommand}
-use Rattle.gv_top.specs.Answers.{Answer, answer_to, memory_line, most_read, read_fault_line, write_fault_line}
+use Rattle.trace_text.specs.LineTexts.{text_of}
+use Rattle.scenario_tree.specs.declared.tree.Scenario.{Scenario}
+use Rattle.gv_top.specs.Answers.{Answer, answer_to, judged, memory_line, most_read, read_fault_line, write_fault_line}
 use Rattle.gv_top.specs.Verdicts.{number_of, line_of}
-use Rattle.gv_top.specs.Top.{Fits, Decided, CameTo, Ended, FailsToWrite, IsOr, IsTold, IsTried, AnswersConnection, IsAnswered, IsOfConnection, HasFaultLine}
+use Rattle.gv_top.specs.Top.{Fits, Decided, CameTo, Ended, FailsToWrite, IsOr, IsTold, IsTried, AnswersConnection, IsAnswered, IsOfConnection, HasFaultLine, HasLawfulLines, RanScenarioSo}
 
 -- nothing was appended
 left_as_it_was : (old new : Option (List ℕ)) (text : List ℕ) → new ≡ old → AppendsPrefix old new text
@@ -25,7 +29,6 @@ decided : (v : Verdict) (a : Answer) (old new : Option (List ℕ)) → Decided v
 decided Verdict.Usage a old new d = inl d
 decided Verdict.ReadFault a old new d = inr (record { prefix = left_as_it_was old new a.out d; number = inl refl })
 decided (Verdict.Refused place) a old new d = inl d
-decided (Verdict.NotBuilt n) a old new d = inl d
 decided Verdict.Formatted a old new d = inl d
 decided (Verdict.Ran End.MainValue) a old new d = inl d
 decided (Verdict.Ran (End.MainFault f)) a old new d = inl d
@@ -79,49 +82,51 @@ answered n v a out0 out1 err0 err1 e0 e1 d l =
 -- ---- the verdict that is told
 
 -- where there is no memory for the line of a verdict, the command came to want of memory
-out_of_memory : (v : Verdict) (c : Option Command) (in0 in1 out0 out1 : Option (List ℕ)) (r0 r1 w0 w1 : ℕ) → CameTo v c in0 in1 out0 out1 r0 r1 w0 w1 →
-    number_of v ≢ 0 → number_of v ≢ 5 → CameTo (Verdict.Ran End.Memory) c in0 in1 out0 out1 r0 r1 w0 w1
-out_of_memory v c in0 in1 out0 out1 r0 r1 w0 w1 h n0 n5 =
+out_of_memory : (v : Verdict) (c : Option Command) (after : Meaning) (stands : List LogEntry → Type 0) (in0 in1 out0 out1 : Option (List ℕ)) (r0 r1 w0 w1 : ℕ) → CameTo v c after stands in0 in1 out0 out1 r0 r1 w0 w1 →
+    number_of v ≢ 0 → number_of v ≢ 5 → CameTo (Verdict.Ran End.Memory) c after stands in0 in1 out0 out1 r0 r1 w0 w1
+out_of_memory v c after stands in0 in1 out0 out1 r0 r1 w0 w1 h n0 n5 =
     record {
-      answer = λ left told. prefix_of v (answer_to c left) out0 out1 (decided v (answer_to c left) out0 out1 (h.answer left told));
+      answer = λ left told. prefix_of v (answer_to c after.answers left) out0 out1 (decided v (answer_to c after.answers left) out0 out1 (h.answer left told));
       usage = λ e. absurd (omega arith);
       read_fault = λ e. absurd (omega arith);
       write_fault = λ e. absurd (omega arith);
       unread = λ text is e. absurd (omega arith);
       unprinted = λ is h0 h5. h.unprinted is n0 n5;
       read_whole = λ text is h4 h7. absurd (h7 refl);
+      native = λ text is h4 left told s j options workers e w h5 h7. absurd (h7 refl);
     }
 
 -- memory ran out before anything was done
-pub out_of_memory_at_once : (c : Option Command) (input out : Option (List ℕ)) (reads writes : ℕ) → CameTo (Verdict.Ran End.Memory) c input input out out reads reads writes writes
-out_of_memory_at_once c input out reads writes =
+pub out_of_memory_at_once : (c : Option Command) (after : Meaning) (stands : List LogEntry → Type 0) (input out : Option (List ℕ)) (reads writes : ℕ) → CameTo (Verdict.Ran End.Memory) c after stands input input out out reads reads writes writes
+out_of_memory_at_once c after stands input out reads writes =
     record {
-      answer = λ left told. AppendsPrefix-nothing out (answer_to c left).out;
+      answer = λ left told. AppendsPrefix-nothing out (answer_to c after.answers left).out;
       usage = λ e. absurd (omega arith);
       read_fault = λ e. absurd (omega arith);
       write_fault = λ e. absurd (omega arith);
       unread = λ text is e. refl;
       unprinted = λ is h0 h5. refl;
       read_whole = λ text is h4 h7. absurd (h7 refl);
+      native = λ text is h4 left told s j options workers e w h5 h7. absurd (h7 refl);
     }
 
 -- what a command came to, another that is the same came to
-pub came_as : {v : Verdict} {c d : Option Command} {in0 in1 out0 out1 : Option (List ℕ)} {r0 r1 w0 w1 : ℕ} → c ≡ d →
-    CameTo v c in0 in1 out0 out1 r0 r1 w0 w1 → CameTo v d in0 in1 out0 out1 r0 r1 w0 w1
-came_as {v} {in0 = in0} {in1 = in1} {out0 = out0} {out1 = out1} {r0 = r0} {r1 = r1} {w0 = w0} {w1 = w1} e h =
-    let P : Option Command → Type 0 = λ x. CameTo v x in0 in1 out0 out1 r0 r1 w0 w1 in subst P e h
+pub came_as : {v : Verdict} {c d : Option Command} {after : Meaning} {stands : List LogEntry → Type 0} {in0 in1 out0 out1 : Option (List ℕ)} {r0 r1 w0 w1 : ℕ} → c ≡ d →
+    CameTo v c after stands in0 in1 out0 out1 r0 r1 w0 w1 → CameTo v d after stands in0 in1 out0 out1 r0 r1 w0 w1
+came_as {v} {after = after} {stands = stands} {in0 = in0} {in1 = in1} {out0 = out0} {out1 = out1} {r0 = r0} {r1 = r1} {w0 = w0} {w1 = w1} e h =
+    let P : Option Command → Type 0 = λ x. CameTo v x after stands in0 in1 out0 out1 r0 r1 w0 w1 in subst P e h
 
-came_to : (v w : Verdict) (c : Option Command) (in0 in1 out0 out1 : Option (List ℕ)) (r0 r1 w0 w1 : ℕ) → CameTo v c in0 in1 out0 out1 r0 r1 w0 w1 →
-    IsOr v w → CameTo w c in0 in1 out0 out1 r0 r1 w0 w1
-came_to v w c in0 in1 out0 out1 r0 r1 w0 w1 h (inl e) =
-    let P : Verdict → Type 0 = λ x. CameTo x c in0 in1 out0 out1 r0 r1 w0 w1 in subst P (sym e) h
-came_to v w c in0 in1 out0 out1 r0 r1 w0 w1 h (inr p) =
-    let P : Verdict → Type 0 = λ x. CameTo x c in0 in1 out0 out1 r0 r1 w0 w1 in subst P (sym p.0) (out_of_memory v c in0 in1 out0 out1 r0 r1 w0 w1 h p.1 p.2)
+came_to : (v w : Verdict) (c : Option Command) (after : Meaning) (stands : List LogEntry → Type 0) (in0 in1 out0 out1 : Option (List ℕ)) (r0 r1 w0 w1 : ℕ) → CameTo v c after stands in0 in1 out0 out1 r0 r1 w0 w1 →
+    IsOr v w → CameTo w c after stands in0 in1 out0 out1 r0 r1 w0 w1
+came_to v w c after stands in0 in1 out0 out1 r0 r1 w0 w1 h (inl e) =
+    let P : Verdict → Type 0 = λ x. CameTo x c after stands in0 in1 out0 out1 r0 r1 w0 w1 in subst P (sym e) h
+came_to v w c after stands in0 in1 out0 out1 r0 r1 w0 w1 h (inr p) =
+    let P : Verdict → Type 0 = λ x. CameTo x c after stands in0 in1 out0 out1 r0 r1 w0 w1 in subst P (sym p.0) (out_of_memory v c after stands in0 in1 out0 out1 r0 r1 w0 w1 h p.1 p.2)
 
-pub ended : (n : ℕ) (v w : Verdict) (c : Option Command) (in0 in1 out0 out1 err0 err1 : Option (List ℕ)) (r0 r1 w0 w1 e0 e1 : ℕ) →
-    CameTo v c in0 in1 out0 out1 r0 r1 w0 w1 → IsOr v w → IsTold n w err0 err1 e0 e1 → Ended n c in0 in1 out0 out1 err0 err1 r0 r1 w0 w1 e0 e1
-ended n v w c in0 in1 out0 out1 err0 err1 r0 r1 w0 w1 e0 e1 h o l =
-    record { verdict = w; came_to = came_to v w c in0 in1 out0 out1 r0 r1 w0 w1 h o; told = l }
+pub ended : (n : ℕ) (v w : Verdict) (c : Option Command) (after : Meaning) (stands : List LogEntry → Type 0) (in0 in1 out0 out1 err0 err1 : Option (List ℕ)) (r0 r1 w0 w1 e0 e1 : ℕ) →
+    CameTo v c after stands in0 in1 out0 out1 r0 r1 w0 w1 → IsOr v w → IsTold n w err0 err1 e0 e1 → Ended n c after stands in0 in1 out0 out1 err0 err1 r0 r1 w0 w1 e0 e1
+ended n v w c after stands in0 in1 out0 out1 err0 err1 r0 r1 w0 w1 e0 e1 h o l =
+    record { verdict = w; came_to = came_to v w c after stands in0 in1 out0 out1 r0 r1 w0 w1 h o; told = l }
 
 -- ---- the lines of faults
 
@@ -129,7 +134,6 @@ line_of_read : (v : Verdict) → number_of v ≡ 4 → line_of v ≡ read_fault_
 line_of_read Verdict.Usage e = absurd (omega arith)
 line_of_read Verdict.ReadFault e = refl
 line_of_read (Verdict.Refused place) e = absurd (omega arith)
-line_of_read (Verdict.NotBuilt n) e = absurd (omega arith)
 line_of_read Verdict.Formatted e = absurd (omega arith)
 line_of_read (Verdict.Ran End.MainValue) e = absurd (omega arith)
 line_of_read (Verdict.Ran (End.MainFault f)) e = absurd (omega arith)
@@ -150,7 +154,6 @@ line_of_memory : (v : Verdict) → number_of v ≡ 7 → line_of v ≡ memory_li
 line_of_memory Verdict.Usage e = absurd (omega arith)
 line_of_memory Verdict.ReadFault e = absurd (omega arith)
 line_of_memory (Verdict.Refused place) e = absurd (omega arith)
-line_of_memory (Verdict.NotBuilt n) e = absurd (omega arith)
 line_of_memory Verdict.Formatted e = absurd (omega arith)
 line_of_memory (Verdict.Ran End.MainValue) e = absurd (omega arith)
 line_of_memory (Verdict.Ran (End.MainFault f)) e = absurd (omega arith)
@@ -171,7 +174,6 @@ pub line_of_write : (v : Verdict) → number_of v ≡ 5 → line_of v ≡ write_
 line_of_write Verdict.Usage e = absurd (omega arith)
 line_of_write Verdict.ReadFault e = absurd (omega arith)
 line_of_write (Verdict.Refused place) e = absurd (omega arith)
-line_of_write (Verdict.NotBuilt n) e = absurd (omega arith)
 line_of_write Verdict.Formatted e = absurd (omega arith)
 line_of_write (Verdict.Ran End.MainValue) e = absurd (omega arith)
 line_of_write (Verdict.Ran (End.MainFault f)) e = absurd (omega arith)
@@ -192,7 +194,6 @@ no_line : (v : Verdict) → number_of v ≡ 0 → line_of v ≡ []
 no_line Verdict.Usage e = absurd (omega arith)
 no_line Verdict.ReadFault e = absurd (omega arith)
 no_line (Verdict.Refused place) e = absurd (omega arith)
-no_line (Verdict.NotBuilt n) e = absurd (omega arith)
 no_line Verdict.Formatted e = refl
 no_line (Verdict.Ran End.MainValue) e = refl
 no_line (Verdict.Ran (End.MainFault f)) e = absurd (omega arith)
@@ -223,12 +224,12 @@ no_memory_line n v old new e0 e1 (inr p) e = let q = p.0 in absurd (omega arith)
 
 -- ---- what an end says
 
-pub is_answered : {n : ℕ} {c : Option Command} {in0 in1 out0 out1 err0 err1 : Option (List ℕ)} {r0 r1 w0 w1 e0 e1 : ℕ} →
-    Ended n c in0 in1 out0 out1 err0 err1 r0 r1 w0 w1 e0 e1 → (left : List ℕ) → in0 ≡ Some left → IsAnswered n (answer_to c left) out0 out1 err0 err1
+pub is_answered : {n : ℕ} {c : Option Command} {after : Meaning} {stands : List LogEntry → Type 0} {in0 in1 out0 out1 err0 err1 : Option (List ℕ)} {r0 r1 w0 w1 e0 e1 : ℕ} →
+    Ended n c after stands in0 in1 out0 out1 err0 err1 r0 r1 w0 w1 e0 e1 → (left : List ℕ) → in0 ≡ Some left → IsAnswered n (answer_to c after.answers left) out0 out1 err0 err1
 is_answered h left told = answered _ h.verdict _ _ _ _ _ _ _ (h.came_to.answer left told) h.told
 
-pub fault_line : {n : ℕ} {c : Option Command} {in0 in1 out0 out1 err0 err1 : Option (List ℕ)} {r0 r1 w0 w1 e0 e1 : ℕ} →
-    Ended n c in0 in1 out0 out1 err0 err1 r0 r1 w0 w1 e0 e1 → HasFaultLine n err0 err1
+pub fault_line : {n : ℕ} {c : Option Command} {after : Meaning} {stands : List LogEntry → Type 0} {in0 in1 out0 out1 err0 err1 : Option (List ℕ)} {r0 r1 w0 w1 e0 e1 : ℕ} →
+    Ended n c after stands in0 in1 out0 out1 err0 err1 r0 r1 w0 w1 e0 e1 → HasFaultLine n err0 err1
 fault_line h = record { read = read_line _ h.verdict _ _ _ _ h.told; memory = no_memory_line _ h.verdict _ _ _ _ h.told }
 
 -- a status that is not 5 is the verdict's
@@ -236,8 +237,8 @@ verdict_of : (n m : ℕ) (v : Verdict) (old new : Option (List ℕ)) (e0 e1 : �
 verdict_of n m v old new e0 e1 (inl p) e h5 = sym p.0 ∙ e
 verdict_of n m v old new e0 e1 (inr p) e h5 = absurd (h5 (sym e ∙ p.0))
 
-pub status_is : {n : ℕ} {c : Option Command} {in0 in1 out0 out1 err0 err1 : Option (List ℕ)} {r0 r1 w0 w1 e0 e1 : ℕ} (m : ℕ) →
-    (h : Ended n c in0 in1 out0 out1 err0 err1 r0 r1 w0 w1 e0 e1) → n ≡ m → m ≢ 5 → number_of h.verdict ≡ m
+pub status_is : {n : ℕ} {c : Option Command} {after : Meaning} {stands : List LogEntry → Type 0} {in0 in1 out0 out1 err0 err1 : Option (List ℕ)} {r0 r1 w0 w1 e0 e1 : ℕ} (m : ℕ) →
+    (h : Ended n c after stands in0 in1 out0 out1 err0 err1 r0 r1 w0 w1 e0 e1) → n ≡ m → m ≢ 5 → number_of h.verdict ≡ m
 status_is m h e h5 = verdict_of _ m h.verdict _ _ _ _ h.told e h5
 
 -- the status is the verdict's, or 5 where it has a line, or 7
@@ -269,19 +270,19 @@ fails : (n : ℕ) (v : Verdict) (old new : Option (List ℕ)) (w0 w1 e0 e1 : ℕ
 fails n v old new w0 w1 e0 e1 f (inl p) e = let is = sym p.0 ∙ e in inl (f is, tried n v old new e0 e1 is (inl p))
 fails n v old new w0 w1 e0 e1 f (inr p) e = inr (v, p.1, p.2, p.3)
 
-pub fails_to_write : {n : ℕ} {c : Option Command} {in0 in1 out0 out1 err0 err1 : Option (List ℕ)} {r0 r1 w0 w1 e0 e1 : ℕ} →
-    Ended n c in0 in1 out0 out1 err0 err1 r0 r1 w0 w1 e0 e1 → n ≡ 5 → FailsToWrite err0 err1 w0 w1 e0 e1
+pub fails_to_write : {n : ℕ} {c : Option Command} {after : Meaning} {stands : List LogEntry → Type 0} {in0 in1 out0 out1 err0 err1 : Option (List ℕ)} {r0 r1 w0 w1 e0 e1 : ℕ} →
+    Ended n c after stands in0 in1 out0 out1 err0 err1 r0 r1 w0 w1 e0 e1 → n ≡ 5 → FailsToWrite err0 err1 w0 w1 e0 e1
 fails_to_write h e = fails _ h.verdict _ _ _ _ _ _ h.came_to.write_fault h.told e
 
 -- `fmt` leaves out as it was
-pub prints_nothing : {n : ℕ} {c : Option Command} {in0 in1 out0 out1 err0 err1 : Option (List ℕ)} {r0 r1 w0 w1 e0 e1 : ℕ} →
-    Ended n c in0 in1 out0 out1 err0 err1 r0 r1 w0 w1 e0 e1 → c ≡ Some (Command.Text TextCommand.Format) → n ≢ 0 → n ≢ 5 → out1 ≡ out0
+pub prints_nothing : {n : ℕ} {c : Option Command} {after : Meaning} {stands : List LogEntry → Type 0} {in0 in1 out0 out1 err0 err1 : Option (List ℕ)} {r0 r1 w0 w1 e0 e1 : ℕ} →
+    Ended n c after stands in0 in1 out0 out1 err0 err1 r0 r1 w0 w1 e0 e1 → c ≡ Some (Command.Text TextCommand.Format) → n ≢ 0 → n ≢ 5 → out1 ≡ out0
 prints_nothing {n} h is h0 h5 =
     let e = status_is n h refl h5 in h.came_to.unprinted is (λ z. h0 (sym e ∙ z)) (λ z. h5 (sym e ∙ z))
 
 -- the text was read whole
-pub reads_whole : {n : ℕ} {c : Option Command} {in0 in1 out0 out1 err0 err1 : Option (List ℕ)} {r0 r1 w0 w1 e0 e1 : ℕ} (text : TextCommand) →
-    Ended n c in0 in1 out0 out1 err0 err1 r0 r1 w0 w1 e0 e1 → c ≡ Some (Command.Text text) → n ≢ 4 → n ≢ 5 → n ≢ 7 →
+pub reads_whole : {n : ℕ} {c : Option Command} {after : Meaning} {stands : List LogEntry → Type 0} {in0 in1 out0 out1 err0 err1 : Option (List ℕ)} {r0 r1 w0 w1 e0 e1 : ℕ} (text : TextCommand) →
+    Ended n c after stands in0 in1 out0 out1 err0 err1 r0 r1 w0 w1 e0 e1 → c ≡ Some (Command.Text text) → n ≢ 4 → n ≢ 5 → n ≢ 7 →
     (left : List ℕ) → in0 ≡ Some left → in1 ≡ Some (drop most_read left)
 reads_whole {n} text h is h4 h5 h7 left told =
     let e = status_is n h refl h5 in h.came_to.read_whole text is (λ z. h4 (sym e ∙ z)) (λ z. h7 (sym e ∙ z)) left told
@@ -298,3 +299,31 @@ pub answers_connection : (n : ℕ) (v w : Verdict) (err0 err1 in0 in1 out0 out1 
 answers_connection n v w err0 err1 in0 in1 out0 out1 e0 e1 o l c =
     let P : ℕ → Type 0 = λ m. (n ≡ m) ⊎ ((m ≢ 0) × ((n ≡ 5) ⊎ (n ≡ 7))) in
     record { end = c.end; exchanged = c.exchanged; status = subst P c.number (status_or n v w err0 err1 e0 e1 o l) }
+
+-- the native workers ran as the words want
+pub ran_so : {n : ℕ} {c : Option Command} {after : Meaning} {stands : List LogEntry → Type 0} {in0 in1 out0 out1 err0 err1 : Option (List ℕ)} {r0 r1 w0 w1 e0 e1 : ℕ} (text : TextCommand) →
+    Ended n c after stands in0 in1 out0 out1 err0 err1 r0 r1 w0 w1 e0 e1 → c ≡ Some (Command.Text text) → n ≢ 4 → n ≢ 5 → n ≢ 7 →
+    (left : List ℕ) → in0 ≡ Some left → (s : Scenario) → judged (take most_read left) ≡ Ok s → RanScenarioSo n text s after stands
+ran_so {n} {after = after} {stands = stands} text h is h4 h5 h7 left told s j =
+    let e = status_is n h refl h5 in
+    let P : ℕ → Type 0 = λ m. RanScenarioSo m text s after stands in
+    subst P e (h.came_to.native text is (λ z. h4 (sym e ∙ z)) left told s j)
+
+-- ---- lines that meet the laws
+
+-- the lines of a verdict are those of the status that is answered
+pub lawful_told : (n : ℕ) (v w : Verdict) (out0 out1 old new : Option (List ℕ)) (e0 e1 : ℕ) → IsOr v w → IsTold n w old new e0 e1 → HasLawfulLines (number_of v) out0 out1 → HasLawfulLines n out0 out1
+lawful_told n v w out0 out1 old new e0 e1 o l h =
+    record { lines = h.lines; lawful = h.lawful; prefix = h.prefix; whole = λ h4 h5 h7. by (status_or n v w old new e0 e1 o l) h4 h5 h7 }
+  where
+    broken : (n ≡ 5) ⊎ (n ≡ 7) → n ≢ 5 → n ≢ 7 → out1 ≡ appended out0 (text_of h.lines)
+    broken (inl e) h5 h7 = absurd (h5 e)
+    broken (inr e) h5 h7 = absurd (h7 e)
+
+    by : (n ≡ number_of v) ⊎ ((number_of v ≢ 0) × ((n ≡ 5) ⊎ (n ≡ 7))) → n ≢ 4 → n ≢ 5 → n ≢ 7 → out1 ≡ appended out0 (text_of h.lines)
+    by (inl e) h4 h5 h7 = h.whole (λ z. h4 (e ∙ z)) (λ z. h5 (e ∙ z)) (λ z. h7 (e ∙ z))
+    by (inr p) h4 h5 h7 = broken p.1 h5 h7
+
+-- nothing was written
+pub nothing_lawful : (n : ℕ) (out : Option (List ℕ)) → HasLawfulLines n out out
+nothing_lawful n out = record { lines = []; lawful = refl; prefix = AppendsPrefix-nothing out []; whole = λ h4 h5 h7. sym (appended-nothing out) }

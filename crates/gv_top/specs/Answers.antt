@@ -1,8 +1,8 @@
 -- What the call answers: its status, what it writes to out, and its line on err.
 use Rattle.std.specs.Prelude.{ℕ, if◌then◌else◌, List, [], ◌++◌, Option, Some, None, Ok, Err, codes, take, Result}
 use Rattle.trace_text.specs.LineTexts.{text_of}
-use Rattle.trace_text.specs.declared.line.StopCause.{StopCause}
 use Rattle.gv_values.specs.ValueTexts.{decimal}
+use Rattle.gv_values.specs.declared.job.Answer.{Answer as Given}
 use Rattle.scenario_tree.specs.declared.tree.Scenario.{Scenario}
 use Rattle.scenario_grammar.specs.declared.place.Place.{Place}
 use Rattle.scenario_grammar.specs.Parsed.{reading}
@@ -13,14 +13,13 @@ use Rattle.wsgi_core.specs.Answers.{Sent}
 use Rattle.wsgi_core.specs.Sessions.{answers}
 use Rattle.wsgi_core.specs.Shipped.{shipped}
 use Rattle.wsgi_connection.specs.Connections.{whole_session}
+use Rattle.gv_top.specs.Running.{run_of}
 use Rattle.gv_top.specs.declared.words.Command.{Command}
 use Rattle.gv_top.specs.declared.words.Command.TheVariants.{Text, Wsgi}
-use Rattle.command_words.specs.declared.command.RunOptions.{RunOptions}
 use Rattle.command_words.specs.declared.command.TextCommand.{TextCommand}
 use Rattle.command_words.specs.declared.command.TextCommand.TheVariants.{Run, Format}
-use Rattle.machine.specs.Run.{Ran, End, script_run}
+use Rattle.machine.specs.Run.{Ran, End}
 use Rattle.machine.specs.Status.{status, err_line, line_of}
-use Rattle.unbuilt_forms.specs.Built.{first_unbuilt}
 
 -- a line on err
 abbrev pub line : List ℕ → List ℕ
@@ -28,7 +27,7 @@ line text = line_of (Some text)
 
 -- ---- the end of a run
 
--- a run under the rule of a script never asks in vain
+-- a run that is answered to its end never asks in vain; one that asks was broken off
 abbrev pub status_of : End → ℕ
 status_of (End.Stopped cause) = status cause
 status_of End.Asking = 7
@@ -64,33 +63,21 @@ place_text line reason text = codes "line " ++ decimal line ++ codes ": reason "
 abbrev pub refusal : Place → Answer
 refusal place = record { status = 3; out = []; err = line (place_text place.line place.reason (reason_text place.reason)) }
 
--- the scenario has a form on this line that is not run yet
-abbrev pub not_built : ℕ → Answer
-not_built n = record { status = 3; out = []; err = line (place_text n 23 (codes "not built yet")) }
-
 -- the printed form of the scenario
 abbrev pub formatted : Scenario → Answer
 formatted s = record { status = 0; out = printed s; err = [] }
 
--- the run of the scenario with these options
-abbrev pub run_of : RunOptions → Scenario → Ran
-run_of options s = script_run s options.turns options.moves 0
-
--- what is answered to a run that stopped for this cause
-abbrev pub answer_of_stop : StopCause → Ran → Answer
-answer_of_stop cause r = record { status = status cause; out = text_of r.lines; err = err_line cause }
-
 abbrev pub answer_of_run : Ran → Answer
 answer_of_run r = record { status = status_of r.end; out = text_of r.lines; err = err_of r.end }
 
--- what is answered to a well-formed scenario; only `run` minds a form that is not run yet
-abbrev pub answer_to_scenario : TextCommand → Scenario → Answer
-answer_to_scenario (Run options) s = elim (first_unbuilt s) [ Some n ↦ not_built n | None ↦ answer_of_run (run_of options s) ]
-answer_to_scenario Format s = formatted s
+-- what is answered to a well-formed scenario, where native workers gave these answers
+abbrev pub answer_to_scenario : TextCommand → List Given → Scenario → Answer
+answer_to_scenario (Run options) given s = answer_of_run (run_of options given s)
+answer_to_scenario Format given s = formatted s
 
 -- what is answered to a text
-unfoldable pub answer_to_text : TextCommand → List ℕ → Answer
-answer_to_text command bytes = elim (judged bytes) [ Ok s ↦ answer_to_scenario command s | Err place ↦ refusal place ]
+unfoldable pub answer_to_text : TextCommand → List Given → List ℕ → Answer
+answer_to_text command given bytes = elim (judged bytes) [ Ok s ↦ answer_to_scenario command given s | Err place ↦ refusal place ]
 
 -- what `wsgi` answers where a session sent this: one that did not close met the limit of the connection
 abbrev pub answer_of_session : Sent → Answer
@@ -108,11 +95,12 @@ most_read = 1048577
 abbrev pub no_port : ℕ
 no_port = 0
 
--- what a command answers to an input of which these bytes are left, where nothing fails
-abbrev pub answer_to : Option Command → List ℕ → Answer
-answer_to None left = usage
-answer_to (Some (Text command)) left = answer_to_text command (take most_read left)
-answer_to (Some Wsgi) left = answer_of_session (whole_session answers shipped no_port left)
+-- what a command answers to an input of which these bytes are left, where nothing fails and native workers gave these
+-- answers
+abbrev pub answer_to : Option Command → List Given → List ℕ → Answer
+answer_to None given left = usage
+answer_to (Some (Text command)) given left = answer_to_text command given (take most_read left)
+answer_to (Some Wsgi) given left = answer_of_session (whole_session answers shipped no_port left)
 
 abbrev pub read_fault_line : List ℕ
 read_fault_line = line (codes "read fault")

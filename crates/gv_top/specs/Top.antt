@@ -1,14 +1,20 @@
 -- What the call leaves behind.
-use Rattle.std.specs.Prelude.{◌≡◌, ◌≢◌, ◌⊎◌, ℕ, true, List, Option, Some, None, drop, filter}
+use Rattle.std.specs.Prelude.{◌≡◌, ◌≢◌, ◌⊎◌, ℕ, true, List, Option, Some, None, Ok, drop, filter, take}
 use Rattle.std.specs.List.{list_all, flat_map}
 use Rattle.gv_values.specs.Counts.{HasRisen}
 use Rattle.gv_io.specs.Streams.{appended, AppendsPrefix}
+use Rattle.command_words.specs.declared.command.RunOptions.{RunOptions}
+use Rattle.command_words.specs.declared.command.RunWorld.{RunWorld}
 use Rattle.command_words.specs.declared.command.TextCommand.{TextCommand}
+use Rattle.scenario_tree.specs.declared.tree.Scenario.{Scenario}
+use Rattle.world.specs.Worlds.{Meaning}
+use Rattle.world_rules.specs.declared.question.LogEntry.{LogEntry}
 use Rattle.trace_text.specs.LineTexts.{text_of}
 use Rattle.trace_text.specs.declared.line.Line.{Line}
 use Rattle.trace_text.specs.declared.line.StopCause.{StopCause}
 use Rattle.machine.specs.Quiet.{is_quiet}
 use Rattle.machine.specs.Run.{Ran, End as RunEnd}
+use Rattle.machine.specs.Status.{err_line, status}
 use Rattle.machine.specs.TraceLaws.{meets_laws}
 use Rattle.machine_blocks.specs.Blocks.{block_lines, is_block}
 use Rattle.hub_engine.specs.declared.run.End.{End}
@@ -18,7 +24,8 @@ use Rattle.wsgi_connection.specs.Connections.{Exchanged}
 use Rattle.wsgi_connection.specs.declared.connection.ConnectionEnd.{ConnectionEnd}
 use Rattle.gv_top.specs.declared.status.Verdict.{Verdict}
 use Rattle.gv_top.specs.declared.words.Command.{Command}
-use Rattle.gv_top.specs.Answers.{Answer, answer_of_stop, answer_to, memory_line, most_read, no_port, read_fault_line, write_fault_line}
+use Rattle.gv_top.specs.Running.{RanNatively, run_of}
+use Rattle.gv_top.specs.Answers.{Answer, answer_to, judged, memory_line, most_read, no_port, read_fault_line, write_fault_line}
 use Rattle.gv_top.specs.Verdicts.{number_of, line_of}
 
 -- ---- a verdict
@@ -27,7 +34,8 @@ use Rattle.gv_top.specs.Verdicts.{number_of, line_of}
 abbrev pub Fits : Verdict → Answer → Option (List ℕ) → Option (List ℕ) → Type 0
 Fits v a old new = (new ≡ appended old a.out) × (number_of v ≡ a.status) × (line_of v ≡ a.err)
 
--- the verdict fits; or a fault or want of memory cut the text of the answer short; a text that could not be read leaves out as it was
+-- the verdict fits; or a fault or want of memory cut the text of the answer short; a text that could not be read leaves
+-- out as it was
 abbrev pub Decided : Verdict → Answer → Option (List ℕ) → Option (List ℕ) → Type 0
 Decided Verdict.ReadFault a old new = new ≡ old
 Decided (Verdict.Ran End.WriteFault) a old new = AppendsPrefix old new a.out
@@ -43,10 +51,22 @@ pub record IsOfConnection (v : Verdict) (in0 in1 out0 out1 : Option (List ℕ)) 
   pub number : number_of v ≡ number_of (Verdict.Connection end)
   pub exchanged : Exchanged end answers shipped no_port in0 in1 out0 out1
 
--- What a command came to, by the bytes of its input and of out and by the counts of their faults.
-pub record CameTo (v : Verdict) (command : Option Command) (in0 in1 out0 out1 : Option (List ℕ)) (reads0 reads1 writes0 writes1 : ℕ) : Type 0 where
+-- where the command was a run of the scenario with native workers, and nothing failed, it ran so
+abbrev pub RanScenarioSo : ℕ → TextCommand → Scenario → Meaning → (List LogEntry → Type 0) → Type 0
+RanScenarioSo n command s after stands =
+    (options : RunOptions) (workers : ℕ) → command ≡ TextCommand.Run options → options.world ≡ RunWorld.Native workers → n ≢ 5 → n ≢ 7 →
+    RanNatively workers (run_of options after.answers s) after stands
+
+-- so where it was one of the scenario that the bytes spell
+abbrev pub RanSo : ℕ → TextCommand → List ℕ → Meaning → (List LogEntry → Type 0) → Type 0
+RanSo n command bytes after stands =
+    (s : Scenario) → judged bytes ≡ Ok s → RanScenarioSo n command s after stands
+
+-- What a command came to, by the bytes of its input and of out, by the counts of their faults, and by what native
+-- workers are after it.
+pub record CameTo (v : Verdict) (command : Option Command) (after : Meaning) (stands : List LogEntry → Type 0) (in0 in1 out0 out1 : Option (List ℕ)) (reads0 reads1 writes0 writes1 : ℕ) : Type 0 where
   -- where the input is told, the answer is decided
-  pub answer : (left : List ℕ) → in0 ≡ Some left → Decided v (answer_to command left) out0 out1
+  pub answer : (left : List ℕ) → in0 ≡ Some left → Decided v (answer_to command after.answers left) out0 out1
   -- the words are no command
   pub usage : number_of v ≡ 2 → command ≡ None
   -- a read or a write failed
@@ -59,6 +79,9 @@ pub record CameTo (v : Verdict) (command : Option Command) (in0 in1 out0 out1 : 
   -- any other text was read to its end, or to one byte past the most
   pub read_whole : (text : TextCommand) → command ≡ Some (Command.Text text) → number_of v ≢ 4 → number_of v ≢ 7 →
       (left : List ℕ) → in0 ≡ Some left → in1 ≡ Some (drop most_read left)
+  -- native workers were begun and asked as the words want
+  pub native : (text : TextCommand) → command ≡ Some (Command.Text text) → number_of v ≢ 4 →
+      (left : List ℕ) → in0 ≡ Some left → RanSo (number_of v) text (take most_read left) after stands
 
 -- ---- its line on err
 
@@ -66,16 +89,17 @@ pub record CameTo (v : Verdict) (command : Option Command) (in0 in1 out0 out1 : 
 abbrev pub IsOr : Verdict → Verdict → Type 0
 IsOr v w = (w ≡ v) ⊎ ((w ≡ Verdict.Ran End.Memory) × (number_of v ≢ 0) × (number_of v ≢ 5))
 
--- err has the whole line of the verdict, whose status is answered; or the verdict has a line, err failed at it and has a prefix of it, and the status is 5
+-- err has the whole line of the verdict, whose status is answered; or the verdict has a line, err failed at it and has
+-- a prefix of it, and the status is 5
 abbrev pub IsTold : ℕ → Verdict → Option (List ℕ) → Option (List ℕ) → ℕ → ℕ → Type 0
 IsTold n v old new faults0 faults1 =
     ((n ≡ number_of v) × (new ≡ appended old (line_of v)))
     ⊎ ((n ≡ 5) × (number_of v ≢ 0) × HasRisen faults0 faults1 × AppendsPrefix old new (line_of v))
 
 -- the verdict of a command, and what of its line came to err
-pub record Ended (n : ℕ) (command : Option Command) (in0 in1 out0 out1 err0 err1 : Option (List ℕ)) (reads0 reads1 writes0 writes1 faults0 faults1 : ℕ) : Type 0 where
+pub record Ended (n : ℕ) (command : Option Command) (after : Meaning) (stands : List LogEntry → Type 0) (in0 in1 out0 out1 err0 err1 : Option (List ℕ)) (reads0 reads1 writes0 writes1 faults0 faults1 : ℕ) : Type 0 where
   pub verdict : Verdict
-  pub came_to : CameTo verdict command in0 in1 out0 out1 reads0 reads1 writes0 writes1
+  pub came_to : CameTo verdict command after stands in0 in1 out0 out1 reads0 reads1 writes0 writes1
   pub told : IsTold n verdict err0 err1 faults0 faults1
 
 -- ---- by the status
@@ -88,20 +112,29 @@ pub record IsAnswered (n : ℕ) (a : Answer) (out0 out1 err0 err1 : Option (List
   pub out : n ≢ 4 → n ≢ 5 → n ≢ 7 → out1 ≡ appended out0 a.out
   pub err : n ≢ 4 → n ≢ 5 → n ≢ 7 → err1 ≡ appended err0 a.err
 
--- the run stopped for a cause, and what is left is answered to it
-pub record AnswersRun (n : ℕ) (r : Ran) (out0 out1 err0 err1 : Option (List ℕ)) : Type 0 where
+-- the run stopped for a cause, out has the whole text of its lines, and the status and err are those of the cause
+pub record IsWholeRun (n : ℕ) (r : Ran) (out0 out1 err0 err1 : Option (List ℕ)) : Type 0 where
   pub cause : StopCause
   pub stops : r.end ≡ RunEnd.Stopped cause
-  pub answered : IsAnswered n (answer_of_stop cause r) out0 out1 err0 err1
+  pub status : n ≡ status cause
+  pub out : out1 ≡ appended out0 (text_of r.lines)
+  pub err : err1 ≡ appended err0 (err_line cause)
 
--- out has lines that meet the laws of a trace: whole but with the statuses 4, 5 and 7, and with these a beginning of their text
+-- the whole run is there, but with the statuses 4, 5 and 7; with these out has a beginning of its text
+pub record AnswersRun (n : ℕ) (r : Ran) (out0 out1 err0 err1 : Option (List ℕ)) : Type 0 where
+  pub prefix : AppendsPrefix out0 out1 (text_of r.lines)
+  pub whole : n ≢ 4 → n ≢ 5 → n ≢ 7 → IsWholeRun n r out0 out1 err0 err1
+
+-- out has lines that meet the laws of a trace: whole but with the statuses 4, 5 and 7, and with these a beginning of
+-- their text
 pub record HasLawfulLines (n : ℕ) (out0 out1 : Option (List ℕ)) : Type 0 where
   pub lines : List Line
   pub lawful : meets_laws lines ≡ true
   pub prefix : AppendsPrefix out0 out1 (text_of lines)
   pub whole : n ≢ 4 → n ≢ 5 → n ≢ 7 → out1 ≡ appended out0 (text_of lines)
 
--- the run's block lines are those that are said at its blocked states, and at each of these nothing that waits could go on
+-- the run's block lines are those that are said at its blocked states, and at each of these nothing that waits could go
+-- on
 pub record BlocksAtQuiet (r : Ran) : Type 0 where
   pub told : filter is_block r.lines ≡ flat_map block_lines r.blocked
   pub quiet : list_all is_quiet r.blocked ≡ true
@@ -122,7 +155,8 @@ pub record HasFaultLine (n : ℕ) (err0 err1 : Option (List ℕ)) : Type 0 where
   pub read : n ≡ 4 → err1 ≡ appended err0 read_fault_line
   pub memory : n ≡ 7 → err1 ≡ appended err0 memory_line
 
--- what led to status 5: out failed, and its line was tried; or err failed at the line of another status, and has a prefix of it
+-- what led to status 5: out failed, and its line was tried; or err failed at the line of another status, and has a
+-- prefix of it
 abbrev pub FailsToWrite : Option (List ℕ) → Option (List ℕ) → ℕ → ℕ → ℕ → ℕ → Type 0
 FailsToWrite err0 err1 writes0 writes1 faults0 faults1 =
     (HasRisen writes0 writes1 × IsTried write_fault_line err0 err1 faults0 faults1)

@@ -8,13 +8,12 @@ use Rattle.machine.specs.Status.{status, err_line}
 use Rattle.hub_engine.specs.declared.run.End.{End}
 use Rattle.wsgi_connection.specs.declared.connection.ConnectionEnd.{ConnectionEnd}
 use Rattle.gv_top.specs.declared.status.Verdict.{Verdict}
-use Rattle.gv_top.specs.Answers.{line, usage, not_built, refusal, read_fault_line, write_fault_line, memory_line}
+use Rattle.gv_top.specs.Answers.{line, usage, refusal, read_fault_line, write_fault_line, memory_line}
 
 abbrev pub number_of : Verdict → ℕ
 number_of Verdict.Usage = 2
 number_of Verdict.ReadFault = 4
 number_of (Verdict.Refused place) = 3
-number_of (Verdict.NotBuilt n) = 3
 number_of Verdict.Formatted = 0
 number_of (Verdict.Ran End.MainValue) = 0
 number_of (Verdict.Ran (End.MainFault f)) = status (StopCause.Fault f)
@@ -35,7 +34,6 @@ abbrev pub line_of : Verdict → List ℕ
 line_of Verdict.Usage = usage.err
 line_of Verdict.ReadFault = read_fault_line
 line_of (Verdict.Refused place) = (refusal place).err
-line_of (Verdict.NotBuilt n) = (not_built n).err
 line_of Verdict.Formatted = []
 line_of (Verdict.Ran End.MainValue) = []
 line_of (Verdict.Ran (End.MainFault f)) = err_line (StopCause.Fault f)

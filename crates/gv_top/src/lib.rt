@@ -3,6 +3,7 @@
 
 mod laws;
 mod reading;
+mod running;
 mod status;
 mod top;
 mod words;

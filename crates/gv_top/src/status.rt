@@ -8,9 +8,6 @@ use scenario_grammar::{Place, reason_text};
 use std::alloc::{AllocError, Global};
 use wsgi_connection::ConnectionEnd;
 
-/// The reason of a form that is not run yet.
-const NOT_BUILT: u8 = 23;
-
 /// How a call ends.
 #[derive(Clone, Copy, Debug, PartialEq, Eq)]
 pub enum Verdict {
@@ -20,8 +17,6 @@ pub enum Verdict {
     ReadFault,
     /// The input spells no well-formed scenario; where it is refused.
     Refused(Place),
-    /// The scenario has a form on this line that is not run yet.
-    NotBuilt(u32),
     /// The printed form of the scenario is out.
     Formatted,
     /// The run came to this end.
@@ -39,7 +34,6 @@ impl Verdict {
             Verdict::Usage => 2,
             Verdict::ReadFault => 4,
             Verdict::Refused(_) => 3,
-            Verdict::NotBuilt(_) => 3,
             Verdict::Formatted => 0,
             Verdict::Ran(End::MainValue) => 0,
             Verdict::Ran(End::MainFault(_)) => 1,
@@ -67,7 +61,6 @@ impl Verdict {
             Verdict::Usage => line_with(alloc, b"usage: gvr run, fmt, wsgi, serve or storm"),
             Verdict::ReadFault => line_with(alloc, b"read fault"),
             Verdict::Refused(place) => refusal_line(alloc, place),
-            Verdict::NotBuilt(line) => place_line(alloc, line, NOT_BUILT, b"not built yet"),
             Verdict::Formatted => Ok(Vec::new(alloc)),
             Verdict::Ran(End::MainValue) => Ok(Vec::new(alloc)),
             Verdict::Ran(End::MainFault(kind)) => fault_line(alloc, kind),

@@ -1,5 +1,5 @@
 //! The call that the program makes.
-ghost use Rattle.std.specs.Prelude.{◌≡◌, ◌≢◌, ◌≤◌, ◌⊎◌, ℕ, List, Some, None, map, take, drop, string_bytes, OnOk, OnErr};
+ghost use Rattle.std.specs.Prelude.{◌≡◌, ◌≢◌, ◌≤◌, ◌⊎◌, ℕ, false, List, Some, None, map, take, drop, string_bytes, OnOk, OnErr};
 ghost use Rattle.gv_values.specs.Counts.{HasRisen};
 ghost use Rattle.gv_io.specs.Streams.{appended, AppendsPrefix};
 ghost use Rattle.command_words.specs.declared.command.RunOptions.{RunOptions as AnyOptions};
@@ -7,27 +7,29 @@ ghost use Rattle.scenario_grammar.specs.declared.place.Place.{Place};
 ghost use Rattle.scenario_grammar.specs.Spells.{Spells};
 ghost use Rattle.scenario_rules.specs.Rules.{IsWellFormed};
 ghost use Rattle.scenario_tree.specs.declared.tree.Scenario.{Scenario as AnyScenario};
-ghost use Rattle.unbuilt_forms.specs.Built.{IsBuilt, first_unbuilt};
-ghost use Rattle.hub_engine.specs.Ends.{RanTo};
-ghost use Rattle.gv_top.specs.Answers.{answer_to, answer_to_scenario, answer_to_text, formatted, memory_line, most_read, not_built, refusal, run_of, write_fault_line};
+ghost use Rattle.command_words.specs.declared.command.Command.{Command as NamedCommand};
+ghost use Rattle.command_words.specs.Ranges.{IsInRange};
+ghost use Rattle.gv_top.specs.Answers.{answer_to, answer_to_scenario, answer_to_text, formatted, memory_line, most_read, refusal, write_fault_line};
+ghost use Rattle.gv_top.specs.Running.{RanNatively, run_of};
 ghost use Rattle.gv_top.specs.declared.status.Verdict.{Verdict as AnyVerdict};
 ghost use Rattle.gv_top.specs.Refusals.{IsRefusedAt};
-ghost use Rattle.gv_top.specs.Top.{AnswersConnection, AnswersRun, BlocksAtQuiet, CameTo, Decided, Ended, FailsToWrite, HasFaultLine, HasLawfulLines, IsAnswered, IsOfConnection, IsOr, IsTold};
+ghost use Rattle.gv_top.specs.Top.{AnswersConnection, AnswersRun, BlocksAtQuiet, CameTo, Decided, Ended, FailsToWrite, HasFaultLine, HasLawfulLines, IsAnswered, IsOfConnection, IsOr, IsTold, RanScenarioSo, RanSo};
 ghost use Rattle.gv_top.specs.Verdicts.{IsExplained, line_of, number_of, verdict_on};
-ghost use Rattle.gv_top.specs.Words.{command_of};
+ghost use Rattle.gv_top.specs.Words.{command_of, is_native, is_native_text};
 
 use crate::reading::read_scenario;
+use crate::running::run_scenario;
 use crate::status::Verdict;
 use crate::words::{Command, command_of};
-use command_words::{RunOptions, TextCommand};
+use command_words::{RunWorld, TextCommand, commands_are_in_range};
 use gv_io::{Failed, ReadRefusal, Sink, Source, read_limited};
-use hub_engine::{Budgets, End, Engine};
+use hub_engine::End;
 use machine_blocks::blocks_are_told;
-use machine_laws::{blocks_are_quiet, scripts_run_lawfully};
-use machine_turns::scripts_stop;
+use machine_laws::blocks_are_quiet;
 use scenario_check::Checked;
 use scenario_lang::{ParseRefusal, Scenario, print};
 use std::alloc::Global;
+use world::World;
 use wsgi_connection::answer_connection;
 use wsgi_core::{Session, ShippedApp};
 
@@ -37,63 +39,54 @@ const MOST_BYTES: usize = 1048576;
 /// The port of a session whose bytes come from the input.
 const NO_PORT: u16 = 0;
 
-/// Runs the scenario, all of whose forms are run, and writes its trace to out.
-fn run_scenario<K: Sink>(alloc: Global, checked: Checked, options: RunOptions, out: &mut K) -> End
-    requires built { IsBuilt checked }
-    ensures written { RanTo result (run_of options checked) (K.written out.old) (K.written out.new) }
-    ensures never_falls { K.faults out.old ≤ K.faults out.new }
-    ensures failed { result ≡ End.WriteFault → HasRisen (K.faults out.old) (K.faults out.new) }
-{
-    let budgets = Budgets {
-        turns: options.turns,
-        moves: options.moves,
-    };
-    let Ok(engine) = Engine::new(alloc, checked, budgets) else {
-        return End::Memory;
-    };
-    let end = engine.run(alloc, out).end;
-    if matches!(end, End::WriteFault | End::Memory) {
-        return end;
-    }
-    match out.flush() {
-        Ok(()) => end,
-        Err(_) => End::WriteFault,
-    }
-}
-
 /// All of the call but its line on err.
-fn decides<S: Source, K: Sink>(
+fn decides<S: Source, K: Sink, W: World>(
     alloc: Global,
     words: &[String],
     input: &mut S,
     out: &mut K,
+    native: &mut W,
 ) -> Verdict
-    ensures came_to { CameTo result (command_of (map string_bytes words.now)) (S.remaining input.old) (S.remaining input.new)
+    requires rests { (W.meaning native.old).runs ≡ false }
+    ensures came_to { CameTo result (command_of (map string_bytes words.now)) (W.meaning native.new) (W.stands_for native.new) (S.remaining input.old) (S.remaining input.new)
         (K.written out.old) (K.written out.new) (S.faults input.old) (S.faults input.new) (K.faults out.old) (K.faults out.new) }
     ensures no_command { command_of (map string_bytes words.now) ≡ None → (number_of result ≡ 2) ⊎ (number_of result ≡ 7) }
+    ensures lawful { (options : AnyOptions) → command_of (map string_bytes words.now) ≡ Some (Command.Text (TextCommand.Run options)) →
+        HasLawfulLines (number_of result) (K.written out.old) (K.written out.new) }
+    ensures untouched { is_native (command_of (map string_bytes words.now)) ≡ false → native.new ≡ native.old }
+    ensures rests { (W.meaning native.new).runs ≡ false }
     ensures connection { command_of (map string_bytes words.now) ≡ Some Command.Wsgi →
         IsOfConnection result (S.remaining input.old) (S.remaining input.new) (K.written out.old) (K.written out.new) }
     ensures explained { IsExplained result }
     ensures input_never_falls { S.faults input.old ≤ S.faults input.new }
     ensures out_never_falls { K.faults out.old ≤ K.faults out.new }
 {
+    commands_are_in_range();
     let Ok(command) = command_of(alloc, words) else {
         return Verdict::Ran(End::Memory);
     };
-    answers_command(alloc, command, input, out)
+    answers_command(alloc, command, input, out, native)
 }
 
 /// Does what the command wants, or answers that the words named none.
-fn answers_command<S: Source, K: Sink>(
+fn answers_command<S: Source, K: Sink, W: World>(
     alloc: Global,
     command: Option<Command>,
     input: &mut S,
     out: &mut K,
+    native: &mut W,
 ) -> Verdict
+    requires range { (text : TextCommand) → command ≡ Some (Command.Text text) → IsInRange (NamedCommand.Text text) }
+    requires rests { (W.meaning native.old).runs ≡ false }
     ensures answer { (left : List ℕ) → S.remaining input.old ≡ Some left →
-        Decided result (answer_to command left) (K.written out.old) (K.written out.new) }
+        Decided result (answer_to command (W.meaning native.new).answers left) (K.written out.old) (K.written out.new) }
     ensures usage { number_of result ≡ 2 → command ≡ None }
     ensures no_command { command ≡ None → (number_of result ≡ 2) ⊎ (number_of result ≡ 7) }
+    ensures native { (text : TextCommand) → command ≡ Some (Command.Text text) → number_of result ≢ 4 → (left : List ℕ) → S.remaining input.old ≡ Some left →
+        RanSo (number_of result) text (take most_read left) (W.meaning native.new) (W.stands_for native.new) }
+    ensures lawful { (options : AnyOptions) → command ≡ Some (Command.Text (TextCommand.Run options)) → HasLawfulLines (number_of result) (K.written out.old) (K.written out.new) }
+    ensures untouched { is_native command ≡ false → native.new ≡ native.old }
+    ensures rests { (W.meaning native.new).runs ≡ false }
     ensures connection { command ≡ Some Command.Wsgi →
         IsOfConnection result (S.remaining input.old) (S.remaining input.new) (K.written out.old) (K.written out.new) }
     ensures read_fault { number_of result ≡ 4 → HasRisen (S.faults input.old) (S.faults input.new) }
@@ -108,7 +101,7 @@ fn answers_command<S: Source, K: Sink>(
 {
     match command {
         None => Verdict::Usage,
-        Some(Command::Text(command)) => answers_input(alloc, command, input, out),
+        Some(Command::Text(command)) => answers_input(alloc, command, input, out, native),
         Some(Command::Wsgi) => {
             let end = answer_connection::<Session, S, K, ShippedApp>(
                 alloc,
@@ -123,14 +116,22 @@ fn answers_command<S: Source, K: Sink>(
 }
 
 /// Reads a text, and does with it what the command wants.
-fn answers_input<S: Source, K: Sink>(
+fn answers_input<S: Source, K: Sink, W: World>(
     alloc: Global,
     command: TextCommand,
     input: &mut S,
     out: &mut K,
+    native: &mut W,
 ) -> Verdict
+    requires range { IsInRange (NamedCommand.Text command) }
+    requires rests { (W.meaning native.old).runs ≡ false }
+    ensures native { number_of result ≢ 4 → (left : List ℕ) → S.remaining input.old ≡ Some left →
+        RanSo (number_of result) command (take most_read left) (W.meaning native.new) (W.stands_for native.new) }
+    ensures lawful { (options : AnyOptions) → command ≡ TextCommand.Run options → HasLawfulLines (number_of result) (K.written out.old) (K.written out.new) }
+    ensures untouched { is_native_text command ≡ false → native.new ≡ native.old }
+    ensures rests { (W.meaning native.new).runs ≡ false }
     ensures answer { (left : List ℕ) → S.remaining input.old ≡ Some left →
-        Decided result (answer_to_text command (take most_read left)) (K.written out.old) (K.written out.new) }
+        Decided result (answer_to_text command (W.meaning native.new).answers (take most_read left)) (K.written out.old) (K.written out.new) }
     ensures command { number_of result ≢ 2 }
     ensures unread { number_of result ≡ 4 → K.written out.new ≡ K.written out.old }
     ensures unprinted { command ≡ TextCommand.Format → number_of result ≢ 0 → number_of result ≢ 5 → K.written out.new ≡ K.written out.old }
@@ -145,12 +146,24 @@ fn answers_input<S: Source, K: Sink>(
     match read_limited(alloc, input, MOST_BYTES) {
         Err(ReadRefusal::Fault) => Verdict::ReadFault,
         Err(ReadRefusal::Memory) => Verdict::Ran(End::Memory),
-        Ok(bytes) => answers_text(alloc, command, bytes.as_slice(), out),
+        Ok(bytes) => answers_text(alloc, command, bytes.as_slice(), out, native),
     }
 }
 
-fn answers_text<K: Sink>(alloc: Global, command: TextCommand, bytes: &[u8], out: &mut K) -> Verdict
-    ensures answer { Decided result (answer_to_text command bytes.now) (K.written out.old) (K.written out.new) }
+fn answers_text<K: Sink, W: World>(
+    alloc: Global,
+    command: TextCommand,
+    bytes: &[u8],
+    out: &mut K,
+    native: &mut W,
+) -> Verdict
+    requires range { IsInRange (NamedCommand.Text command) }
+    requires rests { (W.meaning native.old).runs ≡ false }
+    ensures native { RanSo (number_of result) command bytes.now (W.meaning native.new) (W.stands_for native.new) }
+    ensures lawful { (options : AnyOptions) → command ≡ TextCommand.Run options → HasLawfulLines (number_of result) (K.written out.old) (K.written out.new) }
+    ensures untouched { is_native_text command ≡ false → native.new ≡ native.old }
+    ensures rests { (W.meaning native.new).runs ≡ false }
+    ensures answer { Decided result (answer_to_text command (W.meaning native.new).answers bytes.now) (K.written out.old) (K.written out.new) }
     ensures command { number_of result ≢ 2 }
     ensures read { number_of result ≢ 4 }
     ensures unprinted { command ≡ TextCommand.Format → number_of result ≢ 0 → number_of result ≢ 5 → K.written out.new ≡ K.written out.old }
@@ -160,7 +173,7 @@ fn answers_text<K: Sink>(alloc: Global, command: TextCommand, bytes: &[u8], out:
 {
     match read_scenario(alloc, bytes) {
         Err(refusal) => verdict_on(refusal),
-        Ok(checked) => answers_scenario(alloc, command, checked, out),
+        Ok(checked) => answers_scenario(alloc, command, checked, out, native),
     }
 }
 
@@ -175,13 +188,20 @@ fn verdict_on(refusal: ParseRefusal) -> Verdict
 }
 
 /// Runs the scenario, or writes its printed form.
-fn answers_scenario<K: Sink>(
+fn answers_scenario<K: Sink, W: World>(
     alloc: Global,
     command: TextCommand,
     checked: Checked,
     out: &mut K,
+    native: &mut W,
 ) -> Verdict
-    ensures answer { Decided result (answer_to_scenario command checked) (K.written out.old) (K.written out.new) }
+    requires range { IsInRange (NamedCommand.Text command) }
+    requires rests { (W.meaning native.old).runs ≡ false }
+    ensures native { RanScenarioSo (number_of result) command checked (W.meaning native.new) (W.stands_for native.new) }
+    ensures lawful { (options : AnyOptions) → command ≡ TextCommand.Run options → HasLawfulLines (number_of result) (K.written out.old) (K.written out.new) }
+    ensures untouched { is_native_text command ≡ false → native.new ≡ native.old }
+    ensures rests { (W.meaning native.new).runs ≡ false }
+    ensures answer { Decided result (answer_to_scenario command (W.meaning native.new).answers checked) (K.written out.old) (K.written out.new) }
     ensures command { number_of result ≢ 2 }
     ensures read { number_of result ≢ 4 }
     ensures unprinted { command ≡ TextCommand.Format → number_of result ≢ 0 → number_of result ≢ 5 → K.written out.new ≡ K.written out.old }
@@ -190,28 +210,10 @@ fn answers_scenario<K: Sink>(
     ensures never_falls { K.faults out.old ≤ K.faults out.new }
 {
     match command {
-        TextCommand::Run(options) => runs_scenario(alloc, checked, options, out),
+        TextCommand::Run(options) => Verdict::Ran(run_scenario(
+            alloc, checked, options, native, out,
+        )),
         TextCommand::Format => formats(alloc, checked.scenario(), out),
-    }
-}
-
-/// Runs the scenario with these options, unless it has a form that is not run yet.
-fn runs_scenario<K: Sink>(
-    alloc: Global,
-    checked: Checked,
-    options: RunOptions,
-    out: &mut K,
-) -> Verdict
-    ensures answer { Decided result (answer_to_scenario (TextCommand.Run options) checked) (K.written out.old) (K.written out.new) }
-    ensures command { number_of result ≢ 2 }
-    ensures read { number_of result ≢ 4 }
-    ensures explained { IsExplained result }
-    ensures write_fault { number_of result ≡ 5 → HasRisen (K.faults out.old) (K.faults out.new) }
-    ensures never_falls { K.faults out.old ≤ K.faults out.new }
-{
-    match Engine::unbuilt(&checked) {
-        Some(line) => Verdict::NotBuilt(line),
-        None => Verdict::Ran(run_scenario(alloc, checked, options, out)),
     }
 }
 
@@ -308,16 +310,17 @@ fn tells<E: Sink>(alloc: Global, verdict: Verdict, err: &mut E) -> u8
 
 /// Does what the words name over these streams, and answers its status.
 ///
-/// `run` reads a scenario, runs it within its budgets of turns and moves, and writes its trace to out. `fmt` reads a
-/// scenario, and writes its printed form to out. `wsgi` reads the bytes of one connection, and writes the answers of
-/// the shipped application to out.
+/// `run` reads a scenario, runs it within its budgets of turns and moves, and writes its trace to out. The run is that
+/// of a script with the tick of the words; or, with native workers, one in the world `native`, which is begun before it
+/// and finished after it and is left alone otherwise. `fmt` reads a scenario, and writes its printed form to out.
+/// `wsgi` reads the bytes of one connection, and writes the answers of the shipped application to out.
 ///
 /// The statuses, of which 4, 5 and 7 (want of memory) come before every other:
 ///
 /// - 0: the run's main ended with a value, or `fmt` or `wsgi` came to its end.
 /// - 1: the run's main ended by a fault.
 /// - 2: the words are no command.
-/// - 3: the input spells no well-formed scenario, or under `run` one that has a form that is not run yet.
+/// - 3: the input spells no well-formed scenario.
 /// - 4: the input could not be read.
 /// - 5: out or err could not be written.
 /// - 6: the run would begin one more turn or move than its budget.
@@ -325,29 +328,35 @@ fn tells<E: Sink>(alloc: Global, verdict: Verdict, err: &mut E) -> u8
 ///
 /// Which of 0, 1, 3, 6 and 8 it is, is said by `answer`, by one equation: the status is that of the answer to the
 /// words and the input. So each comes exactly where the answer has it, and its line on err with it.
-pub fn gvr<S: Source, K: Sink, E: Sink>(
+pub fn gvr<S: Source, K: Sink, E: Sink, W: World>(
     alloc: Global,
     words: &[String],
     input: &mut S,
     out: &mut K,
     err: &mut E,
+    native: &mut W,
 ) -> u8
-    // A text of a well-formed scenario all of whose forms are run is run: out has the text of the one run's lines, the status and the line on err are those of its end.
+    requires rests { (W.meaning native.old).runs ≡ false }
+    // A text of a well-formed scenario is run: out has the text of the one run's lines, and the status and the line on
+    // err are those of its end. Without native workers it is the run under the rule of a script, and with them the run
+    // under the answers that they gave.
     ensures trace { (options : AnyOptions) (s : AnyScenario) (left : List ℕ) → command_of (map string_bytes words.now) ≡ Some (Command.Text (TextCommand.Run options)) →
-        S.remaining input.old ≡ Some left → Spells s (take most_read left) → IsWellFormed s → first_unbuilt s ≡ None →
-        AnswersRun result (run_of options s) (K.written out.old) (K.written out.new) (E.written err.old) (E.written err.new) }
-    // What out has then are lines that meet the laws of a trace.
-    ensures lawful { (options : AnyOptions) (s : AnyScenario) (left : List ℕ) → command_of (map string_bytes words.now) ≡ Some (Command.Text (TextCommand.Run options)) →
-        S.remaining input.old ≡ Some left → Spells s (take most_read left) → IsWellFormed s → first_unbuilt s ≡ None →
+        S.remaining input.old ≡ Some left → Spells s (take most_read left) → IsWellFormed s →
+        AnswersRun result (run_of options (W.meaning native.new).answers s) (K.written out.old) (K.written out.new) (E.written err.old) (E.written err.new) }
+    // What out has after `run` are lines that meet the laws of a trace, whatever the input.
+    ensures lawful { (options : AnyOptions) → command_of (map string_bytes words.now) ≡ Some (Command.Text (TextCommand.Run options)) →
         HasLawfulLines result (K.written out.old) (K.written out.new) }
     // And at each of its block lines nothing that waits could go on.
     ensures quiet { (options : AnyOptions) (s : AnyScenario) (left : List ℕ) → command_of (map string_bytes words.now) ≡ Some (Command.Text (TextCommand.Run options)) →
-        S.remaining input.old ≡ Some left → Spells s (take most_read left) → IsWellFormed s → first_unbuilt s ≡ None →
-        BlocksAtQuiet (run_of options s) }
-    // One that has a form that is not run yet is not run: err has the first line that has one.
-    ensures not_built { (options : AnyOptions) (s : AnyScenario) (left : List ℕ) (n : ℕ) → command_of (map string_bytes words.now) ≡ Some (Command.Text (TextCommand.Run options)) →
-        S.remaining input.old ≡ Some left → Spells s (take most_read left) → IsWellFormed s → first_unbuilt s ≡ Some n →
-        IsAnswered result (not_built n) (K.written out.old) (K.written out.new) (E.written err.old) (E.written err.new) }
+        S.remaining input.old ≡ Some left → Spells s (take most_read left) → IsWellFormed s →
+        BlocksAtQuiet (run_of options (W.meaning native.new).answers s) }
+    // Native workers were begun in the number that the words ask for, posted the jobs of the job lines and asked for
+    // the answers of the turn lines, and run no longer.
+    ensures native { (options : AnyOptions) (workers : ℕ) (s : AnyScenario) (left : List ℕ) → command_of (map string_bytes words.now) ≡ Some (Command.Text (TextCommand.Run options)) →
+        options.world ≡ RunWorld.Native workers → S.remaining input.old ≡ Some left → Spells s (take most_read left) → IsWellFormed s → result ≢ 4 → result ≢ 5 → result ≢ 7 →
+        RanNatively workers (run_of options (W.meaning native.new).answers s) (W.meaning native.new) (W.stands_for native.new) }
+    ensures untouched { is_native (command_of (map string_bytes words.now)) ≡ false → native.new ≡ native.old }
+    ensures native_rests { (W.meaning native.new).runs ≡ false }
     // A text of a well-formed scenario is printed: out has its printed form.
     ensures formatted { (s : AnyScenario) (left : List ℕ) → command_of (map string_bytes words.now) ≡ Some (Command.Text TextCommand.Format) →
         S.remaining input.old ≡ Some left → Spells s (take most_read left) → IsWellFormed s →
@@ -362,10 +371,10 @@ pub fn gvr<S: Source, K: Sink, E: Sink>(
         AnswersConnection result (S.remaining input.old) (S.remaining input.new) (K.written out.old) (K.written out.new) }
     // The status, what out has and what err has are the answer's, but with the statuses 4, 5 and 7.
     ensures answer { (left : List ℕ) → S.remaining input.old ≡ Some left →
-        IsAnswered result (answer_to (command_of (map string_bytes words.now)) left)
+        IsAnswered result (answer_to (command_of (map string_bytes words.now)) (W.meaning native.new).answers left)
         (K.written out.old) (K.written out.new) (E.written err.old) (E.written err.new) }
     // It ended with a verdict, which the streams bear out, and whose line was tried on err.
-    ensures ended { Ended result (command_of (map string_bytes words.now)) (S.remaining input.old) (S.remaining input.new)
+    ensures ended { Ended result (command_of (map string_bytes words.now)) (W.meaning native.new) (W.stands_for native.new) (S.remaining input.old) (S.remaining input.new)
         (K.written out.old) (K.written out.new) (E.written err.old) (E.written err.new)
         (S.faults input.old) (S.faults input.new) (K.faults out.old) (K.faults out.new) (E.faults err.old) (E.faults err.new) }
     ensures fault_line { HasFaultLine result (E.written err.old) (E.written err.new) }
@@ -380,17 +389,16 @@ pub fn gvr<S: Source, K: Sink, E: Sink>(
     // Status 5 comes where out failed, whatever became of its line; or where err failed at the line of another status.
     ensures write_fault { result ≡ 5 →
         FailsToWrite (E.written err.old) (E.written err.new) (K.faults out.old) (K.faults out.new) (E.faults err.old) (E.faults err.new) }
-    // With `run` and `fmt`, every status but 4, 5 and 7 comes only where the input was read to its end or to one byte past the most that a text may have.
+    // With `run` and `fmt`, every status but 4, 5 and 7 comes only where the input was read to its end or to one byte
+    // past the most that a text may have.
     ensures read_whole { (command : TextCommand) → command_of (map string_bytes words.now) ≡ Some (Command.Text command) → result ≢ 4 → result ≢ 5 → result ≢ 7 →
         (left : List ℕ) → S.remaining input.old ≡ Some left → S.remaining input.new ≡ Some (drop most_read left) }
     ensures input_never_falls { S.faults input.old ≤ S.faults input.new }
     ensures out_never_falls { K.faults out.old ≤ K.faults out.new }
     ensures err_never_falls { E.faults err.old ≤ E.faults err.new }
 {
-    scripts_stop();
-    scripts_run_lawfully();
     blocks_are_quiet();
     blocks_are_told();
-    let verdict = decides(alloc, words, input, out);
+    let verdict = decides(alloc, words, input, out, native);
     tells(alloc, verdict, err)
 }

@@ -1,8 +1,8 @@
 //! The commands that are built, of those that words name.
 ghost use Rattle.std.specs.Prelude.{◌≡◌, IfOk, map, string_bytes};
-ghost use Rattle.gv_top.specs.Words.{built, built_run, command_of};
+ghost use Rattle.gv_top.specs.Words.{built, command_of};
 
-use command_words::{Command as NamedCommand, RunOptions, RunWorld, TextCommand};
+use command_words::{Command as NamedCommand, TextCommand};
 use std::alloc::{AllocError, Global};
 
 /// What the program is asked to do.
@@ -29,20 +29,9 @@ fn built(command: NamedCommand) -> Option<Command>
     ensures { result ≡ built command }
 {
     match command {
-        NamedCommand::Text(TextCommand::Run(options)) => built_run(options),
-        NamedCommand::Text(TextCommand::Format) => Some(Command::Text(TextCommand::Format)),
+        NamedCommand::Text(command) => Some(Command::Text(command)),
         NamedCommand::Wsgi => Some(Command::Wsgi),
         NamedCommand::Serve(_) => None,
         NamedCommand::Storm(_) => None,
-    }
-}
-
-/// The run, if its world is built.
-fn built_run(options: RunOptions) -> Option<Command>
-    ensures { result ≡ built_run options }
-{
-    match options.world {
-        RunWorld::Script(0) => Some(Command::Text(TextCommand::Run(options))),
-        _ => None,
     }
 }

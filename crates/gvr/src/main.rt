@@ -1,8 +1,16 @@
-//! The program: it makes the real streams, and `gv_top::gvr` does everything.
+//! The program: it makes the real streams and the world of native threads, and `gv_top::gvr` does everything.
 #![tactic(auto)]
 
+mod fallback;
+
+use crate::fallback::{DeafEar, MuteBell, ProgramClock};
 use gv_io::{StdSink, StdSource};
 use gv_top::gvr;
+use native_board::Bell;
+use native_pool::{
+    Ear, NoThreads, OpenGate, PollEar, Spawner, ThreadSpawner, ThreadWorld, WakerBell, WorkerTask,
+    spawn_worker,
+};
 use std::alloc::{AllocError, Global};
 use std::io::Write;
 use std::process::ExitCode;
@@ -35,17 +43,51 @@ fn words(rt: &HostRuntime) -> Result<Vec<String>, AllocError> {
     Ok(words)
 }
 
-/// Runs the command over the real streams, and gives its status.
-fn run(rt: &HostRuntime) -> Result<u8, AllocError> {
-    let words = words(rt)?;
+/// Runs the command over the real streams, and over native threads that are made of these parts; gives its status.
+fn run_over<R: Ear + Drop, B: Bell + Drop, S: Spawner<B, OpenGate> + Drop>(
+    rt: HostRuntime,
+    ear: R,
+    bell: B,
+    spawner: S,
+) -> Result<u8, AllocError> {
+    let words = words(&rt)?;
+    let clock = ProgramClock::new(rt);
+    let mut native = ThreadWorld::new(rt.alloc(), rt, ear, bell, clock, OpenGate, spawner)?;
     let mut input = StdSource::new(rt.reader());
     let mut out = StdSink::new(rt.alloc(), rt.stdout().lock(), TRACE_CAPACITY)?;
     let mut err = StdSink::new(rt.alloc(), rt.stderr().lock(), LINE_CAPACITY)?;
-    Ok(gvr(rt.alloc(), words.as_slice(), &mut input, &mut out, &mut err))
+    Ok(gvr(
+        rt.alloc(),
+        words.as_slice(),
+        &mut input,
+        &mut out,
+        &mut err,
+        &mut native,
+    ))
+}
+
+/// Runs the command, and gives its status. Where the system has no poll by which a worker could wake the hub, the hub
+/// evaluates all jobs itself.
+fn run(rt: HostRuntime) -> Result<u8, AllocError> {
+    match PollEar::new(&rt, rt.alloc()) {
+        Ok((ear, bell)) => {
+            let start = Box::new(
+                rt.alloc(),
+                move |task: WorkerTask<WakerBell, OpenGate>| spawn_worker(&rt, task),
+            )?;
+            run_over(rt, ear, bell, ThreadSpawner::new(rt, start))
+        }
+        Err(error) => {
+            if error.kind() == io::ErrorKind::OutOfMemory {
+                return Err(AllocError);
+            }
+            run_over(rt, DeafEar, MuteBell, NoThreads::new())
+        }
+    }
 }
 
 fn main(rt: HostRuntime) -> ExitCode {
-    match run(&rt) {
+    match run(rt) {
         Ok(status) => ExitCode::from(status),
         Err(_) => {
             let _ = rt.stderr().lock().write_all(b"gvr: out of memory\n");

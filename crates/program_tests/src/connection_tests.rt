@@ -5,6 +5,7 @@ use gv_io::{MemorySink, MemorySource};
 use gv_top::gvr;
 use std::alloc::{AllocError, Global};
 use std::test::Fail;
+use world::ScriptWorld;
 
 #[derive(Drop)]
 struct Left {
@@ -28,7 +29,15 @@ fn answered(
     let mut input = MemorySource::new(bytes, piece, Vec::from_slice(alloc, failing)?);
     let mut out = MemorySink::new(alloc, room)?;
     let mut err = MemorySink::new(alloc, 1000)?;
-    let status = gvr(alloc, words.as_slice(), &mut input, &mut out, &mut err);
+    let mut native = ScriptWorld::new(alloc, 0);
+    let status = gvr(
+        alloc,
+        words.as_slice(),
+        &mut input,
+        &mut out,
+        &mut err,
+        &mut native,
+    );
     Ok(Left { status, out, err })
 }
 

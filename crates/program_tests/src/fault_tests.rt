@@ -8,6 +8,7 @@ use gv_top::gvr;
 use std::alloc::{AllocError, Global};
 use std::cell::Cell;
 use std::test::Fail;
+use world::ScriptWorld;
 
 const TRACE_OF_PRINTS_ONE: &str =
     "start g0 main\nprint g0 1\nend g0 value none\nstop value none turns 0 moves 1\n";
@@ -42,7 +43,15 @@ fn err_that_always_fails(rt: HostRuntime) -> Result<(), Fail> {
         let mut err = StdSink::new(alloc, &mut nowhere[..], 0)?;
         // a sink over the system fails for good once it has failed
         assert_eq!(rt; err.write_all(b"x"), Err(Failed));
-        let answered = gvr(alloc, words.as_slice(), &mut input, &mut out, &mut err);
+        let mut native = ScriptWorld::new(alloc, 0);
+        let answered = gvr(
+            alloc,
+            words.as_slice(),
+            &mut input,
+            &mut out,
+            &mut err,
+            &mut native,
+        );
         assert_eq!(rt; answered, status, "{line}");
         assert_eq!(rt; out.bytes(), wanted.as_bytes(), "{line}");
     }
@@ -64,7 +73,15 @@ fn err_that_fails_past_its_room(rt: HostRuntime) -> Result<(), Fail> {
         let mut input = source_of(alloc, text)?;
         let mut out = MemorySink::new(alloc, room)?;
         let mut err = MemorySink::new(alloc, err_room)?;
-        let answered = gvr(alloc, words.as_slice(), &mut input, &mut out, &mut err);
+        let mut native = ScriptWorld::new(alloc, 0);
+        let answered = gvr(
+            alloc,
+            words.as_slice(),
+            &mut input,
+            &mut out,
+            &mut err,
+            &mut native,
+        );
         assert_eq!(rt; answered, 5, "{line}");
         assert_eq!(rt; out.bytes(), wanted.as_bytes());
         assert_eq!(rt; err.bytes(), line.as_bytes());
@@ -80,7 +97,15 @@ fn read_that_fails_under_fmt(rt: HostRuntime) -> Result<(), Fail> {
     let mut input = MemorySource::new(bytes, 21, Vec::from_slice(alloc, &[1])?);
     let mut out = MemorySink::new(alloc, 1000)?;
     let mut err = MemorySink::new(alloc, 1000)?;
-    let answered = gvr(alloc, words.as_slice(), &mut input, &mut out, &mut err);
+    let mut native = ScriptWorld::new(alloc, 0);
+    let answered = gvr(
+        alloc,
+        words.as_slice(),
+        &mut input,
+        &mut out,
+        &mut err,
+        &mut native,
+    );
     assert_eq!(rt; answered, 4);
     assert_eq!(rt; out.bytes(), "".as_bytes());
     assert_eq!(rt; err.bytes(), "gvr: read fault\n".as_bytes());
@@ -158,7 +183,15 @@ fn each_piece_is_answered_before_the_next_is_read(rt: HostRuntime) -> Result<(),
         held: 0,
     };
     let mut err = MemorySink::new(alloc, 1000)?;
-    let answered = gvr(alloc, words.as_slice(), &mut peer, &mut way, &mut err);
+    let mut native = ScriptWorld::new(alloc, 0);
+    let answered = gvr(
+        alloc,
+        words.as_slice(),
+        &mut peer,
+        &mut way,
+        &mut err,
+        &mut native,
+    );
     assert_eq!(rt; answered, 0);
     let greeting = HELLO.len();
     assert_eq!(rt; peer.noted, [0, greeting, greeting + greeting]);

@@ -71,10 +71,6 @@ fn whole_texts_of_newcomers(rt: HostRuntime) -> Result<(), Fail> {
             "def w n\nsleep n\nend\ndef main\nspawn w 5\nend\n",
             "gvr: line 2: reason 8: number not in its one spelling\n",
         ),
-        (
-            "event e\ndef main\nwait e\nend\n",
-            "gvr: line 1: reason 23: not built yet\n",
-        ),
     ];
     for (text, wanted) in table {
         let called = call(rt.alloc(), "run", text, 4096, &[], 1000)?;

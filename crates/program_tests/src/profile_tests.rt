@@ -63,15 +63,6 @@ fn profile_refusals(rt: HostRuntime) -> Result<(), Fail> {
             "profile 2 2\ndef main\nend\n",
             "gvr: line 1: reason 7: line too long\n",
         ),
-        // forms that are not run yet
-        (
-            "profile 2\nchannel c\ndef main\nend\n",
-            "gvr: line 2: reason 23: not built yet\n",
-        ),
-        (
-            "profile 2\n\nqueue q fifo none\ndef main\nqshut q\nend\n",
-            "gvr: line 3: reason 23: not built yet\n",
-        ),
     ];
     for (text, line) in table {
         let called = call(rt.alloc(), "run", text, 4096, &[], 1000)?;

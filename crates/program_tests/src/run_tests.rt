@@ -5,6 +5,7 @@ use gv_io::{MemorySink, MemorySource};
 use gv_top::gvr;
 use std::alloc::{AllocError, Global};
 use std::test::Fail;
+use world::ScriptWorld;
 
 /// What a call left.
 #[derive(Drop)]
@@ -39,7 +40,15 @@ pub(crate) fn call(
     let mut input = MemorySource::new(bytes, piece, Vec::from_slice(alloc, failing)?);
     let mut out = MemorySink::new(alloc, room)?;
     let mut err = MemorySink::new(alloc, 1000)?;
-    let status = gvr(alloc, words.as_slice(), &mut input, &mut out, &mut err);
+    let mut native = ScriptWorld::new(alloc, 0);
+    let status = gvr(
+        alloc,
+        words.as_slice(),
+        &mut input,
+        &mut out,
+        &mut err,
+        &mut native,
+    );
     Ok(Called { status, out, err })
 }
 
@@ -154,25 +163,6 @@ fn greenlet_limit(rt: HostRuntime) -> Result<(), Fail> {
     let trace = "start g0 main\nstop no-greenlets turns 0 moves 40000\n";
     assert_eq!(rt; called.out.bytes(), trace.as_bytes());
     assert_eq!(rt; called.err.bytes(), "gvr: limit of greenlets\n".as_bytes());
-    Ok(())
-}
-
-#[test]
-fn not_built_yet(rt: HostRuntime) -> Result<(), Fail> {
-    let text = "event e\ndef main\nprint 1\nend\n";
-    let called = call(rt.alloc(), "run", text, 4096, &[], 1000)?;
-    assert_eq!(rt; called.status, 3);
-    assert_eq!(rt; called.out.bytes(), "".as_bytes());
-    assert_eq!(rt;
-        called.err.bytes(),
-        "gvr: line 1: reason 23: not built yet\n".as_bytes()
-    );
-    let printed = call(rt.alloc(), "fmt", text, 4096, &[], 1000)?;
-    assert_eq!(rt; printed.status, 0);
-    assert_eq!(rt;
-        printed.out.bytes(),
-        "event e\ndef main\n  print 1\nend\n".as_bytes()
-    );
     Ok(())
 }
 

@@ -1,5 +1,33 @@
-use Rattle.gv_top.proofs.Deciding.{decided_of_this}
+use Rattle.std.proofs.Common.{sym, ap, subst, ◌∙◌}
+use Rattle.command_words.specs.declared.command.Command.TheVariants as named
+use Rattle.command_words.specs.declared.command.TextCommand.{TextCommand}
+use Rattle.command_words.specs.Ranges.{IsInRange}
+use Rattle.gv_top.specs.declared.status.Verdict.{Verdict}
+use Rattle.gv_top.specs.Running.{run_of}
+use Rattle.gv_top.specs.Words.{is_native_text}
+use Rattle.gv_top.proofs.Deciding.{decided_of_this, run_decided}
+use Rattle.gv_top.proofs.InWorlds.{format_runs_nothing, scenario_ran}
 use Rattle.gv_top.proofs.top.answers_scenario.Goals as goal
 
+pub run_scenario-requires-clause-range : goal.run_scenario-requires-clause-range
+run_scenario-requires-clause-range g c = (let P : TextCommand → Type 0 = λ d. IsInRange (named.Text d) in subst P c.in-Run.is c.requires.range).2
+
 pub returns-in-Run-clause-answer : goal.returns-in-Run-clause-answer
-returns-in-Run-clause-answer g c = decided_of_this c.args.command _ c.args.checked _ _ _ c.in-Run.is c.runs_scenario.ensures.answer
+returns-in-Run-clause-answer g c =
+    let given = (g.W.World.meaning c.run_scenario.new.native).answers in
+    let old = g.K.Sink.written c.args.out.now in
+    let new = g.K.Sink.written c.run_scenario.new.out in
+    decided_of_this c.args.command (TextCommand.Run c.in-Run.options) given c.args.checked (Verdict.Ran c.run_scenario.result) old new c.in-Run.is
+    (run_decided c.run_scenario.result (run_of c.in-Run.options given c.args.checked) old new c.run_scenario.ensures.written)
+
+pub returns-in-Run-clause-native : goal.returns-in-Run-clause-native
+returns-in-Run-clause-native g c = scenario_ran c.args.command c.in-Run.options c.run_scenario.result c.args.checked _ _ c.in-Run.is c.run_scenario.ensures.native
+
+pub returns-in-Run-clause-untouched : goal.returns-in-Run-clause-untouched
+returns-in-Run-clause-untouched g c = λ h. c.run_scenario.ensures.untouched (sym (ap is_native_text c.in-Run.is) ∙ h)
+
+pub returns-in-Format-clause-native : goal.returns-in-Format-clause-native
+returns-in-Format-clause-native g c = λ options workers e w h5 h7. format_runs_nothing c.args.command options _ c.in-Format.is e
+
+pub returns-in-Format-clause-lawful : goal.returns-in-Format-clause-lawful
+returns-in-Format-clause-lawful g c = λ options e. format_runs_nothing c.args.command options _ c.in-Format.is e

@@ -1,9 +1,11 @@
 use Rattle.std.proofs.Common.{arith}
 use Rattle.gv_top.proofs.Deciding.{judged_decided, refusal_decided, refusal_explained, refusal_number}
+use Rattle.gv_top.proofs.InWorlds.{judged_ran, refused_runs_nothing}
+use Rattle.gv_top.proofs.Tops.{nothing_lawful}
 use Rattle.gv_top.proofs.top.answers_text.Goals as goal
 
 pub returns-in-Err-clause-answer : goal.returns-in-Err-clause-answer
-returns-in-Err-clause-answer g c = refusal_decided c.args.command c.args.bytes.now _ _ _ c.verdict_on.ensures c.in-Err.ensures.judged
+returns-in-Err-clause-answer g c = refusal_decided c.args.command _ c.args.bytes.now _ _ _ c.verdict_on.ensures c.in-Err.ensures.judged
 
 pub returns-in-Err-clause-command : goal.returns-in-Err-clause-command
 returns-in-Err-clause-command g c = λ h. refusal_number _ _ 2 c.verdict_on.ensures h (λ e. omega arith) (λ e. omega arith)
@@ -18,4 +20,13 @@ pub returns-in-Err-clause-write_fault : goal.returns-in-Err-clause-write_fault
 returns-in-Err-clause-write_fault g c = λ h. absurd (refusal_number _ _ 5 c.verdict_on.ensures h (λ e. omega arith) (λ e. omega arith))
 
 pub returns-in-Ok-clause-answer : goal.returns-in-Ok-clause-answer
-returns-in-Ok-clause-answer g c = judged_decided c.args.command c.args.bytes.now _ _ _ _ c.in-Ok.ensures.judged c.answers_scenario.ensures.answer
+returns-in-Ok-clause-answer g c = judged_decided c.args.command _ c.args.bytes.now _ _ _ _ c.in-Ok.ensures.judged c.answers_scenario.ensures.answer
+
+pub returns-in-Err-clause-native : goal.returns-in-Err-clause-native
+returns-in-Err-clause-native g c = refused_runs_nothing _ _ c.args.command c.args.bytes.now _ _ c.verdict_on.ensures c.in-Err.ensures.judged
+
+pub returns-in-Err-clause-lawful : goal.returns-in-Err-clause-lawful
+returns-in-Err-clause-lawful g c = λ options e. nothing_lawful _ _
+
+pub returns-in-Ok-clause-native : goal.returns-in-Ok-clause-native
+returns-in-Ok-clause-native g c = judged_ran _ c.args.command c.args.bytes.now _ _ _ c.in-Ok.ensures.judged c.answers_scenario.ensures.native

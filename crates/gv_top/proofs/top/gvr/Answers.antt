@@ -1,51 +1,40 @@
-use Rattle.std.proofs.Common.{[], arith}
-use Rattle.machine.specs.Run.{Source}
-use Rattle.gv_top.specs.Answers.{run_of}
+use Rattle.std.proofs.Common.{refl, arith}
 use Rattle.command_words.specs.declared.command.TextCommand.{TextCommand}
-use Rattle.gv_top.proofs.ReadTexts.{answered_as, answered_so, answers_run, refuses_the_rest, runs_no_other, runs_the_text}
-use Rattle.gv_top.proofs.Tops.{answers_connection, ended, fails_to_write, fault_line, is_answered, is_silent, prints_nothing, reads_whole, status_is, usage_status}
+use Rattle.gv_top.proofs.ReadTexts.{answered_as, answered_so, answers_run, refuses_the_rest, spelt_is_judged}
+use Rattle.gv_top.proofs.Tops.{answers_connection, ended, fails_to_write, fault_line, is_answered, is_silent, lawful_told, prints_nothing, ran_so, reads_whole, status_is, usage_status}
+use Rattle.gv_top.proofs.InWorlds.{quiet_blocks}
 use Rattle.gv_top.proofs.top.gvr.Goals as goal
 
 pub returns-clause-ended : goal.returns-clause-ended
 returns-clause-ended g c =
     let t = c.tells.ensures.told in
-    ended _ c.decides-verdict.result t.0 _ _ _ _ _ _ _ _ _ _ _ _ _ c.decides-verdict.ensures.came_to t.1 t.2
+    ended _ c.decides-verdict.result t.0 _ _ _ _ _ _ _ _ _ _ _ _ _ _ _ c.decides-verdict.ensures.came_to t.1 t.2
 
 pub returns-clause-trace : goal.returns-clause-trace
-returns-clause-trace g c = λ options s left runs told text well built.
-    let stop = c.scripts_stop.ensures s options.turns options.moves 0 in
-    answers_run _ _ stop.0 _ _ _ _ stop.1
-    (answered_so _ _ (TextCommand.Run options) _ left _ _ _ _ runs (runs_the_text options s _ text well built) (is_answered (returns-clause-ended g c) left told))
+returns-clause-trace g c = λ options s left runs told text well.
+    answers_run _ _ _ _ _ _
+    (answered_so _ _ (TextCommand.Run options) _ _ left _ _ _ _ runs (answered_as (TextCommand.Run options) _ s _ text well) (is_answered (returns-clause-ended g c) left told))
 
 pub returns-clause-lawful : goal.returns-clause-lawful
-returns-clause-lawful g c = λ options s left runs told text well built.
-    let h = answered_so _ _ (TextCommand.Run options) _ left _ _ _ _ runs (runs_the_text options s _ text well built) (is_answered (returns-clause-ended g c) left told) in
-    record {
-      lines = (run_of options s).lines;
-      lawful = (c.scripts_run_lawfully.ensures s options.turns options.moves 0 well).lawful;
-      prefix = h.prefix;
-      whole = h.out;
-    }
+returns-clause-lawful g c = λ options runs.
+    let t = c.tells.ensures.told in
+    lawful_told _ c.decides-verdict.result t.0 _ _ _ _ _ _ t.1 t.2 (c.decides-verdict.ensures.lawful options runs)
 
 pub returns-clause-quiet : goal.returns-clause-quiet
-returns-clause-quiet g c = λ options s left runs told text well built.
-    record {
-      told = c.blocks_are_told.ensures s (Source.Scripted 0 []) options.turns options.moves;
-      quiet = c.blocks_are_quiet.ensures s (Source.Scripted 0 []) options.turns options.moves well;
-    }
+returns-clause-quiet g c = λ options s left runs told text well. quiet_blocks c.blocks_are_told.ensures c.blocks_are_quiet.ensures options _ s well
 
-pub returns-clause-not_built : goal.returns-clause-not_built
-returns-clause-not_built g c = λ options s left n runs told text well other.
-    answered_so _ _ (TextCommand.Run options) _ left _ _ _ _ runs (runs_no_other options s _ n text well other) (is_answered (returns-clause-ended g c) left told)
+pub returns-clause-native : goal.returns-clause-native
+returns-clause-native g c = λ options workers s left runs native told text well h4 h5 h7.
+    ran_so (TextCommand.Run options) (returns-clause-ended g c) runs h4 h5 h7 left told s (spelt_is_judged s _ text well) options workers refl native h5 h7
 
 pub returns-clause-formatted : goal.returns-clause-formatted
 returns-clause-formatted g c = λ s left formats told text well.
-    answered_so _ _ TextCommand.Format _ left _ _ _ _ formats (answered_as TextCommand.Format s _ text well) (is_answered (returns-clause-ended g c) left told)
+    answered_so _ _ TextCommand.Format _ _ left _ _ _ _ formats (answered_as TextCommand.Format _ s _ text well) (is_answered (returns-clause-ended g c) left told)
 
 pub returns-clause-refused : goal.returns-clause-refused
 returns-clause-refused g c = λ command left wanted told none.
-    let r = refuses_the_rest command _ none in
-    (r.0, r.1, answered_so _ _ command _ left _ _ _ _ wanted r.2 (is_answered (returns-clause-ended g c) left told))
+    let r = refuses_the_rest command _ _ none in
+    (r.0, r.1, answered_so _ _ command _ _ left _ _ _ _ wanted r.2 (is_answered (returns-clause-ended g c) left told))
 
 pub returns-clause-connection : goal.returns-clause-connection
 returns-clause-connection g c = λ named.

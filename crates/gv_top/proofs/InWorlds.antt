@@ -1,0 +1,250 @@
+-- From the calls of a world and of the engine to what a run in it came to.
+use Rattle.std.proofs.Common.{◌≡◌, ◌≢◌, ◌⊎◌, ◌↔◌, inl, inr, refl, ap, sym, subst, ◌∙◌, ℕ, Result, Ok, Err, true, false, List, [], ◌∷◌, ◌++◌, Option, Some, append_assoc, append-nil, take}
+use Rattle.gv_values.specs.declared.job.Answer.{Answer}
+use Rattle.gv_io.specs.Streams.{appended, AppendsPrefix}
+use Rattle.gv_io.proofs.StreamLaws.{AppendsPrefix-longer}
+use Rattle.trace_text.specs.declared.line.Line.{Line}
+use Rattle.trace_text.specs.declared.line.StopCause.{StopCause}
+use Rattle.trace_text.specs.LineTexts.{line_text, text_of}
+use Rattle.scenario_tree.specs.declared.tree.Scenario.{Scenario}
+use Rattle.world_rules.specs.declared.question.LogEntry.{LogEntry}
+use Rattle.world_rules.specs.Legal.{AreLegal, answers_of, posts_of}
+use Rattle.world_rules.specs.Script.{Follows, start}
+use Rattle.world.specs.declared.script.ScriptWorld.{ScriptWorld}
+use Rattle.world.specs.Kept.{rule_state, script_log, script_meaning}
+use Rattle.world.specs.Worlds.{Begins, GoesOn, Meaning}
+use Rattle.machine.specs.Run.{End as RunEnd, Ran, Source, run, run_from, script_run}
+use Rattle.machine_scripts.specs.Scripts.{FollowersRunScripts, IsBeginningOf}
+use Rattle.machine_told.specs.Told.{AnswersAreTold, PostsAreTold}
+use Rattle.hub_engine.specs.declared.run.End.{End}
+use Rattle.hub_engine.specs.Ends.{HasLogged, IsPartLogged, RanTo, WroteAhead, end_of_run}
+use Rattle.gv_top.proofs.Deciding.{prefix_of_trace}
+use Rattle.gv_top.specs.Running.{RanInWorld, RanNatively, run_of}
+use Rattle.gv_top.specs.Answers.{judged, most_read}
+use Rattle.gv_top.specs.declared.words.Command.{Command}
+use Rattle.gv_top.specs.Top.{BlocksAtQuiet, HasLawfulLines, RanScenarioSo, RanSo}
+use Rattle.machine_blocks.specs.Blocks.{BlocksAreTold}
+use Rattle.machine_laws.specs.Laws.{BlocksQuietly}
+use Rattle.scenario_rules.specs.Rules.{IsWellFormed}
+use Rattle.gv_top.specs.Verdicts.{number_of, verdict_on}
+use Rattle.gv_top.specs.declared.status.Verdict.{Verdict}
+use Rattle.command_words.specs.declared.command.RunOptions.{RunOptions}
+use Rattle.command_words.specs.declared.command.RunWorld.{RunWorld}
+use Rattle.command_words.specs.declared.command.TextCommand.{TextCommand}
+use Rattle.scenario_grammar.specs.declared.place.Place.{Place}
+use Rattle.scenario_lang.specs.declared.text.ParseRefusal.{ParseRefusal}
+use Rattle.scenario_lang.specs.declared.text.ParseRefusal.TheVariants as parse
+use Rattle.scenario_lang.specs.Lines.{Parses}
+use Rattle.machine.specs.TraceLaws.{meets_laws}
+
+-- ---- the log
+
+-- a whole log is a part of itself
+part_of_all : (log : List LogEntry) (answers : List Answer) (stands : List LogEntry → Type 0) → stands log × (answers_of log ≡ answers) → IsPartLogged log answers stands
+part_of_all log answers stands h = record { part = log; later = []; is = sym (append-nil log); all = h.1; stood = h.0 }
+
+part_logged : (end : End) (log : List LogEntry) (answers : List Answer) (stands : List LogEntry → Type 0) → HasLogged end log answers stands → IsPartLogged log answers stands
+part_logged End.WriteFault log answers stands h = h
+part_logged End.Memory log answers stands h = h
+part_logged End.MainValue log answers stands h = part_of_all log answers stands h
+part_logged (End.MainFault f) log answers stands h = part_of_all log answers stands h
+part_logged End.NoTurns log answers stands h = part_of_all log answers stands h
+part_logged End.NoMoves log answers stands h = part_of_all log answers stands h
+part_logged End.NoGreenlets log answers stands h = part_of_all log answers stands h
+part_logged End.NoLinks log answers stands h = part_of_all log answers stands h
+part_logged End.NoKills log answers stands h = part_of_all log answers stands h
+
+all_logged : (end : End) (log : List LogEntry) (answers : List Answer) (stands : List LogEntry → Type 0) → HasLogged end log answers stands → end ≢ End.WriteFault → end ≢ End.Memory → stands log
+all_logged End.WriteFault log answers stands h w m = absurd (w refl)
+all_logged End.Memory log answers stands h w m = absurd (m refl)
+all_logged End.MainValue log answers stands h w m = h.0
+all_logged (End.MainFault f) log answers stands h w m = h.0
+all_logged End.NoTurns log answers stands h w m = h.0
+all_logged End.NoMoves log answers stands h w m = h.0
+all_logged End.NoGreenlets log answers stands h w m = h.0
+all_logged End.NoLinks log answers stands h w m = h.0
+all_logged End.NoKills log answers stands h w m = h.0
+
+-- ---- a run in a world
+
+-- what is said of the end once out has handed on what was written
+handed_on : (end handed : End) (r : Ran) (out0 out1 : Option (List ℕ)) → RanTo end r out0 out1 → (handed ≡ end) ⊎ (handed ≡ End.WriteFault) → RanTo handed r out0 out1
+handed_on end handed r out0 out1 h (inl e) = let P : End → Type 0 = λ x. RanTo x r out0 out1 in subst P (sym e) h
+handed_on end handed r out0 out1 h (inr e) = let P : End → Type 0 = λ x. RanTo x r out0 out1 in subst P (sym e) (prefix_of_trace end r out0 out1 h)
+
+-- an end that is no write fault was handed on
+was_handed : (end handed : End) → (handed ≡ end) ⊎ (handed ≡ End.WriteFault) → handed ≢ End.WriteFault → handed ≡ end
+was_handed end handed (inl e) w = e
+was_handed end handed (inr e) w = absurd (w e)
+
+pub ran_in_world : (end handed : End) (whole : List Answer → Ran) (workers : ℕ) (before begun ran after : Meaning) (stood stands : List LogEntry → Type 0) (out0 out1 out2 : Option (List ℕ))
+    → Begins before begun workers → GoesOn begun ran → after ≡ record ran { runs = false } → ((log : List LogEntry) → stood log ↔ stands log)
+    → RanTo end (whole ran.answers) out0 out1 → WroteAhead whole ran.answers out0 out1 → HasLogged end (whole ran.answers).log ran.answers stood → AreLegal [] [] (whole ran.answers).log
+    → out2 ≡ out1 → (handed ≡ end) ⊎ (handed ≡ End.WriteFault)
+    → RanInWorld handed whole workers before after stands out0 out2
+ran_in_world end handed whole workers before begun ran after stood stands out0 out1 out2 b g f l written ahead logged legal same how =
+    let same_answers : after.answers ≡ ran.answers = ap (λ (m : Meaning). m.answers) f in
+    let P : List Answer → Type 0 = λ answers. RanTo handed (whole answers) out0 out2 in
+    let Q : List Answer → Type 0 = λ answers. WroteAhead whole answers out0 out2 in
+    let R : List Answer → Type 0 = λ answers. IsPartLogged (whole answers).log answers stands in
+    let S : List Answer → Type 0 = λ answers. AreLegal [] [] (whole answers).log in
+    let T : List Answer → Type 0 = λ answers. stands (whole answers).log in
+    let O : Option (List ℕ) → Type 0 = λ out. RanTo handed (whole ran.answers) out0 out in
+    let A : Option (List ℕ) → Type 0 = λ out. WroteAhead whole ran.answers out0 out in
+    let part = part_logged end (whole ran.answers).log ran.answers stood logged in
+    record {
+      written = subst P (sym same_answers) (subst O (sym same) (handed_on end handed (whole ran.answers) out0 out1 written how));
+      ahead = subst Q (sym same_answers) (subst A (sym same) ahead);
+      part = subst R (sym same_answers) (record { part = part.part; later = part.later; is = part.is; all = part.all; stood = (l part.part).0 part.stood });
+      log = λ w m. subst T (sym same_answers) ((l (whole ran.answers).log).0
+          (let e = was_handed end handed how w in all_logged end (whole ran.answers).log ran.answers stood logged (λ z. w (e ∙ z)) (λ z. m (e ∙ z))));
+      legal = subst S (sym same_answers) legal;
+      workers_are = ap (λ (m : Meaning). m.workers) f ∙ g.workers ∙ b.workers_are;
+      tick = ap (λ (m : Meaning). m.tick) f ∙ g.tick ∙ b.tick;
+      rests = ap (λ (m : Meaning). m.runs) f;
+    }
+
+-- ---- under the rule of a script
+
+text_append : (xs ys : List Line) → text_of (xs ++ ys) ≡ text_of xs ++ text_of ys
+text_append [] ys = refl
+text_append (x ∷ xs) ys = ap (λ t. line_text x ++ 10 ∷ t) (text_append xs ys) ∙ sym (append_assoc (line_text x) (10 ∷ text_of xs) (text_of ys))
+
+stops_for : (end : End) (e : RunEnd) → Some end ≡ end_of_run e → (cause : StopCause) × (e ≡ RunEnd.Stopped cause)
+stops_for end (RunEnd.Stopped cause) h = (cause, refl)
+stops_for end RunEnd.Asking h = absurd (cc h)
+
+-- where out has the beginning of a run, it has the beginning of the whole
+longer : (whole r : Ran) (out0 out1 : Option (List ℕ)) → IsBeginningOf whole r → AppendsPrefix out0 out1 (text_of r.lines) → AppendsPrefix out0 out1 (text_of whole.lines)
+longer whole r out0 out1 b h =
+    let P : List ℕ → Type 0 = λ t. AppendsPrefix out0 out1 t in
+    subst P (sym (ap text_of b.lines.is ∙ text_append r.lines b.lines.rest)) (AppendsPrefix-longer out0 out1 (text_of r.lines) (text_of b.lines.rest) h)
+
+stopped_whole : (end : End) (whole r : Ran) (out0 out1 : Option (List ℕ)) → IsBeginningOf whole r → (out1 ≡ appended out0 (text_of r.lines)) × (Some end ≡ end_of_run r.end)
+    → (out1 ≡ appended out0 (text_of whole.lines)) × (Some end ≡ end_of_run whole.end)
+stopped_whole end whole r out0 out1 b h =
+    let stop = stops_for end r.end h.1 in
+    let P : Ran → Type 0 = λ x. (out1 ≡ appended out0 (text_of x.lines)) × (Some end ≡ end_of_run x.end) in
+    subst P (b.stopped stop.0 stop.1) h
+
+ran_to_whole : (end : End) (whole r : Ran) (out0 out1 : Option (List ℕ)) → IsBeginningOf whole r → RanTo end r out0 out1 → RanTo end whole out0 out1
+ran_to_whole End.WriteFault whole r out0 out1 b h = longer whole r out0 out1 b h
+ran_to_whole End.Memory whole r out0 out1 b h = longer whole r out0 out1 b h
+ran_to_whole End.MainValue whole r out0 out1 b h = stopped_whole End.MainValue whole r out0 out1 b h
+ran_to_whole (End.MainFault f) whole r out0 out1 b h = stopped_whole (End.MainFault f) whole r out0 out1 b h
+ran_to_whole End.NoTurns whole r out0 out1 b h = stopped_whole End.NoTurns whole r out0 out1 b h
+ran_to_whole End.NoMoves whole r out0 out1 b h = stopped_whole End.NoMoves whole r out0 out1 b h
+ran_to_whole End.NoGreenlets whole r out0 out1 b h = stopped_whole End.NoGreenlets whole r out0 out1 b h
+ran_to_whole End.NoLinks whole r out0 out1 b h = stopped_whole End.NoLinks whole r out0 out1 b h
+ran_to_whole End.NoKills whole r out0 out1 b h = stopped_whole End.NoKills whole r out0 out1 b h
+
+-- a run in a script world is the run under its rule
+pub script_ran : FollowersRunScripts → (end : End) (c : Scenario) (turns moves workers tick : ℕ) (before : Meaning) (w : ScriptWorld) (out0 out1 : Option (List ℕ)) → before.tick ≡ tick
+    → RanInWorld end (run c turns moves) workers before (script_meaning w) (script_log w) out0 out1 → RanTo end (script_run c turns moves tick) out0 out1
+script_ran law end c turns moves workers tick before w out0 out1 same h =
+    let F : ℕ → Type 0 = λ k. Follows k (start []) h.part.part (rule_state w []) in
+    ran_to_whole end (script_run c turns moves tick) (run c turns moves w.answers.items) out0 out1
+    (law c turns moves tick w.answers.items h.part.part h.part.later (rule_state w []) h.part.is h.part.all (subst F (h.tick ∙ same) h.part.stood)) h.written
+
+-- ---- with native workers
+
+pub ran_natively : PostsAreTold → AnswersAreTold → (end : End) (c : Scenario) (turns moves workers : ℕ) (before after : Meaning) (stands : List LogEntry → Type 0) (out0 out1 : Option (List ℕ))
+    → ((log : List LogEntry) → stands log → (posts_of log ≡ after.posts) × (answers_of log ≡ after.answers))
+    → RanInWorld end (run c turns moves) workers before after stands out0 out1 → end ≢ End.WriteFault → end ≢ End.Memory
+    → RanNatively workers (run c turns moves after.answers) after stands
+ran_natively posts answers end c turns moves workers before after stands out0 out1 law h w m =
+    let log = h.log w m in
+    let is = law (run c turns moves after.answers).log log in
+    record {
+      workers_are = h.workers_are;
+      rests = h.rests;
+      posts = posts (Source.Given after.answers) turns moves c ∙ is.0;
+      answers = answers (Source.Given after.answers) turns moves c ∙ is.1;
+      legal = h.legal;
+      log = log;
+    }
+
+-- ---- lines that meet the laws
+
+-- what out has of a run whose lines meet the laws
+pub run_lawful : (end : End) (r : Ran) (out0 out1 : Option (List ℕ)) → RanTo end r out0 out1 → meets_laws r.lines ≡ true → HasLawfulLines (number_of (Verdict.Ran end)) out0 out1
+run_lawful end r out0 out1 h lawful = record { lines = r.lines; lawful = lawful; prefix = prefix_of_trace end r out0 out1 h; whole = λ h4 h5 h7. whole end h h5 h7 }
+  where
+    whole : (end : End) → RanTo end r out0 out1 → number_of (Verdict.Ran end) ≢ 5 → number_of (Verdict.Ran end) ≢ 7 → out1 ≡ appended out0 (text_of r.lines)
+    whole End.WriteFault h h5 h7 = absurd (h5 refl)
+    whole End.Memory h h5 h7 = absurd (h7 refl)
+    whole End.MainValue h h5 h7 = h.0
+    whole (End.MainFault f) h h5 h7 = h.0
+    whole End.NoTurns h h5 h7 = h.0
+    whole End.NoMoves h h5 h7 = h.0
+    whole End.NoGreenlets h h5 h7 = h.0
+    whole End.NoLinks h h5 h7 = h.0
+    whole End.NoKills h h5 h7 = h.0
+
+-- ---- under the command
+
+-- what a run of these options came to is what the command that asks for it came to
+pub scenario_ran : (command : TextCommand) (options : RunOptions) (end : End) (s : Scenario) (after : Meaning) (stands : List LogEntry → Type 0) → command ≡ TextCommand.Run options
+    → ((workers : ℕ) → options.world ≡ RunWorld.Native workers → end ≢ End.WriteFault → end ≢ End.Memory → RanNatively workers (run_of options after.answers s) after stands)
+    → RanScenarioSo (number_of (Verdict.Ran end)) command s after stands
+scenario_ran command options end s after stands is h = λ wanted workers e w h5 h7.
+    let same : options ≡ wanted = same_options options wanted (sym is ∙ e) in
+    let P : RunOptions → Type 0 = λ o. o.world ≡ RunWorld.Native workers → RanNatively workers (run_of o after.answers s) after stands in
+    subst P same (λ v. h workers v (λ z. h5 (ap (λ x. number_of (Verdict.Ran x)) z)) (λ z. h7 (ap (λ x. number_of (Verdict.Ran x)) z))) w
+  where
+    same_options : (a b : RunOptions) → TextCommand.Run a ≡ TextCommand.Run b → a ≡ b
+    same_options a b e = cc e
+
+-- a command that prints runs nothing
+pub format_runs_nothing : (command : TextCommand) (options : RunOptions) (P : Type 0) → command ≡ TextCommand.Format → command ≡ TextCommand.Run options → P
+format_runs_nothing command options P is e = absurd (no (sym is ∙ e))
+  where
+    no : TextCommand.Format ≡ TextCommand.Run options → ⊥
+    no z = cc z
+
+-- nor does one whose text is refused
+other_judged : (p : Place) (s : Scenario) → ◌≡◌ {A = Result Scenario Place} (Err p) (Ok s) → ⊥
+other_judged p s z = cc z
+
+pub refused_runs_nothing : (e : ParseRefusal) (v : Verdict) (command : TextCommand) (bytes : List ℕ) (after : Meaning) (stands : List LogEntry → Type 0) → v ≡ verdict_on e → Parses (judged bytes) (Err e)
+    → RanSo (number_of v) command bytes after stands
+refused_runs_nothing e v command bytes after stands is h = λ s j options workers c w h5 h7. absurd (by e h s j (λ z. h7 (ap number_of is ∙ z)))
+  where
+    by : (e : ParseRefusal) → Parses (judged bytes) (Err e) → (s : Scenario) → judged bytes ≡ Ok s → number_of (verdict_on e) ≢ 7 → ⊥
+    by (parse.Refused p) h s j h7 = other_judged p s (sym h ∙ j)
+    by parse.Memory h s j h7 = h7 refl
+
+-- one whose text was judged so ran that scenario
+pub judged_ran : (n : ℕ) (command : TextCommand) (bytes : List ℕ) (s : Scenario) (after : Meaning) (stands : List LogEntry → Type 0) → judged bytes ≡ Ok s → RanScenarioSo n command s after stands
+    → RanSo n command bytes after stands
+judged_ran n command bytes s after stands j h = λ t k.
+    let P : Scenario → Type 0 = λ x. RanScenarioSo n command x after stands in subst P (same s t (sym j ∙ k)) h
+  where
+    same : (a b : Scenario) → ◌≡◌ {A = Result Scenario Place} (Ok a) (Ok b) → a ≡ b
+    same a b z = cc z
+
+-- so did one that is the same
+pub text_ran : (given text : TextCommand) (n : ℕ) (input : Option (List ℕ)) (after : Meaning) (stands : List LogEntry → Type 0) → Command.Text text ≡ Command.Text given
+    → (n ≢ 4 → (left : List ℕ) → input ≡ Some left → RanSo n given (take most_read left) after stands)
+    → n ≢ 4 → (left : List ℕ) → input ≡ Some left → RanSo n text (take most_read left) after stands
+text_ran given text n input after stands is h h4 left told =
+    let P : TextCommand → Type 0 = λ t. RanSo n t (take most_read left) after stands in subst P (same given text (sym is)) (h h4 left told)
+  where
+    same : (a b : TextCommand) → Command.Text a ≡ Command.Text b → a ≡ b
+    same a b z = cc z
+
+-- ---- blocked states
+
+-- the run's block lines are said at its blocked states, which are quiet
+pub quiet_blocks : BlocksAreTold → BlocksQuietly → (options : RunOptions) (given : List Answer) (s : Scenario) → IsWellFormed s → BlocksAtQuiet (run_of options given s)
+quiet_blocks told quiet options given s well = by options.world
+  where
+    of : (source : Source) → BlocksAtQuiet (run_from source options.turns options.moves s)
+    of source = record { told = told s source options.turns options.moves; quiet = quiet s source options.turns options.moves well }
+
+    by : (world : RunWorld) → BlocksAtQuiet (elim world [
+      | RunWorld.Script tick ↦ script_run s options.turns options.moves tick
+      | RunWorld.Native workers ↦ run s options.turns options.moves given
+    ])
+    by (RunWorld.Script tick) = of (Source.Scripted tick [])
+    by (RunWorld.Native workers) = of (Source.Given given)

@@ -1,0 +1,13 @@
+use Rattle.world.specs.Kept.{script_meaning}
+use Rattle.gv_top.proofs.InWorlds.{run_lawful, script_ran}
+use Rattle.gv_top.proofs.running.run_script.Goals as goal
+
+pub returns-in-Some-clause-written : goal.returns-in-Some-clause-written
+returns-in-Some-clause-written g c =
+    script_ran c.followers_run_scripts.ensures c.in-Some.end c.args.engine.scenario c.args.engine.turns c.args.engine.moves _ c.args.tick (script_meaning c.new-world.result) c.run_in_world.new.world _ _
+    c.new-world.ensures.tick c.in-Some.ensures.ran
+
+pub returns-in-Some-clause-lawful : goal.returns-in-Some-clause-lawful
+returns-in-Some-clause-lawful g c =
+    run_lawful c.in-Some.end _ _ _ (returns-in-Some-clause-written g c)
+    (c.scripts_run_lawfully.ensures c.args.engine.scenario c.args.engine.turns c.args.engine.moves c.args.tick c.requires.well_formed).lawful

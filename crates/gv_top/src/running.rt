@@ -1,0 +1,146 @@
+//! Runs of a scenario in a world.
+ghost use Rattle.std.specs.Prelude.{◌≡◌, ◌≢◌, ◌≤◌, ◌<◌, ◌⊎◌, ℕ, List, false, IfNone, IfSome};
+ghost use Rattle.gv_values.specs.Counts.{HasRisen};
+ghost use Rattle.machine.specs.Run.{run, script_run};
+ghost use Rattle.command_words.specs.Ranges.{IsWorldInRange};
+ghost use Rattle.hub_engine.specs.Ends.{RanTo};
+ghost use Rattle.scenario_rules.specs.Rules.{IsWellFormed};
+ghost use Rattle.gv_top.specs.declared.status.Verdict.{Verdict};
+ghost use Rattle.gv_top.specs.Running.{RanInWorld, RanNatively, run_of};
+ghost use Rattle.gv_top.specs.Top.{HasLawfulLines};
+ghost use Rattle.gv_top.specs.Verdicts.{number_of};
+ghost use Rattle.gv_top.specs.Words.{is_native_world};
+
+use command_words::{RunOptions, RunWorld};
+use gv_io::Sink;
+use hub_engine::{Budgets, End, Engine};
+use machine_laws::{runs_are_lawful, scripts_run_lawfully};
+use machine_scripts::followers_run_scripts;
+use machine_told::posts_and_answers_are_told;
+use scenario_check::Checked;
+use std::alloc::Global;
+use world::{ScriptWorld, World};
+
+/// The workers of a script, which has none to start.
+const SCRIPT_WORKERS: u32 = 1;
+
+/// The end of the run, once out has handed on what was written to it.
+fn handed_on<K: Sink>(end: End, out: &mut K) -> End
+    ensures same { K.written out.new ≡ K.written out.old }
+    ensures end { (result ≡ end) ⊎ (result ≡ End.WriteFault) }
+    ensures failed { result ≡ End.WriteFault → (end ≡ End.WriteFault) ⊎ HasRisen (K.faults out.old) (K.faults out.new) }
+    ensures never_falls { K.faults out.old ≤ K.faults out.new }
+{
+    if matches!(end, End::WriteFault | End::Memory) {
+        return end;
+    }
+    match out.flush() {
+        Ok(()) => end,
+        Err(_) => End::WriteFault,
+    }
+}
+
+/// Runs the engine in the world, which is begun with so many workers before the run and finished after it. None: there
+/// was no memory for the world to begin, and nothing was done.
+fn run_in_world<K: Sink, W: World>(
+    alloc: Global,
+    engine: Engine,
+    workers: u32,
+    world: &mut W,
+    out: &mut K,
+) -> Option<End>
+    requires rests { (W.meaning world.old).runs ≡ false }
+    requires some { 0 < workers }
+    requires few { workers ≤ 16 }
+    ensures ran { IfSome result (λ end. RanInWorld end (run engine.scenario engine.turns engine.moves) workers
+        (W.meaning world.old) (W.meaning world.new) (W.stands_for world.new) (K.written out.old) (K.written out.new)) }
+    ensures failed { IfSome result (λ end. end ≡ End.WriteFault → HasRisen (K.faults out.old) (K.faults out.new)) }
+    ensures kept { IfNone result (W.meaning world.new ≡ W.meaning world.old) }
+    ensures unwritten { IfNone result (K.written out.new ≡ K.written out.old) }
+    ensures never_falls { K.faults out.old ≤ K.faults out.new }
+{
+    let Ok(()) = world.begin(workers) else {
+        return None;
+    };
+    let end = engine.run(alloc, world, out).end;
+    world.finish();
+    Some(handed_on(end, out))
+}
+
+/// Runs the engine under the rule of a script of this tick.
+fn run_script<K: Sink>(alloc: Global, engine: Engine, tick: u64, out: &mut K) -> End
+    requires well_formed { IsWellFormed engine.scenario }
+    ensures written { RanTo result (script_run engine.scenario engine.turns engine.moves tick) (K.written out.old) (K.written out.new) }
+    ensures lawful { HasLawfulLines (number_of (Verdict.Ran result)) (K.written out.old) (K.written out.new) }
+    ensures failed { result ≡ End.WriteFault → HasRisen (K.faults out.old) (K.faults out.new) }
+    ensures never_falls { K.faults out.old ≤ K.faults out.new }
+{
+    followers_run_scripts();
+    scripts_run_lawfully();
+    let mut world = ScriptWorld::new(alloc, tick);
+    match run_in_world(alloc, engine, SCRIPT_WORKERS, &mut world, out) {
+        Some(end) => end,
+        None => End::Memory,
+    }
+}
+
+/// Runs the engine with native workers, so many of them.
+fn run_natively<K: Sink, W: World>(
+    alloc: Global,
+    engine: Engine,
+    workers: u32,
+    native: &mut W,
+    out: &mut K,
+) -> End
+    requires rests { (W.meaning native.old).runs ≡ false }
+    requires some { 0 < workers }
+    requires few { workers ≤ 16 }
+    requires well_formed { IsWellFormed engine.scenario }
+    ensures lawful { HasLawfulLines (number_of (Verdict.Ran result)) (K.written out.old) (K.written out.new) }
+    ensures written { RanTo result (run engine.scenario engine.turns engine.moves (W.meaning native.new).answers) (K.written out.old) (K.written out.new) }
+    ensures native { result ≢ End.WriteFault → result ≢ End.Memory →
+        RanNatively workers (run engine.scenario engine.turns engine.moves (W.meaning native.new).answers) (W.meaning native.new) (W.stands_for native.new) }
+    ensures rests { (W.meaning native.new).runs ≡ false }
+    ensures failed { result ≡ End.WriteFault → HasRisen (K.faults out.old) (K.faults out.new) }
+    ensures never_falls { K.faults out.old ≤ K.faults out.new }
+{
+    posts_and_answers_are_told();
+    runs_are_lawful();
+    match run_in_world(alloc, engine, workers, native, out) {
+        Some(end) => end,
+        None => End::Memory,
+    }
+}
+
+/// Runs the scenario with these options, and writes its trace to out.
+pub fn run_scenario<K: Sink, W: World>(
+    alloc: Global,
+    checked: Checked,
+    options: RunOptions,
+    native: &mut W,
+    out: &mut K,
+) -> End
+    requires range { IsWorldInRange options.world }
+    requires rests { (W.meaning native.old).runs ≡ false }
+    ensures written { RanTo result (run_of options (W.meaning native.new).answers checked) (K.written out.old) (K.written out.new) }
+    ensures native { (workers : ℕ) → options.world ≡ RunWorld.Native workers → result ≢ End.WriteFault → result ≢ End.Memory →
+        RanNatively workers (run_of options (W.meaning native.new).answers checked) (W.meaning native.new) (W.stands_for native.new) }
+    ensures lawful { HasLawfulLines (number_of (Verdict.Ran result)) (K.written out.old) (K.written out.new) }
+    ensures untouched { is_native_world options.world ≡ false → native.new ≡ native.old }
+    ensures rests { (W.meaning native.new).runs ≡ false }
+    ensures failed { result ≡ End.WriteFault → HasRisen (K.faults out.old) (K.faults out.new) }
+    ensures never_falls { K.faults out.old ≤ K.faults out.new }
+{
+    let budgets = Budgets {
+        turns: options.turns,
+        moves: options.moves,
+    };
+    let _well_formed = checked.scenario();
+    let Ok(engine) = Engine::new(alloc, checked, budgets) else {
+        return End::Memory;
+    };
+    match options.world {
+        RunWorld::Script(tick) => run_script(alloc, engine, tick, out),
+        RunWorld::Native(workers) => run_natively(alloc, engine, workers, native, out),
+    }
+}
