@@ -17,6 +17,7 @@ use Rattle.machine.specs.Run.{End as RunEnd, Ran, Source, run, run_from, script_
 use Rattle.machine_scripts.specs.Scripts.{FollowersRunScripts, IsBeginningOf}
 use Rattle.machine_told.specs.Told.{AnswersAreTold, PostsAreTold}
 use Rattle.hub_engine.specs.declared.run.End.{End}
+use Rattle.hub_engine.specs.Prepared.{Prepared}
 use Rattle.hub_engine.specs.Ends.{HasLogged, IsPartLogged, RanTo, WroteAhead, end_of_run}
 use Rattle.gv_top.proofs.Deciding.{prefix_of_trace}
 use Rattle.gv_top.specs.Running.{RanInWorld, RanNatively, run_of}
@@ -248,3 +249,29 @@ quiet_blocks told quiet options given s well = by options.world
     ])
     by (RunWorld.Script tick) = of (Source.Scripted tick [])
     by (RunWorld.Native workers) = of (Source.Given given)
+
+-- ---- the run of the options
+
+-- the engine that is prepared with these options under the rule of a script has run as they say
+pub ran_by_script : (end : End) (options : RunOptions) (tick : ℕ) (answers : List Answer) (s : Scenario) (engine : Prepared) (out0 out1 : Option (List ℕ)) →
+    engine ≡ record { scenario = s; turns = options.turns; moves = options.moves } → options.world ≡ RunWorld.Script tick →
+    RanTo end (script_run engine.scenario engine.turns engine.moves tick) out0 out1 → RanTo end (run_of options answers s) out0 out1
+ran_by_script end options tick answers s engine out0 out1 is by_script h =
+    let P : Prepared → Type 0 = λ e. RanTo end (script_run e.scenario e.turns e.moves tick) out0 out1 in
+    let Q : RunWorld → Type 0 = λ w. RanTo end (elim w [
+      | RunWorld.Script n ↦ script_run s options.turns options.moves n
+      | RunWorld.Native workers ↦ run s options.turns options.moves answers
+    ]) out0 out1 in
+    subst Q (sym by_script) (subst P is h)
+
+-- so has one with native workers
+pub ran_by_workers : (end : End) (options : RunOptions) (workers : ℕ) (answers : List Answer) (s : Scenario) (engine : Prepared) (out0 out1 : Option (List ℕ)) →
+    engine ≡ record { scenario = s; turns = options.turns; moves = options.moves } → options.world ≡ RunWorld.Native workers →
+    RanTo end (run engine.scenario engine.turns engine.moves answers) out0 out1 → RanTo end (run_of options answers s) out0 out1
+ran_by_workers end options workers answers s engine out0 out1 is natively h =
+    let P : Prepared → Type 0 = λ e. RanTo end (run e.scenario e.turns e.moves answers) out0 out1 in
+    let Q : RunWorld → Type 0 = λ w. RanTo end (elim w [
+      | RunWorld.Script n ↦ script_run s options.turns options.moves n
+      | RunWorld.Native k ↦ run s options.turns options.moves answers
+    ]) out0 out1 in
+    subst Q (sym natively) (subst P is h)

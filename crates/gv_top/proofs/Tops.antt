@@ -17,7 +17,7 @@ use Rattle.gv_top.specs.Verdicts.{number_of, line_of}
 use Rattle.gv_top.specs.Top.{Fits, Decided, CameTo, Ended, FailsToWrite, IsOr, IsTold, IsTried, AnswersConnection, IsAnswered, IsOfConnection, HasFaultLine, HasLawfulLines, RanScenarioSo}
 
 -- nothing was appended
-left_as_it_was : (old new : Option (List ℕ)) (text : List ℕ) → new ≡ old → AppendsPrefix old new text
+pub left_as_it_was : (old new : Option (List ℕ)) (text : List ℕ) → new ≡ old → AppendsPrefix old new text
 left_as_it_was old new text e = let P : Option (List ℕ) → Type 0 = λ x. AppendsPrefix old x text in subst P (sym e) (AppendsPrefix-nothing old text)
 
 -- out has a prefix, and the status is one of a fault or of want of memory
@@ -327,3 +327,7 @@ lawful_told n v w out0 out1 old new e0 e1 o l h =
 -- nothing was written
 pub nothing_lawful : (n : ℕ) (out : Option (List ℕ)) → HasLawfulLines n out out
 nothing_lawful n out = record { lines = []; lawful = refl; prefix = AppendsPrefix-nothing out []; whole = λ h4 h5 h7. sym (appended-nothing out) }
+
+-- out was left as it was
+pub unchanged_lawful : (n : ℕ) (old new : Option (List ℕ)) → new ≡ old → HasLawfulLines n old new
+unchanged_lawful n old new e = let P : Option (List ℕ) → Type 0 = λ x. HasLawfulLines n old x in subst P (sym e) (nothing_lawful n old)

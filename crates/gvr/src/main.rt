@@ -8,12 +8,14 @@ use gv_io::{StdSink, StdSource};
 use gv_top::gvr;
 use native_board::Bell;
 use native_pool::{
-    Ear, NoThreads, OpenGate, PollEar, Spawner, ThreadSpawner, ThreadWorld, WakerBell, WorkerTask,
-    spawn_worker,
+    Ear, NoThreads, OpenGate, PollEar, Spawner, StartThread, ThreadSpawner, ThreadWorld, WakerBell,
+    WorkerTask, spawn_worker,
 };
 use std::alloc::{AllocError, Global};
 use std::io::Write;
 use std::process::ExitCode;
+use std::sync::Wait;
+use std::thread::Threads;
 use std::{env, io};
 
 /// How many bytes of the trace are kept back before they are written out.
@@ -44,15 +46,16 @@ fn words(rt: &HostRuntime) -> Result<Vec<String>, AllocError> {
 }
 
 /// Runs the command over the real streams, and over native threads that are made of these parts; gives its status.
-fn run_over<R: Ear + Drop, B: Bell + Drop, S: Spawner<B, OpenGate> + Drop>(
+fn run_over<H: Wait + Drop, R: Ear + Drop, B: Bell + Drop, S: Spawner<B, OpenGate> + Drop>(
     rt: HostRuntime,
+    handle: H,
     ear: R,
     bell: B,
     spawner: S,
 ) -> Result<u8, AllocError> {
     let words = words(&rt)?;
     let clock = ProgramClock::new(rt);
-    let mut native = ThreadWorld::new(rt.alloc(), rt, ear, bell, clock, OpenGate, spawner)?;
+    let mut native = ThreadWorld::new(rt.alloc(), handle, ear, bell, clock, OpenGate, spawner)?;
     let mut input = StdSource::new(rt.reader());
     let mut out = StdSink::new(rt.alloc(), rt.stdout().lock(), TRACE_CAPACITY)?;
     let mut err = StdSink::new(rt.alloc(), rt.stderr().lock(), LINE_CAPACITY)?;
@@ -68,30 +71,40 @@ fn run_over<R: Ear + Drop, B: Bell + Drop, S: Spawner<B, OpenGate> + Drop>(
 
 /// Runs the command, and gives its status. Where the system has no poll by which a worker could wake the hub, the hub
 /// evaluates all jobs itself.
-fn run(rt: HostRuntime) -> Result<u8, AllocError> {
+fn run<H: Threads + Wait + Copy>(
+    rt: HostRuntime,
+    handle: H,
+    start: StartThread,
+) -> Result<u8, AllocError>
+    requires { IsAlwaysCallable start }
+{
     match PollEar::new(&rt, rt.alloc()) {
-        Ok((ear, bell)) => {
-            let start = Box::new(
-                rt.alloc(),
-                move |task: WorkerTask<WakerBell, OpenGate>| spawn_worker(&rt, task),
-            )?;
-            run_over(rt, ear, bell, ThreadSpawner::new(rt, start))
-        }
+        Ok((ear, bell)) => run_over(rt, handle, ear, bell, ThreadSpawner::new(handle, start)),
         Err(error) => {
             if error.kind() == io::ErrorKind::OutOfMemory {
                 return Err(AllocError);
             }
-            run_over(rt, DeafEar, MuteBell, NoThreads::new())
+            run_over(rt, handle, DeafEar, MuteBell, NoThreads::new())
         }
     }
 }
 
+/// Tells of want of memory, and gives its status.
+fn without_memory(rt: &HostRuntime) -> ExitCode {
+    let _ = rt.stderr().lock().write_all(b"gvr: out of memory\n");
+    ExitCode::from(OUT_OF_MEMORY)
+}
+
 fn main(rt: HostRuntime) -> ExitCode {
-    match run(rt) {
-        Ok(status) => ExitCode::from(status),
-        Err(_) => {
-            let _ = rt.stderr().lock().write_all(b"gvr: out of memory\n");
-            ExitCode::from(OUT_OF_MEMORY)
-        }
+    let start = Box::new(
+        rt.alloc(),
+        move |task: WorkerTask<WakerBell, OpenGate>| spawn_worker(&rt, task),
+    );
+    match start {
+        Ok(start) => match run(rt, rt, start) {
+            Ok(status) => ExitCode::from(status),
+            Err(_) => without_memory(&rt),
+        },
+        Err(_) => without_memory(&rt),
     }
 }

@@ -1,3 +1,4 @@
+use Rattle.gv_top.proofs.Tops.{left_as_it_was, unchanged_lawful}
 use Rattle.machine.specs.Run.{Source, run}
 use Rattle.gv_top.proofs.InWorlds.{ran_natively, run_lawful}
 use Rattle.gv_top.proofs.running.run_natively.Goals as goal
@@ -14,3 +15,9 @@ returns-in-Some-clause-lawful g c =
     let given = (g.W.World.meaning c.run_in_world.new.world).answers in
     run_lawful c.in-Some.end (run c.args.engine.scenario c.args.engine.turns c.args.engine.moves given) _ _ ran.written
     (c.runs_are_lawful.ensures c.args.engine.scenario (Source.Given given) c.args.engine.turns c.args.engine.moves c.requires.well_formed ran.legal)
+
+pub returns-in-None-clause-written : goal.returns-in-None-clause-written
+returns-in-None-clause-written g c = left_as_it_was _ _ _ c.in-None.ensures.unwritten
+
+pub returns-in-None-clause-lawful : goal.returns-in-None-clause-lawful
+returns-in-None-clause-lawful g c = unchanged_lawful 7 _ _ c.in-None.ensures.unwritten

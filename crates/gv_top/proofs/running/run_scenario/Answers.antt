@@ -1,3 +1,4 @@
+use Rattle.gv_top.proofs.InWorlds.{ran_by_script, ran_by_workers}
 use Rattle.gv_io.proofs.StreamLaws.{AppendsPrefix-nothing}
 use Rattle.gv_top.proofs.Built.{few_workers, some_workers}
 use Rattle.gv_top.proofs.Tops.{nothing_lawful}
@@ -14,3 +15,11 @@ returns-in_default-clause-written g c = AppendsPrefix-nothing _ _
 
 pub returns-in_default-clause-lawful : goal.returns-in_default-clause-lawful
 returns-in_default-clause-lawful g c = nothing_lawful 7 _
+
+pub returns-in-Script-clause-written : goal.returns-in-Script-clause-written
+returns-in-Script-clause-written g c =
+    ran_by_script c.run_script.result c.args.options c.in-Script.tick _ c.args.checked c.in-Ok.engine _ _ c.in-Ok.ensures c.in-Script.is c.run_script.ensures.written
+
+pub returns-in-Native-clause-written : goal.returns-in-Native-clause-written
+returns-in-Native-clause-written g c =
+    ran_by_workers c.run_natively.result c.args.options c.in-Native.workers _ c.args.checked c.in-Ok.engine _ _ c.in-Ok.ensures c.in-Native.is c.run_natively.ensures.written
