@@ -5,6 +5,7 @@ use std::alloc::Global;
 use std::test::Fail;
 
 /// A worked run.
+#[derive(Clone, Copy)]
 struct Run {
     words: &'static str,
     text: &'static str,
