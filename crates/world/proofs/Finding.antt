@@ -1,139 +1,175 @@
--- What is found of the outstanding jobs by number.
-use Rattle.std.proofs.Common.{◌≡◌, ℕ, ◌≢◌, ◌↔◌, ◌⊎◌, inl, inr, Bool, true, false, not, cond, List, [], ◌∷◌, ◌++◌, Option, Some, None, refl, sym, ap, ◌∙◌, subst, arith}
-use Rattle.std.specs.Prelude.{Contains, All, IsTrue, nat_eq, filter}
+-- What is found of the outstanding jobs.
+use Rattle.std.proofs.Common.{◌≡◌, ℕ, zero, suc, ◌↔◌, ◌⊎◌, inl, inr, ◌==◌, ◌||◌, Bool, true, false, not, cond, if◌then◌else◌, List, [], ◌∷◌, ◌++◌, Option, Some, None, refl, sym, ap, ◌∙◌, subst, arith}
+use Rattle.std.specs.Prelude.{Contains, All, IsTrue}
+use Rattle.std.specs.List.{cons_option}
 use Rattle.std.proofs.lemmas.Bool.{false≢true}
+use Rattle.std.proofs.lemmas.List.Folds.{list_any-append}
 use Rattle.std.proofs.lemmas.Bool.Decides.{nat_tests}
-use Rattle.std.proofs.lemmas.List.Elements.{All-cons, All-contains, All-contains_itself, All-nil, All-weaker, Contains-append_left, Contains-push, Contains-push_cases}
-use Rattle.gv_values.specs.declared.job.Job.{Job}
+use Rattle.std.proofs.lemmas.List.Elements.{All-cons, All-contains, All-nil, filter_map-append}
 use Rattle.gv_values.specs.declared.job.JobOutcome.{JobOutcome}
 use Rattle.gv_values.specs.declared.job.Answer.{Answer}
 use Rattle.world_rules.specs.declared.question.PostedJob.{PostedJob}
 use Rattle.world_rules.specs.declared.question.DueJob.{DueJob}
 use Rattle.world_rules.specs.Jobs.{eval}
-use Rattle.world_rules.specs.Legal.{is_done_of, is_posted}
-use Rattle.world_rules.specs.Script.{without}
-use Rattle.world.specs.Ruled.{IsSound, IsEndOf}
-use Rattle.world.specs.Outstanding.{Finds}
-use Rattle.world.proofs.Sound.{contains_filter, contains_head, contains_posted, contains_tail, kept_each, may_answer, not_true}
+use Rattle.world_rules.specs.Legal.{posted, is_done_of, is_posted}
+use Rattle.world_rules.specs.Script.{comes_before, sooner, first_due, without}
+use Rattle.world.specs.Ruled.{IsEndOf}
+use Rattle.world.specs.Outstanding.{still_due, IsNamed, ArePosted, IsFirstOf, Finds}
+use Rattle.world.proofs.Sound.{contains_head, contains_tail, first_in, or_false}
 
-none_is : (job : Job) → None ≡ Some job → ⊥
+none_is : (job : DueJob) → None ≡ Some job → ⊥
 none_is job e = cc
 
-some_is : (a b : Job) → Some a ≡ Some b → a ≡ b
+some_is : (a b : DueJob) → Some a ≡ Some b → a ≡ b
 some_is a b e = cc
 
--- ---- the job of a number
+-- ---- the posted jobs that are found
 
--- one of the jobs has this number, and computes this
-abbrev HasJob : ℕ → Job → List DueJob → Type 0
-HasJob number job jobs = (due : DueJob) × Contains jobs due × (due.number ≡ number) × (due.job ≡ job)
-
-abbrev FindsIt : (ℕ → Option Job) → List DueJob → Type 0
-FindsIt found jobs = (number : ℕ) (job : Job) → (found number ≡ Some job) ↔ HasJob number job jobs
-
--- one of the jobs has a number, or none has
-has_or_none : (number : ℕ) (jobs : List DueJob) → ((due : DueJob) × Contains jobs due × (due.number ≡ number)) ⊎ All (λ (due : DueJob). due.number ≢ number) jobs
-has_or_none number [] = inr (All-nil (λ (due : DueJob). due.number ≢ number))
-has_or_none number (d ∷ jobs) = is (nat_eq d.number number) refl (has_or_none number jobs)
+each_found : (f : ℕ → Option DueJob) (posts : List PostedJob) → IsNamed f → All (λ (job : DueJob). f job.number ≡ Some job) (still_due f posts)
+each_found f [] named = All-nil (λ (job : DueJob). f job.number ≡ Some job)
+each_found f (p ∷ ps) named = is (f p.number) refl (each_found f ps named)
   where
-    is : (b : Bool) → nat_eq d.number number ≡ b → ((due : DueJob) × Contains jobs due × (due.number ≡ number)) ⊎ All (λ (due : DueJob). due.number ≢ number) jobs
-        → ((due : DueJob) × Contains (d ∷ jobs) due × (due.number ≡ number)) ⊎ All (λ (due : DueJob). due.number ≢ number) (d ∷ jobs)
-    is true test rest = inl (d, contains_head d jobs, grind (arith, nat_tests))
-    is false test (inl h) = inl (h.0, contains_tail d h.0 jobs h.1, h.2)
-    is false test (inr none) = inr (All-cons (λ (due : DueJob). due.number ≢ number) d jobs (grind (arith, nat_tests)) none)
+    is : (o : Option DueJob) → f p.number ≡ o → All (λ (job : DueJob). f job.number ≡ Some job) (still_due f ps)
+        → All (λ (job : DueJob). f job.number ≡ Some job) (cons_option o (still_due f ps))
+    is None e rest = rest
+    is (Some job) e rest = All-cons (λ (job : DueJob). f job.number ≡ Some job) job (still_due f ps) (ap f (named p.number job e) ∙ e) rest
 
-found-it : (f : ℕ → Option Job) (jobs : List DueJob) → Finds f jobs → FindsIt f jobs
-found-it f jobs finds = λ number job. (there number job (has_or_none number jobs), λ h. ap f (sym h.2) ∙ (All-contains (λ (d : DueJob). f d.number ≡ Some d.job) jobs h.0 finds.each h.1 ∙ ap Some h.3))
+is_there : (f : ℕ → Option DueJob) (posts : List PostedJob) (number : ℕ) (job : DueJob) → is_posted number posts ≡ true → f number ≡ Some job → Contains (still_due f posts) job
+is_there f [] number job e found = absurd (false≢true e)
+is_there f (p ∷ ps) number job e found = is (p.number == number) refl e (λ e. is_there f ps number job e found)
   where
-    there : (number : ℕ) (job : Job) → ((due : DueJob) × Contains jobs due × (due.number ≡ number)) ⊎ All (λ (due : DueJob). due.number ≢ number) jobs → f number ≡ Some job → HasJob number job jobs
-    there number job (inl h) e =
-        (h.0, h.1, h.2, some_is h.0.job job (sym (All-contains (λ (d : DueJob). f d.number ≡ Some d.job) jobs h.0 finds.each h.1) ∙ (ap f h.2 ∙ e)))
-    there number job (inr none) e = absurd (none_is job (sym (finds.no_other number none) ∙ e))
+    later : (o : Option DueJob) → Contains (still_due f ps) job → Contains (cons_option o (still_due f ps)) job
+    later None h = h
+    later (Some other) h = contains_tail other job (still_due f ps) h
 
-found-by : (f : ℕ → Option Job) (jobs : List DueJob) → FindsIt f jobs → Finds f jobs
-found-by f jobs finds = record {
-  each = All-weaker (Contains jobs) (λ (d : DueJob). f d.number ≡ Some d.job) (λ d there. (finds d.number d.job).1 (d, there, refl, refl)) jobs (All-contains_itself jobs);
-  no_other = λ number none. is number none (f number) refl;
-}
+    is : (b : Bool) → (p.number == number) ≡ b → (b || is_posted number ps) ≡ true → (is_posted number ps ≡ true → Contains (still_due f ps) job)
+        → Contains (cons_option (f p.number) (still_due f ps)) job
+    is true test e rest = let same : p.number ≡ number = grind (arith, nat_tests) in
+        subst (λ (o : Option DueJob). Contains (cons_option o (still_due f ps)) job) (sym (ap f same ∙ found)) (contains_head job (still_due f ps))
+    is false test e rest = later (f p.number) (rest e)
+
+pub finds_posted : (f : ℕ → Option DueJob) (posts : List PostedJob) → IsNamed f → ArePosted f posts → Finds f (still_due f posts)
+finds_posted f posts named are number job = (
+  λ e. (by (is_posted number posts) refl e, named number job e),
+  λ h. ap f (sym h.1) ∙ All-contains (λ (job : DueJob). f job.number ≡ Some job) (still_due f posts) job (each_found f posts named) h.0,
+)
   where
-    is : (number : ℕ) → All (λ (due : DueJob). due.number ≢ number) jobs → (o : Option Job) → f number ≡ o → f number ≡ None
-    is number none None e = e
-    is number none (Some job) e = let h = (finds number job).0 e in absurd (All-contains (λ (due : DueJob). due.number ≢ number) jobs h.0 none h.1 h.2)
+    by : (b : Bool) → is_posted number posts ≡ b → f number ≡ Some job → Contains (still_due f posts) job
+    by true test e = is_there f posts number job test e
+    by false test e = absurd (none_is job (sym (are number test) ∙ e))
+
+pub none_due : (f : ℕ → Option DueJob) (posts : List PostedJob) → ((number : ℕ) → f number ≡ None) → still_due f posts ≡ []
+none_due f [] none = refl
+none_due f (p ∷ ps) none = ap (λ o. cons_option o (still_due f ps)) (none p.number) ∙ none_due f ps none
+
+pub same_due : (f g : ℕ → Option DueJob) (posts : List PostedJob) → ((number : ℕ) → g number ≡ f number) → still_due g posts ≡ still_due f posts
+same_due f g [] same = refl
+same_due f g (p ∷ ps) same = λ i. cons_option (same p.number i) (same_due f g ps same i)
 
 -- ---- a job more
 
-put-there : (f g : ℕ → Option Job) (jobs : List DueJob) (due : DueJob) (number : ℕ) (job : Job) (b : Bool) → nat_eq due.number number ≡ b → FindsIt f jobs
-    → g number ≡ cond b (Some due.job) (f number) → g number ≡ Some job → HasJob number job (jobs ++ due ∷ [])
-put-there f g jobs due number job true test finds is e = (due, Contains-push jobs due, grind (arith, nat_tests), some_is due.job job (sym is ∙ e))
-put-there f g jobs due number job false test finds is e =
-    let h = (finds number job).0 (sym is ∙ e) in (h.0, Contains-append_left jobs (due ∷ []) h.0 h.1, h.2, h.3)
-
-put-found : (f g : ℕ → Option Job) (jobs : List DueJob) (due : DueJob) (number : ℕ) (job : Job) (b : Bool) → nat_eq due.number number ≡ b → FindsIt f jobs → f due.number ≡ None
-    → g number ≡ cond b (Some due.job) (f number) → (d : DueJob) → Contains jobs d ⊎ (due ≡ d) → d.number ≡ number → d.job ≡ job → g number ≡ Some job
-put-found f g jobs due number job true test finds new is d (inl there) named computes =
-    let same : due.number ≡ number = grind (arith, nat_tests) in
-    absurd (none_is job (sym new ∙ (ap f same ∙ (finds number job).1 (d, there, named, computes))))
-put-found f g jobs due number job true test finds new is d (inr own) named computes = is ∙ ap Some (ap (λ (d : DueJob). d.job) own ∙ computes)
-put-found f g jobs due number job false test finds new is d (inl there) named computes = is ∙ (finds number job).1 (d, there, named, computes)
-put-found f g jobs due number job false test finds new is d (inr own) named computes =
-    let same : due.number ≡ number = ap (λ (d : DueJob). d.number) own ∙ named in absurd (grind (arith, nat_tests))
-
-pub finds_put : (f g : ℕ → Option Job) (jobs : List DueJob) (due : DueJob) → Finds f jobs → All (λ (other : DueJob). other.number ≢ due.number) jobs → ((q : ℕ) → g q ≡ cond (nat_eq due.number q) (Some due.job) (f q))
-    → Finds g (jobs ++ due ∷ [])
-finds_put f g jobs due finds new is = found-by g (jobs ++ due ∷ []) (λ number job. (
-  put-there f g jobs due number job (nat_eq due.number number) refl (found-it f jobs finds) (is number),
-  λ h. put-found f g jobs due number job (nat_eq due.number number) refl (found-it f jobs finds) (finds.no_other due.number new) (is number) h.0 (Contains-push_cases jobs due h.0 h.1) h.2 h.3,
-))
-
--- where the jobs are outstanding, none has a number that wasn't posted
-pub all_posted : (posts : List PostedJob) (answers : List Answer) (jobs : List DueJob) (moment number : ℕ) → IsSound posts answers jobs moment → is_posted number posts ≡ false
-    → All (λ (other : DueJob). other.number ≢ number) jobs
-all_posted posts answers jobs moment number sound new = All-weaker (Contains jobs) (λ (other : DueJob). other.number ≢ number) apart jobs (All-contains_itself jobs)
+others_due : (f g : ℕ → Option DueJob) (job : DueJob) (posts : List PostedJob) → ((number : ℕ) → g number ≡ cond (job.number == number) (Some job) (f number)) → is_posted job.number posts ≡ false
+    → still_due g posts ≡ still_due f posts
+others_due f g job [] is new = refl
+others_due f g job (p ∷ ps) is new = let apart = or_false (p.number == job.number) (is_posted job.number ps) new in
+    λ i. cons_option (other apart.0 i) (others_due f g job ps is apart.1 i)
   where
-    apart : (d : DueJob) → Contains jobs d → d.number ≡ number → ⊥
-    apart d there same =
-        let post = (may_answer posts answers jobs moment d sound there).0 in
-        false≢true (sym new ∙ (ap (λ n. is_posted n posts) (sym same) ∙ contains_posted posts d.number post.0 post.1))
+    other : (p.number == job.number) ≡ false → g p.number ≡ f p.number
+    other test = let turned : (job.number == p.number) ≡ false = grind (arith, nat_tests) in is p.number ∙ ap (λ b. cond b (Some job) (f p.number)) turned
+
+pub due_more : (f g : ℕ → Option DueJob) (job : DueJob) (posts : List PostedJob) → ((number : ℕ) → g number ≡ cond (job.number == number) (Some job) (f number)) → is_posted job.number posts ≡ false
+    → still_due g (posts ++ posted job.number job.job ∷ []) ≡ still_due f posts ++ job ∷ []
+due_more f g job posts is new =
+    let same : (job.number == job.number) ≡ true = grind (arith, nat_tests) in
+    let own : g job.number ≡ Some job = is job.number ∙ ap (λ b. cond b (Some job) (f job.number)) same in
+    filter_map-append (λ (post : PostedJob). g post.number) posts (posted job.number job.job ∷ [])
+    ∙ (λ i. others_due f g job posts is new i ++ cons_option (own i) [])
+
+pub more_posted : (f g : ℕ → Option DueJob) (job : DueJob) (posts : List PostedJob) → ((number : ℕ) → g number ≡ cond (job.number == number) (Some job) (f number)) → ArePosted f posts
+    → ArePosted g (posts ++ posted job.number job.job ∷ [])
+more_posted f g job posts is are number none =
+    let apart = or_false (is_posted number posts) ((job.number == number) || false) (sym (list_any-append (λ (post : PostedJob). post.number == number) posts (posted job.number job.job ∷ [])) ∙ none) in
+    let test = (or_false (job.number == number) false apart.1).0 in
+    is number ∙ (ap (λ b. cond b (Some job) (f number)) test ∙ are number apart.0)
 
 -- ---- jobs that are answered
 
-off-there : (f g : ℕ → Option Job) (jobs : List DueJob) (answer : Answer) (number : ℕ) (job : Job) (b : Bool) → is_done_of number answer ≡ b → FindsIt f jobs
-    → g number ≡ cond b None (f number) → g number ≡ Some job → HasJob number job (without answer jobs)
-off-there f g jobs answer number job true test finds is e = absurd (none_is job (sym is ∙ e))
-off-there f g jobs answer number job false test finds is e =
-    let h = (finds number job).0 (sym is ∙ e) in
-    let stays : not (is_done_of h.0.number answer) ≡ true = ap (λ n. not (is_done_of n answer)) h.2 ∙ ap not test in (
-      h.0,
-      All-contains (λ (d : DueJob). not (is_done_of d.number answer) ≡ true → Contains (without answer jobs) d) jobs h.0
-          (kept_each (λ (d : DueJob). not (is_done_of d.number answer)) jobs) h.1 stays,
-      h.2,
-      h.3,
-    )
+pub due_less : (f g : ℕ → Option DueJob) (posts : List PostedJob) (answer : Answer) → IsNamed f → ((number : ℕ) → g number ≡ cond (is_done_of number answer) None (f number))
+    → still_due g posts ≡ without answer (still_due f posts)
+due_less f g [] answer named is = refl
+due_less f g (p ∷ ps) answer named is = by (is_done_of p.number answer) (f p.number) refl refl (due_less f g ps answer named is)
+  where
+    taken : (b : Bool) → ◌≡◌ {A = Option DueJob} (cond b None None) None
+    taken true = refl
+    taken false = refl
 
-off-found : (f g : ℕ → Option Job) (jobs : List DueJob) (answer : Answer) (number : ℕ) (job : Job) → FindsIt f jobs → g number ≡ cond (is_done_of number answer) None (f number)
-    → HasJob number job (without answer jobs) → g number ≡ Some job
-off-found f g jobs answer number job finds is h =
-    let there = contains_filter (λ (d : DueJob). not (is_done_of d.number answer)) jobs h.0 h.1 in
-    let test : is_done_of number answer ≡ false = ap (λ n. is_done_of n answer) (sym h.2) ∙ not_true _ there.1 in
-    is ∙ (ap (λ b. cond b None (f number)) test ∙ (finds number job).1 (h.0, there.0, h.2, h.3))
+    by : (b : Bool) (o : Option DueJob) → is_done_of p.number answer ≡ b → f p.number ≡ o → still_due g ps ≡ without answer (still_due f ps)
+        → cons_option (g p.number) (still_due g ps) ≡ without answer (cons_option o (still_due f ps))
+    by b None test found e = λ i. cons_option ((is p.number ∙ (ap (cond (is_done_of p.number answer) None) found ∙ taken (is_done_of p.number answer))) i) (e i)
+    by true (Some job) test found e =
+        let rest = without answer (still_due f ps) in
+        let named_ : is_done_of job.number answer ≡ true = ap (λ n. is_done_of n answer) (named p.number job found) ∙ test in
+        (λ i. cons_option ((is p.number ∙ ap (λ b. cond b None (f p.number)) test) i) (e i)) ∙ ap (λ b. cond (not b) (job ∷ rest) rest) (sym named_)
+    by false (Some job) test found e =
+        let rest = without answer (still_due f ps) in
+        let named_ : is_done_of job.number answer ≡ false = ap (λ n. is_done_of n answer) (named p.number job found) ∙ test in
+        (λ i. cons_option ((is p.number ∙ (ap (λ b. cond b None (f p.number)) test ∙ found)) i) (e i)) ∙ ap (λ b. cond (not b) (job ∷ rest) rest) (sym named_)
 
-pub finds_without : (f g : ℕ → Option Job) (jobs : List DueJob) (answer : Answer) → Finds f jobs → ((q : ℕ) → g q ≡ cond (is_done_of q answer) None (f q)) → Finds g (without answer jobs)
-finds_without f g jobs answer finds is = found-by g (without answer jobs) (λ number job. (
-  off-there f g jobs answer number job (is_done_of number answer) refl (found-it f jobs finds) (is number),
-  off-found f g jobs answer number job (found-it f jobs finds) (is number),
-))
+pub less_posted : (f g : ℕ → Option DueJob) (posts : List PostedJob) (answer : Answer) → ((number : ℕ) → g number ≡ cond (is_done_of number answer) None (f number)) → ArePosted f posts → ArePosted g posts
+less_posted f g posts answer is are number none = is number ∙ by (is_done_of number answer)
+  where
+    by : (b : Bool) → cond b None (f number) ≡ None
+    by true = refl
+    by false = are number none
+
+-- ---- the job that is done first
+
+in_cases : (x y : DueJob) (xs : List DueJob) → Contains (x ∷ xs) y → (x ≡ y) ⊎ Contains xs y
+in_cases x y xs (zero, within, is) = inl is
+in_cases x y xs (suc n, within, is) = inr (n, omega arith, is)
+
+both_first : (a b : DueJob) → comes_before a b ≡ true → comes_before b a ≡ true → a.number ≡ b.number
+both_first a b e f = grind (arith, nat_tests)
+
+least_is : (jobs : List DueJob) (first : DueJob) → Contains jobs first → ((job : DueJob) → Contains jobs job → comes_before first job ≡ true)
+    → ((job : DueJob) → Contains jobs job → job.number ≡ first.number → job ≡ first) → first_due jobs ≡ Some first
+least_is [] first (n, within, is) least alone = absurd (omega arith)
+least_is (x ∷ xs) first there least alone =
+    by (in_cases x first xs there)
+    (λ h. least_is xs first h (λ job in_. least job (contains_tail x job xs in_)) (λ job in_. alone job (contains_tail x job xs in_)))
+  where
+    own : (o : Option DueJob) → first_due xs ≡ o → x ≡ first → sooner x o ≡ first
+    own None e is = is
+    own (Some y) e is = let before : comes_before x y ≡ true = ap (λ a. comes_before a y) is ∙ least y (contains_tail x y xs (first_in xs y e)) in
+        ap (λ b. if b then x else y) before ∙ is
+
+    other : (b : Bool) → comes_before x first ≡ b → (if b then x else first) ≡ first
+    other true test = alone x (contains_head x xs) (both_first x first test (least x (contains_head x xs)))
+    other false test = refl
+
+    by : (x ≡ first) ⊎ Contains xs first → (Contains xs first → first_due xs ≡ Some first) → Some (sooner x (first_due xs)) ≡ Some first
+    by (inl is) rest = ap Some (own (first_due xs) refl is)
+    by (inr h) rest = ap Some (ap (sooner x) (rest h) ∙ other (comes_before x first) refl)
+
+pub first_is : (f : ℕ → Option DueJob) (posts : List PostedJob) (first : Option DueJob) → IsNamed f → ArePosted f posts → IsFirstOf f first → first ≡ first_due (still_due f posts)
+first_is f posts None named are is = sym (ap first_due (none_due f posts is))
+first_is f posts (Some first) named are is =
+    let finds = finds_posted f posts named are in
+    let found = λ (job : DueJob) (h : Contains (still_due f posts) job). (finds job.number job).1 (h, refl) in
+    sym (least_is (still_due f posts) first ((finds first.number first).0 is.0).0 (λ job h. is.1 job.number job (found job h))
+    (λ job h same. some_is job first (sym (found job h) ∙ (ap f same ∙ is.0))))
 
 -- ---- what a job comes to
 
-pub ends_found : (f : ℕ → Option Job) (jobs : List DueJob) (number : ℕ) (outcome : JobOutcome) (job : Job) (b : Bool) → Finds f jobs → f number ≡ Some job
-    → (IsTrue b ↔ (outcome ≡ eval job)) → IsTrue b ↔ IsEndOf number outcome jobs
+pub ends_found : (f : ℕ → Option DueJob) (jobs : List DueJob) (number : ℕ) (outcome : JobOutcome) (job : DueJob) (b : Bool) → Finds f jobs → f number ≡ Some job
+    → (IsTrue b ↔ (outcome ≡ eval job.job)) → IsTrue b ↔ IsEndOf number outcome jobs
 ends_found f jobs number outcome job b finds is same = (
-  λ t. let h = (found-it f jobs finds number job).0 is in (h.0, h.1, (h.2, same.0 t ∙ ap eval (sym h.3))),
-  λ h. let own = some_is h.0.job job (sym ((found-it f jobs finds number h.0.job).1 (h.0, h.1, h.2.0, refl)) ∙ is) in same.1 (h.2.1 ∙ ap eval own),
+  λ t. let h = (finds number job).0 is in (job, h.0, (h.1, same.0 t)),
+  λ h. let own = some_is h.0 job (sym ((finds number h.0).1 (h.1, h.2.0)) ∙ is) in same.1 (h.2.1 ∙ ap (λ (j : DueJob). eval j.job) own),
 )
 
-pub ends_none : (f : ℕ → Option Job) (jobs : List DueJob) (number : ℕ) (outcome : JobOutcome) → Finds f jobs → f number ≡ None → IsTrue false ↔ IsEndOf number outcome jobs
+pub ends_none : (f : ℕ → Option DueJob) (jobs : List DueJob) (number : ℕ) (outcome : JobOutcome) → Finds f jobs → f number ≡ None → IsTrue false ↔ IsEndOf number outcome jobs
 ends_none f jobs number outcome finds is = (
   λ t. absurd (false≢true t),
-  λ h. absurd (none_is h.0.job (sym is ∙ (found-it f jobs finds number h.0.job).1 (h.0, h.1, h.2.0, refl))),
+  λ h. absurd (none_is h.0 (sym is ∙ (finds number h.0).1 (h.1, h.2.0))),
 )

@@ -1,4 +1,5 @@
 pub mod Filtered
 pub mod Sound
 pub mod Finding
+pub mod Ranking
 pub mod Listing

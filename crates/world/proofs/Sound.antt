@@ -24,7 +24,7 @@ last_moment_of-push [] answer = refl
 last_moment_of-push (a ∷ []) answer = refl
 last_moment_of-push (a ∷ b ∷ answers) answer = last_moment_of-push (b ∷ answers) answer
 
-or_false : (a b : Bool) → (a || b) ≡ false → (a ≡ false) × (b ≡ false)
+pub or_false : (a b : Bool) → (a || b) ≡ false → (a ≡ false) × (b ≡ false)
 or_false true b e = absurd (false≢true (sym e))
 or_false false b e = (refl, e)
 
@@ -102,7 +102,7 @@ sooner_in job None jobs h = contains_head job jobs
 sooner_in job (Some x) jobs h = chosen (comes_before job x) job x jobs (h x refl)
 
 -- the job that comes first is one of the jobs
-first_in : (jobs : List DueJob) (x : DueJob) → first_due jobs ≡ Some x → Contains jobs x
+pub first_in : (jobs : List DueJob) (x : DueJob) → first_due jobs ≡ Some x → Contains jobs x
 first_in [] x e = absurd (cc)
 first_in (job ∷ jobs) x e =
     let is : sooner job (first_due jobs) ≡ x = cc in subst (λ (y : DueJob). Contains (job ∷ jobs) y) is (sooner_in job (first_due jobs) jobs (first_in jobs))

@@ -1,7 +1,8 @@
-//! The rule of a script over the outstanding jobs.
-ghost use Rattle.std.specs.Prelude.{◌≡◌, ◌≤◌, not, ◌==◌, filter, vec_len};
+//! The rule of a script.
+ghost use Rattle.std.specs.Prelude.{◌≡◌, List};
+ghost use Rattle.world_rules.specs.declared.question.DueJob.{DueJob};
 ghost use Rattle.world_rules.specs.Legal.{moment_of};
-ghost use Rattle.world_rules.specs.Script.{due_at, comes_before, sooner, first_due, done_by, scripted, without};
+ghost use Rattle.world_rules.specs.Script.{due_at, first_due, done_by, scripted};
 
 use gv_values::Answer;
 use world_rules::{DueJob, Question, eval};
@@ -25,40 +26,6 @@ pub(crate) fn moment_of(answer: Answer) -> u64
     }
 }
 
-fn comes_before(a: &DueJob, b: &DueJob) -> bool
-    ensures { result ≡ comes_before a.now b.now }
-{
-    a.due < b.due || (a.due == b.due && a.number <= b.number)
-}
-
-fn sooner(job: DueJob, other: Option<DueJob>) -> DueJob
-    ensures { result ≡ sooner job other }
-{
-    match other {
-        None => job,
-        Some(other) => {
-            if comes_before(&job, &other) {
-                job
-            } else {
-                other
-            }
-        }
-    }
-}
-
-// The outstanding job that is done first.
-fn first_due(jobs: &[DueJob]) -> Option<DueJob>
-    ensures { result ≡ first_due jobs.now }
-{
-    let mut first = None;
-    let mut at = jobs.len();
-    while at > 0 {
-        at -= 1;
-        first = Some(sooner(jobs[at], first));
-    }
-    first
-}
-
 fn done_by(limit: u64, moment: u64, first: Option<DueJob>, otherwise: Answer) -> Answer
     ensures { result ≡ done_by limit moment first otherwise }
 {
@@ -72,11 +39,10 @@ fn done_by(limit: u64, moment: u64, first: Option<DueJob>, otherwise: Answer) ->
     }
 }
 
-/// The answer of a script whose moment grows by the tick at each Poll.
-pub(crate) fn scripted(tick: u64, jobs: &[DueJob], moment: u64, question: Question) -> Answer
-    ensures { result ≡ scripted tick jobs.now moment question }
+/// The answer of a script whose moment grows by the tick at each Poll, where this outstanding job is done first.
+pub(crate) fn scripted(tick: u64, first: Option<DueJob>, moment: u64, question: Question) -> Answer
+    ensures { (jobs : List DueJob) → first ≡ first_due jobs → result ≡ scripted tick jobs moment question }
 {
-    let first = first_due(jobs);
     match question {
         Question::Poll => {
             let now = due_at(moment, tick);
@@ -91,32 +57,5 @@ pub(crate) fn scripted(tick: u64, jobs: &[DueJob], moment: u64, question: Questi
                 at: until.max(moment),
             },
         ),
-    }
-}
-
-/// Takes off the jobs that the answer names.
-pub(crate) fn take_off(jobs: &mut Vec<DueJob>, answer: Answer)
-    ensures items { jobs.new.items ≡ without answer jobs.old.items }
-    ensures few { vec_len jobs.new ≤ vec_len jobs.old }
-{
-    match answer {
-        Answer::Done { number, .. } => take_off_number(jobs, number),
-        Answer::Elapsed { .. } => {}
-        Answer::Nothing { .. } => {}
-    }
-}
-
-// Takes off the jobs of this number.
-fn take_off_number(jobs: &mut Vec<DueJob>, number: u32)
-    ensures items { jobs.new.items ≡ filter (λ job. not (number == job.number)) jobs.old.items }
-    ensures few { vec_len jobs.new ≤ vec_len jobs.old }
-{
-    let mut at = 0;
-    while at < jobs.len() {
-        if number == jobs[at].number {
-            jobs.remove(at);
-        } else {
-            at += 1;
-        }
     }
 }

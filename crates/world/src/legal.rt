@@ -1,6 +1,9 @@
 //! Whether an answer is legal, by the outstanding jobs alone: what it costs grows neither with them nor with what was answered before.
-ghost use Rattle.std.specs.Prelude.{◌≡◌, ◌↔◌, IsTrue};
+ghost use Rattle.std.specs.Prelude.{◌≡◌, ◌↔◌, IsTrue, List, nat_eq};
+ghost use Rattle.std.specs.HashMap.{get};
+ghost use Rattle.world_rules.specs.declared.question.DueJob.{DueJob};
 ghost use Rattle.world.specs.Ruled.{IsLegalNow};
+ghost use Rattle.world.specs.Outstanding.{Finds};
 
 use crate::due::{LAST_MOMENT, moment_of};
 use crate::outstanding::OutstandingJobs;
@@ -14,7 +17,7 @@ pub(crate) fn is_legal(
     question: Question,
     answer: Answer,
 ) -> bool
-    ensures { IsTrue result ↔ IsLegalNow outstanding.now.jobs.items moment question answer }
+    ensures { (jobs : List DueJob) → Finds (get nat_eq outstanding.now.by_number) jobs → IsTrue result ↔ IsLegalNow jobs moment question answer }
 {
     let at = moment_of(answer);
     if at < moment || at > LAST_MOMENT {

@@ -1,21 +1,22 @@
 //! The jobs that were posted and not answered yet.
-ghost use Rattle.std.specs.Prelude.{◌≡◌, ℕ, ◌↔◌, IsTrue, nat_eq, Option, None, if◌then◌else◌};
+ghost use Rattle.std.specs.Prelude.{◌≡◌, ◌↔◌, IsTrue, nat_eq};
 ghost use Rattle.std.specs.HashMap.{get};
-ghost use Rattle.world_rules.specs.Legal.{is_done_of};
-ghost use Rattle.world.specs.Outstanding.{Finds};
+ghost use Rattle.world.specs.Outstanding.{IsNamed, IsRanked, has_rank};
 
-use crate::due::take_off;
-use gv_values::{Answer, Job, JobOutcome};
+use gv_values::{Answer, JobOutcome};
 use std::alloc::{AllocError, Global};
-use std::collections::HashMap;
+use std::collections::{BTreeSet, HashMap};
 use world_rules::{DueJob, eval};
 
-/// The outstanding jobs, in the order of their posts. One is found by its number in constant time.
+/// The outstanding jobs. One is found by its number in constant time; one is added or taken off, and the one that is done first is
+/// found, in a time that grows with the logarithm of how many there are.
 #[derive(Drop)]
 pub(crate) struct OutstandingJobs {
-    jobs: Vec<DueJob>,
-    by_number: HashMap<u32, Job>,
-    ghost finds: { Finds (get nat_eq by_number) jobs.items },
+    by_number: HashMap<u32, DueJob>,
+    // The due moment and the number of each, so that the least is that of the job that is done first.
+    ranks: BTreeSet<(u64, u32)>,
+    ghost named: { IsNamed (get nat_eq by_number) },
+    ghost ranked: { IsRanked (get nat_eq by_number) (has_rank ranks) },
 }
 
 fn is_same(a: JobOutcome, b: JobOutcome) -> bool
@@ -24,76 +25,75 @@ fn is_same(a: JobOutcome, b: JobOutcome) -> bool
     a == b
 }
 
-// Finds the job no longer that the answer names.
-fn forget(by_number: &mut HashMap<u32, Job>, answer: Answer)
-    ensures { (number : ℕ) → get nat_eq by_number.new number ≡ (if is_done_of number answer then None else get nat_eq by_number.old number) }
-{
-    match answer {
-        Answer::Done { number, .. } => {
-            by_number.remove(&number);
-        }
-        Answer::Elapsed { .. } => {}
-        Answer::Nothing { .. } => {}
-    }
-}
-
 impl OutstandingJobs {
-    ghost use Rattle.std.specs.Prelude.{◌≡◌, ◌≢◌, ◌↔◌, IsTrue, List, [], ◌∷◌, ◌++◌, All, OnOk, OnErr};
+    ghost use Rattle.std.specs.Prelude.{◌≡◌, ℕ, ◌↔◌, ◌==◌, IsTrue, nat_eq, List, Some, None, if◌then◌else◌, OnOk, OnErr};
+    ghost use Rattle.std.specs.HashMap.{get};
     ghost use Rattle.world_rules.specs.declared.question.DueJob.{DueJob};
-    ghost use Rattle.world_rules.specs.Script.{without};
+    ghost use Rattle.world_rules.specs.Legal.{is_done_of};
     ghost use Rattle.world.specs.Ruled.{IsEndOf};
+    ghost use Rattle.world.specs.Outstanding.{IsFirstOf, Finds};
 
     /// No jobs.
     pub(crate) fn new(alloc: Global) -> OutstandingJobs
-        ensures { result.jobs.items ≡ [] }
+        ensures { (number : ℕ) → get nat_eq result.by_number number ≡ None }
     {
         OutstandingJobs {
-            jobs: Vec::new(alloc),
             by_number: HashMap::new(alloc),
+            ranks: BTreeSet::new(alloc),
         }
-    }
-
-    /// The jobs in the order of their posts.
-    pub(crate) fn as_slice(&self) -> &[DueJob]
-        ensures { result.now ≡ self.now.jobs.items }
-    {
-        &self.jobs
     }
 
     /// Takes all off.
     pub(crate) fn clear(&mut self)
-        ensures { self.new.jobs.items ≡ [] }
+        ensures { (number : ℕ) → get nat_eq self.new.by_number number ≡ None }
     {
-        self.jobs.clear();
         self.by_number.clear();
+        self.ranks.clear();
     }
 
     /// Adds a job whose number none of the others has.
     pub(crate) fn add(&mut self, job: DueJob) -> Result<(), AllocError>
-        requires new { All (λ (other : DueJob). other.number ≢ job.number) self.old.jobs.items }
-        ensures added { OnOk result (self.new.jobs.items ≡ self.old.jobs.items ++ job ∷ []) }
-        ensures refused { OnErr result (self.new.jobs.items ≡ self.old.jobs.items) }
+        requires new { get nat_eq self.old.by_number job.number ≡ None }
+        ensures added { OnOk result ((number : ℕ) → get nat_eq self.new.by_number number ≡ (if job.number == number then Some job else get nat_eq self.old.by_number number)) }
+        ensures refused { OnErr result ((number : ℕ) → get nat_eq self.new.by_number number ≡ get nat_eq self.old.by_number number) }
     {
-        self.jobs.reserve(1)?;
-        self.by_number.insert(job.number, job.job)?;
-        self.jobs.push_reserved(job);
+        self.by_number.insert(job.number, job)?;
+        if self.ranks.insert((job.due, job.number)).is_err() {
+            self.by_number.remove(&job.number);
+            return Err(AllocError);
+        }
         Ok(())
     }
 
     /// Takes off the job that the answer names.
     pub(crate) fn take_off(&mut self, answer: Answer)
-        ensures { self.new.jobs.items ≡ without answer self.old.jobs.items }
+        ensures { (number : ℕ) → get nat_eq self.new.by_number number ≡ (if is_done_of number answer then None else get nat_eq self.old.by_number number) }
     {
-        forget(&mut self.by_number, answer);
-        take_off(&mut self.jobs, answer);
+        match answer {
+            Answer::Done { number, .. } => {
+                if let Some(job) = self.by_number.remove(&number) {
+                    self.ranks.remove(&(job.due, number));
+                }
+            }
+            Answer::Elapsed { .. } => {}
+            Answer::Nothing { .. } => {}
+        }
     }
 
-    /// Whether the job of this number is outstanding and comes to this outcome, in constant time.
+    /// The job that is done first.
+    pub(crate) fn first(&self) -> Option<DueJob>
+        ensures { IsFirstOf (get nat_eq self.now.by_number) result }
+    {
+        let rank = *self.ranks.first()?;
+        self.by_number.get(&rank.1).copied()
+    }
+
+    /// Whether the job of this number is outstanding and comes to this outcome.
     pub(crate) fn has_end(&self, number: u32, outcome: JobOutcome) -> bool
-        ensures { IsTrue result ↔ IsEndOf number outcome self.now.jobs.items }
+        ensures { (jobs : List DueJob) → Finds (get nat_eq self.now.by_number) jobs → IsTrue result ↔ IsEndOf number outcome jobs }
     {
         match self.by_number.get(&number) {
-            Some(job) => is_same(outcome, eval(*job)),
+            Some(job) => is_same(outcome, eval(job.job)),
             None => false,
         }
     }

@@ -1,5 +1,8 @@
 //! A world that answers by a script.
+ghost use Rattle.std.specs.Prelude.{nat_eq};
+ghost use Rattle.std.specs.HashMap.{get};
 ghost use Rattle.world.specs.Ruled.{IsSound};
+ghost use Rattle.world.specs.Outstanding.{still_due, ArePosted};
 
 use crate::due::{due_at, moment_of, scripted};
 use crate::legal::is_legal;
@@ -19,7 +22,8 @@ pub struct ScriptWorld {
     posts: Vec<PostedJob>,
     answers: Vec<Answer>,
     outstanding: OutstandingJobs,
-    ghost sound: { IsSound posts.items answers.items outstanding.jobs.items moment },
+    ghost posted: { ArePosted (get nat_eq outstanding.by_number) posts.items },
+    ghost sound: { IsSound posts.items answers.items (still_due (get nat_eq outstanding.by_number) posts.items) moment },
 }
 
 impl ScriptWorld {
@@ -27,7 +31,7 @@ impl ScriptWorld {
     ghost use Rattle.gv_values.specs.declared.job.Answer.{Answer};
     ghost use Rattle.world_rules.specs.Legal.{is_posted, IsLegal, MayAsk};
     ghost use Rattle.world_rules.specs.Script.{start, after_post, after_answer, scripted};
-    ghost use Rattle.world.specs.Kept.{script_meaning, rule_state, SameSetting, SameScript};
+    ghost use Rattle.world.specs.Kept.{script_meaning, due_jobs, rule_state, SameSetting, SameScript};
 
     /// A world that doesn't run yet, whose moment grows by so many milliseconds at each Poll.
     pub fn new(alloc: Global, tick: u64) -> ScriptWorld
@@ -82,15 +86,10 @@ impl ScriptWorld {
     /// What the script answers, which is legal where the question may be asked.
     pub(crate) fn by_script(&self, question: Question) -> Answer
         requires { MayAsk self.now.posts.items self.now.answers.items question }
-        ensures script { result ≡ scripted self.now.tick self.now.outstanding.jobs.items self.now.moment question }
+        ensures script { result ≡ scripted self.now.tick (due_jobs self.now) self.now.moment question }
         ensures legal { IsLegal self.now.posts.items self.now.answers.items question result }
     {
-        scripted(
-            self.tick,
-            self.outstanding.as_slice(),
-            self.moment,
-            question,
-        )
+        scripted(self.tick, self.outstanding.first(), self.moment, question)
     }
 
     /// Whether an answer to the question is legal now.

@@ -6,9 +6,9 @@ use Rattle.world.proofs.Finding.{ends_found, ends_none}
 use Rattle.world.proofs.outstanding.OutstandingJobs.has_end.Goals as goal
 
 pub returns-in-Some : goal.returns-in-Some
-returns-in-Some c = let w = c.args.self.now in
-    ends_found (get nat_eq w.by_number) w.jobs.items c.args.number c.args.outcome c.in-Some.job.now c.is_same.result w.finds (sym c.in-Some.ensures.value)
+returns-in-Some c = λ jobs finds.
+    ends_found (get nat_eq c.args.self.now.by_number) jobs c.args.number c.args.outcome c.in-Some.job.now c.is_same.result finds (sym c.in-Some.ensures.value)
     (subst (λ (o : JobOutcome). IsTrue c.is_same.result ↔ (c.args.outcome ≡ o)) c.eval.ensures c.is_same.ensures)
 
 pub returns-in-None : goal.returns-in-None
-returns-in-None c = let w = c.args.self.now in ends_none (get nat_eq w.by_number) w.jobs.items c.args.number c.args.outcome w.finds (sym c.in-None.ensures.value)
+returns-in-None c = λ jobs finds. ends_none (get nat_eq c.args.self.now.by_number) jobs c.args.number c.args.outcome finds (sym c.in-None.ensures.value)

@@ -1,11 +1,11 @@
-use Rattle.std.proofs.Common.{subst, sym}
+use Rattle.std.proofs.Common.{sym}
 use Rattle.std.specs.Prelude.{nat_eq}
 use Rattle.std.specs.HashMap.{get}
-use Rattle.world.specs.Outstanding.{Finds}
-use Rattle.world.proofs.Finding.{finds_without}
+use Rattle.world.specs.Outstanding.{has_rank}
+use Rattle.world.proofs.Ranking.{ranked_less}
 use Rattle.world.proofs.outstanding.OutstandingJobs.take_off.Goals as goal
 
-pub invariant_of-self : goal.invariant_of-self
-invariant_of-self c = let w = c.args.self.now in let found = get nat_eq c.forget.new.by_number in record {
-  finds = subst (Finds found) (sym c.take_off.ensures.items) (finds_without (get nat_eq w.by_number) found w.jobs.items c.args.answer w.finds c.forget.ensures);
-}
+pub invariant_of-self-clause-ranked : goal.invariant_of-self-clause-ranked
+invariant_of-self-clause-ranked c = let w = c.args.self.now in
+    ranked_less (get nat_eq w.by_number) (get nat_eq c.remove.new.self) (has_rank w.ranks) (has_rank c.remove-in-Some.new.self) c.in-Some.job c.in-Done.number w.ranked (sym c.in-Some.ensures.value) c.in-Some.ensures.updates.0
+    c.remove-in-Some.ensures.updates.0
