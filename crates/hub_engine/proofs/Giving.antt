@@ -4,7 +4,7 @@ use Rattle.std.proofs.lemmas.List.{append-nil, map-append}
 use Rattle.trace_text.specs.declared.line.Line.{Line}
 use Rattle.trace_text.specs.LineTexts.{text_of}
 use Rattle.gv_io.specs.Streams.{appended, AppendsPrefix}
-use Rattle.gv_io.proofs.StreamLaws.{appended-nothing, appended-appended, AppendsPrefix-nothing, AppendsPrefix-whole, AppendsPrefix-after, AppendsPrefix-longer}
+use Rattle.gv_io.proofs.StreamLaws.{appended-nothing, appended-appended, AppendsPrefix-nothing, AppendsPrefix-all, AppendsPrefix-whole, AppendsPrefix-after, AppendsPrefix-longer}
 use Rattle.gv_values.specs.declared.job.Answer.{Answer}
 use Rattle.world_rules.specs.declared.question.LogEntry.{LogEntry}
 use Rattle.world_rules.specs.declared.question.PostedJob.{PostedJob}
@@ -14,7 +14,7 @@ use Rattle.world.specs.Worlds.{GoesOn, Meaning, Stores}
 use Rattle.machine.specs.declared.state.Post.{Post}
 use Rattle.machine.specs.Run.{logged}
 use Rattle.machine_turns.specs.Logs.{posts_of_step}
-use Rattle.hub_engine.specs.Outside.{HasDone, HasGiven, HasGivenPart, HasPostedPart, Outside}
+use Rattle.hub_engine.specs.Outside.{HasDone, HasGiven, HasGivenPart, HasPostedPart, Outside, outside}
 use Rattle.hub_engine.proofs.Texts.{text_of_append}
 
 -- ---- logs one after another
@@ -120,6 +120,14 @@ made_all v w posts d = record { part = posts; later = []; is = sym (append-nil p
 
 pub part_nothing : (v : Outside) (lines : List Line) (posts : List Post) → HasGivenPart v v lines posts
 part_nothing v lines posts = record { text = AppendsPrefix-nothing v.written (text_of lines); made = made_nothing v posts }
+
+-- all was given out, and it broke off behind that
+pub given_whole : (v w : Outside) (written : Option (List ℕ)) (lines : List Line) (posts : List Post) → HasGiven v w lines (map logged posts) → written ≡ w.written →
+    HasGivenPart v (outside written w.means w.stands) lines posts
+given_whole v w written lines posts g same = record {
+  text = AppendsPrefix-all v.written written (text_of lines) (same ∙ g.text);
+  made = made_all v (outside written w.means w.stands) posts g.done;
+}
 
 pub part_after : (u v w : Outside) (lines more : List Line) (posts later : List Post) → HasGiven u v lines (map logged posts) → HasGivenPart v w more later →
     HasGivenPart u w (lines ++ more) (posts ++ later)

@@ -75,6 +75,28 @@ fn give_out<W: World, K: Sink>(
     Ok(())
 }
 
+/// As `give_out`, before this question: what was written is handed on where the answer may be long in coming.
+fn give_out_before<W: World, K: Sink>(
+    alloc: Global,
+    hub: &mut Hub,
+    world: &mut W,
+    sink: &mut K,
+    question: Question,
+) -> Result<(), Broken>
+    requires runs { (W.meaning world.old).runs ≡ true }
+    requires new { ArePostable (W.meaning world.old).posts hub.old.posts }
+    ensures given { Gives result (outside (K.written sink.old) (W.meaning world.old) (W.stands_for world.old)) (outside (K.written sink.new) (W.meaning world.new) (W.stands_for world.new)) hub.old.lines hub.old.posts }
+    ensures silent { OnOk result (hub.new ≡ silent hub.old) }
+    ensures never_falls { K.faults sink.old ≤ K.faults sink.new }
+    ensures failed { Tells result (K.faults sink.old) (K.faults sink.new) }
+{
+    give_out(alloc, hub, world, sink)?;
+    if matches!(question, Question::Wait(_)) && world.may_wait() {
+        sink.flush()?;
+    }
+    Ok(())
+}
+
 /// The greenlet that is under way moves until it parks or ends, at most so many moves.
 fn runs<W: World, K: Sink>(
     alloc: Global,
@@ -225,7 +247,7 @@ fn asks_world<W: World, K: Sink>(
     ensures failed { Tells result (K.faults sink.old) (K.faults sink.new) }
 {
     hub.block()?;
-    give_out(alloc, hub, world, sink)?;
+    give_out_before(alloc, hub, world, sink, question)?;
     Ok(takes_answer(alloc, hub, world, sink, question)?)
 }
 

@@ -381,6 +381,10 @@ impl<
         ))
     }
 
+    fn may_wait(&self) -> bool {
+        true
+    }
+
     fn finish(&mut self)
         requires runs { (pool_meaning self.old).runs ≡ true }
         ensures ended { pool_meaning self.new ≡ record (pool_meaning self.old) { runs = false } }

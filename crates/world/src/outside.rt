@@ -49,6 +49,12 @@ pub trait World {
         ensures refused { OnErr result (meaning self.new ≡ meaning self.old) }
         ensures refused_log { OnErr result ((log : List LogEntry) → stands_for self.old log ↔ stands_for self.new log) };
 
+    /// Whether the answer to `Question::Wait` may be long in coming, since it comes from outside of the program. A caller
+    /// then hands on first what it has written.
+    fn may_wait(&self) -> bool {
+        false
+    }
+
     /// Ends the workers. Posts and answers stay. It may wait.
     fn finish(&mut self)
         requires runs { (meaning self.old).runs ≡ true }

@@ -1,0 +1,10 @@
+use Rattle.std.proofs.Common.{rules}
+use Rattle.hub_engine.specs.Outside.{outside}
+use Rattle.hub_engine.proofs.Giving.{given_whole}
+use Rattle.hub_engine.proofs.turns.give_out_before.Goals as goal
+
+pub returns-in_err-flush-clause-given : goal.returns-in_err-flush-clause-given
+returns-in_err-flush-clause-given g c =
+    let broken = given_whole (outside (g.K.Sink.written c.args.sink.now) (g.W.World.meaning c.args.world.now) (g.W.World.stands_for c.args.world.now)) (outside (g.K.Sink.written c.give_out.new.sink) (g.W.World.meaning c.give_out.new.world) (g.W.World.stands_for c.give_out.new.world)) (g.K.Sink.written c.flush.new.self) c.args.hub.now.lines c.args.hub.now.posts
+    c.in_ok-give_out.ensures.given c.flush.ensures.same in
+    search (rules, broken)
