@@ -14,7 +14,7 @@ const TRACE_OF_PRINTS_ONE: &str =
     "start g0 main\nprint g0 1\nend g0 value none\nstop value none turns 0 moves 1\n";
 
 /// A source of this text.
-fn source_of(alloc: Global, text: &str) -> Result<MemorySource, AllocError> {
+pub(crate) fn source_of(alloc: Global, text: &str) -> Result<MemorySource, AllocError> {
     let bytes = Vec::from_slice(alloc, text.as_bytes())?;
     Ok(MemorySource::new(bytes, 4096, Vec::new(alloc)))
 }
@@ -144,9 +144,9 @@ impl Source for Peer<'_> {
 
 /// The way to that peer: what is written reaches it once it is flushed.
 #[derive(Drop)]
-struct Way<'a> {
-    reached: &'a Cell<usize>,
-    held: usize,
+pub(crate) struct Way<'a> {
+    pub(crate) reached: &'a Cell<usize>,
+    pub(crate) held: usize,
 }
 
 impl Sink for Way<'_> {

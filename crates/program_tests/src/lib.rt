@@ -6,8 +6,6 @@ mod connection_tests;
 #[cfg(test)]
 mod fault_tests;
 #[cfg(test)]
-mod form_tests;
-#[cfg(test)]
 mod native_tests;
 #[cfg(test)]
 mod newcomer_tests;

@@ -1,15 +1,16 @@
-//! Runs with native workers: over a world that gives listed answers, and over one whose threads never start.
+//! Runs with native workers whose threads never start.
 ghost use Rattle.std.specs.Prelude.{◌≡◌, false};
 
+use crate::fault_tests::{Way, source_of};
 use crate::run_tests::words_of;
-use gv_io::{MemorySink, MemorySource};
+use gv_io::{MemorySink, MemorySource, Sink};
 use gv_top::gvr;
-use gv_values::{Answer, JobOutcome};
 use native_board::Bell;
 use native_pool::{Clock, Ear, NoThreads, OpenGate, ThreadWorld};
 use std::alloc::{AllocError, Global};
+use std::cell::Cell;
 use std::test::Fail;
-use world::{ListWorld, World};
+use world::World;
 
 const TWO_JOBS: &str =
     "native n 2\ndef main\na <- nspawn n sum 3\nb <- nspawn n echo 4\nx <- get a\nprint x\nend\n";
@@ -40,30 +41,6 @@ fn run_in<W: World>(alloc: Global, line: &str, native: &mut W) -> Result<Left, A
         native,
     );
     Ok(Left { status, out, err })
-}
-
-#[test]
-fn listed_answers(rt: HostRuntime) -> Result<(), Fail> {
-    let alloc = rt.alloc();
-    let mut answers = Vec::new(alloc);
-    answers.push(Answer::Done {
-        number: 2,
-        outcome: JobOutcome::Int(4),
-        at: 7,
-    })?;
-    answers.push(Answer::Done {
-        number: 1,
-        outcome: JobOutcome::Int(6),
-        at: 9,
-    })?;
-    let mut native = ListWorld::new(alloc, answers);
-    let left = run_in(alloc, "run --native 1", &mut native)?;
-    assert_eq!(rt; left.status, 0);
-    let trace =
-        "start g0 main\njob j1 g0 sum 3\njob j2 g0 echo 4\npark g0 get j1\nblock jobs\nturn 1 done j2 7 value 4\nblock jobs\nturn 2 done j1 9 value 6\nwake g0\nprint g0 6\nend g0 value none\nstop value none turns 3 moves 4\n";
-    assert_eq!(rt; left.out.bytes(), trace.as_bytes());
-    assert_eq!(rt; left.err.bytes(), "".as_bytes());
-    Ok(())
 }
 
 /// An ear that hears nothing.
@@ -106,5 +83,75 @@ fn no_threads(rt: HostRuntime) -> Result<(), Fail> {
         "start g0 main\njob j1 g0 sum 3\njob j2 g0 echo 4\npark g0 get j1\nblock jobs\nturn 1 done j1 0 value 6\nwake g0\nprint g0 6\nend g0 value none\nstop value none turns 2 moves 4\n";
     assert_eq!(rt; left.out.bytes(), trace.as_bytes());
     assert_eq!(rt; left.err.bytes(), "".as_bytes());
+    Ok(())
+}
+
+/// An ear that notes how many bytes had reached the reader when the program began to wait, and at which the time that it
+/// waits for has come at once.
+#[derive(Clone, Copy)]
+struct Noting<'a> {
+    reached: &'a Cell<usize>,
+    noted: &'a Cell<usize>,
+    moment: &'a Cell<u64>,
+}
+
+impl Ear for Noting<'_> {
+    fn rest(&mut self, at_most: Option<u64>) {
+        self.noted.set(self.reached.get());
+        let moment = self.moment.get();
+        self.moment.set(moment.saturating_add(at_most.unwrap_or(1)));
+    }
+}
+
+/// The clock that this ear moves.
+#[derive(Clone, Copy)]
+struct Moved<'a> {
+    moment: &'a Cell<u64>,
+    last: u64,
+}
+
+impl Clock for Moved<'_> {
+    ghost reading = { λ clock. clock.last };
+
+    fn now(&mut self) -> u64 {
+        self.last = self.last.max(self.moment.get());
+        self.last
+    }
+}
+
+#[test]
+fn lines_are_handed_on_before_the_program_waits(rt: HostRuntime) -> Result<(), Fail> {
+    let alloc = rt.alloc();
+    let reached = Cell::new(0);
+    let noted = Cell::new(0);
+    let moment = Cell::new(0);
+    let ear = Noting {
+        reached: &reached,
+        noted: &noted,
+        moment: &moment,
+    };
+    let clock = Moved {
+        moment: &moment,
+        last: 0,
+    };
+    let mut native = ThreadWorld::new(alloc, rt, ear, Mute, clock, OpenGate, NoThreads::new())?;
+    let words = words_of(alloc, "run --native 1")?;
+    let mut input = source_of(alloc, "def main\nprint 1\nsleep 5\nprint 2\nend\n")?;
+    let mut way = Way {
+        reached: &reached,
+        held: 0,
+    };
+    let mut err = MemorySink::new(alloc, 1000)?;
+    let status = gvr(
+        alloc,
+        words.as_slice(),
+        &mut input,
+        &mut way,
+        &mut err,
+        &mut native,
+    );
+    assert_eq!(rt; status, 0);
+    let before = "start g0 main\nprint g0 1\npark g0 sleep until 5\nblock 5\n";
+    assert_eq!(rt; noted.get(), before.len());
     Ok(())
 }
