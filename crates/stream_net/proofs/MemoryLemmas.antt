@@ -1,5 +1,5 @@
 -- A net in memory, one line at a time.
-use Rattle.std.proofs.Common.{◌≡◌, ◌≢◌, ℕ, zero, suc, ◌+◌, ◌-◌, ◌<◌, ◌≤◌, Bool, not, cond, List, [], ◌∷◌, ◌++◌, length, take, drop, map, get_or, set, Option, Some, refl, sym, ap, ◌∙◌, subst, arith, slice_set, append-nil, append_assoc, take-add, min, length-drop, length-take-le}
+use Rattle.std.proofs.Common.{◌≡◌, ◌≢◌, ℕ, zero, suc, ◌+◌, ◌-◌, ◌<◌, ◌≤◌, Bool, false, not, cond, List, [], ◌∷◌, ◌++◌, length, take, drop, map, get_or, set, Option, Some, refl, sym, ap, ◌∙◌, subst, arith, slice_set, append-nil, append_assoc, take-add, min, length-drop, length-take-le}
 use Rattle.std.specs.List.{count_by}
 use Rattle.gv_values.specs.Counts.{HasRisen}
 use Rattle.std.proofs.lemmas.Grind.{common_steps}
@@ -12,10 +12,11 @@ use Rattle.stream_net.specs.declared.net.ReadEnd.{ReadEnd}
 use Rattle.stream_net.specs.declared.net.WriteEnd.{WriteEnd}
 use Rattle.stream_net.specs.declared.script.Piece.{Piece}
 use Rattle.stream_net.specs.Accounts.{account_meaning, read_after}
-use Rattle.stream_net.specs.Lines.{joined, bytes_at, read_of, line_meaning, no_piece}
+use Rattle.stream_net.specs.Lines.{joined, bytes_at, is_failing, read_of, line_meaning, no_piece}
 use Rattle.stream_net.specs.MemoryNets.{meaning_by}
 use Rattle.stream_net.specs.Nets.{Connection, Changes, connection_at, nobody, live_count, is_open}
 use Rattle.stream_net.specs.Reads.{Reads, after_read}
+use Rattle.stream_net.specs.Rules.{EndsRead, EndsWrite, Rewrites}
 use Rattle.stream_net.specs.Writes.{Writes, after_write}
 use Rattle.stream_net.specs.Taken.{written_after}
 use Rattle.stream_net.specs.Waits.{woken, woken_if, IsInTime}
@@ -113,13 +114,13 @@ in_time (Readable k) until moment h = tt
 in_time (Writable k) until moment h = tt
 in_time Elapsed until moment h = absurd (h refl)
 
-any_default : {A : Type 0} (xs : List A) (k : ℕ) (d e : A) → k < length xs → get_or xs k d ≡ get_or xs k e
-any_default [] k d e lt = absurd (omega (arith, lt))
-any_default (x ∷ xs) zero d e lt = refl
-any_default (x ∷ xs) (suc k) d e lt = any_default xs k d e (omega (arith, lt))
+pub any_item : {A : Type 0} (xs : List A) (k : ℕ) (d e : A) → k < length xs → get_or xs k d ≡ get_or xs k e
+any_item [] k d e lt = absurd (omega (arith, lt))
+any_item (x ∷ xs) zero d e lt = refl
+any_item (x ∷ xs) (suc k) d e lt = any_item xs k d e (omega (arith, lt))
 
 pub bytes_of_piece : (pieces : List Piece) (place : ℕ) (p : Piece) (bytes : List ℕ) → place < length pieces → p ≡ get_or pieces place p → bytes ≡ p.bytes → bytes ≡ bytes_at pieces place
-bytes_of_piece pieces place p bytes within is e = e ∙ ap (λ (q : Piece). q.bytes) (is ∙ any_default pieces place p no_piece within)
+bytes_of_piece pieces place p bytes within is e = e ∙ ap (λ (q : Piece). q.bytes) (is ∙ any_item pieces place p no_piece within)
 
 pub given_from : (pieces qs rs : List Piece) (place offset count room : ℕ) (p : Piece) (bytes given before behind : List ℕ) → read_of pieces place offset ≡ before
     → given ≡ take (offset + count - offset) (drop offset bytes) → count ≡ min (length bytes - offset) room → bytes ≡ (get_or qs place p).bytes → qs ≡ pieces → place < length rs → rs ≡ pieces
@@ -127,7 +128,7 @@ pub given_from : (pieces qs rs : List Piece) (place offset count room : ℕ) (p 
 given_from pieces qs rs place offset count room p bytes given before behind was is least e same within also =
     let n : offset + count - offset ≡ count = omega arith in
     let inside : place < length pieces = subst (λ (xs : List Piece). place < length xs) also within in
-    let all : bytes ≡ bytes_at pieces place = e ∙ ap (λ (xs : List Piece). (get_or xs place p).bytes) same ∙ ap (λ (q : Piece). q.bytes) (any_default pieces place p no_piece inside) in
+    let all : bytes ≡ bytes_at pieces place = e ∙ ap (λ (xs : List Piece). (get_or xs place p).bytes) same ∙ ap (λ (q : Piece). q.bytes) (any_item pieces place p no_piece inside) in
     let cut : given ≡ take count (drop offset bytes) = is ∙ ap (λ (k : ℕ). take k (drop offset bytes)) n in
     let d = length-drop offset bytes in
     let fits : count ≤ length (drop offset bytes) = omega (arith, least, d) in
@@ -138,3 +139,29 @@ pub failed_read : (l m : Line) (a : Account) (calls moment : ℕ) (bytes : List 
     → ((read written : Option (List ℕ)) (bytes : List ℕ) → account_meaning a (read_after ReadEnd.Failed bytes read) written ≡ after_read ReadEnd.Failed bytes moment a.faults (account_meaning m.account read written))
     → line_meaning (record m { account = a }) ≡ after_read ReadEnd.Failed bytes moment a.faults (line_meaning l)
 failed_read l m a calls moment bytes e h = h (Some (read_of m.script.pieces m.place m.offset)) (Some m.written.items) bytes ∙ ap (λ (x : Line). after_read ReadEnd.Failed bytes moment a.faults (line_meaning x)) e
+
+-- one line is another now
+pub rewritten_at : (lines : List Line) (k : ℕ) (d new : Line) (Becomes : Line → Line → Type 0) → k < length lines → Becomes (get_or lines k d) new → Rewrites lines (slice_set lines k new) k Becomes
+rewritten_at lines k d new Becomes within h = record { line = new; lines = refl; becomes = λ e. subst (λ (l : Line). Becomes l new) (any_item lines k d e within) h }
+
+pub rewritten : (lines : List Line) (k : ℕ) (old new : Line) (Becomes : Line → Line → Type 0) → k < length (map line_meaning lines) → old ≡ get_or lines k old → Becomes old new → Rewrites lines (slice_set lines k new) k Becomes
+rewritten lines k old new Becomes within is h =
+    rewritten_at lines k old new Becomes (subst (λ (n : ℕ). k < n) (length-map lines line_meaning) within) (subst (λ (l : Line). Becomes l new) is h)
+
+-- what holds of the line holds of it whatever stands for none
+pub at_line : (P : Line → Type 0) (lines : List Line) (k : ℕ) (old : Line) → k < length (map line_meaning lines) → old ≡ get_or lines k old → P old → (d : Line) → P (get_or lines k d)
+at_line P lines k old within is h d =
+    subst P (is ∙ any_item lines k old d (subst (λ (n : ℕ). k < n) (length-map lines line_meaning) within)) h
+
+-- a read or a write that was counted before it was made
+pub counted_read : (end : ReadEnd) (l m : Line) (calls moment : ℕ) → m ≡ record l { calls = calls } → is_failing l ≡ false → EndsRead end false m moment → EndsRead end (is_failing l) l moment
+counted_read (ReadEnd.Got n) l m calls moment e fails h = let g = subst (λ (x : Line). EndsRead (ReadEnd.Got n) false x moment) e h in (fails, g.1)
+counted_read ReadEnd.End l m calls moment e fails h = let g = subst (λ (x : Line). EndsRead ReadEnd.End false x moment) e h in (fails, g.1, g.2)
+counted_read ReadEnd.WouldBlock l m calls moment e fails h = let g = subst (λ (x : Line). EndsRead ReadEnd.WouldBlock false x moment) e h in (fails, g.1, g.2)
+counted_read ReadEnd.Failed l m calls moment e fails h = let g = subst (λ (x : Line). EndsRead ReadEnd.Failed false x moment) e h in absurd (cc)
+
+pub counted_write : (end : WriteEnd) (l m : Line) (calls count : ℕ) → m ≡ record l { calls = calls } → is_failing l ≡ false → EndsWrite end false m count → EndsWrite end (is_failing l) l count
+counted_write (WriteEnd.Took n) l m calls count e fails h = let g = subst (λ (x : Line). EndsWrite (WriteEnd.Took n) false x count) e h in (fails, g.1)
+counted_write WriteEnd.WouldBlock l m calls count e fails h = let g = subst (λ (x : Line). EndsWrite WriteEnd.WouldBlock false x count) e h in (fails, g.1)
+counted_write WriteEnd.Failed l m calls count e fails h = let g = subst (λ (x : Line). EndsWrite WriteEnd.Failed false x count) e h in absurd (cc)
+counted_write WriteEnd.Memory l m calls count e fails h = let g = subst (λ (x : Line). EndsWrite WriteEnd.Memory false x count) e h in (fails, g.1)

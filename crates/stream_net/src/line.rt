@@ -1,16 +1,19 @@
 //! A connection that goes by its script.
-ghost use Rattle.std.specs.Prelude.{◌≡◌, ◌≢◌, ◌↔◌, ℕ, ◌+◌, ◌<◌, ◌≤◌, ◌++◌, Some, List, length, take, drop, Bool, true, false, IfSome, IfNone};
+ghost use Rattle.std.specs.Prelude.{◌≡◌, ◌≢◌, ◌↔◌, ℕ, ◌+◌, ◌<◌, ◌≤◌, ◌++◌, Some, List, length, take, drop, Bool, true, false, None, IfSome, IfNone};
 ghost use Rattle.gv_values.specs.Counts.{HasRisen, one_more as count_after};
 ghost use Rattle.stream_net.specs.Accounts.{read_after};
 ghost use Rattle.stream_net.specs.Lines.{bytes_at, has_bytes, is_failing, is_past, is_readable, is_writable, line_meaning, next_byte, read_of, until_end};
+ghost use Rattle.stream_net.specs.MemoryNets.{IsWithin};
 ghost use Rattle.stream_net.specs.Nets.{IsNew, closed_at, held_as};
+ghost use Rattle.stream_net.specs.News.{arrives_next, has_news, has_piece, is_news, piece_after, told_of};
 ghost use Rattle.stream_net.specs.Reads.{after_read};
+ghost use Rattle.stream_net.specs.Rules.{EndsRead, EndsWrite, WasRead, WasWritten, found_by, waits_after, writes_after};
 ghost use Rattle.stream_net.specs.Taken.{written_after};
 ghost use Rattle.stream_net.specs.Waits.{woken_if};
 ghost use Rattle.stream_net.specs.Writes.{after_write};
 
 use crate::account::{Account, one_more};
-use crate::net::{ReadEnd, WriteEnd};
+use crate::net::{ReadEnd, Ready, WriteEnd};
 use crate::script::{ConnScript, Piece};
 use std::alloc::Global;
 
@@ -29,8 +32,8 @@ pub struct Line {
     pub calls: u64,
     /// How many writes there were that didn't fail.
     pub writes: usize,
-    /// How many arrivals were told or found.
-    pub told: usize,
+    /// The arrivals by this moment were told or found.
+    pub told: Option<u64>,
     /// Whether a write would block and that it takes bytes again wasn't told.
     pub waits: bool,
     /// What else is kept of it.
@@ -73,44 +76,51 @@ fn has_ended(ends: Option<u64>, moment: u64) -> bool
     }
 }
 
-/// How many arrivals there were by this moment, the end among them.
-fn arrivals_by(script: &ConnScript, moment: u64) -> usize {
-    let by = last_moment(script.ends, moment);
-    let mut count: usize = 0;
-    for piece in script.pieces.items() {
-        if piece.at > by {
-            break;
-        }
-        count = count.saturating_add(1);
-    }
-    if has_ended(script.ends, moment) {
-        return count.saturating_add(1);
-    }
-    count
+/// Whether what comes at `at` has come by this moment and wasn't told, where all that came by `told` was.
+pub fn is_news(told: Option<u64>, moment: u64, at: u64) -> bool
+    ensures { result ≡ is_news told moment at }
+{
+    let was_told = match told {
+        Some(by) => at <= by,
+        None => false,
+    };
+    at <= moment && !was_told
 }
 
-/// The moment of the next arrival behind this one, the end among them.
-fn arrival_after(script: &ConnScript, moment: u64) -> Option<u64>
-    ensures { IfSome result (λ at. moment < at) }
+/// Whether a piece came by this moment and wasn't told.
+fn has_piece(pieces: &[Piece], told: Option<u64>, moment: u64) -> bool
+    ensures { result ≡ has_piece pieces.now told moment }
 {
-    for piece in script.pieces.items() {
-        if piece.at > moment {
-            return match script.ends {
-                Some(end) if end < piece.at => { if end > moment { Some(end) } else { None } }
-                _ => Some(piece.at),
-            };
+    for place in 0..pieces.len() {
+        if is_news(told, moment, pieces[place].at) {
+            return true;
         }
     }
-    match script.ends {
-        Some(end) if end > moment => Some(end),
-        _ => None,
+    false
+}
+
+/// The moment of the first piece behind this one.
+fn piece_after(pieces: &[Piece], moment: u64) -> Option<u64>
+    ensures is { result ≡ piece_after pieces.now moment }
+    ensures later { IfSome result (λ at. moment < at) }
+{
+    for place in 0..pieces.len() {
+        if pieces[place].at > moment {
+            return Some(pieces[place].at);
+        }
     }
+    None
 }
 
 impl Line {
     /// A connection that is accepted at this moment.
     pub fn new(alloc: Global, script: ConnScript, moment: u64) -> Line
-        ensures { IsNew (line_meaning result) moment }
+        ensures new { IsNew (line_meaning result) moment }
+        ensures script { result.script ≡ script }
+        ensures calls { result.calls ≡ 0 }
+        ensures writes { result.writes ≡ 0 }
+        ensures untold { result.told ≡ None }
+        ensures ready { result.waits ≡ false }
     {
         Line {
             script,
@@ -119,7 +129,7 @@ impl Line {
             written: Vec::new(alloc),
             calls: 0,
             writes: 0,
-            told: 0,
+            told: None,
             waits: false,
             account: Account::new(moment),
         }
@@ -150,6 +160,8 @@ fn give(line: &mut Line, moment: u64, buf: &mut [u8]) -> Option<usize>
     ensures written { line.new.written ≡ line.old.written }
     ensures script { line.new.script ≡ line.old.script }
     ensures none { IfNone result (has_bytes line.old moment ≡ false) }
+    ensures has { IfSome result (λ _. has_bytes line.old moment ≡ true) }
+    ensures rest { line.new ≡ record line.old { place = line.new.place; offset = line.new.offset } }
 {
     let by = last_moment(line.script.ends, moment);
     let (place, offset) = settled(line.script.pieces.items(), line.place, line.offset);
@@ -180,11 +192,13 @@ fn find(line: &mut Line, moment: u64, buf: &mut [u8]) -> ReadEnd
     ensures written { line.new.written ≡ line.old.written }
     ensures script { line.new.script ≡ line.old.script }
     ensures blocks { result ≡ ReadEnd.WouldBlock → is_readable line.old moment ≡ false }
+    ensures ends { EndsRead result false line.old moment }
+    ensures rest { line.new ≡ record line.old { place = line.new.place; offset = line.new.offset; told = found_by result moment line.old.told } }
 {
     if let Some(count) = give(line, moment, buf) {
         return ReadEnd::Got(count);
     }
-    line.told = arrivals_by(&line.script, moment);
+    line.told = Some(moment);
     if has_ended(line.script.ends, moment) {
         return ReadEnd::End;
     }
@@ -201,6 +215,8 @@ pub fn read_line(line: &mut Line, moment: u64, buf: &mut [u8]) -> ReadEnd
     ensures fits { (n : ℕ) → result ≡ ReadEnd.Got n → n ≤ length buf.new }
     ensures fails { (result ≡ ReadEnd.Failed) ↔ (is_failing line.old ≡ true) }
     ensures blocks { result ≡ ReadEnd.WouldBlock → is_readable line.old moment ≡ false }
+    ensures ends { EndsRead result (is_failing line.old) line.old moment }
+    ensures rest { WasRead result moment line.old line.new }
 {
     if fails_now(line) {
         line.account.note_read(ReadEnd::Failed, moment);
@@ -222,6 +238,8 @@ fn put(line: &mut Line, bytes: &[u8]) -> WriteEnd
     ensures account { line.new.account ≡ line.old.account }
     ensures read { read_of line.new.script.pieces line.new.place line.new.offset ≡ read_of line.old.script.pieces line.old.place line.old.offset }
     ensures blocks { result ≡ WriteEnd.WouldBlock → is_writable line.old ≡ false }
+    ensures ends { EndsWrite result false line.old (length bytes.now) }
+    ensures rest { line.new ≡ record line.old { writes = writes_after result line.old.writes; waits = waits_after result line.old.waits; written = line.new.written } }
 {
     let count = match line.script.room.items().get(line.writes) {
         Some(room) => bytes.len().min(*room as usize),
@@ -251,6 +269,8 @@ pub fn write_line(line: &mut Line, moment: u64, bytes: &[u8]) -> WriteEnd
     ensures fits { (n : ℕ) → result ≡ WriteEnd.Took n → n ≤ length bytes.now }
     ensures fails { (result ≡ WriteEnd.Failed) ↔ (is_failing line.old ≡ true) }
     ensures blocks { result ≡ WriteEnd.WouldBlock → is_writable line.old ≡ false }
+    ensures ends { EndsWrite result (is_failing line.old) line.old (length bytes.now) }
+    ensures rest { WasWritten result line.old line.new }
 {
     if fails_now(line) {
         line.account.note_write(WriteEnd::Failed, moment);
@@ -263,15 +283,17 @@ pub fn write_line(line: &mut Line, moment: u64, bytes: &[u8]) -> WriteEnd
 
 /// Notes that its arrivals were told.
 pub fn tell_readable(line: &mut Line, moment: u64)
-    ensures { line_meaning line.new ≡ woken_if line.old.account.closed (line_meaning line.old) }
+    ensures named { line_meaning line.new ≡ woken_if line.old.account.closed (line_meaning line.old) }
+    ensures told { line.new ≡ record line.old { told = Some moment; account = line.new.account } }
 {
-    line.told = arrivals_by(&line.script, moment);
+    line.told = Some(moment);
     line.account.note_named();
 }
 
 /// Notes that it was told to take bytes again.
 pub fn tell_writable(line: &mut Line)
-    ensures { line_meaning line.new ≡ woken_if line.old.account.closed (line_meaning line.old) }
+    ensures named { line_meaning line.new ≡ woken_if line.old.account.closed (line_meaning line.old) }
+    ensures told { line.new ≡ record line.old { waits = false; account = line.new.account } }
 {
     line.waits = false;
     line.account.note_named();
@@ -279,26 +301,67 @@ pub fn tell_writable(line: &mut Line)
 
 /// Closes it.
 pub fn close_line(line: &mut Line, moment: u64)
-    ensures { line_meaning line.new ≡ closed_at moment (line_meaning line.old) }
+    ensures closed { line_meaning line.new ≡ closed_at moment (line_meaning line.old) }
+    ensures rest { line.new ≡ record line.old { account = line.new.account } }
 {
     line.account.note_close(moment);
 }
 
 /// Holds it, or releases it.
 pub fn hold_line(line: &mut Line, held: bool)
-    ensures { line_meaning line.new ≡ held_as held (line_meaning line.old) }
+    ensures held { line_meaning line.new ≡ held_as held (line_meaning line.old) }
+    ensures rest { line.new ≡ record line.old { account = line.new.account } }
 {
     line.account.note_hold(held);
 }
 
-/// Whether an arrival by this moment was neither told nor found.
-pub fn has_come(line: &Line, moment: u64) -> bool {
-    arrivals_by(&line.script, moment) > line.told
+/// Whether bytes or the end came by this moment and were neither told nor found.
+fn has_news(line: &Line, moment: u64) -> bool
+    ensures { result ≡ has_news line.now moment }
+{
+    let by = last_moment(line.script.ends, moment);
+    if has_piece(line.script.pieces.items(), line.told, by) {
+        return true;
+    }
+    match line.script.ends {
+        Some(end) => is_news(line.told, moment, end),
+        None => false,
+    }
 }
 
-/// The moment of its next arrival.
-pub fn next_of(line: &Line, moment: u64) -> Option<u64>
-    ensures { IfSome result (λ at. moment < at) }
+/// What the connection of this number has to tell.
+pub fn told_of(line: &Line, conn: u32, moment: u64) -> Option<Ready>
+    ensures told { result ≡ told_of line.now conn moment }
+    ensures within { (n : ℕ) → conn < n → IfSome result (λ ready. IsWithin ready n) }
+    ensures untimed { IfSome result (λ ready. ready ≢ Ready.Elapsed) }
 {
-    arrival_after(&line.script, moment)
+    if line.account.closed {
+        return None;
+    }
+    if line.waits {
+        return Some(Ready::Writable(conn));
+    }
+    if has_news(line, moment) {
+        return Some(Ready::Readable(conn));
+    }
+    None
+}
+
+/// The moment at which bytes or the end come to it next.
+pub fn arrives_next(line: &Line, moment: u64) -> Option<u64>
+    ensures is { result ≡ arrives_next moment line.now }
+    ensures later { IfSome result (λ at. moment < at) }
+{
+    if line.account.closed {
+        return None;
+    }
+    if has_ended(line.script.ends, moment) {
+        return None;
+    }
+    let piece = piece_after(line.script.pieces.items(), moment);
+    match (piece, line.script.ends) {
+        (None, end) => end,
+        (Some(at), None) => Some(at),
+        (Some(at), Some(end)) => Some(at.min(end)),
+    }
 }
