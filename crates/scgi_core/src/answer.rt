@@ -1,0 +1,87 @@
+//! Answers as bytes (RFC 3875, section 6.2.1).
+ghost use Rattle.std.specs.Prelude.{◌≡◌, ◌++◌, OnOk};
+ghost use Rattle.scgi_core.specs.Answers.{answer, refusal, server_error, started};
+
+use http_messages::{Headers, Refusal};
+use std::alloc::{AllocError, Global};
+use wsgi_core::{Pieces, Reply, ending_of, is_faulty, push_body, push_headers};
+
+/// The fixed answer of a refusal.
+pub fn refusal_text(reason: Refusal) -> &'static [u8]
+    ensures { result.now ≡ refusal reason }
+{
+    match reason {
+        Refusal::BadRequest => b"Status: 400 Bad Request\r\nContent-Length: 0\r\n\r\n",
+        Refusal::TooLarge => b"Status: 413 Request Entity Too Large\r\nContent-Length: 0\r\n\r\n",
+        Refusal::TooLong => b"Status: 414 Request URI Too Long\r\nContent-Length: 0\r\n\r\n",
+    }
+}
+
+/// Appends the answer that replaces a faulty reply.
+fn push_server_error(out: &mut Vec<u8>, is_head: bool) -> Result<(), AllocError>
+    ensures { OnOk result (out.new.items ≡ out.old.items ++ server_error is_head) }
+{
+    out.extend_from_slice(
+        b"Status: 500 Internal Server Error\r\nContent-Type: text/plain\r\nContent-Length: 21\r\n\r\n",
+    )?;
+    if is_head {
+        return Ok(());
+    }
+    out.extend_from_slice(b"Internal Server Error")
+}
+
+/// Appends the answer of a reply that can be sent: its status (RFC 3875, section 6.3.3), its headers, an empty line, and
+/// its body, which HEAD has none of.
+fn push_started(
+    alloc: Global,
+    out: &mut Vec<u8>,
+    is_head: bool,
+    status: &[u8],
+    headers: &Headers,
+    pieces: &Pieces,
+    raised: bool,
+) -> Result<(), AllocError>
+    ensures { OnOk result (out.new.items ≡ out.old.items ++ started is_head status.now headers.now pieces.now raised) }
+{
+    out.extend_from_slice(b"Status: ")?;
+    out.extend_from_slice(status)?;
+    out.extend_from_slice(b"\r\n")?;
+    push_headers(out, headers)?;
+    out.extend_from_slice(b"\r\n")?;
+    if is_head {
+        return Ok(());
+    }
+    push_body(alloc, out, ending_of(0, status, headers), pieces, raised)?;
+    Ok(())
+}
+
+/// Appends the answer to a request (RFC 3875, section 6).
+pub fn push_answer(
+    alloc: Global,
+    out: &mut Vec<u8>,
+    is_head: bool,
+    reply: &Reply,
+) -> Result<(), AllocError>
+    ensures { OnOk result (out.new.items ≡ out.old.items ++ answer is_head reply.now) }
+{
+    if is_faulty(reply) {
+        return push_server_error(out, is_head);
+    }
+    match reply {
+        Reply::Raised => push_server_error(out, is_head),
+        Reply::Started {
+            status,
+            headers,
+            pieces,
+            raised,
+        } => push_started(
+            alloc,
+            out,
+            is_head,
+            status.items(),
+            headers,
+            pieces,
+            *raised,
+        ),
+    }
+}
