@@ -15,7 +15,7 @@ use Rattle.clap.specs.declared.error.kind.ErrorKind.{ErrorKind}
 use Rattle.clap.specs.declared.error.kind.ErrorKind.TheVariants as kind
 use Rattle.clap.specs.Faults.{turn_fault, check_fault, default_fault, defaults_fault, entered_fault, level_fault, settle_fault, walk_fault}
 use Rattle.command_words.specs.declared.command.Command.{Command}
-use Rattle.command_words.specs.Words.{Word, Said, CommandRow, run, format, wsgi, serve, storm, begins_with_dash, command_by, command_of, is_among, option_names, option_word, options, row_of, says, value_in}
+use Rattle.command_words.specs.Words.{Word, Said, CommandRow, run, format, wsgi, serve, storm, begins_with_dash, command_by, command_of, is_among, option_word, options, row_of, says, value_in}
 use Rattle.command_words.specs.Clap.{by_clap, command_in, is_stray, program}
 use Rattle.command_words.proofs.Rules.{opt, row}
 use Rattle.command_words.proofs.Walks.{differs, full, Long, Plain, or_parts, view, reads_are, shape, total}
@@ -135,15 +135,15 @@ entered_at nm words w f =
 -- what `clap` makes of the words of the command of this row
 abbrev of_row : CommandRow → List Word → Option Command
 of_row r words =
-    if is_empty (or_else (level_fault (shape r.name (option_names r)) [] nothing_held words false []) [])
-    then command_by r.name (λ n. first_of n (rows_after (map opt (option_names r)) [] words)) else None
+    if is_empty (or_else (level_fault (shape r.name r.options) [] nothing_held words false []) [])
+    then command_by r.name (λ n. first_of n (rows_after (map opt r.options) [] words)) else None
 
 row_is : (r : CommandRow) (words : List Word) → list_any is_stray words ≡ false
-    → of_row r words ≡ option_and_then (λ said. command_by r.name (value_in said)) (options (option_names r) words None [])
+    → of_row r words ≡ option_and_then (λ said. command_by r.name (value_in said)) (options r.options words None [])
 row_is r words e =
-    ap (λ k. if is_empty k then command_by r.name (λ n. first_of n (rows_after (map opt (option_names r)) [] words)) else None)
-    (or_none (level_fault (shape r.name (option_names r)) [] nothing_held words false []))
-    ∙ leaf_command r.name (option_names r) words e
+    ap (λ k. if is_empty k then command_by r.name (λ n. first_of n (rows_after (map opt r.options) [] words)) else None)
+    (or_none (level_fault (shape r.name r.options) [] nothing_held words false []))
+    ∙ leaf_command r.name r.options words e
 
 run_is : (words : List Word) → list_any is_stray words ≡ false → by_clap (run.name ∷ words) ≡ command_of (run.name ∷ words)
 unfolding clap_on_literals
@@ -268,4 +268,4 @@ stray_none (name ∷ words) e = sym (by (is_stray name) refl)
     by : (b : Bool) → is_stray name ≡ b → command_of (name ∷ words) ≡ None
     by true f = no_command name words (record { run = stray_name name (codes "run") f refl; format = stray_name name (codes "fmt") f refl; wsgi = stray_name name (codes "wsgi") f refl; serve = stray_name name (codes "serve") f refl; storm = stray_name name (codes "storm") f refl })
     by false f = no_and_then _ (row_of name) (λ row. ap (option_and_then (λ said. command_by row.name (value_in said)))
-        (stray_options (option_names row) words (or_true (is_stray name) (list_any is_stray words) e f) None []))
+        (stray_options row.options words (or_true (is_stray name) (list_any is_stray words) e f) None []))

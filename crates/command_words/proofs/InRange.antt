@@ -9,7 +9,7 @@ use Rattle.command_words.specs.declared.command.Command.TheVariants.{Text, Wsgi,
 use Rattle.command_words.specs.declared.command.RunWorld.{RunWorld}
 use Rattle.command_words.specs.declared.command.RunWorld.TheVariants.{Script, Native}
 use Rattle.command_words.specs.declared.command.TextCommand.TheVariants.{Format}
-use Rattle.command_words.specs.Words.{Look, OptionRow, Word, command_by, command_of, conns, given, idle, moves, native, number_by, number_in, option_names, options, pool, port, row_of, run, run_by, format, wsgi, serve, serve_by, size, storm, storm_by, tick, turns, value_in, world_by}
+use Rattle.command_words.specs.Words.{Look, OptionRow, Word, command_by, command_of, conns, gateway_by, given, idle, moves, native, number_by, number_in, options, pool, port, row_of, run, run_by, format, wsgi, serve, serve_by, size, storm, storm_by, tick, turns, value_in, world_by, wsgi_by}
 use Rattle.command_words.specs.Ranges.{IsInRange, IsWorldInRange, Takes, takes_usual}
 
 -- ---- what gave a value
@@ -82,8 +82,12 @@ serve_takes look c e =
     let n = some_given (number_by conns look) _ c p.gives in
     let m = some_given (number_by pool look) _ c n.gives in
     let i = some_given (number_by idle look) _ c m.gives in
-    subst IsInRange (same_some _ _ i.gives)
+    let g = some_given (gateway_by look) _ c i.gives in
+    subst IsInRange (same_some _ _ g.gives)
     (number_takes port look p.value refl p.is, number_takes conns look n.value refl n.is, number_takes pool look m.value refl m.is, number_takes idle look i.value refl i.is)
+
+wsgi_takes : (look : Look) (c : Command) → wsgi_by look ≡ Some c → IsInRange c
+wsgi_takes look c e = let g = some_mapped (gateway_by look) (λ k. Wsgi k) c e in subst IsInRange g.gives tt
 
 storm_takes : (look : Look) (c : Command) → storm_by look ≡ Some c → IsInRange c
 storm_takes look c e = let s = some_mapped (number_by size look) (λ n. Storm n) c e in subst IsInRange s.gives (number_takes size look s.value refl s.is)
@@ -92,11 +96,11 @@ by_name : (name : Word) (look : Look) (c : Command) → command_by name look ≡
 by_name name look c e =
     by (bytes_eq name run.name) (bytes_eq name format.name) (bytes_eq name wsgi.name) (bytes_eq name serve.name) (bytes_eq name storm.name) e
   where
-    by : (r f w s t : Bool) → (if r then run_by look else if f then Some (Text Format) else if w then Some Wsgi else if s then serve_by look else if t then storm_by look else None) ≡ Some c
+    by : (r f w s t : Bool) → (if r then run_by look else if f then Some (Text Format) else if w then wsgi_by look else if s then serve_by look else if t then storm_by look else None) ≡ Some c
         → IsInRange c
     by true f w s t h = run_takes look c h
     by false true w s t h = subst IsInRange (same_some _ _ h) tt
-    by false false true s t h = subst IsInRange (same_some _ _ h) tt
+    by false false true s t h = wsgi_takes look c h
     by false false false true t h = serve_takes look c h
     by false false false false true h = storm_takes look c h
     by false false false false false h = absurd (cc h)
@@ -104,6 +108,6 @@ by_name name look c e =
 pub in_range : (words : List Word) (c : Command) → command_of words ≡ Some c → IsInRange c
 in_range [] c e = absurd (cc e)
 in_range (name ∷ words) c e =
-    let r = some_given (row_of name) (λ row. given (options (option_names row) words None []) (λ said. command_by row.name (value_in said))) c e in
-    let s = some_given (options (option_names r.value) words None []) (λ said. command_by r.value.name (value_in said)) c r.gives in
+    let r = some_given (row_of name) (λ row. given (options row.options words None []) (λ said. command_by row.name (value_in said))) c e in
+    let s = some_given (options r.value.options words None []) (λ said. command_by r.value.name (value_in said)) c r.gives in
     by_name r.value.name (value_in s.value) c s.gives

@@ -5,6 +5,8 @@ use Rattle.clap.specs.Simple.{App, Shape, new_app, new_rule, subcommand_of, with
 use Rattle.clap.specs.Faults.{fault_of}
 use Rattle.clap.specs.declared.builder.action.ArgAction.TheVariants.{Set}
 use Rattle.command_words.specs.declared.command.Command.{Command}
+use Rattle.command_words.specs.declared.table.CommandOption.{CommandOption}
+use Rattle.command_words.specs.declared.table.CommandOption.TheVariants.{Number, Gateway}
 use Rattle.command_words.specs.declared.table.CommandRow.{CommandRow as DeclaredCommandRow}
 use Rattle.command_words.specs.declared.table.NumberOption.{NumberOption}
 use Rattle.command_words.specs.Words.{CommandRow, OptionRow, Word, begins_with_dash, command_by, commands, option_word}
@@ -13,17 +15,21 @@ use Rattle.command_words.specs.Words.{CommandRow, OptionRow, Word, begins_with_d
 abbrev pub option_row : NumberOption → OptionRow
 option_row o = record { name = o.name.now; least = o.least; most = o.most; usual = o.usual }
 
+abbrev pub name_of : CommandOption → Word
+name_of (Number o) = o.name.now
+name_of (Gateway name) = name.now
+
 abbrev pub command_row : DeclaredCommandRow → CommandRow
-command_row c = record { name = c.name.now; options = map option_row c.options.now }
+command_row c = record { name = c.name.now; options = map name_of c.options.now }
 
 -- an option of one value
 abbrev pub option_rule : Word → Rule
 option_rule name = record (new_rule name) { long = Some name; action = Some Set }
 
--- a command with these options more
-abbrev pub with_options : App → List OptionRow → App
+-- a command with the options of these names more
+abbrev pub with_options : App → List Word → App
 with_options a [] = a
-with_options a (o ∷ os) = with_options (with_rule a (option_rule o.name)) os
+with_options a (name ∷ names) = with_options (with_rule a (option_rule name)) names
 
 abbrev pub leaf : CommandRow → Shape
 leaf row = (with_options (new_app row.name) row.options).top

@@ -22,6 +22,6 @@ IsWorldInRange (Native n) = Takes native n
 abbrev pub IsInRange : Command → Type 0
 IsInRange (Text (Run options)) = Takes turns options.turns × Takes moves options.moves × IsWorldInRange options.world
 IsInRange (Text Format) = Unit {0}
-IsInRange Wsgi = Unit {0}
+IsInRange (Wsgi gateway) = Unit {0}
 IsInRange (Serve options) = Takes port options.port × Takes conns options.conns × Takes pool options.pool × Takes idle options.idle
 IsInRange (Storm n) = Takes size n

@@ -1,11 +1,13 @@
 -- Which lists of words are commands, and what they ask for.
-use Rattle.std.specs.Prelude.{◌==◌, ◌&&◌, ℕ, Bool, false, not, nat_le, if◌then◌else◌, List, [], ◌∷◌, ◌++◌, map, find, is_some, Option, Some, None, option_map, option_and_then, codes}
+use Rattle.std.specs.Prelude.{◌==◌, ◌&&◌, ℕ, Bool, false, not, nat_le, if◌then◌else◌, List, [], ◌∷◌, ◌++◌, find, is_some, Option, Some, None, option_map, option_and_then, codes}
 use Rattle.std.specs.List.{list_any, before_first, after_first}
 use Rattle.std.specs.Str.{bytes_eq}
 use Rattle.std.specs.Str.Parse.{digits_value}
 use Rattle.gv_values.specs.Digits.{is_plain_number}
 use Rattle.command_words.specs.declared.command.Command.{Command}
 use Rattle.command_words.specs.declared.command.Command.TheVariants.{Text, Wsgi, Serve, Storm}
+use Rattle.command_words.specs.declared.command.GatewayKind.{GatewayKind}
+use Rattle.command_words.specs.declared.command.GatewayKind.TheVariants.{Http, Scgi}
 use Rattle.command_words.specs.declared.command.RunWorld.{RunWorld}
 use Rattle.command_words.specs.declared.command.RunWorld.TheVariants.{Script, Native}
 use Rattle.command_words.specs.declared.command.TextCommand.TheVariants.{Run, Format}
@@ -15,8 +17,8 @@ Word = List ℕ
 
 -- ---- the table
 
--- an option: its name, the least and the most number that it takes, and the one that stands where it is left out; none
--- where it has to be given
+-- an option whose value is a number: its name, the least and the most number that it takes, and the one that stands
+-- where it is left out; none where it has to be given
 pub record OptionRow : Type 0 where
   pub name : Word
   pub least : ℕ
@@ -47,28 +49,32 @@ pool = record { name = codes "pool"; least = 1; most = 1024; usual = Some 100 }
 abbrev pub idle : OptionRow
 idle = record { name = codes "idle"; least = 1; most = 3600000; usual = Some 60000 }
 
+-- the option whose value is a gateway, by its name; `http` stands where it is left out
+abbrev pub gateway : Word
+gateway = codes "gateway"
+
 abbrev pub size : OptionRow
 size = record { name = codes "size"; least = 1; most = 19000; usual = None }
 
--- a command: its name, and its options
+-- a command: its name, and the names of its options
 pub record CommandRow : Type 0 where
   pub name : Word
-  pub options : List OptionRow
+  pub options : List Word
 
 abbrev pub run : CommandRow
-run = record { name = codes "run"; options = turns ∷ moves ∷ tick ∷ native ∷ [] }
+run = record { name = codes "run"; options = turns.name ∷ moves.name ∷ tick.name ∷ native.name ∷ [] }
 
 abbrev pub format : CommandRow
 format = record { name = codes "fmt"; options = [] }
 
 abbrev pub wsgi : CommandRow
-wsgi = record { name = codes "wsgi"; options = [] }
+wsgi = record { name = codes "wsgi"; options = gateway ∷ [] }
 
 abbrev pub serve : CommandRow
-serve = record { name = codes "serve"; options = port ∷ conns ∷ pool ∷ idle ∷ [] }
+serve = record { name = codes "serve"; options = port.name ∷ conns.name ∷ pool.name ∷ idle.name ∷ gateway ∷ [] }
 
 abbrev pub storm : CommandRow
-storm = record { name = codes "storm"; options = size ∷ [] }
+storm = record { name = codes "storm"; options = size.name ∷ [] }
 
 abbrev pub commands : List CommandRow
 commands = run ∷ format ∷ wsgi ∷ serve ∷ storm ∷ []
@@ -146,6 +152,16 @@ number_by option look = elim (look option.name) [
   | None ↦ option.usual
 ]
 
+-- ---- gateways
+
+-- the gateway of this name
+abbrev pub gateway_named : Word → Option GatewayKind
+gateway_named word = if bytes_eq word (codes "http") then Some Http else if bytes_eq word (codes "scgi") then Some Scgi else None
+
+-- the gateway that is asked for: the one that is named, or else `http`; none where there is no such gateway
+abbrev pub gateway_by : Look → Option GatewayKind
+gateway_by look = elim (look gateway) [ Some word ↦ gateway_named word | None ↦ Some Http ]
+
 -- ---- commands
 
 -- what comes of the value, where there is one
@@ -166,13 +182,17 @@ run_by look =
     given (world_by look) (λ world.
     Some (Text (Run (record { turns = turns; moves = moves; world = world }))))))
 
+abbrev pub wsgi_by : Look → Option Command
+wsgi_by look = option_map (λ g. Wsgi g) (gateway_by look)
+
 abbrev pub serve_by : Look → Option Command
 serve_by look =
     given (number_by port look) (λ port.
     given (number_by conns look) (λ conns.
     given (number_by pool look) (λ pool.
     given (number_by idle look) (λ idle.
-    Some (Serve (record { port = port; conns = conns; pool = pool; idle = idle }))))))
+    given (gateway_by look) (λ gateway.
+    Some (Serve (record { port = port; conns = conns; pool = pool; idle = idle; gateway = gateway })))))))
 
 abbrev pub storm_by : Look → Option Command
 storm_by look = option_map (λ n. Storm n) (number_by size look)
@@ -182,7 +202,7 @@ abbrev pub command_by : Word → Look → Option Command
 command_by name look =
     if bytes_eq name run.name then run_by look
     else if bytes_eq name format.name then Some (Text Format)
-    else if bytes_eq name wsgi.name then Some Wsgi
+    else if bytes_eq name wsgi.name then wsgi_by look
     else if bytes_eq name serve.name then serve_by look
     else if bytes_eq name storm.name then storm_by look
     else None
@@ -190,13 +210,10 @@ command_by name look =
 abbrev pub row_of : Word → Option CommandRow
 row_of name = find (λ (row : CommandRow). bytes_eq name row.name) commands
 
-abbrev pub option_names : CommandRow → List Word
-option_names row = map (λ (option : OptionRow). option.name) row.options
-
 -- the command that the words name, if they name one: its name comes first, and then its options
 abbrev pub command_of : List Word → Option Command
 command_of [] = None
 command_of (name ∷ words) =
     given (row_of name) (λ row.
-    given (options (option_names row) words None []) (λ said.
+    given (options row.options words None []) (λ said.
     command_by row.name (value_in said)))

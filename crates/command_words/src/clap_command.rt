@@ -2,9 +2,9 @@
 ghost use Rattle.std.specs.Prelude.{◌≡◌, IfOk, false, map};
 ghost use Rattle.clap.specs.Words.{app_of, new_app, rule_of, with_rule, with_subcommand};
 ghost use Rattle.clap.specs.declared.builder.command.Command.TheViews.{out-Command};
-ghost use Rattle.command_words.specs.Clap.{command_row, leaf, option_row, option_rule, program, top, with_options};
+ghost use Rattle.command_words.specs.Clap.{command_row, leaf, name_of, option_rule, program, top, with_options};
 
-use crate::table::{COMMANDS, CommandRow, NumberOption};
+use crate::table::{COMMANDS, CommandOption, CommandRow};
 use clap::{Arg, ArgAction, Command};
 use std::alloc::{AllocError, Global};
 
@@ -28,18 +28,28 @@ fn with_option<'a>(
     Ok(command.arg(option(alloc, name))?)
 }
 
+/// The name of an option.
+fn name_of(option: &CommandOption) -> &'static str
+    ensures { result.now ≡ name_of option.now }
+{
+    match option {
+        CommandOption::Number(option) => option.name,
+        CommandOption::Gateway(name) => *name,
+    }
+}
+
 /// The command with these options more.
 fn with_options<'a>(
     alloc: Global,
     command: Command<'a>,
-    options: &[NumberOption],
+    options: &[CommandOption],
 ) -> Result<Command<'a>, AllocError>
-    ensures app { IfOk result (λ r. app_of r ≡ with_options (app_of command.entry) (map option_row options.now)) }
+    ensures app { IfOk result (λ r. app_of r ≡ with_options (app_of command.entry) (map name_of options.now)) }
     ensures local { IfOk result (λ r. (out-Command command.entry).has_globals ≡ false → (out-Command r).has_globals ≡ false) }
 {
     let mut command = command;
     for option in options {
-        command = with_option(alloc, command, option.name)?;
+        command = with_option(alloc, command, name_of(option))?;
     }
     Ok(command)
 }

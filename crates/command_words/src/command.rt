@@ -29,6 +29,15 @@ pub enum TextCommand {
     Format,
 }
 
+/// What a server speaks with its peers.
+#[derive(Clone, Copy, Debug, PartialEq, Eq)]
+pub enum GatewayKind {
+    /// HTTP/1 (RFC 9112).
+    Http,
+    /// SCGI (N. Schemenauer, 2008), which a web server speaks with a server behind it.
+    Scgi,
+}
+
 /// The options of a server.
 #[derive(Clone, Copy, Debug, PartialEq, Eq)]
 pub struct ServeOptions {
@@ -40,6 +49,8 @@ pub struct ServeOptions {
     pub pool: u32,
     /// How many milliseconds a connection may be quiet before it is closed.
     pub idle: u64,
+    /// What it speaks with its peers.
+    pub gateway: GatewayKind,
 }
 
 /// What the program is asked to do.
@@ -47,8 +58,8 @@ pub struct ServeOptions {
 pub enum Command {
     /// Do this with the scenario that the input spells.
     Text(TextCommand),
-    /// Answer the connection whose bytes the input gives.
-    Wsgi,
+    /// Answer the connection whose bytes the input gives, and which speaks this.
+    Wsgi(GatewayKind),
     /// Serve connections.
     Serve(ServeOptions),
     /// Run the storm of so many greenlets.

@@ -1,4 +1,4 @@
-//! The numbers of options.
+//! The values of options, and the numbers that they spell.
 ghost use Rattle.std.specs.Prelude.{◌≡◌, ◌≤◌, IfSome, option_map, true};
 ghost use Rattle.clap.specs.Words.{first_of, found_of, rows_of};
 ghost use Rattle.command_words.specs.Words.{number_by, number_in};
@@ -28,11 +28,11 @@ fn number_in(least: u64, most: u64, text: &str) -> Option<u64>
     }
 }
 
-/// The value that an option was given, if it was given one.
-pub fn given<'a>(option: NumberOption, matches: &ArgMatches<'a>) -> Option<&'a str>
-    ensures { option_map (λ t. t.now) result ≡ first_of option.name.now (rows_of (found_of matches.now)) }
+/// The value that the option of this name was given, if it was given one.
+pub fn given<'a>(name: &str, matches: &ArgMatches<'a>) -> Option<&'a str>
+    ensures { option_map (λ t. t.now) result ≡ first_of name.now (rows_of (found_of matches.now)) }
 {
-    matches.get_str(option.name)
+    matches.get_str(name)
 }
 
 /// The number of the option: the one that it was given, or else the usual one; none where there is no such number.
@@ -41,7 +41,7 @@ pub fn number_by(option: NumberOption, matches: &ArgMatches) -> Option<u64>
     ensures value { result ≡ number_by (option_row option) (λ n. first_of n (rows_of (found_of matches.now))) }
     ensures range { IfSome result (λ n. (option.least ≤ n) × (n ≤ option.most)) }
 {
-    match given(option, matches) {
+    match given(option.name, matches) {
         Some(text) => number_in(option.least, option.most, text),
         None => option.usual,
     }

@@ -2,13 +2,13 @@
 ghost use Rattle.std.specs.Prelude.{◌≡◌, IfOk, map, string_bytes};
 ghost use Rattle.std.specs.List.{list_any};
 ghost use Rattle.clap.specs.Words.{first_of, found_of, rows_of, subcommand_rows_of};
-ghost use Rattle.command_words.specs.Words.{command_by, command_of, run_by, serve_by, storm_by, world_by};
+ghost use Rattle.command_words.specs.Words.{command_by, command_of, gateway_by, gateway_named, run_by, serve_by, storm_by, world_by, wsgi_by};
 ghost use Rattle.command_words.specs.Clap.{by_clap, command_in, is_stray};
 
 use crate::clap_command::program;
-use crate::command::{Command, RunOptions, RunWorld, ServeOptions, TextCommand};
+use crate::command::{Command, GatewayKind, RunOptions, RunWorld, ServeOptions, TextCommand};
 use crate::numbers::{given, number_by};
-use crate::table::{CONNS, IDLE, MOVES, NATIVE, POOL, PORT, SIZE, TICK, TURNS};
+use crate::table::{CONNS, GATEWAY, IDLE, MOVES, NATIVE, POOL, PORT, SIZE, TICK, TURNS};
 use clap::ArgMatches;
 use clap::error::ErrorKind;
 use std::alloc::{AllocError, Global};
@@ -17,8 +17,8 @@ use std::alloc::{AllocError, Global};
 ///
 /// The command is the first word. Each option is one word `--name` followed by one word, or the one word
 /// `--name=value`; options stand in any order, each at most once. A value is a number in decimal digits without a
-/// leading zero, in the option's range. All other words are no command, and neither are those of a run with a tick and
-/// native workers.
+/// leading zero, in the option's range; that of `--gateway` is `http` or `scgi`. All other words are no command, and
+/// neither are those of a run with a tick and native workers.
 ///
 /// # Errors
 ///
@@ -90,7 +90,7 @@ fn command_by(name: &str, matches: &ArgMatches) -> Option<Command>
     match name {
         "run" => run_by(matches),
         "fmt" => Some(Command::Text(TextCommand::Format)),
-        "wsgi" => Some(Command::Wsgi),
+        "wsgi" => wsgi_by(matches),
         "serve" => serve_by(matches),
         "storm" => storm_by(matches),
         _ => None,
@@ -101,11 +101,11 @@ fn command_by(name: &str, matches: &ArgMatches) -> Option<Command>
 fn world_by(matches: &ArgMatches) -> Option<RunWorld>
     ensures { result ≡ world_by (λ n. first_of n (rows_of (found_of matches.now))) }
 {
-    if given(NATIVE, matches).is_none() {
+    if given(NATIVE.name, matches).is_none() {
         let tick = number_by(TICK, matches)?;
         return Some(RunWorld::Script(tick));
     }
-    if given(TICK, matches).is_some() {
+    if given(TICK.name, matches).is_some() {
         return None;
     }
     let workers = number_by(NATIVE, matches)?;
@@ -125,6 +125,34 @@ fn run_by(matches: &ArgMatches) -> Option<Command>
     })))
 }
 
+/// The gateway of this name, if there is one.
+fn gateway_named(name: &str) -> Option<GatewayKind>
+    ensures { result ≡ gateway_named name.now }
+{
+    match name {
+        "http" => Some(GatewayKind::Http),
+        "scgi" => Some(GatewayKind::Scgi),
+        _ => None,
+    }
+}
+
+/// The gateway that is asked for: the one that is named, HTTP where none is.
+fn gateway_by(matches: &ArgMatches) -> Option<GatewayKind>
+    ensures { result ≡ gateway_by (λ n. first_of n (rows_of (found_of matches.now))) }
+{
+    match given(GATEWAY, matches) {
+        Some(name) => gateway_named(name),
+        None => Some(GatewayKind::Http),
+    }
+}
+
+fn wsgi_by(matches: &ArgMatches) -> Option<Command>
+    ensures { result ≡ wsgi_by (λ n. first_of n (rows_of (found_of matches.now))) }
+{
+    let gateway = gateway_by(matches)?;
+    Some(Command::Wsgi(gateway))
+}
+
 fn serve_by(matches: &ArgMatches) -> Option<Command>
     ensures { result ≡ serve_by (λ n. first_of n (rows_of (found_of matches.now))) }
 {
@@ -132,11 +160,13 @@ fn serve_by(matches: &ArgMatches) -> Option<Command>
     let conns = number_by(CONNS, matches)?;
     let pool = number_by(POOL, matches)?;
     let idle = number_by(IDLE, matches)?;
+    let gateway = gateway_by(matches)?;
     Some(Command::Serve(ServeOptions {
         port: port as u16,
         conns: conns as u32,
         pool: pool as u32,
         idle,
+        gateway,
     }))
 }
 

@@ -1,6 +1,6 @@
 //! The table of the commands and their options.
 
-/// An option, whose value is a number.
+/// An option whose value is a number.
 #[derive(Clone, Copy, Debug, PartialEq, Eq)]
 pub struct NumberOption {
     /// Its name, which stands behind `--`.
@@ -13,13 +13,22 @@ pub struct NumberOption {
     pub usual: Option<u64>,
 }
 
+/// An option of a command.
+#[derive(Clone, Copy, Debug, PartialEq, Eq)]
+pub enum CommandOption {
+    /// Its value is a number.
+    Number(NumberOption),
+    /// The option of this name, whose value is the name of a gateway.
+    Gateway(&'static str),
+}
+
 /// A command: its name, and its options.
 #[derive(Clone, Copy, Debug)]
 pub struct CommandRow {
     /// Its name.
     pub name: &'static str,
     /// Its options.
-    pub options: &'static [NumberOption],
+    pub options: &'static [CommandOption],
 }
 
 /// The most turns of a run.
@@ -86,6 +95,9 @@ pub const IDLE: NumberOption = NumberOption {
     usual: Some(60000),
 };
 
+/// The option that names what a server speaks with its peers.
+pub const GATEWAY: &str = "gateway";
+
 /// The size of a storm.
 pub const SIZE: NumberOption = NumberOption {
     name: "size",
@@ -94,11 +106,24 @@ pub const SIZE: NumberOption = NumberOption {
     usual: None,
 };
 
-const OF_RUN: [NumberOption; 4] = [TURNS, MOVES, TICK, NATIVE];
+const OF_RUN: [CommandOption; 4] = [
+    CommandOption::Number(TURNS),
+    CommandOption::Number(MOVES),
+    CommandOption::Number(TICK),
+    CommandOption::Number(NATIVE),
+];
 
-const OF_SERVE: [NumberOption; 4] = [PORT, CONNS, POOL, IDLE];
+const OF_WSGI: [CommandOption; 1] = [CommandOption::Gateway(GATEWAY)];
 
-const OF_STORM: [NumberOption; 1] = [SIZE];
+const OF_SERVE: [CommandOption; 5] = [
+    CommandOption::Number(PORT),
+    CommandOption::Number(CONNS),
+    CommandOption::Number(POOL),
+    CommandOption::Number(IDLE),
+    CommandOption::Gateway(GATEWAY),
+];
+
+const OF_STORM: [CommandOption; 1] = [CommandOption::Number(SIZE)];
 
 /// The commands, each with its options.
 pub const COMMANDS: [CommandRow; 5] = [
@@ -112,7 +137,7 @@ pub const COMMANDS: [CommandRow; 5] = [
     },
     CommandRow {
         name: "wsgi",
-        options: &[],
+        options: &OF_WSGI,
     },
     CommandRow {
         name: "serve",

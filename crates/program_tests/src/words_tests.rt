@@ -1,6 +1,8 @@
 //! Words, and what they ask for.
 use crate::run_tests::{PRINTS_ONE, call, words_of};
-use command_words::{Command, RunOptions, RunWorld, ServeOptions, TextCommand, command_of};
+use command_words::{
+    Command, GatewayKind, RunOptions, RunWorld, ServeOptions, TextCommand, command_of,
+};
 use std::alloc::{AllocError, Global};
 use std::test::Fail;
 
@@ -18,12 +20,19 @@ fn run(turns: u64, moves: u64, world: RunWorld) -> Option<Command> {
     })))
 }
 
-fn serve(port: u16, conns: u32, pool: u32, idle: u64) -> Option<Command> {
+fn serve(
+    port: u16,
+    conns: u32,
+    pool: u32,
+    idle: u64,
+    gateway: GatewayKind,
+) -> Option<Command> {
     Some(Command::Serve(ServeOptions {
         port,
         conns,
         pool,
         idle,
+        gateway,
     }))
 }
 
@@ -46,11 +55,20 @@ fn words_name_commands(rt: HostRuntime) -> Result<(), Fail> {
             run(1000000, 10000000, RunWorld::Native(16)),
         ),
         ("fmt", Some(Command::Text(TextCommand::Format))),
-        ("wsgi", Some(Command::Wsgi)),
-        ("serve --conns 2 --port=0", serve(0, 2, 100, 60000)),
+        ("wsgi", Some(Command::Wsgi(GatewayKind::Http))),
+        ("wsgi --gateway=http", Some(Command::Wsgi(GatewayKind::Http))),
+        ("wsgi --gateway scgi", Some(Command::Wsgi(GatewayKind::Scgi))),
+        (
+            "serve --conns 2 --port=0",
+            serve(0, 2, 100, 60000, GatewayKind::Http),
+        ),
+        (
+            "serve --gateway=scgi --conns 2 --port=0",
+            serve(0, 2, 100, 60000, GatewayKind::Scgi),
+        ),
         (
             "serve --idle 3600000 --pool=1024 --port 65535 --conns=1000000",
-            serve(65535, 1000000, 1024, 3600000),
+            serve(65535, 1000000, 1024, 3600000, GatewayKind::Http),
         ),
         ("storm --size 19000", Some(Command::Storm(19000))),
     ];
@@ -76,6 +94,11 @@ fn words_that_name_none(rt: HostRuntime) -> Result<(), Fail> {
         "serve --port 80",
         "serve --conns 1",
         "serve --port 65536 --conns 1",
+        "wsgi --gateway",
+        "wsgi --gateway fcgi",
+        "wsgi --gateway=HTTP",
+        "wsgi --gateway=http --gateway=http",
+        "run --gateway http",
         "storm --size 0",
         "storm --size 3 --turns 3",
     ] {
