@@ -6,4 +6,5 @@ pub mod Few
 pub mod Keeping
 pub mod Leavings
 pub mod Piles
+pub mod PrimitiveMoves
 pub mod Readings

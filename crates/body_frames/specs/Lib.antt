@@ -4,6 +4,7 @@ pub mod Entries
 pub mod Few
 pub mod Laws
 pub mod Places
+pub mod PrimitiveMoves
 pub mod Standings
 pub mod Steady
 pub mod Steps

@@ -13,6 +13,7 @@ mod laws;
 mod moves;
 mod pile;
 mod places;
+mod primitive_moves;
 mod stack;
 mod step;
 mod unwind;

@@ -14,7 +14,8 @@ ghost use Rattle.body_frames.specs.Standings.{body_after, made_of};
 ghost use Rattle.body_frames.specs.Steady.{IsSteady};
 
 use crate::entry::Entry;
-use crate::stack::{Made, Stack, leave};
+use crate::primitive_moves::make_primitive_move;
+use crate::stack::{Made, Stack, go_inwards, leave};
 use body_blocks::{Blocks, FlatAction};
 use body_moves::{Chosen, Evaluation, choose_command, choose_giving};
 use body_values::{Code, Look, bind};
@@ -46,6 +47,29 @@ pub fn make_move<L: Look>(
 
 /// Makes the move. The caller shows that the calls of the body have few arguments after it, as a law of what a move does.
 fn do_move<L: Look>(
+    alloc: Global,
+    code: &Code,
+    blocks: &Blocks,
+    look: &L,
+    stack: &mut Stack,
+) -> Result<Made, AllocError>
+    requires told { stack.old.left ≡ [] }
+    requires moves { IsAtMove (todo_of blocks.now stack.old.todo) }
+    requires few { HasFewToDo (todo_of blocks.now stack.old.todo) }
+    ensures steady { IfOk result (λ made. IsSteady (body_after blocks.now made stack.new)) }
+    ensures made { IfOk result (λ made. (moves : ℕ) (go : Place → Went) →
+        after_move moves stack.old.locals go (body_move (todo_of blocks.now stack.old.todo) (around code.now (L.answers look.now) stack.old.locals))
+        ≡ made_of blocks.now moves go made stack.new) }
+{
+    if make_primitive_move(blocks, stack)? {
+        return Ok(Made::Further(go_inwards(blocks, stack)?));
+    }
+    Ok(make_any_move(alloc, code, blocks, look, stack)?)
+}
+
+/// Makes the move, whatever it is. Its results are large, so that it stays a call.
+#[inline(never)]
+fn make_any_move<L: Look>(
     alloc: Global,
     code: &Code,
     blocks: &Blocks,

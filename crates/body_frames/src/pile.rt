@@ -1,5 +1,6 @@
 //! A list that is read and grown at its front, at a cost that does not depend on its length.
-ghost use Rattle.std.specs.Prelude.{◌≡◌, [], ◌∷◌, OnOk, MatchOption};
+ghost use Rattle.std.specs.Prelude.{◌≡◌, [], ◌∷◌, OnOk, MatchOption, drop};
+ghost use Rattle.std.specs.Option.{option_copied};
 
 use scenario_tree::Items;
 use std::alloc::{AllocError, Global};
@@ -32,12 +33,31 @@ impl<T: Drop> Pile<T> {
         }
     }
 
+    /// The first entry.
+    #[tactic(auto, using(crate::proofs::Piles::first_there, crate::proofs::Piles::none_there))]
+    pub fn first(&self) -> Option<&T>
+        ensures { MatchOption (option_copied result) (self.now ≡ []) (λ first. self.now ≡ first ∷ drop 1 self.now) }
+    {
+        self.items.as_slice().last()
+    }
+
     /// Takes the first entry off.
     #[tactic(auto, using(crate::proofs::Piles::first_off, crate::proofs::Piles::none_off))]
     pub fn pop(&mut self) -> Option<T>
         ensures { MatchOption result ((self.old ≡ []) × (self.new ≡ [])) (λ first. self.old ≡ first ∷ self.new) }
     {
         self.items.pop()
+    }
+
+    /// Lets the first entry go.
+    #[tactic(auto, using(crate::proofs::Piles::rest_left, crate::proofs::Piles::none_left))]
+    pub fn drop_first(&mut self)
+        ensures { self.new ≡ drop 1 self.old }
+    {
+        match self.items.pop() {
+            Some(_) => {}
+            None => {}
+        }
     }
 
     /// Puts the entry before the others.

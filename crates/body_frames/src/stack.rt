@@ -1,5 +1,5 @@
 //! What a body has still to do, and how it goes on by itself.
-ghost use Rattle.std.specs.Prelude.{◌≡◌, ◌∷◌, [], List, OnOk, IfOk};
+ghost use Rattle.std.specs.Prelude.{◌≡◌, ◌∷◌, [], List, OnOk, IfOk, IsTrue};
 ghost use Rattle.machine.specs.declared.state.Todo.{Todo as Undone};
 ghost use Rattle.machine.specs.declared.state.Leaving.TheVariants as leaving;
 ghost use Rattle.machine.specs.Bodies.{Body, begins};
@@ -12,12 +12,13 @@ ghost use Rattle.body_values.specs.Few.{HasFew};
 ghost use Rattle.body_values.specs.Functions.{IsFunction, function_at};
 ghost use Rattle.body_frames.specs.Entries.{todo_of};
 ghost use Rattle.body_frames.specs.Few.{HasFewToDo, HasFewUnwound};
+ghost use Rattle.body_frames.specs.PrimitiveMoves.{RunsAt};
 ghost use Rattle.body_frames.specs.Standings.{goes_from};
 ghost use Rattle.body_frames.specs.Steady.{HasMove};
 
 use crate::entry::Entry;
 use crate::pile::Pile;
-use crate::unwind::{Unwound, unwind};
+use crate::unwind::{Unwound, begins, unwind};
 use body_blocks::Blocks;
 use body_values::{Code, Start, bind, named};
 use gv_values::{Name, Outcome, Value};
@@ -135,6 +136,32 @@ pub fn go_inside(
     stack.todo.push(Entry::Within(number, silent))?;
     stack.todo.push(Entry::Rest(body, 0))?;
     Ok(leave(blocks, stack, Leaving::Normally)?)
+}
+
+/// Goes on at what is first to do: it may be a move already.
+#[tactic(auto, using(crate::proofs::AtMoves::moves_as, crate::proofs::Keeping::few_as))]
+pub fn go_inwards(blocks: &Blocks, stack: &mut Stack) -> Result<Unwound, AllocError>
+    ensures moves { IfOk result (λ at. HasMove (goes_from blocks.now at stack.new)) }
+    ensures left { IfOk result (λ at.
+        unwind (todo_of blocks.now stack.old.todo) stack.old.left leaving.Normally stack.old.locals ≡ goes_from blocks.now at stack.new) }
+    ensures few { HasFewToDo (todo_of blocks.now stack.old.todo) → IfOk result (λ at. HasFewUnwound (goes_from blocks.now at stack.new)) }
+{
+    if is_at_move(blocks, &stack.todo) {
+        return Ok(Unwound::Runs);
+    }
+    Ok(leave(blocks, stack, Leaving::Normally)?)
+}
+
+/// Whether a move is first to do.
+#[tactic(auto, using(crate::proofs::PrimitiveMoves::rest_is_move, crate::proofs::PrimitiveMoves::again_is_move))]
+fn is_at_move(blocks: &Blocks, todo: &Pile<Entry>) -> bool
+    ensures { IsTrue result → RunsAt (todo_of blocks.now todo.now) }
+{
+    match todo.first() {
+        Some(Entry::Rest(block, at)) => begins(blocks, *block, *at),
+        Some(Entry::Again(_, _)) => true,
+        _ => false,
+    }
 }
 
 /// Leaves the stack in this way, as far as the next statement.

@@ -167,7 +167,7 @@ fn step(
 
 /// Whether a statement stands there.
 #[tactic(auto, using(crate::proofs::Readings::begins_there, crate::proofs::Readings::begins_not))]
-fn begins(blocks: &Blocks, block: usize, at: usize) -> bool
+pub fn begins(blocks: &Blocks, block: usize, at: usize) -> bool
     ensures { result ≡ begins (rest blocks.now block at) }
 {
     match blocks.ahead(block, at) {

@@ -1,0 +1,113 @@
+-- Moves of integers and truth values.
+use Rattle.std.proofs.Common.{◌≡◌, refl, ap, sym, subst, ◌∙◌, ℕ, suc, ◌+◌, Bool, true, false, List, [], ◌∷◌, Option, Some, None, drop, if◌then◌else◌, arith}
+use Rattle.std.specs.Prelude.{IsTrue, unwrap_or}
+use Rattle.gv_values.specs.declared.value.Outcome.{Outcome}
+use Rattle.gv_values.specs.declared.value.Value.{Value}
+use Rattle.scenario_tree.specs.declared.tree.Action.TheOpen.{Action-F}
+use Rattle.scenario_tree.specs.declared.tree.Command.{Command}
+use Rattle.scenario_tree.specs.declared.tree.Expression.{Expression}
+use Rattle.scenario_tree.specs.declared.tree.Scenario.{Scenario}
+use Rattle.scenario_tree.specs.declared.tree.Statement.{Statement}
+use Rattle.machine.specs.declared.state.Leaving.{Leaving}
+use Rattle.machine.specs.declared.state.Local.{Local}
+use Rattle.machine.specs.declared.state.Todo.{Todo}
+use Rattle.machine.specs.Bodies.{Stepped, after_move, around}
+use Rattle.machine.specs.BodyMoves.{Did, action_move, body_move, on_value, tested}
+use Rattle.machine.specs.Expressions.{Look, bind, meaning}
+use Rattle.machine.specs.Unwinding.{Unwound, unwind}
+use Rattle.body_blocks.specs.Trees.{IsAhead, block_at}
+use Rattle.body_blocks.specs.declared.statement.FlatStatement.{FlatStatement}
+use Rattle.body_primitives.specs.Primitives.{IsBound, Means}
+use Rattle.body_frames.specs.declared.entry.Entry.{Entry}
+use Rattle.body_frames.specs.declared.stack.Stack.{Stack}
+use Rattle.body_frames.specs.declared.unwind.Unwound.{Unwound as Left}
+use Rattle.body_frames.specs.Entries.{begins, form_of, optional_block, rest, todo_of}
+use Rattle.body_frames.specs.PrimitiveMoves.{GoesOn, HasActed, HasMade, IsPassed, RunsAt}
+use Rattle.body_frames.specs.Standings.{goes_from}
+use Rattle.body_frames.proofs.Leavings.{rest_ends, rest_runs}
+use Rattle.body_frames.proofs.Readings.{move_there}
+
+-- ---- what is first to do
+
+pub passed_on : (t : List (List Statement)) (b p : ℕ) (old dropped new : List Entry) → dropped ≡ drop 1 old → new ≡ Entry.Rest b p ∷ dropped →
+    IsPassed t (Entry.Rest b p ∷ drop 1 old) new
+passed_on t b p old dropped new d e = λ left locals.
+    ap (λ es. unwind (todo_of t es) left Leaving.Normally locals) (ap (λ es. Entry.Rest b p ∷ es) (sym d) ∙ sym e)
+
+pub passed_out : (t : List (List Statement)) (b p : ℕ) (old new : List Entry) → new ≡ drop 1 old → begins (rest t b p) ≡ false →
+    IsPassed t (Entry.Rest b p ∷ drop 1 old) new
+passed_out t b p old new d h = λ left locals.
+    rest_ends (rest t b p) (todo_of t (drop 1 old)) left locals h ∙ ap (λ es. unwind (todo_of t es) left Leaving.Normally locals) (sym d)
+
+pub rest_is_move : (t : List (List Statement)) (todo : List Entry) (b p : ℕ) → todo ≡ Entry.Rest b p ∷ drop 1 todo → IsTrue (begins (rest t b p)) →
+    RunsAt (todo_of t todo)
+rest_is_move t todo b p e h = subst (λ es. RunsAt (todo_of t es)) (sym e) (λ left locals. rest_runs (rest t b p) (todo_of t (drop 1 todo)) left locals h)
+
+pub again_is_move : (t : List (List Statement)) (todo : List Entry) (test : _) (b : ℕ) → todo ≡ Entry.Again test b ∷ drop 1 todo → RunsAt (todo_of t todo)
+again_is_move t todo test b e = subst (λ es. RunsAt (todo_of t es)) (sym e) (λ left locals. refl)
+
+-- ---- the moves
+
+-- what a test of such a value comes to
+tested_so : (t : List (List Statement)) (e : Expression) (b : Bool) (old new : Stack) (go_on : Bool → List Todo) (entries : List Entry) → Means e old.locals (Value.Bool b) →
+    new.locals ≡ old.locals → new.todo ≡ entries →
+    ((left : List ℕ) (locals : List Local) → unwind (go_on b) left Leaving.Normally locals ≡ unwind (todo_of t entries) left Leaving.Normally locals) →
+    GoesOn t (λ a. tested (meaning e a) a.locals go_on) old new
+tested_so t e b old new go_on entries m l n same = λ moves go s look.
+    ap (λ (o : Outcome). after_move moves old.locals go (tested o old.locals go_on)) (sym (m s look))
+    ∙ ap go (same [] old.locals ∙ ap (λ es. unwind (todo_of t es) [] Leaving.Normally old.locals) (sym n) ∙ ap (λ ls. unwind (todo_of t new.todo) [] Leaving.Normally ls) (sym l))
+
+pub while_in : (t : List (List Statement)) (test : _) (b : ℕ) (old new : Stack) → old.todo ≡ Entry.Again test b ∷ drop 1 old.todo → Means test.value old.locals (Value.Bool true) →
+    new.left ≡ old.left → new.locals ≡ old.locals → new.todo ≡ Entry.Rest b 0 ∷ old.todo → HasMade true t old new
+while_in t test b old new e m f l n =
+    (f, subst (λ es. GoesOn t (body_move (todo_of t es)) old new) (sym e)
+        (tested_so t test.value true old new
+            (λ on. if on then (Todo.Statements (block_at b t) ∷ Todo.Again test.value (block_at b t) ∷ todo_of t (drop 1 old.todo)) else todo_of t (drop 1 old.todo))
+            (Entry.Rest b 0 ∷ Entry.Again test b ∷ drop 1 old.todo) m l (n ∙ ap (λ es. Entry.Rest b 0 ∷ es) e) (λ left locals. refl)))
+
+pub let_made : (t : List (List Statement)) (x : List ℕ) (e : Expression) (v : Value) (after : List Entry) (old new : Stack) → Means e old.locals v →
+    new.left ≡ old.left → new.locals ≡ bind x v old.locals → IsPassed t after new.todo → HasActed true t (Action-F.Command (Command.Let x e)) after old new
+let_made t x e v after old new m f l p =
+    (f, λ moves go s look.
+        ap (λ (o : Outcome). after_move moves old.locals go (on_value o (λ w. Did.GoesOn Leaving.Normally (bind x w old.locals) (todo_of t after)) old.locals (todo_of t after)))
+            (sym (m s look))
+        ∙ ap go (p [] (bind x v old.locals) ∙ ap (λ ls. unwind (todo_of t new.todo) [] Leaving.Normally ls) (sym l)))
+
+pub let_bound : (t : List (List Statement)) (x : List ℕ) (e : Expression) (bound : Bool) (after : List Entry) (old new : Stack) → bound ≡ true →
+    IsBound bound x e old.locals new.locals → new.left ≡ old.left → IsPassed t after new.todo → HasActed true t (Action-F.Command (Command.Let x e)) after old new
+let_bound t x e true after old new h b f p = let_made t x e b.0 after old new b.1 f b.2 p
+let_bound t x e false after old new h b f p = cc
+
+pub if_so : (t : List (List Statement)) (e : Expression) (y : ℕ) (n : Option ℕ) (after : List Entry) (old new : Stack) → Means e old.locals (Value.Bool true) →
+    new.left ≡ old.left → new.locals ≡ old.locals → new.todo ≡ Entry.Rest y 0 ∷ after → HasActed true t (Action-F.If e (block_at y t) (optional_block t n)) after old new
+if_so t e y n after old new m f l k =
+    (f, tested_so t e true old new (λ b. Todo.Statements (if b then block_at y t else unwrap_or (optional_block t n) []) ∷ todo_of t after)
+        (Entry.Rest y 0 ∷ after) m l k (λ left locals. refl))
+
+pub if_else : (t : List (List Statement)) (e : Expression) (y n : ℕ) (after : List Entry) (old new : Stack) → Means e old.locals (Value.Bool false) →
+    new.left ≡ old.left → new.locals ≡ old.locals → new.todo ≡ Entry.Rest n 0 ∷ after →
+    HasActed true t (Action-F.If e (block_at y t) (optional_block t (Some n))) after old new
+if_else t e y n after old new m f l k =
+    (f, tested_so t e false old new (λ b. Todo.Statements (if b then block_at y t else unwrap_or (optional_block t (Some n)) []) ∷ todo_of t after)
+        (Entry.Rest n 0 ∷ after) m l k (λ left locals. refl))
+
+-- a statement that was acted on is the move at the head
+pub statement_made : (made : Bool) (t : List (List Statement)) (b p : ℕ) (s : FlatStatement) (old new : Stack) → old.todo ≡ Entry.Rest b p ∷ drop 1 old.todo →
+    IsAhead t b p (Some s) → HasActed made t (form_of t s.action) (Entry.Rest b (p + 1) ∷ drop 1 old.todo) old new → HasMade made t old new
+statement_made false t b p s old new e here h = h
+statement_made true t b p s old new e here h =
+    (h.0, λ moves go c look.
+        let a = around c look old.locals in
+        let next : suc p ≡ p + 1 = omega arith in
+        ap (λ es. after_move moves old.locals go (body_move (todo_of t es) a)) e
+        ∙ ap (λ (did : Did). after_move moves old.locals go did) (move_there t b p s (todo_of t (drop 1 old.todo)) a here)
+        ∙ ap (λ (q : ℕ). after_move moves old.locals go (action_move (form_of t s.action) a (Todo.Statements (rest t b q) ∷ todo_of t (drop 1 old.todo)))) next
+        ∙ h.1 moves go c look)
+
+-- the body comes from the move to where it goes on
+pub primitive_made : (made : Bool) (t : List (List Statement)) (old mid new : Stack) (at : Left) (s : Scenario) (look : Look) → made ≡ true → HasMade made t old mid → old.left ≡ [] →
+    unwind (todo_of t mid.todo) mid.left Leaving.Normally mid.locals ≡ goes_from t at new → (moves : ℕ) (go : Unwound → Stepped) →
+    after_move moves old.locals go (body_move (todo_of t old.todo) (around s look old.locals)) ≡ go (goes_from t at new)
+primitive_made true t old mid new at s look h m told e moves go =
+    m.1 moves go s look ∙ ap go (ap (λ left. unwind (todo_of t mid.todo) left Leaving.Normally mid.locals) (sym (m.0 ∙ told)) ∙ e)
+primitive_made false t old mid new at s look h m told e moves go = cc

@@ -1,0 +1,18 @@
+use Rattle.std.proofs.Common.{refl, sym, subst, true, ◌∷◌, drop}
+use Rattle.scenario_tree.specs.declared.tree.Action.TheOpen.{Action-F}
+use Rattle.scenario_tree.specs.declared.tree.Command.{Command}
+use Rattle.body_frames.specs.declared.entry.Entry.{Entry}
+use Rattle.body_frames.specs.declared.stack.Stack.{Stack}
+use Rattle.body_frames.specs.PrimitiveMoves.{HasActed}
+use Rattle.body_frames.proofs.PrimitiveMoves.{let_bound}
+use Rattle.body_frames.proofs.primitive_moves.bind_value.Goals as goal
+
+pub returns-then-branch : goal.returns-then-branch
+returns-then-branch c =
+    let t = c.args.blocks.now in
+    let old = c.args.stack.now in
+    let new : Stack = record { locals = c.bind_primitive.new.locals; todo = c.pass.new.todo; left = old.left } in
+    let after = Entry.Rest c.args.block c.args.next ∷ drop 1 old.todo in
+    subst (λ (x : Command). HasActed true t (Action-F.Command x) after old new) (sym c.in-Let.is)
+    (let_bound t c.in-Let.name c.in-Let.e c.in_ok-bind_primitive-in-Let.field-0 after old new c.if-branch.true c.in_ok-bind_primitive-in-Let.ensures refl
+        c.in_ok-pass-in-Let.ensures)

@@ -1,0 +1,52 @@
+-- Integers and truth values through the operators.
+use Rattle.std.proofs.Common.{◌≡◌, refl, ap, sym, subst, ◌∙◌, Bool, true, false, not, List, ℕ, ℤ, if◌then◌else◌}
+use Rattle.gv_values.specs.declared.value.Outcome.{Outcome}
+use Rattle.gv_values.specs.declared.value.Value.{Value}
+use Rattle.scenario_tree.specs.declared.tree.Binary.{Binary}
+use Rattle.scenario_tree.specs.declared.tree.Expression.TheVariants as E
+use Rattle.scenario_tree.specs.declared.tree.Expression.{Expression}
+use Rattle.scenario_tree.specs.declared.tree.Unary.{Unary}
+use Rattle.machine.specs.Expressions.{Around, Look, and_then, binary, meaning, or_else, unary, value_of_local, with_value}
+use Rattle.body_primitives.specs.declared.primitive.Primitive.{Primitive}
+use Rattle.body_primitives.specs.Primitives.{Agrees}
+use Rattle.body_values.proofs.Meanings.{and_means, binary_means, local_means, or_means, unary_means}
+
+pub negated : (b : Bool) (look : Look) (o : Outcome) → Outcome.Value (Value.Bool b) ≡ o → Outcome.Value (Value.Bool (not b)) ≡ with_value o (unary Unary.Not look)
+negated b look o h = rw (sym h) refl
+
+pub of_ints : (op : Binary) (x y : ℤ) (r : Primitive) (o p : Outcome) → Agrees r (binary op (Value.Int x) (Value.Int y)) →
+    Outcome.Value (Value.Int x) ≡ o → Outcome.Value (Value.Int y) ≡ p → Agrees r (with_value o (λ v. with_value p (binary op v)))
+of_ints op x y r o p k h g =
+    subst (λ (w : Outcome). Agrees r (with_value w (λ v. with_value p (binary op v)))) h
+    (subst (λ (w : Outcome). Agrees r (with_value w (binary op (Value.Int x)))) g k)
+
+pub both : (a b : Bool) (o p : Outcome) → Outcome.Value (Value.Bool a) ≡ o → Outcome.Value (Value.Bool b) ≡ p →
+    Outcome.Value (Value.Bool (if a then b else false)) ≡ with_value o (λ v. and_then v p)
+both true b o p h g = rw (sym h, sym g) refl
+both false b o p h g = rw (sym h) refl
+
+pub either : (a b : Bool) (o p : Outcome) → Outcome.Value (Value.Bool a) ≡ o → Outcome.Value (Value.Bool b) ≡ p →
+    Outcome.Value (Value.Bool (if a then true else b)) ≡ with_value o (λ v. or_else v p)
+either true b o p h g = rw (sym h) refl
+either false b o p h g = rw (sym h, sym g) refl
+
+-- ---- the same of the expression
+
+pub as_local : (r : Primitive) (x : List ℕ) (a : Around) → Agrees r (Outcome.Value (value_of_local x a.locals)) → Agrees r (meaning (E.Local x) a)
+as_local r x a h = subst (Agrees r) (sym (local_means x a)) h
+
+pub as_one : (r p : Primitive) (op : Unary) (e : Expression) (a : Around) → Agrees p (meaning e a) →
+    ((look : Look) (o : Outcome) → Agrees p o → Agrees r (with_value o (unary op look))) → Agrees r (meaning (E.Unary op e) a)
+as_one r p op e a h k = subst (Agrees r) (sym (unary_means op e a)) (k a.look (meaning e a) h)
+
+pub as_two : (r p q : Primitive) (op : Binary) (e d : Expression) (a : Around) → Agrees p (meaning e a) → Agrees q (meaning d a) →
+    ((o w : Outcome) → Agrees p o → Agrees q w → Agrees r (with_value o (λ v. with_value w (binary op v)))) → Agrees r (meaning (E.Binary op e d) a)
+as_two r p q op e d a h g k = subst (Agrees r) (sym (binary_means op e d a)) (k (meaning e a) (meaning d a) h g)
+
+pub as_both : (r p q : Primitive) (e d : Expression) (a : Around) → Agrees p (meaning e a) → Agrees q (meaning d a) →
+    ((o w : Outcome) → Agrees p o → Agrees q w → Agrees r (with_value o (λ v. and_then v w))) → Agrees r (meaning (E.And e d) a)
+as_both r p q e d a h g k = subst (Agrees r) (sym (and_means e d a)) (k (meaning e a) (meaning d a) h g)
+
+pub as_either : (r p q : Primitive) (e d : Expression) (a : Around) → Agrees p (meaning e a) → Agrees q (meaning d a) →
+    ((o w : Outcome) → Agrees p o → Agrees q w → Agrees r (with_value o (λ v. or_else v w))) → Agrees r (meaning (E.Or e d) a)
+as_either r p q e d a h g k = subst (Agrees r) (sym (or_means e d a)) (k (meaning e a) (meaning d a) h g)

@@ -1,0 +1,184 @@
+//! The evaluation.
+ghost use Rattle.std.specs.Prelude.{◌≡◌, IfOk, IfSome, pos};
+ghost use Rattle.gv_values.specs.declared.value.Outcome.{Outcome as Outcomes};
+ghost use Rattle.gv_values.specs.declared.value.Value.TheVariants as value;
+ghost use Rattle.gv_values.specs.Arithmetic.{arith_of};
+ghost use Rattle.machine.specs.Expressions.{Look as Answers, and_then, binary, of_result, or_else, unary, value_of_local, with_value};
+ghost use Rattle.body_primitives.specs.Primitives.{Agrees, IsBound, Means, MeansAs};
+
+use body_values::bind;
+use gv_values::{Arith, Name, Value, arithmetic};
+use machine::state::Local;
+use scenario_tree::{Binary, Expression, Items, Unary};
+use std::alloc::AllocError;
+
+/// What an expression of integers and truth values gives.
+#[derive(Clone, Copy, Debug, PartialEq, Eq)]
+pub enum Primitive {
+    Int(i64),
+    Bool(bool),
+    /// A fault, another value, or one that is not told here.
+    Other,
+}
+
+/// The name takes the value of the expression, where that is an integer or a truth value of such operands; else the
+/// locals stay as they are. `AllocError`: memory is wanting.
+pub fn bind_primitive(
+    name: &Name,
+    expression: &Expression,
+    locals: &mut Items<Local>,
+) -> Result<bool, AllocError>
+    ensures { IfOk result (λ bound. IsBound bound name.now expression.now locals.old locals.new) }
+{
+    match evaluate(locals.as_slice(), expression) {
+        Primitive::Int(n) => {
+            bind(name, Value::Int(n), locals)?;
+            Ok(true)
+        }
+        Primitive::Bool(b) => {
+            bind(name, Value::Bool(b), locals)?;
+            Ok(true)
+        }
+        Primitive::Other => Ok(false),
+    }
+}
+
+/// The truth value of the expression, where it is one of integers and truth values.
+pub fn primitive_truth(locals: &[Local], expression: &Expression) -> Option<bool>
+    ensures { IfSome result (λ b. Means expression.now locals.now (value.Bool b)) }
+{
+    match evaluate(locals, expression) {
+        Primitive::Bool(b) => Some(b),
+        Primitive::Int(_) => None,
+        Primitive::Other => None,
+    }
+}
+
+/// The value of the expression. It has no effect, so that both operands of `and` and `or` may be evaluated.
+fn evaluate(locals: &[Local], expression: &Expression) -> Primitive
+    ensures { MeansAs result expression.now locals.now }
+{
+    match expression {
+        Expression::Bool(b) => Primitive::Bool(*b),
+        Expression::Int(n) => Primitive::Int(*n),
+        Expression::Local(name) => of_local(name, locals),
+        Expression::Unary(operator, e) => of_one(*operator, evaluate(locals, e.get())),
+        Expression::Binary(operator, a, b) => {
+            let first = evaluate(locals, a.get());
+            let second = evaluate(locals, b.get());
+            of_two(*operator, first, second)
+        }
+        Expression::And(a, b) => {
+            let first = evaluate(locals, a.get());
+            let second = evaluate(locals, b.get());
+            of_both(first, second)
+        }
+        Expression::Or(a, b) => {
+            let first = evaluate(locals, a.get());
+            let second = evaluate(locals, b.get());
+            of_either(first, second)
+        }
+        Expression::Nothing => Primitive::Other,
+        Expression::Current => Primitive::Other,
+        Expression::Fault(_) => Primitive::Other,
+        Expression::List(_) => Primitive::Other,
+        Expression::Query(_, _) => Primitive::Other,
+    }
+}
+
+fn of_local(name: &Name, locals: &[Local]) -> Primitive
+    ensures { Agrees result (Outcomes.Value (value_of_local name.now locals.now)) }
+{
+    for local in locals {
+        if name.bytes() == local.name.bytes() {
+            return of_value(&local.value);
+        }
+    }
+    Primitive::Other
+}
+
+fn of_value(value: &Value) -> Primitive
+    ensures { Agrees result (Outcomes.Value value.now) }
+{
+    match value {
+        Value::Int(n) => Primitive::Int(*n),
+        Value::Bool(b) => Primitive::Bool(*b),
+        _ => Primitive::Other,
+    }
+}
+
+#[tactic(auto, using(crate::proofs::Primitives::negated))]
+fn of_one(operator: Unary, operand: Primitive) -> Primitive
+    ensures { (look : Answers) (o : Outcomes) → Agrees operand o → Agrees result (with_value o (unary operator look)) }
+{
+    match operator {
+        Unary::Not => match operand {
+            Primitive::Bool(b) => Primitive::Bool(!b),
+            Primitive::Int(_) => Primitive::Other,
+            Primitive::Other => Primitive::Other,
+        },
+        _ => Primitive::Other,
+    }
+}
+
+#[tactic(auto, using(crate::proofs::Primitives::of_ints))]
+fn of_two(operator: Binary, first: Primitive, second: Primitive) -> Primitive
+    ensures { (o p : Outcomes) → Agrees first o → Agrees second p → Agrees result (with_value o (λ x. with_value p (binary operator x))) }
+{
+    let Primitive::Int(x) = first else {
+        return Primitive::Other;
+    };
+    let Primitive::Int(y) = second else {
+        return Primitive::Other;
+    };
+    of_integers(operator, x, y)
+}
+
+fn of_integers(operator: Binary, x: i64, y: i64) -> Primitive
+    ensures { Agrees result (binary operator (value.Int x) (value.Int y)) }
+{
+    match operator {
+        Binary::Arithmetic(operation) => computed(operation, x, y),
+        Binary::Equal => Primitive::Bool(x == y),
+        Binary::NotEqual => Primitive::Bool(x != y),
+        Binary::Less => Primitive::Bool(x < y),
+        Binary::AtMost => Primitive::Bool(x <= y),
+        Binary::Push => Primitive::Other,
+        Binary::At => Primitive::Other,
+    }
+}
+
+fn computed(operation: Arith, x: i64, y: i64) -> Primitive
+    ensures { Agrees result (of_result (arith_of operation x y)) }
+{
+    match arithmetic::arith(operation, x, y) {
+        Ok(z) => Primitive::Int(z),
+        Err(_) => Primitive::Other,
+    }
+}
+
+#[tactic(auto, using(crate::proofs::Primitives::both))]
+fn of_both(first: Primitive, second: Primitive) -> Primitive
+    ensures { (o p : Outcomes) → Agrees first o → Agrees second p → Agrees result (with_value o (λ x. and_then x p)) }
+{
+    let Primitive::Bool(a) = first else {
+        return Primitive::Other;
+    };
+    let Primitive::Bool(b) = second else {
+        return Primitive::Other;
+    };
+    Primitive::Bool(if a { b } else { false })
+}
+
+#[tactic(auto, using(crate::proofs::Primitives::either))]
+fn of_either(first: Primitive, second: Primitive) -> Primitive
+    ensures { (o p : Outcomes) → Agrees first o → Agrees second p → Agrees result (with_value o (λ x. or_else x p)) }
+{
+    let Primitive::Bool(a) = first else {
+        return Primitive::Other;
+    };
+    let Primitive::Bool(b) = second else {
+        return Primitive::Other;
+    };
+    Primitive::Bool(if a { true } else { b })
+}
