@@ -1,0 +1,134 @@
+//! SCGI connections, answered piece by piece.
+ghost use Rattle.std.specs.Prelude.{◌<◌};
+
+use gv_io::{MemorySink, MemorySource};
+use scgi_core::ScgiSession;
+use std::alloc::{AllocError, Global};
+use std::test::Fail;
+use wsgi_connection::{ConnectionEnd, answer_connection};
+use wsgi_core::{SessionPhase, ShippedApp};
+
+const BAD_REQUEST: &[u8] = b"Status: 400 Bad Request\r\nContent-Length: 0\r\n\r\n";
+
+const TOO_LARGE: &[u8] = b"Status: 413 Request Entity Too Large\r\nContent-Length: 0\r\n\r\n";
+
+const HELLO: &[u8] =
+    b"Status: 200 OK\r\nContent-Type: text/plain\r\nContent-Length: 6\r\n\r\nhello\n";
+
+/// Whether this is written for the input, in pieces of so many bytes, up to the connection's end.
+fn is_answer(alloc: Global, input: &[u8], piece: usize, wanted: &[u8]) -> Result<bool, AllocError>
+    requires { 0 < piece }
+{
+    let bytes = Vec::from_slice(alloc, input)?;
+    let mut source = MemorySource::new(bytes, piece, Vec::new(alloc));
+    let mut out = MemorySink::new(alloc, 1000)?;
+    let end = answer_connection::<ScgiSession, _, _, _>(
+        alloc,
+        0,
+        &mut source,
+        &mut out,
+        &ShippedApp,
+    );
+    Ok(end == ConnectionEnd::Closed && out.bytes() == wanted)
+}
+
+/// Whether this is written for the input, in small pieces and in one.
+fn is_answered(alloc: Global, input: &[u8], wanted: &[u8]) -> Result<bool, AllocError> {
+    Ok(
+        is_answer(alloc, input, 1, wanted)?
+            && is_answer(alloc, input, 19, wanted)?
+            && is_answer(alloc, input, 4096, wanted)?,
+    )
+}
+
+#[test]
+fn requests_are_answered_in_any_pieces(rt: HostRuntime) -> Result<(), Fail> {
+    let alloc = rt.alloc();
+    let table: [(&[u8], &[u8]); 6] = [
+        (
+            b"55:CONTENT_LENGTH\00\0SCGI\01\0REQUEST_METHOD\0GET\0PATH_INFO\0/\0,",
+            HELLO,
+        ),
+        (
+            b"60:CONTENT_LENGTH\03\0SCGI\01\0REQUEST_METHOD\0POST\0PATH_INFO\0/echo\0,abcd",
+            b"Status: 200 OK\r\nContent-Type: application/octet-stream\r\nContent-Length: 3\r\n\r\nabc",
+        ),
+        (
+            b"61:CONTENT_LENGTH\00\0SCGI\01\0REQUEST_METHOD\0GET\0PATH_INFO\0/chunks\0,",
+            b"Status: 200 OK\r\nContent-Type: text/plain\r\n\r\nonetwo",
+        ),
+        (
+            b"61:CONTENT_LENGTH\00\0SCGI\01\0REQUEST_METHOD\0HEAD\0PATH_INFO\0/raise\0,",
+            b"Status: 500 Internal Server Error\r\nContent-Type: text/plain\r\nContent-Length: 21\r\n\r\n",
+        ),
+        (
+            b"59:CONTENT_LENGTH\00\0SCGI\01\0REQUEST_METHOD\0GET\0PATH_INFO\0/late\0,",
+            b"Status: 200 OK\r\nContent-Type: text/plain\r\n\r\npart",
+        ),
+        (
+            b"65:CONTENT_LENGTH\00\0SCGI\01\0REQUEST_METHOD\0GET\0PATH_INFO\0/environ\0A\0\0,",
+            b"Status: 200 OK\r\nContent-Type: text/plain\r\nContent-Length: 58\r\n\r\nCONTENT_LENGTH=0\nREQUEST_METHOD=GET\nPATH_INFO=/environ\nA=\n",
+        ),
+    ];
+    for (input, wanted) in table {
+        assert!(rt; is_answered(alloc, input, wanted)?);
+    }
+    Ok(())
+}
+
+#[test]
+fn what_is_no_request_is_refused(rt: HostRuntime) -> Result<(), Fail> {
+    let alloc = rt.alloc();
+    let table: [(&[u8], &[u8]); 13] = [
+        (b"07:", BAD_REQUEST),
+        (b"55:CONT", b""),
+        (b":", BAD_REQUEST),
+        (b"99999", b""),
+        (b"32768:", b""),
+        (b"32769:", BAD_REQUEST),
+        (b"123456", BAD_REQUEST),
+        (
+            b"61:CONTENT_LENGTH\01048577\0SCGI\01\0REQUEST_METHOD\0GET\0PATH_INFO\0/\0,",
+            TOO_LARGE,
+        ),
+        (
+            b"62:CONTENT_LENGTH\00\0SCGI\01\0REQUEST_METHOD\0GET\0PATH_INFO\0/\0SCGI\01\0,",
+            BAD_REQUEST,
+        ),
+        (
+            b"55:CONTENT_LENGTH\00\0SCGI\01\0REQUEST_METHOD\0GET\0PATH_INFO\0/\0;",
+            BAD_REQUEST,
+        ),
+        (
+            b"55:SCGI\01\0CONTENT_LENGTH\00\0REQUEST_METHOD\0GET\0PATH_INFO\0/\0,",
+            BAD_REQUEST,
+        ),
+        (
+            b"55:CONTENT_LENGTH\00\0SCGI\02\0REQUEST_METHOD\0GET\0PATH_INFO\0/\0,",
+            BAD_REQUEST,
+        ),
+        (b"24:CONTENT_LENGTH\00\0SCGI\01\0,", BAD_REQUEST),
+    ];
+    for (input, wanted) in table {
+        assert!(rt; is_answered(alloc, input, wanted)?);
+    }
+    Ok(())
+}
+
+/// Where a request is whole but for its last byte nothing is said, and what follows it is ignored.
+#[test]
+fn it_answers_at_the_last_byte_of_the_body(rt: HostRuntime) -> Result<(), Fail> {
+    let mut session = ScgiSession::new(rt.alloc());
+    session.feed(
+        b"60:CONTENT_LENGTH\03\0SCGI\01\0REQUEST_METHOD\0POST\0PATH_INFO\0/echo\0,ab",
+        &ShippedApp,
+    )?;
+    assert!(rt; session.pending().is_empty());
+    assert_eq!(rt; session.phase(), SessionPhase::Serving);
+    session.feed(b"c", &ShippedApp)?;
+    assert!(rt; session.pending().ends_with(b"\r\n\r\nabc"));
+    assert_eq!(rt; session.phase(), SessionPhase::Closing);
+    session.feed(b"55:", &ShippedApp)?;
+    assert!(rt; session.pending().ends_with(b"\r\n\r\nabc"));
+    Ok(())
+}
