@@ -11,7 +11,7 @@ use Rattle.gqueues.specs.Seen.{SeenChannel, IsSoundChannel, ChannelSide, channel
 use Rattle.queue_waiters.specs.Seen.{SeenPutters, putting, items_put, value_put, without_putter, putter_left}
 use Rattle.gqueues.specs.Parts.{seen_channel, IsChannel}
 use Rattle.gqueues.specs.declared.channel.Channel.TheInside.{Inside}
-use Rattle.gqueues.proofs.QueueLemmas.{items_put_without, fewer_putters}
+use Rattle.gqueues.proofs.PutterLemmas.{items_put_without, fewer_putters}
 
 -- ---- lists in two parts
 

@@ -5,11 +5,11 @@ use Rattle.std.proofs.lemmas.Bool.{eqb-true}
 use Rattle.linked_items.specs.Items.{items_of, Differ}
 use Rattle.linked_items.proofs.ItemLemmas.{places_differ, without_absent}
 use Rattle.waiters.specs.declared.parking.Side.{Side}
-use Rattle.waiters.proofs.PrefixLemmas.{none_behind, not_among}
-use Rattle.gqueues.specs.Seen.{SeenQueue, IsSound, put_places, take_places, join_places, HasSide, waiting_at, told_on, holds_on, taker_gone}
+use Rattle.waiters.proofs.PrefixLemmas.{none_behind}
+use Rattle.gqueues.specs.Seen.{SeenQueue, IsSound, put_places, take_places, join_places, HasSide, waiting_at, told_on, holds_on, taker_gone, AllBefore, UntoldOn}
 use Rattle.queue_waiters.specs.Seen.{getters, gets, peeks, getters_before, of_kind, IsServed, items_put}
 use Rattle.queue_waiters.proofs.KindLemmas.{kind_next, kind_rise, kind_left, kind_told_same, kinds_apart, apart_too, place_in_kind, place_in_line, past_front, in_front, entry_at, item_at, before_item, take_short, kind_differ, kind_told_within}
-use Rattle.gqueues.proofs.QueueLemmas.{length_put}
+use Rattle.gqueues.proofs.PutterLemmas.{length_put}
 
 -- ---- a getter or peeker leaves
 
@@ -124,10 +124,6 @@ module _ (q : SeenQueue) (differ : Differ (items_of q.takers)) where
       let all : join_places q ≡ length q.joins = ap (λ n. cond (eqb n 0) (length q.joins) 0) holds in
       absurd (omega arith)
 
--- everybody before the borders may go
-abbrev pub AllBefore : SeenQueue → Type 0
-AllBefore q = (side : Side) → HasSide side → (k item : ℕ) → slice_get (waiting_at q side) k ≡ Some item → k < told_on q side → holds_on q side item
-
 module _ (q : SeenQueue) where
   taker_before : (p : ℕ × ℕ → Bool) (k item : ℕ) → ((q.told_takers ≡ 0) ⊎ (getters (take (q.told_takers - 1) q.takers) < take_places q)) → slice_get (of_kind p q.takers) k ≡ Some item → k < length (filter p (take q.told_takers q.takers)) → IsServed (take_places q) q.takers item
   taker_before p k item last at told =
@@ -155,10 +151,6 @@ module _ (q : SeenQueue) where
       by false t lt = let none : join_places q ≡ 0 = ap (λ b. cond b (length q.joins) 0) t in absurd (omega arith)
 
 -- ---- leave that is taken back
-
-abbrev pub UntoldOn : SeenQueue → SeenQueue → ℕ → Type 0
-UntoldOn q new item =
-    (side : Side) × HasSide side × (slice_get (waiting_at q side) (told_on new side) ≡ Some item) × (holds_on q side item → ⊥) × (told_on q side ≡ told_on new side + 1) × ((other : Side) → other ≢ side → told_on new other ≡ told_on q other)
 
 module _ (q : SeenQueue) (t item n : ℕ) (is : q.told_takers ≡ t + 1) (differ : Differ (items_of q.takers)) (at : slice_get q.takers t ≡ Some (item, n)) (unserved : take_places q ≤ getters (take t q.takers)) where
   less_told : (p : ℕ × ℕ → Bool) → length (filter p (take q.told_takers q.takers)) ≡ length (filter p (take t q.takers)) + cond (p (item, n)) 1 0
@@ -202,18 +194,6 @@ pub taker_untold : (q new : SeenQueue) (item : ℕ) → new ≡ record q { told_
 taker_untold q new item now differ at some unserved =
     let e = entry_at q.takers (q.told_takers - 1) item at in
     subst (λ v. UntoldOn q v item) (sym now) (taker_untold' q (q.told_takers - 1) item e.0 (omega arith) differ e.1 unserved (eqb e.0 0) refl)
-
-pub putter_untold : (q new : SeenQueue) (item : ℕ) → new ≡ record q { told_putters = q.told_putters - 1 } → Differ (items_put q.putters) → slice_get (items_put q.putters) (q.told_putters - 1) ≡ Some item → put_places q < q.told_putters → UntoldOn q new item
-putter_untold q new item now differ at more =
-    subst (λ v. UntoldOn q v item) (sym now)
-    (Side.Put, tt, at, not_among (items_put q.putters) (put_places q) (q.told_putters - 1) item differ (omega arith) at, omega arith, others)
-  where
-    others : (other : Side) → other ≢ Side.Put → told_on (record q { told_putters = q.told_putters - 1 }) other ≡ told_on q other
-    others Side.Only away = refl
-    others Side.Put away = absurd (away refl)
-    others Side.Get away = refl
-    others Side.Peek away = refl
-    others Side.Join away = refl
 
 -- of a queue that is not shut, one that may go has fewer getters before it than there are items
 pub served_first : (q : SeenQueue) (item : ℕ) → q.shut ≡ false → Differ (items_of q.takers) → IsServed (take_places q) q.takers item → getters_before item q.takers < length q.items

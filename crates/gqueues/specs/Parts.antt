@@ -7,7 +7,7 @@ use Rattle.queue_items.specs.Seen.{Takes}
 use Rattle.queue_waiters.specs.Seen.{items_put}
 use Rattle.gqueues.specs.declared.channel.Channel.TheInside.{Inside as ChannelInside}
 use Rattle.gqueues.specs.declared.queue.GQueue.TheInside.{Inside as QueueInside}
-use Rattle.gqueues.specs.Seen.{SeenQueue, SeenChannel}
+use Rattle.gqueues.specs.Seen.{SeenQueue, SeenChannel, IsOpen}
 
 abbrev pub seen_queue : QueueInside → SeenQueue
 seen_queue q = record {
@@ -30,7 +30,8 @@ abbrev pub IsNumbered : QueueKind → ℕ → ℕ → Type 0
 IsNumbered QueueKind.Priority numbered unfinished = numbered ≤ unfinished
 IsNumbered kind numbered unfinished = Unit {0}
 
--- each part has the room that the queue promises, what waits to be put fits, and the store has room for all of it
+-- each part has the room that the queue promises, what waits to be put fits, the store has room for all of it, and who was told to put
+-- or to take may do so
 pub record IsQueue (q : QueueInside) : Type 0 where
   pub small : q.limit + 1 < 2 ^ 64
   pub within : length q.takers.entries + length q.putters.entries + length q.joins.items ≤ q.limit
@@ -40,6 +41,7 @@ pub record IsQueue (q : QueueInside) : Type 0 where
   pub stored : length q.putters.entries ≤ q.store.spare
   pub taken : All (λ e. Takes q.store.kind e.1) q.putters.entries
   pub numbered : IsNumbered q.store.kind q.store.numbered q.unfinished
+  pub stays : IsOpen (seen_queue q)
 
 -- ---- channels
 

@@ -1,5 +1,5 @@
 -- What contracts see of a queue and of a channel.
-use Rattle.std.specs.Prelude.{◌≡◌, ℕ, ◌+◌, ◌-◌, ◌≤◌, ◌==◌, Bool, true, List, [], ◌∷◌, ◌++◌, length, take, filter, Option, Some, None, if◌then◌else◌}
+use Rattle.std.specs.Prelude.{◌≡◌, ◌≢◌, ℕ, ◌+◌, ◌-◌, ◌<◌, ◌≤◌, ◌==◌, Bool, true, List, [], ◌∷◌, ◌++◌, length, take, filter, slice_get, Option, Some, None, if◌then◌else◌}
 use Rattle.std.specs.List.{Contains}
 use Rattle.gv_values.specs.declared.value.Value.{Value}
 use Rattle.machine.specs.Objects.{without_next}
@@ -9,7 +9,7 @@ use Rattle.wait_lines.specs.Lines.{told_left}
 use Rattle.waiters.specs.Waits.{told_without}
 use Rattle.waiters.specs.OneSide.{IsAmongFirst}
 use Rattle.waiters.specs.declared.parking.Side.{Side}
-use Rattle.queue_waiters.specs.Seen.{gets, peeks, of_kind, IsServed, items_put, without_putter}
+use Rattle.queue_waiters.specs.Seen.{getters, gets, peeks, of_kind, IsServed, items_put, without_putter}
 
 -- ---- a queue
 
@@ -43,6 +43,11 @@ put_places q = if q.shut then length q.putters else free_places (length q.putter
 -- getters and peekers may go with fewer getters before them than this; of a shut queue all
 abbrev pub take_places : SeenQueue → ℕ
 take_places q = if q.shut then length q.takers else length q.items
+
+-- who was told to put a value, or to take one, may do so until it leaves: no more putters were told than may go, and no more getters
+pub record IsOpen (q : SeenQueue) : Type 0 where
+  pub puts : q.told_putters ≤ put_places q
+  pub takes : getters (take q.told_takers q.takers) ≤ take_places q
 
 -- so many of those that wait for the last task may go: all or none
 abbrev pub join_places : SeenQueue → ℕ
@@ -83,6 +88,15 @@ holds_on q Side.Put item = IsAmongFirst (put_places q) (items_put q.putters) ite
 holds_on q Side.Get item = IsServed (take_places q) q.takers item
 holds_on q Side.Peek item = IsServed (take_places q) q.takers item
 holds_on q Side.Join item = q.unfinished ≡ 0
+
+-- everybody that was told may go
+abbrev pub AllBefore : SeenQueue → Type 0
+AllBefore q = (side : Side) → HasSide side → (k item : ℕ) → slice_get (waiting_at q side) k ≡ Some item → k < told_on q side → holds_on q side item
+
+-- the last that was told on some side may not go, and waits again
+abbrev pub UntoldOn : SeenQueue → SeenQueue → ℕ → Type 0
+UntoldOn q new item =
+    (side : Side) × HasSide side × (slice_get (waiting_at q side) (told_on new side) ≡ Some item) × (holds_on q side item → ⊥) × (told_on q side ≡ told_on new side + 1) × ((other : Side) → other ≢ side → told_on new other ≡ told_on q other)
 
 -- nothing but who waits is changed
 pub record KeepsQueue (old new : SeenQueue) : Type 0 where

@@ -154,6 +154,7 @@ impl GQueue {
     pub fn shut(&mut self, immediate: bool)
         ensures { self.new ≡ shut_now immediate self.old }
     {
+        let _waiting = self.putters.len();
         if immediate {
             let dropped = self.store.len();
             self.store.clear();
@@ -280,6 +281,7 @@ impl GQueue {
         ensures ok { IfOk result (λ v. (v ≡ next_value self.old.kind self.old.items) × (self.new ≡ with_next_out (taker_gone item self.old))) }
         ensures err { OnErr result (self.new ≡ taker_gone item self.old) }
     {
+        let _waiting = self.takers.len();
         let before = self.before_getter(item);
         self.drop_getter(item);
         if self.store.len() <= before {
@@ -514,26 +516,15 @@ impl GQueue {
         self.joins.grow(places)
     }
 
-    /// Lets the last putter that was told wait again, where it may not go, and gives it; O(1).
-    pub fn untell_putter(&mut self) -> Option<u32>
-        ensures none { IfNone result (self.old.told_putters ≤ put_places self.old) }
-        ensures differ { Differ (items_put self.old.putters) }
-        ensures kept { IfNone result (self.new ≡ self.old) }
-        ensures item { IfSome result (λ item. (slice_get (items_put self.old.putters) (self.old.told_putters - 1) ≡ Some item) × (put_places self.old < self.old.told_putters)) }
-        ensures told { IfSome result (λ _. self.new ≡ record self.old { told_putters = self.old.told_putters - 1 }) }
-    {
-        let _len = self.putters.len();
-        let places = self.put_places();
-        self.putters.shrink(places)
-    }
-
-    /// Lets the last getter or peeker that was told wait again, where it may not go, and gives it; O(1).
+    /// Lets the last getter or peeker that was told wait again, where it may not go, and gives it; O(1). It is a peeker: the item of a
+    /// getter that was told is taken by nobody else.
     pub fn untell_taker(&mut self) -> Option<u32>
         ensures none { IfNone result ((self.old.told_takers ≡ 0) ⊎ (getters (take (self.old.told_takers - 1) self.old.takers) < take_places self.old)) }
         ensures differ { Differ (items_of self.old.takers) }
         ensures within { self.old.told_takers ≤ length self.old.takers }
         ensures kept { IfNone result (self.new ≡ self.old) }
         ensures item { IfSome result (λ item. (slice_get (items_of self.old.takers) (self.old.told_takers - 1) ≡ Some item) × (0 < self.old.told_takers) × (take_places self.old ≤ getters (take (self.old.told_takers - 1) self.old.takers))) }
+        ensures peeker { IfSome result (Contains (of_kind peeks self.old.takers)) }
         ensures told { IfSome result (λ _. self.new ≡ record self.old { told_takers = self.old.told_takers - 1 }) }
     {
         let _len = self.takers.len();
@@ -555,7 +546,11 @@ impl GQueue {
 }
 
 impl Parking for GQueue {
-    ghost use Rattle.gqueues.specs.Seen.{HasSide, ParksOn, waiting_at, told_on, holds_on, KeepsQueue};
+    ghost use Rattle.std.specs.Prelude.{◌≡◌, ◌⊎◌, IfSome, IfNone};
+    ghost use Rattle.std.specs.List.{Contains};
+    ghost use Rattle.waiters.specs.declared.parking.Side.{Side as Way};
+    ghost use Rattle.queue_waiters.specs.Seen.{peeks, of_kind};
+    ghost use Rattle.gqueues.specs.Seen.{IsOpen, HasSide, ParksOn, waiting_at, told_on, holds_on, KeepsQueue, AllBefore, UntoldOn};
 
     ghost has_side = { HasSide };
 
@@ -620,13 +615,22 @@ impl Parking for GQueue {
         }
     }
 
-    fn next_unready(&mut self) -> Option<u32> {
-        match self.untell_putter() {
+    /// Lets one that was told, and whose condition fails, wait again, and gives it. It is a peeker, or one that waits for the last task:
+    /// no putter and no getter loses what it was told. O(1).
+    fn next_unready(&mut self) -> Option<u32>
+        ensures stays { IsOpen self.old }
+        ensures loses { IfSome result (λ item. Contains (of_kind peeks self.old.takers) item ⊎ Contains self.old.joins item) }
+        ensures none { IfNone result (AllBefore self.old) }
+        ensures some { IfSome result (UntoldOn self.old self.new) }
+        ensures unmoved { IfNone result ((side : Way) → told_on self.new side ≡ told_on self.old side) }
+        ensures waiting { (side : Way) → waiting_at self.new side ≡ waiting_at self.old side }
+        ensures room { self.new.room ≡ self.old.room }
+        ensures kept { KeepsQueue self.old self.new }
+    {
+        let _putting = self.putters.len();
+        match self.untell_taker() {
             Some(item) => Some(item),
-            None => match self.untell_taker() {
-                Some(item) => Some(item),
-                None => self.untell_joiner(),
-            },
+            None => self.untell_joiner(),
         }
     }
 }

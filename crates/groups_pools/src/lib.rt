@@ -220,7 +220,10 @@ impl Crew {
 }
 
 impl Parking for Crew {
-    ghost use Rattle.groups_pools.specs.Seen.{HasSide, waiting_at, told_on, holds_on, KeepsCrew};
+    ghost use Rattle.std.specs.Prelude.{◌≡◌, ◌≢◌, ℕ, ◌+◌, ◌<◌, ◌≤◌, IfSome, IfNone, Some, slice_get};
+    ghost use Rattle.std.specs.List.{Contains};
+    ghost use Rattle.waiters.specs.declared.parking.Side.{Side as Way};
+    ghost use Rattle.groups_pools.specs.Seen.{open_places, HasSide, waiting_at, told_on, holds_on, KeepsCrew};
 
     ghost has_side = { HasSide };
 
@@ -280,7 +283,21 @@ impl Parking for Crew {
         }
     }
 
-    fn next_unready(&mut self) -> Option<u32> {
+    /// Lets one that was told that no member is left wait again, where one is left, and gives it. Who was told of a place never loses it. O(1).
+    fn next_unready(&mut self) -> Option<u32>
+        ensures stays { self.old.told_places ≤ open_places self.old }
+        ensures loses { IfSome result (Contains self.old.joins) }
+        ensures none { IfNone result ((side : Way) → HasSide side → (k item : ℕ)
+            → slice_get (waiting_at self.old side) k ≡ Some item → k < told_on self.old side → holds_on self.old side item) }
+        ensures some { IfSome result (λ item. (side : Way) × HasSide side
+            × (slice_get (waiting_at self.old side) (told_on self.new side) ≡ Some item) × (holds_on self.old side item → ⊥)
+            × (told_on self.old side ≡ told_on self.new side + 1)
+            × ((other : Way) → other ≢ side → told_on self.new other ≡ told_on self.old other)) }
+        ensures unmoved { IfNone result ((side : Way) → told_on self.new side ≡ told_on self.old side) }
+        ensures waiting { (side : Way) → waiting_at self.new side ≡ waiting_at self.old side }
+        ensures room { self.new.room ≡ self.old.room }
+        ensures kept { KeepsCrew self.old self.new }
+    {
         self.untell_join()
     }
 }

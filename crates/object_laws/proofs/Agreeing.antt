@@ -22,7 +22,7 @@ use Rattle.queue_items.specs.Seen.{Takes}
 use Rattle.queue_waiters.specs.Seen.{getters_before, items_put, without_putter}
 use Rattle.queue_waiters.proofs.PuttersLemmas.{apart_test}
 use Rattle.gqueues.specs.Seen.{SeenQueue, SeenChannel, free_places as queue_places, put_places, shut_now, oldest, taken_from}
-use Rattle.gqueues.proofs.QueueLemmas.{length_put}
+use Rattle.gqueues.proofs.PutterLemmas.{length_put}
 use Rattle.groups_pools.specs.Seen.{free_places as crew_places, open_places}
 use Rattle.object_laws.specs.Objects.{queue_object, channel_object, offer_of_item, offers_of_items, taker_of, with_taker, takers_line}
 use Rattle.object_laws.specs.Laws.{EventsAgree, LocksAgree, QueuesAgree, ChannelsAgree, AreApart, CrewsAgree, TakersAgree, Ascends, Younger, names, IsAtRest, SemaphoresRest, LocksRest, PuttersRest, PlacesRest, OffersRest}

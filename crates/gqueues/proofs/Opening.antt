@@ -1,10 +1,9 @@
 -- That each call of a queue keeps it open to those that were told.
 use Rattle.std.proofs.Common.{◌≡◌, ◌≢◌, ℕ, zero, suc, ◌+◌, ◌-◌, ◌<◌, ◌≤◌, ◌==◌, eqb, Bool, true, false, not, cond, List, [], ◌∷◌, ◌++◌, length, take, drop, filter, Option, Some, None, refl, sym, ap, ◌∙◌, subst, arith, slice_get, Contains, inl, inr, length-append}
-use Rattle.std.proofs.lemmas.Bool.{cases_lt}
+use Rattle.std.proofs.lemmas.Bool.{cases_lt, eqb-true}
 use Rattle.gv_values.specs.declared.value.Value.{Value}
-use Rattle.scenario_tree.specs.declared.tree.QueueKind.{QueueKind}
 use Rattle.machine.specs.Objects.{next_place, without_next}
-use Rattle.linked_items.specs.Items.{items_of, without, without_entry, Differ}
+use Rattle.linked_items.specs.Items.{items_of, without_entry, Differ}
 use Rattle.linked_items.proofs.ItemLemmas.{length_items, contains_at}
 use Rattle.wait_lines.specs.Lines.{told_left}
 use Rattle.wait_lines.proofs.LineLemmas.{fewer_entries}
@@ -12,18 +11,17 @@ use Rattle.waiters.specs.Waits.{told_without}
 use Rattle.waiters.specs.OneSide.{IsAmongFirst}
 use Rattle.waiters.proofs.PrefixLemmas.{told_without_le, told_within, completed_told, taken_at}
 use Rattle.waiters.proofs.WaitLemmas.{take_items}
-use Rattle.queue_waiters.specs.Seen.{gets, getters, of_kind, IsServed, items_put, without_putter}
-use Rattle.queue_waiters.proofs.KindLemmas.{kind_length, kind_without, kind_rise, kind_told_within, take_left, take_short, length_take, getters_next, getters_left_getter, differ_in_front, entry_at, item_at}
-use Rattle.gqueues.specs.Seen.{SeenQueue, IsSound, free_places, put_places, take_places, with_value_in, with_next_out, putter_gone, taker_gone, shut_now}
-use Rattle.gqueues.proofs.QueueLemmas.{length_put, items_put_without}
-use Rattle.object_laws.specs.Open.{IsOpen, NewcomersKeepOpen, LeaversKeepOpen, CompletionsKeepOpen, WaitersKeepOpen, OnlyPeekersLose}
+use Rattle.queue_waiters.specs.Seen.{gets, peeks, getters, of_kind, IsServed, items_put, without_putter}
+use Rattle.queue_waiters.proofs.KindLemmas.{kind_length, kind_without, kind_rise, kind_told_within, take_left, take_short, length_take, getters_next, getters_left_getter, differ_in_front, entry_at, item_at, place_in_kind}
+use Rattle.gqueues.specs.Seen.{SeenQueue, IsOpen, free_places, put_places, take_places, with_value_in, with_next_out, putter_gone, taker_gone, shut_now}
+use Rattle.gqueues.proofs.PutterLemmas.{length_put, items_put_without}
 
 -- ---- counts
 
 few_getters : (t : ℕ) (es : List (ℕ × ℕ)) → getters (take t es) ≤ getters es
 few_getters t es = let a = kind_told_within gets t es in let b = length_items (filter gets es) in omega arith
 
-few_told : (t : ℕ) (es : List (ℕ × ℕ)) → getters (take t es) ≤ length es
+pub few_told : (t : ℕ) (es : List (ℕ × ℕ)) → getters (take t es) ≤ length es
 few_told t es = let a = few_getters t es in let b = kind_length gets es in omega arith
 
 entries_fewer : (x : ℕ) (es : List (ℕ × ℕ)) → length (without_entry x es) ≤ length es
@@ -88,31 +86,28 @@ takes_more false count waiting more items others a b fits = omega arith
 
 -- ---- newcomers
 
-shut_open : (q : SeenQueue) (immediate : Bool) → IsSound q → IsOpen (shut_now immediate q)
-shut_open q true sound = record { puts = sound.putters_within; takes = few_told q.told_takers q.takers }
-shut_open q false sound = record { puts = sound.putters_within; takes = few_told q.told_takers q.takers }
+pub shut_open : (q : SeenQueue) (immediate : Bool) → q.told_putters ≤ length q.putters → IsOpen (shut_now immediate q)
+shut_open q true within = record { puts = within; takes = few_told q.told_takers q.takers }
+shut_open q false within = record { puts = within; takes = few_told q.told_takers q.takers }
 
 more_items : (q : SeenQueue) (v : Value) → IsOpen q → getters (take q.told_takers q.takers) ≤ cond q.shut (length q.takers) (length (q.items ++ v ∷ []))
 more_items q v open' = let m = length-append q.items (v ∷ []) in takes_more q.shut (getters (take q.told_takers q.takers)) (length q.takers) (length q.takers) (length q.items) (length (q.items ++ v ∷ [])) (omega arith) (omega arith) open'.takes
 
-put_open : (q : SeenQueue) (v : Value) → IsSound q → IsOpen q → q.shut ≡ false → length q.putters < free_places (length q.putters + 1) q.size q.items → IsOpen (with_value_in v q)
-put_open q v sound open' unshut more = record {
-  puts = subst (λ b. q.told_putters ≤ cond b (length q.putters) (free_places (length q.putters) q.size (q.items ++ v ∷ []))) (sym unshut) (put_newcomer q.size q.items v q.told_putters (length q.putters) sound.putters_within more);
+pub put_open : (q : SeenQueue) (v : Value) → q.told_putters ≤ length q.putters → IsOpen q → q.shut ≡ false → length q.putters < free_places (length q.putters + 1) q.size q.items → IsOpen (with_value_in v q)
+put_open q v within open' unshut more = record {
+  puts = subst (λ b. q.told_putters ≤ cond b (length q.putters) (free_places (length q.putters) q.size (q.items ++ v ∷ []))) (sym unshut) (put_newcomer q.size q.items v q.told_putters (length q.putters) within more);
   takes = more_items q v open';
 }
 
 freed : (q : SeenQueue) → IsOpen q → q.told_putters ≤ cond q.shut (length q.putters) (free_places (length q.putters) q.size (without_next q.kind q.items))
 freed q open' = puts_freed q.shut q.size q.items (without_next q.kind q.items) q.told_putters (length q.putters) (none_in (next_place q.kind q.items) q.items) open'.puts
 
-get_open : (q : SeenQueue) → IsOpen q → getters q.takers < length q.items → IsOpen (with_next_out q)
+pub get_open : (q : SeenQueue) → IsOpen q → getters q.takers < length q.items → IsOpen (with_next_out q)
 get_open q open' more = record { puts = freed q open'; takes = by q.shut }
   where
     by : (b : Bool) → getters (take q.told_takers q.takers) ≤ cond b (length q.takers) (length (without_next q.kind q.items))
     by true = few_told q.told_takers q.takers
     by false = let a = few_getters q.told_takers q.takers in let out = one_out (next_place q.kind q.items) q.items in omega arith
-
-pub newcomers_keep_open : NewcomersKeepOpen
-newcomers_keep_open = (shut_open, put_open, get_open)
 
 -- ---- who waits no longer
 
@@ -123,27 +118,26 @@ putters_left item q =
     let n = length_put (without_putter item q.putters) in
     omega arith
 
-pub leavers_keep_open : LeaversKeepOpen
-leavers_keep_open q item open' = (
-  record {
-    puts = open'.puts;
-    takes =
-        takes_left q.shut (getters (take (told_left item q.told_takers q.takers) (without_entry item q.takers))) (getters (take q.told_takers q.takers)) (length q.takers) (length (without_entry item q.takers)) (length q.items) (getters_left item q.told_takers q.takers) (few_told (told_left item q.told_takers q.takers) (without_entry item q.takers)) open'.takes;
-  },
-  record {
-    puts = puts_left q.shut q.size q.items (told_without item q.told_putters (items_put q.putters)) q.told_putters (length q.putters) (length (without_putter item q.putters)) open'.puts (told_without_le item q.told_putters (items_put q.putters)) (putters_left item q);
-    takes = open'.takes;
-  },
-  record { puts = open'.puts; takes = open'.takes },
-)
+pub taker_left_open : (q : SeenQueue) (item : ℕ) → IsOpen q → IsOpen (taker_gone item q)
+taker_left_open q item open' = record {
+  puts = open'.puts;
+  takes =
+      takes_left q.shut (getters (take (told_left item q.told_takers q.takers) (without_entry item q.takers))) (getters (take q.told_takers q.takers)) (length q.takers) (length (without_entry item q.takers)) (length q.items) (getters_left item q.told_takers q.takers) (few_told (told_left item q.told_takers q.takers) (without_entry item q.takers)) open'.takes;
+}
+
+pub putter_left_open : (q : SeenQueue) (item : ℕ) → IsOpen q → IsOpen (putter_gone item q)
+putter_left_open q item open' = record {
+  puts = puts_left q.shut q.size q.items (told_without item q.told_putters (items_put q.putters)) q.told_putters (length q.putters) (length (without_putter item q.putters)) open'.puts (told_without_le item q.told_putters (items_put q.putters)) (putters_left item q);
+  takes = open'.takes;
+}
 
 -- ---- who completes
 
-put_completed : (q : SeenQueue) (item : ℕ) (v : Value) → IsSound q → IsOpen q → q.shut ≡ false → IsAmongFirst (put_places q) (items_put q.putters) item → IsOpen (with_value_in v (putter_gone item q))
-put_completed q item v sound open' unshut among =
+pub put_completed : (q : SeenQueue) (item : ℕ) (v : Value) → Differ (items_put q.putters) → q.told_putters ≤ length q.putters → IsOpen q → q.shut ≡ false → IsAmongFirst (put_places q) (items_put q.putters) item → IsOpen (with_value_in v (putter_gone item q))
+put_completed q item v differ few open' unshut among =
     let places : put_places q ≡ free_places (length q.putters) q.size q.items = ap (λ b. cond b (length q.putters) (free_places (length q.putters) q.size q.items)) unshut in
-    let within : q.told_putters ≤ length (items_put q.putters) = (let n = length_put q.putters in let le = sound.putters_within in omega arith) in
-    let left = completed_told item q.told_putters (put_places q) (items_put q.putters) sound.putters_differ within open'.puts among in
+    let within : q.told_putters ≤ length (items_put q.putters) = (let n = length_put q.putters in let le = few in omega arith) in
+    let left = completed_told item q.told_putters (put_places q) (items_put q.putters) differ within open'.puts among in
     let fits : told_without item q.told_putters (items_put q.putters) ≤ free_places (length q.putters) q.size q.items - 1 = subst (λ n. told_without item q.told_putters (items_put q.putters) ≤ n - 1) places left in
     record {
       puts =
@@ -169,64 +163,72 @@ getter_goes es t item items differ within fits there (k, n, at, few) =
           omega arith)
     ]
 
-get_completed : (q : SeenQueue) (item : ℕ) → IsSound q → IsOpen q → Contains (of_kind gets q.takers) item → IsServed (take_places q) q.takers item → IsOpen (with_next_out (taker_gone item q))
-get_completed q item sound open' there served = record { puts = freed q open'; takes = by q.shut open'.takes served }
+pub get_completed : (q : SeenQueue) (item : ℕ) → Differ (items_of q.takers) → q.told_takers ≤ length q.takers → IsOpen q → Contains (of_kind gets q.takers) item → IsServed (take_places q) q.takers item → IsOpen (with_next_out (taker_gone item q))
+get_completed q item differ within open' there served = record { puts = freed q open'; takes = by q.shut open'.takes served }
   where
     by : (b : Bool) → getters (take q.told_takers q.takers) ≤ cond b (length q.takers) (length q.items) → IsServed (cond b (length q.takers) (length q.items)) q.takers item → getters (take (told_left item q.told_takers q.takers) (without_entry item q.takers)) ≤ cond b (length (without_entry item q.takers)) (length (without_next q.kind q.items))
     by true fits s = few_told (told_left item q.told_takers q.takers) (without_entry item q.takers)
     by false fits s =
-        let goes = getter_goes q.takers q.told_takers item (length q.items) sound.takers_differ sound.takers_within fits there s in
+        let goes = getter_goes q.takers q.told_takers item (length q.items) differ within fits there s in
         let out = one_out (next_place q.kind q.items) q.items in
         omega arith
 
-pub completions_keep_open : CompletionsKeepOpen
-completions_keep_open = (put_completed, get_completed)
-
 -- ---- who begins to wait, and who is told
 
-put_parked : (q : SeenQueue) (item n : ℕ) (v : Value) → IsOpen q → IsOpen (record q { putters = q.putters ++ (item, v) ∷ []; room = n })
+pub put_parked : (q : SeenQueue) (item n : ℕ) (v : Value) → IsOpen q → IsOpen (record q { putters = q.putters ++ (item, v) ∷ []; room = n })
 put_parked q item n v open' = record {
   puts = (let m = length-append q.putters ((item, v) ∷ []) in puts_more q.shut q.size q.items q.told_putters (length q.putters) (length (q.putters ++ (item, v) ∷ [])) (omega arith) open'.puts);
   takes = open'.takes;
 }
 
-take_parked : (q : SeenQueue) (e : ℕ × ℕ) (n : ℕ) → IsSound q → IsOpen q → IsOpen (record q { takers = q.takers ++ e ∷ []; room = n })
-take_parked q e n sound open' = record {
+pub take_parked : (q : SeenQueue) (e : ℕ × ℕ) (n : ℕ) → q.told_takers ≤ length q.takers → IsOpen q → IsOpen (record q { takers = q.takers ++ e ∷ []; room = n })
+take_parked q e n within open' = record {
   puts = open'.puts;
   takes = (
       let m = length-append q.takers (e ∷ []) in
-      let same = ap getters (take_short q.takers q.told_takers e sound.takers_within) in
+      let same = ap getters (take_short q.takers q.told_takers e within) in
       subst (λ k. k ≤ cond q.shut (length (q.takers ++ e ∷ [])) (length q.items)) (sym same)
       (takes_more q.shut (getters (take q.told_takers q.takers)) (length q.takers) (length (q.takers ++ e ∷ [])) (length q.items) (length q.items) (omega arith) (omega arith) open'.takes));
 }
 
-putter_told : (q : SeenQueue) → IsOpen q → q.told_putters < put_places q → IsOpen (record q { told_putters = q.told_putters + 1 })
+pub putter_told : (q : SeenQueue) → IsOpen q → q.told_putters < put_places q → IsOpen (record q { told_putters = q.told_putters + 1 })
 putter_told q open' lt = record { puts = omega arith; takes = open'.takes }
 
 one_at_most : (b : Bool) → cond b 1 0 ≤ 1
 one_at_most true = omega arith
 one_at_most false = omega arith
 
-taker_told : (q : SeenQueue) (item : ℕ) → IsOpen q → slice_get (items_of q.takers) q.told_takers ≡ Some item → getters (take q.told_takers q.takers) < take_places q → IsOpen (record q { told_takers = q.told_takers + 1 })
+pub taker_told : (q : SeenQueue) (item : ℕ) → IsOpen q → slice_get (items_of q.takers) q.told_takers ≡ Some item → getters (take q.told_takers q.takers) < take_places q → IsOpen (record q { told_takers = q.told_takers + 1 })
 taker_told q item open' at lt =
     let e = entry_at q.takers q.told_takers item at in
     let next = getters_next q.takers q.told_takers (item, e.0) e.1 in
     let one = one_at_most (eqb e.0 0) in
     record { puts = open'.puts; takes = omega arith }
 
-taker_untold : (q : SeenQueue) → IsOpen q → IsOpen (record q { told_takers = q.told_takers - 1 })
+pub taker_untold : (q : SeenQueue) → IsOpen q → IsOpen (record q { told_takers = q.told_takers - 1 })
 taker_untold q open' = record { puts = open'.puts; takes = (let rise = kind_rise gets q.takers (q.told_takers - 1) q.told_takers (omega arith) in let fits = open'.takes in omega arith) }
 
-pub waiters_keep_open : WaitersKeepOpen
-waiters_keep_open = (put_parked, take_parked, putter_told, taker_told, taker_untold)
+-- ---- who loses what it was told
 
-pub only_peekers_lose : OnlyPeekersLose
-only_peekers_lose q open' = (
-  λ lt. (let fits = open'.puts in omega arith),
-  λ item kind some at unserved getter. (
-      let next = getters_next q.takers (q.told_takers - 1) (item, kind) at in
-      let all : getters (take (q.told_takers - 1 + 1) q.takers) ≡ getters (take q.told_takers q.takers) = (let same : q.told_takers - 1 + 1 ≡ q.told_takers = omega arith in ap (λ n. getters (take n q.takers)) same) in
-      let one : ◌≡◌ {A = ℕ} (cond (gets (item, kind)) 1 0) 1 = ap (λ (n : ℕ). cond (eqb n 0) 1 0) getter in
-      let fits = open'.takes in
-      omega arith),
-)
+pub no_putter_loses : (q : SeenQueue) → IsOpen q → put_places q < q.told_putters → ⊥
+no_putter_loses q open' lt = let fits = open'.puts in omega arith
+
+pub no_getter_loses : (q : SeenQueue) → IsOpen q → (item kind : ℕ) → 0 < q.told_takers → slice_get q.takers (q.told_takers - 1) ≡ Some (item, kind) → take_places q ≤ getters (take (q.told_takers - 1) q.takers) → kind ≢ 0
+no_getter_loses q open' item kind some at unserved getter =
+    let next = getters_next q.takers (q.told_takers - 1) (item, kind) at in
+    let all : getters (take (q.told_takers - 1 + 1) q.takers) ≡ getters (take q.told_takers q.takers) = (let same : q.told_takers - 1 + 1 ≡ q.told_takers = omega arith in ap (λ n. getters (take n q.takers)) same) in
+    let one : ◌≡◌ {A = ℕ} (cond (gets (item, kind)) 1 0) 1 = ap (λ (n : ℕ). cond (eqb n 0) 1 0) getter in
+    let fits = open'.takes in
+    omega arith
+
+-- so the last getter or peeker that was told, and may not go, is a peeker
+pub loser_peeks : (q : SeenQueue) → IsOpen q → (item : ℕ) → 0 < q.told_takers → slice_get (items_of q.takers) (q.told_takers - 1) ≡ Some item → take_places q ≤ getters (take (q.told_takers - 1) q.takers) → Contains (of_kind peeks q.takers) item
+loser_peeks q open' item some at unserved =
+    let e = entry_at q.takers (q.told_takers - 1) item at in
+    let front = length (filter peeks (take (q.told_takers - 1) q.takers)) in
+    let kind = by (eqb e.0 0) refl (no_getter_loses q open' item e.0 some e.1 unserved) in
+    contains_at (of_kind peeks q.takers) front item (item_at (filter peeks q.takers) front (item, e.0) (place_in_kind peeks q.takers (q.told_takers - 1) (item, e.0) e.1 kind))
+  where
+    by : {n : ℕ} (b : Bool) → eqb n 0 ≡ b → n ≢ 0 → not (eqb n 0) ≡ true
+    by {n = n} true t away = absurd (away (eqb-true n 0 t))
+    by false t away = ap not t
