@@ -59,19 +59,23 @@ tested_so t e b old new go_on entries m l n same = λ moves go s look.
 
 pub while_in : (t : List (List Statement)) (test : _) (b : ℕ) (old new : Stack) → old.todo ≡ Entry.Again test b ∷ drop 1 old.todo → Means test.value old.locals (Value.Bool true) →
     new.left ≡ old.left → new.locals ≡ old.locals → new.todo ≡ Entry.Rest b 0 ∷ old.todo → HasMade true t old new
-while_in t test b old new e m f l n =
-    (f, subst (λ es. GoesOn t (body_move (todo_of t es)) old new) (sym e)
-        (tested_so t test.value true old new
-            (λ on. if on then (Todo.Statements (block_at b t) ∷ Todo.Again test.value (block_at b t) ∷ todo_of t (drop 1 old.todo)) else todo_of t (drop 1 old.todo))
-            (Entry.Rest b 0 ∷ Entry.Again test b ∷ drop 1 old.todo) m l (n ∙ ap (λ es. Entry.Rest b 0 ∷ es) e) (λ left locals. refl)))
+while_in t test b old new e m f l n = (
+  f,
+  subst (λ es. GoesOn t (body_move (todo_of t es)) old new) (sym e)
+      (tested_so t test.value true old new
+      (λ on. if on then (Todo.Statements (block_at b t) ∷ Todo.Again test.value (block_at b t) ∷ todo_of t (drop 1 old.todo)) else todo_of t (drop 1 old.todo))
+      (Entry.Rest b 0 ∷ Entry.Again test b ∷ drop 1 old.todo) m l (n ∙ ap (λ es. Entry.Rest b 0 ∷ es) e) (λ left locals. refl)),
+)
 
 pub let_made : (t : List (List Statement)) (x : List ℕ) (e : Expression) (v : Value) (after : List Entry) (old new : Stack) → Means e old.locals v →
     new.left ≡ old.left → new.locals ≡ bind x v old.locals → IsPassed t after new.todo → HasActed true t (Action-F.Command (Command.Let x e)) after old new
-let_made t x e v after old new m f l p =
-    (f, λ moves go s look.
-        ap (λ (o : Outcome). after_move moves old.locals go (on_value o (λ w. Did.GoesOn Leaving.Normally (bind x w old.locals) (todo_of t after)) old.locals (todo_of t after)))
-            (sym (m s look))
-        ∙ ap go (p [] (bind x v old.locals) ∙ ap (λ ls. unwind (todo_of t new.todo) [] Leaving.Normally ls) (sym l)))
+let_made t x e v after old new m f l p = (
+  f,
+  λ moves go s look.
+      ap (λ (o : Outcome). after_move moves old.locals go (on_value o (λ w. Did.GoesOn Leaving.Normally (bind x w old.locals) (todo_of t after)) old.locals (todo_of t after)))
+      (sym (m s look))
+      ∙ ap go (p [] (bind x v old.locals) ∙ ap (λ ls. unwind (todo_of t new.todo) [] Leaving.Normally ls) (sym l)),
+)
 
 pub let_bound : (t : List (List Statement)) (x : List ℕ) (e : Expression) (bound : Bool) (after : List Entry) (old new : Stack) → bound ≡ true →
     IsBound bound x e old.locals new.locals → new.left ≡ old.left → IsPassed t after new.todo → HasActed true t (Action-F.Command (Command.Let x e)) after old new
@@ -80,29 +84,35 @@ let_bound t x e false after old new h b f p = cc
 
 pub if_so : (t : List (List Statement)) (e : Expression) (y : ℕ) (n : Option ℕ) (after : List Entry) (old new : Stack) → Means e old.locals (Value.Bool true) →
     new.left ≡ old.left → new.locals ≡ old.locals → new.todo ≡ Entry.Rest y 0 ∷ after → HasActed true t (Action-F.If e (block_at y t) (optional_block t n)) after old new
-if_so t e y n after old new m f l k =
-    (f, tested_so t e true old new (λ b. Todo.Statements (if b then block_at y t else unwrap_or (optional_block t n) []) ∷ todo_of t after)
-        (Entry.Rest y 0 ∷ after) m l k (λ left locals. refl))
+if_so t e y n after old new m f l k = (
+  f,
+  tested_so t e true old new (λ b. Todo.Statements (if b then block_at y t else unwrap_or (optional_block t n) []) ∷ todo_of t after)
+      (Entry.Rest y 0 ∷ after) m l k (λ left locals. refl),
+)
 
 pub if_else : (t : List (List Statement)) (e : Expression) (y n : ℕ) (after : List Entry) (old new : Stack) → Means e old.locals (Value.Bool false) →
     new.left ≡ old.left → new.locals ≡ old.locals → new.todo ≡ Entry.Rest n 0 ∷ after →
     HasActed true t (Action-F.If e (block_at y t) (optional_block t (Some n))) after old new
-if_else t e y n after old new m f l k =
-    (f, tested_so t e false old new (λ b. Todo.Statements (if b then block_at y t else unwrap_or (optional_block t (Some n)) []) ∷ todo_of t after)
-        (Entry.Rest n 0 ∷ after) m l k (λ left locals. refl))
+if_else t e y n after old new m f l k = (
+  f,
+  tested_so t e false old new (λ b. Todo.Statements (if b then block_at y t else unwrap_or (optional_block t (Some n)) []) ∷ todo_of t after)
+      (Entry.Rest n 0 ∷ after) m l k (λ left locals. refl),
+)
 
 -- a statement that was acted on is the move at the head
 pub statement_made : (made : Bool) (t : List (List Statement)) (b p : ℕ) (s : FlatStatement) (old new : Stack) → old.todo ≡ Entry.Rest b p ∷ drop 1 old.todo →
     IsAhead t b p (Some s) → HasActed made t (form_of t s.action) (Entry.Rest b (p + 1) ∷ drop 1 old.todo) old new → HasMade made t old new
 statement_made false t b p s old new e here h = h
-statement_made true t b p s old new e here h =
-    (h.0, λ moves go c look.
-        let a = around c look old.locals in
-        let next : suc p ≡ p + 1 = omega arith in
-        ap (λ es. after_move moves old.locals go (body_move (todo_of t es) a)) e
-        ∙ ap (λ (did : Did). after_move moves old.locals go did) (move_there t b p s (todo_of t (drop 1 old.todo)) a here)
-        ∙ ap (λ (q : ℕ). after_move moves old.locals go (action_move (form_of t s.action) a (Todo.Statements (rest t b q) ∷ todo_of t (drop 1 old.todo)))) next
-        ∙ h.1 moves go c look)
+statement_made true t b p s old new e here h = (
+  h.0,
+  λ moves go c look.
+      let a = around c look old.locals in
+      let next : suc p ≡ p + 1 = omega arith in
+      ap (λ es. after_move moves old.locals go (body_move (todo_of t es) a)) e
+      ∙ ap (λ (did : Did). after_move moves old.locals go did) (move_there t b p s (todo_of t (drop 1 old.todo)) a here)
+      ∙ ap (λ (q : ℕ). after_move moves old.locals go (action_move (form_of t s.action) a (Todo.Statements (rest t b q) ∷ todo_of t (drop 1 old.todo)))) next
+      ∙ h.1 moves go c look,
+)
 
 -- the body comes from the move to where it goes on
 pub primitive_made : (made : Bool) (t : List (List Statement)) (old mid new : Stack) (at : Left) (s : Scenario) (look : Look) → made ≡ true → HasMade made t old mid → old.left ≡ [] →

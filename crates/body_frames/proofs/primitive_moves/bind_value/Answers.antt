@@ -15,4 +15,4 @@ returns-then-branch c =
     let after = Entry.Rest c.args.block c.args.next ∷ drop 1 old.todo in
     subst (λ (x : Command). HasActed true t (Action-F.Command x) after old new) (sym c.in-Let.is)
     (let_bound t c.in-Let.name c.in-Let.e c.in_ok-bind_primitive-in-Let.field-0 after old new c.if-branch.true c.in_ok-bind_primitive-in-Let.ensures refl
-        c.in_ok-pass-in-Let.ensures)
+    c.in_ok-pass-in-Let.ensures)

@@ -18,7 +18,7 @@ returns-in-Binary t c = λ s look.
     let first = subst (λ (e : Expression). Agrees c.evaluate-first.result (meaning e a)) c.get-in-Binary.ensures (c.evaluate-first.ensures s look) in
     let second = subst (λ (e : Expression). Agrees c.evaluate-second.result (meaning e a)) c.get-in-Binary-2.ensures (c.evaluate-second.ensures s look) in
     rw c.in-Binary.is
-        (as_two c.of_two.result c.evaluate-first.result c.evaluate-second.result c.in-Binary.operator c.in-Binary.a c.in-Binary.b a first second c.of_two.ensures)
+    (as_two c.of_two.result c.evaluate-first.result c.evaluate-second.result c.in-Binary.operator c.in-Binary.a c.in-Binary.b a first second c.of_two.ensures)
 
 pub returns-in-And : goal.returns-in-And
 returns-in-And t c = λ s look.
