@@ -21,6 +21,7 @@ use Rattle.command_words.specs.declared.command.TextCommand.{TextCommand}
 use Rattle.gv_top.proofs.ReadTexts.{answer_by}
 use Rattle.gv_top.specs.Answers.{Answer, answer_to, answer_to_scenario, answer_to_text, answer_of_run, err_of, judged, most_read, status_of}
 use Rattle.gv_top.specs.Verdicts.{IsExplained, IsRefusedWithReason, number_of, line_of, verdict_on}
+use Rattle.wsgi_core.specs.Applications.{App}
 use Rattle.wsgi_connection.specs.declared.connection.ConnectionEnd.{ConnectionEnd}
 use Rattle.gv_top.specs.Top.{Decided, IsOfConnection}
 
@@ -128,9 +129,9 @@ decided_of_this command wanted given s v old new is h = let Q : TextCommand → 
 
 -- ---- the verdict of a command
 
-pub usage_decided : (c : Option Command) (given : List Given) (left : List ℕ) (old : Option (List ℕ)) → c ≡ None → Decided Verdict.Usage (answer_to c given left) old old
-usage_decided c given left old e =
-    let P : Option Command → Type 0 = λ d. Decided Verdict.Usage (answer_to d given left) old old in subst P (sym e) (sym (appended-nothing old), refl, refl)
+pub usage_decided : (app : App) (c : Option Command) (given : List Given) (left : List ℕ) (old : Option (List ℕ)) → c ≡ None → Decided Verdict.Usage (answer_to app c given left) old old
+usage_decided app c given left old e =
+    let P : Option Command → Type 0 = λ d. Decided Verdict.Usage (answer_to app d given left) old old in subst P (sym e) (sym (appended-nothing old), refl, refl)
 
 -- another command than this one is named
 pub no_command : (c : Option Command) (d : Command) (P : Type 0) → c ≡ None → c ≡ Some d → P
@@ -140,8 +141,8 @@ no_command c d P e f = absurd (none_is_some d (sym e ∙ f))
     none_is_some d h = cc
 
 -- where memory ran out at once, nothing was exchanged
-pub nothing_exchanged : (input out : Option (List ℕ)) → IsOfConnection (Verdict.Ran End.Memory) input input out out
-nothing_exchanged input out =
+pub nothing_exchanged : (app : App) (input out : Option (List ℕ)) → IsOfConnection (Verdict.Ran End.Memory) app input input out out
+nothing_exchanged app input out =
     record {
       end = ConnectionEnd.Memory;
       number = refl;

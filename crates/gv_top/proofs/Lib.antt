@@ -4,3 +4,4 @@ pub mod Deciding
 pub mod InWorlds
 pub mod Reasons
 pub mod Built
+pub mod Servings

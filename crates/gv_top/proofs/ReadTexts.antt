@@ -17,6 +17,7 @@ use Rattle.gv_top.specs.Top.{AnswersRun, IsAnswered, IsWholeRun}
 use Rattle.gv_top.specs.Answers.{Answer, answer_to, answer_to_scenario, answer_to_text, answer_of_run, checked, err_of, judged, most_read, refusal, status_of}
 use Rattle.gv_top.specs.declared.words.Command.{Command}
 use Rattle.command_words.specs.declared.command.TextCommand.{TextCommand}
+use Rattle.wsgi_core.specs.Applications.{App}
 
 -- ---- what comes of the bytes
 
@@ -87,8 +88,8 @@ pub answers_run : (n : ℕ) (r : Ran) (out0 out1 err0 err1 : Option (List ℕ)) 
 answers_run n r out0 out1 err0 err1 h = record { prefix = h.prefix; whole = λ h4 h5 h7. stopped_whole n r out0 out1 err0 err1 h h4 h5 h7 r.end refl }
 
 -- what is said of the answer to the command is said of this answer
-pub answered_so : (n : ℕ) (c : Option Command) (command : TextCommand) (given : List Given) (a : Answer) (left : List ℕ) (out0 out1 err0 err1 : Option (List ℕ)) →
-    c ≡ Some (Command.Text command) → answer_to_text command given (take most_read left) ≡ a → IsAnswered n (answer_to c given left) out0 out1 err0 err1 →
+pub answered_so : (n : ℕ) (app : App) (c : Option Command) (command : TextCommand) (given : List Given) (a : Answer) (left : List ℕ) (out0 out1 err0 err1 : Option (List ℕ)) →
+    c ≡ Some (Command.Text command) → answer_to_text command given (take most_read left) ≡ a → IsAnswered n (answer_to app c given left) out0 out1 err0 err1 →
     IsAnswered n a out0 out1 err0 err1
-answered_so n c command given a left out0 out1 err0 err1 e is h =
-    let P : Answer → Type 0 = λ a. IsAnswered n a out0 out1 err0 err1 in subst P (ap (λ d. answer_to d given left) e ∙ is) h
+answered_so n app c command given a left out0 out1 err0 err1 e is h =
+    let P : Answer → Type 0 = λ a. IsAnswered n a out0 out1 err0 err1 in subst P (ap (λ d. answer_to app d given left) e ∙ is) h

@@ -6,7 +6,9 @@ use Rattle.gv_io.proofs.StreamLaws.{appended-nothing, AppendsPrefix-all, Appends
 use Rattle.world.specs.Worlds.{Meaning}
 use Rattle.world_rules.specs.declared.question.LogEntry.{LogEntry}
 use Rattle.hub_engine.specs.declared.run.End.{End}
+use Rattle.wsgi_core.specs.Applications.{App}
 use Rattle.wsgi_connection.specs.declared.connection.ConnectionEnd.{ConnectionEnd}
+use Rattle.serve_command.specs.declared.serving.Served.{Served}
 use Rattle.gv_top.specs.declared.status.Verdict.{Verdict}
 use Rattle.gv_top.specs.declared.words.Command.{Command}
 use Rattle.command_words.specs.declared.command.TextCommand.{TextCommand}
@@ -14,7 +16,7 @@ use Rattle.trace_text.specs.LineTexts.{text_of}
 use Rattle.scenario_tree.specs.declared.tree.Scenario.{Scenario}
 use Rattle.gv_top.specs.Answers.{Answer, answer_to, judged, memory_line, most_read, read_fault_line, write_fault_line}
 use Rattle.gv_top.specs.Verdicts.{number_of, line_of}
-use Rattle.gv_top.specs.Top.{Fits, Decided, CameTo, Ended, FailsToWrite, IsOr, IsTold, IsTried, AnswersConnection, IsAnswered, IsOfConnection, HasFaultLine, HasLawfulLines, RanScenarioSo}
+use Rattle.gv_top.specs.Top.{Fits, Decided, CameTo, Ended, FailsToWrite, IsOr, IsStatusOf, IsTold, IsTried, AnswersConnection, IsAnswered, IsOfConnection, HasFaultLine, HasLawfulLines, RanScenarioSo}
 
 -- nothing was appended
 pub left_as_it_was : (old new : Option (List ℕ)) (text : List ℕ) → new ≡ old → AppendsPrefix old new text
@@ -44,6 +46,10 @@ decided (Verdict.Connection ConnectionEnd.TooLong) a old new d = inl d
 decided (Verdict.Connection ConnectionEnd.ReadFault) a old new d = inr (record { prefix = d; number = inl refl })
 decided (Verdict.Connection ConnectionEnd.WriteFault) a old new d = inr (record { prefix = d; number = inr (inl refl) })
 decided (Verdict.Connection ConnectionEnd.Memory) a old new d = inr (record { prefix = d; number = inr (inr refl) })
+decided (Verdict.Served Served.Finished) a old new d = inl d
+decided (Verdict.Served Served.Listener) a old new d = inl d
+decided (Verdict.Served Served.WriteFault) a old new d = inl d
+decided (Verdict.Served Served.Memory) a old new d = inl d
 
 prefix_of : (v : Verdict) (a : Answer) (old new : Option (List ℕ)) → Fits v a old new ⊎ Broke v a old new → AppendsPrefix old new a.out
 prefix_of v a old new (inl f) = AppendsPrefix-all old new a.out f.0
@@ -82,11 +88,11 @@ answered n v a out0 out1 err0 err1 e0 e1 d l =
 -- ---- the verdict that is told
 
 -- where there is no memory for the line of a verdict, the command came to want of memory
-out_of_memory : (v : Verdict) (c : Option Command) (after : Meaning) (stands : List LogEntry → Type 0) (in0 in1 out0 out1 : Option (List ℕ)) (r0 r1 w0 w1 : ℕ) → CameTo v c after stands in0 in1 out0 out1 r0 r1 w0 w1 →
-    number_of v ≢ 0 → number_of v ≢ 5 → CameTo (Verdict.Ran End.Memory) c after stands in0 in1 out0 out1 r0 r1 w0 w1
-out_of_memory v c after stands in0 in1 out0 out1 r0 r1 w0 w1 h n0 n5 =
+out_of_memory : (v : Verdict) (app : App) (c : Option Command) (after : Meaning) (stands : List LogEntry → Type 0) (in0 in1 out0 out1 : Option (List ℕ)) (r0 r1 w0 w1 : ℕ) → CameTo v app c after stands in0 in1 out0 out1 r0 r1 w0 w1 →
+    number_of v ≢ 0 → number_of v ≢ 5 → CameTo (Verdict.Ran End.Memory) app c after stands in0 in1 out0 out1 r0 r1 w0 w1
+out_of_memory v app c after stands in0 in1 out0 out1 r0 r1 w0 w1 h n0 n5 =
     record {
-      answer = λ left told. prefix_of v (answer_to c after.answers left) out0 out1 (decided v (answer_to c after.answers left) out0 out1 (h.answer left told));
+      answer = λ left told. prefix_of v (answer_to app c after.answers left) out0 out1 (decided v (answer_to app c after.answers left) out0 out1 (h.answer left told));
       usage = λ e. absurd (omega arith);
       read_fault = λ e. absurd (omega arith);
       write_fault = λ e. absurd (omega arith);
@@ -97,10 +103,10 @@ out_of_memory v c after stands in0 in1 out0 out1 r0 r1 w0 w1 h n0 n5 =
     }
 
 -- memory ran out before anything was done
-pub out_of_memory_at_once : (c : Option Command) (after : Meaning) (stands : List LogEntry → Type 0) (input out : Option (List ℕ)) (reads writes : ℕ) → CameTo (Verdict.Ran End.Memory) c after stands input input out out reads reads writes writes
-out_of_memory_at_once c after stands input out reads writes =
+pub out_of_memory_at_once : (app : App) (c : Option Command) (after : Meaning) (stands : List LogEntry → Type 0) (input out : Option (List ℕ)) (reads writes : ℕ) → CameTo (Verdict.Ran End.Memory) app c after stands input input out out reads reads writes writes
+out_of_memory_at_once app c after stands input out reads writes =
     record {
-      answer = λ left told. AppendsPrefix-nothing out (answer_to c after.answers left).out;
+      answer = λ left told. AppendsPrefix-nothing out (answer_to app c after.answers left).out;
       usage = λ e. absurd (omega arith);
       read_fault = λ e. absurd (omega arith);
       write_fault = λ e. absurd (omega arith);
@@ -111,22 +117,22 @@ out_of_memory_at_once c after stands input out reads writes =
     }
 
 -- what a command came to, another that is the same came to
-pub came_as : {v : Verdict} {c d : Option Command} {after : Meaning} {stands : List LogEntry → Type 0} {in0 in1 out0 out1 : Option (List ℕ)} {r0 r1 w0 w1 : ℕ} → c ≡ d →
-    CameTo v c after stands in0 in1 out0 out1 r0 r1 w0 w1 → CameTo v d after stands in0 in1 out0 out1 r0 r1 w0 w1
-came_as {v} {after = after} {stands = stands} {in0 = in0} {in1 = in1} {out0 = out0} {out1 = out1} {r0 = r0} {r1 = r1} {w0 = w0} {w1 = w1} e h =
-    let P : Option Command → Type 0 = λ x. CameTo v x after stands in0 in1 out0 out1 r0 r1 w0 w1 in subst P e h
+pub came_as : {v : Verdict} {app : App} {c d : Option Command} {after : Meaning} {stands : List LogEntry → Type 0} {in0 in1 out0 out1 : Option (List ℕ)} {r0 r1 w0 w1 : ℕ} → c ≡ d →
+    CameTo v app c after stands in0 in1 out0 out1 r0 r1 w0 w1 → CameTo v app d after stands in0 in1 out0 out1 r0 r1 w0 w1
+came_as {v} {app = app} {after = after} {stands = stands} {in0 = in0} {in1 = in1} {out0 = out0} {out1 = out1} {r0 = r0} {r1 = r1} {w0 = w0} {w1 = w1} e h =
+    let P : Option Command → Type 0 = λ x. CameTo v app x after stands in0 in1 out0 out1 r0 r1 w0 w1 in subst P e h
 
-came_to : (v w : Verdict) (c : Option Command) (after : Meaning) (stands : List LogEntry → Type 0) (in0 in1 out0 out1 : Option (List ℕ)) (r0 r1 w0 w1 : ℕ) → CameTo v c after stands in0 in1 out0 out1 r0 r1 w0 w1 →
-    IsOr v w → CameTo w c after stands in0 in1 out0 out1 r0 r1 w0 w1
-came_to v w c after stands in0 in1 out0 out1 r0 r1 w0 w1 h (inl e) =
-    let P : Verdict → Type 0 = λ x. CameTo x c after stands in0 in1 out0 out1 r0 r1 w0 w1 in subst P (sym e) h
-came_to v w c after stands in0 in1 out0 out1 r0 r1 w0 w1 h (inr p) =
-    let P : Verdict → Type 0 = λ x. CameTo x c after stands in0 in1 out0 out1 r0 r1 w0 w1 in subst P (sym p.0) (out_of_memory v c after stands in0 in1 out0 out1 r0 r1 w0 w1 h p.1 p.2)
+came_to : (v w : Verdict) (app : App) (c : Option Command) (after : Meaning) (stands : List LogEntry → Type 0) (in0 in1 out0 out1 : Option (List ℕ)) (r0 r1 w0 w1 : ℕ) → CameTo v app c after stands in0 in1 out0 out1 r0 r1 w0 w1 →
+    IsOr v w → CameTo w app c after stands in0 in1 out0 out1 r0 r1 w0 w1
+came_to v w app c after stands in0 in1 out0 out1 r0 r1 w0 w1 h (inl e) =
+    let P : Verdict → Type 0 = λ x. CameTo x app c after stands in0 in1 out0 out1 r0 r1 w0 w1 in subst P (sym e) h
+came_to v w app c after stands in0 in1 out0 out1 r0 r1 w0 w1 h (inr p) =
+    let P : Verdict → Type 0 = λ x. CameTo x app c after stands in0 in1 out0 out1 r0 r1 w0 w1 in subst P (sym p.0) (out_of_memory v app c after stands in0 in1 out0 out1 r0 r1 w0 w1 h p.1 p.2)
 
-pub ended : (n : ℕ) (v w : Verdict) (c : Option Command) (after : Meaning) (stands : List LogEntry → Type 0) (in0 in1 out0 out1 err0 err1 : Option (List ℕ)) (r0 r1 w0 w1 e0 e1 : ℕ) →
-    CameTo v c after stands in0 in1 out0 out1 r0 r1 w0 w1 → IsOr v w → IsTold n w err0 err1 e0 e1 → Ended n c after stands in0 in1 out0 out1 err0 err1 r0 r1 w0 w1 e0 e1
-ended n v w c after stands in0 in1 out0 out1 err0 err1 r0 r1 w0 w1 e0 e1 h o l =
-    record { verdict = w; came_to = came_to v w c after stands in0 in1 out0 out1 r0 r1 w0 w1 h o; told = l }
+pub ended : (n : ℕ) (v w : Verdict) (app : App) (c : Option Command) (after : Meaning) (stands : List LogEntry → Type 0) (in0 in1 out0 out1 err0 err1 : Option (List ℕ)) (r0 r1 w0 w1 e0 e1 : ℕ) →
+    CameTo v app c after stands in0 in1 out0 out1 r0 r1 w0 w1 → IsOr v w → IsTold n w err0 err1 e0 e1 → Ended n app c after stands in0 in1 out0 out1 err0 err1 r0 r1 w0 w1 e0 e1
+ended n v w app c after stands in0 in1 out0 out1 err0 err1 r0 r1 w0 w1 e0 e1 h o l =
+    record { verdict = w; came_to = came_to v w app c after stands in0 in1 out0 out1 r0 r1 w0 w1 h o; told = l }
 
 -- ---- the lines of faults
 
@@ -149,6 +155,10 @@ line_of_read (Verdict.Connection ConnectionEnd.TooLong) e = absurd (omega arith)
 line_of_read (Verdict.Connection ConnectionEnd.ReadFault) e = refl
 line_of_read (Verdict.Connection ConnectionEnd.WriteFault) e = absurd (omega arith)
 line_of_read (Verdict.Connection ConnectionEnd.Memory) e = absurd (omega arith)
+line_of_read (Verdict.Served Served.Finished) e = absurd (omega arith)
+line_of_read (Verdict.Served Served.Listener) e = absurd (omega arith)
+line_of_read (Verdict.Served Served.WriteFault) e = absurd (omega arith)
+line_of_read (Verdict.Served Served.Memory) e = absurd (omega arith)
 
 line_of_memory : (v : Verdict) → number_of v ≡ 7 → line_of v ≡ memory_line
 line_of_memory Verdict.Usage e = absurd (omega arith)
@@ -169,6 +179,10 @@ line_of_memory (Verdict.Connection ConnectionEnd.TooLong) e = absurd (omega arit
 line_of_memory (Verdict.Connection ConnectionEnd.ReadFault) e = absurd (omega arith)
 line_of_memory (Verdict.Connection ConnectionEnd.WriteFault) e = absurd (omega arith)
 line_of_memory (Verdict.Connection ConnectionEnd.Memory) e = refl
+line_of_memory (Verdict.Served Served.Finished) e = absurd (omega arith)
+line_of_memory (Verdict.Served Served.Listener) e = absurd (omega arith)
+line_of_memory (Verdict.Served Served.WriteFault) e = absurd (omega arith)
+line_of_memory (Verdict.Served Served.Memory) e = refl
 
 pub line_of_write : (v : Verdict) → number_of v ≡ 5 → line_of v ≡ write_fault_line
 line_of_write Verdict.Usage e = absurd (omega arith)
@@ -189,6 +203,10 @@ line_of_write (Verdict.Connection ConnectionEnd.TooLong) e = absurd (omega arith
 line_of_write (Verdict.Connection ConnectionEnd.ReadFault) e = absurd (omega arith)
 line_of_write (Verdict.Connection ConnectionEnd.WriteFault) e = refl
 line_of_write (Verdict.Connection ConnectionEnd.Memory) e = absurd (omega arith)
+line_of_write (Verdict.Served Served.Finished) e = absurd (omega arith)
+line_of_write (Verdict.Served Served.Listener) e = absurd (omega arith)
+line_of_write (Verdict.Served Served.WriteFault) e = refl
+line_of_write (Verdict.Served Served.Memory) e = absurd (omega arith)
 
 no_line : (v : Verdict) → number_of v ≡ 0 → line_of v ≡ []
 no_line Verdict.Usage e = absurd (omega arith)
@@ -209,27 +227,31 @@ no_line (Verdict.Connection ConnectionEnd.TooLong) e = absurd (omega arith)
 no_line (Verdict.Connection ConnectionEnd.ReadFault) e = absurd (omega arith)
 no_line (Verdict.Connection ConnectionEnd.WriteFault) e = absurd (omega arith)
 no_line (Verdict.Connection ConnectionEnd.Memory) e = absurd (omega arith)
+no_line (Verdict.Served Served.Finished) e = refl
+no_line (Verdict.Served Served.Listener) e = absurd (omega arith)
+no_line (Verdict.Served Served.WriteFault) e = absurd (omega arith)
+no_line (Verdict.Served Served.Memory) e = absurd (omega arith)
 
 -- status 0 is told by no line
 pub told_nothing : (v : Verdict) (err : Option (List ℕ)) (faults : ℕ) → number_of v ≡ 0 → (w : Verdict) × IsOr v w × IsTold 0 w err err faults faults
 told_nothing v err faults h = (v, inl refl, inl (sym h, sym (appended-nothing err) ∙ ap (appended err) (sym (no_line v h))))
 
-read_line : (n : ℕ) (v : Verdict) (old new : Option (List ℕ)) (e0 e1 : ℕ) → IsTold n v old new e0 e1 → n ≡ 4 → new ≡ appended old read_fault_line
+pub read_line : (n : ℕ) (v : Verdict) (old new : Option (List ℕ)) (e0 e1 : ℕ) → IsTold n v old new e0 e1 → n ≡ 4 → new ≡ appended old read_fault_line
 read_line n v old new e0 e1 (inl p) e = p.1 ∙ ap (appended old) (line_of_read v (sym p.0 ∙ e))
 read_line n v old new e0 e1 (inr p) e = let q = p.0 in absurd (omega arith)
 
-no_memory_line : (n : ℕ) (v : Verdict) (old new : Option (List ℕ)) (e0 e1 : ℕ) → IsTold n v old new e0 e1 → n ≡ 7 → new ≡ appended old memory_line
+pub no_memory_line : (n : ℕ) (v : Verdict) (old new : Option (List ℕ)) (e0 e1 : ℕ) → IsTold n v old new e0 e1 → n ≡ 7 → new ≡ appended old memory_line
 no_memory_line n v old new e0 e1 (inl p) e = p.1 ∙ ap (appended old) (line_of_memory v (sym p.0 ∙ e))
 no_memory_line n v old new e0 e1 (inr p) e = let q = p.0 in absurd (omega arith)
 
 -- ---- what an end says
 
-pub is_answered : {n : ℕ} {c : Option Command} {after : Meaning} {stands : List LogEntry → Type 0} {in0 in1 out0 out1 err0 err1 : Option (List ℕ)} {r0 r1 w0 w1 e0 e1 : ℕ} →
-    Ended n c after stands in0 in1 out0 out1 err0 err1 r0 r1 w0 w1 e0 e1 → (left : List ℕ) → in0 ≡ Some left → IsAnswered n (answer_to c after.answers left) out0 out1 err0 err1
+pub is_answered : {n : ℕ} {app : App} {c : Option Command} {after : Meaning} {stands : List LogEntry → Type 0} {in0 in1 out0 out1 err0 err1 : Option (List ℕ)} {r0 r1 w0 w1 e0 e1 : ℕ} →
+    Ended n app c after stands in0 in1 out0 out1 err0 err1 r0 r1 w0 w1 e0 e1 → (left : List ℕ) → in0 ≡ Some left → IsAnswered n (answer_to app c after.answers left) out0 out1 err0 err1
 is_answered h left told = answered _ h.verdict _ _ _ _ _ _ _ (h.came_to.answer left told) h.told
 
-pub fault_line : {n : ℕ} {c : Option Command} {after : Meaning} {stands : List LogEntry → Type 0} {in0 in1 out0 out1 err0 err1 : Option (List ℕ)} {r0 r1 w0 w1 e0 e1 : ℕ} →
-    Ended n c after stands in0 in1 out0 out1 err0 err1 r0 r1 w0 w1 e0 e1 → HasFaultLine n err0 err1
+pub fault_line : {n : ℕ} {app : App} {c : Option Command} {after : Meaning} {stands : List LogEntry → Type 0} {in0 in1 out0 out1 err0 err1 : Option (List ℕ)} {r0 r1 w0 w1 e0 e1 : ℕ} →
+    Ended n app c after stands in0 in1 out0 out1 err0 err1 r0 r1 w0 w1 e0 e1 → HasFaultLine n err0 err1
 fault_line h = record { read = read_line _ h.verdict _ _ _ _ h.told; memory = no_memory_line _ h.verdict _ _ _ _ h.told }
 
 -- a status that is not 5 is the verdict's
@@ -237,13 +259,12 @@ verdict_of : (n m : ℕ) (v : Verdict) (old new : Option (List ℕ)) (e0 e1 : �
 verdict_of n m v old new e0 e1 (inl p) e h5 = sym p.0 ∙ e
 verdict_of n m v old new e0 e1 (inr p) e h5 = absurd (h5 (sym e ∙ p.0))
 
-pub status_is : {n : ℕ} {c : Option Command} {after : Meaning} {stands : List LogEntry → Type 0} {in0 in1 out0 out1 err0 err1 : Option (List ℕ)} {r0 r1 w0 w1 e0 e1 : ℕ} (m : ℕ) →
-    (h : Ended n c after stands in0 in1 out0 out1 err0 err1 r0 r1 w0 w1 e0 e1) → n ≡ m → m ≢ 5 → number_of h.verdict ≡ m
+pub status_is : {n : ℕ} {app : App} {c : Option Command} {after : Meaning} {stands : List LogEntry → Type 0} {in0 in1 out0 out1 err0 err1 : Option (List ℕ)} {r0 r1 w0 w1 e0 e1 : ℕ} (m : ℕ) →
+    (h : Ended n app c after stands in0 in1 out0 out1 err0 err1 r0 r1 w0 w1 e0 e1) → n ≡ m → m ≢ 5 → number_of h.verdict ≡ m
 status_is m h e h5 = verdict_of _ m h.verdict _ _ _ _ h.told e h5
 
 -- the status is the verdict's, or 5 where it has a line, or 7
-status_or : (n : ℕ) (v w : Verdict) (old new : Option (List ℕ)) (e0 e1 : ℕ) → IsOr v w → IsTold n w old new e0 e1 →
-    (n ≡ number_of v) ⊎ ((number_of v ≢ 0) × ((n ≡ 5) ⊎ (n ≡ 7)))
+pub status_or : (n : ℕ) (v w : Verdict) (old new : Option (List ℕ)) (e0 e1 : ℕ) → IsOr v w → IsTold n w old new e0 e1 → IsStatusOf n v
 status_or n v w old new e0 e1 (inl e) (inl p) = inl (p.0 ∙ ap number_of e)
 status_or n v w old new e0 e1 (inl e) (inr p) = inr ((λ z. p.1 (ap number_of e ∙ z)), inl p.0)
 status_or n v w old new e0 e1 (inr q) (inl p) = inr (q.1, inr (p.0 ∙ ap number_of q.0))
@@ -265,24 +286,24 @@ tried n v old new e0 e1 e (inl p) = inl (p.1 ∙ ap (appended old) (line_of_writ
 tried n v old new e0 e1 e (inr p) =
     let P : List ℕ → Type 0 = λ l. AppendsPrefix old new l in inr (p.2, subst P (line_of_write v e) p.3)
 
-fails : (n : ℕ) (v : Verdict) (old new : Option (List ℕ)) (w0 w1 e0 e1 : ℕ) → (number_of v ≡ 5 → HasRisen w0 w1) → IsTold n v old new e0 e1 → n ≡ 5 →
+pub fails : (n : ℕ) (v : Verdict) (old new : Option (List ℕ)) (w0 w1 e0 e1 : ℕ) → (number_of v ≡ 5 → HasRisen w0 w1) → IsTold n v old new e0 e1 → n ≡ 5 →
     FailsToWrite old new w0 w1 e0 e1
 fails n v old new w0 w1 e0 e1 f (inl p) e = let is = sym p.0 ∙ e in inl (f is, tried n v old new e0 e1 is (inl p))
 fails n v old new w0 w1 e0 e1 f (inr p) e = inr (v, p.1, p.2, p.3)
 
-pub fails_to_write : {n : ℕ} {c : Option Command} {after : Meaning} {stands : List LogEntry → Type 0} {in0 in1 out0 out1 err0 err1 : Option (List ℕ)} {r0 r1 w0 w1 e0 e1 : ℕ} →
-    Ended n c after stands in0 in1 out0 out1 err0 err1 r0 r1 w0 w1 e0 e1 → n ≡ 5 → FailsToWrite err0 err1 w0 w1 e0 e1
+pub fails_to_write : {n : ℕ} {app : App} {c : Option Command} {after : Meaning} {stands : List LogEntry → Type 0} {in0 in1 out0 out1 err0 err1 : Option (List ℕ)} {r0 r1 w0 w1 e0 e1 : ℕ} →
+    Ended n app c after stands in0 in1 out0 out1 err0 err1 r0 r1 w0 w1 e0 e1 → n ≡ 5 → FailsToWrite err0 err1 w0 w1 e0 e1
 fails_to_write h e = fails _ h.verdict _ _ _ _ _ _ h.came_to.write_fault h.told e
 
 -- `fmt` leaves out as it was
-pub prints_nothing : {n : ℕ} {c : Option Command} {after : Meaning} {stands : List LogEntry → Type 0} {in0 in1 out0 out1 err0 err1 : Option (List ℕ)} {r0 r1 w0 w1 e0 e1 : ℕ} →
-    Ended n c after stands in0 in1 out0 out1 err0 err1 r0 r1 w0 w1 e0 e1 → c ≡ Some (Command.Text TextCommand.Format) → n ≢ 0 → n ≢ 5 → out1 ≡ out0
+pub prints_nothing : {n : ℕ} {app : App} {c : Option Command} {after : Meaning} {stands : List LogEntry → Type 0} {in0 in1 out0 out1 err0 err1 : Option (List ℕ)} {r0 r1 w0 w1 e0 e1 : ℕ} →
+    Ended n app c after stands in0 in1 out0 out1 err0 err1 r0 r1 w0 w1 e0 e1 → c ≡ Some (Command.Text TextCommand.Format) → n ≢ 0 → n ≢ 5 → out1 ≡ out0
 prints_nothing {n} h is h0 h5 =
     let e = status_is n h refl h5 in h.came_to.unprinted is (λ z. h0 (sym e ∙ z)) (λ z. h5 (sym e ∙ z))
 
 -- the text was read whole
-pub reads_whole : {n : ℕ} {c : Option Command} {after : Meaning} {stands : List LogEntry → Type 0} {in0 in1 out0 out1 err0 err1 : Option (List ℕ)} {r0 r1 w0 w1 e0 e1 : ℕ} (text : TextCommand) →
-    Ended n c after stands in0 in1 out0 out1 err0 err1 r0 r1 w0 w1 e0 e1 → c ≡ Some (Command.Text text) → n ≢ 4 → n ≢ 5 → n ≢ 7 →
+pub reads_whole : {n : ℕ} {app : App} {c : Option Command} {after : Meaning} {stands : List LogEntry → Type 0} {in0 in1 out0 out1 err0 err1 : Option (List ℕ)} {r0 r1 w0 w1 e0 e1 : ℕ} (text : TextCommand) →
+    Ended n app c after stands in0 in1 out0 out1 err0 err1 r0 r1 w0 w1 e0 e1 → c ≡ Some (Command.Text text) → n ≢ 4 → n ≢ 5 → n ≢ 7 →
     (left : List ℕ) → in0 ≡ Some left → in1 ≡ Some (drop most_read left)
 reads_whole {n} text h is h4 h5 h7 left told =
     let e = status_is n h refl h5 in h.came_to.read_whole text is (λ z. h4 (sym e ∙ z)) (λ z. h7 (sym e ∙ z)) left told
@@ -294,15 +315,15 @@ is_silent n v w old new e0 e1 (inr q) (inl p) z = let s = sym z ∙ p.0 ∙ ap n
 is_silent n v w old new e0 e1 o (inr p) z = let s = sym z ∙ p.0 in absurd (omega arith)
 
 -- the connection that was answered
-pub answers_connection : (n : ℕ) (v w : Verdict) (err0 err1 in0 in1 out0 out1 : Option (List ℕ)) (e0 e1 : ℕ) → IsOr v w → IsTold n w err0 err1 e0 e1 →
-    IsOfConnection v in0 in1 out0 out1 → AnswersConnection n in0 in1 out0 out1
-answers_connection n v w err0 err1 in0 in1 out0 out1 e0 e1 o l c =
+pub answers_connection : (n : ℕ) (v w : Verdict) (app : App) (err0 err1 in0 in1 out0 out1 : Option (List ℕ)) (e0 e1 : ℕ) → IsOr v w → IsTold n w err0 err1 e0 e1 →
+    IsOfConnection v app in0 in1 out0 out1 → AnswersConnection n app in0 in1 out0 out1
+answers_connection n v w app err0 err1 in0 in1 out0 out1 e0 e1 o l c =
     let P : ℕ → Type 0 = λ m. (n ≡ m) ⊎ ((m ≢ 0) × ((n ≡ 5) ⊎ (n ≡ 7))) in
     record { end = c.end; exchanged = c.exchanged; status = subst P c.number (status_or n v w err0 err1 e0 e1 o l) }
 
 -- the native workers ran as the words want
-pub ran_so : {n : ℕ} {c : Option Command} {after : Meaning} {stands : List LogEntry → Type 0} {in0 in1 out0 out1 err0 err1 : Option (List ℕ)} {r0 r1 w0 w1 e0 e1 : ℕ} (text : TextCommand) →
-    Ended n c after stands in0 in1 out0 out1 err0 err1 r0 r1 w0 w1 e0 e1 → c ≡ Some (Command.Text text) → n ≢ 4 → n ≢ 5 → n ≢ 7 →
+pub ran_so : {n : ℕ} {app : App} {c : Option Command} {after : Meaning} {stands : List LogEntry → Type 0} {in0 in1 out0 out1 err0 err1 : Option (List ℕ)} {r0 r1 w0 w1 e0 e1 : ℕ} (text : TextCommand) →
+    Ended n app c after stands in0 in1 out0 out1 err0 err1 r0 r1 w0 w1 e0 e1 → c ≡ Some (Command.Text text) → n ≢ 4 → n ≢ 5 → n ≢ 7 →
     (left : List ℕ) → in0 ≡ Some left → (s : Scenario) → judged (take most_read left) ≡ Ok s → RanScenarioSo n text s after stands
 ran_so {n} {after = after} {stands = stands} text h is h4 h5 h7 left told s j =
     let e = status_is n h refl h5 in

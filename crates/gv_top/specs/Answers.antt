@@ -10,8 +10,8 @@ use Rattle.scenario_grammar.specs.Printed.{printed}
 use Rattle.scenario_grammar.specs.Reasons.{reason_text}
 use Rattle.scenario_rules.specs.Rules.{place_of}
 use Rattle.wsgi_core.specs.Answers.{Sent}
+use Rattle.wsgi_core.specs.Applications.{App}
 use Rattle.wsgi_core.specs.Sessions.{answers}
-use Rattle.wsgi_core.specs.Shipped.{shipped}
 use Rattle.wsgi_connection.specs.Connections.{whole_session}
 use Rattle.gv_top.specs.Running.{run_of}
 use Rattle.gv_top.specs.declared.words.Command.{Command}
@@ -95,12 +95,12 @@ most_read = 1048577
 abbrev pub no_port : ℕ
 no_port = 0
 
--- what a command answers to an input of which these bytes are left, where nothing fails and native workers gave these
--- answers
-abbrev pub answer_to : Option Command → List Given → List ℕ → Answer
-answer_to None given left = usage
-answer_to (Some (Text command)) given left = answer_to_text command given (take most_read left)
-answer_to (Some Wsgi) given left = answer_of_session (whole_session answers shipped no_port left)
+-- what a command answers with this application to an input of which these bytes are left, where nothing fails and native
+-- workers gave these answers
+abbrev pub answer_to : App → Option Command → List Given → List ℕ → Answer
+answer_to app None given left = usage
+answer_to app (Some (Text command)) given left = answer_to_text command given (take most_read left)
+answer_to app (Some Wsgi) given left = answer_of_session (whole_session answers app no_port left)
 
 abbrev pub read_fault_line : List ℕ
 read_fault_line = line (codes "read fault")
@@ -110,3 +110,6 @@ write_fault_line = line (codes "write fault")
 
 abbrev pub memory_line : List ℕ
 memory_line = line (codes "out of memory")
+
+abbrev pub network_fault_line : List ℕ
+network_fault_line = line (codes "network fault")

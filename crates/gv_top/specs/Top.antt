@@ -18,8 +18,8 @@ use Rattle.machine.specs.Status.{err_line, status}
 use Rattle.machine.specs.TraceLaws.{meets_laws}
 use Rattle.machine_blocks.specs.Blocks.{block_lines, is_block}
 use Rattle.hub_engine.specs.declared.run.End.{End}
+use Rattle.wsgi_core.specs.Applications.{App}
 use Rattle.wsgi_core.specs.Sessions.{answers}
-use Rattle.wsgi_core.specs.Shipped.{shipped}
 use Rattle.wsgi_connection.specs.Connections.{Exchanged}
 use Rattle.wsgi_connection.specs.declared.connection.ConnectionEnd.{ConnectionEnd}
 use Rattle.gv_top.specs.declared.status.Verdict.{Verdict}
@@ -45,11 +45,11 @@ Decided (Verdict.Connection ConnectionEnd.WriteFault) a old new = AppendsPrefix 
 Decided (Verdict.Connection ConnectionEnd.Memory) a old new = AppendsPrefix old new a.out
 Decided v a old new = Fits v a old new
 
--- the verdict is the end of the connection that the input and out are
-pub record IsOfConnection (v : Verdict) (in0 in1 out0 out1 : Option (List ℕ)) : Type 0 where
+-- the verdict is the end of the connection that the input and out are, with this application
+pub record IsOfConnection (v : Verdict) (app : App) (in0 in1 out0 out1 : Option (List ℕ)) : Type 0 where
   pub end : ConnectionEnd
   pub number : number_of v ≡ number_of (Verdict.Connection end)
-  pub exchanged : Exchanged end answers shipped no_port in0 in1 out0 out1
+  pub exchanged : Exchanged end answers app no_port in0 in1 out0 out1
 
 -- where the command was a run of the scenario with native workers, and nothing failed, it ran so
 abbrev pub RanScenarioSo : ℕ → TextCommand → Scenario → Meaning → (List LogEntry → Type 0) → Type 0
@@ -64,9 +64,9 @@ RanSo n command bytes after stands =
 
 -- What a command came to, by the bytes of its input and of out, by the counts of their faults, and by what native
 -- workers are after it.
-pub record CameTo (v : Verdict) (command : Option Command) (after : Meaning) (stands : List LogEntry → Type 0) (in0 in1 out0 out1 : Option (List ℕ)) (reads0 reads1 writes0 writes1 : ℕ) : Type 0 where
+pub record CameTo (v : Verdict) (app : App) (command : Option Command) (after : Meaning) (stands : List LogEntry → Type 0) (in0 in1 out0 out1 : Option (List ℕ)) (reads0 reads1 writes0 writes1 : ℕ) : Type 0 where
   -- where the input is told, the answer is decided
-  pub answer : (left : List ℕ) → in0 ≡ Some left → Decided v (answer_to command after.answers left) out0 out1
+  pub answer : (left : List ℕ) → in0 ≡ Some left → Decided v (answer_to app command after.answers left) out0 out1
   -- the words are no command
   pub usage : number_of v ≡ 2 → command ≡ None
   -- a read or a write failed
@@ -97,12 +97,17 @@ IsTold n v old new faults0 faults1 =
     ⊎ ((n ≡ 5) × (number_of v ≢ 0) × HasRisen faults0 faults1 × AppendsPrefix old new (line_of v))
 
 -- the verdict of a command, and what of its line came to err
-pub record Ended (n : ℕ) (command : Option Command) (after : Meaning) (stands : List LogEntry → Type 0) (in0 in1 out0 out1 err0 err1 : Option (List ℕ)) (reads0 reads1 writes0 writes1 faults0 faults1 : ℕ) : Type 0 where
+pub record Ended (n : ℕ) (app : App) (command : Option Command) (after : Meaning) (stands : List LogEntry → Type 0) (in0 in1 out0 out1 err0 err1 : Option (List ℕ)) (reads0 reads1 writes0 writes1 faults0 faults1 : ℕ) : Type 0 where
   pub verdict : Verdict
-  pub came_to : CameTo verdict command after stands in0 in1 out0 out1 reads0 reads1 writes0 writes1
+  pub came_to : CameTo verdict app command after stands in0 in1 out0 out1 reads0 reads1 writes0 writes1
   pub told : IsTold n verdict err0 err1 faults0 faults1
 
 -- ---- by the status
+
+-- the status is the verdict's; or the verdict has a line on err, and the status is 5 if that failed, and 7 if memory for
+-- it ran out
+abbrev pub IsStatusOf : ℕ → Verdict → Type 0
+IsStatusOf n v = (n ≡ number_of v) ⊎ ((number_of v ≢ 0) × ((n ≡ 5) ⊎ (n ≡ 7)))
 
 -- what the call leaves where the input is told: out has a prefix of the answer's text, and with a status
 -- that tells no fault and no want of memory the status, out and err are the answer's
@@ -139,12 +144,11 @@ pub record BlocksAtQuiet (r : Ran) : Type 0 where
   pub told : filter is_block r.lines ≡ flat_map block_lines r.blocked
   pub quiet : list_all is_quiet r.blocked ≡ true
 
--- The input and out are a connection that was answered by the shipped application. The status is that of its end; where
--- that has a line on err, it is 5 if the line failed, and 7 if memory for it ran out.
-pub record AnswersConnection (n : ℕ) (in0 in1 out0 out1 : Option (List ℕ)) : Type 0 where
+-- the input and out are a connection that was answered by the application, and the status is that of its end
+pub record AnswersConnection (n : ℕ) (app : App) (in0 in1 out0 out1 : Option (List ℕ)) : Type 0 where
   pub end : ConnectionEnd
-  pub exchanged : Exchanged end answers shipped no_port in0 in1 out0 out1
-  pub status : (n ≡ number_of (Verdict.Connection end)) ⊎ ((number_of (Verdict.Connection end) ≢ 0) × ((n ≡ 5) ⊎ (n ≡ 7)))
+  pub exchanged : Exchanged end answers app no_port in0 in1 out0 out1
+  pub status : IsStatusOf n (Verdict.Connection end)
 
 -- the whole line is there, or err failed and a prefix of it is there
 abbrev pub IsTried : List ℕ → Option (List ℕ) → Option (List ℕ) → ℕ → ℕ → Type 0

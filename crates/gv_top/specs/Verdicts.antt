@@ -7,8 +7,9 @@ use Rattle.scenario_lang.specs.declared.text.ParseRefusal.TheVariants as parse
 use Rattle.machine.specs.Status.{status, err_line}
 use Rattle.hub_engine.specs.declared.run.End.{End}
 use Rattle.wsgi_connection.specs.declared.connection.ConnectionEnd.{ConnectionEnd}
+use Rattle.serve_command.specs.declared.serving.Served.{Served}
 use Rattle.gv_top.specs.declared.status.Verdict.{Verdict}
-use Rattle.gv_top.specs.Answers.{line, usage, refusal, read_fault_line, write_fault_line, memory_line}
+use Rattle.gv_top.specs.Answers.{line, usage, refusal, read_fault_line, write_fault_line, memory_line, network_fault_line}
 
 abbrev pub number_of : Verdict → ℕ
 number_of Verdict.Usage = 2
@@ -29,6 +30,10 @@ number_of (Verdict.Connection ConnectionEnd.TooLong) = 8
 number_of (Verdict.Connection ConnectionEnd.ReadFault) = 4
 number_of (Verdict.Connection ConnectionEnd.WriteFault) = 5
 number_of (Verdict.Connection ConnectionEnd.Memory) = 7
+number_of (Verdict.Served Served.Finished) = 0
+number_of (Verdict.Served Served.Listener) = 10
+number_of (Verdict.Served Served.WriteFault) = 5
+number_of (Verdict.Served Served.Memory) = 7
 
 abbrev pub line_of : Verdict → List ℕ
 line_of Verdict.Usage = usage.err
@@ -49,6 +54,10 @@ line_of (Verdict.Connection ConnectionEnd.TooLong) = line (codes "limit of the c
 line_of (Verdict.Connection ConnectionEnd.ReadFault) = read_fault_line
 line_of (Verdict.Connection ConnectionEnd.WriteFault) = write_fault_line
 line_of (Verdict.Connection ConnectionEnd.Memory) = memory_line
+line_of (Verdict.Served Served.Finished) = []
+line_of (Verdict.Served Served.Listener) = network_fault_line
+line_of (Verdict.Served Served.WriteFault) = write_fault_line
+line_of (Verdict.Served Served.Memory) = memory_line
 
 -- the place has one of the reasons, which are numbered from 1 to 22
 abbrev pub HasReason : Place → Type 0

@@ -1,4 +1,4 @@
--- Which commands are built, of those that words name.
+-- The commands of the program, of those that words name.
 use Rattle.std.specs.Prelude.{Bool, true, false, List, Option, Some, None, option_and_then}
 use Rattle.command_words.specs.Words.{Word}
 use Rattle.command_words.specs.Words as words
@@ -6,21 +6,31 @@ use Rattle.command_words.specs.declared.command.Command.{Command as NamedCommand
 use Rattle.command_words.specs.declared.command.Command.TheVariants as named
 use Rattle.command_words.specs.declared.command.RunWorld.{RunWorld}
 use Rattle.command_words.specs.declared.command.RunWorld.TheVariants.{Script, Native}
+use Rattle.command_words.specs.declared.command.ServeOptions.{ServeOptions}
 use Rattle.command_words.specs.declared.command.TextCommand.{TextCommand}
 use Rattle.command_words.specs.declared.command.TextCommand.TheVariants.{Run, Format}
 use Rattle.gv_top.specs.declared.words.Command.{Command}
 use Rattle.gv_top.specs.declared.words.Command.TheVariants.{Text, Wsgi}
 
--- the command, if it is built
+-- the command, if it is built and needs no net
 abbrev pub built : NamedCommand → Option Command
 built (named.Text command) = Some (Text command)
 built named.Wsgi = Some Wsgi
 built (named.Serve options) = None
 built (named.Storm n) = None
 
--- the command that the words name, if they name one that is built
+-- the command that the words name, if they name one that is built and needs no net
 abbrev pub command_of : List Word → Option Command
 command_of w = option_and_then built (words.command_of w)
+
+-- the options of the command, if it serves connections of a net
+abbrev pub serving : NamedCommand → Option ServeOptions
+serving (named.Serve options) = Some options
+serving command = None
+
+-- the options of the server that the words ask for, if they name `serve`
+abbrev pub serve_of : List Word → Option ServeOptions
+serve_of w = option_and_then serving (words.command_of w)
 
 -- ---- native workers
 

@@ -4,9 +4,11 @@
 mod laws;
 mod reading;
 mod running;
+mod serving;
 mod status;
 mod top;
 mod words;
 
 pub use laws::{budgets_are_in_range, texts_are_answered};
-pub use top::gvr;
+pub use serving::gvr;
+pub use top::offline;

@@ -5,6 +5,7 @@ ghost use Rattle.gv_top.specs.Verdicts.{HasReason, IsExplained, number_of, line_
 use gv_values::{FaultKind, decimal_text, fault_text};
 use hub_engine::End;
 use scenario_grammar::{Place, reason_text};
+use serve_command::Served;
 use std::alloc::{AllocError, Global};
 use wsgi_connection::ConnectionEnd;
 
@@ -23,6 +24,8 @@ pub enum Verdict {
     Ran(End),
     /// The connection came to this end.
     Connection(ConnectionEnd),
+    /// The server came to this end.
+    Served(Served),
 }
 
 impl Verdict {
@@ -49,6 +52,10 @@ impl Verdict {
             Verdict::Connection(ConnectionEnd::ReadFault) => 4,
             Verdict::Connection(ConnectionEnd::WriteFault) => 5,
             Verdict::Connection(ConnectionEnd::Memory) => 7,
+            Verdict::Served(Served::Finished) => 0,
+            Verdict::Served(Served::Listener) => 10,
+            Verdict::Served(Served::WriteFault) => 5,
+            Verdict::Served(Served::Memory) => 7,
         }
     }
 
@@ -79,6 +86,10 @@ impl Verdict {
             Verdict::Connection(ConnectionEnd::ReadFault) => line_with(alloc, b"read fault"),
             Verdict::Connection(ConnectionEnd::WriteFault) => line_with(alloc, b"write fault"),
             Verdict::Connection(ConnectionEnd::Memory) => line_with(alloc, b"out of memory"),
+            Verdict::Served(Served::Finished) => Ok(Vec::new(alloc)),
+            Verdict::Served(Served::Listener) => line_with(alloc, b"network fault"),
+            Verdict::Served(Served::WriteFault) => line_with(alloc, b"write fault"),
+            Verdict::Served(Served::Memory) => line_with(alloc, b"out of memory"),
         }
     }
 }

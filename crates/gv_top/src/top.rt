@@ -1,5 +1,5 @@
 //! The call that the program makes.
-ghost use Rattle.std.specs.Prelude.{◌≡◌, ◌≢◌, ◌≤◌, ◌⊎◌, ℕ, false, List, Some, None, map, take, drop, string_bytes, OnOk, OnErr};
+ghost use Rattle.std.specs.Prelude.{◌≡◌, ◌≢◌, ◌≤◌, ◌⊎◌, ℕ, false, List, Some, None, map, take, drop, string_bytes, OnOk, OnErr, IfNone, IfSome, IsSome};
 ghost use Rattle.gv_values.specs.Counts.{HasRisen};
 ghost use Rattle.gv_io.specs.Streams.{appended, AppendsPrefix};
 ghost use Rattle.command_words.specs.declared.command.RunOptions.{RunOptions as AnyOptions};
@@ -15,13 +15,13 @@ ghost use Rattle.gv_top.specs.declared.status.Verdict.{Verdict as AnyVerdict};
 ghost use Rattle.gv_top.specs.Refusals.{IsRefusedAt};
 ghost use Rattle.gv_top.specs.Top.{AnswersConnection, AnswersRun, BlocksAtQuiet, CameTo, Decided, Ended, FailsToWrite, HasFaultLine, HasLawfulLines, IsAnswered, IsOfConnection, IsOr, IsTold, RanScenarioSo, RanSo};
 ghost use Rattle.gv_top.specs.Verdicts.{IsExplained, line_of, number_of, verdict_on};
-ghost use Rattle.gv_top.specs.Words.{command_of, is_native, is_native_text};
+ghost use Rattle.gv_top.specs.Words.{command_of, is_native, is_native_text, serve_of};
 
 use crate::reading::read_scenario;
 use crate::running::run_scenario;
 use crate::status::Verdict;
-use crate::words::{Command, command_of};
-use command_words::{RunWorld, TextCommand, commands_are_in_range};
+use crate::words::{Command, server_options, without_a_net};
+use command_words::{RunWorld, TextCommand, command_of, commands_are_in_range};
 use gv_io::{Failed, ReadRefusal, Sink, Source, read_limited};
 use hub_engine::End;
 use machine_blocks::blocks_are_told;
@@ -31,7 +31,7 @@ use scenario_lang::{ParseRefusal, Scenario, print};
 use std::alloc::Global;
 use world::World;
 use wsgi_connection::answer_connection;
-use wsgi_core::{Session, ShippedApp};
+use wsgi_core::{Application, Session};
 
 /// The most bytes of a text.
 const MOST_BYTES: usize = 1048576;
@@ -39,48 +39,63 @@ const MOST_BYTES: usize = 1048576;
 /// The port of a session whose bytes come from the input.
 const NO_PORT: u16 = 0;
 
-/// All of the call but its line on err.
-fn decides<S: Source, K: Sink, W: World>(
+/// All of the call but its line on err. None: the words name `serve`, and nothing was done.
+fn decides<S: Source, K: Sink, W: World, A: Application>(
     alloc: Global,
     words: &[String],
     input: &mut S,
     out: &mut K,
     native: &mut W,
-) -> Verdict
+    app: &A,
+) -> Option<Verdict>
     requires rests { (W.meaning native.old).runs ≡ false }
-    ensures came_to { CameTo result (command_of (map string_bytes words.now)) (W.meaning native.new) (W.stands_for native.new) (S.remaining input.old) (S.remaining input.new)
-        (K.written out.old) (K.written out.new) (S.faults input.old) (S.faults input.new) (K.faults out.old) (K.faults out.new) }
-    ensures no_command { command_of (map string_bytes words.now) ≡ None → (number_of result ≡ 2) ⊎ (number_of result ≡ 7) }
-    ensures lawful { (options : AnyOptions) → command_of (map string_bytes words.now) ≡ Some (Command.Text (TextCommand.Run options)) →
-        HasLawfulLines (number_of result) (K.written out.old) (K.written out.new) }
+    ensures came_to { IfSome result (λ verdict. CameTo verdict (A.answer_of app.now) (command_of (map string_bytes words.now)) (W.meaning native.new) (W.stands_for native.new) (S.remaining input.old) (S.remaining input.new)
+        (K.written out.old) (K.written out.new) (S.faults input.old) (S.faults input.new) (K.faults out.old) (K.faults out.new)) }
+    ensures no_command { IfSome result (λ verdict. command_of (map string_bytes words.now) ≡ None → (number_of verdict ≡ 2) ⊎ (number_of verdict ≡ 7)) }
+    ensures lawful { IfSome result (λ verdict. (options : AnyOptions) → command_of (map string_bytes words.now) ≡ Some (Command.Text (TextCommand.Run options)) →
+        HasLawfulLines (number_of verdict) (K.written out.old) (K.written out.new)) }
     ensures untouched { is_native (command_of (map string_bytes words.now)) ≡ false → native.new ≡ native.old }
     ensures rests { (W.meaning native.new).runs ≡ false }
-    ensures connection { command_of (map string_bytes words.now) ≡ Some Command.Wsgi →
-        IsOfConnection result (S.remaining input.old) (S.remaining input.new) (K.written out.old) (K.written out.new) }
-    ensures explained { IsExplained result }
+    ensures connection { IfSome result (λ verdict. command_of (map string_bytes words.now) ≡ Some Command.Wsgi →
+        IsOfConnection verdict (A.answer_of app.now) (S.remaining input.old) (S.remaining input.new) (K.written out.old) (K.written out.new)) }
+    ensures explained { IfSome result IsExplained }
+    ensures serve { IfNone result (IsSome (serve_of (map string_bytes words.now))) }
+    ensures not_serve { IfSome result (λ verdict. IsSome (serve_of (map string_bytes words.now)) → number_of verdict ≡ 7) }
+    ensures input_alone { IsSome (serve_of (map string_bytes words.now)) → input.new ≡ input.old }
+    ensures out_alone { IsSome (serve_of (map string_bytes words.now)) → out.new ≡ out.old }
+    ensures native_alone { IsSome (serve_of (map string_bytes words.now)) → native.new ≡ native.old }
+    ensures no_net { IfSome result (λ verdict. number_of verdict ≢ 10) }
     ensures input_never_falls { S.faults input.old ≤ S.faults input.new }
     ensures out_never_falls { K.faults out.old ≤ K.faults out.new }
 {
     commands_are_in_range();
     let Ok(command) = command_of(alloc, words) else {
-        return Verdict::Ran(End::Memory);
+        return Some(Verdict::Ran(End::Memory));
     };
-    answers_command(alloc, command, input, out, native)
+    match server_options(command) {
+        Some(_) => None,
+        None => {
+            let command = without_a_net(command);
+            Some(answers_command(alloc, command, input, out, native, app))
+        }
+    }
 }
 
 /// Does what the command wants, or answers that the words named none.
-fn answers_command<S: Source, K: Sink, W: World>(
+fn answers_command<S: Source, K: Sink, W: World, A: Application>(
     alloc: Global,
     command: Option<Command>,
     input: &mut S,
     out: &mut K,
     native: &mut W,
+    app: &A,
 ) -> Verdict
     requires range { (text : TextCommand) → command ≡ Some (Command.Text text) → IsInRange (NamedCommand.Text text) }
     requires rests { (W.meaning native.old).runs ≡ false }
     ensures answer { (left : List ℕ) → S.remaining input.old ≡ Some left →
-        Decided result (answer_to command (W.meaning native.new).answers left) (K.written out.old) (K.written out.new) }
+        Decided result (answer_to (A.answer_of app.now) command (W.meaning native.new).answers left) (K.written out.old) (K.written out.new) }
     ensures usage { number_of result ≡ 2 → command ≡ None }
+    ensures no_net { number_of result ≢ 10 }
     ensures no_command { command ≡ None → (number_of result ≡ 2) ⊎ (number_of result ≡ 7) }
     ensures native { (text : TextCommand) → command ≡ Some (Command.Text text) → number_of result ≢ 4 → (left : List ℕ) → S.remaining input.old ≡ Some left →
         RanSo (number_of result) text (take most_read left) (W.meaning native.new) (W.stands_for native.new) }
@@ -88,7 +103,7 @@ fn answers_command<S: Source, K: Sink, W: World>(
     ensures untouched { is_native command ≡ false → native.new ≡ native.old }
     ensures rests { (W.meaning native.new).runs ≡ false }
     ensures connection { command ≡ Some Command.Wsgi →
-        IsOfConnection result (S.remaining input.old) (S.remaining input.new) (K.written out.old) (K.written out.new) }
+        IsOfConnection result (A.answer_of app.now) (S.remaining input.old) (S.remaining input.new) (K.written out.old) (K.written out.new) }
     ensures read_fault { number_of result ≡ 4 → HasRisen (S.faults input.old) (S.faults input.new) }
     ensures write_fault { number_of result ≡ 5 → HasRisen (K.faults out.old) (K.faults out.new) }
     ensures unread { (text : TextCommand) → command ≡ Some (Command.Text text) → number_of result ≡ 4 → K.written out.new ≡ K.written out.old }
@@ -103,13 +118,7 @@ fn answers_command<S: Source, K: Sink, W: World>(
         None => Verdict::Usage,
         Some(Command::Text(command)) => answers_input(alloc, command, input, out, native),
         Some(Command::Wsgi) => {
-            let end = answer_connection::<Session, S, K, ShippedApp>(
-                alloc,
-                NO_PORT,
-                input,
-                out,
-                &ShippedApp,
-            );
+            let end = answer_connection::<Session, S, K, A>(alloc, NO_PORT, input, out, app);
             Verdict::Connection(end)
         }
     }
@@ -133,6 +142,7 @@ fn answers_input<S: Source, K: Sink, W: World>(
     ensures answer { (left : List ℕ) → S.remaining input.old ≡ Some left →
         Decided result (answer_to_text command (W.meaning native.new).answers (take most_read left)) (K.written out.old) (K.written out.new) }
     ensures command { number_of result ≢ 2 }
+    ensures no_net { number_of result ≢ 10 }
     ensures unread { number_of result ≡ 4 → K.written out.new ≡ K.written out.old }
     ensures unprinted { command ≡ TextCommand.Format → number_of result ≢ 0 → number_of result ≢ 5 → K.written out.new ≡ K.written out.old }
     ensures explained { IsExplained result }
@@ -165,6 +175,7 @@ fn answers_text<K: Sink, W: World>(
     ensures rests { (W.meaning native.new).runs ≡ false }
     ensures answer { Decided result (answer_to_text command (W.meaning native.new).answers bytes.now) (K.written out.old) (K.written out.new) }
     ensures command { number_of result ≢ 2 }
+    ensures no_net { number_of result ≢ 10 }
     ensures read { number_of result ≢ 4 }
     ensures unprinted { command ≡ TextCommand.Format → number_of result ≢ 0 → number_of result ≢ 5 → K.written out.new ≡ K.written out.old }
     ensures explained { IsExplained result }
@@ -203,6 +214,7 @@ fn answers_scenario<K: Sink, W: World>(
     ensures rests { (W.meaning native.new).runs ≡ false }
     ensures answer { Decided result (answer_to_scenario command (W.meaning native.new).answers checked) (K.written out.old) (K.written out.new) }
     ensures command { number_of result ≢ 2 }
+    ensures no_net { number_of result ≢ 10 }
     ensures read { number_of result ≢ 4 }
     ensures unprinted { command ≡ TextCommand.Format → number_of result ≢ 0 → number_of result ≢ 5 → K.written out.new ≡ K.written out.old }
     ensures explained { IsExplained result }
@@ -222,6 +234,7 @@ fn answers_scenario<K: Sink, W: World>(
 fn formats<K: Sink>(alloc: Global, scenario: &Scenario, out: &mut K) -> Verdict
     ensures answer { Decided result (formatted scenario.now) (K.written out.old) (K.written out.new) }
     ensures command { number_of result ≢ 2 }
+    ensures no_net { number_of result ≢ 10 }
     ensures read { number_of result ≢ 4 }
     ensures unprinted { number_of result ≢ 0 → number_of result ≢ 5 → K.written out.new ≡ K.written out.old }
     ensures explained { IsExplained result }
@@ -293,7 +306,7 @@ fn tells_without_memory<E: Sink>(verdict: Verdict, err: &mut E) -> u8
 
 /// Tells the verdict: its line goes to err, where it has one, and its status is answered. Status 0 has no line, and err
 /// is left alone then.
-fn tells<E: Sink>(alloc: Global, verdict: Verdict, err: &mut E) -> u8
+pub fn tells<E: Sink>(alloc: Global, verdict: Verdict, err: &mut E) -> u8
     requires { IsExplained verdict }
     ensures told { (w : AnyVerdict) × IsOr verdict w × IsTold result w (E.written err.old) (E.written err.new) (E.faults err.old) (E.faults err.new) }
     ensures silent { number_of verdict ≡ 0 → (result ≡ 0) × (E.faults err.new ≡ E.faults err.old) }
@@ -308,12 +321,12 @@ fn tells<E: Sink>(alloc: Global, verdict: Verdict, err: &mut E) -> u8
     }
 }
 
-/// Does what the words name over these streams, and answers its status.
+/// Does what the words name over these streams, and answers its status; None where they name `serve`, which wants a net.
 ///
 /// `run` reads a scenario, runs it within its budgets of turns and moves, and writes its trace to out. The run is that
 /// of a script with the tick of the words; or, with native workers, one in the world `native`, which is begun before it
 /// and finished after it and is left alone otherwise. `fmt` reads a scenario, and writes its printed form to out.
-/// `wsgi` reads the bytes of one connection, and writes the answers of the shipped application to out.
+/// `wsgi` reads the bytes of one connection, and writes the answers of the application to out (PEP 3333; RFC 9112).
 ///
 /// The statuses, of which 4, 5 and 7 (want of memory) come before every other:
 ///
@@ -328,77 +341,89 @@ fn tells<E: Sink>(alloc: Global, verdict: Verdict, err: &mut E) -> u8
 ///
 /// Which of 0, 1, 3, 6 and 8 it is, is said by `answer`, by one equation: the status is that of the answer to the
 /// words and the input. So each comes exactly where the answer has it, and its line on err with it.
-pub fn gvr<S: Source, K: Sink, E: Sink, W: World>(
+pub fn offline<S: Source, K: Sink, E: Sink, W: World, A: Application>(
     alloc: Global,
     words: &[String],
     input: &mut S,
     out: &mut K,
     err: &mut E,
     native: &mut W,
-) -> u8
+    app: &A,
+) -> Option<u8>
     requires rests { (W.meaning native.old).runs ≡ false }
     // A text of a well-formed scenario is run: out has the text of the one run's lines, and the status and the line on
     // err are those of its end. Without native workers it is the run under the rule of a script, and with them the run
     // under the answers that they gave.
-    ensures trace { (options : AnyOptions) (s : AnyScenario) (left : List ℕ) → command_of (map string_bytes words.now) ≡ Some (Command.Text (TextCommand.Run options)) →
+    ensures trace { IfSome result (λ status. (options : AnyOptions) (s : AnyScenario) (left : List ℕ) → command_of (map string_bytes words.now) ≡ Some (Command.Text (TextCommand.Run options)) →
         S.remaining input.old ≡ Some left → Spells s (take most_read left) → IsWellFormed s →
-        AnswersRun result (run_of options (W.meaning native.new).answers s) (K.written out.old) (K.written out.new) (E.written err.old) (E.written err.new) }
+        AnswersRun status (run_of options (W.meaning native.new).answers s) (K.written out.old) (K.written out.new) (E.written err.old) (E.written err.new)) }
     // What out has after `run` are lines that meet the laws of a trace, whatever the input.
-    ensures lawful { (options : AnyOptions) → command_of (map string_bytes words.now) ≡ Some (Command.Text (TextCommand.Run options)) →
-        HasLawfulLines result (K.written out.old) (K.written out.new) }
+    ensures lawful { IfSome result (λ status. (options : AnyOptions) → command_of (map string_bytes words.now) ≡ Some (Command.Text (TextCommand.Run options)) →
+        HasLawfulLines status (K.written out.old) (K.written out.new)) }
     // And at each of its block lines nothing that waits could go on.
     ensures quiet { (options : AnyOptions) (s : AnyScenario) (left : List ℕ) → command_of (map string_bytes words.now) ≡ Some (Command.Text (TextCommand.Run options)) →
         S.remaining input.old ≡ Some left → Spells s (take most_read left) → IsWellFormed s →
         BlocksAtQuiet (run_of options (W.meaning native.new).answers s) }
     // Native workers were begun in the number that the words ask for, posted the jobs of the job lines and asked for
     // the answers of the turn lines, and run no longer.
-    ensures native { (options : AnyOptions) (workers : ℕ) (s : AnyScenario) (left : List ℕ) → command_of (map string_bytes words.now) ≡ Some (Command.Text (TextCommand.Run options)) →
-        options.world ≡ RunWorld.Native workers → S.remaining input.old ≡ Some left → Spells s (take most_read left) → IsWellFormed s → result ≢ 4 → result ≢ 5 → result ≢ 7 →
-        RanNatively workers (run_of options (W.meaning native.new).answers s) (W.meaning native.new) (W.stands_for native.new) }
+    ensures native { IfSome result (λ status. (options : AnyOptions) (workers : ℕ) (s : AnyScenario) (left : List ℕ) → command_of (map string_bytes words.now) ≡ Some (Command.Text (TextCommand.Run options)) →
+        options.world ≡ RunWorld.Native workers → S.remaining input.old ≡ Some left → Spells s (take most_read left) → IsWellFormed s → status ≢ 4 → status ≢ 5 → status ≢ 7 →
+        RanNatively workers (run_of options (W.meaning native.new).answers s) (W.meaning native.new) (W.stands_for native.new)) }
     ensures untouched { is_native (command_of (map string_bytes words.now)) ≡ false → native.new ≡ native.old }
     ensures native_rests { (W.meaning native.new).runs ≡ false }
     // A text of a well-formed scenario is printed: out has its printed form.
-    ensures formatted { (s : AnyScenario) (left : List ℕ) → command_of (map string_bytes words.now) ≡ Some (Command.Text TextCommand.Format) →
+    ensures formatted { IfSome result (λ status. (s : AnyScenario) (left : List ℕ) → command_of (map string_bytes words.now) ≡ Some (Command.Text TextCommand.Format) →
         S.remaining input.old ≡ Some left → Spells s (take most_read left) → IsWellFormed s →
-        IsAnswered result (formatted s) (K.written out.old) (K.written out.new) (E.written err.old) (E.written err.new) }
+        IsAnswered status (formatted s) (K.written out.old) (K.written out.new) (E.written err.old) (E.written err.new)) }
     // Any other input is refused, by both, at its place.
-    ensures refused { (command : TextCommand) (left : List ℕ) → command_of (map string_bytes words.now) ≡ Some (Command.Text command) →
+    ensures refused { IfSome result (λ status. (command : TextCommand) (left : List ℕ) → command_of (map string_bytes words.now) ≡ Some (Command.Text command) →
         S.remaining input.old ≡ Some left → ((s : AnyScenario) → Spells s (take most_read left) → IsWellFormed s → ⊥) →
         (p : Place) × IsRefusedAt (take most_read left) p ×
-        IsAnswered result (refusal p) (K.written out.old) (K.written out.new) (E.written err.old) (E.written err.new) }
-    // A connection is answered: out has what the session of the shipped application sends for the bytes that were read.
-    ensures connection { command_of (map string_bytes words.now) ≡ Some Command.Wsgi →
-        AnswersConnection result (S.remaining input.old) (S.remaining input.new) (K.written out.old) (K.written out.new) }
+        IsAnswered status (refusal p) (K.written out.old) (K.written out.new) (E.written err.old) (E.written err.new)) }
+    // A connection is answered: out has what the session of the application sends for the bytes that were read.
+    ensures connection { IfSome result (λ status. command_of (map string_bytes words.now) ≡ Some Command.Wsgi →
+        AnswersConnection status (A.answer_of app.now) (S.remaining input.old) (S.remaining input.new) (K.written out.old) (K.written out.new)) }
     // The status, what out has and what err has are the answer's, but with the statuses 4, 5 and 7.
-    ensures answer { (left : List ℕ) → S.remaining input.old ≡ Some left →
-        IsAnswered result (answer_to (command_of (map string_bytes words.now)) (W.meaning native.new).answers left)
-        (K.written out.old) (K.written out.new) (E.written err.old) (E.written err.new) }
+    ensures answer { IfSome result (λ status. (left : List ℕ) → S.remaining input.old ≡ Some left →
+        IsAnswered status (answer_to (A.answer_of app.now) (command_of (map string_bytes words.now)) (W.meaning native.new).answers left)
+        (K.written out.old) (K.written out.new) (E.written err.old) (E.written err.new)) }
     // It ended with a verdict, which the streams bear out, and whose line was tried on err.
-    ensures ended { Ended result (command_of (map string_bytes words.now)) (W.meaning native.new) (W.stands_for native.new) (S.remaining input.old) (S.remaining input.new)
+    ensures ended { IfSome result (λ status. Ended status (A.answer_of app.now) (command_of (map string_bytes words.now)) (W.meaning native.new) (W.stands_for native.new) (S.remaining input.old) (S.remaining input.new)
         (K.written out.old) (K.written out.new) (E.written err.old) (E.written err.new)
-        (S.faults input.old) (S.faults input.new) (K.faults out.old) (K.faults out.new) (E.faults err.old) (E.faults err.new) }
-    ensures fault_line { HasFaultLine result (E.written err.old) (E.written err.new) }
+        (S.faults input.old) (S.faults input.new) (K.faults out.old) (K.faults out.new) (E.faults err.old) (E.faults err.new)) }
+    ensures fault_line { IfSome result (λ status. HasFaultLine status (E.written err.old) (E.written err.new)) }
     // Status 0 has no line on err, and err is left alone.
-    ensures silent { result ≡ 0 → E.faults err.new ≡ E.faults err.old }
+    ensures silent { IfSome result (λ status. status ≡ 0 → E.faults err.new ≡ E.faults err.old) }
     // A text that could not be read leaves out as it was; so does `fmt` with every status but 0 and 5.
-    ensures unread { (command : TextCommand) → command_of (map string_bytes words.now) ≡ Some (Command.Text command) → result ≡ 4 → K.written out.new ≡ K.written out.old }
-    ensures unprinted { command_of (map string_bytes words.now) ≡ Some (Command.Text TextCommand.Format) → result ≢ 0 → result ≢ 5 → K.written out.new ≡ K.written out.old }
-    ensures usage_only { result ≡ 2 → command_of (map string_bytes words.now) ≡ None }
-    ensures usage_always { command_of (map string_bytes words.now) ≡ None → (result ≡ 2) ⊎ (result ≡ 5) ⊎ (result ≡ 7) }
-    ensures read_fault { result ≡ 4 → HasRisen (S.faults input.old) (S.faults input.new) }
+    ensures unread { IfSome result (λ status. (command : TextCommand) → command_of (map string_bytes words.now) ≡ Some (Command.Text command) → status ≡ 4 → K.written out.new ≡ K.written out.old) }
+    ensures unprinted { IfSome result (λ status. command_of (map string_bytes words.now) ≡ Some (Command.Text TextCommand.Format) → status ≢ 0 → status ≢ 5 → K.written out.new ≡ K.written out.old) }
+    ensures usage_only { IfSome result (λ status. status ≡ 2 → (command_of (map string_bytes words.now) ≡ None) × (serve_of (map string_bytes words.now) ≡ None)) }
+    ensures usage_always { IfSome result (λ status. command_of (map string_bytes words.now) ≡ None → (status ≡ 2) ⊎ (status ≡ 5) ⊎ (status ≡ 7)) }
+    ensures read_fault { IfSome result (λ status. status ≡ 4 → HasRisen (S.faults input.old) (S.faults input.new)) }
     // Status 5 comes where out failed, whatever became of its line; or where err failed at the line of another status.
-    ensures write_fault { result ≡ 5 →
-        FailsToWrite (E.written err.old) (E.written err.new) (K.faults out.old) (K.faults out.new) (E.faults err.old) (E.faults err.new) }
+    ensures write_fault { IfSome result (λ status. status ≡ 5 →
+        FailsToWrite (E.written err.old) (E.written err.new) (K.faults out.old) (K.faults out.new) (E.faults err.old) (E.faults err.new)) }
     // With `run` and `fmt`, every status but 4, 5 and 7 comes only where the input was read to its end or to one byte
     // past the most that a text may have.
-    ensures read_whole { (command : TextCommand) → command_of (map string_bytes words.now) ≡ Some (Command.Text command) → result ≢ 4 → result ≢ 5 → result ≢ 7 →
-        (left : List ℕ) → S.remaining input.old ≡ Some left → S.remaining input.new ≡ Some (drop most_read left) }
+    ensures read_whole { IfSome result (λ status. (command : TextCommand) → command_of (map string_bytes words.now) ≡ Some (Command.Text command) → status ≢ 4 → status ≢ 5 → status ≢ 7 →
+        (left : List ℕ) → S.remaining input.old ≡ Some left → S.remaining input.new ≡ Some (drop most_read left)) }
+    // None: the words name `serve`, and nothing was done. Where they name it and memory ran out as they were read, the
+    // status is that of this, and err alone was touched.
+    ensures serve { IfNone result (IsSome (serve_of (map string_bytes words.now))) }
+    ensures not_serve { IfSome result (λ status. IsSome (serve_of (map string_bytes words.now)) → (status ≡ 5) ⊎ (status ≡ 7)) }
+    ensures input_alone { IsSome (serve_of (map string_bytes words.now)) → input.new ≡ input.old }
+    ensures out_alone { IsSome (serve_of (map string_bytes words.now)) → out.new ≡ out.old }
+    ensures native_alone { IsSome (serve_of (map string_bytes words.now)) → native.new ≡ native.old }
+    ensures err_alone { IfNone result (err.new ≡ err.old) }
+    ensures no_net { IfSome result (λ status. status ≢ 10) }
     ensures input_never_falls { S.faults input.old ≤ S.faults input.new }
     ensures out_never_falls { K.faults out.old ≤ K.faults out.new }
     ensures err_never_falls { E.faults err.old ≤ E.faults err.new }
 {
     blocks_are_quiet();
     blocks_are_told();
-    let verdict = decides(alloc, words, input, out, native);
-    tells(alloc, verdict, err)
+    match decides(alloc, words, input, out, native, app) {
+        Some(verdict) => Some(tells(alloc, verdict, err)),
+        None => None,
+    }
 }

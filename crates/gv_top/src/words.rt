@@ -1,11 +1,10 @@
-//! The commands that are built, of those that words name.
-ghost use Rattle.std.specs.Prelude.{◌≡◌, IfOk, map, string_bytes};
-ghost use Rattle.gv_top.specs.Words.{built, command_of};
+//! The commands of the program, of those that words name.
+ghost use Rattle.std.specs.Prelude.{◌≡◌, option_and_then};
+ghost use Rattle.gv_top.specs.Words.{built, serving};
 
-use command_words::{Command as NamedCommand, TextCommand};
-use std::alloc::{AllocError, Global};
+use command_words::{Command as NamedCommand, ServeOptions, TextCommand};
 
-/// What the program is asked to do.
+/// What the program is asked to do without a net.
 #[derive(Clone, Copy, Debug, PartialEq, Eq)]
 pub enum Command {
     /// Do this with the scenario that the input spells.
@@ -14,17 +13,7 @@ pub enum Command {
     Wsgi,
 }
 
-/// The command that the words name, if they name one that is built. `AllocError`: memory is wanting.
-pub fn command_of(alloc: Global, words: &[String]) -> Result<Option<Command>, AllocError>
-    ensures { IfOk result (λ r. r ≡ command_of (map string_bytes words.now)) }
-{
-    match command_words::command_of(alloc, words)? {
-        Some(command) => Ok(built(command)),
-        None => Ok(None),
-    }
-}
-
-/// The command, if it is built.
+/// The command, if it is built and needs no net.
 fn built(command: NamedCommand) -> Option<Command>
     ensures { result ≡ built command }
 {
@@ -33,5 +22,25 @@ fn built(command: NamedCommand) -> Option<Command>
         NamedCommand::Wsgi => Some(Command::Wsgi),
         NamedCommand::Serve(_) => None,
         NamedCommand::Storm(_) => None,
+    }
+}
+
+/// What words that name this command ask for without a net.
+pub fn without_a_net(command: Option<NamedCommand>) -> Option<Command>
+    ensures { result ≡ option_and_then built command }
+{
+    match command {
+        Some(command) => built(command),
+        None => None,
+    }
+}
+
+/// The options of the server that words ask for which name this command.
+pub fn server_options(command: Option<NamedCommand>) -> Option<ServeOptions>
+    ensures { result ≡ option_and_then serving command }
+{
+    match command {
+        Some(NamedCommand::Serve(options)) => Some(options),
+        _ => None,
     }
 }

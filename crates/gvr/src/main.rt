@@ -1,4 +1,5 @@
-//! The program: it makes the real streams and the world of native threads, and `gv_top::gvr` does everything.
+//! The program: it makes the real streams, the world of native threads and the net of the system's sockets, and
+//! `gv_top::gvr` does everything.
 #![tactic(auto)]
 
 mod fallback;
@@ -6,6 +7,7 @@ mod fallback;
 use crate::fallback::{DeafEar, MuteBell, ProgramClock};
 use gv_io::{StdSink, StdSource};
 use gv_top::gvr;
+use mio_net::MioNet;
 use native_board::Bell;
 use native_pool::{
     Ear, NoThreads, OpenGate, PollEar, Spawner, StartThread, ThreadSpawner, ThreadWorld, WakerBell,
@@ -17,6 +19,7 @@ use std::process::ExitCode;
 use std::sync::Wait;
 use std::thread::Threads;
 use std::{env, io};
+use wsgi_core::ShippedApp;
 
 /// How many bytes of the trace are kept back before they are written out.
 const TRACE_CAPACITY: usize = 65536;
@@ -59,13 +62,19 @@ fn run_over<H: Wait + Drop, R: Ear + Drop, B: Bell + Drop, S: Spawner<B, OpenGat
     let mut input = StdSource::new(rt.reader());
     let mut out = StdSink::new(rt.alloc(), rt.stdout().lock(), TRACE_CAPACITY)?;
     let mut err = StdSink::new(rt.alloc(), rt.stderr().lock(), LINE_CAPACITY)?;
+    let Ok(mut net) = MioNet::new(rt, rt.alloc()) else {
+        return Err(AllocError);
+    };
     Ok(gvr(
+        &rt,
         rt.alloc(),
         words.as_slice(),
         &mut input,
         &mut out,
         &mut err,
         &mut native,
+        &mut net,
+        &ShippedApp,
     ))
 }
 

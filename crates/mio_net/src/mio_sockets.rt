@@ -40,7 +40,7 @@ fn one_more(count: u64) -> u64
 #[derive(Drop)]
 pub struct MioNet<R> {
     rt: R,
-    start: Instant,
+    start: Option<Instant>,
     poll: Option<Poll>,
     events: Events<Global>,
     // What was told and wasn't yet named, the last first.
@@ -74,9 +74,12 @@ fn is_incoming(ready: Ready) -> bool {
 }
 
 /// The milliseconds since the start, or as many as before where the clock gives fewer or none.
-fn reading<R: Clock>(rt: &R, start: &Instant, before: u64) -> u64
+fn reading<R: Clock>(rt: &R, start: &Option<Instant>, before: u64) -> u64
     ensures { before ≤ result }
 {
+    let Some(start) = start else {
+        return before;
+    };
     match start.elapsed(rt) {
         Ok(passed) => before.max(
             passed
@@ -92,11 +95,11 @@ impl<R: std::net::Net + Clock + Drop> MioNet<R> {
     ghost use Rattle.mio_net.specs.Endpoints.{meaning_by};
     ghost use Rattle.stream_net.specs.Nets.{IsFresh};
 
-    /// A net that doesn't listen yet. Without a poll of the system it never will.
+    /// A net that doesn't listen yet. Without a poll and a clock of the system it never will.
     pub fn new(rt: R, alloc: Global) -> io::Result<MioNet<R>>
         ensures { IfOk result (λ net. IsFresh (meaning_by net.endpoints.items net.most net.moment net.listens net.faults net.blocked)) }
     {
-        let start = Instant::now(&rt)?;
+        let start = Instant::now(&rt).ok();
         let poll = Poll::new(&rt).ok();
         let events = Events::with_capacity(alloc, EVENTS)?;
         let queue = Vec::with_capacity(alloc, EVENTS)?;
@@ -127,13 +130,15 @@ impl<R: std::net::Net + Clock + Drop> Net for MioNet<R> {
     ghost readiness = { λ _. readiness_of_none };
 
     fn listen(&mut self, port: u16) -> Result<u16, Failed> {
-        if let Some(poll) = &self.poll {
-            if let Ok((listener, port)) = listen_at(&self.rt, poll, port) {
-                self.listener = Some(listener);
-                self.arrived = true;
-                self.listens = Some(port);
-                self.blocked = false;
-                return Ok(port);
+        if self.start.is_some() {
+            if let Some(poll) = &self.poll {
+                if let Ok((listener, port)) = listen_at(&self.rt, poll, port) {
+                    self.listener = Some(listener);
+                    self.arrived = true;
+                    self.listens = Some(port);
+                    self.blocked = false;
+                    return Ok(port);
+                }
             }
         }
         self.faults = one_more(self.faults);

@@ -1,11 +1,13 @@
 //! Connections through the call.
 ghost use Rattle.std.specs.Prelude.{◌<◌};
 
+use crate::run_tests::LEFT_TO_A_NET;
 use gv_io::{MemorySink, MemorySource};
-use gv_top::gvr;
+use gv_top::offline;
 use std::alloc::{AllocError, Global};
 use std::test::Fail;
 use world::ScriptWorld;
+use wsgi_core::ShippedApp;
 
 #[derive(Drop)]
 struct Left {
@@ -30,14 +32,16 @@ fn answered(
     let mut out = MemorySink::new(alloc, room)?;
     let mut err = MemorySink::new(alloc, 1000)?;
     let mut native = ScriptWorld::new(alloc, 0);
-    let status = gvr(
+    let status = offline(
         alloc,
         words.as_slice(),
         &mut input,
         &mut out,
         &mut err,
         &mut native,
-    );
+        &ShippedApp,
+    )
+    .unwrap_or(LEFT_TO_A_NET);
     Ok(Left { status, out, err })
 }
 

@@ -2,13 +2,14 @@
 ghost use Rattle.std.specs.Prelude.{◌≡◌, None};
 
 use crate::connection_tests::HELLO;
-use crate::run_tests::{PRINTS_ONE, words_of};
+use crate::run_tests::{LEFT_TO_A_NET, PRINTS_ONE, words_of};
 use gv_io::{Failed, MemorySink, MemorySource, Sink, Source, StdSink};
-use gv_top::gvr;
+use gv_top::offline;
 use std::alloc::{AllocError, Global};
 use std::cell::Cell;
 use std::test::Fail;
 use world::ScriptWorld;
+use wsgi_core::ShippedApp;
 
 const TRACE_OF_PRINTS_ONE: &str =
     "start g0 main\nprint g0 1\nend g0 value none\nstop value none turns 0 moves 1\n";
@@ -44,14 +45,16 @@ fn err_that_always_fails(rt: HostRuntime) -> Result<(), Fail> {
         // a sink over the system fails for good once it has failed
         assert_eq!(rt; err.write_all(b"x"), Err(Failed));
         let mut native = ScriptWorld::new(alloc, 0);
-        let answered = gvr(
+        let answered = offline(
             alloc,
             words.as_slice(),
             &mut input,
             &mut out,
             &mut err,
             &mut native,
-        );
+            &ShippedApp,
+        )
+    .unwrap_or(LEFT_TO_A_NET);
         assert_eq!(rt; answered, status, "{line}");
         assert_eq!(rt; out.bytes(), wanted.as_bytes(), "{line}");
     }
@@ -74,14 +77,16 @@ fn err_that_fails_past_its_room(rt: HostRuntime) -> Result<(), Fail> {
         let mut out = MemorySink::new(alloc, room)?;
         let mut err = MemorySink::new(alloc, err_room)?;
         let mut native = ScriptWorld::new(alloc, 0);
-        let answered = gvr(
+        let answered = offline(
             alloc,
             words.as_slice(),
             &mut input,
             &mut out,
             &mut err,
             &mut native,
-        );
+            &ShippedApp,
+        )
+    .unwrap_or(LEFT_TO_A_NET);
         assert_eq!(rt; answered, 5, "{line}");
         assert_eq!(rt; out.bytes(), wanted.as_bytes());
         assert_eq!(rt; err.bytes(), line.as_bytes());
@@ -98,14 +103,16 @@ fn read_that_fails_under_fmt(rt: HostRuntime) -> Result<(), Fail> {
     let mut out = MemorySink::new(alloc, 1000)?;
     let mut err = MemorySink::new(alloc, 1000)?;
     let mut native = ScriptWorld::new(alloc, 0);
-    let answered = gvr(
+    let answered = offline(
         alloc,
         words.as_slice(),
         &mut input,
         &mut out,
         &mut err,
         &mut native,
-    );
+        &ShippedApp,
+    )
+    .unwrap_or(LEFT_TO_A_NET);
     assert_eq!(rt; answered, 4);
     assert_eq!(rt; out.bytes(), "".as_bytes());
     assert_eq!(rt; err.bytes(), "gvr: read fault\n".as_bytes());
@@ -184,14 +191,16 @@ fn each_piece_is_answered_before_the_next_is_read(rt: HostRuntime) -> Result<(),
     };
     let mut err = MemorySink::new(alloc, 1000)?;
     let mut native = ScriptWorld::new(alloc, 0);
-    let answered = gvr(
+    let answered = offline(
         alloc,
         words.as_slice(),
         &mut peer,
         &mut way,
         &mut err,
         &mut native,
-    );
+        &ShippedApp,
+    )
+    .unwrap_or(LEFT_TO_A_NET);
     assert_eq!(rt; answered, 0);
     let greeting = HELLO.len();
     assert_eq!(rt; peer.noted, [0, greeting, greeting + greeting]);

@@ -14,4 +14,6 @@ mod profile_tests;
 #[cfg(test)]
 mod run_tests;
 #[cfg(test)]
+mod serve_tests;
+#[cfg(test)]
 mod words_tests;

@@ -2,15 +2,16 @@
 ghost use Rattle.std.specs.Prelude.{◌≡◌, false};
 
 use crate::fault_tests::{Way, source_of};
-use crate::run_tests::words_of;
+use crate::run_tests::{LEFT_TO_A_NET, words_of};
 use gv_io::{MemorySink, MemorySource, Sink};
-use gv_top::gvr;
+use gv_top::offline;
 use native_board::Bell;
 use native_pool::{Clock, Ear, NoThreads, OpenGate, ThreadWorld};
 use std::alloc::{AllocError, Global};
 use std::cell::Cell;
 use std::test::Fail;
 use world::World;
+use wsgi_core::ShippedApp;
 
 const TWO_JOBS: &str =
     "native n 2\ndef main\na <- nspawn n sum 3\nb <- nspawn n echo 4\nx <- get a\nprint x\nend\n";
@@ -32,14 +33,16 @@ fn run_in<W: World>(alloc: Global, line: &str, native: &mut W) -> Result<Left, A
     let mut input = MemorySource::new(bytes, 4096, Vec::new(alloc));
     let mut out = MemorySink::new(alloc, 10000)?;
     let mut err = MemorySink::new(alloc, 1000)?;
-    let status = gvr(
+    let status = offline(
         alloc,
         words.as_slice(),
         &mut input,
         &mut out,
         &mut err,
         native,
-    );
+        &ShippedApp,
+    )
+    .unwrap_or(LEFT_TO_A_NET);
     Ok(Left { status, out, err })
 }
 
@@ -142,15 +145,16 @@ fn lines_are_handed_on_before_the_program_waits(rt: HostRuntime) -> Result<(), F
         held: 0,
     };
     let mut err = MemorySink::new(alloc, 1000)?;
-    let status = gvr(
+    let status = offline(
         alloc,
         words.as_slice(),
         &mut input,
         &mut way,
         &mut err,
         &mut native,
+        &ShippedApp,
     );
-    assert_eq!(rt; status, 0);
+    assert_eq!(rt; status, Some(0));
     let before = "start g0 main\nprint g0 1\npark g0 sleep until 5\nblock 5\n";
     assert_eq!(rt; noted.get(), before.len());
     Ok(())

@@ -2,10 +2,14 @@
 ghost use Rattle.std.specs.Prelude.{◌<◌};
 
 use gv_io::{MemorySink, MemorySource};
-use gv_top::gvr;
+use gv_top::offline;
 use std::alloc::{AllocError, Global};
 use std::test::Fail;
 use world::ScriptWorld;
+use wsgi_core::ShippedApp;
+
+/// In the place of a status where the words want a net.
+pub(crate) const LEFT_TO_A_NET: u8 = 255;
 
 /// What a call left.
 #[derive(Drop)]
@@ -41,14 +45,16 @@ pub(crate) fn call(
     let mut out = MemorySink::new(alloc, room)?;
     let mut err = MemorySink::new(alloc, 1000)?;
     let mut native = ScriptWorld::new(alloc, 0);
-    let status = gvr(
+    let status = offline(
         alloc,
         words.as_slice(),
         &mut input,
         &mut out,
         &mut err,
         &mut native,
-    );
+        &ShippedApp,
+    )
+    .unwrap_or(LEFT_TO_A_NET);
     Ok(Called { status, out, err })
 }
 

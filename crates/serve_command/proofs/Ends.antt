@@ -1,5 +1,5 @@
 -- The command's ends, one by one.
-use Rattle.std.proofs.Common.{◌≡◌, ◌⊎◌, inr, ℕ, ◌≤◌, true, List, [], ◌++◌, length, Option, Some, ap, ◌∙◌, arith, take}
+use Rattle.std.proofs.Common.{◌≡◌, ◌⊎◌, inl, inr, ℕ, ◌≤◌, true, List, [], ◌++◌, length, Option, Some, ap, ◌∙◌, arith, take}
 use Rattle.gv_io.specs.Streams.{appended, AppendsPrefix}
 use Rattle.gv_io.proofs.StreamLaws.{appended-appended, AppendsPrefix-after, AppendsPrefix-all, AppendsPrefix-longer}
 use Rattle.wsgi_core.specs.Applications.{App}
@@ -21,14 +21,21 @@ listener_unfinished e = absurd (cc)
 pub memory_unfinished : Served.Memory ≡ Served.Finished → ⊥
 memory_unfinished e = absurd (cc)
 
+pub memory_no_listener : Served.Memory ≡ Served.Listener → ⊥
+memory_no_listener e = absurd (cc)
+
+finished_no_listener : Served.Finished ≡ Served.Listener → ⊥
+finished_no_listener e = absurd (cc)
+
 -- nobody was accepted
 pub none_served : (end : Served) (app : App) (limits : Limits) (w : Meaning) (out0 out1 : Option (List ℕ)) (port : ℕ) → (end ≡ Served.Finished → ⊥) → w.connections ≡ [] → w.most ≡ 0
-    → AppendsPrefix out0 out1 (listening port) → (out1 ≡ out0) ⊎ (w.listens ≡ Some port) → ServesAt end app limits w out0 out1
+    → AppendsPrefix out0 out1 (listening port) → (out1 ≡ out0) ⊎ ((w.listens ≡ Some port) × (end ≡ Served.Listener → ⊥)) → ServesAt end app limits w out0 out1
 none_served end app limits w out0 out1 port unfinished none most begins listens = record {
   port = port;
-  listens = listens;
+  listens = told listens;
   begins = AppendsPrefix-longer out0 out1 (listening port) (served limits.conns) begins;
   both = λ e. absurd (unfinished e);
+  first = λ e. at_once listens e;
   told = λ some. absurd (let e = ap (λ (xs : List Connection). length xs) none in omega (arith, some, e));
   own = no_connection w.connections (λ c bytes sent. BeginsSo (session app port bytes c.ended).bytes sent) none;
   whole = no_connection w.connections (λ c bytes sent. IsClosedWell c → sent ≡ (session app port bytes c.ended).bytes) none;
@@ -36,6 +43,14 @@ none_served end app limits w out0 out1 port unfinished none most begins listens 
   most = omega (arith, most);
   all = λ e. absurd (unfinished e);
 }
+  where
+    told : (out1 ≡ out0) ⊎ ((w.listens ≡ Some port) × (end ≡ Served.Listener → ⊥)) → ((out1 ≡ out0) × (w.connections ≡ [])) ⊎ (w.listens ≡ Some port)
+    told (inl e) = inl (e, none)
+    told (inr h) = inr h.0
+
+    at_once : (out1 ≡ out0) ⊎ ((w.listens ≡ Some port) × (end ≡ Served.Listener → ⊥)) → end ≡ Served.Listener → (out1 ≡ out0) ⊎ (out1 ≡ appended out0 (listening port))
+    at_once (inl same) e = inl same
+    at_once (inr h) e = absurd (h.1 e)
 
 module _ (app : App) (limits : Limits) (w : Meaning) (out0 out1 : Option (List ℕ)) (port : ℕ) (told : out1 ≡ appended out0 (listening port))
     (own : EachTold w.connections (λ c bytes sent. BeginsSo (session app port bytes c.ended).bytes sent))
@@ -43,12 +58,13 @@ module _ (app : App) (limits : Limits) (w : Meaning) (out0 out1 : Option (List �
     (cause : EachTold w.connections (λ c bytes sent. c.closed ≡ true → Cause (session app port bytes c.ended) sent limits.idle c))
     (most : w.most ≤ limits.pool) (listens : w.listens ≡ Some port) where
   -- out has the first line, and a beginning of the second
-  pub some_served : (end : Served) (out2 : Option (List ℕ)) → (end ≡ Served.Finished → ⊥) → AppendsPrefix out1 out2 (served limits.conns) → ServesAt end app limits w out0 out2
-  some_served end out2 unfinished more = record {
+  pub some_served : (end : Served) (out2 : Option (List ℕ)) → (end ≡ Served.Finished → ⊥) → (end ≡ Served.Listener → out2 ≡ out1) → AppendsPrefix out1 out2 (served limits.conns) → ServesAt end app limits w out0 out2
+  some_served end out2 unfinished untold more = record {
     port = port;
     listens = inr listens;
     begins = AppendsPrefix-after out0 out1 out2 (listening port) (served limits.conns) told more;
     both = λ e. absurd (unfinished e);
+    first = λ e. inr (untold e ∙ told);
     told = λ _. (take more.count (served limits.conns), more.is ∙ ap (λ (o : Option (List ℕ)). appended o (take more.count (served limits.conns))) told ∙ appended-appended out0 (listening port) (take more.count (served limits.conns)));
     own = own;
     whole = whole;
@@ -67,6 +83,7 @@ module _ (app : App) (limits : Limits) (w : Meaning) (out0 out1 : Option (List �
         listens = inr listens;
         begins = AppendsPrefix-all out0 out2 (listening port ++ served limits.conns) both;
         both = λ _. both;
+        first = λ e. absurd (finished_no_listener e);
         told = λ _. (served limits.conns, both);
         own = own;
         whole = whole;

@@ -1,5 +1,5 @@
 -- What the command `serve` leaves behind.
-use Rattle.std.specs.Prelude.{◌≡◌, ◌⊎◌, ℕ, ◌<◌, ◌≤◌, true, List, ◌++◌, length, Option, Some, codes}
+use Rattle.std.specs.Prelude.{◌≡◌, ◌⊎◌, ℕ, ◌<◌, ◌≤◌, true, List, [], ◌++◌, length, Option, Some, codes}
 use Rattle.gv_io.specs.Streams.{appended, AppendsPrefix}
 use Rattle.gv_values.specs.ValueTexts.{decimal}
 use Rattle.wsgi_core.specs.Applications.{App}
@@ -23,12 +23,14 @@ served conns = number_line (codes "served") conns
 
 -- The net served each connection by itself, at a port, with this application, and out has the lines.
 pub record ServesAt (end : Served) (app : App) (limits : Limits) (w : Meaning) (out0 out1 : Option (List ℕ)) : Type 0 where
-  -- the port that the net listens at, or out is as it was
+  -- the port that the net listens at; or nobody was accepted, and out is as it was
   pub port : ℕ
-  pub listens : (out1 ≡ out0) ⊎ (w.listens ≡ Some port)
+  pub listens : ((out1 ≡ out0) × (w.connections ≡ [])) ⊎ (w.listens ≡ Some port)
   -- out has the two lines, or a beginning of them; both where all were served
   pub begins : AppendsPrefix out0 out1 (listening port ++ served limits.conns)
   pub both : end ≡ Served.Finished → out1 ≡ appended out0 (listening port ++ served limits.conns)
+  -- where the net failed, out has the first line, or is as it was
+  pub first : end ≡ Served.Listener → (out1 ≡ out0) ⊎ (out1 ≡ appended out0 (listening port))
   -- the port was told before the first connection was accepted
   pub told : 0 < length w.connections → (rest : List ℕ) × (out1 ≡ appended out0 (listening port ++ rest))
   -- what was written to a connection begins what the session of what was read from it sends, and is all of it where it was closed well

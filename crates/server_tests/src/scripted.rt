@@ -35,7 +35,7 @@ fn script(
 }
 
 /// One that sends half a request and never ends, and one that sends a whole one.
-pub fn half_and_whole(alloc: Global, room: &[u32]) -> Result<Vec<ConnScript>, AllocError>
+fn half_and_whole(alloc: Global, room: &[u32]) -> Result<Vec<ConnScript>, AllocError>
     ensures { IfOk result (λ scripts. length scripts.items < 2 ^ 32) }
 {
     let half = script(alloc, b"GET / HT", &[], None, None)?;

@@ -1,11 +1,12 @@
 //! A worked row.
 use gv_io::{MemorySink, MemorySource};
-use gv_top::gvr;
+use gv_top::offline;
 use gv_values::Answer;
 use std::alloc::{AllocError, Global};
 use trace_reader::{LineFault, read_line};
 use trace_text::Line;
 use world::ListWorld;
+use wsgi_core::ShippedApp;
 
 /// How many bytes a run may write.
 const ROOM: usize = 1048576;
@@ -85,15 +86,17 @@ impl Row {
         let mut out = MemorySink::new(alloc, ROOM)?;
         let mut err = MemorySink::new(alloc, ROOM)?;
         let mut native = ListWorld::new(alloc, self.answers);
-        let status = gvr(
+        let status = offline(
             alloc,
             self.words.as_slice(),
             &mut input,
             &mut out,
             &mut err,
             &mut native,
+            &ShippedApp,
         );
-        let holds = self.status == Some(status)
+        let holds = self.status.is_some()
+            && self.status == status
             && out.bytes() == self.trace.as_slice()
             && err.bytes() == self.said.as_slice();
         Ok(if holds { None } else { Some(self.name) })

@@ -1,20 +1,32 @@
-use Rattle.std.proofs.Common.{ap, map, string_bytes, sym, ◌∙◌}
-use Rattle.gv_top.specs.Words.{is_native}
+use Rattle.std.proofs.Common.{ap, map, option_and_then, string_bytes, sym, ◌∙◌}
+use Rattle.gv_top.specs.Words.{built, is_native, serving}
 use Rattle.gv_top.proofs.Deciding.{nothing_exchanged}
 use Rattle.gv_top.proofs.Built.{in_range}
+use Rattle.gv_top.proofs.Servings.{is_some, none_named}
 use Rattle.gv_top.proofs.Tops.{came_as, nothing_lawful, out_of_memory_at_once}
 use Rattle.gv_top.proofs.top.decides.Goals as goal
 
 pub returns-in_default-clause-came_to : goal.returns-in_default-clause-came_to
-returns-in_default-clause-came_to g c = out_of_memory_at_once _ _ _ _ _ _ _
+returns-in_default-clause-came_to g c = out_of_memory_at_once _ _ _ _ _ _ _ _
 
 pub returns-in_default-clause-connection : goal.returns-in_default-clause-connection
-returns-in_default-clause-connection g c = λ named. nothing_exchanged _ _
+returns-in_default-clause-connection g c = λ named. nothing_exchanged _ _ _
 
-pub returns-clause-came_to : goal.returns-clause-came_to
-returns-clause-came_to g c =
+pub returns-in_default-clause-lawful : goal.returns-in_default-clause-lawful
+returns-in_default-clause-lawful g c = λ options e. nothing_lawful _ _
+
+pub returns-in-Some-clause-serve : goal.returns-in-Some-clause-serve
+returns-in-Some-clause-serve g c = is_some _ _ (ap (option_and_then serving) (sym c.in-Ok.ensures) ∙ sym c.server_options.ensures ∙ c.in-Some.is)
+
+pub answers_command-requires-clause-range : goal.answers_command-requires-clause-range
+answers_command-requires-clause-range g c = λ text e.
+    in_range (λ w command named. c.commands_are_in_range.ensures w command named) (map string_bytes c.args.words.now) text
+    (sym (c.without_a_net-command.ensures ∙ ap (option_and_then built) c.in-Ok.ensures) ∙ e)
+
+pub returns-in-None-clause-came_to : goal.returns-in-None-clause-came_to
+returns-in-None-clause-came_to g c =
     let d = c.answers_command.ensures in
-    came_as c.in-Ok.ensures (record {
+    came_as (c.without_a_net-command.ensures ∙ ap (option_and_then built) c.in-Ok.ensures) (record {
       answer = d.answer;
       usage = d.usage;
       read_fault = d.read_fault;
@@ -25,17 +37,26 @@ returns-clause-came_to g c =
       native = d.native;
     })
 
-pub returns-clause-connection : goal.returns-clause-connection
-returns-clause-connection g c = λ named. c.answers_command.ensures.connection (c.in-Ok.ensures ∙ named)
+pub returns-in-None-clause-no_command : goal.returns-in-None-clause-no_command
+returns-in-None-clause-no_command g c = λ none. c.answers_command.ensures.no_command (c.without_a_net-command.ensures ∙ ap (option_and_then built) c.in-Ok.ensures ∙ none)
 
-pub returns-in_default-clause-lawful : goal.returns-in_default-clause-lawful
-returns-in_default-clause-lawful g c = λ options e. nothing_lawful _ _
+pub returns-in-None-clause-lawful : goal.returns-in-None-clause-lawful
+returns-in-None-clause-lawful g c = λ options e. c.answers_command.ensures.lawful options (c.without_a_net-command.ensures ∙ ap (option_and_then built) c.in-Ok.ensures ∙ e)
 
-pub answers_command-requires-clause-range : goal.answers_command-requires-clause-range
-answers_command-requires-clause-range g c = λ text e. in_range (λ w command named. c.commands_are_in_range.ensures w command named) (map string_bytes c.args.words.now) text (sym c.in-Ok.ensures ∙ e)
+pub returns-in-None-clause-untouched : goal.returns-in-None-clause-untouched
+returns-in-None-clause-untouched g c = λ h. c.answers_command.ensures.untouched (ap is_native (c.without_a_net-command.ensures ∙ ap (option_and_then built) c.in-Ok.ensures) ∙ h)
 
-pub returns-clause-lawful : goal.returns-clause-lawful
-returns-clause-lawful g c = λ options e. c.answers_command.ensures.lawful options (c.in-Ok.ensures ∙ e)
+pub returns-in-None-clause-connection : goal.returns-in-None-clause-connection
+returns-in-None-clause-connection g c = λ named. c.answers_command.ensures.connection (c.without_a_net-command.ensures ∙ ap (option_and_then built) c.in-Ok.ensures ∙ named)
 
-pub returns-clause-untouched : goal.returns-clause-untouched
-returns-clause-untouched g c = λ h. c.answers_command.ensures.untouched (ap is_native c.in-Ok.ensures ∙ h)
+pub returns-in-None-clause-not_serve : goal.returns-in-None-clause-not_serve
+returns-in-None-clause-not_serve g c = λ named. none_named _ _ named (ap (option_and_then serving) (sym c.in-Ok.ensures) ∙ sym c.server_options.ensures ∙ c.in-None.is)
+
+pub returns-in-None-clause-input_alone : goal.returns-in-None-clause-input_alone
+returns-in-None-clause-input_alone g c = λ named. none_named _ _ named (ap (option_and_then serving) (sym c.in-Ok.ensures) ∙ sym c.server_options.ensures ∙ c.in-None.is)
+
+pub returns-in-None-clause-out_alone : goal.returns-in-None-clause-out_alone
+returns-in-None-clause-out_alone g c = λ named. none_named _ _ named (ap (option_and_then serving) (sym c.in-Ok.ensures) ∙ sym c.server_options.ensures ∙ c.in-None.is)
+
+pub returns-in-None-clause-native_alone : goal.returns-in-None-clause-native_alone
+returns-in-None-clause-native_alone g c = λ named. none_named _ _ named (ap (option_and_then serving) (sym c.in-Ok.ensures) ∙ sym c.server_options.ensures ∙ c.in-None.is)

@@ -1,0 +1,213 @@
+-- Of words that name `serve`, and of what a server came to.
+use Rattle.std.proofs.Common.{◌≡◌, ◌≢◌, ◌⊎◌, inl, inr, refl, ap, sym, ◌∙◌, ℕ, true, List, [], Option, Some, None, IsSome, option_and_then, subst, arith}
+use Rattle.gv_values.specs.Counts.{HasRisen}
+use Rattle.gv_io.specs.Streams.{appended}
+use Rattle.command_words.specs.Ranges.{IsInRange as IsCommandInRange}
+use Rattle.command_words.specs.Words.{Word}
+use Rattle.command_words.specs.Words as words
+use Rattle.command_words.specs.declared.command.Command.{Command as NamedCommand}
+use Rattle.command_words.specs.declared.command.Command.TheVariants as named
+use Rattle.command_words.specs.declared.command.ServeOptions.{ServeOptions}
+use Rattle.wsgi_core.specs.Applications.{App}
+use Rattle.stream_net.specs.Nets.{IsFresh, Meaning}
+use Rattle.stream_server.specs.declared.limits.Limits.{Limits}
+use Rattle.stream_server.specs.Serving.{IsInRange}
+use Rattle.serve_command.specs.declared.serving.Served.{Served}
+use Rattle.serve_command.specs.Served.{ServesAt, listening}
+use Rattle.serve_command.proofs.Ends.{memory_unfinished, none_served}
+use Rattle.gv_top.specs.declared.status.Verdict.{Verdict}
+use Rattle.gv_top.specs.declared.words.Command.{Command}
+use Rattle.gv_top.specs.Serving.{Serves, limits_of}
+use Rattle.gv_top.specs.Top.{FailsToWrite, HasFaultLine, IsOr, IsStatusOf, IsTold}
+use Rattle.gv_top.specs.Verdicts.{number_of, line_of}
+use Rattle.gv_top.specs.Words.{built, command_of, serve_of, serving}
+use Rattle.gv_top.proofs.Built.{NamedAreInRange}
+use Rattle.gv_top.proofs.Tops.{fails, left_as_it_was, no_memory_line, read_line, status_or}
+
+-- ---- words that name it
+
+-- words that name `serve` name no command that needs no net
+only_serve : (o : Option NamedCommand) → IsSome (option_and_then serving o) → option_and_then built o ≡ None
+only_serve (Some (named.Serve options)) e = refl
+only_serve (Some (named.Text text)) e = absurd (cc e)
+only_serve (Some named.Wsgi) e = absurd (cc e)
+only_serve (Some (named.Storm n)) e = absurd (cc e)
+only_serve None e = absurd (cc e)
+
+pub no_other_command : (w : List Word) → IsSome (serve_of w) → command_of w ≡ None
+no_other_command w e = only_serve (words.command_of w) e
+
+none_is_some : (P : Type 0) (o : Option Command) (command : Command) → o ≡ None → o ≡ Some command → P
+none_is_some P o command e f = absurd (let h : ◌≡◌ {A = Option Command} None (Some command) = sym e ∙ f in cc h)
+
+-- so nothing is said of another command
+pub names_another : (P : Type 0) (w : List Word) (command : Command) → IsSome (serve_of w) → command_of w ≡ Some command → P
+names_another P w command named e = none_is_some P (command_of w) command (no_other_command w named) e
+
+pub is_some : (o : Option ServeOptions) (options : ServeOptions) → o ≡ Some options → IsSome o
+is_some o options e = rw e refl
+
+pub none_named : (P : Type 0) (o : Option ServeOptions) → IsSome o → o ≡ None → P
+none_named P None h e = absurd (cc h)
+none_named P (Some options) h e = absurd (cc e)
+
+pub is_none : (o : Option ServeOptions) → (IsSome o → ⊥) → o ≡ None
+is_none None h = refl
+is_none (Some options) h = absurd (h refl)
+
+-- ---- the status of an end
+
+-- want of memory is told by its own status, or by that of its line
+pub no_memory_status : (n : ℕ) (v w : Verdict) (old new : Option (List ℕ)) (e0 e1 : ℕ) → IsOr v w → IsTold n w old new e0 e1 → number_of v ≡ 7 → (n ≡ 5) ⊎ (n ≡ 7)
+no_memory_status n v w old new e0 e1 o l e = by (status_or n v w old new e0 e1 o l)
+  where
+    by : IsStatusOf n v → (n ≡ 5) ⊎ (n ≡ 7)
+    by (inl p) = inr (p ∙ e)
+    by (inr p) = p.1
+
+pub no_network_fault : (n : ℕ) (v w : Verdict) (old new : Option (List ℕ)) (e0 e1 : ℕ) → IsOr v w → IsTold n w old new e0 e1 → number_of v ≢ 10 → n ≢ 10
+no_network_fault n v w old new e0 e1 o l h = by (status_or n v w old new e0 e1 o l)
+  where
+    by : IsStatusOf n v → n ≢ 10
+    by (inl p) = λ z. h (sym p ∙ z)
+    by (inr (_, inl p)) = λ z. absurd (let q = sym p ∙ z in omega arith)
+    by (inr (_, inr p)) = λ z. absurd (let q = sym p ∙ z in omega arith)
+
+-- where words that name `serve` lead to want of memory, any other status is of words that don't
+pub names_no_server : (n : ℕ) (v w : Verdict) (o : Option ServeOptions) (old new : Option (List ℕ)) (e0 e1 : ℕ) → IsOr v w → IsTold n w old new e0 e1 →
+    (IsSome o → number_of v ≡ 7) → n ≢ 5 → n ≢ 7 → o ≡ None
+names_no_server n v w o old new e0 e1 r l h h5 h7 = is_none o (λ named. by (no_memory_status n v w old new e0 e1 r l (h named)))
+  where
+    by : (n ≡ 5) ⊎ (n ≡ 7) → ⊥
+    by (inl e) = h5 e
+    by (inr e) = h7 e
+
+-- ---- how much a server does
+
+limits_fit : (options : ServeOptions) → IsCommandInRange (named.Serve options) → IsInRange (limits_of options)
+limits_fit options h = record {
+  some_place = h.2.0;
+  few_places = h.2.1;
+  some_connection = h.1.0;
+  few_connections = h.1.1;
+  some_time = h.3.0;
+  short_time = h.3.1;
+}
+
+pub same_options : (a b : ServeOptions) → Some a ≡ Some b → a ≡ b
+same_options a b e = cc e
+
+serving_in_range : (options : ServeOptions) (command : NamedCommand) → serving command ≡ Some options → IsCommandInRange command → IsInRange (limits_of options)
+serving_in_range options (named.Serve given) e h =
+    let P : ServeOptions → Type 0 = λ o. IsInRange (limits_of o) in subst P (same_options given options e) (limits_fit given h)
+serving_in_range options (named.Text text) e h = absurd (cc e)
+serving_in_range options named.Wsgi e h = absurd (cc e)
+serving_in_range options (named.Storm n) e h = absurd (cc e)
+
+-- the limits of the server that words ask for are in their ranges
+pub limits_in_range : NamedAreInRange → (w : List Word) (options : ServeOptions) → serve_of w ≡ Some options → IsInRange (limits_of options)
+limits_in_range law w options e = by (words.command_of w) refl e
+  where
+    by : (o : Option NamedCommand) → words.command_of w ≡ o → option_and_then serving o ≡ Some options → IsInRange (limits_of options)
+    by (Some command) is h = serving_in_range options command h (law w command is)
+    by None is h = absurd (cc h)
+
+-- what served by these options served by those that the words ask for
+pub served_as : (end : Served) (app : App) (given : ServeOptions) (limits : Limits) (o : Option ServeOptions) (w : Meaning) (out0 out1 : Option (List ℕ)) →
+    o ≡ Some given → limits ≡ limits_of given → ServesAt end app limits w out0 out1 →
+    (options : ServeOptions) → o ≡ Some options → ServesAt end app (limits_of options) w out0 out1
+served_as end app given limits o w out0 out1 is fit h = λ options e.
+    let P : Limits → Type 0 = λ l. ServesAt end app l w out0 out1 in
+    let Q : ServeOptions → Type 0 = λ x. ServesAt end app (limits_of x) w out0 out1 in
+    subst Q (same_options given options (sym is ∙ e)) (subst P fit h)
+
+-- where memory ran out before it listened, it served nobody
+pub nobody_served : (app : App) (limits : Limits) (w : Meaning) (out0 out1 : Option (List ℕ)) → IsFresh w → out1 ≡ out0 → ServesAt Served.Memory app limits w out0 out1
+nobody_served app limits w out0 out1 fresh same =
+    none_served Served.Memory app limits w out0 out1 0 memory_unfinished fresh.none fresh.none_live (left_as_it_was out0 out1 (listening 0) same) (inl same)
+
+-- ---- what a server came to, and its line
+
+-- the line of the verdict is there, with a status that tells no line that failed and no want of memory
+told_whole : (n : ℕ) (v w : Verdict) (old new : Option (List ℕ)) (e0 e1 : ℕ) → IsOr v w → IsTold n w old new e0 e1 → n ≢ 5 → n ≢ 7 → new ≡ appended old (line_of v)
+told_whole n v w old new e0 e1 (inl e) (inl p) h5 h7 = p.1 ∙ ap (λ x. appended old (line_of x)) e
+told_whole n v w old new e0 e1 (inr q) (inl p) h5 h7 = absurd (h7 (p.0 ∙ ap number_of q.0))
+told_whole n v w old new e0 e1 o (inr p) h5 h7 = absurd (h5 p.0)
+
+pub serves_so : (n : ℕ) (app : App) (options : ServeOptions) (end : Served) (w : Verdict) (m : Meaning) (out0 begun out1 err0 silent err1 : Option (List ℕ)) (e0 e1 : ℕ) →
+    begun ≡ out0 → silent ≡ err0 → ServesAt end app (limits_of options) m begun out1 → IsOr (Verdict.Served end) w → IsTold n w silent err1 e0 e1 →
+    Serves n app options m out0 out1 err0 err1
+serves_so n app options end w m out0 begun out1 err0 silent err1 e0 e1 same quiet h o l =
+    let P : Option (List ℕ) → Type 0 = λ x. ServesAt end app (limits_of options) m x out1 in
+    let Q : Option (List ℕ) → Type 0 = λ x. err1 ≡ appended x (line_of (Verdict.Served end)) in
+    record {
+      end = end;
+      serves = subst P same h;
+      status = status_or n (Verdict.Served end) w silent err1 e0 e1 o l;
+      err = λ h5 h7. subst Q quiet (told_whole n (Verdict.Served end) w silent err1 e0 e1 o l h5 h7);
+    }
+
+-- where memory ran out as the words were read
+pub serves_nobody : (n : ℕ) (app : App) (options : ServeOptions) (m : Meaning) (out0 out1 err0 err1 : Option (List ℕ)) →
+    IsFresh m → out1 ≡ out0 → (n ≡ 5) ⊎ (n ≡ 7) → Serves n app options m out0 out1 err0 err1
+serves_nobody n app options m out0 out1 err0 err1 fresh same e = record {
+  end = Served.Memory;
+  serves = nobody_served app (limits_of options) m out0 out1 fresh same;
+  status = inr ((λ z. absurd (omega (arith, z))), e);
+  err = by e;
+}
+  where
+    by : (n ≡ 5) ⊎ (n ≡ 7) → n ≢ 5 → n ≢ 7 → err1 ≡ appended err0 (line_of (Verdict.Served Served.Memory))
+    by (inl e) h5 h7 = absurd (h5 e)
+    by (inr e) h5 h7 = absurd (h7 e)
+
+-- ---- its status
+
+listener_of : (end : Served) → number_of (Verdict.Served end) ≡ 10 → end ≡ Served.Listener
+listener_of Served.Finished e = absurd (omega arith)
+listener_of Served.Listener e = refl
+listener_of Served.WriteFault e = absurd (omega arith)
+listener_of Served.Memory e = absurd (omega arith)
+
+write_fault_of : (end : Served) → number_of (Verdict.Served end) ≡ 5 → end ≡ Served.WriteFault
+write_fault_of Served.Finished e = absurd (omega arith)
+write_fault_of Served.Listener e = absurd (omega arith)
+write_fault_of Served.WriteFault e = refl
+write_fault_of Served.Memory e = absurd (omega arith)
+
+-- status 10 is told of a listener that failed alone
+pub is_listener : (n : ℕ) (end : Served) → IsStatusOf n (Verdict.Served end) → n ≡ 10 → end ≡ Served.Listener
+is_listener n end (inl p) e = listener_of end (sym p ∙ e)
+is_listener n end (inr (_, inl p)) e = absurd (let q = sym p ∙ e in omega arith)
+is_listener n end (inr (_, inr p)) e = absurd (let q = sym p ∙ e in omega arith)
+
+other_number : (end : Served) (m : ℕ) → m ≢ 0 → m ≢ 5 → m ≢ 7 → m ≢ 10 → number_of (Verdict.Served end) ≡ m → ⊥
+other_number Served.Finished m h0 h5 h7 h10 e = h0 (sym e)
+other_number Served.Listener m h0 h5 h7 h10 e = h10 (sym e)
+other_number Served.WriteFault m h0 h5 h7 h10 e = h5 (sym e)
+other_number Served.Memory m h0 h5 h7 h10 e = h7 (sym e)
+
+-- a server has the statuses 0, 5, 7 and 10 alone
+pub no_other_status : (P : Type 0) (n m : ℕ) (end : Served) → IsStatusOf n (Verdict.Served end) → n ≡ m → m ≢ 0 → m ≢ 5 → m ≢ 7 → m ≢ 10 → P
+no_other_status P n m end (inl p) e h0 h5 h7 h10 = absurd (other_number end m h0 h5 h7 h10 (sym p ∙ e))
+no_other_status P n m end (inr (_, inl p)) e h0 h5 h7 h10 = absurd (h5 (sym e ∙ p))
+no_other_status P n m end (inr (_, inr p)) e h0 h5 h7 h10 = absurd (h7 (sym e ∙ p))
+
+-- the lines of faults, where the call had left err as it was
+pub fault_lines : (n : ℕ) (w : Verdict) (err0 silent err1 : Option (List ℕ)) (e0 e1 : ℕ) → silent ≡ err0 → IsTold n w silent err1 e0 e1 → HasFaultLine n err0 err1
+fault_lines n w err0 silent err1 e0 e1 quiet l =
+    let P : Option (List ℕ) → Type 0 = λ x. HasFaultLine n x err1 in
+    subst P quiet (record { read = read_line n w silent err1 e0 e1 l; memory = no_memory_line n w silent err1 e0 e1 l })
+
+-- a verdict that is a write fault is that of the server
+written_off : (end : Served) (w : Verdict) → IsOr (Verdict.Served end) w → number_of w ≡ 5 → end ≡ Served.WriteFault
+written_off end w (inl e) h = write_fault_of end (sym (ap number_of e) ∙ h)
+written_off end w (inr q) h = absurd (let z = sym (ap number_of q.0) ∙ h in omega arith)
+
+pub fails_at_a_line : (n : ℕ) (end : Served) (w : Verdict) (err0 silent err1 : Option (List ℕ)) (w0 begun w1 e0 still e1 : ℕ) → begun ≡ w0 → silent ≡ err0 → still ≡ e0 →
+    (end ≡ Served.WriteFault → HasRisen begun w1) → IsOr (Verdict.Served end) w → IsTold n w silent err1 still e1 → n ≡ 5 → FailsToWrite err0 err1 w0 w1 e0 e1
+fails_at_a_line n end w err0 silent err1 w0 begun w1 e0 still e1 out_as_it_was quiet faultless risen o l e =
+    let P : ℕ → Type 0 = λ x. FailsToWrite err0 err1 x w1 e0 e1 in
+    let Q : Option (List ℕ) → Type 0 = λ x. FailsToWrite x err1 begun w1 e0 e1 in
+    let R : ℕ → Type 0 = λ x. FailsToWrite silent err1 begun w1 x e1 in
+    subst P out_as_it_was (subst Q quiet (subst R faultless (fails n w silent err1 begun w1 still e1 (λ h. risen (written_off end w o h)) l e)))
