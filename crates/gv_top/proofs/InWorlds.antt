@@ -44,7 +44,7 @@ use Rattle.machine.specs.TraceLaws.{meets_laws}
 part_of_all : (log : List LogEntry) (answers : List Answer) (stands : List LogEntry → Type 0) → stands log × (answers_of log ≡ answers) → IsPartLogged log answers stands
 part_of_all log answers stands h = record { part = log; later = []; is = sym (append-nil log); all = h.1; stood = h.0 }
 
-part_logged : (end : End) (log : List LogEntry) (answers : List Answer) (stands : List LogEntry → Type 0) → HasLogged end log answers stands → IsPartLogged log answers stands
+pub part_logged : (end : End) (log : List LogEntry) (answers : List Answer) (stands : List LogEntry → Type 0) → HasLogged end log answers stands → IsPartLogged log answers stands
 part_logged End.WriteFault log answers stands h = h
 part_logged End.Memory log answers stands h = h
 part_logged End.MainValue log answers stands h = part_of_all log answers stands h

@@ -5,3 +5,4 @@ pub mod InWorlds
 pub mod Reasons
 pub mod Built
 pub mod Servings
+pub mod Storms

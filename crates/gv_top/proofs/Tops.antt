@@ -14,7 +14,7 @@ use Rattle.gv_top.specs.declared.words.Command.{Command}
 use Rattle.command_words.specs.declared.command.TextCommand.{TextCommand}
 use Rattle.trace_text.specs.LineTexts.{text_of}
 use Rattle.scenario_tree.specs.declared.tree.Scenario.{Scenario}
-use Rattle.gv_top.specs.Answers.{Answer, answer_to, judged, memory_line, most_read, read_fault_line, write_fault_line}
+use Rattle.gv_top.specs.Answers.{Answer, answer_to, answer_to_storm, judged, memory_line, most_read, read_fault_line, write_fault_line}
 use Rattle.gv_top.specs.Verdicts.{number_of, line_of}
 use Rattle.gv_top.specs.Top.{Fits, Decided, CameTo, Ended, FailsToWrite, IsOr, IsStatusOf, IsTold, IsTried, AnswersConnection, IsAnswered, IsOfConnection, HasFaultLine, HasLawfulLines, RanScenarioSo}
 
@@ -74,7 +74,7 @@ said : (n : ℕ) (v : Verdict) (old new : Option (List ℕ)) (e0 e1 : ℕ) → I
 said n v old new e0 e1 (inl p) h5 = record { number = p.0; line = p.1 }
 said n v old new e0 e1 (inr p) h5 = absurd (h5 p.0)
 
-answered : (n : ℕ) (v : Verdict) (a : Answer) (out0 out1 err0 err1 : Option (List ℕ)) (e0 e1 : ℕ) →
+pub answered : (n : ℕ) (v : Verdict) (a : Answer) (out0 out1 err0 err1 : Option (List ℕ)) (e0 e1 : ℕ) →
     Decided v a out0 out1 → IsTold n v err0 err1 e0 e1 → IsAnswered n a out0 out1 err0 err1
 answered n v a out0 out1 err0 err1 e0 e1 d l =
     let c = decided v a out0 out1 d in
@@ -99,6 +99,7 @@ out_of_memory v app c after stands in0 in1 out0 out1 r0 r1 w0 w1 h n0 n5 =
       unread = λ text is e. absurd (omega arith);
       unprinted = λ is h0 h5. h.unprinted is n0 n5;
       read_whole = λ text is h4 h7. absurd (h7 refl);
+      storm = λ size is. ((λ e. omega arith), prefix_of v (answer_to_storm size) out0 out1 (decided v (answer_to_storm size) out0 out1 (h.storm size is).1));
       native = λ text is h4 left told s j options workers e w h5 h7. absurd (h7 refl);
     }
 
@@ -113,6 +114,7 @@ out_of_memory_at_once app c after stands input out reads writes =
       unread = λ text is e. refl;
       unprinted = λ is h0 h5. refl;
       read_whole = λ text is h4 h7. absurd (h7 refl);
+      storm = λ size is. ((λ e. omega arith), AppendsPrefix-nothing out (answer_to_storm size).out);
       native = λ text is h4 left told s j options workers e w h5 h7. absurd (h7 refl);
     }
 

@@ -14,8 +14,9 @@ use Rattle.wsgi_core.specs.Applications.{App}
 use Rattle.wsgi_core.specs.Sessions.{answers}
 use Rattle.wsgi_connection.specs.Connections.{whole_session}
 use Rattle.gv_top.specs.Running.{run_of}
+use Rattle.gv_top.specs.Storm.{storm_run, storm_text, summary}
 use Rattle.gv_top.specs.declared.words.Command.{Command}
-use Rattle.gv_top.specs.declared.words.Command.TheVariants.{Text, Wsgi}
+use Rattle.gv_top.specs.declared.words.Command.TheVariants.{Text, Wsgi, Storm}
 use Rattle.command_words.specs.declared.command.TextCommand.{TextCommand}
 use Rattle.command_words.specs.declared.command.TextCommand.TheVariants.{Run, Format}
 use Rattle.machine.specs.Run.{Ran, End}
@@ -79,6 +80,14 @@ answer_to_scenario Format given s = formatted s
 unfoldable pub answer_to_text : TextCommand → List Given → List ℕ → Answer
 answer_to_text command given bytes = elim (judged bytes) [ Ok s ↦ answer_to_scenario command given s | Err place ↦ refusal place ]
 
+-- what is answered to this run as the storm of n greenlets: the summary, and the status and the line of its end
+abbrev pub answer_of_storm : ℕ → Ran → Answer
+answer_of_storm n r = record { status = status_of r.end; out = summary n r; err = err_of r.end }
+
+-- what `storm` answers: its text is read, checked and run
+unfoldable pub answer_to_storm : ℕ → Answer
+answer_to_storm n = elim (judged (storm_text n)) [ Ok s ↦ answer_of_storm n (storm_run s) | Err place ↦ refusal place ]
+
 -- what `wsgi` answers where a session sent this: one that did not close met the limit of the connection
 abbrev pub answer_of_session : Sent → Answer
 answer_of_session s = record {
@@ -101,6 +110,7 @@ abbrev pub answer_to : App → Option Command → List Given → List ℕ → An
 answer_to app None given left = usage
 answer_to app (Some (Text command)) given left = answer_to_text command given (take most_read left)
 answer_to app (Some Wsgi) given left = answer_of_session (whole_session answers app no_port left)
+answer_to app (Some (Storm n)) given left = answer_to_storm n
 
 abbrev pub read_fault_line : List ℕ
 read_fault_line = line (codes "read fault")

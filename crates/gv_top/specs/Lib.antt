@@ -1,3 +1,5 @@
+pub mod Storm
+pub mod Counted
 pub mod Running
 pub mod Answers
 pub mod Refusals

@@ -25,7 +25,7 @@ use Rattle.wsgi_connection.specs.declared.connection.ConnectionEnd.{ConnectionEn
 use Rattle.gv_top.specs.declared.status.Verdict.{Verdict}
 use Rattle.gv_top.specs.declared.words.Command.{Command}
 use Rattle.gv_top.specs.Running.{RanNatively, run_of}
-use Rattle.gv_top.specs.Answers.{Answer, answer_to, judged, memory_line, most_read, no_port, read_fault_line, write_fault_line}
+use Rattle.gv_top.specs.Answers.{Answer, answer_to, answer_to_storm, judged, memory_line, most_read, no_port, read_fault_line, write_fault_line}
 use Rattle.gv_top.specs.Verdicts.{number_of, line_of}
 
 -- ---- a verdict
@@ -79,6 +79,8 @@ pub record CameTo (v : Verdict) (app : App) (command : Option Command) (after : 
   -- any other text was read to its end, or to one byte past the most
   pub read_whole : (text : TextCommand) → command ≡ Some (Command.Text text) → number_of v ≢ 4 → number_of v ≢ 7 →
       (left : List ℕ) → in0 ≡ Some left → in1 ≡ Some (drop most_read left)
+  -- a storm reads no input, and is answered whatever that is
+  pub storm : (size : ℕ) → command ≡ Some (Command.Storm size) → (number_of v ≢ 4) × Decided v (answer_to_storm size) out0 out1
   -- native workers were begun and asked as the words want
   pub native : (text : TextCommand) → command ≡ Some (Command.Text text) → number_of v ≢ 4 →
       (left : List ℕ) → in0 ≡ Some left → RanSo (number_of v) text (take most_read left) after stands

@@ -10,14 +10,14 @@ use Rattle.command_words.specs.declared.command.ServeOptions.{ServeOptions}
 use Rattle.command_words.specs.declared.command.TextCommand.{TextCommand}
 use Rattle.command_words.specs.declared.command.TextCommand.TheVariants.{Run, Format}
 use Rattle.gv_top.specs.declared.words.Command.{Command}
-use Rattle.gv_top.specs.declared.words.Command.TheVariants.{Text, Wsgi}
+use Rattle.gv_top.specs.declared.words.Command.TheVariants.{Text, Wsgi, Storm}
 
 -- the command, if it is built and needs no net
 abbrev pub built : NamedCommand → Option Command
 built (named.Text command) = Some (Text command)
 built named.Wsgi = Some Wsgi
 built (named.Serve options) = None
-built (named.Storm n) = None
+built (named.Storm n) = Some (Storm n)
 
 -- the command that the words name, if they name one that is built and needs no net
 abbrev pub command_of : List Word → Option Command
@@ -46,4 +46,14 @@ is_native_text Format = false
 abbrev pub is_native : Option Command → Bool
 is_native (Some (Text command)) = is_native_text command
 is_native (Some Wsgi) = false
+is_native (Some (Storm n)) = false
 is_native None = false
+
+-- ---- the input
+
+-- the command reads its input
+abbrev pub reads_input : Option Command → Bool
+reads_input (Some (Text command)) = true
+reads_input (Some Wsgi) = true
+reads_input (Some (Storm n)) = false
+reads_input None = false

@@ -6,6 +6,7 @@ mod reading;
 mod running;
 mod serving;
 mod status;
+mod storming;
 mod top;
 mod words;
 

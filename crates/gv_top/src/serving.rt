@@ -9,12 +9,12 @@ ghost use Rattle.scenario_rules.specs.Rules.{IsWellFormed};
 ghost use Rattle.scenario_tree.specs.declared.tree.Scenario.{Scenario as AnyScenario};
 ghost use Rattle.stream_net.specs.Nets.{IsFresh};
 ghost use Rattle.serve_command.specs.Served.{ServesAt};
-ghost use Rattle.gv_top.specs.Answers.{answer_to, formatted, most_read, refusal};
+ghost use Rattle.gv_top.specs.Answers.{answer_to, answer_to_storm, formatted, most_read, refusal};
 ghost use Rattle.gv_top.specs.Running.{RanNatively, run_of};
 ghost use Rattle.gv_top.specs.Refusals.{IsRefusedAt};
 ghost use Rattle.gv_top.specs.Serving.{Serves, limits_of};
 ghost use Rattle.gv_top.specs.Top.{AnswersConnection, AnswersRun, BlocksAtQuiet, Ended, FailsToWrite, HasFaultLine, HasLawfulLines, IsAnswered};
-ghost use Rattle.gv_top.specs.Words.{command_of, is_native, serve_of};
+ghost use Rattle.gv_top.specs.Words.{command_of, is_native, reads_input, serve_of};
 ghost use Rattle.gv_top.specs.declared.words.Command.{Command};
 ghost use Rattle.command_words.specs.declared.command.RunWorld.{RunWorld};
 ghost use Rattle.command_words.specs.declared.command.TextCommand.{TextCommand};
@@ -136,6 +136,12 @@ pub fn gvr<S: Source, K: Sink, E: Sink, W: World, N: Net, A: Application, H: Wai
     // A connection is answered: out has what the session of the application sends for the bytes that were read.
     ensures connection { command_of (map string_bytes words.now) ≡ Some Command.Wsgi →
         AnswersConnection result (A.answer_of app.now) (S.remaining input.old) (S.remaining input.new) (K.written out.old) (K.written out.new) }
+    // A storm is run: out has its summary, and the status and the line on err are those of its end. Its text is read and
+    // checked as any other.
+    ensures storm { (size : ℕ) → command_of (map string_bytes words.now) ≡ Some (Command.Storm size) →
+        (result ≢ 4) × IsAnswered result (answer_to_storm size) (K.written out.old) (K.written out.new) (E.written err.old) (E.written err.new) }
+    // It reads no input; neither does `serve`, nor do words that are no command.
+    ensures untouched_input { reads_input (command_of (map string_bytes words.now)) ≡ false → input.new ≡ input.old }
     // The status, what out has and what err has are the answer's, but with the statuses 4, 5 and 7.
     ensures answer { (left : List ℕ) → serve_of (map string_bytes words.now) ≡ None → S.remaining input.old ≡ Some left →
         IsAnswered result (answer_to (A.answer_of app.now) (command_of (map string_bytes words.now)) (W.meaning native.new).answers left)
@@ -166,7 +172,6 @@ pub fn gvr<S: Source, K: Sink, E: Sink, W: World, N: Net, A: Application, H: Wai
     ensures served { (options : AnyServer) → serve_of (map string_bytes words.now) ≡ Some options →
         Serves result (A.answer_of app.now) options (N.meaning net.new) (K.written out.old) (K.written out.new) (E.written err.old) (E.written err.new) }
     ensures network_fault { result ≡ 10 → IsSome (serve_of (map string_bytes words.now)) × HasRisen (N.meaning net.old).faults (N.meaning net.new).faults }
-    ensures input_alone { IsSome (serve_of (map string_bytes words.now)) → input.new ≡ input.old }
     ensures net_alone { serve_of (map string_bytes words.now) ≡ None → net.new ≡ net.old }
     ensures net_never_falls { (N.meaning net.old).faults ≤ (N.meaning net.new).faults }
     ensures input_never_falls { S.faults input.old ≤ S.faults input.new }

@@ -1,10 +1,11 @@
 //! How a call ends: its status and its line on err.
 ghost use Rattle.std.specs.Prelude.{◌≡◌, List, OnOk, IfOk};
-ghost use Rattle.gv_top.specs.Verdicts.{HasReason, IsExplained, number_of, line_of};
+ghost use Rattle.gv_top.specs.Verdicts.{HasReason, IsExplained, number_of, line_of, verdict_on};
 
 use gv_values::{FaultKind, decimal_text, fault_text};
 use hub_engine::End;
 use scenario_grammar::{Place, reason_text};
+use scenario_lang::ParseRefusal;
 use serve_command::Served;
 use std::alloc::{AllocError, Global};
 use wsgi_connection::ConnectionEnd;
@@ -91,6 +92,16 @@ impl Verdict {
             Verdict::Served(Served::WriteFault) => line_with(alloc, b"write fault"),
             Verdict::Served(Served::Memory) => line_with(alloc, b"out of memory"),
         }
+    }
+}
+
+/// The verdict on a text that no scenario was read of.
+pub fn verdict_on(refusal: ParseRefusal) -> Verdict
+    ensures { result ≡ verdict_on refusal }
+{
+    match refusal {
+        ParseRefusal::Refused(place) => Verdict::Refused(place),
+        ParseRefusal::Memory => Verdict::Ran(End::Memory),
     }
 }
 

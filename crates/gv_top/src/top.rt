@@ -9,17 +9,18 @@ ghost use Rattle.scenario_rules.specs.Rules.{IsWellFormed};
 ghost use Rattle.scenario_tree.specs.declared.tree.Scenario.{Scenario as AnyScenario};
 ghost use Rattle.command_words.specs.declared.command.Command.{Command as NamedCommand};
 ghost use Rattle.command_words.specs.Ranges.{IsInRange};
-ghost use Rattle.gv_top.specs.Answers.{answer_to, answer_to_scenario, answer_to_text, formatted, memory_line, most_read, refusal, write_fault_line};
+ghost use Rattle.gv_top.specs.Answers.{answer_to, answer_to_scenario, answer_to_storm, answer_to_text, formatted, memory_line, most_read, refusal, write_fault_line};
 ghost use Rattle.gv_top.specs.Running.{RanNatively, run_of};
 ghost use Rattle.gv_top.specs.declared.status.Verdict.{Verdict as AnyVerdict};
 ghost use Rattle.gv_top.specs.Refusals.{IsRefusedAt};
 ghost use Rattle.gv_top.specs.Top.{AnswersConnection, AnswersRun, BlocksAtQuiet, CameTo, Decided, Ended, FailsToWrite, HasFaultLine, HasLawfulLines, IsAnswered, IsOfConnection, IsOr, IsTold, RanScenarioSo, RanSo};
-ghost use Rattle.gv_top.specs.Verdicts.{IsExplained, line_of, number_of, verdict_on};
-ghost use Rattle.gv_top.specs.Words.{command_of, is_native, is_native_text, serve_of};
+ghost use Rattle.gv_top.specs.Verdicts.{IsExplained, line_of, number_of};
+ghost use Rattle.gv_top.specs.Words.{command_of, is_native, is_native_text, reads_input, serve_of};
 
 use crate::reading::read_scenario;
 use crate::running::run_scenario;
-use crate::status::Verdict;
+use crate::status::{Verdict, verdict_on};
+use crate::storming::answer_storm;
 use crate::words::{Command, server_options, without_a_net};
 use command_words::{RunWorld, TextCommand, command_of, commands_are_in_range};
 use gv_io::{Failed, ReadRefusal, Sink, Source, read_limited};
@@ -27,7 +28,7 @@ use hub_engine::End;
 use machine_blocks::blocks_are_told;
 use machine_laws::blocks_are_quiet;
 use scenario_check::Checked;
-use scenario_lang::{ParseRefusal, Scenario, print};
+use scenario_lang::{Scenario, print};
 use std::alloc::Global;
 use world::World;
 use wsgi_connection::answer_connection;
@@ -58,6 +59,7 @@ fn decides<S: Source, K: Sink, W: World, A: Application>(
     ensures rests { (W.meaning native.new).runs ≡ false }
     ensures connection { IfSome result (λ verdict. command_of (map string_bytes words.now) ≡ Some Command.Wsgi →
         IsOfConnection verdict (A.answer_of app.now) (S.remaining input.old) (S.remaining input.new) (K.written out.old) (K.written out.new)) }
+    ensures untouched_input { reads_input (command_of (map string_bytes words.now)) ≡ false → input.new ≡ input.old }
     ensures explained { IfSome result IsExplained }
     ensures serve { IfNone result (IsSome (serve_of (map string_bytes words.now))) }
     ensures not_serve { IfSome result (λ verdict. IsSome (serve_of (map string_bytes words.now)) → number_of verdict ≡ 7) }
@@ -104,6 +106,8 @@ fn answers_command<S: Source, K: Sink, W: World, A: Application>(
     ensures rests { (W.meaning native.new).runs ≡ false }
     ensures connection { command ≡ Some Command.Wsgi →
         IsOfConnection result (A.answer_of app.now) (S.remaining input.old) (S.remaining input.new) (K.written out.old) (K.written out.new) }
+    ensures storm { (size : ℕ) → command ≡ Some (Command.Storm size) → (number_of result ≢ 4) × Decided result (answer_to_storm size) (K.written out.old) (K.written out.new) }
+    ensures untouched_input { reads_input command ≡ false → input.new ≡ input.old }
     ensures read_fault { number_of result ≡ 4 → HasRisen (S.faults input.old) (S.faults input.new) }
     ensures write_fault { number_of result ≡ 5 → HasRisen (K.faults out.old) (K.faults out.new) }
     ensures unread { (text : TextCommand) → command ≡ Some (Command.Text text) → number_of result ≡ 4 → K.written out.new ≡ K.written out.old }
@@ -121,6 +125,7 @@ fn answers_command<S: Source, K: Sink, W: World, A: Application>(
             let end = answer_connection::<Session, S, K, A>(alloc, NO_PORT, input, out, app);
             Verdict::Connection(end)
         }
+        Some(Command::Storm(size)) => answer_storm(alloc, size, out),
     }
 }
 
@@ -188,16 +193,6 @@ fn answers_text<K: Sink, W: World>(
     }
 }
 
-/// The verdict on a text that no scenario was read of.
-fn verdict_on(refusal: ParseRefusal) -> Verdict
-    ensures { result ≡ verdict_on refusal }
-{
-    match refusal {
-        ParseRefusal::Refused(place) => Verdict::Refused(place),
-        ParseRefusal::Memory => Verdict::Ran(End::Memory),
-    }
-}
-
 /// Runs the scenario, or writes its printed form.
 fn answers_scenario<K: Sink, W: World>(
     alloc: Global,
@@ -253,7 +248,7 @@ fn formats<K: Sink>(alloc: Global, scenario: &Scenario, out: &mut K) -> Verdict
 
 /// Writes the bytes to the sink, and hands them on.
 #[tactic(auto, using(gv_io::proofs::StreamLaws::writes))]
-fn sends<K: Sink>(sink: &mut K, bytes: &[u8]) -> Result<(), Failed>
+pub(crate) fn sends<K: Sink>(sink: &mut K, bytes: &[u8]) -> Result<(), Failed>
     ensures ok { OnOk result (K.written sink.new ≡ appended (K.written sink.old) bytes.now) }
     ensures cut { OnErr result (AppendsPrefix (K.written sink.old) (K.written sink.new) bytes.now) }
     ensures failed { OnErr result (HasRisen (K.faults sink.old) (K.faults sink.new)) }
@@ -326,11 +321,12 @@ pub fn tells<E: Sink>(alloc: Global, verdict: Verdict, err: &mut E) -> u8
 /// `run` reads a scenario, runs it within its budgets of turns and moves, and writes its trace to out. The run is that
 /// of a script with the tick of the words; or, with native workers, one in the world `native`, which is begun before it
 /// and finished after it and is left alone otherwise. `fmt` reads a scenario, and writes its printed form to out.
-/// `wsgi` reads the bytes of one connection, and writes the answers of the application to out (PEP 3333; RFC 9112).
+/// `wsgi` reads the bytes of one connection, and writes the answers of the application to out (PEP 3333; RFC 9112). `storm`
+/// runs many greenlets that hand one unit on, and writes the numbers of that run to out.
 ///
 /// The statuses, of which 4, 5 and 7 (want of memory) come before every other:
 ///
-/// - 0: the run's main ended with a value, or `fmt` or `wsgi` came to its end.
+/// - 0: the run's main ended with a value, or `fmt`, `wsgi` or `storm` came to its end.
 /// - 1: the run's main ended by a fault.
 /// - 2: the words are no command.
 /// - 3: the input spells no well-formed scenario.
@@ -383,6 +379,12 @@ pub fn offline<S: Source, K: Sink, E: Sink, W: World, A: Application>(
     // A connection is answered: out has what the session of the application sends for the bytes that were read.
     ensures connection { IfSome result (λ status. command_of (map string_bytes words.now) ≡ Some Command.Wsgi →
         AnswersConnection status (A.answer_of app.now) (S.remaining input.old) (S.remaining input.new) (K.written out.old) (K.written out.new)) }
+    // A storm is run: out has its summary, and the status and the line on err are those of its end. Its text is read and
+    // checked as any other.
+    ensures storm { IfSome result (λ status. (size : ℕ) → command_of (map string_bytes words.now) ≡ Some (Command.Storm size) →
+        (status ≢ 4) × IsAnswered status (answer_to_storm size) (K.written out.old) (K.written out.new) (E.written err.old) (E.written err.new)) }
+    // It reads no input; neither do words that are no command.
+    ensures untouched_input { reads_input (command_of (map string_bytes words.now)) ≡ false → input.new ≡ input.old }
     // The status, what out has and what err has are the answer's, but with the statuses 4, 5 and 7.
     ensures answer { IfSome result (λ status. (left : List ℕ) → S.remaining input.old ≡ Some left →
         IsAnswered status (answer_to (A.answer_of app.now) (command_of (map string_bytes words.now)) (W.meaning native.new).answers left)

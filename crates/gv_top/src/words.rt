@@ -11,6 +11,8 @@ pub enum Command {
     Text(TextCommand),
     /// Answer the connection whose bytes the input gives.
     Wsgi,
+    /// Run the storm of so many greenlets.
+    Storm(u32),
 }
 
 /// The command, if it is built and needs no net.
@@ -21,7 +23,7 @@ fn built(command: NamedCommand) -> Option<Command>
         NamedCommand::Text(command) => Some(Command::Text(command)),
         NamedCommand::Wsgi => Some(Command::Wsgi),
         NamedCommand::Serve(_) => None,
-        NamedCommand::Storm(_) => None,
+        NamedCommand::Storm(size) => Some(Command::Storm(size)),
     }
 }
 

@@ -16,4 +16,6 @@ mod run_tests;
 #[cfg(test)]
 mod serve_tests;
 #[cfg(test)]
+mod storm_tests;
+#[cfg(test)]
 mod words_tests;

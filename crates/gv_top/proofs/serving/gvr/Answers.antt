@@ -33,6 +33,9 @@ returns-in-None-clause-refused g c = λ command left wanted told none. names_ano
 pub returns-in-None-clause-connection : goal.returns-in-None-clause-connection
 returns-in-None-clause-connection g c = λ named. names_another _ (map string_bytes c.args.words.now) _ c.in-None.ensures.serve named
 
+pub returns-in-None-clause-storm : goal.returns-in-None-clause-storm
+returns-in-None-clause-storm g c = λ size named. names_another _ (map string_bytes c.args.words.now) _ c.in-None.ensures.serve named
+
 pub returns-in-None-clause-answer : goal.returns-in-None-clause-answer
 returns-in-None-clause-answer g c = λ left none told. none_named _ _ c.in-None.ensures.serve none
 

@@ -1,5 +1,5 @@
 use Rattle.std.proofs.Common.{ap, map, option_and_then, string_bytes, sym, ◌∙◌}
-use Rattle.gv_top.specs.Words.{built, is_native, serving}
+use Rattle.gv_top.specs.Words.{built, is_native, reads_input, serving}
 use Rattle.gv_top.proofs.Deciding.{nothing_exchanged}
 use Rattle.gv_top.proofs.Built.{in_range}
 use Rattle.gv_top.proofs.Servings.{is_some, none_named}
@@ -34,6 +34,7 @@ returns-in-None-clause-came_to g c =
       unread = d.unread;
       unprinted = d.unprinted;
       read_whole = λ text is h4 h7 left told. d.read_whole text is left told h4 h7;
+      storm = d.storm;
       native = d.native;
     })
 
@@ -60,3 +61,6 @@ returns-in-None-clause-out_alone g c = λ named. none_named _ _ named (ap (optio
 
 pub returns-in-None-clause-native_alone : goal.returns-in-None-clause-native_alone
 returns-in-None-clause-native_alone g c = λ named. none_named _ _ named (ap (option_and_then serving) (sym c.in-Ok.ensures) ∙ sym c.server_options.ensures ∙ c.in-None.is)
+
+pub returns-in-None-clause-untouched_input : goal.returns-in-None-clause-untouched_input
+returns-in-None-clause-untouched_input g c = λ h. c.answers_command.ensures.untouched_input (ap reads_input (c.without_a_net-command.ensures ∙ ap (option_and_then built) c.in-Ok.ensures) ∙ h)

@@ -4,6 +4,7 @@ use Rattle.gv_top.proofs.ReadTexts.{answered_as, answered_so, answers_run, refus
 use Rattle.gv_top.proofs.Tops.{answers_connection, ended, fails_to_write, fault_line, is_answered, is_silent, lawful_told, prints_nothing, ran_so, reads_whole, status_is, usage_status}
 use Rattle.gv_top.proofs.InWorlds.{quiet_blocks}
 use Rattle.gv_top.proofs.Servings.{names_no_server, no_memory_status, no_network_fault}
+use Rattle.gv_top.proofs.Storms.{answers_storm}
 use Rattle.gv_top.proofs.top.offline.Goals as goal
 
 pub returns-in-Some-clause-ended : goal.returns-in-Some-clause-ended
@@ -40,6 +41,9 @@ returns-in-Some-clause-refused g c = λ command left wanted told none.
 pub returns-in-Some-clause-connection : goal.returns-in-Some-clause-connection
 returns-in-Some-clause-connection g c = λ named.
     let t = c.tells.ensures.told in answers_connection _ _ t.0 _ _ _ _ _ _ _ _ _ t.1 t.2 (c.in-Some.ensures.connection named)
+
+pub returns-in-Some-clause-storm : goal.returns-in-Some-clause-storm
+returns-in-Some-clause-storm g c = λ size named. answers_storm size (returns-in-Some-clause-ended g c) named
 
 pub returns-in-Some-clause-answer : goal.returns-in-Some-clause-answer
 returns-in-Some-clause-answer g c = λ left told. is_answered (returns-in-Some-clause-ended g c) left told

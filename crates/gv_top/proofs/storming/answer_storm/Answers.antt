@@ -1,0 +1,16 @@
+use Rattle.std.proofs.Common.{◌∙◌}
+use Rattle.gv_io.proofs.StreamLaws.{AppendsPrefix-nothing}
+use Rattle.gv_top.specs.declared.status.Verdict.{Verdict}
+use Rattle.gv_top.proofs.Storms.{storm_decided, storm_refused}
+use Rattle.gv_top.proofs.storming.answer_storm.Goals as goal
+
+pub returns-in_default-clause-answer : goal.returns-in_default-clause-answer
+returns-in_default-clause-answer g c = AppendsPrefix-nothing _ _
+
+pub returns-in-Err-clause-answer : goal.returns-in-Err-clause-answer
+returns-in-Err-clause-answer g c = storm_refused c.args.size c.as_slice.result.now c.in-Err.refusal _ _ (c.as_slice.ensures.value ∙ c.in-Ok.ensures) c.verdict_on.ensures c.in-Err.ensures.judged
+
+pub returns-clause-answer : goal.returns-clause-answer
+returns-clause-answer g c =
+    storm_decided c.args.size c.in-Ok-read_scenario.checked c.as_slice.result.now (Verdict.Ran c.sums_up.result) (g.K.Sink.written c.args.out.now) (g.K.Sink.written c.sums_up.new.out)
+    (c.as_slice.ensures.value ∙ c.in-Ok.ensures) c.in-Ok-read_scenario.ensures.judged c.sums_up.ensures.answer

@@ -1,0 +1,20 @@
+-- The numbers of a run whose lines were counted.
+use Rattle.std.specs.Prelude.{◌≡◌, ℕ, Bool, true, false, Some}
+use Rattle.line_counter.specs.Lines.{lines_of}
+use Rattle.trace_text.specs.LineTexts.{text_of}
+use Rattle.machine.specs.Run.{Ran}
+use Rattle.hub_engine.specs.declared.run.End.{End}
+use Rattle.hub_engine.specs.declared.run.Ran.{Ran as Came}
+use Rattle.hub_engine.specs.Ends.{CountsOf, end_of_run}
+
+-- the run was broken off: its trace could not be written, or memory ran out
+abbrev pub is_broken_off : End → Bool
+is_broken_off End.WriteFault = true
+is_broken_off End.Memory = true
+is_broken_off end = false
+
+-- the run came to this end, with these numbers of its last state, and its trace has so many lines
+pub record WasCounted (came : Came) (lines : ℕ) (r : Ran) : Type 0 where
+  pub end : Some came.end ≡ end_of_run r.end
+  pub numbers : CountsOf came r.state
+  pub lines_are : lines ≡ lines_of (text_of r.lines)

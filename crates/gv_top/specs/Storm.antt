@@ -1,0 +1,37 @@
+-- The storm of many greenlets: its text, its run, and the summary of that.
+use Rattle.std.specs.Prelude.{ℕ, List, ◌++◌, length, codes}
+use Rattle.gv_values.specs.ValueTexts.{decimal}
+use Rattle.line_counter.specs.Lines.{lines_of}
+use Rattle.trace_text.specs.LineTexts.{text_of}
+use Rattle.scenario_tree.specs.declared.tree.Scenario.{Scenario}
+use Rattle.machine.specs.Run.{Ran, script_run}
+
+-- the lines before the number of greenlets, and those after it
+abbrev pub storm_head : List ℕ
+storm_head = codes "sem s 0\ngroup g\ndef w i\nacquire s within 1000\nrelease s\nend\ndef main\nlet i 1\nwhile <= i "
+
+abbrev pub storm_tail : List ℕ
+storm_tail = codes "\ngspawn g w i\nlet i + i 1\nend\nsleep 0\nrelease s\ngjoin g\nprint counter s\nend\n"
+
+-- The text of the storm of n greenlets: each waits for one unit and hands it on to the next, and main waits for all.
+unfoldable pub storm_text : ℕ → List ℕ
+storm_text n = storm_head ++ decimal n ++ storm_tail
+
+-- the run of a storm: within 10000000 turns and 100000000 moves, under the rule of a script without a tick
+unfoldable pub storm_run : Scenario → Ran
+storm_run s = script_run s 10000000 100000000 0
+
+-- a word, a number and LF
+abbrev pub count_line : List ℕ → ℕ → List ℕ
+count_line word number = word ++ codes " " ++ decimal number ++ codes "\n"
+
+-- The summary of a run as the storm of n greenlets: how many greenlets it made, how many turns and moves it began, its
+-- last moment, and how many lines its trace has.
+abbrev pub summary : ℕ → Ran → List ℕ
+summary n r =
+    count_line (codes "storm") n
+    ++ count_line (codes "greenlets") (length r.state.greenlets)
+    ++ count_line (codes "turns") r.state.turns
+    ++ count_line (codes "moves") r.state.moves
+    ++ count_line (codes "moment") r.state.moment
+    ++ count_line (codes "lines") (lines_of (text_of r.lines))

@@ -1,0 +1,150 @@
+//! The storm of many greenlets: its text, its run into a sink that counts lines, and the summary of that.
+ghost use Rattle.std.specs.Prelude.{◌≡◌, ◌≢◌, ◌≤◌, ◌++◌, IfOk, IfSome, OnOk};
+ghost use Rattle.gv_values.specs.Counts.{HasRisen};
+ghost use Rattle.machine.specs.Run.{Ran as AnyRan};
+ghost use Rattle.gv_top.specs.declared.status.Verdict.{Verdict as AnyVerdict};
+ghost use Rattle.gv_top.specs.Answers.{answer_of_storm, answer_to_storm};
+ghost use Rattle.gv_top.specs.Counted.{WasCounted, is_broken_off};
+ghost use Rattle.gv_top.specs.Storm.{count_line, storm_run, storm_text, summary};
+ghost use Rattle.gv_top.specs.Top.{Decided};
+ghost use Rattle.gv_top.specs.Verdicts.{IsExplained, number_of};
+
+use crate::reading::read_scenario;
+use crate::status::{Verdict, verdict_on};
+use crate::top::sends;
+use gv_io::Sink;
+use gv_values::decimal_text;
+use hub_engine::{Budgets, End, Engine, Ran};
+use line_counter::LineCounter;
+use machine_scripts::followers_run_scripts;
+use scenario_check::Checked;
+use std::alloc::{AllocError, Global};
+use world::{ScriptWorld, World};
+
+/// The budgets of a storm.
+const BUDGETS: Budgets = Budgets {
+    turns: 10000000,
+    moves: 100000000,
+};
+
+/// The tick of a storm's script, in milliseconds.
+const TICK: u64 = 0;
+
+/// The workers of a storm's script, which has none to start.
+const WORKERS: u32 = 1;
+
+/// A run whose lines were counted.
+#[derive(Clone, Copy)]
+struct CountedRun {
+    ran: Ran,
+    lines: u64,
+}
+
+/// The text of the storm of so many greenlets.
+#[tactic(auto, unfolding(crate::specs::Storm::storm_text))]
+fn storm_text(alloc: Global, size: u32) -> Result<Vec<u8>, AllocError>
+    ensures { IfOk result (λ text. text.items ≡ storm_text size) }
+{
+    let mut text = Vec::new(alloc);
+    text.extend_from_slice(
+        b"sem s 0\ngroup g\ndef w i\nacquire s within 1000\nrelease s\nend\ndef main\nlet i 1\nwhile <= i ",
+    )?;
+    decimal_text(u64::from(size), &mut text)?;
+    text.extend_from_slice(
+        b"\ngspawn g w i\nlet i + i 1\nend\nsleep 0\nrelease s\ngjoin g\nprint counter s\nend\n",
+    )?;
+    Ok(text)
+}
+
+/// Appends the word, the number and LF.
+fn add_count(word: &[u8], number: u64, text: &mut Vec<u8>) -> Result<(), AllocError>
+    ensures { OnOk result (text.new.items ≡ text.old.items ++ count_line word.now number) }
+{
+    text.extend_from_slice(word)?;
+    text.push(b' ')?;
+    decimal_text(number, text)?;
+    text.push(b'\n')?;
+    Ok(())
+}
+
+/// The summary of a run as the storm of so many greenlets.
+fn summary_text(alloc: Global, size: u32, run: &CountedRun) -> Result<Vec<u8>, AllocError>
+    ensures { IfOk result (λ text. (r : AnyRan) → WasCounted run.now.ran run.now.lines r → text.items ≡ summary size r) }
+{
+    let mut text = Vec::new(alloc);
+    add_count(b"storm", u64::from(size), &mut text)?;
+    add_count(b"greenlets", u64::from(run.ran.greenlets), &mut text)?;
+    add_count(b"turns", run.ran.turns, &mut text)?;
+    add_count(b"moves", run.ran.moves, &mut text)?;
+    add_count(b"moment", run.ran.moment, &mut text)?;
+    add_count(b"lines", run.lines, &mut text)?;
+    Ok(text)
+}
+
+/// The run was broken off: its trace could not be written, or memory ran out.
+fn is_broken_off(end: End) -> bool
+    ensures { result ≡ is_broken_off end }
+{
+    matches!(end, End::WriteFault | End::Memory)
+}
+
+/// Runs the scenario as a storm, and counts the lines of its trace. None: memory ran out, or there were more lines than
+/// 64 bits count.
+fn count_run(alloc: Global, checked: Checked) -> Option<CountedRun>
+    ensures { IfSome result (λ run. WasCounted run.ran run.lines (storm_run checked)) }
+{
+    followers_run_scripts();
+    let Ok(engine) = Engine::new(alloc, checked, BUDGETS) else {
+        return None;
+    };
+    let mut world = ScriptWorld::new(alloc, TICK);
+    let Ok(()) = world.begin(WORKERS) else {
+        return None;
+    };
+    let mut counter = LineCounter::new();
+    let ran = engine.run(alloc, &mut world, &mut counter);
+    if is_broken_off(ran.end) {
+        return None;
+    }
+    Some(CountedRun {
+        ran,
+        lines: counter.lines(),
+    })
+}
+
+/// Runs the scenario as the storm of so many greenlets, and writes its summary to out.
+#[tactic(auto, using(gv_io::proofs::StreamLaws::writes))]
+fn sums_up<K: Sink>(alloc: Global, size: u32, checked: Checked, out: &mut K) -> End
+    ensures answer { Decided (AnyVerdict.Ran result) (answer_of_storm size (storm_run checked)) (K.written out.old) (K.written out.new) }
+    ensures failed { result ≡ End.WriteFault → HasRisen (K.faults out.old) (K.faults out.new) }
+    ensures never_falls { K.faults out.old ≤ K.faults out.new }
+{
+    let Some(run) = count_run(alloc, checked) else {
+        return End::Memory;
+    };
+    let Ok(text) = summary_text(alloc, size, &run) else {
+        return End::Memory;
+    };
+    match sends(out, text.as_slice()) {
+        Ok(()) => run.ran.end,
+        Err(_) => End::WriteFault,
+    }
+}
+
+/// Runs the storm of so many greenlets, and writes its summary to out.
+pub fn answer_storm<K: Sink>(alloc: Global, size: u32, out: &mut K) -> Verdict
+    ensures answer { Decided result (answer_to_storm size) (K.written out.old) (K.written out.new) }
+    ensures command { number_of result ≢ 2 }
+    ensures read { number_of result ≢ 4 }
+    ensures explained { IsExplained result }
+    ensures write_fault { number_of result ≡ 5 → HasRisen (K.faults out.old) (K.faults out.new) }
+    ensures never_falls { K.faults out.old ≤ K.faults out.new }
+{
+    let Ok(text) = storm_text(alloc, size) else {
+        return Verdict::Ran(End::Memory);
+    };
+    match read_scenario(alloc, text.as_slice()) {
+        Err(refusal) => verdict_on(refusal),
+        Ok(checked) => Verdict::Ran(sums_up(alloc, size, checked, out)),
+    }
+}
