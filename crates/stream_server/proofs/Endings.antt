@@ -5,7 +5,7 @@ use Rattle.stream_net.specs.declared.net.Quiet.{Quiet}
 use Rattle.stream_net.specs.declared.net.Quiet.TheVariants.{Awake, ByRead, ByWrite}
 use Rattle.stream_server.specs.declared.limits.Limits.{Limits}
 use Rattle.stream_server.specs.Served.{Speech, IsServed, RestsBy, Cause, Closing, Ended, Failing, Idle}
-use Rattle.stream_server.specs.Serving.{IsLeft, EachTold, BeginsSo, IsClosedWell}
+use Rattle.stream_server.specs.Serving.{IsLeft, EachTold, BeginsSo, IsClosedWell, WaitsToRead}
 use Rattle.stream_net.proofs.Lists.{at_all}
 
 told_is : (o : Option (List ℕ)) (bytes all : List ℕ) → o ≡ Some bytes → IfSome o (λ b. b ≡ all) → bytes ≡ all
@@ -28,6 +28,14 @@ module _ (said : Speech) (limits : Limits) (m : Meaning) (h : IsLeft said limits
       let e = told_is c.read bytes b.fed reads b.reads in
       let f = told_is c.written out b.taken writes b.writes in
       subst (λ (z : List ℕ). Cause (said z c.ended) out limits.idle c) (sym e) (subst (λ (z : List ℕ). Cause (said b.fed c.ended) z limits.idle c) (sym f) (x.cause closed))
+
+  pub answered_of : EachTold m.connections (λ c bytes out. WaitsToRead c → out ≡ (said bytes c.ended).bytes)
+  answered_of k bytes out in' reads writes waits =
+      let c = connection_at m.connections k in
+      let x = at_all (IsServed said limits.idle) m.connections h.served k in' in
+      let e = told_is c.read bytes x.begun.fed reads x.begun.reads in
+      let f = told_is c.written out x.begun.taken writes x.begun.writes in
+      f ∙ (x.calm waits.still_open waits.by_read ∙ ap (λ (z : List ℕ). (said z c.ended).bytes) (sym e))
 
   pub whole_of : EachTold m.connections (λ c bytes out. IsClosedWell c → out ≡ (said bytes c.ended).bytes)
   whole_of k bytes out in' reads writes well = by (cause_of k bytes out in' reads writes well.closed)

@@ -6,7 +6,7 @@ use Rattle.wsgi_core.specs.Steps.{phase_by}
 use Rattle.wsgi_core.specs.declared.session.SessionPhase.{SessionPhase}
 use Rattle.stream_net.specs.Nets.{Connection, Meaning, Changes, GoesOn, IsLive, connection_at, nobody}
 use Rattle.stream_net.specs.declared.net.ReadEnd.TheVariants.{Got}
-use Rattle.stream_net.specs.declared.net.WriteEnd.TheVariants.{Took}
+use Rattle.stream_net.specs.declared.net.WriteEnd.TheVariants.{Took, Memory}
 use Rattle.stream_net.specs.Reads.{after_read, Reads}
 use Rattle.stream_net.specs.Writes.{after_write, Writes}
 use Rattle.stream_server.specs.Served.{Speech}
@@ -81,6 +81,26 @@ was_cut {T} said at idle k v w g n bytes piece pending r within h goes is feeds 
         begins = e;
       };
       still_open = h.still_open;
+      awake = refl;
+    }
+
+-- there was no memory to write
+pub was_refused : {T : Type 0} (said : Speech) (at : TalkState T) (due : T → List ℕ) (idle k : ℕ) (v w : Meaning) (g : Client T) (bytes : List ℕ) → ((fed : List ℕ) (ended : Bool) (taken : List ℕ) (s : T) → at fed ended taken s → taken ++ due s ≡ (said fed ended).bytes)
+    → Writes v w k Memory bytes → k < length v.connections → IsOpen at idle (connection_at v.connections k) g → IsCut said (connection_at w.connections k)
+was_refused {T} said at due idle k v w g bytes all_said r within h =
+    let c = connection_at v.connections k in
+    let P : Connection → Type 0 = λ d. IsCut said d in
+    subst P (sym (changed_at v w k (after_write Memory bytes w.moment r.faults) r.changes within)) record {
+      begun = record {
+        fed = h.fed;
+        taken = h.taken;
+        reads = h.reads;
+        writes = h.writes;
+        tail = due g.talk;
+        begins = sym (all_said h.fed c.ended h.taken g.talk h.is_at);
+      };
+      still_open = h.still_open;
+      awake = refl;
     }
 
 -- some of what was pending was written

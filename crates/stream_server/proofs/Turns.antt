@@ -7,7 +7,7 @@ use Rattle.std.proofs.lemmas.List.Elements.{All-nil}
 use Rattle.std.proofs.Math.Seq.{get_or-append_seam}
 use Rattle.stream_net.specs.Nets.{Connection, Meaning, Changes, IsFresh, IsLive, IsAtRest, connection_at, nobody, live_count, closed_at}
 use Rattle.stream_net.specs.declared.net.Quiet.{Quiet}
-use Rattle.stream_net.specs.declared.net.Quiet.TheVariants.{Awake}
+use Rattle.stream_net.specs.declared.net.Quiet.TheVariants.{Awake, ByRead}
 use Rattle.stream_net.specs.Accepts.{Gains, GainsNone}
 use Rattle.stream_net.specs.Waits.{Passes, named, woken, woken_if}
 use Rattle.stream_net.specs.declared.net.Ready.{Ready}
@@ -31,6 +31,9 @@ named_length Elapsed cs = refl
 pub gains_length : (v w : Meaning) (k : ℕ) → Gains v w k → length w.connections ≡ length v.connections + 1
 gains_length v w k x = ap (λ (cs : List Connection). length cs) x.connections ∙ length-append v.connections (x.connection ∷ [])
 
+not_both : (q : Quiet) → q ≡ Awake → q ≡ ByRead → ⊥
+not_both q e f = absurd (cc)
+
 never : {A : Type 0} (b : Bool) → b ≡ false → b ≡ true → A
 never b f t = absurd (cc)
 
@@ -41,15 +44,24 @@ module _ {T : Type 0} (said : Speech) (at : TalkState T) (due : T → List ℕ) 
   pub begun_of : (c : Connection) (g : Client T) → IsOpen at limits.idle c g → BeginsSaid said c
   begun_of c g h = record { fed = h.fed; taken = h.taken; reads = h.reads; writes = h.writes; tail = due g.talk; begins = sym (all_said h.fed c.ended h.taken g.talk h.is_at) }
 
-  pub served_open : (c : Connection) (g : Client T) → IsOpen at limits.idle c g → IsServed said limits.idle c
-  served_open c g h = record { begun = begun_of c g h; cause = λ closed. never c.closed h.still_open closed }
-
   pub served_cut : (c : Connection) → IsCut said c → IsServed said limits.idle c
-  served_cut c h = record { begun = h.begun; cause = λ closed. never c.closed h.still_open closed }
+  served_cut c h = record { begun = h.begun; cause = λ closed. never c.closed h.still_open closed; calm = λ _ rests. absurd (not_both c.quiet h.awake rests) }
 
   -- all was taken where nothing is pending
   pub all_taken : (c : Connection) (g : Client T) (h : IsOpen at limits.idle c g) → due g.talk ≡ [] → h.taken ≡ (said h.fed c.ended).bytes
   all_taken c g h none = sym (append-nil h.taken) ∙ ap (λ (z : List ℕ). h.taken ++ z) (sym none) ∙ all_said h.fed c.ended h.taken g.talk h.is_at
+
+  -- an open one, which rests by a read only while nothing is pending
+  pub served_open : (c : Connection) (g : Client T) → IsOpen at limits.idle c g → (c.quiet ≡ ByRead → due g.talk ≡ []) → IsServed said limits.idle c
+  served_open c g h none = record {
+    begun = record { fed = h.fed; taken = h.taken; reads = h.reads; writes = h.writes; tail = due g.talk; begins = sym (all_said h.fed c.ended h.taken g.talk h.is_at) };
+    cause = λ closed. never c.closed h.still_open closed;
+    calm = λ _ rests. all_taken c g h (none rests);
+  }
+
+  calm_none : (c : Connection) (g : Client T) → IsCalm due c g → c.quiet ≡ ByRead → due g.talk ≡ []
+  calm_none c g (inl e) f = absurd (cc)
+  calm_none c g (inr e) f = e.1
 
   pub rests_calm : (c : Connection) (g : Client T) → IsCalm due c g → c.quiet ≢ Awake
   rests_calm c g (inl e) f = absurd (cc)
@@ -57,7 +69,7 @@ module _ {T : Type 0} (said : Speech) (at : TalkState T) (due : T → List ℕ) 
 
   -- closed at its end
   pub served_over : (c : Connection) (g : Client T) (moment : ℕ) → IsOver said at due limits.idle c g → IsServed said limits.idle (closed_at moment c)
-  served_over c g moment h = record { begun = record { fed = o.fed; taken = o.taken; reads = o.reads; writes = o.writes; tail = due g.talk; begins = sym (all_said o.fed c.ended o.taken g.talk o.is_at) }; cause = λ _. by h.why }
+  served_over c g moment h = record { begun = record { fed = o.fed; taken = o.taken; reads = o.reads; writes = o.writes; tail = due g.talk; begins = sym (all_said o.fed c.ended o.taken g.talk o.is_at) }; cause = λ _. by h.why; calm = λ still _. never true still refl }
     where
       o : IsOpen at limits.idle c g
       o = h.is_open
@@ -69,7 +81,7 @@ module _ {T : Type 0} (said : Speech) (at : TalkState T) (due : T → List ℕ) 
 
   -- closed after its idle time
   pub served_idle : (c : Connection) (g : Client T) (moment : ℕ) → (o : IsOpen at limits.idle c g) → IsCalm due c g → c.last + limits.idle ≤ moment → IsServed said limits.idle (closed_at moment c)
-  served_idle c g moment o calm long = record { begun = record { fed = o.fed; taken = o.taken; reads = o.reads; writes = o.writes; tail = due g.talk; begins = sym (all_said o.fed c.ended o.taken g.talk o.is_at) }; cause = λ _. Idle long (by calm) }
+  served_idle c g moment o calm long = record { begun = record { fed = o.fed; taken = o.taken; reads = o.reads; writes = o.writes; tail = due g.talk; begins = sym (all_said o.fed c.ended o.taken g.talk o.is_at) }; cause = λ _. Idle long (by calm); calm = λ still _. never true still refl }
     where
       P : Quiet → Type 0
       P q = RestsBy q (o.taken ≡ (said o.fed c.ended).bytes)
@@ -112,7 +124,7 @@ module _ {T : Type 0} (said : Speech) (at : TalkState T) (due : T → List ℕ) 
       → ((s : Option (Client T)) → now k s → s ≡ Some g) → ((j : ℕ) (s : Option (Client T)) → j ≢ k → now j s → listed j s)
       → IsServing said at due limits v now (count + 1) room
   but_listed v listed now count room k g h within is_open calm here others = record {
-    served = all_from (IsServed said limits.idle) v.connections (everywhere k (λ j. j < length v.connections → IsServed said limits.idle (connection_at v.connections j)) (λ _. served_open (connection_at v.connections k) g is_open) h.served);
+    served = all_from (IsServed said limits.idle) v.connections (everywhere k (λ j. j < length v.connections → IsServed said limits.idle (connection_at v.connections j)) (λ _. served_open (connection_at v.connections k) g is_open (calm_none (connection_at v.connections k) g calm)) h.served);
     resting = all_from IsAtRest v.connections (everywhere k (λ j. j < length v.connections → IsAtRest (connection_at v.connections j)) (λ _ _ _. rests_calm (connection_at v.connections k) g calm) h.resting);
     kept = everywhere k (λ j. (slot : Option (Client T)) → now j slot → IsKept at due limits.idle v.connections j slot)
         (λ slot row. subst (IsKept at due limits.idle v.connections k) (sym (here slot row)) (within, is_open, calm))
@@ -384,7 +396,8 @@ module _ {T : Type 0} (said : Speech) (at : TalkState T) (due : T → List ℕ) 
   pub new_left : (v w : Meaning) (listed : Listing T) (count room k : ℕ) (g : Client T) → IsServing said at due limits v listed count room → Gains v w k → count < room → length v.connections < limits.conns
       → IsOpen at limits.idle (connection_at w.connections k) g → IsLeft said limits w
   new_left v w listed count room k g h x place more is_open =
-      but_cut w listed count room k (new_but v w listed count room k h x place more) (served_open (connection_at w.connections k) g is_open)
+      let awake : (connection_at w.connections k).quiet ≡ Awake = ap (λ (d : Connection). d.quiet) (new_here v w k x) ∙ x.is_new.awake in
+      but_cut w listed count room k (new_but v w listed count room k h x place more) (served_open (connection_at w.connections k) g is_open (λ rests. absurd (not_both (connection_at w.connections k).quiet awake rests)))
 
   pub none_new : (v w : Meaning) (listed : Listing T) (count room : ℕ) (blocked : Bool) → IsServing said at due limits v listed count room → GainsNone v w blocked
       → IsServing said at due limits w listed count room

@@ -1,5 +1,5 @@
 -- What a connection was sent, and why it was closed.
-use Rattle.std.specs.Prelude.{◌≡◌, ℕ, ◌+◌, ◌-◌, ◌^◌, ◌<◌, ◌≤◌, Bool, true, List, ◌++◌, IfSome}
+use Rattle.std.specs.Prelude.{◌≡◌, ℕ, ◌+◌, ◌-◌, ◌^◌, ◌<◌, ◌≤◌, Bool, true, false, List, ◌++◌, IfSome}
 use Rattle.wsgi_core.specs.Answers.{Sent}
 use Rattle.stream_net.specs.Nets.{Connection}
 use Rattle.stream_net.specs.declared.net.Quiet.{Quiet}
@@ -39,6 +39,7 @@ pub data Cause (sent : Sent) (taken : List ℕ) (idle : ℕ) (c : Connection) : 
 pub record IsServed (said : Speech) (idle : ℕ) (c : Connection) : Type 0 where
   pub begun : BeginsSaid said c
   pub cause : c.closed ≡ true → Cause (said begun.fed c.ended) begun.taken idle c
+  pub calm : c.closed ≡ false → c.quiet ≡ ByRead → begun.taken ≡ (said begun.fed c.ended).bytes
 
 -- a deadline that can come is at least so long after the last byte
 abbrev pub IsTimely : ℕ → Connection → ℕ → Type 0

@@ -1,8 +1,8 @@
 -- A server between two events.
-use Rattle.std.specs.Prelude.{◌≡◌, ◌≢◌, ◌⊎◌, ℕ, ◌+◌, ◌<◌, ◌≤◌, true, List, ◌++◌, length, Option, Some, None, IsSome}
+use Rattle.std.specs.Prelude.{◌≡◌, ◌≢◌, ◌⊎◌, ℕ, ◌+◌, ◌<◌, ◌≤◌, true, false, List, ◌++◌, length, Option, Some, None, IsSome}
 use Rattle.std.specs.List.{All}
 use Rattle.stream_net.specs.Nets.{Connection, Meaning, connection_at, live_count, IsAtRest}
-use Rattle.stream_net.specs.declared.net.Quiet.TheVariants.{ByWrite}
+use Rattle.stream_net.specs.declared.net.Quiet.TheVariants.{ByRead, ByWrite}
 use Rattle.stream_net.specs.Waits.{Passes, woken}
 use Rattle.stream_server.specs.declared.client.Client.{Client}
 use Rattle.stream_server.specs.declared.limits.Limits.{Limits}
@@ -113,6 +113,11 @@ pub record IsClosedWell (c : Connection) : Type 0 where
   pub closed : c.closed ≡ true
   pub faultless : c.faults ≡ 0
   pub waits_for_no_write : c.quiet ≢ ByWrite
+
+-- it is open, and was left to wait for bytes
+pub record WaitsToRead (c : Connection) : Type 0 where
+  pub still_open : c.closed ≡ false
+  pub by_read : c.quiet ≡ ByRead
 
 -- so many were accepted, and all are closed
 pub record IsAllServed (m : Meaning) (conns : ℕ) : Type 0 where

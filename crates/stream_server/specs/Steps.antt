@@ -1,7 +1,7 @@
 -- A client under way: the server's side of a connection against the net's.
 use Rattle.std.specs.Prelude.{◌≡◌, ◌⊎◌, ℕ, ◌<◌, Bool, true, false, List, [], IfSome, slice_set}
 use Rattle.stream_net.specs.Nets.{Connection, Meaning, GoesOn, connection_at}
-use Rattle.stream_net.specs.declared.net.Quiet.TheVariants.{ByRead, ByWrite}
+use Rattle.stream_net.specs.declared.net.Quiet.TheVariants.{Awake, ByRead, ByWrite}
 use Rattle.stream_server.specs.Served.{Speech, BeginsSaid, IsTimely}
 use Rattle.stream_server.specs.declared.client.Client.{Client}
 use Rattle.stream_server.specs.declared.exchange.Step.{Step}
@@ -43,6 +43,7 @@ pub record IsOver {T : Type 0} (said : Speech) (at : TalkState T) (due : T → L
 pub record IsCut (said : Speech) (c : Connection) : Type 0 where
   pub begun : BeginsSaid said c
   pub still_open : c.closed ≡ false
+  pub awake : c.quiet ≡ Awake
 
 -- what a step leaves
 abbrev pub Leaves : {T : Type 0} → Step → Speech → TalkState T → (T → List ℕ) → ℕ → Connection → Client T → Type 0

@@ -3,7 +3,7 @@ ghost use Rattle.std.specs.Prelude.{◌≡◌, ◌≢◌, ◌⊎◌, ℕ, ◌+�
 ghost use Rattle.gv_values.specs.Counts.{HasRisen};
 ghost use Rattle.stream_net.specs.Nets.{IsFresh, IsLive, connection_at};
 ghost use Rattle.stream_server.specs.Served.{Cause};
-ghost use Rattle.stream_server.specs.Serving.{Admits, AdmitsBut, BeginsSo, EachTold, HasAccepted, IsAllServed, IsClosedWell, IsInRange, Keeps, LeftBy, Serves, ServesBut, WokenAt};
+ghost use Rattle.stream_server.specs.Serving.{Admits, AdmitsBut, BeginsSo, EachTold, HasAccepted, IsAllServed, IsClosedWell, IsInRange, Keeps, LeftBy, Serves, ServesBut, WaitsToRead, WokenAt};
 ghost use Rattle.stream_server.specs.Steps.{IsOpen};
 ghost use Rattle.stream_server.specs.Tables.{client_count};
 ghost use Rattle.wsgi_core.specs.Gateways.{said_by};
@@ -284,6 +284,8 @@ pub fn serve_with<T: Talk + Drop, N: Net, A: Application, H: Wait>(
     ensures own { EachTold (N.meaning net.new).connections (λ c bytes out. BeginsSo (said_by T.answers (A.answer_of app.now) port bytes c.ended).bytes out) }
     // It is all of it where the connection was closed without a fault of its own and no write of it is waited for.
     ensures whole { EachTold (N.meaning net.new).connections (λ c bytes out. IsClosedWell c → out ≡ (said_by T.answers (A.answer_of app.now) port bytes c.ended).bytes) }
+    // An open connection was left to wait for bytes only after all that was due had been written.
+    ensures answered { EachTold (N.meaning net.new).connections (λ c bytes out. WaitsToRead c → out ≡ (said_by T.answers (A.answer_of app.now) port bytes c.ended).bytes) }
     ensures most { (N.meaning net.new).most ≤ limits.pool }
     ensures cause { EachTold (N.meaning net.new).connections (λ c bytes out. c.closed ≡ true → Cause (said_by T.answers (A.answer_of app.now) port bytes c.ended) out limits.idle c) }
     ensures finished { result ≡ ServeEnd.Finished → IsAllServed (N.meaning net.new) limits.conns }
@@ -320,6 +322,8 @@ pub fn serve<N: Net, A: Application, H: Wait>(
     ensures own { EachTold (N.meaning net.new).connections (λ c bytes out. BeginsSo (session (A.answer_of app.now) port bytes c.ended).bytes out) }
     // It is all of it where the connection was closed without a fault of its own and no write of it is waited for.
     ensures whole { EachTold (N.meaning net.new).connections (λ c bytes out. IsClosedWell c → out ≡ (session (A.answer_of app.now) port bytes c.ended).bytes) }
+    // An open connection was left to wait for bytes only after all that was due had been written.
+    ensures answered { EachTold (N.meaning net.new).connections (λ c bytes out. WaitsToRead c → out ≡ (session (A.answer_of app.now) port bytes c.ended).bytes) }
     ensures most { (N.meaning net.new).most ≤ limits.pool }
     ensures cause { EachTold (N.meaning net.new).connections (λ c bytes out. c.closed ≡ true → Cause (session (A.answer_of app.now) port bytes c.ended) out limits.idle c) }
     ensures finished { result ≡ ServeEnd.Finished → IsAllServed (N.meaning net.new) limits.conns }
