@@ -1,8 +1,8 @@
 -- A net in memory as its user sees it.
-use Rattle.std.specs.Prelude.{◌≡◌}
+use Rattle.std.specs.Prelude.{◌≡◌, ℕ, true}
 use Rattle.stream_net.specs.declared.memory_net.MemoryNet.{MemoryNet}
 use Rattle.stream_net.specs.MemoryNets.{meaning_by, readiness_by}
-use Rattle.stream_net.specs.Nets.{Meaning, Readiness}
+use Rattle.stream_net.specs.Nets.{Connection, Meaning, Readiness}
 
 abbrev pub meaning_of : MemoryNet → Meaning
 meaning_of n = meaning_by n.lines.items n.most n.moment n.listens n.faults n.blocked
@@ -16,3 +16,8 @@ pub record Stays (old new : MemoryNet) : Type 0 where
   pub told : new.told ≡ old.told
   pub port : new.port ≡ old.port
   pub moment : new.moment ≡ old.moment
+
+-- it is closed, since this moment
+pub record IsClosedAt (c : Connection) (at : ℕ) : Type 0 where
+  pub closed : c.closed ≡ true
+  pub moment : c.closed_at ≡ at
