@@ -66,15 +66,7 @@ fn serves<K: Sink, N: Net, A: Application, H: Wait>(
         return Served::Memory;
     };
     match server_options(command) {
-        Some(options) => serve_command(
-            rt,
-            alloc,
-            options.port,
-            limits_of(options),
-            out,
-            net,
-            app,
-        ),
+        Some(options) => serve_command(rt, alloc, options.port, limits_of(options), out, net, app),
         None => unreachable!(),
     }
 }

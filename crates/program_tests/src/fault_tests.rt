@@ -54,7 +54,7 @@ fn err_that_always_fails(rt: HostRuntime) -> Result<(), Fail> {
             &mut native,
             &ShippedApp,
         )
-    .unwrap_or(LEFT_TO_A_NET);
+        .unwrap_or(LEFT_TO_A_NET);
         assert_eq!(rt; answered, status, "{line}");
         assert_eq!(rt; out.bytes(), wanted.as_bytes(), "{line}");
     }
@@ -86,7 +86,7 @@ fn err_that_fails_past_its_room(rt: HostRuntime) -> Result<(), Fail> {
             &mut native,
             &ShippedApp,
         )
-    .unwrap_or(LEFT_TO_A_NET);
+        .unwrap_or(LEFT_TO_A_NET);
         assert_eq!(rt; answered, 5, "{line}");
         assert_eq!(rt; out.bytes(), wanted.as_bytes());
         assert_eq!(rt; err.bytes(), line.as_bytes());

@@ -42,7 +42,14 @@ fn a_storm_whose_summary_finds_no_room(rt: HostRuntime) -> Result<(), Fail> {
 
 #[test]
 fn a_storm_reads_no_input(rt: HostRuntime) -> Result<(), Fail> {
-    let called = call(rt.alloc(), "storm --size 3", "no scenario", 4096, &[0], 1000)?;
+    let called = call(
+        rt.alloc(),
+        "storm --size 3",
+        "no scenario",
+        4096,
+        &[0],
+        1000,
+    )?;
     assert_eq!(rt; called.status, 0);
     let summary = "storm 3\ngreenlets 4\nturns 5\nmoves 21\nmoment 0\nlines 24\n";
     assert_eq!(rt; called.out.bytes(), summary.as_bytes());

@@ -20,13 +20,7 @@ fn run(turns: u64, moves: u64, world: RunWorld) -> Option<Command> {
     })))
 }
 
-fn serve(
-    port: u16,
-    conns: u32,
-    pool: u32,
-    idle: u64,
-    gateway: GatewayKind,
-) -> Option<Command> {
+fn serve(port: u16, conns: u32, pool: u32, idle: u64, gateway: GatewayKind) -> Option<Command> {
     Some(Command::Serve(ServeOptions {
         port,
         conns,
@@ -56,8 +50,14 @@ fn words_name_commands(rt: HostRuntime) -> Result<(), Fail> {
         ),
         ("fmt", Some(Command::Text(TextCommand::Format))),
         ("wsgi", Some(Command::Wsgi(GatewayKind::Http))),
-        ("wsgi --gateway=http", Some(Command::Wsgi(GatewayKind::Http))),
-        ("wsgi --gateway scgi", Some(Command::Wsgi(GatewayKind::Scgi))),
+        (
+            "wsgi --gateway=http",
+            Some(Command::Wsgi(GatewayKind::Http)),
+        ),
+        (
+            "wsgi --gateway scgi",
+            Some(Command::Wsgi(GatewayKind::Scgi)),
+        ),
         (
             "serve --conns 2 --port=0",
             serve(0, 2, 100, 60000, GatewayKind::Http),
