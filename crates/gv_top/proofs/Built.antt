@@ -22,7 +22,7 @@ same a b e = cc e
 
 built_in_range : (text : TextCommand) (command : NamedCommand) → built command ≡ Some (Command.Text text) → IsInRange command → IsInRange (named.Text text)
 built_in_range text (named.Text given) e h = let P : TextCommand → Type 0 = λ c. IsInRange (named.Text c) in subst P (same given text e) h
-built_in_range text named.Wsgi e h = absurd (cc e)
+built_in_range text (named.Wsgi gateway) e h = absurd (cc e)
 built_in_range text (named.Serve options) e h = absurd (cc e)
 built_in_range text (named.Storm n) e h = absurd (cc e)
 

@@ -17,6 +17,7 @@ use Rattle.scenario_grammar.specs.declared.place.Place.{Place}
 use Rattle.scenario_lang.specs.declared.text.ParseRefusal.{ParseRefusal}
 use Rattle.scenario_lang.specs.declared.text.ParseRefusal.TheVariants as parse
 use Rattle.scenario_lang.specs.Lines.{Parses}
+use Rattle.command_words.specs.declared.command.GatewayKind.{GatewayKind}
 use Rattle.command_words.specs.declared.command.TextCommand.{TextCommand}
 use Rattle.gv_top.proofs.ReadTexts.{answer_by}
 use Rattle.gv_top.specs.Answers.{Answer, answer_to, answer_to_scenario, answer_to_text, answer_of_run, err_of, judged, most_read, status_of}
@@ -141,8 +142,8 @@ no_command c d P e f = absurd (none_is_some d (sym e ∙ f))
     none_is_some d h = cc
 
 -- where memory ran out at once, nothing was exchanged
-pub nothing_exchanged : (app : App) (input out : Option (List ℕ)) → IsOfConnection (Verdict.Ran End.Memory) app input input out out
-nothing_exchanged app input out =
+pub nothing_exchanged : (gateway : GatewayKind) (app : App) (input out : Option (List ℕ)) → IsOfConnection (Verdict.Ran End.Memory) gateway app input input out out
+nothing_exchanged gateway app input out =
     record {
       end = ConnectionEnd.Memory;
       number = refl;

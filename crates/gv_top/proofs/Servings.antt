@@ -9,6 +9,7 @@ use Rattle.command_words.specs.declared.command.Command.{Command as NamedCommand
 use Rattle.command_words.specs.declared.command.Command.TheVariants as named
 use Rattle.command_words.specs.declared.command.ServeOptions.{ServeOptions}
 use Rattle.wsgi_core.specs.Applications.{App}
+use Rattle.wsgi_core.specs.Gateways.{Gateway}
 use Rattle.stream_net.specs.Nets.{IsFresh, Meaning}
 use Rattle.stream_server.specs.declared.limits.Limits.{Limits}
 use Rattle.stream_server.specs.Serving.{IsInRange}
@@ -17,6 +18,7 @@ use Rattle.serve_command.specs.Served.{ServesAt, listening}
 use Rattle.serve_command.proofs.Ends.{memory_unfinished, none_served}
 use Rattle.gv_top.specs.declared.status.Verdict.{Verdict}
 use Rattle.gv_top.specs.declared.words.Command.{Command}
+use Rattle.gv_top.specs.Gateways.{answers_by}
 use Rattle.gv_top.specs.Serving.{Serves, limits_of}
 use Rattle.gv_top.specs.Top.{FailsToWrite, HasFaultLine, IsOr, IsStatusOf, IsTold}
 use Rattle.gv_top.specs.Verdicts.{number_of, line_of}
@@ -30,7 +32,7 @@ use Rattle.gv_top.proofs.Tops.{fails, left_as_it_was, no_memory_line, read_line,
 only_serve : (o : Option NamedCommand) → IsSome (option_and_then serving o) → option_and_then built o ≡ None
 only_serve (Some (named.Serve options)) e = refl
 only_serve (Some (named.Text text)) e = absurd (cc e)
-only_serve (Some named.Wsgi) e = absurd (cc e)
+only_serve (Some (named.Wsgi gateway)) e = absurd (cc e)
 only_serve (Some (named.Storm n)) e = absurd (cc e)
 only_serve None e = absurd (cc e)
 
@@ -101,7 +103,7 @@ serving_in_range : (options : ServeOptions) (command : NamedCommand) → serving
 serving_in_range options (named.Serve given) e h =
     let P : ServeOptions → Type 0 = λ o. IsInRange (limits_of o) in subst P (same_options given options e) (limits_fit given h)
 serving_in_range options (named.Text text) e h = absurd (cc e)
-serving_in_range options named.Wsgi e h = absurd (cc e)
+serving_in_range options (named.Wsgi gateway) e h = absurd (cc e)
 serving_in_range options (named.Storm n) e h = absurd (cc e)
 
 -- the limits of the server that words ask for are in their ranges
@@ -114,17 +116,17 @@ limits_in_range law w options e = by (words.command_of w) refl e
 
 -- what served by these options served by those that the words ask for
 pub served_as : (end : Served) (app : App) (given : ServeOptions) (limits : Limits) (o : Option ServeOptions) (w : Meaning) (out0 out1 : Option (List ℕ)) →
-    o ≡ Some given → limits ≡ limits_of given → ServesAt end app limits w out0 out1 →
-    (options : ServeOptions) → o ≡ Some options → ServesAt end app (limits_of options) w out0 out1
+    o ≡ Some given → limits ≡ limits_of given → ServesAt end (answers_by given.gateway) app limits w out0 out1 →
+    (options : ServeOptions) → o ≡ Some options → ServesAt end (answers_by options.gateway) app (limits_of options) w out0 out1
 served_as end app given limits o w out0 out1 is fit h = λ options e.
-    let P : Limits → Type 0 = λ l. ServesAt end app l w out0 out1 in
-    let Q : ServeOptions → Type 0 = λ x. ServesAt end app (limits_of x) w out0 out1 in
+    let P : Limits → Type 0 = λ l. ServesAt end (answers_by given.gateway) app l w out0 out1 in
+    let Q : ServeOptions → Type 0 = λ x. ServesAt end (answers_by x.gateway) app (limits_of x) w out0 out1 in
     subst Q (same_options given options (sym is ∙ e)) (subst P fit h)
 
 -- where memory ran out before it listened, it served nobody
-pub nobody_served : (app : App) (limits : Limits) (w : Meaning) (out0 out1 : Option (List ℕ)) → IsFresh w → out1 ≡ out0 → ServesAt Served.Memory app limits w out0 out1
-nobody_served app limits w out0 out1 fresh same =
-    none_served Served.Memory app limits w out0 out1 0 memory_unfinished fresh.none fresh.none_live (left_as_it_was out0 out1 (listening 0) same) (inl same)
+pub nobody_served : (answers : Gateway) (app : App) (limits : Limits) (w : Meaning) (out0 out1 : Option (List ℕ)) → IsFresh w → out1 ≡ out0 → ServesAt Served.Memory answers app limits w out0 out1
+nobody_served answers app limits w out0 out1 fresh same =
+    none_served Served.Memory answers app limits w out0 out1 0 memory_unfinished fresh.none fresh.none_live (left_as_it_was out0 out1 (listening 0) same) (inl same)
 
 -- ---- what a server came to, and its line
 
@@ -135,10 +137,10 @@ told_whole n v w old new e0 e1 (inr q) (inl p) h5 h7 = absurd (h7 (p.0 ∙ ap nu
 told_whole n v w old new e0 e1 o (inr p) h5 h7 = absurd (h5 p.0)
 
 pub serves_so : (n : ℕ) (app : App) (options : ServeOptions) (end : Served) (w : Verdict) (m : Meaning) (out0 begun out1 err0 silent err1 : Option (List ℕ)) (e0 e1 : ℕ) →
-    begun ≡ out0 → silent ≡ err0 → ServesAt end app (limits_of options) m begun out1 → IsOr (Verdict.Served end) w → IsTold n w silent err1 e0 e1 →
+    begun ≡ out0 → silent ≡ err0 → ServesAt end (answers_by options.gateway) app (limits_of options) m begun out1 → IsOr (Verdict.Served end) w → IsTold n w silent err1 e0 e1 →
     Serves n app options m out0 out1 err0 err1
 serves_so n app options end w m out0 begun out1 err0 silent err1 e0 e1 same quiet h o l =
-    let P : Option (List ℕ) → Type 0 = λ x. ServesAt end app (limits_of options) m x out1 in
+    let P : Option (List ℕ) → Type 0 = λ x. ServesAt end (answers_by options.gateway) app (limits_of options) m x out1 in
     let Q : Option (List ℕ) → Type 0 = λ x. err1 ≡ appended x (line_of (Verdict.Served end)) in
     record {
       end = end;
@@ -152,7 +154,7 @@ pub serves_nobody : (n : ℕ) (app : App) (options : ServeOptions) (m : Meaning)
     IsFresh m → out1 ≡ out0 → (n ≡ 5) ⊎ (n ≡ 7) → Serves n app options m out0 out1 err0 err1
 serves_nobody n app options m out0 out1 err0 err1 fresh same e = record {
   end = Served.Memory;
-  serves = nobody_served app (limits_of options) m out0 out1 fresh same;
+  serves = nobody_served (answers_by options.gateway) app (limits_of options) m out0 out1 fresh same;
   status = inr ((λ z. absurd (omega (arith, z))), e);
   err = by e;
 }

@@ -11,6 +11,7 @@ use Rattle.wsgi_connection.specs.declared.connection.ConnectionEnd.{ConnectionEn
 use Rattle.serve_command.specs.declared.serving.Served.{Served}
 use Rattle.gv_top.specs.declared.status.Verdict.{Verdict}
 use Rattle.gv_top.specs.declared.words.Command.{Command}
+use Rattle.command_words.specs.declared.command.GatewayKind.{GatewayKind}
 use Rattle.command_words.specs.declared.command.TextCommand.{TextCommand}
 use Rattle.trace_text.specs.LineTexts.{text_of}
 use Rattle.scenario_tree.specs.declared.tree.Scenario.{Scenario}
@@ -317,9 +318,9 @@ is_silent n v w old new e0 e1 (inr q) (inl p) z = let s = sym z ∙ p.0 ∙ ap n
 is_silent n v w old new e0 e1 o (inr p) z = let s = sym z ∙ p.0 in absurd (omega arith)
 
 -- the connection that was answered
-pub answers_connection : (n : ℕ) (v w : Verdict) (app : App) (err0 err1 in0 in1 out0 out1 : Option (List ℕ)) (e0 e1 : ℕ) → IsOr v w → IsTold n w err0 err1 e0 e1 →
-    IsOfConnection v app in0 in1 out0 out1 → AnswersConnection n app in0 in1 out0 out1
-answers_connection n v w app err0 err1 in0 in1 out0 out1 e0 e1 o l c =
+pub answers_connection : (n : ℕ) (v w : Verdict) (gateway : GatewayKind) (app : App) (err0 err1 in0 in1 out0 out1 : Option (List ℕ)) (e0 e1 : ℕ) → IsOr v w → IsTold n w err0 err1 e0 e1 →
+    IsOfConnection v gateway app in0 in1 out0 out1 → AnswersConnection n gateway app in0 in1 out0 out1
+answers_connection n v w gateway app err0 err1 in0 in1 out0 out1 e0 e1 o l c =
     let P : ℕ → Type 0 = λ m. (n ≡ m) ⊎ ((m ≢ 0) × ((n ≡ 5) ⊎ (n ≡ 7))) in
     record { end = c.end; exchanged = c.exchanged; status = subst P c.number (status_or n v w err0 err1 e0 e1 o l) }
 

@@ -11,8 +11,8 @@ use Rattle.scenario_grammar.specs.Reasons.{reason_text}
 use Rattle.scenario_rules.specs.Rules.{place_of}
 use Rattle.wsgi_core.specs.Answers.{Sent}
 use Rattle.wsgi_core.specs.Applications.{App}
-use Rattle.wsgi_core.specs.Sessions.{answers}
 use Rattle.wsgi_connection.specs.Connections.{whole_session}
+use Rattle.gv_top.specs.Gateways.{answers_by}
 use Rattle.gv_top.specs.Running.{run_of}
 use Rattle.gv_top.specs.Storm.{storm_run, storm_text, summary}
 use Rattle.gv_top.specs.declared.words.Command.{Command}
@@ -109,7 +109,7 @@ no_port = 0
 abbrev pub answer_to : App → Option Command → List Given → List ℕ → Answer
 answer_to app None given left = usage
 answer_to app (Some (Text command)) given left = answer_to_text command given (take most_read left)
-answer_to app (Some Wsgi) given left = answer_of_session (whole_session answers app no_port left)
+answer_to app (Some (Wsgi gateway)) given left = answer_of_session (whole_session (answers_by gateway) app no_port left)
 answer_to app (Some (Storm n)) given left = answer_to_storm n
 
 abbrev pub read_fault_line : List ℕ

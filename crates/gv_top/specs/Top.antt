@@ -3,6 +3,7 @@ use Rattle.std.specs.Prelude.{◌≡◌, ◌≢◌, ◌⊎◌, ℕ, true, List, 
 use Rattle.std.specs.List.{list_all, flat_map}
 use Rattle.gv_values.specs.Counts.{HasRisen}
 use Rattle.gv_io.specs.Streams.{appended, AppendsPrefix}
+use Rattle.command_words.specs.declared.command.GatewayKind.{GatewayKind}
 use Rattle.command_words.specs.declared.command.RunOptions.{RunOptions}
 use Rattle.command_words.specs.declared.command.RunWorld.{RunWorld}
 use Rattle.command_words.specs.declared.command.TextCommand.{TextCommand}
@@ -19,13 +20,13 @@ use Rattle.machine.specs.TraceLaws.{meets_laws}
 use Rattle.machine_blocks.specs.Blocks.{block_lines, is_block}
 use Rattle.hub_engine.specs.declared.run.End.{End}
 use Rattle.wsgi_core.specs.Applications.{App}
-use Rattle.wsgi_core.specs.Sessions.{answers}
 use Rattle.wsgi_connection.specs.Connections.{Exchanged}
 use Rattle.wsgi_connection.specs.declared.connection.ConnectionEnd.{ConnectionEnd}
 use Rattle.gv_top.specs.declared.status.Verdict.{Verdict}
 use Rattle.gv_top.specs.declared.words.Command.{Command}
 use Rattle.gv_top.specs.Running.{RanNatively, run_of}
 use Rattle.gv_top.specs.Answers.{Answer, answer_to, answer_to_storm, judged, memory_line, most_read, no_port, read_fault_line, write_fault_line}
+use Rattle.gv_top.specs.Gateways.{answers_by}
 use Rattle.gv_top.specs.Verdicts.{number_of, line_of}
 
 -- ---- a verdict
@@ -45,11 +46,11 @@ Decided (Verdict.Connection ConnectionEnd.WriteFault) a old new = AppendsPrefix 
 Decided (Verdict.Connection ConnectionEnd.Memory) a old new = AppendsPrefix old new a.out
 Decided v a old new = Fits v a old new
 
--- the verdict is the end of the connection that the input and out are, with this application
-pub record IsOfConnection (v : Verdict) (app : App) (in0 in1 out0 out1 : Option (List ℕ)) : Type 0 where
+-- the verdict is the end of the connection that the input and out are, through this gateway and with this application
+pub record IsOfConnection (v : Verdict) (gateway : GatewayKind) (app : App) (in0 in1 out0 out1 : Option (List ℕ)) : Type 0 where
   pub end : ConnectionEnd
   pub number : number_of v ≡ number_of (Verdict.Connection end)
-  pub exchanged : Exchanged end answers app no_port in0 in1 out0 out1
+  pub exchanged : Exchanged end (answers_by gateway) app no_port in0 in1 out0 out1
 
 -- where the command was a run of the scenario with native workers, and nothing failed, it ran so
 abbrev pub RanScenarioSo : ℕ → TextCommand → Scenario → Meaning → (List LogEntry → Type 0) → Type 0
@@ -146,10 +147,11 @@ pub record BlocksAtQuiet (r : Ran) : Type 0 where
   pub told : filter is_block r.lines ≡ flat_map block_lines r.blocked
   pub quiet : list_all is_quiet r.blocked ≡ true
 
--- the input and out are a connection that was answered by the application, and the status is that of its end
-pub record AnswersConnection (n : ℕ) (app : App) (in0 in1 out0 out1 : Option (List ℕ)) : Type 0 where
+-- the input and out are a connection that was answered by the application through this gateway, and the status is that
+-- of its end
+pub record AnswersConnection (n : ℕ) (gateway : GatewayKind) (app : App) (in0 in1 out0 out1 : Option (List ℕ)) : Type 0 where
   pub end : ConnectionEnd
-  pub exchanged : Exchanged end answers app no_port in0 in1 out0 out1
+  pub exchanged : Exchanged end (answers_by gateway) app no_port in0 in1 out0 out1
   pub status : IsStatusOf n (Verdict.Connection end)
 
 -- the whole line is there, or err failed and a prefix of it is there

@@ -15,7 +15,7 @@ use Rattle.gv_top.specs.declared.words.Command.TheVariants.{Text, Wsgi, Storm}
 -- the command, if it is built and needs no net
 abbrev pub built : NamedCommand → Option Command
 built (named.Text command) = Some (Text command)
-built named.Wsgi = Some Wsgi
+built (named.Wsgi gateway) = Some (Wsgi gateway)
 built (named.Serve options) = None
 built (named.Storm n) = Some (Storm n)
 
@@ -45,7 +45,7 @@ is_native_text Format = false
 
 abbrev pub is_native : Option Command → Bool
 is_native (Some (Text command)) = is_native_text command
-is_native (Some Wsgi) = false
+is_native (Some (Wsgi gateway)) = false
 is_native (Some (Storm n)) = false
 is_native None = false
 
@@ -54,6 +54,6 @@ is_native None = false
 -- the command reads its input
 abbrev pub reads_input : Option Command → Bool
 reads_input (Some (Text command)) = true
-reads_input (Some Wsgi) = true
+reads_input (Some (Wsgi gateway)) = true
 reads_input (Some (Storm n)) = false
 reads_input None = false

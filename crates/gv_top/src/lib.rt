@@ -1,6 +1,7 @@
 //! The call that the program makes: the words, the input, the command, the status.
 #![tactic(auto)]
 
+mod gateway;
 mod laws;
 mod reading;
 mod running;

@@ -1,6 +1,7 @@
 //! The call that the program makes, over a net too.
 ghost use Rattle.std.specs.Prelude.{◌≡◌, ◌≢◌, ◌≤◌, ◌⊎◌, ℕ, false, List, Some, None, map, take, drop, string_bytes, IsSome};
 ghost use Rattle.gv_values.specs.Counts.{HasRisen};
+ghost use Rattle.command_words.specs.declared.command.GatewayKind.{GatewayKind as AnyGateway};
 ghost use Rattle.command_words.specs.declared.command.RunOptions.{RunOptions as AnyOptions};
 ghost use Rattle.command_words.specs.declared.command.ServeOptions.{ServeOptions as AnyServer};
 ghost use Rattle.scenario_grammar.specs.declared.place.Place.{Place};
@@ -10,6 +11,7 @@ ghost use Rattle.scenario_tree.specs.declared.tree.Scenario.{Scenario as AnyScen
 ghost use Rattle.stream_net.specs.Nets.{IsFresh};
 ghost use Rattle.serve_command.specs.Served.{ServesAt};
 ghost use Rattle.gv_top.specs.Answers.{answer_to, answer_to_storm, formatted, most_read, refusal};
+ghost use Rattle.gv_top.specs.Gateways.{answers_by};
 ghost use Rattle.gv_top.specs.Running.{RanNatively, run_of};
 ghost use Rattle.gv_top.specs.Refusals.{IsRefusedAt};
 ghost use Rattle.gv_top.specs.Serving.{Serves, limits_of};
@@ -19,12 +21,13 @@ ghost use Rattle.gv_top.specs.declared.words.Command.{Command};
 ghost use Rattle.command_words.specs.declared.command.RunWorld.{RunWorld};
 ghost use Rattle.command_words.specs.declared.command.TextCommand.{TextCommand};
 
+use crate::gateway::serve_through;
 use crate::status::Verdict;
 use crate::top::{offline, tells};
 use crate::words::server_options;
 use command_words::{ServeOptions, command_of, commands_are_in_range};
 use gv_io::{Sink, Source};
-use serve_command::{Served, serve_command};
+use serve_command::Served;
 use std::alloc::Global;
 use std::sync::Wait;
 use stream_net::Net;
@@ -55,7 +58,7 @@ fn serves<K: Sink, N: Net, A: Application, H: Wait>(
     requires fresh { IsFresh (N.meaning net.old) }
     requires named { IsSome (serve_of (map string_bytes words.now)) }
     ensures serves { (options : AnyServer) → serve_of (map string_bytes words.now) ≡ Some options →
-        ServesAt result (A.answer_of app.now) (limits_of options) (N.meaning net.new) (K.written out.old) (K.written out.new) }
+        ServesAt result (answers_by options.gateway) (A.answer_of app.now) (limits_of options) (N.meaning net.new) (K.written out.old) (K.written out.new) }
     ensures listener { result ≡ Served.Listener → HasRisen (N.meaning net.old).faults (N.meaning net.new).faults }
     ensures write_fault { result ≡ Served.WriteFault → HasRisen (K.faults out.old) (K.faults out.new) }
     ensures net_never_falls { (N.meaning net.old).faults ≤ (N.meaning net.new).faults }
@@ -66,7 +69,16 @@ fn serves<K: Sink, N: Net, A: Application, H: Wait>(
         return Served::Memory;
     };
     match server_options(command) {
-        Some(options) => serve_command(rt, alloc, options.port, limits_of(options), out, net, app),
+        Some(options) => serve_through(
+            rt,
+            alloc,
+            options.gateway,
+            options.port,
+            limits_of(options),
+            out,
+            net,
+            app,
+        ),
         None => unreachable!(),
     }
 }
@@ -74,8 +86,8 @@ fn serves<K: Sink, N: Net, A: Application, H: Wait>(
 /// Does what the words name, and answers its status: each command but `serve` as `offline` does.
 ///
 /// `serve` listens at 127.0.0.1, writes `listening PORT` to out before it accepts the first connection, answers as many
-/// connections as the words say, each as an HTTP session of its own with the application (PEP 3333; RFC 9112), and
-/// writes `served COUNT`. It may wait without end.
+/// connections as the words say, each as a session of its own with the application (PEP 3333), of HTTP (RFC 9112) or,
+/// with `--gateway scgi`, of SCGI (N. Schemenauer, 2008), and writes `served COUNT`. It may wait without end.
 ///
 /// The statuses are those of `offline`, and besides:
 ///
@@ -125,9 +137,10 @@ pub fn gvr<S: Source, K: Sink, E: Sink, W: World, N: Net, A: Application, H: Wai
         S.remaining input.old ≡ Some left → ((s : AnyScenario) → Spells s (take most_read left) → IsWellFormed s → ⊥) →
         (p : Place) × IsRefusedAt (take most_read left) p ×
         IsAnswered result (refusal p) (K.written out.old) (K.written out.new) (E.written err.old) (E.written err.new) }
-    // A connection is answered: out has what the session of the application sends for the bytes that were read.
-    ensures connection { command_of (map string_bytes words.now) ≡ Some Command.Wsgi →
-        AnswersConnection result (A.answer_of app.now) (S.remaining input.old) (S.remaining input.new) (K.written out.old) (K.written out.new) }
+    // A connection is answered: out has what the session of the application sends for the bytes that were read, that of
+    // HTTP or that of SCGI.
+    ensures connection { (gateway : AnyGateway) → command_of (map string_bytes words.now) ≡ Some (Command.Wsgi gateway) →
+        AnswersConnection result gateway (A.answer_of app.now) (S.remaining input.old) (S.remaining input.new) (K.written out.old) (K.written out.new) }
     // A storm is run: out has its summary, and the status and the line on err are those of its end. Its text is read and
     // checked as any other.
     ensures storm { (size : ℕ) → command_of (map string_bytes words.now) ≡ Some (Command.Storm size) →

@@ -2,6 +2,7 @@
 ghost use Rattle.std.specs.Prelude.{◌≡◌, ◌≢◌, ◌≤◌, ◌⊎◌, ℕ, false, List, Some, None, map, take, drop, string_bytes, OnOk, OnErr, IfNone, IfSome, IsSome};
 ghost use Rattle.gv_values.specs.Counts.{HasRisen};
 ghost use Rattle.gv_io.specs.Streams.{appended, AppendsPrefix};
+ghost use Rattle.command_words.specs.declared.command.GatewayKind.{GatewayKind as AnyGateway};
 ghost use Rattle.command_words.specs.declared.command.RunOptions.{RunOptions as AnyOptions};
 ghost use Rattle.scenario_grammar.specs.declared.place.Place.{Place};
 ghost use Rattle.scenario_grammar.specs.Spells.{Spells};
@@ -17,6 +18,7 @@ ghost use Rattle.gv_top.specs.Top.{AnswersConnection, AnswersRun, BlocksAtQuiet,
 ghost use Rattle.gv_top.specs.Verdicts.{IsExplained, line_of, number_of};
 ghost use Rattle.gv_top.specs.Words.{command_of, is_native, is_native_text, reads_input, serve_of};
 
+use crate::gateway::answer_through;
 use crate::reading::read_scenario;
 use crate::running::run_scenario;
 use crate::status::{Verdict, verdict_on};
@@ -31,14 +33,10 @@ use scenario_check::Checked;
 use scenario_lang::{Scenario, print};
 use std::alloc::Global;
 use world::World;
-use wsgi_connection::answer_connection;
-use wsgi_core::{Application, Session};
+use wsgi_core::Application;
 
 /// The most bytes of a text.
 const MOST_BYTES: usize = 1048576;
-
-/// The port of a session whose bytes come from the input.
-const NO_PORT: u16 = 0;
 
 /// All of the call but its line on err. None: the words name `serve`, and nothing was done.
 fn decides<S: Source, K: Sink, W: World, A: Application>(
@@ -57,8 +55,8 @@ fn decides<S: Source, K: Sink, W: World, A: Application>(
         HasLawfulLines (number_of verdict) (K.written out.old) (K.written out.new)) }
     ensures untouched { is_native (command_of (map string_bytes words.now)) ≡ false → native.new ≡ native.old }
     ensures rests { (W.meaning native.new).runs ≡ false }
-    ensures connection { IfSome result (λ verdict. command_of (map string_bytes words.now) ≡ Some Command.Wsgi →
-        IsOfConnection verdict (A.answer_of app.now) (S.remaining input.old) (S.remaining input.new) (K.written out.old) (K.written out.new)) }
+    ensures connection { IfSome result (λ verdict. (gateway : AnyGateway) → command_of (map string_bytes words.now) ≡ Some (Command.Wsgi gateway) →
+        IsOfConnection verdict gateway (A.answer_of app.now) (S.remaining input.old) (S.remaining input.new) (K.written out.old) (K.written out.new)) }
     ensures untouched_input { reads_input (command_of (map string_bytes words.now)) ≡ false → input.new ≡ input.old }
     ensures explained { IfSome result IsExplained }
     ensures serve { IfNone result (IsSome (serve_of (map string_bytes words.now))) }
@@ -104,8 +102,8 @@ fn answers_command<S: Source, K: Sink, W: World, A: Application>(
     ensures lawful { (options : AnyOptions) → command ≡ Some (Command.Text (TextCommand.Run options)) → HasLawfulLines (number_of result) (K.written out.old) (K.written out.new) }
     ensures untouched { is_native command ≡ false → native.new ≡ native.old }
     ensures rests { (W.meaning native.new).runs ≡ false }
-    ensures connection { command ≡ Some Command.Wsgi →
-        IsOfConnection result (A.answer_of app.now) (S.remaining input.old) (S.remaining input.new) (K.written out.old) (K.written out.new) }
+    ensures connection { (gateway : AnyGateway) → command ≡ Some (Command.Wsgi gateway) →
+        IsOfConnection result gateway (A.answer_of app.now) (S.remaining input.old) (S.remaining input.new) (K.written out.old) (K.written out.new) }
     ensures storm { (size : ℕ) → command ≡ Some (Command.Storm size) → (number_of result ≢ 4) × Decided result (answer_to_storm size) (K.written out.old) (K.written out.new) }
     ensures untouched_input { reads_input command ≡ false → input.new ≡ input.old }
     ensures read_fault { number_of result ≡ 4 → HasRisen (S.faults input.old) (S.faults input.new) }
@@ -121,9 +119,8 @@ fn answers_command<S: Source, K: Sink, W: World, A: Application>(
     match command {
         None => Verdict::Usage,
         Some(Command::Text(command)) => answers_input(alloc, command, input, out, native),
-        Some(Command::Wsgi) => {
-            let end = answer_connection::<Session, S, K, A>(alloc, NO_PORT, input, out, app);
-            Verdict::Connection(end)
+        Some(Command::Wsgi(gateway)) => {
+            Verdict::Connection(answer_through(alloc, gateway, input, out, app))
         }
         Some(Command::Storm(size)) => answer_storm(alloc, size, out),
     }
@@ -321,8 +318,9 @@ pub fn tells<E: Sink>(alloc: Global, verdict: Verdict, err: &mut E) -> u8
 /// `run` reads a scenario, runs it within its budgets of turns and moves, and writes its trace to out. The run is that
 /// of a script with the tick of the words; or, with native workers, one in the world `native`, which is begun before it
 /// and finished after it and is left alone otherwise. `fmt` reads a scenario, and writes its printed form to out.
-/// `wsgi` reads the bytes of one connection, and writes the answers of the application to out (PEP 3333; RFC 9112). `storm`
-/// runs many greenlets that hand one unit on, and writes the numbers of that run to out.
+/// `wsgi` reads the bytes of one connection, of HTTP (RFC 9112) or, with `--gateway scgi`, of SCGI (N. Schemenauer,
+/// 2008), and writes the answers of the application (PEP 3333) to out. `storm` runs many greenlets that hand one unit on, and writes the numbers of
+/// that run to out.
 ///
 /// The statuses, of which 4, 5 and 7 (want of memory) come before every other:
 ///
@@ -376,9 +374,10 @@ pub fn offline<S: Source, K: Sink, E: Sink, W: World, A: Application>(
         S.remaining input.old ≡ Some left → ((s : AnyScenario) → Spells s (take most_read left) → IsWellFormed s → ⊥) →
         (p : Place) × IsRefusedAt (take most_read left) p ×
         IsAnswered status (refusal p) (K.written out.old) (K.written out.new) (E.written err.old) (E.written err.new)) }
-    // A connection is answered: out has what the session of the application sends for the bytes that were read.
-    ensures connection { IfSome result (λ status. command_of (map string_bytes words.now) ≡ Some Command.Wsgi →
-        AnswersConnection status (A.answer_of app.now) (S.remaining input.old) (S.remaining input.new) (K.written out.old) (K.written out.new)) }
+    // A connection is answered: out has what the session of the application sends for the bytes that were read, that of
+    // HTTP or that of SCGI.
+    ensures connection { IfSome result (λ status. (gateway : AnyGateway) → command_of (map string_bytes words.now) ≡ Some (Command.Wsgi gateway) →
+        AnswersConnection status gateway (A.answer_of app.now) (S.remaining input.old) (S.remaining input.new) (K.written out.old) (K.written out.new)) }
     // A storm is run: out has its summary, and the status and the line on err are those of its end. Its text is read and
     // checked as any other.
     ensures storm { IfSome result (λ status. (size : ℕ) → command_of (map string_bytes words.now) ≡ Some (Command.Storm size) →

@@ -2,15 +2,15 @@
 ghost use Rattle.std.specs.Prelude.{◌≡◌, option_and_then};
 ghost use Rattle.gv_top.specs.Words.{built, serving};
 
-use command_words::{Command as NamedCommand, ServeOptions, TextCommand};
+use command_words::{Command as NamedCommand, GatewayKind, ServeOptions, TextCommand};
 
 /// What the program is asked to do without a net.
 #[derive(Clone, Copy, Debug, PartialEq, Eq)]
 pub enum Command {
     /// Do this with the scenario that the input spells.
     Text(TextCommand),
-    /// Answer the connection whose bytes the input gives.
-    Wsgi,
+    /// Answer the connection whose bytes the input gives, through this gateway.
+    Wsgi(GatewayKind),
     /// Run the storm of so many greenlets.
     Storm(u32),
 }
@@ -21,7 +21,7 @@ fn built(command: NamedCommand) -> Option<Command>
 {
     match command {
         NamedCommand::Text(command) => Some(Command::Text(command)),
-        NamedCommand::Wsgi => Some(Command::Wsgi),
+        NamedCommand::Wsgi(gateway) => Some(Command::Wsgi(gateway)),
         NamedCommand::Serve(_) => None,
         NamedCommand::Storm(size) => Some(Command::Storm(size)),
     }

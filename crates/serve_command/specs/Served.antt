@@ -3,7 +3,7 @@ use Rattle.std.specs.Prelude.{◌≡◌, ◌⊎◌, ℕ, ◌<◌, ◌≤◌, tru
 use Rattle.gv_io.specs.Streams.{appended, AppendsPrefix}
 use Rattle.gv_values.specs.ValueTexts.{decimal}
 use Rattle.wsgi_core.specs.Applications.{App}
-use Rattle.wsgi_core.specs.Sessions.{session}
+use Rattle.wsgi_core.specs.Gateways.{Gateway, said_by}
 use Rattle.stream_net.specs.Nets.{Meaning}
 use Rattle.stream_server.specs.declared.limits.Limits.{Limits}
 use Rattle.stream_server.specs.Served.{Cause}
@@ -21,8 +21,9 @@ listening port = number_line (codes "listening") port
 abbrev pub served : ℕ → List ℕ
 served conns = number_line (codes "served") conns
 
--- The net served each connection by itself, at a port, with this application, and out has the lines.
-pub record ServesAt (end : Served) (app : App) (limits : Limits) (w : Meaning) (out0 out1 : Option (List ℕ)) : Type 0 where
+-- The net served each connection by itself, at a port, through this gateway and with this application, and out has the
+-- lines.
+pub record ServesAt (end : Served) (answers : Gateway) (app : App) (limits : Limits) (w : Meaning) (out0 out1 : Option (List ℕ)) : Type 0 where
   -- the port that the net listens at; or nobody was accepted, and out is as it was
   pub port : ℕ
   pub listens : ((out1 ≡ out0) × (w.connections ≡ [])) ⊎ (w.listens ≡ Some port)
@@ -33,11 +34,11 @@ pub record ServesAt (end : Served) (app : App) (limits : Limits) (w : Meaning) (
   pub first : end ≡ Served.Listener → (out1 ≡ out0) ⊎ (out1 ≡ appended out0 (listening port))
   -- the port was told before the first connection was accepted
   pub told : 0 < length w.connections → (rest : List ℕ) × (out1 ≡ appended out0 (listening port ++ rest))
-  -- what was written to a connection begins what the session of what was read from it sends, and is all of it where it was closed well
-  pub own : EachTold w.connections (λ c bytes sent. BeginsSo (session app port bytes c.ended).bytes sent)
-  pub whole : EachTold w.connections (λ c bytes sent. IsClosedWell c → sent ≡ (session app port bytes c.ended).bytes)
+  -- what was written to a connection begins what is said to what was read from it, and is all of it where it was closed well
+  pub own : EachTold w.connections (λ c bytes sent. BeginsSo (said_by answers app port bytes c.ended).bytes sent)
+  pub whole : EachTold w.connections (λ c bytes sent. IsClosedWell c → sent ≡ (said_by answers app port bytes c.ended).bytes)
   -- each closed one was closed for a cause, and no more were open than there are places
-  pub cause : EachTold w.connections (λ c bytes sent. c.closed ≡ true → Cause (session app port bytes c.ended) sent limits.idle c)
+  pub cause : EachTold w.connections (λ c bytes sent. c.closed ≡ true → Cause (said_by answers app port bytes c.ended) sent limits.idle c)
   pub most : w.most ≤ limits.pool
   -- as many as asked for were accepted, and all are closed
   pub all : end ≡ Served.Finished → IsAllServed w limits.conns

@@ -10,8 +10,8 @@ use gv_io::Sink;
 use std::alloc::Global;
 use std::sync::Wait;
 use stream_net::Net;
-use stream_server::{Limits, ServeEnd, serve};
-use wsgi_core::Application;
+use stream_server::{Limits, ServeEnd, serve_with};
+use wsgi_core::{Application, Talk};
 
 /// How the command ended.
 #[derive(Clone, Copy, Debug, PartialEq, Eq)]
@@ -42,9 +42,9 @@ fn unwritten(refusal: Unwritten) -> Served
 /// connections with the application, and writes `served N`.
 ///
 /// The first line is handed on before a connection is accepted, so that whoever reads it may connect; where it can't
-/// be written, none is accepted. Each connection is a session of its own, of a server at that port (PEP 3333; RFC
-/// 9112). After every end but `Finished` the connections that are open stay open.
-pub fn serve_command<K: Sink, N: Net, A: Application, H: Wait>(
+/// be written, none is accepted. Each connection has a talk of its own, of a server at that port (PEP 3333; RFC 9112 for
+/// `Session`). After every end but `Finished` the connections that are open stay open.
+pub fn serve_command<T: Talk + Drop, K: Sink, N: Net, A: Application, H: Wait>(
     rt: &H,
     alloc: Global,
     port: u16,
@@ -55,7 +55,7 @@ pub fn serve_command<K: Sink, N: Net, A: Application, H: Wait>(
 ) -> Served
     requires fresh { IsFresh (N.meaning net.old) }
     requires in_range { IsInRange limits }
-    ensures serves { ServesAt result (A.answer_of app.now) limits (N.meaning net.new) (K.written out.old) (K.written out.new) }
+    ensures serves { ServesAt result T.answers (A.answer_of app.now) limits (N.meaning net.new) (K.written out.old) (K.written out.new) }
     ensures listener { result ≡ Served.Listener → HasRisen (N.meaning net.old).faults (N.meaning net.new).faults }
     ensures write_fault { result ≡ Served.WriteFault → HasRisen (K.faults out.old) (K.faults out.new) }
     ensures net_never_falls { (N.meaning net.old).faults ≤ (N.meaning net.new).faults }
@@ -67,7 +67,7 @@ pub fn serve_command<K: Sink, N: Net, A: Application, H: Wait>(
     if let Err(refusal) = write_line(alloc, b"listening", u64::from(port), out) {
         return unwritten(refusal);
     }
-    match serve(rt, alloc, net, app, port, limits) {
+    match serve_with::<T, N, A, H>(rt, alloc, net, app, port, limits) {
         ServeEnd::Finished => {}
         ServeEnd::Listener => return Served::Listener,
         ServeEnd::Memory => return Served::Memory,

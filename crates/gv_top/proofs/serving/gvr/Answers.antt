@@ -31,7 +31,7 @@ pub returns-in-None-clause-refused : goal.returns-in-None-clause-refused
 returns-in-None-clause-refused g c = λ command left wanted told none. names_another _ (map string_bytes c.args.words.now) _ c.in-None.ensures.serve wanted
 
 pub returns-in-None-clause-connection : goal.returns-in-None-clause-connection
-returns-in-None-clause-connection g c = λ named. names_another _ (map string_bytes c.args.words.now) _ c.in-None.ensures.serve named
+returns-in-None-clause-connection g c = λ gateway named. names_another _ (map string_bytes c.args.words.now) _ c.in-None.ensures.serve named
 
 pub returns-in-None-clause-storm : goal.returns-in-None-clause-storm
 returns-in-None-clause-storm g c = λ size named. names_another _ (map string_bytes c.args.words.now) _ c.in-None.ensures.serve named

@@ -6,10 +6,10 @@ use Rattle.gv_top.proofs.Servings.{limits_in_range, nobody_served, served_as}
 use Rattle.gv_top.proofs.serving.serves.Goals as goal
 
 pub returns-in_default-clause-serves : goal.returns-in_default-clause-serves
-returns-in_default-clause-serves g c = λ options e. nobody_served _ _ _ _ _ c.requires.fresh refl
+returns-in_default-clause-serves g c = λ options e. nobody_served _ _ _ _ _ _ c.requires.fresh refl
 
-pub serve_command-requires-clause-in_range : goal.serve_command-requires-clause-in_range
-serve_command-requires-clause-in_range g c =
+pub serve_through-requires-clause-in_range : goal.serve_through-requires-clause-in_range
+serve_through-requires-clause-in_range g c =
     let named = ap (option_and_then serving) (sym c.in-Ok.ensures) ∙ sym c.server_options.ensures ∙ c.in-Some.is in
     let P : Limits → Type 0 = λ l. IsInRange l in
     subst P (sym c.limits_of.ensures) (limits_in_range (λ w command is. c.commands_are_in_range.ensures w command is) (map string_bytes c.args.words.now) c.in-Some.options named)
@@ -17,4 +17,4 @@ serve_command-requires-clause-in_range g c =
 pub returns-clause-serves : goal.returns-clause-serves
 returns-clause-serves g c =
     let named = ap (option_and_then serving) (sym c.in-Ok.ensures) ∙ sym c.server_options.ensures ∙ c.in-Some.is in
-    served_as _ _ c.in-Some.options _ _ _ _ _ named c.limits_of.ensures c.serve_command.ensures.serves
+    served_as _ _ c.in-Some.options _ _ _ _ _ named c.limits_of.ensures c.serve_through.ensures.serves

@@ -10,7 +10,7 @@ pub returns-in_default-clause-came_to : goal.returns-in_default-clause-came_to
 returns-in_default-clause-came_to g c = out_of_memory_at_once _ _ _ _ _ _ _ _
 
 pub returns-in_default-clause-connection : goal.returns-in_default-clause-connection
-returns-in_default-clause-connection g c = λ named. nothing_exchanged _ _ _
+returns-in_default-clause-connection g c = λ gateway named. nothing_exchanged gateway _ _ _
 
 pub returns-in_default-clause-lawful : goal.returns-in_default-clause-lawful
 returns-in_default-clause-lawful g c = λ options e. nothing_lawful _ _
@@ -48,7 +48,7 @@ pub returns-in-None-clause-untouched : goal.returns-in-None-clause-untouched
 returns-in-None-clause-untouched g c = λ h. c.answers_command.ensures.untouched (ap is_native (c.without_a_net-command.ensures ∙ ap (option_and_then built) c.in-Ok.ensures) ∙ h)
 
 pub returns-in-None-clause-connection : goal.returns-in-None-clause-connection
-returns-in-None-clause-connection g c = λ named. c.answers_command.ensures.connection (c.without_a_net-command.ensures ∙ ap (option_and_then built) c.in-Ok.ensures ∙ named)
+returns-in-None-clause-connection g c = λ gateway named. c.answers_command.ensures.connection gateway (c.without_a_net-command.ensures ∙ ap (option_and_then built) c.in-Ok.ensures ∙ named)
 
 pub returns-in-None-clause-not_serve : goal.returns-in-None-clause-not_serve
 returns-in-None-clause-not_serve g c = λ named. none_named _ _ named (ap (option_and_then serving) (sym c.in-Ok.ensures) ∙ sym c.server_options.ensures ∙ c.in-None.is)

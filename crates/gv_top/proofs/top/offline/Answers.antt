@@ -39,8 +39,8 @@ returns-in-Some-clause-refused g c = λ command left wanted told none.
     (r.0, r.1, answered_so _ _ _ command _ _ left _ _ _ _ wanted r.2 (is_answered (returns-in-Some-clause-ended g c) left told))
 
 pub returns-in-Some-clause-connection : goal.returns-in-Some-clause-connection
-returns-in-Some-clause-connection g c = λ named.
-    let t = c.tells.ensures.told in answers_connection _ _ t.0 _ _ _ _ _ _ _ _ _ t.1 t.2 (c.in-Some.ensures.connection named)
+returns-in-Some-clause-connection g c = λ gateway named.
+    let t = c.tells.ensures.told in answers_connection _ _ t.0 gateway _ _ _ _ _ _ _ _ _ t.1 t.2 (c.in-Some.ensures.connection gateway named)
 
 pub returns-in-Some-clause-storm : goal.returns-in-Some-clause-storm
 returns-in-Some-clause-storm g c = λ size named. answers_storm size (returns-in-Some-clause-ended g c) named
