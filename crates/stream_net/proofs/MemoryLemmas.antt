@@ -165,4 +165,3 @@ counted_write (WriteEnd.Took n) l m calls count e fails h = let g = subst (λ (x
 counted_write WriteEnd.WouldBlock l m calls count e fails h = let g = subst (λ (x : Line). EndsWrite WriteEnd.WouldBlock false x count) e h in (fails, g.1)
 counted_write WriteEnd.Failed l m calls count e fails h = let g = subst (λ (x : Line). EndsWrite WriteEnd.Failed false x count) e h in absurd (cc)
 counted_write WriteEnd.Memory l m calls count e fails h = let g = subst (λ (x : Line). EndsWrite WriteEnd.Memory false x count) e h in (fails, g.1)
-
