@@ -1,5 +1,5 @@
 -- Of words that name `serve`, and of what a server came to.
-use Rattle.std.proofs.Common.{◌≡◌, ◌≢◌, ◌⊎◌, inl, inr, refl, ap, sym, ◌∙◌, ℕ, true, List, [], Option, Some, None, IsSome, option_and_then, subst, arith}
+use Rattle.std.proofs.Common.{◌≡◌, ◌≢◌, ◌⊎◌, inl, inr, refl, ap, sym, ◌∙◌, ℕ, List, Option, Some, None, IsSome, option_and_then, subst, arith}
 use Rattle.gv_values.specs.Counts.{HasRisen}
 use Rattle.gv_io.specs.Streams.{appended}
 use Rattle.command_words.specs.Ranges.{IsInRange as IsCommandInRange}

@@ -136,6 +136,7 @@ pub fn answer_storm<K: Sink>(alloc: Global, size: u32, out: &mut K) -> Verdict
     ensures answer { Decided result (answer_to_storm size) (K.written out.old) (K.written out.new) }
     ensures command { number_of result ≢ 2 }
     ensures read { number_of result ≢ 4 }
+    ensures no_net { number_of result ≢ 10 }
     ensures explained { IsExplained result }
     ensures write_fault { number_of result ≡ 5 → HasRisen (K.faults out.old) (K.faults out.new) }
     ensures never_falls { K.faults out.old ≤ K.faults out.new }

@@ -1,4 +1,4 @@
-use Rattle.std.proofs.Common.{ap, arith, map, string_bytes, sym, ◌∙◌}
+use Rattle.std.proofs.Common.{ap, arith, map, string_bytes, ◌∙◌}
 use Rattle.gv_top.proofs.Servings.{fails_at_a_line, fault_lines, is_listener, is_some, names_another, no_other_status, none_named, serves_nobody, serves_so}
 use Rattle.gv_top.proofs.Tops.{is_silent, status_or}
 use Rattle.gv_top.proofs.serving.gvr.Goals as goal
