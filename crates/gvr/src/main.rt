@@ -48,8 +48,9 @@ fn words(rt: &HostRuntime) -> Result<Vec<String>, AllocError> {
     Ok(words)
 }
 
-/// Runs the command over the real streams, and over native threads that are made of these parts; gives its status.
-fn run_over<H: Wait + Drop, R: Ear + Drop, B: Bell + Drop, S: Spawner<B, OpenGate> + Drop>(
+/// Runs the command over the real streams, over native threads that are made of these parts, and over the net of the
+/// system's sockets; gives its status.
+fn run_over<H: Wait + Copy, R: Ear + Drop, B: Bell + Drop, S: Spawner<B, OpenGate> + Drop>(
     rt: HostRuntime,
     handle: H,
     ear: R,
@@ -66,7 +67,7 @@ fn run_over<H: Wait + Drop, R: Ear + Drop, B: Bell + Drop, S: Spawner<B, OpenGat
         return Err(AllocError);
     };
     Ok(gvr(
-        &rt,
+        &handle,
         rt.alloc(),
         words.as_slice(),
         &mut input,
