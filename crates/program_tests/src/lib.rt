@@ -6,6 +6,8 @@ mod connection_tests;
 #[cfg(test)]
 mod fault_tests;
 #[cfg(test)]
+mod gateway_tests;
+#[cfg(test)]
 mod native_tests;
 #[cfg(test)]
 mod newcomer_tests;

@@ -58,7 +58,7 @@ fn each_connection_is_served_by_itself(rt: HostRuntime) -> Result<(), Fail> {
             0,
         ),
         (
-            "serve --port=8080 --conns 3 --pool 1 --idle 1000",
+            "serve --port=8080 --conns 3 --pool 1 --idle 1000 --gateway http",
             100,
             b"listening 8080\nserved 3\n",
             b"",
