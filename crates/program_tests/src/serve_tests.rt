@@ -47,7 +47,7 @@ fn each_connection_is_served_by_itself(rt: HostRuntime) -> Result<(), Fail> {
     let alloc = rt.alloc();
     let served: [&[u8]; 3] = [b"", HELLO_AND_CLOSE, LATE];
     // the words, the room of out, what out and err have, the status, how many were accepted, when the second was closed
-    let table: [(&str, usize, &[u8], &[u8], u8, usize, u64); 5] = [
+    let table: [(&str, usize, &[u8], &[u8], u8, u32, u64); 5] = [
         (
             "serve --port 8080 --conns 3 --pool 2 --idle 1000",
             100,
@@ -116,9 +116,13 @@ fn each_connection_is_served_by_itself(rt: HostRuntime) -> Result<(), Fail> {
         assert_eq!(rt; out.bytes(), wanted, "{line}");
         assert_eq!(rt; err.bytes(), complaint, "{line}");
         for conn in 0..accepted {
-            assert_eq!(rt; net.written(conn as u32), Some(served[conn]), "{line}");
+            assert_eq!(rt;
+                net.written(conn),
+                served.get(conn as usize).copied(),
+                "{line}"
+            );
         }
-        assert!(rt; net.written(accepted as u32).is_none(), "{line}");
+        assert!(rt; net.written(accepted).is_none(), "{line}");
         if accepted > 0 {
             assert_eq!(rt; net.closed_at(0), Some(1000), "{line}");
             assert_eq!(rt; net.closed_at(1), Some(closed_at), "{line}");
