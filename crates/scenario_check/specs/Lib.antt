@@ -1,4 +1,3 @@
 pub mod Checks
 pub mod Sorting
-pub mod Tables
 pub mod Words

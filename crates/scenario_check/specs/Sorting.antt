@@ -4,7 +4,7 @@ use Rattle.gv_values.specs.declared.name.Name.{Name}
 use Rattle.scenario_rules.specs.declared.mention.Named.{Named}
 use Rattle.scenario_rules.specs.Declarations.{different, repeated}
 use Rattle.scenario_check.specs.declared.different.Sorted.{Sorted}
-use Rattle.scenario_check.specs.Tables.{Holds}
+use Rattle.name_table.specs.Tables.{Holds}
 
 abbrev pub pair : Named → Name × ℕ
 pair n = (n.name, n.line)

@@ -3,7 +3,7 @@ ghost use Rattle.std.specs.Prelude.{[], ◌∷◌, ◌++◌, List, IfOk, OnOk};
 ghost use Rattle.scenario_rules.specs.declared.mention.Named.{Named as Entry};
 ghost use Rattle.scenario_check.specs.Sorting.{IsSortedOf};
 
-use crate::names::Names;
+use name_table::Names;
 use scenario_rules::Named;
 use scenario_tree::Items;
 use std::alloc::{AllocError, Global};

@@ -7,12 +7,12 @@ ghost use Rattle.scenario_rules.specs.Declarations.{declarations, different, giv
 ghost use Rattle.scenario_rules.specs.Mentions.{mentions};
 ghost use Rattle.scenario_rules.specs.Rules.{first_after, function_refusals, is_wrong_head, most_functions, most_local_names, most_objects, past, place_of, refused, refused_names, word_refusals};
 ghost use Rattle.scenario_tree.specs.Limits.{most_parameters};
-ghost use Rattle.scenario_check.specs.Tables.{Holds};
+ghost use Rattle.name_table.specs.Tables.{Holds};
 
 use crate::blocks::function_mentions;
 use crate::different::sort_names;
 use crate::lists::{add_all_given, add_functions, add_names, add_objects, declarations};
-use crate::names::Names;
+use name_table::Names;
 use crate::places::{noted, noted_names, noted_past, noted_words};
 use scenario_grammar::{Place, RuleReason};
 use scenario_lang::is_main;

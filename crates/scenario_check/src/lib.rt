@@ -10,7 +10,6 @@ mod expressions;
 mod givings;
 mod judge;
 mod lists;
-mod names;
 mod parts;
 mod places;
 mod words;

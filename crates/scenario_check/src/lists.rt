@@ -5,9 +5,9 @@ ghost use Rattle.scenario_tree.specs.declared.tree.Declaration.{Declaration as A
 ghost use Rattle.scenario_tree.specs.declared.tree.Function.{Function as AnyFunction};
 ghost use Rattle.scenario_rules.specs.declared.declared.Declared.{Declared as AnyDeclared};
 ghost use Rattle.scenario_rules.specs.Declarations.{declarations, function_as, given_by, named_declaration, named_function, object_entry, function_entry};
-ghost use Rattle.scenario_check.specs.Tables.{Holds};
+ghost use Rattle.name_table.specs.Tables.{Holds};
 
-use crate::names::Names;
+use name_table::Names;
 use gv_values::Name;
 use scenario_rules::{Declared, Mention, Named, Says};
 use scenario_tree::{Declaration, Function, Items, Scenario};

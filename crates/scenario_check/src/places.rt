@@ -4,10 +4,10 @@ ghost use Rattle.std.specs.Option.{is_some};
 ghost use Rattle.std.specs.List.{flat_map};
 ghost use Rattle.scenario_rules.specs.declared.mention.Mention.{Mention as AnyMention};
 ghost use Rattle.scenario_rules.specs.Rules.{earlier, first_after, is_before, past, refused_names};
-ghost use Rattle.scenario_check.specs.Tables.{found};
+ghost use Rattle.name_table.specs.Tables.{found};
 ghost use Rattle.scenario_check.specs.Words.{placed, word_reason};
 
-use crate::names::Names;
+use name_table::Names;
 use crate::words::word_reason;
 use scenario_grammar::{Place, RuleReason};
 use scenario_rules::{Declared, Mention, Named};

@@ -2,10 +2,10 @@
 ghost use Rattle.std.specs.Prelude.{◌≡◌};
 ghost use Rattle.std.specs.Option.{is_some};
 ghost use Rattle.scenario_rules.specs.Declarations.{is_kind};
-ghost use Rattle.scenario_check.specs.Tables.{found};
+ghost use Rattle.name_table.specs.Tables.{found};
 ghost use Rattle.scenario_check.specs.Words.{call_reason, give_reason, object_reason, run_reason, use_reason, word_reason};
 
-use crate::names::Names;
+use name_table::Names;
 use scenario_grammar::RuleReason;
 use scenario_rules::{Declared, Says, Wanted};
 use scenario_tree::{Object, QueueKind};

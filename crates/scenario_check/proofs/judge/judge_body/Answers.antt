@@ -1,7 +1,7 @@
 use Rattle.std.proofs.Common.{◌≡◌, ◌∙◌, ◌++◌, ap}
 use Rattle.std.specs.List.{flat_map}
 use Rattle.scenario_rules.specs.Declarations.{given_by}
-use Rattle.scenario_check.specs.Tables.{found}
+use Rattle.name_table.specs.Tables.{found}
 use Rattle.scenario_check.proofs.Judged.{body_judged}
 use Rattle.scenario_check.proofs.judge.judge_body.Goals as goal
 

@@ -3,7 +3,7 @@ use Rattle.std.specs.List.{flat_map}
 use Rattle.scenario_tree.specs.declared.tree.Scenario.{Scenario}
 use Rattle.scenario_rules.specs.Declarations.{declarations}
 use Rattle.scenario_rules.specs.Rules.{first_after, function_refusals}
-use Rattle.scenario_check.specs.Tables.{Holds}
+use Rattle.name_table.specs.Tables.{Holds}
 use Rattle.scenario_check.proofs.judge.judge_functions.Given as goal
 
 abbrev pub invariant-loop-function : goal.invariant-loop-function

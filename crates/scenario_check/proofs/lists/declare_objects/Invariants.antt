@@ -2,7 +2,7 @@ use Rattle.std.proofs.Common.{◌++◌, ℕ, List, take, map}
 use Rattle.scenario_rules.specs.declared.declared.Declared.{Declared}
 use Rattle.scenario_rules.specs.declared.mention.Named.{Named}
 use Rattle.scenario_rules.specs.Declarations.{object_entry}
-use Rattle.scenario_check.specs.Tables.{Holds}
+use Rattle.name_table.specs.Tables.{Holds}
 use Rattle.scenario_check.proofs.lists.declare_objects.Given as goal
 
 abbrev named : ℕ → List ℕ → Named

@@ -3,7 +3,7 @@ use Rattle.std.specs.Option.{is_some}
 use Rattle.std.specs.List.{flat_map}
 use Rattle.scenario_rules.specs.declared.mention.Mention.{Mention}
 use Rattle.scenario_rules.specs.Rules.{first_after}
-use Rattle.scenario_check.specs.Tables.{found}
+use Rattle.name_table.specs.Tables.{found}
 use Rattle.scenario_check.specs.Words.{placed, word_reason}
 use Rattle.scenario_check.proofs.places.noted_words.Given as goal
 

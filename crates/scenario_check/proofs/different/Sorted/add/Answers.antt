@@ -3,7 +3,7 @@ use Rattle.std.specs.Cmp.Lexicographic.{pointwise}
 use Rattle.std.specs.Map.{lookup}
 use Rattle.std.specs.Option.{is_none}
 use Rattle.scenario_check.specs.Sorting.{pair}
-use Rattle.scenario_check.specs.Tables.{found}
+use Rattle.name_table.specs.Tables.{found}
 use Rattle.scenario_check.proofs.Sorting.{pair_more, new_by, repeated_by}
 use Rattle.scenario_check.proofs.different.Sorted.add.Goals as goal
 

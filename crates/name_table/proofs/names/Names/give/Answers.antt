@@ -3,9 +3,9 @@ use Rattle.std.specs.Map.{lookup}
 use Rattle.std.specs.BTreeMap.{is_at}
 use Rattle.std.specs.Cmp.Lexicographic.{slice_cmp}
 use Rattle.std.specs.Ordering.{nat_cmp}
-use Rattle.scenario_check.specs.Tables.{found}
-use Rattle.scenario_check.proofs.Found.{kept, taken, none_of}
-use Rattle.scenario_check.proofs.names.Names.give.Goals as goal
+use Rattle.name_table.specs.Tables.{found}
+use Rattle.name_table.proofs.Found.{kept, taken, none_of}
+use Rattle.name_table.proofs.names.Names.give.Goals as goal
 
 pub returns-then-contains_key-clause-holds : goal.returns-then-contains_key-clause-holds
 returns-then-contains_key-clause-holds g c = λ ds h. kept (found c.args.self.now) c.args.name.now c.args.value ds (sym c.contains_key.ensures ∙ c.if-contains_key.true) h

@@ -5,7 +5,7 @@ use Rattle.std.specs.Cmp.Lexicographic.{pointwise, slice_cmp}
 use Rattle.std.specs.Map.{lookup}
 use Rattle.std.specs.Ordering.{nat_cmp}
 use Rattle.gv_values.specs.declared.name.Name.{Name}
-use Rattle.scenario_check.specs.declared.names.Names.{Names}
+use Rattle.name_table.specs.declared.names.Names.{Names}
 
 -- what the table has at the name
 abbrev pub found : {V : Type 0} → Names V → Name → Option V
