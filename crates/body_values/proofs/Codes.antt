@@ -1,10 +1,9 @@
 -- The functions of some code, by their blocks.
-use Rattle.std.proofs.Common.{◌≡◌, refl, ap, sym, ◌∙◌, ℕ, zero, suc, ◌+◌, ◌<◌, ◌≤◌, List, [], ◌∷◌, ◌++◌, length, map, take, drop, get_or, slice_get, unwrap_or, true, false, arith}
-use Rattle.std.proofs.lemmas.List.{append_assoc, append-nil, drop_more, map-append, take_all, take_more}
+use Rattle.std.proofs.Common.{◌≡◌, refl, ap, sym, ◌∙◌, ℕ, zero, suc, ◌+◌, ◌<◌, ◌≤◌, List, [], ◌∷◌, ◌++◌, length, map, take, get_or, slice_get, unwrap_or, arith}
+use Rattle.std.proofs.lemmas.List.{append_assoc, append-nil, map-append, take_all, take_more}
 use Rattle.scenario_tree.specs.declared.tree.Function.{Function}
 use Rattle.scenario_tree.specs.declared.tree.Statement.{Statement}
 use Rattle.body_blocks.specs.Trees.{Grows}
-use Rattle.machine.specs.Expressions.{function_number, name_eq}
 use Rattle.machine.specs.Greenlets.{no_function}
 use Rattle.body_values.specs.declared.functions.FlatFunction.{FlatFunction}
 use Rattle.body_values.specs.Codes.{function_of}
@@ -35,11 +34,3 @@ pub function_there : (t : List (List Statement)) (fs : List FlatFunction) (n : �
 function_there t [] n d h = grind (arith, h)
 function_there t (f ∷ fs) zero d h = refl
 function_there t (f ∷ fs) (suc n) d h = function_there t fs n d (omega (arith, h))
-
-pub function_here : (t : List (List Statement)) (x : List ℕ) (fs : List FlatFunction) (i : ℕ) (d : FlatFunction) → i < length fs → name_eq x (get_or fs i d).name ≡ true →
-    function_number x (map (function_of t) (drop i fs)) ≡ 0
-function_here t x fs i d h e = ap (λ (gs : List FlatFunction). function_number x (map (function_of t) gs)) (drop_more fs i d h) ∙ rw e refl
-
-pub function_passed : (t : List (List Statement)) (x : List ℕ) (fs : List FlatFunction) (i : ℕ) (d : FlatFunction) → i < length fs → name_eq x (get_or fs i d).name ≡ false →
-    function_number x (map (function_of t) (drop i fs)) ≡ function_number x (map (function_of t) (drop (i + 1) fs)) + 1
-function_passed t x fs i d h e = ap (λ (gs : List FlatFunction). function_number x (map (function_of t) gs)) (drop_more fs i d h) ∙ rw e refl

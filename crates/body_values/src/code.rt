@@ -1,28 +1,31 @@
 //! What bodies are run from.
-ghost use Rattle.std.specs.Prelude.{◌≡◌, ◌<◌, ◌≤◌, ◌^◌, IfOk, length};
+ghost use Rattle.std.specs.Prelude.{◌≡◌, IfOk};
 ghost use Rattle.body_blocks.specs.Trees.{block_at};
 ghost use Rattle.machine.specs.Expressions.{object_number, function_number};
 ghost use Rattle.body_values.specs.Few.{HasFew, HasFewCalls};
 ghost use Rattle.body_values.specs.Functions.{IsFunction, function_at};
 ghost use Rattle.body_values.specs.Small.{IsSmall};
 
-use crate::functions::{FlatFunction, add_functions, function_of_number, place_of_function};
-use crate::locals::name_eq;
+use crate::functions::{FlatFunction, add_functions, function_of_number};
+use crate::numbers::{number_functions, number_objects};
 use body_blocks::Blocks;
 use gv_values::Name;
+use name_table::Names;
 use scenario_tree::{Declaration, Items, Scenario};
 use std::alloc::{AllocError, Global};
 use std::marker::Model;
 use std::rc::Rc;
 
 /// What bodies are run from: the objects, the functions and the blocks of a scenario, which has at most 256 objects
-/// and 256 functions, and no call with more arguments than a function may have parameters. The bodies that run share
-/// its blocks.
+/// and 256 functions, and no call with more arguments than a function may have parameters. Each name has its number in
+/// a table, so that a look-up compares O(log n) names. The bodies that run share its blocks.
 #[derive(Drop)]
 pub struct Code {
     profile: u8,
     objects: Items<Declaration>,
     functions: Items<FlatFunction>,
+    object_numbers: Names<u32>,
+    function_numbers: Names<u32>,
     blocks: Rc<Blocks>,
 }
 
@@ -30,8 +33,7 @@ impl Model for Code {
     ghost use Rattle.scenario_tree.specs.declared.tree.Scenario.{Scenario};
     ghost use Rattle.scenario_tree.specs.Trees.{trees};
     ghost use Rattle.body_values.specs.Codes.{scenario_of};
-    ghost use Rattle.body_values.specs.Few.{HasFewCalls};
-    ghost use Rattle.body_values.specs.Small.{IsSmall};
+    ghost use Rattle.body_values.specs.Numbers.{IsKept};
 
     ghost Value = { Scenario };
 
@@ -39,7 +41,7 @@ impl Model for Code {
 
     ghost view = { λ c. scenario_of c.profile c.objects c.functions c.blocks.value };
 
-    ghost invariant = { λ c. IsSmall (scenario_of c.profile c.objects c.functions c.blocks.value) × HasFewCalls (scenario_of c.profile c.objects c.functions c.blocks.value) };
+    ghost invariant = { λ c. IsKept (scenario_of c.profile c.objects c.functions c.blocks.value) c.object_numbers c.function_numbers };
 }
 
 /// Where a body of a function begins: the blocks of its code, and the number of its own.
@@ -56,6 +58,8 @@ impl Code {
         requires few { HasFewCalls scenario.now }
         ensures { IfOk result (λ code. code ≡ scenario.now) }
     {
+        let object_numbers = number_objects(alloc, scenario.objects.as_slice())?;
+        let function_numbers = number_functions(alloc, scenario.functions.as_slice())?;
         let objects = Items::from_slice(alloc, scenario.objects.as_slice())?;
         let mut blocks = Blocks::new(alloc);
         let functions = add_functions(alloc, &mut blocks, scenario.functions.as_slice())?;
@@ -64,6 +68,8 @@ impl Code {
             profile: scenario.profile,
             objects,
             functions,
+            object_numbers,
+            function_numbers,
             blocks,
         })
     }
@@ -76,17 +82,21 @@ impl Code {
     }
 
     /// The number of the object with this name, and past the last where there is none.
+    #[tactic(auto, using(crate::proofs::Numbered::object_found))]
     pub fn object(&self, name: &Name) -> u32
         ensures { result ≡ object_number name.now self.now.objects }
     {
-        place_of_object(name, self.objects.as_slice()) as u32
+        let number = self.object_numbers.find(name.bytes());
+        number.unwrap_or(self.objects.len() as u32)
     }
 
     /// The number of the function with this name, and past the last where there is none.
+    #[tactic(auto, using(crate::proofs::Numbered::function_found))]
     pub fn function(&self, name: &Name) -> u32
         ensures { result ≡ function_number name.now self.now.functions }
     {
-        place_of_function(name, self.functions.as_slice()) as u32
+        let number = self.function_numbers.find(name.bytes());
+        number.unwrap_or(self.functions.len() as u32)
     }
 
     /// The name of the function of this number.
@@ -117,17 +127,4 @@ impl Code {
         let blocks = self.blocks.clone()?;
         Ok(Start { blocks, body })
     }
-}
-
-/// The place of the object with this name, and past the end where there is none.
-fn place_of_object(name: &Name, objects: &[Declaration]) -> usize
-    ensures place { result ≡ object_number name.now objects.now }
-    ensures within { result ≤ length objects.now }
-{
-    for i in 0..objects.len() {
-        if name_eq(name, &objects[i].name) {
-            return i;
-        }
-    }
-    objects.len()
 }

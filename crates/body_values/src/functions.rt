@@ -1,12 +1,10 @@
 //! The functions of some code, whose bodies are blocks of it.
-ghost use Rattle.std.specs.Prelude.{◌≡◌, ◌<◌, ◌≤◌, ◌++◌, List, map, length, IfOk, slice_get, unwrap_or};
+ghost use Rattle.std.specs.Prelude.{◌≡◌, ◌<◌, ◌++◌, List, map, length, IfOk, slice_get, unwrap_or};
 ghost use Rattle.scenario_tree.specs.declared.tree.Statement.{Statement as Line};
 ghost use Rattle.body_blocks.specs.Trees.{Grows};
-ghost use Rattle.machine.specs.Expressions.{function_number};
 ghost use Rattle.machine.specs.Greenlets.{no_function};
 ghost use Rattle.body_values.specs.Codes.{function_of};
 
-use crate::locals::name_eq;
 use body_blocks::{Blocks, add_block};
 use gv_values::Name;
 use scenario_tree::{Function, Items};
@@ -55,20 +53,6 @@ fn add_function(
         parameters,
         body,
     })
-}
-
-/// The place of the function with this name, and past the end where there is none.
-#[tactic(auto, using(crate::proofs::Codes::function_here, crate::proofs::Codes::function_passed))]
-pub fn place_of_function(name: &Name, functions: &[FlatFunction]) -> usize
-    ensures place { (t : List (List Line)) → result ≡ function_number name.now (map (function_of t) functions.now) }
-    ensures within { result ≤ length functions.now }
-{
-    for i in 0..functions.len() {
-        if name_eq(name, &functions[i].name) {
-            return i;
-        }
-    }
-    functions.len()
 }
 
 /// The function of this number.

@@ -1,0 +1,27 @@
+-- The numbers of objects and functions, in tables of their names.
+use Rattle.std.specs.Prelude.{ℕ, ◌+◌, List, [], ◌∷◌, map}
+use Rattle.gv_values.specs.declared.name.Name.{Name}
+use Rattle.name_table.specs.Tables.{Holds}
+use Rattle.name_table.specs.declared.names.Names.{Names}
+use Rattle.scenario_tree.specs.declared.tree.Declaration.{Declaration}
+use Rattle.scenario_tree.specs.declared.tree.Function.{Function}
+use Rattle.scenario_tree.specs.declared.tree.Scenario.{Scenario}
+use Rattle.body_values.specs.Few.{HasFewCalls}
+use Rattle.body_values.specs.Small.{IsSmall}
+
+-- each name with its number, where this is the first's
+abbrev pub numbered : ℕ → List Name → List (Name × ℕ)
+numbered n [] = []
+numbered n (x ∷ xs) = (x, n) ∷ numbered (n + 1) xs
+
+-- the table has each name with the number of the first object that has it
+abbrev pub NumbersObjects : Names ℕ → List Declaration → Type 0
+NumbersObjects numbers objects = Holds numbers (numbered 0 (map (λ d. d.name) objects))
+
+-- the table has each name with the number of the first function that has it
+abbrev pub NumbersFunctions : Names ℕ → List Function → Type 0
+NumbersFunctions numbers functions = Holds numbers (numbered 0 (map (λ f. f.name) functions))
+
+-- what some code keeps of its scenario, with the numbers of objects and functions
+abbrev pub IsKept : Scenario → Names ℕ → Names ℕ → Type 0
+IsKept s objects functions = IsSmall s × HasFewCalls s × NumbersObjects objects s.objects × NumbersFunctions functions s.functions

@@ -1,0 +1,31 @@
+//! The numbers of objects and functions by their names.
+ghost use Rattle.std.specs.Prelude.{◌≤◌, length, IfOk};
+ghost use Rattle.body_values.specs.Numbers.{NumbersObjects, NumbersFunctions};
+
+use name_table::Names;
+use scenario_tree::{Declaration, Function};
+use std::alloc::{AllocError, Global};
+
+/// The number of the first object of each name.
+pub fn number_objects(alloc: Global, objects: &[Declaration]) -> Result<Names<u32>, AllocError>
+    requires small { length objects.now ≤ 256 }
+    ensures { IfOk result (λ numbers. NumbersObjects numbers objects.now) }
+{
+    let mut numbers = Names::new(alloc);
+    for i in 0..objects.len() {
+        numbers.give(alloc, objects[i].name.bytes(), i as u32)?;
+    }
+    Ok(numbers)
+}
+
+/// The number of the first function of each name.
+pub fn number_functions(alloc: Global, functions: &[Function]) -> Result<Names<u32>, AllocError>
+    requires small { length functions.now ≤ 256 }
+    ensures { IfOk result (λ numbers. NumbersFunctions numbers functions.now) }
+{
+    let mut numbers = Names::new(alloc);
+    for i in 0..functions.len() {
+        numbers.give(alloc, functions[i].name.bytes(), i as u32)?;
+    }
+    Ok(numbers)
+}
