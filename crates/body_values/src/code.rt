@@ -91,7 +91,6 @@ impl Code {
     }
 
     /// The number of the function with this name, and past the last where there is none.
-    #[tactic(auto, using(crate::proofs::Numbered::function_found))]
     pub fn function(&self, name: &Name) -> u32
         ensures { result ≡ function_number name.now self.now.functions }
     {
