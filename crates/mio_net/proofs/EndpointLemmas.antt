@@ -2,7 +2,7 @@
 use Rattle.std.proofs.Common.{◌≡◌, ℕ, ◌+◌, ◌<◌, ◌≤◌, max, Bool, true, false, List, [], ◌∷◌, ◌++◌, length, map, get_or, set, Option, refl, sym, ap, ◌∙◌, subst, arith, slice_set}
 use Rattle.gv_values.specs.Counts.{HasRisen}
 use Rattle.std.proofs.lemmas.List.{length-map, get_or-map, map-append}
-use Rattle.stream_net.specs.Nets.{Connection, Changes, connection_at, nobody, live_count, IsNew}
+use Rattle.stream_net.specs.Nets.{Connection, Changes, Ports, connection_at, nobody, live_count, IsNew}
 use Rattle.stream_net.specs.declared.net.ReadEnd.{ReadEnd}
 use Rattle.stream_net.specs.declared.net.ReadEnd.TheVariants as R
 use Rattle.stream_net.specs.declared.net.WriteEnd.{WriteEnd}
@@ -34,7 +34,7 @@ module _ (endpoints : List Endpoint) (k : ℕ) (old new : Endpoint) (within : k 
       ap (λ (cs : List Connection). live_count cs + 1) (map_set endpoint_meaning endpoints k new)
       ∙ live_closed (map endpoint_meaning endpoints) k (endpoint_meaning new) within (ap (λ (c : Connection). c.closed) at_old ∙ was) now
 
-  module _ (most moment now : ℕ) (listens : Option ℕ) (faults : ℕ) (blocked : Bool) (rises : moment ≤ now) where
+  module _ (most moment now : ℕ) (listens : Option Ports) (faults : ℕ) (blocked : Bool) (rises : moment ≤ now) where
     pub one_changed : (change : Connection → Connection) → endpoint_meaning new ≡ change (endpoint_meaning old)
         → Changes (meaning_by endpoints most moment listens faults blocked) (meaning_by (slice_set endpoints k new) most now listens faults blocked) k change
     one_changed change e = record {
@@ -87,7 +87,7 @@ named_none endpoints k past = let long = length-map endpoints endpoint_meaning i
 pub one_more_live : (endpoints : List Endpoint) (p : Endpoint) → p.account.closed ≡ false → live_count (map endpoint_meaning (endpoints ++ p ∷ [])) ≡ live_count (map endpoint_meaning endpoints) + 1
 one_more_live endpoints p still = ap (λ (cs : List Connection). live_count cs) (map-append endpoint_meaning endpoints (p ∷ [])) ∙ live_more_one (map endpoint_meaning endpoints) (endpoint_meaning p) still
 
-pub one_gained : (endpoints after : List Endpoint) (p : Endpoint) (live most most' moment now number : ℕ) (listens : Option ℕ) (faults : ℕ) (blocked : Bool) → live ≡ live_count (map endpoint_meaning endpoints) → IsNew (endpoint_meaning p) now → moment ≤ now
+pub one_gained : (endpoints after : List Endpoint) (p : Endpoint) (live most most' moment now number : ℕ) (listens : Option Ports) (faults : ℕ) (blocked : Bool) → live ≡ live_count (map endpoint_meaning endpoints) → IsNew (endpoint_meaning p) now → moment ≤ now
     → after ≡ endpoints ++ p ∷ [] → most' ≡ max most (live + 1) → number ≡ length endpoints
     → Gains (meaning_by endpoints most moment listens faults blocked) (meaning_by after most' now listens faults false) number
 one_gained endpoints after p live most most' moment now number listens faults blocked is new rises grows largest count = record {

@@ -16,7 +16,7 @@ use std::io;
 use std::net::{Ipv4Addr, SocketAddr};
 use std::rt::Clock;
 use std::time::{Duration, Instant};
-use stream_net::{Accepted, Account, Net, ReadEnd, Ready, WriteEnd};
+use stream_net::{Accepted, Account, Net, Ports, ReadEnd, Ready, WriteEnd};
 
 /// How many events one poll takes.
 const EVENTS: usize = 256;
@@ -52,7 +52,7 @@ pub struct MioNet<R> {
     live: usize,
     most: usize,
     moment: u64,
-    listens: Option<u16>,
+    listens: Option<Ports>,
     faults: u64,
     blocked: bool,
     ghost live_is: { live ≡ live_count (map endpoint_meaning endpoints.items) },
@@ -132,12 +132,12 @@ impl<R: std::net::Net + Clock + Drop> Net for MioNet<R> {
     fn listen(&mut self, port: u16) -> Result<u16, Failed> {
         if self.start.is_some() {
             if let Some(poll) = &self.poll {
-                if let Ok((listener, port)) = listen_at(&self.rt, poll, port) {
+                if let Ok((listener, taken)) = listen_at(&self.rt, poll, port) {
                     self.listener = Some(listener);
                     self.arrived = true;
-                    self.listens = Some(port);
+                    self.listens = Some(Ports { asked: port, taken });
                     self.blocked = false;
-                    return Ok(port);
+                    return Ok(taken);
                 }
             }
         }

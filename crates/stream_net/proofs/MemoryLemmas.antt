@@ -14,7 +14,7 @@ use Rattle.stream_net.specs.declared.script.Piece.{Piece}
 use Rattle.stream_net.specs.Accounts.{account_meaning, read_after}
 use Rattle.stream_net.specs.Lines.{joined, bytes_at, is_failing, read_of, line_meaning, no_piece}
 use Rattle.stream_net.specs.MemoryNets.{meaning_by}
-use Rattle.stream_net.specs.Nets.{Connection, Changes, connection_at, nobody, live_count, is_open}
+use Rattle.stream_net.specs.Nets.{Connection, Changes, Ports, connection_at, nobody, live_count, is_open}
 use Rattle.stream_net.specs.Reads.{Reads, after_read}
 use Rattle.stream_net.specs.Rules.{EndsRead, EndsWrite, Rewrites}
 use Rattle.stream_net.specs.Writes.{Writes, after_write}
@@ -31,7 +31,7 @@ map_set f (x ∷ xs) (suc k) y = ap (λ (zs : List _). f x ∷ zs) (map_set f xs
 pub line_at : (lines : List Line) (k : ℕ) (l : Line) → k < length lines → l ≡ get_or lines k l → connection_at (map line_meaning lines) k ≡ line_meaning l
 line_at lines k l within is = get_or-map line_meaning lines k l nobody within ∙ ap line_meaning (sym is)
 
-module _ (lines : List Line) (k : ℕ) (old new : Line) (most moment : ℕ) (listens : Option ℕ) (faults : ℕ) (blocked : Bool)
+module _ (lines : List Line) (k : ℕ) (old new : Line) (most moment : ℕ) (listens : Option Ports) (faults : ℕ) (blocked : Bool)
     (within : k < length (map line_meaning lines)) (is : old ≡ get_or lines k old) where
   in_lines : k < length lines
   in_lines = subst (λ (n : ℕ). k < n) (length-map lines line_meaning) within

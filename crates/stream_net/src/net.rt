@@ -1,7 +1,7 @@
 //! What a net is to a server.
-ghost use Rattle.std.specs.Prelude.{◌≡◌, ℕ, ◌<◌, ◌≤◌, Some, false, length, IfOk, IsSome, OnOk, OnErr};
+ghost use Rattle.std.specs.Prelude.{◌≡◌, ℕ, ◌<◌, ◌≤◌, false, length, IfOk, IsSome, OnOk, OnErr};
 ghost use Rattle.gv_values.specs.Counts.{HasRisen};
-ghost use Rattle.stream_net.specs.Nets.{Changes, IsLive, IsNotReady, Meaning, Readiness, closed_at, connection_at, held_as};
+ghost use Rattle.stream_net.specs.Nets.{Changes, IsLive, IsNotReady, Meaning, Readiness, closed_at, connection_at, held_as, listens_at};
 ghost use Rattle.stream_net.specs.Reads.{Reads};
 ghost use Rattle.stream_net.specs.Writes.{Writes};
 ghost use Rattle.stream_net.specs.Accepts.{Accepts};
@@ -73,6 +73,15 @@ pub enum Quiet {
     ByWrite,
 }
 
+/// Where a net listens.
+#[derive(Clone, Copy, Debug, PartialEq, Eq)]
+pub struct Ports {
+    /// The port that it was asked for; 0 asks for any.
+    pub asked: u16,
+    /// The port that it took.
+    pub taken: u16,
+}
+
 /// A listener and its connections, numbered from 0 in the order of their acceptance.
 ///
 /// A call on a connection changes of that connection what its clause says, and of the others nothing. The moment
@@ -86,7 +95,7 @@ pub trait Net {
 
     /// Begins to listen, at this port or at any for 0, and answers the port.
     fn listen(&mut self, port: u16) -> Result<u16, Failed>
-        ensures listens { IfOk result (λ port. (meaning self.new).listens ≡ Some port) }
+        ensures listens { IfOk result (λ taken. (meaning self.new).listens ≡ listens_at port taken) }
         ensures asks_again { OnOk result ((meaning self.new).blocked ≡ false) }
         ensures kept { OnErr result ((meaning self.new).listens ≡ (meaning self.old).listens) }
         ensures failed { OnErr result (HasRisen (meaning self.old).faults (meaning self.new).faults) }
