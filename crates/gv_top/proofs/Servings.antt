@@ -116,17 +116,17 @@ limits_in_range law w options e = by (words.command_of w) refl e
 
 -- what served by these options served by those that the words ask for
 pub served_as : (end : Served) (app : App) (given : ServeOptions) (limits : Limits) (o : Option ServeOptions) (w : Meaning) (out0 out1 : Option (List ℕ)) →
-    o ≡ Some given → limits ≡ limits_of given → ServesAt end (answers_by given.gateway) app limits w out0 out1 →
-    (options : ServeOptions) → o ≡ Some options → ServesAt end (answers_by options.gateway) app (limits_of options) w out0 out1
+    o ≡ Some given → limits ≡ limits_of given → ServesAt end given.port (answers_by given.gateway) app limits w out0 out1 →
+    (options : ServeOptions) → o ≡ Some options → ServesAt end options.port (answers_by options.gateway) app (limits_of options) w out0 out1
 served_as end app given limits o w out0 out1 is fit h = λ options e.
-    let P : Limits → Type 0 = λ l. ServesAt end (answers_by given.gateway) app l w out0 out1 in
-    let Q : ServeOptions → Type 0 = λ x. ServesAt end (answers_by x.gateway) app (limits_of x) w out0 out1 in
+    let P : Limits → Type 0 = λ l. ServesAt end given.port (answers_by given.gateway) app l w out0 out1 in
+    let Q : ServeOptions → Type 0 = λ x. ServesAt end x.port (answers_by x.gateway) app (limits_of x) w out0 out1 in
     subst Q (same_options given options (sym is ∙ e)) (subst P fit h)
 
 -- where memory ran out before it listened, it served nobody
-pub nobody_served : (answers : Gateway) (app : App) (limits : Limits) (w : Meaning) (out0 out1 : Option (List ℕ)) → IsFresh w → out1 ≡ out0 → ServesAt Served.Memory answers app limits w out0 out1
-nobody_served answers app limits w out0 out1 fresh same =
-    none_served Served.Memory answers app limits w out0 out1 0 memory_unfinished fresh.none fresh.none_live (left_as_it_was out0 out1 (listening 0) same) (inl same)
+pub nobody_served : (asked : ℕ) (answers : Gateway) (app : App) (limits : Limits) (w : Meaning) (out0 out1 : Option (List ℕ)) → IsFresh w → out1 ≡ out0 → ServesAt Served.Memory asked answers app limits w out0 out1
+nobody_served asked answers app limits w out0 out1 fresh same =
+    none_served Served.Memory asked answers app limits w out0 out1 0 memory_unfinished fresh.none fresh.none_live (left_as_it_was out0 out1 (listening 0) same) (inl same)
 
 -- ---- what a server came to, and its line
 
@@ -137,10 +137,10 @@ told_whole n v w old new e0 e1 (inr q) (inl p) h5 h7 = absurd (h7 (p.0 ∙ ap nu
 told_whole n v w old new e0 e1 o (inr p) h5 h7 = absurd (h5 p.0)
 
 pub serves_so : (n : ℕ) (app : App) (options : ServeOptions) (end : Served) (w : Verdict) (m : Meaning) (out0 begun out1 err0 silent err1 : Option (List ℕ)) (e0 e1 : ℕ) →
-    begun ≡ out0 → silent ≡ err0 → ServesAt end (answers_by options.gateway) app (limits_of options) m begun out1 → IsOr (Verdict.Served end) w → IsTold n w silent err1 e0 e1 →
+    begun ≡ out0 → silent ≡ err0 → ServesAt end options.port (answers_by options.gateway) app (limits_of options) m begun out1 → IsOr (Verdict.Served end) w → IsTold n w silent err1 e0 e1 →
     Serves n app options m out0 out1 err0 err1
 serves_so n app options end w m out0 begun out1 err0 silent err1 e0 e1 same quiet h o l =
-    let P : Option (List ℕ) → Type 0 = λ x. ServesAt end (answers_by options.gateway) app (limits_of options) m x out1 in
+    let P : Option (List ℕ) → Type 0 = λ x. ServesAt end options.port (answers_by options.gateway) app (limits_of options) m x out1 in
     let Q : Option (List ℕ) → Type 0 = λ x. err1 ≡ appended x (line_of (Verdict.Served end)) in
     record {
       end = end;
@@ -154,7 +154,7 @@ pub serves_nobody : (n : ℕ) (app : App) (options : ServeOptions) (m : Meaning)
     IsFresh m → out1 ≡ out0 → (n ≡ 5) ⊎ (n ≡ 7) → Serves n app options m out0 out1 err0 err1
 serves_nobody n app options m out0 out1 err0 err1 fresh same e = record {
   end = Served.Memory;
-  serves = nobody_served (answers_by options.gateway) app (limits_of options) m out0 out1 fresh same;
+  serves = nobody_served options.port (answers_by options.gateway) app (limits_of options) m out0 out1 fresh same;
   status = inr ((λ z. absurd (omega (arith, z))), e);
   err = by e;
 }

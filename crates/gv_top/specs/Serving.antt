@@ -19,6 +19,6 @@ limits_of options = record { pool = options.pool; conns = options.conns; idle = 
 -- the server came to an end at which net and out are so, and the status and the line on err are those of its end
 pub record Serves (n : ℕ) (app : App) (options : ServeOptions) (w : Meaning) (out0 out1 err0 err1 : Option (List ℕ)) : Type 0 where
   pub end : Served
-  pub serves : ServesAt end (answers_by options.gateway) app (limits_of options) w out0 out1
+  pub serves : ServesAt end options.port (answers_by options.gateway) app (limits_of options) w out0 out1
   pub status : IsStatusOf n (Verdict.Served end)
   pub err : n ≢ 5 → n ≢ 7 → err1 ≡ appended err0 (line_of (Verdict.Served end))

@@ -59,7 +59,7 @@ pub fn serve_through<K: Sink, N: Net, A: Application, H: Wait>(
 ) -> Served
     requires fresh { IsFresh (N.meaning net.old) }
     requires in_range { IsInRange limits }
-    ensures serves { ServesAt result (answers_by gateway) (A.answer_of app.now) limits (N.meaning net.new) (K.written out.old) (K.written out.new) }
+    ensures serves { ServesAt result port (answers_by gateway) (A.answer_of app.now) limits (N.meaning net.new) (K.written out.old) (K.written out.new) }
     ensures listener { result ≡ Served.Listener → HasRisen (N.meaning net.old).faults (N.meaning net.new).faults }
     ensures write_fault { result ≡ Served.WriteFault → HasRisen (K.faults out.old) (K.faults out.new) }
     ensures net_never_falls { (N.meaning net.old).faults ≤ (N.meaning net.new).faults }

@@ -58,7 +58,7 @@ fn serves<K: Sink, N: Net, A: Application, H: Wait>(
     requires fresh { IsFresh (N.meaning net.old) }
     requires named { IsSome (serve_of (map string_bytes words.now)) }
     ensures serves { (options : AnyServer) → serve_of (map string_bytes words.now) ≡ Some options →
-        ServesAt result (answers_by options.gateway) (A.answer_of app.now) (limits_of options) (N.meaning net.new) (K.written out.old) (K.written out.new) }
+        ServesAt result options.port (answers_by options.gateway) (A.answer_of app.now) (limits_of options) (N.meaning net.new) (K.written out.old) (K.written out.new) }
     ensures listener { result ≡ Served.Listener → HasRisen (N.meaning net.old).faults (N.meaning net.new).faults }
     ensures write_fault { result ≡ Served.WriteFault → HasRisen (K.faults out.old) (K.faults out.new) }
     ensures net_never_falls { (N.meaning net.old).faults ≤ (N.meaning net.new).faults }
@@ -172,8 +172,9 @@ pub fn gvr<S: Source, K: Sink, E: Sink, W: World, N: Net, A: Application, H: Wai
     // past the most that a text may have.
     ensures read_whole { (command : TextCommand) → command_of (map string_bytes words.now) ≡ Some (Command.Text command) → result ≢ 4 → result ≢ 5 → result ≢ 7 →
         (left : List ℕ) → S.remaining input.old ≡ Some left → S.remaining input.new ≡ Some (drop most_read left) }
-    // `serve` serves: out has its lines, each connection was a session of its own with the application at the port of
-    // the first line, and each closed one was closed for a cause. It reads no input.
+    // `serve` serves: the net was asked for the port of the words, out has its lines, each connection was a session of
+    // its own with the application at the port of the first line, and each closed one was closed for a cause. It reads
+    // no input.
     ensures served { (options : AnyServer) → serve_of (map string_bytes words.now) ≡ Some options →
         Serves result (A.answer_of app.now) options (N.meaning net.new) (K.written out.old) (K.written out.new) (E.written err.old) (E.written err.new) }
     ensures network_fault { result ≡ 10 → IsSome (serve_of (map string_bytes words.now)) × HasRisen (N.meaning net.old).faults (N.meaning net.new).faults }

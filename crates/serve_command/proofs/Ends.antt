@@ -1,10 +1,10 @@
 -- The command's ends, one by one.
-use Rattle.std.proofs.Common.{◌≡◌, ◌⊎◌, inl, inr, ℕ, ◌≤◌, true, List, [], ◌++◌, length, Option, Some, ap, ◌∙◌, arith, take}
+use Rattle.std.proofs.Common.{◌≡◌, ◌⊎◌, inl, inr, ℕ, ◌≤◌, true, List, [], ◌++◌, length, Option, ap, ◌∙◌, arith, take}
 use Rattle.gv_io.specs.Streams.{appended, AppendsPrefix}
 use Rattle.gv_io.proofs.StreamLaws.{appended-appended, AppendsPrefix-after, AppendsPrefix-all, AppendsPrefix-longer}
 use Rattle.wsgi_core.specs.Applications.{App}
 use Rattle.wsgi_core.specs.Gateways.{Gateway, said_by}
-use Rattle.stream_net.specs.Nets.{Connection, Meaning}
+use Rattle.stream_net.specs.Nets.{Connection, Meaning, listens_at}
 use Rattle.stream_server.specs.declared.limits.Limits.{Limits}
 use Rattle.stream_server.specs.Served.{Cause}
 use Rattle.stream_server.specs.Serving.{BeginsSo, EachTold, IsAllServed, IsClosedWell}
@@ -28,9 +28,9 @@ finished_no_listener : Served.Finished ≡ Served.Listener → ⊥
 finished_no_listener e = absurd (cc)
 
 -- nobody was accepted
-pub none_served : (end : Served) (answers : Gateway) (app : App) (limits : Limits) (w : Meaning) (out0 out1 : Option (List ℕ)) (port : ℕ) → (end ≡ Served.Finished → ⊥) → w.connections ≡ [] → w.most ≡ 0
-    → AppendsPrefix out0 out1 (listening port) → (out1 ≡ out0) ⊎ ((w.listens ≡ Some port) × (end ≡ Served.Listener → ⊥)) → ServesAt end answers app limits w out0 out1
-none_served end answers app limits w out0 out1 port unfinished none most begins listens = record {
+pub none_served : (end : Served) (asked : ℕ) (answers : Gateway) (app : App) (limits : Limits) (w : Meaning) (out0 out1 : Option (List ℕ)) (port : ℕ) → (end ≡ Served.Finished → ⊥) → w.connections ≡ [] → w.most ≡ 0
+    → AppendsPrefix out0 out1 (listening port) → (out1 ≡ out0) ⊎ ((w.listens ≡ listens_at asked port) × (end ≡ Served.Listener → ⊥)) → ServesAt end asked answers app limits w out0 out1
+none_served end asked answers app limits w out0 out1 port unfinished none most begins listens = record {
   port = port;
   listens = told listens;
   begins = AppendsPrefix-longer out0 out1 (listening port) (served limits.conns) begins;
@@ -44,21 +44,21 @@ none_served end answers app limits w out0 out1 port unfinished none most begins 
   all = λ e. absurd (unfinished e);
 }
   where
-    told : (out1 ≡ out0) ⊎ ((w.listens ≡ Some port) × (end ≡ Served.Listener → ⊥)) → ((out1 ≡ out0) × (w.connections ≡ [])) ⊎ (w.listens ≡ Some port)
+    told : (out1 ≡ out0) ⊎ ((w.listens ≡ listens_at asked port) × (end ≡ Served.Listener → ⊥)) → ((out1 ≡ out0) × (w.connections ≡ [])) ⊎ (w.listens ≡ listens_at asked port)
     told (inl e) = inl (e, none)
     told (inr h) = inr h.0
 
-    at_once : (out1 ≡ out0) ⊎ ((w.listens ≡ Some port) × (end ≡ Served.Listener → ⊥)) → end ≡ Served.Listener → (out1 ≡ out0) ⊎ (out1 ≡ appended out0 (listening port))
+    at_once : (out1 ≡ out0) ⊎ ((w.listens ≡ listens_at asked port) × (end ≡ Served.Listener → ⊥)) → end ≡ Served.Listener → (out1 ≡ out0) ⊎ (out1 ≡ appended out0 (listening port))
     at_once (inl same) e = inl same
     at_once (inr h) e = absurd (h.1 e)
 
-module _ (answers : Gateway) (app : App) (limits : Limits) (w : Meaning) (out0 out1 : Option (List ℕ)) (port : ℕ) (told : out1 ≡ appended out0 (listening port))
+module _ (asked : ℕ) (answers : Gateway) (app : App) (limits : Limits) (w : Meaning) (out0 out1 : Option (List ℕ)) (port : ℕ) (told : out1 ≡ appended out0 (listening port))
     (own : EachTold w.connections (λ c bytes sent. BeginsSo (said_by answers app port bytes c.ended).bytes sent))
     (whole : EachTold w.connections (λ c bytes sent. IsClosedWell c → sent ≡ (said_by answers app port bytes c.ended).bytes))
     (cause : EachTold w.connections (λ c bytes sent. c.closed ≡ true → Cause (said_by answers app port bytes c.ended) sent limits.idle c))
-    (most : w.most ≤ limits.pool) (listens : w.listens ≡ Some port) where
+    (most : w.most ≤ limits.pool) (listens : w.listens ≡ listens_at asked port) where
   -- out has the first line, and a beginning of the second
-  pub some_served : (end : Served) (out2 : Option (List ℕ)) → (end ≡ Served.Finished → ⊥) → (end ≡ Served.Listener → out2 ≡ out1) → AppendsPrefix out1 out2 (served limits.conns) → ServesAt end answers app limits w out0 out2
+  pub some_served : (end : Served) (out2 : Option (List ℕ)) → (end ≡ Served.Finished → ⊥) → (end ≡ Served.Listener → out2 ≡ out1) → AppendsPrefix out1 out2 (served limits.conns) → ServesAt end asked answers app limits w out0 out2
   some_served end out2 unfinished untold more = record {
     port = port;
     listens = inr listens;
@@ -74,7 +74,7 @@ module _ (answers : Gateway) (app : App) (limits : Limits) (w : Meaning) (out0 o
   }
 
   -- and both
-  pub all_served : (out2 : Option (List ℕ)) → out2 ≡ appended out1 (served limits.conns) → IsAllServed w limits.conns → ServesAt Served.Finished answers app limits w out0 out2
+  pub all_served : (out2 : Option (List ℕ)) → out2 ≡ appended out1 (served limits.conns) → IsAllServed w limits.conns → ServesAt Served.Finished asked answers app limits w out0 out2
   all_served out2 last all =
       let both : out2 ≡ appended out0 (listening port ++ served limits.conns) =
       last ∙ ap (λ (o : Option (List ℕ)). appended o (served limits.conns)) told ∙ appended-appended out0 (listening port) (served limits.conns) in

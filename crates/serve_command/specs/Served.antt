@@ -1,10 +1,10 @@
 -- What the command `serve` leaves behind.
-use Rattle.std.specs.Prelude.{◌≡◌, ◌⊎◌, ℕ, ◌<◌, ◌≤◌, true, List, [], ◌++◌, length, Option, Some, codes}
+use Rattle.std.specs.Prelude.{◌≡◌, ◌⊎◌, ℕ, ◌<◌, ◌≤◌, true, List, [], ◌++◌, length, Option, codes}
 use Rattle.gv_io.specs.Streams.{appended, AppendsPrefix}
 use Rattle.gv_values.specs.ValueTexts.{decimal}
 use Rattle.wsgi_core.specs.Applications.{App}
 use Rattle.wsgi_core.specs.Gateways.{Gateway, said_by}
-use Rattle.stream_net.specs.Nets.{Meaning}
+use Rattle.stream_net.specs.Nets.{Meaning, listens_at}
 use Rattle.stream_server.specs.declared.limits.Limits.{Limits}
 use Rattle.stream_server.specs.Served.{Cause}
 use Rattle.stream_server.specs.Serving.{BeginsSo, EachTold, IsAllServed, IsClosedWell}
@@ -21,12 +21,12 @@ listening port = number_line (codes "listening") port
 abbrev pub served : ℕ → List ℕ
 served conns = number_line (codes "served") conns
 
--- The net served each connection by itself, at a port, through this gateway and with this application, and out has the
--- lines.
-pub record ServesAt (end : Served) (answers : Gateway) (app : App) (limits : Limits) (w : Meaning) (out0 out1 : Option (List ℕ)) : Type 0 where
-  -- the port that the net listens at; or nobody was accepted, and out is as it was
+-- The net was asked for this port and served each connection by itself at the one that it took, through this gateway and
+-- with this application, and out has the lines.
+pub record ServesAt (end : Served) (asked : ℕ) (answers : Gateway) (app : App) (limits : Limits) (w : Meaning) (out0 out1 : Option (List ℕ)) : Type 0 where
+  -- the port that the net took; or nobody was accepted, and out is as it was
   pub port : ℕ
-  pub listens : ((out1 ≡ out0) × (w.connections ≡ [])) ⊎ (w.listens ≡ Some port)
+  pub listens : ((out1 ≡ out0) × (w.connections ≡ [])) ⊎ (w.listens ≡ listens_at asked port)
   -- out has the two lines, or a beginning of them; both where all were served
   pub begins : AppendsPrefix out0 out1 (listening port ++ served limits.conns)
   pub both : end ≡ Served.Finished → out1 ≡ appended out0 (listening port ++ served limits.conns)

@@ -6,7 +6,7 @@ use Rattle.gv_top.proofs.Servings.{limits_in_range, nobody_served, served_as}
 use Rattle.gv_top.proofs.serving.serves.Goals as goal
 
 pub returns-in_default-clause-serves : goal.returns-in_default-clause-serves
-returns-in_default-clause-serves g c = λ options e. nobody_served _ _ _ _ _ _ c.requires.fresh refl
+returns-in_default-clause-serves g c = λ options e. nobody_served _ _ _ _ _ _ _ c.requires.fresh refl
 
 pub serve_through-requires-clause-in_range : goal.serve_through-requires-clause-in_range
 serve_through-requires-clause-in_range g c =

@@ -9,21 +9,21 @@ use Rattle.serve_command.proofs.serving.serve_command.Goals as goal
 pub returns-in_default-clause-serves : goal.returns-in_default-clause-serves
 returns-in_default-clause-serves g c =
     let out = g.K.Sink.written c.args.out.now in
-    none_served Served.Listener g.T.Talk.answers (g.A.Application.answer_of c.args.app.now) c.args.limits (g.N.Net.meaning c.listen.new.self) out out 0 listener_unfinished
+    none_served Served.Listener c.args.port g.T.Talk.answers (g.A.Application.answer_of c.args.app.now) c.args.limits (g.N.Net.meaning c.listen.new.self) out out 0 listener_unfinished
     (c.listen.ensures.same ∙ c.requires.fresh.none) (c.listen.ensures.most ∙ c.requires.fresh.none_live) (AppendsPrefix-nothing out (listening 0)) (inl refl)
 
 pub returns-in-Err-clause-serves : goal.returns-in-Err-clause-serves
 returns-in-Err-clause-serves g c =
     let out0 = g.K.Sink.written c.args.out.now in
     let out1 = g.K.Sink.written c.write_line.new.out in
-    none_served c.unwritten.result g.T.Talk.answers (g.A.Application.answer_of c.args.app.now) c.args.limits (g.N.Net.meaning c.listen.new.self) out0 out1 c.in-Ok.port c.unwritten.ensures.unfinished
+    none_served c.unwritten.result c.args.port g.T.Talk.answers (g.A.Application.answer_of c.args.app.now) c.args.limits (g.N.Net.meaning c.listen.new.self) out0 out1 c.in-Ok.port c.unwritten.ensures.unfinished
     (c.listen.ensures.same ∙ c.requires.fresh.none) (c.listen.ensures.most ∙ c.requires.fresh.none_live)
     (subst (λ (n : ℕ). AppendsPrefix out0 out1 (listening n)) c.from.ensures c.in-Err.ensures.cut) (inr (c.in-Ok.ensures.listens, c.unwritten.ensures.not_listener))
 
 pub returns-in-Listener-clause-serves : goal.returns-in-Listener-clause-serves
 returns-in-Listener-clause-serves g c =
     let out1 = g.K.Sink.written c.write_line.new.out in
-    some_served g.T.Talk.answers (g.A.Application.answer_of c.args.app.now) c.args.limits (g.N.Net.meaning c.serve_with.new.net) (g.K.Sink.written c.args.out.now) (g.K.Sink.written c.write_line.new.out) c.in-Ok.port
+    some_served c.args.port g.T.Talk.answers (g.A.Application.answer_of c.args.app.now) c.args.limits (g.N.Net.meaning c.serve_with.new.net) (g.K.Sink.written c.args.out.now) (g.K.Sink.written c.write_line.new.out) c.in-Ok.port
     (c.in_default-write_line.ensures.whole ∙ ap (λ (n : ℕ). appended (g.K.Sink.written c.args.out.now) (listening n)) c.from.ensures)
     c.in-Listener.ensures.own c.in-Listener.ensures.whole c.in-Listener.ensures.cause c.in-Listener.ensures.most (c.in-Listener.ensures.listens ∙ c.in-Ok.ensures.listens)
     Served.Listener out1 listener_unfinished (λ _. refl) (AppendsPrefix-nothing out1 (served c.args.limits.conns))
@@ -31,14 +31,14 @@ returns-in-Listener-clause-serves g c =
 pub returns-in-Memory-clause-serves : goal.returns-in-Memory-clause-serves
 returns-in-Memory-clause-serves g c =
     let out1 = g.K.Sink.written c.write_line.new.out in
-    some_served g.T.Talk.answers (g.A.Application.answer_of c.args.app.now) c.args.limits (g.N.Net.meaning c.serve_with.new.net) (g.K.Sink.written c.args.out.now) (g.K.Sink.written c.write_line.new.out) c.in-Ok.port
+    some_served c.args.port g.T.Talk.answers (g.A.Application.answer_of c.args.app.now) c.args.limits (g.N.Net.meaning c.serve_with.new.net) (g.K.Sink.written c.args.out.now) (g.K.Sink.written c.write_line.new.out) c.in-Ok.port
     (c.in_default-write_line.ensures.whole ∙ ap (λ (n : ℕ). appended (g.K.Sink.written c.args.out.now) (listening n)) c.from.ensures)
     c.in-Memory.ensures.own c.in-Memory.ensures.whole c.in-Memory.ensures.cause c.in-Memory.ensures.most (c.in-Memory.ensures.listens ∙ c.in-Ok.ensures.listens)
     Served.Memory out1 memory_unfinished (λ e. absurd (memory_no_listener e)) (AppendsPrefix-nothing out1 (served c.args.limits.conns))
 
 pub returns-in-Ok-write_line-clause-serves : goal.returns-in-Ok-write_line-clause-serves
 returns-in-Ok-write_line-clause-serves g c =
-    all_served g.T.Talk.answers (g.A.Application.answer_of c.args.app.now) c.args.limits (g.N.Net.meaning c.serve_with.new.net) (g.K.Sink.written c.args.out.now) (g.K.Sink.written c.write_line.new.out) c.in-Ok.port
+    all_served c.args.port g.T.Talk.answers (g.A.Application.answer_of c.args.app.now) c.args.limits (g.N.Net.meaning c.serve_with.new.net) (g.K.Sink.written c.args.out.now) (g.K.Sink.written c.write_line.new.out) c.in-Ok.port
     (c.in_default-write_line.ensures.whole ∙ ap (λ (n : ℕ). appended (g.K.Sink.written c.args.out.now) (listening n)) c.from.ensures)
     c.in-Finished.ensures.own c.in-Finished.ensures.whole c.in-Finished.ensures.cause c.in-Finished.ensures.most (c.in-Finished.ensures.listens ∙ c.in-Ok.ensures.listens)
     (g.K.Sink.written c.write_line-2.new.out) (c.in-Ok-write_line.ensures.whole ∙ ap (λ (n : ℕ). appended (g.K.Sink.written c.write_line.new.out) (served n)) c.from-2.ensures) (c.in-Finished.ensures.finished refl)
@@ -47,7 +47,7 @@ pub returns-in-Err-write_line-clause-serves : goal.returns-in-Err-write_line-cla
 returns-in-Err-write_line-clause-serves g c =
     let out1 = g.K.Sink.written c.write_line.new.out in
     let out2 = g.K.Sink.written c.write_line-2.new.out in
-    some_served g.T.Talk.answers (g.A.Application.answer_of c.args.app.now) c.args.limits (g.N.Net.meaning c.serve_with.new.net) (g.K.Sink.written c.args.out.now) (g.K.Sink.written c.write_line.new.out) c.in-Ok.port
+    some_served c.args.port g.T.Talk.answers (g.A.Application.answer_of c.args.app.now) c.args.limits (g.N.Net.meaning c.serve_with.new.net) (g.K.Sink.written c.args.out.now) (g.K.Sink.written c.write_line.new.out) c.in-Ok.port
     (c.in_default-write_line.ensures.whole ∙ ap (λ (n : ℕ). appended (g.K.Sink.written c.args.out.now) (listening n)) c.from.ensures)
     c.in-Finished.ensures.own c.in-Finished.ensures.whole c.in-Finished.ensures.cause c.in-Finished.ensures.most (c.in-Finished.ensures.listens ∙ c.in-Ok.ensures.listens)
     c.unwritten-in-Err-write_line.result out2 c.unwritten-in-Err-write_line.ensures.unfinished (λ e. absurd (c.unwritten-in-Err-write_line.ensures.not_listener e))
