@@ -1,7 +1,8 @@
 -- What a net over the system means.
 use Rattle.std.specs.Prelude.{ℕ, Bool, List, map, Option, None}
 use Rattle.stream_net.specs.Accounts.{account_meaning}
-use Rattle.stream_net.specs.Nets.{Connection, Meaning, Ports, Readiness}
+use Rattle.stream_net.specs.declared.net.Ports.{Ports}
+use Rattle.stream_net.specs.Nets.{Connection, Meaning, Readiness}
 use Rattle.mio_net.specs.declared.endpoint.Endpoint.{Endpoint}
 
 -- a connection of the system tells no bytes
