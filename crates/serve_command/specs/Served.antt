@@ -1,18 +1,14 @@
 -- What the command `serve` leaves behind.
 use Rattle.std.specs.Prelude.{◌≡◌, ◌⊎◌, ℕ, ◌<◌, ◌≤◌, true, List, [], ◌++◌, length, Option, codes}
 use Rattle.gv_io.specs.Streams.{appended, AppendsPrefix}
-use Rattle.gv_values.specs.ValueTexts.{decimal}
 use Rattle.wsgi_core.specs.Applications.{App}
 use Rattle.wsgi_core.specs.Gateways.{Gateway, said_by}
 use Rattle.stream_net.specs.Nets.{Meaning, listens_at}
 use Rattle.stream_server.specs.declared.limits.Limits.{Limits}
 use Rattle.stream_server.specs.Served.{Cause}
 use Rattle.stream_server.specs.Serving.{BeginsSo, EachTold, IsAllServed, IsClosedWell}
+use Rattle.serve_command.specs.Lines.{number_line}
 use Rattle.serve_command.specs.declared.serving.Served.{Served}
-
--- a word, a number and LF
-abbrev pub number_line : List ℕ → ℕ → List ℕ
-number_line word number = word ++ codes " " ++ decimal number ++ codes "\n"
 
 -- the line that tells the port, and the line that tells how many connections were served
 abbrev pub listening : ℕ → List ℕ

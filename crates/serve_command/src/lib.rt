@@ -4,4 +4,5 @@
 mod lines;
 mod serving;
 
+pub use lines::push_number_line;
 pub use serving::{Served, serve_command};

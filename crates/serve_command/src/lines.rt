@@ -1,8 +1,8 @@
-//! The lines that tell the port and the number of connections.
-ghost use Rattle.std.specs.Prelude.{◌≡◌, ◌≤◌, IfOk, IsErrOf, OnErr, OnOk};
+//! Lines of a word and a number, as those that tell the port and the number of connections.
+ghost use Rattle.std.specs.Prelude.{◌≡◌, ◌≤◌, ◌++◌, IfOk, IsErrOf, OnErr, OnOk};
 ghost use Rattle.gv_io.specs.Streams.{AppendsPrefix, appended};
 ghost use Rattle.gv_values.specs.Counts.{HasRisen};
-ghost use Rattle.serve_command.specs.Served.{number_line};
+ghost use Rattle.serve_command.specs.Lines.{number_line};
 
 use gv_io::Sink;
 use gv_values::decimal_text;
@@ -19,15 +19,23 @@ pub enum Unwritten {
     Memory,
 }
 
-/// The word, the number and LF.
+/// Appends the word, the number and LF. Where memory runs out, a part of them may be there.
+pub fn push_number_line(word: &[u8], number: u64, text: &mut Vec<u8>) -> Result<(), AllocError>
+    ensures { OnOk result (text.new.items ≡ text.old.items ++ number_line word.now number) }
+{
+    text.extend_from_slice(word)?;
+    text.push(b' ')?;
+    decimal_text(number, text)?;
+    text.push(b'\n')?;
+    Ok(())
+}
+
+/// The line of the word and the number.
 fn number_line(alloc: Global, word: &[u8], number: u64) -> Result<Vec<u8>, AllocError>
     ensures { IfOk result (λ line. line.items ≡ number_line word.now number) }
 {
     let mut line = Vec::new(alloc);
-    line.extend_from_slice(word)?;
-    line.push(b' ')?;
-    decimal_text(number, &mut line)?;
-    line.push(b'\n')?;
+    push_number_line(word, number, &mut line)?;
     Ok(line)
 }
 
