@@ -28,23 +28,16 @@ use Rattle.gv_top.proofs.Tops.{fails, left_as_it_was, no_memory_line, read_line,
 
 -- ---- words that name it
 
--- words that name `serve` name no command that needs no net
-only_serve : (o : Option NamedCommand) → IsSome (option_and_then serving o) → option_and_then built o ≡ None
-only_serve (Some (named.Serve options)) e = refl
-only_serve (Some (named.Text text)) e = absurd (cc e)
-only_serve (Some (named.Wsgi gateway)) e = absurd (cc e)
-only_serve (Some (named.Storm n)) e = absurd (cc e)
-only_serve None e = absurd (cc e)
+-- words that name a command without a net name no server
+serves_none : (o : Option NamedCommand) (command : Command) → option_and_then built o ≡ Some command → option_and_then serving o ≡ None
+serves_none (Some (named.Text text)) command e = refl
+serves_none (Some (named.Wsgi gateway)) command e = refl
+serves_none (Some (named.Storm n)) command e = refl
+serves_none (Some (named.Serve options)) command e = absurd (cc e)
+serves_none None command e = absurd (cc e)
 
-pub no_other_command : (w : List Word) → IsSome (serve_of w) → command_of w ≡ None
-no_other_command w e = only_serve (words.command_of w) e
-
-none_is_some : (P : Type 0) (o : Option Command) (command : Command) → o ≡ None → o ≡ Some command → P
-none_is_some P o command e f = absurd (let h : ◌≡◌ {A = Option Command} None (Some command) = sym e ∙ f in cc h)
-
--- so nothing is said of another command
-pub names_another : (P : Type 0) (w : List Word) (command : Command) → IsSome (serve_of w) → command_of w ≡ Some command → P
-names_another P w command named e = none_is_some P (command_of w) command (no_other_command w named) e
+pub names_one : (w : List Word) (command : Command) → command_of w ≡ Some command → serve_of w ≡ None
+names_one w command e = serves_none (words.command_of w) command e
 
 pub is_some : (o : Option ServeOptions) (options : ServeOptions) → o ≡ Some options → IsSome o
 is_some o options e = rw e refl

@@ -2,6 +2,7 @@ pub mod Storm
 pub mod Counted
 pub mod Running
 pub mod Answers
+pub mod Commands
 pub mod Gateways
 pub mod Refusals
 pub mod Serving

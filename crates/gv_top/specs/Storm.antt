@@ -5,6 +5,7 @@ use Rattle.line_counter.specs.Lines.{lines_of}
 use Rattle.trace_text.specs.LineTexts.{text_of}
 use Rattle.scenario_tree.specs.declared.tree.Scenario.{Scenario}
 use Rattle.machine.specs.Run.{Ran, script_run}
+use Rattle.serve_command.specs.Lines.{number_line}
 
 -- the lines before the number of greenlets, and those after it
 abbrev pub storm_head : List ℕ
@@ -21,17 +22,13 @@ storm_text n = storm_head ++ decimal n ++ storm_tail
 unfoldable pub storm_run : Scenario → Ran
 storm_run s = script_run s 10000000 100000000 0
 
--- a word, a number and LF
-abbrev pub count_line : List ℕ → ℕ → List ℕ
-count_line word number = word ++ codes " " ++ decimal number ++ codes "\n"
-
 -- The summary of a run as the storm of n greenlets: how many greenlets it made, how many turns and moves it began, its
 -- last moment, and how many lines its trace has.
 abbrev pub summary : ℕ → Ran → List ℕ
 summary n r =
-    count_line (codes "storm") n
-    ++ count_line (codes "greenlets") (length r.state.greenlets)
-    ++ count_line (codes "turns") r.state.turns
-    ++ count_line (codes "moves") r.state.moves
-    ++ count_line (codes "moment") r.state.moment
-    ++ count_line (codes "lines") (lines_of (text_of r.lines))
+    number_line (codes "storm") n
+    ++ number_line (codes "greenlets") (length r.state.greenlets)
+    ++ number_line (codes "turns") r.state.turns
+    ++ number_line (codes "moves") r.state.moves
+    ++ number_line (codes "moment") r.state.moment
+    ++ number_line (codes "lines") (lines_of (text_of r.lines))

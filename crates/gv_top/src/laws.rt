@@ -1,5 +1,5 @@
 //! Laws of the definitions: each function only says that its clauses hold.
-ghost use Rattle.std.specs.Prelude.{◌≡◌, ℕ, List, Some};
+ghost use Rattle.std.specs.Prelude.{◌≡◌, ℕ, List, Some, None};
 ghost use Rattle.scenario_tree.specs.declared.tree.Scenario.{Scenario};
 ghost use Rattle.scenario_grammar.specs.declared.place.Place.{Place};
 ghost use Rattle.scenario_grammar.specs.Spells.{Spells};
@@ -11,9 +11,14 @@ ghost use Rattle.gv_top.specs.declared.words.Command.{Command};
 ghost use Rattle.gv_values.specs.declared.job.Answer.{Answer as Given};
 ghost use Rattle.gv_top.specs.Answers.{answer_to_scenario, answer_to_text, refusal};
 ghost use Rattle.gv_top.specs.Refusals.{IsRefusedAt};
-ghost use Rattle.gv_top.specs.Words.{command_of};
+ghost use Rattle.gv_top.specs.Words.{command_of, serve_of};
 
 use command_words::commands_are_in_range;
+
+/// No words name both a server and a command that needs no net.
+pub fn words_name_one()
+    ensures { (words : List (List ℕ)) (command : Command) → command_of words ≡ Some command → serve_of words ≡ None }
+{}
 
 /// What is answered to a text: a text of a well-formed scenario is run or gives its printed form, and any other bytes
 /// are refused at their place.

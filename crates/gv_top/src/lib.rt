@@ -11,6 +11,6 @@ mod storming;
 mod top;
 mod words;
 
-pub use laws::{budgets_are_in_range, texts_are_answered};
+pub use laws::{budgets_are_in_range, texts_are_answered, words_name_one};
 pub use serving::gvr;
 pub use top::offline;

@@ -1,25 +1,13 @@
 //! The call that the program makes, over a net too.
-ghost use Rattle.std.specs.Prelude.{◌≡◌, ◌≢◌, ◌≤◌, ◌⊎◌, ℕ, false, List, Some, None, map, take, drop, string_bytes, IsSome};
+ghost use Rattle.std.specs.Prelude.{◌≡◌, ◌≤◌, false, Some, None, map, string_bytes, IsSome};
 ghost use Rattle.gv_values.specs.Counts.{HasRisen};
-ghost use Rattle.command_words.specs.declared.command.GatewayKind.{GatewayKind as AnyGateway};
-ghost use Rattle.command_words.specs.declared.command.RunOptions.{RunOptions as AnyOptions};
 ghost use Rattle.command_words.specs.declared.command.ServeOptions.{ServeOptions as AnyServer};
-ghost use Rattle.scenario_grammar.specs.declared.place.Place.{Place};
-ghost use Rattle.scenario_grammar.specs.Spells.{Spells};
-ghost use Rattle.scenario_rules.specs.Rules.{IsWellFormed};
-ghost use Rattle.scenario_tree.specs.declared.tree.Scenario.{Scenario as AnyScenario};
 ghost use Rattle.stream_net.specs.Nets.{IsFresh};
 ghost use Rattle.serve_command.specs.Served.{ServesAt};
-ghost use Rattle.gv_top.specs.Answers.{answer_to, answer_to_storm, formatted, most_read, refusal};
+ghost use Rattle.gv_top.specs.Commands.{AnswersCommand, IsBorneOut};
 ghost use Rattle.gv_top.specs.Gateways.{answers_by};
-ghost use Rattle.gv_top.specs.Running.{RanNatively, run_of};
-ghost use Rattle.gv_top.specs.Refusals.{IsRefusedAt};
 ghost use Rattle.gv_top.specs.Serving.{Serves, limits_of};
-ghost use Rattle.gv_top.specs.Top.{AnswersConnection, AnswersRun, BlocksAtQuiet, Ended, FailsToWrite, HasFaultLine, HasLawfulLines, IsAnswered};
 ghost use Rattle.gv_top.specs.Words.{command_of, is_native, reads_input, serve_of};
-ghost use Rattle.gv_top.specs.declared.words.Command.{Command};
-ghost use Rattle.command_words.specs.declared.command.RunWorld.{RunWorld};
-ghost use Rattle.command_words.specs.declared.command.TextCommand.{TextCommand};
 
 use crate::gateway::serve_through;
 use crate::status::Verdict;
@@ -108,70 +96,17 @@ pub fn gvr<S: Source, K: Sink, E: Sink, W: World, N: Net, A: Application, H: Wai
 ) -> u8
     requires rests { (W.meaning native.old).runs ≡ false }
     requires fresh { IsFresh (N.meaning net.old) }
-    // A text of a well-formed scenario is run: out has the text of the one run's lines, and the status and the line on
-    // err are those of its end. Without native workers it is the run under the rule of a script, and with them the run
-    // under the answers that they gave.
-    ensures trace { (options : AnyOptions) (s : AnyScenario) (left : List ℕ) → command_of (map string_bytes words.now) ≡ Some (Command.Text (TextCommand.Run options)) →
-        S.remaining input.old ≡ Some left → Spells s (take most_read left) → IsWellFormed s →
-        AnswersRun result (run_of options (W.meaning native.new).answers s) (K.written out.old) (K.written out.new) (E.written err.old) (E.written err.new) }
-    // What out has after `run` are lines that meet the laws of a trace, whatever the input.
-    ensures lawful { (options : AnyOptions) → command_of (map string_bytes words.now) ≡ Some (Command.Text (TextCommand.Run options)) →
-        HasLawfulLines result (K.written out.old) (K.written out.new) }
-    // And at each of its block lines nothing that waits could go on.
-    ensures quiet { (options : AnyOptions) (s : AnyScenario) (left : List ℕ) → command_of (map string_bytes words.now) ≡ Some (Command.Text (TextCommand.Run options)) →
-        S.remaining input.old ≡ Some left → Spells s (take most_read left) → IsWellFormed s →
-        BlocksAtQuiet (run_of options (W.meaning native.new).answers s) }
-    // Native workers were begun in the number that the words ask for, posted the jobs of the job lines and asked for
-    // the answers of the turn lines, and run no longer.
-    ensures native { (options : AnyOptions) (workers : ℕ) (s : AnyScenario) (left : List ℕ) → command_of (map string_bytes words.now) ≡ Some (Command.Text (TextCommand.Run options)) →
-        options.world ≡ RunWorld.Native workers → S.remaining input.old ≡ Some left → Spells s (take most_read left) → IsWellFormed s → result ≢ 4 → result ≢ 5 → result ≢ 7 →
-        RanNatively workers (run_of options (W.meaning native.new).answers s) (W.meaning native.new) (W.stands_for native.new) }
+    ensures answers { serve_of (map string_bytes words.now) ≡ None →
+        AnswersCommand result (A.answer_of app.now) (command_of (map string_bytes words.now)) (W.meaning native.new) (W.stands_for native.new)
+        (S.remaining input.old) (S.remaining input.new) (K.written out.old) (K.written out.new) (E.written err.old) (E.written err.new)
+        (S.faults input.old) (S.faults input.new) (K.faults out.old) (K.faults out.new) (E.faults err.old) (E.faults err.new) }
+    ensures borne_out { IsBorneOut result (E.written err.old) (E.written err.new)
+        (S.faults input.old) (S.faults input.new) (K.faults out.old) (K.faults out.new) (E.faults err.old) (E.faults err.new) }
     ensures untouched { is_native (command_of (map string_bytes words.now)) ≡ false → native.new ≡ native.old }
     ensures native_rests { (W.meaning native.new).runs ≡ false }
-    // A text of a well-formed scenario is printed: out has its printed form.
-    ensures formatted { (s : AnyScenario) (left : List ℕ) → command_of (map string_bytes words.now) ≡ Some (Command.Text TextCommand.Format) →
-        S.remaining input.old ≡ Some left → Spells s (take most_read left) → IsWellFormed s →
-        IsAnswered result (formatted s) (K.written out.old) (K.written out.new) (E.written err.old) (E.written err.new) }
-    // Any other input is refused, by both, at its place.
-    ensures refused { (command : TextCommand) (left : List ℕ) → command_of (map string_bytes words.now) ≡ Some (Command.Text command) →
-        S.remaining input.old ≡ Some left → ((s : AnyScenario) → Spells s (take most_read left) → IsWellFormed s → ⊥) →
-        (p : Place) × IsRefusedAt (take most_read left) p ×
-        IsAnswered result (refusal p) (K.written out.old) (K.written out.new) (E.written err.old) (E.written err.new) }
-    // A connection is answered: out has what the session of the application sends for the bytes that were read, that of
-    // HTTP or that of SCGI.
-    ensures connection { (gateway : AnyGateway) → command_of (map string_bytes words.now) ≡ Some (Command.Wsgi gateway) →
-        AnswersConnection result gateway (A.answer_of app.now) (S.remaining input.old) (S.remaining input.new) (K.written out.old) (K.written out.new) }
-    // A storm is run: out has its summary, and the status and the line on err are those of its end. Its text is read and
-    // checked as any other.
-    ensures storm { (size : ℕ) → command_of (map string_bytes words.now) ≡ Some (Command.Storm size) →
-        (result ≢ 4) × IsAnswered result (answer_to_storm size) (K.written out.old) (K.written out.new) (E.written err.old) (E.written err.new) }
-    // It reads no input; neither does `serve`, nor do words that are no command.
+    // A storm reads no input; neither does `serve`, nor do words that are no command.
     ensures untouched_input { reads_input (command_of (map string_bytes words.now)) ≡ false → input.new ≡ input.old }
-    // The status, what out has and what err has are the answer's, but with the statuses 4, 5 and 7.
-    ensures answer { (left : List ℕ) → serve_of (map string_bytes words.now) ≡ None → S.remaining input.old ≡ Some left →
-        IsAnswered result (answer_to (A.answer_of app.now) (command_of (map string_bytes words.now)) (W.meaning native.new).answers left)
-        (K.written out.old) (K.written out.new) (E.written err.old) (E.written err.new) }
-    // It ended with a verdict, which the streams bear out, and whose line was tried on err.
-    ensures ended { serve_of (map string_bytes words.now) ≡ None →
-        Ended result (A.answer_of app.now) (command_of (map string_bytes words.now)) (W.meaning native.new) (W.stands_for native.new) (S.remaining input.old) (S.remaining input.new)
-        (K.written out.old) (K.written out.new) (E.written err.old) (E.written err.new)
-        (S.faults input.old) (S.faults input.new) (K.faults out.old) (K.faults out.new) (E.faults err.old) (E.faults err.new) }
-    ensures fault_line { HasFaultLine result (E.written err.old) (E.written err.new) }
-    // Status 0 has no line on err, and err is left alone.
-    ensures silent { result ≡ 0 → E.faults err.new ≡ E.faults err.old }
-    // A text that could not be read leaves out as it was; so does `fmt` with every status but 0 and 5.
-    ensures unread { (command : TextCommand) → command_of (map string_bytes words.now) ≡ Some (Command.Text command) → result ≡ 4 → K.written out.new ≡ K.written out.old }
-    ensures unprinted { command_of (map string_bytes words.now) ≡ Some (Command.Text TextCommand.Format) → result ≢ 0 → result ≢ 5 → K.written out.new ≡ K.written out.old }
     ensures usage_only { result ≡ 2 → (command_of (map string_bytes words.now) ≡ None) × (serve_of (map string_bytes words.now) ≡ None) }
-    ensures usage_always { command_of (map string_bytes words.now) ≡ None → serve_of (map string_bytes words.now) ≡ None → (result ≡ 2) ⊎ (result ≡ 5) ⊎ (result ≡ 7) }
-    ensures read_fault { result ≡ 4 → HasRisen (S.faults input.old) (S.faults input.new) }
-    // Status 5 comes where out failed, whatever became of its line; or where err failed at the line of another status.
-    ensures write_fault { result ≡ 5 →
-        FailsToWrite (E.written err.old) (E.written err.new) (K.faults out.old) (K.faults out.new) (E.faults err.old) (E.faults err.new) }
-    // With `run` and `fmt`, every status but 4, 5 and 7 comes only where the input was read to its end or to one byte
-    // past the most that a text may have.
-    ensures read_whole { (command : TextCommand) → command_of (map string_bytes words.now) ≡ Some (Command.Text command) → result ≢ 4 → result ≢ 5 → result ≢ 7 →
-        (left : List ℕ) → S.remaining input.old ≡ Some left → S.remaining input.new ≡ Some (drop most_read left) }
     // `serve` serves: the net was asked for the port of the words, out has its lines, each connection was a session of
     // its own with the application at the port of the first line, and each closed one was closed for a cause. It reads
     // no input.

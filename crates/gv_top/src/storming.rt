@@ -1,11 +1,11 @@
 //! The storm of many greenlets: its text, its run into a sink that counts lines, and the summary of that.
-ghost use Rattle.std.specs.Prelude.{◌≡◌, ◌≢◌, ◌≤◌, ◌++◌, IfOk, IfSome, OnOk};
+ghost use Rattle.std.specs.Prelude.{◌≡◌, ◌≢◌, ◌≤◌, IfOk, IfSome};
 ghost use Rattle.gv_values.specs.Counts.{HasRisen};
 ghost use Rattle.machine.specs.Run.{Ran as AnyRan};
 ghost use Rattle.gv_top.specs.declared.status.Verdict.{Verdict as AnyVerdict};
 ghost use Rattle.gv_top.specs.Answers.{answer_of_storm, answer_to_storm};
 ghost use Rattle.gv_top.specs.Counted.{WasCounted, is_broken_off};
-ghost use Rattle.gv_top.specs.Storm.{count_line, storm_run, storm_text, summary};
+ghost use Rattle.gv_top.specs.Storm.{storm_run, storm_text, summary};
 ghost use Rattle.gv_top.specs.Top.{Decided};
 ghost use Rattle.gv_top.specs.Verdicts.{IsExplained, number_of};
 
@@ -18,6 +18,7 @@ use hub_engine::{Budgets, End, Engine, Ran};
 use line_counter::LineCounter;
 use machine_scripts::followers_run_scripts;
 use scenario_check::Checked;
+use serve_command::push_number_line;
 use std::alloc::{AllocError, Global};
 use world::{ScriptWorld, World};
 
@@ -56,28 +57,17 @@ fn storm_text(alloc: Global, size: u32) -> Result<Vec<u8>, AllocError>
     Ok(text)
 }
 
-/// Appends the word, the number and LF.
-fn add_count(word: &[u8], number: u64, text: &mut Vec<u8>) -> Result<(), AllocError>
-    ensures { OnOk result (text.new.items ≡ text.old.items ++ count_line word.now number) }
-{
-    text.extend_from_slice(word)?;
-    text.push(b' ')?;
-    decimal_text(number, text)?;
-    text.push(b'\n')?;
-    Ok(())
-}
-
 /// The summary of a run as the storm of so many greenlets.
 fn summary_text(alloc: Global, size: u32, run: &CountedRun) -> Result<Vec<u8>, AllocError>
     ensures { IfOk result (λ text. (r : AnyRan) → WasCounted run.now.ran run.now.lines r → text.items ≡ summary size r) }
 {
     let mut text = Vec::new(alloc);
-    add_count(b"storm", u64::from(size), &mut text)?;
-    add_count(b"greenlets", u64::from(run.ran.greenlets), &mut text)?;
-    add_count(b"turns", run.ran.turns, &mut text)?;
-    add_count(b"moves", run.ran.moves, &mut text)?;
-    add_count(b"moment", run.ran.moment, &mut text)?;
-    add_count(b"lines", run.lines, &mut text)?;
+    push_number_line(b"storm", u64::from(size), &mut text)?;
+    push_number_line(b"greenlets", u64::from(run.ran.greenlets), &mut text)?;
+    push_number_line(b"turns", run.ran.turns, &mut text)?;
+    push_number_line(b"moves", run.ran.moves, &mut text)?;
+    push_number_line(b"moment", run.ran.moment, &mut text)?;
+    push_number_line(b"lines", run.lines, &mut text)?;
     Ok(text)
 }
 

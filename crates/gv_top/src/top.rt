@@ -4,17 +4,12 @@ ghost use Rattle.gv_values.specs.Counts.{HasRisen};
 ghost use Rattle.gv_io.specs.Streams.{appended, AppendsPrefix};
 ghost use Rattle.command_words.specs.declared.command.GatewayKind.{GatewayKind as AnyGateway};
 ghost use Rattle.command_words.specs.declared.command.RunOptions.{RunOptions as AnyOptions};
-ghost use Rattle.scenario_grammar.specs.declared.place.Place.{Place};
-ghost use Rattle.scenario_grammar.specs.Spells.{Spells};
-ghost use Rattle.scenario_rules.specs.Rules.{IsWellFormed};
-ghost use Rattle.scenario_tree.specs.declared.tree.Scenario.{Scenario as AnyScenario};
 ghost use Rattle.command_words.specs.declared.command.Command.{Command as NamedCommand};
 ghost use Rattle.command_words.specs.Ranges.{IsInRange};
 ghost use Rattle.gv_top.specs.Answers.{answer_to, answer_to_scenario, answer_to_storm, answer_to_text, formatted, memory_line, most_read, refusal, write_fault_line};
-ghost use Rattle.gv_top.specs.Running.{RanNatively, run_of};
+ghost use Rattle.gv_top.specs.Commands.{AnswersCommand, IsBorneOut};
 ghost use Rattle.gv_top.specs.declared.status.Verdict.{Verdict as AnyVerdict};
-ghost use Rattle.gv_top.specs.Refusals.{IsRefusedAt};
-ghost use Rattle.gv_top.specs.Top.{AnswersConnection, AnswersRun, BlocksAtQuiet, CameTo, Decided, Ended, FailsToWrite, HasFaultLine, HasLawfulLines, IsAnswered, IsOfConnection, IsOr, IsTold, RanScenarioSo, RanSo};
+ghost use Rattle.gv_top.specs.Top.{CameTo, Decided, HasLawfulLines, IsOfConnection, IsOr, IsTold, RanScenarioSo, RanSo};
 ghost use Rattle.gv_top.specs.Verdicts.{IsExplained, line_of, number_of};
 ghost use Rattle.gv_top.specs.Words.{command_of, is_native, is_native_text, reads_input, serve_of};
 
@@ -24,7 +19,7 @@ use crate::running::run_scenario;
 use crate::status::{Verdict, verdict_on};
 use crate::storming::answer_storm;
 use crate::words::{Command, server_options, without_a_net};
-use command_words::{RunWorld, TextCommand, command_of, commands_are_in_range};
+use command_words::{TextCommand, command_of, commands_are_in_range};
 use gv_io::{Failed, ReadRefusal, Sink, Source, read_limited};
 use hub_engine::End;
 use machine_blocks::blocks_are_told;
@@ -333,8 +328,8 @@ pub fn tells<E: Sink>(alloc: Global, verdict: Verdict, err: &mut E) -> u8
 /// - 6: the run would begin one more turn or move than its budget.
 /// - 8: the run would pass a limit, or the connection did.
 ///
-/// Which of 0, 1, 3, 6 and 8 it is, is said by `answer`, by one equation: the status is that of the answer to the
-/// words and the input. So each comes exactly where the answer has it, and its line on err with it.
+/// Which of 0, 1, 3, 6 and 8 it is, is said by `answer` of `AnswersCommand`, by one equation: the status is that of the
+/// answer to the words and the input. So each comes exactly where the answer has it, and its line on err with it.
 pub fn offline<S: Source, K: Sink, E: Sink, W: World, A: Application>(
     alloc: Global,
     words: &[String],
@@ -345,69 +340,16 @@ pub fn offline<S: Source, K: Sink, E: Sink, W: World, A: Application>(
     app: &A,
 ) -> Option<u8>
     requires rests { (W.meaning native.old).runs ≡ false }
-    // A text of a well-formed scenario is run: out has the text of the one run's lines, and the status and the line on
-    // err are those of its end. Without native workers it is the run under the rule of a script, and with them the run
-    // under the answers that they gave.
-    ensures trace { IfSome result (λ status. (options : AnyOptions) (s : AnyScenario) (left : List ℕ) → command_of (map string_bytes words.now) ≡ Some (Command.Text (TextCommand.Run options)) →
-        S.remaining input.old ≡ Some left → Spells s (take most_read left) → IsWellFormed s →
-        AnswersRun status (run_of options (W.meaning native.new).answers s) (K.written out.old) (K.written out.new) (E.written err.old) (E.written err.new)) }
-    // What out has after `run` are lines that meet the laws of a trace, whatever the input.
-    ensures lawful { IfSome result (λ status. (options : AnyOptions) → command_of (map string_bytes words.now) ≡ Some (Command.Text (TextCommand.Run options)) →
-        HasLawfulLines status (K.written out.old) (K.written out.new)) }
-    // And at each of its block lines nothing that waits could go on.
-    ensures quiet { (options : AnyOptions) (s : AnyScenario) (left : List ℕ) → command_of (map string_bytes words.now) ≡ Some (Command.Text (TextCommand.Run options)) →
-        S.remaining input.old ≡ Some left → Spells s (take most_read left) → IsWellFormed s →
-        BlocksAtQuiet (run_of options (W.meaning native.new).answers s) }
-    // Native workers were begun in the number that the words ask for, posted the jobs of the job lines and asked for
-    // the answers of the turn lines, and run no longer.
-    ensures native { IfSome result (λ status. (options : AnyOptions) (workers : ℕ) (s : AnyScenario) (left : List ℕ) → command_of (map string_bytes words.now) ≡ Some (Command.Text (TextCommand.Run options)) →
-        options.world ≡ RunWorld.Native workers → S.remaining input.old ≡ Some left → Spells s (take most_read left) → IsWellFormed s → status ≢ 4 → status ≢ 5 → status ≢ 7 →
-        RanNatively workers (run_of options (W.meaning native.new).answers s) (W.meaning native.new) (W.stands_for native.new)) }
+    ensures answers { IfSome result (λ status. AnswersCommand status (A.answer_of app.now) (command_of (map string_bytes words.now)) (W.meaning native.new) (W.stands_for native.new)
+        (S.remaining input.old) (S.remaining input.new) (K.written out.old) (K.written out.new) (E.written err.old) (E.written err.new)
+        (S.faults input.old) (S.faults input.new) (K.faults out.old) (K.faults out.new) (E.faults err.old) (E.faults err.new)) }
+    ensures borne_out { IfSome result (λ status. IsBorneOut status (E.written err.old) (E.written err.new)
+        (S.faults input.old) (S.faults input.new) (K.faults out.old) (K.faults out.new) (E.faults err.old) (E.faults err.new)) }
     ensures untouched { is_native (command_of (map string_bytes words.now)) ≡ false → native.new ≡ native.old }
     ensures native_rests { (W.meaning native.new).runs ≡ false }
-    // A text of a well-formed scenario is printed: out has its printed form.
-    ensures formatted { IfSome result (λ status. (s : AnyScenario) (left : List ℕ) → command_of (map string_bytes words.now) ≡ Some (Command.Text TextCommand.Format) →
-        S.remaining input.old ≡ Some left → Spells s (take most_read left) → IsWellFormed s →
-        IsAnswered status (formatted s) (K.written out.old) (K.written out.new) (E.written err.old) (E.written err.new)) }
-    // Any other input is refused, by both, at its place.
-    ensures refused { IfSome result (λ status. (command : TextCommand) (left : List ℕ) → command_of (map string_bytes words.now) ≡ Some (Command.Text command) →
-        S.remaining input.old ≡ Some left → ((s : AnyScenario) → Spells s (take most_read left) → IsWellFormed s → ⊥) →
-        (p : Place) × IsRefusedAt (take most_read left) p ×
-        IsAnswered status (refusal p) (K.written out.old) (K.written out.new) (E.written err.old) (E.written err.new)) }
-    // A connection is answered: out has what the session of the application sends for the bytes that were read, that of
-    // HTTP or that of SCGI.
-    ensures connection { IfSome result (λ status. (gateway : AnyGateway) → command_of (map string_bytes words.now) ≡ Some (Command.Wsgi gateway) →
-        AnswersConnection status gateway (A.answer_of app.now) (S.remaining input.old) (S.remaining input.new) (K.written out.old) (K.written out.new)) }
-    // A storm is run: out has its summary, and the status and the line on err are those of its end. Its text is read and
-    // checked as any other.
-    ensures storm { IfSome result (λ status. (size : ℕ) → command_of (map string_bytes words.now) ≡ Some (Command.Storm size) →
-        (status ≢ 4) × IsAnswered status (answer_to_storm size) (K.written out.old) (K.written out.new) (E.written err.old) (E.written err.new)) }
-    // It reads no input; neither do words that are no command.
+    // A storm reads no input; neither do words that are no command.
     ensures untouched_input { reads_input (command_of (map string_bytes words.now)) ≡ false → input.new ≡ input.old }
-    // The status, what out has and what err has are the answer's, but with the statuses 4, 5 and 7.
-    ensures answer { IfSome result (λ status. (left : List ℕ) → S.remaining input.old ≡ Some left →
-        IsAnswered status (answer_to (A.answer_of app.now) (command_of (map string_bytes words.now)) (W.meaning native.new).answers left)
-        (K.written out.old) (K.written out.new) (E.written err.old) (E.written err.new)) }
-    // It ended with a verdict, which the streams bear out, and whose line was tried on err.
-    ensures ended { IfSome result (λ status. Ended status (A.answer_of app.now) (command_of (map string_bytes words.now)) (W.meaning native.new) (W.stands_for native.new) (S.remaining input.old) (S.remaining input.new)
-        (K.written out.old) (K.written out.new) (E.written err.old) (E.written err.new)
-        (S.faults input.old) (S.faults input.new) (K.faults out.old) (K.faults out.new) (E.faults err.old) (E.faults err.new)) }
-    ensures fault_line { IfSome result (λ status. HasFaultLine status (E.written err.old) (E.written err.new)) }
-    // Status 0 has no line on err, and err is left alone.
-    ensures silent { IfSome result (λ status. status ≡ 0 → E.faults err.new ≡ E.faults err.old) }
-    // A text that could not be read leaves out as it was; so does `fmt` with every status but 0 and 5.
-    ensures unread { IfSome result (λ status. (command : TextCommand) → command_of (map string_bytes words.now) ≡ Some (Command.Text command) → status ≡ 4 → K.written out.new ≡ K.written out.old) }
-    ensures unprinted { IfSome result (λ status. command_of (map string_bytes words.now) ≡ Some (Command.Text TextCommand.Format) → status ≢ 0 → status ≢ 5 → K.written out.new ≡ K.written out.old) }
     ensures usage_only { IfSome result (λ status. status ≡ 2 → (command_of (map string_bytes words.now) ≡ None) × (serve_of (map string_bytes words.now) ≡ None)) }
-    ensures usage_always { IfSome result (λ status. command_of (map string_bytes words.now) ≡ None → (status ≡ 2) ⊎ (status ≡ 5) ⊎ (status ≡ 7)) }
-    ensures read_fault { IfSome result (λ status. status ≡ 4 → HasRisen (S.faults input.old) (S.faults input.new)) }
-    // Status 5 comes where out failed, whatever became of its line; or where err failed at the line of another status.
-    ensures write_fault { IfSome result (λ status. status ≡ 5 →
-        FailsToWrite (E.written err.old) (E.written err.new) (K.faults out.old) (K.faults out.new) (E.faults err.old) (E.faults err.new)) }
-    // With `run` and `fmt`, every status but 4, 5 and 7 comes only where the input was read to its end or to one byte
-    // past the most that a text may have.
-    ensures read_whole { IfSome result (λ status. (command : TextCommand) → command_of (map string_bytes words.now) ≡ Some (Command.Text command) → status ≢ 4 → status ≢ 5 → status ≢ 7 →
-        (left : List ℕ) → S.remaining input.old ≡ Some left → S.remaining input.new ≡ Some (drop most_read left)) }
     // None: the words name `serve`, and nothing was done. Where they name it and memory ran out as they were read, the
     // status is that of this, and err alone was touched.
     ensures serve { IfNone result (IsSome (serve_of (map string_bytes words.now))) }
