@@ -1,10 +1,10 @@
 //! Answers as bytes.
 ghost use Rattle.std.specs.Prelude.{◌≡◌, ◌<◌, ◌-◌, ◌++◌, IsTrue, OnOk, IfOk, length as list_length, take};
 ghost use Rattle.std.specs.List.{concat, flat_map, list_all};
-ghost use Rattle.std.specs.Char.{is_ascii_digit};
 ghost use Rattle.wsgi_core.specs.Answers.{answer, begins_with_code, body_bytes, chunk, coding_line, connection_line, ending, ending_by, falls_short, has_code, has_place, has_visible_ends, head_bytes, header_line, is_empty, is_faulty, is_header, is_hop_by_hop, is_reason, is_reason_byte, is_status, is_visible, is_wrong, length_of, says_close, sent_by, server_error, stated, stated_after, status_line};
 
 use crate::reply::{Pieces, Reply};
+use gv_values::digits::are_digits;
 use http_messages::{Bytes, Headers, Request, eq_any_case, parse_length};
 use httparse::{is_header_value, is_token};
 use std::alloc::{AllocError, Global};
@@ -66,13 +66,6 @@ fn is_reason(bytes: &[u8]) -> bool
     ensures { result ≡ is_reason bytes.now }
 {
     has_visible_ends(bytes) && are_reason_bytes(bytes)
-}
-
-/// Whether each byte is a digit.
-fn are_digits(bytes: &[u8]) -> bool
-    ensures { result ≡ list_all is_ascii_digit bytes.now }
-{
-    bytes.iter().all(|byte| byte.is_ascii_digit())
 }
 
 /// Whether the bytes begin with a code, 200 to 999, and go on.
