@@ -1,5 +1,5 @@
 -- Numbers that never fall along a line.
-use Rattle.std.proofs.Common.{◌≡◌, ◌≢◌, ℕ, zero, suc, ◌+◌, ◌-◌, ◌<◌, ◌≤◌, ◌==◌, Bool, true, false, not, cond, List, [], ◌∷◌, ◌++◌, length, take, Option, Some, None, refl, ap, ◌∙◌, sym, subst, arith, slice_get, IfSome, IfNone, inl, inr}
+use Rattle.std.proofs.Common.{◌≡◌, ℕ, zero, suc, ◌+◌, ◌<◌, ◌≤◌, ◌==◌, Bool, true, false, not, cond, List, [], ◌∷◌, ◌++◌, length, take, Option, Some, None, refl, ap, ◌∙◌, sym, subst, arith, slice_get, IfSome, IfNone, inl, inr}
 use Rattle.std.proofs.lemmas.Option.{slice_get_within}
 use Rattle.linked_items.specs.Items.{items_of, without_entry, Differ}
 use Rattle.std.proofs.lemmas.Bool.{cases_lt}
@@ -9,7 +9,7 @@ use Rattle.waiters.specs.declared.parking.Side.TheVariants.{Only, Put, Get, Peek
 use Rattle.waiters.specs.OneSide.{items_at, told_at}
 use Rattle.waiters.proofs.PrefixLemmas.{IfSome_from, told_at_others}
 use Rattle.wait_lines.specs.Lines.{SeenLine, line, left}
-use Rattle.events_locks.specs.Seen.{IsSetSince, IsSetBefore}
+use Rattle.events_locks.specs.Seen.{IsSetSince, IsSetBefore, NoneSetBehind, ToldIsSet, IsSoundLine}
 use Rattle.events_locks.specs.Parts.{IsRising}
 
 pub rising_top : (low : ℕ) (es : List (ℕ × ℕ)) (high more : ℕ) → high ≤ more → IsRising low es high → IsRising low es more
@@ -57,9 +57,6 @@ item_at (x ∷ es) (suc k) e at = item_at es k e at
 
 -- ---- the border of an event's line
 
-abbrev pub NoneSetBehind : SeenLine → ℕ → Type 0
-NoneSetBehind l sets = (side : Side) → side ≡ Only → (k item : ℕ) → slice_get (items_at (items_of l.entries) side) k ≡ Some item → told_at l.told side ≤ k → IsSetSince sets l.entries item → ⊥
-
 pub none_set_behind : (l : SeenLine) (sets : ℕ) → Differ (items_of l.entries) → IsRising 0 l.entries sets → ((e : ℕ × ℕ) → slice_get l.entries l.told ≡ Some e → sets ≤ e.1) → NoneSetBehind l sets
 none_set_behind l sets differ rising first side is k item at untold (j, n, there, lt) =
     let at_only : slice_get (items_of l.entries) k ≡ Some item = subst (λ s. slice_get (items_at (items_of l.entries) s) k ≡ Some item) is at in
@@ -75,11 +72,6 @@ none_set_behind l sets differ rising first side is k item at untold (j, n, there
     slice_get_cases [] k lt = absurd (omega arith)
     slice_get_cases (e ∷ es) zero lt = (e, refl)
     slice_get_cases (e ∷ es) (suc k) lt = slice_get_cases es k (omega arith)
-
-abbrev pub ToldIsSet : SeenLine → ℕ → SeenLine → ℕ → Type 0
-ToldIsSet l sets new item =
-    (side : Side) × (side ≡ Only) × (slice_get (items_at (items_of l.entries) side) (told_at l.told side) ≡ Some item) × IsSetSince sets l.entries item × (told_at new.told side ≡ told_at l.told side + 1)
-    × ((other : Side) → other ≢ side → told_at new.told other ≡ told_at l.told other)
 
 pub told_is_set : (l new : SeenLine) (sets : ℕ) (r : Option ℕ) (e : ℕ × ℕ) → slice_get l.entries l.told ≡ Some e → e.1 < sets → IfSome r (λ item. slice_get (items_of l.entries) l.told ≡ Some item) → IfSome r (λ _. new ≡ line l.entries (l.told + 1) l.spare) → IfSome r (ToldIsSet l sets new)
 told_is_set l new sets r e first lt at grown = IfSome_from r here
@@ -150,10 +142,6 @@ entries_kept l new (Some x) kept grown = ap (λ m. m.entries) grown
 
 pub set_before_more : (told sets more : ℕ) (es : List (ℕ × ℕ)) → sets ≤ more → IsSetBefore told sets es → IsSetBefore told more es
 set_before_more told sets more es le before k e lt at = let a = before k e lt at in omega arith
-
--- the line is sound, on the one side that there is
-abbrev pub IsSoundLine : SeenLine → Type 0
-IsSoundLine l = (side : Side) → Differ (items_at (items_of l.entries) side) × (told_at l.told side ≤ length (items_at (items_of l.entries) side))
 
 pub sound_line : (l : SeenLine) → Differ (items_of l.entries) → l.told ≤ length l.entries → IsSoundLine l
 sound_line l differ within Only = (differ, let n = length_items l.entries in omega arith)

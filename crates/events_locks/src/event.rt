@@ -1,5 +1,5 @@
 //! Events that are set, cleared and waited for.
-ghost use Rattle.std.specs.Prelude.{◌≡◌, ◌≢◌, ℕ, ◌+◌, ◌-◌, ◌<◌, ◌≤◌, ◌^◌, [], ◌∷◌, ◌++◌, Bool, true, false, length, Option, Some, None, IfOk};
+ghost use Rattle.std.specs.Prelude.{◌≡◌, ◌≢◌, ℕ, ◌+◌, ◌-◌, ◌<◌, ◌≤◌, ◌^◌, [], ◌∷◌, ◌++◌, Bool, true, false, length, Option, Some, None, OnOk, OnErr, IfOk};
 ghost use Rattle.std.specs.List.{Contains};
 ghost use Rattle.linked_items.specs.Items.{items_of};
 ghost use Rattle.wait_lines.specs.Lines.{line, left};
@@ -68,6 +68,17 @@ impl Event {
         self.flag
     }
 
+    /// Makes room for `n` more that wait; each that does keeps its number of sets. O(1) where there is room; otherwise each is moved once.
+    /// After an error nothing is changed.
+    pub fn make_room(&mut self, n: usize) -> Result<(), AllocError>
+        ensures room { OnOk result (n ≤ self.new.line.spare) }
+        ensures more { self.old.line.spare ≤ self.new.line.spare }
+        ensures err { OnErr result (self.new ≡ self.old) }
+        ensures kept { self.new ≡ record self.old { line = line self.old.line.entries self.old.line.told self.new.line.spare } }
+    {
+        self.line.reserve(n)
+    }
+
     /// An item begins to wait, with the number of sets so far; O(1).
     pub fn begin(&mut self, item: u32)
         requires room { 0 < self.old.line.spare }
@@ -96,12 +107,13 @@ impl Event {
 }
 
 impl Parking for Event {
-    ghost use Rattle.std.specs.Prelude.{◌≡◌, ℕ, ◌<◌, None, Some, slice_get};
+    ghost use Rattle.std.specs.Prelude.{◌≡◌, ℕ, ◌+◌, ◌<◌, None, Some, IfNone, IfSome, slice_get};
     ghost use Rattle.linked_items.specs.Items.{items_of};
+    ghost use Rattle.wait_lines.specs.Lines.{line};
     ghost use Rattle.waiters.specs.OneSide.{items_at, told_at};
     ghost use Rattle.waiters.specs.declared.parking.Side.{Side as Way};
     ghost use Rattle.waiters.specs.declared.parking.Side.TheVariants.{Only};
-    ghost use Rattle.events_locks.specs.Seen.{IsSetSince};
+    ghost use Rattle.events_locks.specs.Seen.{IsSetSince, NoneSetBehind, ToldIsSet, IsSoundLine};
 
     ghost has_side = { λ side. side ≡ Only };
 
@@ -118,7 +130,7 @@ impl Parking for Event {
     ghost keeps = { λ old new. (new.flag ≡ old.flag) × (new.sets ≡ old.sets) };
 
     fn reserve(&mut self, n: usize) -> Result<(), AllocError> {
-        self.line.reserve(n)
+        self.make_room(n)
     }
 
     fn park(&mut self, _side: Side, item: u32) {
@@ -129,7 +141,18 @@ impl Parking for Event {
         self.leave(item);
     }
 
-    fn next_ready(&mut self) -> Option<u32> {
+    /// Tells the first that wasn't told, where the event was set since it parked, and gives it; each keeps its number of sets. O(1).
+    fn next_ready(&mut self) -> Option<u32>
+        ensures none { IfNone result (NoneSetBehind self.old.line self.old.sets) }
+        ensures some { IfSome result (ToldIsSet self.old.line self.old.sets self.new.line) }
+        ensures unmoved { IfNone result ((side : Way) → told_at self.new.line.told side ≡ told_at self.old.line.told side) }
+        ensures sound { IsSoundLine self.old.line }
+        ensures waiting { (side : Way) → items_at (items_of self.new.line.entries) side ≡ items_at (items_of self.old.line.entries) side }
+        ensures room { self.new.line.spare ≡ self.old.line.spare }
+        ensures kept { (self.new.flag ≡ self.old.flag) × (self.new.sets ≡ self.old.sets) }
+        ensures same { IfNone result (self.new ≡ self.old) }
+        ensures told { IfSome result (λ _. self.new ≡ record self.old { line = line self.old.line.entries (self.old.line.told + 1) self.old.line.spare }) }
+    {
         let _len = self.line.len();
         match self.line.first_untold() {
             Some((_, number)) => {

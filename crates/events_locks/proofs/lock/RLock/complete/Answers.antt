@@ -1,4 +1,4 @@
-use Rattle.std.proofs.Common.{◌≤◌, ◌<◌, ap, sym, subst, arith}
+use Rattle.std.proofs.Common.{ap, sym, subst, arith}
 use Rattle.waiters.specs.OneSide.{IsAmongFirst}
 use Rattle.waiters.proofs.PrefixLemmas.{completed_told}
 use Rattle.events_locks.specs.Seen.{free_places}

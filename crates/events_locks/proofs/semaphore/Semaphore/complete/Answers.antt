@@ -1,4 +1,4 @@
-use Rattle.std.proofs.Common.{◌≤◌, ◌-◌, ap, sym, subst}
+use Rattle.std.proofs.Common.{◌≤◌, ◌-◌, sym, subst}
 use Rattle.waiters.specs.OneSide.{IsAmongFirst}
 use Rattle.waiters.proofs.PrefixLemmas.{completed_told}
 use Rattle.events_locks.proofs.semaphore.Semaphore.complete.Goals as goal
