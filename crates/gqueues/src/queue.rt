@@ -408,6 +408,32 @@ impl GQueue {
         }
     }
 
+    /// Makes room for `n` more that wait; each keeps its place, and each putter what it puts. O(1) where there is room; otherwise each is moved
+    /// once.
+    pub fn make_room(&mut self, n: usize) -> Result<(), AllocError>
+        ensures room { OnOk result (n ≤ self.new.room) }
+        ensures more { self.old.room ≤ self.new.room }
+        ensures err { OnErr result (self.new.room ≡ self.old.room) }
+        ensures kept { self.new ≡ record self.old { room = self.new.room } }
+    {
+        let takers = self.takers.len() as usize;
+        let putters = self.putters.len() as usize;
+        let joins = self.joins.len() as usize;
+        let _limit = self.limit;
+        let len = takers + putters + joins;
+        if n <= self.limit - len {
+            return Ok(());
+        }
+        if n >= usize::MAX - len {
+            return Err(AllocError);
+        }
+        self.takers.reserve(n + putters + joins)?;
+        self.putters.reserve(n + takers + joins)?;
+        self.joins.reserve(n + takers + putters)?;
+        self.limit = len + n;
+        Ok(())
+    }
+
     /// A getter begins to wait; O(1).
     pub fn park_getter(&mut self, item: u32)
         requires room { 0 < self.old.room }
@@ -567,22 +593,7 @@ impl Parking for GQueue {
     ghost keeps = { KeepsQueue };
 
     fn reserve(&mut self, n: usize) -> Result<(), AllocError> {
-        let takers = self.takers.len() as usize;
-        let putters = self.putters.len() as usize;
-        let joins = self.joins.len() as usize;
-        let _limit = self.limit;
-        let len = takers + putters + joins;
-        if n <= self.limit - len {
-            return Ok(());
-        }
-        if n >= usize::MAX - len {
-            return Err(AllocError);
-        }
-        self.takers.reserve(n + putters + joins)?;
-        self.putters.reserve(n + takers + joins)?;
-        self.joins.reserve(n + takers + putters)?;
-        self.limit = len + n;
-        Ok(())
+        self.make_room(n)
     }
 
     fn park(&mut self, side: Side, item: u32) {
