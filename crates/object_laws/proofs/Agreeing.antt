@@ -1,5 +1,5 @@
 -- The laws of this crate.
-use Rattle.std.proofs.Common.{◌≡◌, ◌≢◌, ℕ, zero, suc, ◌+◌, ◌-◌, ◌<◌, ◌≤◌, ◌==◌, eqb, nat_lt, Bool, true, false, not, ◌&&◌, ◌||◌, ◌↔◌, IsTrue, cond, List, [], ◌∷◌, ◌++◌, length, filter, Option, Some, None, min, refl, sym, ap, ◌∙◌, subst, arith, slice_get, get_or, Contains, lt-ltb, eq-eqb, inl, inr, ◌⊎◌}
+use Rattle.std.proofs.Common.{◌≡◌, ◌≢◌, ℕ, zero, suc, ◌+◌, ◌-◌, ◌<◌, ◌≤◌, ◌==◌, eqb, nat_lt, Bool, true, false, not, ◌&&◌, ◌||◌, ◌↔◌, IsTrue, cond, List, [], ◌∷◌, ◌++◌, length, take, filter, Option, Some, None, min, refl, sym, ap, ◌∙◌, subst, arith, slice_get, get_or, Contains, lt-ltb, eq-eqb, inl, inr, ◌⊎◌}
 use Rattle.std.specs.List.{list_any}
 use Rattle.std.proofs.lemmas.Bool.{ltb-true, eqb-true, cases_lt}
 use Rattle.std.proofs.lemmas.List.Sums.{length-filter}
@@ -14,18 +14,19 @@ use Rattle.machine.specs.Holds.{has_set_since, has_result, has_unit, is_free, ha
 use Rattle.machine.specs.Objects.{with_object, with_offer_taken, offer_of}
 use Rattle.machine.specs.Requests.{done, finishes}
 use Rattle.machine.specs.Objects.{after_release, takes_value, with_shut}
-use Rattle.linked_items.specs.Items.{Lacks, Differ}
-use Rattle.linked_items.proofs.ItemLemmas.{differ_parts}
+use Rattle.linked_items.specs.Items.{items_of, Lacks, Differ}
+use Rattle.linked_items.proofs.ItemLemmas.{differ_parts, places_differ, length_items}
 use Rattle.waiters.proofs.PrefixLemmas.{not_among}
 use Rattle.events_locks.specs.Seen.{free_places, after_release as released}
 use Rattle.queue_items.specs.Seen.{Takes}
-use Rattle.queue_waiters.specs.Seen.{getters_before, items_put, without_putter}
+use Rattle.queue_waiters.specs.Seen.{getters, gets, of_kind, IsServed, getters_before, items_put, without_putter}
+use Rattle.queue_waiters.proofs.KindLemmas.{entry_at, item_at, place_in_line, kind_differ, kind_told_within}
 use Rattle.queue_waiters.proofs.PuttersLemmas.{apart_test}
-use Rattle.gqueues.specs.Seen.{SeenQueue, SeenChannel, free_places as queue_places, put_places, shut_now, oldest, taken_from}
+use Rattle.gqueues.specs.Seen.{SeenQueue, SeenChannel, free_places as queue_places, put_places, take_places, shut_now, oldest, taken_from}
 use Rattle.gqueues.proofs.PutterLemmas.{length_put}
 use Rattle.groups_pools.specs.Seen.{free_places as crew_places, open_places}
 use Rattle.object_laws.specs.Objects.{queue_object, channel_object, offer_of_item, offers_of_items, taker_of, with_taker, takers_line}
-use Rattle.object_laws.specs.Laws.{EventsAgree, LocksAgree, QueuesAgree, ChannelsAgree, AreApart, CrewsAgree, TakersAgree, Ascends, Younger, names, IsAtRest, SemaphoresRest, LocksRest, PuttersRest, PlacesRest, OffersRest}
+use Rattle.object_laws.specs.Laws.{EventsAgree, LocksAgree, QueuesAgree, ChannelsAgree, AreApart, CrewsAgree, TakersAgree, Ascends, Younger, names, IsAtRest, SemaphoresRest, LocksRest, PuttersRest, GettersRest, PlacesRest, OffersRest}
 
 pub events_agree : EventsAgree
 unfolding has_set_since has_result
@@ -310,6 +311,31 @@ locks_rest l rest = at_rest (free_places l.owner) l.waits.told l.waits.items res
 
 pub putters_rest : PuttersRest
 putters_rest q rest = at_rest (put_places q) q.told_putters (items_put q.putters) rest ∙ ap (min (put_places q)) (length_put q.putters)
+
+-- a getter may go exactly where it is among the first getters
+getter_served : (places : ℕ) (es : List (ℕ × ℕ)) (k item : ℕ) → slice_get (of_kind gets es) k ≡ Some item → k < places → IsServed places es item
+getter_served places es k item at lt =
+    let e = entry_at (filter gets es) k item at in
+    let w = place_in_line gets es k (item, e.0) e.1 in
+    (w.place, e.0, w.at, subst (λ n. n < places) (sym w.count) lt)
+
+getter_first : (places : ℕ) (es : List (ℕ × ℕ)) (k item : ℕ) → Differ (items_of es) → slice_get (of_kind gets es) k ≡ Some item → IsServed places es item → k < places
+getter_first places es k item differ at (j, n, there, lt) =
+    let e = entry_at (filter gets es) k item at in
+    let w = place_in_line gets es k (item, e.0) e.1 in
+    let same : w.place ≡ j = places_differ (items_of es) w.place j item differ (item_at es w.place (item, e.0) w.at) (item_at es j (item, n) there) in
+    subst (λ m. m < places) (ap (λ p. getters (take p es)) (sym same) ∙ w.count) lt
+
+pub getters_rest : GettersRest
+getters_rest q differ none all = at_rest (take_places q) (getters (take q.told_takers q.takers)) line (record {
+  differ = kind_differ gets q.takers differ;
+  within = kind_told_within gets q.told_takers q.takers;
+  none = λ k item at untold (j, lt, there). none k item at untold (getter_served (take_places q) q.takers k item at (subst (λ m. m < take_places q) (places_differ line j k item (kind_differ gets q.takers differ) there at) lt));
+  all = λ k item at told. (k, getter_first (take_places q) q.takers k item differ at (all k item at told), at);
+}) ∙ ap (min (take_places q)) (length_items (filter gets q.takers))
+  where
+    line : List ℕ
+    line = of_kind gets q.takers
 
 pub places_rest : PlacesRest
 places_rest c rest = at_rest (open_places c) c.told_places c.places rest

@@ -9,11 +9,11 @@ use Rattle.machine.specs.Objects.{with_object, next_value, with_unit_taken, with
 use Rattle.machine.specs.Requests.{done, finishes}
 use Rattle.machine.specs.Objects.{with_flag, after_release, takes_value, with_shut}
 use Rattle.machine.specs.Objects.{without_member}
-use Rattle.linked_items.specs.Items.{without, Differ}
+use Rattle.linked_items.specs.Items.{items_of, without, Differ}
 use Rattle.waiters.specs.OneSide.{IsAmongFirst}
 use Rattle.events_locks.specs.Seen.{SeenEvent, SeenResult, SeenSemaphore, SeenLock, free_places, owned_by, after_release as released}
 use Rattle.queue_items.specs.Seen.{Takes}
-use Rattle.queue_waiters.specs.Seen.{getters_before, items_put}
+use Rattle.queue_waiters.specs.Seen.{getters, gets, of_kind, IsServed, getters_before, items_put}
 use Rattle.gqueues.specs.Seen.{SeenQueue, SeenChannel, with_value_in, with_next_out, put_places, take_places, putter_gone, taker_gone, shut_now, oldest, offer_taken, offer_gone}
 use Rattle.groups_pools.specs.Seen.{SeenCrew, open_places, with_member_in}
 use Rattle.object_laws.specs.Objects.{event_object, result_object, semaphore_object, lock_object, queue_object, channel_object, crew_object, taker_of, takers_line}
@@ -122,3 +122,10 @@ PlacesRest = (c : SeenCrew) → IsAtRest (open_places c) c.told_places c.places 
 
 abbrev pub OffersRest : Type 0
 OffersRest = (c : SeenChannel) → IsAtRest (length c.offers) c.told_getters c.getters → c.told_getters ≡ min (length c.offers) (length c.getters)
+
+-- getters among getters and peekers: both `next` calls gave nothing on their side
+abbrev pub GettersRest : Type 0
+GettersRest =
+    (q : SeenQueue) → Differ (items_of q.takers) → NoneUntold (IsServed (take_places q) q.takers) (getters (take q.told_takers q.takers)) (of_kind gets q.takers)
+    → AllTold (IsServed (take_places q) q.takers) (getters (take q.told_takers q.takers)) (of_kind gets q.takers)
+    → getters (take q.told_takers q.takers) ≡ min (take_places q) (getters q.takers)
