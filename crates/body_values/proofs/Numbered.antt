@@ -78,5 +78,5 @@ pub number_given : {X : Type 0} (name : X → Name) (numbers : Names ℕ) (xs : 
     Holds numbers (numbered 0 (map name (take i xs)) ++ (x, i) ∷ []) → Holds numbers (numbered 0 (map name (take (i + 1) xs)))
 number_given name numbers xs i d x h same holds =
     let more : numbered 0 (map name (take i xs)) ++ (x, i) ∷ [] ≡ numbered 0 (map name (take (i + 1) xs)) =
-        ap (λ y. numbered 0 (map name (take i xs)) ++ (y, i) ∷ []) same ∙ numbered_more name xs i d h in
+    ap (λ y. numbered 0 (map name (take i xs)) ++ (y, i) ∷ []) same ∙ numbered_more name xs i d h in
     λ y. holds y ∙ ap (lookup (pointwise nat_eq y)) more

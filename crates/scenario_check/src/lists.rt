@@ -7,8 +7,8 @@ ghost use Rattle.scenario_rules.specs.declared.declared.Declared.{Declared as An
 ghost use Rattle.scenario_rules.specs.Declarations.{declarations, function_as, given_by, named_declaration, named_function, object_entry, function_entry};
 ghost use Rattle.name_table.specs.Tables.{Holds};
 
-use name_table::Names;
 use gv_values::Name;
+use name_table::Names;
 use scenario_rules::{Declared, Mention, Named, Says};
 use scenario_tree::{Declaration, Function, Items, Scenario};
 use std::alloc::{AllocError, Global};

@@ -7,8 +7,8 @@ ghost use Rattle.scenario_rules.specs.Rules.{earlier, first_after, is_before, pa
 ghost use Rattle.name_table.specs.Tables.{found};
 ghost use Rattle.scenario_check.specs.Words.{placed, word_reason};
 
-use name_table::Names;
 use crate::words::word_reason;
+use name_table::Names;
 use scenario_grammar::{Place, RuleReason};
 use scenario_rules::{Declared, Mention, Named};
 

@@ -12,7 +12,7 @@ returns c =
     let numbers = c.self.inside.function_numbers in
     let holds : NumbersFunctions numbers c.args.self.now.functions = subst (λ (s : Scenario). NumbersFunctions numbers s.functions) c.self.view_is c.self.invariant.3 in
     let count : length c.self.inside.functions ≡ length c.args.self.now.functions =
-        sym (length-map c.self.inside.functions (function_of c.self.inside.blocks.value)) ∙ ap (λ (s : Scenario). length s.functions) c.self.view_is in
+    sym (length-map c.self.inside.functions (function_of c.self.inside.blocks.value)) ∙ ap (λ (s : Scenario). length s.functions) c.self.view_is in
     c.unwrap_or.ensures ∙ ap (λ o. unwrap_or o c.len.result) c.find-number.ensures
     ∙ ap (λ x. unwrap_or (found numbers x) c.len.result) c.bytes.ensures.same
     ∙ ap (unwrap_or (found numbers c.args.name.now)) (c.len.ensures ∙ count)
