@@ -10,6 +10,10 @@ mod gateway_tests;
 #[cfg(test)]
 mod native_tests;
 #[cfg(test)]
+mod net_tests;
+#[cfg(test)]
+mod nets;
+#[cfg(test)]
 mod newcomer_tests;
 #[cfg(test)]
 mod profile_tests;
