@@ -17,7 +17,7 @@ use Rattle.scenario_grammar.specs.Phrases.{object_tokens, phrase_tokens}
 use Rattle.scenario_grammar.specs.Tokens.{Written, ◌⊕◌, ◌▹◌, each, name, number, only_if}
 use Rattle.scenario_print.specs.Texts.{HasText, has_words}
 use Rattle.machine.specs.Run.{first_state, object_of}
-use Rattle.hub_state.specs.Counted.{AreCounted, IsCounted}
+use Rattle.hub_objects.specs.Counted.{AreCounted, IsCounted}
 
 abbrev AllWords : Written Row → Type 0
 AllWords w = IsSomeAnd w (λ rows. IsTrue (list_all has_words rows))

@@ -28,7 +28,7 @@ use Rattle.machine_histories.proofs.Goings.{function-known}
 use Rattle.machine_laws.specs.Reached.{Reached, state_of}
 use Rattle.machine_reached.specs.Meant.{IsMeantText, fits_did}
 use Rattle.machine_reached.proofs.Bounded.{text-meant}
-use Rattle.hub_state.proofs.Leasts.{item_there}
+use Rattle.hub_items.proofs.Leasts.{item_there}
 use Rattle.hub_engine.specs.Ready.{AreDeclared, IsReady, IsReadyAt, IsReadyToMove, MayRun}
 use Rattle.hub_engine.specs.Stands.{next_at}
 use Rattle.hub_engine.specs.declared.stand.Stand.{Stand}

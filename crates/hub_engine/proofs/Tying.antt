@@ -29,7 +29,7 @@ use Rattle.machine.specs.Run.{first_state, logged, silent}
 use Rattle.world_rules.specs.Legal.{moment_of}
 use Rattle.machine_turns.specs.Logs.{KnowsJobs, StandsKnowing, posts_of_step}
 use Rattle.machine_turns.proofs.Knowing.{answers-know, delivers-know, exits-know, may-ask, moves-know, starts-know}
-use Rattle.hub_state.proofs.Leasts.{item_there}
+use Rattle.hub_items.proofs.Leasts.{item_there}
 use Rattle.hub_engine.specs.declared.stand.Came.{Came}
 use Rattle.hub_engine.specs.declared.stand.Stand.{Stand}
 use Rattle.hub_engine.specs.Outside.{ArePostable, HasDone, HasGiven, Outside}

@@ -1,5 +1,5 @@
 -- What is so of the states of a run, and of the state that it begins from.
-use Rattle.std.specs.Prelude.{◌≡◌, ℕ, ⊤}
+use Rattle.std.specs.Prelude.{◌≡◌, ℕ}
 use Rattle.scenario_tree.specs.declared.tree.Scenario.{Scenario}
 use Rattle.scenario_rules.specs.Rules.{IsWellFormed}
 use Rattle.body_values.specs.Functions.{IsFunction}
@@ -10,7 +10,6 @@ use Rattle.machine.specs.Run.{first_state, silent}
 use Rattle.machine_laws.specs.Reached.{Reached}
 use Rattle.machine_soundness.specs.Going.{IsSoundAt}
 use Rattle.machine_texts.specs.Texts.{HasMain}
-use Rattle.hub_engine.specs.declared.stand.Came.{Came}
 
 -- the hub comes to stand so in a run of a well-formed scenario that has a main
 pub record IsReadyAt (next : Next) : Type 0 where
@@ -44,8 +43,3 @@ pub record MayRun (c : Scenario) : Type 0 where
 pub record IsPrepared (s : State) : Type 0 where
   pub may_run : MayRun s.scenario
   pub first : s ≡ first_state s.scenario
-
--- where a part of a run came to rest, the hub is ready for the next
-abbrev pub IsReadyAfter : Came → State → Type 0
-IsReadyAfter Came.ToRest s = IsReady s
-IsReadyAfter (Came.ToAnEnd cause) s = ⊤

@@ -11,7 +11,7 @@ use Rattle.machine_soundness.proofs.Lists.{left}
 use Rattle.machine_texts.specs.Texts.{fits_request, is_declared, is_function}
 use Rattle.scenario_rules.specs.Declarations.{is_kind}
 use Rattle.scenario_rules.specs.declared.mention.Wanted.TheVariants as wanted
-use Rattle.hub_state.specs.Short.{IsShort}
+use Rattle.hub_items.specs.Short.{IsShort}
 use Rattle.hub_requests.specs.Naming.{IsNamed, IsObject}
 
 there : (test : Declared → Bool) (ds : List Declaration) (o : ℕ) → elim (slice_get ds o) [ Some d ↦ test d.object | None ↦ false ] ≡ true → o < length ds

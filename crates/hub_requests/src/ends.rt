@@ -2,7 +2,8 @@ ghost use Rattle.std.specs.Prelude.{◌≡◌, OnOk};
 ghost use Rattle.machine.specs.Ends.{ended};
 
 use gv_values::Outcome;
-use hub_state::{Gone, Hub, Stage};
+use hub_items::Gone;
+use hub_state::{Hub, Stage};
 use std::alloc::{AllocError, Global};
 use trace_text::Line;
 

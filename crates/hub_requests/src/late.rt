@@ -1,6 +1,6 @@
 //! What a wait gives where its time is over, and the numbers of Timeouts.
 ghost use Rattle.std.specs.Prelude.{◌≡◌, ◌<◌, ◌≤◌, ◌++◌, ◌∷◌, [], length, OnOk, IfOk};
-ghost use Rattle.hub_state.specs.Short.{IsShort};
+ghost use Rattle.hub_items.specs.Short.{IsShort};
 ghost use Rattle.machine.specs.Waits.{done_ones, draws, drawn, late_outcome};
 
 use gv_values::{FaultKind, List, Outcome, PushRefusal, Scalar, Value};

@@ -10,7 +10,8 @@ ghost use Rattle.hub_requests.specs.Sendings.{link_stands};
 
 use crate::performed::Performed;
 use gv_values::{LinkKind, Outcome, Value};
-use hub_state::{Gone, Hub, link_fits};
+use hub_items::{Gone, link_fits};
+use hub_state::Hub;
 use machine::items::Delivery;
 use std::alloc::AllocError;
 use trace_text::StopCause;

@@ -1,7 +1,7 @@
 //! How a greenlet parks.
 ghost use Rattle.std.specs.Prelude.{◌≡◌, None, Some, OnOk};
 ghost use Rattle.machine.specs.Waits.{parked, until_of};
-ghost use Rattle.hub_state.specs.Short.{IsShort};
+ghost use Rattle.hub_items.specs.Short.{IsShort};
 ghost use Rattle.hub_requests.specs.Making.{MayMake};
 
 use crate::late::draws;

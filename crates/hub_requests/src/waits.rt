@@ -1,7 +1,7 @@
 //! How a greenlet comes to a wait: it completes at once, parks, or does not wait.
 ghost use Rattle.std.specs.Prelude.{◌≡◌, OnOk, IfOk};
 ghost use Rattle.machine.specs.Waits.{comes, offered, waits};
-ghost use Rattle.hub_state.specs.Short.{IsShort};
+ghost use Rattle.hub_items.specs.Short.{IsShort};
 ghost use Rattle.hub_requests.specs.Making.{MayMake};
 ghost use Rattle.hub_requests.specs.Naming.{IsNamed, IsObject};
 ghost use Rattle.hub_requests.specs.Performing.{performed_of};
@@ -11,7 +11,8 @@ use crate::late::{draw, late_outcome};
 use crate::parking::{park, park_until};
 use crate::performed::Performed;
 use gv_values::Value;
-use hub_state::{Change, Hub};
+use hub_objects::Change;
+use hub_state::Hub;
 use machine::items::Waiting;
 use scenario_tree::Wait;
 use std::alloc::{AllocError, Global};

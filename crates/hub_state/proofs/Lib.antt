@@ -1,11 +1,1 @@
-pub mod JobSets
-pub mod Leasts
-pub mod Leaving
-pub mod ObjectSets
 pub mod PhaseSets
-pub mod Reading
-pub mod Releasing
-pub mod Removals
-pub mod Shorts
-pub mod Sounds
-pub mod Timeouts

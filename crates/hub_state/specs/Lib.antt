@@ -1,13 +1,3 @@
-pub mod Changes
-pub mod Counted
-pub mod Gone
 pub mod Hosts
-pub mod Jobs
 pub mod Phases
-pub mod Places
-pub mod Reads
-pub mod Releases
-pub mod Short
 pub mod Sights
-pub mod Sound
-pub mod WaitKinds

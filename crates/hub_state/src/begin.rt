@@ -2,13 +2,13 @@
 ghost use Rattle.std.specs.Prelude.{◌≡◌, IfOk, codes};
 ghost use Rattle.machine.specs.Expressions.{function_number};
 ghost use Rattle.machine.specs.Run.{first_state};
-ghost use Rattle.hub_state.specs.Counted.{AreCounted};
+ghost use Rattle.hub_objects.specs.Counted.{AreCounted};
 
 use crate::greenlets::Greenlets;
 use crate::hub::Hub;
-use crate::objects::Objects;
 use body_frames::Code;
 use gv_values::Name;
+use hub_objects::Objects;
 use std::alloc::{AllocError, Global};
 
 /// The number of the function `main`.
@@ -24,7 +24,7 @@ fn number_of_main(code: &Code) -> u32
 impl Hub {
     /// The state at the beginning of a run of the code: nothing is made but main, which has not started.
     /// `AllocError`: memory is wanting.
-    #[tactic(auto, using(crate::proofs::Sounds::sound_none))]
+    #[tactic(auto, using(hub_items::proofs::Sounds::sound_none))]
     pub fn new(alloc: Global, code: Code) -> Result<Hub, AllocError>
         requires counted { AreCounted (first_state code).objects }
         ensures { IfOk result (λ hub. hub ≡ first_state code) }

@@ -3,23 +3,19 @@ ghost use Rattle.std.specs.Prelude.{◌≡◌, ◌<◌, ◌+◌, length, map, sl
 ghost use Rattle.std.specs.Option.{option_copied};
 ghost use Rattle.machine.specs.Deliveries.{since_of_wake, without_offer_by};
 ghost use Rattle.machine.specs.Holds.{earlier, is_take};
-ghost use Rattle.machine.specs.Objects.{at_bound, item_of, is_left, is_shut, name_of_object, object_at, offer_of, with_object, without_member};
+ghost use Rattle.machine.specs.Objects.{item_of, is_left, is_shut, name_of_object, object_at, offer_of, with_object, without_member};
 ghost use Rattle.machine.specs.Requests.{finishes, releases};
 ghost use Rattle.machine.specs.Waits.{posted};
-ghost use Rattle.hub_state.specs.Changes.{changed};
-ghost use Rattle.hub_state.specs.Reads.{name_at};
-ghost use Rattle.hub_state.specs.Releases.{has_task, refused, release_of};
+ghost use Rattle.hub_objects.specs.Changes.{changed};
+ghost use Rattle.hub_objects.specs.Releases.{refused};
 
-use crate::holds::{WaitKind, earlier};
 use crate::hub::Hub;
-use crate::items::since_of_wake;
-use crate::jobs::Posted;
-use crate::objects::Change;
-use crate::offers::offer_of;
-use crate::queues::{is_left, is_shut, item_of};
 use gv_values::{FaultKind, Job, Name, Value};
+use hub_items::{WaitKind, earlier, since_of_wake};
+use hub_objects::{
+    Change, Posted, Release, has_task, is_left, is_shut, item_of, name_at, offer_of, release_of,
+};
 use machine::state::{Object, Post};
-use scenario_tree::Declaration;
 use std::alloc::{AllocError, Global};
 use trace_text::Line;
 
@@ -40,7 +36,8 @@ impl Hub {
     }
 
     /// Changes the object of this number. Takes one step, but where an item of a queue or an offer goes: the others are
-    /// looked at or moved up. With linked items it leaves its list, and the waiters of the object are told in the same call.
+    /// looked at or moved up. With linked items it leaves its list, and the waiters of the object are told in the same
+    /// call.
     ///
     /// # Errors
     ///
@@ -68,8 +65,8 @@ impl Hub {
         }
     }
 
-    /// The item of the queue that is next, again. Looks at each item of a priority queue; with linked items, at the first.
-    /// `AllocError`: memory is wanting.
+    /// The item of the queue that is next, again. Looks at each item of a priority queue; with linked items, at the
+    /// first. `AllocError`: memory is wanting.
     pub fn item_of(&self, alloc: Global, o: u32) -> Result<Value, AllocError>
         ensures { IfOk result (λ value. value ≡ item_of (object_at o self.now)) }
     {
@@ -110,7 +107,7 @@ impl Hub {
     /// # Errors
     ///
     /// Memory is wanting, or the units would pass 2^63, which no run within its budget comes to.
-    #[tactic(auto, using(crate::proofs::Releasing::released))]
+    #[tactic(auto, using(hub_objects::proofs::Releasing::released))]
     pub fn release(&mut self, g: u32, o: u32) -> Result<Option<FaultKind>, AllocError>
         ensures { IfOk result (λ fault. releases g o (object_at o self.old) self.old ≡ refused fault self.new) }
     {
@@ -129,7 +126,7 @@ impl Hub {
     }
 
     /// A task of the queue is done, or refused by a fault where none is unfinished. `AllocError`: memory is wanting.
-    #[tactic(auto, using(crate::proofs::Releasing::finished))]
+    #[tactic(auto, using(hub_objects::proofs::Releasing::finished))]
     pub fn finish(&mut self, o: u32) -> Result<Option<FaultKind>, AllocError>
         ensures { IfOk result (λ fault. finishes o (object_at o self.old) self.old ≡ refused fault self.new) }
     {
@@ -163,67 +160,5 @@ impl Hub {
         })?;
         self.objects.change(o, Change::SlotTaken)?;
         Ok(number)
-    }
-}
-
-/// The name of the object of this number.
-#[tactic(auto, using(crate::proofs::Reading::named))]
-fn name_at(objects: &[Declaration], o: u32) -> Name
-    requires { o < length objects.now }
-    ensures { result ≡ name_at o objects.now }
-{
-    objects[o as usize].name
-}
-
-/// What a release comes to.
-enum Release {
-    Refused(FaultKind),
-    /// Nothing, at an object that is neither.
-    Nothing,
-    /// A unit more.
-    Unit,
-    /// The owner once less.
-    Owner,
-}
-
-fn release_of(object: Option<&Object>, g: u32) -> Release
-    ensures { result ≡ release_of g (option_copied object.entry) }
-{
-    match object {
-        Some(Object::Semaphore(counter, bound)) => {
-            if is_at_bound(*counter, *bound) {
-                Release::Refused(FaultKind::ValueError)
-            } else {
-                Release::Unit
-            }
-        }
-        Some(Object::Lock(Some(h), _)) => {
-            if g == *h {
-                Release::Owner
-            } else {
-                Release::Refused(FaultKind::RuntimeError)
-            }
-        }
-        Some(Object::Lock(None, _)) => Release::Refused(FaultKind::RuntimeError),
-        _ => Release::Nothing,
-    }
-}
-
-fn is_at_bound(counter: u64, bound: Option<u64>) -> bool
-    ensures { result ≡ at_bound counter bound }
-{
-    match bound {
-        None => false,
-        Some(bound) => counter == bound,
-    }
-}
-
-/// Whether a task of the queue is unfinished.
-fn has_task(object: Option<&Object>) -> bool
-    ensures { result ≡ has_task (option_copied object.entry) }
-{
-    match object {
-        Some(Object::Queue(_, _, _, unfinished, _)) => *unfinished > 0,
-        _ => false,
     }
 }

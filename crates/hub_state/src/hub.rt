@@ -1,8 +1,7 @@
 //! The state itself.
 use crate::greenlets::Greenlets;
-use crate::jobs::Posted;
-use crate::objects::Objects;
 use body_frames::Code;
+use hub_objects::{Objects, Posted};
 use machine::items::Item;
 use machine::state::Post;
 use std::marker::Model;
@@ -30,7 +29,7 @@ pub struct Hub {
 impl Model for Hub {
     ghost use Rattle.machine.specs.State.{State};
     ghost use Rattle.scenario_tree.specs.Trees.{trees};
-    ghost use Rattle.hub_state.specs.Sound.{IsSound};
+    ghost use Rattle.hub_items.specs.Sound.{IsSound};
 
     ghost Value = { State };
 

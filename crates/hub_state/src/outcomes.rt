@@ -2,17 +2,17 @@
 ghost use Rattle.std.specs.Prelude.{◌≡◌, is_some, slice_get};
 ghost use Rattle.std.specs.Option.{option_copied};
 ghost use Rattle.gv_values.specs.declared.value.Whom.{Whom as Target};
-ghost use Rattle.machine.specs.Holds.{holds, wait_holds, outcome_of, is_done, all_done, done_among, newcomer_completes, is_flagged, is_owner, earlier, is_place, has_place};
+ghost use Rattle.machine.specs.Holds.{holds, wait_holds, outcome_of, is_done, all_done, done_among, newcomer_completes, earlier, is_place, has_place};
 
-use crate::holds::{
+use crate::conditions::{
     all_finished_at, has_item_at, has_offer_at, has_place_at, has_result_at, has_room_at,
-    has_set_since_at, has_slot_at, has_unit_at, is_deserted_at, is_free_at, is_taken_at, link_fits,
+    has_set_since_at, has_slot_at, has_unit_at, is_deserted_at, is_free_at, is_taken_at,
 };
 use crate::hub::Hub;
-use crate::jobs::job_at;
 use gv_values::{Outcome, Whom};
+use hub_items::link_fits;
+use hub_objects::{is_flagged, is_owner, job_at};
 use machine::items::{Delivery, Item, Waiting};
-use machine::state::Object;
 
 impl Hub {
     /// What the greenlet ended with, if it did.
@@ -124,8 +124,8 @@ impl Hub {
         has_place_at(self.objects.as_slice(), &self.items, o, self.next_since)
     }
 
-    /// Whether a greenlet that comes to the wait does not begin it, since its condition holds for the last of all waiters.
-    /// Looks at each item; with linked items, at the length of the object's line.
+    /// Whether a greenlet that comes to the wait does not begin it, since its condition holds for the last of all
+    /// waiters. Looks at each item; with linked items, at the length of the object's line.
     pub fn newcomer_completes(&self, g: u32, waiting: &Waiting) -> bool
         ensures { result ≡ newcomer_completes self.now g waiting.now }
     {
@@ -155,25 +155,5 @@ impl Hub {
                 None => false,
             },
         }
-    }
-}
-
-/// Whether the event is set.
-fn is_flagged(object: Option<&Object>) -> bool
-    ensures { result ≡ is_flagged (option_copied object.entry) }
-{
-    match object {
-        Some(Object::Event(flag, _)) => *flag,
-        _ => false,
-    }
-}
-
-/// Whether the greenlet owns the lock.
-fn is_owner(object: Option<&Object>, g: u32) -> bool
-    ensures { result ≡ is_owner g (option_copied object.entry) }
-{
-    match object {
-        Some(Object::Lock(Some(h), _)) => g == *h,
-        _ => false,
     }
 }

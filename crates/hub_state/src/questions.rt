@@ -1,13 +1,12 @@
 //! What the hub asks between two turns, and what the answer does.
 ghost use Rattle.std.specs.Prelude.{◌≡◌, OnOk};
-ghost use Rattle.machine.specs.Questions.{deadline_of, lesser, least_deadline, any_numbered, question, block_line, arrives, take_answer};
+ghost use Rattle.machine.specs.Questions.{question, block_line, arrives, take_answer};
 ghost use Rattle.machine.specs.Holds.{job_at};
 
 use crate::hub::Hub;
-use crate::jobs::{any_outstanding, arrive_at};
-use crate::objects::Change;
 use gv_values::{Answer, JobOutcome};
-use machine::items::{Delivery, Item, Waiting};
+use hub_items::{any_numbered, least_deadline};
+use hub_objects::{Change, any_outstanding, arrive_at};
 use std::alloc::{AllocError, Global};
 use trace_text::{Blocked, Line};
 use world_rules::Question;
@@ -15,53 +14,9 @@ use world_rules::Question;
 /// The greatest moment.
 const LAST_MOMENT: u64 = 4611686018427387903;
 
-fn deadline_of(delivery: &Delivery) -> Option<u64>
-    ensures { result ≡ deadline_of delivery.now }
-{
-    match delivery {
-        Delivery::Start(_, deadline) => *deadline,
-        Delivery::Wake(_, Waiting::Sleep(until)) => Some(*until),
-        Delivery::Wake(_, _) => None,
-        Delivery::Late(_, deadline, _) => Some(*deadline),
-        Delivery::Timeout(_, _, deadline) => Some(*deadline),
-        Delivery::Kill(_, _) => None,
-        Delivery::Link(_, _, _, _) => None,
-    }
-}
-
-fn lesser(a: Option<u64>, b: Option<u64>) -> Option<u64>
-    ensures { result ≡ lesser a b }
-{
-    match (a, b) {
-        (None, b) => b,
-        (Some(a), None) => Some(a),
-        (Some(a), Some(b)) => Some(a.min(b)),
-    }
-}
-
-/// The least deadline of the items.
-fn least_deadline(items: &[Item]) -> Option<u64>
-    ensures { result ≡ least_deadline items.now }
-{
-    let mut least = None;
-    let mut left = items.len();
-    while left > 0 {
-        left -= 1;
-        least = lesser(deadline_of(&items[left].delivery), least);
-    }
-    least
-}
-
-/// Whether an item has a number.
-fn any_numbered(items: &[Item]) -> bool
-    ensures { result ≡ any_numbered items.now }
-{
-    items.iter().any(|item| item.ready.is_some())
-}
-
 impl Hub {
-    /// What the turn asks at its end, and none where nothing can come. Looks at each item and each job; with linked items,
-    /// at the first of those with a number, the first timer, and a count of the jobs.
+    /// What the turn asks at its end, and none where nothing can come. Looks at each item and each job; with linked
+    /// items, at the first of those with a number, the first timer, and a count of the jobs.
     pub fn question(&self) -> Option<Question>
         ensures { result ≡ question self.now }
     {

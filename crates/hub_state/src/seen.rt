@@ -1,12 +1,10 @@
 //! What a body that is under way may ask of the hub.
 ghost use Rattle.std.specs.Prelude.{◌≡◌};
-ghost use Rattle.std.specs.Option.{option_copied};
-ghost use Rattle.machine.specs.Moves.{is_set_object, size_of_object, unfinished_of_object};
 
 use crate::hub::Hub;
 use body_frames::Look;
 use gv_values::{Outcome, Whom};
-use machine::state::Object;
+use hub_objects::{is_set_object, size_of_object, unfinished_of_object};
 use std::marker::Model;
 
 /// The hub as the greenlet sees it that is under way.
@@ -17,7 +15,7 @@ pub struct Seen<'a> {
 }
 
 impl<'a> Model for Seen<'a> {
-    ghost use Rattle.hub_state.specs.Counted.{AreCounted};
+    ghost use Rattle.hub_objects.specs.Counted.{AreCounted};
     ghost use Rattle.hub_state.specs.Sights.{Sight};
     ghost use Rattle.scenario_tree.specs.Trees.{trees};
 
@@ -72,38 +70,5 @@ impl<'a> Look for Seen<'a> {
 
     fn unfinished(&self, object: u32) -> u64 {
         unfinished_of_object(self.hub.object(object))
-    }
-}
-
-/// The flag of an event, or whether something was put into a result.
-fn is_set_object(object: Option<&Object>) -> bool
-    ensures { result ≡ is_set_object (option_copied object.entry) }
-{
-    match object {
-        Some(Object::Event(flag, _)) => *flag,
-        Some(Object::Result(outcome)) => outcome.is_some(),
-        _ => false,
-    }
-}
-
-/// The counter, the number of items, or the number of members.
-fn size_of_object(object: Option<&Object>) -> u64
-    ensures { result ≡ size_of_object (option_copied object.entry) }
-{
-    match object {
-        Some(Object::Semaphore(counter, _)) => *counter,
-        Some(Object::Queue(_, _, items, _, _)) => items.len() as u64,
-        Some(Object::Crew(_, members)) => members.len() as u64,
-        _ => 0,
-    }
-}
-
-/// The unfinished tasks of a queue.
-fn unfinished_of_object(object: Option<&Object>) -> u64
-    ensures { result ≡ unfinished_of_object (option_copied object.entry) }
-{
-    match object {
-        Some(Object::Queue(_, _, _, unfinished, _)) => *unfinished,
-        _ => 0,
     }
 }

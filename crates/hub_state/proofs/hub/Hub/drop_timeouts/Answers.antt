@@ -1,6 +1,6 @@
 use Rattle.std.proofs.Common.{arith}
-use Rattle.hub_state.proofs.Leaving.{none_left}
-use Rattle.hub_state.proofs.Timeouts.{none_dropped}
+use Rattle.hub_objects.proofs.Leaving.{none_left}
+use Rattle.hub_items.proofs.Timeouts.{none_dropped}
 use Rattle.hub_state.proofs.hub.Hub.drop_timeouts.Goals as goal
 
 pub returns-else-not-is_empty : goal.returns-else-not-is_empty

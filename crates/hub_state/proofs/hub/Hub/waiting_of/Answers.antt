@@ -1,8 +1,8 @@
 use Rattle.std.proofs.Common.{sym, subst, Option}
 use Rattle.std.specs.Prelude.{IfSome}
 use Rattle.machine.specs.declared.items.Waiting.{Waiting}
-use Rattle.hub_state.specs.Short.{AreShort, IsShort}
-use Rattle.hub_state.proofs.Shorts.{short_wait}
+use Rattle.hub_items.specs.Short.{AreShort, IsShort}
+use Rattle.hub_items.proofs.Shorts.{short_wait}
 use Rattle.hub_state.proofs.hub.Hub.waiting_of.Goals as goal
 
 pub returns-clause-short : goal.returns-clause-short

@@ -1,0 +1,5 @@
+pub mod JobSets
+pub mod Leaving
+pub mod ObjectSets
+pub mod Reading
+pub mod Releasing

@@ -1,0 +1,69 @@
+-- An object that a step changes, and what is counted of all.
+use Rattle.std.proofs.Common.{◌≡◌, refl, ap, ℕ, zero, suc, ◌<◌, ◌≤◌, ◌==◌, Bool, true, false, cond, not, List, [], ◌∷◌, length, slice_get, slice_set, slice_index_or, unwrap_or, arith}
+use Rattle.std.specs.Prelude.{filter, map}
+use Rattle.machine.specs.declared.state.Object.{Object}
+use Rattle.machine.specs.Objects.{without_member, without_offer, no_object}
+use Rattle.hub_objects.specs.Changes.{changed}
+use Rattle.hub_objects.specs.declared.objects.Change.{Change}
+use Rattle.hub_objects.specs.Counted.{AreCounted, IsCounted}
+
+pub object_set : (os : List Object) (o : ℕ) (d : Object) (change : Change) → o < length os →
+    slice_set os o (changed change (slice_index_or os o d)) ≡ slice_set os o (changed change (unwrap_or (slice_get os o) no_object))
+object_set [] o d c h = refl
+object_set (x ∷ os) zero d c h = refl
+object_set (x ∷ os) (suc o) d c h = ap (λ ys. x ∷ ys) (object_set os o d c (omega (arith, h)))
+
+pub object_out : (os : List Object) (o : ℕ) (x : Object) → length os ≤ o → os ≡ slice_set os o x
+object_out [] o y h = refl
+object_out (x ∷ os) zero y h = grind arith
+object_out (x ∷ os) (suc o) y h = ap (λ ys. x ∷ ys) (object_out os o y (omega (arith, h)))
+
+pub counted_at : (os : List Object) (o : ℕ) (d : Object) → AreCounted os → o < length os → IsCounted (slice_index_or os o d)
+counted_at [] o d a h = absurd (omega (arith, h))
+counted_at (x ∷ os) zero d a h = a 0
+counted_at (x ∷ os) (suc o) d a h = counted_at os o d (λ p. a (suc p)) (omega (arith, h))
+
+pub counted_set : (os : List Object) (o : ℕ) (x : Object) → AreCounted os → IsCounted x → AreCounted (slice_set os o x)
+counted_set [] o x a h p = a p
+counted_set (y ∷ os) zero x a h zero = h
+counted_set (y ∷ os) zero x a h (suc p) = a (suc p)
+counted_set (y ∷ os) (suc o) x a h zero = a 0
+counted_set (y ∷ os) (suc o) x a h (suc p) = counted_set os o x (λ q. a (suc q)) h p
+
+few : (p : ℕ → Bool) (xs : List ℕ) → length (filter p xs) ≤ length xs
+few p [] = omega arith
+few p (x ∷ xs) = by (p x) (few p xs)
+  where
+    by : (b : Bool) → length (filter p xs) ≤ length xs → length (cond b (x ∷ filter p xs) (filter p xs)) ≤ suc (length xs)
+    by true r = omega arith
+    by false r = omega arith
+
+left : (g : ℕ) (x : Object) → IsCounted x → IsCounted (without_member g x)
+left g (Object.Crew size members) h = let fewer = few (λ m. not (m == g)) members in let here = h.0 in (omega (arith, fewer, here), h.1)
+left g (Object.Event flag sets) h = h
+left g (Object.Result x) h = h
+left g (Object.Semaphore counter bound) h = h
+left g (Object.Lock owner depth) h = h
+left g (Object.Queue kind size items unfinished shut) h = h
+left g (Object.Channel offers) h = h
+left g (Object.Native slots outstanding) h = h
+
+pub counted_left : (g : ℕ) (os : List Object) → AreCounted os → AreCounted (map (without_member g) os)
+counted_left g [] a p = a p
+counted_left g (x ∷ os) a zero = left g x (a 0)
+counted_left g (x ∷ os) a (suc p) = counted_left g os (λ q. a (suc q)) p
+
+withdrawn : (since : ℕ) (x : Object) → IsCounted x → IsCounted (without_offer since x)
+withdrawn since (Object.Channel offers) h = h
+withdrawn since (Object.Crew size members) h = h
+withdrawn since (Object.Event flag sets) h = h
+withdrawn since (Object.Result x) h = h
+withdrawn since (Object.Semaphore counter bound) h = h
+withdrawn since (Object.Lock owner depth) h = h
+withdrawn since (Object.Queue kind size items unfinished shut) h = h
+withdrawn since (Object.Native slots outstanding) h = h
+
+pub counted_withdrawn : (since : ℕ) (os : List Object) → AreCounted os → AreCounted (map (without_offer since) os)
+counted_withdrawn since [] a p = a p
+counted_withdrawn since (x ∷ os) a zero = withdrawn since x (a 0)
+counted_withdrawn since (x ∷ os) a (suc p) = counted_withdrawn since os (λ q. a (suc q)) p

@@ -1,0 +1,351 @@
+//! The objects in order of declaration, and what a step does to one of them.
+ghost use Rattle.std.specs.Prelude.{◌≡◌, ◌<◌, ◌≤◌, ◌+◌, ◌-◌, length, map, slice_get, slice_set, unwrap_or, OnOk, IfOk, Some};
+ghost use Rattle.std.specs.Option.{option_copied};
+ghost use Rattle.machine.specs.Objects.{with_flag, no_object, with_unit_taken, with_owner, with_item, with_item_taken, with_shut, with_member, without_member, with_offer, with_offer_taken, without_offer, with_slot_taken, with_slot_freed};
+ghost use Rattle.machine.specs.Run.{object_of};
+ghost use Rattle.machine.specs.declared.state.Object.{Object as Shown};
+ghost use Rattle.hub_objects.specs.Changes.{changed, with_unit, with_owner_gone, with_task_done};
+ghost use Rattle.hub_objects.specs.Counted.{AreCounted, IsCounted};
+
+use crate::crews::leave_each;
+use crate::offers::{add_offer, take_offer, withdraw_each};
+use crate::queues::{clear, take_next};
+use gv_values::{Outcome, Value};
+use machine::state::Object;
+use scenario_tree::{Declaration, Items, Object as Kind};
+use std::alloc::{AllocError, Global};
+use std::marker::Model;
+
+/// The most that is counted of an object.
+const MOST: u64 = (1 << 63) - 1;
+
+/// What a step does to an object. An object of another kind stays as it is.
+#[derive(Drop)]
+pub enum Change {
+    /// An event is set once more, or cleared.
+    Flag(bool),
+    /// This is in the result, in place of what stood.
+    Put(Outcome),
+    /// A semaphore has one unit more.
+    Unit,
+    /// It has one unit less.
+    UnitTaken,
+    /// This greenlet owns the lock once more.
+    Owner(u32),
+    /// This greenlet owns the lock once less.
+    OwnerGone(u32),
+    /// A queue has one item and one unfinished task more.
+    Item(Value),
+    /// The item that is next goes.
+    ItemTaken,
+    /// One task less is unfinished.
+    TaskDone,
+    /// A queue is shut, and whether its items go at once.
+    Shut(bool),
+    /// A channel has one offer more, that of the Wake with this since.
+    Offer(Value, u64),
+    /// The oldest offer goes.
+    OfferTaken,
+    /// A group or pool has one member more.
+    Member(u32),
+    /// A slot of a native pool is taken.
+    SlotTaken,
+    /// A slot of a native pool is free again.
+    SlotFreed,
+}
+
+/// The objects in order of declaration; an object's number is its place.
+#[derive(Drop)]
+pub struct Objects {
+    all: Vec<Object>,
+}
+
+impl Model for Objects {
+    ghost use Rattle.std.specs.Prelude.{List};
+    ghost use Rattle.machine.specs.declared.state.Object.{Object as Shown};
+    ghost use Rattle.hub_objects.specs.Counted.{AreCounted};
+
+    ghost Value = { List Shown };
+
+    ghost view = { λ os. os.all.items };
+
+    ghost invariant = { λ os. AreCounted os.all.items };
+}
+
+impl Objects {
+    /// The objects as they are declared. `AllocError`: memory is wanting.
+    pub fn declared(alloc: Global, declarations: &[Declaration]) -> Result<Objects, AllocError>
+        requires counted { AreCounted (map (λ d. object_of d.object) declarations.now) }
+        ensures { IfOk result (λ objects. objects ≡ map (λ d. object_of d.object) declarations.now) }
+    {
+        let all = objects_of(alloc, declarations)?;
+        Ok(Objects { all })
+    }
+
+    /// The object of this number.
+    pub fn get(&self, o: u32) -> Option<&Object>
+        ensures { option_copied result ≡ slice_get self.now o }
+    {
+        self.all.get(o as usize)
+    }
+
+    /// All of them.
+    pub fn as_slice(&self) -> &[Object]
+        ensures same { result.now ≡ self.now }
+        ensures counted { AreCounted self.now }
+    {
+        self.all.as_slice()
+    }
+
+    /// What the step does to the object of this number. `AllocError`: memory is wanting, or a count would pass 2^63.
+    pub fn change(&mut self, o: u32, change: Change) -> Result<(), AllocError>
+        ensures { OnOk result (self.new ≡ slice_set self.old o (changed change (unwrap_or (slice_get self.old o) no_object))) }
+    {
+        change_at(&mut self.all, o, change)
+    }
+
+    /// The greenlet leaves its group or pool.
+    pub fn leave(&mut self, g: u32)
+        ensures { self.new ≡ map (without_member g) self.old }
+    {
+        leave_each(&mut self.all, g);
+    }
+
+    /// The offer of the Wake with this since goes, where there is one.
+    pub fn withdraw(&mut self, since: u64)
+        ensures { self.new ≡ map (without_offer since) self.old }
+    {
+        withdraw_each(&mut self.all, since);
+    }
+}
+
+/// The object before the first move.
+fn object_of(alloc: Global, kind: Kind) -> Object
+    ensures { result ≡ object_of kind }
+{
+    match kind {
+        Kind::Event => Object::Event(false, 0),
+        Kind::Result => Object::Result(None),
+        Kind::Semaphore(n) => Object::Semaphore(n, None),
+        Kind::BoundedSemaphore(n) => Object::Semaphore(n, Some(n)),
+        Kind::Lock => Object::Lock(None, 0),
+        Kind::Queue(order, size) => Object::Queue(order, size, Items::new(alloc), 0, false),
+        Kind::Channel => Object::Channel(Items::new(alloc)),
+        Kind::Group => Object::Crew(None, Items::new(alloc)),
+        Kind::Pool(n) => Object::Crew(Some(n), Items::new(alloc)),
+        Kind::Native(n) => Object::Native(n, 0),
+    }
+}
+
+/// The objects before the first move, in the order of their declarations.
+fn objects_of(alloc: Global, declarations: &[Declaration]) -> Result<Vec<Object>, AllocError>
+    ensures { IfOk result (λ objects. objects.items ≡ map (λ d. object_of d.object) declarations.now) }
+{
+    let mut objects = Vec::new(alloc);
+    for declaration in declarations {
+        objects.push(object_of(alloc, declaration.object))?;
+    }
+    Ok(objects)
+}
+
+/// What the step does to the object of this number.
+#[tactic(auto, using(crate::proofs::ObjectSets::object_set, crate::proofs::ObjectSets::object_out))]
+fn change_at(objects: &mut [Object], o: u32, change: Change) -> Result<(), AllocError>
+    requires { AreCounted objects.old }
+    ensures changed { OnOk result (objects.new ≡ slice_set objects.old o (changed change (unwrap_or (slice_get objects.old o) no_object))) }
+    ensures counted { AreCounted objects.new }
+{
+    if o as usize >= objects.len() {
+        drop(change);
+        return Ok(());
+    }
+    change_one(&mut objects[o as usize], change)
+}
+
+/// What the step does to the object.
+fn change_one(object: &mut Object, change: Change) -> Result<(), AllocError>
+    ensures changed { OnOk result (object.new ≡ changed change object.old) }
+    ensures counted { IsCounted object.old → IsCounted object.new }
+{
+    match change {
+        Change::Flag(flag) => set_flag(object, flag),
+        Change::Put(outcome) => {
+            put(object, outcome);
+            Ok(())
+        }
+        Change::Unit => add_unit(object),
+        Change::UnitTaken => {
+            take_unit(object);
+            Ok(())
+        }
+        Change::Owner(g) => own(object, g),
+        Change::OwnerGone(g) => {
+            disown(object, g);
+            Ok(())
+        }
+        Change::Item(value) => add_item(object, value),
+        Change::ItemTaken => {
+            take_item(object);
+            Ok(())
+        }
+        Change::TaskDone => {
+            end_task(object);
+            Ok(())
+        }
+        Change::Shut(immediate) => {
+            shut(object, immediate);
+            Ok(())
+        }
+        Change::Offer(value, since) => add_offer(object, value, since),
+        Change::OfferTaken => {
+            take_offer(object);
+            Ok(())
+        }
+        Change::Member(g) => add_member(object, g),
+        Change::SlotTaken => take_slot(object),
+        Change::SlotFreed => {
+            free_slot(object);
+            Ok(())
+        }
+    }
+}
+
+fn set_flag(object: &mut Object, flag: bool) -> Result<(), AllocError>
+    ensures changed { OnOk result (object.new ≡ with_flag flag object.old) }
+    ensures counted { IsCounted object.old → IsCounted object.new }
+{
+    if let Object::Event(is_set, sets) = object {
+        if flag {
+            *sets = sets.checked_add(1).ok_or(AllocError)?;
+        }
+        *is_set = flag;
+    }
+    Ok(())
+}
+
+fn put(object: &mut Object, outcome: Outcome)
+    ensures changed { object.new ≡ Shown.Result (Some outcome) }
+    ensures counted { IsCounted object.new }
+{
+    *object = Object::Result(Some(outcome));
+}
+
+fn add_unit(object: &mut Object) -> Result<(), AllocError>
+    ensures changed { OnOk result (object.new ≡ with_unit object.old) }
+    ensures counted { IsCounted object.old → IsCounted object.new }
+{
+    if let Object::Semaphore(counter, _) = object {
+        if *counter >= MOST {
+            return Err(AllocError);
+        }
+        *counter += 1;
+    }
+    Ok(())
+}
+
+fn take_unit(object: &mut Object)
+    ensures changed { object.new ≡ with_unit_taken object.old }
+    ensures counted { IsCounted object.old → IsCounted object.new }
+{
+    if let Object::Semaphore(counter, _) = object {
+        *counter = counter.saturating_sub(1);
+    }
+}
+
+fn own(object: &mut Object, g: u32) -> Result<(), AllocError>
+    ensures changed { OnOk result (object.new ≡ with_owner g object.old) }
+    ensures counted { IsCounted object.old → IsCounted object.new }
+{
+    if let Object::Lock(owner, depth) = object {
+        *depth = depth.checked_add(1).ok_or(AllocError)?;
+        *owner = Some(g);
+    }
+    Ok(())
+}
+
+fn disown(object: &mut Object, g: u32)
+    ensures changed { object.new ≡ with_owner_gone g object.old }
+    ensures counted { IsCounted object.old → IsCounted object.new }
+{
+    if let Object::Lock(owner, depth) = object {
+        *depth = depth.saturating_sub(1);
+        *owner = if *depth == 0 { None } else { Some(g) };
+    }
+}
+
+fn add_item(object: &mut Object, value: Value) -> Result<(), AllocError>
+    ensures changed { OnOk result (object.new ≡ with_item value object.old) }
+    ensures counted { IsCounted object.old → IsCounted object.new }
+{
+    if let Object::Queue(_, _, items, unfinished, _) = object {
+        if items.len() as u64 >= MOST || *unfinished >= MOST {
+            return Err(AllocError);
+        }
+        items.push(value)?;
+        *unfinished += 1;
+    }
+    Ok(())
+}
+
+fn take_item(object: &mut Object)
+    ensures changed { object.new ≡ with_item_taken object.old }
+    ensures counted { IsCounted object.old → IsCounted object.new }
+{
+    if let Object::Queue(kind, _, items, _, _) = object {
+        take_next(*kind, items);
+    }
+}
+
+fn end_task(object: &mut Object)
+    ensures changed { object.new ≡ with_task_done object.old }
+    ensures counted { IsCounted object.old → IsCounted object.new }
+{
+    if let Object::Queue(_, _, _, unfinished, _) = object {
+        *unfinished = unfinished.saturating_sub(1);
+    }
+}
+
+fn shut(object: &mut Object, immediate: bool)
+    ensures changed { object.new ≡ with_shut immediate object.old }
+    ensures counted { IsCounted object.old → IsCounted object.new }
+{
+    if let Object::Queue(_, _, items, unfinished, shut) = object {
+        if immediate {
+            *unfinished = unfinished.saturating_sub(items.len() as u64);
+            clear(items);
+        }
+        *shut = true;
+    }
+}
+
+fn add_member(object: &mut Object, g: u32) -> Result<(), AllocError>
+    ensures changed { OnOk result (object.new ≡ with_member g object.old) }
+    ensures counted { IsCounted object.old → IsCounted object.new }
+{
+    if let Object::Crew(_, members) = object {
+        if members.len() as u64 >= MOST {
+            return Err(AllocError);
+        }
+        members.push(g)?;
+    }
+    Ok(())
+}
+
+fn take_slot(object: &mut Object) -> Result<(), AllocError>
+    ensures changed { OnOk result (object.new ≡ with_slot_taken object.old) }
+    ensures counted { IsCounted object.old → IsCounted object.new }
+{
+    if let Object::Native(_, outstanding) = object {
+        *outstanding = outstanding.checked_add(1).ok_or(AllocError)?;
+    }
+    Ok(())
+}
+
+fn free_slot(object: &mut Object)
+    ensures changed { object.new ≡ with_slot_freed object.old }
+    ensures counted { IsCounted object.old → IsCounted object.new }
+{
+    if let Object::Native(_, outstanding) = object {
+        *outstanding = outstanding.saturating_sub(1);
+    }
+}
