@@ -1,13 +1,18 @@
 //! The locals of a body.
-ghost use Rattle.std.specs.Prelude.{◌≡◌, ◌<◌, length, OnOk, IfOk, IfSome};
-ghost use Rattle.machine.specs.Expressions.{name_eq, bind, value_of_local};
+ghost use Rattle.std.specs.Prelude.{◌≡◌, ◌<◌, length, unwrap_or, OnOk, IfOk, IfSome};
+ghost use Rattle.std.specs.Option.{option_copied};
+ghost use Rattle.gv_values.specs.declared.value.Outcome.{Outcome as Outcomes};
+ghost use Rattle.gv_values.specs.declared.value.Value.TheVariants as value;
+ghost use Rattle.scenario_tree.specs.declared.tree.Scenario.{Scenario};
+ghost use Rattle.machine.specs.Bodies.{around};
+ghost use Rattle.machine.specs.Expressions.{Look as Answers, name_eq, bind, meaning, value_of_local};
 ghost use Rattle.machine.specs.Greenlets.{named};
 ghost use Rattle.body_values.specs.Places.{IsPlaceOf};
 
 use crate::front::pop_first;
 use gv_values::{Name, Value};
 use machine::state::Local;
-use scenario_tree::Items;
+use scenario_tree::{Expression, Items};
 use std::alloc::{AllocError, Global};
 
 /// Whether these are the same bytes.
@@ -54,12 +59,32 @@ fn place_of(name: &Name, locals: &[Local]) -> Option<usize>
 pub fn value_of_local(alloc: Global, name: &Name, locals: &[Local]) -> Result<Value, AllocError>
     ensures { IfOk result (λ value. value ≡ value_of_local name.now locals.now) }
 {
+    match find_local(name, locals) {
+        Some(value) => Ok(value.copy(alloc)?),
+        None => Ok(Value::Nothing),
+    }
+}
+
+/// The value of the local, where it has one.
+fn find_local<'a>(name: &Name, locals: &'a [Local]) -> Option<&'a Value>
+    ensures { unwrap_or (option_copied result) value.Nothing ≡ value_of_local name.now locals.now }
+{
     for local in locals {
         if name_eq(name, &local.name) {
-            return Ok(local.value.copy(alloc)?);
+            return Some(&local.value);
         }
     }
-    Ok(Value::Nothing)
+    None
+}
+
+/// The value of the expression, where it is a local that has one: it is read where it stands.
+pub fn find_operand<'a>(expression: &Expression, locals: &'a [Local]) -> Option<&'a Value>
+    ensures { IfSome (option_copied result) (λ v. (s : Scenario) (look : Answers) → Outcomes.Value v ≡ meaning expression.now (around s look locals.now)) }
+{
+    match expression {
+        Expression::Local(name) => find_local(name, locals),
+        _ => None,
+    }
 }
 
 /// The parameters with their arguments.

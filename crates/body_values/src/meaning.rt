@@ -6,7 +6,7 @@ ghost use Rattle.machine.specs.BodyMoves.{values};
 ghost use Rattle.body_values.specs.Operators.{as_truth};
 
 use crate::code::Code;
-use crate::locals::value_of_local;
+use crate::locals::{find_operand, value_of_local};
 use crate::look::Look;
 use crate::operators;
 use gv_values::{FaultKind, Outcome, Value};
@@ -35,12 +35,24 @@ impl Code {
             Expression::Current => Ok(Outcome::Value(Value::Greenlet(look.current()))),
             Expression::Fault(kind) => Ok(Outcome::Value(Value::Fault(*kind))),
             Expression::Unary(unary, e) => {
-                let operand = self.meaning(alloc, look, locals, e.get())?;
+                let e = e.get();
+                if let Some(operand) = find_operand(e, locals) {
+                    return Ok(operators::unary(alloc, look, *unary, operand)?);
+                }
+                let operand = self.meaning(alloc, look, locals, e)?;
                 Ok(operators::of_one(alloc, look, *unary, operand)?)
             }
             Expression::Binary(binary, a, b) => {
-                let first = self.meaning(alloc, look, locals, a.get())?;
-                Ok(self.of_two(alloc, look, locals, *binary, first, b)?)
+                let a = a.get();
+                if let Some(first) = find_operand(a, locals) {
+                    return Ok(self.of_two(alloc, look, locals, *binary, first, b)?);
+                }
+                match self.meaning(alloc, look, locals, a)? {
+                    Outcome::Value(first) => {
+                        Ok(self.of_two(alloc, look, locals, *binary, &first, b)?)
+                    }
+                    Outcome::Fault(kind) => Ok(Outcome::Fault(kind)),
+                }
             }
             Expression::And(a, b) => {
                 let first = self.meaning(alloc, look, locals, a.get())?;
@@ -59,7 +71,7 @@ impl Code {
         }
     }
 
-    /// The second operand is evaluated where the first has a value.
+    /// The second operand is evaluated after the first, which has this value.
     #[cycle(meaning)]
     fn of_two<L: Look>(
         &self,
@@ -67,18 +79,18 @@ impl Code {
         look: &L,
         locals: &[Local],
         operator: Binary,
-        first: Outcome,
+        first: &Value,
         second: &Boxed<Expression>,
     ) -> Result<Outcome, AllocError>
         ensures { IfOk result (λ o.
-            o ≡ with_value first (λ x.
-            with_value (meaning second.now (around self.now (L.answers look.now) locals.now)) (binary operator x))) }
+            o ≡ with_value (meaning second.now (around self.now (L.answers look.now) locals.now)) (binary operator first.now)) }
     {
-        match first {
-            Outcome::Value(a) => match self.meaning(alloc, look, locals, second.get())? {
-                Outcome::Value(b) => Ok(operators::binary(operator, a, b)?),
-                Outcome::Fault(kind) => Ok(Outcome::Fault(kind)),
-            },
+        let second = second.get();
+        if let Some(second) = find_operand(second, locals) {
+            return Ok(operators::binary(alloc, operator, first, second)?);
+        }
+        match self.meaning(alloc, look, locals, second)? {
+            Outcome::Value(second) => Ok(operators::binary(alloc, operator, first, &second)?),
             Outcome::Fault(kind) => Ok(Outcome::Fault(kind)),
         }
     }

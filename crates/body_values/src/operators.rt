@@ -29,7 +29,7 @@ pub fn of_one<L: Look>(
 }
 
 /// The outcome of an operator of one operand.
-fn unary<L: Look>(
+pub fn unary<L: Look>(
     alloc: Global,
     look: &L,
     operator: Unary,
@@ -95,17 +95,17 @@ fn told(alloc: Global, operator: Unary, outcome: Option<&Outcome>) -> Result<Val
 }
 
 /// The outcome of an operator of two operands that are both evaluated.
-pub fn binary(operator: Binary, a: Value, b: Value) -> Result<Outcome, AllocError>
-    ensures { IfOk result (λ o. o ≡ binary operator a b) }
+pub fn binary(alloc: Global, operator: Binary, a: &Value, b: &Value) -> Result<Outcome, AllocError>
+    ensures { IfOk result (λ o. o ≡ binary operator a.now b.now) }
 {
     match operator {
-        Binary::Arithmetic(operation) => Ok(arith(operation, &a, &b)),
-        Binary::Equal => Ok(Outcome::Value(Value::Bool(a.equals(&b)))),
-        Binary::NotEqual => Ok(Outcome::Value(Value::Bool(!a.equals(&b)))),
-        Binary::Less => Ok(less(&a, &b)),
-        Binary::AtMost => Ok(at_most(&a, &b)),
-        Binary::Push => Ok(push(a, &b)?),
-        Binary::At => Ok(element(&a, &b)),
+        Binary::Arithmetic(operation) => Ok(arith(operation, a, b)),
+        Binary::Equal => Ok(Outcome::Value(Value::Bool(a.equals(b)))),
+        Binary::NotEqual => Ok(Outcome::Value(Value::Bool(!a.equals(b)))),
+        Binary::Less => Ok(less(a, b)),
+        Binary::AtMost => Ok(at_most(a, b)),
+        Binary::Push => Ok(push(alloc, a, b)?),
+        Binary::At => Ok(element(a, b)),
     }
 }
 
@@ -148,22 +148,22 @@ fn at_most(a: &Value, b: &Value) -> Outcome
     }
 }
 
-/// The list with one scalar more.
-fn push(a: Value, b: &Value) -> Result<Outcome, AllocError>
-    ensures { IfOk result (λ o. o ≡ binary Operator.Push a b.now) }
+/// A list with one scalar more than this one, which stays as it is.
+fn push(alloc: Global, a: &Value, b: &Value) -> Result<Outcome, AllocError>
+    ensures { IfOk result (λ o. o ≡ binary Operator.Push a.now b.now) }
 {
     match a {
-        Value::List(list) => {
-            let mut list = list;
-            match b.scalar() {
-                None => Ok(Outcome::Fault(FaultKind::TypeError)),
-                Some(scalar) => match list.push(scalar) {
-                    Ok(()) => Ok(Outcome::Value(Value::List(list))),
+        Value::List(list) => match b.scalar() {
+            None => Ok(Outcome::Fault(FaultKind::TypeError)),
+            Some(scalar) => {
+                let mut longer = list.copy(alloc)?;
+                match longer.push(scalar) {
+                    Ok(()) => Ok(Outcome::Value(Value::List(longer))),
                     Err(PushRefusal::Full) => Ok(Outcome::Fault(FaultKind::ValueError)),
                     Err(PushRefusal::Memory) => Err(AllocError),
-                },
+                }
             }
-        }
+        },
         _ => Ok(Outcome::Fault(FaultKind::TypeError)),
     }
 }
