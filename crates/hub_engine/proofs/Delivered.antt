@@ -1,5 +1,5 @@
 -- What is delivered.
-use Rattle.std.proofs.Common.{◌≡◌, refl, ap, sym, ◌∙◌, subst, ℕ, ◌<◌, true, length, Option, Some, None, slice_get}
+use Rattle.std.proofs.Common.{◌≡◌, refl, ap, sym, ◌∙◌, subst, ℕ, true, Option, Some, None, slice_get}
 use Rattle.gv_values.specs.declared.value.Outcome.{Outcome}
 use Rattle.scenario_rules.specs.declared.mention.Wanted.TheVariants as wanted
 use Rattle.scenario_rules.specs.Declarations.{is_kind}
@@ -22,7 +22,6 @@ use Rattle.machine_soundness.proofs.Deliveries.{claimed, free-moves, kept-withou
 use Rattle.machine_soundness.proofs.Lists.{all-get, left}
 use Rattle.machine_soundness.proofs.States.{Moves, going, kept-drop}
 use Rattle.machine_texts.specs.Texts.{fits_item, fits_wait, is_function}
-use Rattle.hub_requests.specs.Making.{MayMake}
 use Rattle.hub_requests.specs.Naming.{IsNamed}
 use Rattle.hub_requests.proofs.Named.{object_there}
 use Rattle.hub_engine.specs.Delivering.{IsDelivered, late_answer}

@@ -7,7 +7,7 @@ use Rattle.machine.specs.declared.items.Item.{Item}
 use Rattle.machine.specs.Deliveries.{deliver}
 use Rattle.machine.specs.Landing.{Next}
 use Rattle.machine.specs.Questions.{is_numbered}
-use Rattle.machine.specs.Run.{Passed, after_delivery, deliveries, followed_by, least_below, logged, nearer, rests, runs_on, with_this}
+use Rattle.machine.specs.Run.{Passed, after_delivery, deliveries, least_below, logged, nearer, rests, runs_on, with_this}
 use Rattle.machine.specs.State.{State}
 use Rattle.hub_items.proofs.Leasts.{item_there}
 use Rattle.hub_engine.specs.declared.stand.Came.{Came}

@@ -1,5 +1,5 @@
 -- What a run that is over, or broke off, leaves outside of the hub, where nothing had been done with the world.
-use Rattle.std.proofs.Common.{◌≡◌, refl, ap, sym, ◌∙◌, subst, ℕ, true, List, [], ◌∷◌, ◌++◌, length, length-append, append_assoc, Option, Some, arith}
+use Rattle.std.proofs.Common.{◌≡◌, refl, ap, sym, ◌∙◌, subst, ℕ, List, [], ◌∷◌, ◌++◌, length, length-append, Option, Some, arith}
 use Rattle.std.proofs.lemmas.List.{append-nil}
 use Rattle.trace_text.specs.LineTexts.{text_of}
 use Rattle.trace_text.specs.declared.line.StopCause.{StopCause}
@@ -19,7 +19,7 @@ use Rattle.hub_engine.specs.declared.run.End.{End}
 use Rattle.hub_engine.specs.declared.run.Ran.{Ran}
 use Rattle.hub_engine.specs.Ends.{CountsOf, HasLogged, HasNumbersAt, IsPartLogged, RanTo, WroteAhead, end_of, end_of_run}
 use Rattle.hub_engine.specs.Outside.{Outside}
-use Rattle.hub_engine.specs.Written.{AreLike, HasBroken, HasEnded, Runs, RunsTo, Tells, ended_as, finished, preceded}
+use Rattle.hub_engine.specs.Written.{HasBroken, HasEnded, Runs, RunsTo, Tells, ended_as, finished, preceded}
 use Rattle.hub_engine.proofs.Giving.{answers_of_append, legal_append}
 use Rattle.hub_engine.proofs.Texts.{text_of_append}
 use Rattle.machine_turns.proofs.Taking.{run-takes}

@@ -1,5 +1,5 @@
 -- That no landing changes which functions greenlets run.
-use Rattle.std.proofs.Common.{◌≡◌, refl, ap, sym, ◌∙◌, subst, ℕ, zero, suc, ◌<◌, ◌==◌, Bool, true, false, List, [], ◌∷◌, ◌++◌, length, Option, Some, None, slice_get, slice_set, unwrap_or, if◌then◌else◌, arith}
+use Rattle.std.proofs.Common.{◌≡◌, refl, ap, sym, ◌∙◌, subst, ℕ, zero, suc, ◌==◌, Bool, true, false, List, [], ◌∷◌, ◌++◌, length, Option, Some, None, slice_get, slice_set, unwrap_or, if◌then◌else◌}
 use Rattle.std.specs.Prelude.{map}
 use Rattle.gv_values.specs.Ends.{kept}
 use Rattle.gv_values.specs.declared.value.Outcome.{Outcome}
@@ -15,7 +15,7 @@ use Rattle.machine.specs.State.{State, say}
 use Rattle.machine.specs.Ends.{ended, leaving_of, outcome_of_leaving, stop_of}
 use Rattle.machine.specs.Greenlets.{add_greenlet, frame_of, function_of, greenlet, named, nobody, with_phase}
 use Rattle.machine.specs.Items.{drop_items, is_timeout_of}
-use Rattle.machine.specs.Landing.{Landing, Next, after_end, answered, given, goes_on, land, lands, resumes, starts}
+use Rattle.machine.specs.Landing.{Landing, Next, after_end, given, goes_on, land, lands, resumes, starts}
 use Rattle.machine.specs.Deliveries.{without_offer_by}
 use Rattle.machine.specs.Moves.{timeout_item}
 use Rattle.machine.specs.declared.items.Delivery.{Delivery}
@@ -29,7 +29,7 @@ use Rattle.machine_laws.specs.Reached.{state_of}
 use Rattle.hub_requests.specs.Performing.{performed_of}
 use Rattle.hub_requests.specs.declared.performed.Performed.{Performed as Came}
 use Rattle.hub_engine.specs.Ready.{AreDeclared}
-use Rattle.hub_engine.specs.Stands.{goes_to, hopped, lands_at, next_at}
+use Rattle.hub_engine.specs.Stands.{goes_to, hopped, lands_at}
 use Rattle.hub_engine.specs.declared.stand.Hop.{Hop}
 use Rattle.hub_engine.specs.declared.stand.Stand.{Stand}
 use Rattle.hub_engine.proofs.Blind.{phased}

@@ -1,5 +1,5 @@
 -- An input lands at a greenlet.
-use Rattle.std.proofs.Common.{◌≡◌, refl, ap, sym, subst, ◌∙◌, ℕ, zero, suc, ◌-◌, ◌<◌, List, [], ◌∷◌, Option, Some, None, slice_get, unwrap_or, arith}
+use Rattle.std.proofs.Common.{◌≡◌, refl, ap, sym, subst, ◌∙◌, ℕ, zero, suc, ◌-◌, ◌<◌, [], ◌∷◌, Option, Some, None, slice_get, unwrap_or, arith}
 use Rattle.gv_values.specs.declared.value.Outcome.{Outcome}
 use Rattle.gv_values.specs.declared.value.Value.{Value}
 use Rattle.gv_values.specs.declared.fault.FaultKind.{FaultKind}
@@ -7,7 +7,7 @@ use Rattle.trace_text.specs.declared.line.Line.{Line}
 use Rattle.machine.specs.declared.state.Greenlet.{Greenlet}
 use Rattle.machine.specs.declared.state.Phase.{Phase}
 use Rattle.machine.specs.Holds.{phase_of}
-use Rattle.machine.specs.Landing.{Landing, Next, after_end, land, resumes, starts}
+use Rattle.machine.specs.Landing.{Landing, after_end, land, resumes, starts}
 use Rattle.machine.specs.Greenlets.{frame_of, greenlet, nobody}
 use Rattle.gv_values.specs.Ends.{kept}
 use Rattle.machine.specs.State.{State, say}

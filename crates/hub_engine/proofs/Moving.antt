@@ -21,7 +21,6 @@ use Rattle.machine.specs.Expressions.{Look}
 use Rattle.machine.specs.BodyMoves.{Did, body_move}
 use Rattle.machine.specs.Holds.{delivery_holds, holds, link_holds, outcome_of, outcome_of_phase, phase_of, wait_holds}
 use Rattle.machine.specs.Landing.{Next, goes_on, lands}
-use Rattle.machine.specs.Items.{add_item}
 use Rattle.machine.specs.Greenlets.{frame_of, greenlet, no_frame, nobody, with_phase}
 use Rattle.machine.specs.Moves.{does, enters, look, move, timeout_item}
 use Rattle.machine.specs.Requests.{follows}
@@ -29,7 +28,6 @@ use Rattle.machine.specs.Unwinding.{unwind}
 use Rattle.machine.specs.Settle.{numbers_after, settle, settled}
 use Rattle.machine.specs.Soundness.{is_under_way}
 use Rattle.machine.specs.State.{State}
-use Rattle.machine_soundness.specs.Going.{IsSoundAt}
 use Rattle.body_frames.specs.Places.{Came, Place, came_by, place_of}
 use Rattle.hub_state.specs.Sights.{look_of, outcome_seen}
 use Rattle.hub_engine.specs.Asking.{IsDeclaredAfter, does_came, fits_came}
@@ -44,7 +42,7 @@ use Rattle.machine.specs.Requests.{performs}
 use Rattle.hub_engine.specs.Stands.{goes_to, hopped, next_at}
 use Rattle.hub_engine.specs.declared.stand.Hop.{Hop}
 use Rattle.hub_engine.specs.declared.stand.Stand.{Stand}
-use Rattle.hub_engine.proofs.Blind.{goes_on_blind, goes_to_blind, phased, same_raw, with_phase_twice}
+use Rattle.hub_engine.proofs.Blind.{goes_on_blind, goes_to_blind, phased, with_phase_twice}
 use Rattle.hub_engine.proofs.Bodies.{goes_as_placed}
 
 -- ---- what the body may ask of the hub

@@ -1,7 +1,7 @@
 -- Jobs that are posted one after another.
-use Rattle.std.proofs.Common.{◌≡◌, refl, ap, sym, ◌∙◌, subst, ℕ, zero, suc, ◌+◌, ◌<◌, ◌≤◌, ◌==◌, Bool, true, false, List, [], ◌∷◌, ◌++◌, length, drop, take, get_or, append_assoc, map, arith}
+use Rattle.std.proofs.Common.{◌≡◌, refl, ap, sym, ◌∙◌, subst, ℕ, zero, suc, ◌+◌, ◌<◌, ◌≤◌, ◌==◌, false, List, [], ◌∷◌, ◌++◌, length, drop, take, get_or, append_assoc, map, arith}
 use Rattle.std.proofs.lemmas.Bool.Decides.{nat_tests}
-use Rattle.std.proofs.lemmas.List.{append-nil, map-append, take-append-drop}
+use Rattle.std.proofs.lemmas.List.{append-nil, take-append-drop}
 use Rattle.std.specs.Prelude.{◌||◌, ◌↔◌}
 use Rattle.gv_values.specs.declared.job.Answer.{Answer}
 use Rattle.gv_values.specs.declared.job.Job.{Job}
@@ -11,7 +11,6 @@ use Rattle.world_rules.specs.Legal.{is_posted, posted}
 use Rattle.world.specs.Worlds.{Meaning, Posts}
 use Rattle.machine.specs.declared.state.JobState.{JobState}
 use Rattle.machine.specs.declared.state.Post.{Post}
-use Rattle.machine.specs.Landing.{Next}
 use Rattle.machine.specs.Run.{logged}
 use Rattle.machine.specs.State.{State}
 use Rattle.machine_turns.specs.Logs.{KnowsJobs, StandsKnowing, as_posted, posts_of_step}

@@ -1,5 +1,5 @@
 -- That each part of a run leaves the hub ready for the next.
-use Rattle.std.proofs.Common.{◌≡◌, refl, ap, sym, ◌∙◌, subst, ℕ, ◌+◌, ◌<◌, Bool, true, false, length, Some, slice_get, [], arith}
+use Rattle.std.proofs.Common.{◌≡◌, refl, ap, sym, subst, ℕ, ◌+◌, ◌<◌, Bool, true, false, length, Some, slice_get, [], arith}
 use Rattle.std.specs.Prelude.{if◌then◌else◌}
 use Rattle.std.proofs.lemmas.Bool.Decides.{nat_tests}
 use Rattle.gv_values.specs.declared.fault.FaultKind.{FaultKind}
@@ -22,7 +22,7 @@ use Rattle.machine_soundness.specs.Going.{IsGoing, IsKept, IsSoundAt, next_did}
 use Rattle.machine_soundness.proofs.Deliveries.{begins-soundly, deliver-soundly, interrupts-soundly, take_answer-kept}
 use Rattle.machine_soundness.proofs.Lists.{both}
 use Rattle.machine_soundness.proofs.Performs.{move-soundly}
-use Rattle.machine_texts.specs.Texts.{HasMain, IsKnown, fits_item, is_function}
+use Rattle.machine_texts.specs.Texts.{HasMain, IsKnown, is_function}
 use Rattle.machine_texts.proofs.WellFormed.{well-formed-fits}
 use Rattle.machine_histories.proofs.Goings.{function-known}
 use Rattle.machine_laws.specs.Reached.{Reached, state_of}

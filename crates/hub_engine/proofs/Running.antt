@@ -6,19 +6,19 @@ use Rattle.trace_text.specs.declared.line.Line.{Line}
 use Rattle.trace_text.specs.declared.line.StopCause.{StopCause}
 use Rattle.trace_text.specs.LineTexts.{text_of}
 use Rattle.gv_io.specs.Streams.{appended, AppendsPrefix}
-use Rattle.gv_io.proofs.StreamLaws.{appended-nothing, appended-appended, AppendsPrefix-nothing, AppendsPrefix-after, AppendsPrefix-longer}
+use Rattle.gv_io.proofs.StreamLaws.{appended-appended, AppendsPrefix-nothing, AppendsPrefix-after, AppendsPrefix-longer}
 use Rattle.gv_values.specs.declared.fault.FaultKind.{FaultKind}
 use Rattle.gv_values.specs.declared.job.Answer.{Answer}
 use Rattle.world_rules.specs.declared.question.LogEntry.{LogEntry}
 use Rattle.world_rules.specs.declared.question.Question.{Question}
 use Rattle.world_rules.specs.Legal.{IsLegal, answers_of}
-use Rattle.world.specs.Worlds.{Meaning, Stores}
+use Rattle.world.specs.Worlds.{Stores}
 use Rattle.scenario_tree.specs.declared.tree.Scenario.{Scenario}
 use Rattle.machine.specs.declared.state.Post.{Post}
 use Rattle.machine.specs.Landing.{Next, lands, starts}
 use Rattle.machine.specs.Deliveries.{interrupts}
 use Rattle.machine.specs.Questions.{block_line, question, take_answer}
-use Rattle.machine.specs.Run.{GoingOn, Passed, Ran, Source, blocked_at, after_exit, after_question, after_start, after_turn, asks, first_state, given_out, logged, loop_exit, run, run_turns, runs, silent, stopped, turn}
+use Rattle.machine.specs.Run.{GoingOn, Passed, Ran, Source, blocked_at, after_exit, after_question, after_start, after_turn, asks, first_state, logged, loop_exit, run, run_turns, runs, silent, stopped, turn}
 use Rattle.machine.specs.State.{State}
 use Rattle.hub_engine.specs.declared.broken.Broken.{Broken}
 use Rattle.hub_engine.specs.declared.run.End.{End as Ended}
@@ -27,7 +27,7 @@ use Rattle.hub_engine.specs.declared.stand.Stand.{Stand}
 use Rattle.hub_engine.specs.Ends.{end_of}
 use Rattle.hub_engine.specs.Outside.{HasDone, HasGiven, HasGivenPart, Outside}
 use Rattle.hub_engine.specs.Stands.{next_at}
-use Rattle.hub_engine.specs.Written.{AreLike, CameTo, HasBroken, HasEnded, IsRunning, IsStopping, RunsTo, Rounds, Runs, RunsOn, Writes, finished, from_turn, preceded}
+use Rattle.hub_engine.specs.Written.{AreLike, CameTo, HasBroken, HasEnded, IsRunning, IsStopping, RunsTo, Rounds, Runs, finished, from_turn, preceded}
 use Rattle.hub_engine.proofs.Giving.{answers_of_append, answers_of_logged, done_asked, done_nothing, done_then, given_nothing, given_then, logged_then}
 use Rattle.hub_engine.proofs.Passing.{like}
 use Rattle.hub_engine.proofs.Posting.{done_refused}

@@ -5,11 +5,9 @@ use Rattle.machine.specs.declared.state.Frame.{Frame}
 use Rattle.machine.specs.declared.state.Phase.{Phase}
 use Rattle.machine.specs.State.{State, say}
 use Rattle.machine.specs.Deliveries.{without_wait}
-use Rattle.machine.specs.Landing.{Next}
 use Rattle.machine.specs.Greenlets.{no_frame, with_phase}
 use Rattle.machine.specs.Hosts.{host_of}
 use Rattle.machine.specs.Soundness.{Claim, is_unclaimed}
-use Rattle.machine_soundness.specs.Going.{IsSoundAt}
 use Rattle.machine_soundness.proofs.Performs.{timeout-unclaimed}
 use Rattle.machine_soundness.proofs.States.{Moves, going, moves-live, moving}
 use Rattle.hub_requests.specs.Making.{MayMake}

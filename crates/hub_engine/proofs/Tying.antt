@@ -1,16 +1,15 @@
 -- That each step keeps hub and world tied.
-use Rattle.std.proofs.Common.{◌≡◌, refl, ap, sym, ◌∙◌, subst, ℕ, ◌<◌, Bool, true, false, List, [], ◌∷◌, ◌++◌, length, map, Some, slice_get}
+use Rattle.std.proofs.Common.{◌≡◌, refl, ap, sym, ◌∙◌, subst, ℕ, ◌<◌, Bool, true, false, List, [], ◌++◌, length, map, Some, slice_get}
 use Rattle.std.proofs.lemmas.List.{append-nil}
 use Rattle.std.specs.Prelude.{if◌then◌else◌}
 use Rattle.gv_values.specs.declared.fault.FaultKind.{FaultKind}
 use Rattle.gv_values.specs.declared.job.Answer.{Answer}
 use Rattle.world_rules.specs.declared.question.PostedJob.{PostedJob}
 use Rattle.world_rules.specs.declared.question.Question.{Question}
-use Rattle.world_rules.specs.Legal.{IsLegal, MayAsk, posts_of}
+use Rattle.world_rules.specs.Legal.{IsLegal, MayAsk}
 use Rattle.world.specs.Worlds.{Meaning, Stores}
 use Rattle.scenario_tree.specs.declared.tree.Scenario.{Scenario}
 use Rattle.trace_text.specs.declared.line.Line.{Line}
-use Rattle.trace_text.specs.declared.line.StopCause.{StopCause}
 use Rattle.machine.specs.declared.items.Item.{Item}
 use Rattle.machine.specs.declared.state.Frame.{Frame}
 use Rattle.machine.specs.declared.state.JobState.{JobState}
@@ -33,11 +32,11 @@ use Rattle.hub_items.proofs.Leasts.{item_there}
 use Rattle.hub_engine.specs.declared.stand.Came.{Came}
 use Rattle.hub_engine.specs.declared.stand.Stand.{Stand}
 use Rattle.hub_engine.specs.Outside.{ArePostable, HasDone, HasGiven, Outside}
-use Rattle.hub_engine.specs.Ready.{AreDeclared, IsReady, IsReadyAt, IsReadyToMove, MayRun}
+use Rattle.hub_engine.specs.Ready.{AreDeclared, IsReadyAt, IsReadyToMove, MayRun}
 use Rattle.hub_engine.specs.Stands.{next_at}
 use Rattle.hub_engine.specs.Tied.{IsTied, IsTiedAfter, IsTiedAt}
 use Rattle.hub_engine.proofs.Giving.{answers_of_logged, posts_of_logged}
-use Rattle.hub_engine.proofs.Posting.{known_postable, standing_postable}
+use Rattle.hub_engine.proofs.Posting.{standing_postable}
 use Rattle.hub_engine.proofs.Readily.{declared_first, declared_ready, ready_answered, ready_at_rest, ready_blocked, ready_exit, ready_going, ready_started, ready_turned}
 
 -- ---- a state and its jobs

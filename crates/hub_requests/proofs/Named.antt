@@ -1,5 +1,5 @@
 -- Objects that are declared.
-use Rattle.std.proofs.Common.{◌≡◌, refl, sym, subst, ℕ, zero, suc, ◌<◌, Bool, true, false, List, [], ◌∷◌, length, Option, Some, None, slice_get, arith}
+use Rattle.std.proofs.Common.{◌≡◌, sym, subst, ℕ, zero, suc, ◌<◌, Bool, true, false, List, [], ◌∷◌, length, Option, Some, None, slice_get, arith}
 use Rattle.scenario_tree.specs.declared.tree.Declaration.{Declaration}
 use Rattle.scenario_tree.specs.declared.tree.Object.{Object as Declared}
 use Rattle.scenario_tree.specs.declared.tree.Scenario.{Scenario}

@@ -1,7 +1,6 @@
 -- Kills that are sent.
 use Rattle.std.proofs.Common.{◌≡◌, refl, ap, sym, subst, ◌∙◌, ℕ, zero, suc, ◌+◌, ◌<◌, ◌≤◌, Bool, true, false, List, [], ◌∷◌, length, drop, get_or, Option, Some, None, slice_get, unwrap_or, arith}
-use Rattle.std.specs.Prelude.{if◌then◌else◌, nat_lt, not}
-use Rattle.std.specs.List.{list_all}
+use Rattle.std.specs.Prelude.{if◌then◌else◌, nat_lt}
 use Rattle.std.proofs.lemmas.Bool.Decides.{nat_tests}
 use Rattle.gv_values.specs.declared.fault.FaultKind.{FaultKind}
 use Rattle.gv_values.specs.declared.value.Outcome.{Outcome}
@@ -13,7 +12,7 @@ use Rattle.machine.specs.declared.state.Phase.{Phase}
 use Rattle.machine.specs.Holds.{phase_of}
 use Rattle.machine.specs.Items.{add_item}
 use Rattle.machine.specs.Ends.{ended}
-use Rattle.machine.specs.Greenlets.{greenlet, nobody}
+use Rattle.machine.specs.Greenlets.{nobody}
 use Rattle.gv_values.specs.Ends.{kept}
 use Rattle.machine.specs.Requests.{Sending, kills_standing, sends, sends_all}
 use Rattle.machine.specs.Soundness.{is_unclaimed}

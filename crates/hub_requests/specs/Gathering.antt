@@ -1,5 +1,5 @@
 -- A map's results that are gathered one after another.
-use Rattle.std.specs.Prelude.{◌≡◌, Bool, List, Option, Some, None, if◌then◌else◌, reverse}
+use Rattle.std.specs.Prelude.{◌≡◌, Bool, List, Some, None, if◌then◌else◌, reverse}
 use Rattle.gv_values.specs.declared.scalar.Scalar.{Scalar}
 use Rattle.gv_values.specs.declared.value.Outcome.{Outcome}
 use Rattle.gv_values.specs.declared.value.Value.{Value}

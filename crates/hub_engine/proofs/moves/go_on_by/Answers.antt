@@ -2,7 +2,6 @@ use Rattle.std.proofs.Common.{◌≡◌, ◌∙◌, ap, subst, true}
 use Rattle.machine.specs.declared.state.Phase.{Phase}
 use Rattle.machine.specs.Landing.{lands}
 use Rattle.machine.specs.Greenlets.{no_frame, with_phase}
-use Rattle.body_frames.specs.Places.{Came}
 use Rattle.body_frames.specs.Standings.{moved_of, reached_of}
 use Rattle.body_frames.specs.declared.places.Moved.{Moved}
 use Rattle.hub_engine.specs.Asking.{IsDeclaredAfter, does_came, fits_came}

@@ -1,7 +1,6 @@
 use Rattle.std.proofs.Common.{rules, ◌-◌, arith}
 use Rattle.std.specs.Prelude.{Ok, Err}
 use Rattle.trace_text.specs.declared.line.StopCause.{StopCause}
-use Rattle.hub_engine.specs.declared.stand.Came.{Came}
 use Rattle.hub_engine.specs.Outside.{outside}
 use Rattle.hub_engine.specs.Written.{from_turn}
 use Rattle.hub_engine.proofs.Giving.{done_nothing}

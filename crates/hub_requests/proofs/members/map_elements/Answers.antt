@@ -1,4 +1,4 @@
-use Rattle.std.proofs.Common.{◌≡◌, ◌∙◌, sym, subst, true, false, rules, arith}
+use Rattle.std.proofs.Common.{◌≡◌, sym, subst, true, false, rules, arith}
 use Rattle.gv_values.specs.declared.scalar.Scalar.{Scalar}
 use Rattle.machine.specs.State.{State}
 use Rattle.hub_requests.specs.Naming.{IsObject}

@@ -1,4 +1,4 @@
-use Rattle.std.proofs.Common.{rules, sym, subst, []}
+use Rattle.std.proofs.Common.{sym, subst, []}
 use Rattle.scenario_rules.specs.Rules.{IsWellFormed}
 use Rattle.machine.specs.Run.{Source, run}
 use Rattle.hub_engine.specs.declared.run.End.{End}
