@@ -2,9 +2,9 @@
 //!
 //! What a body has still to do is a pile of entries that name blocks of its code and places in them: a move copies
 //! no syntax. It knows no hub: what an expression may ask comes through `Look`, and what a statement wants done is a
-//! `Request`. A `Frame` runs from one request to
-//! the next within a budget of moves. A hub that settles after each move hands a body one move at a time: there the
-//! type says where the body stands, so that an answer can only come to one that waits for it.
+//! `Request`. A `Frame` runs from one request to the next within a budget of moves. A hub that settles after each move
+//! hands a body one move at a time: there the type says where the body stands, so that an answer can only come to one
+//! that waits for it.
 #![tactic(auto)]
 
 mod entry;

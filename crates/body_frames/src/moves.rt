@@ -177,7 +177,7 @@ fn act<L: Look>(
             let excepts = excepts.clone()?;
             stack.todo.push(Entry::Guard(excepts, *finally))?;
             stack.todo.push(Entry::Rest(*body, 0))?;
-            Ok(Made::Further(leave(blocks, stack, Leaving::Normally)?))
+            Ok(Made::Further(go_inwards(blocks, stack)?))
         }
         FlatAction::Timeout(time, silent, body) => Ok(Made::Enters(*time, *silent, *body)),
     }
@@ -195,7 +195,7 @@ fn do_chosen(blocks: &Blocks, stack: &mut Stack, chosen: Chosen) -> Result<Made,
         Chosen::Goes(how) => Ok(Made::Further(leave(blocks, stack, how)?)),
         Chosen::Binds(name, value) => {
             bind(&name, value, &mut stack.locals)?;
-            Ok(Made::Further(leave(blocks, stack, Leaving::Normally)?))
+            Ok(Made::Further(go_inwards(blocks, stack)?))
         }
     }
 }
@@ -221,14 +221,14 @@ fn branch<L: Look>(
     match code.meaning(alloc, look, stack.locals.as_slice(), test)? {
         Outcome::Value(Value::Bool(true)) => {
             stack.todo.push(Entry::Rest(yes, 0))?;
-            Ok(Made::Further(leave(blocks, stack, Leaving::Normally)?))
+            Ok(Made::Further(go_inwards(blocks, stack)?))
         }
         Outcome::Value(Value::Bool(false)) => match no {
             Some(no) => {
                 stack.todo.push(Entry::Rest(no, 0))?;
-                Ok(Made::Further(leave(blocks, stack, Leaving::Normally)?))
+                Ok(Made::Further(go_inwards(blocks, stack)?))
             }
-            None => Ok(Made::Further(leave(blocks, stack, Leaving::Normally)?)),
+            None => Ok(Made::Further(go_inwards(blocks, stack)?)),
         },
         Outcome::Value(_) => Ok(Made::Further(leave(
             blocks,
@@ -259,11 +259,9 @@ fn test_while<L: Look>(
         Outcome::Value(Value::Bool(true)) => {
             stack.todo.push(Entry::Again(test, body))?;
             stack.todo.push(Entry::Rest(body, 0))?;
-            Ok(Made::Further(leave(blocks, stack, Leaving::Normally)?))
+            Ok(Made::Further(go_inwards(blocks, stack)?))
         }
-        Outcome::Value(Value::Bool(false)) => {
-            Ok(Made::Further(leave(blocks, stack, Leaving::Normally)?))
-        }
+        Outcome::Value(Value::Bool(false)) => { Ok(Made::Further(go_inwards(blocks, stack)?)) }
         Outcome::Value(_) => Ok(Made::Further(leave(
             blocks,
             stack,

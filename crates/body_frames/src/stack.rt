@@ -93,7 +93,7 @@ fn begin_block(
         left: Items::new(alloc),
     };
     stack.todo.push(Entry::Rest(body, 0))?;
-    let at = leave(blocks, &mut stack, Leaving::Normally)?;
+    let at = go_inwards(blocks, &mut stack)?;
     Ok((stack, at))
 }
 
@@ -112,8 +112,10 @@ pub fn go_on_with(
         unwind (todo_of blocks.now stack.old.todo) [] (leaving_of answer) (given (record { locals = stack.old.locals; todo = todo_of blocks.now stack.old.todo; gives = gives }) answer)
         ≡ goes_from blocks.now at stack.new) }
 {
-    let how = take_answer(gives, answer, &mut stack.locals)?;
-    Ok(leave(blocks, stack, how)?)
+    match take_answer(gives, answer, &mut stack.locals)? {
+        Leaving::Normally => Ok(go_inwards(blocks, stack)?),
+        how => Ok(leave(blocks, stack, how)?),
+    }
 }
 
 /// The body goes on inside the timeout block that it enters, which has this number.
@@ -135,7 +137,7 @@ pub fn go_inside(
 {
     stack.todo.push(Entry::Within(number, silent))?;
     stack.todo.push(Entry::Rest(body, 0))?;
-    Ok(leave(blocks, stack, Leaving::Normally)?)
+    Ok(go_inwards(blocks, stack)?)
 }
 
 /// Goes on at what is first to do: it may be a move already.
