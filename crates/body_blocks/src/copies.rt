@@ -29,7 +29,7 @@ fn copy_optional(
     }
 }
 
-/// The statement again.
+/// A copy of the statement. `AllocError`: memory is wanting.
 pub fn copy_command(alloc: Global, command: &Command) -> Result<Command, AllocError>
     ensures { IfOk result (λ copy. copy ≡ command.now) }
 {
@@ -67,7 +67,7 @@ pub fn copy_command(alloc: Global, command: &Command) -> Result<Command, AllocEr
     })
 }
 
-/// The statement again.
+/// A copy of the statement. `AllocError`: memory is wanting.
 pub fn copy_giving(alloc: Global, giving: &Giving) -> Result<Giving, AllocError>
     ensures { IfOk result (λ copy. copy ≡ giving.now) }
 {

@@ -66,7 +66,7 @@ fn lesser(heap: &[Timer], left: usize) -> usize
     }
 }
 
-// Moves the timer at `start` up as long as it comes before its parent.
+/// Moves the timer at `start` up as long as it comes before its parent.
 pub fn sift_up(heap: &mut [Timer], places: &mut Places, start: usize)
     requires within { start < length heap.old }
     requires near { IsNear (rank_at heap.old) (length heap.old) start }
@@ -87,7 +87,7 @@ pub fn sift_up(heap: &mut [Timer], places: &mut Places, start: usize)
     }
 }
 
-// Moves the timer at `start` down as long as a child comes before it.
+/// Moves the timer at `start` down as long as a child comes before it.
 pub fn sift_down(heap: &mut [Timer], places: &mut Places, start: usize)
     requires within { start < length heap.old }
     requires down { IsDown (rank_at heap.old) (length heap.old) start }
@@ -108,7 +108,7 @@ pub fn sift_down(heap: &mut [Timer], places: &mut Places, start: usize)
     }
 }
 
-// Takes the timer at `at` out, and mends the heap.
+/// Takes the timer at `at` out, and mends the heap.
 pub fn take_at(heap: &mut Vec<Timer>, places: &mut Places, at: usize) -> Timer
     requires within { at < length heap.old.items }
     requires ordered { IsOrdered (rank_at heap.old.items) (length heap.old.items) }

@@ -68,8 +68,8 @@ impl Event {
         self.flag
     }
 
-    /// Makes room for `n` more that wait; each that does keeps its number of sets. O(1) where there is room; otherwise each is moved once.
-    /// After an error nothing is changed.
+    /// Makes room for `n` more that wait; each that does keeps its number of sets. O(1) where there is room; otherwise
+    /// each is moved once. After an error nothing is changed.
     pub fn make_room(&mut self, n: usize) -> Result<(), AllocError>
         ensures room { OnOk result (n ≤ self.new.line.spare) }
         ensures more { self.old.line.spare ≤ self.new.line.spare }
@@ -141,7 +141,8 @@ impl Parking for Event {
         self.leave(item);
     }
 
-    /// Tells the first that wasn't told, where the event was set since it parked, and gives it; each keeps its number of sets. O(1).
+    /// Tells the first that wasn't told, where the event was set since it parked, and gives it; each keeps its number
+    /// of sets. O(1).
     fn next_ready(&mut self) -> Option<u32>
         ensures none { IfNone result (NoneSetBehind self.old.line self.old.sets) }
         ensures some { IfSome result (ToldIsSet self.old.line self.old.sets self.new.line) }

@@ -11,7 +11,7 @@ use gv_values::Outcome;
 use linked_items::item_list::ItemList;
 use std::alloc::AllocError;
 
-// Puts a link, by its place among all, behind the others of its greenlet.
+/// Puts a link, by its place among all, behind the others of its greenlet.
 pub fn add_link(pending: &mut Vec<ItemList>, g: u32, place: u32) -> Result<(), AllocError>
     requires there { g < length pending.old.items }
     requires absent { Contains (pending_of pending.old.items g) place → ⊥ }
@@ -26,7 +26,7 @@ pub fn add_link(pending: &mut Vec<ItemList>, g: u32, place: u32) -> Result<(), A
     Ok(())
 }
 
-// Takes a link out of the pending links of its greenlet, if it is there.
+/// Takes a link out of the pending links of its greenlet, if it is there.
 pub fn drop_link(pending: &mut Vec<ItemList>, g: u32, place: u32)
     requires there { g < length pending.old.items }
     ensures dropped { pending_of pending.new.items g ≡ without place (pending_of pending.old.items g) }
@@ -70,7 +70,7 @@ fn first_fitting(pending: &mut ItemList, links: &[Link], g: u32, outcome: &Outco
     None
 }
 
-// The place of the next link of a greenlet that fits its end, which leaves its pending. Before the end there is none.
+/// The place of the next link of a greenlet that fits its end, which leaves its pending. Before the end there is none.
 pub fn next_fitting(
     pending: &mut Vec<ItemList>,
     links: &[Link],

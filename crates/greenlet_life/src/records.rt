@@ -69,7 +69,7 @@ pub struct Link {
     pub state: LinkState,
 }
 
-// Whether a link of this kind is called after this end; before the end none is.
+/// Whether a link of this kind is called after this end; before the end none is.
 pub fn is_fitting(kind: LinkKind, outcome: Option<&Outcome>) -> bool
     ensures { result ≡ fits_end kind (option_copied outcome.entry) }
 {

@@ -104,8 +104,8 @@ most_read = 1048577
 abbrev pub no_port : ℕ
 no_port = 0
 
--- what a command answers with this application to an input of which these bytes are left, where nothing fails and native
--- workers gave these answers
+-- what a command answers with this application to an input of which these bytes are left, where nothing fails and
+-- native workers gave these answers
 abbrev pub answer_to : App → Option Command → List Given → List ℕ → Answer
 answer_to app None given left = usage
 answer_to app (Some (Text command)) given left = answer_to_text command given (take most_read left)

@@ -61,8 +61,8 @@ pub record AnswersCommand (status : ℕ) (app : App) (command : Option Command) 
   pub unprinted : command ≡ Some (Command.Text TextCommand.Format) → status ≢ 0 → status ≢ 5 → out1 ≡ out0
   -- Words that are no command have status 2, unless err failed at its line or memory ran out.
   pub usage_always : command ≡ None → (status ≡ 2) ⊎ (status ≡ 5) ⊎ (status ≡ 7)
-  -- With `run` and `fmt`, every status but 4, 5 and 7 comes only where the input was read to its end or to one byte past
-  -- the most that a text may have.
+  -- With `run` and `fmt`, every status but 4, 5 and 7 comes only where the input was read to its end or to one byte
+  -- past the most that a text may have.
   pub read_whole : (text : TextCommand) → command ≡ Some (Command.Text text) → status ≢ 4 → status ≢ 5 → status ≢ 7 →
       (left : List ℕ) → in0 ≡ Some left → in1 ≡ Some (drop most_read left)
 

@@ -107,8 +107,8 @@ pub record Ended (n : ℕ) (app : App) (command : Option Command) (after : Meani
 
 -- ---- by the status
 
--- the status is the verdict's; or the verdict has a line on err, and the status is 5 if that failed, and 7 if memory for
--- it ran out
+-- the status is the verdict's; or the verdict has a line on err, and the status is 5 if that failed, and 7 if memory
+-- for it ran out
 abbrev pub IsStatusOf : ℕ → Verdict → Type 0
 IsStatusOf n v = (n ≡ number_of v) ⊎ ((number_of v ≢ 0) × ((n ≡ 5) ⊎ (n ≡ 7)))
 

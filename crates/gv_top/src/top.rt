@@ -308,14 +308,15 @@ pub fn tells<E: Sink>(alloc: Global, verdict: Verdict, err: &mut E) -> u8
     }
 }
 
-/// Does what the words name over these streams, and answers its status; None where they name `serve`, which wants a net.
+/// Does what the words name over these streams, and answers its status; None where they name `serve`, which wants a
+/// net.
 ///
 /// `run` reads a scenario, runs it within its budgets of turns and moves, and writes its trace to out. The run is that
 /// of a script with the tick of the words; or, with native workers, one in the world `native`, which is begun before it
 /// and finished after it and is left alone otherwise. `fmt` reads a scenario, and writes its printed form to out.
 /// `wsgi` reads the bytes of one connection, of HTTP (RFC 9112) or, with `--gateway scgi`, of SCGI (N. Schemenauer,
-/// 2008), and writes the answers of the application (PEP 3333) to out. `storm` runs many greenlets that hand one unit on, and writes the numbers of
-/// that run to out.
+/// 2008), and writes the answers of the application (PEP 3333) to out. `storm` runs many greenlets that hand one unit
+/// on, and writes the numbers of that run to out.
 ///
 /// The statuses, of which 4, 5 and 7 (want of memory) come before every other:
 ///

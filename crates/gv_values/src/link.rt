@@ -1,4 +1,5 @@
-/// Which end of its greenlet a link fits, and what its call does (gevent API reference: `Greenlet.link`, `link_value`, `link_exception`).
+/// Which end of its greenlet a link fits, and what its call does (gevent API reference: `Greenlet.link`, `link_value`,
+/// `link_exception`).
 #[derive(Clone, Copy, Debug, PartialEq, Eq)]
 pub enum LinkKind {
     /// Every end; its function runs as a new greenlet.

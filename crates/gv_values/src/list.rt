@@ -73,7 +73,7 @@ impl List {
         self.scalars.get(place).copied()
     }
 
-    /// The same list again.
+    /// A copy of the list. `AllocError`: memory is wanting.
     pub fn copy(&self, alloc: Global) -> Result<List, AllocError>
         ensures { IfOk result (λ list. list ≡ self.now) }
     {

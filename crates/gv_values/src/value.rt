@@ -67,7 +67,7 @@ impl Value {
         }
     }
 
-    /// The same value again.
+    /// A copy of the value. `AllocError`: memory is wanting.
     pub fn copy(&self, alloc: Global) -> Result<Value, AllocError>
         ensures { IfOk result (λ value. value ≡ self.now) }
     {
@@ -106,7 +106,7 @@ fn are_equal(a: &[Scalar], b: &[Scalar]) -> bool
 }
 
 impl Outcome {
-    /// The same outcome again.
+    /// A copy of the outcome. `AllocError`: memory is wanting.
     pub fn copy(&self, alloc: Global) -> Result<Outcome, AllocError>
         ensures { IfOk result (λ outcome. outcome ≡ self.now) }
     {

@@ -6,7 +6,7 @@ pub fn heads_are_of_the_grammar()
     ensures { HeadsAreOfTheGrammar }
 {}
 
-/// The same of chunk lines.
+/// A chunk's line is one of `httparse`'s grammar, and each of those is one.
 pub fn chunk_lines_are_of_the_grammar()
     ensures { ChunkLinesAreOfTheGrammar }
 {}

@@ -1,4 +1,5 @@
--- A body by itself: what it asks of the hub, one request after another, and the moves that it takes. This project's own.
+-- A body by itself: what it asks of the hub, one request after another, and the moves that it takes. This project's
+-- own.
 use Rattle.std.specs.Prelude.{ℕ, zero, suc, Bool, List, [], ◌∷◌, Option, pos}
 use Rattle.scenario_tree.specs.declared.tree.Function.{Function}
 use Rattle.scenario_tree.specs.declared.tree.Scenario.{Scenario}
@@ -23,7 +24,8 @@ pub data Body : Type 0 where
   Ready : Unwound → Body
   -- it waits for the answer to its request
   Waits : Frame → Body
-  -- it waits for the number of the timeout block that it enters: whether that is silent, its body, the locals, and what is to do after it
+  -- it waits for the number of the timeout block that it enters: whether that is silent, its body, the locals, and what
+  -- is to do after it
   Enters : Bool → List Statement → List Local → List Todo → Body
   -- it has ended
   Gone : Body
@@ -51,7 +53,8 @@ after_move moves locals go (Did.GoesOn how locals' todo) = go (unwind todo [] ho
 after_move moves locals go (Did.Enters ms silent body todo) = record { step = Step.EntersTimeout ms silent; body = Body.Enters silent body locals todo; moves = moves }
 after_move moves locals go (Did.Asks request x todo) = record { step = Step.Asks request; body = Body.Waits (record { locals = locals; todo = todo; gives = x }); moves = moves }
 
--- The body goes on to its next request or its end, within so many moves. The timeout blocks that were left come first, innermost first.
+-- The body goes on to its next request or its end, within so many moves. The timeout blocks that were left come first,
+-- innermost first.
 abbrev pub goes : ℕ → (List Local → Around) → Unwound → Stepped
 goes moves around (Unwound.Runs (n ∷ left) locals todo) = record { step = Step.LeavesTimeout n; body = Body.Ready (Unwound.Runs left locals todo); moves = moves }
 goes moves around (Unwound.Out (n ∷ left) how) = record { step = Step.LeavesTimeout n; body = Body.Ready (Unwound.Out left how); moves = moves }

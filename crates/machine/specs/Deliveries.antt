@@ -1,5 +1,5 @@
--- The delivery of an item: it goes, with its twin where it is a Wake or Late, and its column of the table applies. This project's own, after
--- gevent API reference, `gevent.Greenlet` (`start`, `kill`, `link`) and `gevent.Timeout`.
+-- The delivery of an item: it goes, with its twin where it is a Wake or Late, and its column of the table applies. This
+-- project's own, after gevent API reference, `gevent.Greenlet` (`start`, `kill`, `link`) and `gevent.Timeout`.
 use Rattle.std.specs.Prelude.{ℕ, ◌==◌, true, false, List, [], ◌∷◌, length, map, Option, Some, None, if◌then◌else◌}
 use Rattle.gv_values.specs.declared.fault.FaultKind.{FaultKind}
 use Rattle.gv_values.specs.declared.value.Value.{Value}

@@ -1,5 +1,6 @@
--- What an expression means, where the locals and what may be asked of the hub are known. The language is this project's own; `ready`, `successful`,
--- `value` and `exception` are those of gevent API reference, `gevent.Greenlet`, and the queries those of its classes of locks, queues and pools.
+-- What an expression means, where the locals and what may be asked of the hub are known. The language is this project's
+-- own; `ready`, `successful`, `value` and `exception` are those of gevent API reference, `gevent.Greenlet`, and the
+-- queries those of its classes of locks, queues and pools.
 use Rattle.std.specs.Prelude.{ℕ, ◌+◌, Bool, true, false, not, List, [], ◌∷◌, ◌++◌, Option, Some, None, Result, Ok, Err, ℤ, pos, negsuc, int_lt, int_le, if◌then◌else◌, slice_get, bytes_eq, length, nat_lt}
 use Rattle.scenario_tree.specs.declared.tree.Expression.{Expression}
 use Rattle.scenario_tree.specs.declared.tree.Expression.TheBlock.{laid-Expression}
@@ -49,8 +50,9 @@ function_number x (f ∷ fs) = if name_eq x f.name then 0 else function_number x
 
 -- ---- what may be asked of the hub
 
--- what an expression may ask of the hub: the current greenlet, what a greenlet or job ended with, an event's flag or whether something was put into
--- a result, a semaphore's counter or the number of a queue's items or of members, and a queue's unfinished tasks
+-- what an expression may ask of the hub: the current greenlet, what a greenlet or job ended with, an event's flag or
+-- whether something was put into a result, a semaphore's counter or the number of a queue's items or of members, and a
+-- queue's unfinished tasks
 pub record Look : Type 0 where
   pub current : ℕ
   pub outcome : Whom → Option Outcome

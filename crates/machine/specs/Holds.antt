@@ -1,6 +1,7 @@
--- Which item holds: the tables of waits and of items, read as a function of the state. Earlier waiters are counted afresh from the flat list.
--- The conditions are those of gevent API reference, `gevent.Greenlet`, `gevent.event`, `gevent.lock`, `gevent.queue`, `gevent.pool` and
--- `gevent.threadpool`; that waiters are served in order of parking, and no newcomer before them, is this project's own.
+-- Which item holds: the tables of waits and of items, read as a function of the state. Earlier waiters are counted
+-- afresh from the flat list. The conditions are those of gevent API reference, `gevent.Greenlet`, `gevent.event`,
+-- `gevent.lock`, `gevent.queue`, `gevent.pool` and `gevent.threadpool`; that waiters are served in order of parking,
+-- and no newcomer before them, is this project's own.
 use Rattle.std.specs.Prelude.{ℕ, zero, suc, ◌-◌, ◌==◌, Bool, true, false, ◌&&◌, ◌||◌, not, List, [], ◌∷◌, length, Option, Some, None, is_some, is_none, if◌then◌else◌, slice_get, nat_lt, nat_le, count_by}
 use Rattle.std.specs.List.{list_all, list_any}
 use Rattle.gv_values.specs.declared.value.Value.{Value}

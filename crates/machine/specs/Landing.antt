@@ -1,4 +1,5 @@
--- How a greenlet goes on, and where what it ends with lands. greenlet documentation, parents, switching and exceptions, for raw greenlets.
+-- How a greenlet goes on, and where what it ends with lands. greenlet documentation, parents, switching and exceptions,
+-- for raw greenlets.
 use Rattle.std.specs.Prelude.{ℕ, zero, suc, ◌==◌, List, [], ◌∷◌, length, None, if◌then◌else◌}
 use Rattle.gv_values.specs.declared.value.Value.{Value}
 use Rattle.gv_values.specs.declared.value.Outcome.{Outcome}

@@ -1,5 +1,5 @@
--- Objects by themselves: what a wait that completes takes from one or puts into it, and what a request reads or changes. gevent API reference for
--- the class of the same meaning.
+-- Objects by themselves: what a wait that completes takes from one or puts into it, and what a request reads or
+-- changes. gevent API reference for the class of the same meaning.
 use Rattle.std.specs.Prelude.{ℕ, zero, suc, ◌+◌, ◌-◌, ◌==◌, Bool, true, false, not, List, [], ◌∷◌, length, Option, Some, None, if◌then◌else◌, slice_get, slice_set, nat_lt, unwrap_or, ℤ, ◌++◌, filter, take, drop, int_lt}
 use Rattle.scenario_tree.specs.declared.tree.QueueKind.{QueueKind}
 use Rattle.gv_values.specs.declared.value.Value.{Value}

@@ -1,5 +1,5 @@
--- What the hub does at a request: the effect of each statement that asks it. gevent API reference for the method of the same meaning, greenlet
--- documentation for raw greenlets; limits and lines are this project's own.
+-- What the hub does at a request: the effect of each statement that asks it. gevent API reference for the method of the
+-- same meaning, greenlet documentation for raw greenlets; limits and lines are this project's own.
 use Rattle.std.specs.Prelude.{ℕ, suc, ◌+◌, ◌-◌, ◌==◌, Bool, true, false, not, ◌&&◌, List, [], ◌∷◌, length, Option, Some, None, if◌then◌else◌, slice_set, nat_lt, count_by, unwrap_or, min, ℤ, pos}
 use Rattle.gv_values.specs.declared.fault.FaultKind.{FaultKind}
 use Rattle.gv_values.specs.declared.job.JobKind.{JobKind}
@@ -109,7 +109,8 @@ is_kill d = false
 abbrev pub kills_standing : State → ℕ
 kills_standing s = count_by (λ i. is_kill i.delivery) s.items
 
--- a kill is sent to one greenlet: nothing to one that is Done; one that is New ends at once, unrun; for another an item is made
+-- a kill is sent to one greenlet: nothing to one that is Done; one that is New ends at once, unrun; for another an item
+-- is made
 abbrev pub sends : FaultKind → ℕ → State → Sending
 sends f g s = elim (greenlet g s).phase [
   | Phase.Done o ↦ Sending.Sent s

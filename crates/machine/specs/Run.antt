@@ -23,7 +23,8 @@ use Rattle.machine.specs.Questions.{question, block_line, take_answer}
 
 -- ---- what is given out
 
--- what a part of the run gave out, and what came; the lines and posts of a state are those of the step under way, which are not yet given out
+-- what a part of the run gave out, and what came; the lines and posts of a state are those of the step under way, which
+-- are not yet given out
 pub record Passed : Type 0 where
   pub lines : List Line
   pub posts : List Post

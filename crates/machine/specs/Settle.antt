@@ -1,4 +1,5 @@
--- Ready numbers: in order of since, each item that holds and has none gets the next, and one that ceases to hold loses its own. This project's own.
+-- Ready numbers: in order of since, each item that holds and has none gets the next, and one that ceases to hold loses
+-- its own. This project's own.
 use Rattle.std.specs.Prelude.{ℕ, ◌+◌, Bool, true, false, List, ◌∷◌, Option, Some, None, map}
 use Rattle.machine.specs.declared.items.Item.{Item}
 use Rattle.machine.specs.State.{State}

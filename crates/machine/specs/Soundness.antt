@@ -1,5 +1,5 @@
--- What is so of the items in every state that a run reaches: they stand in order of making, no two say the same, and each speaks of a
--- greenlet, a timeout or a link that there is. This project's own.
+-- What is so of the items in every state that a run reaches: they stand in order of making, no two say the same, and
+-- each speaks of a greenlet, a timeout or a link that there is. This project's own.
 use Rattle.std.specs.Prelude.{ℕ, ◌+◌, ◌==◌, Bool, true, false, not, ◌&&◌, List, [], ◌∷◌, Option, Some, None, nat_le}
 use Rattle.std.specs.List.{list_all}
 use Rattle.machine.specs.declared.items.Delivery.{Delivery}
@@ -59,7 +59,8 @@ abbrev pub is_under_way : Option Phase → Bool
 is_under_way (Some (Phase.Live frame)) = true
 is_under_way phase = false
 
--- a start is of a greenlet that is New, a Wake, Late, Timeout or Kill of one that is suspended; timeouts and links have numbers that were drawn
+-- a start is of a greenlet that is New, a Wake, Late, Timeout or Kill of one that is suspended; timeouts and links have
+-- numbers that were drawn
 abbrev pub is_meant : State → Delivery → Bool
 is_meant s (Delivery.Start g deadline) = is_unstarted (phase_of g s.greenlets)
 is_meant s (Delivery.Wake g w) = is_under_way (phase_of g s.greenlets)

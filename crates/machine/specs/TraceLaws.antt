@@ -1,5 +1,5 @@
--- The laws of a trace, on a list of lines alone. This project's own, after gevent API reference, `gevent.Greenlet`: a greenlet ends once, and each
--- link is called once, after the end.
+-- The laws of a trace, on a list of lines alone. This project's own, after gevent API reference, `gevent.Greenlet`: a
+-- greenlet ends once, and each link is called once, after the end.
 use Rattle.std.specs.Prelude.{ℕ, ◌==◌, Bool, true, false, not, ◌&&◌, List, [], ◌∷◌, Option, Some, None, nat_le, count_by, find}
 use Rattle.std.specs.List.{list_any}
 use Rattle.gv_values.specs.declared.job.JobOutcome.{JobOutcome}
@@ -112,7 +112,8 @@ abbrev pub gives_outcome : JobOutcome → Option Line → Bool
 gives_outcome o (Some (Line.Job i g job)) = outcome_eq o (eval job)
 gives_outcome o line = false
 
--- of each job that is done there is exactly one earlier job line and no other done line, and its outcome is that of the job
+-- of each job that is done there is exactly one earlier job line and no other done line, and its outcome is that of the
+-- job
 abbrev pub jobs_done_once : List Line → Line → Bool
 jobs_done_once before (Line.Turn k (Answer.Done j o at)) =
     (count_by (is_job_line j) before == 1) && not (list_any (is_done_line j) before) && gives_outcome o (find (is_job_line j) before)

@@ -1,5 +1,5 @@
--- Waiting: what a completion gives and takes, what a Late gives, and how a greenlet parks. Results are those of gevent API reference for the
--- method of the same meaning; lines and numbers are this project's own.
+-- Waiting: what a completion gives and takes, what a Late gives, and how a greenlet parks. Results are those of gevent
+-- API reference for the method of the same meaning; lines and numbers are this project's own.
 use Rattle.std.specs.Prelude.{ℕ, ◌+◌, Bool, true, false, List, [], ◌∷◌, length, Option, Some, None, if◌then◌else◌, unwrap_or, ◌++◌, map, filter, reverse}
 use Rattle.gv_values.specs.declared.fault.FaultKind.{FaultKind}
 use Rattle.scenario_tree.specs.declared.tree.Wait.{Wait}
@@ -184,7 +184,8 @@ takes_item o before object s =
 abbrev pub peeks_item : ℕ → Object → State → Performed
 peeks_item before object s = if is_left before object then Performed.Answers (Outcome.Value (item_of object)) s else raises FaultKind.ShutDown s
 
--- the condition of the wait with this since holds, and it completes: the unit, item, offer, place or slot is taken here and never before
+-- the condition of the wait with this since holds, and it completes: the unit, item, offer, place or slot is taken here
+-- and never before
 abbrev pub completes : ℕ → ℕ → Waiting → State → Performed
 completes g since (Waiting.Sleep until) s = Performed.Answers nothing s
 completes g since (Waiting.Join h) s = Performed.Answers nothing s

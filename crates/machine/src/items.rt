@@ -55,7 +55,8 @@ pub enum Delivery {
     Start(u32, Option<u64>),
     /// The completion of what a greenlet waits for.
     Wake(u32, Waiting),
-    /// The end of a greenlet's wait at its deadline, and the number of the Timeout that this raises, 0 where it raises none.
+    /// The end of a greenlet's wait at its deadline, and the number of the Timeout that this raises, 0 where it raises
+    /// none.
     Late(u32, u64, u32),
     /// A greenlet's timeout with its number and its deadline.
     Timeout(u32, u32, u64),

@@ -1,4 +1,5 @@
--- A row of a table of runs: a text with its words, and what is told of its run. In texts `|` stands for the end of a line.
+-- A row of a table of runs: a text with its words, and what is told of its run. In texts `|` stands for the end of a
+-- line.
 use Rattle.std.specs.Prelude.{ℕ, ◌==◌, Bool, false, ◌&&◌, List, [], ◌∷◌, ◌++◌, map, if◌then◌else◌, Ok, Err}
 use Rattle.std.specs.List.{flat_map, list_all}
 use Rattle.gv_values.specs.declared.job.Answer.{Answer}

@@ -11,8 +11,9 @@ use Rattle.machine.specs.Landing.{Next, lands, starts}
 use Rattle.machine.specs.Moves.{move}
 use Rattle.machine.specs.Run.{first_state, silent}
 
--- the hub of the scenario comes to stand so: main starts, a greenlet makes its next move, what was said is given out, a turn is counted, an item
--- that has its number is delivered, a block line is said, LoopExit is thrown into main after one, or an answer is taken, whatever it is
+-- the hub of the scenario comes to stand so: main starts, a greenlet makes its next move, what was said is given out, a
+-- turn is counted, an item that has its number is delivered, a block line is said, LoopExit is thrown into main after
+-- one, or an answer is taken, whatever it is
 pub data Reached (c : Scenario) : Next → Type 0 where
   Started : Reached c (starts lands 0 [] (first_state c))
   Moved : (g : ℕ) (s : State) → Reached c (Next.Going g s) → Reached c (move g (silent s))

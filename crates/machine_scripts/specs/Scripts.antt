@@ -14,8 +14,8 @@ pub record IsBeginningOf (whole r : Ran) : Type 0 where
   pub lines : GoOnFrom whole.lines r.lines
   pub stopped : (cause : StopCause) → r.end ≡ End.Stopped cause → r ≡ whole
 
--- Where the log of a run begins with one that follows the rule of a script and has all the answers of the run, the run is
--- that of the script as far as it goes.
+-- Where the log of a run begins with one that follows the rule of a script and has all the answers of the run, the run
+-- is that of the script as far as it goes.
 abbrev pub FollowersRunScripts : Type 0
 FollowersRunScripts =
     (c : Scenario) (turns moves tick : ℕ) (answers : List Answer) (part later : List LogEntry) (t : RuleState) →

@@ -1,5 +1,6 @@
--- Which greenlet may go on in a sound state. The hub delivers to greenlets that are not raw; one of them is under way by itself, or by the raw
--- greenlet that it switched to, and it waits for nothing meanwhile. This project's own, after the greenlet documentation, parents.
+-- Which greenlet may go on in a sound state. The hub delivers to greenlets that are not raw; one of them is under way
+-- by itself, or by the raw greenlet that it switched to, and it waits for nothing meanwhile. This project's own, after
+-- the greenlet documentation, parents.
 use Rattle.std.specs.Prelude.{◌≡◌, ℕ, Bool, true, false, not, List, Some, None, slice_get, if◌then◌else◌}
 use Rattle.std.specs.List.{list_all}
 use Rattle.machine.specs.declared.items.Delivery.{Delivery}

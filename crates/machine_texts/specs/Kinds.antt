@@ -1,4 +1,5 @@
--- What of an object never changes: its kind, with the bound, size or slots that it was declared with. This project's own.
+-- What of an object never changes: its kind, with the bound, size or slots that it was declared with. This project's
+-- own.
 use Rattle.std.specs.Prelude.{ℕ, List, map, Option, Some, None}
 use Rattle.scenario_tree.specs.declared.tree.Declaration.{Declaration}
 use Rattle.scenario_tree.specs.declared.tree.Object.{Object as Declared}

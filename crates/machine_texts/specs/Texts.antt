@@ -1,5 +1,5 @@
--- What a text sees to in each body under way: raw bodies ask nothing of the hub, `raw` is given raw bodies, and no more than eight timeout blocks
--- are open. This project's own.
+-- What a text sees to in each body under way: raw bodies ask nothing of the hub, `raw` is given raw bodies, and no more
+-- than eight timeout blocks are open. This project's own.
 use Rattle.std.specs.Prelude.{◌≡◌, ℕ, ◌-◌, ◌==◌, Bool, true, false, not, ◌&&◌, List, [], ◌∷◌, length, Option, Some, if◌then◌else◌, nat_lt, slice_get, unwrap_or, codes, None}
 use Rattle.std.specs.List.{list_all, list_any}
 use Rattle.scenario_tree.specs.declared.tree.Function.{Function}
@@ -188,7 +188,8 @@ is_held gs d = true
 abbrev pub HasMain : Scenario → Type 0
 HasMain c = is_function c (function_number (codes "main") c.functions) ≡ true
 
--- each greenlet runs a function of the scenario, items name functions of it and objects that are what they want, and each object is of its declared kind
+-- each greenlet runs a function of the scenario, items name functions of it and objects that are what they want, and
+-- each object is of its declared kind
 pub record IsKnown (c : Scenario) (gs : List Greenlet) (items : List Item) (objects : List Object) : Type 0 where
   pub functions : list_all (λ (x : Greenlet). is_function c x.function) gs ≡ true
   pub named : list_all (λ (i : Item). fits_item c i.delivery) items ≡ true

@@ -1,4 +1,5 @@
--- What each step of the machine keeps: what is so of a state stays so where the coming and going of items, settlings and posted jobs keep it.
+-- What each step of the machine keeps: what is so of a state stays so where the coming and going of items, settlings
+-- and posted jobs keep it.
 use Rattle.std.proofs.Common.{◌≡◌, refl, ℕ, zero, suc, ◌+◌, ◌-◌, Bool, true, false, List, [], ◌∷◌, ◌++◌, length, map}
 use Rattle.std.specs.Prelude.{not, ◌==◌, ◌&&◌, slice_set, Option, Some, None, nat_lt, if◌then◌else◌, min, unwrap_or, pos}
 use Rattle.gv_values.specs.declared.value.Value.{Value}

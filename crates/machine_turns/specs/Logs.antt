@@ -1,4 +1,5 @@
--- What a run asks and is answered: each of its questions is one that may be asked, as long as its answers are legal. This project's own.
+-- What a run asks and is answered: each of its questions is one that may be asked, as long as its answers are legal.
+-- This project's own.
 use Rattle.std.specs.Prelude.{◌≡◌, ℕ, suc, ◌<◌, false, List, [], ◌∷◌, ◌++◌, map, length, Some, is_some}
 use Rattle.gv_values.specs.declared.fault.FaultKind.{FaultKind}
 use Rattle.gv_values.specs.declared.job.Answer.{Answer}
@@ -34,8 +35,8 @@ HaveArrived before answers (j ∷ jobs) = (is_some j.outcome ≡ is_answered (su
 abbrev pub posts_of_step : List Post → List PostedJob
 posts_of_step posts = map (λ post. posted post.number post.job) posts
 
--- after these posts and answers, and what the step under way has posted, the jobs are those posted, the answered ones have arrived, and no
--- answer names another
+-- after these posts and answers, and what the step under way has posted, the jobs are those posted, the answered ones
+-- have arrived, and no answer names another
 pub record KnowsJobs (posts : List PostedJob) (answers : List Answer) (s : State) : Type 0 where
   pub posts_are : posts ++ posts_of_step s.posts ≡ as_posted 0 s.jobs
   pub arrived : HaveArrived 0 answers s.jobs
@@ -82,7 +83,8 @@ abbrev pub MayAskAtEnd : List PostedJob → List Answer → End → State → Ty
 MayAskAtEnd posts answers (End.Stopped cause) s = Unit {0}
 MayAskAtEnd posts answers End.Asking s = (q : Question) × (question s ≡ Some q) × MayAsk posts answers q
 
--- after these posts and answers each question of the log may be asked, and so may that at the end, as long as the answers before it are legal
+-- after these posts and answers each question of the log may be asked, and so may that at the end, as long as the
+-- answers before it are legal
 abbrev pub AsksLegally : List PostedJob → List Answer → List LogEntry → End → State → Type 0
 AsksLegally posts answers [] end s = MayAskAtEnd posts answers end s
 AsksLegally posts answers (LogEntry.Post number job takes ∷ log) end s = AsksLegally (posts ++ posted number job ∷ []) answers log end s

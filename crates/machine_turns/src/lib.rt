@@ -28,8 +28,8 @@ pub fn runs_ask_legally()
     ensures legal { LegalAnswersMakeLegalLogs }
 {}
 
-/// A run under the rule of a script finds an answer to each of its questions, so it stops for a cause, and the program has the
-/// status and the line of that cause.
+/// A run under the rule of a script finds an answer to each of its questions, so it stops for a cause, and the program
+/// has the status and the line of that cause.
 pub fn scripts_stop()
     ensures { ScriptsStop }
 {}

@@ -39,7 +39,8 @@ use Rattle.native_board.proofs.Moves.{spares, put_word, puts, in_board, has_coun
 abbrev M : Type 0
 M = Me (Unit {0}) View
 
--- what a store in the word q of cell i asks of a row, where the hub's view of the cell goes from old to new and its counts to ps
+-- what a store in the word q of cell i asks of a row, where the hub's view of the cell goes from old to new and its
+-- counts to ps
 abbrev HubRows : HubView → ℕ → ℕ → ℕ → HubCell → HubCell → List ℕ → Type 0
 HubRows h i q x old new ps =
     (g : Signal) (c : CellWords) (w : Stage) (t : ℕ) → Fits g (length h.seen) i c old (posts_at h i) w t → Fits g (length h.seen) i (put_word c q x) new (get_or ps i 0) w t

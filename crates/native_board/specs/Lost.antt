@@ -17,8 +17,8 @@ use Rattle.native_board.specs.Words.{cell_words, state_in, ended_of, signed_in, 
 use Rattle.native_board.specs.Rules.{hub_cell, signal_of}
 use Rattle.world_rules.specs.Jobs.{eval}
 
--- Where a worker's cell is done and the hub doesn't know it, the signal is raised, or the worker will raise it, or the sweep has not
--- reached the cell; and what the cell says is what the job comes to
+-- Where a worker's cell is done and the hub doesn't know it, the signal is raised, or the worker will raise it, or the
+-- sweep has not reached the cell; and what the cell says is what the job comes to
 abbrev pub NothingIsLost : State (Unit {0}) View → Type 0
 NothingIsLost s =
     (a b : ℕ) (h : HubView) (w : WorkerView) → get_elem? s.views a ≡ some (Hub h) → get_elem? s.views b ≡ some (Worker w)

@@ -49,7 +49,8 @@ Answers Posted r w = (k : ℕ) × (j : Job) × (r ≡ looked.Posted k j) × (w �
 Answers Stop r w = (r ≡ looked.Stop) × (w ≡ Over)
 Answers _ r w = (r ≡ looked.NotYet) × (w ≡ Idle)
 
--- a look: it reads the state once, and answers by what it read; a job that it answers is one that the worker begins with
+-- a look: it reads the state once, and answers by what it read; a job that it answers is one that the worker begins
+-- with
 pub record Looks (v w : WorkerView) (r : Looked) : Type 0 where
   pub cell : w.cell ≡ v.cell
   pub looks : w.looks ≡ v.looks + 1

@@ -62,7 +62,8 @@ CellRule c (Done e) (Taking k j) w = Rests w × (e ≡ ended_of (eval j)) × Sho
 CellRule c Stop Stopped w = Stops w
 CellRule c _ _ w = ⊥
 
--- A result that the hub doesn't know of is behind a raised signal, or its worker will raise it, or the sweep has not reached it
+-- A result that the hub doesn't know of is behind a raised signal, or its worker will raise it, or the sweep has not
+-- reached it
 abbrev pub NoLost : Signal → ℕ → ℕ → CellState → HubCell → Stage → Type 0
 NoLost signal reached i (Done e) (Sent k j) w = (signal ≡ High) ⊎ ((w ≡ Owes) ⊎ (reached ≤ i))
 NoLost signal reached i st x w = Unit {0}
@@ -73,7 +74,8 @@ untaken Posted Idle = 1
 untaken Posted Owes = 1
 untaken st w = 0
 
--- Cell i, where a sweep has seen the cells below `reached`. Its worker has begun with each job that was posted to it once, but for the one that still lies there
+-- Cell i, where a sweep has seen the cells below `reached`. Its worker has begun with each job that was posted to it
+-- once, but for the one that still lies there
 abbrev pub Fits : Signal → ℕ → ℕ → CellWords → HubCell → ℕ → Stage → ℕ → Type 0
 Fits signal reached i c x posts w takes =
     let st : CellState = state_in c.state in CellRule c st x w × NoLost signal reached i st x w × (posts ≡ takes + untaken st w)
@@ -90,7 +92,8 @@ hub_cell h i = slice_index_or h.cells i Vacant
 abbrev pub posts_at : HubView → ℕ → ℕ
 posts_at h i = slice_index h.posts i
 
--- The rule. The first seat is the hub's, and the next ones are those of the workers, by cell; a cell without a worker is free
+-- The rule. The first seat is the hub's, and the next ones are those of the workers, by cell; a cell without a worker
+-- is free
 pub record Kept (s : State (Unit {0}) View) : Type 0 where
   pub hub : HubView
   pub workers : List WorkerView

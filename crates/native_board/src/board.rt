@@ -22,7 +22,8 @@ use gv_values::{Job, JobOutcome};
 use std::alloc::Global;
 use std::sync::Wait;
 
-/// Tells the hub that a result is there. Where threads share one, it is `Send` and `Sync`: any worker may ring it at any time.
+/// Tells the hub that a result is there. Where threads share one, it is `Send` and `Sync`: any worker may ring it at
+/// any time.
 pub trait Bell {
     /// Rings once. Nothing is promised of who hears it.
     fn ring(&self);
@@ -100,7 +101,8 @@ impl Board {
         }
     }
 
-    /// Leaves the outcome of the job that the worker holds in its cell, then raises the signal, and rings where that was low.
+    /// Leaves the outcome of the job that the worker holds in its cell, then raises the signal, and rings where that
+    /// was low.
     pub fn report<B: Bell>(&self, w: &mut WorkerPass, outcome: JobOutcome, bell: &B)
         requires board { worker_board w.old ≡ board_id self.now }
         requires holds { (k : ℕ) × (j : Job) × ((worker_view w.old).stage ≡ Holds k j) × (outcome ≡ eval j) }
@@ -140,7 +142,8 @@ impl Board {
         })
     }
 
-    /// Lowers the signal, then reads each cell in order, and appends the result of each that is done, with its number. Those cells become free.
+    /// Lowers the signal, then reads each cell in order, and appends the result of each that is done, with its number.
+    /// Those cells become free.
     pub fn sweep(&self, hub: &mut HubPass, out: &mut Vec<Finished>)
         requires board { hub_board hub.old ≡ board_id self.now }
         requires room { vec_len out.old + length (hub_view hub.old).cells ≤ vec_capacity out.old }

@@ -9,8 +9,8 @@ pub fn each_job_is_taken_at_most_once()
     ensures { (s : _) → Kept s → TakenOnce s }
 {}
 
-/// Between any two steps of any threads, a result that the hub doesn't know of is behind a raised signal, or its worker will raise it,
-/// or the sweep has not reached its cell; and it is what its job comes to.
+/// Between any two steps of any threads, a result that the hub doesn't know of is behind a raised signal, or its worker
+/// will raise it, or the sweep has not reached its cell; and it is what its job comes to.
 pub fn no_result_is_lost()
     ensures { (s : _) → Kept s → NothingIsLost s }
 {}

@@ -1,7 +1,9 @@
-//! A board that one hub and up to sixteen workers share without a lock: the hub posts jobs into cells, the worker of a cell takes
-//! them and leaves their outcomes there, and the hub sweeps these up. A signal says whether a result may have come since the last sweep.
+//! A board that one hub and up to sixteen workers share without a lock: the hub posts jobs into cells, the worker of a
+//! cell takes them and leaves their outcomes there, and the hub sweeps these up. A signal says whether a result may
+//! have come since the last sweep.
 //!
-//! `specs/Rules.antt` has the rule of the board, which holds between any two steps of any threads, and `specs/Plays.antt` the steps.
+//! `specs/Rules.antt` has the rule of the board, which holds between any two steps of any threads, and
+//! `specs/Plays.antt` the steps.
 #![tactic(auto)]
 
 mod board;

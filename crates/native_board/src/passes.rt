@@ -5,7 +5,8 @@ ghost use Rattle.native_board.specs.Passes.{IsHub, IsWorker};
 use crate::views::{HubCell, View};
 use atomic_table::Seat;
 
-/// The hub's token at a board. Between two calls each cell is free, or has a job whose result was not taken yet, or was told to stop.
+/// The hub's token at a board. Between two calls each cell is free, or has a job whose result was not taken yet, or was
+/// told to stop.
 #[derive(Drop)]
 pub struct HubPass {
     pub(crate) seat: Seat<(), View>,

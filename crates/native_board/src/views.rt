@@ -1,4 +1,5 @@
-//! What the hub and each worker know. No value of a view is made: a view exists in proofs alone, as what the token of its seat stands for.
+//! What the hub and each worker know. No value of a view is made: a view exists in proofs alone, as what the token of
+//! its seat stands for.
 use gv_values::{Job, JobKind};
 
 /// How a job ended, without its integer. These are all the ways in which a job ends.

@@ -13,7 +13,8 @@ use Rattle.native_board.specs.declared.views.HubCell.TheVariants.{Sent}
 use Rattle.native_board.specs.declared.views.HubView.{HubView}
 use Rattle.native_board.specs.Passes.{KnowsFree, Sweeps, finished}
 
--- what the hub knows of the board; whether each cell's worker was started; the jobs that no cell has taken yet, the oldest first; and the results of the last sweep that were not handed on yet
+-- what the hub knows of the board; whether each cell's worker was started; the jobs that no cell has taken yet, the
+-- oldest first; and the results of the last sweep that were not handed on yet
 pub record DeskView : Type 0 where
   pub hub : HubView
   pub started : List Bool
@@ -28,7 +29,8 @@ CanTake d i = KnowsFree d.hub i × (slice_index_or d.started i false ≡ true)
 abbrev pub has_workers : DeskView → Bool
 has_workers d = list_any (λ (b : Bool). b) d.started
 
--- no result is held, and no job that could go on waits: none waits, or there are workers and none of their cells is free
+-- no result is held, and no job that could go on waits: none waits, or there are workers and none of their cells is
+-- free
 pub record IsQuiet (d : DeskView) : Type 0 where
   pub none_held : d.held ≡ []
   pub none_waits : (d.waiting ≡ []) ⊎ ((has_workers d ≡ true) × ((i : ℕ) → CanTake d i → ⊥))

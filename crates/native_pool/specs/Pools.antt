@@ -12,7 +12,9 @@ use Rattle.world.specs.Worlds.{Meaning}
 use Rattle.gv_values.specs.Counts.{HasRisen}
 use Rattle.native_pool.specs.Desks.{DeskView, Balances}
 
--- posts, answers, moment and number of workers; the clock's last reading, and that at which it began; how often its spawner refused; what each start answered, the cell of the worker that runs or of the task that was given up; and, while it runs, what its hub keeps
+-- posts, answers, moment and number of workers; the clock's last reading, and that at which it began; how often its
+-- spawner refused; what each start answered, the cell of the worker that runs or of the task that was given up; and,
+-- while it runs, what its hub keeps
 pub record Pool : Type 0 where
   pub posts : List PostedJob
   pub answers : List Answer
@@ -56,7 +58,8 @@ abbrev pub numbers_from : ℕ → ℕ → List ℕ
 numbers_from b zero = []
 numbers_from b (suc n) = b ∷ numbers_from (suc b) n
 
--- one answer of `start` is kept for each worker, by cell, and a job was posted only to a cell whose answer is a worker that runs
+-- one answer of `start` is kept for each worker, by cell, and a job was posted only to a cell whose answer is a worker
+-- that runs
 pub record KeepsStarts (p : Pool) (d : DeskView) : Type 0 where
   pub one_each : map told_cell p.starts ≡ numbers_from 0 p.workers
   pub running : (i : ℕ) → is_sent (hub_cell d.hub i) ≡ true → slice_get p.starts i ≡ Some (Ok i)

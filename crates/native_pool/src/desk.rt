@@ -1,4 +1,5 @@
-//! The hub's side of a board: the jobs that wait, those in the cells of started workers, and the results that wait to be handed on.
+//! The hub's side of a board: the jobs that wait, those in the cells of started workers, and the results that wait to
+//! be handed on.
 ghost use Rattle.std.specs.Prelude.{◌≡◌, ℕ, ◌<◌, ◌≤◌, ◌++◌, ◌∷◌, [], true, false, List, length, vec_len, vec_capacity, slice_index_or, IsNone, IfSome, OnOk, OnErr, IsTrue, ◌↔◌};
 ghost use Rattle.std.specs.Arc.{arc_value};
 ghost use Rattle.gv_values.specs.declared.job.Job.{Job};
@@ -152,7 +153,8 @@ impl Desk {
         self.fill();
     }
 
-    /// The next result: the first of those held, after a sweep where none is; with no started worker, that of the oldest job.
+    /// The next result: the first of those held, after a sweep where none is; with no started worker, that of the
+    /// oldest job.
     pub(crate) fn next(&mut self) -> Option<Finished>
         requires made { (hub_view self.old.pass).made ≡ length (hub_view self.old.pass).cells }
         ensures some { IfSome result (λ f. Hands (desk_view self.old) (desk_view self.new) f × SameCells (desk_view self.old) (desk_view self.new)) }

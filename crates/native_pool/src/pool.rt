@@ -25,8 +25,9 @@ use world::{Question, World};
 /// How long the hub rests at most while it waits for the last jobs, in milliseconds.
 const REST: u64 = 1000;
 
-/// The world of native threads: jobs are posted to the cells of a board, and each started worker takes those of its cell.
-/// Jobs past the free cells wait in the hub. With no started worker the hub evaluates the oldest job itself when it is asked.
+/// The world of native threads: jobs are posted to the cells of a board, and each started worker takes those of its
+/// cell. Jobs past the free cells wait in the hub. With no started worker the hub evaluates the oldest job itself when
+/// it is asked.
 #[derive(Drop)]
 pub struct ThreadWorld<H, R, B: Bell + Drop, C: Clock, G: Gate + Drop, S: Spawner<B, G>> {
     rt: H,
@@ -67,8 +68,8 @@ impl<
     ghost use Rattle.std.specs.Prelude.{false};
     ghost use Rattle.native_pool.specs.Pools.{pool_meaning};
 
-    /// A world that doesn't run yet. It keeps the handle, and shares bell and gate with the workers. `AllocError`: memory is
-    /// wanting, and all that was handed in is given up.
+    /// A world that doesn't run yet. It keeps the handle, and shares bell and gate with the workers. `AllocError`:
+    /// memory is wanting, and all that was handed in is given up.
     pub fn new(
         alloc: Global,
         rt: H,
@@ -186,7 +187,8 @@ fn offered(desk: &mut Desk, question: Question, moment: u64) -> Option<Answer>
     }
 }
 
-// Goes on to the moment that the clock says now, and stores what may be answered then, if anything. Room was made for it.
+// Goes on to the moment that the clock says now, and stores what may be answered then, if anything. Room was made for
+// it.
 fn try_answer<C: Clock>(
     clock: &mut C,
     began: u64,

@@ -63,7 +63,8 @@ pub fn spawn_worker<
     thread::spawn(rt, move || task.run(&own)).ok()
 }
 
-/// How a task of the shipped bell and gate is started on a thread, as by `spawn_worker`. The caller makes it, where its handle may go to another thread.
+/// How a task of the shipped bell and gate is started on a thread, as by `spawn_worker`. The caller makes it, where its
+/// handle may go to another thread.
 pub type StartThread = Box<
     dyn Fn(WorkerTask<WakerBell, OpenGate>) -> Option<JoinHandle<WorkerPass>>,
 >;

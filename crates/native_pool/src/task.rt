@@ -9,7 +9,8 @@ use std::alloc::Global;
 use std::sync::{Arc, Wait};
 use world::eval;
 
-/// Lets a job pass before it is evaluated. Where threads share one, it is `Send` and `Sync`. A worker calls it with the number of the job that it has just taken.
+/// Lets a job pass before it is evaluated. Where threads share one, it is `Send` and `Sync`. A worker calls it with the
+/// number of the job that it has just taken.
 pub trait Gate {
     /// Returns once the job may go on. It may wait.
     fn pass(&self, number: u32);

@@ -89,8 +89,8 @@ fn no_threads(rt: HostRuntime) -> Result<(), Fail> {
     Ok(())
 }
 
-/// An ear that notes how many bytes had reached the reader when the program began to wait, and at which the time that it
-/// waits for has come at once.
+/// An ear that notes how many bytes had reached the reader when the program began to wait, and at which the time that
+/// it waits for has come at once.
 #[derive(Clone, Copy)]
 struct Noting<'a> {
     reached: &'a Cell<usize>,

@@ -38,7 +38,8 @@ impl Putters {
         }
     }
 
-    /// Makes room for `n` more; their values take theirs when they come. O(1) where there is room; otherwise each that waits is moved once.
+    /// Makes room for `n` more; their values take theirs when they come. O(1) where there is room; otherwise each that
+    /// waits is moved once.
     pub fn reserve(&mut self, n: usize) -> Result<(), AllocError>
         ensures room { OnOk result (n ≤ self.new.spare) }
         ensures kept { self.new ≡ putting self.old.entries self.old.told self.new.spare }

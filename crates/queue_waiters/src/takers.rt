@@ -67,7 +67,8 @@ impl Takers {
         }
     }
 
-    /// Makes room for `n` more, so that as many may park without memory. O(1) where there is room; otherwise each that waits is moved once.
+    /// Makes room for `n` more, so that as many may park without memory. O(1) where there is room; otherwise each that
+    /// waits is moved once.
     pub fn reserve(&mut self, n: usize) -> Result<(), AllocError>
         ensures room { OnOk result (n ≤ self.new.spare) }
         ensures kept { self.new ≡ line self.old.entries self.old.told self.new.spare }

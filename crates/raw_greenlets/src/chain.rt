@@ -24,7 +24,7 @@ pub struct Raw {
     pub phase: RawPhase,
 }
 
-// The raw greenlet of a number, if the number is one's.
+/// The raw greenlet of a number, if the number is one's.
 pub fn entry(table: &[Option<Raw>], number: u32) -> Option<Raw>
     ensures { result ≡ raw_of table.now number }
 {
@@ -34,7 +34,7 @@ pub fn entry(table: &[Option<Raw>], number: u32) -> Option<Raw>
     }
 }
 
-// Whether `target` is `from` or one of its ancestors.
+/// Whether `target` is `from` or one of its ancestors.
 pub fn leads_to(table: &[Option<Raw>], from: u32, target: u32) -> bool
     requires { Rooted table.now from }
     ensures { IsTrue result ↔ Leads table.now from target }
@@ -52,7 +52,7 @@ pub fn leads_to(table: &[Option<Raw>], from: u32, target: u32) -> bool
     at == target
 }
 
-// Makes the table long enough for a number.
+/// Makes the table long enough for a number.
 pub fn fit_table(table: &mut Vec<Option<Raw>>, number: u32) -> Result<(), AllocError>
     ensures same { (n : ℕ) → raw_of table.new.items n ≡ raw_of table.old.items n }
     ensures long { OnOk result (number < length table.new.items) }
@@ -65,7 +65,7 @@ pub fn fit_table(table: &mut Vec<Option<Raw>>, number: u32) -> Result<(), AllocE
     Ok(())
 }
 
-// Makes the list of hosts long enough for a number.
+/// Makes the list of hosts long enough for a number.
 pub fn fit_hosts(hosts: &mut Vec<u32>, number: u32) -> Result<(), AllocError>
     ensures same { (n : ℕ) → n < length hosts.old.items → slice_index hosts.new.items n ≡ slice_index hosts.old.items n }
     ensures kept { length hosts.old.items ≤ length hosts.new.items }
@@ -78,7 +78,7 @@ pub fn fit_hosts(hosts: &mut Vec<u32>, number: u32) -> Result<(), AllocError>
     Ok(())
 }
 
-// Writes a raw greenlet into its place.
+/// Writes a raw greenlet into its place.
 pub fn write_raw(table: &mut Vec<Option<Raw>>, number: u32, parent: u32, phase: RawPhase)
     requires { number < length table.old.items }
     ensures { table.new.items ≡ slice_set table.old.items number (Some (raw parent phase)) }

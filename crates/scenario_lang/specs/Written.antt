@@ -13,12 +13,14 @@ use Rattle.scenario_print.specs.Texts.{HasText}
 abbrev pub DefinesMain : Scenario → Type 0
 DefinesMain s = IsTrue (list_any is_main s.functions)
 
--- Some bytes are a text of the tree: so it is of a profile that there is, each of its lines has words, and there is a main.
+-- Some bytes are a text of the tree: so it is of a profile that there is, each of its lines has words, and there is a
+-- main.
 pub record IsWritten (s : Scenario) : Type 0 where
   pub spelt : HasSpelling s
   pub text : HasText s
   pub main : DefinesMain s
 
--- The printed form, where it is no longer than a text may be, is read as the same tree but for the numbers of its lines.
+-- The printed form, where it is no longer than a text may be, is read as the same tree but for the numbers of its
+-- lines.
 abbrev pub IsReadAgain : Scenario → Type 0
 IsReadAgain s = length (printed s) ≤ most_bytes → (t : Scenario) × ((reading (printed s) ≡ Ok t) × (bare s ≡ bare t))

@@ -6,7 +6,7 @@ use sqlite_items::{Boxed, Items};
 use std::alloc::{AllocError, Global};
 
 impl Expression {
-    /// The same expression again.
+    /// A copy of the expression. `AllocError`: memory is wanting.
     #[cycle(copy)]
     pub fn copy(&self, alloc: Global) -> Result<Expression, AllocError>
         ensures { IfOk result (λ e. e ≡ self.now) }

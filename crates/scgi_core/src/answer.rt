@@ -30,8 +30,8 @@ fn push_server_error(out: &mut Vec<u8>, is_head: bool) -> Result<(), AllocError>
     out.extend_from_slice(b"Internal Server Error")
 }
 
-/// Appends the answer of a reply that can be sent: its status (RFC 3875, section 6.3.3), its headers, an empty line, and
-/// its body, which HEAD has none of.
+/// Appends the answer of a reply that can be sent: its status (RFC 3875, section 6.3.3), its headers, an empty line,
+/// and its body, which HEAD has none of.
 fn push_started(
     alloc: Global,
     out: &mut Vec<u8>,

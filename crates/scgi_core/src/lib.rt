@@ -1,6 +1,6 @@
 //! The SCGI gateway: the one request of a connection, read from the front of its bytes, and its answer. The protocol is
-//! SCGI (N. Schemenauer, "SCGI: A Simple Common Gateway Interface alternative", 2008), the answer that of CGI (RFC 3875,
-//! section 6).
+//! SCGI (N. Schemenauer, "SCGI: A Simple Common Gateway Interface alternative", 2008), the answer that of CGI (RFC
+//! 3875, section 6).
 #![tactic(auto)]
 
 mod answer;

@@ -76,8 +76,8 @@ impl ScgiSession {
 
     /// Takes the next piece of the input, and answers the request if it is whole. Whatever was fed and taken before,
     /// what is pending now and what was taken are what the session sends for all that was fed. A session that is
-    /// closing or ended, or that ran out of memory, ignores the piece and stays as it was. After an `Err` it is closing,
-    /// and they begin what it sends.
+    /// closing or ended, or that ran out of memory, ignores the piece and stays as it was. After an `Err` it is
+    /// closing, and they begin what it sends.
     pub fn feed<A: Application>(&mut self, piece: &[u8], app: &A) -> Result<(), AllocError>
         ensures is_at { OnOk result (IsFed IsAt IsAt (A.answer_of app.now) piece.now self.old self.new) }
         ensures stopped { OnErr result (IsCutBy IsAt Stopped (A.answer_of app.now) piece.now self.old self.new) }

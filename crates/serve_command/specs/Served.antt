@@ -17,8 +17,8 @@ listening port = number_line (codes "listening") port
 abbrev pub served : ℕ → List ℕ
 served conns = number_line (codes "served") conns
 
--- The net was asked for this port and served each connection by itself at the one that it took, through this gateway and
--- with this application, and out has the lines.
+-- The net was asked for this port and served each connection by itself at the one that it took, through this gateway
+-- and with this application, and out has the lines.
 pub record ServesAt (end : Served) (asked : ℕ) (answers : Gateway) (app : App) (limits : Limits) (w : Meaning) (out0 out1 : Option (List ℕ)) : Type 0 where
   -- the port that the net took; or nobody was accepted, and out is as it was
   pub port : ℕ
@@ -30,7 +30,8 @@ pub record ServesAt (end : Served) (asked : ℕ) (answers : Gateway) (app : App)
   pub first : end ≡ Served.Listener → (out1 ≡ out0) ⊎ (out1 ≡ appended out0 (listening port))
   -- the port was told before the first connection was accepted
   pub told : 0 < length w.connections → (rest : List ℕ) × (out1 ≡ appended out0 (listening port ++ rest))
-  -- what was written to a connection begins what is said to what was read from it, and is all of it where it was closed well
+  -- what was written to a connection begins what is said to what was read from it, and is all of it where it was closed
+  -- well
   pub own : EachTold w.connections (λ c bytes sent. BeginsSo (said_by answers app port bytes c.ended).bytes sent)
   pub whole : EachTold w.connections (λ c bytes sent. IsClosedWell c → sent ≡ (said_by answers app port bytes c.ended).bytes)
   -- each closed one was closed for a cause, and no more were open than there are places

@@ -42,8 +42,8 @@ fn unwritten(refusal: Unwritten) -> Served
 /// connections with the application, and writes `served N`.
 ///
 /// The first line is handed on before a connection is accepted, so that whoever reads it may connect; where it can't
-/// be written, none is accepted. Each connection has a talk of its own, of a server at that port (PEP 3333; RFC 9112 for
-/// `Session`). After every end but `Finished` the connections that are open stay open.
+/// be written, none is accepted. Each connection has a talk of its own, of a server at that port (PEP 3333; RFC 9112
+/// for `Session`). After every end but `Finished` the connections that are open stay open.
 pub fn serve_command<T: Talk + Drop, K: Sink, N: Net, A: Application, H: Wait>(
     rt: &H,
     alloc: Global,

@@ -15,8 +15,8 @@ use Rattle.stream_net.specs.Earliest.{IsEarliest, IsEarliestAt}
 use Rattle.stream_net.specs.Lines.{has_bytes, is_failing, is_past, is_writable}
 use Rattle.stream_net.specs.News.{AreSilent, IsToldFirst, arrives_next, comes_later, coming, has_caller, has_come, moved, told_after}
 
--- a read ends so: it fails exactly where it is the one that fails, gives bytes exactly where one has come, and then ends
--- exactly where the end has come
+-- a read ends so: it fails exactly where it is the one that fails, gives bytes exactly where one has come, and then
+-- ends exactly where the end has come
 abbrev pub EndsRead : ReadEnd → Bool → Line → ℕ → Type 0
 EndsRead (R.Got n) fails l moment = (fails ≡ false) × (has_bytes l moment ≡ true)
 EndsRead R.End fails l moment = (fails ≡ false) × (has_bytes l moment ≡ false) × (is_past l.script.ends moment ≡ true)

@@ -25,7 +25,8 @@ abbrev pub becomes_ready : Whom → Option Wait → Bool
 becomes_ready whom None = false
 becomes_ready whom (Some w) = is_ready (struck whom w) && not (is_ready w)
 
--- each wait is under its own item, which stands in the order; the ready ones are told, and no others; each has a place there
+-- each wait is under its own item, which stands in the order; the ready ones are told, and no others; each has a place
+-- there
 pub record IsWaits (f : ℕ → Option Wait) (order : List (ℕ × ℕ)) (ready : SeenItems) : Type 0 where
   pub own : (i : ℕ) (w : Wait) → f i ≡ Some w → w.item ≡ i
   pub listed : (i : ℕ) (w : Wait) → f i ≡ Some w → Contains (items_of order) i

@@ -12,9 +12,9 @@ use std::marker::Model;
 
 /// Items in order of waiting, each with a number that it keeps, of which the first `told` were told to go.
 ///
-/// That waiters are served in order of waiting is this project's own rule; gevent leaves the order open (gevent API reference,
-/// `gevent.lock`, `gevent.queue`). The told ones stand in a list of their own, so that the border moves, and an item leaves, in
-/// constant time.
+/// That waiters are served in order of waiting is this project's own rule; gevent leaves the order open (gevent API
+/// reference, `gevent.lock`, `gevent.queue`). The told ones stand in a list of their own, so that the border moves, and
+/// an item leaves, in constant time.
 #[derive(Drop)]
 pub struct WaitLine {
     told: ItemList,
@@ -52,8 +52,8 @@ impl WaitLine {
         }
     }
 
-    /// Makes room for `n` more items, so that as many calls of `park` take no memory. O(1) where there is room; otherwise each item that
-    /// waits is moved once. After an error the line is as before.
+    /// Makes room for `n` more items, so that as many calls of `park` take no memory. O(1) where there is room;
+    /// otherwise each item that waits is moved once. After an error the line is as before.
     pub fn reserve(&mut self, n: usize) -> Result<(), AllocError>
         ensures room { OnOk result (n ≤ self.new.spare) }
         ensures kept { self.new ≡ line self.old.entries self.old.told self.new.spare }

@@ -42,8 +42,9 @@ impl WaitList {
         }
     }
 
-    /// Makes room for `n` more items, so that as many calls of `park` take no memory. O(1) where there is room; otherwise
-    /// each item that waits is moved once, as a vector's `reserve` does. After an error the list is as before.
+    /// Makes room for `n` more items, so that as many calls of `park` take no memory. O(1) where there is room;
+    /// otherwise each item that waits is moved once, as a vector's `reserve` does. After an error the list is as
+    /// before.
     pub fn reserve(&mut self, n: usize) -> Result<(), AllocError>
         ensures room { OnOk result (n ≤ self.new.spare) }
         ensures kept { self.new ≡ waits self.old.items self.old.told self.new.spare }

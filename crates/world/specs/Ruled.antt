@@ -31,7 +31,8 @@ AnswersNow jobs question answer = ⊥
 abbrev pub IsLegalNow : List DueJob → ℕ → Question → Answer → Type 0
 IsLegalNow jobs moment question answer = AnswersNow jobs question answer × (moment ≤ moment_of answer) × (moment_of answer < 2 ^ 62)
 
--- the jobs are the outstanding ones, each due at a moment that fits; each answered job was posted; the moment is that of the last answer
+-- the jobs are the outstanding ones, each due at a moment that fits; each answered job was posted; the moment is that
+-- of the last answer
 pub record IsSound (posts : List PostedJob) (answers : List Answer) (jobs : List DueJob) (moment : ℕ) : Type 0 where
   pub outstanding_are : map posted_of jobs ≡ outstanding posts answers
   pub due : All (λ (job : DueJob). job.due < 2 ^ 62) jobs

@@ -5,7 +5,8 @@ use Rattle.gv_values.specs.declared.job.Answer.{Answer}
 use Rattle.world_rules.specs.declared.question.PostedJob.{PostedJob}
 use Rattle.world_rules.specs.Legal.{posted, moment_of}
 
--- the jobs posted since the world began, in order; the answers since then; its moment; its number of workers; what its rule rests on, a tick and a list of answers; and whether it runs
+-- the jobs posted since the world began, in order; the answers since then; its moment; its number of workers; what its
+-- rule rests on, a tick and a list of answers; and whether it runs
 pub record Meaning : Type 0 where
   pub posts : List PostedJob
   pub answers : List Answer

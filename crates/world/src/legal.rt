@@ -1,4 +1,5 @@
-//! Whether an answer is legal, by the outstanding jobs alone: what it costs grows neither with them nor with what was answered before.
+//! Whether an answer is legal, by the outstanding jobs alone: what it costs grows neither with them nor with what was
+//! answered before.
 ghost use Rattle.std.specs.Prelude.{◌≡◌, ◌↔◌, IsTrue, List, nat_eq};
 ghost use Rattle.std.specs.HashMap.{get};
 ghost use Rattle.world_rules.specs.declared.question.DueJob.{DueJob};

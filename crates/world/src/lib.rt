@@ -1,4 +1,5 @@
-//! The world outside of the hub, to which jobs are posted and questions are asked, and two worlds that answer by a rule.
+//! The world outside of the hub, to which jobs are posted and questions are asked, and two worlds that answer by a
+//! rule.
 #![tactic(auto)]
 
 mod due;

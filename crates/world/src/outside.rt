@@ -11,8 +11,8 @@ use world_rules::Question;
 
 /// What runs jobs outside of the hub and tells the time. It answers each question legally and stores its answers.
 ///
-/// A world also stands for logs: lists of what was done with it since it began. A call that isn't refused adds its entry to each of
-/// them, and a refused call leaves the world as it was.
+/// A world also stands for logs: lists of what was done with it since it began. A call that isn't refused adds its
+/// entry to each of them, and a refused call leaves the world as it was.
 pub trait World {
     /// What the world means to those that use it.
     ghost meaning: { Self → Meaning };
@@ -30,7 +30,8 @@ pub trait World {
         ensures refused { OnErr result (meaning self.new ≡ meaning self.old) }
         ensures refused_log { OnErr result ((log : List LogEntry) → stands_for self.old log ↔ stands_for self.new log) };
 
-    /// Posts a job that takes so many milliseconds, if it takes any of the world's own time. `AllocError`: memory is wanting.
+    /// Posts a job that takes so many milliseconds, if it takes any of the world's own time. `AllocError`: memory is
+    /// wanting.
     fn post(&mut self, number: u32, job: Job, takes: u64) -> Result<(), AllocError>
         requires runs { (meaning self.old).runs ≡ true }
         requires new { is_posted number (meaning self.old).posts ≡ false }
@@ -39,7 +40,8 @@ pub trait World {
         ensures refused { OnErr result (meaning self.new ≡ meaning self.old) }
         ensures refused_log { OnErr result ((log : List LogEntry) → stands_for self.old log ↔ stands_for self.new log) };
 
-    /// Answers a question, and stores the answer. It may wait. `AllocError`: memory is wanting, and nothing was answered.
+    /// Answers a question, and stores the answer. It may wait. `AllocError`: memory is wanting, and nothing was
+    /// answered.
     fn ask(&mut self, question: Question) -> Result<Answer, AllocError>
         requires runs { (meaning self.old).runs ≡ true }
         requires asks { MayAsk (meaning self.old).posts (meaning self.old).answers question }
@@ -49,8 +51,8 @@ pub trait World {
         ensures refused { OnErr result (meaning self.new ≡ meaning self.old) }
         ensures refused_log { OnErr result ((log : List LogEntry) → stands_for self.old log ↔ stands_for self.new log) };
 
-    /// Whether the answer to `Question::Wait` may be long in coming, since it comes from outside of the program. A caller
-    /// then hands on first what it has written.
+    /// Whether the answer to `Question::Wait` may be long in coming, since it comes from outside of the program. A
+    /// caller then hands on first what it has written.
     fn may_wait(&self) -> bool {
         false
     }

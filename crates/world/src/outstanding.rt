@@ -8,8 +8,8 @@ use std::alloc::{AllocError, Global};
 use std::collections::{BTreeSet, HashMap};
 use world_rules::{DueJob, eval};
 
-/// The outstanding jobs. One is found by its number in constant time; one is added or taken off, and the one that is done first is
-/// found, in a time that grows with the logarithm of how many there are.
+/// The outstanding jobs. One is found by its number in constant time; one is added or taken off, and the one that is
+/// done first is found, in a time that grows with the logarithm of how many there are.
 #[derive(Drop)]
 pub(crate) struct OutstandingJobs {
     by_number: HashMap<u32, DueJob>,

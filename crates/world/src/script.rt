@@ -12,7 +12,8 @@ use gv_values::{Answer, Job};
 use std::alloc::{AllocError, Global};
 use world_rules::{DueJob, PostedJob, Question};
 
-/// A world without threads, in which a job is done so long after its post as it takes, and whose moment grows by a tick at each Poll.
+/// A world without threads, in which a job is done so long after its post as it takes, and whose moment grows by a tick
+/// at each Poll.
 #[derive(Drop)]
 pub struct ScriptWorld {
     tick: u64,

@@ -46,14 +46,16 @@ outstanding posts answers = filter (λ post. not (is_answered post.number answer
 abbrev pub IsOutcomeOf : ℕ → JobOutcome → List PostedJob → Type 0
 IsOutcomeOf number outcome posts = (job : Job) × Contains posts (posted number job) × (outcome ≡ eval job)
 
--- Done names a posted job that no earlier answer names, with its outcome; Elapsed answers only a wait until a moment, which has come; Nothing answers only Poll
+-- Done names a posted job that no earlier answer names, with its outcome; Elapsed answers only a wait until a moment,
+-- which has come; Nothing answers only Poll
 abbrev pub Answers : List PostedJob → List Answer → Question → Answer → Type 0
 Answers posts before question (Answer.Done number outcome at) = IsOutcomeOf number outcome posts × (is_answered number before ≡ false)
 Answers posts before (Question.Wait (Some until)) (Answer.Elapsed at) = until ≤ at
 Answers posts before Question.Poll (Answer.Nothing at) = Unit {0}
 Answers posts before question answer = ⊥
 
--- a legal answer to the question, after these posts and answers: its moment is not before the last one, and below 2 ^ 62
+-- a legal answer to the question, after these posts and answers: its moment is not before the last one, and below 2 ^
+-- 62
 abbrev pub IsLegal : List PostedJob → List Answer → Question → Answer → Type 0
 IsLegal posts before question answer =
     Answers posts before question answer × (last_moment_of before ≤ moment_of answer) × (moment_of answer < 2 ^ 62)

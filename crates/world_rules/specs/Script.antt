@@ -52,7 +52,8 @@ scripted tick jobs moment (Question.Wait (Some until)) = done_by until moment (f
 abbrev pub without : Answer → List DueJob → List DueJob
 without answer jobs = filter (λ job. not (is_done_of job.number answer)) jobs
 
--- what an answer by the rule depends on: the answers still listed, the posts and answers before, the outstanding jobs and the moment
+-- what an answer by the rule depends on: the answers still listed, the posts and answers before, the outstanding jobs
+-- and the moment
 pub record RuleState : Type 0 where
   pub listed : List Answer
   pub posts : List PostedJob
@@ -81,7 +82,8 @@ Gives tick s (first ∷ rest) question answer later =
     (IsLegal s.posts s.answers question first × (answer ≡ first) × (later ≡ rest))
     ⊎ (¬ (IsLegal s.posts s.answers question first) × (answer ≡ scripted tick s.jobs s.moment question) × (later ≡ first ∷ rest))
 
--- a log that leads from one state to another, in which each answer is the one that the rule gives after the log before it
+-- a log that leads from one state to another, in which each answer is the one that the rule gives after the log before
+-- it
 abbrev pub Follows : ℕ → RuleState → List LogEntry → RuleState → Type 0
 Follows tick s [] t = s ≡ t
 Follows tick s (LogEntry.Post number job takes ∷ log) t = Follows tick (after_post s number job takes) log t

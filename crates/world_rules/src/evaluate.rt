@@ -9,9 +9,9 @@ const MOST_SUMMED: i64 = 1_000_000_000;
 /// The most steps of a Collatz sequence that are made.
 const MOST_STEPS: u64 = 10_000;
 
-/// What a job comes to: the sum of 1 to n for n from 0 to 1000000000, else ValueError; the steps of the Collatz sequence from n to 1,
-/// where n below 1 and more than 10000 steps are ValueError and a number of more than 64 bits signed is OverflowError, whichever comes
-/// first; the fault Error(n); n itself.
+/// What a job comes to: the sum of 1 to n for n from 0 to 1000000000, else ValueError; the steps of the Collatz
+/// sequence from n to 1, where n below 1 and more than 10000 steps are ValueError and a number of more than 64 bits
+/// signed is OverflowError, whichever comes first; the fault Error(n); n itself.
 #[tactic(auto, unfolding(crate::specs::Jobs::eval))]
 pub fn eval(job: Job) -> JobOutcome
     ensures { result ≡ eval job }

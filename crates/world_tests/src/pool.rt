@@ -225,7 +225,8 @@ fn answers_all<W: World>(
     Ok(are_echoes(&answers, count))
 }
 
-// Whether a world of these parts, with each of these numbers of workers in turn, answers each number below the count once, with its echo.
+// Whether a world of these parts, with each of these numbers of workers in turn, answers each number below the count
+// once, with its echo.
 fn parts_answer<
     H: Wait + Drop,
     R: Ear + Drop,

@@ -18,7 +18,8 @@ pub record IsServed (answers : Gateway) (app : App) (port : ℕ) (bytes : List �
   pub sent : out1 ≡ appended out0 (said_by answers app port bytes false).bytes
   pub serves : (said_by answers app port bytes false).closes ≡ false
 
--- out has what the session sends for the bytes that were read, and it is closing; where the input had ended, nothing of it is left
+-- out has what the session sends for the bytes that were read, and it is closing; where the input had ended, nothing of
+-- it is left
 pub record IsClosed (answers : Gateway) (app : App) (port : ℕ) (read : List ℕ) (in1 out0 out1 : Option (List ℕ)) : Type 0 where
   pub ended : Bool
   pub sent : out1 ≡ appended out0 (said_by answers app port (take most_bytes read) ended).bytes
@@ -43,7 +44,8 @@ pub record Exchanged (end : ConnectionEnd) (answers : Gateway) (app : App) (port
 
 -- ---- by all the bytes that were left
 
--- what is sent for all that was left of an input; the session does not hear of its end where there is more than is looked at
+-- what is sent for all that was left of an input; the session does not hear of its end where there is more than is
+-- looked at
 abbrev pub whole_session : Gateway → App → ℕ → List ℕ → Sent
 whole_session answers app port left = said_by answers app port (take most_bytes left) (nat_le (length left) most_bytes)
 
