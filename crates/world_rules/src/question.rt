@@ -29,7 +29,7 @@ pub struct DueJob {
     pub due: u64,
 }
 
-/// What was done with a world.
+/// What was done with a world. It exists in proofs alone: no code makes one.
 #[derive(Clone, Copy, Debug, PartialEq, Eq)]
 pub enum LogEntry {
     /// A job was posted, which takes so many milliseconds of the world's own time.
