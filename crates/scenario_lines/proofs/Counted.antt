@@ -35,10 +35,6 @@ end_next part n k items (t ∷ ts) us x h unended e =
     let more : n - k ≡ suc (n - (k + 1)) = omega (arith, h) in
     rw (more, e) (moved items x (to_the_end part (n - (k + 1)) us))
 
-pub end_here : {A : Type 0} (part : Reader A) (n : ℕ) (ts : List Token) → ts ≡ [] → to_the_end part n ts ≡ Ok ([], [])
-end_here part n [] e = refl
-end_here part n (t ∷ ts) e = cc
-
 -- a part that is refused refuses them all
 pub count_refused : {A : Type 0} (part : Reader A) (n k : ℕ) (items : List A) (ts us : List Token) (e : LineRefusal) (r : Reading (List A)) → k < n
     → Reads (part ts) (Err e) us → with_front items (count_at part (n - k) ts) ≡ r → Reads r (Err e) us

@@ -3,3 +3,4 @@ pub mod Kinds
 pub mod Fronts
 pub mod Numbers
 pub mod Nothing
+pub mod Givings

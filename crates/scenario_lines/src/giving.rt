@@ -1,6 +1,7 @@
 //! Reading the rest of a statement that gives a value.
-ghost use Rattle.std.specs.Prelude.{◌≡◌, ◌-◌, length};
+ghost use Rattle.std.specs.Prelude.{◌≡◌, ◌-◌, length, true};
 ghost use Rattle.scenario_grammar.specs.Reading.{with_at, under_at, job_of, word_at, all_at, expression_at, raw_link_at, count_of_at, number_at, takes_at, giving_by};
+ghost use Rattle.scenario_lines.specs.Givings.{asks_greenlet, asks_object, link_at, makes};
 ghost use Rattle.scenario_lines.specs.Reads.{Reads};
 
 use crate::cursor::{Cursor, MOST_MS};
@@ -115,6 +116,13 @@ fn raw_link(
     }
 }
 
+/// The greenlet of a link to this end, and the function that it calls.
+fn link(alloc: Global, cursor: &mut Cursor<'_>, end: LinkEnd) -> Result<Giving, LineRefusal>
+    ensures { Reads (link_at end cursor.old) result cursor.new }
+{
+    Ok(Giving::Link(end, read_expression(alloc, cursor)?, cursor.name()?))
+}
+
 /// The rest of a statement that gives a value, by its word.
 pub fn read_giving(
     alloc: Global,
@@ -124,19 +132,49 @@ pub fn read_giving(
     ensures { Reads (giving_by word cursor.old) result cursor.new }
 {
     match word {
+        Keyword::Get
+        | Keyword::JoinAll
+        | Keyword::Switch
+        | Keyword::Throw
+        | Keyword::Link
+        | Keyword::LinkValue
+        | Keyword::LinkFault
+        | Keyword::RawLink => read_of_greenlet(alloc, cursor, word),
+        Keyword::Wait
+        | Keyword::ResultGet
+        | Keyword::ResultWait
+        | Keyword::Acquire
+        | Keyword::QueueGet
+        | Keyword::QueuePeek
+        | Keyword::QueueJoin
+        | Keyword::ChannelGet => read_of_object(cursor, word),
+        Keyword::Spawn
+        | Keyword::SpawnLater
+        | Keyword::New
+        | Keyword::GroupSpawn
+        | Keyword::Map
+        | Keyword::NativeSpawn
+        | Keyword::Raw => read_making(alloc, cursor, word),
+        _ => Err(LineRefusal::Reason(TextReason::UnknownWord)),
+    }
+}
+
+/// The rest of a statement that names a greenlet first, or a list of them.
+fn read_of_greenlet(
+    alloc: Global,
+    cursor: &mut Cursor<'_>,
+    word: Keyword,
+) -> Result<Giving, LineRefusal>
+    requires { asks_greenlet word ≡ true }
+    ensures { Reads (giving_by word cursor.old) result cursor.new }
+{
+    match word {
         Keyword::Get => Ok(Giving::Get(read_expression(alloc, cursor)?, cursor.wait()?)),
         Keyword::JoinAll => Ok(Giving::JoinAll(
             read_expression(alloc, cursor)?,
             count(cursor)?,
             cursor.timed()?,
         )),
-        Keyword::Wait => Ok(Giving::WaitEvent(cursor.name()?, cursor.timed()?)),
-        Keyword::ResultGet => Ok(Giving::ResultGet(cursor.name()?, cursor.wait()?)),
-        Keyword::ResultWait => Ok(Giving::ResultWait(cursor.name()?, cursor.timed()?)),
-        Keyword::Acquire => Ok(Giving::Acquire(cursor.name()?, cursor.wait()?)),
-        Keyword::QueueGet => Ok(Giving::QueueGet(cursor.name()?, cursor.wait()?)),
-        Keyword::QueuePeek => Ok(Giving::QueuePeek(cursor.name()?, cursor.wait()?)),
-        Keyword::QueueJoin => Ok(Giving::QueueJoin(cursor.name()?, cursor.timed()?)),
         Keyword::Switch => Ok(Giving::Switch(
             read_expression(alloc, cursor)?,
             read_expression(alloc, cursor)?,
@@ -145,6 +183,41 @@ pub fn read_giving(
             read_expression(alloc, cursor)?,
             with_fault(alloc, cursor)?,
         )),
+        Keyword::Link => link(alloc, cursor, LinkEnd::Any),
+        Keyword::LinkValue => link(alloc, cursor, LinkEnd::Value),
+        Keyword::LinkFault => link(alloc, cursor, LinkEnd::Fault),
+        Keyword::RawLink => {
+            let greenlet = read_expression(alloc, cursor)?;
+            raw_link(alloc, cursor, greenlet)
+        }
+        _ => Err(LineRefusal::Reason(TextReason::UnknownWord)),
+    }
+}
+
+/// The rest of a statement that names an object first, and takes from it or waits for it.
+fn read_of_object(cursor: &mut Cursor<'_>, word: Keyword) -> Result<Giving, LineRefusal>
+    requires { asks_object word ≡ true }
+    ensures { Reads (giving_by word cursor.old) result cursor.new }
+{
+    match word {
+        Keyword::Wait => Ok(Giving::WaitEvent(cursor.name()?, cursor.timed()?)),
+        Keyword::ResultGet => Ok(Giving::ResultGet(cursor.name()?, cursor.wait()?)),
+        Keyword::ResultWait => Ok(Giving::ResultWait(cursor.name()?, cursor.timed()?)),
+        Keyword::Acquire => Ok(Giving::Acquire(cursor.name()?, cursor.wait()?)),
+        Keyword::QueueGet => Ok(Giving::QueueGet(cursor.name()?, cursor.wait()?)),
+        Keyword::QueuePeek => Ok(Giving::QueuePeek(cursor.name()?, cursor.wait()?)),
+        Keyword::QueueJoin => Ok(Giving::QueueJoin(cursor.name()?, cursor.timed()?)),
+        Keyword::ChannelGet => Ok(Giving::ChannelGet(cursor.name()?)),
+        _ => Err(LineRefusal::Reason(TextReason::UnknownWord)),
+    }
+}
+
+/// The rest of a statement that makes greenlets or posts a job.
+fn read_making(alloc: Global, cursor: &mut Cursor<'_>, word: Keyword) -> Result<Giving, LineRefusal>
+    requires { makes word ≡ true }
+    ensures { Reads (giving_by word cursor.old) result cursor.new }
+{
+    match word {
         Keyword::Spawn => Ok(Giving::Spawn(cursor.name()?, arguments(alloc, cursor)?)),
         Keyword::SpawnLater => Ok(Giving::SpawnLater(
             cursor.number(0, MOST_MS)?,
@@ -152,25 +225,6 @@ pub fn read_giving(
             arguments(alloc, cursor)?,
         )),
         Keyword::New => Ok(Giving::New(cursor.name()?, arguments(alloc, cursor)?)),
-        Keyword::Link => Ok(Giving::Link(
-            LinkEnd::Any,
-            read_expression(alloc, cursor)?,
-            cursor.name()?,
-        )),
-        Keyword::LinkValue => Ok(Giving::Link(
-            LinkEnd::Value,
-            read_expression(alloc, cursor)?,
-            cursor.name()?,
-        )),
-        Keyword::LinkFault => Ok(Giving::Link(
-            LinkEnd::Fault,
-            read_expression(alloc, cursor)?,
-            cursor.name()?,
-        )),
-        Keyword::RawLink => {
-            let greenlet = read_expression(alloc, cursor)?;
-            raw_link(alloc, cursor, greenlet)
-        }
         Keyword::GroupSpawn => Ok(Giving::GroupSpawn(
             cursor.name()?,
             cursor.name()?,
@@ -187,7 +241,6 @@ pub fn read_giving(
             read_expression(alloc, cursor)?,
             takes(cursor)?,
         )),
-        Keyword::ChannelGet => Ok(Giving::ChannelGet(cursor.name()?)),
         Keyword::Raw => Ok(Giving::Raw(cursor.name()?, under(alloc, cursor)?)),
         _ => Err(LineRefusal::Reason(TextReason::UnknownWord)),
     }
