@@ -30,10 +30,6 @@ abbrev pub same_bool : Bool → Bool → Bool
 same_bool true b = b
 same_bool false b = not b
 
-pub same-itself : (b : Bool) → same_bool b b ≡ true
-same-itself true = refl
-same-itself false = refl
-
 pub same-equal : (a b : Bool) → same_bool a b ≡ true → a ≡ b
 same-equal true true e = refl
 same-equal true false e = absurd (cc e)

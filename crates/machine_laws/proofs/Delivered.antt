@@ -3,7 +3,7 @@ use Rattle.std.proofs.Common.{◌≡◌, refl, ap, ◌∙◌, sym, subst, ℕ, z
 use Rattle.std.proofs.lemmas.Bool.Decides.{nat_tests}
 use Rattle.std.proofs.lemmas.List.Sums.{sum_by-cons}
 use Rattle.std.specs.Prelude.{not, ◌==◌, ◌&&◌, ◌||◌, slice_get, slice_set, Option, Some, None, if◌then◌else◌, is_none, nat_le, find, count_by, unwrap_or, Contains}
-use Rattle.std.specs.List.{list_any, list_all}
+use Rattle.std.specs.List.{list_any}
 use Rattle.gv_values.specs.declared.value.Value.{Value}
 use Rattle.gv_values.specs.declared.value.Outcome.{Outcome}
 use Rattle.gv_values.specs.declared.value.Whom.{Whom}
@@ -13,8 +13,6 @@ use Rattle.gv_values.specs.declared.job.Job.{Job}
 use Rattle.gv_values.specs.declared.job.JobOutcome.{JobOutcome}
 use Rattle.world_rules.specs.declared.question.Question.{Question}
 use Rattle.world_rules.specs.Legal.{Answers, IsLegal, is_answered, is_done_of, last_moment_of as last_answered, moment_of, posted}
-use Rattle.scenario_tree.specs.declared.tree.Declaration.{Declaration}
-use Rattle.scenario_tree.specs.declared.tree.Object.{Object as Declared}
 use Rattle.scenario_tree.specs.declared.tree.Scenario.{Scenario}
 use Rattle.trace_text.specs.declared.line.Line.{Line}
 use Rattle.trace_text.specs.declared.line.LinkCall.{LinkCall}
@@ -42,17 +40,17 @@ use Rattle.machine.specs.Items.{is_wait_of}
 use Rattle.machine.specs.Requests.{is_kill}
 use Rattle.machine.specs.Objects.{with_flag}
 use Rattle.machine.specs.Unwinding.{unwind}
-use Rattle.machine.specs.Run.{first_state, object_of}
+use Rattle.machine.specs.Run.{first_state}
 use Rattle.machine.specs.Settle.{settle}
 use Rattle.machine.specs.Soundness.{Claim, are_single, ascend, claim_of, is_meant, is_unclaimed, is_under_way, is_unstarted, same_claim}
 use Rattle.machine.proofs.Changes.{slice_get-set_other}
 use Rattle.machine.specs.Waits.{completes, late_outcome}
 use Rattle.machine.specs.Objects.{name_of_object, object_at, with_object, without_offer}
-use Rattle.machine_soundness.specs.Going.{has_no_wait, has_plain_members, is_plain, IsKept}
+use Rattle.machine_soundness.specs.Going.{has_no_wait, is_plain, IsKept}
 use Rattle.machine_soundness.specs.Laws.{is_wake_of}
 use Rattle.machine_soundness.proofs.Lists.{all-end, all-filter, all-get, both, equal, get-last, left, length-set, right, unequal}
 use Rattle.machine_soundness.proofs.Greenlets.{at, live-more, none-next, plain-found, unstarted-not-live}
-use Rattle.machine_soundness.proofs.Deliveries.{all-without, asleep-free, claimed, free-moves, kept-without, later, no-wait-left, offer-gone, owned, start-gone, take_answer-kept}
+use Rattle.machine_soundness.proofs.Deliveries.{all-without, asleep-free, claimed, first-kept, free-moves, kept-without, later, no-wait-left, offer-gone, owned, start-gone, take_answer-kept}
 use Rattle.machine_soundness.proofs.Requests.{flag-plain, next-plain, next-unclaimed, object-plain}
 use Rattle.machine_soundness.proofs.Singles.{same-turned}
 use Rattle.machine_soundness.proofs.States.{all-settle, ascends, kept-drop, kept-made, kept-object, kept-say, kept-settle, meants, singles}
@@ -633,25 +631,6 @@ take_answer-at b q a s m l = (by a refl, settled-settle (say (Line.Turn s.turns 
         (subst (λ z. IsKept (settle (say (Line.Turn s.turns a) (job_done z (record s { moment = moment_of a }))))) e kept))
 
 -- ---- the beginning
-
-first-kept : (c : Scenario) → IsKept (first_state c)
-first-kept c = record { sound = refl; owners = refl; members = none c.objects; main = refl }
-  where
-    new : (x : Declared) → has_plain_members (first_state c).greenlets (object_of x) ≡ true
-    new Declared.Event = refl
-    new Declared.Result = refl
-    new (Declared.Semaphore n) = refl
-    new (Declared.BoundedSemaphore n) = refl
-    new Declared.Lock = refl
-    new (Declared.Queue kind size) = refl
-    new Declared.Group = refl
-    new (Declared.Pool n) = refl
-    new (Declared.Native n) = refl
-    new Declared.Channel = refl
-
-    none : (ds : List Declaration) → list_all (has_plain_members (first_state c).greenlets) (map (λ d. object_of d.object) ds) ≡ true
-    none [] = refl
-    none (d ∷ ds) = both _ _ (new d.object) (none ds)
 
 first-ties : (c : Scenario) → Ties None at_first (first_state c)
 first-ties c =

@@ -170,9 +170,6 @@ pub record IsFound (items : List Item) (i : Item) : Type 0 where
 found-later : (j i : Item) (items : List Item) → IsFound items i → IsFound (j ∷ items) i
 found-later j i items f = record { place = suc f.place; there = f.there; numbered = f.numbered }
 
-found-some : (items : List Item) (o : Option Item) (i : Item) → ((j : Item) → o ≡ Some j → IsFound items j) → o ≡ Some i → IsFound items i
-found-some items o i f e = f i e
-
 pub least-found : (mark : ℕ) (items : List Item) (i : Item) → least_below mark items ≡ Some i → IsFound items i
 least-found mark [] i e = absurd (cc e)
 least-found mark (j ∷ items) i e = by j.ready refl (least_below mark items) (least-found mark items) e

@@ -290,9 +290,8 @@ take_answer-kept answer s h =
 
 -- ---- the beginning
 
-pub begins-soundly : (c : Scenario) → IsSoundAt (starts lands 0 [] (first_state c))
-begins-soundly c =
-    starts-soundly 0 [] (first_state c) refl refl refl (record { sound = refl; owners = refl; members = none c.objects; main = refl })
+pub first-kept : (c : Scenario) → IsKept (first_state c)
+first-kept c = record { sound = refl; owners = refl; members = none c.objects; main = refl }
   where
     new : (x : Declared) → has_plain_members (first_state c).greenlets (object_of x) ≡ true
     new Declared.Event = refl
@@ -309,3 +308,6 @@ begins-soundly c =
     none : (ds : List Declaration) → list_all (has_plain_members (first_state c).greenlets) (map (λ d. object_of d.object) ds) ≡ true
     none [] = refl
     none (d ∷ ds) = both _ _ (new d.object) (none ds)
+
+pub begins-soundly : (c : Scenario) → IsSoundAt (starts lands 0 [] (first_state c))
+begins-soundly c = starts-soundly 0 [] (first_state c) refl refl refl (first-kept c)

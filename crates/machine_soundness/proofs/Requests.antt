@@ -107,13 +107,6 @@ no_late g (Delivery.Timeout k n deadline) e = refl
 no_late g (Delivery.Kill k kind) e = refl
 no_late g (Delivery.Link n k kind x) e = refl
 
-pub kept-drawn : (w : Waiting) (s : State) → IsKept s → IsKept (drawn w s)
-kept-drawn w s h = by (draws w)
-  where
-    by : (b : Bool) → IsKept (if b then record s { timeouts = s.timeouts + 1 } else s)
-    by true = kept-timeout s h
-    by false = h
-
 pub moves-drawn : (w : Waiting) (g h : ℕ) (s : State) → Moves g h s → Moves g h (drawn w s)
 moves-drawn w g h s m = by (draws w)
   where
@@ -309,14 +302,6 @@ on_host-fine g h k s go m f = by (host_of s g == host_of s k) refl
 -- no one of these is raw
 abbrev pub AreNotRaw : List Greenlet → List ℕ → Type 0
 AreNotRaw gs ks = list_all (λ k. not (at gs k).raw) ks ≡ true
-
-pub plain_greenlet-is : (s : State) (v : Value) (k : ℕ) → plain_greenlet s v ≡ Some k → v ≡ Value.Greenlet k
-plain_greenlet-is s (Value.Greenlet j) k e = by (greenlet j s).raw e
-  where
-    by : (b : Bool) → ◌≡◌ {A = Option ℕ} (if b then None else Some j) (Some k) → Value.Greenlet j ≡ Value.Greenlet k
-    by true e = absurd (cc e)
-    by false e = cc e
-plain_greenlet-is s v k e = absurd (cc e)
 
 pub plain_greenlet-raw : (s : State) (v : Value) (k : ℕ) → plain_greenlet s v ≡ Some k → (greenlet k s).raw ≡ false
 plain_greenlet-raw s (Value.Greenlet j) k e = by (greenlet j s).raw refl e

@@ -99,10 +99,6 @@ fits-left c hub xs ys h = left _ _ (sym (list_all-append (λ (m : Mention). may_
 fits-right : (c : Scenario) (hub : Bool) (xs ys : List Mention) → fits c hub (xs ++ ys) ≡ true → fits c hub ys ≡ true
 fits-right c hub xs ys h = right (fits c hub xs) _ (sym (list_all-append (λ (m : Mention). may_say c hub m.says) xs ys) ∙ h)
 
--- of what a line says
-says-fit : Scenario → Bool → List Says → Bool
-says-fit c hub ss = list_all (may_say c hub) ss
-
 line-fits : (c : Scenario) (hub : Bool) (line : ℕ) (ss : List Says) → fits c hub (on line ss) ≡ true → list_all (may_say c hub) ss ≡ true
 line-fits c hub line ss h = sym (list_all-map (λ (m : Mention). may_say c hub m.says) (λ s. record { line = line; says = s }) ss) ∙ h
 

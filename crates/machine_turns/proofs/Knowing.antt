@@ -78,12 +78,6 @@ standing posts answers (Next.Going g s) k = k
 standing posts answers (Next.Resting s) k = k
 standing posts answers (Next.Over cause s) k = k
 
-pub stands : (posts : List PostedJob) (answers : List Answer) (x : Next) → StandsKnowing posts answers x → Stands (KnowsJobs posts answers) x
-unfolding Stands
-stands posts answers (Next.Going g s) k = k
-stands posts answers (Next.Resting s) k = k
-stands posts answers (Next.Over cause s) k = k
-
 pub moves-know : (posts : List PostedJob) (answers : List Answer) (g : ℕ) (s : State) → KnowsJobs posts answers s → StandsKnowing posts answers (move g s)
 moves-know posts answers g s k = standing posts answers _ (move-keeps (KnowsJobs posts answers) (knowing-kept posts answers) g s k)
 

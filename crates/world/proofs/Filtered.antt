@@ -2,11 +2,6 @@
 use Rattle.std.proofs.Common.{◌≡◌, Bool, true, false, not, cond, List, [], ◌∷◌, map, refl, ap, ◌∙◌, ◌||◌}
 use Rattle.std.specs.Prelude.{filter}
 
--- a test that every item passes
-pub filter_all : {A : Type 0} (xs : List A) → filter (λ x. true) xs ≡ xs
-filter_all [] = refl
-filter_all (x ∷ xs) = ap (λ l. x ∷ l) (filter_all xs)
-
 -- the images that pass a test are those of the items whose image passes it
 pub map-filter : {A B : Type 0} (f : A → B) (q : B → Bool) (xs : List A) → map f (filter (λ x. q (f x)) xs) ≡ filter q (map f xs)
 map-filter f q [] = refl
