@@ -1,5 +1,5 @@
 -- Lists of items: what they have, how they differ, and what they are without one.
-use Rattle.std.proofs.Common.{Bool, cond, filter, ◌≡◌, ◌≢◌, ℕ, zero, suc, ◌+◌, ◌-◌, ◌<◌, ◌==◌, true, false, not, List, [], ◌∷◌, ◌++◌, length, get_or, take, Some, refl, sym, inl, inr, ap, ◌∙◌, subst, arith, slice_get, Contains}
+use Rattle.std.proofs.Common.{Bool, cond, filter, ◌≡◌, ◌≢◌, ℕ, zero, suc, ◌+◌, ◌-◌, ◌<◌, ◌==◌, true, false, not, List, [], ◌∷◌, ◌++◌, length, get_or, Some, refl, sym, inl, inr, ap, ◌∙◌, subst, arith, slice_get, Contains}
 use Rattle.std.proofs.lemmas.Bool.Decides.{nat_tests}
 use Rattle.std.proofs.lemmas.Bool.{cases_eq}
 use Rattle.std.proofs.lemmas.Option.{slice_get_within, get_or_from_slice_get}
@@ -122,11 +122,6 @@ without_front x xs ys l = without_joined x xs ys ∙ ap (λ r. without x xs ++ r
 pub without_back : (x : ℕ) (xs ys : List ℕ) → Lacks x xs → without x (xs ++ ys) ≡ xs ++ without x ys
 without_back x xs ys l = without_joined x xs ys ∙ ap (λ r. r ++ without x ys) (without_absent x xs l)
 
-pub without_middle : (x : ℕ) (xs ys : List ℕ) → Differ (xs ++ x ∷ ys) → without x (xs ++ x ∷ ys) ≡ xs ++ ys
-without_middle x xs ys d =
-    without_back x xs (x ∷ ys) (differ_from_front xs ys x d)
-    ∙ ap (λ r. xs ++ r) (rw (test_drops x x refl) (without_absent x ys (differ_from_back xs ys x d)))
-
 pub without_length : (x : ℕ) (xs : List ℕ) → Differ xs → Contains xs x → length (without x xs) + 1 ≡ length xs
 without_length x [] d p = absurd (omega (arith, p.1))
 without_length x (y ∷ xs) d p = by_index (without_length x xs d.1) p.0 p.1 p.2
@@ -161,10 +156,6 @@ last_is (x ∷ y ∷ es) e h =
         let a : length (x ∷ y ∷ es) - 1 ≡ suc (length es) = omega arith in
         let b : length (y ∷ es) - 1 ≡ length es = omega arith in
         ap (slice_get (y ∷ es)) b ∙ sym (ap (slice_get (x ∷ y ∷ es)) a) ∙ h
-
-pub take_front : (xs ys : List ℕ) → take (length xs) (xs ++ ys) ≡ xs
-take_front [] ys = refl
-take_front (x ∷ xs) ys = ap (λ l. x ∷ l) (take_front xs ys)
 
 pub at_border : (xs ys : List ℕ) (y : ℕ) → slice_get (xs ++ y ∷ ys) (length xs) ≡ Some y
 at_border [] ys y = refl
@@ -211,3 +202,14 @@ contains_of_filter p (y ∷ xs) x h = by_test (p y) refl (contains_of_filter p x
     by_test : (b : Bool) → p y ≡ b → (Contains (filter p xs) x → Contains xs x × (p x ≡ true)) → Contains (cond b (y ∷ filter p xs) (filter p xs)) x → Contains (y ∷ xs) x × (p x ≡ true)
     by_test true e more q = by_index more e q.0 q.1 q.2
     by_test false e more q = later (more q)
+
+-- the entry at a place of the list of items
+pub entry_at : (es : List (ℕ × ℕ)) (k item : ℕ) → slice_get (items_of es) k ≡ Some item → (n : ℕ) × (slice_get es k ≡ Some (item, n))
+entry_at [] k item at = absurd (cc)
+entry_at (e ∷ es) zero item at = let same : e.0 ≡ item = cc in (e.1, ap (λ x. Some (x, e.1)) same)
+entry_at (e ∷ es) (suc k) item at = entry_at es k item at
+
+pub item_at : (es : List (ℕ × ℕ)) (k : ℕ) (e : ℕ × ℕ) → slice_get es k ≡ Some e → slice_get (items_of es) k ≡ Some e.0
+item_at [] k e at = absurd (cc)
+item_at (x ∷ es) zero e at = let same : x ≡ e = cc in ap (λ y. Some y.0) same
+item_at (x ∷ es) (suc k) e at = item_at es k e at

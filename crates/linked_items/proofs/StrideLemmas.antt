@@ -59,9 +59,6 @@ strides_differ i j a b e = omega arith
 pub record HasStrides (xs : List ℕ) (i : ℕ) : Type 0 where
   pub there : (j : ℕ) → i ≤ j → j < 1000000 → Contains xs (stride j)
 
-pub strides_begin : (xs : List ℕ) → IsFilled xs 1000000 → HasStrides xs 0
-strides_begin xs is = record { there = λ j a b. is.there (stride j) (omega arith) }
-
 pub strides_next : (xs : List ℕ) (i : ℕ) → i < 1000000 → HasStrides xs i → HasStrides (without (stride i) xs) (i + 1)
 strides_next xs i lt is = record {
   there = λ j a b. contains_without (stride i) (stride j) xs (λ e. absurd (omega (arith, strides_differ j i b lt e))) (is.there j (omega arith) b);

@@ -124,12 +124,6 @@ held_dropped xs at item place is here =
       ];
     }
 
--- how many items a table lacks when it is empty
-pub no_held : (n : ℕ) (p q k : ℕ) → HeldAt (replicate n Empty) p q k → ⊥
-no_held zero p q k h = cc
-no_held (suc n) zero q k h = cc
-no_held (suc n) (suc p) q k h = no_held n p q k h
-
 pub not_empty : (s : Slot) → (s ≡ Empty → ⊥) → empty_count s ≡ 0
 not_empty Empty h = absurd (h refl)
 not_empty Dead h = refl
@@ -138,24 +132,9 @@ not_empty (Held q k) h = refl
 pub empty_counts : (s : Slot) → s ≡ Empty → empty_count s ≡ 1
 empty_counts s e = ap empty_count e
 
-pub all_empty : (n : ℕ) → count_by is_empty (replicate n Empty) ≡ n
-all_empty zero = refl
-all_empty (suc n) = omega (arith, all_empty n, sum_by-cons (λ x. cond (is_empty x) 1 0) Empty (replicate n Empty))
-
 pub none_held : (n : ℕ) → count_by is_held (replicate n Empty) ≡ 0
 none_held zero = refl
 none_held (suc n) = omega (arith, none_held n, sum_by-cons (λ x. cond (is_held x) 1 0) Empty (replicate n Empty))
-
--- an empty table
-pub table_empty : (xs : List Slot) (n homes : ℕ) → xs ≡ replicate n Empty → homes ≤ n → IsTable xs homes n
-table_empty xs n homes e le =
-    let none : (p q k : ℕ) → HeldAt xs p q k → ⊥ = λ p q k h. no_held n p q k (subst (λ l. HeldAt l p q k) e h) in record {
-      free_is = sym (ap (count_by is_empty) e ∙ all_empty n);
-      room = le;
-      from_home = λ p q k h. absurd (none p q k h);
-      reached = λ p q k j h lo hi f. none p q k h;
-      once = record { once = λ p p' q k k' h h'. absurd (none p q k h) };
-    }
 
 -- the slots before `at` are in the new table
 pub record IsRefilled (from to : List Slot) (homes at free : ℕ) : Type 0 where
@@ -238,11 +217,6 @@ take_own [] zs zero e = refl
 take_own [] zs (suc n) e = absurd (omega arith)
 take_own (x ∷ xs) zs zero e = absurd (omega arith)
 take_own (x ∷ xs) zs (suc n) e = ap (λ l. x ∷ l) (take_own xs zs n (omega arith))
-
-pub is_found : (xs : List Slot) (homes free at q : ℕ) (o : ℕ) → IsTable xs homes free → home q homes ≤ at → ((p k : ℕ) → HeldAt xs p q k → home q homes ≤ p → (j : ℕ) × (home q homes ≤ j) × (j < p) × (slot_at xs j ≡ Empty)) → Has xs q o → ⊥
-is_found xs homes free at q o is lo absent h =
-    let gap = absent h.0 o h.1 (is.from_home h.0 q o h.1) in
-    is.reached h.0 q o gap.0 h.1 gap.1 gap.2 gap.3
 
 -- 1 at a slot that holds an item
 abbrev pub held_count : Slot → ℕ

@@ -22,9 +22,6 @@ length_node_items : (xs : List Linked) → length (node_items xs) ≡ length xs
 length_node_items [] = refl
 length_node_items (x ∷ xs) = ap suc (length_node_items xs)
 
-pub walk_begins : (l : Links) (es : List Linked) (item : ℕ) → IsLine l es → IsWalked es item l.first 0
-walk_begins l es item is = record { front = []; back = es; parts = refl; count = refl; lacks = tt; next = is.head }
-
 -- the node that is next
 pub record IsNext (l : Links) (es : List Linked) (item key rank : ℕ) (n : Node) : Type 0 where
   pub front : List Linked
@@ -82,13 +79,6 @@ walk_over : (es : List Linked) (item : ℕ) (front back : List Linked) → es �
 walk_over es item front back parts lacks none there =
     let whole : node_items es ≡ node_items front ++ [] = ap node_items (parts ∙ ap (λ b. front ++ b) none) ∙ node_items_joined front [] in
     absent_of_lacks item (node_items front ++ []) (lacks_joined item (node_items front) [] lacks tt) (subst (λ xs. Contains xs item) whole there)
-
-first_none : (es : List Linked) → None ≡ first_of es None → es ≡ []
-first_none [] h = refl
-first_none (e ∷ es) h = absurd (cc)
-
-pub walk_none : (es : List Linked) (item : ℕ) (at : Option ℕ) (rank : ℕ) → at ≡ None → IsWalked es item at rank → Contains (node_items es) item → ⊥
-walk_none es item at rank none w there = walk_over es item w.front w.back w.parts w.lacks (first_none w.back (sym none ∙ w.next)) there
 
 pub walk_lost : (l : Links) (es : List Linked) (item key rank : ℕ) → IsLine l es → IsWalked es item (Some key) rank → get l.nodes key ≡ None → ⊥
 walk_lost l es item key rank is w none = lost w.front w.back w.parts w.next

@@ -8,6 +8,7 @@ use Rattle.waiters.proofs.WaitLemmas.{take_items}
 use Rattle.queue_waiters.proofs.PuttersLemmas.{apart_test}
 use Rattle.linked_items.specs.Items.{items_of, without, without_entry, Lacks, Differ}
 use Rattle.linked_items.proofs.ItemLemmas.{items_joined, length_items, items_without, differ_front, differ_parts, contains_at, lacks_front, lacks_of_absent, absent_of_lacks, entries_absent}
+pub use Rattle.linked_items.proofs.ItemLemmas.{entry_at, item_at}
 use Rattle.wait_lines.specs.Lines.{told_left}
 use Rattle.wait_lines.proofs.LineLemmas.{fewer_entries, take_entries, entry_joined}
 use Rattle.queue_waiters.specs.Seen.{getters, gets, peeks, getters_before, of_kind}
@@ -199,17 +200,6 @@ pub kind_told_same : (p : ℕ × ℕ → Bool) (x t : ℕ) (es : List (ℕ × �
 kind_told_same p x t es lacks =
     let parts : of_kind p es ≡ of_kind p (take t es) ++ of_kind p (drop t es) = ap (of_kind p) (sym (in_two t es)) ∙ ap items_of (kind_joined p (take t es) (drop t es)) ∙ items_joined (filter p (take t es)) (filter p (drop t es)) in
     ap (λ l. length (filter p l)) (take_left x t es) ∙ ap length (kind_without p x (take t es)) ∙ ap length (entries_absent x (filter p (take t es)) (lacks_front x (of_kind p (take t es)) (of_kind p (drop t es)) (subst (Lacks x) parts lacks)))
-
--- the entry at a place of the list of items
-pub entry_at : (es : List (ℕ × ℕ)) (k item : ℕ) → slice_get (items_of es) k ≡ Some item → (n : ℕ) × (slice_get es k ≡ Some (item, n))
-entry_at [] k item at = absurd (cc)
-entry_at (e ∷ es) zero item at = let same : e.0 ≡ item = cc in (e.1, ap (λ x. Some (x, e.1)) same)
-entry_at (e ∷ es) (suc k) item at = entry_at es k item at
-
-pub item_at : (es : List (ℕ × ℕ)) (k : ℕ) (e : ℕ × ℕ) → slice_get es k ≡ Some e → slice_get (items_of es) k ≡ Some e.0
-item_at [] k e at = absurd (cc)
-item_at (x ∷ es) zero e at = let same : x ≡ e = cc in ap (λ y. Some y.0) same
-item_at (x ∷ es) (suc k) e at = item_at es k e at
 
 -- the getters before an item: those in the front that ends at it
 pub before_item : (es : List (ℕ × ℕ)) (k item n : ℕ) → Differ (items_of es) → slice_get es k ≡ Some (item, n) → getters (take k es) ≡ getters_before item es
