@@ -48,16 +48,6 @@ due_open o g l h =
     let b : is_waiting l.state ≡ true = open_waiting (Some o) g l h in
     rw a b
 
--- a new life
-pub life_new : IsLife 0 [] [] []
-life_new = record {
-  outcomes = refl;
-  lists = refl;
-  most = omega arith;
-  owned = λ k lt. absurd (omega arith);
-  pending = λ g lt. absurd (omega arith);
-}
-
 -- a greenlet is made
 pub life_born : (n : ℕ) (os : List (Option Outcome)) (ls : List Link) (qs : List SeenItems) (r : SeenItems) → r ≡ item_list [] 0 → IsLife n os ls qs → IsLife (n + 1) (os ++ None ∷ []) ls (qs ++ r ∷ [])
 life_born n os ls qs r empty is = record {

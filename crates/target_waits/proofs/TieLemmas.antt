@@ -31,10 +31,6 @@ pub seen_items : (f : ℕ → Option Wait) (es : List (ℕ × ℕ)) → IsOwn f 
 seen_items f [] own = refl
 seen_items f (e ∷ es) own = λ i. seen_item (f e.0) e.0 (own e.0) i ∷ seen_items f es own i
 
-pub seen_length : (f : ℕ → Option Wait) (es : List (ℕ × ℕ)) → length (seen_in f es) ≡ length es
-seen_length f [] = refl
-seen_length f (e ∷ es) = ap suc (seen_length f es)
-
 -- one item's wait changes
 pub changed_here : (c : Wait → Wait) (item : ℕ) (f : ℕ → Option Wait) (q : ℕ) → q ≡ item → changed_at c item f q ≡ option_map c (f item)
 changed_here c item f q same = cond-true (q == item) (option_map c (f item)) (f q) (num_same q item same)
