@@ -120,9 +120,6 @@ module _ (body bytes : List ℕ) where
 
 -- ---- one part after the other
 
-pub alike-self : {A : Type 0} (read : List ℕ → Cut A) (bytes : List ℕ) → ReadsAlike read read bytes bytes
-alike-self read bytes more = refl
-
 pub alike-then : {A : Type 0} (a b c : List ℕ → Cut A) (old mid new : List ℕ) → ReadsAlike a b old mid → ReadsAlike b c mid new → ReadsAlike a c old new
 alike-then a b c old mid new h k more = h more ∙ k more
 

@@ -180,9 +180,6 @@ field_back f h =
     ap (λ (n : ℕ). drop (n + 1) (f.name ++ 58 ∷ f.raw)) place ∙ drop_past f.name 58 f.raw in
     λ i. record { name = name i; raw = raw i; end = f.end }
 
-two : LineEnd → List (List ℕ × LineEnd)
-two last = ([], last) ∷ ([], lf) ∷ []
-
 fields_count : (fs : List Field) (last : LineEnd) → length (map content fs ++ ([], last) ∷ ([], lf) ∷ []) - 2 ≡ length (map content fs)
 fields_count fs last = simp length-append (omega arith)
 

@@ -1,11 +1,10 @@
 -- Lists of fields and blanks at the ends, one more at a time.
-use Rattle.std.proofs.Common.{◌≡◌, ◌^◌, ◌||◌, ℕ, suc, ◌+◌, ◌-◌, ◌<◌, ◌≤◌, Bool, true, false, cond, List, [], ◌∷◌, ◌++◌, length, map, filter, reverse, take, drop, refl, sym, ap, ◌∙◌, arith, get_or, drop-cons, lit<, inl, inr}
+use Rattle.std.proofs.Common.{◌≡◌, ◌^◌, ◌||◌, ℕ, ◌+◌, ◌-◌, ◌<◌, ◌≤◌, Bool, true, false, cond, List, [], ◌∷◌, ◌++◌, length, map, filter, take, drop, refl, sym, ap, ◌∙◌, arith, get_or, lit<, inl, inr}
 use Rattle.std.proofs.lemmas.Bool.{cond-true, cond-false}
-use Rattle.std.proofs.lemmas.List.{map-append, take_more, take_all, reverse-append}
+use Rattle.std.proofs.lemmas.List.{map-append, take_more, take_all}
 use Rattle.std.proofs.lemmas.List.Elements.{filter-append}
 use Rattle.std.specs.Prelude.{◌&&◌, ◌==◌}
 use Rattle.std.specs.Str.{str_eq_ignore_ascii_case}
-use Rattle.httparse.specs.Grammar.{is_ows, skip_ows}
 use Rattle.http_messages.specs.Environs.{Pair}
 use Rattle.std.specs.List.{list_any, list_all, position_or_len, before_first, after_first}
 use Rattle.std.specs.Char.{is_ascii_digit, digit_value}
@@ -37,31 +36,6 @@ module _ (name : List ℕ) (xs : List Pair) (p : Pair) where
       append_nil : (l : List (List ℕ)) → l ++ [] ≡ l
       append_nil [] = refl
       append_nil (x ∷ l) = ap (λ (r : List (List ℕ)). x ∷ r) (append_nil l)
-
--- ---- blanks
-
-pub skip_more : (bytes : List ℕ) (at : ℕ) → at < length bytes → true ≡ is_ows (get_or bytes at 0)
-    → skip_ows (drop at bytes) ≡ skip_ows (drop (at + 1) bytes)
-skip_more bytes at inside blank =
-    let next : suc at ≡ at + 1 = omega arith in
-    ap skip_ows (drop-cons bytes at 0 inside) ∙ cond-true (is_ows (get_or bytes at 0)) _ _ (sym blank) ∙ ap (λ (n : ℕ). skip_ows (drop n bytes)) next
-
-pub skip_stops : (bytes : List ℕ) (at : ℕ) → at < length bytes → false ≡ is_ows (get_or bytes at 0) → skip_ows (drop at bytes) ≡ drop at bytes
-skip_stops bytes at inside other =
-    let here = drop-cons bytes at 0 inside in
-    ap skip_ows here ∙ cond-false (is_ows (get_or bytes at 0)) _ _ (sym other) ∙ sym here
-
-back_is : (bytes : List ℕ) (end : ℕ) → end < length bytes → reverse (take (end + 1) bytes) ≡ get_or bytes end 0 ∷ reverse (take end bytes)
-back_is bytes end inside = ap reverse (take_more bytes end 0 inside) ∙ reverse-append (take end bytes) (get_or bytes end 0 ∷ [])
-
-pub back_more : (bytes : List ℕ) (end : ℕ) → end < length bytes → true ≡ is_ows (get_or bytes end 0)
-    → skip_ows (reverse (take (end + 1) bytes)) ≡ skip_ows (reverse (take end bytes))
-back_more bytes end inside blank = ap skip_ows (back_is bytes end inside) ∙ cond-true (is_ows (get_or bytes end 0)) _ _ (sym blank)
-
-pub back_stops : (bytes : List ℕ) (end : ℕ) → end < length bytes → false ≡ is_ows (get_or bytes end 0)
-    → skip_ows (reverse (take (end + 1) bytes)) ≡ reverse (take (end + 1) bytes)
-back_stops bytes end inside other =
-    let here = back_is bytes end inside in ap skip_ows here ∙ cond-false (is_ows (get_or bytes end 0)) _ _ (sym other) ∙ sym here
 
 -- ---- empty lines
 

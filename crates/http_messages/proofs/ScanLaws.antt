@@ -1,24 +1,15 @@
 -- What scans for line ends keep.
-use Rattle.std.proofs.Common.{◌≡◌, ℕ, zero, suc, ◌+◌, ◌<◌, ◌≤◌, Bool, true, false, ◌&&◌, cond, List, [], ◌∷◌, ◌++◌, length, take, drop, refl, sym, ap, ◌∙◌, subst, arith, append_assoc, append-nil, get_or, drop-cons, Option, Some, None, inl, inr}
+use Rattle.std.proofs.Common.{◌≡◌, ℕ, zero, suc, ◌+◌, ◌<◌, ◌≤◌, Bool, true, false, ◌&&◌, cond, List, [], ◌∷◌, ◌++◌, length, take, drop, refl, sym, ap, ◌∙◌, subst, arith, append-nil, get_or, drop-cons, Option, Some, None, inl, inr}
 use Rattle.std.proofs.lemmas.Bool.{cases_Bool, cond_both, cond-true, cond-false, eqb-true}
 use Rattle.std.proofs.lemmas.List.{take_more, take-append-drop, take_all}
 use Rattle.std.specs.Prelude.{option_map, nat_lt, ◌==◌}
 use Rattle.http_messages.specs.declared.scan.LinePlace.{LinePlace}
 use Rattle.http_messages.specs.declared.scan.LinePlace.TheVariants.{Start, AfterReturn, Within}
 use Rattle.http_messages.specs.Cuts.{is_lf, empty_line, empty_line_end, line_end}
-use Rattle.http_messages.specs.Scans.{place_after, is_empty_so_far, scanned_end, Resumes}
+use Rattle.http_messages.specs.Scans.{is_empty_so_far, scanned_end, Resumes}
 
 abbrev one_more : Option ℕ → Option ℕ
 one_more o = option_map (λ n. n + 1) o
-
-pub shifted : (o : Option ℕ) (at : ℕ) → option_map (λ n. n + at) (one_more o) ≡ option_map (λ n. n + (at + 1)) o
-shifted None at = refl
-shifted (Some n) at = ap (λ (k : ℕ). Some k) (omega arith)
-
--- a byte that ends no empty line
-pub scan_step : (place : LinePlace) (b : ℕ) (bytes : List ℕ) → (is_empty_so_far place && is_lf b) ≡ false
-    → scanned_end place (b ∷ bytes) ≡ one_more (scanned_end (place_after place b) bytes)
-scan_step place b bytes e = cond-false (is_empty_so_far place && is_lf b) (Some 1) _ e
 
 -- an LF that ends one
 pub scan_found : (place : LinePlace) (b : ℕ) (bytes : List ℕ) → (is_empty_so_far place && is_lf b) ≡ true → scanned_end place (b ∷ bytes) ≡ Some 1
@@ -86,29 +77,6 @@ length_take zero l h = refl
 length_take (suc n) [] h = absurd (omega arith)
 length_take (suc n) (x ∷ l) h = ap suc (length_take n l (omega arith))
 
-pub resumes_none : (place : LinePlace) (bytes : List ℕ) → Resumes place (take 0 bytes) place
-resumes_none place bytes more = not_shifted (scanned_end place more)
-  where
-    not_shifted : (o : Option ℕ) → o ≡ option_map (λ n. n + 0) o
-    not_shifted None = refl
-    not_shifted (Some n) = ap (λ (k : ℕ). Some k) (omega arith)
-
-pub resumes_more : (start place : LinePlace) (bytes : List ℕ) (at : ℕ) → at < length bytes
-    → (is_empty_so_far place && is_lf (get_or bytes at 0)) ≡ false → Resumes start (take at bytes) place
-    → Resumes start (take (at + 1) bytes) (place_after place (get_or bytes at 0))
-resumes_more start place bytes at inside keeps h more =
-    let x = get_or bytes at 0 in
-    let front = take at bytes in
-    let longer : take (at + 1) bytes ≡ front ++ x ∷ [] = take_more bytes at 0 inside in
-    let len : length front + 1 ≡ length (take (at + 1) bytes) =
-    omega (arith, length_take at bytes (omega arith), length_take (at + 1) bytes (omega arith)) in
-    ap (λ (l : List ℕ). scanned_end start (l ++ more)) longer
-    ∙ ap (scanned_end start) (append_assoc front (x ∷ []) more)
-    ∙ h (x ∷ more)
-    ∙ ap (option_map (λ n. n + length front)) (scan_step place x more keeps)
-    ∙ shifted (scanned_end (place_after place x) more) (length front)
-    ∙ ap (λ (k : ℕ). option_map (λ n. n + k) (scanned_end (place_after place x) more)) len
-
 pub scan_ends : (place : LinePlace) (bytes : List ℕ) (at : ℕ) → at < length bytes
     → (is_empty_so_far place && is_lf (get_or bytes at 0)) ≡ true → Resumes Start (take at bytes) place
     → Some (at + 1) ≡ empty_line_end true bytes
@@ -171,9 +139,6 @@ line_found bytes at inside lf h =
     sym (ap line_end all ∙ line_behind (take at bytes) (x ∷ rest) h
     ∙ ap (option_map (λ n. n + length (take at bytes))) (cond-true (is_lf x) (Some 1) _ lf)
     ∙ ap (λ (k : ℕ). Some k) (sym len))
-
-pub line_none : (bytes : List ℕ) (at : ℕ) → length bytes ≤ at → line_end (take at bytes) ≡ None → None ≡ line_end bytes
-line_none bytes at all h = sym (sym (ap line_end (take_all at bytes all)) ∙ h)
 
 -- none ends in a part of a front without one
 pub none_within : (j m k : ℕ) (bytes : List ℕ) → j ≤ k → line_end (take k bytes) ≡ None → line_end (take j (take m bytes)) ≡ None
