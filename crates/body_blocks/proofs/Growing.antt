@@ -3,7 +3,7 @@ use Rattle.std.proofs.Common.{◌≡◌, refl, ap, sym, subst, ◌∙◌, ℕ, z
 use Rattle.std.proofs.lemmas.List.{append_assoc, append-nil, length-map, take_all}
 use Rattle.scenario_tree.specs.declared.tree.Statement.{Statement}
 use Rattle.body_blocks.specs.declared.statement.FlatStatement.{FlatStatement}
-use Rattle.body_blocks.specs.Trees.{AllStand, Grows, IsAhead, Stands, block_at, statement_of, trees}
+use Rattle.body_blocks.specs.Trees.{AllStand, IsAhead, Stands, block_at, statement_of, trees}
 
 pub trees_more : (done : List (List Statement)) (bs : List (List FlatStatement)) (b : List FlatStatement) →
     trees done (bs ++ b ∷ []) ≡ trees done bs ++ map (statement_of (trees done bs)) b ∷ []
@@ -38,17 +38,6 @@ all_stand_more bs b t ss all own = λ more.
 pub last_block : (t : List (List Statement)) (ss : List Statement) (more : List (List Statement)) → block_at (length t) ((t ++ ss ∷ []) ++ more) ≡ ss
 last_block [] ss more = refl
 last_block (c ∷ t) ss more = last_block t ss more
-
--- ---- growing
-
-pub grows_not : (t : List (List Statement)) → Grows t t
-grows_not t = ([], sym (append-nil t))
-
-pub grows_on : (t u v : List (List Statement)) → Grows t u → Grows u v → Grows t v
-grows_on t u v g h = (g.0 ++ h.0, h.1 ∙ ap (λ (w : List (List Statement)). w ++ h.0) g.1 ∙ append_assoc t g.0 h.0)
-
-pub grows_by : (t u : List (List Statement)) (ss : List Statement) → u ≡ t ++ ss ∷ [] → Grows t u
-grows_by t u ss e = (ss ∷ [], e)
 
 -- ---- a place
 
@@ -116,21 +105,6 @@ as_many bs t u all same =
     sym (length-map bs (map (statement_of (t ++ [])))) ∙ ap length e ∙ ap length same
 
 -- ---- flat statements for those of a tree
-
-pub none_stand : (t : List (List Statement)) → Stands t [] []
-none_stand t = λ more. refl
-
--- where the code grew, what stood stands
-pub stands_on : (t u : List (List Statement)) (b : List FlatStatement) (ss : List Statement) → Grows t u → Stands t b ss → Stands u b ss
-stands_on t u b ss g h = λ more.
-    let same : u ++ more ≡ t ++ (g.0 ++ more) = ap (λ (w : List (List Statement)). w ++ more) g.1 ∙ append_assoc t g.0 more in
-    ap (λ (w : List (List Statement)). map (statement_of w) b) same ∙ h (g.0 ++ more)
-
-pub block_stays : (t u : List (List Statement)) (n : ℕ) (ss : List Statement) → Grows t u → ((more : List (List Statement)) → block_at n (t ++ more) ≡ ss) →
-    (more : List (List Statement)) → block_at n (u ++ more) ≡ ss
-block_stays t u n ss g h more =
-    let same : u ++ more ≡ t ++ (g.0 ++ more) = ap (λ (w : List (List Statement)). w ++ more) g.1 ∙ append_assoc t g.0 more in
-    ap (block_at n) same ∙ h (g.0 ++ more)
 
 pub stand_own : (t : List (List Statement)) (b : List FlatStatement) (ss : List Statement) → Stands t b ss → Stands t b (map (statement_of t) b)
 stand_own t b ss h = subst (Stands t b) (sym (own_tree t b ss h)) h

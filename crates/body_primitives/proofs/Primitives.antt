@@ -1,15 +1,15 @@
 -- Integers and truth values through the operators.
-use Rattle.std.proofs.Common.{◌≡◌, refl, ap, sym, subst, ◌∙◌, Bool, true, false, not, List, ℕ, ℤ, if◌then◌else◌}
+use Rattle.std.proofs.Common.{◌≡◌, refl, ap, sym, subst, ◌∙◌, Bool, true, false, not, ℤ, if◌then◌else◌}
 use Rattle.gv_values.specs.declared.value.Outcome.{Outcome}
 use Rattle.gv_values.specs.declared.value.Value.{Value}
 use Rattle.scenario_tree.specs.declared.tree.Binary.{Binary}
 use Rattle.scenario_tree.specs.declared.tree.Expression.TheVariants as E
 use Rattle.scenario_tree.specs.declared.tree.Expression.{Expression}
 use Rattle.scenario_tree.specs.declared.tree.Unary.{Unary}
-use Rattle.machine.specs.Expressions.{Around, Look, and_then, binary, meaning, or_else, unary, value_of_local, with_value}
+use Rattle.machine.specs.Expressions.{Around, Look, and_then, binary, meaning, or_else, unary, with_value}
 use Rattle.body_primitives.specs.declared.primitive.Primitive.{Primitive}
 use Rattle.body_primitives.specs.Primitives.{Agrees}
-use Rattle.body_values.proofs.Meanings.{and_means, binary_means, local_means, or_means, unary_means}
+use Rattle.body_values.proofs.Meanings.{and_means, binary_means, or_means, unary_means}
 
 pub negated : (b : Bool) (look : Look) (o : Outcome) → Outcome.Value (Value.Bool b) ≡ o → Outcome.Value (Value.Bool (not b)) ≡ with_value o (unary Unary.Not look)
 negated b look o h = rw (sym h) refl
@@ -31,9 +31,6 @@ either true b o p h g = rw (sym h) refl
 either false b o p h g = rw (sym h, sym g) refl
 
 -- ---- the same of the expression
-
-pub as_local : (r : Primitive) (x : List ℕ) (a : Around) → Agrees r (Outcome.Value (value_of_local x a.locals)) → Agrees r (meaning (E.Local x) a)
-as_local r x a h = subst (Agrees r) (sym (local_means x a)) h
 
 pub as_one : (r p : Primitive) (op : Unary) (e : Expression) (a : Around) → Agrees p (meaning e a) →
     ((look : Look) (o : Outcome) → Agrees p o → Agrees r (with_value o (unary op look))) → Agrees r (meaning (E.Unary op e) a)

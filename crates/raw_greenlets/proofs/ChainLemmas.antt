@@ -252,17 +252,6 @@ pub record IsOnWay (t : List (Option Raw)) (start target at i : ℕ) : Type 0 wh
   pub top : raw_of t host ≡ None
   pub left : steps + i ≤ length t
 
-pub way_begins : (t : List (Option Raw)) (start target : ℕ) → Rooted t start → IsOnWay t start target start 0
-way_begins t start target is = record {
-  came = (zero, refl);
-  onward = λ l. l;
-  host = is.host;
-  steps = is.steps;
-  climbs = is.climbs;
-  top = is.top;
-  left = let w = is.within in omega arith;
-}
-
 climbs_on : (t : List (Option Raw)) (n a k : ℕ) (r : Raw) → Climbs t n a k → raw_of t a ≡ Some r → Climbs t n r.parent (suc k)
 climbs_on t n a zero r c e = (r, ap (raw_of t) c ∙ e, refl)
 climbs_on t n a (suc k) r c e = (c.0, c.1, climbs_on t c.0.parent a k r c.2 e)

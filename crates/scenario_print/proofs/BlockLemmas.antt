@@ -96,9 +96,6 @@ try_finally_statement {o = o} {m = m} {k = k} {l = l} {j = j} {i = i} {n = n} {r
     (laid (laid_back None phrase.Finally level refl (finally_row p)) (inner level levels deeper fits more b)))
     (the_end level h)))
 
-pub no_excepts : {T E : Type 0} (o : List ℕ) (r : Result T E) (level : ℕ) → WroteExcepts o o r level []
-no_excepts o r level = record { lines = λ levels fits. (laid_nothing o r (level + 1)).lines; front = (laid_nothing o r level).front }
-
 pub no_statements : {T E : Type 0} (o : List ℕ) (r : Result T E) (level : ℕ) → WroteBlock o o r level []
 unfolding block_within
 no_statements {T} {E} o r level = record { lines = λ levels fits. (by_levels levels).lines; front = (laid_nothing o r level).front }

@@ -1,6 +1,5 @@
 -- Expressions, level by level.
 use Rattle.std.proofs.Common.{◌≡◌, ℕ, zero, suc, ◌+◌, ◌<◌, List, [], length, take, get_or, Result, Ok, sym, subst, true, false, Bool, if◌then◌else◌}
-use Rattle.gv_values.specs.Fronts.{BeginsWith}
 use Rattle.scenario_tree.specs.declared.tree.Expression.{Expression, Expression-F, out-Expression}
 use Rattle.scenario_grammar.specs.declared.token.Token.{Token}
 use Rattle.scenario_grammar.specs.Expressions.{expression, tokens_within, layer_tokens, most_nested}
@@ -9,7 +8,7 @@ use Rattle.scenario_grammar.specs.declared.keyword.Keyword.{Keyword}
 use Rattle.scenario_grammar.specs.Tokens.{Written, ◌⊕◌, ◌▹◌, each, fixed, name, number}
 use Rattle.scenario_print.specs.Written.{Wrote, WroteNumber, WroteExpression, WroteExpressions}
 use Rattle.scenario_print.proofs.Each.{each_next}
-use Rattle.scenario_print.proofs.Words.{in_range, joined, no_words, nothing, through, worded}
+use Rattle.scenario_print.proofs.Words.{in_range, joined, no_words, through, worded}
 
 -- an expression to so many levels
 pub to_depth : {T E : Type 0} {o n : List ℕ} {r : Result T E} {e : Expression} (depth : ℕ) → WroteExpression o n r e → Wrote o n r (tokens_within depth e)
@@ -23,9 +22,6 @@ all_whole f = record { words = f.words most_nested; front = f.front }
 
 pub all_to_depth : {T E : Type 0} {o n : List ℕ} {r : Result T E} {es : List Expression} (depth : ℕ) → WroteExpressions o n r es → Wrote o n r (each (tokens_within depth) es)
 all_to_depth depth f = record { words = f.words depth; front = f.front }
-
-pub by_depth : {T E : Type 0} {o n : List ℕ} {r : Result T E} (es : List Expression) → BeginsWith n o → ((depth : ℕ) → Wrote o n r (each (tokens_within depth) es)) → WroteExpressions o n r es
-by_depth es b f = record { words = λ depth. (f depth).words; front = b }
 
 pub layer : {T E : Type 0} {o n : List ℕ} {r : Result T E} (e : Expression) {y : Expression-F Expression} → out-Expression e ≡ y → ((depth : ℕ) → Wrote o n r (layer_tokens (tokens_within depth) y)) → WroteExpression o n r e
 unfolding tokens_within
@@ -61,9 +57,6 @@ some_operands {T} {E} {o = o} {n = n} {r = r} k count es fs counted same f g h d
 
 pub asked : {T E : Type 0} {o m n : List ℕ} {x : T} {r : Result T E} (k w : Keyword) (a : Name) → w ≡ k → (let done : Result T E = Ok x in Wrote o m done (fixed w)) → Wrote m n r (name a) → Wrote o n r (k ▹ name a)
 asked {T} {E} {o = o} {n = n} {r = r} k w a word f g = subst (λ z. Wrote o n r (z ▹ name a)) word (worded w f g)
-
-pub no_expressions : {T E : Type 0} (o : List ℕ) (r : Result T E) → WroteExpressions o o r []
-no_expressions o r = record { words = λ depth. (nothing o r).words; front = (nothing o r).front }
 
 -- one expression more
 pub next_expression : {T E : Type 0} {o m n : List ℕ} {x y : T} (i : ℕ) (es : List Expression) (e : Expression) → i < length es → e ≡ get_or es i e
