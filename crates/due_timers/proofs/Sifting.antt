@@ -186,9 +186,6 @@ sunk_more first heap heap' slots slots' spare spare' spare'' at child is lo hi i
       left = left ∙ is.left;
     }
 
-pub sunk_done : (first heap : List Timer) (slots : List Slot) (spare spare' at : ℕ) → IsSinking first heap slots spare spare' at → IsBelow (rank_at heap) (length heap) at → IsOrdered (rank_at heap) (length heap)
-sunk_done first heap slots spare spare' at is below = ordered_of (rank_at heap) (length heap) at is.down.near is.down.above below
-
 pub not_before : (b : Bool) (x y : ℕ) → IsTrue b ↔ (x < y) → b ≡ false → y ≤ x
 not_before b x y t e =
     let no-less : x < y → ⊥ = λ l. let h = t.1 l in cc in

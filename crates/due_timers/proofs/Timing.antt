@@ -51,11 +51,6 @@ not_after_due t u (inr same) = let e = same.0 in omega arith
 pub first_due : (xs : List Timer) (x : Timer) → All (IsNotAfter x) xs → All (λ t. x.deadline ≤ t.deadline) xs
 first_due xs x all = λ p d lt. not_after_due x (get_or xs p d) (all p d lt)
 
--- the first is in the list
-pub contains_first : (xs : List Timer) → 0 < length xs → Contains (deadlines_in xs) (timer_at xs 0).deadline
-contains_first [] some = absurd (omega arith)
-contains_first (x ∷ xs) some = (zero, omega arith, refl)
-
 -- a deadline of the list is that of one of its timers
 deadline_of_contains : (xs : List Timer) (d : ℕ) → Contains (deadlines_in xs) d → (k : ℕ) × (k < length xs) × ((timer_at xs k).deadline ≡ d)
 deadline_of_contains [] d p = absurd (omega (arith, p.1))
@@ -83,10 +78,6 @@ some_due xs d now there le late =
 
 pub contains_some : (xs : List Timer) (d : ℕ) → Contains (deadlines_in xs) d → 0 < length xs
 contains_some xs d there = let k = deadline_of_contains xs d there in omega (arith, k.1)
-
--- all timers are late where the least is
-pub all_late : (xs : List Timer) (d now : ℕ) → All (λ t. d ≤ t.deadline) xs → now < d → All (λ t. now < t.deadline) xs
-all_late xs d now all lt = λ p e in'. let a = all p e in' in omega arith
 
 pub contains_item : (xs : List Timer) (k : ℕ) → k < length xs → Contains (items_in xs) (item_at xs k)
 contains_item [] k lt = absurd (omega arith)

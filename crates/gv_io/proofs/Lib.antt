@@ -1,3 +1,2 @@
 pub mod StreamLaws
-pub mod FaultLaws
 mod LimitLaws
