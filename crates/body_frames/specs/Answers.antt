@@ -20,8 +20,9 @@ abbrev pub IsTimeoutNumber : Input → Type 0
 IsTimeoutNumber (Input.Value (Value.Int z)) = IsNumber z
 IsTimeoutNumber input = ⊥
 
--- The input may come where the body stands: a request is answered with a value or a fault, the entering of a timeout block with its number, and
--- a body that has ended with nothing. Where it goes on by itself, the input is not looked at.
+-- The input may come where the body stands: a request is answered with a value or a fault, the entering of a timeout
+-- block with its number, and a body that has ended with nothing. Where it goes on by itself, the input is not looked
+-- at.
 abbrev pub IsAnswer : Body → Input → Type 0
 IsAnswer (Body.Ready at) input = ⊤
 IsAnswer (Body.Waits frame) input = IsGiven input

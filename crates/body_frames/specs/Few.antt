@@ -1,4 +1,5 @@
--- That a body under way has few arguments in each call: no more than a function may have parameters. This project's own.
+-- That a body under way has few arguments in each call: no more than a function may have parameters. This project's
+-- own.
 use Rattle.std.specs.Prelude.{◌≤◌, List, [], ◌∷◌, length}
 use Rattle.scenario_tree.specs.Limits.{most_parameters}
 use Rattle.machine.specs.declared.request.Request.{Request}

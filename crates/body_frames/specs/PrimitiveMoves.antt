@@ -1,4 +1,5 @@
--- What a move of integers and truth values comes to: it is that of the definitions, whatever the scenario and the hub are.
+-- What a move of integers and truth values comes to: it is that of the definitions, whatever the scenario and the hub
+-- are.
 use Rattle.std.specs.Prelude.{ℕ, ◌≡◌, Bool, true, false, List, []}
 use Rattle.scenario_tree.specs.declared.tree.Scenario.{Scenario}
 use Rattle.scenario_tree.specs.declared.tree.Statement.{Statement}

@@ -45,7 +45,8 @@ pub fn make_move<L: Look>(
     Ok(do_move(alloc, code, blocks, look, stack)?)
 }
 
-/// Makes the move. The caller shows that the calls of the body have few arguments after it, as a law of what a move does.
+/// Makes the move. The caller shows that the calls of the body have few arguments after it, as a law of what a move
+/// does.
 fn do_move<L: Look>(
     alloc: Global,
     code: &Code,

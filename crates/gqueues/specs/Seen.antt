@@ -44,7 +44,8 @@ put_places q = if q.shut then length q.putters else free_places (length q.putter
 abbrev pub take_places : SeenQueue → ℕ
 take_places q = if q.shut then length q.takers else length q.items
 
--- who was told to put a value, or to take one, may do so until it leaves: no more putters were told than may go, and no more getters
+-- who was told to put a value, or to take one, may do so until it leaves: no more putters were told than may go, and no
+-- more getters
 pub record IsOpen (q : SeenQueue) : Type 0 where
   pub puts : q.told_putters ≤ put_places q
   pub takes : getters (take q.told_takers q.takers) ≤ take_places q

@@ -15,8 +15,8 @@ use waiters::{Parking, Side, WaitList};
 /// Offers, each made by a putter that waits until it was taken, and those that wait for an offer (gevent API reference,
 /// `gevent.queue.Channel`).
 ///
-/// Offers are taken in order of making, and getters are served in order of waiting; no newcomer takes one while as many wait. A putter that is
-/// cancelled takes its offer with it where that is still there; a taken one is never given back.
+/// Offers are taken in order of making, and getters are served in order of waiting; no newcomer takes one while as many
+/// wait. A putter that is cancelled takes its offer with it where that is still there; a taken one is never given back.
 #[derive(Drop)]
 pub struct Channel {
     offers: Putters,
@@ -51,7 +51,8 @@ impl Channel {
         })
     }
 
-    /// A putter makes an offer and begins to wait; O(1) where memory is there. Without memory the value comes back, and nothing is changed.
+    /// A putter makes an offer and begins to wait; O(1) where memory is there. Without memory the value comes back, and
+    /// nothing is changed.
     pub fn park_put(&mut self, item: u32, value: Value) -> Result<(), Value>
         requires room { 0 < self.old.room }
         requires absent { Contains (self.old.taken ++ items_put self.old.offers) item → ⊥ }
@@ -70,7 +71,8 @@ impl Channel {
         self.drop_taken(item);
     }
 
-    /// Takes the oldest offer at once, where the offers are more than the getters that wait, and lets its putter go; O(1).
+    /// Takes the oldest offer at once, where the offers are more than the getters that wait, and lets its putter go;
+    /// O(1).
     pub fn get_now(&mut self) -> Option<Value>
         ensures none { (result ≡ None) ↔ (length self.old.offers ≤ length self.old.getters) }
         ensures kept { IfNone result (self.new ≡ self.old) }

@@ -17,7 +17,8 @@ use std::marker::Model;
 use thiserror::Error;
 use waiters::{Parking, Side, WaitList};
 
-/// Why a value was not put at once (gevent API reference, `gevent.queue.Queue.put`). It comes back, and nothing was changed.
+/// Why a value was not put at once (gevent API reference, `gevent.queue.Queue.put`). It comes back, and nothing was
+/// changed.
 #[derive(Debug, Drop, Error)]
 pub enum PutBack {
     /// The places that are free are no more than the putters that wait.
@@ -72,16 +73,18 @@ pub enum PeekLost {
 #[error("the queue is shut")]
 pub struct QueueShut;
 
-/// No task is unfinished (gevent API reference, `gevent.queue.JoinableQueue.task_done`: `ValueError`). Nothing was changed.
+/// No task is unfinished (gevent API reference, `gevent.queue.JoinableQueue.task_done`: `ValueError`). Nothing was
+/// changed.
 #[derive(Clone, Copy, Debug, PartialEq, Eq, Error)]
 #[error("more tasks done than put")]
 pub struct TooOften;
 
-/// Values, with those that wait to put one, to take one, to look at one, or for the last task to be done (gevent API reference,
-/// `gevent.queue`: `Queue`, `LifoQueue`, `PriorityQueue`, `JoinableQueue`).
+/// Values, with those that wait to put one, to take one, to look at one, or for the last task to be done (gevent API
+/// reference, `gevent.queue`: `Queue`, `LifoQueue`, `PriorityQueue`, `JoinableQueue`).
 ///
-/// Putters, and getters, are served in order of waiting, and no newcomer goes while as many wait as there are places, or items. A peeker
-/// counts the getters before it. Nothing is put or taken before the waiter completes, so nothing is lost with one that is cancelled.
+/// Putters, and getters, are served in order of waiting, and no newcomer goes while as many wait as there are places,
+/// or items. A peeker counts the getters before it. Nothing is put or taken before the waiter completes, so nothing is
+/// lost with one that is cancelled.
 #[derive(Drop)]
 pub struct GQueue {
     store: Store,
@@ -149,8 +152,9 @@ impl GQueue {
         self.shut
     }
 
-    /// Shuts the queue (gevent API reference, `gevent.queue.Queue.shutdown`); O(1). With `immediate` its items are dropped, and as many tasks
-    /// with them; then it walks, since each item is dropped. Who waits may go, and finds it shut or takes what is left.
+    /// Shuts the queue (gevent API reference, `gevent.queue.Queue.shutdown`); O(1). With `immediate` its items are
+    /// dropped, and as many tasks with them; then it walks, since each item is dropped. Who waits may go, and finds it
+    /// shut or takes what is left.
     pub fn shut(&mut self, immediate: bool)
         ensures { self.new ≡ shut_now immediate self.old }
     {
@@ -163,7 +167,8 @@ impl GQueue {
         self.shut = true;
     }
 
-    /// Puts a value at once, where the free places are more than the putters that wait; O(1), by priority O(log n), where memory is there.
+    /// Puts a value at once, where the free places are more than the putters that wait; O(1), by priority O(log n),
+    /// where memory is there.
     pub fn put_now(&mut self, value: Value) -> Result<(), PutBack>
         requires takes { Takes self.old.kind value }
         requires counts { self.old.unfinished < 2 ^ 63 }
@@ -211,7 +216,8 @@ impl GQueue {
         }
     }
 
-    /// A copy of the next item at once, where the items are more than the getters that wait; O(1), and what the copy of a list takes.
+    /// A copy of the next item at once, where the items are more than the getters that wait; O(1), and what the copy of
+    /// a list takes.
     pub fn peek_now(&self, alloc: Global) -> Result<Value, PeekRefusal>
         ensures ok { IfOk result (λ v. (getters self.now.takers < length self.now.items) × (v ≡ next_value self.now.kind self.now.items)) }
         ensures shut { (result ≡ Err PeekRefusal.ShutDown) ↔ ((self.now.shut ≡ true) × (length self.now.items ≤ getters self.now.takers)) }
@@ -254,7 +260,8 @@ impl GQueue {
         self.drop_joiner(item);
     }
 
-    /// A putter that may go waits no longer; O(1), by priority O(log n). What it puts goes in; into a shut queue it doesn't, and is dropped.
+    /// A putter that may go waits no longer; O(1), by priority O(log n). What it puts goes in; into a shut queue it
+    /// doesn't, and is dropped.
     pub fn complete_put(&mut self, item: u32) -> Result<(), QueueShut>
         requires holds { IsAmongFirst (put_places self.old) (items_put self.old.putters) item }
         requires counts { self.old.unfinished < 2 ^ 63 }
@@ -272,8 +279,9 @@ impl GQueue {
         Ok(())
     }
 
-    /// A getter that may go waits no longer. It gets the next item, where there are more items than getters before it. O(1), by priority
-    /// O(log n); of a shut queue it walks past the getters before it, of which there are none where the first told goes first.
+    /// A getter that may go waits no longer. It gets the next item, where there are more items than getters before it.
+    /// O(1), by priority O(log n); of a shut queue it walks past the getters before it, of which there are none where
+    /// the first told goes first.
     pub fn complete_get(&mut self, item: u32) -> Result<Value, QueueShut>
         requires there { Contains (of_kind gets self.old.takers) item }
         requires holds { IsServed (take_places self.old) self.old.takers item }
@@ -293,9 +301,9 @@ impl GQueue {
         }
     }
 
-    /// A peeker that may go is given a copy of the next item, where there are more items than getters before it, and waits no longer.
-    /// Without memory it waits on. O(1), and what the copy of a list takes; of a shut queue it walks past those before it, of which there
-    /// are none where the first told goes first.
+    /// A peeker that may go is given a copy of the next item, where there are more items than getters before it, and
+    /// waits no longer. Without memory it waits on. O(1), and what the copy of a list takes; of a shut queue it walks
+    /// past those before it, of which there are none where the first told goes first.
     pub fn complete_peek(&mut self, alloc: Global, item: u32) -> Result<Value, PeekLost>
         requires there { Contains (of_kind peeks self.old.takers) item }
         requires holds { IsServed (take_places self.old) self.old.takers item }
@@ -319,8 +327,8 @@ impl GQueue {
         }
     }
 
-    /// A putter begins to wait, with what it puts and room for it; O(1) where memory is there. Without memory the value comes back, and nothing
-    /// is changed.
+    /// A putter begins to wait, with what it puts and room for it; O(1) where memory is there. Without memory the value
+    /// comes back, and nothing is changed.
     pub fn park_put(&mut self, item: u32, value: Value) -> Result<(), Value>
         requires takes { Takes self.old.kind value }
         requires room { 0 < self.old.room }
@@ -408,8 +416,8 @@ impl GQueue {
         }
     }
 
-    /// Makes room for `n` more that wait; each keeps its place, and each putter what it puts. O(1) where there is room; otherwise each is moved
-    /// once.
+    /// Makes room for `n` more that wait; each keeps its place, and each putter what it puts. O(1) where there is room;
+    /// otherwise each is moved once.
     pub fn make_room(&mut self, n: usize) -> Result<(), AllocError>
         ensures room { OnOk result (n ≤ self.new.room) }
         ensures more { self.old.room ≤ self.new.room }
@@ -542,8 +550,8 @@ impl GQueue {
         self.joins.grow(places)
     }
 
-    /// Lets the last getter or peeker that was told wait again, where it may not go, and gives it; O(1). It is a peeker: the item of a
-    /// getter that was told is taken by nobody else.
+    /// Lets the last getter or peeker that was told wait again, where it may not go, and gives it; O(1). It is a
+    /// peeker: the item of a getter that was told is taken by nobody else.
     pub fn untell_taker(&mut self) -> Option<u32>
         ensures none { IfNone result ((self.old.told_takers ≡ 0) ⊎ (getters (take (self.old.told_takers - 1) self.old.takers) < take_places self.old)) }
         ensures differ { Differ (items_of self.old.takers) }
@@ -626,8 +634,8 @@ impl Parking for GQueue {
         }
     }
 
-    /// Lets one that was told, and whose condition fails, wait again, and gives it. It is a peeker, or one that waits for the last task:
-    /// no putter and no getter loses what it was told. O(1).
+    /// Lets one that was told, and whose condition fails, wait again, and gives it. It is a peeker, or one that waits
+    /// for the last task: no putter and no getter loses what it was told. O(1).
     fn next_unready(&mut self) -> Option<u32>
         ensures stays { IsOpen self.old }
         ensures loses { IfSome result (λ item. Contains (of_kind peeks self.old.takers) item ⊎ Contains self.old.joins item) }

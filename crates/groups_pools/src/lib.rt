@@ -11,11 +11,12 @@ use std::alloc::{AllocError, Global};
 use std::marker::Model;
 use waiters::{Parking, Side, WaitList};
 
-/// The members of a group, or of a pool with so many places (gevent API reference, `gevent.pool.Group`, `gevent.pool.Pool`).
+/// The members of a group, or of a pool with so many places (gevent API reference, `gevent.pool.Group`,
+/// `gevent.pool.Pool`).
 ///
-/// Places are given in order of waiting, and no newcomer gets one while as many wait. A place is taken when a member is admitted and never
-/// before: those that were told to go hold nothing yet. Members are admitted by rising numbers, so that one is found by a binary
-/// search.
+/// Places are given in order of waiting, and no newcomer gets one while as many wait. A place is taken when a member is
+/// admitted and never before: those that were told to go hold nothing yet. Members are admitted by rising numbers, so
+/// that one is found by a binary search.
 #[derive(Drop)]
 pub struct Crew {
     size: Option<u64>,
@@ -108,7 +109,8 @@ impl Crew {
         Ok(())
     }
 
-    /// One that waits for a place, and may go, waits no longer, and `g` becomes a member; O(1). Without memory it waits on.
+    /// One that waits for a place, and may go, waits no longer, and `g` becomes a member; O(1). Without memory it waits
+    /// on.
     pub fn complete(&mut self, item: u32, g: u32) -> Result<(), AllocError>
         requires holds { IsAmongFirst (open_places self.old) self.old.places item }
         requires rising { AreBelow g self.old.members }
@@ -283,7 +285,8 @@ impl Parking for Crew {
         }
     }
 
-    /// Lets one that was told that no member is left wait again, where one is left, and gives it. Who was told of a place never loses it. O(1).
+    /// Lets one that was told that no member is left wait again, where one is left, and gives it. Who was told of a
+    /// place never loses it. O(1).
     fn next_unready(&mut self) -> Option<u32>
         ensures stays { self.old.told_places ≤ open_places self.old }
         ensures loses { IfSome result (Contains self.old.joins) }

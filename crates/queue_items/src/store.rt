@@ -10,8 +10,9 @@ use std::alloc::{AllocError, Global};
 use std::collections::VecDeque;
 use std::marker::Model;
 
-/// Values that enter one by one, and leave by the rule of their queue's kind: the oldest first, the newest first, or the least
-/// integer first (gevent API reference, `gevent.queue`: `Queue`, `LifoQueue`, `PriorityQueue`, `JoinableQueue`).
+/// Values that enter one by one, and leave by the rule of their queue's kind: the oldest first, the newest first, or
+/// the least integer first (gevent API reference, `gevent.queue`: `Queue`, `LifoQueue`, `PriorityQueue`,
+/// `JoinableQueue`).
 ///
 /// Integers of a priority queue stand in a heap, the values of every other in a line.
 #[derive(Drop)]
@@ -57,8 +58,8 @@ impl Store {
         }
     }
 
-    /// Makes room for `n` more items, so that as many calls of `push` take no memory. O(1) where there is room; otherwise each item
-    /// is moved once. After an error all is as before but for room.
+    /// Makes room for `n` more items, so that as many calls of `push` take no memory. O(1) where there is room;
+    /// otherwise each item is moved once. After an error all is as before but for room.
     pub fn reserve(&mut self, n: usize) -> Result<(), AllocError>
         ensures room { OnOk result (n ≤ self.new.spare) }
         ensures kept { self.new ≡ store self.old.kind self.old.items self.new.spare self.old.numbered }
@@ -108,7 +109,8 @@ impl Store {
         }
     }
 
-    /// A copy of the item that is next, which stays; `None` exactly where there is none. O(1), and what the copy of a list takes.
+    /// A copy of the item that is next, which stays; `None` exactly where there is none. O(1), and what the copy of a
+    /// list takes.
     pub fn copy_next(&self, alloc: Global) -> Result<Option<Value>, AllocError>
         ensures none { IfOk result (λ o. (o ≡ None) ↔ (length self.now.items ≡ 0)) }
         ensures value { IfOk result (λ o. IfSome o (λ v. v ≡ next_value self.now.kind self.now.items)) }

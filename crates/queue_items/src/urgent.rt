@@ -10,10 +10,11 @@ use std::cmp::Reverse;
 use std::collections::BinaryHeap;
 use std::marker::Model;
 
-/// The items of a priority queue: integers of which the least leaves first, and of equal ones the one that entered first.
+/// The items of a priority queue: integers of which the least leaves first, and of equal ones the one that entered
+/// first.
 ///
-/// Contracts see them in order of entering. Each stands in a binary heap with the number of those that entered before it,
-/// counted since there was none.
+/// Contracts see them in order of entering. Each stands in a binary heap with the number of those that entered before
+/// it, counted since there was none.
 #[derive(Drop)]
 pub struct Urgent {
     heap: BinaryHeap<Reverse<(i64, u64)>>,
@@ -60,8 +61,8 @@ impl Urgent {
         self.heap.len() as u64
     }
 
-    /// Makes room for `n` more, so that as many calls of `push` take no memory. O(1) where there is room; otherwise each integer
-    /// is moved once. After an error all is as before but for room.
+    /// Makes room for `n` more, so that as many calls of `push` take no memory. O(1) where there is room; otherwise
+    /// each integer is moved once. After an error all is as before but for room.
     pub fn reserve(&mut self, n: usize) -> Result<(), AllocError>
         ensures room { OnOk result (n ≤ self.new.spare) }
         ensures kept { self.new ≡ urgent self.old.items self.new.spare self.old.numbered }
