@@ -1,5 +1,5 @@
 -- Integers and truth values through the operators.
-use Rattle.std.proofs.Common.{◌≡◌, refl, ap, sym, subst, ◌∙◌, Bool, true, false, not, ℤ, if◌then◌else◌}
+use Rattle.std.proofs.Common.{◌≡◌, refl, sym, subst, Bool, true, false, not, ℤ, if◌then◌else◌}
 use Rattle.gv_values.specs.declared.value.Outcome.{Outcome}
 use Rattle.gv_values.specs.declared.value.Value.{Value}
 use Rattle.scenario_tree.specs.declared.tree.Binary.{Binary}
