@@ -1,3 +1,4 @@
 mod Below
+pub mod Pairs
 pub mod Steps
 pub mod Waiting

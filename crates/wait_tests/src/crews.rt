@@ -1,5 +1,18 @@
+ghost use Rattle.groups_pools.specs.Seen.{AreBelow};
+
 use groups_pools::Crew;
 use std::test::*;
+use waiters::{Parking, Side};
+
+// The next that waits for a place and may go does, and `g` becomes a member. Says who went, and whether there was memory.
+fn next_enters(pool: &mut Crew, g: u32) -> Option<(u32, bool)>
+    requires { AreBelow g pool.old.members }
+{
+    match pool.tell_place() {
+        Some(item) => Some((item, pool.complete(item, g).is_ok())),
+        None => None,
+    }
+}
 
 #[test]
 fn a_pool_of_one_place(rt: HostRuntime) -> Result<(), Fail> {
@@ -9,6 +22,22 @@ fn a_pool_of_one_place(rt: HostRuntime) -> Result<(), Fail> {
     assert!(rt; !pool.admit_now());
     pool.member_ended(7);
     assert!(rt; pool.admit_now());
+    Ok(())
+}
+
+#[test]
+fn a_newcomer_waits_for_a_place(rt: HostRuntime) -> Result<(), Fail> {
+    let mut pool = Crew::new(rt.alloc(), Some(1))?;
+    assert!(rt; pool.admit_now());
+    pool.admit(7)?;
+    pool.reserve(1)?;
+    pool.park(Side::Only, 3);
+    assert_eq!(rt; pool.next_ready(), None);
+    pool.member_ended(7);
+    assert!(rt; !pool.admit_now());
+    assert_eq!(rt; next_enters(&mut pool, 8), Some((3, true)));
+    assert_eq!(rt; pool.members().first(), Some(&8));
+    assert!(rt; !pool.admit_now());
     Ok(())
 }
 

@@ -12,6 +12,8 @@ mod lives;
 #[cfg(test)]
 mod locks;
 #[cfg(test)]
+mod objects;
+#[cfg(test)]
 mod queues;
 #[cfg(test)]
 mod raws;
