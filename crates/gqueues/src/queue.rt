@@ -280,8 +280,8 @@ impl GQueue {
     }
 
     /// A getter that may go waits no longer. It gets the next item, where there are more items than getters before it.
-    /// O(1), by priority O(log n); of a shut queue it walks past the getters before it, of which there are none where
-    /// the first told goes first.
+    /// O(1), by priority O(log n). Of a shut queue, where all may go, it walks past the getters before it, since no
+    /// places are counted: there are none where the first told goes first.
     pub fn complete_get(&mut self, item: u32) -> Result<Value, QueueShut>
         requires there { Contains (of_kind gets self.old.takers) item }
         requires holds { IsServed (take_places self.old) self.old.takers item }
@@ -302,8 +302,9 @@ impl GQueue {
     }
 
     /// A peeker that may go is given a copy of the next item, where there are more items than getters before it, and
-    /// waits no longer. Without memory it waits on. O(1), and what the copy of a list takes; of a shut queue it walks
-    /// past those before it, of which there are none where the first told goes first.
+    /// waits no longer. Without memory it waits on. O(1), and what the copy of a list takes. Of a shut queue, where all
+    /// may go, it walks past all before it, since no places are counted: there are none where the first told goes
+    /// first.
     pub fn complete_peek(&mut self, alloc: Global, item: u32) -> Result<Value, PeekLost>
         requires there { Contains (of_kind peeks self.old.takers) item }
         requires holds { IsServed (take_places self.old) self.old.takers item }

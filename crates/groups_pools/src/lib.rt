@@ -132,7 +132,8 @@ impl Crew {
         self.drop_join(item);
     }
 
-    /// A member has ended, and its place is free; O(log n) to find it, and one move of those behind it.
+    /// A member has ended, and its place is free; O(log n) to find it, and one move of those behind it, since `members`
+    /// gives all in one piece of memory.
     pub fn member_ended(&mut self, g: u32)
         requires { Contains self.old.members g }
         ensures { self.new ≡ record self.old { members = without g self.old.members } }

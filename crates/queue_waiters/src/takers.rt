@@ -200,7 +200,7 @@ impl Takers {
         }
     }
 
-    /// How many getters stand before a getter; a walk past these.
+    /// How many getters stand before a getter; a walk past these, since no places are counted.
     pub fn before_getter(&self, item: u32) -> u64
         requires { Contains (of_kind gets self.now.entries) item }
         ensures { result ≡ getters_before item self.now.entries }
@@ -209,7 +209,7 @@ impl Takers {
         self.getters.rank_of(item) as u64
     }
 
-    /// How many getters stand before a peeker; a walk past all that do.
+    /// How many getters stand before a peeker; a walk past all that do, peekers too, since no places are counted.
     pub fn before_peeker(&self, item: u32) -> u64
         requires { Contains (of_kind peeks self.now.entries) item }
         ensures { result ≡ getters_before item self.now.entries }
