@@ -13,7 +13,7 @@ use Rattle.stream_net.specs.Writes.{Writes, after_write}
 use Rattle.stream_net.specs.Waits.{woken, woken_if}
 use Rattle.stream_net.specs.Accepts.{Gains}
 use Rattle.stream_net.proofs.MemoryLemmas.{map_set}
-use Rattle.stream_net.proofs.Lists.{live_kept, live_closed, live_more_one, set_over}
+use Rattle.stream_net.proofs.Lists.{live_kept, live_closed, live_more_one}
 use Rattle.mio_net.specs.declared.endpoint.Endpoint.{Endpoint}
 use Rattle.mio_net.specs.Endpoints.{endpoint_meaning, meaning_by}
 
@@ -81,9 +81,6 @@ pub named_one : (endpoints : List Endpoint) (k : ℕ) (old new : Endpoint) → k
 named_one endpoints k old new within e =
     let at : connection_at (map endpoint_meaning endpoints) k ≡ endpoint_meaning (get_or endpoints k old) = get_or-map endpoint_meaning endpoints k old nobody within in
     map_set endpoint_meaning endpoints k new ∙ ap (λ (c : Connection). set (map endpoint_meaning endpoints) k c) (e ∙ ap (λ (c : Connection). woken_if c.closed c) (sym at))
-
-pub named_none : (endpoints : List Endpoint) (k : ℕ) → length endpoints ≤ k → map endpoint_meaning endpoints ≡ woken k (map endpoint_meaning endpoints)
-named_none endpoints k past = let long = length-map endpoints endpoint_meaning in sym (set_over (map endpoint_meaning endpoints) k _ (omega (arith, long, past)))
 
 pub one_more_live : (endpoints : List Endpoint) (p : Endpoint) → p.account.closed ≡ false → live_count (map endpoint_meaning (endpoints ++ p ∷ [])) ≡ live_count (map endpoint_meaning endpoints) + 1
 one_more_live endpoints p still = ap (λ (cs : List Connection). live_count cs) (map-append endpoint_meaning endpoints (p ∷ [])) ∙ live_more_one (map endpoint_meaning endpoints) (endpoint_meaning p) still

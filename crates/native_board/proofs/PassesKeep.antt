@@ -20,9 +20,6 @@ marked_again s t u i x y a b = record {
   knows = b.knows ∙ ((λ k. (Hub (marked (hub_in (a.knows k).0) i y), [])) ∙ (λ k. (Hub (record (hub_of s) { cells = set-set (hub_of s).cells i x y k }), [])));
 }
 
-pub hub_is : (s t : Place) (i : ℕ) (x : HubCell) → IsMarked s t i x → hub_of t ≡ marked (hub_of s) i x
-hub_is s t i x m = ap (λ v. hub_in v.0) m.knows
-
 -- the hub's pass after a post, by its steps
 pub sent_last : (s t u : Place) (i k : ℕ) (x : HubCell) (j : Job) → IsMarked s t i x → IsSent t u i k j → IsSent s u i k j
 sent_last s t u i k x j a b = record {

@@ -73,9 +73,6 @@ rests_trans d m e a b = record {
   jobs = λ posts answers s. b.jobs posts answers (a.jobs posts answers s);
 }
 
-pub fills_refl : (d : DeskView) → Fills d d
-fills_refl d = record { rests = rests_refl d; seen = refl; sweeps = refl; empty = λ h. h; takes = λ i h. h }
-
 pub fills_trans : (d m e : DeskView) → Fills d m → Fills m e → Fills d e
 fills_trans d m e a b = record {
   rests = rests_trans d m e a.rests b.rests;
@@ -158,14 +155,6 @@ hands_swept d m e f none r hub started held waiting = (
   inr (inl (none, d, r.after, rests_refl d, r.swept, sym (ap (λ h. h.sweeps) hub ∙ r.sweeps), sym (ap (λ h. h.seen) hub ∙ r.seen), held ∙ r.held, later_trans d.waiting m.waiting e.waiting r.order (later_same m.waiting e.waiting waiting))),
   same_trans d m e r.same (same_from m e hub started),
 )
-
-pub hands_here : (d m e : DeskView) (f : Finished) (j : Job) → Refills d m → m.held ≡ [] → has_workers m ≡ false → e.hub ≡ m.hub → e.started ≡ m.started → e.held ≡ m.held
-    → m.waiting ≡ posted f.number j ∷ e.waiting → f.outcome ≡ eval j → Hands d e f × SameCells d e
-hands_here d m e f j r none idle hub started held waiting outcome =
-    let before : has_workers d ≡ false = sym (ap (list_any (λ (b : Bool). b)) r.same.started) ∙ idle in (
-      inr (inr (before, held ∙ none, j, sym (r.idle before) ∙ waiting, outcome)),
-      same_trans d m e r.same (same_from m e hub started),
-    )
 
 -- a sweep that found nothing settles the desk, where a worker was started or no job waits
 pub settles : (d m e : DeskView) → d.held ≡ [] → Refills d m → m.held ≡ [] → e.hub ≡ m.hub → e.started ≡ m.started → e.held ≡ m.held → e.waiting ≡ m.waiting

@@ -81,10 +81,6 @@ pub nobody_came : (waiting : List ConnScript) (moment count : ℕ) (first : Opti
 nobody_came waiting moment count None e all h = list_any_none (λ (s : ConnScript). nat_le s.arrives moment) waiting (λ k d within. has_not moment (get_or waiting k d) (h k d (omega (arith, all, within))))
 nobody_came waiting moment count (Some first) e all h = absurd (cc)
 
-pub both : {A : Type 0} (o : Option A) (P Q : A → Type 0) → IfSome o P → IfSome o Q → IfSome o (λ x. P x × Q x)
-both None P Q h g = tt
-both (Some x) P Q h g = (h, g)
-
 -- ---- what a wait tells
 
 module _ (ws : List ConnScript) (told : Option ℕ) (ls : List Line) (moment : ℕ) (until : Option ℕ) where

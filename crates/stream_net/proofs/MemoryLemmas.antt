@@ -1,11 +1,7 @@
 -- A net in memory, one line at a time.
-use Rattle.std.proofs.Common.{◌≡◌, ◌≢◌, ℕ, zero, suc, ◌+◌, ◌-◌, ◌<◌, ◌≤◌, Bool, false, not, cond, List, [], ◌∷◌, ◌++◌, length, take, drop, map, get_or, set, Option, Some, refl, sym, ap, ◌∙◌, subst, arith, slice_set, append-nil, append_assoc, take-add, min, length-drop, length-take-le}
-use Rattle.std.specs.List.{count_by}
+use Rattle.std.proofs.Common.{◌≡◌, ◌≢◌, ℕ, zero, suc, ◌+◌, ◌-◌, ◌<◌, ◌≤◌, Bool, false, List, [], ◌∷◌, ◌++◌, length, take, drop, map, get_or, set, Option, Some, refl, sym, ap, ◌∙◌, subst, arith, slice_set, append_assoc, take-add, min, length-drop, length-take-le}
 use Rattle.gv_values.specs.Counts.{HasRisen}
-use Rattle.std.proofs.lemmas.Grind.{common_steps}
-use Rattle.std.proofs.lemmas.List.Concat.{flat_map-append}
 use Rattle.std.proofs.lemmas.List.{length-map, get_or-map, take_all, take-append-le}
-use Rattle.std.proofs.lemmas.List.Sums.{sum_by-cons}
 use Rattle.stream_net.specs.declared.account.Account.{Account}
 use Rattle.stream_net.specs.declared.line.Line.{Line}
 use Rattle.stream_net.specs.declared.net.ReadEnd.{ReadEnd}
@@ -14,7 +10,7 @@ use Rattle.stream_net.specs.declared.script.Piece.{Piece}
 use Rattle.stream_net.specs.Accounts.{account_meaning, read_after}
 use Rattle.stream_net.specs.Lines.{joined, bytes_at, is_failing, read_of, line_meaning, no_piece}
 use Rattle.stream_net.specs.MemoryNets.{meaning_by}
-use Rattle.stream_net.specs.Nets.{Connection, Changes, Ports, connection_at, nobody, live_count, is_open}
+use Rattle.stream_net.specs.Nets.{Connection, Changes, Ports, connection_at, nobody}
 use Rattle.stream_net.specs.Reads.{Reads, after_read}
 use Rattle.stream_net.specs.Rules.{EndsRead, EndsWrite, Rewrites}
 use Rattle.stream_net.specs.Writes.{Writes, after_write}
@@ -66,22 +62,6 @@ module _ (lines : List Line) (k : ℕ) (old new : Line) (most moment : ℕ) (lis
     failed = λ f. subst (λ (c : Connection). HasRisen c.faults new.account.faults) (sym at_old) (failed f);
   }
 
--- the next piece, once all of one was read
-joined_more : (pieces : List Piece) (k : ℕ) → k < length pieces → joined (take (k + 1) pieces) ≡ joined (take k pieces) ++ bytes_at pieces k
-joined_more pieces k within = grind (arith, common_steps, flat_map-append)
-
-pub next_piece : (pieces : List Piece) (k offset : ℕ) → k < length pieces → length (bytes_at pieces k) ≤ offset → read_of pieces (k + 1) 0 ≡ read_of pieces k offset
-next_piece pieces k offset within long =
-    ap (λ (z : List ℕ). z ++ []) (joined_more pieces k within) ∙ append-nil _ ∙ ap (λ (z : List ℕ). joined (take k pieces) ++ z) (sym (take_all offset (bytes_at pieces k) long))
-
--- the live ones
-pub live_lines_are : (lines : List Line) → count_by (λ (l : Line). not l.account.closed) lines ≡ live_count (map line_meaning lines)
-live_lines_are [] = refl
-live_lines_are (l ∷ lines) =
-    let f : Line → ℕ = λ l. cond (not l.account.closed) 1 0 in
-    let h : Connection → ℕ = λ c. cond (is_open c) 1 0 in
-    sum_by-cons f l lines ∙ ap (λ (n : ℕ). f l + n) (live_lines_are lines) ∙ sym (sum_by-cons h (line_meaning l) (map line_meaning lines))
-
 -- a read or write that failed: the call was counted, and nothing else is changed but what is kept
 pub failed_write : (l m : Line) (a : Account) (calls moment : ℕ) (bytes : List ℕ) → m ≡ record l { calls = calls }
     → ((read written : Option (List ℕ)) (bytes : List ℕ) → account_meaning a read (written_after WriteEnd.Failed bytes written) ≡ after_write WriteEnd.Failed bytes moment a.faults (account_meaning m.account read written))
@@ -118,9 +98,6 @@ pub any_item : {A : Type 0} (xs : List A) (k : ℕ) (d e : A) → k < length xs 
 any_item [] k d e lt = absurd (omega (arith, lt))
 any_item (x ∷ xs) zero d e lt = refl
 any_item (x ∷ xs) (suc k) d e lt = any_item xs k d e (omega (arith, lt))
-
-pub bytes_of_piece : (pieces : List Piece) (place : ℕ) (p : Piece) (bytes : List ℕ) → place < length pieces → p ≡ get_or pieces place p → bytes ≡ p.bytes → bytes ≡ bytes_at pieces place
-bytes_of_piece pieces place p bytes within is e = e ∙ ap (λ (q : Piece). q.bytes) (is ∙ any_item pieces place p no_piece within)
 
 pub given_from : (pieces qs rs : List Piece) (place offset count room : ℕ) (p : Piece) (bytes given before behind : List ℕ) → read_of pieces place offset ≡ before
     → given ≡ take (offset + count - offset) (drop offset bytes) → count ≡ min (length bytes - offset) room → bytes ≡ (get_or qs place p).bytes → qs ≡ pieces → place < length rs → rs ≡ pieces

@@ -134,16 +134,6 @@ set_twice [] k x y = refl
 set_twice (z ∷ xs) zero x y = refl
 set_twice (z ∷ xs) (suc k) x y = ap (λ (zs : List _). z ∷ zs) (set_twice xs k x y)
 
-pub only_changed : (v w : Meaning) (k : ℕ) (change : Connection → Connection) → Changes v w k change → k < length v.connections
-    → (change (connection_at v.connections k)).closed ≡ (connection_at v.connections k).closed → OnlyAt v w k
-only_changed v w k change h within same =
-    let at = changed_at v w k change h within in
-    record {
-      connections = h.connections ∙ ap (λ (c : Connection). slice_set v.connections k c) (sym at);
-      same_closed = ap (λ (c : Connection). c.closed) at ∙ same;
-      rest = h.rest;
-    }
-
 pub only_none : (v : Meaning) (k : ℕ) → OnlyAt v v k
 only_none v k = record {
   connections = sym (set-get_or v.connections k nobody);

@@ -82,9 +82,6 @@ contains_item x ts h = (get_or ts h.0 none, Contains-get_or ts h.0 none in', sym
     at : get_or (items_in ts) h.0 x ≡ (get_or ts h.0 none).item
     at = get_or-map (λ (u : Timer). u.item) ts h.0 none x in'
 
-contains_at : (x : ℕ) (ts : List Timer) (t : Timer) → Contains ts t → t.item ≡ x → Contains (items_in ts) x
-contains_at x ts t h is = subst (Contains (items_in ts)) is (h.0, subst (λ (n : ℕ). h.0 < n) (sym (length-map ts (λ (u : Timer). u.item))) h.1, get_or-map (λ (u : Timer). u.item) ts h.0 t t.item h.1 ∙ ap (λ (u : Timer). u.item) h.2)
-
 -- ---- a table
 
 none_some : {A : Type 0} (o : Option A) (a : A) → o ≡ None → o ≡ Some a → ⊥

@@ -128,9 +128,6 @@ asked_answered app port kept pending request body reply e more =
 
 -- ---- steps one after the other
 
-pub goes_on-then : (app : App) (a b c : Progress) → GoesOn app a b → GoesOn app b c → GoesOn app a c
-goes_on-then app a b c h k more = h more ∙ k more
-
 -- a session that closes has said all
 pub closed_settled : (app : App) (t : Progress) → t.closing ≡ true → IsSettled app t
 closed_settled app t shut =
@@ -164,15 +161,6 @@ stands_kept app fed taken piece old kept is h more =
 pub stands_on : (app : App) (fed taken : List ℕ) (old new : Progress) → GoesOn app old new → new.port ≡ old.port → Stands app fed taken old → Stands app fed taken new
 stands_on app fed taken old new step port h more =
     ap (λ (s : Sent). sent taken false ⨾ s) (sym (step more)) ∙ h more ∙ (λ i. answers app (sym port i) (fed ++ more))
-
--- a session that closes ignores pieces
-pub stands_closed : (app : App) (fed taken piece : List ℕ) (old : Progress) → old.closing ≡ true → Stands app fed taken old → Stands app (fed ++ piece) taken old
-stands_closed app fed taken piece old shut h more =
-    ap (λ (s : Sent). sent taken false ⨾ s) (all more ∙ sym (all (piece ++ more))) ∙ h (piece ++ more)
-    ∙ ap (answers app old.port) (sym (append_assoc fed piece more))
-  where
-    all : (more : List ℕ) → to_come app old more ≡ sent old.pending true
-    all more = λ i. to_come app (progress_at old.port old.stage old.kept old.pending (shut i)) more
 
 pub stands_begun : (app : App) (port : ℕ) (kept pending : List ℕ) → kept ≡ [] → pending ≡ [] → Stands app [] [] (progress_at port AtHead kept pending false)
 unfolding sent_from

@@ -1,6 +1,6 @@
 -- The steps of a session as the code meets them: what was read from the old progress, and how the new one differs.
 use Rattle.std.specs.Prelude.{Result, Ok, Err, OnErr, OnOk, Option, Some, None, IsSome}
-use Rattle.std.proofs.Common.{◌≡◌, ◌+◌, ◌<◌, arith, ℕ, Bool, true, false, List, ◌++◌, refl, sym, ap, ◌∙◌, subst}
+use Rattle.std.proofs.Common.{◌≡◌, ◌+◌, ℕ, Bool, true, false, List, ◌++◌, refl, sym, ap, ◌∙◌, subst}
 use Rattle.http_messages.specs.declared.refusal.Refusal.{Refusal}
 use Rattle.http_messages.specs.declared.request.Request.{Request}
 use Rattle.http_messages.specs.declared.request.Awaited.{Awaited}
@@ -38,10 +38,6 @@ pub open_where_asked : (closing : Bool) (stage : Stage) → IsSome (asked_if_ope
 open_where_asked true stage h = absurd (cc)
 open_where_asked false stage h = refl
 
-pub quiet_where_closing : (closing : Bool) (stage : Stage) → closing ≡ true → asked_if_open closing stage ≡ None
-quiet_where_closing true stage e = refl
-quiet_where_closing false stage e = absurd (cc)
-
 pub quiet_at_head : (closing : Bool) (stage : Stage) → stage ≡ AtHead → asked_if_open closing stage ≡ None
 quiet_at_head true stage e = refl
 quiet_at_head false stage e = ap asked_at e
@@ -55,33 +51,12 @@ pub reply_there : (app : App) (closing : Bool) (stage : Stage) (request : Reques
 reply_there app closing stage request body reply e f h =
     let P : Option (List Pair × List ℕ) → Type 0 = λ asked. IsReplyTo app asked reply in subst P (asked_there closing stage request body e f) h
 
-pub not_asked_at_head : (closing : Bool) (stage : Stage) → stage ≡ AtHead → IsSome (asked_if_open closing stage) → ⊥
-not_asked_at_head true stage e h = absurd (cc)
-not_asked_at_head false stage e h = let P : Stage → Type 0 = λ s. IsSome (asked_at s) in let k : IsSome (asked_at AtHead) = subst P e h in absurd (cc)
-
-pub not_asked_in_body : (closing : Bool) (stage : Stage) (request : Request) (awaited : Awaited) → stage ≡ InBody request awaited → IsSome (asked_if_open closing stage) → ⊥
-not_asked_in_body true stage request awaited e h = absurd (cc)
-not_asked_in_body false stage request awaited e h =
-    let P : Stage → Type 0 = λ s. IsSome (asked_at s) in let k : IsSome (asked_at (InBody request awaited)) = subst P e h in absurd (cc)
-
-pub settled_unless : (closing : Bool) (stage : Stage) (P : Type 0) → IsSome (asked_if_open closing stage) → asked_if_open closing stage ≡ None → P
-settled_unless closing stage P h e = absurd (cc)
-
 -- what is left to do: nothing where no request waits
 abbrev pub work_if : {A : Type 0} → Option A → ℕ → ℕ
 work_if None n = 0
 work_if (Some a) n = n + 1
 
-pub work_falls : {A : Type 0} (old new : Option A) (m n : ℕ) → IsSome old → (IsSome new → n < m) → work_if new n < work_if old m
-work_falls None new m n h less = absurd (cc)
-work_falls (Some a) None m n h less = omega arith
-work_falls (Some a) (Some b) m n h less = let k = less refl in omega arith
-
 -- ---- steps of a session
-
-is_progress : (t : Progress) (port : ℕ) (stage : Stage) (kept pending : List ℕ) (closing : Bool)
-    → t.port ≡ port → t.stage ≡ stage → t.kept ≡ kept → t.pending ≡ pending → t.closing ≡ closing → t ≡ progress_at port stage kept pending closing
-is_progress t port stage kept pending closing p s k q c = λ i. progress_at (p i) (s i) (k i) (q i) (c i)
 
 between : (app : App) (t a b new : Progress) → t ≡ a → GoesOn app a b → new ≡ b → GoesOn app t new
 between app t a b new e h f more = same_progress app t a e more ∙ h more ∙ sym (same_progress app new b f more)
