@@ -1,6 +1,6 @@
 -- What `parse` reads of a number in its one spelling.
-use Rattle.std.proofs.Common.{◌≡◌, ℕ, ◌^◌, ◌<◌, Bool, true, false, ◌&&◌, if◌then◌else◌, List, [], ◌∷◌, length, get_or, Option, Some, None, Result, Ok, Err, OkIff, nat_le, refl, ap, sym, subst, ◌∙◌, le-leb, leb-true, arith}
-use Rattle.std.proofs.lemmas.Bool.{and_from, and_parts}
+use Rattle.std.proofs.Common.{◌≡◌, ℕ, ◌^◌, ◌<◌, Bool, true, false, ◌&&◌, if◌then◌else◌, List, [], ◌∷◌, length, get_or, Option, Some, None, Result, Ok, Err, OkIff, nat_le, refl, ap, sym, subst, ◌∙◌, leb-true, arith}
+use Rattle.std.proofs.lemmas.Bool.{and_parts}
 use Rattle.std.proofs.lemmas.Bool.Decides.{nat_tests}
 use Rattle.std.proofs.lemmas.Str.Parse.{without_leading_plus_none}
 use Rattle.std.specs.Char.{digit_value}
@@ -8,6 +8,7 @@ use Rattle.std.specs.List.{list_all}
 use Rattle.std.specs.Str.Parse.{AllDigits, IsNumeral, digits_value, without_leading_plus}
 use Rattle.gv_values.specs.Names.{is_digit}
 use Rattle.gv_values.specs.Digits.{is_plain_number}
+use Rattle.gv_values.proofs.PlainNumbers.{plain_digits}
 use Rattle.command_words.specs.Words.{number_in}
 
 digit_is_small : (b : ℕ) → is_digit b ≡ true → digit_value b < 10
@@ -16,14 +17,6 @@ digit_is_small b h = grind (arith, nat_tests)
 all_digits : (w : List ℕ) → list_all is_digit w ≡ true → AllDigits 10 w
 all_digits [] h = tt
 all_digits (b ∷ bs) h = let p = and_parts _ _ h in (digit_is_small b p.0, all_digits bs p.1)
-
-plain_digits : (w : List ℕ) → is_plain_number w ≡ true → list_all is_digit w ≡ true
-plain_digits [] h = cc
-plain_digits (b ∷ []) h = and_from _ _ h refl
-plain_digits (b ∷ c ∷ bs) h =
-    let p : ((nat_le 49 b && nat_le b 57) ≡ true) × (list_all is_digit (c ∷ bs) ≡ true) = and_parts _ _ h in
-    let f : (nat_le 49 b ≡ true) × (nat_le b 57 ≡ true) = and_parts _ _ p.0 in
-    and_from _ _ (and_from _ _ (le-leb 48 b (omega (arith, leb-true 49 b f.0))) f.1) p.1
 
 not_empty : (w : List ℕ) → is_plain_number w ≡ true → 0 < length w
 not_empty [] h = cc

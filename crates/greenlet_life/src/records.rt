@@ -3,7 +3,7 @@ ghost use Rattle.std.specs.Prelude.{◌≡◌};
 ghost use Rattle.std.specs.Option.{option_copied};
 ghost use Rattle.greenlet_life.specs.Lives.{fits_end};
 
-use gv_values::{LinkKind, Outcome};
+use gv_values::{LinkKind, Outcome, link_fits};
 
 /// How far a greenlet has come (greenlet documentation: a greenlet is started by the first switch to it, and is dead
 /// once its function has returned or raised).
@@ -75,7 +75,6 @@ pub fn is_fitting(kind: LinkKind, outcome: Option<&Outcome>) -> bool
 {
     match outcome {
         None => false,
-        Some(Outcome::Value(_)) => !matches!(kind, LinkKind::Fault),
-        Some(Outcome::Fault(_)) => !matches!(kind, LinkKind::Value),
+        Some(outcome) => link_fits(kind, outcome),
     }
 }

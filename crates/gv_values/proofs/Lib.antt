@@ -2,3 +2,4 @@ mod NameFits
 mod Equality
 pub mod Fronts
 pub mod Decimals
+pub mod PlainNumbers

@@ -1,3 +1,6 @@
+ghost use Rattle.std.specs.Prelude.{◌≡◌};
+ghost use Rattle.gv_values.specs.JobParts.{job_of};
+
 use crate::fault::FaultKind;
 
 /// What native threads compute of an integer.
@@ -24,6 +27,18 @@ pub enum Job {
     Fail(i64),
     /// The integer itself.
     Echo(i64),
+}
+
+/// The job of this kind and integer.
+pub fn job_of(kind: JobKind, argument: i64) -> Job
+    ensures { result ≡ job_of kind argument }
+{
+    match kind {
+        JobKind::Sum => Job::Sum(argument),
+        JobKind::Collatz => Job::Collatz(argument),
+        JobKind::Fail => Job::Fail(argument),
+        JobKind::Echo => Job::Echo(argument),
+    }
 }
 
 /// How a job ended.

@@ -15,9 +15,9 @@ mod texts;
 mod value;
 
 pub use arith::Arith;
-pub use ends::kept_outcome;
+pub use ends::{kept_outcome, link_fits};
 pub use fault::{Class, FaultKind};
-pub use job::{Answer, Job, JobKind, JobOutcome};
+pub use job::{Answer, Job, JobKind, JobOutcome, job_of};
 pub use link::LinkKind;
 pub use list::{LIST_LIMIT, List, PushRefusal};
 pub use name::Name;

@@ -2,13 +2,12 @@
 ghost use Rattle.std.specs.Prelude.{◌≡◌, ◌==◌, not, filter, count_by};
 ghost use Rattle.std.specs.Option.{option_copied};
 ghost use Rattle.std.specs.List.{list_any};
-ghost use Rattle.gv_values.specs.Ends.{link_fits};
 ghost use Rattle.machine.specs.Items.{is_start_of, is_wait_of, is_timeout_of, goes_at_end};
 ghost use Rattle.machine.specs.Requests.{is_kill, is_link};
 ghost use Rattle.machine.specs.Deliveries.{waiting_of, since_of_wake};
 ghost use Rattle.hub_items.specs.Gone.{gone_of};
 
-use gv_values::{LinkKind, Outcome};
+use gv_values::{Outcome, link_fits};
 use machine::items::{Delivery, Item, Waiting};
 use scenario_tree::Items;
 
@@ -23,17 +22,6 @@ pub enum Gone {
     AtEnd(u32, Outcome),
     /// The link of this number.
     LinkNumbered(i64),
-}
-
-/// Whether a link of this kind is called after this end.
-pub fn link_fits(kind: LinkKind, outcome: &Outcome) -> bool
-    ensures { result ≡ link_fits kind outcome.now }
-{
-    match (kind, outcome) {
-        (LinkKind::Value, Outcome::Fault(_)) => false,
-        (LinkKind::Fault, Outcome::Value(_)) => false,
-        _ => true,
-    }
 }
 
 /// Removes the items that `gone` names.

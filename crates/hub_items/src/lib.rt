@@ -10,6 +10,6 @@ mod waits;
 
 pub use deadlines::least_deadline;
 pub use due::least_below;
-pub use items::{Gone, drop_gone, kills, link_fits, since_of_wake, starts, waiting_of};
+pub use items::{Gone, drop_gone, kills, since_of_wake, starts, waiting_of};
 pub use numbers::{any_numbered, settle_items};
 pub use waits::{WaitKind, earlier};

@@ -10,10 +10,10 @@ ghost use Rattle.hub_requests.specs.Performing.{performed_of};
 
 use crate::kills::kill_greenlets;
 use crate::members::map_elements;
-use crate::operands::{fault_operand, int_operand, job_of};
+use crate::operands::{fault_operand, int_operand};
 use crate::performed::{Performed, raises};
 use crate::waits::come_to_wait;
-use gv_values::{FaultKind, JobKind, Value};
+use gv_values::{FaultKind, JobKind, Value, job_of};
 use hub_state::Hub;
 use machine::arguments::Arguments;
 use machine::items::Waiting;

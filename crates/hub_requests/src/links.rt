@@ -9,8 +9,8 @@ ghost use Rattle.hub_requests.specs.Performing.{performed_of};
 ghost use Rattle.hub_requests.specs.Sendings.{link_stands};
 
 use crate::performed::Performed;
-use gv_values::{LinkKind, Outcome, Value};
-use hub_items::{Gone, link_fits};
+use gv_values::{LinkKind, Outcome, Value, link_fits};
+use hub_items::Gone;
 use hub_state::Hub;
 use machine::items::Delivery;
 use std::alloc::AllocError;

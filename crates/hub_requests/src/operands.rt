@@ -1,10 +1,9 @@
 //! The kinds of operands.
 ghost use Rattle.std.specs.Prelude.{◌≡◌, ◌≤◌, Some, IfOk, IfSome, length};
 ghost use Rattle.machine.specs.Requests.{plain_greenlet, plain_greenlets, plain_greenlet_list, fault_operand, whom_operand, any_greenlet, raw_greenlet, int_operand};
-ghost use Rattle.gv_values.specs.JobParts.{job_of};
 ghost use Rattle.hub_requests.specs.Operands.{plain_scalar};
 
-use gv_values::{FaultKind, Job, JobKind, Scalar, Value, Whom};
+use gv_values::{FaultKind, Scalar, Value, Whom};
 use hub_state::Hub;
 use scenario_tree::Items;
 use std::alloc::{AllocError, Global};
@@ -129,17 +128,5 @@ pub fn int_operand(value: &Value) -> Option<i64>
     match value {
         Value::Int(z) => Some(*z),
         _ => None,
-    }
-}
-
-/// The job of this kind and integer.
-pub fn job_of(kind: JobKind, z: i64) -> Job
-    ensures { result ≡ job_of kind z }
-{
-    match kind {
-        JobKind::Sum => Job::Sum(z),
-        JobKind::Collatz => Job::Collatz(z),
-        JobKind::Fail => Job::Fail(z),
-        JobKind::Echo => Job::Echo(z),
     }
 }

@@ -9,8 +9,7 @@ use crate::conditions::{
     has_set_since_at, has_slot_at, has_unit_at, is_deserted_at, is_free_at, is_taken_at,
 };
 use crate::hub::Hub;
-use gv_values::{Outcome, Whom};
-use hub_items::link_fits;
+use gv_values::{Outcome, Whom, link_fits};
 use hub_objects::{is_flagged, is_owner, job_at};
 use machine::items::{Delivery, Item, Waiting};
 

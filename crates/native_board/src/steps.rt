@@ -20,11 +20,11 @@ use crate::rule::{
 use crate::views::{CellState, View};
 use crate::words::{
     ARGUMENT, CELL_WORDS, FREE, HIGH, LOW, ORDER, POSTED, SIGNAL, STATE, STOP, VALUE, argument_of,
-    done_word, ended_of, job_of, kind_in, number_in, order_word, signed_in, signed_word, state_in,
+    done_word, ended_of, kind_in, number_in, order_word, signed_in, signed_word, state_in,
     value_of,
 };
 use atomic_table::{Seat, Shared};
-use gv_values::{Job, JobKind, JobOutcome};
+use gv_values::{Job, JobKind, JobOutcome, job_of};
 
 pub(crate) type Top = Shared<(), View, u32, BoardRule>;
 

@@ -1,7 +1,7 @@
 //! How a cell's words are written and read.
 ghost use Rattle.std.specs.Prelude.{◌≡◌, ◌<◌, ◌^◌, ◌/◌};
 ghost use Rattle.native_board.specs.Words.{state_in, number_in, kind_in, signed_in, ended_of, value_of, outcome_of};
-ghost use Rattle.gv_values.specs.JobParts.{kind_of, argument_of, job_of};
+ghost use Rattle.gv_values.specs.JobParts.{kind_of, argument_of};
 ghost use Rattle.native_board.specs.declared.views.CellState.TheVariants.{Done};
 
 use crate::views::{CellState, Ended};
@@ -123,17 +123,6 @@ pub(crate) fn argument_of(job: Job) -> i64
 {
     match job {
         Job::Sum(x) | Job::Collatz(x) | Job::Fail(x) | Job::Echo(x) => x,
-    }
-}
-
-pub(crate) fn job_of(kind: JobKind, argument: i64) -> Job
-    ensures { result ≡ job_of kind argument }
-{
-    match kind {
-        JobKind::Sum => Job::Sum(argument),
-        JobKind::Collatz => Job::Collatz(argument),
-        JobKind::Fail => Job::Fail(argument),
-        JobKind::Echo => Job::Echo(argument),
     }
 }
 

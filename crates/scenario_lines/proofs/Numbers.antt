@@ -1,6 +1,6 @@
 -- A number that is cut off at 64 bits has the token of the whole number.
-use Rattle.std.proofs.Common.{◌≡◌, ℕ, zero, suc, ◌+◌, ◌-◌, ◌*◌, ◌^◌, ◌<◌, ◌≤◌, Bool, true, false, ◌&&◌, not, if◌then◌else◌, ◌==◌, nat_le, IsTrue, List, [], ◌∷◌, length, take, drop, get_or, min, pos, neg_ℤ, refl, sym, inl, inr, Option, Some, None, arith}
-use Rattle.std.proofs.lemmas.Bool.{and_from, and_parts, cases_lt, eqb-true, le-leb, le-ltb, leb-true, ne_eqb}
+use Rattle.std.proofs.Common.{◌≡◌, ℕ, zero, suc, ◌+◌, ◌-◌, ◌*◌, ◌^◌, ◌<◌, ◌≤◌, Bool, true, false, not, if◌then◌else◌, ◌==◌, IsTrue, List, [], ◌∷◌, length, take, drop, get_or, min, pos, neg_ℤ, refl, sym, inl, inr, Option, Some, None, arith}
+use Rattle.std.proofs.lemmas.Bool.{and_parts, cases_lt, eqb-true, le-ltb, leb-true, ne_eqb}
 use Rattle.std.proofs.lemmas.Bool.Decides.{nat_tests}
 use Rattle.std.proofs.lemmas.Int.Digits.{digits_value_more}
 use Rattle.std.specs.List.{list_all}
@@ -9,6 +9,7 @@ use Rattle.std.specs.Str.Parse.{digits_value}
 use Rattle.gv_values.specs.Names.{is_digit}
 use Rattle.scenario_grammar.specs.declared.token.Token.TheVariants as token
 use Rattle.gv_values.specs.Digits.{is_plain_number}
+use Rattle.gv_values.proofs.PlainNumbers.{plain_digits}
 use Rattle.scenario_grammar.specs.Tokens.{is_integer, number_token}
 use Rattle.scenario_lines.specs.Numbers.{integer_token, minus_digits}
 
@@ -42,14 +43,6 @@ digit_at (d ∷ ds) (suc i) h all = digit_at ds i (omega (arith, h)) ((and_parts
 
 pub magnitude_step : (ds : List ℕ) (i v : ℕ) → i < length ds → list_all is_digit ds ≡ true → v ≡ min (digits_value 10 (take i ds)) (2 ^ 64 - 1) → min (min (v * 10) (2 ^ 64 - 1) + (get_or ds i 0 - 48)) (2 ^ 64 - 1) ≡ min (digits_value 10 (take (i + 1) ds)) (2 ^ 64 - 1)
 magnitude_step ds i v h all e = rw (e, digits_value_more 10 ds i h, digit_value_is _ (digit_at ds i h all)) (capped_step (digits_value 10 (take i ds)) (get_or ds i 0 - 48))
-
-plain_digits : (w : List ℕ) → is_plain_number w ≡ true → list_all is_digit w ≡ true
-plain_digits [] h = cc
-plain_digits (b ∷ []) h = and_from _ _ h refl
-plain_digits (b ∷ c ∷ bs) h =
-    let p : ((nat_le 49 b && nat_le b 57) ≡ true) × (list_all is_digit (c ∷ bs) ≡ true) = and_parts _ _ h in
-    let f : (nat_le 49 b ≡ true) × (nat_le b 57 ≡ true) = and_parts _ _ p.0 in
-    and_from _ _ (and_from _ _ (le-leb 48 b (omega (arith, leb-true 49 b f.0))) f.1) p.1
 
 some_if : (t : Bool) (xs ys : List ℕ) → (if t then Some xs else None) ≡ Some ys → (t ≡ true) × (xs ≡ ys)
 some_if true xs ys e = (refl, cc)

@@ -1,5 +1,5 @@
 -- Items that leave in steps, each once, and numbers that rise.
-use Rattle.std.proofs.Common.{◌≡◌, ◌≢◌, ℕ, suc, ◌+◌, ◌*◌, ◌%◌, ◌<◌, ◌≤◌, List, [], ◌∷◌, ◌++◌, arith, sym, Contains}
+use Rattle.std.proofs.Common.{◌≡◌, ℕ, ◌+◌, ◌*◌, ◌%◌, ◌<◌, ◌≤◌, List, [], ◌∷◌, ◌++◌, arith, Contains}
 use Rattle.linked_items.specs.Items.{without}
 use Rattle.linked_items.proofs.StrideLemmas.{IsFilled, contains_without}
 use Rattle.groups_pools.specs.Seen.{AreBelow}

@@ -1,4 +1,4 @@
-use Rattle.std.proofs.Common.{[], ap}
+use Rattle.std.proofs.Common.{ap}
 use Rattle.linked_items.specs.Items.{items_of}
 use Rattle.events_locks.specs.Seen.{SeenEvent, SeenResult, SeenSemaphore, SeenLock}
 use Rattle.wait_tests.proofs.Pairs.{none_waits}

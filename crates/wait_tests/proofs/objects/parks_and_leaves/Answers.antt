@@ -1,4 +1,4 @@
-use Rattle.std.proofs.Common.{◌≡◌, [], ◌∷◌, ◌++◌, refl, sym, ap, ◌∙◌, subst, arith, length, Contains}
+use Rattle.std.proofs.Common.{[], ◌∷◌, ◌++◌, refl, sym, ap, ◌∙◌, subst, arith, length, Contains}
 use Rattle.linked_items.specs.Items.{without}
 use Rattle.wait_tests.proofs.objects.parks_and_leaves.Goals as goal
 

@@ -1,4 +1,4 @@
-use Rattle.std.proofs.Common.{◌+◌, ◌*◌, ◌∙◌, arith}
+use Rattle.std.proofs.Common.{◌∙◌, arith}
 use Rattle.wait_tests.proofs.Pairs.{none_waits, pairs_none, getter_absent, peeker_absent, pairs_more, leaving_begins, leaving_same, leaving_next}
 use Rattle.wait_tests.proofs.queues.a_hundred_thousand_getters_and_peekers_by_turns.Goals as goal
 

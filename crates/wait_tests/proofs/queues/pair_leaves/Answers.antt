@@ -1,6 +1,5 @@
-use Rattle.std.proofs.Common.{◌≡◌, ◌*◌, ◌+◌, sym, ap, ◌∙◌, subst, Contains}
+use Rattle.std.proofs.Common.{◌*◌, sym, ap, ◌∙◌, subst, Contains}
 use Rattle.linked_items.specs.Items.{without}
-use Rattle.waiters.specs.declared.parking.Side.{Side}
 use Rattle.waiters.specs.declared.parking.Side.TheVariants.{Get, Peek}
 use Rattle.gqueues.specs.Seen.{SeenQueue}
 use Rattle.wait_tests.proofs.Pairs.{same_waits, get_no_peek, peek_no_get}

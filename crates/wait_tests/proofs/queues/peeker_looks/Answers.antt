@@ -1,4 +1,4 @@
-use Rattle.std.proofs.Common.{◌≡◌, ◌<◌, [], ◌∷◌, refl, sym, ap, ◌∙◌, subst, arith, Contains}
+use Rattle.std.proofs.Common.{◌<◌, refl, sym, ap, ◌∙◌, subst, arith, Contains}
 use Rattle.queue_waiters.specs.Seen.{peeks, of_kind, IsServed}
 use Rattle.gqueues.specs.Seen.{SeenQueue, take_places}
 use Rattle.wait_tests.proofs.queues.peeker_looks.Goals as goal
