@@ -1,5 +1,5 @@
 -- What is read at a place of the code.
-use Rattle.std.proofs.Common.{◌≡◌, refl, ap, sym, subst, ◌∙◌, ℕ, suc, true, false, List, [], ◌∷◌, Some, None}
+use Rattle.std.proofs.Common.{◌≡◌, ap, subst, ◌∙◌, ℕ, suc, true, false, List, ◌∷◌, Some, None}
 use Rattle.std.specs.Prelude.{map}
 use Rattle.scenario_tree.specs.declared.tree.Action.{out-Action}
 use Rattle.scenario_tree.specs.declared.tree.Action.TheVariants as A
@@ -12,7 +12,6 @@ use Rattle.body_blocks.specs.declared.statement.FlatAction.{FlatAction}
 use Rattle.body_blocks.specs.declared.statement.FlatStatement.{FlatStatement}
 use Rattle.body_values.specs.Few.{HasFew, HasFewParts}
 use Rattle.body_values.proofs.Few.{head-few}
-use Rattle.body_frames.specs.AtMove.{IsAtMove}
 use Rattle.body_frames.specs.Entries.{Form, begins, form_of, optional_block, rest}
 
 -- one level of a flat statement is that of its tree
@@ -39,15 +38,5 @@ move_there t b p s todo a h =
 
 -- ---- at a move
 
-pub begins_none : (t : List (List Statement)) (b p : ℕ) → IsAhead t b p None → begins (rest t b p) ≡ true → ⊥
-begins_none t b p h k = absurd_false (sym (begins_not t b p h) ∙ k)
-  where
-    absurd_false : false ≡ true → ⊥
-    absurd_false e = cc
-
 pub few_there : (t : List (List Statement)) (b p : ℕ) (s : FlatStatement) → IsAhead t b p (Some s) → HasFew (rest t b p) → HasFewParts (form_of t s.action)
 few_there t b p s h few = subst HasFewParts (out_form t s.action) (head-few (statement_of t s) (rest t b (suc p)) (subst HasFew h few))
-
-pub rest_at_move : (ss : List Statement) (todo : List Todo) → IsAtMove (Todo.Statements ss ∷ todo) → begins ss ≡ true
-rest_at_move [] todo h = absurd h
-rest_at_move (s ∷ ss) todo h = refl

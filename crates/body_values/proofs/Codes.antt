@@ -12,9 +12,6 @@ use Rattle.body_values.specs.Codes.{function_of}
 abbrev pub Made : List (List Statement) → List FlatFunction → List Function → Type 0
 Made t fs full = (more : List (List Statement)) → map (function_of (t ++ more)) fs ≡ full
 
-pub none_made : (t : List (List Statement)) → Made t [] []
-none_made t = λ more. refl
-
 pub one_made : (t u : List (List Statement)) (fs new : List FlatFunction) (one : FlatFunction) (i : ℕ) (full : List Function) (f : Function) → Grows t u → Made t fs (take i full) →
     ((more : List (List Statement)) → function_of (u ++ more) one ≡ f) → new ≡ fs ++ one ∷ [] → i < length full → f ≡ get_or full i f → Made u new (take (i + 1) full)
 one_made t u fs new one i full f g made own e h k more =

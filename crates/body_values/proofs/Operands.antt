@@ -2,7 +2,7 @@
 use Rattle.std.proofs.Common.{◌≡◌, ap, sym, ◌∙◌, refl, ℕ, suc, ◌<◌, ◌≤◌, nat_lt, true, false, List, [], ◌∷◌, ◌++◌, length, drop, map, Option, Some, None, arith}
 use Rattle.std.specs.Option.{is_some}
 use Rattle.std.specs.Prelude.{Result, Ok, Err, IfSome}
-use Rattle.std.proofs.lemmas.List.{append_assoc, append-nil, drop_all}
+use Rattle.std.proofs.lemmas.List.{append_assoc, drop_all}
 use Rattle.gv_values.specs.declared.fault.FaultKind.{FaultKind}
 use Rattle.gv_values.specs.declared.value.Value.{Value}
 use Rattle.gv_values.specs.declared.value.Outcome.{Outcome}
@@ -31,32 +31,7 @@ pub values_more : (vs : List Value) (e : Expression) (es : List Expression) (a :
     prepended vs (values (e ∷ es) a) ≡ prepended (vs ++ v ∷ []) (values es a)
 values_more vs e es a v h = more_values vs v (meaning e) (map meaning es) a (sym h) (values es a) refl
 
-pub values_stop : (vs : List Value) (e : Expression) (es : List Expression) (a : Around) (f : FaultKind) → Outcome.Fault f ≡ meaning e a →
-    Err f ≡ prepended vs (values (e ∷ es) a)
-values_stop vs e es a f h = rw (sym h)
-
-pub values_all : (vs : List Value) (a : Around) → Ok vs ≡ prepended vs (values [] a)
-values_all vs a = rw (append-nil vs)
-
-more_scalars : (xs : List Scalar) (x : Scalar) (v : Value) (vs : List Value) → scalar_of_value v ≡ Some x → (r : Option (List Scalar)) → scalars vs ≡ r →
-    preceded xs (scalars (v ∷ vs)) ≡ preceded (xs ++ x ∷ []) r
-more_scalars xs x v vs h (Some ys) e = rw (h, e, append_assoc xs (x ∷ []) ys)
-more_scalars xs x v vs h None e = rw (h, e)
-
-pub scalars_more : (xs : List Scalar) (v : Value) (vs : List Value) (x : Scalar) → Some x ≡ scalar_of_value v →
-    preceded xs (scalars (v ∷ vs)) ≡ preceded (xs ++ x ∷ []) (scalars vs)
-scalars_more xs v vs x h = more_scalars xs x v vs (sym h) (scalars vs) refl
-
-pub scalars_none : (xs : List Scalar) (v : Value) (vs : List Value) → None ≡ scalar_of_value v → preceded xs (scalars (v ∷ vs)) ≡ None
-scalars_none xs v vs h = rw (sym h)
-
 -- ---- a list of values
-
-pub listed_none : (vs : List Value) → scalars vs ≡ None → type_error ≡ listed (Ok vs)
-listed_none vs h = rw h
-
-pub listed_all : (vs : List Value) (xs : List Scalar) → scalars vs ≡ Some xs → length xs ≤ 64 → Outcome.Value (Value.List xs) ≡ listed (Ok vs)
-listed_all vs xs h few = let fits : nat_lt 64 (length xs) ≡ false = grind (arith, few) in rw (h, fits)
 
 -- where all are scalars, they are as many
 as_many_more : (v : Value) (vs : List Value) (s : Option Scalar) (r : Option (List Scalar)) → scalar_of_value v ≡ s → scalars vs ≡ r →

@@ -12,8 +12,8 @@ use Rattle.waiters.specs.OneSide.{IsAmongFirst}
 use Rattle.waiters.proofs.PrefixLemmas.{told_without_le, told_within, completed_told, taken_at}
 use Rattle.waiters.proofs.WaitLemmas.{take_items}
 use Rattle.queue_waiters.specs.Seen.{gets, peeks, getters, of_kind, IsServed, items_put, without_putter}
-use Rattle.queue_waiters.proofs.KindLemmas.{kind_length, kind_without, kind_rise, kind_told_within, take_left, take_short, length_take, getters_next, getters_left_getter, differ_in_front, entry_at, item_at, place_in_kind}
-use Rattle.gqueues.specs.Seen.{SeenQueue, IsOpen, free_places, put_places, take_places, with_value_in, with_next_out, putter_gone, taker_gone, shut_now}
+use Rattle.queue_waiters.proofs.KindLemmas.{kind_length, kind_without, kind_rise, kind_told_within, take_left, length_take, getters_next, getters_left_getter, differ_in_front, entry_at, item_at, place_in_kind}
+use Rattle.gqueues.specs.Seen.{SeenQueue, IsOpen, free_places, put_places, take_places, with_value_in, with_next_out, putter_gone, taker_gone}
 use Rattle.gqueues.proofs.PutterLemmas.{length_put, items_put_without}
 
 -- ---- counts
@@ -58,11 +58,6 @@ puts_left true size vs fewer told waiting left fits less within = within
 puts_left false None vs fewer told waiting left fits less within = within
 puts_left false (Some n) vs fewer told waiting left fits less within = omega arith
 
-puts_more : (shut : Bool) (size : Option ℕ) (vs : List Value) (told waiting more : ℕ) → waiting ≤ more → told ≤ cond shut waiting (free_places waiting size vs) → told ≤ cond shut more (free_places more size vs)
-puts_more true size vs told waiting more le fits = omega arith
-puts_more false None vs told waiting more le fits = omega arith
-puts_more false (Some n) vs told waiting more le fits = fits
-
 puts_freed : (shut : Bool) (size : Option ℕ) (vs ws : List Value) (told waiting : ℕ) → length ws ≤ length vs → told ≤ cond shut waiting (free_places waiting size vs) → told ≤ cond shut waiting (free_places waiting size ws)
 puts_freed true size vs ws told waiting le fits = fits
 puts_freed false None vs ws told waiting le fits = fits
@@ -71,10 +66,6 @@ puts_freed false (Some n) vs ws told waiting le fits = omega arith
 put_in : (size : Option ℕ) (vs : List Value) (v : Value) (told waiting left : ℕ) → told ≤ free_places waiting size vs - 1 → told ≤ left → told ≤ free_places left size (vs ++ v ∷ [])
 put_in None vs v told waiting left fits within = within
 put_in (Some n) vs v told waiting left fits within = let m = length-append vs (v ∷ []) in omega arith
-
-put_newcomer : (size : Option ℕ) (vs : List Value) (v : Value) (told waiting : ℕ) → told ≤ waiting → waiting < free_places (waiting + 1) size vs → told ≤ free_places waiting size (vs ++ v ∷ [])
-put_newcomer None vs v told waiting within more = within
-put_newcomer (Some n) vs v told waiting within more = let m = length-append vs (v ∷ []) in omega arith
 
 takes_left : (shut : Bool) (fewer count waiting left items : ℕ) → fewer ≤ count → fewer ≤ left → count ≤ cond shut waiting items → fewer ≤ cond shut left items
 takes_left true fewer count waiting left items less within fits = within
@@ -86,18 +77,8 @@ takes_more false count waiting more items others a b fits = omega arith
 
 -- ---- newcomers
 
-pub shut_open : (q : SeenQueue) (immediate : Bool) → q.told_putters ≤ length q.putters → IsOpen (shut_now immediate q)
-shut_open q true within = record { puts = within; takes = few_told q.told_takers q.takers }
-shut_open q false within = record { puts = within; takes = few_told q.told_takers q.takers }
-
 more_items : (q : SeenQueue) (v : Value) → IsOpen q → getters (take q.told_takers q.takers) ≤ cond q.shut (length q.takers) (length (q.items ++ v ∷ []))
 more_items q v open' = let m = length-append q.items (v ∷ []) in takes_more q.shut (getters (take q.told_takers q.takers)) (length q.takers) (length q.takers) (length q.items) (length (q.items ++ v ∷ [])) (omega arith) (omega arith) open'.takes
-
-pub put_open : (q : SeenQueue) (v : Value) → q.told_putters ≤ length q.putters → IsOpen q → q.shut ≡ false → length q.putters < free_places (length q.putters + 1) q.size q.items → IsOpen (with_value_in v q)
-put_open q v within open' unshut more = record {
-  puts = subst (λ b. q.told_putters ≤ cond b (length q.putters) (free_places (length q.putters) q.size (q.items ++ v ∷ []))) (sym unshut) (put_newcomer q.size q.items v q.told_putters (length q.putters) within more);
-  takes = more_items q v open';
-}
 
 freed : (q : SeenQueue) → IsOpen q → q.told_putters ≤ cond q.shut (length q.putters) (free_places (length q.putters) q.size (without_next q.kind q.items))
 freed q open' = puts_freed q.shut q.size q.items (without_next q.kind q.items) q.told_putters (length q.putters) (none_in (next_place q.kind q.items) q.items) open'.puts
@@ -175,25 +156,6 @@ get_completed q item differ within open' there served = record { puts = freed q 
 
 -- ---- who begins to wait, and who is told
 
-pub put_parked : (q : SeenQueue) (item n : ℕ) (v : Value) → IsOpen q → IsOpen (record q { putters = q.putters ++ (item, v) ∷ []; room = n })
-put_parked q item n v open' = record {
-  puts = (let m = length-append q.putters ((item, v) ∷ []) in puts_more q.shut q.size q.items q.told_putters (length q.putters) (length (q.putters ++ (item, v) ∷ [])) (omega arith) open'.puts);
-  takes = open'.takes;
-}
-
-pub take_parked : (q : SeenQueue) (e : ℕ × ℕ) (n : ℕ) → q.told_takers ≤ length q.takers → IsOpen q → IsOpen (record q { takers = q.takers ++ e ∷ []; room = n })
-take_parked q e n within open' = record {
-  puts = open'.puts;
-  takes = (
-      let m = length-append q.takers (e ∷ []) in
-      let same = ap getters (take_short q.takers q.told_takers e within) in
-      subst (λ k. k ≤ cond q.shut (length (q.takers ++ e ∷ [])) (length q.items)) (sym same)
-      (takes_more q.shut (getters (take q.told_takers q.takers)) (length q.takers) (length (q.takers ++ e ∷ [])) (length q.items) (length q.items) (omega arith) (omega arith) open'.takes));
-}
-
-pub putter_told : (q : SeenQueue) → IsOpen q → q.told_putters < put_places q → IsOpen (record q { told_putters = q.told_putters + 1 })
-putter_told q open' lt = record { puts = omega arith; takes = open'.takes }
-
 one_at_most : (b : Bool) → cond b 1 0 ≤ 1
 one_at_most true = omega arith
 one_at_most false = omega arith
@@ -209,9 +171,6 @@ pub taker_untold : (q : SeenQueue) → IsOpen q → IsOpen (record q { told_take
 taker_untold q open' = record { puts = open'.puts; takes = (let rise = kind_rise gets q.takers (q.told_takers - 1) q.told_takers (omega arith) in let fits = open'.takes in omega arith) }
 
 -- ---- who loses what it was told
-
-pub no_putter_loses : (q : SeenQueue) → IsOpen q → put_places q < q.told_putters → ⊥
-no_putter_loses q open' lt = let fits = open'.puts in omega arith
 
 pub no_getter_loses : (q : SeenQueue) → IsOpen q → (item kind : ℕ) → 0 < q.told_takers → slice_get q.takers (q.told_takers - 1) ≡ Some (item, kind) → take_places q ≤ getters (take (q.told_takers - 1) q.takers) → kind ≢ 0
 no_getter_loses q open' item kind some at unserved getter =

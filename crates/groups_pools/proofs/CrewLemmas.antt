@@ -15,10 +15,6 @@ use Rattle.groups_pools.specs.declared.Crew.TheInside.{Inside}
 
 -- ---- members by rising numbers
 
-above_more : (n m : ℕ) (ms : List ℕ) → n ≤ m → AreAbove m ms → AreAbove n ms
-above_more n m [] le h = tt
-above_more n m (x ∷ ms) le h = (let a = h.0 in omega arith, above_more n m ms le h.1)
-
 above_last : (m g : ℕ) (ms : List ℕ) → m < g → AreAbove m ms → AreAbove m (ms ++ g ∷ [])
 above_last m g [] lt h = (lt, tt)
 above_last m g (x ∷ ms) lt h = (h.0, above_last m g ms lt h.1)
@@ -110,11 +106,6 @@ place_taken (Some size) ms g told waiting left fits within = let n = length-appe
 pub place_left_open : (size : Option ℕ) (ms : List ℕ) (told' told waiting left : ℕ) → told ≤ free_places waiting size ms → told' ≤ told → told' ≤ left → told' ≤ free_places left size ms
 place_left_open None ms told' told waiting left fits less within = within
 place_left_open (Some size) ms told' told waiting left fits less within = omega arith
-
--- one more waits
-pub place_more_wait : (size : Option ℕ) (ms : List ℕ) (told waiting more : ℕ) → waiting ≤ more → told ≤ free_places waiting size ms → told ≤ free_places more size ms
-place_more_wait None ms told waiting more le fits = omega arith
-place_more_wait (Some size) ms told waiting more le fits = fits
 
 -- a member leaves
 pub place_freed : (size : Option ℕ) (ms : List ℕ) (g told waiting : ℕ) → told ≤ free_places waiting size ms → told ≤ free_places waiting size (without g ms)

@@ -80,8 +80,5 @@ goes_to_blind up g (Place.AtEnd left o) p s = after_end_blind up g o p (drop_ite
 pub resumes_blind : (up : Landing) (g : ℕ) (frame : Frame) (o : Outcome) (p : Phase) (s : State) → resumes up g frame o (with_phase g p s) ≡ resumes up g frame o s
 resumes_blind up g frame o p s = goes_on_blind up g (unwind frame.todo [] (leaving_of o) (given frame o)) p s
 
-pub function_blind : (g : ℕ) (p : Phase) (s : State) → (greenlet g (with_phase g p s)).function ≡ (greenlet g s).function
-function_blind g p s = same_function s.greenlets g p
-
 pub starts_blind : (up : Landing) (g : ℕ) (args : List Value) (p : Phase) (s : State) → starts up g args (with_phase g p s) ≡ starts up g args s
 starts_blind up g args p s = rw (same_function s.greenlets g p) (goes_on_blind up g _ p (say (Line.Start g (function_of (greenlet g s).function s).name) s))

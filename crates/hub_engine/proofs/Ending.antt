@@ -12,14 +12,12 @@ use Rattle.machine.specs.Run.{Ran as Whole, run}
 use Rattle.machine.specs.State.{State}
 use Rattle.scenario_tree.specs.declared.tree.Scenario.{Scenario}
 use Rattle.std.specs.Prelude.{Result, Ok, Err}
-use Rattle.gv_values.specs.Counts.{HasRisen}
-use Rattle.world.specs.Worlds.{GoesOn}
 use Rattle.hub_engine.specs.declared.broken.Broken.{Broken}
 use Rattle.hub_engine.specs.declared.run.End.{End}
 use Rattle.hub_engine.specs.declared.run.Ran.{Ran}
 use Rattle.hub_engine.specs.Ends.{CountsOf, HasLogged, HasNumbersAt, IsPartLogged, RanTo, WroteAhead, end_of, end_of_run}
 use Rattle.hub_engine.specs.Outside.{Outside}
-use Rattle.hub_engine.specs.Written.{HasBroken, HasEnded, Runs, RunsTo, Tells, ended_as, finished, preceded}
+use Rattle.hub_engine.specs.Written.{HasBroken, HasEnded, Runs, RunsTo, ended_as, finished, preceded}
 use Rattle.hub_engine.proofs.Giving.{answers_of_append, legal_append}
 use Rattle.hub_engine.proofs.Texts.{text_of_append}
 use Rattle.machine_turns.proofs.Taking.{run-takes}
@@ -168,27 +166,8 @@ pub ran_legal : (v w : Outside) (c : Scenario) (turns moves : ℕ) (r : Result E
 ran_legal v w c turns moves (Ok end) s f e h = ended_legal v w (run c turns moves) end s f e h
 ran_legal v w c turns moves (Err b) s f e h = broken_legal v w c turns moves f e h
 
-pub ran_rule : (v w : Outside) (whole : Runs) (r : Result End Broken) (s : State) → RunsTo r v w whole s → GoesOn v.means w.means
-ran_rule v w whole (Ok end) s h = h.running.given.done.rest
-ran_rule v w whole (Err b) s h = h.done.rest
-
 pub ran_numbers : (v w : Outside) (whole : Runs) (r : Result End Broken) (s : State) (came : Ran) → v.means.answers ≡ [] → RunsTo r v w whole s → CountsOf came s →
     HasNumbersAt (ended_as r) came (whole w.means.answers).state
 ran_numbers v w whole (Ok end) s came e h k = ended_numbers v w whole end s came e h k
 ran_numbers v w whole (Err Broken.Memory) s came e h k = tt
 ran_numbers v w whole (Err Broken.Write) s came e h k = tt
-
-no_fault : (c : StopCause) → end_of c ≡ End.WriteFault → ⊥
-no_fault (StopCause.Value v) e = cc e
-no_fault (StopCause.Fault k) e = cc e
-no_fault StopCause.NoTurns e = cc e
-no_fault StopCause.NoMoves e = cc e
-no_fault StopCause.NoGreenlets e = cc e
-no_fault StopCause.NoLinks e = cc e
-no_fault StopCause.NoKills e = cc e
-
--- a fault of writing is told only where the count rose
-pub ran_fault : (v w : Outside) (whole : Runs) (r : Result End Broken) (s : State) (old new : ℕ) → RunsTo r v w whole s → Tells r old new → ended_as r ≡ End.WriteFault → HasRisen old new
-ran_fault v w whole (Ok end) s old new h t e = absurd (no_fault h.cause (sym h.is_end ∙ e))
-ran_fault v w whole (Err Broken.Memory) s old new h t e = absurd (cc e)
-ran_fault v w whole (Err Broken.Write) s old new h t e = t

@@ -45,10 +45,6 @@ pub answers_of_logged : (posts : List Post) → answers_of (map logged posts) �
 answers_of_logged [] = refl
 answers_of_logged (p ∷ posts) = answers_of_logged posts
 
-pub legal_logged : (before : List PostedJob) (answers : List Answer) (posts : List Post) → AreLegal before answers (map logged posts)
-legal_logged before answers [] = tt
-legal_logged before answers (p ∷ posts) = legal_logged (before ++ posted p.number p.job ∷ []) answers posts
-
 -- ---- what was done with a world
 
 -- nothing of what stays has changed

@@ -62,9 +62,6 @@ standing_postable posts answers (Stand.Going g body) s k = postable posts s.post
 standing_postable posts answers Stand.Resting s k = postable posts s.posts s.jobs k.posts_are
 standing_postable posts answers (Stand.Over cause) s k = postable posts s.posts s.jobs k.posts_are
 
-pub none_postable : (before : List PostedJob) (posts : List Post) → posts ≡ [] → ArePostable before posts
-none_postable before posts e = subst (ArePostable before) (sym e) tt
-
 -- ---- the loop over the posts of a step
 
 first_of : {X : Type 0} (xs : List X) (i : ℕ) (d : X) → i < length xs → drop i xs ≡ get_or xs i d ∷ drop (i + 1) xs

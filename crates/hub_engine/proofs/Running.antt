@@ -166,9 +166,6 @@ broken_first v whole = record {
   ahead = λ before last e. absurd (none_last before last e);
 }
 
-pub running_given_up : (u v : Outside) (whole left : Runs) → IsRunning u v whole left → HasBroken u v whole
-running_given_up u v whole left r = running_broken u v v whole left r (broken_first v left)
-
 -- ---- a part without answers
 
 pub part_run : (v w : Outside) (whole left : Runs) (lines : List Line) (posts : List Post) (blocked : List State) →

@@ -18,18 +18,6 @@ object_out [] o y h = refl
 object_out (x ∷ os) zero y h = grind arith
 object_out (x ∷ os) (suc o) y h = ap (λ ys. x ∷ ys) (object_out os o y (omega (arith, h)))
 
-pub counted_at : (os : List Object) (o : ℕ) (d : Object) → AreCounted os → o < length os → IsCounted (slice_index_or os o d)
-counted_at [] o d a h = absurd (omega (arith, h))
-counted_at (x ∷ os) zero d a h = a 0
-counted_at (x ∷ os) (suc o) d a h = counted_at os o d (λ p. a (suc p)) (omega (arith, h))
-
-pub counted_set : (os : List Object) (o : ℕ) (x : Object) → AreCounted os → IsCounted x → AreCounted (slice_set os o x)
-counted_set [] o x a h p = a p
-counted_set (y ∷ os) zero x a h zero = h
-counted_set (y ∷ os) zero x a h (suc p) = a (suc p)
-counted_set (y ∷ os) (suc o) x a h zero = a 0
-counted_set (y ∷ os) (suc o) x a h (suc p) = counted_set os o x (λ q. a (suc q)) h p
-
 few : (p : ℕ → Bool) (xs : List ℕ) → length (filter p xs) ≤ length xs
 few p [] = omega arith
 few p (x ∷ xs) = by (p x) (few p xs)

@@ -24,9 +24,6 @@ leavers_differ i j a b e = omega arith
 pub record HasLeavers (xs : List ℕ) (i : ℕ) : Type 0 where
   pub there : (j : ℕ) → i ≤ j → j < 20000 → Contains xs (leaver j)
 
-pub leavers_begin : (xs : List ℕ) → IsFilled xs 20000 → HasLeavers xs 0
-leavers_begin xs is = record { there = λ j a b. is.there (leaver j) (omega arith) }
-
 pub leavers_next : (xs : List ℕ) (i : ℕ) → i < 20000 → HasLeavers xs i → HasLeavers (without (leaver i) xs) (i + 1)
 leavers_next xs i lt is = record {
   there = λ j a b. contains_without (leaver i) (leaver j) xs (λ e. absurd (omega (arith, leavers_differ j i b lt e))) (is.there j (omega arith) b);
