@@ -1,4 +1,5 @@
-# The crates that TOP stands on and TOP itself, each after those that it uses: awk -v top=gvr -f crates_below.awk crates.txt
+# The crates that TOP stands on and TOP itself, each after those that it uses:
+# awk -v top=gvr -f tools/crates_below.awk crates.txt
 /^[a-z]/ { split($0, sides, ":"); split(sides[1], name, " "); uses[name[1]] = sides[2] }
 END { visit(top) }
 function visit(crate,   names, count, i) {

@@ -1,9 +1,10 @@
 #!/usr/bin/env python3
 """What each crate costs the gate: gate_times.py PID FILE
 
-Watches the checks that run below the process PID, once a second, until that ends or SIGTERM tells it to stop. Then it writes to
-FILE the processor seconds of each crate's proof, of its tests' proof and of its edits, the dearest crate first, and ends
-with one line of sums to standard error. What a check takes after its last look, under a second, is not seen."""
+Watches the checks that run below the process PID, once a second, until that ends or SIGTERM tells it to stop. Then it
+writes to FILE the processor seconds of each crate's proof, of its tests' proof and of its edits, the dearest crate
+first, and ends with one line of sums to standard error. What a check takes after its last look, under a second, is not
+seen."""
 import os
 import pathlib
 import signal
@@ -34,7 +35,7 @@ def is_below(pid, top, found):
 
 
 def look(top, root, seen):
-    """Notes each check that runs now, by its process: its crate, which part of the gate it is, and its seconds so far."""
+    """Notes each check that runs now, by its process: its crate, its part of the gate, and its seconds so far."""
     found = processes()
     for pid, (parent, words, folder, seconds) in found.items():
         is_check = "--crate-name" in words[:-1]
