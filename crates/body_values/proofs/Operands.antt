@@ -22,15 +22,6 @@ abbrev pub preceded : List Scalar → Option (List Scalar) → Option (List Scal
 preceded xs (Some ys) = Some (xs ++ ys)
 preceded xs None = None
 
-more_values : (vs : List Value) (v : Value) (m : Meaning) (ms : List Meaning) (a : Around) → m a ≡ Outcome.Value v → (r : Result (List Value) FaultKind) → meanings ms a ≡ r →
-    prepended vs (meanings (m ∷ ms) a) ≡ prepended (vs ++ v ∷ []) r
-more_values vs v m ms a h (Ok ws) e = rw (h, e, append_assoc vs (v ∷ []) ws)
-more_values vs v m ms a h (Err f) e = rw (h, e)
-
-pub values_more : (vs : List Value) (e : Expression) (es : List Expression) (a : Around) (v : Value) → Outcome.Value v ≡ meaning e a →
-    prepended vs (values (e ∷ es) a) ≡ prepended (vs ++ v ∷ []) (values es a)
-values_more vs e es a v h = more_values vs v (meaning e) (map meaning es) a (sym h) (values es a) refl
-
 -- ---- a list of values
 
 -- where all are scalars, they are as many

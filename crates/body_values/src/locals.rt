@@ -10,23 +10,17 @@ ghost use Rattle.machine.specs.Greenlets.{named};
 ghost use Rattle.body_values.specs.Places.{IsPlaceOf};
 
 use crate::front::pop_first;
+use gv_values::digits::same_bytes;
 use gv_values::{Name, Value};
 use machine::state::Local;
 use scenario_tree::{Expression, Items};
 use std::alloc::{AllocError, Global};
 
-/// Whether these are the same bytes.
-pub fn bytes_eq(a: &[u8], b: &[u8]) -> bool
-    ensures { result ≡ name_eq a.now b.now }
-{
-    a == b
-}
-
 /// Whether these are the same name.
 pub fn name_eq(a: &Name, b: &Name) -> bool
     ensures { result ≡ name_eq a.now b.now }
 {
-    bytes_eq(a.bytes(), b.bytes())
+    same_bytes(a.bytes(), b.bytes())
 }
 
 /// The name takes the value.

@@ -89,7 +89,7 @@ impl Objects {
         self.all.get(o as usize)
     }
 
-    /// All of them.
+    /// The objects, in order of declaration.
     pub fn as_slice(&self) -> &[Object]
         ensures same { result.now ≡ self.now }
         ensures counted { AreCounted self.now }

@@ -57,6 +57,7 @@ use Rattle.machine.specs.Run.{GoingOn, Passed, Ran, Source, after_answer, after_
 use Rattle.machine.specs.Settle.{settle}
 use Rattle.machine.specs.Waits.{Performed, add_member, comes, completes, drawn, draws, gathered, late_outcome, made_member, map_ends, map_goes_on, maps, nothing, outcome_of_greenlet, parked, peeks_item, puts_item, raises, takes_item, until_of, waits}
 use Rattle.machine.specs.Objects.{is_left, is_shut, item_of, name_of_object, object_at, with_item, with_item_taken, with_object}
+use Rattle.machine.proofs.Scripts.{answers_of-posts}
 use Rattle.trace_text.specs.LineTexts.{answers_of as answers_told}
 use Rattle.machine_told.specs.Told.{post_told, posts_told}
 
@@ -615,16 +616,12 @@ posts-logged : (posts : List Post) (log : List LogEntry) → posts_of (map logge
 posts-logged [] log = refl
 posts-logged (post ∷ posts) log = ap (λ ps. posted_as post ∷ ps) (posts-logged posts log)
 
-answers-logged : (posts : List Post) (log : List LogEntry) → answers_of (map logged posts ++ log) ≡ answers_of log
-answers-logged [] log = refl
-answers-logged (post ∷ posts) log = answers-logged posts log
-
 -- what comes first tells its posts
 after-part : (xs ys : List Line) (posts : List Post) (log : List LogEntry) → TellsPosts xs posts → TellsLog ys log → TellsLog (xs ++ ys) (map logged posts ++ log)
 after-part xs ys posts log x y =
     record {
       posts_are = flat_map-append post_told xs ys ∙ ap₂ (λ a b. a ++ b) x.posts_are y.posts_are ∙ sym (posts-logged posts log);
-      answers_are = answers-append xs ys ∙ ap₂ (λ a b. a ++ b) x.no_answer y.answers_are ∙ sym (answers-logged posts log);
+      answers_are = answers-append xs ys ∙ ap₂ (λ a b. a ++ b) x.no_answer y.answers_are ∙ sym (answers_of-posts posts log);
     }
 
 abbrev RunTells : Ran → Type 0

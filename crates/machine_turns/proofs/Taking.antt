@@ -11,19 +11,15 @@ use Rattle.machine.specs.State.{State}
 use Rattle.machine.specs.Landing.{Next, lands, starts}
 use Rattle.machine.specs.Questions.{block_line, question, take_answer}
 use Rattle.machine.specs.Run.{GoingOn, Passed, Ran, Source, after_exit, after_question, after_start, after_turn, asks, first_state, given_out, logged, loop_exit, run, run_turns, runs, silent, turn}
+use Rattle.machine.proofs.Scripts.{answers_of-posts}
 use Rattle.machine_turns.specs.Logs.{TakesFirst}
-
--- posts name no answers
-posts-without : (posts : List Post) (log : List LogEntry) → answers_of (map logged posts ++ log) ≡ answers_of log
-posts-without [] log = refl
-posts-without (post ∷ posts) log = posts-without posts log
 
 -- what goes on takes the first of its answers
 abbrev Takes : GoingOn → Type 0
 Takes go = (answers : List Answer) (s : State) → TakesFirst answers (go (Source.Given answers) s).log
 
 given-takes : (p : Passed) (r : Ran) (answers : List Answer) → TakesFirst answers r.log → TakesFirst answers (given_out p r).log
-given-takes p r answers h = record { left = h.left; are = h.are ∙ ap (λ z. z ++ h.left) (sym (posts-without p.posts r.log)) }
+given-takes p r answers h = record { left = h.left; are = h.are ∙ ap (λ z. z ++ h.left) (sym (answers_of-posts p.posts r.log)) }
 
 none-taken : (answers : List Answer) → TakesFirst answers []
 none-taken answers = record { left = answers; are = refl }

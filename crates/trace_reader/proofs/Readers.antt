@@ -164,6 +164,3 @@ name_read (b ∷ bs) r h e =
     let front : take (word_length ((b ∷ bs) ++ r)) ((b ∷ bs) ++ r) ≡ b ∷ bs = ap (λ n. take n ((b ∷ bs) ++ r)) long ∙ take-append_seam (b ∷ bs) r in
     let back : drop (word_length ((b ∷ bs) ++ r)) ((b ∷ bs) ++ r) ≡ r = ap (λ n. drop n ((b ∷ bs) ++ r)) long ∙ drop-append_seam (b ∷ bs) r in
     rw (front, back, h)
-
--- for the code that reads as the definitions do
-pub ruleset reading = (and_then-is, and_then-none, after-is, after-none, or_else-is, or_else-none)
