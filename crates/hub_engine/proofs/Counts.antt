@@ -12,17 +12,17 @@ use Rattle.scenario_tree.specs.declared.tree.Scenario.{Scenario}
 use Rattle.scenario_grammar.specs.declared.keyword.Keyword.{Keyword}
 use Rattle.scenario_grammar.specs.declared.token.Token.{Token}
 use Rattle.scenario_grammar.specs.declared.token.Token.TheVariants as token
-use Rattle.scenario_grammar.specs.Blocks.{Row, declaration_rows, function_rows, profile_rows, scenario_rows}
+use Rattle.scenario_grammar.specs.Blocks.{TreeLine, declaration_lines, function_lines, profile_lines, scenario_lines}
 use Rattle.scenario_grammar.specs.Phrases.{object_tokens, phrase_tokens}
 use Rattle.scenario_grammar.specs.Tokens.{Written, ◌⊕◌, ◌▹◌, each, name, number, only_if}
 use Rattle.scenario_print.specs.Texts.{HasText, has_words}
 use Rattle.machine.specs.Run.{first_state, object_of}
 use Rattle.hub_objects.specs.Counted.{AreCounted, IsCounted}
 
-abbrev AllWords : Written Row → Type 0
-AllWords w = IsSomeAnd w (λ rows. IsTrue (list_all has_words rows))
+abbrev AllWords : Written TreeLine → Type 0
+AllWords w = IsSomeAnd w (λ tree_lines. IsTrue (list_all has_words tree_lines))
 
-split : (a b : Written Row) → AllWords (a ⊕ b) → AllWords a × AllWords b
+split : (a b : Written TreeLine) → AllWords (a ⊕ b) → AllWords a × AllWords b
 split (Some xs) (Some ys) h = and_parts (list_all has_words xs) (list_all has_words ys) (rw (list_all-append has_words xs ys) at h)
 split (Some xs) None h = absurd h
 split None b h = absurd h
@@ -56,7 +56,7 @@ sized (Declared.Pool x) n h = (omega arith, omega arith)
 sized (Declared.Native x) n h = (omega arith, omega arith)
 sized Declared.Channel n h = (omega arith, omega arith)
 
-written : (d : Declaration) → AllWords (declaration_rows d) → is_some (object_tokens d.object d.name) ≡ true
+written : (d : Declaration) → AllWords (declaration_lines d) → is_some (object_tokens d.object d.name) ≡ true
 unfolding phrase_tokens
 written d h = (and_parts (is_some (object_tokens d.object d.name)) true h).0
 
@@ -68,13 +68,13 @@ more : (d : Declaration) (ds : List Declaration) → IsCounted (object_of d.obje
 more d ds here rest zero = here
 more d ds here rest (suc o) = rest o
 
-declared : (ds : List Declaration) → AllWords (each declaration_rows ds) → AreCounted (map (λ d. object_of d.object) ds)
+declared : (ds : List Declaration) → AllWords (each declaration_lines ds) → AreCounted (map (λ d. object_of d.object) ds)
 declared [] h = none-counted
 declared (d ∷ ds) h =
-    let parts = split (declaration_rows d) (each declaration_rows ds) h in
+    let parts = split (declaration_lines d) (each declaration_lines ds) h in
     more d ds (sized d.object d.name (written d parts.0)) (declared ds parts.1)
 
 -- a scenario that has a text has counts that fit
 pub text_is_counted : (c : Scenario) → HasText c → AreCounted (first_state c).objects
-unfolding scenario_rows
-text_is_counted c h = declared c.objects (split (profile_rows c.profile) (each declaration_rows c.objects) (split (profile_rows c.profile ⊕ each declaration_rows c.objects) (each function_rows c.functions) h).0).1
+unfolding scenario_lines
+text_is_counted c h = declared c.objects (split (profile_lines c.profile) (each declaration_lines c.objects) (split (profile_lines c.profile ⊕ each declaration_lines c.objects) (each function_lines c.functions) h).0).1

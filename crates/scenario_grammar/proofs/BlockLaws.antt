@@ -15,7 +15,7 @@ use Rattle.scenario_grammar.specs.declared.building.OpenBlock.{OpenBlock}
 use Rattle.scenario_grammar.specs.declared.building.Opening.{Opening}
 use Rattle.scenario_grammar.specs.declared.building.Opening.TheVariants as opening
 use Rattle.scenario_grammar.specs.Tokens.{Written, ◌⊕◌, each}
-use Rattle.scenario_grammar.specs.Blocks.{Row, line, mark, statement_rows, action_rows, block_within, except_rows}
+use Rattle.scenario_grammar.specs.Blocks.{TreeLine, line, mark, statement_lines, action_lines, block_within, except_lines}
 use Rattle.scenario_grammar.specs.Building.{Building, at, opened, added, changed, else_of, except_by, finally_by, caught, ended, step}
 use Rattle.scenario_grammar.specs.Parsed.{standing, kind_of}
 use Rattle.scenario_grammar.specs.Places.{Then, Catching, States, Opens, Parts, Catches, Finishes, Ends, misplaced, is_try, is_trying}
@@ -28,11 +28,11 @@ unfoldable pub follow : Building → List (ℕ × Phrase) → Option Building
 follow b [] = Some b
 follow b (l ∷ ls) = elim (misplaced (standing b) (role l.1)) [ Some r ↦ None | None ↦ follow (step b l.0 l.1) ls ]
 
-abbrev pub Said : ℕ × Phrase → Row → Type 0
+abbrev pub Said : ℕ × Phrase → TreeLine → Type 0
 Said l r = (l.1 ≡ r.says) × IfSome r.at (λ n. l.0 ≡ n)
 
--- the lines say what the rows say
-abbrev pub AreSaid : List (ℕ × Phrase) → List Row → Type 0
+-- the lines say what the tree_lines say
+abbrev pub AreSaid : List (ℕ × Phrase) → List TreeLine → Type 0
 AreSaid [] [] = Unit {0}
 AreSaid [] (r ∷ rs) = ⊥
 AreSaid (l ∷ ls) [] = ⊥
@@ -57,7 +57,7 @@ follow_then b c d [] ms e f = let same : b ≡ c = cc in rw same f
 follow_then b c d (l ∷ ls) ms e f =
     further (misplaced (standing b) (role l.1)) (follow (step b l.0 l.1) ls) (follow (step b l.0 l.1) (ls ++ ms)) c d (λ g. follow_then (step b l.0 l.1) c d ls ms g f) e
 
-record Split (ls : List (ℕ × Phrase)) (rs ss : List Row) : Type 0 where
+record Split (ls : List (ℕ × Phrase)) (rs ss : List TreeLine) : Type 0 where
   first : List (ℕ × Phrase)
   second : List (ℕ × Phrase)
   whole : first ++ second ≡ ls
@@ -65,56 +65,56 @@ record Split (ls : List (ℕ × Phrase)) (rs ss : List Row) : Type 0 where
   said_second : AreSaid second ss
 
 -- the lines of two parts are those of the one and then those of the other
-split : (ls : List (ℕ × Phrase)) (rs ss : List Row) → AreSaid ls (rs ++ ss) → Split ls rs ss
+split : (ls : List (ℕ × Phrase)) (rs ss : List TreeLine) → AreSaid ls (rs ++ ss) → Split ls rs ss
 split ls [] ss s = record { first = []; second = ls; whole = refl; said_first = tt; said_second = s }
 split [] (r ∷ rs) ss s = absurd s
 split (l ∷ ls) (r ∷ rs) ss s =
     let below = split ls rs ss s.1 in
     record { first = l ∷ below.first; second = below.second; whole = ap (λ z. l ∷ z) below.whole; said_first = (s.0, below.said_first); said_second = below.said_second }
 
--- a part of a tree, written as these rows, makes this of a tree that is begun
-abbrev pub Makes : Written Row → (Building → Type 0) → (Building → Building) → Type 0
-Makes rows Where change = (rs : List Row) (ls : List (ℕ × Phrase)) (b : Building) → rows ≡ Some rs → AreSaid ls rs → Where b → follow b ls ≡ Some (change b)
+-- a part of a tree, written as these tree_lines, makes this of a tree that is begun
+abbrev pub Makes : Written TreeLine → (Building → Type 0) → (Building → Building) → Type 0
+Makes tree_lines Where change = (rs : List TreeLine) (ls : List (ℕ × Phrase)) (b : Building) → tree_lines ≡ Some rs → AreSaid ls rs → Where b → follow b ls ≡ Some (change b)
 
 -- one part after another
-pub then_makes : (r s : Written Row) (P Q : Building → Type 0) (f g : Building → Building) → Makes r P f → Makes s Q g → ((b : Building) → P b → Q (f b)) → Makes (r ⊕ s) P (λ b. g (f b))
+pub then_makes : (r s : Written TreeLine) (P Q : Building → Type 0) (f g : Building → Building) → Makes r P f → Makes s Q g → ((b : Building) → P b → Q (f b)) → Makes (r ⊕ s) P (λ b. g (f b))
 then_makes r s P Q f g first second meets rs ls b w said p =
     let parts = both r s rs w in
     let lines = split ls parts.0 parts.1 (subst (λ z. AreSaid ls z) (sym parts.4) said) in
     rw (sym lines.whole)
     (follow_then b (f b) (g (f b)) lines.first lines.second (first parts.0 lines.first b parts.2 lines.said_first p) (second parts.1 lines.second (f b) parts.3 lines.said_second (meets b p)))
 
-record One (ls : List (ℕ × Phrase)) (r : Row) : Type 0 where
+record One (ls : List (ℕ × Phrase)) (r : TreeLine) : Type 0 where
   number : ℕ
   phrase : Phrase
   whole : ls ≡ (number, phrase) ∷ []
   said : phrase ≡ r.says
   at : IfSome r.at (λ n. number ≡ n)
 
-one : (ls : List (ℕ × Phrase)) (r : Row) → AreSaid ls (r ∷ []) → One ls r
+one : (ls : List (ℕ × Phrase)) (r : TreeLine) → AreSaid ls (r ∷ []) → One ls r
 one [] r s = absurd s
 one (l ∷ []) r s = record { number = l.0; phrase = l.1; whole = refl; said = s.0.0; at = s.0.1 }
 one (l ∷ m ∷ ls) r s = absurd s.1
 
-the_rows : (r : Row) (rs : List Row) → (let w : Written Row = Some (r ∷ []) in w) ≡ Some rs → rs ≡ r ∷ []
-the_rows r rs w = cc
+the_tree_lines : (r : TreeLine) (rs : List TreeLine) → (let w : Written TreeLine = Some (r ∷ []) in w) ≡ Some rs → rs ≡ r ∷ []
+the_tree_lines r rs w = cc
 
 -- one line, in its place
 pub line_makes : (n : ℕ) (p : Phrase) (P : Building → Type 0) → ((b : Building) → P b → misplaced (standing b) (role p) ≡ None) → Makes (line n p) P (λ b. step b n p)
 unfolding follow
 line_makes n p P placed rs ls b w said h =
-    let r : Row = record { at = Some n; says = p } in
-    let o = one ls r (subst (λ z. AreSaid ls z) (the_rows r rs w) said) in
+    let r : TreeLine = record { at = Some n; says = p } in
+    let o = one ls r (subst (λ z. AreSaid ls z) (the_tree_lines r rs w) said) in
     rw (o.whole, o.said, o.at) (follow_one b n p [] (placed b h))
 
 pub mark_makes : (p : Phrase) (P : Building → Type 0) (change : Building → Building) → ((b : Building) → P b → misplaced (standing b) (role p) ≡ None) → ((b : Building) (n : ℕ) → step b n p ≡ change b) → Makes (mark p) P change
 unfolding follow
 mark_makes p P change placed same rs ls b w said h =
-    let r : Row = record { at = None; says = p } in
-    let o = one ls r (subst (λ z. AreSaid ls z) (the_rows r rs w) said) in
+    let r : TreeLine = record { at = None; says = p } in
+    let o = one ls r (subst (λ z. AreSaid ls z) (the_tree_lines r rs w) said) in
     rw (o.whole, o.said) (follow_one b o.number p [] (placed b h) ∙ ap (λ c. let x : Option Building = Some c in x) (same b o.number))
 
-pub makes_as : (r : Written Row) (P : Building → Type 0) (f g : Building → Building) → Makes r P f → ((b : Building) → P b → f b ≡ g b) → Makes r P g
+pub makes_as : (r : Written TreeLine) (P : Building → Type 0) (f g : Building → Building) → Makes r P f → ((b : Building) → P b → f b ≡ g b) → Makes r P g
 makes_as r P f g makes same rs ls b w said h = makes rs ls b w said h ∙ ap (λ c. let x : Option Building = Some c in x) (same b h)
 
 pub none_makes : (P : Building → Type 0) → Makes (Some []) P (λ b. b)
@@ -248,17 +248,17 @@ except_turned d e b h =
     let x = out-Except e in
     filled d IsCatching x.body (changed (except_of e) b) (turned d IsTry IsCatching (except_of e) b (λ o t. catches x.line x.class x.name o o.opening t) h)
 
-except_makes : (d : ℕ) → BlockMakes d → (e : Except) → Makes (except_rows (block_within d) e) (Inside d IsTry) (λ b. added (out-Except e).body (changed (except_of e) b))
+except_makes : (d : ℕ) → BlockMakes d → (e : Except) → Makes (except_lines (block_within d) e) (Inside d IsTry) (λ b. added (out-Except e).body (changed (except_of e) b))
 except_makes d block e =
     let x = out-Except e in
     then_makes (line x.line (phrase.Except x.class x.name)) (block_within d x.body) (Inside d IsTry) (Inside d Anyway) (changed (except_of e)) (added x.body)
     (line_makes x.line (phrase.Except x.class x.name) (Inside d IsTry) (catches_here d)) (block x.body)
     (λ b h. turned d IsTry Anyway (except_of e) b (λ o t. tt) h)
 
-excepts_make : (d : ℕ) → BlockMakes d → (es : List Except) → Makes (each (except_rows (block_within d)) es) (Inside d IsTry) (catch_all es)
+excepts_make : (d : ℕ) → BlockMakes d → (es : List Except) → Makes (each (except_lines (block_within d)) es) (Inside d IsTry) (catch_all es)
 excepts_make d block [] = none_makes (Inside d IsTry)
 excepts_make d block (e ∷ es) =
-    then_makes (except_rows (block_within d) e) (each (except_rows (block_within d)) es) (Inside d IsTry) (Inside d IsTry) (λ b. added (out-Except e).body (changed (except_of e) b)) (catch_all es)
+    then_makes (except_lines (block_within d) e) (each (except_lines (block_within d)) es) (Inside d IsTry) (Inside d IsTry) (λ b. added (out-Except e).body (changed (except_of e) b)) (catch_all es)
     (except_makes d block e) (excepts_make d block es) (λ b h. as_try d (added (out-Except e).body (changed (except_of e) b)) (except_turned d e b h))
 
 still_catching : (d : ℕ) (es : List Except) (b : Building) → Inside d IsCatching b → Inside d IsCatching (catch_all es b)
@@ -306,15 +306,15 @@ finishes block (opening.Except tried excepts m d other) h = refl
 finishes block (opening.Finally tried excepts) h = cc
 finishes block (opening.Timeout after silent) h = cc
 
-abbrev tried_rows : ℕ → ℕ → List Statement → List Except → Written Row
-tried_rows d n body es = line n phrase.Try ⊕ block_within d body ⊕ each (except_rows (block_within d)) es
+abbrev tried_lines : ℕ → ℕ → List Statement → List Except → Written TreeLine
+tried_lines d n body es = line n phrase.Try ⊕ block_within d body ⊕ each (except_lines (block_within d)) es
 
 tried : (d n : ℕ) (body : List Statement) (b : Building) → Inside (suc d) Anyway b → Inside d IsTry (added body (opened n opening.Try b))
 tried d n body b h = within_one d IsTry Anyway b (added body (opened n opening.Try b)) (record { line = n; opening = opening.Try; statements = body }) h refl refl
 
-tried_makes : (d : ℕ) → BlockMakes d → (n : ℕ) (body : List Statement) (es : List Except) → Makes (tried_rows d n body es) (Inside (suc d) Anyway) (λ b. catch_all es (added body (opened n opening.Try b)))
+tried_makes : (d : ℕ) → BlockMakes d → (n : ℕ) (body : List Statement) (es : List Except) → Makes (tried_lines d n body es) (Inside (suc d) Anyway) (λ b. catch_all es (added body (opened n opening.Try b)))
 tried_makes d block n body es =
-    then_makes (line n phrase.Try ⊕ block_within d body) (each (except_rows (block_within d)) es) (Inside (suc d) Anyway) (Inside d IsTry) (λ b. added body (opened n opening.Try b)) (catch_all es)
+    then_makes (line n phrase.Try ⊕ block_within d body) (each (except_lines (block_within d)) es) (Inside (suc d) Anyway) (Inside d IsTry) (λ b. added body (opened n opening.Try b)) (catch_all es)
     (opening_makes d block n phrase.Try opening.Try body (λ b. refl) refl) (excepts_make d block es) (tried d n body)
 
 abbrev finally_done : ℕ → List Statement → List Except → List Statement → Building → Building
@@ -326,10 +326,10 @@ finally_ending d n body es fin b h =
     filled d IsEnding fin (changed finally_of (catch_all es (added body (opened n opening.Try b)))) (turned d IsTry IsEnding finally_of (catch_all es (added body (opened n opening.Try b))) (λ o t. finishes o o.opening t) here)
 
 finally_makes : (d : ℕ) → BlockMakes d → (n : ℕ) (body : List Statement) (es : List Except) (fin : List Statement)
-    → Makes (tried_rows d n body es ⊕ (mark phrase.Finally ⊕ block_within d fin) ⊕ mark phrase.End) (Inside (suc d) Anyway) (λ b. ended (finally_done n body es fin b))
+    → Makes (tried_lines d n body es ⊕ (mark phrase.Finally ⊕ block_within d fin) ⊕ mark phrase.End) (Inside (suc d) Anyway) (λ b. ended (finally_done n body es fin b))
 finally_makes d block n body es fin =
-    then_makes (tried_rows d n body es ⊕ (mark phrase.Finally ⊕ block_within d fin)) (mark phrase.End) (Inside (suc d) Anyway) (Inside d IsEnding) (finally_done n body es fin) ended
-    (then_makes (tried_rows d n body es) (mark phrase.Finally ⊕ block_within d fin) (Inside (suc d) Anyway) (Inside d IsTry) (λ b. catch_all es (added body (opened n opening.Try b))) (λ b. added fin (changed finally_of b))
+    then_makes (tried_lines d n body es ⊕ (mark phrase.Finally ⊕ block_within d fin)) (mark phrase.End) (Inside (suc d) Anyway) (Inside d IsEnding) (finally_done n body es fin) ended
+    (then_makes (tried_lines d n body es) (mark phrase.Finally ⊕ block_within d fin) (Inside (suc d) Anyway) (Inside d IsTry) (λ b. catch_all es (added body (opened n opening.Try b))) (λ b. added fin (changed finally_of b))
     (tried_makes d block n body es)
     (then_makes (mark phrase.Finally) (block_within d fin) (Inside d IsTry) (Inside d Anyway) (changed finally_of) (added fin)
     (mark_makes phrase.Finally (Inside d IsTry) (changed finally_of) (finishes_here d) (λ b m. refl)) (block fin) (λ b h. turned d IsTry Anyway finally_of b (λ o t. tt) h))
@@ -360,16 +360,16 @@ if_makes d block n e then_part =
     (end_makes d) (λ b h. within_one d IsEnding Anyway b (added then_part (opened n (opening.If e) b)) (record { line = n; opening = opening.If e; statements = then_part }) h refl refl)
 
 caught_makes : (d : ℕ) → BlockMakes d → (n : ℕ) (body : List Statement) (e : Except) (es : List Except)
-    → Makes (tried_rows d n body (e ∷ es) ⊕ Some [] ⊕ mark phrase.End) (Inside (suc d) Anyway) (λ b. ended (catch_all (e ∷ es) (added body (opened n opening.Try b))))
+    → Makes (tried_lines d n body (e ∷ es) ⊕ Some [] ⊕ mark phrase.End) (Inside (suc d) Anyway) (λ b. ended (catch_all (e ∷ es) (added body (opened n opening.Try b))))
 caught_makes d block n body e es =
-    then_makes (tried_rows d n body (e ∷ es) ⊕ Some []) (mark phrase.End) (Inside (suc d) Anyway) (Inside d IsEnding) (λ b. catch_all (e ∷ es) (added body (opened n opening.Try b))) ended
-    (then_makes (tried_rows d n body (e ∷ es)) (Some []) (Inside (suc d) Anyway) (λ b. Unit {0}) (λ b. catch_all (e ∷ es) (added body (opened n opening.Try b))) (λ b. b)
+    then_makes (tried_lines d n body (e ∷ es) ⊕ Some []) (mark phrase.End) (Inside (suc d) Anyway) (Inside d IsEnding) (λ b. catch_all (e ∷ es) (added body (opened n opening.Try b))) ended
+    (then_makes (tried_lines d n body (e ∷ es)) (Some []) (Inside (suc d) Anyway) (λ b. Unit {0}) (λ b. catch_all (e ∷ es) (added body (opened n opening.Try b))) (λ b. b)
     (tried_makes d block n body (e ∷ es)) (none_makes (λ b. Unit {0})) (λ b h. tt))
     (end_makes d)
     (λ b h. let start = added body (opened n opening.Try b) in
     as_ending d (catch_all (e ∷ es) start) (still_catching d es (added (out-Except e).body (changed (except_of e) start)) (except_turned d e start (tried d n body b h))))
 
-action_makes : (d : ℕ) → BlockMakes d → (n : ℕ) (x : Action-F Action Except Statement) → Makes (action_rows (block_within d) n x) (Inside (suc d) Anyway) (added (at n (roll-Action x) ∷ []))
+action_makes : (d : ℕ) → BlockMakes d → (n : ℕ) (x : Action-F Action Except Statement) → Makes (action_lines (block_within d) n x) (Inside (suc d) Anyway) (added (at n (roll-Action x) ∷ []))
 action_makes d block n (Action-F.Command c) rs ls b w said h =
     makes_as (line n (phrase.Command c)) (Inside (suc d) Anyway) (λ b. step b n (phrase.Command c)) (added (at n (roll-Action (Action-F.Command c)) ∷ []))
     (line_makes n (phrase.Command c) (Inside (suc d) Anyway) (states_here (suc d) Anyway)) (λ b h. ap (λ x. added (at n x ∷ []) b) (sym (v.rolls-Command c))) rs ls b w said h
@@ -393,28 +393,28 @@ action_makes d block n (Action-F.If e then_part (Some else_part)) rs ls b w said
     (else_makes d block n e then_part else_part) (λ b h. ap (λ x. added (at n x ∷ []) b) (sym (v.rolls-If e then_part (Some else_part)))) rs ls b w said h
 action_makes d block n (Action-F.Try body [] None) rs ls b w said h = cc
 action_makes d block n (Action-F.Try body [] (Some fin)) rs ls b w said h =
-    makes_as (tried_rows d n body [] ⊕ (mark phrase.Finally ⊕ block_within d fin) ⊕ mark phrase.End) (Inside (suc d) Anyway) (λ b. ended (finally_done n body [] fin b)) (added (at n (roll-Action (Action-F.Try body [] (Some fin))) ∷ []))
+    makes_as (tried_lines d n body [] ⊕ (mark phrase.Finally ⊕ block_within d fin) ⊕ mark phrase.End) (Inside (suc d) Anyway) (λ b. ended (finally_done n body [] fin b)) (added (at n (roll-Action (Action-F.Try body [] (Some fin))) ∷ []))
     (finally_makes d block n body [] fin) (λ b h. ap (λ x. added (at n x ∷ []) b) (sym (v.rolls-Try body [] (Some fin)))) rs ls b w said h
 action_makes d block n (Action-F.Try body (e ∷ es) None) rs ls b w said h =
-    makes_as (tried_rows d n body (e ∷ es) ⊕ Some [] ⊕ mark phrase.End) (Inside (suc d) Anyway) (λ b. ended (catch_all (e ∷ es) (added body (opened n opening.Try b)))) (added (at n (roll-Action (Action-F.Try body (e ∷ es) None)) ∷ []))
+    makes_as (tried_lines d n body (e ∷ es) ⊕ Some [] ⊕ mark phrase.End) (Inside (suc d) Anyway) (λ b. ended (catch_all (e ∷ es) (added body (opened n opening.Try b)))) (added (at n (roll-Action (Action-F.Try body (e ∷ es) None)) ∷ []))
     (caught_makes d block n body e es)
     (λ b h. let x = out-Except e in
     caught_all n body es [] x.line x.class x.name x.body b ∙ ap (λ f. added (at n (a.Try body (f ∷ es) None) ∷ []) b) (roll-out-Except e)
     ∙ ap (λ y. added (at n y ∷ []) b) (sym (v.rolls-Try body (e ∷ es) None))) rs ls b w said h
 action_makes d block n (Action-F.Try body (e ∷ es) (Some fin)) rs ls b w said h =
-    makes_as (tried_rows d n body (e ∷ es) ⊕ (mark phrase.Finally ⊕ block_within d fin) ⊕ mark phrase.End) (Inside (suc d) Anyway)
+    makes_as (tried_lines d n body (e ∷ es) ⊕ (mark phrase.Finally ⊕ block_within d fin) ⊕ mark phrase.End) (Inside (suc d) Anyway)
     (λ b. ended (finally_done n body (e ∷ es) fin b)) (added (at n (roll-Action (Action-F.Try body (e ∷ es) (Some fin))) ∷ []))
     (finally_makes d block n body (e ∷ es) fin)
     (λ b h. let x = out-Except e in
     caught_finally n body fin es [] x.line x.class x.name x.body b ∙ ap (λ f. added (at n (a.Try body (f ∷ es) (Some fin)) ∷ []) b) (roll-out-Except e)
     ∙ ap (λ y. added (at n y ∷ []) b) (sym (v.rolls-Try body (e ∷ es) (Some fin)))) rs ls b w said h
 
-each_makes : (d : ℕ) → BlockMakes d → (ss : List Statement) → Makes (each (statement_rows (block_within d)) ss) (Inside (suc d) Anyway) (added ss)
+each_makes : (d : ℕ) → BlockMakes d → (ss : List Statement) → Makes (each (statement_lines (block_within d)) ss) (Inside (suc d) Anyway) (added ss)
 each_makes d block [] = makes_as (Some []) (Inside (suc d) Anyway) (λ b. b) (added []) (none_makes (Inside (suc d) Anyway)) (added_none (suc d))
 each_makes d block (s ∷ ss) =
-    makes_as (statement_rows (block_within d) s ⊕ each (statement_rows (block_within d)) ss) (Inside (suc d) Anyway) (λ b. added ss (added (s ∷ []) b)) (added (s ∷ ss))
-    (then_makes (statement_rows (block_within d) s) (each (statement_rows (block_within d)) ss) (Inside (suc d) Anyway) (Inside (suc d) Anyway) (added (s ∷ [])) (added ss)
-    (makes_as (statement_rows (block_within d) s) (Inside (suc d) Anyway) (added (at s.line (roll-Action (out-Action s.action)) ∷ [])) (added (s ∷ []))
+    makes_as (statement_lines (block_within d) s ⊕ each (statement_lines (block_within d)) ss) (Inside (suc d) Anyway) (λ b. added ss (added (s ∷ []) b)) (added (s ∷ ss))
+    (then_makes (statement_lines (block_within d) s) (each (statement_lines (block_within d)) ss) (Inside (suc d) Anyway) (Inside (suc d) Anyway) (added (s ∷ [])) (added ss)
+    (makes_as (statement_lines (block_within d) s) (Inside (suc d) Anyway) (added (at s.line (roll-Action (out-Action s.action)) ∷ [])) (added (s ∷ []))
     (action_makes d block s.line (out-Action s.action)) (λ b h. ap (λ x. added (at s.line x ∷ []) b) (roll-out-Action s.action)))
     (each_makes d block ss) (filled (suc d) Anyway (s ∷ [])))
     (added_more (suc d) s ss)

@@ -11,7 +11,7 @@ use Rattle.scenario_grammar.specs.declared.phrase.Phrase.{Phrase}
 use Rattle.scenario_grammar.specs.declared.phrase.Phrase.TheVariants as phrase
 use Rattle.scenario_grammar.specs.declared.building.Opening.TheVariants as opening
 use Rattle.scenario_grammar.specs.declared.place.Place.{Place}
-use Rattle.scenario_grammar.specs.Blocks.{Row, line, mark, block_within, profile_rows, declaration_rows, function_rows, scenario_rows}
+use Rattle.scenario_grammar.specs.Blocks.{TreeLine, line, mark, block_within, profile_lines, declaration_lines, function_lines, scenario_lines}
 use Rattle.scenario_grammar.specs.Building.{Building, added, ended, opened, step}
 use Rattle.scenario_grammar.specs.Layout.{Line, lines, is_end, is_spaced, is_ended, is_text_byte, most_bytes, IsText}
 use Rattle.scenario_grammar.specs.Parsed.{nothing_yet, standing, read_words, read_line, read_lines, scenario, finished, reading}
@@ -19,7 +19,7 @@ use Rattle.scenario_grammar.specs.Phrases.{phrase_tokens}
 use Rattle.scenario_grammar.specs.Places.{Profiles, Declares, Defines, misplaced, role_of, line_at, last_line, place_in_bytes}
 use Rattle.std.proofs.lemmas.Bool.{eqb-true, le-ltb}
 use Rattle.scenario_grammar.specs.Reading.{phrase_of, ◌>>=◌}
-use Rattle.scenario_grammar.specs.Spells.{AreRows, is_main, Spells}
+use Rattle.scenario_grammar.specs.Spells.{AreTreeLines, is_main, Spells}
 use Rattle.scenario_grammar.specs.Tokens.{◌⊕◌, each, only_if, token_in}
 use Rattle.scenario_grammar.proofs.BlockLaws.{follow, AreSaid, Makes, then_makes, line_makes, none_makes, mark_makes, makes_as, Inside, Anyway, IsEnding, block_makes, end_makes}
 use Rattle.scenario_grammar.proofs.PhraseLaws.{role, phrase_read}
@@ -58,32 +58,32 @@ defines_here b h = rw h refl
 profiles_here : (b : Building) → Nothing b → misplaced (standing b) Profiles ≡ None
 profiles_here b h = rw (h.0, h.1, h.2.0, h.2.1) refl
 
--- what has no rows makes anything
-no_rows : (P : Building → Type 0) (change : Building → Building) → Makes None P change
-no_rows P change rs ls b w said h = cc
+-- what has no tree_lines makes anything
+no_lines : (P : Building → Type 0) (change : Building → Building) → Makes None P change
+no_lines P change rs ls b w said h = cc
 
-profile_makes : (p : ℕ) → Makes (profile_rows p) Nothing (profiled p)
+profile_makes : (p : ℕ) → Makes (profile_lines p) Nothing (profiled p)
 profile_makes p = by_first (p == 1) refl
   where
     by_second : (second : Bool) → (p == 2) ≡ second → Makes (only_if second (mark phrase.Profile)) Nothing (profiled p)
     by_second true e =
         makes_as (mark phrase.Profile) Nothing (profiled 2) (profiled p) (mark_makes phrase.Profile Nothing (profiled 2) profiles_here (λ b n. refl))
         (λ b h. λ i. record b { profile = sym (eqb-true p 2 e) i })
-    by_second false e = no_rows Nothing (profiled p)
+    by_second false e = no_lines Nothing (profiled p)
 
     by_first : (first : Bool) → (p == 1) ≡ first → Makes (if first then Some [] else only_if (p == 2) (mark phrase.Profile)) Nothing (profiled p)
     by_first true e = makes_as (Some []) Nothing (λ b. b) (profiled p) (none_makes Nothing) (λ b h. λ i. record b { profile = (h.0 ∙ sym (eqb-true p 1 e)) i })
     by_first false e = by_second (p == 2) refl
 
-declarations_make : (ds : List Declaration) → Makes (each declaration_rows ds) Fresh (declared ds)
+declarations_make : (ds : List Declaration) → Makes (each declaration_lines ds) Fresh (declared ds)
 declarations_make [] = makes_as (Some []) Fresh (λ b. b) (declared []) (none_makes Fresh) (λ b h. λ i. record b { objects = sym (append-nil b.objects) i })
 declarations_make (d ∷ ds) =
-    makes_as (declaration_rows d ⊕ each declaration_rows ds) Fresh (λ b. declared ds (declared (d ∷ []) b)) (declared (d ∷ ds))
-    (then_makes (declaration_rows d) (each declaration_rows ds) Fresh Fresh (declared (d ∷ [])) (declared ds)
+    makes_as (declaration_lines d ⊕ each declaration_lines ds) Fresh (λ b. declared ds (declared (d ∷ []) b)) (declared (d ∷ ds))
+    (then_makes (declaration_lines d) (each declaration_lines ds) Fresh Fresh (declared (d ∷ [])) (declared ds)
     (line_makes d.line (phrase.Declaration d.name d.object) Fresh declares_here) (declarations_make ds) (λ b h. h))
     (λ b h. λ i. record b { objects = append_assoc b.objects (d ∷ []) ds i })
 
-function_makes : (f : Function) → Makes (function_rows f) AtTop (defined (f ∷ []))
+function_makes : (f : Function) → Makes (function_lines f) AtTop (defined (f ∷ []))
 function_makes f =
     let head = opening.Function f.is_raw f.name f.parameters in
     let start = phrase.Function f.is_raw f.name f.parameters in
@@ -94,45 +94,45 @@ function_makes f =
     (end_makes 32)
     (λ b h. record { inner = record { line = f.line; opening = head; statements = f.body }; outer = b.open_blocks; is = refl; kind = refl; levels = rw h refl })
 
-functions_make : (fs : List Function) → Makes (each function_rows fs) AtTop (defined fs)
+functions_make : (fs : List Function) → Makes (each function_lines fs) AtTop (defined fs)
 functions_make [] = makes_as (Some []) AtTop (λ b. b) (defined []) (none_makes AtTop) (λ b h. λ i. record b { functions = sym (append-nil b.functions) i })
 functions_make (f ∷ fs) =
-    makes_as (function_rows f ⊕ each function_rows fs) AtTop (λ b. defined fs (defined (f ∷ []) b)) (defined (f ∷ fs))
-    (then_makes (function_rows f) (each function_rows fs) AtTop AtTop (defined (f ∷ [])) (defined fs) (function_makes f) (functions_make fs) (λ b h. h))
+    makes_as (function_lines f ⊕ each function_lines fs) AtTop (λ b. defined fs (defined (f ∷ []) b)) (defined (f ∷ fs))
+    (then_makes (function_lines f) (each function_lines fs) AtTop AtTop (defined (f ∷ [])) (defined fs) (function_makes f) (functions_make fs) (λ b h. h))
     (λ b h. λ i. record b { functions = append_assoc b.functions (f ∷ []) fs i })
 
 abbrev pub built : Scenario → Building
 built s = record { profile = s.profile; objects = s.objects; functions = s.functions; open_blocks = [] }
 
 -- the lines of a tree make the tree
-pub scenario_makes : (s : Scenario) (rs : List Row) (ls : List (ℕ × Phrase)) → scenario_rows s ≡ Some rs → AreSaid ls rs → follow nothing_yet ls ≡ Some (built s)
-unfolding scenario_rows
+pub scenario_makes : (s : Scenario) (rs : List TreeLine) (ls : List (ℕ × Phrase)) → scenario_lines s ≡ Some rs → AreSaid ls rs → follow nothing_yet ls ≡ Some (built s)
+unfolding scenario_lines
 scenario_makes s rs ls w said =
-    then_makes (profile_rows s.profile ⊕ each declaration_rows s.objects) (each function_rows s.functions) Nothing AtTop (λ b. declared s.objects (profiled s.profile b)) (defined s.functions)
-    (then_makes (profile_rows s.profile) (each declaration_rows s.objects) Nothing Fresh (profiled s.profile) (declared s.objects)
+    then_makes (profile_lines s.profile ⊕ each declaration_lines s.objects) (each function_lines s.functions) Nothing AtTop (λ b. declared s.objects (profiled s.profile b)) (defined s.functions)
+    (then_makes (profile_lines s.profile) (each declaration_lines s.objects) Nothing Fresh (profiled s.profile) (declared s.objects)
     (profile_makes s.profile) (declarations_make s.objects) (λ b h. h.2))
     (functions_make s.functions) (λ b h. h.2.1) rs ls nothing_yet w said (refl, refl, (refl, refl))
 
--- the lines of a text, by their numbers and what the rows say
-abbrev pub numbered : List Line → List Row → List (ℕ × Phrase)
+-- the lines of a text, by their numbers and what the tree_lines say
+abbrev pub numbered : List Line → List TreeLine → List (ℕ × Phrase)
 numbered [] rs = []
 numbered (l ∷ ls) [] = []
 numbered (l ∷ ls) (r ∷ rs) = (l.number, r.says) ∷ numbered ls rs
 
--- the lines say in this profile what the rows say
-abbrev pub AreTold : ℕ → List Line → List Row → Type 0
+-- the lines say in this profile what the tree_lines say
+abbrev pub AreTold : ℕ → List Line → List TreeLine → Type 0
 AreTold profile [] [] = Unit {0}
 AreTold profile [] (r ∷ rs) = ⊥
 AreTold profile (l ∷ ls) [] = ⊥
 AreTold profile (l ∷ ls) (r ∷ rs) = (phrase_tokens r.says ≡ Some (map (token_in profile) l.words)) × AreTold profile ls rs
 
-pub told : (profile : ℕ) (ls : List Line) (rs : List Row) → AreRows profile ls rs → AreTold profile ls rs
+pub told : (profile : ℕ) (ls : List Line) (rs : List TreeLine) → AreTreeLines profile ls rs → AreTold profile ls rs
 told profile [] [] h = tt
 told profile [] (r ∷ rs) h = absurd h
 told profile (l ∷ ls) [] h = absurd h
 told profile (l ∷ ls) (r ∷ rs) h = (h.0.0, told profile ls rs h.1)
 
-pub numbered_said : (profile : ℕ) (ls : List Line) (rs : List Row) → AreRows profile ls rs → AreSaid (numbered ls rs) rs
+pub numbered_said : (profile : ℕ) (ls : List Line) (rs : List TreeLine) → AreTreeLines profile ls rs → AreSaid (numbered ls rs) rs
 numbered_said profile [] [] h = tt
 numbered_said profile [] (r ∷ rs) h = absurd h
 numbered_said profile (l ∷ ls) [] h = absurd h
@@ -175,7 +175,7 @@ and_first true b h = (refl, h)
 and_first false b h = cc
 
 -- line by line, where the profile is at least the one in which they say so
-pub lines_full : (profile : ℕ) (ls : List Line) (rs : List Row) (b c : Building) → profile ≤ b.profile → AreTold profile ls rs → list_all is_spaced ls ≡ true
+pub lines_full : (profile : ℕ) (ls : List Line) (rs : List TreeLine) (b c : Building) → profile ≤ b.profile → AreTold profile ls rs → list_all is_spaced ls ≡ true
     → follow b (numbered ls rs) ≡ Some c → read_lines b ls ≡ Ok c
 unfolding follow read_lines
 lines_full profile [] [] b c least h spaced e = let same : b ≡ c = cc in rw same refl
@@ -190,7 +190,7 @@ lines_full profile (l ∷ ls) (r ∷ rs) b c least h spaced e =
     (lines_full profile ls rs (step b l.number r.says) c (omega (arith, least, grows)) h.1 s.1 n.after)
 
 -- the lines of a tree of profile 2, which has this line first
-later_full : (ls : List Line) (rest : List Row) (c : Building) → AreTold 2 ls (record { at = None; says = phrase.Profile } ∷ rest) → list_all is_spaced ls ≡ true
+later_full : (ls : List Line) (rest : List TreeLine) (c : Building) → AreTold 2 ls (record { at = None; says = phrase.Profile } ∷ rest) → list_all is_spaced ls ≡ true
     → follow nothing_yet (numbered ls (record { at = None; says = phrase.Profile } ∷ rest)) ≡ Some c → read_lines nothing_yet ls ≡ Ok c
 unfolding read_lines
 later_full [] rest c h spaced e = absurd h
@@ -201,18 +201,18 @@ later_full (l ∷ ls) rest c h spaced e =
     lines_by (read_line nothing_yet l) b c l.number ls (line_full nothing_yet l phrase.Profile s.0 (profile_said l.words h.0) n.placed)
     (lines_full 2 ls rest b c (omega arith) h.1 s.1 n.after)
 
--- the rows behind those of the profile
-record Behind (profile : ℕ) (rs : List Row) : Type 0 where
-  front : List Row
-  rest : List Row
-  profile_is : profile_rows profile ≡ Some front
+-- the tree_lines behind those of the profile
+record Behind (profile : ℕ) (rs : List TreeLine) : Type 0 where
+  front : List TreeLine
+  rest : List TreeLine
+  profile_is : profile_lines profile ≡ Some front
   whole : front ++ rest ≡ rs
 
-behind : (s : Scenario) (rs : List Row) → scenario_rows s ≡ Some rs → Behind s.profile rs
-unfolding scenario_rows
+behind : (s : Scenario) (rs : List TreeLine) → scenario_lines s ≡ Some rs → Behind s.profile rs
+unfolding scenario_lines
 behind s rs w =
-    let outer = both (profile_rows s.profile ⊕ each declaration_rows s.objects) (each function_rows s.functions) rs w in
-    let inner = both (profile_rows s.profile) (each declaration_rows s.objects) outer.0 outer.2 in
+    let outer = both (profile_lines s.profile ⊕ each declaration_lines s.objects) (each function_lines s.functions) rs w in
+    let inner = both (profile_lines s.profile) (each declaration_lines s.objects) outer.0 outer.2 in
     record {
       front = inner.0;
       rest = inner.1 ++ outer.1;
@@ -221,20 +221,20 @@ behind s rs w =
     }
 
 -- all lines of a tree, of which the first may be that of the profile
-pub text_full : (s : Scenario) (ls : List Line) (rs : List Row) (c : Building) → scenario_rows s ≡ Some rs → AreTold s.profile ls rs → list_all is_spaced ls ≡ true
+pub text_full : (s : Scenario) (ls : List Line) (rs : List TreeLine) (c : Building) → scenario_lines s ≡ Some rs → AreTold s.profile ls rs → list_all is_spaced ls ≡ true
     → follow nothing_yet (numbered ls rs) ≡ Some c → read_lines nothing_yet ls ≡ Ok c
 text_full s ls rs c w h spaced e = let b = behind s rs w in by_first b.front b.rest (s.profile == 1) refl b.profile_is b.whole
   where
-    by_second : (front rest : List Row) (second : Bool) → (s.profile == 2) ≡ second → only_if second (mark phrase.Profile) ≡ Some front → front ++ rest ≡ rs → read_lines nothing_yet ls ≡ Ok c
+    by_second : (front rest : List TreeLine) (second : Bool) → (s.profile == 2) ≡ second → only_if second (mark phrase.Profile) ≡ Some front → front ++ rest ≡ rs → read_lines nothing_yet ls ≡ Ok c
     by_second front rest true two is whole =
-        let row : Row = record { at = None; says = phrase.Profile } in
-        let one : row ∷ [] ≡ front = cc in
-        let all : row ∷ rest ≡ rs = ap (λ z. z ++ rest) one ∙ whole in
-        later_full ls rest c (subst (λ p. AreTold p ls (row ∷ rest)) (eqb-true s.profile 2 two) (subst (λ z. AreTold s.profile ls z) (sym all) h)) spaced
+        let tree_line : TreeLine = record { at = None; says = phrase.Profile } in
+        let one : tree_line ∷ [] ≡ front = cc in
+        let all : tree_line ∷ rest ≡ rs = ap (λ z. z ++ rest) one ∙ whole in
+        later_full ls rest c (subst (λ p. AreTold p ls (tree_line ∷ rest)) (eqb-true s.profile 2 two) (subst (λ z. AreTold s.profile ls z) (sym all) h)) spaced
         (subst (λ z. follow nothing_yet (numbered ls z) ≡ Some c) (sym all) e)
     by_second front rest false two is whole = cc
 
-    by_first : (front rest : List Row) (first : Bool) → (s.profile == 1) ≡ first → (if first then Some [] else only_if (s.profile == 2) (mark phrase.Profile)) ≡ Some front → front ++ rest ≡ rs
+    by_first : (front rest : List TreeLine) (first : Bool) → (s.profile == 1) ≡ first → (if first then Some [] else only_if (s.profile == 2) (mark phrase.Profile)) ≡ Some front → front ++ rest ≡ rs
         → read_lines nothing_yet ls ≡ Ok c
     by_first front rest true one is whole = let first = eqb-true s.profile 1 one in lines_full s.profile ls rs nothing_yet c (omega (arith, first)) h spaced e
     by_first front rest false one is whole = by_second front rest (s.profile == 2) refl is whole
@@ -278,11 +278,11 @@ reading_by None (Ok b) bytes s a e c =
 -- A text that a tree spells is read as that tree.
 pub complete : (s : Scenario) (bytes : List ℕ) → Spells s bytes → reading bytes ≡ Ok s
 unfolding reading
-complete s bytes h = by_rows (scenario_rows s) refl h.rows
+complete s bytes h = by_lines (scenario_lines s) refl h.tree_lines
   where
-    by_rows : (r : Option (List Row)) → scenario_rows s ≡ r → IsSomeAnd r (AreRows s.profile (lines bytes)) → reading bytes ≡ Ok s
-    by_rows None e a = absurd a
-    by_rows (Some rs) e a =
+    by_lines : (r : Option (List TreeLine)) → scenario_lines s ≡ r → IsSomeAnd r (AreTreeLines s.profile (lines bytes)) → reading bytes ≡ Ok s
+    by_lines None e a = absurd a
+    by_lines (Some rs) e a =
         reading_by (place_in_bytes bytes) (read_lines nothing_yet (lines bytes)) bytes s (none_in_bytes bytes h.text)
         (text_full s (lines bytes) rs (built s) e (told s.profile (lines bytes) rs a) h.text.spaced
         (scenario_makes s rs (numbered (lines bytes) rs) e (numbered_said s.profile (lines bytes) rs a)))
@@ -290,16 +290,16 @@ complete s bytes h = by_rows (scenario_rows s) refl h.rows
 
 -- A tree that has a text is of one of the two profiles.
 pub has_profile : (s : Scenario) (bytes : List ℕ) → Spells s bytes → (s.profile ≡ 1) ⊎ (s.profile ≡ 2)
-has_profile s bytes h = by_rows (scenario_rows s) refl h.rows
+has_profile s bytes h = by_lines (scenario_lines s) refl h.tree_lines
   where
-    by_second : (second : Bool) (front : List Row) → (s.profile == 2) ≡ second → only_if second (mark phrase.Profile) ≡ Some front → (s.profile ≡ 1) ⊎ (s.profile ≡ 2)
+    by_second : (second : Bool) (front : List TreeLine) → (s.profile == 2) ≡ second → only_if second (mark phrase.Profile) ≡ Some front → (s.profile ≡ 1) ⊎ (s.profile ≡ 2)
     by_second true front two is = inr (eqb-true s.profile 2 two)
     by_second false front two is = cc
 
-    by_first : (first : Bool) (front : List Row) → (s.profile == 1) ≡ first → (if first then Some [] else only_if (s.profile == 2) (mark phrase.Profile)) ≡ Some front → (s.profile ≡ 1) ⊎ (s.profile ≡ 2)
+    by_first : (first : Bool) (front : List TreeLine) → (s.profile == 1) ≡ first → (if first then Some [] else only_if (s.profile == 2) (mark phrase.Profile)) ≡ Some front → (s.profile ≡ 1) ⊎ (s.profile ≡ 2)
     by_first true front one is = inl (eqb-true s.profile 1 one)
     by_first false front one is = by_second (s.profile == 2) front refl is
 
-    by_rows : (r : Option (List Row)) → scenario_rows s ≡ r → IsSomeAnd r (AreRows s.profile (lines bytes)) → (s.profile ≡ 1) ⊎ (s.profile ≡ 2)
-    by_rows None e a = absurd a
-    by_rows (Some rs) e a = let b = behind s rs e in by_first (s.profile == 1) b.front refl b.profile_is
+    by_lines : (r : Option (List TreeLine)) → scenario_lines s ≡ r → IsSomeAnd r (AreTreeLines s.profile (lines bytes)) → (s.profile ≡ 1) ⊎ (s.profile ≡ 2)
+    by_lines None e a = absurd a
+    by_lines (Some rs) e a = let b = behind s rs e in by_first (s.profile == 1) b.front refl b.profile_is

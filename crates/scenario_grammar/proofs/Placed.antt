@@ -12,7 +12,7 @@ use Rattle.scenario_grammar.specs.declared.building.Opening.{Opening}
 use Rattle.scenario_grammar.specs.declared.building.Opening.TheVariants as opening
 use Rattle.scenario_grammar.specs.declared.place.Place.{Place}
 use Rattle.scenario_grammar.specs.declared.token.Token.{Token}
-use Rattle.scenario_grammar.specs.Blocks.{Row}
+use Rattle.scenario_grammar.specs.Blocks.{TreeLine}
 use Rattle.scenario_grammar.specs.Building.{Building, step}
 use Rattle.scenario_grammar.specs.Layout.{Line, lines, is_spaced}
 use Rattle.scenario_grammar.specs.Parsed.{nothing_yet, is_begun, has_objects, standing, read_words, read_line, read_lines, scenario, finished, reading, opens_main}
@@ -177,14 +177,14 @@ lines_by : (j : Result Standing TextReason) (r : Result Building TextReason) (n 
 lines_by j (Ok c) n ls e below = rw e (below c refl)
 lines_by j (Err r) n ls e below = rw e refl
 
-lines_judged : (ls : List Line) (b : Building) (e : ℕ) (rs : List Row) → Kept e b rs → judge_lines (standing b) ls ≡ stands (read_lines b ls)
+lines_judged : (ls : List Line) (b : Building) (e : ℕ) (rs : List TreeLine) → Kept e b rs → judge_lines (standing b) ls ≡ stands (read_lines b ls)
 unfolding judge_lines read_lines
 lines_judged [] b e rs k = refl
 lines_judged (l ∷ ls) b e rs k =
     lines_by (judge_line (standing b) l) (read_line b l) l.number ls (judged b l k.stacked)
     (λ c r. let one = line_read b c l r in
     let s = steps b e l.number one.phrase rs k one.placed in
-    lines_judged ls c s.left (rs ++ s.row ∷ []) (subst (λ d. Kept s.left d (rs ++ s.row ∷ [])) (sym one.made) s.kept))
+    lines_judged ls c s.left (rs ++ s.tree_line ∷ []) (subst (λ d. Kept s.left d (rs ++ s.tree_line ∷ [])) (sym one.made) s.kept))
 
 -- where a reading is refused
 abbrev refusal : Result Scenario Place → Option Place

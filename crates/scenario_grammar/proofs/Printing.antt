@@ -7,13 +7,13 @@ use Rattle.std.proofs.lemmas.List.Splits.{join_with_byte-slice_split}
 use Rattle.scenario_tree.specs.declared.tree.Scenario.{Scenario}
 use Rattle.scenario_grammar.specs.declared.phrase.Phrase.{Phrase}
 use Rattle.scenario_grammar.specs.Bare.{bare}
-use Rattle.scenario_grammar.specs.Blocks.{Row, scenario_rows}
+use Rattle.scenario_grammar.specs.Blocks.{TreeLine, scenario_lines}
 use Rattle.scenario_grammar.specs.Layout.{Line, lines, lines_from, with_line, drop_blanks, is_blank, is_end, is_spaced, is_ended, is_text_byte, most_bytes, IsText}
 use Rattle.scenario_grammar.specs.Parsed.{nothing_yet, reading, read_lines, scenario}
 use Rattle.scenario_grammar.specs.Phrases.{phrase_tokens}
 use Rattle.scenario_grammar.specs.Places.{place_in_bytes}
-use Rattle.scenario_grammar.specs.Printed.{is_closing, is_opening, less_if, more_if, words_of, printed_rows, printed_if, printed}
-use Rattle.scenario_grammar.specs.Spells.{AreRows, is_main, Spells}
+use Rattle.scenario_grammar.specs.Printed.{is_closing, is_opening, less_if, more_if, words_of, printed_tree_lines, printed_if, printed}
+use Rattle.scenario_grammar.specs.Spells.{AreTreeLines, is_main, Spells}
 use Rattle.scenario_grammar.specs.Tokens.{token_in, token_word}
 use Rattle.scenario_grammar.proofs.Atoms.{and_left, and_right}
 use Rattle.scenario_grammar.proofs.BareLaws.{SamePhrases, renumbered, functions_bare}
@@ -170,13 +170,13 @@ one_line n m b bs tail plain solid no_comment =
     kept_line true e = cc
 
 -- the lines of what is printed are those of the text, one after another
-printed_lines : (profile : ℕ) (ls : List Line) (rs : List Row) (level n : ℕ) → AllCarry ls → AreTold profile ls rs → lines_from n (slice_split is_end (printed_rows level rs)) ≡ relined n ls
+printed_lines : (profile : ℕ) (ls : List Line) (rs : List TreeLine) (level n : ℕ) → AllCarry ls → AreTold profile ls rs → lines_from n (slice_split is_end (printed_tree_lines level rs)) ≡ relined n ls
 printed_lines profile [] [] level n c t = refl
 printed_lines profile [] (r ∷ rs) level n c t = absurd t
 printed_lines profile (l ∷ ls) [] level n c t = absurd t
 printed_lines profile (l ∷ ls) (r ∷ rs) level n c t =
     let here = less_if (is_closing r.says) level in
-    let tail = printed_rows (more_if (is_opening r.says) here) rs in
+    let tail = printed_tree_lines (more_if (is_opening r.says) here) rs in
     ap (λ z. lines_from n (slice_split is_end (replicate (2 * here) 32 ++ z ++ 10 ∷ tail))) (line_text l profile r.says c.0 t.0)
     ∙ one_line n (2 * here) c.0.first c.0.others tail c.0.plain c.0.solid c.0.no_comment
     ∙ ap (λ w. (let x : Line = record { number = n; words = w } in x) ∷ lines_from (n + 1) (slice_split is_end tail)) (sym c.0.words)
@@ -196,13 +196,13 @@ text_append (x ∷ xs) ys h k =
 end_text : (xs : List ℕ) → list_all is_text_byte xs ≡ true → list_all is_text_byte (10 ∷ xs) ≡ true
 end_text xs h = h
 
-printed_printable : (profile : ℕ) (ls : List Line) (rs : List Row) (level : ℕ) → AllCarry ls → AreTold profile ls rs → list_all is_text_byte (printed_rows level rs) ≡ true
+printed_printable : (profile : ℕ) (ls : List Line) (rs : List TreeLine) (level : ℕ) → AllCarry ls → AreTold profile ls rs → list_all is_text_byte (printed_tree_lines level rs) ≡ true
 printed_printable profile [] [] level c t = refl
 printed_printable profile [] (r ∷ rs) level c t = absurd t
 printed_printable profile (l ∷ ls) [] level c t = absurd t
 printed_printable profile (l ∷ ls) (r ∷ rs) level c t =
     let here = less_if (is_closing r.says) level in
-    let tail = printed_rows (more_if (is_opening r.says) here) rs in
+    let tail = printed_tree_lines (more_if (is_opening r.says) here) rs in
     ap (λ z. list_all is_text_byte (replicate (2 * here) 32 ++ z ++ 10 ∷ tail)) (line_text l profile r.says c.0 t.0)
     ∙ text_append (replicate (2 * here) 32 ++ (c.0.first ∷ c.0.others)) (10 ∷ tail) (plain_text (replicate (2 * here) 32 ++ (c.0.first ∷ c.0.others)) (indented_plain (2 * here) (c.0.first ∷ c.0.others) c.0.plain))
     (end_text tail (printed_printable profile ls rs (more_if (is_opening r.says) here) c.1 t.1))
@@ -214,23 +214,23 @@ line_ended [] (b ∷ bs) h = h
 line_ended (x ∷ []) tail h = line_ended [] tail h
 line_ended (x ∷ y ∷ xs) tail h = line_ended (y ∷ xs) tail h
 
-printed_ended : (level : ℕ) (rs : List Row) → is_ended (printed_rows level rs) ≡ true
+printed_ended : (level : ℕ) (rs : List TreeLine) → is_ended (printed_tree_lines level rs) ≡ true
 printed_ended level [] = refl
 printed_ended level (r ∷ rs) =
     let here = less_if (is_closing r.says) level in
-    line_ended (replicate (2 * here) 32 ++ words_of (phrase_tokens r.says)) (printed_rows (more_if (is_opening r.says) here) rs) (printed_ended (more_if (is_opening r.says) here) rs)
+    line_ended (replicate (2 * here) 32 ++ words_of (phrase_tokens r.says)) (printed_tree_lines (more_if (is_opening r.says) here) rs) (printed_ended (more_if (is_opening r.says) here) rs)
 
 relined_spaced : (n : ℕ) (ls : List Line) → list_all is_spaced (relined n ls) ≡ list_all is_spaced ls
 relined_spaced n [] = refl
 relined_spaced n (l ∷ ls) = ap (λ z. is_spaced l && z) (relined_spaced (n + 1) ls)
 
-relined_told : (profile n : ℕ) (ls : List Line) (rs : List Row) → AreTold profile ls rs → AreTold profile (relined n ls) rs
+relined_told : (profile n : ℕ) (ls : List Line) (rs : List TreeLine) → AreTold profile ls rs → AreTold profile (relined n ls) rs
 relined_told profile n [] [] t = tt
 relined_told profile n [] (r ∷ rs) t = absurd t
 relined_told profile n (l ∷ ls) [] t = absurd t
 relined_told profile n (l ∷ ls) (r ∷ rs) t = (t.0, relined_told profile (n + 1) ls rs t.1)
 
-relined_same : (n : ℕ) (ls : List Line) (rs : List Row) → SamePhrases (numbered ls rs) (numbered (relined n ls) rs)
+relined_same : (n : ℕ) (ls : List Line) (rs : List TreeLine) → SamePhrases (numbered ls rs) (numbered (relined n ls) rs)
 relined_same n [] rs = tt
 relined_same n (l ∷ ls) [] = tt
 relined_same n (l ∷ ls) (r ∷ rs) = (refl, relined_same (n + 1) ls rs)
@@ -248,13 +248,13 @@ reading_so : (bytes : List ℕ) (t : Scenario) → IsText bytes → read_lines n
 unfolding reading
 reading_so bytes t whole read main = reading_by (place_in_bytes bytes) (read_lines nothing_yet (lines bytes)) bytes t (none_in_bytes bytes whole) read main
 
-printed_again : (s : Scenario) (bytes : List ℕ) (rs : List Row) → Spells s bytes → scenario_rows s ≡ Some rs → AreRows s.profile (lines bytes) rs → length (printed s) ≤ most_bytes → PrintedAgain s
+printed_again : (s : Scenario) (bytes : List ℕ) (rs : List TreeLine) → Spells s bytes → scenario_lines s ≡ Some rs → AreTreeLines s.profile (lines bytes) rs → length (printed s) ≤ most_bytes → PrintedAgain s
 unfolding printed lines
-printed_again s bytes rs h rows said short =
+printed_again s bytes rs h tree_lines said short =
     let ls = lines bytes in
     let carry = lines_carry 1 (slice_split is_end bytes) (split_plain bytes h.text.printable) in
     let says = told s.profile ls rs said in
-    let form : printed s ≡ printed_rows 0 rs = ap printed_if rows in
+    let form : printed s ≡ printed_tree_lines 0 rs = ap printed_if tree_lines in
     let new_lines : lines (printed s) ≡ relined 1 ls = ap (λ z. lines_from 1 (slice_split is_end z)) form ∙ printed_lines s.profile ls rs 0 1 carry says in
     let whole : IsText (printed s) = record {
       short = short;
@@ -262,7 +262,7 @@ printed_again s bytes rs h rows said short =
       ended = ap is_ended form ∙ printed_ended 0 rs;
       spaced = ap (list_all is_spaced) new_lines ∙ relined_spaced 1 ls ∙ h.text.spaced;
     } in
-    let made = scenario_makes s rs (numbered ls rs) rows (numbered_said s.profile ls rs said) in
+    let made = scenario_makes s rs (numbered ls rs) tree_lines (numbered_said s.profile ls rs said) in
     let again = renumbered (numbered ls rs) (numbered (relined 1 ls) rs) nothing_yet nothing_yet (built s) (relined_same 1 ls rs) refl made in
     let tree = scenario again.made in
     let closed = none_open _ again.made.open_blocks (ap (λ b. b.open_blocks) again.same) in
@@ -271,7 +271,7 @@ printed_again s bytes rs h rows said short =
     let main = sym (functions_bare tree.functions) ∙ ap (list_any is_main) (sym functions) ∙ functions_bare s.functions ∙ h.has_main in
     let read : read_lines nothing_yet (lines (printed s)) ≡ Ok (built tree) =
     ap (read_lines nothing_yet) new_lines
-    ∙ text_full s (relined 1 ls) rs again.made rows (relined_told s.profile 1 ls rs says) (relined_spaced 1 ls ∙ h.text.spaced) again.follows
+    ∙ text_full s (relined 1 ls) rs again.made tree_lines (relined_told s.profile 1 ls rs says) (relined_spaced 1 ls ∙ h.text.spaced) again.follows
     ∙ ap (λ b. Ok b) whole_made in
     record {
       tree = tree;
@@ -282,8 +282,8 @@ printed_again s bytes rs h rows said short =
 -- The printed form of a tree that has a text, where it is no longer than a text may be, is a text of the tree but for
 -- its lines.
 pub printing : (s : Scenario) (bytes : List ℕ) → Spells s bytes → length (printed s) ≤ most_bytes → (t : Scenario) × Spells t (printed s) × (bare s ≡ bare t)
-printing s bytes h short = by_rows (scenario_rows s) refl h.rows
+printing s bytes h short = by_lines (scenario_lines s) refl h.tree_lines
   where
-    by_rows : (r : Option (List Row)) → scenario_rows s ≡ r → IsSomeAnd r (AreRows s.profile (lines bytes)) → (t : Scenario) × Spells t (printed s) × (bare s ≡ bare t)
-    by_rows None e a = absurd a
-    by_rows (Some rs) e a = let again = printed_again s bytes rs h e a short in (again.tree, again.spelt, again.same)
+    by_lines : (r : Option (List TreeLine)) → scenario_lines s ≡ r → IsSomeAnd r (AreTreeLines s.profile (lines bytes)) → (t : Scenario) × Spells t (printed s) × (bare s ≡ bare t)
+    by_lines None e a = absurd a
+    by_lines (Some rs) e a = let again = printed_again s bytes rs h e a short in (again.tree, again.spelt, again.same)

@@ -9,16 +9,16 @@ use Rattle.scenario_tree.specs.declared.tree.Scenario.{Scenario}
 use Rattle.scenario_grammar.specs.declared.phrase.Phrase.{Phrase}
 use Rattle.scenario_grammar.specs.declared.building.OpenBlock.{OpenBlock}
 use Rattle.scenario_grammar.specs.declared.place.Place.{Place}
-use Rattle.scenario_grammar.specs.Blocks.{Row, profile_rows, declaration_rows, function_rows, scenario_rows}
+use Rattle.scenario_grammar.specs.Blocks.{TreeLine, profile_lines, declaration_lines, function_lines, scenario_lines}
 use Rattle.scenario_grammar.specs.Building.{Building, step}
 use Rattle.scenario_grammar.specs.Layout.{Line, lines, is_end, is_spaced, is_ended, is_text_byte, most_bytes}
 use Rattle.scenario_grammar.specs.Parsed.{nothing_yet, standing, read_words, read_line, read_lines, scenario, finished, reading}
 use Rattle.scenario_grammar.specs.Phrases.{phrase_tokens}
 use Rattle.scenario_grammar.specs.Places.{misplaced, role_of, line_at, last_line, place_in_bytes}
 use Rattle.scenario_grammar.specs.Reading.{phrase_of, ◌>>=◌}
-use Rattle.scenario_grammar.specs.Spells.{IsRow, AreRows, is_main, Spells}
+use Rattle.scenario_grammar.specs.Spells.{IsTreeLine, AreTreeLines, is_main, Spells}
 use Rattle.scenario_grammar.specs.Tokens.{◌⊕◌, each, token_in}
-use Rattle.scenario_grammar.proofs.Begun.{Kept, steps, open_rows, plus_none}
+use Rattle.scenario_grammar.proofs.Begun.{Kept, steps, open_lines, plus_none}
 use Rattle.scenario_grammar.proofs.BlockLaws.{Said}
 use Rattle.scenario_grammar.proofs.PhraseLaws.{role, phrase_read, phrase_said, tokens_proper}
 use Rattle.scenario_grammar.specs.declared.reason.TextReason.{TextReason}
@@ -60,12 +60,12 @@ line_read b c l e = by_space (is_spaced l) refl e
     by_space true s e = by_words s e
     by_space false s e = cc
 
-record LinesRead (b : Building) (ls : List Line) (c : Building) (before : List Row) : Type 0 where
+record LinesRead (b : Building) (ls : List Line) (c : Building) (before : List TreeLine) : Type 0 where
   spaced : list_all is_spaced ls ≡ true
   left : ℕ
-  more : List Row
+  more : List TreeLine
   grows : b.profile ≤ c.profile
-  said : AreRows c.profile ls more
+  said : AreTreeLines c.profile ls more
   kept : Kept left c (before ++ more)
 
 pub record First (b c : Building) (l : Line) (ls : List Line) : Type 0 where
@@ -87,13 +87,13 @@ last_is : (b c : Building) → read_lines b [] ≡ Ok c → b ≡ c
 unfolding read_lines
 last_is b c e = cc
 
-said_row : (profile : ℕ) (l : Line) (p : Phrase) (r : Row) → phrase_tokens p ≡ Some (map (token_in profile) l.words) → Said (l.number, p) r → IsRow profile l r
-said_row profile l p r says said = (subst (λ q. phrase_tokens q ≡ Some (map (token_in profile) l.words)) said.0 says, said.1)
+said_line : (profile : ℕ) (l : Line) (p : Phrase) (r : TreeLine) → phrase_tokens p ≡ Some (map (token_in profile) l.words) → Said (l.number, p) r → IsTreeLine profile l r
+said_line profile l p r says said = (subst (λ q. phrase_tokens q ≡ Some (map (token_in profile) l.words)) said.0 says, said.1)
 
 same_profile : {b c : Building} → b ≡ c → b.profile ≤ c.profile
 same_profile e = let same = ap (λ d. d.profile) e in omega (arith, same)
 
-lines_read : (ls : List Line) (b c : Building) (e : ℕ) (before : List Row) → Kept e b before → read_lines b ls ≡ Ok c → LinesRead b ls c before
+lines_read : (ls : List Line) (b c : Building) (e : ℕ) (before : List TreeLine) → Kept e b before → read_lines b ls ≡ Ok c → LinesRead b ls c before
 lines_read [] b c e before k r =
     record { spaced = refl; left = e; more = []; grows = same_profile (last_is b c r); said = tt; kept = subst (λ d. Kept e d (before ++ [])) (last_is b c r) (subst (λ rs. Kept e b rs) (sym (append-nil before)) k) }
 lines_read (l ∷ ls) b c e before k r =
@@ -101,14 +101,14 @@ lines_read (l ∷ ls) b c e before k r =
     let one = line_read b f.between l f.first in
     let s = steps b e l.number one.phrase before k one.placed in
     let first : b.profile ≤ f.between.profile = subst (λ d. b.profile ≤ d.profile) (sym one.made) (step_grows b l.number one.phrase one.placed) in
-    let below = lines_read ls f.between c s.left (before ++ s.row ∷ []) (subst (λ d. Kept s.left d (before ++ s.row ∷ [])) (sym one.made) s.kept) f.others in
+    let below = lines_read ls f.between c s.left (before ++ s.tree_line ∷ []) (subst (λ d. Kept s.left d (before ++ s.tree_line ∷ [])) (sym one.made) s.kept) f.others in
     record {
       spaced = rw (one.spaced, below.spaced) refl;
       left = below.left;
-      more = s.row ∷ below.more;
+      more = s.tree_line ∷ below.more;
       grows = omega (arith, first, below.grows);
-      said = (said_row c.profile l one.phrase s.row (says_later b.profile c.profile one.phrase l.words (omega (arith, first, below.grows)) one.says) s.said, below.said);
-      kept = subst (λ rs. Kept below.left c rs) (append_assoc before (s.row ∷ []) below.more) below.kept;
+      said = (said_line c.profile l one.phrase s.tree_line (says_later b.profile c.profile one.phrase l.words (omega (arith, first, below.grows)) one.says) s.said, below.said);
+      kept = subst (λ rs. Kept below.left c rs) (append_assoc before (s.tree_line ∷ []) below.more) below.kept;
     }
 
 -- bytes with no place before their lines are judged
@@ -183,14 +183,14 @@ unfolding reading
 text_read bytes s e = let t = text_read_by (place_in_bytes bytes) (read_lines nothing_yet (lines bytes)) bytes s e in record { building = t.0; begins = t.1; lines = t.2; ends = t.3 }
 
 pub nothing_kept : Kept 32 nothing_yet []
-unfolding open_rows
-nothing_kept = record { levels = refl; stacked = tt; rows = refl }
+unfolding open_lines
+nothing_kept = record { levels = refl; stacked = tt; tree_lines = refl }
 
-closed_rows : (b : Building) (e : ℕ) (rs : List Row) → b.open_blocks ≡ [] → Kept e b rs → scenario_rows (scenario b) ≡ Some rs
-unfolding scenario_rows open_rows
-closed_rows b e rs closed k =
-    sym (plus_none (profile_rows b.profile ⊕ each declaration_rows b.objects ⊕ each function_rows b.functions))
-    ∙ subst (λ os. (profile_rows b.profile ⊕ each declaration_rows b.objects ⊕ each function_rows b.functions ⊕ open_rows (suc e) os) ≡ Some rs) closed k.rows
+closed_lines : (b : Building) (e : ℕ) (rs : List TreeLine) → b.open_blocks ≡ [] → Kept e b rs → scenario_lines (scenario b) ≡ Some rs
+unfolding scenario_lines open_lines
+closed_lines b e rs closed k =
+    sym (plus_none (profile_lines b.profile ⊕ each declaration_lines b.objects ⊕ each function_lines b.functions))
+    ∙ subst (λ os. (profile_lines b.profile ⊕ each declaration_lines b.objects ⊕ each function_lines b.functions ⊕ open_lines (suc e) os) ≡ Some rs) closed k.tree_lines
 
 -- What a text is read as, it spells.
 pub sound : (s : Scenario) (bytes : List ℕ) → reading bytes ≡ Ok s → Spells s bytes
@@ -199,9 +199,9 @@ sound s bytes e =
     let whole = text_bytes bytes t.begins in
     let f = finished_by bytes t.building s t.building.open_blocks refl t.ends in
     let l = lines_read (lines bytes) nothing_yet t.building 32 [] nothing_kept t.lines in
-    let rows = closed_rows t.building l.left l.more f.closed l.kept in
+    let tree_lines = closed_lines t.building l.left l.more f.closed l.kept in
     subst (λ s. Spells s bytes) (sym f.made) (record {
       text = record { short = whole.short; printable = whole.printable; ended = whole.ended; spaced = l.spaced };
-      rows = subst (λ r. IsSomeAnd r (AreRows t.building.profile (lines bytes))) (sym rows) l.said;
+      tree_lines = subst (λ r. IsSomeAnd r (AreTreeLines t.building.profile (lines bytes))) (sym tree_lines) l.said;
       has_main = f.has_main;
     })

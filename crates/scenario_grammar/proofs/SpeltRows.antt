@@ -28,7 +28,7 @@ use Rattle.scenario_grammar.specs.Reading.{phrase_of, nested_at, name_at, number
 use Rattle.scenario_grammar.specs.Expressions.{tokens_within}
 use Rattle.scenario_grammar.specs.Keywords.{keyword_of, keywords}
 use Rattle.scenario_grammar.specs.Tokens.{name, token_of}
-use Rattle.scenario_grammar.specs.Blocks.{scenario_rows, block_within}
+use Rattle.scenario_grammar.specs.Blocks.{scenario_lines, block_within}
 use Rattle.scenario_grammar.specs.Phrases.{phrase_tokens}
 
 abbrev text : List (List ℕ) → List ℕ
@@ -56,11 +56,11 @@ unfolding lines
 one_lines = refl
 
 prints_one : Spells one_tree one_text
-unfolding token_of lines scenario_rows block_within phrase_tokens tokens_within keyword_of keywords name out-Expression out-Action out digits
+unfolding token_of lines scenario_lines block_within phrase_tokens tokens_within keyword_of keywords name out-Expression out-Action out digits
 prints_one = record {
   text = record { short = lit≤ tt; printable = refl; ended = refl; spaced = refl };
   has_main = refl;
-  rows = ((refl, refl), ((refl, refl), ((refl, tt), tt)));
+  tree_lines = ((refl, refl), ((refl, refl), ((refl, tt), tt)));
 }
 
 pool_text : List ℕ
@@ -111,12 +111,12 @@ pool_tree =
     }
 
 pool_printed : lines (printed pool_tree) ≡ lines pool_text
-unfolding printed lines scenario_rows block_within phrase_tokens tokens_within keyword_of keywords name out-Expression out-Action out digits pool_text shown-the_row-Expression-0 shown-the_row-Expression-1 shown-the_row-Statement-0 shown-the_row-Except-1 shown hidden
+unfolding printed lines scenario_lines block_within phrase_tokens tokens_within keyword_of keywords name out-Expression out-Action out digits pool_text shown-the_row-Expression-0 shown-the_row-Expression-1 shown-the_row-Statement-0 shown-the_row-Except-1 shown hidden
 pool_printed = refl
 
 -- the lines of the printed form of the first text, by their blanks
 prints_one_again : printed one_tree ≡ text (codes "def main" ∷ codes "  print 1" ∷ codes "end" ∷ [])
-unfolding printed scenario_rows block_within phrase_tokens tokens_within keyword_of keywords name out-Expression out-Action out digits
+unfolding printed scenario_lines block_within phrase_tokens tokens_within keyword_of keywords name out-Expression out-Action out digits
 prints_one_again = refl
 
 -- leading blanks, a comment and a line of nothing
@@ -131,11 +131,11 @@ loose_tree = record {
 }
 
 loose_spelt : Spells loose_tree loose_text
-unfolding token_of lines scenario_rows block_within phrase_tokens tokens_within keyword_of keywords name out-Expression out-Action out digits
-loose_spelt = record { text = record { short = lit≤ tt; printable = refl; ended = refl; spaced = refl }; has_main = refl; rows = ((refl, refl), ((refl, refl), ((refl, tt), tt))) }
+unfolding token_of lines scenario_lines block_within phrase_tokens tokens_within keyword_of keywords name out-Expression out-Action out digits
+loose_spelt = record { text = record { short = lit≤ tt; printable = refl; ended = refl; spaced = refl }; has_main = refl; tree_lines = ((refl, refl), ((refl, refl), ((refl, tt), tt))) }
 
 loose_printed : printed loose_tree ≡ text (codes "def main" ∷ codes "  print 1" ∷ codes "end" ∷ [])
-unfolding printed scenario_rows block_within phrase_tokens tokens_within keyword_of keywords name out-Expression out-Action out digits
+unfolding printed scenario_lines block_within phrase_tokens tokens_within keyword_of keywords name out-Expression out-Action out digits
 loose_printed = refl
 
 -- the text of the pool is read as its tree
@@ -173,5 +173,5 @@ later_read = refl
 -- its printed form begins with the line of the profile
 later_printed : printed later_tree ≡ text (codes "profile 2" ∷ codes "queue q join none" ∷ codes "channel c" ∷ codes "def main" ∷ codes "  cput c 1" ∷ codes "  x <- cget c"
     ∷ codes "  cget c" ∷ codes "  qshut q" ∷ codes "  qshut q immediate" ∷ codes "end" ∷ [])
-unfolding printed lines scenario_rows block_within phrase_tokens tokens_within keyword_of keywords name out-Expression out-Action out digits shown-the_row-Expression-0 shown-the_row-Expression-1 shown-the_row-Statement-0 shown-the_row-Except-1 shown hidden
+unfolding printed lines scenario_lines block_within phrase_tokens tokens_within keyword_of keywords name out-Expression out-Action out digits shown-the_row-Expression-0 shown-the_row-Expression-1 shown-the_row-Statement-0 shown-the_row-Except-1 shown hidden
 later_printed = refl

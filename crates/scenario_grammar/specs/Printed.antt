@@ -7,7 +7,7 @@ use Rattle.scenario_grammar.specs.declared.phrase.Phrase.TheVariants as phrase
 use Rattle.scenario_grammar.specs.declared.token.Token.{Token}
 use Rattle.scenario_grammar.specs.Tokens.{token_word}
 use Rattle.scenario_grammar.specs.Phrases.{phrase_tokens}
-use Rattle.scenario_grammar.specs.Blocks.{Row, scenario_rows}
+use Rattle.scenario_grammar.specs.Blocks.{TreeLine, scenario_lines}
 
 -- it closes a block, or the part of a block before it
 abbrev pub is_closing : Phrase → Bool
@@ -43,17 +43,17 @@ words_of None = []
 words_of (Some tokens) = join_with_byte 32 (map token_word tokens)
 
 -- two blanks per open block
-abbrev pub printed_rows : ℕ → List Row → List ℕ
-printed_rows level [] = []
-printed_rows level (r ∷ rs) =
+abbrev pub printed_tree_lines : ℕ → List TreeLine → List ℕ
+printed_tree_lines level [] = []
+printed_tree_lines level (r ∷ rs) =
     let here = less_if (is_closing r.says) level in
-    replicate (2 * here) 32 ++ words_of (phrase_tokens r.says) ++ 10 ∷ printed_rows (more_if (is_opening r.says) here) rs
+    replicate (2 * here) 32 ++ words_of (phrase_tokens r.says) ++ 10 ∷ printed_tree_lines (more_if (is_opening r.says) here) rs
 
--- the rows from the outermost level on
-abbrev pub printed_if : Option (List Row) → List ℕ
+-- the tree_lines from the outermost level on
+abbrev pub printed_if : Option (List TreeLine) → List ℕ
 printed_if None = []
-printed_if (Some rows) = printed_rows 0 rows
+printed_if (Some tree_lines) = printed_tree_lines 0 tree_lines
 
 -- the text of a tree with its own leading blanks, and no line that carries nothing
 unfoldable pub printed : Scenario → List ℕ
-printed s = printed_if (scenario_rows s)
+printed s = printed_if (scenario_lines s)

@@ -8,28 +8,28 @@ use Rattle.scenario_tree.specs.declared.tree.Scenario.{Scenario}
 use Rattle.scenario_grammar.specs.Layout.{Line, lines, IsText}
 use Rattle.scenario_grammar.specs.Tokens.{token_in}
 use Rattle.scenario_grammar.specs.Phrases.{phrase_tokens}
-use Rattle.scenario_grammar.specs.Blocks.{Row, scenario_rows}
+use Rattle.scenario_grammar.specs.Blocks.{TreeLine, scenario_lines}
 
 -- the words say, in this profile, what the tree has there, on the line that the tree keeps
-abbrev pub IsRow : ℕ → Line → Row → Type 0
-IsRow profile l r = (phrase_tokens r.says ≡ Some (map (token_in profile) l.words)) × IfSome r.at (λ n. l.number ≡ n)
+abbrev pub IsTreeLine : ℕ → Line → TreeLine → Type 0
+IsTreeLine profile l r = (phrase_tokens r.says ≡ Some (map (token_in profile) l.words)) × IfSome r.at (λ n. l.number ≡ n)
 
 -- line by line
-abbrev pub AreRows : ℕ → List Line → List Row → Type 0
-AreRows profile [] [] = Unit {0}
-AreRows profile [] (r ∷ rs) = ⊥
-AreRows profile (l ∷ ls) [] = ⊥
-AreRows profile (l ∷ ls) (r ∷ rs) = IsRow profile l r × AreRows profile ls rs
+abbrev pub AreTreeLines : ℕ → List Line → List TreeLine → Type 0
+AreTreeLines profile [] [] = Unit {0}
+AreTreeLines profile [] (r ∷ rs) = ⊥
+AreTreeLines profile (l ∷ ls) [] = ⊥
+AreTreeLines profile (l ∷ ls) (r ∷ rs) = IsTreeLine profile l r × AreTreeLines profile ls rs
 
 -- a function of the name `main`, not a raw one
 abbrev pub is_main : Function → Bool
 is_main f = not f.is_raw && pointwise nat_eq f.name (codes "main")
 
 -- The bytes are a text of the tree: line by line they say what it says, in its profile, and there is a `main`. A tree
--- whose profile is neither 1 nor 2 has no rows, and so no text.
+-- whose profile is neither 1 nor 2 has no tree_lines, and so no text.
 pub record Spells (s : Scenario) (bytes : List ℕ) : Type 0 where
   pub text : IsText bytes
-  pub rows : IsSomeAnd (scenario_rows s) (AreRows s.profile (lines bytes))
+  pub tree_lines : IsSomeAnd (scenario_lines s) (AreTreeLines s.profile (lines bytes))
   pub has_main : IsTrue (list_any is_main s.functions)
 
 -- Some bytes are a text of the tree. Then its printed form is one too, but for the numbers of the lines, where it is no

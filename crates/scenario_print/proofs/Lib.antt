@@ -2,6 +2,6 @@ pub mod BlockLemmas
 pub mod Each
 pub mod Heads
 pub mod Layers
-pub mod RowLemmas
+pub mod TreeLineLemmas
 pub mod ScenarioLemmas
 pub mod Words

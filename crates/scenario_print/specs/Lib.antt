@@ -1,3 +1,3 @@
-pub mod Rows
+pub mod TreeLines
 pub mod Texts
 pub mod Written

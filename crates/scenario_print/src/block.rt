@@ -1,11 +1,11 @@
 //! Statements and blocks, indented.
 #![tactic(auto, using(crate::proofs::Words::through))]
 
-ghost use Rattle.scenario_print.specs.Rows.{Deeper, WroteBlock, WroteExcepts, WroteStatement};
+ghost use Rattle.scenario_print.specs.TreeLines.{Deeper, WroteBlock, WroteExcepts, WroteStatement};
 
-use crate::row::{
-    push_command_row, push_except_row, push_fixed_row, push_giving_row, push_if_row,
-    push_timeout_row, push_while_row,
+use crate::tree_line::{
+    push_command_line, push_except_line, push_fixed_line, push_giving_line, push_if_line,
+    push_timeout_line, push_while_line,
 };
 use scenario_grammar::Keyword;
 use scenario_tree::{Action, Except, Statement};
@@ -39,42 +39,42 @@ fn push_statement(statement: &Statement, level: usize, out: &mut Vec<u8>) -> Res
 {
     let inside = deeper(level);
     match &statement.action {
-        Action::Command(command) => push_command_row(level, command, out),
-        Action::Giving(target, giving) => push_giving_row(level, target, giving, out),
+        Action::Command(command) => push_command_line(level, command, out),
+        Action::Giving(target, giving) => push_giving_line(level, target, giving, out),
         Action::If(e, then_part, else_part) => {
-            push_if_row(level, e, out)?;
+            push_if_line(level, e, out)?;
             push_block(then_part.as_slice(), inside, out)?;
             match else_part {
-                None => push_fixed_row(level, Keyword::End, out),
+                None => push_fixed_line(level, Keyword::End, out),
                 Some(body) => {
-                    push_fixed_row(level, Keyword::Else, out)?;
+                    push_fixed_line(level, Keyword::Else, out)?;
                     push_block(body.as_slice(), inside, out)?;
-                    push_fixed_row(level, Keyword::End, out)
+                    push_fixed_line(level, Keyword::End, out)
                 }
             }
         }
         Action::While(e, body) => {
-            push_while_row(level, e, out)?;
+            push_while_line(level, e, out)?;
             push_block(body.as_slice(), inside, out)?;
-            push_fixed_row(level, Keyword::End, out)
+            push_fixed_line(level, Keyword::End, out)
         }
         Action::Try(body, excepts, finally) => {
-            push_fixed_row(level, Keyword::Try, out)?;
+            push_fixed_line(level, Keyword::Try, out)?;
             push_block(body.as_slice(), inside, out)?;
             push_excepts(excepts.as_slice(), level, out)?;
             match finally {
-                None => push_fixed_row(level, Keyword::End, out),
+                None => push_fixed_line(level, Keyword::End, out),
                 Some(body) => {
-                    push_fixed_row(level, Keyword::Finally, out)?;
+                    push_fixed_line(level, Keyword::Finally, out)?;
                     push_block(body.as_slice(), inside, out)?;
-                    push_fixed_row(level, Keyword::End, out)
+                    push_fixed_line(level, Keyword::End, out)
                 }
             }
         }
         Action::Timeout(after, is_silent, body) => {
-            push_timeout_row(level, *after, *is_silent, out)?;
+            push_timeout_line(level, *after, *is_silent, out)?;
             push_block(body.as_slice(), inside, out)?;
-            push_fixed_row(level, Keyword::End, out)
+            push_fixed_line(level, Keyword::End, out)
         }
     }
 }
@@ -84,7 +84,7 @@ fn push_excepts(excepts: &[Except], level: usize, out: &mut Vec<u8>) -> Result<(
     ensures { WroteExcepts out.old.items out.new.items result level excepts.now }
 {
     for except in excepts {
-        push_except_row(level, except.class, &except.name, out)?;
+        push_except_line(level, except.class, &except.name, out)?;
         push_block(except.body.as_slice(), deeper(level), out)?;
     }
     Ok(())

@@ -7,9 +7,9 @@ mod expression;
 mod giving;
 mod head;
 mod part;
-mod row;
 mod scenario;
 mod start;
+mod tree_line;
 mod word;
 
 pub use scenario::{print, spelt_trees_have_text};

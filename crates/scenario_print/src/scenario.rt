@@ -2,16 +2,18 @@
 #![tactic(auto, using(crate::proofs::Words::through, gv_values::proofs::Fronts::fronts))]
 
 ghost use Rattle.std.specs.Prelude.{◌≡◌, ◌++◌, List, ℕ, OnOk, OnErr};
-ghost use Rattle.scenario_grammar.specs.Blocks.{declaration_rows, function_rows, profile_rows};
+ghost use Rattle.scenario_grammar.specs.Blocks.{declaration_lines, function_lines, profile_lines};
 ghost use Rattle.scenario_grammar.specs.Printed.{printed};
 ghost use Rattle.scenario_grammar.specs.Spells.{Spells};
 ghost use Rattle.scenario_grammar.specs.Tokens.{each};
 ghost use Rattle.scenario_tree.specs.declared.tree.Scenario.{Scenario};
-ghost use Rattle.scenario_print.specs.Rows.{Laid, WroteScenario};
+ghost use Rattle.scenario_print.specs.TreeLines.{Laid, WroteScenario};
 ghost use Rattle.scenario_print.specs.Texts.{HasText};
 
 use crate::block::push_block;
-use crate::row::{push_declaration_row, push_fixed_row, push_function_row, push_profile_row};
+use crate::tree_line::{
+    push_declaration_line, push_fixed_line, push_function_line, push_profile_line,
+};
 use scenario_grammar::Keyword;
 use scenario_tree::{Declaration, Function, Scenario};
 use std::alloc::AllocError;
@@ -46,25 +48,25 @@ fn push_scenario(s: &Scenario, out: &mut Vec<u8>) -> Result<(), AllocError>
 
 /// The line `profile 2`, which a scenario of profile 1 does not have.
 fn push_profile(profile: u8, out: &mut Vec<u8>) -> Result<(), AllocError>
-    ensures { Laid out.old.items out.new.items result 0 0 (profile_rows profile) }
+    ensures { Laid out.old.items out.new.items result 0 0 (profile_lines profile) }
 {
     if profile == 1 {
         return Ok(());
     }
-    push_profile_row(out)
+    push_profile_line(out)
 }
 
 fn push_declarations(declarations: &[Declaration], out: &mut Vec<u8>) -> Result<(), AllocError>
-    ensures { Laid out.old.items out.new.items result 0 0 (each declaration_rows declarations.now) }
+    ensures { Laid out.old.items out.new.items result 0 0 (each declaration_lines declarations.now) }
 {
     for declaration in declarations {
-        push_declaration_row(declaration, out)?;
+        push_declaration_line(declaration, out)?;
     }
     Ok(())
 }
 
 fn push_functions(functions: &[Function], out: &mut Vec<u8>) -> Result<(), AllocError>
-    ensures { Laid out.old.items out.new.items result 0 0 (each function_rows functions.now) }
+    ensures { Laid out.old.items out.new.items result 0 0 (each function_lines functions.now) }
 {
     for function in functions {
         push_function(function, out)?;
@@ -73,9 +75,9 @@ fn push_functions(functions: &[Function], out: &mut Vec<u8>) -> Result<(), Alloc
 }
 
 fn push_function(function: &Function, out: &mut Vec<u8>) -> Result<(), AllocError>
-    ensures { Laid out.old.items out.new.items result 0 0 (function_rows function.now) }
+    ensures { Laid out.old.items out.new.items result 0 0 (function_lines function.now) }
 {
-    push_function_row(function, out)?;
+    push_function_line(function, out)?;
     push_block(function.body.as_slice(), 1, out)?;
-    push_fixed_row(0, Keyword::End, out)
+    push_fixed_line(0, Keyword::End, out)
 }

@@ -11,44 +11,44 @@ push_block-loop-statement-preserved t c =
 pub push_excepts-loop-except-preserved : goal.push_excepts-loop-except-preserved
 push_excepts-loop-except-preserved t c =
     next_except c.args.level c.loop-except.except-index c.args.excepts.now c.except-item.result c.as_slice.result.now c.loop-except-test.true c.except-item.is c.deeper.ensures c.as_slice.ensures
-    c.loop-except.invariant c.in_ok-push_except_row.ensures c.in_ok-push_block.ensures
+    c.loop-except.invariant c.in_ok-push_except_line.ensures c.in_ok-push_block.ensures
 
 pub push_statement-returns-in-Command : goal.push_statement-returns-in-Command
-push_statement-returns-in-Command t c = command_statement c.args.level c.args.statement.now c.in-Command.command c.in-Command.is c.push_command_row.ensures
+push_statement-returns-in-Command t c = command_statement c.args.level c.args.statement.now c.in-Command.command c.in-Command.is c.push_command_line.ensures
 
 pub push_statement-returns-in-Giving : goal.push_statement-returns-in-Giving
-push_statement-returns-in-Giving t c = giving_statement c.args.level c.args.statement.now c.in-Giving.target c.in-Giving.giving c.in-Giving.is c.push_giving_row.ensures
+push_statement-returns-in-Giving t c = giving_statement c.args.level c.args.statement.now c.in-Giving.target c.in-Giving.giving c.in-Giving.is c.push_giving_line.ensures
 
 pub push_statement-returns-in_ok-push_block-in-While : goal.push_statement-returns-in_ok-push_block-in-While
 push_statement-returns-in_ok-push_block-in-While t c =
     while_statement c.args.level c.args.statement.now c.in-While.e c.in-While.body c.as_slice-in-While.result.now c.in-While.is c.deeper-inside.ensures c.as_slice-in-While.ensures
-    c.in_ok-push_while_row-in-While.ensures c.in_ok-push_block-in-While.ensures c.push_fixed_row-in-While.ensures
+    c.in_ok-push_while_line-in-While.ensures c.in_ok-push_block-in-While.ensures c.push_fixed_line-in-While.ensures
 
 pub push_statement-returns-in_ok-push_block-in-Timeout : goal.push_statement-returns-in_ok-push_block-in-Timeout
 push_statement-returns-in_ok-push_block-in-Timeout t c =
     timeout_statement c.args.level c.args.statement.now c.in-Timeout.after c.in-Timeout.is_silent c.in-Timeout.body c.as_slice-in-Timeout.result.now c.in-Timeout.is c.deeper-inside.ensures c.as_slice-in-Timeout.ensures
-    c.in_ok-push_timeout_row-in-Timeout.ensures c.in_ok-push_block-in-Timeout.ensures c.push_fixed_row-in-Timeout.ensures
+    c.in_ok-push_timeout_line-in-Timeout.ensures c.in_ok-push_block-in-Timeout.ensures c.push_fixed_line-in-Timeout.ensures
 
 pub push_statement-returns-in-None : goal.push_statement-returns-in-None
 push_statement-returns-in-None t c =
     if_statement c.args.level c.args.statement.now c.in-If.e c.in-If.then_part c.as_slice.result.now c.in-If.else_part c.in-If.is c.in-None.is c.deeper-inside.ensures c.as_slice.ensures
-    c.in_ok-push_if_row-in-If.ensures c.in_ok-push_block-in-If.ensures c.push_fixed_row.ensures
+    c.in_ok-push_if_line-in-If.ensures c.in_ok-push_block-in-If.ensures c.push_fixed_line.ensures
 
 pub push_statement-returns-in_ok-push_block-in-Some : goal.push_statement-returns-in_ok-push_block-in-Some
 push_statement-returns-in_ok-push_block-in-Some t c =
     if_else_statement c.args.level c.args.statement.now c.in-If.e c.in-If.then_part c.as_slice.result.now c.in-Some.body c.as_slice-in-Some.result.now c.in-If.else_part c.in-If.is c.in-Some.is
-    c.deeper-inside.ensures c.as_slice.ensures c.as_slice-in-Some.ensures c.in_ok-push_if_row-in-If.ensures c.in_ok-push_block-in-If.ensures c.in_ok-push_fixed_row-in-Some.ensures
-    c.in_ok-push_block-in-Some.ensures c.push_fixed_row-in-Some-2.ensures
+    c.deeper-inside.ensures c.as_slice.ensures c.as_slice-in-Some.ensures c.in_ok-push_if_line-in-If.ensures c.in_ok-push_block-in-If.ensures c.in_ok-push_fixed_line-in-Some.ensures
+    c.in_ok-push_block-in-Some.ensures c.push_fixed_line-in-Some-2.ensures
 
 pub push_statement-returns-in-None-finally : goal.push_statement-returns-in-None-finally
 push_statement-returns-in-None-finally t c =
     try_statement c.args.level c.args.statement.now c.in-Try.body c.as_slice-in-Try.result.now c.in-Try.excepts c.as_slice-in-Try-2.result.now c.in-Try.finally c.in-Try.is c.in-None-finally.is
-    c.deeper-inside.ensures c.as_slice-in-Try.ensures c.as_slice-in-Try-2.ensures c.in_ok-push_fixed_row-in-Try.ensures c.in_ok-push_block-in-Try.ensures c.in_ok-push_excepts-in-Try.ensures
-    c.push_fixed_row-in-None-finally.ensures
+    c.deeper-inside.ensures c.as_slice-in-Try.ensures c.as_slice-in-Try-2.ensures c.in_ok-push_fixed_line-in-Try.ensures c.in_ok-push_block-in-Try.ensures c.in_ok-push_excepts-in-Try.ensures
+    c.push_fixed_line-in-None-finally.ensures
 
 pub push_statement-returns-in_ok-push_block-in-Some-finally : goal.push_statement-returns-in_ok-push_block-in-Some-finally
 push_statement-returns-in_ok-push_block-in-Some-finally t c =
     try_finally_statement c.args.level c.args.statement.now c.in-Try.body c.as_slice-in-Try.result.now c.in-Try.excepts c.as_slice-in-Try-2.result.now c.in-Some-finally.body c.as_slice-in-Some-finally.result.now
     c.in-Try.finally c.in-Try.is c.in-Some-finally.is c.deeper-inside.ensures c.as_slice-in-Try.ensures c.as_slice-in-Try-2.ensures c.as_slice-in-Some-finally.ensures
-    c.in_ok-push_fixed_row-in-Try.ensures c.in_ok-push_block-in-Try.ensures c.in_ok-push_excepts-in-Try.ensures c.in_ok-push_fixed_row-in-Some-finally.ensures
-    c.in_ok-push_block-in-Some-finally.ensures c.push_fixed_row-in-Some-finally-2.ensures
+    c.in_ok-push_fixed_line-in-Try.ensures c.in_ok-push_block-in-Try.ensures c.in_ok-push_excepts-in-Try.ensures c.in_ok-push_fixed_line-in-Some-finally.ensures
+    c.in_ok-push_block-in-Some-finally.ensures c.push_fixed_line-in-Some-finally-2.ensures

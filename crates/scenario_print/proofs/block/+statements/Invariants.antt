@@ -1,6 +1,6 @@
 use Rattle.std.proofs.Common.{take, Result, Ok}
 use Rattle.std.specs.declared.alloc.AllocError.{AllocError}
-use Rattle.scenario_print.specs.Rows.{WroteBlock, WroteExcepts}
+use Rattle.scenario_print.specs.TreeLines.{WroteBlock, WroteExcepts}
 use Rattle.scenario_print.proofs.block.+statements.Given as goal
 
 abbrev pub invariant-push_block-loop-statement : goal.invariant-push_block-loop-statement

@@ -1,10 +1,10 @@
-use Rattle.scenario_grammar.specs.Blocks.{declaration_rows}
-use Rattle.scenario_print.proofs.RowLemmas.{laid_nothing}
-use Rattle.scenario_print.proofs.ScenarioLemmas.{next_rows, one_declaration}
+use Rattle.scenario_grammar.specs.Blocks.{declaration_lines}
+use Rattle.scenario_print.proofs.TreeLineLemmas.{laid_nothing}
+use Rattle.scenario_print.proofs.ScenarioLemmas.{next_lines, one_declaration}
 use Rattle.scenario_print.proofs.scenario.push_declarations.Goals as goal
 
 pub loop-declaration-init : goal.loop-declaration-init
 loop-declaration-init c = laid_nothing _ _ 0
 
 pub loop-declaration-preserved : goal.loop-declaration-preserved
-loop-declaration-preserved c = next_rows declaration_rows c.loop-declaration.declaration-index c.args.declarations.now c.declaration-item.result c.loop-declaration-test.true c.declaration-item.is c.loop-declaration.invariant (one_declaration c.declaration-item.result c.in_ok-push_declaration_row.ensures)
+loop-declaration-preserved c = next_lines declaration_lines c.loop-declaration.declaration-index c.args.declarations.now c.declaration-item.result c.loop-declaration-test.true c.declaration-item.is c.loop-declaration.invariant (one_declaration c.declaration-item.result c.in_ok-push_declaration_line.ensures)

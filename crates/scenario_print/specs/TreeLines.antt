@@ -8,10 +8,10 @@ use Rattle.scenario_tree.specs.declared.tree.Scenario.{Scenario}
 use Rattle.scenario_tree.specs.declared.tree.Statement.{Statement}
 use Rattle.scenario_grammar.specs.declared.keyword.Keyword.{Keyword}
 use Rattle.scenario_grammar.specs.declared.phrase.Phrase.{Phrase}
-use Rattle.scenario_grammar.specs.Blocks.{Row, block_within, except_rows, most_levels, statement_rows}
+use Rattle.scenario_grammar.specs.Blocks.{TreeLine, block_within, except_lines, most_levels, statement_lines}
 use Rattle.scenario_grammar.specs.Keywords.{spelling}
 use Rattle.scenario_grammar.specs.Phrases.{phrase_tokens}
-use Rattle.scenario_grammar.specs.Printed.{printed, printed_rows, words_of}
+use Rattle.scenario_grammar.specs.Printed.{printed, printed_tree_lines, words_of}
 use Rattle.scenario_grammar.specs.Tokens.{Written, each}
 use Rattle.scenario_print.specs.Texts.{has_words, HasText}
 
@@ -20,22 +20,22 @@ abbrev pub line_text : ℕ → List ℕ → List ℕ
 line_text level words = replicate (2 * level) 32 ++ words ++ 10 ∷ []
 
 -- the line of this phrase, where it has words
-pub record WroteRow {T E : Type 0} (old new : List ℕ) (done : Result T E) (level : ℕ) (p : Phrase) : Type 0 where
+pub record WroteTreeLine {T E : Type 0} (old new : List ℕ) (done : Result T E) (level : ℕ) (p : Phrase) : Type 0 where
   pub text : OnOk done (IsSome (phrase_tokens p) → new ≡ old ++ line_text level (words_of (phrase_tokens p)))
   pub front : BeginsWith new old
 
 -- a line of one fixed word
-pub record WroteFixedRow {T E : Type 0} (old new : List ℕ) (done : Result T E) (level : ℕ) (k : Keyword) : Type 0 where
+pub record WroteFixedLine {T E : Type 0} (old new : List ℕ) (done : Result T E) (level : ℕ) (k : Keyword) : Type 0 where
   pub text : OnOk done (new ≡ old ++ line_text level (spelling k))
   pub front : BeginsWith new old
 
 -- What is to be printed behind old is what is left to be printed behind new, where all lines have words.
-abbrev pub AreLaid : List ℕ → List ℕ → ℕ → ℕ → Written Row → Type 0
-AreLaid old new from to rows = (rs : List Row) → rows ≡ Some rs → IsTrue (list_all has_words rs) → (rest : List Row) → old ++ printed_rows from (rs ++ rest) ≡ new ++ printed_rows to rest
+abbrev pub AreLaid : List ℕ → List ℕ → ℕ → ℕ → Written TreeLine → Type 0
+AreLaid old new from to tree_lines = (rs : List TreeLine) → tree_lines ≡ Some rs → IsTrue (list_all has_words rs) → (rest : List TreeLine) → old ++ printed_tree_lines from (rs ++ rest) ≡ new ++ printed_tree_lines to rest
 
 -- the lines of a part of a tree, from one level to another
-pub record Laid {T E : Type 0} (old new : List ℕ) (done : Result T E) (from to : ℕ) (rows : Written Row) : Type 0 where
-  pub lines : OnOk done (AreLaid old new from to rows)
+pub record Laid {T E : Type 0} (old new : List ℕ) (done : Result T E) (from to : ℕ) (tree_lines : Written TreeLine) : Type 0 where
+  pub lines : OnOk done (AreLaid old new from to tree_lines)
   pub front : BeginsWith new old
 
 -- the level inside a block on this level; a tree that has a text has 32 levels at most
@@ -49,12 +49,12 @@ pub record WroteBlock {T E : Type 0} (old new : List ℕ) (done : Result T E) (l
 
 -- the lines of a statement on this level, which has so many levels below it at most
 pub record WroteStatement {T E : Type 0} (old new : List ℕ) (done : Result T E) (level : ℕ) (s : Statement) : Type 0 where
-  pub lines : (levels : ℕ) → level + suc levels ≤ suc most_levels → OnOk done (AreLaid old new level level (statement_rows (block_within levels) s))
+  pub lines : (levels : ℕ) → level + suc levels ≤ suc most_levels → OnOk done (AreLaid old new level level (statement_lines (block_within levels) s))
   pub front : BeginsWith new old
 
 -- the excepts of a statement on this level, with their blocks
 pub record WroteExcepts {T E : Type 0} (old new : List ℕ) (done : Result T E) (level : ℕ) (excepts : List Except) : Type 0 where
-  pub lines : (levels : ℕ) → level + suc levels ≤ suc most_levels → OnOk done (AreLaid old new (level + 1) (level + 1) (each (except_rows (block_within levels)) excepts))
+  pub lines : (levels : ℕ) → level + suc levels ≤ suc most_levels → OnOk done (AreLaid old new (level + 1) (level + 1) (each (except_lines (block_within levels)) excepts))
   pub front : BeginsWith new old
 
 -- the lines of a tree, from the outermost level to the outermost

@@ -3,7 +3,7 @@
 
 ghost use Rattle.std.specs.Prelude.{◌*◌, ◌∷◌, [], replicate};
 ghost use Rattle.scenario_grammar.specs.declared.phrase.Phrase.TheVariants as phrase;
-ghost use Rattle.scenario_print.specs.Rows.{WroteFixedRow, WroteRow};
+ghost use Rattle.scenario_print.specs.TreeLines.{WroteFixedLine, WroteTreeLine};
 ghost use Rattle.scenario_print.specs.Written.{Appended};
 
 use crate::command::push_command;
@@ -39,25 +39,25 @@ fn push_line_end(out: &mut Vec<u8>) -> Result<(), AllocError>
 }
 
 /// The line that names profile 2.
-pub(crate) fn push_profile_row(out: &mut Vec<u8>) -> Result<(), AllocError>
-    ensures { WroteRow out.old.items out.new.items result 0 phrase.Profile }
+pub(crate) fn push_profile_line(out: &mut Vec<u8>) -> Result<(), AllocError>
+    ensures { WroteTreeLine out.old.items out.new.items result 0 phrase.Profile }
 {
     start_number(Keyword::Profile, 2, out)?;
     push_line_end(out)
 }
 
-pub(crate) fn push_declaration_row(
+pub(crate) fn push_declaration_line(
     declaration: &Declaration,
     out: &mut Vec<u8>,
 ) -> Result<(), AllocError>
-    ensures { WroteRow out.old.items out.new.items result 0 (phrase.Declaration declaration.now.name declaration.now.object) }
+    ensures { WroteTreeLine out.old.items out.new.items result 0 (phrase.Declaration declaration.now.name declaration.now.object) }
 {
     push_object(declaration.object, &declaration.name, out)?;
     push_line_end(out)
 }
 
-pub(crate) fn push_function_row(function: &Function, out: &mut Vec<u8>) -> Result<(), AllocError>
-    ensures { WroteRow out.old.items out.new.items result 0 (phrase.Function function.now.is_raw function.now.name function.now.parameters) }
+pub(crate) fn push_function_line(function: &Function, out: &mut Vec<u8>) -> Result<(), AllocError>
+    ensures { WroteTreeLine out.old.items out.new.items result 0 (phrase.Function function.now.is_raw function.now.name function.now.parameters) }
 {
     push_head(
         function.is_raw,
@@ -68,45 +68,49 @@ pub(crate) fn push_function_row(function: &Function, out: &mut Vec<u8>) -> Resul
     push_line_end(out)
 }
 
-pub(crate) fn push_command_row(
+pub(crate) fn push_command_line(
     level: usize,
     command: &Command,
     out: &mut Vec<u8>,
 ) -> Result<(), AllocError>
-    ensures { WroteRow out.old.items out.new.items result level (phrase.Command command.now) }
+    ensures { WroteTreeLine out.old.items out.new.items result level (phrase.Command command.now) }
 {
     push_indent(level, out)?;
     push_command(command, out)?;
     push_line_end(out)
 }
 
-pub(crate) fn push_giving_row(
+pub(crate) fn push_giving_line(
     level: usize,
     target: &Option<Name>,
     giving: &Giving,
     out: &mut Vec<u8>,
 ) -> Result<(), AllocError>
-    ensures { WroteRow out.old.items out.new.items result level (phrase.Giving target.now giving.now) }
+    ensures { WroteTreeLine out.old.items out.new.items result level (phrase.Giving target.now giving.now) }
 {
     push_indent(level, out)?;
     push_given(target, giving, out)?;
     push_line_end(out)
 }
 
-pub(crate) fn push_if_row(level: usize, e: &Expression, out: &mut Vec<u8>) -> Result<(), AllocError>
-    ensures { WroteRow out.old.items out.new.items result level (phrase.If e.now) }
+pub(crate) fn push_if_line(
+    level: usize,
+    e: &Expression,
+    out: &mut Vec<u8>,
+) -> Result<(), AllocError>
+    ensures { WroteTreeLine out.old.items out.new.items result level (phrase.If e.now) }
 {
     push_indent(level, out)?;
     start_expression(Keyword::If, e, out)?;
     push_line_end(out)
 }
 
-pub(crate) fn push_while_row(
+pub(crate) fn push_while_line(
     level: usize,
     e: &Expression,
     out: &mut Vec<u8>,
 ) -> Result<(), AllocError>
-    ensures { WroteRow out.old.items out.new.items result level (phrase.While e.now) }
+    ensures { WroteTreeLine out.old.items out.new.items result level (phrase.While e.now) }
 {
     push_indent(level, out)?;
     start_expression(Keyword::While, e, out)?;
@@ -114,38 +118,38 @@ pub(crate) fn push_while_row(
 }
 
 /// A line of one fixed word.
-pub(crate) fn push_fixed_row(
+pub(crate) fn push_fixed_line(
     level: usize,
     word: Keyword,
     out: &mut Vec<u8>,
 ) -> Result<(), AllocError>
-    ensures { WroteFixedRow out.old.items out.new.items result level word }
+    ensures { WroteFixedLine out.old.items out.new.items result level word }
 {
     push_indent(level, out)?;
     push_first(word, out)?;
     push_line_end(out)
 }
 
-pub(crate) fn push_except_row(
+pub(crate) fn push_except_line(
     level: usize,
     class: Class,
     n: &Option<Name>,
     out: &mut Vec<u8>,
 ) -> Result<(), AllocError>
-    ensures { WroteRow out.old.items out.new.items result level (phrase.Except class n.now) }
+    ensures { WroteTreeLine out.old.items out.new.items result level (phrase.Except class n.now) }
 {
     push_indent(level, out)?;
     push_except(class, n, out)?;
     push_line_end(out)
 }
 
-pub(crate) fn push_timeout_row(
+pub(crate) fn push_timeout_line(
     level: usize,
     after: Option<u64>,
     is_silent: bool,
     out: &mut Vec<u8>,
 ) -> Result<(), AllocError>
-    ensures { WroteRow out.old.items out.new.items result level (phrase.Timeout after is_silent) }
+    ensures { WroteTreeLine out.old.items out.new.items result level (phrase.Timeout after is_silent) }
 {
     push_indent(level, out)?;
     push_timeout(after, is_silent, out)?;

@@ -1,8 +1,0 @@
-use Rattle.scenario_grammar.specs.declared.phrase.Phrase.TheVariants as phrase
-use Rattle.scenario_grammar.specs.Phrases.{phrase_tokens}
-use Rattle.scenario_print.proofs.RowLemmas.{outer_row}
-use Rattle.scenario_print.proofs.row.push_declaration_row.Goals as goal
-
-pub returns : goal.returns
-unfolding phrase_tokens
-returns c = outer_row (phrase.Declaration c.args.declaration.now.name c.args.declaration.now.object) c.in_ok-push_object.ensures c.push_line_end.ensures

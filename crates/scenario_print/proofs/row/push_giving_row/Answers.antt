@@ -1,8 +1,0 @@
-use Rattle.scenario_grammar.specs.declared.phrase.Phrase.TheVariants as phrase
-use Rattle.scenario_grammar.specs.Phrases.{phrase_tokens}
-use Rattle.scenario_print.proofs.RowLemmas.{row}
-use Rattle.scenario_print.proofs.row.push_giving_row.Goals as goal
-
-pub returns : goal.returns
-unfolding phrase_tokens
-returns c = row (phrase.Giving c.args.target.now c.args.giving.now) c.in_ok-push_indent.ensures c.in_ok-push_given.ensures c.push_line_end.ensures

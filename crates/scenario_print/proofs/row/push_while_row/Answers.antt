@@ -1,9 +1,0 @@
-use Rattle.scenario_grammar.specs.declared.phrase.Phrase.TheVariants as phrase
-use Rattle.scenario_grammar.specs.Phrases.{phrase_tokens}
-use Rattle.scenario_print.proofs.RowLemmas.{row}
-use Rattle.scenario_print.proofs.Words.{line}
-use Rattle.scenario_print.proofs.row.push_while_row.Goals as goal
-
-pub returns : goal.returns
-unfolding phrase_tokens
-returns c = row (phrase.While c.args.e.now) c.in_ok-push_indent.ensures (line c.in_ok-start_expression.ensures) c.push_line_end.ensures

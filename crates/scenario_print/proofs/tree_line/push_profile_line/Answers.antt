@@ -1,0 +1,9 @@
+use Rattle.scenario_grammar.specs.declared.phrase.Phrase.TheVariants as phrase
+use Rattle.scenario_grammar.specs.Phrases.{phrase_tokens}
+use Rattle.scenario_print.proofs.TreeLineLemmas.{outer_line}
+use Rattle.scenario_print.proofs.Words.{line}
+use Rattle.scenario_print.proofs.tree_line.push_profile_line.Goals as goal
+
+pub returns : goal.returns
+unfolding phrase_tokens
+returns c = outer_line phrase.Profile (line (c.in_ok-start_number.ensures.words 2 2)) c.push_line_end.ensures

@@ -1,0 +1,8 @@
+use Rattle.scenario_grammar.specs.declared.phrase.Phrase.TheVariants as phrase
+use Rattle.scenario_grammar.specs.Phrases.{phrase_tokens}
+use Rattle.scenario_print.proofs.TreeLineLemmas.{tree_line}
+use Rattle.scenario_print.proofs.tree_line.push_timeout_line.Goals as goal
+
+pub returns : goal.returns
+unfolding phrase_tokens
+returns c = tree_line (phrase.Timeout c.args.after c.args.is_silent) c.in_ok-push_indent.ensures c.in_ok-push_timeout.ensures c.push_line_end.ensures
