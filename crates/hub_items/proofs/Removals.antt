@@ -10,7 +10,7 @@ use Rattle.hub_items.proofs.Shorts.{short_removed}
 use Rattle.hub_items.proofs.Sounds.{lower}
 
 -- an item further on has a higher since
-later : (low next at : ℕ) (items : List Item) (d : Item) → AscendTo low next items → at < length items → low ≤ (get_or items at d).since
+pub later : (low next at : ℕ) (items : List Item) (d : Item) → AscendTo low next items → at < length items → low ≤ (get_or items at d).since
 later low next at [] d a h = grind arith
 later low next zero (i ∷ items) d a h = a.above
 later low next (suc at) (i ∷ items) d a h = let r = later (i.since + 1) next at items d a.rest (omega (arith, h)) in let b = a.above in omega (arith, r, b)

@@ -1,4 +1,5 @@
 pub mod Gone
+pub mod Lines
 pub mod Places
 pub mod Short
 pub mod Sound

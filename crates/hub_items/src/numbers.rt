@@ -1,41 +1,26 @@
 //! Ready numbers: each item that holds has one.
-ghost use Rattle.std.specs.Prelude.{◌≡◌, ◌+◌, ◌<◌, ◌^◌, length};
+ghost use Rattle.std.specs.Prelude.{◌≡◌, ◌+◌, ◌<◌, ◌^◌};
 ghost use Rattle.machine.specs.Questions.{any_numbered};
-ghost use Rattle.machine.specs.Settle.{settled, numbers_after};
+ghost use Rattle.machine.specs.Settle.{settled_ready, number_after};
 
 use machine::items::Item;
 
-/// Gives each item that holds and has no number the next, from `first` on, and takes its own from each that doesn't
-/// hold; `holding` says of each whether it does. Answers the number that comes after.
-pub fn settle_items(items: &mut Vec<Item>, holding: &[bool], first: u64) -> u64
-    requires lengths { length holding.now ≡ length items.old.items }
-    requires room { first + length items.old.items < 2 ^ 64 }
-    ensures items { items.new.items ≡ settled holding.now first items.old.items }
-    ensures next { result ≡ numbers_after holding.now first items.old.items }
+/// Gives the item the next number where it holds and has none, and takes its own where it doesn't hold. Answers the
+/// number that comes after.
+pub fn settle_item(item: &mut Item, holds: bool, next: u64) -> u64
+    requires { next + 1 < 2 ^ 64 }
+    ensures item { item.new ≡ record item.old { ready = settled_ready holds item.old.ready next } }
+    ensures next { result ≡ number_after holds item.old.ready next }
 {
-    settle_each(items, holding, first)
-}
-
-/// The same over a slice.
-fn settle_each(items: &mut [Item], holding: &[bool], first: u64) -> u64
-    requires lengths { length holding.now ≡ length items.old }
-    requires room { first + length items.old < 2 ^ 64 }
-    ensures items { items.new ≡ settled holding.now first items.old }
-    ensures next { result ≡ numbers_after holding.now first items.old }
-{
-    let mut next = first;
-    for i in 0..items.len() {
-        let item = &mut items[i];
-        if holding[i] {
-            if item.ready.is_none() {
-                item.ready = Some(next);
-                next += 1;
-            }
-        } else {
-            item.ready = None;
-        }
+    if !holds {
+        item.ready = None;
+        return next;
     }
-    next
+    if item.ready.is_some() {
+        return next;
+    }
+    item.ready = Some(next);
+    next + 1
 }
 
 /// Whether an item has a number.

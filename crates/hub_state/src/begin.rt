@@ -8,6 +8,7 @@ use crate::greenlets::Greenlets;
 use crate::hub::Hub;
 use body_frames::Code;
 use gv_values::Name;
+use hub_items::LineLengths;
 use hub_objects::Objects;
 use std::alloc::{AllocError, Global};
 
@@ -44,6 +45,7 @@ impl Hub {
             greenlets,
             jobs: Vec::new(alloc),
             items: Vec::new(alloc),
+            lengths: LineLengths::new(alloc),
             lines: Vec::new(alloc),
             posts: Vec::new(alloc),
         })

@@ -1,6 +1,7 @@
 //! The state itself.
 use crate::greenlets::Greenlets;
 use body_frames::Code;
+use hub_items::LineLengths;
 use hub_objects::{Objects, Posted};
 use machine::items::Item;
 use machine::state::Post;
@@ -22,6 +23,8 @@ pub struct Hub {
     pub(crate) greenlets: Greenlets,
     pub(crate) jobs: Vec<Posted>,
     pub(crate) items: Vec<Item>,
+    /// How long the lines are in a settling; kept from one to the next, so that none but the first allocates.
+    pub(crate) lengths: LineLengths,
     pub(crate) lines: Vec<Line>,
     pub(crate) posts: Vec<Post>,
 }

@@ -6,7 +6,6 @@
 #![tactic(auto)]
 
 mod begin;
-mod conditions;
 mod counts;
 mod due;
 mod effects;

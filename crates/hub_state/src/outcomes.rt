@@ -1,16 +1,18 @@
 //! What has ended, and which item holds.
-ghost use Rattle.std.specs.Prelude.{◌≡◌, is_some, slice_get};
+ghost use Rattle.std.specs.Prelude.{◌≡◌, List, length, is_some, slice_get};
 ghost use Rattle.std.specs.Option.{option_copied};
 ghost use Rattle.gv_values.specs.declared.value.Whom.{Whom as Target};
 ghost use Rattle.machine.specs.Holds.{holds, wait_holds, outcome_of, is_done, all_done, done_among, newcomer_completes, earlier, is_place, has_place};
+ghost use Rattle.machine.specs.declared.items.Item.{Item as AnyItem};
+ghost use Rattle.hub_items.specs.Lines.{AreLengths, IsAhead, IsNext};
 
-use crate::conditions::{
-    all_finished_at, has_item_at, has_offer_at, has_place_at, has_result_at, has_room_at,
-    has_set_since_at, has_slot_at, has_unit_at, is_deserted_at, is_free_at, is_taken_at,
-};
 use crate::hub::Hub;
 use gv_values::{Outcome, Whom, link_fits};
-use hub_objects::{is_flagged, is_owner, job_at};
+use hub_items::{LineLengths, WaitKind, earlier, earlier_ahead};
+use hub_objects::{
+    all_finished, has_item, has_offer, has_place, has_result, has_room, has_set_since, has_slot,
+    has_unit, is_deserted, is_flagged, is_free, is_owner, is_taken, job_at,
+};
 use machine::items::{Delivery, Item, Waiting};
 
 impl Hub {
@@ -76,9 +78,11 @@ impl Hub {
         n
     }
 
-    /// Whether the wait's condition holds, for a waiter with this since.
-    fn wait_holds(&self, since: u64, waiting: &Waiting) -> bool
-        ensures { result ≡ wait_holds self.now since waiting.now }
+    /// Whether the wait's condition holds, for a waiter with this since, where so many wait before it in the line that
+    /// the condition looks at.
+    fn wait_holds(&self, since: u64, waiting: &Waiting, before: u64) -> bool
+        ensures { (items : List AnyItem) → IsAhead before (length self.now.objects) (λ test. earlier test since items) waiting.now
+            → result ≡ wait_holds (record self.now { items = items }) since waiting.now }
     {
         match waiting {
             Waiting::Sleep(until) => *until <= self.moment,
@@ -86,33 +90,31 @@ impl Hub {
             Waiting::Get(whom) => self.has_ended(*whom),
             Waiting::Kill(gs) => self.all_done(gs.as_slice()),
             Waiting::JoinAll(gs, need) => *need as u64 <= self.done_among(gs.as_slice()),
-            Waiting::Event(o, sets) => has_set_since_at(self.objects.as_slice(), *o, *sets),
-            Waiting::ResultGet(o) => has_result_at(self.objects.as_slice(), *o),
-            Waiting::ResultWait(o) => has_result_at(self.objects.as_slice(), *o),
-            Waiting::Acquire(o) => has_unit_at(self.objects.as_slice(), &self.items, *o, since),
-            Waiting::Lock(o) => is_free_at(self.objects.as_slice(), &self.items, *o, since),
-            Waiting::Put(o, _) => has_room_at(self.objects.as_slice(), &self.items, *o, since),
-            Waiting::Take(o) => has_item_at(self.objects.as_slice(), &self.items, *o, since),
-            Waiting::Peek(o) => has_item_at(self.objects.as_slice(), &self.items, *o, since),
-            Waiting::Tasks(o) => all_finished_at(self.objects.as_slice(), *o),
-            Waiting::Place(o, _, _) => has_place_at(
-                self.objects.as_slice(),
-                &self.items,
-                *o,
-                since,
-            ),
-            Waiting::MapPlace(o, _, _, _) => has_place_at(
-                self.objects.as_slice(),
-                &self.items,
-                *o,
-                since,
-            ),
+            Waiting::Event(o, sets) => has_set_since(self.object(*o), *sets),
+            Waiting::ResultGet(o) => has_result(self.object(*o)),
+            Waiting::ResultWait(o) => has_result(self.object(*o)),
+            Waiting::Acquire(o) => has_unit(self.object(*o), before),
+            Waiting::Lock(o) => is_free(self.object(*o), before),
+            Waiting::Put(o, _) => has_room(self.object(*o), before),
+            Waiting::Take(o) => has_item(self.object(*o), before),
+            Waiting::Peek(o) => has_item(self.object(*o), before),
+            Waiting::Tasks(o) => all_finished(self.object(*o)),
+            Waiting::Place(o, _, _) => has_place(self.object(*o), before),
+            Waiting::MapPlace(o, _, _, _) => has_place(self.object(*o), before),
             Waiting::MapEnd(_, made) => self.all_done(made.as_slice()),
-            Waiting::Members(o) => is_deserted_at(self.objects.as_slice(), *o),
-            Waiting::Slot(o, _, _) => has_slot_at(self.objects.as_slice(), &self.items, *o, since),
-            Waiting::Offered(o) => is_taken_at(self.objects.as_slice(), *o, since),
-            Waiting::TakeOffer(o) => has_offer_at(self.objects.as_slice(), &self.items, *o, since),
+            Waiting::Members(o) => is_deserted(self.object(*o)),
+            Waiting::Slot(o, _, _) => has_slot(self.object(*o), before),
+            Waiting::Offered(o) => is_taken(self.object(*o), since),
+            Waiting::TakeOffer(o) => has_offer(self.object(*o), before),
         }
+    }
+
+    /// Whether the wait's condition holds for the last of all waiters.
+    fn holds_last(&self, waiting: &Waiting) -> bool
+        ensures { result ≡ wait_holds self.now self.now.next_since waiting.now }
+    {
+        let before = earlier_ahead(&self.items, waiting, self.next_since);
+        self.wait_holds(self.next_since, waiting, before)
     }
 
     /// Whether a group or pool has a place that nobody waits for. Looks at each item; with linked items, at the length
@@ -120,7 +122,8 @@ impl Hub {
     pub fn has_place(&self, o: u32) -> bool
         ensures { result ≡ has_place (earlier (is_place o) self.now.next_since self.now.items) (slice_get self.now.objects o) }
     {
-        has_place_at(self.objects.as_slice(), &self.items, o, self.next_since)
+        let before = earlier(&self.items, WaitKind::Place, o, self.next_since);
+        has_place(self.object(o), before)
     }
 
     /// Whether a greenlet that comes to the wait does not begin it, since its condition holds for the last of all
@@ -132,20 +135,24 @@ impl Hub {
             Waiting::Sleep(_) => false,
             Waiting::Offered(_) => false,
             Waiting::Event(o, _) => is_flagged(self.objects.get(*o)),
-            Waiting::Lock(o) => is_owner(self.objects.get(*o), g)
-                || self.wait_holds(self.next_since, waiting),
-            _ => self.wait_holds(self.next_since, waiting),
+            Waiting::Lock(o) => is_owner(self.objects.get(*o), g) || self.holds_last(waiting),
+            _ => self.holds_last(waiting),
         }
     }
 
-    /// Whether the item's condition holds.
-    pub(crate) fn holds(&self, item: &Item) -> bool
-        ensures { result ≡ holds self.now item.now }
+    /// Whether the item's condition holds, where just the items before it were passed to the lengths of the lines.
+    pub(crate) fn holds(&self, item: &Item, lengths: &LineLengths) -> bool
+        ensures { (items passed : List AnyItem) → AreLengths (length self.now.objects) lengths.now passed
+            → IsNext passed item.now items → result ≡ holds (record self.now { items = items }) item.now }
     {
         match &item.delivery {
             Delivery::Start(_, None) => true,
             Delivery::Start(_, Some(deadline)) => *deadline <= self.moment,
-            Delivery::Wake(_, waiting) => self.wait_holds(item.since, waiting),
+            Delivery::Wake(_, waiting) => self.wait_holds(
+                item.since,
+                waiting,
+                lengths.ahead_of(waiting),
+            ),
             Delivery::Late(_, deadline, _) => *deadline <= self.moment,
             Delivery::Timeout(_, _, deadline) => *deadline <= self.moment,
             Delivery::Kill(_, _) => true,
