@@ -1,5 +1,5 @@
 -- Jobs that are posted one after another.
-use Rattle.std.proofs.Common.{◌≡◌, refl, ap, sym, ◌∙◌, subst, ℕ, zero, suc, ◌+◌, ◌<◌, ◌≤◌, ◌==◌, false, List, [], ◌∷◌, ◌++◌, length, drop, take, get_or, append_assoc, map, arith}
+use Rattle.std.proofs.Common.{◌≡◌, refl, ap, sym, ◌∙◌, subst, ℕ, zero, suc, ◌+◌, ◌<◌, ◌==◌, false, List, [], ◌∷◌, ◌++◌, length, drop, take, get_or, append_assoc, map, arith}
 use Rattle.std.proofs.lemmas.Bool.Decides.{nat_tests}
 use Rattle.std.proofs.lemmas.List.{append-nil, take-append-drop}
 use Rattle.std.specs.Prelude.{◌||◌, ◌↔◌}
@@ -13,7 +13,8 @@ use Rattle.machine.specs.declared.state.JobState.{JobState}
 use Rattle.machine.specs.declared.state.Post.{Post}
 use Rattle.machine.specs.Run.{logged}
 use Rattle.machine.specs.State.{State}
-use Rattle.machine_turns.specs.Logs.{KnowsJobs, StandsKnowing, as_posted, posts_of_step}
+use Rattle.machine_turns.specs.Logs.{StandsKnowing, as_posted, posts_of_step}
+use Rattle.hub_requests.proofs.Results.{first-of}
 use Rattle.hub_engine.specs.declared.stand.Stand.{Stand}
 use Rattle.hub_engine.specs.Outside.{ArePostable, HasDone, HasPostedPart, Outside}
 use Rattle.hub_engine.specs.Stands.{next_at}
@@ -54,9 +55,6 @@ postable before (p ∷ posts) jobs e = (
   postable (before ++ posted p.number p.job ∷ []) posts jobs (append_assoc before (posted p.number p.job ∷ []) (posts_of_step posts) ∙ e),
 )
 
-pub known_postable : (posts : List PostedJob) (answers : List Answer) (s : State) → KnowsJobs posts answers s → ArePostable posts s.posts
-known_postable posts answers s k = postable posts s.posts s.jobs k.posts_are
-
 pub standing_postable : (posts : List PostedJob) (answers : List Answer) (at : Stand) (s : State) → StandsKnowing posts answers (next_at at s) → ArePostable posts s.posts
 standing_postable posts answers (Stand.Going g body) s k = postable posts s.posts s.jobs k.posts_are
 standing_postable posts answers Stand.Resting s k = postable posts s.posts s.jobs k.posts_are
@@ -64,22 +62,17 @@ standing_postable posts answers (Stand.Over cause) s k = postable posts s.posts 
 
 -- ---- the loop over the posts of a step
 
-first_of : {X : Type 0} (xs : List X) (i : ℕ) (d : X) → i < length xs → drop i xs ≡ get_or xs i d ∷ drop (i + 1) xs
-first_of [] i d h = absurd (omega (arith, h))
-first_of (x ∷ xs) zero d h = refl
-first_of (x ∷ xs) (suc i) d h = let one : suc i + 1 ≡ suc (i + 1) = omega arith in rw one (first_of xs i d (omega (arith, h)))
-
 taken_more : {X : Type 0} (xs : List X) (i : ℕ) (d : X) → i < length xs → take (i + 1) xs ≡ take i xs ++ get_or xs i d ∷ []
 taken_more [] i d h = absurd (omega (arith, h))
 taken_more (x ∷ xs) zero d h = refl
 taken_more (x ∷ xs) (suc i) d h = let one : suc i + 1 ≡ suc (i + 1) = omega arith in rw one (ap (λ ys. x ∷ ys) (taken_more xs i d (omega (arith, h))))
 
 pub post_new : (before : List PostedJob) (posts : List Post) (i : ℕ) (d : Post) → i < length posts → ArePostable before (drop i posts) → is_posted (get_or posts i d).number before ≡ false
-post_new before posts i d h m = (subst (ArePostable before) (first_of posts i d h) m).0
+post_new before posts i d h m = (subst (ArePostable before) (first-of posts i d h) m).0
 
 pub post_rest : (before later : List PostedJob) (posts : List Post) (i : ℕ) (d : Post) → i < length posts → later ≡ before ++ posted (get_or posts i d).number (get_or posts i d).job ∷ [] →
     ArePostable before (drop i posts) → ArePostable later (drop (i + 1) posts)
-post_rest before later posts i d h e m = subst (λ (js : List PostedJob). ArePostable js (drop (i + 1) posts)) (sym e) (subst (ArePostable before) (first_of posts i d h) m).1
+post_rest before later posts i d h e m = subst (λ (js : List PostedJob). ArePostable js (drop (i + 1) posts)) (sym e) (subst (ArePostable before) (first-of posts i d h) m).1
 
 -- one post was made
 done_posted : (v w : Outside) (p : Post) → Posts v.means w.means p.number p.job → ((before : List LogEntry) → v.stands before → w.stands (before ++ logged p ∷ [])) →
@@ -108,12 +101,6 @@ done_refused u v w log e f d = record {
   };
   log = λ before h. f (before ++ log) (d.log before h);
 }
-
-pub all_taken : (posts : List Post) (i : ℕ) → length posts ≤ i → take i posts ≡ posts
-all_taken [] zero h = refl
-all_taken [] (suc i) h = refl
-all_taken (p ∷ posts) zero h = absurd (omega (arith, h))
-all_taken (p ∷ posts) (suc i) h = ap (λ ps. p ∷ ps) (all_taken posts i (omega (arith, h)))
 
 -- a post was refused, and those before it were made
 pub refused_posts : (u v w : Outside) (posts : List Post) (i : ℕ) → HasDone u v (map logged (take i posts)) → w.means ≡ v.means → ((l : List LogEntry) → v.stands l ↔ w.stands l) →

@@ -1,5 +1,5 @@
 //! Turns, and the whole run, whose trace is given out step by step.
-ghost use Rattle.std.specs.Prelude.{◌≡◌, ◌<◌, ◌≤◌, ℕ, suc, true, [], length, slice_get, OnOk, IfOk, None, Some};
+ghost use Rattle.std.specs.Prelude.{◌≡◌, ◌<◌, ℕ, suc, true, [], length, slice_get, OnOk, IfOk, None, Some};
 ghost use Rattle.trace_text.specs.LineTexts.{text_of};
 ghost use Rattle.machine.specs.declared.items.Item.{Item as AnyItem};
 ghost use Rattle.machine.specs.Deliveries.{deliver};
@@ -10,7 +10,7 @@ ghost use Rattle.hub_engine.specs.Outside.{ArePostable, Gives, PostsOn, outside}
 ghost use Rattle.hub_engine.specs.Ready.{IsPrepared};
 ghost use Rattle.hub_engine.specs.Stands.{next_at};
 ghost use Rattle.hub_engine.specs.Tied.{IsTied, IsTiedAfter, IsTiedAt};
-ghost use Rattle.hub_engine.specs.Written.{CameTo, RunsTo, Rounds, RunsOn, Tells, Writes, ended_as, from_turn};
+ghost use Rattle.hub_engine.specs.Written.{CameTo, Counts, RunsTo, Rounds, RunsOn, Writes, ended_as, from_turn};
 
 use crate::broken::Broken;
 use crate::deliver::{deliver_item, throw_into};
@@ -65,8 +65,7 @@ fn give_out<W: World, K: Sink>(
     requires new { ArePostable (W.meaning world.old).posts hub.old.posts }
     ensures given { Gives result (outside (K.written sink.old) (W.meaning world.old) (W.stands_for world.old)) (outside (K.written sink.new) (W.meaning world.new) (W.stands_for world.new)) hub.old.lines hub.old.posts }
     ensures silent { OnOk result (hub.new ≡ silent hub.old) }
-    ensures never_falls { K.faults sink.old ≤ K.faults sink.new }
-    ensures failed { Tells result (K.faults sink.old) (K.faults sink.new) }
+    ensures counts { Counts result (K.faults sink.old) (K.faults sink.new) }
 {
     let text = texts(alloc, hub.lines())?;
     post_all(world, hub.posts())?;
@@ -87,8 +86,7 @@ fn give_out_before<W: World, K: Sink>(
     requires new { ArePostable (W.meaning world.old).posts hub.old.posts }
     ensures given { Gives result (outside (K.written sink.old) (W.meaning world.old) (W.stands_for world.old)) (outside (K.written sink.new) (W.meaning world.new) (W.stands_for world.new)) hub.old.lines hub.old.posts }
     ensures silent { OnOk result (hub.new ≡ silent hub.old) }
-    ensures never_falls { K.faults sink.old ≤ K.faults sink.new }
-    ensures failed { Tells result (K.faults sink.old) (K.faults sink.new) }
+    ensures counts { Counts result (K.faults sink.old) (K.faults sink.new) }
 {
     give_out(alloc, hub, world, sink)?;
     if matches!(question, Question::Wait(_)) && world.may_wait() {
@@ -98,7 +96,7 @@ fn give_out_before<W: World, K: Sink>(
 }
 
 /// The greenlet that is under way moves until it parks or ends, at most so many moves.
-fn runs<W: World, K: Sink>(
+fn run_greenlet<W: World, K: Sink>(
     alloc: Global,
     hub: &mut Hub,
     world: &mut W,
@@ -110,8 +108,7 @@ fn runs<W: World, K: Sink>(
     ensures tied { IfOk result (λ came. IsTiedAfter came (W.meaning world.new) hub.new) }
     ensures given { Gives result (outside (K.written sink.old) (W.meaning world.old) (W.stands_for world.old)) (outside (K.written sink.new) (W.meaning world.new) (W.stands_for world.new)) (runs moves (next_at at hub.old)).lines (runs moves (next_at at hub.old)).posts }
     ensures next { IfOk result (λ came. CameTo came (runs moves (next_at at hub.old)).next hub.new) }
-    ensures never_falls { K.faults sink.old ≤ K.faults sink.new }
-    ensures failed { Tells result (K.faults sink.old) (K.faults sink.new) }
+    ensures counts { Counts result (K.faults sink.old) (K.faults sink.new) }
 {
     let mut at = at;
     let mut left = moves;
@@ -132,7 +129,7 @@ fn runs<W: World, K: Sink>(
 }
 
 /// The items with a number below the mark are delivered, the least first, at most so many.
-fn delivers_below<W: World, K: Sink>(
+fn deliver_below<W: World, K: Sink>(
     alloc: Global,
     hub: &mut Hub,
     world: &mut W,
@@ -145,8 +142,7 @@ fn delivers_below<W: World, K: Sink>(
     ensures tied { IfOk result (λ came. IsTiedAfter came (W.meaning world.new) hub.new) }
     ensures given { Gives result (outside (K.written sink.old) (W.meaning world.old) (W.stands_for world.old)) (outside (K.written sink.new) (W.meaning world.new) (W.stands_for world.new)) (deliveries most budget mark hub.old).lines (deliveries most budget mark hub.old).posts }
     ensures next { IfOk result (λ came. CameTo came (deliveries most budget mark hub.old).next hub.new) }
-    ensures never_falls { K.faults sink.old ≤ K.faults sink.new }
-    ensures failed { Tells result (K.faults sink.old) (K.faults sink.new) }
+    ensures counts { Counts result (K.faults sink.old) (K.faults sink.new) }
 {
     let mut left = most;
     while left > 0 {
@@ -154,7 +150,7 @@ fn delivers_below<W: World, K: Sink>(
         let Some(at) = hub.next_below(mark) else {
             return Ok(Came::ToRest);
         };
-        match delivers_one(alloc, hub, world, sink, at, budget)? {
+        match deliver_one(alloc, hub, world, sink, at, budget)? {
             Came::ToRest => {}
             Came::ToAnEnd(cause) => return Ok(Came::ToAnEnd(cause)),
         }
@@ -164,7 +160,7 @@ fn delivers_below<W: World, K: Sink>(
 
 /// The item is delivered, and its greenlet runs until it parks or ends.
 #[tactic(auto, using(crate::proofs::Giving::part_nothing, crate::proofs::Tying::tied_delivered))]
-fn delivers_one<W: World, K: Sink>(
+fn deliver_one<W: World, K: Sink>(
     alloc: Global,
     hub: &mut Hub,
     world: &mut W,
@@ -179,12 +175,11 @@ fn delivers_one<W: World, K: Sink>(
     ensures given { (i : AnyItem) → slice_get hub.old.items at ≡ Some i → Gives result (outside (K.written sink.old) (W.meaning world.old) (W.stands_for world.old)) (outside (K.written sink.new) (W.meaning world.new) (W.stands_for world.new)) (runs_on budget hub.old (deliver i hub.old)).lines (runs_on budget hub.old (deliver i hub.old)).posts }
     ensures next { (i : AnyItem) → slice_get hub.old.items at ≡ Some i →
         IfOk result (λ came. CameTo came (runs_on budget hub.old (deliver i hub.old)).next hub.new) }
-    ensures never_falls { K.faults sink.old ≤ K.faults sink.new }
-    ensures failed { Tells result (K.faults sink.old) (K.faults sink.new) }
+    ensures counts { Counts result (K.faults sink.old) (K.faults sink.new) }
 {
     let left = budget.saturating_sub(hub.moves());
     let next = deliver_item(alloc, hub, at)?;
-    Ok(runs(alloc, hub, world, sink, next, left)?)
+    Ok(run_greenlet(alloc, hub, world, sink, next, left)?)
 }
 
 /// A turn: what has a number by its beginning is delivered.
@@ -200,17 +195,16 @@ fn turn<W: World, K: Sink>(
     ensures tied { IfOk result (λ came. IsTiedAfter came (W.meaning world.new) hub.new) }
     ensures given { Gives result (outside (K.written sink.old) (W.meaning world.old) (W.stands_for world.old)) (outside (K.written sink.new) (W.meaning world.new) (W.stands_for world.new)) (turn budget hub.old).lines (turn budget hub.old).posts }
     ensures next { IfOk result (λ came. CameTo came (turn budget hub.old).next hub.new) }
-    ensures never_falls { K.faults sink.old ≤ K.faults sink.new }
-    ensures failed { Tells result (K.faults sink.old) (K.faults sink.new) }
+    ensures counts { Counts result (K.faults sink.old) (K.faults sink.new) }
 {
     hub.count_turn()?;
     let most = hub.items_len();
     let mark = hub.next_ready();
-    Ok(delivers_below(alloc, hub, world, sink, mark, budget, most)?)
+    Ok(deliver_below(alloc, hub, world, sink, mark, budget, most)?)
 }
 
 /// The question is asked, and its answer taken. The block line before it was given out.
-fn takes_answer<W: World, K: Sink>(
+fn take_answer<W: World, K: Sink>(
     alloc: Global,
     hub: &mut Hub,
     world: &mut W,
@@ -222,8 +216,7 @@ fn takes_answer<W: World, K: Sink>(
     ensures tied { OnOk result (IsTied (W.meaning world.new) hub.new) }
     ensures ran { (go : GoingOn) → RunsOn result (outside (K.written sink.old) (W.meaning world.old) (W.stands_for world.old)) (outside (K.written sink.new) (W.meaning world.new) (W.stands_for world.new))
         (λ later. asks go question (Source.Given later) hub.old) (λ later. go (Source.Given later) hub.new) }
-    ensures never_falls { K.faults sink.old ≤ K.faults sink.new }
-    ensures failed { Tells result (K.faults sink.old) (K.faults sink.new) }
+    ensures counts { Counts result (K.faults sink.old) (K.faults sink.new) }
 {
     let answer = world.ask(question)?;
     hub.take(alloc, answer)?;
@@ -231,7 +224,7 @@ fn takes_answer<W: World, K: Sink>(
 }
 
 /// The question is asked and answered, after its block line.
-fn asks_world<W: World, K: Sink>(
+fn ask_world<W: World, K: Sink>(
     alloc: Global,
     hub: &mut Hub,
     world: &mut W,
@@ -243,16 +236,15 @@ fn asks_world<W: World, K: Sink>(
     ensures tied { OnOk result (IsTied (W.meaning world.new) hub.new) }
     ensures ran { (go : GoingOn) (budget : ℕ) → RunsOn result (outside (K.written sink.old) (W.meaning world.old) (W.stands_for world.old)) (outside (K.written sink.new) (W.meaning world.new) (W.stands_for world.new))
         (λ later. after_question go budget (Some question) (Source.Given later) hub.old) (λ later. go (Source.Given later) hub.new) }
-    ensures never_falls { K.faults sink.old ≤ K.faults sink.new }
-    ensures failed { Tells result (K.faults sink.old) (K.faults sink.new) }
+    ensures counts { Counts result (K.faults sink.old) (K.faults sink.new) }
 {
     hub.block()?;
     give_out_before(alloc, hub, world, sink, question)?;
-    Ok(takes_answer(alloc, hub, world, sink, question)?)
+    Ok(take_answer(alloc, hub, world, sink, question)?)
 }
 
 /// LoopExit is thrown into main, after its block line.
-fn exits<W: World, K: Sink>(
+fn throw_loop_exit<W: World, K: Sink>(
     alloc: Global,
     hub: &mut Hub,
     world: &mut W,
@@ -263,17 +255,16 @@ fn exits<W: World, K: Sink>(
     ensures tied { IfOk result (λ came. IsTiedAfter came (W.meaning world.new) hub.new) }
     ensures ran { (go : GoingOn) → Rounds result (outside (K.written sink.old) (W.meaning world.old) (W.stands_for world.old)) (outside (K.written sink.new) (W.meaning world.new) (W.stands_for world.new))
         (λ later. after_question go budget None (Source.Given later) hub.old) (λ s later. go (Source.Given later) s) hub.new }
-    ensures never_falls { K.faults sink.old ≤ K.faults sink.new }
-    ensures failed { Tells result (K.faults sink.old) (K.faults sink.new) }
+    ensures counts { Counts result (K.faults sink.old) (K.faults sink.new) }
 {
     hub.block()?;
     let left = budget.saturating_sub(hub.moves());
     let at = throw_into(alloc, hub, 0, FaultKind::LoopExit)?;
-    Ok(runs(alloc, hub, world, sink, at, left)?)
+    Ok(run_greenlet(alloc, hub, world, sink, at, left)?)
 }
 
 /// The end of a turn: its question, or LoopExit where nothing can come.
-fn ends_turn<W: World, K: Sink>(
+fn end_turn<W: World, K: Sink>(
     alloc: Global,
     hub: &mut Hub,
     world: &mut W,
@@ -284,15 +275,14 @@ fn ends_turn<W: World, K: Sink>(
     ensures tied { IfOk result (λ came. IsTiedAfter came (W.meaning world.new) hub.new) }
     ensures ran { (go : GoingOn) → Rounds result (outside (K.written sink.old) (W.meaning world.old) (W.stands_for world.old)) (outside (K.written sink.new) (W.meaning world.new) (W.stands_for world.new))
         (λ later. after_question go budget (question_of hub.old) (Source.Given later) hub.old) (λ s later. go (Source.Given later) s) hub.new }
-    ensures never_falls { K.faults sink.old ≤ K.faults sink.new }
-    ensures failed { Tells result (K.faults sink.old) (K.faults sink.new) }
+    ensures counts { Counts result (K.faults sink.old) (K.faults sink.new) }
 {
     match hub.question() {
         Some(question) => {
-            asks_world(alloc, hub, world, sink, question)?;
+            ask_world(alloc, hub, world, sink, question)?;
             Ok(Came::ToRest)
         }
-        None => Ok(exits(alloc, hub, world, sink, budget)?),
+        None => Ok(throw_loop_exit(alloc, hub, world, sink, budget)?),
     }
 }
 
@@ -308,22 +298,20 @@ fn round<W: World, K: Sink>(
     ensures tied { IfOk result (λ came. IsTiedAfter came (W.meaning world.new) hub.new) }
     ensures ran { (turns : ℕ) → Rounds result (outside (K.written sink.old) (W.meaning world.old) (W.stands_for world.old)) (outside (K.written sink.new) (W.meaning world.new) (W.stands_for world.new))
         (from_turn (suc turns) budget hub.old) (from_turn turns budget) hub.new }
-    ensures never_falls { K.faults sink.old ≤ K.faults sink.new }
-    ensures failed { Tells result (K.faults sink.old) (K.faults sink.new) }
+    ensures counts { Counts result (K.faults sink.old) (K.faults sink.new) }
 {
     match turn(alloc, hub, world, sink, budget)? {
         Came::ToAnEnd(cause) => Ok(Came::ToAnEnd(cause)),
-        Came::ToRest => Ok(ends_turn(alloc, hub, world, sink, budget)?),
+        Came::ToRest => Ok(end_turn(alloc, hub, world, sink, budget)?),
     }
 }
 
 /// The stop line is given out.
 #[tactic(auto, using(gv_io::proofs::StreamLaws::writes))]
-fn stops<K: Sink>(alloc: Global, hub: &Hub, sink: &mut K, cause: StopCause) -> Result<End, Broken>
+fn stop<K: Sink>(alloc: Global, hub: &Hub, sink: &mut K, cause: StopCause) -> Result<End, Broken>
     ensures written { Writes result (K.written sink.old) (K.written sink.new) (text_of (stopped cause hub.now).lines) }
     ensures end { IfOk result (λ end. end ≡ end_of cause) }
-    ensures never_falls { K.faults sink.old ≤ K.faults sink.new }
-    ensures failed { Tells result (K.faults sink.old) (K.faults sink.new) }
+    ensures counts { Counts result (K.faults sink.old) (K.faults sink.new) }
 {
     let end = end_of(&cause);
     let line = Line::Stop {
@@ -337,7 +325,7 @@ fn stops<K: Sink>(alloc: Global, hub: &Hub, sink: &mut K, cause: StopCause) -> R
 }
 
 /// The run from the beginning of a turn, for at most so many turns.
-fn runs_turns<W: World, K: Sink>(
+fn run_turns<W: World, K: Sink>(
     alloc: Global,
     hub: &mut Hub,
     world: &mut W,
@@ -347,18 +335,17 @@ fn runs_turns<W: World, K: Sink>(
 ) -> Result<End, Broken>
     requires tied { IsTied (W.meaning world.old) hub.old }
     ensures ran { RunsTo result (outside (K.written sink.old) (W.meaning world.old) (W.stands_for world.old)) (outside (K.written sink.new) (W.meaning world.new) (W.stands_for world.new)) (from_turn turns moves hub.old) hub.new }
-    ensures never_falls { K.faults sink.old ≤ K.faults sink.new }
-    ensures failed { Tells result (K.faults sink.old) (K.faults sink.new) }
+    ensures counts { Counts result (K.faults sink.old) (K.faults sink.new) }
 {
     let mut left = turns;
     while left > 0 {
         left -= 1;
         match round(alloc, hub, world, sink, moves)? {
             Came::ToRest => {}
-            Came::ToAnEnd(cause) => return Ok(stops(alloc, hub, sink, cause)?),
+            Came::ToAnEnd(cause) => return Ok(stop(alloc, hub, sink, cause)?),
         }
     }
-    Ok(stops(alloc, hub, sink, StopCause::NoTurns)?)
+    Ok(stop(alloc, hub, sink, StopCause::NoTurns)?)
 }
 
 /// The whole run under the answers of the world, within these budgets.
@@ -375,13 +362,12 @@ pub fn run<W: World, K: Sink>(
     requires no_posts { (W.meaning world.old).posts ≡ [] }
     requires no_answers { (W.meaning world.old).answers ≡ [] }
     ensures ran { RunsTo result (outside (K.written sink.old) (W.meaning world.old) (W.stands_for world.old)) (outside (K.written sink.new) (W.meaning world.new) (W.stands_for world.new)) (run hub.old.scenario turns moves) hub.new }
-    ensures never_falls { K.faults sink.old ≤ K.faults sink.new }
-    ensures failed { Tells result (K.faults sink.old) (K.faults sink.new) }
+    ensures counts { Counts result (K.faults sink.old) (K.faults sink.new) }
 {
     let at = start_body(alloc, hub, 0, Items::new(alloc))?;
-    match runs(alloc, hub, world, sink, at, moves)? {
-        Came::ToAnEnd(cause) => Ok(stops(alloc, hub, sink, cause)?),
-        Came::ToRest => Ok(runs_turns(alloc, hub, world, sink, turns, moves)?),
+    match run_greenlet(alloc, hub, world, sink, at, moves)? {
+        Came::ToAnEnd(cause) => Ok(stop(alloc, hub, sink, cause)?),
+        Came::ToRest => Ok(run_turns(alloc, hub, world, sink, turns, moves)?),
     }
 }
 

@@ -17,48 +17,48 @@ pub returns-in_err-at-clause-ran : goal.returns-in_err-at-clause-ran
 returns-in_err-at-clause-ran g c =
     let broken = broken_first (outside (g.K.Sink.written c.args.sink.now) (g.W.World.meaning c.args.world.now) (g.W.World.stands_for c.args.world.now)) (run c.args.hub.now.scenario c.args.turns c.args.moves) in search (rules, broken)
 
-pub runs-requires : goal.runs-requires
-runs-requires g c =
+pub run_greenlet-requires : goal.run_greenlet-requires
+run_greenlet-requires g c =
     let begun : starts lands 0 [] c.args.hub.now ≡ next_at c.in_ok-at.at c.start_body.new.hub = search (rules, c.in_ok-at.ensures, c.new.ensures) in
     record { tied = tied_started _ c.args.hub.now.scenario c.args.hub.now c.start_body.new.hub c.in_ok-at.at c.requires.prepared.may_run c.requires.runs c.requires.no_posts c.requires.no_answers c.requires.prepared.first begun }
 
 pub returns-in_err-cause-clause-ran : goal.returns-in_err-cause-clause-ran
 returns-in_err-cause-clause-ran g c =
     let begun : starts lands 0 [] c.args.hub.now ≡ next_at c.in_ok-at.at c.start_body.new.hub = search (rules, c.in_ok-at.ensures, c.new.ensures) in
-    let broken = began_broken (outside (g.K.Sink.written c.args.sink.now) (g.W.World.meaning c.args.world.now) (g.W.World.stands_for c.args.world.now)) (outside (g.K.Sink.written c.runs.new.sink) (g.W.World.meaning c.runs.new.world) (g.W.World.stands_for c.runs.new.world)) c.args.turns c.args.moves c.args.hub.now.scenario c.in_ok-at.at c.args.hub.now c.start_body.new.hub c.requires.prepared.first begun c.in_err-cause.ensures.given in
+    let broken = began_broken (outside (g.K.Sink.written c.args.sink.now) (g.W.World.meaning c.args.world.now) (g.W.World.stands_for c.args.world.now)) (outside (g.K.Sink.written c.run_greenlet.new.sink) (g.W.World.meaning c.run_greenlet.new.world) (g.W.World.stands_for c.run_greenlet.new.world)) c.args.turns c.args.moves c.args.hub.now.scenario c.in_ok-at.at c.args.hub.now c.start_body.new.hub c.requires.prepared.first begun c.in_err-cause.ensures.given in
     search (rules, broken)
 
-pub returns-in_err-stops-in-ToAnEnd-clause-ran : goal.returns-in_err-stops-in-ToAnEnd-clause-ran
-returns-in_err-stops-in-ToAnEnd-clause-ran g c =
+pub returns-in_err-stop-in-ToAnEnd-clause-ran : goal.returns-in_err-stop-in-ToAnEnd-clause-ran
+returns-in_err-stop-in-ToAnEnd-clause-ran g c =
     let begun : starts lands 0 [] c.args.hub.now ≡ next_at c.in_ok-at.at c.start_body.new.hub = search (rules, c.in_ok-at.ensures, c.new.ensures) in
-    let part = began (outside (g.K.Sink.written c.args.sink.now) (g.W.World.meaning c.args.world.now) (g.W.World.stands_for c.args.world.now)) (outside (g.K.Sink.written c.runs.new.sink) (g.W.World.meaning c.runs.new.world) (g.W.World.stands_for c.runs.new.world)) c.args.turns c.args.moves c.args.hub.now.scenario c.in_ok-at.at _ c.args.hub.now c.start_body.new.hub c.runs.new.hub c.requires.prepared.first begun c.in_ok-cause.ensures.next c.in_ok-cause.ensures.given in
-    let stop = stops_at (outside (g.K.Sink.written c.args.sink.now) (g.W.World.meaning c.args.world.now) (g.W.World.stands_for c.args.world.now)) (outside (g.K.Sink.written c.runs.new.sink) (g.W.World.meaning c.runs.new.world) (g.W.World.stands_for c.runs.new.world)) _ c.in-ToAnEnd.cause (run c.args.hub.now.scenario c.args.turns c.args.moves) (from_turn c.args.turns c.args.moves) c.runs.new.hub c.in-ToAnEnd.is part in
-    let broken = stop_broken (outside (g.K.Sink.written c.args.sink.now) (g.W.World.meaning c.args.world.now) (g.W.World.stands_for c.args.world.now)) (outside (g.K.Sink.written c.runs.new.sink) (g.W.World.meaning c.runs.new.world) (g.W.World.stands_for c.runs.new.world)) (outside (g.K.Sink.written c.stops.new.sink) (g.W.World.meaning c.runs.new.world) (g.W.World.stands_for c.runs.new.world)) (run c.args.hub.now.scenario c.args.turns c.args.moves) c.in-ToAnEnd.cause c.runs.new.hub stop c.in_err-stops-in-ToAnEnd.ensures.written (done_nothing (outside (g.K.Sink.written c.runs.new.sink) (g.W.World.meaning c.runs.new.world) (g.W.World.stands_for c.runs.new.world))) in
+    let part = began (outside (g.K.Sink.written c.args.sink.now) (g.W.World.meaning c.args.world.now) (g.W.World.stands_for c.args.world.now)) (outside (g.K.Sink.written c.run_greenlet.new.sink) (g.W.World.meaning c.run_greenlet.new.world) (g.W.World.stands_for c.run_greenlet.new.world)) c.args.turns c.args.moves c.args.hub.now.scenario c.in_ok-at.at _ c.args.hub.now c.start_body.new.hub c.run_greenlet.new.hub c.requires.prepared.first begun c.in_ok-cause.ensures.next c.in_ok-cause.ensures.given in
+    let stop = stops_at (outside (g.K.Sink.written c.args.sink.now) (g.W.World.meaning c.args.world.now) (g.W.World.stands_for c.args.world.now)) (outside (g.K.Sink.written c.run_greenlet.new.sink) (g.W.World.meaning c.run_greenlet.new.world) (g.W.World.stands_for c.run_greenlet.new.world)) _ c.in-ToAnEnd.cause (run c.args.hub.now.scenario c.args.turns c.args.moves) (from_turn c.args.turns c.args.moves) c.run_greenlet.new.hub c.in-ToAnEnd.is part in
+    let broken = stop_broken (outside (g.K.Sink.written c.args.sink.now) (g.W.World.meaning c.args.world.now) (g.W.World.stands_for c.args.world.now)) (outside (g.K.Sink.written c.run_greenlet.new.sink) (g.W.World.meaning c.run_greenlet.new.world) (g.W.World.stands_for c.run_greenlet.new.world)) (outside (g.K.Sink.written c.stop.new.sink) (g.W.World.meaning c.run_greenlet.new.world) (g.W.World.stands_for c.run_greenlet.new.world)) (run c.args.hub.now.scenario c.args.turns c.args.moves) c.in-ToAnEnd.cause c.run_greenlet.new.hub stop c.in_err-stop-in-ToAnEnd.ensures.written (done_nothing (outside (g.K.Sink.written c.run_greenlet.new.sink) (g.W.World.meaning c.run_greenlet.new.world) (g.W.World.stands_for c.run_greenlet.new.world))) in
     search (rules, broken)
 
-pub returns-in_ok-stops-in-ToAnEnd-clause-ran : goal.returns-in_ok-stops-in-ToAnEnd-clause-ran
-returns-in_ok-stops-in-ToAnEnd-clause-ran g c =
+pub returns-in_ok-stop-in-ToAnEnd-clause-ran : goal.returns-in_ok-stop-in-ToAnEnd-clause-ran
+returns-in_ok-stop-in-ToAnEnd-clause-ran g c =
     let begun : starts lands 0 [] c.args.hub.now ≡ next_at c.in_ok-at.at c.start_body.new.hub = search (rules, c.in_ok-at.ensures, c.new.ensures) in
-    let part = began (outside (g.K.Sink.written c.args.sink.now) (g.W.World.meaning c.args.world.now) (g.W.World.stands_for c.args.world.now)) (outside (g.K.Sink.written c.runs.new.sink) (g.W.World.meaning c.runs.new.world) (g.W.World.stands_for c.runs.new.world)) c.args.turns c.args.moves c.args.hub.now.scenario c.in_ok-at.at _ c.args.hub.now c.start_body.new.hub c.runs.new.hub c.requires.prepared.first begun c.in_ok-cause.ensures.next c.in_ok-cause.ensures.given in
-    let stop = stops_at (outside (g.K.Sink.written c.args.sink.now) (g.W.World.meaning c.args.world.now) (g.W.World.stands_for c.args.world.now)) (outside (g.K.Sink.written c.runs.new.sink) (g.W.World.meaning c.runs.new.world) (g.W.World.stands_for c.runs.new.world)) _ c.in-ToAnEnd.cause (run c.args.hub.now.scenario c.args.turns c.args.moves) (from_turn c.args.turns c.args.moves) c.runs.new.hub c.in-ToAnEnd.is part in
-    stopped_on (outside (g.K.Sink.written c.args.sink.now) (g.W.World.meaning c.args.world.now) (g.W.World.stands_for c.args.world.now)) (outside (g.K.Sink.written c.runs.new.sink) (g.W.World.meaning c.runs.new.world) (g.W.World.stands_for c.runs.new.world)) (outside (g.K.Sink.written c.stops.new.sink) (g.W.World.meaning c.runs.new.world) (g.W.World.stands_for c.runs.new.world)) (run c.args.hub.now.scenario c.args.turns c.args.moves) c.in-ToAnEnd.cause _ c.runs.new.hub stop c.in_ok-stops-in-ToAnEnd.ensures.written (done_nothing (outside (g.K.Sink.written c.runs.new.sink) (g.W.World.meaning c.runs.new.world) (g.W.World.stands_for c.runs.new.world))) c.in_ok-stops-in-ToAnEnd.ensures.end
+    let part = began (outside (g.K.Sink.written c.args.sink.now) (g.W.World.meaning c.args.world.now) (g.W.World.stands_for c.args.world.now)) (outside (g.K.Sink.written c.run_greenlet.new.sink) (g.W.World.meaning c.run_greenlet.new.world) (g.W.World.stands_for c.run_greenlet.new.world)) c.args.turns c.args.moves c.args.hub.now.scenario c.in_ok-at.at _ c.args.hub.now c.start_body.new.hub c.run_greenlet.new.hub c.requires.prepared.first begun c.in_ok-cause.ensures.next c.in_ok-cause.ensures.given in
+    let stop = stops_at (outside (g.K.Sink.written c.args.sink.now) (g.W.World.meaning c.args.world.now) (g.W.World.stands_for c.args.world.now)) (outside (g.K.Sink.written c.run_greenlet.new.sink) (g.W.World.meaning c.run_greenlet.new.world) (g.W.World.stands_for c.run_greenlet.new.world)) _ c.in-ToAnEnd.cause (run c.args.hub.now.scenario c.args.turns c.args.moves) (from_turn c.args.turns c.args.moves) c.run_greenlet.new.hub c.in-ToAnEnd.is part in
+    stopped_on (outside (g.K.Sink.written c.args.sink.now) (g.W.World.meaning c.args.world.now) (g.W.World.stands_for c.args.world.now)) (outside (g.K.Sink.written c.run_greenlet.new.sink) (g.W.World.meaning c.run_greenlet.new.world) (g.W.World.stands_for c.run_greenlet.new.world)) (outside (g.K.Sink.written c.stop.new.sink) (g.W.World.meaning c.run_greenlet.new.world) (g.W.World.stands_for c.run_greenlet.new.world)) (run c.args.hub.now.scenario c.args.turns c.args.moves) c.in-ToAnEnd.cause _ c.run_greenlet.new.hub stop c.in_ok-stop-in-ToAnEnd.ensures.written (done_nothing (outside (g.K.Sink.written c.run_greenlet.new.sink) (g.W.World.meaning c.run_greenlet.new.world) (g.W.World.stands_for c.run_greenlet.new.world))) c.in_ok-stop-in-ToAnEnd.ensures.end
 
-pub runs_turns-requires : goal.runs_turns-requires
-runs_turns-requires g c = record { tied = tied_after _ _ c.runs.new.hub c.in-ToRest.is c.in_ok-cause.ensures.tied }
+pub run_turns-requires : goal.run_turns-requires
+run_turns-requires g c = record { tied = tied_after _ _ c.run_greenlet.new.hub c.in-ToRest.is c.in_ok-cause.ensures.tied }
 
-pub returns-in_err-runs_turns-in-ToRest-clause-ran : goal.returns-in_err-runs_turns-in-ToRest-clause-ran
-returns-in_err-runs_turns-in-ToRest-clause-ran g c =
+pub returns-in_err-run_turns-in-ToRest-clause-ran : goal.returns-in_err-run_turns-in-ToRest-clause-ran
+returns-in_err-run_turns-in-ToRest-clause-ran g c =
     let begun : starts lands 0 [] c.args.hub.now ≡ next_at c.in_ok-at.at c.start_body.new.hub = search (rules, c.in_ok-at.ensures, c.new.ensures) in
-    let part = began (outside (g.K.Sink.written c.args.sink.now) (g.W.World.meaning c.args.world.now) (g.W.World.stands_for c.args.world.now)) (outside (g.K.Sink.written c.runs.new.sink) (g.W.World.meaning c.runs.new.world) (g.W.World.stands_for c.runs.new.world)) c.args.turns c.args.moves c.args.hub.now.scenario c.in_ok-at.at _ c.args.hub.now c.start_body.new.hub c.runs.new.hub c.requires.prepared.first begun c.in_ok-cause.ensures.next c.in_ok-cause.ensures.given in
-    let rest = rests_on (outside (g.K.Sink.written c.args.sink.now) (g.W.World.meaning c.args.world.now) (g.W.World.stands_for c.args.world.now)) (outside (g.K.Sink.written c.runs.new.sink) (g.W.World.meaning c.runs.new.world) (g.W.World.stands_for c.runs.new.world)) _ (run c.args.hub.now.scenario c.args.turns c.args.moves) (from_turn c.args.turns c.args.moves) c.runs.new.hub c.in-ToRest.is part in
-    let broken = ran_then (outside (g.K.Sink.written c.args.sink.now) (g.W.World.meaning c.args.world.now) (g.W.World.stands_for c.args.world.now)) (outside (g.K.Sink.written c.runs.new.sink) (g.W.World.meaning c.runs.new.world) (g.W.World.stands_for c.runs.new.world)) (outside (g.K.Sink.written c.runs_turns.new.sink) (g.W.World.meaning c.runs_turns.new.world) (g.W.World.stands_for c.runs_turns.new.world)) (Err c.in_err-runs_turns-in-ToRest.field-0.0) (run c.args.hub.now.scenario c.args.turns c.args.moves) (from_turn c.args.turns c.args.moves c.runs.new.hub) c.runs_turns.new.hub rest
-    c.in_err-runs_turns-in-ToRest.ensures.ran in
+    let part = began (outside (g.K.Sink.written c.args.sink.now) (g.W.World.meaning c.args.world.now) (g.W.World.stands_for c.args.world.now)) (outside (g.K.Sink.written c.run_greenlet.new.sink) (g.W.World.meaning c.run_greenlet.new.world) (g.W.World.stands_for c.run_greenlet.new.world)) c.args.turns c.args.moves c.args.hub.now.scenario c.in_ok-at.at _ c.args.hub.now c.start_body.new.hub c.run_greenlet.new.hub c.requires.prepared.first begun c.in_ok-cause.ensures.next c.in_ok-cause.ensures.given in
+    let rest = rests_on (outside (g.K.Sink.written c.args.sink.now) (g.W.World.meaning c.args.world.now) (g.W.World.stands_for c.args.world.now)) (outside (g.K.Sink.written c.run_greenlet.new.sink) (g.W.World.meaning c.run_greenlet.new.world) (g.W.World.stands_for c.run_greenlet.new.world)) _ (run c.args.hub.now.scenario c.args.turns c.args.moves) (from_turn c.args.turns c.args.moves) c.run_greenlet.new.hub c.in-ToRest.is part in
+    let broken = ran_then (outside (g.K.Sink.written c.args.sink.now) (g.W.World.meaning c.args.world.now) (g.W.World.stands_for c.args.world.now)) (outside (g.K.Sink.written c.run_greenlet.new.sink) (g.W.World.meaning c.run_greenlet.new.world) (g.W.World.stands_for c.run_greenlet.new.world)) (outside (g.K.Sink.written c.run_turns.new.sink) (g.W.World.meaning c.run_turns.new.world) (g.W.World.stands_for c.run_turns.new.world)) (Err c.in_err-run_turns-in-ToRest.field-0.0) (run c.args.hub.now.scenario c.args.turns c.args.moves) (from_turn c.args.turns c.args.moves c.run_greenlet.new.hub) c.run_turns.new.hub rest
+    c.in_err-run_turns-in-ToRest.ensures.ran in
     search (rules, broken)
 
-pub returns-in_ok-runs_turns-in-ToRest-clause-ran : goal.returns-in_ok-runs_turns-in-ToRest-clause-ran
-returns-in_ok-runs_turns-in-ToRest-clause-ran g c =
+pub returns-in_ok-run_turns-in-ToRest-clause-ran : goal.returns-in_ok-run_turns-in-ToRest-clause-ran
+returns-in_ok-run_turns-in-ToRest-clause-ran g c =
     let begun : starts lands 0 [] c.args.hub.now ≡ next_at c.in_ok-at.at c.start_body.new.hub = search (rules, c.in_ok-at.ensures, c.new.ensures) in
-    let part = began (outside (g.K.Sink.written c.args.sink.now) (g.W.World.meaning c.args.world.now) (g.W.World.stands_for c.args.world.now)) (outside (g.K.Sink.written c.runs.new.sink) (g.W.World.meaning c.runs.new.world) (g.W.World.stands_for c.runs.new.world)) c.args.turns c.args.moves c.args.hub.now.scenario c.in_ok-at.at _ c.args.hub.now c.start_body.new.hub c.runs.new.hub c.requires.prepared.first begun c.in_ok-cause.ensures.next c.in_ok-cause.ensures.given in
-    let rest = rests_on (outside (g.K.Sink.written c.args.sink.now) (g.W.World.meaning c.args.world.now) (g.W.World.stands_for c.args.world.now)) (outside (g.K.Sink.written c.runs.new.sink) (g.W.World.meaning c.runs.new.world) (g.W.World.stands_for c.runs.new.world)) _ (run c.args.hub.now.scenario c.args.turns c.args.moves) (from_turn c.args.turns c.args.moves) c.runs.new.hub c.in-ToRest.is part in
-    ran_then (outside (g.K.Sink.written c.args.sink.now) (g.W.World.meaning c.args.world.now) (g.W.World.stands_for c.args.world.now)) (outside (g.K.Sink.written c.runs.new.sink) (g.W.World.meaning c.runs.new.world) (g.W.World.stands_for c.runs.new.world)) (outside (g.K.Sink.written c.runs_turns.new.sink) (g.W.World.meaning c.runs_turns.new.world) (g.W.World.stands_for c.runs_turns.new.world)) (Ok c.in_ok-runs_turns-in-ToRest.field-0) (run c.args.hub.now.scenario c.args.turns c.args.moves) (from_turn c.args.turns c.args.moves c.runs.new.hub) c.runs_turns.new.hub rest
-    c.in_ok-runs_turns-in-ToRest.ensures.ran
+    let part = began (outside (g.K.Sink.written c.args.sink.now) (g.W.World.meaning c.args.world.now) (g.W.World.stands_for c.args.world.now)) (outside (g.K.Sink.written c.run_greenlet.new.sink) (g.W.World.meaning c.run_greenlet.new.world) (g.W.World.stands_for c.run_greenlet.new.world)) c.args.turns c.args.moves c.args.hub.now.scenario c.in_ok-at.at _ c.args.hub.now c.start_body.new.hub c.run_greenlet.new.hub c.requires.prepared.first begun c.in_ok-cause.ensures.next c.in_ok-cause.ensures.given in
+    let rest = rests_on (outside (g.K.Sink.written c.args.sink.now) (g.W.World.meaning c.args.world.now) (g.W.World.stands_for c.args.world.now)) (outside (g.K.Sink.written c.run_greenlet.new.sink) (g.W.World.meaning c.run_greenlet.new.world) (g.W.World.stands_for c.run_greenlet.new.world)) _ (run c.args.hub.now.scenario c.args.turns c.args.moves) (from_turn c.args.turns c.args.moves) c.run_greenlet.new.hub c.in-ToRest.is part in
+    ran_then (outside (g.K.Sink.written c.args.sink.now) (g.W.World.meaning c.args.world.now) (g.W.World.stands_for c.args.world.now)) (outside (g.K.Sink.written c.run_greenlet.new.sink) (g.W.World.meaning c.run_greenlet.new.world) (g.W.World.stands_for c.run_greenlet.new.world)) (outside (g.K.Sink.written c.run_turns.new.sink) (g.W.World.meaning c.run_turns.new.world) (g.W.World.stands_for c.run_turns.new.world)) (Ok c.in_ok-run_turns-in-ToRest.field-0) (run c.args.hub.now.scenario c.args.turns c.args.moves) (from_turn c.args.turns c.args.moves c.run_greenlet.new.hub) c.run_turns.new.hub rest
+    c.in_ok-run_turns-in-ToRest.ensures.ran

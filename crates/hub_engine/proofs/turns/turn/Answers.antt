@@ -11,5 +11,5 @@ returns-in_err-count_turn-clause-given g c =
     let broken = part_nothing (outside (g.K.Sink.written c.args.sink.now) (g.W.World.meaning c.args.world.now) (g.W.World.stands_for c.args.world.now)) p.lines p.posts in
     search (rules, broken)
 
-pub delivers_below-requires : goal.delivers_below-requires
-delivers_below-requires g c = record { tied = tied_turned _ _ c.args.hub.now c.count_turn.new.self c.in_ok-count_turn.ensures c.requires.tied }
+pub deliver_below-requires : goal.deliver_below-requires
+deliver_below-requires g c = record { tied = tied_turned _ _ c.args.hub.now c.count_turn.new.self c.in_ok-count_turn.ensures c.requires.tied }

@@ -3,13 +3,13 @@ use Rattle.machine.specs.Run.{least_below}
 use Rattle.hub_engine.proofs.Delivering.{broke_off, found_numbered, none_delivered, none_left, went_on, went_over}
 use Rattle.hub_engine.proofs.Passing.{passing}
 use Rattle.hub_engine.proofs.Tying.{tied_after}
-use Rattle.hub_engine.proofs.turns.delivers_below.Goals as goal
+use Rattle.hub_engine.proofs.turns.deliver_below.Goals as goal
 
 pub loop-left-init : goal.loop-left-init
 loop-left-init g c = (passing _ _, omega arith, c.requires.tied)
 
-pub delivers_one-requires : goal.delivers_one-requires
-delivers_one-requires g c = record {
+pub deliver_one-requires : goal.deliver_one-requires
+deliver_one-requires g c = record {
   there = c.in-Some.ensures.within;
   numbered = found_numbered c.args.mark c.in-Some.at c.loop-left.hub.items c.in-Some.ensures.least;
   tied = c.loop-left.invariant.2;
@@ -25,28 +25,28 @@ returns-in_default-clause-next g c =
     let none : least_below c.args.mark c.loop-left.hub.items ≡ None = search rules in
     (none_delivered _ _ _ c.loop-left.left c.args.budget c.args.mark c.loop-left.hub c.loop-left-test.true c.loop-left.invariant.0 none).next
 
-pub returns-in_err-delivers_one-clause-given : goal.returns-in_err-delivers_one-clause-given
-returns-in_err-delivers_one-clause-given g c =
-    let broken = broke_off _ _ _ _ c.loop-left.left c.args.budget c.args.mark c.in-Some.at c.loop-left.hub c.loop-left-test.true c.loop-left.invariant.0 c.in-Some.ensures.within c.in-Some.ensures.least c.in_err-delivers_one.ensures.given in
+pub returns-in_err-deliver_one-clause-given : goal.returns-in_err-deliver_one-clause-given
+returns-in_err-deliver_one-clause-given g c =
+    let broken = broke_off _ _ _ _ c.loop-left.left c.args.budget c.args.mark c.in-Some.at c.loop-left.hub c.loop-left-test.true c.loop-left.invariant.0 c.in-Some.ensures.within c.in-Some.ensures.least c.in_err-deliver_one.ensures.given in
     search (rules, broken)
 
 pub loop-left-preserved : goal.loop-left-preserved
 loop-left-preserved g c = (
   went_on _ _ _ _ c.loop-left.left c.args.budget c.args.mark c.in-Some.at _ c.loop-left.hub _ c.loop-left-test.true c.loop-left.invariant.0 c.in-Some.ensures.within c.in-Some.ensures.least c.in-ToRest.is
-      c.in_ok-delivers_one.ensures.next c.in_ok-delivers_one.ensures.given,
-  omega (arith, c.loop-left.invariant.1, c.delivers_one.ensures.never_falls),
-  tied_after _ _ c.delivers_one.new.hub c.in-ToRest.is c.in_ok-delivers_one.ensures.tied,
+      c.in_ok-deliver_one.ensures.next c.in_ok-deliver_one.ensures.given,
+  omega (arith, c.loop-left.invariant.1, c.deliver_one.ensures.counts.never_falls),
+  tied_after _ _ c.deliver_one.new.hub c.in-ToRest.is c.in_ok-deliver_one.ensures.tied,
 )
 
 pub returns-in-ToAnEnd-clause-given : goal.returns-in-ToAnEnd-clause-given
 returns-in-ToAnEnd-clause-given g c =
-    (went_over _ _ _ _ c.loop-left.left c.args.budget c.args.mark c.in-Some.at _ _ c.loop-left.hub c.delivers_one.new.hub c.loop-left-test.true c.loop-left.invariant.0 c.in-Some.ensures.within c.in-Some.ensures.least c.in-ToAnEnd.is
-    c.in_ok-delivers_one.ensures.next c.in_ok-delivers_one.ensures.given).given
+    (went_over _ _ _ _ c.loop-left.left c.args.budget c.args.mark c.in-Some.at _ _ c.loop-left.hub c.deliver_one.new.hub c.loop-left-test.true c.loop-left.invariant.0 c.in-Some.ensures.within c.in-Some.ensures.least c.in-ToAnEnd.is
+    c.in_ok-deliver_one.ensures.next c.in_ok-deliver_one.ensures.given).given
 
 pub returns-in-ToAnEnd-clause-next : goal.returns-in-ToAnEnd-clause-next
 returns-in-ToAnEnd-clause-next g c =
-    (went_over _ _ _ _ c.loop-left.left c.args.budget c.args.mark c.in-Some.at _ _ c.loop-left.hub c.delivers_one.new.hub c.loop-left-test.true c.loop-left.invariant.0 c.in-Some.ensures.within c.in-Some.ensures.least c.in-ToAnEnd.is
-    c.in_ok-delivers_one.ensures.next c.in_ok-delivers_one.ensures.given).next
+    (went_over _ _ _ _ c.loop-left.left c.args.budget c.args.mark c.in-Some.at _ _ c.loop-left.hub c.deliver_one.new.hub c.loop-left-test.true c.loop-left.invariant.0 c.in-Some.ensures.within c.in-Some.ensures.least c.in-ToAnEnd.is
+    c.in_ok-deliver_one.ensures.next c.in_ok-deliver_one.ensures.given).next
 
 pub returns-clause-given : goal.returns-clause-given
 returns-clause-given g c =

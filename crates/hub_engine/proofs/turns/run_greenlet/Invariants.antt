@@ -4,7 +4,7 @@ use Rattle.hub_engine.specs.Outside.{outside}
 use Rattle.hub_engine.specs.Stands.{next_at}
 use Rattle.hub_engine.specs.Tied.{IsTiedAt}
 use Rattle.hub_engine.proofs.Passing.{IsPassing}
-use Rattle.hub_engine.proofs.turns.runs.Given as goal
+use Rattle.hub_engine.proofs.turns.run_greenlet.Given as goal
 
 abbrev pub invariant-loop-at : goal.invariant-loop-at
 invariant-loop-at g l =

@@ -2,7 +2,7 @@ use Rattle.std.proofs.Common.{◌≤◌}
 use Rattle.hub_engine.specs.Outside.{outside}
 use Rattle.hub_engine.specs.Tied.{IsTied}
 use Rattle.hub_engine.specs.Written.{IsRunning, from_turn}
-use Rattle.hub_engine.proofs.turns.runs_turns.Given as goal
+use Rattle.hub_engine.proofs.turns.run_turns.Given as goal
 
 abbrev pub invariant-loop-left : goal.invariant-loop-left
 invariant-loop-left g l =

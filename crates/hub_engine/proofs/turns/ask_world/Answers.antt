@@ -5,7 +5,7 @@ use Rattle.hub_engine.specs.declared.stand.Stand.{Stand}
 use Rattle.hub_engine.specs.Outside.{outside}
 use Rattle.hub_engine.proofs.Running.{blocked_broken, blocked_on, broken_first, running_broken, running_then}
 use Rattle.hub_engine.proofs.Tying.{asked_blocked, postable_at, posts_blocked, tied_at_rest, tied_blocked}
-use Rattle.hub_engine.proofs.turns.asks_world.Goals as goal
+use Rattle.hub_engine.proofs.turns.ask_world.Goals as goal
 
 pub returns-in_err-block-clause-ran : goal.returns-in_err-block-clause-ran
 returns-in_err-block-clause-ran g c = λ go b.
@@ -23,24 +23,24 @@ returns-in_err-give_out_before-clause-ran g c = λ go b.
     let broken = blocked_broken (outside (g.K.Sink.written c.args.sink.now) (g.W.World.meaning c.args.world.now) (g.W.World.stands_for c.args.world.now)) (outside (g.K.Sink.written c.give_out_before.new.sink) (g.W.World.meaning c.give_out_before.new.world) (g.W.World.stands_for c.give_out_before.new.world)) go b c.args.question c.args.hub.now c.block.new.self c.in_ok-block.ensures none c.in_err-give_out_before.ensures.given in
     search (rules, broken)
 
-pub takes_answer-requires : goal.takes_answer-requires
-takes_answer-requires g c = record {
+pub take_answer-requires : goal.take_answer-requires
+take_answer-requires g c = record {
   tied = tied_at_rest (outside (g.K.Sink.written c.args.sink.now) (g.W.World.meaning c.args.world.now) (g.W.World.stands_for c.args.world.now)) (outside (g.K.Sink.written c.give_out_before.new.sink) (g.W.World.meaning c.give_out_before.new.world) (g.W.World.stands_for c.give_out_before.new.world)) Stand.Resting c.block.new.self c.give_out_before.new.hub refl (tied_blocked _ c.args.hub.now c.block.new.self c.requires.tied c.in_ok-block.ensures)
       c.in_ok-give_out_before.ensures.given c.in_ok-give_out_before.ensures.silent;
   asked = asked_blocked c.args.question c.args.hub.now c.block.new.self c.give_out_before.new.hub c.requires.asked c.in_ok-block.ensures c.in_ok-give_out_before.ensures.silent;
 }
 
-pub returns-in_err-takes_answer-clause-ran : goal.returns-in_err-takes_answer-clause-ran
-returns-in_err-takes_answer-clause-ran g c = λ go b.
+pub returns-in_err-take_answer-clause-ran : goal.returns-in_err-take_answer-clause-ran
+returns-in_err-take_answer-clause-ran g c = λ go b.
     let none = ap (λ (x : State). x.posts) c.in_ok-block.ensures ∙ posts_blocked _ c.args.hub.now c.requires.tied in
     let first = blocked_on (outside (g.K.Sink.written c.args.sink.now) (g.W.World.meaning c.args.world.now) (g.W.World.stands_for c.args.world.now)) (outside (g.K.Sink.written c.give_out_before.new.sink) (g.W.World.meaning c.give_out_before.new.world) (g.W.World.stands_for c.give_out_before.new.world)) go b c.args.question c.args.hub.now c.block.new.self c.give_out_before.new.hub c.in_ok-block.ensures none c.in_ok-give_out_before.ensures.silent c.in_ok-give_out_before.ensures.given in
-    let broken = running_broken (outside (g.K.Sink.written c.args.sink.now) (g.W.World.meaning c.args.world.now) (g.W.World.stands_for c.args.world.now)) (outside (g.K.Sink.written c.give_out_before.new.sink) (g.W.World.meaning c.give_out_before.new.world) (g.W.World.stands_for c.give_out_before.new.world)) (outside (g.K.Sink.written c.takes_answer.new.sink) (g.W.World.meaning c.takes_answer.new.world) (g.W.World.stands_for c.takes_answer.new.world)) (λ later. after_question go b (Some c.args.question) (Source.Given later) c.args.hub.now)
-    (λ later. asks go c.args.question (Source.Given later) c.give_out_before.new.hub) first (c.in_err-takes_answer.ensures.ran go) in
+    let broken = running_broken (outside (g.K.Sink.written c.args.sink.now) (g.W.World.meaning c.args.world.now) (g.W.World.stands_for c.args.world.now)) (outside (g.K.Sink.written c.give_out_before.new.sink) (g.W.World.meaning c.give_out_before.new.world) (g.W.World.stands_for c.give_out_before.new.world)) (outside (g.K.Sink.written c.take_answer.new.sink) (g.W.World.meaning c.take_answer.new.world) (g.W.World.stands_for c.take_answer.new.world)) (λ later. after_question go b (Some c.args.question) (Source.Given later) c.args.hub.now)
+    (λ later. asks go c.args.question (Source.Given later) c.give_out_before.new.hub) first (c.in_err-take_answer.ensures.ran go) in
     search (rules, broken)
 
 pub returns-clause-ran : goal.returns-clause-ran
 returns-clause-ran g c = λ go b.
     let none = ap (λ (x : State). x.posts) c.in_ok-block.ensures ∙ posts_blocked _ c.args.hub.now c.requires.tied in
     let first = blocked_on (outside (g.K.Sink.written c.args.sink.now) (g.W.World.meaning c.args.world.now) (g.W.World.stands_for c.args.world.now)) (outside (g.K.Sink.written c.give_out_before.new.sink) (g.W.World.meaning c.give_out_before.new.world) (g.W.World.stands_for c.give_out_before.new.world)) go b c.args.question c.args.hub.now c.block.new.self c.give_out_before.new.hub c.in_ok-block.ensures none c.in_ok-give_out_before.ensures.silent c.in_ok-give_out_before.ensures.given in
-    running_then (outside (g.K.Sink.written c.args.sink.now) (g.W.World.meaning c.args.world.now) (g.W.World.stands_for c.args.world.now)) (outside (g.K.Sink.written c.give_out_before.new.sink) (g.W.World.meaning c.give_out_before.new.world) (g.W.World.stands_for c.give_out_before.new.world)) (outside (g.K.Sink.written c.takes_answer.new.sink) (g.W.World.meaning c.takes_answer.new.world) (g.W.World.stands_for c.takes_answer.new.world)) (λ later. after_question go b (Some c.args.question) (Source.Given later) c.args.hub.now)
-    (λ later. asks go c.args.question (Source.Given later) c.give_out_before.new.hub) (λ later. go (Source.Given later) c.takes_answer.new.hub) first (c.in_ok-takes_answer.ensures.ran go)
+    running_then (outside (g.K.Sink.written c.args.sink.now) (g.W.World.meaning c.args.world.now) (g.W.World.stands_for c.args.world.now)) (outside (g.K.Sink.written c.give_out_before.new.sink) (g.W.World.meaning c.give_out_before.new.world) (g.W.World.stands_for c.give_out_before.new.world)) (outside (g.K.Sink.written c.take_answer.new.sink) (g.W.World.meaning c.take_answer.new.world) (g.W.World.stands_for c.take_answer.new.world)) (λ later. after_question go b (Some c.args.question) (Source.Given later) c.args.hub.now)
+    (λ later. asks go c.args.question (Source.Given later) c.give_out_before.new.hub) (λ later. go (Source.Given later) c.take_answer.new.hub) first (c.in_ok-take_answer.ensures.ran go)

@@ -6,7 +6,7 @@ use Rattle.hub_engine.specs.Written.{from_turn}
 use Rattle.hub_engine.proofs.Giving.{done_nothing}
 use Rattle.hub_engine.proofs.Running.{next_round, out_of_turns, rests_on, running, stop_broken, stopped_on, stops_at}
 use Rattle.hub_engine.proofs.Tying.{tied_after}
-use Rattle.hub_engine.proofs.turns.runs_turns.Goals as goal
+use Rattle.hub_engine.proofs.turns.run_turns.Goals as goal
 
 pub loop-left-init : goal.loop-left-init
 loop-left-init g c = (running _ _, omega arith, c.requires.tied)
@@ -22,16 +22,16 @@ loop-left-preserved g c = (
   rests_on (outside (g.K.Sink.written c.args.sink.now) (g.W.World.meaning c.args.world.now) (g.W.World.stands_for c.args.world.now)) (outside (g.K.Sink.written c.round.new.sink) (g.W.World.meaning c.round.new.world) (g.W.World.stands_for c.round.new.world)) c.in_ok-round.field-0 (from_turn c.args.turns c.args.moves c.args.hub.now) (from_turn (c.loop-left.left - 1) c.args.moves) c.round.new.hub c.in-ToRest.is
       (next_round (outside (g.K.Sink.written c.args.sink.now) (g.W.World.meaning c.args.world.now) (g.W.World.stands_for c.args.world.now)) (outside (g.K.Sink.written c.loop-left.sink) (g.W.World.meaning c.loop-left.world) (g.W.World.stands_for c.loop-left.world)) (outside (g.K.Sink.written c.round.new.sink) (g.W.World.meaning c.round.new.world) (g.W.World.stands_for c.round.new.world)) c.loop-left.left c.args.moves (Ok c.in_ok-round.field-0) (from_turn c.args.turns c.args.moves c.args.hub.now)
       c.loop-left.hub c.round.new.hub c.loop-left-test.true c.loop-left.invariant.0 c.in_ok-round.ensures.ran),
-  omega (arith, c.loop-left.invariant.1, c.round.ensures.never_falls),
+  omega (arith, c.loop-left.invariant.1, c.round.ensures.counts.never_falls),
   tied_after _ _ c.round.new.hub c.in-ToRest.is c.in_ok-round.ensures.tied,
 )
 
-pub returns-in_err-stops-in-ToAnEnd-clause-ran : goal.returns-in_err-stops-in-ToAnEnd-clause-ran
-returns-in_err-stops-in-ToAnEnd-clause-ran g c =
+pub returns-in_err-stop-in-ToAnEnd-clause-ran : goal.returns-in_err-stop-in-ToAnEnd-clause-ran
+returns-in_err-stop-in-ToAnEnd-clause-ran g c =
     let stop = stops_at (outside (g.K.Sink.written c.args.sink.now) (g.W.World.meaning c.args.world.now) (g.W.World.stands_for c.args.world.now)) (outside (g.K.Sink.written c.round.new.sink) (g.W.World.meaning c.round.new.world) (g.W.World.stands_for c.round.new.world)) c.in_ok-round.field-0 c.in-ToAnEnd.cause (from_turn c.args.turns c.args.moves c.args.hub.now) (from_turn (c.loop-left.left - 1) c.args.moves) c.round.new.hub c.in-ToAnEnd.is
     (next_round (outside (g.K.Sink.written c.args.sink.now) (g.W.World.meaning c.args.world.now) (g.W.World.stands_for c.args.world.now)) (outside (g.K.Sink.written c.loop-left.sink) (g.W.World.meaning c.loop-left.world) (g.W.World.stands_for c.loop-left.world)) (outside (g.K.Sink.written c.round.new.sink) (g.W.World.meaning c.round.new.world) (g.W.World.stands_for c.round.new.world)) c.loop-left.left c.args.moves (Ok c.in_ok-round.field-0) (from_turn c.args.turns c.args.moves c.args.hub.now)
     c.loop-left.hub c.round.new.hub c.loop-left-test.true c.loop-left.invariant.0 c.in_ok-round.ensures.ran) in
-    let broken = stop_broken (outside (g.K.Sink.written c.args.sink.now) (g.W.World.meaning c.args.world.now) (g.W.World.stands_for c.args.world.now)) (outside (g.K.Sink.written c.round.new.sink) (g.W.World.meaning c.round.new.world) (g.W.World.stands_for c.round.new.world)) (outside (g.K.Sink.written c.stops.new.sink) (g.W.World.meaning c.round.new.world) (g.W.World.stands_for c.round.new.world)) (from_turn c.args.turns c.args.moves c.args.hub.now) c.in-ToAnEnd.cause c.round.new.hub stop c.in_err-stops-in-ToAnEnd.ensures.written (done_nothing (outside (g.K.Sink.written c.round.new.sink) (g.W.World.meaning c.round.new.world) (g.W.World.stands_for c.round.new.world))) in
+    let broken = stop_broken (outside (g.K.Sink.written c.args.sink.now) (g.W.World.meaning c.args.world.now) (g.W.World.stands_for c.args.world.now)) (outside (g.K.Sink.written c.round.new.sink) (g.W.World.meaning c.round.new.world) (g.W.World.stands_for c.round.new.world)) (outside (g.K.Sink.written c.stop.new.sink) (g.W.World.meaning c.round.new.world) (g.W.World.stands_for c.round.new.world)) (from_turn c.args.turns c.args.moves c.args.hub.now) c.in-ToAnEnd.cause c.round.new.hub stop c.in_err-stop-in-ToAnEnd.ensures.written (done_nothing (outside (g.K.Sink.written c.round.new.sink) (g.W.World.meaning c.round.new.world) (g.W.World.stands_for c.round.new.world))) in
     search (rules, broken)
 
 pub returns-in-ToAnEnd-clause-ran : goal.returns-in-ToAnEnd-clause-ran
@@ -39,15 +39,15 @@ returns-in-ToAnEnd-clause-ran g c =
     let stop = stops_at (outside (g.K.Sink.written c.args.sink.now) (g.W.World.meaning c.args.world.now) (g.W.World.stands_for c.args.world.now)) (outside (g.K.Sink.written c.round.new.sink) (g.W.World.meaning c.round.new.world) (g.W.World.stands_for c.round.new.world)) c.in_ok-round.field-0 c.in-ToAnEnd.cause (from_turn c.args.turns c.args.moves c.args.hub.now) (from_turn (c.loop-left.left - 1) c.args.moves) c.round.new.hub c.in-ToAnEnd.is
     (next_round (outside (g.K.Sink.written c.args.sink.now) (g.W.World.meaning c.args.world.now) (g.W.World.stands_for c.args.world.now)) (outside (g.K.Sink.written c.loop-left.sink) (g.W.World.meaning c.loop-left.world) (g.W.World.stands_for c.loop-left.world)) (outside (g.K.Sink.written c.round.new.sink) (g.W.World.meaning c.round.new.world) (g.W.World.stands_for c.round.new.world)) c.loop-left.left c.args.moves (Ok c.in_ok-round.field-0) (from_turn c.args.turns c.args.moves c.args.hub.now)
     c.loop-left.hub c.round.new.hub c.loop-left-test.true c.loop-left.invariant.0 c.in_ok-round.ensures.ran) in
-    stopped_on (outside (g.K.Sink.written c.args.sink.now) (g.W.World.meaning c.args.world.now) (g.W.World.stands_for c.args.world.now)) (outside (g.K.Sink.written c.round.new.sink) (g.W.World.meaning c.round.new.world) (g.W.World.stands_for c.round.new.world)) (outside (g.K.Sink.written c.stops.new.sink) (g.W.World.meaning c.round.new.world) (g.W.World.stands_for c.round.new.world)) (from_turn c.args.turns c.args.moves c.args.hub.now) c.in-ToAnEnd.cause _ c.round.new.hub stop c.in_ok-stops-in-ToAnEnd.ensures.written (done_nothing (outside (g.K.Sink.written c.round.new.sink) (g.W.World.meaning c.round.new.world) (g.W.World.stands_for c.round.new.world))) c.in_ok-stops-in-ToAnEnd.ensures.end
+    stopped_on (outside (g.K.Sink.written c.args.sink.now) (g.W.World.meaning c.args.world.now) (g.W.World.stands_for c.args.world.now)) (outside (g.K.Sink.written c.round.new.sink) (g.W.World.meaning c.round.new.world) (g.W.World.stands_for c.round.new.world)) (outside (g.K.Sink.written c.stop.new.sink) (g.W.World.meaning c.round.new.world) (g.W.World.stands_for c.round.new.world)) (from_turn c.args.turns c.args.moves c.args.hub.now) c.in-ToAnEnd.cause _ c.round.new.hub stop c.in_ok-stop-in-ToAnEnd.ensures.written (done_nothing (outside (g.K.Sink.written c.round.new.sink) (g.W.World.meaning c.round.new.world) (g.W.World.stands_for c.round.new.world))) c.in_ok-stop-in-ToAnEnd.ensures.end
 
-pub returns-in_err-stops-clause-ran : goal.returns-in_err-stops-clause-ran
-returns-in_err-stops-clause-ran g c =
+pub returns-in_err-stop-clause-ran : goal.returns-in_err-stop-clause-ran
+returns-in_err-stop-clause-ran g c =
     let stop = out_of_turns (outside (g.K.Sink.written c.args.sink.now) (g.W.World.meaning c.args.world.now) (g.W.World.stands_for c.args.world.now)) (outside (g.K.Sink.written c.loop-left.sink) (g.W.World.meaning c.loop-left.world) (g.W.World.stands_for c.loop-left.world)) c.loop-left.left c.args.moves (from_turn c.args.turns c.args.moves c.args.hub.now) c.loop-left.hub c.loop-left-test.false c.loop-left.invariant.0 in
-    let broken = stop_broken (outside (g.K.Sink.written c.args.sink.now) (g.W.World.meaning c.args.world.now) (g.W.World.stands_for c.args.world.now)) (outside (g.K.Sink.written c.loop-left.sink) (g.W.World.meaning c.loop-left.world) (g.W.World.stands_for c.loop-left.world)) (outside (g.K.Sink.written c.stops-2.new.sink) (g.W.World.meaning c.loop-left.world) (g.W.World.stands_for c.loop-left.world)) (from_turn c.args.turns c.args.moves c.args.hub.now) StopCause.NoTurns c.loop-left.hub stop c.in_err-stops.ensures.written (done_nothing (outside (g.K.Sink.written c.loop-left.sink) (g.W.World.meaning c.loop-left.world) (g.W.World.stands_for c.loop-left.world))) in
+    let broken = stop_broken (outside (g.K.Sink.written c.args.sink.now) (g.W.World.meaning c.args.world.now) (g.W.World.stands_for c.args.world.now)) (outside (g.K.Sink.written c.loop-left.sink) (g.W.World.meaning c.loop-left.world) (g.W.World.stands_for c.loop-left.world)) (outside (g.K.Sink.written c.stop-2.new.sink) (g.W.World.meaning c.loop-left.world) (g.W.World.stands_for c.loop-left.world)) (from_turn c.args.turns c.args.moves c.args.hub.now) StopCause.NoTurns c.loop-left.hub stop c.in_err-stop.ensures.written (done_nothing (outside (g.K.Sink.written c.loop-left.sink) (g.W.World.meaning c.loop-left.world) (g.W.World.stands_for c.loop-left.world))) in
     search (rules, broken)
 
 pub returns-clause-ran : goal.returns-clause-ran
 returns-clause-ran g c =
     let stop = out_of_turns (outside (g.K.Sink.written c.args.sink.now) (g.W.World.meaning c.args.world.now) (g.W.World.stands_for c.args.world.now)) (outside (g.K.Sink.written c.loop-left.sink) (g.W.World.meaning c.loop-left.world) (g.W.World.stands_for c.loop-left.world)) c.loop-left.left c.args.moves (from_turn c.args.turns c.args.moves c.args.hub.now) c.loop-left.hub c.loop-left-test.false c.loop-left.invariant.0 in
-    stopped_on (outside (g.K.Sink.written c.args.sink.now) (g.W.World.meaning c.args.world.now) (g.W.World.stands_for c.args.world.now)) (outside (g.K.Sink.written c.loop-left.sink) (g.W.World.meaning c.loop-left.world) (g.W.World.stands_for c.loop-left.world)) (outside (g.K.Sink.written c.stops-2.new.sink) (g.W.World.meaning c.loop-left.world) (g.W.World.stands_for c.loop-left.world)) (from_turn c.args.turns c.args.moves c.args.hub.now) StopCause.NoTurns _ c.loop-left.hub stop c.in_ok-stops.ensures.written (done_nothing (outside (g.K.Sink.written c.loop-left.sink) (g.W.World.meaning c.loop-left.world) (g.W.World.stands_for c.loop-left.world))) c.in_ok-stops.ensures.end
+    stopped_on (outside (g.K.Sink.written c.args.sink.now) (g.W.World.meaning c.args.world.now) (g.W.World.stands_for c.args.world.now)) (outside (g.K.Sink.written c.loop-left.sink) (g.W.World.meaning c.loop-left.world) (g.W.World.stands_for c.loop-left.world)) (outside (g.K.Sink.written c.stop-2.new.sink) (g.W.World.meaning c.loop-left.world) (g.W.World.stands_for c.loop-left.world)) (from_turn c.args.turns c.args.moves c.args.hub.now) StopCause.NoTurns _ c.loop-left.hub stop c.in_ok-stop.ensures.written (done_nothing (outside (g.K.Sink.written c.loop-left.sink) (g.W.World.meaning c.loop-left.world) (g.W.World.stands_for c.loop-left.world))) c.in_ok-stop.ensures.end

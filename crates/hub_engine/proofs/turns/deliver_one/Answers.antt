@@ -4,7 +4,7 @@ use Rattle.machine.specs.Run.{runs_on}
 use Rattle.hub_engine.specs.Outside.{outside}
 use Rattle.hub_engine.proofs.Giving.{part_nothing}
 use Rattle.hub_engine.proofs.Tying.{tied_delivered}
-use Rattle.hub_engine.proofs.turns.delivers_one.Goals as goal
+use Rattle.hub_engine.proofs.turns.deliver_one.Goals as goal
 
 pub returns-in_err-next-clause-given : goal.returns-in_err-next-clause-given
 returns-in_err-next-clause-given g c = λ i e.
@@ -12,7 +12,7 @@ returns-in_err-next-clause-given g c = λ i e.
     let broken = part_nothing (outside (g.K.Sink.written c.args.sink.now) (g.W.World.meaning c.args.world.now) (g.W.World.stands_for c.args.world.now)) p.lines p.posts in
     search (rules, broken)
 
-pub runs-requires : goal.runs-requires
-runs-requires g c = record {
+pub run_greenlet-requires : goal.run_greenlet-requires
+run_greenlet-requires g c = record {
   tied = tied_delivered _ c.args.at c.args.hub.now c.deliver_item.new.hub c.in_ok-next.next c.requires.there c.requires.tied c.in_ok-next.ensures.delivered c.in_ok-next.ensures.ready;
 }

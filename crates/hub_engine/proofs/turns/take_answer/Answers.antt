@@ -6,7 +6,7 @@ use Rattle.hub_engine.specs.Outside.{outside}
 use Rattle.hub_engine.proofs.Giving.{done_nothing, none_done}
 use Rattle.hub_engine.proofs.Running.{answered_broken, answered_on, asked_refused}
 use Rattle.hub_engine.proofs.Tying.{may_be_asked, posts_taken, postable_at, tied_answered, tied_at_rest}
-use Rattle.hub_engine.proofs.turns.takes_answer.Goals as goal
+use Rattle.hub_engine.proofs.turns.take_answer.Goals as goal
 
 pub ask-requires : goal.ask-requires
 ask-requires g c = record { runs = c.requires.tied.runs; asks = may_be_asked _ c.args.question c.args.hub.now c.requires.tied c.requires.asked }

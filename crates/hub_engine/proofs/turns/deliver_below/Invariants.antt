@@ -3,7 +3,7 @@ use Rattle.machine.specs.Run.{deliveries}
 use Rattle.hub_engine.specs.Outside.{outside}
 use Rattle.hub_engine.specs.Tied.{IsTied}
 use Rattle.hub_engine.proofs.Passing.{IsPassing}
-use Rattle.hub_engine.proofs.turns.delivers_below.Given as goal
+use Rattle.hub_engine.proofs.turns.deliver_below.Given as goal
 
 abbrev pub invariant-loop-left : goal.invariant-loop-left
 invariant-loop-left g l =
