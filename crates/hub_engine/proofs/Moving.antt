@@ -84,6 +84,14 @@ asking_so s g f = record (look g s) { outcome = f }
 look-same : (g : ℕ) (body : Frame) (s : State) → look_of (record { current = g; state = s }) ≡ look g (with_phase g (Phase.Live body) s)
 look-same g body s = ap (asking_so s g) (sym (outcomes-seen g body s))
 
+-- it does not tell how many moves were made
+look-counted : (g : ℕ) (s : State) → look_of (record { current = g; state = record s { moves = s.moves + 1 } }) ≡ look_of (record { current = g; state = s })
+look-counted g s = ap (asking_so s g) (fun_ext each)
+  where
+    each : (w : Whom) → outcome_seen (record { current = g; state = record s { moves = s.moves + 1 } }) w ≡ outcome_seen (record { current = g; state = s }) w
+    each (Whom.Greenlet h) = refl
+    each (Whom.Job j) = refl
+
 -- ---- settling
 
 -- a wait that holds by outcomes holds where these are the same
@@ -188,31 +196,33 @@ move-is : (g : ℕ) (s : State) (body : Frame) → frame_of (greenlet g s).phase
 unfolding move
 move-is g s body e = ap (λ (b : Frame). does g b.locals (did_by g s b) (record s { moves = s.moves + 1 })) e
 
--- what came of the move, by what the hub was seen as
-came-same : (g : ℕ) (body : Frame) (s : State) (came : Came) → came ≡ came_by body.locals (body_move body.todo (around s.scenario (look_of (record { current = g; state = s })) body.locals)) →
-    came ≡ came_by body.locals (did_by g (with_phase g (Phase.Live body) s) body)
-came-same g body s came e = e ∙ ap (λ (l : Look). came_by body.locals (body_move body.todo (around s.scenario l body.locals))) (look-same g body s)
+-- what came of the move, by what the hub was seen as once it was counted
+came-same : (g : ℕ) (body : Frame) (s t : State) (came : Came) → came ≡ came_by body.locals (body_move body.todo (around t.scenario (look_of (record { current = g; state = t })) body.locals)) →
+    t ≡ record s { moves = s.moves + 1 } → came ≡ came_by body.locals (did_by g (with_phase g (Phase.Live body) s) body)
+came-same g body s t came e f =
+    subst (λ (x : State). came ≡ came_by body.locals (body_move body.todo (around x.scenario (look_of (record { current = g; state = x })) body.locals))) f e
+    ∙ ap (λ (l : Look). came_by body.locals (body_move body.todo (around s.scenario l body.locals))) (look-counted g s ∙ look-same g body s)
 
 -- the move is by what came of it
 move-came : (g : ℕ) (body : Frame) (s t : State) (came : Came) → is_under_way (phase_of g (with_phase g (Phase.Live body) s).greenlets) ≡ true →
-    came ≡ came_by body.locals (body_move body.todo (around s.scenario (look_of (record { current = g; state = s })) body.locals)) →
+    came ≡ came_by body.locals (body_move body.todo (around t.scenario (look_of (record { current = g; state = t })) body.locals)) →
     t ≡ record s { moves = s.moves + 1 } → move g (with_phase g (Phase.Live body) s) ≡ does_came g came (with_phase g (Phase.Live body) t)
 move-came g body s t came h e f =
     let u = with_phase g (Phase.Live body) s in
     move-is g u body (body-at s.greenlets g body h)
     ∙ does-as g body.locals (did_by g u body) (record u { moves = u.moves + 1 })
-    ∙ ap (λ (c : Came). does_came g c (record u { moves = u.moves + 1 })) (sym (came-same g body s came e))
+    ∙ ap (λ (c : Came). does_came g c (record u { moves = u.moves + 1 })) (sym (came-same g body s t came e f))
     ∙ ap (λ (x : State). does_came g came (with_phase g (Phase.Live body) x)) (sym f)
 
 pub moved : (g : ℕ) (body : Frame) (s t v : State) (came : Came) (at : Stand) → IsReadyToMove g (with_phase g (Phase.Live body) s) →
-    came ≡ came_by body.locals (body_move body.todo (around s.scenario (look_of (record { current = g; state = s })) body.locals)) →
+    came ≡ came_by body.locals (body_move body.todo (around t.scenario (look_of (record { current = g; state = t })) body.locals)) →
     t ≡ record s { moves = s.moves + 1 } → ((before : Frame) → does_came g came (with_phase g (Phase.Live before) t) ≡ next_at at v) →
     move g (with_phase g (Phase.Live body) s) ≡ next_at at v
 moved g body s t v came at h e f d = move-came g body s t came (going_sound g _ h).1.live e f ∙ d body
 
 -- functions are known after the move
 pub moves_declared : (g : ℕ) (body : Frame) (s t : State) (came : Came) → IsReadyToMove g (with_phase g (Phase.Live body) s) →
-    came ≡ came_by body.locals (body_move body.todo (around s.scenario (look_of (record { current = g; state = s })) body.locals)) →
+    came ≡ came_by body.locals (body_move body.todo (around t.scenario (look_of (record { current = g; state = t })) body.locals)) →
     t ≡ record s { moves = s.moves + 1 } → IsDeclaredAfter g came t
 moves_declared g body s t came h e f =
     record {
@@ -227,11 +237,11 @@ did-fits c locals (Did.Asks request x todo) h = h
 
 -- what the body asks is what its text may ask
 pub moves_fit : (g : ℕ) (body : Frame) (s t : State) (came : Came) → IsReadyToMove g (with_phase g (Phase.Live body) s) →
-    came ≡ came_by body.locals (body_move body.todo (around s.scenario (look_of (record { current = g; state = s })) body.locals)) →
+    came ≡ came_by body.locals (body_move body.todo (around t.scenario (look_of (record { current = g; state = t })) body.locals)) →
     t ≡ record s { moves = s.moves + 1 } → fits_came t.scenario came ≡ true
 moves_fit g body s t came h e f =
     let u = with_phase g (Phase.Live body) s in
     let here : next_did g u ≡ did_by g u body = ap (did_by g u) (body-at s.greenlets g body (going_sound g u h).1.live) in
     let did : fits_did s.scenario (did_by g u body) ≡ true = subst (λ (d : Did). fits_did s.scenario d ≡ true) here (going_fits g u h) in
     subst (λ (x : State). fits_came x.scenario came ≡ true) (sym f)
-    (subst (λ (c : Came). fits_came s.scenario c ≡ true) (sym (came-same g body s came e)) (did-fits s.scenario body.locals (did_by g u body) did))
+    (subst (λ (c : Came). fits_came s.scenario c ≡ true) (sym (came-same g body s t came e f)) (did-fits s.scenario body.locals (did_by g u body) did))

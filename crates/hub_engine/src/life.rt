@@ -93,11 +93,11 @@ fn begin_greenlet(
 {
     let function = hub.function_of(g);
     let name = hub.code().function_name(function);
-    let reached = begin_body(alloc, hub.code(), function, arguments)?;
     hub.say(Line::Start {
         greenlet: g,
         function: name,
     })?;
+    let reached = begin_body(alloc, hub.code(), function, arguments)?;
     Ok(place_greenlet(alloc, hub, g, reached)?)
 }
 

@@ -149,7 +149,7 @@ pub fn step_greenlet(
     ensures moved { IfOk result (λ at. move g (with_phase g (Phase.Live body) hub.old) ≡ next_at at hub.new) }
     ensures ready { IfOk result (λ at. IsReadyAt (next_at at hub.new)) }
 {
-    let moved = step_body(alloc, hub, g, body)?;
     hub.count_move()?;
+    let moved = step_body(alloc, hub, g, body)?;
     Ok(go_on_by(alloc, hub, g, moved)?)
 }

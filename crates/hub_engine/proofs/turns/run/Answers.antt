@@ -1,7 +1,10 @@
-use Rattle.std.proofs.Common.{rules, ◌≡◌, []}
+use Rattle.std.proofs.Common.{rules, ◌≡◌, List, [], subst}
 use Rattle.std.specs.Prelude.{Ok, Err}
+use Rattle.gv_values.specs.declared.value.Value.{Value}
 use Rattle.machine.specs.Landing.{lands, starts}
 use Rattle.machine.specs.Run.{run}
+use Rattle.machine.specs.State.{State}
+use Rattle.hub_engine.specs.declared.stand.Stand.{Stand}
 use Rattle.hub_engine.specs.Outside.{outside}
 use Rattle.hub_engine.specs.Stands.{next_at}
 use Rattle.hub_engine.specs.Written.{from_turn}
@@ -9,6 +12,10 @@ use Rattle.hub_engine.proofs.Giving.{done_nothing}
 use Rattle.hub_engine.proofs.Running.{began, began_broken, broken_first, ran_then, rests_on, stop_broken, stopped_on, stops_at}
 use Rattle.hub_engine.proofs.Tying.{declared_started, tied_after, tied_started}
 use Rattle.hub_engine.proofs.turns.run.Goals as goal
+
+-- main starts with the arguments that it was given, and these are none
+without_arguments : (args : List Value) (s t : State) (at : Stand) → args ≡ [] → starts lands 0 args s ≡ next_at at t → starts lands 0 [] s ≡ next_at at t
+without_arguments args s t at e f = subst (λ (xs : List Value). starts lands 0 xs s ≡ next_at at t) e f
 
 pub start_body-requires : goal.start_body-requires
 start_body-requires g c = record { declared = declared_started c.args.hub.now.scenario c.args.hub.now c.requires.prepared.may_run c.requires.prepared.first }
@@ -19,18 +26,18 @@ returns-in_err-at-clause-ran g c =
 
 pub run_greenlet-requires : goal.run_greenlet-requires
 run_greenlet-requires g c =
-    let begun : starts lands 0 [] c.args.hub.now ≡ next_at c.in_ok-at.at c.start_body.new.hub = search (rules, c.in_ok-at.ensures, c.new.ensures) in
+    let begun = without_arguments c.new.result c.args.hub.now c.start_body.new.hub c.in_ok-at.at c.new.ensures c.in_ok-at.ensures in
     record { tied = tied_started _ c.args.hub.now.scenario c.args.hub.now c.start_body.new.hub c.in_ok-at.at c.requires.prepared.may_run c.requires.runs c.requires.no_posts c.requires.no_answers c.requires.prepared.first begun }
 
 pub returns-in_err-cause-clause-ran : goal.returns-in_err-cause-clause-ran
 returns-in_err-cause-clause-ran g c =
-    let begun : starts lands 0 [] c.args.hub.now ≡ next_at c.in_ok-at.at c.start_body.new.hub = search (rules, c.in_ok-at.ensures, c.new.ensures) in
+    let begun = without_arguments c.new.result c.args.hub.now c.start_body.new.hub c.in_ok-at.at c.new.ensures c.in_ok-at.ensures in
     let broken = began_broken (outside (g.K.Sink.written c.args.sink.now) (g.W.World.meaning c.args.world.now) (g.W.World.stands_for c.args.world.now)) (outside (g.K.Sink.written c.run_greenlet.new.sink) (g.W.World.meaning c.run_greenlet.new.world) (g.W.World.stands_for c.run_greenlet.new.world)) c.args.turns c.args.moves c.args.hub.now.scenario c.in_ok-at.at c.args.hub.now c.start_body.new.hub c.requires.prepared.first begun c.in_err-cause.ensures.given in
     search (rules, broken)
 
 pub returns-in_err-stop-in-ToAnEnd-clause-ran : goal.returns-in_err-stop-in-ToAnEnd-clause-ran
 returns-in_err-stop-in-ToAnEnd-clause-ran g c =
-    let begun : starts lands 0 [] c.args.hub.now ≡ next_at c.in_ok-at.at c.start_body.new.hub = search (rules, c.in_ok-at.ensures, c.new.ensures) in
+    let begun = without_arguments c.new.result c.args.hub.now c.start_body.new.hub c.in_ok-at.at c.new.ensures c.in_ok-at.ensures in
     let part = began (outside (g.K.Sink.written c.args.sink.now) (g.W.World.meaning c.args.world.now) (g.W.World.stands_for c.args.world.now)) (outside (g.K.Sink.written c.run_greenlet.new.sink) (g.W.World.meaning c.run_greenlet.new.world) (g.W.World.stands_for c.run_greenlet.new.world)) c.args.turns c.args.moves c.args.hub.now.scenario c.in_ok-at.at _ c.args.hub.now c.start_body.new.hub c.run_greenlet.new.hub c.requires.prepared.first begun c.in_ok-cause.ensures.next c.in_ok-cause.ensures.given in
     let stop = stops_at (outside (g.K.Sink.written c.args.sink.now) (g.W.World.meaning c.args.world.now) (g.W.World.stands_for c.args.world.now)) (outside (g.K.Sink.written c.run_greenlet.new.sink) (g.W.World.meaning c.run_greenlet.new.world) (g.W.World.stands_for c.run_greenlet.new.world)) _ c.in-ToAnEnd.cause (run c.args.hub.now.scenario c.args.turns c.args.moves) (from_turn c.args.turns c.args.moves) c.run_greenlet.new.hub c.in-ToAnEnd.is part in
     let broken = stop_broken (outside (g.K.Sink.written c.args.sink.now) (g.W.World.meaning c.args.world.now) (g.W.World.stands_for c.args.world.now)) (outside (g.K.Sink.written c.run_greenlet.new.sink) (g.W.World.meaning c.run_greenlet.new.world) (g.W.World.stands_for c.run_greenlet.new.world)) (outside (g.K.Sink.written c.stop.new.sink) (g.W.World.meaning c.run_greenlet.new.world) (g.W.World.stands_for c.run_greenlet.new.world)) (run c.args.hub.now.scenario c.args.turns c.args.moves) c.in-ToAnEnd.cause c.run_greenlet.new.hub stop c.in_err-stop-in-ToAnEnd.ensures.written (done_nothing (outside (g.K.Sink.written c.run_greenlet.new.sink) (g.W.World.meaning c.run_greenlet.new.world) (g.W.World.stands_for c.run_greenlet.new.world))) in
@@ -38,7 +45,7 @@ returns-in_err-stop-in-ToAnEnd-clause-ran g c =
 
 pub returns-in_ok-stop-in-ToAnEnd-clause-ran : goal.returns-in_ok-stop-in-ToAnEnd-clause-ran
 returns-in_ok-stop-in-ToAnEnd-clause-ran g c =
-    let begun : starts lands 0 [] c.args.hub.now ≡ next_at c.in_ok-at.at c.start_body.new.hub = search (rules, c.in_ok-at.ensures, c.new.ensures) in
+    let begun = without_arguments c.new.result c.args.hub.now c.start_body.new.hub c.in_ok-at.at c.new.ensures c.in_ok-at.ensures in
     let part = began (outside (g.K.Sink.written c.args.sink.now) (g.W.World.meaning c.args.world.now) (g.W.World.stands_for c.args.world.now)) (outside (g.K.Sink.written c.run_greenlet.new.sink) (g.W.World.meaning c.run_greenlet.new.world) (g.W.World.stands_for c.run_greenlet.new.world)) c.args.turns c.args.moves c.args.hub.now.scenario c.in_ok-at.at _ c.args.hub.now c.start_body.new.hub c.run_greenlet.new.hub c.requires.prepared.first begun c.in_ok-cause.ensures.next c.in_ok-cause.ensures.given in
     let stop = stops_at (outside (g.K.Sink.written c.args.sink.now) (g.W.World.meaning c.args.world.now) (g.W.World.stands_for c.args.world.now)) (outside (g.K.Sink.written c.run_greenlet.new.sink) (g.W.World.meaning c.run_greenlet.new.world) (g.W.World.stands_for c.run_greenlet.new.world)) _ c.in-ToAnEnd.cause (run c.args.hub.now.scenario c.args.turns c.args.moves) (from_turn c.args.turns c.args.moves) c.run_greenlet.new.hub c.in-ToAnEnd.is part in
     stopped_on (outside (g.K.Sink.written c.args.sink.now) (g.W.World.meaning c.args.world.now) (g.W.World.stands_for c.args.world.now)) (outside (g.K.Sink.written c.run_greenlet.new.sink) (g.W.World.meaning c.run_greenlet.new.world) (g.W.World.stands_for c.run_greenlet.new.world)) (outside (g.K.Sink.written c.stop.new.sink) (g.W.World.meaning c.run_greenlet.new.world) (g.W.World.stands_for c.run_greenlet.new.world)) (run c.args.hub.now.scenario c.args.turns c.args.moves) c.in-ToAnEnd.cause _ c.run_greenlet.new.hub stop c.in_ok-stop-in-ToAnEnd.ensures.written (done_nothing (outside (g.K.Sink.written c.run_greenlet.new.sink) (g.W.World.meaning c.run_greenlet.new.world) (g.W.World.stands_for c.run_greenlet.new.world))) c.in_ok-stop-in-ToAnEnd.ensures.end
@@ -48,7 +55,7 @@ run_turns-requires g c = record { tied = tied_after _ _ c.run_greenlet.new.hub c
 
 pub returns-in_err-run_turns-in-ToRest-clause-ran : goal.returns-in_err-run_turns-in-ToRest-clause-ran
 returns-in_err-run_turns-in-ToRest-clause-ran g c =
-    let begun : starts lands 0 [] c.args.hub.now ≡ next_at c.in_ok-at.at c.start_body.new.hub = search (rules, c.in_ok-at.ensures, c.new.ensures) in
+    let begun = without_arguments c.new.result c.args.hub.now c.start_body.new.hub c.in_ok-at.at c.new.ensures c.in_ok-at.ensures in
     let part = began (outside (g.K.Sink.written c.args.sink.now) (g.W.World.meaning c.args.world.now) (g.W.World.stands_for c.args.world.now)) (outside (g.K.Sink.written c.run_greenlet.new.sink) (g.W.World.meaning c.run_greenlet.new.world) (g.W.World.stands_for c.run_greenlet.new.world)) c.args.turns c.args.moves c.args.hub.now.scenario c.in_ok-at.at _ c.args.hub.now c.start_body.new.hub c.run_greenlet.new.hub c.requires.prepared.first begun c.in_ok-cause.ensures.next c.in_ok-cause.ensures.given in
     let rest = rests_on (outside (g.K.Sink.written c.args.sink.now) (g.W.World.meaning c.args.world.now) (g.W.World.stands_for c.args.world.now)) (outside (g.K.Sink.written c.run_greenlet.new.sink) (g.W.World.meaning c.run_greenlet.new.world) (g.W.World.stands_for c.run_greenlet.new.world)) _ (run c.args.hub.now.scenario c.args.turns c.args.moves) (from_turn c.args.turns c.args.moves) c.run_greenlet.new.hub c.in-ToRest.is part in
     let broken = ran_then (outside (g.K.Sink.written c.args.sink.now) (g.W.World.meaning c.args.world.now) (g.W.World.stands_for c.args.world.now)) (outside (g.K.Sink.written c.run_greenlet.new.sink) (g.W.World.meaning c.run_greenlet.new.world) (g.W.World.stands_for c.run_greenlet.new.world)) (outside (g.K.Sink.written c.run_turns.new.sink) (g.W.World.meaning c.run_turns.new.world) (g.W.World.stands_for c.run_turns.new.world)) (Err c.in_err-run_turns-in-ToRest.field-0.0) (run c.args.hub.now.scenario c.args.turns c.args.moves) (from_turn c.args.turns c.args.moves c.run_greenlet.new.hub) c.run_turns.new.hub rest
@@ -57,7 +64,7 @@ returns-in_err-run_turns-in-ToRest-clause-ran g c =
 
 pub returns-in_ok-run_turns-in-ToRest-clause-ran : goal.returns-in_ok-run_turns-in-ToRest-clause-ran
 returns-in_ok-run_turns-in-ToRest-clause-ran g c =
-    let begun : starts lands 0 [] c.args.hub.now ≡ next_at c.in_ok-at.at c.start_body.new.hub = search (rules, c.in_ok-at.ensures, c.new.ensures) in
+    let begun = without_arguments c.new.result c.args.hub.now c.start_body.new.hub c.in_ok-at.at c.new.ensures c.in_ok-at.ensures in
     let part = began (outside (g.K.Sink.written c.args.sink.now) (g.W.World.meaning c.args.world.now) (g.W.World.stands_for c.args.world.now)) (outside (g.K.Sink.written c.run_greenlet.new.sink) (g.W.World.meaning c.run_greenlet.new.world) (g.W.World.stands_for c.run_greenlet.new.world)) c.args.turns c.args.moves c.args.hub.now.scenario c.in_ok-at.at _ c.args.hub.now c.start_body.new.hub c.run_greenlet.new.hub c.requires.prepared.first begun c.in_ok-cause.ensures.next c.in_ok-cause.ensures.given in
     let rest = rests_on (outside (g.K.Sink.written c.args.sink.now) (g.W.World.meaning c.args.world.now) (g.W.World.stands_for c.args.world.now)) (outside (g.K.Sink.written c.run_greenlet.new.sink) (g.W.World.meaning c.run_greenlet.new.world) (g.W.World.stands_for c.run_greenlet.new.world)) _ (run c.args.hub.now.scenario c.args.turns c.args.moves) (from_turn c.args.turns c.args.moves) c.run_greenlet.new.hub c.in-ToRest.is part in
     ran_then (outside (g.K.Sink.written c.args.sink.now) (g.W.World.meaning c.args.world.now) (g.W.World.stands_for c.args.world.now)) (outside (g.K.Sink.written c.run_greenlet.new.sink) (g.W.World.meaning c.run_greenlet.new.world) (g.W.World.stands_for c.run_greenlet.new.world)) (outside (g.K.Sink.written c.run_turns.new.sink) (g.W.World.meaning c.run_turns.new.world) (g.W.World.stands_for c.run_turns.new.world)) (Ok c.in_ok-run_turns-in-ToRest.field-0) (run c.args.hub.now.scenario c.args.turns c.args.moves) (from_turn c.args.turns c.args.moves c.run_greenlet.new.hub) c.run_turns.new.hub rest
