@@ -11,8 +11,8 @@ use Rattle.native_board.specs.declared.views.CellState.TheVariants.{Done}
 use Rattle.native_board.specs.declared.views.HubCell.{HubCell}
 use Rattle.native_board.specs.declared.views.HubCell.TheVariants.{Sent}
 use Rattle.native_board.specs.declared.views.HubView.{HubView}
-use Rattle.native_board.specs.declared.views.Stage.{Stage}
-use Rattle.native_board.specs.declared.views.Stage.TheVariants.{Owes}
+use Rattle.native_board.specs.declared.views.WorkerStage.{WorkerStage}
+use Rattle.native_board.specs.declared.views.WorkerStage.TheVariants.{Owes}
 use Rattle.native_board.specs.declared.views.View.TheVariants.{Worker}
 use Rattle.native_board.specs.Words.{CellWords, state_in, cell_words, ended_of, signed_in, value_of}
 use Rattle.native_board.specs.Rules.{CellRule, NoLost, hub_cell, signal_of, Kept}
@@ -20,10 +20,10 @@ use Rattle.native_board.specs.Lost.{NothingIsLost}
 use Rattle.world_rules.specs.Jobs.{eval}
 use Rattle.native_board.proofs.Moves.{St, hub_there, worker_seat}
 
-abbrev Found : Signal → ℕ → ℕ → CellWords → Stage → Job → Ended → Type 0
+abbrev Found : Signal → ℕ → ℕ → CellWords → WorkerStage → Job → Ended → Type 0
 Found g n i c w j e = ((g ≡ High) ⊎ ((w ≡ Owes) ⊎ (n ≤ i))) × (e ≡ ended_of (eval j)) × (signed_in c.value ≡ value_of (eval j))
 
-in_row : (g : Signal) (n i : ℕ) (c : CellWords) (st : CellState) (x : HubCell) (w : Stage) (k : ℕ) (j : Job) (e : Ended) → x ≡ Sent k j → st ≡ Done e
+in_row : (g : Signal) (n i : ℕ) (c : CellWords) (st : CellState) (x : HubCell) (w : WorkerStage) (k : ℕ) (j : Job) (e : Ended) → x ≡ Sent k j → st ≡ Done e
     → CellRule c st x w → NoLost g n i st x w → Found g n i c w j e
 in_row g n i c st x w k j e is_sent is_done row lost =
     let P : CellState → HubCell → Type 0 = λ s y. CellRule c s y w × NoLost g n i s y w in

@@ -15,7 +15,7 @@ use Rattle.native_board.specs.declared.views.CellState.TheVariants.{Done}
 use Rattle.native_board.specs.declared.views.Signal.{Signal}
 use Rattle.native_board.specs.declared.views.Signal.TheVariants.{High}
 use Rattle.native_board.specs.declared.views.HubView.{HubView}
-use Rattle.native_board.specs.declared.views.Stage.{Stage}
+use Rattle.native_board.specs.declared.views.WorkerStage.{WorkerStage}
 use Rattle.native_board.specs.declared.views.WorkerView.{WorkerView}
 use Rattle.native_board.specs.declared.views.View.{View}
 use Rattle.native_board.specs.declared.views.View.TheVariants.{Hub, Worker}
@@ -94,12 +94,12 @@ fits_here : (ys : List ℕ) (h : HubView) (i : ℕ) (x : HubCell) (ps : List ℕ
 fits_here ys h i x ps w l =
     subst (λ (z : HubCell). Fits (signal_of ys) (length h.seen) i (cell_words ys i) z (get_or ps i 0) w.stage w.takes) (sym (get_or-set_same h.cells i x Vacant l))
 
-pub is_high : (b : Signal) (reached i : ℕ) (st : CellState) (x : HubCell) (w : Stage) → b ≡ High → NoLost b reached i st x w
+pub is_high : (b : Signal) (reached i : ℕ) (st : CellState) (x : HubCell) (w : WorkerStage) → b ≡ High → NoLost b reached i st x w
 is_high b reached i (Done e) (Sent k j) w h = inl h
 is_high b reached i st x w h = tt
 
 -- a raised signal is as good
-raised_fits : (a b : Signal) (reached i : ℕ) (c : CellWords) (x : HubCell) (p : ℕ) (w : Stage) (t : ℕ) → (b ≡ a) ⊎ (b ≡ High) → Fits a reached i c x p w t → Fits b reached i c x p w t
+raised_fits : (a b : Signal) (reached i : ℕ) (c : CellWords) (x : HubCell) (p : ℕ) (w : WorkerStage) (t : ℕ) → (b ≡ a) ⊎ (b ≡ High) → Fits a reached i c x p w t → Fits b reached i c x p w t
 raised_fits a b reached i c x p w t h f =
     ⊎_elim (λ (e : b ≡ a). subst (λ z. Fits z reached i c x p w t) (sym e) f)
     (λ (e : b ≡ High). (f.0, is_high b reached i (state_in c.state) x w e, f.2)) h
@@ -111,7 +111,7 @@ hub_there s r id h at = hub_seat r.hub r.workers id h (subst (λ vs. get_elem? v
 -- how a step of the hub changes what fits at a cell, whatever its worker knows
 abbrev Goes : St → HubView → ℕ → List ℕ → HubCell → HubCell → List ℕ → Type 0
 Goes s h i ys old x ps =
-    (w : Stage) (t : ℕ) → Fits (signal_of s.words) (length h.seen) i (cell_words s.words i) old (posts_at h i) w t
+    (w : WorkerStage) (t : ℕ) → Fits (signal_of s.words) (length h.seen) i (cell_words s.words i) old (posts_at h i) w t
     → Fits (signal_of ys) (length h.seen) i (cell_words ys i) x (get_or ps i 0) w t
 
 hub_at_rule : (s : St) (r : Kept s) (id : ℕ) → id ≡ 0 → (i : ℕ) → i < r.hub.made → (ys : List ℕ) → Spares i s.words ys → (old x : HubCell) (ps : List ℕ) → hub_cell r.hub i ≡ old
@@ -213,12 +213,12 @@ pub off_cells : (xs : List ℕ) (x j : ℕ) → cell_words (set xs 0 x) j ≡ ce
 off_cells xs x j = let same = λ (k : ℕ) (l : k ≢ 0). get_or-set_other xs 0 k x 0 l in
     λ c. record { state = same (4 * j + 1) (λ e. omega arith) c; order = same (4 * j + 2) (λ e. omega arith) c; argument = same (4 * j + 3) (λ e. omega arith) c; value = same (4 * j + 4) (λ e. omega arith) c }
 
-none_reached : (g : Signal) (i : ℕ) (st : CellState) (x : HubCell) (w : Stage) → NoLost g 0 i st x w
+none_reached : (g : Signal) (i : ℕ) (st : CellState) (x : HubCell) (w : WorkerStage) → NoLost g 0 i st x w
 none_reached g i (Done e) (Sent k j) w = inr (inr (omega arith))
 none_reached g i st x w = tt
 
 -- a sweep that begins has reached no cell
-from_start : (a b : Signal) (n i : ℕ) (c : CellWords) (x : HubCell) (p : ℕ) (w : Stage) (t : ℕ) → Fits a n i c x p w t → Fits b 0 i c x p w t
+from_start : (a b : Signal) (n i : ℕ) (c : CellWords) (x : HubCell) (p : ℕ) (w : WorkerStage) (t : ℕ) → Fits a n i c x p w t → Fits b 0 i c x p w t
 from_start a b n i c x p w t f = (f.0, none_reached b i (state_in c.state) x w, f.2)
 
 pub lowers : (s : St) (r : Kept s) (id : ℕ) (h : HubView) → get_elem? s.views id ≡ some (Hub h) → (x : ℕ) → Kept record { words = set s.words 0 x; homes = s.homes; views = set s.views id (lowered (Hub h)) }
@@ -238,11 +238,11 @@ lowers s r id h at x = let seat = hub_there s r id h at in record {
   unstarted = λ j l m. let t = r.unstarted j l m in (ap (λ (z : CellWords). state_in z.state) (off_cells s.words x j) ∙ t.0, t.1, t.2);
 }
 
-seen_more : (g : Signal) (n i : ℕ) (st : CellState) (x : HubCell) (w : Stage) → i ≢ n → NoLost g n i st x w → NoLost g (n + 1) i st x w
+seen_more : (g : Signal) (n i : ℕ) (st : CellState) (x : HubCell) (w : WorkerStage) → i ≢ n → NoLost g n i st x w → NoLost g (n + 1) i st x w
 seen_more g n i (Done e) (Sent k j) w apart t = ⊎_elim (λ a. inl a) (λ a. ⊎_elim (λ b. inr (inl b)) (λ (b : n ≤ i). inr (inr (omega arith))) a) t
 seen_more g n i st x w apart t = t
 
-taken_row : (g : Signal) (n i : ℕ) (c : CellWords) (st : CellState) (x : HubCell) (w : Stage) → CellRule c st x w → CellRule c st (taken st x) w × NoLost g n i st (taken st x) w
+taken_row : (g : Signal) (n i : ℕ) (c : CellWords) (st : CellState) (x : HubCell) (w : WorkerStage) → CellRule c st x w → CellRule c st (taken st x) w × NoLost g n i st (taken st x) w
 taken_row g n i c (Done e) (Sent k j) w t = (t, tt)
 taken_row g n i c st x w t = (t, tt)
 
@@ -253,7 +253,7 @@ at_lt (x ∷ xs) (suc i) h = at_lt xs i (omega arith)
 
 -- what the rule says of a started cell, whose worker may be anywhere
 pub started_fits : (s : St) (r : Kept s) (id : ℕ) (h : HubView) → get_elem? s.views id ≡ some (Hub h) → (i : ℕ) → i < h.made
-    → (w : Stage) × (t : ℕ) × Fits (signal_of s.words) (length h.seen) i (cell_words s.words i) (hub_cell h i) (posts_at h i) w t
+    → (w : WorkerStage) × (t : ℕ) × Fits (signal_of s.words) (length h.seen) i (cell_words s.words i) (hub_cell h i) (posts_at h i) w t
 started_fits s r id h at i low = let made = r.made_are in let same = (hub_there s r id h at).1 in let low' : i < r.hub.made = subst (λ (z : HubView). i < z.made) same low in
     let w = at_lt r.workers i (omega arith) in
     (w.0.stage, w.0.takes, subst (λ (z : HubView). Fits (signal_of s.words) (length z.seen) i (cell_words s.words i) (hub_cell z i) (posts_at z i) w.0.stage w.0.takes) (sym same) (r.started i w.0 w.1).1)

@@ -24,8 +24,8 @@ use Rattle.native_board.specs.declared.views.CellState.TheVariants.{Free, Posted
 use Rattle.native_board.specs.declared.views.HubCell.{HubCell}
 use Rattle.native_board.specs.declared.views.HubCell.TheVariants.{Vacant, Ordered, Filled, Sent, Taking, Stopped}
 use Rattle.native_board.specs.declared.views.HubView.{HubView}
-use Rattle.native_board.specs.declared.views.Stage.{Stage}
-use Rattle.native_board.specs.declared.views.Stage.TheVariants.{Idle, Asked, Numbered, Holds, Valued, Owes}
+use Rattle.native_board.specs.declared.views.WorkerStage.{WorkerStage}
+use Rattle.native_board.specs.declared.views.WorkerStage.TheVariants.{Idle, Asked, Numbered, Holds, Valued, Owes}
 use Rattle.native_board.specs.declared.views.WorkerView.{WorkerView}
 use Rattle.native_board.specs.declared.views.View.{View}
 use Rattle.native_board.specs.declared.views.View.TheVariants.{Hub, Worker}
@@ -43,7 +43,7 @@ M = Me (Unit {0}) View
 -- counts to ps
 abbrev HubRows : HubView → ℕ → ℕ → ℕ → HubCell → HubCell → List ℕ → Type 0
 HubRows h i q x old new ps =
-    (g : Signal) (c : CellWords) (w : Stage) (t : ℕ) → Fits g (length h.seen) i c old (posts_at h i) w t → Fits g (length h.seen) i (put_word c q x) new (get_or ps i 0) w t
+    (g : Signal) (c : CellWords) (w : WorkerStage) (t : ℕ) → Fits g (length h.seen) i c old (posts_at h i) w t → Fits g (length h.seen) i (put_word c q x) new (get_or ps i 0) w t
 
 -- each store of the hub in the word p of cell i
 hub_stores : (slots id : ℕ) (me : M) (h : HubView) (i : ℕ) → me.0 ≡ Hub h → i < h.made → (old new : HubCell) → hub_cell h i ≡ old → (q p x : ℕ) → p ≡ q + 1 → q < 4 → (ps : List ℕ)
@@ -68,7 +68,7 @@ hub_marks slots id me h i is low old was q p x place small f rows =
     hub_stores slots id me h i is low old (f old) was q p x place small h.posts (refl, λ j n. refl) rows (λ m'. (j : ℕ) → 4 * i + p ≡ 4 * j + p → m' ≡ (on_cell f j me.0, me.1))
     (λ j e. let same : i ≡ j = omega arith in λ c. (((λ k. Hub (marked h i (f (sym was k)))) ∙ (λ k. on_cell f (same k) (sym is k))) c, me.1))
 
-order_row : (g : Signal) (n i : ℕ) (c : CellWords) (x : ℕ) (st : CellState) (w : Stage) → CellRule c st Vacant w → CellRule (put_word c 1 x) st (ordered x Vacant) w × NoLost g n i st (ordered x Vacant) w
+order_row : (g : Signal) (n i : ℕ) (c : CellWords) (x : ℕ) (st : CellState) (w : WorkerStage) → CellRule c st Vacant w → CellRule (put_word c 1 x) st (ordered x Vacant) w × NoLost g n i st (ordered x Vacant) w
 order_row g n i c x Free w t = ((t, refl, refl), tt)
 order_row g n i c x st w t = absurd t
 
@@ -83,7 +83,7 @@ signed_job kind.Collatz y = (refl, refl)
 signed_job kind.Fail y = (refl, refl)
 signed_job kind.Echo y = (refl, refl)
 
-argument_row : (g : Signal) (n i : ℕ) (c : CellWords) (k : ℕ) (d : JobKind) (x : ℕ) (st : CellState) (w : Stage) → CellRule c st (Ordered k d) w → CellRule (put_word c 2 x) st (filled x (Ordered k d)) w × NoLost g n i st (filled x (Ordered k d)) w
+argument_row : (g : Signal) (n i : ℕ) (c : CellWords) (k : ℕ) (d : JobKind) (x : ℕ) (st : CellState) (w : WorkerStage) → CellRule c st (Ordered k d) w → CellRule (put_word c 2 x) st (filled x (Ordered k d)) w × NoLost g n i st (filled x (Ordered k d)) w
 argument_row g n i c k d x Free w t = let j = signed_job d (signed_in x) in ((t.0, (t.1, t.2 ∙ sym j.0, sym j.1)), tt)
 argument_row g n i c k d x st w t = absurd t
 
@@ -93,18 +93,18 @@ stores_argument slots id me h i x k d is low was = hub_marks slots id me h i is 
     (λ g c w t f. let row = argument_row g (length h.seen) i c k d x (state_in c.state) w f.0 in (row.0, row.1, f.2))
 
 -- a worker that is between two jobs may be so at a posted job
-rests_takes : (c : CellWords) (k : ℕ) (j : Job) (w : Stage) → Rests w → Takes c k j w
+rests_takes : (c : CellWords) (k : ℕ) (j : Job) (w : WorkerStage) → Rests w → Takes c k j w
 rests_takes c k j Idle t = tt
 rests_takes c k j Owes t = tt
 rests_takes c k j w t = absurd t
 
 -- a worker that is between two jobs has not begun with the one that was just posted
-rests_untaken : (w : Stage) → Rests w → untaken Posted w ≡ 1
+rests_untaken : (w : WorkerStage) → Rests w → untaken Posted w ≡ 1
 rests_untaken Idle t = refl
 rests_untaken Owes t = refl
 rests_untaken w t = absurd t
 
-posted_row : (c : CellWords) (k : ℕ) (j : Job) (st : CellState) (w : Stage) → CellRule c st (Filled k j) w → CellRule (put_word c 0 1) Posted (Sent k j) w × (untaken Posted w ≡ untaken st w + 1)
+posted_row : (c : CellWords) (k : ℕ) (j : Job) (st : CellState) (w : WorkerStage) → CellRule c st (Filled k j) w → CellRule (put_word c 0 1) Posted (Sent k j) w × (untaken Posted w ≡ untaken st w + 1)
 posted_row c k j Free w t = ((t.1, rests_takes (put_word c 0 1) k j w t.0), rests_untaken w t.0)
 posted_row c k j st w t = absurd t
 
@@ -126,12 +126,12 @@ pub stores_posted : (slots id : ℕ) (me : M) (h : HubView) (i k : ℕ) (j : Job
 stores_posted slots id me h i k j is low was s r deep seat small =
     posts_more slots id me h i k j is low (has_count s r id h (seat ∙ ap some is) i low) was s r deep seat small
 
-rests_stops : (w : Stage) → Rests w → Stops w
+rests_stops : (w : WorkerStage) → Rests w → Stops w
 rests_stops Idle t = tt
 rests_stops Owes t = tt
 rests_stops w t = absurd t
 
-stop_row : (c : CellWords) (st : CellState) (w : Stage) → CellRule c st Vacant w → CellRule (put_word c 0 2) Stop Stopped w × (untaken Stop w ≡ untaken st w)
+stop_row : (c : CellWords) (st : CellState) (w : WorkerStage) → CellRule c st Vacant w → CellRule (put_word c 0 2) Stop Stopped w × (untaken Stop w ≡ untaken st w)
 stop_row c Free w t = (rests_stops w t, refl)
 stop_row c st w t = absurd t
 
@@ -140,7 +140,7 @@ pub stores_stop : (slots id : ℕ) (me : M) (h : HubView) (i : ℕ) → me.0 ≡
 stores_stop slots id me h i is low was = hub_marks slots id me h i is low Vacant was 0 1 2 refl (omega arith) stopped
     (λ g c w t f. let row = stop_row c (state_in c.state) w f.0 in let count = f.2 in let same = row.1 in (row.0, tt, omega arith))
 
-free_row : (c : CellWords) (k : ℕ) (j : Job) (st : CellState) (w : Stage) → CellRule c st (Taking k j) w → CellRule (put_word c 0 0) Free Vacant w × (untaken Free w ≡ untaken st w)
+free_row : (c : CellWords) (k : ℕ) (j : Job) (st : CellState) (w : WorkerStage) → CellRule c st (Taking k j) w → CellRule (put_word c 0 0) Free Vacant w × (untaken Free w ≡ untaken st w)
 free_row c k j (Done e) w t = (t.0, refl)
 free_row c k j st w t = absurd t
 
@@ -164,13 +164,13 @@ worker_loads slots id at me w is after stays rows s r deep seat _ =
       refl,
     )
 
-asked_row : (g : Signal) (n i : ℕ) (c : CellWords) (st : CellState) (x : HubCell) (w : Stage) → CellRule c st x w × NoLost g n i st x w → CellRule c st x (asked st w) × NoLost g n i st x (asked st w)
+asked_row : (g : Signal) (n i : ℕ) (c : CellWords) (st : CellState) (x : HubCell) (w : WorkerStage) → CellRule c st x w × NoLost g n i st x w → CellRule c st x (asked st w) × NoLost g n i st x (asked st w)
 asked_row g n i c Posted (Sent k j) Idle t = ((t.0.0, tt), tt)
 asked_row g n i c Stop Stopped Idle t = (tt, tt)
 asked_row g n i c st x w t = t
 
 -- a worker that finds a job has begun with one more
-asked_count : (st : CellState) (w : Stage) (p t : ℕ) → p ≡ t + untaken st w → p ≡ (t + begun_with st w) + untaken st (asked st w)
+asked_count : (st : CellState) (w : WorkerStage) (p t : ℕ) → p ≡ t + untaken st w → p ≡ (t + begun_with st w) + untaken st (asked st w)
 asked_count Posted Idle p t e = omega arith
 asked_count Posted w p t e = omega arith
 asked_count Stop Idle p t e = omega arith
@@ -186,7 +186,7 @@ own_state slots id me w is s r deep seat small = let n : ℕ = get_or s.words (4
     (t.0, t.1, t.2, t.3, t.4 ∙ λ c. (looked (state_in n) (sym is c), me.1))
 
 -- where a worker is at a job, its cell is posted
-at_a_job : (c : CellWords) (st : CellState) (x : HubCell) (w : Stage) (P : CellState → HubCell → Type 0) → (Rests w → ⊥) → (Stops w → ⊥) → CellRule c st x w
+at_a_job : (c : CellWords) (st : CellState) (x : HubCell) (w : WorkerStage) (P : CellState → HubCell → Type 0) → (Rests w → ⊥) → (Stops w → ⊥) → CellRule c st x w
     → ((k : ℕ) (j : Job) → st ≡ Posted → x ≡ Sent k j → Carries c k j → Takes c k j w → P Posted (Sent k j)) → P st x
 at_a_job c Posted (Sent k j) w P a b t go = go k j refl refl t.0 t.1
 at_a_job c Free Vacant w P a b t go = absurd (a t)
@@ -208,8 +208,8 @@ own_order : (slots id : ℕ) (me : M) (w : WorkerView) → me.0 ≡ Worker w →
     → Allows Kept slots id me (4 * w.cell + 2) (λ n. n) (LoadsOrder (step slots (4 * w.cell + 2) 0 0 none) me)
 own_order slots id me w is was s r deep seat small = let n : ℕ = get_or s.words (4 * w.cell + 2) 0 in
     let t = worker_loads slots id (4 * w.cell + 2) me w is (λ n. record w { stage = numbered n w.stage }) (λ n. refl)
-    (λ ws x p g reached. let c : CellWords = cell_words ws w.cell in subst (λ (z : Stage). Fits g reached w.cell c x p z w.takes → Fits g reached w.cell c x p (numbered c.order z) w.takes) (sym was)
-    (λ f. let v : Stage = numbered c.order Asked in
+    (λ ws x p g reached. let c : CellWords = cell_words ws w.cell in subst (λ (z : WorkerStage). Fits g reached w.cell c x p z w.takes → Fits g reached w.cell c x p (numbered c.order z) w.takes) (sym was)
+    (λ f. let v : WorkerStage = numbered c.order Asked in
     at_a_job c (state_in c.state) x Asked (λ st y. (p ≡ w.takes + untaken st Asked) → CellRule c st y v × NoLost g reached w.cell st y v × (p ≡ w.takes + untaken st v)) (λ e. e) (λ e. e) f.0
     (λ k j _ _ carries _ count. ((carries, (carries.0, carries.1)), tt, count)) f.2)) s r deep seat small in
     (t.0, t.1, t.2, t.3, t.4 ∙ λ c. (on_stage (numbered n) (sym is c), me.1))
@@ -218,8 +218,8 @@ own_argument : (slots id : ℕ) (me : M) (w : WorkerView) (k : ℕ) (d : JobKind
     → Allows Kept slots id me (4 * w.cell + 3) (λ n. n) (LoadsArgument (step slots (4 * w.cell + 3) 0 0 none) me)
 own_argument slots id me w k d is was s r deep seat small = let n : ℕ = get_or s.words (4 * w.cell + 3) 0 in
     let t = worker_loads slots id (4 * w.cell + 3) me w is (λ n. record w { stage = holds n w.stage }) (λ n. refl)
-    (λ ws x p g reached. let c : CellWords = cell_words ws w.cell in subst (λ (z : Stage). Fits g reached w.cell c x p z w.takes → Fits g reached w.cell c x p (holds c.argument z) w.takes) (sym was)
-    (λ f. let v : Stage = holds c.argument (Numbered k d) in
+    (λ ws x p g reached. let c : CellWords = cell_words ws w.cell in subst (λ (z : WorkerStage). Fits g reached w.cell c x p z w.takes → Fits g reached w.cell c x p (holds c.argument z) w.takes) (sym was)
+    (λ f. let v : WorkerStage = holds c.argument (Numbered k d) in
     at_a_job c (state_in c.state) x (Numbered k d) (λ st y. (p ≡ w.takes + untaken st (Numbered k d)) → CellRule c st y v × NoLost g reached w.cell st y v × (p ≡ w.takes + untaken st v)) (λ e. e) (λ e. e) f.0
     (λ k j _ _ carries takes count. ((carries, (takes.0, job_again j d (signed_in c.argument) takes.1 carries.2)), tt, count)) f.2)) s r deep seat small in
     (t.0, t.1, t.2, t.3, t.4 ∙ λ c. (on_stage (holds n) (sym is c), me.1))
@@ -264,7 +264,7 @@ told_hub me m' h i f old is was e = e ∙ ((λ c. (on_cell f i (is c).0, (is c).
 pub told_sent : (me m' : M) (h : HubView) (i k : ℕ) (j : Job) → me ≡ (Hub h, []) → hub_cell h i ≡ Filled k j → m' ≡ (on_post i me.0, me.1) → m' ≡ (Hub (counted (marked h i (Sent k j)) i), [])
 told_sent me m' h i k j is was e = e ∙ ((λ c. (on_post i (is c).0, (is c).1)) ∙ (λ c. (Hub (counted (marked h i (sent (was c))) i), [])))
 
-pub told_worker : (me m' : M) (w : WorkerView) (f : Stage → Stage) (old : Stage) → me ≡ (Worker w, []) → w.stage ≡ old → m' ≡ (on_stage f me.0, me.1) → m' ≡ (Worker (record w { stage = f old }), [])
+pub told_worker : (me m' : M) (w : WorkerView) (f : WorkerStage → WorkerStage) (old : WorkerStage) → me ≡ (Worker w, []) → w.stage ≡ old → m' ≡ (on_stage f me.0, me.1) → m' ≡ (Worker (record w { stage = f old }), [])
 told_worker me m' w f old is was e = e ∙ ((λ c. (on_stage f (is c).0, (is c).1)) ∙ (λ c. (Worker (record w { stage = f (was c) }), [])))
 
 pub loads_state : (slots id : ℕ) (me : M) (w : WorkerView) (i : ℕ) → me.0 ≡ Worker w → w.cell ≡ i → Allows Kept slots id me (4 * i + 1) (λ n. n) (LoadsState (step slots (4 * i + 1) 0 0 none) me)
@@ -282,7 +282,7 @@ told_look me m' w st is was e =
     e ∙ ((λ c. (looked st (is c).0, (is c).1)) ∙ (λ c. (Worker (record w { stage = asked st (was c); looks = w.looks + 1; takes = w.takes + begun_with st (was c); last = st }), [])))
 
 -- each store of the worker in the word p of its cell
-worker_stores : (slots id : ℕ) (me : M) (w : WorkerView) → me.0 ≡ Worker w → (old : Stage) → w.stage ≡ old → (q p x : ℕ) → p ≡ q + 1 → q < 4 → (f : Stage → Stage)
+worker_stores : (slots id : ℕ) (me : M) (w : WorkerView) → me.0 ≡ Worker w → (old : WorkerStage) → w.stage ≡ old → (q p x : ℕ) → p ≡ q + 1 → q < 4 → (f : WorkerStage → WorkerStage)
     → ((c : CellWords) (y : HubCell) (n : ℕ) (g : Signal) (reached : ℕ) → Fits g reached w.cell c y n old w.takes → Fits g reached w.cell (put_word c q x) y n (f old) w.takes)
     → Allows Kept slots id me (4 * w.cell + p) (λ _. x) (λ _ m'. m' ≡ (on_stage f me.0, me.1))
 worker_stores slots id me w is old was q p x place small f rows s r deep seat _ =
@@ -294,7 +294,7 @@ worker_stores slots id me w is old was q p x place small f rows s r deep seat _ 
       keeps,
       tt,
       worker_at s r id w seat' w' refl (set s.words at x) apart.0 apart.1 (inl apart.2)
-          (λ y n reached t. subst (λ (z : Signal × CellWords × Stage). Fits z.0 reached w.cell z.1 y n (f z.2) w.takes) (λ k. (sym apart.2 k, sym here k, sym was k))
+          (λ y n reached t. subst (λ (z : Signal × CellWords × WorkerStage). Fits z.0 reached w.cell z.1 y n (f z.2) w.takes) (λ k. (sym apart.2 k, sym here k, sym was k))
           (rows (cell_words s.words w.cell) y n (signal_of s.words) reached (subst (λ z. Fits (signal_of s.words) reached w.cell (cell_words s.words w.cell) y n z w.takes) was t))),
       λ c. (on_stage f (sym is c), me.1),
     )
@@ -342,7 +342,7 @@ swaps_high slots id me w is was s r deep seat _ =
       worker_at s r id w seat' w' refl (set s.words 0 1) (length-set s.words 0 1) (λ j _. off_cells s.words 1 j) (inr high)
           (λ y n reached t. let c : CellWords = cell_words s.words w.cell in let st : CellState = state_in c.state in
           let row = subst (λ z. CellRule c st y z × (n ≡ w.takes + untaken st z)) was (t.0, t.2) in
-          subst (λ (z : CellWords × Stage). Fits (signal_of (set s.words 0 1)) reached w.cell z.0 y n (rested z.1) w.takes) (λ k. (sym here k, sym was k))
+          subst (λ (z : CellWords × WorkerStage). Fits (signal_of (set s.words 0 1)) reached w.cell z.0 y n (rested z.1) w.takes) (λ k. (sym here k, sym was k))
           (rest_row c st y row.0, is_high _ reached w.cell st y Idle high, row.1 ∙ ap (λ u. w.takes + u) (rest_count st))),
       λ c. (on_stage rested (sym is c), me.1),
     )
@@ -353,19 +353,19 @@ swaps_low slots id me h is s r deep seat _ = (lowered (Hub h), keeps, tt, lowers
 same_hub : (h k : HubView) → Hub h ≡ Hub k → h ≡ k
 same_hub h k e = ap (hub_or h) e
 
-job_there : (c : CellWords) (e : Ended) (x : HubCell) (w : Stage) → CellRule c (Done e) x w → IsJob x
+job_there : (c : CellWords) (e : Ended) (x : HubCell) (w : WorkerStage) → CellRule c (Done e) x w → IsJob x
 job_there c e (Sent k j) w t = tt
 job_there c e (Taking k j) w t = tt
 job_there c e x w t = absurd t
 
-done_job : (c : CellWords) (st : CellState) (x : HubCell) (w : Stage) (e : Ended) → CellRule c st x w → st ≡ Done e → IsJob x
+done_job : (c : CellWords) (st : CellState) (x : HubCell) (w : WorkerStage) (e : Ended) → CellRule c st x w → st ≡ Done e → IsJob x
 done_job c st x w e t is = job_there c e x w (subst (λ (z : CellState). CellRule c z x w) is t)
 
 -- how the job ended that a sweep finds done
-sent_done : (c : CellWords) (st : CellState) (x : HubCell) (w : Stage) (k : ℕ) (j : Job) (e : Ended) → CellRule c st x w → x ≡ Sent k j → st ≡ Done e → e ≡ ended_of (eval j)
+sent_done : (c : CellWords) (st : CellState) (x : HubCell) (w : WorkerStage) (k : ℕ) (j : Job) (e : Ended) → CellRule c st x w → x ≡ Sent k j → st ≡ Done e → e ≡ ended_of (eval j)
 sent_done c st x w k j e t a b = (subst (λ (z : CellState × HubCell). CellRule c z.0 z.1 w) (λ i. (b i, a i)) t).1
 
-taking_shows : (c : CellWords) (st : CellState) (w : Stage) (k : ℕ) (j : Job) → CellRule c st (Taking k j) w → Shows c j
+taking_shows : (c : CellWords) (st : CellState) (w : WorkerStage) (k : ℕ) (j : Job) → CellRule c st (Taking k j) w → Shows c j
 taking_shows c (Done e) w k j t = t.2
 taking_shows c st w k j t = absurd t
 

@@ -5,15 +5,15 @@ use lib.ListN.{get_elem?}
 use Rattle.native_board.specs.declared.views.CellState.{CellState}
 use Rattle.native_board.specs.declared.views.CellState.TheVariants.{Posted}
 use Rattle.native_board.specs.declared.views.HubView.{HubView}
-use Rattle.native_board.specs.declared.views.Stage.{Stage}
-use Rattle.native_board.specs.declared.views.Stage.TheVariants.{Idle, Owes}
+use Rattle.native_board.specs.declared.views.WorkerStage.{WorkerStage}
+use Rattle.native_board.specs.declared.views.WorkerStage.TheVariants.{Idle, Owes}
 use Rattle.native_board.specs.declared.views.View.TheVariants.{Worker}
 use Rattle.native_board.specs.Words.{state_in, cell_words}
 use Rattle.native_board.specs.Rules.{untaken, posts_at, Kept}
 use Rattle.native_board.specs.Taken.{TakenOnce}
 use Rattle.native_board.proofs.Moves.{St, hub_there, worker_seat}
 
-one_at_most : (st : CellState) (w : Stage) → untaken st w ≤ 1
+one_at_most : (st : CellState) (w : WorkerStage) → untaken st w ≤ 1
 one_at_most Posted Idle = omega arith
 one_at_most Posted Owes = omega arith
 one_at_most Posted w = omega arith

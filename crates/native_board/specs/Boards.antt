@@ -8,7 +8,7 @@ use Rattle.native_board.specs.declared.passes.WorkerPass.{WorkerPass}
 use Rattle.native_board.specs.declared.views.CellState.TheVariants.{Free}
 use Rattle.native_board.specs.declared.views.HubCell.TheVariants.{Sent}
 use Rattle.native_board.specs.declared.views.HubView.{HubView}
-use Rattle.native_board.specs.declared.views.Stage.TheVariants.{Idle}
+use Rattle.native_board.specs.declared.views.WorkerStage.TheVariants.{Idle}
 use Rattle.native_board.specs.declared.views.WorkerView.{WorkerView}
 use Rattle.native_board.specs.Plays.{marked, counted}
 use Rattle.native_board.specs.Passes.{hub_of, worker_of}

@@ -9,7 +9,7 @@ use Rattle.native_board.specs.declared.views.Signal.TheVariants.{High}
 use Rattle.native_board.specs.declared.views.CellState.TheVariants.{Done}
 use Rattle.native_board.specs.declared.views.HubCell.TheVariants.{Sent}
 use Rattle.native_board.specs.declared.views.HubView.{HubView}
-use Rattle.native_board.specs.declared.views.Stage.TheVariants.{Owes}
+use Rattle.native_board.specs.declared.views.WorkerStage.TheVariants.{Owes}
 use Rattle.native_board.specs.declared.views.WorkerView.{WorkerView}
 use Rattle.native_board.specs.declared.views.View.{View}
 use Rattle.native_board.specs.declared.views.View.TheVariants.{Hub, Worker}

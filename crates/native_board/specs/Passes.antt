@@ -13,8 +13,8 @@ use Rattle.native_board.specs.declared.found.Looked.TheVariants as looked
 use Rattle.native_board.specs.declared.views.HubCell.{HubCell}
 use Rattle.native_board.specs.declared.views.HubCell.TheVariants.{Vacant, Sent, Stopped}
 use Rattle.native_board.specs.declared.views.HubView.{HubView}
-use Rattle.native_board.specs.declared.views.Stage.{Stage}
-use Rattle.native_board.specs.declared.views.Stage.TheVariants.{Idle, Holds, Valued, Over}
+use Rattle.native_board.specs.declared.views.WorkerStage.{WorkerStage}
+use Rattle.native_board.specs.declared.views.WorkerStage.TheVariants.{Idle, Holds, Valued, Over}
 use Rattle.native_board.specs.Rules.{hub_cell}
 use Rattle.native_board.specs.Plays.{marked, counted, asked, begun_with}
 use Rattle.native_board.specs.declared.views.WorkerView.{WorkerView}
@@ -44,7 +44,7 @@ abbrev pub KnowsFree : HubView → ℕ → Type 0
 KnowsFree h i = (i < h.made) × (hub_cell h i ≡ Vacant)
 
 -- what a look answers, by the state that it read
-abbrev pub Answers : CellState → Looked → Stage → Type 0
+abbrev pub Answers : CellState → Looked → WorkerStage → Type 0
 Answers Posted r w = (k : ℕ) × (j : Job) × (r ≡ looked.Posted k j) × (w ≡ Holds k j)
 Answers Stop r w = (r ≡ looked.Stop) × (w ≡ Over)
 Answers _ r w = (r ≡ looked.NotYet) × (w ≡ Idle)
@@ -78,11 +78,11 @@ pub record IsSent (s t : Place) (i k : ℕ) (j : Job) : Type 0 where
   pub knows : t.me ≡ (Hub (counted (marked (hub_of s) i (Sent k j)) i), [])
 
 -- the seat is that of the worker of cell i, which is so far
-abbrev pub IsWorkerAt : Place → ℕ → Stage → Type 0
+abbrev pub IsWorkerAt : Place → ℕ → WorkerStage → Type 0
 IsWorkerAt s i w = (s.me ≡ (Worker (worker_of s), [])) × ((worker_of s).cell ≡ i) × ((worker_of s).stage ≡ w) × (4 * i + 4 < s.table_id.words) × (i < 17)
 
 -- the worker's seat after a step
-pub record IsStaged (s t : Place) (w : Stage) : Type 0 where
+pub record IsStaged (s t : Place) (w : WorkerStage) : Type 0 where
   pub table : t.table_id ≡ s.table_id
   pub seat : t.id ≡ s.id
   pub knows : t.me ≡ (Worker (record (worker_of s) { stage = w }), [])

@@ -8,8 +8,8 @@ use Rattle.native_board.specs.declared.views.CellState.TheVariants.{Free, Posted
 use Rattle.native_board.specs.declared.views.HubCell.{HubCell}
 use Rattle.native_board.specs.declared.views.HubCell.TheVariants.{Vacant, Ordered, Filled, Sent, Taking, Stopped}
 use Rattle.native_board.specs.declared.views.HubView.{HubView}
-use Rattle.native_board.specs.declared.views.Stage.{Stage}
-use Rattle.native_board.specs.declared.views.Stage.TheVariants.{Idle, Asked, Numbered, Holds, Valued, Owes, Over}
+use Rattle.native_board.specs.declared.views.WorkerStage.{WorkerStage}
+use Rattle.native_board.specs.declared.views.WorkerStage.TheVariants.{Idle, Asked, Numbered, Holds, Valued, Owes, Over}
 use Rattle.native_board.specs.declared.views.View.{View}
 use Rattle.native_board.specs.declared.views.View.TheVariants.{Hub, Worker}
 use Rattle.native_board.specs.Words.{state_in, number_in, kind_in, signed_in, ended_of, value_of}
@@ -41,7 +41,7 @@ on_post i (Hub h) = Hub (counted (marked h i (sent (hub_cell h i))) i)
 on_post i v = v
 
 -- how far a worker is changes
-abbrev pub on_stage : (Stage → Stage) → View → View
+abbrev pub on_stage : (WorkerStage → WorkerStage) → View → View
 on_stage f (Worker w) = Worker (record w { stage = f w.stage })
 on_stage f v = v
 
@@ -71,13 +71,13 @@ stopped Vacant = Stopped
 stopped cell = cell
 
 -- a worker without a job reads the state of its cell
-abbrev pub asked : CellState → Stage → Stage
+abbrev pub asked : CellState → WorkerStage → WorkerStage
 asked Posted Idle = Asked
 asked Stop Idle = Over
 asked _ w = w
 
 -- how many jobs a worker begins with that reads this state
-abbrev pub begun_with : CellState → Stage → ℕ
+abbrev pub begun_with : CellState → WorkerStage → ℕ
 begun_with Posted Idle = 1
 begun_with st w = 0
 
@@ -87,27 +87,27 @@ looked st (Worker w) = Worker (record w { stage = asked st w.stage; looks = w.lo
 looked st v = v
 
 -- a worker reads the order x
-abbrev pub numbered : ℕ → Stage → Stage
+abbrev pub numbered : ℕ → WorkerStage → WorkerStage
 numbered x Asked = Numbered (number_in x) (kind_in x)
 numbered x w = w
 
 -- a worker reads the argument x, and holds the job
-abbrev pub holds : ℕ → Stage → Stage
+abbrev pub holds : ℕ → WorkerStage → WorkerStage
 holds x (Numbered k kind) = Holds k (job_of kind (signed_in x))
 holds x w = w
 
 -- a worker stores the value of its job
-abbrev pub valued : Stage → Stage
+abbrev pub valued : WorkerStage → WorkerStage
 valued (Holds k j) = Valued k j
 valued w = w
 
 -- a worker stores that its job is done
-abbrev pub owing : Stage → Stage
+abbrev pub owing : WorkerStage → WorkerStage
 owing (Valued k j) = Owes
 owing w = w
 
 -- a worker raises the signal
-abbrev pub rested : Stage → Stage
+abbrev pub rested : WorkerStage → WorkerStage
 rested Owes = Idle
 rested w = w
 

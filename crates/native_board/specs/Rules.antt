@@ -11,8 +11,8 @@ use Rattle.native_board.specs.declared.views.CellState.TheVariants.{Free, Posted
 use Rattle.native_board.specs.declared.views.HubCell.{HubCell}
 use Rattle.native_board.specs.declared.views.HubCell.TheVariants.{Vacant, Ordered, Filled, Sent, Taking, Stopped}
 use Rattle.native_board.specs.declared.views.HubView.{HubView}
-use Rattle.native_board.specs.declared.views.Stage.{Stage}
-use Rattle.native_board.specs.declared.views.Stage.TheVariants.{Idle, Asked, Numbered, Holds, Valued, Owes, Over}
+use Rattle.native_board.specs.declared.views.WorkerStage.{WorkerStage}
+use Rattle.native_board.specs.declared.views.WorkerStage.TheVariants.{Idle, Asked, Numbered, Holds, Valued, Owes, Over}
 use Rattle.native_board.specs.declared.views.WorkerView.{WorkerView}
 use Rattle.native_board.specs.declared.views.View.{View}
 use Rattle.native_board.specs.declared.views.View.TheVariants.{Hub, Worker}
@@ -21,7 +21,7 @@ use Rattle.gv_values.specs.JobParts.{kind_of, argument_of}
 use Rattle.world_rules.specs.Jobs.{eval}
 
 -- the worker is between two jobs
-abbrev pub Rests : Stage → Type 0
+abbrev pub Rests : WorkerStage → Type 0
 Rests Idle = Unit {0}
 Rests Owes = Unit {0}
 Rests _ = ⊥
@@ -35,7 +35,7 @@ abbrev pub Shows : CellWords → Job → Type 0
 Shows c j = signed_in c.value ≡ value_of (eval j)
 
 -- how far the worker may be with the job that lies in its cell
-abbrev pub Takes : CellWords → ℕ → Job → Stage → Type 0
+abbrev pub Takes : CellWords → ℕ → Job → WorkerStage → Type 0
 Takes c k j Idle = Unit {0}
 Takes c k j Owes = Unit {0}
 Takes c k j Asked = Unit {0}
@@ -45,14 +45,14 @@ Takes c k j (Valued n b) = (n ≡ k) × (b ≡ j) × Shows c j
 Takes c k j _ = ⊥
 
 -- how far the worker may be that is told to end
-abbrev pub Stops : Stage → Type 0
+abbrev pub Stops : WorkerStage → Type 0
 Stops Idle = Unit {0}
 Stops Owes = Unit {0}
 Stops Over = Unit {0}
 Stops _ = ⊥
 
 -- the table of states: of a cell's words, its state, what the hub knows of it, and how far its worker is
-abbrev pub CellRule : CellWords → CellState → HubCell → Stage → Type 0
+abbrev pub CellRule : CellWords → CellState → HubCell → WorkerStage → Type 0
 CellRule c Free Vacant w = Rests w
 CellRule c Free (Ordered k kind) w = Rests w × (number_in c.order ≡ k) × (kind_in c.order ≡ kind)
 CellRule c Free (Filled k j) w = Rests w × Carries c k j
@@ -64,19 +64,19 @@ CellRule c _ _ w = ⊥
 
 -- A result that the hub doesn't know of is behind a raised signal, or its worker will raise it, or the sweep has not
 -- reached it
-abbrev pub NoLost : Signal → ℕ → ℕ → CellState → HubCell → Stage → Type 0
+abbrev pub NoLost : Signal → ℕ → ℕ → CellState → HubCell → WorkerStage → Type 0
 NoLost signal reached i (Done e) (Sent k j) w = (signal ≡ High) ⊎ ((w ≡ Owes) ⊎ (reached ≤ i))
 NoLost signal reached i st x w = Unit {0}
 
 -- how many of the jobs posted to a cell its worker has not begun with
-abbrev pub untaken : CellState → Stage → ℕ
+abbrev pub untaken : CellState → WorkerStage → ℕ
 untaken Posted Idle = 1
 untaken Posted Owes = 1
 untaken st w = 0
 
 -- Cell i, where a sweep has seen the cells below `reached`. Its worker has begun with each job that was posted to it
 -- once, but for the one that still lies there
-abbrev pub Fits : Signal → ℕ → ℕ → CellWords → HubCell → ℕ → Stage → ℕ → Type 0
+abbrev pub Fits : Signal → ℕ → ℕ → CellWords → HubCell → ℕ → WorkerStage → ℕ → Type 0
 Fits signal reached i c x posts w takes =
     let st : CellState = state_in c.state in CellRule c st x w × NoLost signal reached i st x w × (posts ≡ takes + untaken st w)
 

@@ -3,7 +3,7 @@ ghost use Rattle.std.specs.Prelude.{◌≡◌, ℕ, ◌+◌, ◌<◌, ◌≤◌,
 ghost use Rattle.gv_values.specs.declared.job.Job.{Job};
 ghost use Rattle.world_rules.specs.Jobs.{eval};
 ghost use Rattle.native_board.specs.declared.views.HubCell.TheVariants.{Stopped};
-ghost use Rattle.native_board.specs.declared.views.Stage.TheVariants.{Idle, Holds};
+ghost use Rattle.native_board.specs.declared.views.WorkerStage.TheVariants.{Idle, Holds};
 ghost use Rattle.native_board.specs.Plays.{marked};
 ghost use Rattle.native_board.specs.Passes.{KnowsFree, Looks, SweepsNext, Sweeps, finished};
 ghost use Rattle.native_board.specs.Boards.{board_id, hub_board, worker_board, hub_view, worker_view, after_post};
@@ -119,7 +119,7 @@ impl Board {
         }
     }
 
-    // Looks into the next cell, and takes what is done there.
+    /// Looks into the next cell, and takes what is done there.
     fn sweep_next(&self, hub: &mut HubPass, at: usize) -> Option<Finished>
         requires board { hub_board hub.old ≡ board_id self.now }
         requires next { (at ≡ length (hub_view hub.old).seen) × (at < (hub_view hub.old).made) }

@@ -1,7 +1,7 @@
 //! The single steps on a cell's words.
 ghost use Rattle.std.specs.Prelude.{◌≡◌, ℕ, ◌+◌, ◌<◌, [], length};
 ghost use Rattle.native_board.specs.declared.views.HubCell.TheVariants.{Vacant, Ordered, Filled, Sent, Taking, Stopped};
-ghost use Rattle.native_board.specs.declared.views.Stage.TheVariants.{Idle, Asked, Numbered, Holds, Valued, Owes};
+ghost use Rattle.native_board.specs.declared.views.WorkerStage.TheVariants.{Idle, Asked, Numbered, Holds, Valued, Owes};
 ghost use Rattle.native_board.specs.declared.views.View.TheVariants.{Hub, Worker};
 ghost use Rattle.native_board.specs.declared.views.CellState.TheVariants.{Done};
 ghost use Rattle.native_board.specs.declared.views.Ended.{Ended};

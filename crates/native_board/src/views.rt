@@ -69,7 +69,7 @@ pub struct HubView {
 }
 
 /// How far a worker is.
-pub enum Stage {
+pub enum WorkerStage {
     /// It has no job.
     Idle,
     /// It has read that a job lies in its cell.
@@ -91,7 +91,7 @@ pub struct WorkerView {
     /// The cell.
     pub cell: u64,
     /// How far it is.
-    pub stage: Stage,
+    pub stage: WorkerStage,
     /// How often it looked into its cell.
     pub looks: u64,
     /// How often it found a job there and began with it.

@@ -1,5 +1,5 @@
 use Rattle.std.proofs.Common.{rules, ap, sym, ◌+◌, ◌∙◌, []}
-use Rattle.native_board.specs.declared.views.Stage.TheVariants.{Idle}
+use Rattle.native_board.specs.declared.views.WorkerStage.TheVariants.{Idle}
 use Rattle.native_board.specs.declared.views.View.TheVariants.{Worker}
 use Rattle.native_board.specs.Plays.{asked, begun_with}
 use Rattle.native_board.specs.Passes.{worker_of}
