@@ -43,7 +43,7 @@ impl ListWorld {
         }
     }
 
-    // The first answer of the list, where that is legal.
+    /// The first answer of the list, where that is legal.
     fn first_legal(&self, question: Question) -> Option<Answer>
         ensures { FirstLegal self.now question result }
     {
