@@ -1,7 +1,8 @@
 -- A net in memory, one line at a time.
-use Rattle.std.proofs.Common.{◌≡◌, ◌≢◌, ℕ, zero, suc, ◌+◌, ◌-◌, ◌<◌, ◌≤◌, Bool, false, List, [], ◌∷◌, ◌++◌, length, take, drop, map, get_or, set, Option, Some, refl, sym, ap, ◌∙◌, subst, arith, slice_set, append_assoc, take-add, min, length-drop, length-take-le}
+use Rattle.std.proofs.Common.{◌≡◌, ◌≢◌, ℕ, zero, suc, ◌+◌, ◌-◌, ◌<◌, ◌≤◌, Bool, false, List, [], ◌∷◌, ◌++◌, length, take, drop, map, get_or, set, Option, Some, option_map, slice_get, refl, sym, ap, ◌∙◌, subst, arith, slice_set, append_assoc, take-add, min, length-drop, length-take-le}
 use Rattle.gv_values.specs.Counts.{HasRisen}
 use Rattle.std.proofs.lemmas.List.{length-map, get_or-map, take_all, take-append-le}
+use Rattle.std.proofs.lemmas.Option.{slice_get-get_or}
 use Rattle.stream_net.specs.declared.account.Account.{Account}
 use Rattle.stream_net.specs.declared.line.Line.{Line}
 use Rattle.stream_net.specs.declared.net.ReadEnd.{ReadEnd}
@@ -10,7 +11,7 @@ use Rattle.stream_net.specs.declared.script.Piece.{Piece}
 use Rattle.stream_net.specs.Accounts.{account_meaning, read_after}
 use Rattle.stream_net.specs.Lines.{joined, bytes_at, is_failing, read_of, line_meaning, no_piece}
 use Rattle.stream_net.specs.MemoryNets.{meaning_by}
-use Rattle.stream_net.specs.Nets.{Connection, Changes, Ports, connection_at, nobody}
+use Rattle.stream_net.specs.Nets.{Connection, Changes, Ports, IsNotReady, connection_at, nobody}
 use Rattle.stream_net.specs.Reads.{Reads, after_read}
 use Rattle.stream_net.specs.Rules.{EndsRead, EndsWrite, Rewrites}
 use Rattle.stream_net.specs.Writes.{Writes, after_write}
@@ -129,6 +130,12 @@ rewritten lines k old new Becomes within is h =
 pub at_line : (P : Line → Type 0) (lines : List Line) (k : ℕ) (old : Line) → k < length (map line_meaning lines) → old ≡ get_or lines k old → P old → (d : Line) → P (get_or lines k d)
 at_line P lines k old within is h d =
     subst P (is ∙ any_item lines k old d (subst (λ (n : ℕ). k < n) (length-map lines line_meaning) within)) h
+
+-- a test that fails at a line tells that it is not ready
+pub is_not_ready : (test : Line → Bool) (lines : List Line) (k : ℕ) (l : Line) → k < length (map line_meaning lines) → l ≡ get_or lines k l → test l ≡ false → IsNotReady (option_map test (slice_get lines k))
+is_not_ready test lines k l within is fails =
+    let inside : k < length lines = subst (λ (n : ℕ). k < n) (length-map lines line_meaning) within in
+    subst (λ (o : Option Line). IsNotReady (option_map test o)) (sym (slice_get-get_or lines k l inside ∙ ap Some (sym is))) fails
 
 -- a read or a write that was counted before it was made
 pub counted_read : (end : ReadEnd) (l m : Line) (calls moment : ℕ) → m ≡ record l { calls = calls } → is_failing l ≡ false → EndsRead end false m moment → EndsRead end (is_failing l) l moment

@@ -52,7 +52,8 @@ impl Account {
         }
     }
 
-    /// Notes a read.
+    /// Notes what a read led to, at this moment: bytes make it the last one, the end is kept, a fault is counted, and
+    /// only `WouldBlock` leaves the connection quiet.
     pub fn note_read(&mut self, end: ReadEnd, moment: u64)
         ensures after { (read written : Option (List ℕ)) (bytes : List ℕ) → account_meaning self.new (read_after end bytes read) written
             ≡ after_read end bytes moment self.new.faults (account_meaning self.old read written) }
@@ -76,7 +77,8 @@ impl Account {
         }
     }
 
-    /// Notes a write.
+    /// Notes what a write led to, at this moment: bytes make it the last one, a fault is counted, and only `WouldBlock`
+    /// leaves the connection quiet.
     pub fn note_write(&mut self, end: WriteEnd, moment: u64)
         ensures after { (read written : Option (List ℕ)) (bytes : List ℕ) → account_meaning self.new read (written_after end bytes written)
             ≡ after_write end bytes moment self.new.faults (account_meaning self.old read written) }

@@ -299,7 +299,7 @@ pub fn tell_writable(line: &mut Line)
     line.account.note_named();
 }
 
-/// Closes it.
+/// Closes the connection at this moment: from then on it has nothing to tell.
 pub fn close_line(line: &mut Line, moment: u64)
     ensures closed { line_meaning line.new ≡ closed_at moment (line_meaning line.old) }
     ensures rest { line.new ≡ record line.old { account = line.new.account } }
