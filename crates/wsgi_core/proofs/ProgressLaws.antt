@@ -9,13 +9,14 @@ use Rattle.http_messages.specs.Cuts.{Cut, waits, refused, whole}
 use Rattle.http_messages.specs.Bodies.{awaited_by, body_left}
 use Rattle.http_messages.specs.Readings.{ReadsAlike}
 use Rattle.http_messages.specs.Requests.{request_at}
-use Rattle.wsgi_core.specs.declared.session.Stage.{Stage}
-use Rattle.wsgi_core.specs.declared.session.Stage.TheVariants.{AtHead, InBody, Asked}
+use Rattle.wsgi_core.specs.declared.session.SessionStage.{SessionStage}
+use Rattle.wsgi_core.specs.declared.session.SessionStage.TheVariants.{AtHead, InBody, Asked}
 use Rattle.wsgi_core.specs.declared.reply.Reply.{Reply}
 use Rattle.wsgi_core.specs.Applications.{App}
 use Rattle.wsgi_core.specs.Answers.{Sent, ◌⨾◌, nothing, refusal, if_continues, answer}
 use Rattle.wsgi_core.specs.Sessions.{sent_on, answers}
 use Rattle.wsgi_core.specs.Progress.{Progress, sent_from, to_come, GoesOn, IsSettled, IsDue, Stands}
+use Rattle.http_messages.proofs.BodySteps.{later_whole}
 use Rattle.http_messages.proofs.CutLaws.{Later, takes_at}
 use Rattle.http_messages.proofs.RequestLaws.{request_at-later, request_at-takes, body_left-later, body_left-takes, body_starts}
 use Rattle.wsgi_core.proofs.SessionLaws.{from_request, from_body, answers-step}
@@ -31,13 +32,10 @@ then_assoc a b c = pick a.bytes a.closes b.bytes b.closes c
     pick x false y true c = refl
     pick x false y false c = let e = append_assoc x y c.bytes in λ i. sent (e i) c.closes
 
-later_whole : {A : Type 0} (more : List ℕ) (c d : Cut A) (a : A) (rest : List ℕ) → Later more c d → c ≡ whole a rest → d ≡ whole a (rest ++ more)
-later_whole {A} more c d a rest h e = let P : Cut A → Type 0 = λ x. Later more x d in subst P e h
-
 later_refused : {A : Type 0} (more : List ℕ) (c d : Cut A) (reason : Refusal) → Later more c d → c ≡ refused reason → d ≡ refused reason
 later_refused {A} more c d reason h e = let P : Cut A → Type 0 = λ x. Later more x d in subst P e h
 
-abbrev pub progress_at : ℕ → Stage → List ℕ → List ℕ → Bool → Progress
+abbrev pub progress_at : ℕ → SessionStage → List ℕ → List ℕ → Bool → Progress
 progress_at port stage kept pending closing = record { port = port; stage = stage; kept = kept; pending = pending; closing = closing }
 
 -- what is to come is the same where the progress is
@@ -64,7 +62,7 @@ module _ (app : App) (port : ℕ) (kept pending : List ℕ) where
       (head_step (kept ++ []) ∙ ap (λ (c : Cut Request). sent_on c (from_request answers app port)) (ap (request_at port) (append-nil kept) ∙ e))
       ∙ (let n = append-nil pending in λ i. sent (n i) false)
 
-  pub head_refused : (reason : Refusal) (stage : Stage) (left : List ℕ) → request_at port kept ≡ refused reason
+  pub head_refused : (reason : Refusal) (stage : SessionStage) (left : List ℕ) → request_at port kept ≡ refused reason
       → GoesOn app (progress_at port AtHead kept pending false) (progress_at port stage left (pending ++ (refusal reason).bytes) true)
   head_refused reason stage left e more =
       ap (λ (s : Sent). sent pending false ⨾ s)
@@ -102,7 +100,7 @@ module _ (app : App) (port : ℕ) (kept pending : List ℕ) (request : Request) 
       ap (λ (c : Cut (List ℕ)). sent pending false ⨾ from_body answers app port request c) (ap (body_left awaited) (append-nil kept) ∙ e)
       ∙ (let n = append-nil pending in λ i. sent (n i) false)
 
-  pub body_refused : (reason : Refusal) (stage : Stage) (left : List ℕ) → body_left awaited kept ≡ refused reason
+  pub body_refused : (reason : Refusal) (stage : SessionStage) (left : List ℕ) → body_left awaited kept ≡ refused reason
       → GoesOn app (progress_at port (InBody request awaited) kept pending false) (progress_at port stage left (pending ++ (refusal reason).bytes) true)
   unfolding sent_from
   body_refused reason stage left e more =

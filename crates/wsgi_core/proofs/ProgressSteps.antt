@@ -9,8 +9,8 @@ use Rattle.http_messages.specs.Cuts.{waits, refused, whole}
 use Rattle.http_messages.specs.Bodies.{awaited_by, body_left}
 use Rattle.http_messages.specs.Readings.{ReadsAlike}
 use Rattle.http_messages.specs.Requests.{request_at}
-use Rattle.wsgi_core.specs.declared.session.Stage.{Stage}
-use Rattle.wsgi_core.specs.declared.session.Stage.TheVariants.{AtHead, InBody, Asked}
+use Rattle.wsgi_core.specs.declared.session.SessionStage.{SessionStage}
+use Rattle.wsgi_core.specs.declared.session.SessionStage.TheVariants.{AtHead, InBody, Asked}
 use Rattle.wsgi_core.specs.declared.reply.Reply.{Reply}
 use Rattle.wsgi_core.specs.Applications.{App}
 use Rattle.wsgi_core.specs.Answers.{refusal, if_continues, answer}
@@ -34,19 +34,19 @@ three_ok (Err e) A B C P a b c f = tt
 
 -- ---- the request that waits
 
-pub open_where_asked : (closing : Bool) (stage : Stage) → IsSome (asked_if_open closing stage) → closing ≡ false
+pub open_where_asked : (closing : Bool) (stage : SessionStage) → IsSome (asked_if_open closing stage) → closing ≡ false
 open_where_asked true stage h = absurd (cc)
 open_where_asked false stage h = refl
 
-pub quiet_at_head : (closing : Bool) (stage : Stage) → stage ≡ AtHead → asked_if_open closing stage ≡ None
+pub quiet_at_head : (closing : Bool) (stage : SessionStage) → stage ≡ AtHead → asked_if_open closing stage ≡ None
 quiet_at_head true stage e = refl
 quiet_at_head false stage e = ap asked_at e
 
-pub asked_there : (closing : Bool) (stage : Stage) (request : Request) (body : List ℕ) → closing ≡ false → stage ≡ Asked request body
+pub asked_there : (closing : Bool) (stage : SessionStage) (request : Request) (body : List ℕ) → closing ≡ false → stage ≡ Asked request body
     → asked_if_open closing stage ≡ Some (request.environ, body)
 asked_there closing stage request body e f = λ i. asked_if_open (e i) (f i)
 
-pub reply_there : (app : App) (closing : Bool) (stage : Stage) (request : Request) (body : List ℕ) (reply : Reply) → closing ≡ false → stage ≡ Asked request body
+pub reply_there : (app : App) (closing : Bool) (stage : SessionStage) (request : Request) (body : List ℕ) (reply : Reply) → closing ≡ false → stage ≡ Asked request body
     → IsReplyTo app (asked_if_open closing stage) reply → reply ≡ app request.environ body
 reply_there app closing stage request body reply e f h =
     let P : Option (List Pair × List ℕ) → Type 0 = λ asked. IsReplyTo app asked reply in subst P (asked_there closing stage request body e f) h
@@ -62,9 +62,6 @@ between : (app : App) (t a b new : Progress) → t ≡ a → GoesOn app a b → 
 between app t a b new e h f more = same_progress app t a e more ∙ h more ∙ sym (same_progress app new b f more)
 
 module _ (app : App) (t new : Progress) (is_open : t.closing ≡ false) where
-  closes_with : (pending : List ℕ) → new.pending ≡ pending → new.closing ≡ true → new ≡ progress_at new.port new.stage new.kept pending true
-  closes_with pending q c = λ i. progress_at new.port new.stage new.kept (q i) (c i)
-
   module _ (at_head : t.stage ≡ AtHead) where
     old_head : t ≡ progress_at t.port AtHead t.kept t.pending false
     old_head = λ i. progress_at t.port (at_head i) t.kept t.pending (is_open i)

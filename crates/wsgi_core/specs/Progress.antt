@@ -1,8 +1,8 @@
 -- A session between two pieces: what it keeps, and what it has still to say.
 use Rattle.std.specs.Prelude.{◌≡◌, ℕ, Bool, false, List, [], ◌++◌}
 use Rattle.http_messages.specs.Bodies.{body_left}
-use Rattle.wsgi_core.specs.declared.session.Stage.{Stage}
-use Rattle.wsgi_core.specs.declared.session.Stage.TheVariants.{AtHead, InBody, Asked}
+use Rattle.wsgi_core.specs.declared.session.SessionStage.{SessionStage}
+use Rattle.wsgi_core.specs.declared.session.SessionStage.TheVariants.{AtHead, InBody, Asked}
 use Rattle.wsgi_core.specs.Applications.{App}
 use Rattle.wsgi_core.specs.Answers.{Sent, ◌⨾◌, answer}
 use Rattle.wsgi_core.specs.Sessions.{sent_on, answers}
@@ -10,13 +10,13 @@ use Rattle.wsgi_core.specs.Sessions.{sent_on, answers}
 -- the bytes that were kept are those not read yet, from the stage on
 pub record Progress : Type 0 where
   pub port : ℕ
-  pub stage : Stage
+  pub stage : SessionStage
   pub kept : List ℕ
   pub pending : List ℕ
   pub closing : Bool
 
 -- what is sent for the bytes from a stage on
-unfoldable pub sent_from : App → ℕ → Stage → List ℕ → Sent
+unfoldable pub sent_from : App → ℕ → SessionStage → List ℕ → Sent
 sent_from app port AtHead bytes = answers app port bytes
 sent_from app port (InBody request awaited) bytes =
     sent_on (body_left awaited bytes) (λ body rest. answer request (app request.environ body) ⨾ answers app port rest)

@@ -4,8 +4,8 @@ use Rattle.std.proofs.Common.{Bor, ap, refl, sym, ◌∙◌, append_assoc, appen
 use Rattle.wsgi_core.specs.declared.session.Session.{Session}
 use Rattle.wsgi_core.specs.declared.session.SessionPhase.{SessionPhase}
 use Rattle.wsgi_core.specs.declared.session.SessionPhase.TheVariants.{Serving, Closing}
-use Rattle.wsgi_core.specs.declared.session.Stage.{Stage}
-use Rattle.wsgi_core.specs.declared.session.Stage.TheVariants.{AtHead, InBody, Asked}
+use Rattle.wsgi_core.specs.declared.session.SessionStage.{SessionStage}
+use Rattle.wsgi_core.specs.declared.session.SessionStage.TheVariants.{AtHead, InBody, Asked}
 use Rattle.http_messages.specs.Environs.{Pair}
 use Rattle.wsgi_core.specs.declared.reply.Reply.{Reply}
 use Rattle.wsgi_core.specs.Applications.{App}
@@ -17,13 +17,13 @@ abbrev pub progress_of : Session → Progress
 progress_of s = record { port = s.port; stage = s.stage; kept = s.kept; pending = s.pending; closing = s.closing }
 
 -- the request at this stage that waits for its reply
-abbrev pub asked_at : Stage → Option (List Pair × List ℕ)
+abbrev pub asked_at : SessionStage → Option (List Pair × List ℕ)
 asked_at AtHead = None
 asked_at (InBody request awaited) = None
 asked_at (Asked request body) = Some (request.environ, body)
 
 -- the request of the session that waits for its reply
-abbrev pub asked_if_open : Bool → Stage → Option (List Pair × List ℕ)
+abbrev pub asked_if_open : Bool → SessionStage → Option (List Pair × List ℕ)
 asked_if_open true stage = None
 asked_if_open false stage = asked_at stage
 

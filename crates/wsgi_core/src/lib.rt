@@ -16,6 +16,6 @@ pub use gateway::{
 pub use http_messages::{Bytes, Environ, Headers};
 pub use laws::sessions_never_take_back;
 pub use reply::{Application, Pieces, Reply};
-pub use session::{Session, SessionPhase, Stage};
+pub use session::{Session, SessionPhase, SessionStage};
 pub use shipped::{Route, ShippedApp};
 pub use talk::Talk;

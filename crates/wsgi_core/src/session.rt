@@ -28,7 +28,7 @@ pub enum SessionPhase {
 
 /// Where a session stands.
 #[derive(Drop)]
-pub enum Stage {
+pub enum SessionStage {
     /// Before a head.
     AtHead,
     /// Within the body of a request.
@@ -42,7 +42,7 @@ pub enum Stage {
 pub struct Session {
     alloc: Global,
     port: u16,
-    stage: Stage,
+    stage: SessionStage,
     kept: ByteQueue,
     pending: ByteQueue,
     closing: bool,
@@ -85,7 +85,7 @@ impl Session {
         Session {
             alloc,
             port,
-            stage: Stage::AtHead,
+            stage: SessionStage::AtHead,
             kept: ByteQueue::new(alloc),
             pending: ByteQueue::new(alloc),
             closing: false,
@@ -97,7 +97,7 @@ impl Session {
     /// body is to be read.
     fn read_head(&mut self) -> Result<bool, AllocError>
         requires is_open { self.old.closing ≡ false }
-        requires at_head { self.old.stage ≡ Stage.AtHead }
+        requires at_head { self.old.stage ≡ SessionStage.AtHead }
         ensures goes_on { OnOk result ((app : App) → GoesOn app (progress_of self.old) (progress_of self.new)) }
         ensures settled { IfOk result (λ more. more ≡ false → (app : App) → IsSettled app (progress_of self.new)) }
         ensures is_open_still { IfOk result (λ more. more ≡ true → self.new.closing ≡ false) }
@@ -118,7 +118,7 @@ impl Session {
             Found::Whole(request) => {
                 push_continue(&mut self.pending, &request)?;
                 let awaited = awaited_by(self.alloc, request.framing);
-                self.stage = Stage::InBody(request, awaited);
+                self.stage = SessionStage::InBody(request, awaited);
                 Ok(true)
             }
         }
@@ -136,19 +136,19 @@ impl Session {
         ensures same_end { self.new.ended ≡ self.old.ended }
         ensures err { OnErr result (self.new.pending ≡ self.old.pending) }
     {
-        match mem::replace(&mut self.stage, Stage::AtHead) {
-            Stage::AtHead => Ok(()),
-            Stage::Asked(request, body) => {
-                self.stage = Stage::Asked(request, body);
+        match mem::replace(&mut self.stage, SessionStage::AtHead) {
+            SessionStage::AtHead => Ok(()),
+            SessionStage::Asked(request, body) => {
+                self.stage = SessionStage::Asked(request, body);
                 Ok(())
             }
-            Stage::InBody(request, awaited) => match read_body(
+            SessionStage::InBody(request, awaited) => match read_body(
                 self.alloc,
                 awaited,
                 &mut self.kept,
             )? {
                 BodyFound::BodyWaits(left) => {
-                    self.stage = Stage::InBody(request, left);
+                    self.stage = SessionStage::InBody(request, left);
                     Ok(())
                 }
                 BodyFound::BodyRefused(reason) => {
@@ -157,7 +157,7 @@ impl Session {
                     Ok(())
                 }
                 BodyFound::BodyWhole(body) => {
-                    self.stage = Stage::Asked(request, body);
+                    self.stage = SessionStage::Asked(request, body);
                     Ok(())
                 }
             },
@@ -169,9 +169,9 @@ impl Session {
         ensures { result ≡ is_at_head self.now.stage }
     {
         match &self.stage {
-            Stage::AtHead => true,
-            Stage::InBody(..) => false,
-            Stage::Asked(..) => false,
+            SessionStage::AtHead => true,
+            SessionStage::InBody(..) => false,
+            SessionStage::Asked(..) => false,
         }
     }
 
@@ -240,9 +240,9 @@ impl Session {
             return None;
         }
         match &self.stage {
-            Stage::AtHead => None,
-            Stage::InBody(..) => None,
-            Stage::Asked(request, body) => Some((&request.environ, body.items())),
+            SessionStage::AtHead => None,
+            SessionStage::InBody(..) => None,
+            SessionStage::Asked(request, body) => Some((&request.environ, body.items())),
         }
     }
 
@@ -251,16 +251,16 @@ impl Session {
         requires { IsSome (asked_of self.old) }
         ensures goes_on { OnOk result ((app : App) → IsReplyTo app (asked_of self.old) reply
             → GoesOn app (progress_of self.old) (progress_of self.new)) }
-        ensures at_head { OnOk result (self.new.stage ≡ Stage.AtHead) }
+        ensures at_head { OnOk result (self.new.stage ≡ SessionStage.AtHead) }
         ensures same_kept { self.new.kept ≡ self.old.kept }
         ensures same_port { self.new.port ≡ self.old.port }
         ensures same_end { self.new.ended ≡ self.old.ended }
         ensures err { OnErr result (self.new.pending ≡ self.old.pending) }
     {
-        match mem::replace(&mut self.stage, Stage::AtHead) {
-            Stage::AtHead => unreachable!(),
-            Stage::InBody(..) => unreachable!(),
-            Stage::Asked(request, _) => {
+        match mem::replace(&mut self.stage, SessionStage::AtHead) {
+            SessionStage::AtHead => unreachable!(),
+            SessionStage::InBody(..) => unreachable!(),
+            SessionStage::Asked(request, _) => {
                 let mut bytes = Vec::new(self.alloc);
                 let closes = push_answer(self.alloc, &mut bytes, &request, &reply)?;
                 self.pending.append(&bytes)?;

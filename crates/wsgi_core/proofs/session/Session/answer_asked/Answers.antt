@@ -1,5 +1,5 @@
 use Rattle.std.proofs.Common.{◌≡◌, ◌++◌, ◌∙◌, refl, sym, ap, ℕ, List}
-use Rattle.wsgi_core.specs.declared.session.Stage.TheVariants.{Asked}
+use Rattle.wsgi_core.specs.declared.session.SessionStage.TheVariants.{Asked}
 use Rattle.wsgi_core.specs.Answers.{answer}
 use Rattle.wsgi_core.specs.Steps.{progress_of}
 use Rattle.wsgi_core.proofs.ProgressLaws.{progress_at}

@@ -1,5 +1,5 @@
 use Rattle.std.proofs.Common.{true, refl, sym, ap, ◌∙◌, ◌++◌, ℕ, List}
-use Rattle.wsgi_core.specs.declared.session.Stage.TheVariants.{AtHead, InBody, Asked}
+use Rattle.wsgi_core.specs.declared.session.SessionStage.TheVariants.{AtHead, InBody, Asked}
 use Rattle.wsgi_core.specs.Steps.{progress_of}
 use Rattle.wsgi_core.proofs.ProgressLaws.{progress_at, body_shorter}
 use Rattle.wsgi_core.proofs.ProgressSteps.{at_body-waits, at_body-refused, at_body-whole, settled_body}

@@ -1,6 +1,6 @@
 use Rattle.std.proofs.Common.{true, refl, ap, ◌∙◌, ◌++◌, ℕ, List}
 use Rattle.http_messages.specs.declared.request.Awaited.{Awaited}
-use Rattle.wsgi_core.specs.declared.session.Stage.TheVariants.{InBody}
+use Rattle.wsgi_core.specs.declared.session.SessionStage.TheVariants.{InBody}
 use Rattle.wsgi_core.specs.Steps.{progress_of}
 use Rattle.wsgi_core.proofs.ProgressLaws.{progress_at, closed_settled, head_shorter}
 use Rattle.wsgi_core.proofs.ProgressSteps.{at_head-waits, at_head-refused, at_head-whole, settled_head, quiet_at_head}
