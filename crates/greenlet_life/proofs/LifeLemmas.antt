@@ -17,7 +17,7 @@ use Rattle.std.proofs.lemmas.Option.{slice_get_within, get_or_from_slice_get}
 use Rattle.greenlet_life.specs.declared.records.Greenlet.{Greenlet}
 use Rattle.greenlet_life.specs.declared.records.Progress.{Progress}
 use Rattle.greenlet_life.specs.declared.records.Phase.TheVariants.{Done}
-use Rattle.greenlet_life.specs.Lives.{SeenLife, greenlet_at, outcome_of, phase_of, phase_with, link_at, handed_out, made, stated, in_state, is_due, is_waiting}
+use Rattle.greenlet_life.specs.Lives.{SeenLife, greenlet_at, outcome_of, phase_of, phase_with, link_at, made, stated, in_state, is_due, is_waiting}
 use Rattle.greenlet_life.specs.Pending.{pending_of, link_or, outcome_or, is_open, IsRising, ArePending, IsLife}
 use Rattle.greenlet_life.proofs.PendingLemmas.{rising_without, rising_last, contains_of_without, pending_kept}
 
@@ -283,8 +283,3 @@ and_false false = refl
 
 pub never_due : (g : ℕ) (l : Link) → is_due None g l ≡ false
 never_due g l = ap (λ x. (l.greenlet == g) && x) (and_false (is_waiting l.state)) ∙ and_false (l.greenlet == g)
-
--- handing out changes links alone
-pub handed_greenlets : (s : SeenLife) (o : Option ℕ) → (handed_out s o).greenlets ≡ s.greenlets
-handed_greenlets s None = refl
-handed_greenlets s (Some k) = refl

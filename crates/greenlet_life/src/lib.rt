@@ -5,8 +5,6 @@
 mod life;
 mod pending;
 mod records;
-#[cfg(test)]
-mod tests;
 
 pub use gv_values::LinkKind;
 pub use life::{Life, LifeRefusal};

@@ -1,5 +1,6 @@
 -- Who waits at an object, where few do.
-use Rattle.std.proofs.Common.{◌≡◌, ℕ, ℤ, Bool, true, false, if◌then◌else◌, Option, List, [], ◌∷◌, refl, ap, subst, arith, Contains}
+use Rattle.std.proofs.Common.{◌≡◌, ℕ, ℤ, Bool, true, false, if◌then◌else◌, Option, Result, Ok, Err, IfOk, OnOk, List, [], ◌∷◌, refl, sym, ap, subst, arith, Contains}
+use Rattle.std.specs.Result.{is_ok}
 use Rattle.gv_values.specs.declared.value.Value.{Value}
 use Rattle.scenario_tree.specs.declared.tree.QueueKind.{QueueKind}
 use Rattle.linked_items.proofs.ItemLemmas.{absent_of_lacks}
@@ -71,3 +72,13 @@ empty_crew size c is Put = refl
 empty_crew size c is Get = refl
 empty_crew size c is Peek = refl
 empty_crew size c is Join = ap (λ (v : SeenCrew). v.joins) is
+
+-- what holds after a call that was found to have succeeded
+pub where_ok : {T E P : Type 0} (r : Result T E) → is_ok r ≡ true → OnOk r P → P
+where_ok (Ok x) ok p = p
+where_ok (Err e) ok p = absurd (cc ok)
+
+-- what holds of an object as it is made
+pub if_made : {X E : Type 0} (r : Result X E) (x : X) (P : X → Type 0) → P x → IfOk r (λ y. y ≡ x) → IfOk r P
+if_made (Ok y) x P p is = subst P (sym is) p
+if_made (Err e) x P p is = tt

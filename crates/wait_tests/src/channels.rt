@@ -40,25 +40,27 @@ fn next_gets(channel: &mut Channel) -> Option<(u32, Option<i64>)> {
 #[test]
 fn an_offer_waits_until_it_is_taken(rt: HostRuntime) -> Result<(), Fail> {
     let mut channel = Channel::new(rt.alloc())?;
-    channel.make_room(1)?;
+    assert!(rt; channel.make_room(1).is_ok());
     assert!(rt; offer(&mut channel, 1, 5));
-    assert_eq!(rt; channel.tell_taken(), None);
-    assert_eq!(rt; take(&mut channel), Some(5));
-    assert_eq!(rt; channel.tell_taken(), Some(1));
-    assert_eq!(rt; take(&mut channel), None);
+    assert!(rt; channel.tell_taken() == None);
+    assert!(rt; take(&mut channel) == Some(5));
+    assert!(rt; channel.tell_taken() == Some(1));
+    assert!(rt; take(&mut channel) == None);
+    drop(channel);
     Ok(())
 }
 
 #[test]
 fn an_offer_is_for_the_getter_that_waits(rt: HostRuntime) -> Result<(), Fail> {
     let mut channel = Channel::new(rt.alloc())?;
-    channel.make_room(2)?;
+    assert!(rt; channel.make_room(2).is_ok());
     channel.park_getter(2);
     assert!(rt; offer(&mut channel, 1, 5));
-    assert_eq!(rt; take(&mut channel), None);
-    assert_eq!(rt; channel.tell_taken(), None);
-    assert_eq!(rt; next_gets(&mut channel), Some((2, Some(5))));
-    assert_eq!(rt; channel.tell_taken(), Some(1));
-    assert_eq!(rt; next_gets(&mut channel), None);
+    assert!(rt; take(&mut channel) == None);
+    assert!(rt; channel.tell_taken() == None);
+    assert!(rt; next_gets(&mut channel) == Some((2, Some(5))));
+    assert!(rt; channel.tell_taken() == Some(1));
+    assert!(rt; next_gets(&mut channel) == None);
+    drop(channel);
     Ok(())
 }

@@ -6,42 +6,45 @@ use waiters::{Parking, Side};
 #[test]
 fn a_clear_keeps_those_of_the_set(rt: HostRuntime) -> Result<(), Fail> {
     let mut event = Event::new(rt.alloc())?;
-    event.reserve(3)?;
+    assert!(rt; event.reserve(3).is_ok());
     event.begin(1);
     event.begin(2);
     event.set();
     event.clear();
     event.begin(3);
-    assert_eq!(rt; event.next_ready(), Some(1));
-    assert_eq!(rt; event.next_ready(), Some(2));
-    assert_eq!(rt; (event.next_ready(), event.is_set()), (None, false));
+    assert!(rt; event.next_ready() == Some(1));
+    assert!(rt; event.next_ready() == Some(2));
+    assert!(rt; (event.next_ready(), event.is_set()) == (None, false));
+    drop(event);
     Ok(())
 }
 
 #[test]
 fn a_unit_stays_when_its_waiter_leaves(rt: HostRuntime) -> Result<(), Fail> {
     let mut units = Semaphore::new(rt.alloc(), 1, false)?;
-    units.reserve(2)?;
+    assert!(rt; units.reserve(2).is_ok());
     units.park(Side::Only, 1);
     units.park(Side::Only, 2);
-    assert_eq!(rt; units.next_ready(), Some(1));
-    assert_eq!(rt; units.next_ready(), None);
+    assert!(rt; units.next_ready() == Some(1));
+    assert!(rt; units.next_ready() == None);
     units.cancel(Side::Only, 1);
     assert!(rt; !units.try_now());
-    assert_eq!(rt; units.next_ready(), Some(2));
-    assert_eq!(rt; units.counter(), 1);
+    assert!(rt; units.next_ready() == Some(2));
+    assert!(rt; units.counter() == 1);
+    drop(units);
     Ok(())
 }
 
 #[test]
 fn no_unit_above_the_bound(rt: HostRuntime) -> Result<(), Fail> {
     let mut units = Semaphore::new(rt.alloc(), 1, true)?;
-    assert_eq!(rt; units.release(), Err(AboveBound));
-    assert_eq!(rt; units.counter(), 1);
+    assert!(rt; units.release() == Err(AboveBound));
+    assert!(rt; units.counter() == 1);
     assert!(rt; units.try_now());
     assert!(rt; !units.try_now());
-    assert_eq!(rt; units.counter(), 0);
-    assert_eq!(rt; units.release(), Ok(()));
+    assert!(rt; units.counter() == 0);
+    assert!(rt; units.release() == Ok(()));
+    drop(units);
     Ok(())
 }
 
@@ -49,33 +52,35 @@ fn no_unit_above_the_bound(rt: HostRuntime) -> Result<(), Fail> {
 fn a_lock_waits_for_its_owner(rt: HostRuntime) -> Result<(), Fail> {
     let mut lock = RLock::new(rt.alloc())?;
     assert!(rt; lock.try_now(1));
-    lock.reserve(1)?;
+    assert!(rt; lock.reserve(1).is_ok());
     lock.park(Side::Only, 5);
-    assert_eq!(rt; lock.next_ready(), None);
-    assert_eq!(rt; lock.release(2), Err(NotOwner));
-    assert_eq!(rt; lock.next_ready(), None);
-    assert_eq!(rt; lock.release(1), Ok(()));
-    assert_eq!(rt; lock.next_ready(), Some(5));
+    assert!(rt; lock.next_ready() == None);
+    assert!(rt; lock.release(2) == Err(NotOwner));
+    assert!(rt; lock.next_ready() == None);
+    assert!(rt; lock.release(1) == Ok(()));
+    assert!(rt; lock.next_ready() == Some(5));
+    drop(lock);
     Ok(())
 }
 
 #[test]
 fn the_later_result_is_read(rt: HostRuntime) -> Result<(), Fail> {
     let mut result = AsyncResult::new(rt.alloc())?;
-    result.reserve(1)?;
+    assert!(rt; result.reserve(1).is_ok());
     result.park(Side::Only, 1);
-    assert_eq!(rt; result.next_ready(), None);
+    assert!(rt; result.next_ready() == None);
     result.put(Outcome::Value(Value::Int(1)));
     result.put(Outcome::Value(Value::Int(2)));
-    assert_eq!(rt; result.next_ready(), Some(1));
+    assert!(rt; result.next_ready() == Some(1));
     assert!(rt; matches!(result.read(), Some(Outcome::Value(Value::Int(2)))));
+    drop(result);
     Ok(())
 }
 
 #[test]
 fn each_waiter_is_told_of_three_million_releases_once(rt: HostRuntime) -> Result<(), Fail> {
     let mut units = Semaphore::new(rt.alloc(), 0, false)?;
-    units.reserve(18_000)?;
+    assert!(rt; units.reserve(18_000).is_ok());
     for item in 0..18_000u32 {
         units.park(Side::Only, item);
     }
@@ -83,9 +88,10 @@ fn each_waiter_is_told_of_three_million_releases_once(rt: HostRuntime) -> Result
     for released in 0..3_000_000u64 {
         assert!(rt; units.counter() == released);
         assert!(rt; units.release().is_ok());
-        assert_eq!(rt; units.next_unready(), None);
+        assert!(rt; units.next_unready() == None);
         told = told.saturating_add(u64::from(units.next_ready().is_some()));
     }
-    assert_eq!(rt; (told, units.counter()), (18_000, 3_000_000));
+    assert!(rt; (told, units.counter()) == (18_000, 3_000_000));
+    drop(units);
     Ok(())
 }

@@ -1,4 +1,4 @@
-ghost use Rattle.std.specs.Prelude.{◌≡◌, [], OnOk};
+ghost use Rattle.std.specs.Prelude.{◌≡◌, [], IfOk, OnOk};
 ghost use Rattle.waiters.specs.declared.parking.Side.{Side as Way};
 
 use events_locks::{AsyncResult, Event, RLock, Semaphore};
@@ -23,22 +23,28 @@ fn parks_and_leaves<P: Parking>(object: &mut P, side: Side) -> Result<bool, Allo
     Ok(told == Some(7))
 }
 
+// The same of an object in which nobody waits, if it was made; it is given up.
+fn lets_one_wait<P: Parking + Drop>(
+    made: Result<P, AllocError>,
+    side: Side,
+) -> Result<bool, AllocError>
+    requires has { P.has_side side }
+    requires parks { P.parks_on side }
+    requires empty { IfOk made (λ object. (other : Way) → P.waiting object other ≡ []) }
+{
+    let mut object = made?;
+    parks_and_leaves(&mut object, side)
+}
+
 #[test]
 fn each_object_through_its_trait(rt: HostRuntime) -> Result<(), Fail> {
     let alloc = rt.alloc();
-    let mut event = Event::new(alloc)?;
-    assert!(rt; !parks_and_leaves(&mut event, Side::Only)?);
-    let mut result = AsyncResult::new(alloc)?;
-    assert!(rt; !parks_and_leaves(&mut result, Side::Only)?);
-    let mut units = Semaphore::new(alloc, 1, false)?;
-    assert!(rt; parks_and_leaves(&mut units, Side::Only)?);
-    let mut lock = RLock::new(alloc)?;
-    assert!(rt; parks_and_leaves(&mut lock, Side::Only)?);
-    let mut queue = GQueue::new(alloc, QueueKind::Join, None)?;
-    assert!(rt; parks_and_leaves(&mut queue, Side::Join)?);
-    let mut channel = Channel::new(alloc)?;
-    assert!(rt; !parks_and_leaves(&mut channel, Side::Get)?);
-    let mut pool = Crew::new(alloc, Some(1))?;
-    assert!(rt; parks_and_leaves(&mut pool, Side::Only)?);
+    assert!(rt; !lets_one_wait(Event::new(alloc), Side::Only)?);
+    assert!(rt; !lets_one_wait(AsyncResult::new(alloc), Side::Only)?);
+    assert!(rt; lets_one_wait(Semaphore::new(alloc, 1, false), Side::Only)?);
+    assert!(rt; lets_one_wait(RLock::new(alloc), Side::Only)?);
+    assert!(rt; lets_one_wait(GQueue::new(alloc, QueueKind::Join, None), Side::Join)?);
+    assert!(rt; !lets_one_wait(Channel::new(alloc), Side::Get)?);
+    assert!(rt; lets_one_wait(Crew::new(alloc, Some(1)), Side::Only)?);
     Ok(())
 }

@@ -85,12 +85,13 @@ fn a_putter_waits_for_a_place(rt: HostRuntime) -> Result<(), Fail> {
     let mut queue = GQueue::new(rt.alloc(), QueueKind::Fifo, Some(1))?;
     assert!(rt; put(&mut queue, 5));
     assert!(rt; !put(&mut queue, 6));
-    queue.make_room(1)?;
+    assert!(rt; queue.make_room(1).is_ok());
     assert!(rt; put_later(&mut queue, 3, 6));
-    assert_eq!(rt; next_puts(&mut queue), None);
-    assert_eq!(rt; take(&mut queue), Some(5));
-    assert_eq!(rt; next_puts(&mut queue), Some((3, true)));
-    assert_eq!(rt; take(&mut queue), Some(6));
+    assert!(rt; next_puts(&mut queue) == None);
+    assert!(rt; take(&mut queue) == Some(5));
+    assert!(rt; next_puts(&mut queue) == Some((3, true)));
+    assert!(rt; take(&mut queue) == Some(6));
+    drop(queue);
     Ok(())
 }
 
@@ -98,11 +99,12 @@ fn a_putter_waits_for_a_place(rt: HostRuntime) -> Result<(), Fail> {
 fn a_peeker_waits_for_an_item(rt: HostRuntime) -> Result<(), Fail> {
     let alloc = rt.alloc();
     let mut queue = GQueue::new(alloc, QueueKind::Fifo, None)?;
-    queue.make_room(1)?;
+    assert!(rt; queue.make_room(1).is_ok());
     queue.park_peeker(3);
     assert!(rt; put(&mut queue, 5));
-    assert_eq!(rt; peeker_looks(&mut queue, alloc, 3), Some((3, Some(5))));
-    assert_eq!(rt; take(&mut queue), Some(5));
+    assert!(rt; peeker_looks(&mut queue, alloc, 3) == Some((3, Some(5))));
+    assert!(rt; take(&mut queue) == Some(5));
+    drop(queue);
     Ok(())
 }
 
@@ -112,11 +114,12 @@ fn a_peek_leaves_the_item(rt: HostRuntime) -> Result<(), Fail> {
     let mut queue = GQueue::new(alloc, QueueKind::Fifo, None)?;
     assert!(rt; put(&mut queue, 5));
     assert!(rt; put(&mut queue, 6));
-    assert_eq!(rt; look(&queue, alloc), Some(5));
-    assert_eq!(rt; look(&queue, alloc), Some(5));
-    assert_eq!(rt; queue.size(), 2);
-    assert_eq!(rt; take(&mut queue), Some(5));
-    assert_eq!(rt; look(&queue, alloc), Some(6));
+    assert!(rt; look(&queue, alloc) == Some(5));
+    assert!(rt; look(&queue, alloc) == Some(5));
+    assert!(rt; queue.size() == 2);
+    assert!(rt; take(&mut queue) == Some(5));
+    assert!(rt; look(&queue, alloc) == Some(6));
+    drop(queue);
     Ok(())
 }
 
@@ -131,6 +134,7 @@ fn a_hundred_thousand_urgent_items(rt: HostRuntime) -> Result<(), Fail> {
         assert!(rt; take(&mut queue) == Some(i));
     }
     assert!(rt; take(&mut queue).is_none());
+    drop(queue);
     Ok(())
 }
 
@@ -167,12 +171,12 @@ fn pair_leaves(queue: &mut GQueue, pair: u32, n: i64, last: u32) -> bool
 #[test]
 fn a_hundred_thousand_getters_and_peekers_by_turns(rt: HostRuntime) -> Result<(), Fail> {
     let mut queue = GQueue::new(rt.alloc(), QueueKind::Fifo, None)?;
-    queue.reserve(200_000)?;
+    assert!(rt; queue.reserve(200_000).is_ok());
     for pair in 0..100_000u32 {
         queue.park(Side::Get, 2 * pair);
         queue.park(Side::Peek, 2 * pair + 1);
     }
-    assert_eq!(rt; put_and_tell(&mut queue, 0), (true, Some(0), None, None));
+    assert!(rt; put_and_tell(&mut queue, 0) == (true, Some(0), None, None));
     for n in 1..100_000u32 {
         let told = put_and_tell(&mut queue, i64::from(n));
         assert!(rt; told == (true, Some(2 * n - 1), Some(2 * n), None));
@@ -181,6 +185,7 @@ fn a_hundred_thousand_getters_and_peekers_by_turns(rt: HostRuntime) -> Result<()
         let pair = (i * 7919 % 99_999) as u32;
         assert!(rt; pair_leaves(&mut queue, pair, i as i64, 199_999));
     }
-    assert_eq!(rt; queue.size(), 1);
+    assert!(rt; queue.size() == 1);
+    drop(queue);
     Ok(())
 }

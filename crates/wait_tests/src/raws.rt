@@ -12,40 +12,52 @@ fn word(hop: &Hop) -> (u8, u32) {
     }
 }
 
-#[test]
-fn an_input_goes_up_to_the_host(rt: HostRuntime) -> Result<(), Fail> {
-    let mut raws = Raws::new(rt.alloc());
-    raws.create(1, 0)?;
-    let fault = Outcome::Fault(FaultKind::GreenletExit);
-    let died = raws.hop(1, fault);
-    assert_eq!(rt; word(&died), (b'd', 0));
-    match died {
+/// The fault that goes to the parent as a value.
+fn fault_of(hop: &Hop) -> Option<FaultKind> {
+    match hop {
         Hop::Died {
             input: Outcome::Value(Value::Fault(kind)),
             ..
-        } => {
-            assert_eq!(rt; kind, FaultKind::GreenletExit);
-        }
-        _ => assert!(rt; false, "the fault arrives as a value"),
+        } => Some(*kind),
+        _ => None,
     }
+}
+
+#[test]
+fn an_input_goes_up_to_the_host(rt: HostRuntime) -> Result<(), Fail> {
+    let mut raws = Raws::new(rt.alloc());
+    assert!(rt; raws.create(1, 0).is_ok());
+    let died = raws.hop(1, Outcome::Fault(FaultKind::GreenletExit));
+    assert!(rt; word(&died) == (b'd', 0));
+    assert!(rt;
+        fault_of(&died) == Some(FaultKind::GreenletExit),
+        "the fault arrives as a value"
+    );
+    drop(died);
     let past = raws.hop(1, Outcome::Value(Value::Int(3)));
-    assert_eq!(rt; word(&past), (b'p', 0));
+    assert!(rt; word(&past) == (b'p', 0));
+    drop(past);
     let resumed = raws.hop(0, Outcome::Value(Value::Int(3)));
-    assert_eq!(rt; word(&resumed), (b'r', 0));
+    assert!(rt; word(&resumed) == (b'r', 0));
+    drop(resumed);
+    drop(raws);
     Ok(())
 }
 
 #[test]
 fn a_chain_stays_open(rt: HostRuntime) -> Result<(), Fail> {
     let mut raws = Raws::new(rt.alloc());
-    raws.create(4, 0)?;
+    assert!(rt; raws.create(4, 0).is_ok());
     assert!(rt; raws.may_switch(0, 4) && !raws.may_switch(2, 4));
-    assert_eq!(rt; raws.set_parent(0, 4, 4), Err(ParentRefusal::Cyclic));
-    assert_eq!(rt; raws.set_parent(0, 4, 2), Err(ParentRefusal::InvalidSwitch));
-    assert_eq!(rt; raws.set_parent(0, 4, 0), Ok(()));
+    assert!(rt; raws.set_parent(0, 4, 4) == Err(ParentRefusal::Cyclic));
+    assert!(rt; raws.set_parent(0, 4, 2) == Err(ParentRefusal::InvalidSwitch));
+    assert!(rt; raws.set_parent(0, 4, 0) == Ok(()));
     let started = raws.hop(4, Outcome::Value(Value::Nothing));
-    assert_eq!(rt; word(&started), (b's', 0));
-    let (parent, _outcome) = raws.end(4, Outcome::Value(Value::Nothing));
-    assert_eq!(rt; parent, 0);
+    assert!(rt; word(&started) == (b's', 0));
+    drop(started);
+    let (parent, outcome) = raws.end(4, Outcome::Value(Value::Nothing));
+    assert!(rt; parent == 0);
+    drop(outcome);
+    drop(raws);
     Ok(())
 }

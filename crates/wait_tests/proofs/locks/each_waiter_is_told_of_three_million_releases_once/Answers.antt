@@ -2,13 +2,13 @@ use Rattle.std.proofs.Common.{◌≡◌, ◌+◌, [], sym, ap, ◌∙◌, subst,
 use Rattle.linked_items.proofs.StrideLemmas.{IsFilled, filled_absent, filled_more, filled_none}
 use Rattle.waiters.specs.declared.parking.Side.TheVariants.{Only}
 use Rattle.events_locks.specs.Seen.{SeenSemaphore}
-use Rattle.wait_tests.proofs.Waiting.{absent_at}
+use Rattle.wait_tests.proofs.Waiting.{absent_at, where_ok}
 use Rattle.wait_tests.proofs.locks.each_waiter_is_told_of_three_million_releases_once.Goals as goal
 
 pub loop-item-init : goal.loop-item-init
 loop-item-init g c =
-    let none : c.reserve.new.self.waits.items ≡ [] = c.in_ok-reserve.ensures.waiting Only ∙ ap (λ (s : SeenSemaphore). s.waits.items) c.in_ok-units.ensures in
-    let room = c.in_ok-reserve.ensures.room in
+    let none : c.reserve.new.self.waits.items ≡ [] = c.reserve.ensures.waiting Only ∙ ap (λ (s : SeenSemaphore). s.waits.items) c.in_ok-units.ensures in
+    let room = where_ok c.reserve.result (cc) c.reserve.ensures.room in
     (omega arith, subst (λ l. IsFilled l 0) (sym none) filled_none)
 
 pub park-requires-clause-absent : goal.park-requires-clause-absent

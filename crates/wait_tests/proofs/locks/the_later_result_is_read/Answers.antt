@@ -6,5 +6,5 @@ use Rattle.wait_tests.proofs.locks.the_later_result_is_read.Goals as goal
 
 pub park-requires-clause-absent : goal.park-requires-clause-absent
 park-requires-clause-absent g c =
-    let none : c.reserve.new.self.waits.items ≡ [] = c.in_ok-reserve.ensures.waiting Only ∙ ap (λ (r : SeenResult). r.waits.items) c.in_ok-result.ensures in
+    let none : c.reserve.new.self.waits.items ≡ [] = c.reserve.ensures.waiting Only ∙ ap (λ (r : SeenResult). r.waits.items) c.in_ok-result.ensures in
     absent_at c.reserve.new.self.waits.items 1 (subst (λ l. Contains l 1 → ⊥) (sym none) (none_there 1))

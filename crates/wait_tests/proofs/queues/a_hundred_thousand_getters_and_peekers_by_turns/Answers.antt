@@ -1,11 +1,12 @@
 use Rattle.std.proofs.Common.{◌∙◌, arith}
 use Rattle.wait_tests.proofs.Pairs.{none_waits, pairs_none, getter_absent, peeker_absent, pairs_more, leaving_begins, leaving_same, leaving_next}
+use Rattle.wait_tests.proofs.Waiting.{where_ok}
 use Rattle.wait_tests.proofs.queues.a_hundred_thousand_getters_and_peekers_by_turns.Goals as goal
 
 pub loop-pair-init : goal.loop-pair-init
 loop-pair-init g c =
-    let room = c.in_ok-reserve.ensures.room in
-    (omega arith, pairs_none c.reserve.new.self (λ side. c.in_ok-reserve.ensures.waiting side ∙ none_waits _ _ _ c.in_ok-queue.ensures side))
+    let room = where_ok c.reserve.result (cc) c.reserve.ensures.room in
+    (omega arith, pairs_none c.reserve.new.self (λ side. c.reserve.ensures.waiting side ∙ none_waits _ _ _ c.in_ok-queue.ensures side))
 
 pub park-requires-clause-absent : goal.park-requires-clause-absent
 park-requires-clause-absent g c = getter_absent c.loop-pair.queue c.loop-pair.pair c.loop-pair.invariant.1
