@@ -1,7 +1,7 @@
 -- Parts that were read before, put in front of those that are still to be read.
-use Rattle.std.proofs.Common.{◌≡◌, ℕ, zero, suc, ◌+◌, ◌-◌, ◌<◌, List, [], ◌∷◌, ◌++◌, Result, Ok, Err, refl, arith, ap, sym, ◌∙◌, append_assoc}
+use Rattle.std.proofs.Common.{◌≡◌, ℕ, zero, suc, ◌+◌, ◌-◌, ◌<◌, List, [], ◌∷◌, ◌++◌, Ok, Err, refl, arith, ap, sym, ◌∙◌, append_assoc}
 use Rattle.scenario_grammar.specs.declared.token.Token.{Token}
-use Rattle.scenario_grammar.specs.Reading.{Reader, Reading, ◌>>=◌, ◌<$>◌, ◌<*>◌, count_at, to_the_end, nested_at, term_at}
+use Rattle.scenario_grammar.specs.Reading.{Reader, Reading, ◌>>=◌, count_at, to_the_end, nested_at, term_at}
 use Rattle.scenario_lines.specs.declared.refusal.LineRefusal.{LineRefusal}
 use Rattle.scenario_lines.specs.declared.refusal.LineRefusal.TheVariants as refusal
 use Rattle.scenario_lines.specs.Reads.{Reads}

@@ -2,4 +2,4 @@ mod Counted
 mod Numbers
 mod Spaced
 mod Whole
-pub mod Unless
+pub mod Unsaid

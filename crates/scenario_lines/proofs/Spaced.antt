@@ -1,5 +1,5 @@
 -- The words of a line, taken off one by one.
-use Rattle.std.proofs.Common.{◌≡◌, ℕ, zero, suc, ◌+◌, ◌<◌, ◌≤◌, Bool, true, false, cond, if◌then◌else◌, not, ◌==◌, map, inl, inr, ◌⊎◌, List, [], ◌∷◌, ◌++◌, Option, Some, None, position, length, take, drop, refl, ap, sym, ◌∙◌, arith, append_assoc}
+use Rattle.std.proofs.Common.{◌≡◌, ℕ, zero, suc, ◌+◌, ◌<◌, ◌≤◌, Bool, true, false, cond, if◌then◌else◌, not, ◌==◌, map, inl, inr, List, [], ◌∷◌, ◌++◌, Option, Some, None, position, length, take, drop, refl, ap, sym, arith, append_assoc}
 use Rattle.std.specs.List.{slice_split, position_or_len, list_all}
 use Rattle.std.proofs.lemmas.List.Splits.{slice_split_first, slice_split-cons_no}
 use Rattle.std.proofs.lemmas.Bool.{cases_Bool, eqb-true, ltb-true, ltb-false}

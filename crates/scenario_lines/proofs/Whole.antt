@@ -3,7 +3,6 @@ use Rattle.std.proofs.Common.{◌≡◌, Bool, if◌then◌else◌, Result, Ok, 
 use Rattle.scenario_grammar.specs.declared.phrase.Phrase.{Phrase}
 use Rattle.scenario_grammar.specs.declared.token.Token.{Token}
 use Rattle.scenario_grammar.specs.Reading.{Reading, given_at, is_given, phrase_of, unmarked_at, whole}
-use Rattle.scenario_grammar.specs.declared.reason.TextReason.{TextReason}
 use Rattle.scenario_grammar.specs.declared.reason.TextReason.TheVariants as reason
 use Rattle.scenario_lines.specs.declared.refusal.LineRefusal.{LineRefusal}
 use Rattle.scenario_lines.specs.declared.refusal.LineRefusal.TheVariants as refusal

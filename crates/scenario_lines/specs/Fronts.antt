@@ -1,5 +1,5 @@
 -- The front of a text, and the tokens of a line's words.
-use Rattle.std.specs.Prelude.{ℕ, Bool, ◌&&◌, not, nat_le, ◌==◌, if◌then◌else◌, List, map, Option, Some, None, position, slice_index}
+use Rattle.std.specs.Prelude.{ℕ, Bool, ◌&&◌, not, nat_le, if◌then◌else◌, List, map, Option, Some, None, position, slice_index}
 use Rattle.std.specs.List.{list_all, slice_split}
 use Rattle.scenario_grammar.specs.declared.token.Token.{Token}
 use Rattle.scenario_grammar.specs.Layout.{Word, is_blank, is_empty, is_end}

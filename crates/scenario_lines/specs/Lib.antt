@@ -2,5 +2,6 @@ pub mod Reads
 pub mod Kinds
 pub mod Fronts
 pub mod Numbers
-pub mod Nothing
+pub mod Taken
 pub mod Givings
+pub mod Joints

@@ -28,3 +28,8 @@ abbrev pub IsBoxed : {A : Type 0} → Result A LineRefusal → Result A LineRefu
 IsBoxed read (Ok x) = read ≡ Ok x
 IsBoxed read (Err refusal.Memory) = Unit {0}
 IsBoxed read (Err (refusal.Reason r)) = read ≡ Err (refusal.Reason r)
+
+-- both parts were read, or the second is refused
+abbrev pub IsBoth : {A B : Type 0} → A → Result B LineRefusal → Result (A × B) LineRefusal → Type 0
+IsBoth first second (Ok parts) = (first ≡ parts.0) × (second ≡ Ok parts.1)
+IsBoth first second (Err refusal) = second ≡ Err refusal

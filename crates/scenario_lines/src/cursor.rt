@@ -2,6 +2,7 @@ ghost use Rattle.std.specs.Prelude.{◌≡◌, ◌≤◌, [], IfOk, IsTrue, ◌�
 ghost use Rattle.std.specs.Option.{option_copied};
 ghost use Rattle.scenario_grammar.specs.Reading.{name_at, number_at, integer_at, in_range_of, timed_at, wait_at};
 ghost use Rattle.scenario_lines.specs.Reads.{Reads, NextToken};
+ghost use Rattle.scenario_lines.specs.Taken.{Takes};
 
 use crate::refusal::LineRefusal;
 use gv_values::Name;
@@ -67,33 +68,43 @@ impl<'a> Cursor<'a> {
         }
     }
 
+    /// Whether this fixed word stands next; where it does, it is taken.
+    pub fn takes(&mut self, word: Keyword) -> bool
+        ensures { Takes word self.old result self.new }
+    {
+        let mut ahead = Cursor::new(self.rest);
+        match ahead.next() {
+            Some(Token::Fixed(first)) if *first == word => {
+                *self = ahead;
+                true
+            }
+            _ => false,
+        }
+    }
+
     /// Takes `within` and its time in milliseconds, where that stands there.
+    #[tactic(auto, using(crate::proofs::Unsaid::no_time))]
     pub fn timed(&mut self) -> Result<Option<u64>, LineRefusal>
         ensures { Reads (timed_at self.old) result self.new }
     {
-        match self.rest {
-            [Token::Fixed(Keyword::Within), rest @ ..] => {
-                self.rest = rest;
-                Ok(Some(self.number(0, MOST_MS)?))
-            }
-            _ => Ok(None),
+        if self.takes(Keyword::Within) {
+            Ok(Some(self.number(0, MOST_MS)?))
+        } else {
+            Ok(None)
         }
     }
 
     /// Takes `within` and its time in milliseconds, or `now`, where one of them stands there.
+    #[tactic(auto, using(crate::proofs::Unsaid::no_wait))]
     pub fn wait(&mut self) -> Result<Wait, LineRefusal>
         ensures { Reads (wait_at self.old) result self.new }
     {
-        match self.rest {
-            [Token::Fixed(Keyword::Within), rest @ ..] => {
-                self.rest = rest;
-                Ok(Wait::Within(self.number(0, MOST_MS)?))
-            }
-            [Token::Fixed(Keyword::Now), rest @ ..] => {
-                self.rest = rest;
-                Ok(Wait::Now)
-            }
-            _ => Ok(Wait::Block),
+        if self.takes(Keyword::Within) {
+            Ok(Wait::Within(self.number(0, MOST_MS)?))
+        } else if self.takes(Keyword::Now) {
+            Ok(Wait::Now)
+        } else {
+            Ok(Wait::Block)
         }
     }
 

@@ -2,9 +2,11 @@
 ghost use Rattle.std.specs.Prelude.{◌≡◌, IfOk, length, ◌++◌, ◌<◌, ◌^◌};
 ghost use Rattle.scenario_grammar.specs.Reading.{nested_at, headed_at, list_at, count_at, expression_at};
 ghost use Rattle.scenario_lines.specs.Reads.{Reads};
+ghost use Rattle.scenario_lines.specs.Joints.{joined, of_two_at};
 
 use crate::cursor::Cursor;
 use crate::head::expression_head;
+use crate::parts::both;
 use crate::refusal::LineRefusal;
 use gv_values::FaultKind;
 use scenario_grammar::{Head, TextReason, Token};
@@ -27,22 +29,29 @@ fn unary(alloc: Global, op: Unary, a: Expression) -> Result<Expression, AllocErr
     Ok(Expression::Unary(op, Boxed::new(alloc, a)?))
 }
 
-fn binary(alloc: Global, op: Binary, a: Expression, b: Expression) -> Result<Expression, AllocError>
-    ensures { IfOk result (λ e. e ≡ Expression.Binary op a b) }
-{
-    Ok(Expression::Binary(op, Boxed::new(alloc, a)?, Boxed::new(alloc, b)?))
+/// What makes one expression of two.
+#[derive(Clone, Copy)]
+enum Joint {
+    Binary(Binary),
+    And,
+    Or,
 }
 
-fn and(alloc: Global, a: Expression, b: Expression) -> Result<Expression, AllocError>
-    ensures { IfOk result (λ e. e ≡ Expression.And a b) }
+fn joined(
+    alloc: Global,
+    joint: Joint,
+    a: Expression,
+    b: Expression,
+) -> Result<Expression, AllocError>
+    ensures { IfOk result (λ e. e ≡ joined joint a b) }
 {
-    Ok(Expression::And(Boxed::new(alloc, a)?, Boxed::new(alloc, b)?))
-}
-
-fn or(alloc: Global, a: Expression, b: Expression) -> Result<Expression, AllocError>
-    ensures { IfOk result (λ e. e ≡ Expression.Or a b) }
-{
-    Ok(Expression::Or(Boxed::new(alloc, a)?, Boxed::new(alloc, b)?))
+    let a = Boxed::new(alloc, a)?;
+    let b = Boxed::new(alloc, b)?;
+    Ok(match joint {
+        Joint::Binary(op) => Expression::Binary(op, a, b),
+        Joint::And => Expression::And(a, b),
+        Joint::Or => Expression::Or(a, b),
+    })
 }
 
 #[cycle(expression)]
@@ -88,25 +97,28 @@ fn headed(
             let operand = nested(alloc, cursor, depth)?;
             Ok(unary(alloc, op, operand)?)
         }
-        Head::Binary(op) => {
-            let first = nested(alloc, cursor, depth)?;
-            let second = nested(alloc, cursor, depth)?;
-            Ok(binary(alloc, op, first, second)?)
-        }
-        Head::And => {
-            let first = nested(alloc, cursor, depth)?;
-            let second = nested(alloc, cursor, depth)?;
-            Ok(and(alloc, first, second)?)
-        }
-        Head::Or => {
-            let first = nested(alloc, cursor, depth)?;
-            let second = nested(alloc, cursor, depth)?;
-            Ok(or(alloc, first, second)?)
-        }
+        Head::Binary(op) => of_two(alloc, cursor, depth, Joint::Binary(op)),
+        Head::And => of_two(alloc, cursor, depth, Joint::And),
+        Head::Or => of_two(alloc, cursor, depth, Joint::Or),
         Head::List => list(alloc, cursor, depth),
         Head::Query(asked) => Ok(Expression::Query(asked, cursor.name()?)),
         Head::Other => Err(LineRefusal::Reason(TextReason::UnknownWord)),
     }
+}
+
+/// An expression of two operands of this depth.
+#[cycle(expression)]
+fn of_two(
+    alloc: Global,
+    cursor: &mut Cursor<'_>,
+    depth: u32,
+    joint: Joint,
+) -> Result<Expression, LineRefusal>
+    ensures { Reads (of_two_at (nested_at depth) joint cursor.old) result cursor.new }
+{
+    let first = nested(alloc, cursor, depth)?;
+    let (first, second) = both(first, nested(alloc, cursor, depth))?;
+    Ok(joined(alloc, joint, first, second)?)
 }
 
 #[cycle(expression)]

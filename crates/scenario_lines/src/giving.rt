@@ -1,13 +1,14 @@
 //! Reading the rest of a statement that gives a value.
 ghost use Rattle.std.specs.Prelude.{◌≡◌, ◌-◌, length, true};
-ghost use Rattle.scenario_grammar.specs.Reading.{with_at, under_at, job_of, word_at, all_at, expression_at, raw_link_at, count_of_at, number_at, takes_at, giving_by};
-ghost use Rattle.scenario_lines.specs.Givings.{asks_greenlet, asks_object, link_at, makes};
+ghost use Rattle.scenario_grammar.specs.Reading.{with_at, under_at, job_of, word_at, all_at, expression_at, count_of_at, number_at, takes_at, giving_by};
+ghost use Rattle.scenario_lines.specs.Givings.{ReadsRawTarget, asks_greenlet, asks_object, link_at, makes};
 ghost use Rattle.scenario_lines.specs.Reads.{Reads};
 
 use crate::cursor::{Cursor, MOST_MS};
 use crate::expression::read_expression;
+use crate::parts::both;
 use crate::refusal::LineRefusal;
-use gv_values::JobKind;
+use gv_values::{JobKind, Name};
 use scenario_grammar::{Keyword, TextReason, Token};
 use scenario_tree::{Expression, Giving, Items, LinkEnd};
 use std::alloc::Global;
@@ -15,54 +16,61 @@ use std::alloc::Global;
 /// The greatest number of a mark.
 const MOST_MARK: u64 = 1_000_000;
 
+/// What a raw link calls.
+#[derive(Clone, Copy)]
+enum RawTarget {
+    Mark(u32),
+    Event(Name),
+}
+
+/// `with` and an expression, where that stands there.
+#[tactic(auto, using(crate::proofs::Unsaid::no_fault))]
 pub(crate) fn with_fault(
     alloc: Global,
     cursor: &mut Cursor<'_>,
 ) -> Result<Option<Expression>, LineRefusal>
     ensures { Reads (with_at cursor.old) result cursor.new }
 {
-    match cursor.rest {
-        [Token::Fixed(Keyword::With), rest @ ..] => {
-            cursor.rest = rest;
-            Ok(Some(read_expression(alloc, cursor)?))
-        }
-        _ => Ok(None),
+    if cursor.takes(Keyword::With) {
+        Ok(Some(read_expression(alloc, cursor)?))
+    } else {
+        Ok(None)
     }
 }
 
+/// `under` and an expression, where that stands there.
+#[tactic(auto, using(crate::proofs::Unsaid::no_parent))]
 fn under(alloc: Global, cursor: &mut Cursor<'_>) -> Result<Option<Expression>, LineRefusal>
     ensures { Reads (under_at cursor.old) result cursor.new }
 {
-    match cursor.rest {
-        [Token::Fixed(Keyword::Under), rest @ ..] => {
-            cursor.rest = rest;
-            Ok(Some(read_expression(alloc, cursor)?))
-        }
-        _ => Ok(None),
+    if cursor.takes(Keyword::Under) {
+        Ok(Some(read_expression(alloc, cursor)?))
+    } else {
+        Ok(None)
     }
 }
 
+/// `count` and a number, where that stands there.
+#[tactic(auto, using(crate::proofs::Unsaid::no_count))]
 fn count(cursor: &mut Cursor<'_>) -> Result<Option<u64>, LineRefusal>
     ensures { Reads (count_of_at cursor.old) result cursor.new }
 {
-    match cursor.rest {
-        [Token::Fixed(Keyword::Count), rest @ ..] => {
-            cursor.rest = rest;
-            Ok(Some(cursor.number(0, 64)?))
-        }
-        _ => Ok(None),
+    if cursor.takes(Keyword::Count) {
+        Ok(Some(cursor.number(0, 64)?))
+    } else {
+        Ok(None)
     }
 }
 
+/// `takes` and a time in milliseconds, where that stands there.
+#[tactic(auto, using(crate::proofs::Unsaid::no_cost))]
 fn takes(cursor: &mut Cursor<'_>) -> Result<Option<u64>, LineRefusal>
     ensures { Reads (takes_at cursor.old) result cursor.new }
 {
-    match cursor.rest {
-        [Token::Fixed(Keyword::Takes), rest @ ..] => {
-            cursor.rest = rest;
-            Ok(Some(cursor.number(0, MOST_MS)?))
-        }
-        _ => Ok(None),
+    if cursor.takes(Keyword::Takes) {
+        Ok(Some(cursor.number(0, MOST_MS)?))
+    } else {
+        Ok(None)
     }
 }
 
@@ -99,28 +107,6 @@ fn mark(cursor: &mut Cursor<'_>) -> Result<u32, LineRefusal>
     ensures { Reads (number_at 0 1000000 cursor.old) result cursor.new }
 {
     Ok(cursor.bounded(0, MOST_MARK)? as u32)
-}
-
-fn raw_link(
-    alloc: Global,
-    cursor: &mut Cursor<'_>,
-    greenlet: Expression,
-) -> Result<Giving, LineRefusal>
-    ensures { Reads (raw_link_at greenlet cursor.old) result cursor.new }
-{
-    match cursor.next() {
-        None => Err(LineRefusal::Reason(TextReason::TooShort)),
-        Some(Token::Fixed(Keyword::Mark)) => { Ok(Giving::LinkMark(greenlet, mark(cursor)?)) }
-        Some(Token::Fixed(Keyword::Set)) => Ok(Giving::LinkSet(greenlet, cursor.name()?)),
-        Some(_) => Err(LineRefusal::Reason(TextReason::UnknownWord)),
-    }
-}
-
-/// The greenlet of a link to this end, and the function that it calls.
-fn link(alloc: Global, cursor: &mut Cursor<'_>, end: LinkEnd) -> Result<Giving, LineRefusal>
-    ensures { Reads (link_at end cursor.old) result cursor.new }
-{
-    Ok(Giving::Link(end, read_expression(alloc, cursor)?, cursor.name()?))
 }
 
 /// The rest of a statement that gives a value, by its word.
@@ -169,28 +155,82 @@ fn read_of_greenlet(
     ensures { Reads (giving_by word cursor.old) result cursor.new }
 {
     match word {
-        Keyword::Get => Ok(Giving::Get(read_expression(alloc, cursor)?, cursor.wait()?)),
-        Keyword::JoinAll => Ok(Giving::JoinAll(
-            read_expression(alloc, cursor)?,
-            count(cursor)?,
-            cursor.timed()?,
-        )),
-        Keyword::Switch => Ok(Giving::Switch(
-            read_expression(alloc, cursor)?,
-            read_expression(alloc, cursor)?,
-        )),
-        Keyword::Throw => Ok(Giving::Throw(
-            read_expression(alloc, cursor)?,
-            with_fault(alloc, cursor)?,
-        )),
-        Keyword::Link => link(alloc, cursor, LinkEnd::Any),
-        Keyword::LinkValue => link(alloc, cursor, LinkEnd::Value),
-        Keyword::LinkFault => link(alloc, cursor, LinkEnd::Fault),
-        Keyword::RawLink => {
-            let greenlet = read_expression(alloc, cursor)?;
-            raw_link(alloc, cursor, greenlet)
-        }
+        Keyword::Get => read_get(alloc, cursor),
+        Keyword::JoinAll => read_join_all(alloc, cursor),
+        Keyword::Switch => read_switch(alloc, cursor),
+        Keyword::Throw => read_throw(alloc, cursor),
+        Keyword::Link => read_link(alloc, cursor, LinkEnd::Any),
+        Keyword::LinkValue => read_link(alloc, cursor, LinkEnd::Value),
+        Keyword::LinkFault => read_link(alloc, cursor, LinkEnd::Fault),
+        Keyword::RawLink => read_raw_link(alloc, cursor),
         _ => Err(LineRefusal::Reason(TextReason::UnknownWord)),
+    }
+}
+
+/// The rest of a get.
+fn read_get(alloc: Global, cursor: &mut Cursor<'_>) -> Result<Giving, LineRefusal>
+    ensures { Reads (giving_by Keyword.Get cursor.old) result cursor.new }
+{
+    let (greenlet, wait) = both(read_expression(alloc, cursor)?, cursor.wait())?;
+    Ok(Giving::Get(greenlet, wait))
+}
+
+/// The rest of a joinall.
+fn read_join_all(alloc: Global, cursor: &mut Cursor<'_>) -> Result<Giving, LineRefusal>
+    ensures { Reads (giving_by Keyword.JoinAll cursor.old) result cursor.new }
+{
+    let (greenlets, count) = both(read_expression(alloc, cursor)?, count(cursor))?;
+    let (greenlets, time) = both(greenlets, cursor.timed())?;
+    Ok(Giving::JoinAll(greenlets, count, time))
+}
+
+/// The rest of a switch.
+fn read_switch(alloc: Global, cursor: &mut Cursor<'_>) -> Result<Giving, LineRefusal>
+    ensures { Reads (giving_by Keyword.Switch cursor.old) result cursor.new }
+{
+    let (greenlet, value) = both(
+        read_expression(alloc, cursor)?,
+        read_expression(alloc, cursor),
+    )?;
+    Ok(Giving::Switch(greenlet, value))
+}
+
+/// The rest of a throw.
+fn read_throw(alloc: Global, cursor: &mut Cursor<'_>) -> Result<Giving, LineRefusal>
+    ensures { Reads (giving_by Keyword.Throw cursor.old) result cursor.new }
+{
+    let (greenlet, fault) = both(read_expression(alloc, cursor)?, with_fault(alloc, cursor))?;
+    Ok(Giving::Throw(greenlet, fault))
+}
+
+/// The greenlet of a link to this end, and the function that it calls.
+fn read_link(alloc: Global, cursor: &mut Cursor<'_>, end: LinkEnd) -> Result<Giving, LineRefusal>
+    ensures { Reads (link_at end cursor.old) result cursor.new }
+{
+    let (greenlet, function) = both(read_expression(alloc, cursor)?, cursor.name())?;
+    Ok(Giving::Link(end, greenlet, function))
+}
+
+/// The rest of a rawlink.
+fn read_raw_link(alloc: Global, cursor: &mut Cursor<'_>) -> Result<Giving, LineRefusal>
+    ensures { Reads (giving_by Keyword.RawLink cursor.old) result cursor.new }
+{
+    let (greenlet, target) = both(read_expression(alloc, cursor)?, raw_target(cursor))?;
+    Ok(match target {
+        RawTarget::Mark(number) => Giving::LinkMark(greenlet, number),
+        RawTarget::Event(name) => Giving::LinkSet(greenlet, name),
+    })
+}
+
+/// What a raw link calls: `mark` and a number, or `set` and a name.
+fn raw_target(cursor: &mut Cursor<'_>) -> Result<RawTarget, LineRefusal>
+    ensures { ReadsRawTarget cursor.old result cursor.new }
+{
+    match cursor.next() {
+        None => Err(LineRefusal::Reason(TextReason::TooShort)),
+        Some(Token::Fixed(Keyword::Mark)) => Ok(RawTarget::Mark(mark(cursor)?)),
+        Some(Token::Fixed(Keyword::Set)) => Ok(RawTarget::Event(cursor.name()?)),
+        Some(_) => Err(LineRefusal::Reason(TextReason::UnknownWord)),
     }
 }
 
@@ -199,15 +239,16 @@ fn read_of_object(cursor: &mut Cursor<'_>, word: Keyword) -> Result<Giving, Line
     requires { asks_object word ≡ true }
     ensures { Reads (giving_by word cursor.old) result cursor.new }
 {
+    let object = cursor.name()?;
     match word {
-        Keyword::Wait => Ok(Giving::WaitEvent(cursor.name()?, cursor.timed()?)),
-        Keyword::ResultGet => Ok(Giving::ResultGet(cursor.name()?, cursor.wait()?)),
-        Keyword::ResultWait => Ok(Giving::ResultWait(cursor.name()?, cursor.timed()?)),
-        Keyword::Acquire => Ok(Giving::Acquire(cursor.name()?, cursor.wait()?)),
-        Keyword::QueueGet => Ok(Giving::QueueGet(cursor.name()?, cursor.wait()?)),
-        Keyword::QueuePeek => Ok(Giving::QueuePeek(cursor.name()?, cursor.wait()?)),
-        Keyword::QueueJoin => Ok(Giving::QueueJoin(cursor.name()?, cursor.timed()?)),
-        Keyword::ChannelGet => Ok(Giving::ChannelGet(cursor.name()?)),
+        Keyword::Wait => Ok(Giving::WaitEvent(object, cursor.timed()?)),
+        Keyword::ResultGet => Ok(Giving::ResultGet(object, cursor.wait()?)),
+        Keyword::ResultWait => Ok(Giving::ResultWait(object, cursor.timed()?)),
+        Keyword::Acquire => Ok(Giving::Acquire(object, cursor.wait()?)),
+        Keyword::QueueGet => Ok(Giving::QueueGet(object, cursor.wait()?)),
+        Keyword::QueuePeek => Ok(Giving::QueuePeek(object, cursor.wait()?)),
+        Keyword::QueueJoin => Ok(Giving::QueueJoin(object, cursor.timed()?)),
+        Keyword::ChannelGet => Ok(Giving::ChannelGet(object)),
         _ => Err(LineRefusal::Reason(TextReason::UnknownWord)),
     }
 }
@@ -218,30 +259,73 @@ fn read_making(alloc: Global, cursor: &mut Cursor<'_>, word: Keyword) -> Result<
     ensures { Reads (giving_by word cursor.old) result cursor.new }
 {
     match word {
-        Keyword::Spawn => Ok(Giving::Spawn(cursor.name()?, arguments(alloc, cursor)?)),
-        Keyword::SpawnLater => Ok(Giving::SpawnLater(
-            cursor.number(0, MOST_MS)?,
-            cursor.name()?,
-            arguments(alloc, cursor)?,
-        )),
-        Keyword::New => Ok(Giving::New(cursor.name()?, arguments(alloc, cursor)?)),
-        Keyword::GroupSpawn => Ok(Giving::GroupSpawn(
-            cursor.name()?,
-            cursor.name()?,
-            arguments(alloc, cursor)?,
-        )),
-        Keyword::Map => Ok(Giving::Map(
-            cursor.name()?,
-            cursor.name()?,
-            read_expression(alloc, cursor)?,
-        )),
-        Keyword::NativeSpawn => Ok(Giving::NativeSpawn(
-            cursor.name()?,
-            job(cursor)?,
-            read_expression(alloc, cursor)?,
-            takes(cursor)?,
-        )),
-        Keyword::Raw => Ok(Giving::Raw(cursor.name()?, under(alloc, cursor)?)),
+        Keyword::Spawn => read_spawn(alloc, cursor),
+        Keyword::SpawnLater => read_spawn_later(alloc, cursor),
+        Keyword::New => read_new(alloc, cursor),
+        Keyword::GroupSpawn => read_group_spawn(alloc, cursor),
+        Keyword::Map => read_map(alloc, cursor),
+        Keyword::NativeSpawn => read_native_spawn(alloc, cursor),
+        Keyword::Raw => read_raw(alloc, cursor),
         _ => Err(LineRefusal::Reason(TextReason::UnknownWord)),
     }
+}
+
+/// The rest of a spawn.
+fn read_spawn(alloc: Global, cursor: &mut Cursor<'_>) -> Result<Giving, LineRefusal>
+    ensures { Reads (giving_by Keyword.Spawn cursor.old) result cursor.new }
+{
+    Ok(Giving::Spawn(cursor.name()?, arguments(alloc, cursor)?))
+}
+
+/// The rest of a spawnlater.
+fn read_spawn_later(alloc: Global, cursor: &mut Cursor<'_>) -> Result<Giving, LineRefusal>
+    ensures { Reads (giving_by Keyword.SpawnLater cursor.old) result cursor.new }
+{
+    Ok(Giving::SpawnLater(
+        cursor.number(0, MOST_MS)?,
+        cursor.name()?,
+        arguments(alloc, cursor)?,
+    ))
+}
+
+/// The rest of a new.
+fn read_new(alloc: Global, cursor: &mut Cursor<'_>) -> Result<Giving, LineRefusal>
+    ensures { Reads (giving_by Keyword.New cursor.old) result cursor.new }
+{
+    Ok(Giving::New(cursor.name()?, arguments(alloc, cursor)?))
+}
+
+/// The rest of a group's spawn.
+fn read_group_spawn(alloc: Global, cursor: &mut Cursor<'_>) -> Result<Giving, LineRefusal>
+    ensures { Reads (giving_by Keyword.GroupSpawn cursor.old) result cursor.new }
+{
+    Ok(Giving::GroupSpawn(cursor.name()?, cursor.name()?, arguments(alloc, cursor)?))
+}
+
+/// The rest of a map.
+fn read_map(alloc: Global, cursor: &mut Cursor<'_>) -> Result<Giving, LineRefusal>
+    ensures { Reads (giving_by Keyword.Map cursor.old) result cursor.new }
+{
+    Ok(Giving::Map(
+        cursor.name()?,
+        cursor.name()?,
+        read_expression(alloc, cursor)?,
+    ))
+}
+
+/// The rest of a statement that posts a job.
+fn read_native_spawn(alloc: Global, cursor: &mut Cursor<'_>) -> Result<Giving, LineRefusal>
+    ensures { Reads (giving_by Keyword.NativeSpawn cursor.old) result cursor.new }
+{
+    let pool = cursor.name()?;
+    let kind = job(cursor)?;
+    let (input, cost) = both(read_expression(alloc, cursor)?, takes(cursor))?;
+    Ok(Giving::NativeSpawn(pool, kind, input, cost))
+}
+
+/// The rest of a raw.
+fn read_raw(alloc: Global, cursor: &mut Cursor<'_>) -> Result<Giving, LineRefusal>
+    ensures { Reads (giving_by Keyword.Raw cursor.old) result cursor.new }
+{
+    Ok(Giving::Raw(cursor.name()?, under(alloc, cursor)?))
 }

@@ -6,7 +6,7 @@ use scenario_grammar::Keyword;
 use scenario_keywords::{WordRole, word_role};
 
 /// What a line is read as, by the fixed word that begins it.
-#[derive(Clone, Copy, Debug, PartialEq, Eq)]
+#[derive(Clone, Copy)]
 pub(crate) enum LineKind {
     Declaration,
     /// It names the profile, or opens, parts or ends a block.

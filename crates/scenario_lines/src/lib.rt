@@ -7,6 +7,7 @@ mod giving;
 mod head;
 mod kind;
 mod layout;
+mod parts;
 mod phrase;
 mod refusal;
 mod token;

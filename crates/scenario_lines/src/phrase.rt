@@ -1,14 +1,15 @@
 //! Reading what a line says.
-ghost use Rattle.std.specs.Prelude.{◌≡◌, Some, if◌then◌else◌};
+ghost use Rattle.std.specs.Prelude.{◌≡◌, Ok, Some, if◌then◌else◌};
 ghost use Rattle.scenario_grammar.specs.Reading.{number_at, after_at, all_at, binding_at, class_at, class_of, given_at, giving_at, immediate_at, name_at, now_at, phrase_by, phrase_of, queue_of, silent_at, size_at, unmarked_at, word_at, is_given};
 ghost use Rattle.scenario_lines.specs.Reads.{IsBoxed, Reads, ReadsWhole};
 ghost use Rattle.scenario_lines.specs.Kinds.{kind_by};
-ghost use Rattle.scenario_lines.specs.Nothing.{TakesNone, some_number_at};
+ghost use Rattle.scenario_lines.specs.Taken.{some_number_at};
 
 use crate::cursor::{Cursor, MOST_MS};
 use crate::expression::read_expression;
 use crate::giving::{read_giving, with_fault};
 use crate::kind::{LineKind, line_kind};
+use crate::parts::both;
 use crate::refusal::LineRefusal;
 use gv_values::{Class, Name};
 use scenario_grammar::{Keyword, Phrase, TextReason, Token};
@@ -108,27 +109,14 @@ fn queue_kind(cursor: &mut Cursor<'_>) -> Result<QueueKind, LineRefusal>
 }
 
 /// The size of a queue, or `none`.
-#[tactic(auto, using(crate::proofs::Unless::size_other))]
+#[tactic(auto, using(crate::proofs::Unsaid::size_other))]
 fn size(cursor: &mut Cursor<'_>) -> Result<Option<u64>, LineRefusal>
     ensures { Reads (size_at cursor.old) result cursor.new }
 {
-    if takes_none(cursor) {
+    if cursor.takes(Keyword::Nothing) {
         return Ok(None);
     }
     some_number(cursor, 1, 1_000_000)
-}
-
-/// Takes `none` where it stands there, and tells whether it does.
-fn takes_none(cursor: &mut Cursor<'_>) -> bool
-    ensures { TakesNone cursor.old result cursor.new }
-{
-    match cursor.rest {
-        [Token::Fixed(Keyword::Nothing), rest @ ..] => {
-            cursor.rest = rest;
-            true
-        }
-        _ => false,
-    }
 }
 
 /// A number of this range.
@@ -188,51 +176,38 @@ fn binding(cursor: &mut Cursor<'_>) -> Result<Option<Name>, LineRefusal>
 }
 
 /// The time of a timeout block, or `none`.
-#[tactic(auto, using(crate::proofs::Unless::after_other))]
+#[tactic(auto, using(crate::proofs::Unsaid::after_other))]
 fn after(cursor: &mut Cursor<'_>) -> Result<Option<u64>, LineRefusal>
     ensures { Reads (after_at cursor.old) result cursor.new }
 {
-    if takes_none(cursor) {
+    if cursor.takes(Keyword::Nothing) {
         return Ok(None);
     }
     some_number(cursor, 0, MOST_MS)
 }
 
-fn silent(cursor: &mut Cursor<'_>) -> Result<bool, LineRefusal>
-    ensures { Reads (silent_at cursor.old) result cursor.new }
+/// Whether `silent` stands there.
+#[tactic(auto, using(crate::proofs::Unsaid::is_silent))]
+fn silent(cursor: &mut Cursor<'_>) -> bool
+    ensures { silent_at cursor.old ≡ Ok (result, cursor.new) }
 {
-    match cursor.rest {
-        [Token::Fixed(Keyword::Silent), rest @ ..] => {
-            cursor.rest = rest;
-            Ok(true)
-        }
-        _ => Ok(false),
-    }
+    cursor.takes(Keyword::Silent)
 }
 
-fn now(cursor: &mut Cursor<'_>) -> Result<bool, LineRefusal>
-    ensures { Reads (now_at cursor.old) result cursor.new }
+/// Whether `now` stands there.
+#[tactic(auto, using(crate::proofs::Unsaid::is_now))]
+fn now(cursor: &mut Cursor<'_>) -> bool
+    ensures { now_at cursor.old ≡ Ok (result, cursor.new) }
 {
-    match cursor.rest {
-        [Token::Fixed(Keyword::Now), rest @ ..] => {
-            cursor.rest = rest;
-            Ok(true)
-        }
-        _ => Ok(false),
-    }
+    cursor.takes(Keyword::Now)
 }
 
 /// Whether `immediate` stands there.
-fn immediate(cursor: &mut Cursor<'_>) -> Result<bool, LineRefusal>
-    ensures { Reads (immediate_at cursor.old) result cursor.new }
+#[tactic(auto, using(crate::proofs::Unsaid::is_immediate))]
+fn immediate(cursor: &mut Cursor<'_>) -> bool
+    ensures { immediate_at cursor.old ≡ Ok (result, cursor.new) }
 {
-    match cursor.rest {
-        [Token::Fixed(Keyword::Immediate), rest @ ..] => {
-            cursor.rest = rest;
-            Ok(true)
-        }
-        _ => Ok(false),
-    }
+    cursor.takes(Keyword::Immediate)
 }
 
 /// Names up to the line's end.
@@ -257,6 +232,13 @@ fn read_profile(cursor: &mut Cursor<'_>) -> Result<Phrase, LineRefusal>
 {
     cursor.number(2, 2)?;
     Ok(Phrase::Profile)
+}
+
+/// The name of a function, and its parameters.
+fn read_function(alloc: Global, cursor: &mut Cursor<'_>) -> Result<Phrase, LineRefusal>
+    ensures { Reads (phrase_by Keyword.Function cursor.old) result cursor.new }
+{
+    Ok(Phrase::Function(false, cursor.name()?, parameters(alloc, cursor)?))
 }
 
 /// `rawdef` has exactly one parameter.
@@ -292,32 +274,27 @@ fn read_declaration(cursor: &mut Cursor<'_>, word: Keyword) -> Result<Phrase, Li
     requires { kind_by word ≡ LineKind.Declaration }
     ensures { Reads (phrase_by word cursor.old) result cursor.new }
 {
+    let name = cursor.name()?;
     match word {
-        Keyword::Event => Ok(Phrase::Declaration(cursor.name()?, Object::Event)),
-        Keyword::Result => Ok(Phrase::Declaration(cursor.name()?, Object::Result)),
+        Keyword::Event => Ok(Phrase::Declaration(name, Object::Event)),
+        Keyword::Result => Ok(Phrase::Declaration(name, Object::Result)),
         Keyword::Sem => Ok(Phrase::Declaration(
-            cursor.name()?,
+            name,
             Object::Semaphore(cursor.number(0, 1_000_000)?),
         )),
         Keyword::BoundedSem => Ok(Phrase::Declaration(
-            cursor.name()?,
+            name,
             Object::BoundedSemaphore(cursor.number(0, 1_000_000)?),
         )),
-        Keyword::Lock => Ok(Phrase::Declaration(cursor.name()?, Object::Lock)),
+        Keyword::Lock => Ok(Phrase::Declaration(name, Object::Lock)),
         Keyword::Queue => Ok(Phrase::Declaration(
-            cursor.name()?,
+            name,
             Object::Queue(queue_kind(cursor)?, size(cursor)?),
         )),
-        Keyword::Group => Ok(Phrase::Declaration(cursor.name()?, Object::Group)),
-        Keyword::Pool => Ok(Phrase::Declaration(
-            cursor.name()?,
-            Object::Pool(cursor.number(1, 10_000)?),
-        )),
-        Keyword::Native => Ok(Phrase::Declaration(
-            cursor.name()?,
-            Object::Native(cursor.number(1, 64)?),
-        )),
-        Keyword::Channel => Ok(Phrase::Declaration(cursor.name()?, Object::Channel)),
+        Keyword::Group => Ok(Phrase::Declaration(name, Object::Group)),
+        Keyword::Pool => Ok(Phrase::Declaration(name, Object::Pool(cursor.number(1, 10_000)?))),
+        Keyword::Native => Ok(Phrase::Declaration(name, Object::Native(cursor.number(1, 64)?))),
+        Keyword::Channel => Ok(Phrase::Declaration(name, Object::Channel)),
         _ => Err(LineRefusal::Reason(TextReason::UnknownWord)),
     }
 }
@@ -329,11 +306,7 @@ fn read_block(alloc: Global, cursor: &mut Cursor<'_>, word: Keyword) -> Result<P
 {
     match word {
         Keyword::Profile => read_profile(cursor),
-        Keyword::Function => Ok(Phrase::Function(
-            false,
-            cursor.name()?,
-            parameters(alloc, cursor)?,
-        )),
+        Keyword::Function => read_function(alloc, cursor),
         Keyword::RawFunction => raw_function(alloc, cursor),
         Keyword::If => Ok(Phrase::If(read_expression(alloc, cursor)?)),
         Keyword::Else => Ok(Phrase::Else),
@@ -341,7 +314,7 @@ fn read_block(alloc: Global, cursor: &mut Cursor<'_>, word: Keyword) -> Result<P
         Keyword::Try => Ok(Phrase::Try),
         Keyword::Except => Ok(Phrase::Except(class(cursor)?, binding(cursor)?)),
         Keyword::Finally => Ok(Phrase::Finally),
-        Keyword::Timeout => Ok(Phrase::Timeout(after(cursor)?, silent(cursor)?)),
+        Keyword::Timeout => Ok(Phrase::Timeout(after(cursor)?, silent(cursor))),
         Keyword::End => Ok(Phrase::End),
         _ => Err(LineRefusal::Reason(TextReason::UnknownWord)),
     }
@@ -383,39 +356,37 @@ fn read_let(alloc: Global, cursor: &mut Cursor<'_>) -> Result<Phrase, LineRefusa
 fn read_join(alloc: Global, cursor: &mut Cursor<'_>) -> Result<Phrase, LineRefusal>
     ensures { Reads (phrase_by Keyword.Join cursor.old) result cursor.new }
 {
-    Ok(Phrase::Command(Command::Join(read_expression(alloc, cursor)?, cursor.timed()?)))
+    let (greenlet, time) = both(read_expression(alloc, cursor)?, cursor.timed())?;
+    Ok(Phrase::Command(Command::Join(greenlet, time)))
 }
 
 /// The rest of a kill.
 fn read_kill(alloc: Global, cursor: &mut Cursor<'_>) -> Result<Phrase, LineRefusal>
     ensures { Reads (phrase_by Keyword.Kill cursor.old) result cursor.new }
 {
-    Ok(Phrase::Command(Command::Kill(
-        read_expression(alloc, cursor)?,
-        with_fault(alloc, cursor)?,
-        cursor.wait()?,
-    )))
+    let killed = both(read_expression(alloc, cursor)?, with_fault(alloc, cursor))?;
+    let ((greenlet, fault), wait) = both(killed, cursor.wait())?;
+    Ok(Phrase::Command(Command::Kill(greenlet, fault, wait)))
 }
 
 /// The rest of a killall.
 fn read_kill_all(alloc: Global, cursor: &mut Cursor<'_>) -> Result<Phrase, LineRefusal>
     ensures { Reads (phrase_by Keyword.KillAll cursor.old) result cursor.new }
 {
-    Ok(Phrase::Command(Command::KillAll(
-        read_expression(alloc, cursor)?,
-        with_fault(alloc, cursor)?,
-        cursor.wait()?,
-    )))
+    let killed = both(read_expression(alloc, cursor)?, with_fault(alloc, cursor))?;
+    let ((greenlets, fault), wait) = both(killed, cursor.wait())?;
+    Ok(Phrase::Command(Command::KillAll(greenlets, fault, wait)))
 }
 
 /// The rest of a setparent.
 fn read_set_parent(alloc: Global, cursor: &mut Cursor<'_>) -> Result<Phrase, LineRefusal>
     ensures { Reads (phrase_by Keyword.SetParent cursor.old) result cursor.new }
 {
-    Ok(Phrase::Command(Command::SetParent(
+    let (greenlet, parent) = both(
         read_expression(alloc, cursor)?,
-        read_expression(alloc, cursor)?,
-    )))
+        read_expression(alloc, cursor),
+    )?;
+    Ok(Phrase::Command(Command::SetParent(greenlet, parent)))
 }
 
 /// The rest of a statement of an object that gives no value.
@@ -430,38 +401,66 @@ fn read_object_command(
     match word {
         Keyword::Set => Ok(Phrase::Command(Command::Set(cursor.name()?))),
         Keyword::Clear => Ok(Phrase::Command(Command::Clear(cursor.name()?))),
-        Keyword::ResultSet => Ok(Phrase::Command(Command::ResultSet(
-            cursor.name()?,
-            read_expression(alloc, cursor)?,
-        ))),
-        Keyword::ResultFail => Ok(Phrase::Command(Command::ResultFail(
-            cursor.name()?,
-            read_expression(alloc, cursor)?,
-        ))),
+        Keyword::ResultSet => read_result_set(alloc, cursor),
+        Keyword::ResultFail => read_result_fail(alloc, cursor),
         Keyword::Release => Ok(Phrase::Command(Command::Release(cursor.name()?))),
-        Keyword::QueuePut => Ok(Phrase::Command(Command::QueuePut(
-            cursor.name()?,
-            read_expression(alloc, cursor)?,
-            cursor.wait()?,
-        ))),
+        Keyword::QueuePut => read_queue_put(alloc, cursor),
         Keyword::QueueDone => Ok(Phrase::Command(Command::QueueDone(cursor.name()?))),
-        Keyword::QueueShut => Ok(Phrase::Command(Command::QueueShut(
-            cursor.name()?,
-            immediate(cursor)?,
-        ))),
-        Keyword::ChannelPut => Ok(Phrase::Command(Command::ChannelPut(
-            cursor.name()?,
-            read_expression(alloc, cursor)?,
-        ))),
-        Keyword::GroupJoin => Ok(Phrase::Command(Command::GroupJoin(
-            cursor.name()?,
-            cursor.timed()?,
-        ))),
-        Keyword::GroupKill => Ok(Phrase::Command(Command::GroupKill(
-            cursor.name()?,
-            with_fault(alloc, cursor)?,
-            now(cursor)?,
-        ))),
+        Keyword::QueueShut => read_queue_shut(cursor),
+        Keyword::ChannelPut => read_channel_put(alloc, cursor),
+        Keyword::GroupJoin => read_group_join(cursor),
+        Keyword::GroupKill => read_group_kill(alloc, cursor),
         _ => Err(LineRefusal::Reason(TextReason::UnknownWord)),
     }
+}
+
+/// The rest of a statement that gives a result its value.
+fn read_result_set(alloc: Global, cursor: &mut Cursor<'_>) -> Result<Phrase, LineRefusal>
+    ensures { Reads (phrase_by Keyword.ResultSet cursor.old) result cursor.new }
+{
+    Ok(Phrase::Command(Command::ResultSet(cursor.name()?, read_expression(alloc, cursor)?)))
+}
+
+/// The rest of a statement that gives a result its fault.
+fn read_result_fail(alloc: Global, cursor: &mut Cursor<'_>) -> Result<Phrase, LineRefusal>
+    ensures { Reads (phrase_by Keyword.ResultFail cursor.old) result cursor.new }
+{
+    Ok(Phrase::Command(Command::ResultFail(cursor.name()?, read_expression(alloc, cursor)?)))
+}
+
+/// The rest of a queue's put.
+fn read_queue_put(alloc: Global, cursor: &mut Cursor<'_>) -> Result<Phrase, LineRefusal>
+    ensures { Reads (phrase_by Keyword.QueuePut cursor.old) result cursor.new }
+{
+    let queue = cursor.name()?;
+    let (item, wait) = both(read_expression(alloc, cursor)?, cursor.wait())?;
+    Ok(Phrase::Command(Command::QueuePut(queue, item, wait)))
+}
+
+/// The rest of a statement that shuts a queue.
+fn read_queue_shut(cursor: &mut Cursor<'_>) -> Result<Phrase, LineRefusal>
+    ensures { Reads (phrase_by Keyword.QueueShut cursor.old) result cursor.new }
+{
+    Ok(Phrase::Command(Command::QueueShut(cursor.name()?, immediate(cursor))))
+}
+
+/// The rest of a channel's put.
+fn read_channel_put(alloc: Global, cursor: &mut Cursor<'_>) -> Result<Phrase, LineRefusal>
+    ensures { Reads (phrase_by Keyword.ChannelPut cursor.old) result cursor.new }
+{
+    Ok(Phrase::Command(Command::ChannelPut(cursor.name()?, read_expression(alloc, cursor)?)))
+}
+
+/// The rest of a group's join.
+fn read_group_join(cursor: &mut Cursor<'_>) -> Result<Phrase, LineRefusal>
+    ensures { Reads (phrase_by Keyword.GroupJoin cursor.old) result cursor.new }
+{
+    Ok(Phrase::Command(Command::GroupJoin(cursor.name()?, cursor.timed()?)))
+}
+
+/// The rest of a group's kill.
+fn read_group_kill(alloc: Global, cursor: &mut Cursor<'_>) -> Result<Phrase, LineRefusal>
+    ensures { Reads (phrase_by Keyword.GroupKill cursor.old) result cursor.new }
+{
+    Ok(Phrase::Command(Command::GroupKill(cursor.name()?, with_fault(alloc, cursor)?, now(cursor))))
 }

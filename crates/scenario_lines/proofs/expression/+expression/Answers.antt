@@ -1,7 +1,6 @@
-use Rattle.std.proofs.Common.{rules, ◌≡◌, ◌<◌, sym, ◌∙◌, arith, ◌+◌, ◌-◌, ap, subst, Result, List}
-use Rattle.std.proofs.lemmas.Grind.{common_steps}
-use Rattle.scenario_lines.proofs.Counted.{count_next, nested_next, with_front}
-use Rattle.scenario_grammar.specs.Reading.{nested_at, count_at}
+use Rattle.std.proofs.Common.{◌<◌, ◌∙◌, arith}
+use Rattle.scenario_lines.proofs.Counted.{count_next, nested_next}
+use Rattle.scenario_grammar.specs.Reading.{nested_at}
 use Rattle.scenario_grammar.specs.declared.token.Token.TheVariants as token
 use Rattle.scenario_lines.proofs.expression.+expression.Goals as goal
 

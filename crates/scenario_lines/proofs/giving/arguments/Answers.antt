@@ -1,4 +1,4 @@
-use Rattle.std.proofs.Common.{rules, List, Err, ◌-◌, ◌≡◌, ◌<◌, length, ◌∙◌, [], sym, ap}
+use Rattle.std.proofs.Common.{rules, List, Err, ◌-◌, ◌≡◌, ◌<◌, length, ◌∙◌, [], sym}
 use Rattle.scenario_grammar.specs.Reading.{Reading, to_the_end, expression_at}
 use Rattle.scenario_tree.specs.declared.tree.Expression.{Expression}
 use Rattle.scenario_lines.specs.declared.refusal.LineRefusal.{LineRefusal}

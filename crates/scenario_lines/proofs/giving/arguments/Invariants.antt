@@ -1,4 +1,4 @@
-use Rattle.std.proofs.Common.{◌≡◌, ℕ, ◌-◌, length}
+use Rattle.std.proofs.Common.{◌≡◌, ◌-◌, length}
 use Rattle.scenario_grammar.specs.Reading.{expression_at, to_the_end}
 use Rattle.scenario_lines.proofs.Counted.{with_front}
 use Rattle.scenario_lines.proofs.giving.arguments.Given as goal

@@ -1,5 +1,4 @@
-use Rattle.std.proofs.Common.{◌≡◌, ◌<◌, Some, None, position, sym, ap, ◌∙◌, arith}
-use Rattle.scenario_grammar.specs.Layout.{is_blank}
+use Rattle.std.proofs.Common.{Some, sym, ap, ◌∙◌, arith}
 use Rattle.scenario_lines.proofs.Spaced.{word_next, word_missing, word_last, word_end}
 use Rattle.scenario_lines.proofs.layout.line_tokens.Goals as goal
 

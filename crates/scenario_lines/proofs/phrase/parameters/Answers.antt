@@ -1,4 +1,4 @@
-use Rattle.std.proofs.Common.{rules, List, Err, ◌-◌, ◌≡◌, ◌<◌, length, ◌∙◌, [], sym, ap}
+use Rattle.std.proofs.Common.{rules, List, Err, ◌-◌, ◌≡◌, ◌<◌, length, ◌∙◌, [], sym}
 use Rattle.scenario_grammar.specs.Reading.{Reading, to_the_end, name_at}
 use Rattle.gv_values.specs.declared.name.Name.{Name}
 use Rattle.scenario_lines.specs.declared.refusal.LineRefusal.{LineRefusal}

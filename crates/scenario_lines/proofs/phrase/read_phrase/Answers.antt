@@ -1,4 +1,3 @@
-use Rattle.std.proofs.Common.{◌≡◌}
 use Rattle.scenario_lines.proofs.Whole.{phrase_end, phrase_long, phrase_refused}
 use Rattle.scenario_lines.proofs.phrase.read_phrase.Goals as goal
 

@@ -1,4 +1,4 @@
-use Rattle.std.proofs.Common.{◌≡◌, ◌<◌, length, arith}
+use Rattle.std.proofs.Common.{arith}
 use Rattle.scenario_lines.proofs.Numbers.{magnitude_step}
 use Rattle.scenario_lines.proofs.token.magnitude.Goals as goal
 

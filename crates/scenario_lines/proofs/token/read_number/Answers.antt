@@ -1,4 +1,4 @@
-use Rattle.std.proofs.Common.{◌≡◌, sym, ◌∙◌}
+use Rattle.std.proofs.Common.{sym, ◌∙◌}
 use Rattle.scenario_lines.proofs.Numbers.{negative_number, positive_number}
 use Rattle.scenario_lines.proofs.token.read_number.Goals as goal
 
