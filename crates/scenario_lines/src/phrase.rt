@@ -398,69 +398,35 @@ fn read_object_command(
     requires { kind_by word ≡ LineKind.ObjectCommand }
     ensures { Reads (phrase_by word cursor.old) result cursor.new }
 {
+    let object = cursor.name()?;
     match word {
-        Keyword::Set => Ok(Phrase::Command(Command::Set(cursor.name()?))),
-        Keyword::Clear => Ok(Phrase::Command(Command::Clear(cursor.name()?))),
-        Keyword::ResultSet => read_result_set(alloc, cursor),
-        Keyword::ResultFail => read_result_fail(alloc, cursor),
-        Keyword::Release => Ok(Phrase::Command(Command::Release(cursor.name()?))),
-        Keyword::QueuePut => read_queue_put(alloc, cursor),
-        Keyword::QueueDone => Ok(Phrase::Command(Command::QueueDone(cursor.name()?))),
-        Keyword::QueueShut => read_queue_shut(cursor),
-        Keyword::ChannelPut => read_channel_put(alloc, cursor),
-        Keyword::GroupJoin => read_group_join(cursor),
-        Keyword::GroupKill => read_group_kill(alloc, cursor),
+        Keyword::Set => Ok(Phrase::Command(Command::Set(object))),
+        Keyword::Clear => Ok(Phrase::Command(Command::Clear(object))),
+        Keyword::ResultSet => Ok(Phrase::Command(Command::ResultSet(
+            object,
+            read_expression(alloc, cursor)?,
+        ))),
+        Keyword::ResultFail => Ok(Phrase::Command(Command::ResultFail(
+            object,
+            read_expression(alloc, cursor)?,
+        ))),
+        Keyword::Release => Ok(Phrase::Command(Command::Release(object))),
+        Keyword::QueuePut => {
+            let (item, wait) = both(read_expression(alloc, cursor)?, cursor.wait())?;
+            Ok(Phrase::Command(Command::QueuePut(object, item, wait)))
+        }
+        Keyword::QueueDone => Ok(Phrase::Command(Command::QueueDone(object))),
+        Keyword::QueueShut => Ok(Phrase::Command(Command::QueueShut(object, immediate(cursor)))),
+        Keyword::ChannelPut => Ok(Phrase::Command(Command::ChannelPut(
+            object,
+            read_expression(alloc, cursor)?,
+        ))),
+        Keyword::GroupJoin => Ok(Phrase::Command(Command::GroupJoin(object, cursor.timed()?))),
+        Keyword::GroupKill => Ok(Phrase::Command(Command::GroupKill(
+            object,
+            with_fault(alloc, cursor)?,
+            now(cursor),
+        ))),
         _ => Err(LineRefusal::Reason(TextReason::UnknownWord)),
     }
-}
-
-/// The rest of a statement that gives a result its value.
-fn read_result_set(alloc: Global, cursor: &mut Cursor<'_>) -> Result<Phrase, LineRefusal>
-    ensures { Reads (phrase_by Keyword.ResultSet cursor.old) result cursor.new }
-{
-    Ok(Phrase::Command(Command::ResultSet(cursor.name()?, read_expression(alloc, cursor)?)))
-}
-
-/// The rest of a statement that gives a result its fault.
-fn read_result_fail(alloc: Global, cursor: &mut Cursor<'_>) -> Result<Phrase, LineRefusal>
-    ensures { Reads (phrase_by Keyword.ResultFail cursor.old) result cursor.new }
-{
-    Ok(Phrase::Command(Command::ResultFail(cursor.name()?, read_expression(alloc, cursor)?)))
-}
-
-/// The rest of a queue's put.
-fn read_queue_put(alloc: Global, cursor: &mut Cursor<'_>) -> Result<Phrase, LineRefusal>
-    ensures { Reads (phrase_by Keyword.QueuePut cursor.old) result cursor.new }
-{
-    let queue = cursor.name()?;
-    let (item, wait) = both(read_expression(alloc, cursor)?, cursor.wait())?;
-    Ok(Phrase::Command(Command::QueuePut(queue, item, wait)))
-}
-
-/// The rest of a statement that shuts a queue.
-fn read_queue_shut(cursor: &mut Cursor<'_>) -> Result<Phrase, LineRefusal>
-    ensures { Reads (phrase_by Keyword.QueueShut cursor.old) result cursor.new }
-{
-    Ok(Phrase::Command(Command::QueueShut(cursor.name()?, immediate(cursor))))
-}
-
-/// The rest of a channel's put.
-fn read_channel_put(alloc: Global, cursor: &mut Cursor<'_>) -> Result<Phrase, LineRefusal>
-    ensures { Reads (phrase_by Keyword.ChannelPut cursor.old) result cursor.new }
-{
-    Ok(Phrase::Command(Command::ChannelPut(cursor.name()?, read_expression(alloc, cursor)?)))
-}
-
-/// The rest of a group's join.
-fn read_group_join(cursor: &mut Cursor<'_>) -> Result<Phrase, LineRefusal>
-    ensures { Reads (phrase_by Keyword.GroupJoin cursor.old) result cursor.new }
-{
-    Ok(Phrase::Command(Command::GroupJoin(cursor.name()?, cursor.timed()?)))
-}
-
-/// The rest of a group's kill.
-fn read_group_kill(alloc: Global, cursor: &mut Cursor<'_>) -> Result<Phrase, LineRefusal>
-    ensures { Reads (phrase_by Keyword.GroupKill cursor.old) result cursor.new }
-{
-    Ok(Phrase::Command(Command::GroupKill(cursor.name()?, with_fault(alloc, cursor)?, now(cursor))))
 }
