@@ -5,8 +5,6 @@ use scenario_check::check;
 use scenario_grammar::Place;
 use scenario_lang::{ParseRefusal, Scenario, parse};
 use std::alloc::Global;
-use std::process::Abort;
-use std::test::Fail;
 
 /// The line and the reason of a refusal; zeros where the scenario is taken.
 fn place(alloc: Global, scenario: Scenario) -> (u32, u8) {
@@ -26,37 +24,38 @@ fn place_of_text(alloc: Global, text: &str) -> (u32, u8) {
     }
 }
 
+/// Texts, and the place of each.
+const ROWS: &[(&str, (u32, u8))] = &[
+    ("event e\ndef main\nset e\nend\n", (0, 0)),
+    ("event e\ndef main\nset f\nend\n", (3, 15)),
+    ("def main\nprint x\nend\n", (2, 15)),
+    ("event e\nevent e\ndef main\nend\n", (2, 16)),
+    ("group e\ndef main\nset e\nend\n", (3, 17)),
+    ("def w n\nend\ndef main\nspawn w\nend\n", (4, 18)),
+    ("rawdef r v\nsleep 0\nend\ndef main\nend\n", (2, 19)),
+    (
+        "profile 2\nchannel c\nqueue q join 2\ndef main\ncput c 1\nx <- cget c\nqshut q immediate\nend\n",
+        (0, 0),
+    ),
+    (
+        "profile 2\nqueue q join 2\ndef main\ncput q 1\nend\n",
+        (4, 17),
+    ),
+    (
+        "profile 2\nqueue q join 2\ndef main\nx <- cget q\nend\n",
+        (4, 17),
+    ),
+    ("profile 2\nchannel c\ndef main\nqshut c\nend\n", (4, 17)),
+    ("profile 2\ndef main\ncput c 1\nend\n", (3, 15)),
+    (
+        "profile 2\nchannel c\nrawdef r v\ncput c 1\nend\ndef main\nend\n",
+        (4, 19),
+    ),
+];
+
 #[test]
-fn taken_and_refused(rt: HostRuntime) -> Result<(), Fail> {
-    let table = [
-        ("event e\ndef main\nset e\nend\n", (0, 0)),
-        ("event e\ndef main\nset f\nend\n", (3, 15)),
-        ("def main\nprint x\nend\n", (2, 15)),
-        ("event e\nevent e\ndef main\nend\n", (2, 16)),
-        ("group e\ndef main\nset e\nend\n", (3, 17)),
-        ("def w n\nend\ndef main\nspawn w\nend\n", (4, 18)),
-        ("rawdef r v\nsleep 0\nend\ndef main\nend\n", (2, 19)),
-        (
-            "profile 2\nchannel c\nqueue q join 2\ndef main\ncput c 1\nx <- cget c\nqshut q immediate\nend\n",
-            (0, 0),
-        ),
-        (
-            "profile 2\nqueue q join 2\ndef main\ncput q 1\nend\n",
-            (4, 17),
-        ),
-        (
-            "profile 2\nqueue q join 2\ndef main\nx <- cget q\nend\n",
-            (4, 17),
-        ),
-        ("profile 2\nchannel c\ndef main\nqshut c\nend\n", (4, 17)),
-        ("profile 2\ndef main\ncput c 1\nend\n", (3, 15)),
-        (
-            "profile 2\nchannel c\nrawdef r v\ncput c 1\nend\ndef main\nend\n",
-            (4, 19),
-        ),
-    ];
-    for (text, expected) in table {
-        assert_eq!(rt; place_of_text(rt.alloc(), text), expected);
+fn taken_and_refused(rt: HostRuntime) {
+    for (text, expected) in ROWS {
+        assert!(rt; place_of_text(rt.alloc(), text) == *expected, "{text}");
     }
-    Ok(())
 }

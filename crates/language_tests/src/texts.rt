@@ -4,15 +4,14 @@
 use scenario_grammar::Place;
 use scenario_lang::{ParseRefusal, parse, print, reason_text};
 use std::alloc::Global;
-use std::process::Abort;
 use std::test::Fail;
 
 /// The line and the reason of a refusal; zeros where the text is taken.
-fn place(alloc: Global, text: &str) -> Result<(u32, u8), Fail> {
+pub(crate) fn place(alloc: Global, text: &str) -> (u32, u8) {
     match parse(alloc, text.as_bytes()) {
-        Ok(_) => Ok((0, 0)),
-        Err(ParseRefusal::Refused(Place { line, reason })) => Ok((line, reason)),
-        Err(ParseRefusal::Memory) => Ok((0, 255)),
+        Ok(_) => (0, 0),
+        Err(ParseRefusal::Refused(Place { line, reason })) => (line, reason),
+        Err(ParseRefusal::Memory) => (0, 255),
     }
 }
 
@@ -21,61 +20,72 @@ fn place_of_line(alloc: Global, line: &str) -> Result<(u32, u8), Fail> {
     let mut text = String::from_str(alloc, "def main\n")?;
     text.push_str(line)?;
     text.push_str("\nend\n")?;
-    place(alloc, text.as_str())
+    Ok(place(alloc, text.as_str()))
 }
+
+/// Lines, and the place of the body of each.
+const SPELLINGS: &[(&str, (u32, u8))] = &[
+    ("print  1", (2, 4)),
+    ("print 1 ", (2, 4)),
+    ("foo 1", (2, 5)),
+    ("print", (2, 6)),
+    ("print 1 2", (2, 7)),
+    ("print 007", (2, 8)),
+    ("sleep 1000000001", (2, 9)),
+    ("let Q 1", (2, 10)),
+    ("end", (3, 11)),
+    ("print 1", (0, 0)),
+];
 
 #[test]
 fn refused_spellings(rt: HostRuntime) -> Result<(), Fail> {
-    let table = [
-        ("print  1", (2, 4)),
-        ("print 1 ", (2, 4)),
-        ("foo 1", (2, 5)),
-        ("print", (2, 6)),
-        ("print 1 2", (2, 7)),
-        ("print 007", (2, 8)),
-        ("sleep 1000000001", (2, 9)),
-        ("let Q 1", (2, 10)),
-        ("end", (3, 11)),
-        ("print 1", (0, 0)),
-    ];
-    for (line, expected) in table {
-        assert_eq!(rt; place_of_line(rt.alloc(), line)?, expected);
+    for (line, expected) in SPELLINGS {
+        assert!(rt; place_of_line(rt.alloc(), line)? == *expected, "{line}");
     }
     Ok(())
 }
+
+/// Texts, and the place of each.
+const WHOLE_TEXTS: &[(&str, (u32, u8))] = &[
+    ("", (1, 14)),
+    ("# x\ndef main\n     print 1\n\nend\n", (0, 0)),
+    ("def main\nend", (2, 3)),
+    ("def main\n\tprint 1\nend\n", (2, 2)),
+    ("def main\nprint 1\n", (2, 12)),
+    ("def w\nend\n", (2, 14)),
+    ("print 1\n", (1, 13)),
+    ("Q <- spawn w\n", (1, 10)),
+    ("x <- foo\n", (1, 5)),
+    ("x <-\n", (1, 6)),
+    ("x <- spawn w\n", (1, 13)),
+    ("def main\nend\nevent e\n", (3, 13)),
+    ("end\n", (1, 11)),
+    ("def main\ntry\nend\nend\n", (3, 11)),
+    ("def main\ntry\nfinally\nend\nend\n", (0, 0)),
+    ("print 1\ndef main\nend\n", (1, 13)),
+    ("def main\ndef f\nend\n", (2, 13)),
+];
 
 #[test]
-fn whole_texts(rt: HostRuntime) -> Result<(), Fail> {
-    let table = [
-        ("", (1, 14)),
-        ("# x\ndef main\n     print 1\n\nend\n", (0, 0)),
-        ("def main\nend", (2, 3)),
-        ("def main\n\tprint 1\nend\n", (2, 2)),
-        ("def main\nprint 1\n", (2, 12)),
-        ("def w\nend\n", (2, 14)),
-        ("print 1\n", (1, 13)),
-        ("Q <- spawn w\n", (1, 10)),
-        ("x <- foo\n", (1, 5)),
-        ("x <-\n", (1, 6)),
-        ("x <- spawn w\n", (1, 13)),
-        ("def main\nend\nevent e\n", (3, 13)),
-        ("end\n", (1, 11)),
-        ("def main\ntry\nend\nend\n", (3, 11)),
-        ("def main\ntry\nfinally\nend\nend\n", (0, 0)),
-        ("print 1\ndef main\nend\n", (1, 13)),
-        ("def main\ndef f\nend\n", (2, 13)),
-    ];
-    for (text, expected) in table {
-        assert_eq!(rt; place(rt.alloc(), text)?, expected);
+fn whole_texts(rt: HostRuntime) {
+    for (text, expected) in WHOLE_TEXTS {
+        assert!(rt; place(rt.alloc(), text) == *expected, "{text}");
     }
-    Ok(())
 }
 
-/// The text with one part repeated before its middle and another one behind it.
-fn repeated(
-    alloc: Global,
-    (head, part, count, middle, tail, rest): (&str, &str, u32, &str, &str, &str),
-) -> Result<String, Fail> {
+/// A head, a part and how often it is repeated, a middle, a tail that is repeated as often, and a rest.
+type Parts = (
+    &'static str,
+    &'static str,
+    u32,
+    &'static str,
+    &'static str,
+    &'static str,
+);
+
+/// The text of these parts.
+fn repeated(alloc: Global, parts: &Parts) -> Result<String, Fail> {
+    let (head, part, count, middle, tail, rest) = *parts;
     let mut text = String::from_str(alloc, head)?;
     for _ in 0..count {
         text.push_str(part)?;
@@ -88,130 +98,147 @@ fn repeated(
     Ok(text)
 }
 
+/// The place of the text of these parts.
+fn place_of_parts(alloc: Global, parts: &Parts) -> Result<(u32, u8), Fail> {
+    let text = repeated(alloc, parts)?;
+    Ok(place(alloc, text.as_str()))
+}
+
+/// Texts at both sides of each border, and the place of each.
+const BORDERS: &[(Parts, (u32, u8))] = &[
+    (
+        ("def main\nprint 1\nend\n#", "x", 1048553, "\n", "", ""),
+        (0, 0),
+    ),
+    (
+        ("def main\nprint 1\nend\n#", "x", 1048554, "\n", "", ""),
+        (4, 1),
+    ),
+    (
+        ("def main\n", "if true\n", 31, "print 1\n", "end\n", "end\n"),
+        (0, 0),
+    ),
+    (
+        ("def main\n", "if true\n", 32, "print 1\n", "end\n", "end\n"),
+        (33, 21),
+    ),
+    (
+        ("def main\nprint ", "not ", 31, "true\nend\n", "", ""),
+        (0, 0),
+    ),
+    (
+        ("def main\nprint ", "not ", 32, "true\nend\n", "", ""),
+        (2, 21),
+    ),
+    (
+        ("def main\nprint list 64", " 1", 64, "\nend\n", "", ""),
+        (0, 0),
+    ),
+    (
+        ("def main\nprint list 65", " 1", 65, "\nend\n", "", ""),
+        (2, 9),
+    ),
+    (("def main\nlet ", "a", 24, " 1\nend\n", "", ""), (0, 0)),
+    (("def main\nlet ", "a", 25, " 1\nend\n", "", ""), (2, 10)),
+    (
+        (
+            "def main\nprint 9223372036854775807\nend\n",
+            "",
+            0,
+            "",
+            "",
+            "",
+        ),
+        (0, 0),
+    ),
+    (
+        (
+            "def main\nprint 9223372036854775808\nend\n",
+            "",
+            0,
+            "",
+            "",
+            "",
+        ),
+        (2, 9),
+    ),
+    (
+        (
+            "def main\nprint -9223372036854775808\nend\n",
+            "",
+            0,
+            "",
+            "",
+            "",
+        ),
+        (0, 0),
+    ),
+    (
+        (
+            "def main\nprint -9223372036854775809\nend\n",
+            "",
+            0,
+            "",
+            "",
+            "",
+        ),
+        (2, 9),
+    ),
+];
+
 #[test]
 fn borders(rt: HostRuntime) -> Result<(), Fail> {
-    let table = [
-        (
-            ("def main\nprint 1\nend\n#", "x", 1048553, "\n", "", ""),
-            (0, 0),
-        ),
-        (
-            ("def main\nprint 1\nend\n#", "x", 1048554, "\n", "", ""),
-            (4, 1),
-        ),
-        (
-            ("def main\n", "if true\n", 31, "print 1\n", "end\n", "end\n"),
-            (0, 0),
-        ),
-        (
-            ("def main\n", "if true\n", 32, "print 1\n", "end\n", "end\n"),
-            (33, 21),
-        ),
-        (
-            ("def main\nprint ", "not ", 31, "true\nend\n", "", ""),
-            (0, 0),
-        ),
-        (
-            ("def main\nprint ", "not ", 32, "true\nend\n", "", ""),
-            (2, 21),
-        ),
-        (
-            ("def main\nprint list 64", " 1", 64, "\nend\n", "", ""),
-            (0, 0),
-        ),
-        (
-            ("def main\nprint list 65", " 1", 65, "\nend\n", "", ""),
-            (2, 9),
-        ),
-        (("def main\nlet ", "a", 24, " 1\nend\n", "", ""), (0, 0)),
-        (("def main\nlet ", "a", 25, " 1\nend\n", "", ""), (2, 10)),
-        (
-            (
-                "def main\nprint 9223372036854775807\nend\n",
-                "",
-                0,
-                "",
-                "",
-                "",
-            ),
-            (0, 0),
-        ),
-        (
-            (
-                "def main\nprint 9223372036854775808\nend\n",
-                "",
-                0,
-                "",
-                "",
-                "",
-            ),
-            (2, 9),
-        ),
-        (
-            (
-                "def main\nprint -9223372036854775808\nend\n",
-                "",
-                0,
-                "",
-                "",
-                "",
-            ),
-            (0, 0),
-        ),
-        (
-            (
-                "def main\nprint -9223372036854775809\nend\n",
-                "",
-                0,
-                "",
-                "",
-                "",
-            ),
-            (2, 9),
-        ),
-    ];
-    for (parts, expected) in table {
-        let text = repeated(rt.alloc(), parts)?;
-        assert_eq!(rt; place(rt.alloc(), text.as_str())?, expected);
-    }
-    Ok(())
-}
-
-/// The printed form of what the text is read as, behind a byte.
-fn printed_again(alloc: Global, text: &str) -> Result<Vec<u8>, Fail> {
-    let mut out = Vec::new(alloc);
-    out.push(b'>')?;
-    if let Ok(scenario) = parse(alloc, text.as_bytes()) {
-        print(&scenario, &mut out)?;
-    }
-    Ok(out)
-}
-
-#[test]
-fn printed_forms(rt: HostRuntime) -> Result<(), Fail> {
-    let table = [
-        (
-            "# x\ndef main\n     print 1\n\nend\n",
-            ">def main\n  print 1\nend\n",
-        ),
-        (
-            "event e\nqueue q join none\nrawdef r v\nend\ndef f p\nif < -5 at list 2 1 p 0\nx <- get self within 5\nelse\nkill x with Error 7 now\nend\ntry\nsleep 0\nexcept Timeout t\nfinally\ntimeout none silent\nspawn f not true\nend\nend\nend\ndef main\nend\n",
-            ">event e\nqueue q join none\nrawdef r v\nend\ndef f p\n  if < -5 at list 2 1 p 0\n    x <- get self within 5\n  else\n    kill x with Error 7 now\n  end\n  try\n    sleep 0\n  except Timeout t\n  finally\n    timeout none silent\n      spawn f not true\n    end\n  end\nend\ndef main\nend\n",
-        ),
-        ("x", ">"),
-    ];
-    for (text, expected) in table {
-        assert_eq!(rt;
-            printed_again(rt.alloc(), text)?.as_slice(),
-            expected.as_bytes()
+    for (parts, expected) in BORDERS {
+        assert!(rt;
+            place_of_parts(rt.alloc(), parts)? == *expected,
+            "{} of a part",
+            parts.2
         );
     }
     Ok(())
 }
 
+/// Whether this is the printed form of what the text is read as; nothing is printed of a text that is refused.
+pub(crate) fn is_printed(alloc: Global, text: &str, expected: &str) -> Result<bool, Fail> {
+    let mut out = Vec::new(alloc);
+    out.push(b'>')?;
+    if let Ok(scenario) = parse(alloc, text.as_bytes()) {
+        print(&scenario, &mut out)?;
+    }
+    Ok(out.strip_prefix(b">") == Some(expected.as_bytes()))
+}
+
+/// Texts, and the printed form of each.
+const PRINTED: &[(&str, &str)] = &[
+    (
+        "# x\ndef main\n     print 1\n\nend\n",
+        "def main\n  print 1\nend\n",
+    ),
+    (
+        "event e\nqueue q join none\nrawdef r v\nend\ndef f p\nif < -5 at list 2 1 p 0\nx <- get self within 5\nelse\nkill x with Error 7 now\nend\ntry\nsleep 0\nexcept Timeout t\nfinally\ntimeout none silent\nspawn f not true\nend\nend\nend\ndef main\nend\n",
+        "event e\nqueue q join none\nrawdef r v\nend\ndef f p\n  if < -5 at list 2 1 p 0\n    x <- get self within 5\n  else\n    kill x with Error 7 now\n  end\n  try\n    sleep 0\n  except Timeout t\n  finally\n    timeout none silent\n      spawn f not true\n    end\n  end\nend\ndef main\nend\n",
+    ),
+    ("x", ""),
+];
+
+#[test]
+fn printed_forms(rt: HostRuntime) -> Result<(), Fail> {
+    for (text, expected) in PRINTED {
+        assert!(rt; is_printed(rt.alloc(), text, expected)?, "{text}");
+    }
+    Ok(())
+}
+
+/// Reasons, and the text of each.
+const REASONS: &[(u8, &str)] = &[
+    (1, "text longer than 1048576 bytes"),
+    (9, "number out of range"),
+    (22, "too many declarations"),
+];
+
 #[test]
 fn reasons_have_texts(rt: HostRuntime) {
-    assert_eq!(rt; reason_text(1), "text longer than 1048576 bytes");
-    assert_eq!(rt; reason_text(9), "number out of range");
-    assert_eq!(rt; reason_text(22), "too many declarations");
+    for (reason, text) in REASONS {
+        assert!(rt; reason_text(*reason) == *text, "{reason}");
+    }
 }
