@@ -1,121 +1,216 @@
 //! Streams that fail, and a peer that waits for its answers.
 ghost use Rattle.std.specs.Prelude.{◌≡◌, None};
 
+use crate::calls::{PRINTED_ONE, PRINTS_ONE, Row, called, holds};
 use crate::connection_tests::HELLO;
-use crate::run_tests::{LEFT_TO_A_NET, PRINTS_ONE, words_of};
 use gv_io::{Failed, MemorySink, MemorySource, Sink, Source, StdSink};
-use gv_top::offline;
 use std::alloc::{AllocError, Global};
 use std::cell::Cell;
 use std::test::Fail;
 use world::ScriptWorld;
-use wsgi_core::ShippedApp;
 
-const TRACE_OF_PRINTS_ONE: &str =
-    "start g0 main\nprint g0 1\nend g0 value none\nstop value none turns 0 moves 1\n";
+const ENDS_BY_A_FAULT: &[u8] = b"def main\nraise Error 7\nend\n";
 
-/// A source of this text.
-pub(crate) fn source_of(alloc: Global, text: &str) -> Result<MemorySource, AllocError> {
-    let bytes = Vec::from_slice(alloc, text.as_bytes())?;
-    Ok(MemorySource::new(bytes, 4096, Vec::new(alloc)))
+const TWO_REQUESTS: &[u8] = b"GET / HTTP/1.1\r\n\r\nGET / HTTP/1.1\r\n\r\n";
+
+/// Calls over streams that fail at a read, or past their room.
+const FAULTS: &[Row<'static>] = &[
+    Row {
+        name: "a read that fails under run",
+        words: "run",
+        input: PRINTS_ONE,
+        piece: 4,
+        failing: &[1],
+        room: 1000,
+        err_room: 1000,
+        status: 4,
+        out: b"",
+        err: b"gvr: read fault\n",
+    },
+    Row {
+        name: "a read that fails under fmt",
+        words: "fmt",
+        input: PRINTS_ONE,
+        piece: 21,
+        failing: &[1],
+        room: 1000,
+        err_room: 1000,
+        status: 4,
+        out: b"",
+        err: b"gvr: read fault\n",
+    },
+    Row {
+        name: "a read that fails under wsgi",
+        words: "wsgi",
+        input: TWO_REQUESTS,
+        piece: 20,
+        failing: &[1],
+        room: 1000,
+        err_room: 1000,
+        status: 4,
+        out: HELLO,
+        err: b"gvr: read fault\n",
+    },
+    Row {
+        name: "a storm reads no input",
+        words: "storm --size 3",
+        input: b"no scenario",
+        piece: 4096,
+        failing: &[0],
+        room: 1000,
+        err_room: 1000,
+        status: 0,
+        out: b"storm 3\ngreenlets 4\nturns 5\nmoves 21\nmoment 0\nlines 24\n",
+        err: b"",
+    },
+    Row {
+        name: "a last line that is not ended",
+        words: "run",
+        input: b"def main\nend",
+        piece: 4096,
+        failing: &[],
+        room: 1000,
+        err_room: 1000,
+        status: 3,
+        out: b"",
+        err: b"gvr: line 2: reason 3: last line not ended\n",
+    },
+    Row {
+        name: "out with room for 29",
+        words: "run",
+        input: PRINTS_ONE,
+        piece: 4096,
+        failing: &[],
+        room: 29,
+        err_room: 1000,
+        status: 5,
+        out: b"start g0 main\nprint g0 1\nend ",
+        err: b"gvr: write fault\n",
+    },
+    Row {
+        name: "out with room for 9 under wsgi",
+        words: "wsgi",
+        input: TWO_REQUESTS,
+        piece: 20,
+        failing: &[],
+        room: 9,
+        err_room: 1000,
+        status: 5,
+        out: b"HTTP/1.1 ",
+        err: b"gvr: write fault\n",
+    },
+    Row {
+        name: "a storm whose summary finds no room",
+        words: "storm --size 3",
+        input: b"",
+        piece: 4096,
+        failing: &[],
+        room: 12,
+        err_room: 1000,
+        status: 5,
+        out: b"storm 3\ngree",
+        err: b"gvr: write fault\n",
+    },
+    Row {
+        name: "err that fails past its room",
+        words: "run",
+        input: ENDS_BY_A_FAULT,
+        piece: 4096,
+        failing: &[],
+        room: 1000,
+        err_room: 9,
+        status: 5,
+        out: b"start g0 main\nend g0 fault Error(7)\nstop fault Error(7) turns 0 moves 1\n",
+        err: b"gvr: main",
+    },
+    Row {
+        name: "out and err with room for 9",
+        words: "run",
+        input: ENDS_BY_A_FAULT,
+        piece: 4096,
+        failing: &[],
+        room: 9,
+        err_room: 9,
+        status: 5,
+        out: b"start g0 ",
+        err: b"gvr: writ",
+    },
+    Row {
+        name: "out with room for 9, err with none",
+        words: "run",
+        input: PRINTS_ONE,
+        piece: 4096,
+        failing: &[],
+        room: 9,
+        err_room: 0,
+        status: 5,
+        out: b"start g0 ",
+        err: b"",
+    },
+];
+
+#[test]
+fn streams_that_fail(rt: HostRuntime) -> Result<(), Fail> {
+    for row in FAULTS {
+        assert!(rt; holds(rt.alloc(), row)?, "{}", row.name);
+    }
+    Ok(())
+}
+
+/// Words, an input, the status and what is written to out, where err always fails.
+type WithoutErr = (&'static str, &'static [u8], u8, &'static [u8]);
+
+const WITHOUT_ERR: &[WithoutErr] = &[
+    ("run", PRINTS_ONE, 0, PRINTED_ONE),
+    ("fmt", PRINTS_ONE, 0, b"def main\n  print 1\nend\n"),
+    ("wsgi", b"", 0, b""),
+    (
+        "run",
+        b"def main\njoin self\nend\n",
+        5,
+        b"start g0 main\npark g0 join g0\nblock none\nthrow g0 LoopExit\nend g0 fault LoopExit\nstop fault LoopExit turns 1 moves 1\n",
+    ),
+    ("fmt", b"", 5, b""),
+    ("walk", b"", 5, b""),
+];
+
+/// Calls with the words over an input in one piece, and over this err. The status, and what is written.
+fn called_over<E: Sink>(
+    alloc: Global,
+    words: &str,
+    input: &[u8],
+    err: &mut E,
+) -> Result<(u8, MemorySink), AllocError> {
+    let bytes = Vec::from_slice(alloc, input)?;
+    let mut input = MemorySource::new(bytes, 4096, Vec::new(alloc));
+    let mut out = MemorySink::new(alloc, 1000)?;
+    let status = called(
+        alloc,
+        words,
+        &mut input,
+        &mut out,
+        err,
+        &mut ScriptWorld::new(alloc, 0),
+    )?;
+    Ok((status, out))
+}
+
+/// Whether the call leaves this where err always fails.
+fn ends_without_err(alloc: Global, row: &WithoutErr) -> Result<bool, AllocError> {
+    let (words, input, wanted, out) = *row;
+    let mut nowhere = [0; 0];
+    let mut err = StdSink::new(alloc, &mut nowhere[..], 0)?;
+    // A sink over the system fails for good once it has failed.
+    let failed = err.write_all(b"x") == Err(Failed);
+    let (status, written) = called_over(alloc, words, input, &mut err)?;
+    Ok(failed && status == wanted && written.bytes() == out)
 }
 
 #[test]
 fn err_that_always_fails(rt: HostRuntime) -> Result<(), Fail> {
-    let alloc = rt.alloc();
-    let table = [
-        ("run", PRINTS_ONE, TRACE_OF_PRINTS_ONE, 0),
-        ("fmt", PRINTS_ONE, "def main\n  print 1\nend\n", 0),
-        ("wsgi", "", "", 0),
-        (
-            "run",
-            "def main\njoin self\nend\n",
-            "start g0 main\npark g0 join g0\nblock none\nthrow g0 LoopExit\nend g0 fault LoopExit\nstop fault LoopExit turns 1 moves 1\n",
-            5,
-        ),
-        ("fmt", "", "", 5),
-        ("walk", "", "", 5),
-    ];
-    for (line, text, wanted, status) in table {
-        let words = words_of(alloc, line)?;
-        let mut input = source_of(alloc, text)?;
-        let mut out = MemorySink::new(alloc, 1000)?;
-        let mut nowhere = [0; 0];
-        let mut err = StdSink::new(alloc, &mut nowhere[..], 0)?;
-        // a sink over the system fails for good once it has failed
-        assert_eq!(rt; err.write_all(b"x"), Err(Failed));
-        let mut native = ScriptWorld::new(alloc, 0);
-        let answered = offline(
-            alloc,
-            words.as_slice(),
-            &mut input,
-            &mut out,
-            &mut err,
-            &mut native,
-            &ShippedApp,
-        )
-        .unwrap_or(LEFT_TO_A_NET);
-        assert_eq!(rt; answered, status, "{line}");
-        assert_eq!(rt; out.bytes(), wanted.as_bytes(), "{line}");
+    for row in WITHOUT_ERR {
+        assert!(rt; ends_without_err(rt.alloc(), row)?, "{}", row.0);
     }
-    Ok(())
-}
-
-#[test]
-fn err_that_fails_past_its_room(rt: HostRuntime) -> Result<(), Fail> {
-    let alloc = rt.alloc();
-    let main_ends = "def main\nraise Error 7\nend\n";
-    let whole = "start g0 main\nend g0 fault Error(7)\nstop fault Error(7) turns 0 moves 1\n";
-    let table = [
-        (main_ends, 1000, 9, whole, "gvr: main"),
-        (main_ends, 9, 9, "start g0 ", "gvr: writ"),
-        (PRINTS_ONE, 9, 0, "start g0 ", ""),
-    ];
-    for (text, room, err_room, wanted, line) in table {
-        let words = words_of(alloc, "run")?;
-        let mut input = source_of(alloc, text)?;
-        let mut out = MemorySink::new(alloc, room)?;
-        let mut err = MemorySink::new(alloc, err_room)?;
-        let mut native = ScriptWorld::new(alloc, 0);
-        let answered = offline(
-            alloc,
-            words.as_slice(),
-            &mut input,
-            &mut out,
-            &mut err,
-            &mut native,
-            &ShippedApp,
-        )
-        .unwrap_or(LEFT_TO_A_NET);
-        assert_eq!(rt; answered, 5, "{line}");
-        assert_eq!(rt; out.bytes(), wanted.as_bytes());
-        assert_eq!(rt; err.bytes(), line.as_bytes());
-    }
-    Ok(())
-}
-
-#[test]
-fn read_that_fails_under_fmt(rt: HostRuntime) -> Result<(), Fail> {
-    let alloc = rt.alloc();
-    let words = words_of(alloc, "fmt")?;
-    let bytes = Vec::from_slice(alloc, PRINTS_ONE.as_bytes())?;
-    let mut input = MemorySource::new(bytes, 21, Vec::from_slice(alloc, &[1])?);
-    let mut out = MemorySink::new(alloc, 1000)?;
-    let mut err = MemorySink::new(alloc, 1000)?;
-    let mut native = ScriptWorld::new(alloc, 0);
-    let answered = offline(
-        alloc,
-        words.as_slice(),
-        &mut input,
-        &mut out,
-        &mut err,
-        &mut native,
-        &ShippedApp,
-    )
-    .unwrap_or(LEFT_TO_A_NET);
-    assert_eq!(rt; answered, 4);
-    assert_eq!(rt; out.bytes(), "".as_bytes());
-    assert_eq!(rt; err.bytes(), "gvr: read fault\n".as_bytes());
     Ok(())
 }
 
@@ -175,10 +270,21 @@ impl Sink for Way<'_> {
     }
 }
 
+/// Answers the connection of the peer. The status.
+fn answered(alloc: Global, peer: &mut Peer, way: &mut Way) -> Result<u8, AllocError> {
+    let mut err = MemorySink::new(alloc, 1000)?;
+    called(
+        alloc,
+        "wsgi",
+        peer,
+        way,
+        &mut err,
+        &mut ScriptWorld::new(alloc, 0),
+    )
+}
+
 #[test]
 fn each_piece_is_answered_before_the_next_is_read(rt: HostRuntime) -> Result<(), Fail> {
-    let alloc = rt.alloc();
-    let words = words_of(alloc, "wsgi")?;
     let reached = Cell::new(0);
     let mut peer = Peer {
         reached: &reached,
@@ -189,20 +295,8 @@ fn each_piece_is_answered_before_the_next_is_read(rt: HostRuntime) -> Result<(),
         reached: &reached,
         held: 0,
     };
-    let mut err = MemorySink::new(alloc, 1000)?;
-    let mut native = ScriptWorld::new(alloc, 0);
-    let answered = offline(
-        alloc,
-        words.as_slice(),
-        &mut peer,
-        &mut way,
-        &mut err,
-        &mut native,
-        &ShippedApp,
-    )
-    .unwrap_or(LEFT_TO_A_NET);
-    assert_eq!(rt; answered, 0);
+    assert!(rt; answered(rt.alloc(), &mut peer, &mut way)? == 0);
     let greeting = HELLO.len();
-    assert_eq!(rt; peer.noted, [0, greeting, greeting + greeting]);
+    assert!(rt; peer.noted == [0, greeting, greeting + greeting]);
     Ok(())
 }

@@ -2,11 +2,13 @@
 #![tactic(auto)]
 
 #[cfg(test)]
+mod calls;
+#[cfg(test)]
 mod connection_tests;
 #[cfg(test)]
 mod fault_tests;
 #[cfg(test)]
-mod gateway_tests;
+mod limit_tests;
 #[cfg(test)]
 mod native_tests;
 #[cfg(test)]
@@ -14,14 +16,8 @@ mod net_tests;
 #[cfg(test)]
 mod nets;
 #[cfg(test)]
-mod newcomer_tests;
-#[cfg(test)]
-mod profile_tests;
-#[cfg(test)]
-mod run_tests;
-#[cfg(test)]
 mod serve_tests;
 #[cfg(test)]
-mod storm_tests;
+mod served;
 #[cfg(test)]
 mod words_tests;

@@ -1,50 +1,18 @@
 //! Runs with native workers whose threads never start.
 ghost use Rattle.std.specs.Prelude.{◌≡◌, false};
 
-use crate::fault_tests::{Way, source_of};
-use crate::run_tests::{LEFT_TO_A_NET, words_of};
+use crate::calls::{Row, called, holds_over};
+use crate::fault_tests::Way;
 use gv_io::{MemorySink, MemorySource, Sink};
-use gv_top::offline;
 use native_board::Bell;
 use native_pool::{Clock, Ear, NoThreads, OpenGate, ThreadWorld};
 use std::alloc::{AllocError, Global};
 use std::cell::Cell;
 use std::test::Fail;
 use world::World;
-use wsgi_core::ShippedApp;
 
-const TWO_JOBS: &str =
-    "native n 2\ndef main\na <- nspawn n sum 3\nb <- nspawn n echo 4\nx <- get a\nprint x\nend\n";
-
-/// What a call with native workers left.
-#[derive(Drop)]
-struct Left {
-    status: u8,
-    out: MemorySink,
-    err: MemorySink,
-}
-
-/// Calls with the words of a line over two jobs, and over this world.
-fn run_in<W: World>(alloc: Global, line: &str, native: &mut W) -> Result<Left, AllocError>
-    requires { (W.meaning native.old).runs ≡ false }
-{
-    let words = words_of(alloc, line)?;
-    let bytes = Vec::from_slice(alloc, TWO_JOBS.as_bytes())?;
-    let mut input = MemorySource::new(bytes, 4096, Vec::new(alloc));
-    let mut out = MemorySink::new(alloc, 10000)?;
-    let mut err = MemorySink::new(alloc, 1000)?;
-    let status = offline(
-        alloc,
-        words.as_slice(),
-        &mut input,
-        &mut out,
-        &mut err,
-        native,
-        &ShippedApp,
-    )
-    .unwrap_or(LEFT_TO_A_NET);
-    Ok(Left { status, out, err })
-}
+const TWO_JOBS: &[u8] =
+    b"native n 2\ndef main\na <- nspawn n sum 3\nb <- nspawn n echo 4\nx <- get a\nprint x\nend\n";
 
 /// An ear that hears nothing.
 #[derive(Clone, Copy)]
@@ -79,13 +47,20 @@ impl Clock for Still {
 #[test]
 fn no_threads(rt: HostRuntime) -> Result<(), Fail> {
     let alloc = rt.alloc();
+    let row = Row {
+        name: "",
+        words: "run --native 2",
+        input: TWO_JOBS,
+        piece: 4096,
+        failing: &[],
+        room: 10000,
+        err_room: 1000,
+        status: 0,
+        out: b"start g0 main\njob j1 g0 sum 3\njob j2 g0 echo 4\npark g0 get j1\nblock jobs\nturn 1 done j1 0 value 6\nwake g0\nprint g0 6\nend g0 value none\nstop value none turns 2 moves 4\n",
+        err: b"",
+    };
     let mut native = ThreadWorld::new(alloc, rt, Deaf, Mute, Still, OpenGate, NoThreads::new())?;
-    let left = run_in(alloc, "run --native 2", &mut native)?;
-    assert_eq!(rt; left.status, 0);
-    let trace =
-        "start g0 main\njob j1 g0 sum 3\njob j2 g0 echo 4\npark g0 get j1\nblock jobs\nturn 1 done j1 0 value 6\nwake g0\nprint g0 6\nend g0 value none\nstop value none turns 2 moves 4\n";
-    assert_eq!(rt; left.out.bytes(), trace.as_bytes());
-    assert_eq!(rt; left.err.bytes(), "".as_bytes());
+    assert!(rt; holds_over(alloc, &row, &mut native)?);
     Ok(())
 }
 
@@ -122,6 +97,16 @@ impl Clock for Moved<'_> {
     }
 }
 
+/// Runs a text that sleeps, with native workers. The status.
+fn sleeps<W: World>(alloc: Global, way: &mut Way, native: &mut W) -> Result<u8, AllocError>
+    requires { (W.meaning native.old).runs ≡ false }
+{
+    let text = Vec::from_slice(alloc, b"def main\nprint 1\nsleep 5\nprint 2\nend\n")?;
+    let mut input = MemorySource::new(text, 4096, Vec::new(alloc));
+    let mut err = MemorySink::new(alloc, 1000)?;
+    called(alloc, "run --native 1", &mut input, way, &mut err, native)
+}
+
 #[test]
 fn lines_are_handed_on_before_the_program_waits(rt: HostRuntime) -> Result<(), Fail> {
     let alloc = rt.alloc();
@@ -137,25 +122,13 @@ fn lines_are_handed_on_before_the_program_waits(rt: HostRuntime) -> Result<(), F
         moment: &moment,
         last: 0,
     };
-    let mut native = ThreadWorld::new(alloc, rt, ear, Mute, clock, OpenGate, NoThreads::new())?;
-    let words = words_of(alloc, "run --native 1")?;
-    let mut input = source_of(alloc, "def main\nprint 1\nsleep 5\nprint 2\nend\n")?;
     let mut way = Way {
         reached: &reached,
         held: 0,
     };
-    let mut err = MemorySink::new(alloc, 1000)?;
-    let status = offline(
-        alloc,
-        words.as_slice(),
-        &mut input,
-        &mut way,
-        &mut err,
-        &mut native,
-        &ShippedApp,
-    );
-    assert_eq!(rt; status, Some(0));
+    let mut native = ThreadWorld::new(alloc, rt, ear, Mute, clock, OpenGate, NoThreads::new())?;
+    assert!(rt; sleeps(alloc, &mut way, &mut native)? == 0);
     let before = "start g0 main\nprint g0 1\npark g0 sleep until 5\nblock 5\n";
-    assert_eq!(rt; noted.get(), before.len());
+    assert!(rt; noted.get() == before.len());
     Ok(())
 }

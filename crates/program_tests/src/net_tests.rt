@@ -3,16 +3,11 @@ ghost use Rattle.std.specs.Prelude.{◌<◌, ◌^◌, length, IfOk};
 ghost use Rattle.stream_net.specs.Nets.{IsFresh};
 
 use crate::nets::{Notes, Watched, Worn};
-use crate::run_tests::words_of;
-use gv_io::{MemorySink, MemorySource};
-use gv_top::gvr;
-use http_messages::Sequence;
+use crate::served::{Served, is_served, sending};
 use std::alloc::{AllocError, Global};
 use std::sync::Wait;
 use std::test::Fail;
-use stream_net::{Arrivals, ConnScript, MemoryNet, Net, Piece, Rooms};
-use world::ScriptWorld;
-use wsgi_core::ShippedApp;
+use stream_net::{ConnScript, MemoryNet, Net};
 
 const HELLO: &[u8] =
     b"HTTP/1.1 200 OK\r\nContent-Type: text/plain\r\nContent-Length: 6\r\n\r\nhello\n";
@@ -30,67 +25,13 @@ const PIECES: [&[u8]; 3] = [
     b" HTTP/1.1\r\nConnection: close\r\n\r\n",
 ];
 
-/// A connection that arrives at 0, sends these pieces at once and takes so many bytes write by write.
-fn sending(alloc: Global, texts: &[&[u8]], room: &[u32]) -> Result<ConnScript, AllocError> {
-    let mut pieces = Vec::new(alloc);
-    for text in texts {
-        pieces.push(Piece {
-            at: 0,
-            bytes: Sequence::from_vec(Vec::from_slice(alloc, text)?),
-        })?;
-    }
-    Ok(ConnScript {
-        arrives: 0,
-        pieces: Arrivals::new(pieces),
-        ends: None,
-        room: Rooms::new(Vec::from_slice(alloc, room)?),
-        fails: None,
-    })
-}
-
-/// What a call of `serve` left.
-#[derive(Drop)]
-struct Left {
-    status: u8,
-    out: MemorySink,
-    err: MemorySink,
-}
-
-/// Serves connections of the net as the words say.
-fn served<N: Net, H: Wait>(
-    rt: &H,
-    alloc: Global,
-    line: &str,
-    net: &mut N,
-) -> Result<Left, AllocError>
-    requires { IsFresh (N.meaning net.old) }
-{
-    let words = words_of(alloc, line)?;
-    let mut input = MemorySource::new(Vec::new(alloc), 1, Vec::new(alloc));
-    let mut out = MemorySink::new(alloc, 100)?;
-    let mut err = MemorySink::new(alloc, 100)?;
-    let mut native = ScriptWorld::new(alloc, 0);
-    let status = gvr(
-        rt,
-        alloc,
-        words.as_slice(),
-        &mut input,
-        &mut out,
-        &mut err,
-        &mut native,
-        net,
-        &ShippedApp,
-    );
-    Ok(Left { status, out, err })
-}
-
-/// Serves two connections, and gives the status and what was noted of one of them.
+/// Serves two connections of the net, and gives what was noted of one of them, where the call says what it is to.
 fn noted<N: Net + Drop, H: Wait>(
     rt: &H,
     alloc: Global,
     net: N,
     conn: u32,
-) -> Result<(u8, Notes), AllocError>
+) -> Result<Option<Notes>, AllocError>
     requires { IsFresh (N.meaning net) }
 {
     let first = PIECES[0].len();
@@ -108,40 +49,56 @@ fn noted<N: Net + Drop, H: Wait>(
         early: 0,
     };
     let mut net = Watched { net, notes };
-    let left = served(rt, alloc, "serve --port 8080 --conns 2 --pool 2", &mut net)?;
-    Ok((left.status, net.notes))
+    let served = Served {
+        words: "serve --port 8080 --conns 2 --pool 2",
+        room: 100,
+        status: 0,
+        out: b"listening 8080\nserved 2\n",
+        err: b"",
+    };
+    let holds = is_served(rt, alloc, &served, &mut net)?;
+    Ok(if holds { Some(net.notes) } else { None })
+}
+
+/// Whether each read of a connection came when all was written that was due, and all was read and written.
+fn is_timely(notes: &Notes) -> bool {
+    notes.early == 0
+        && notes.timely >= 3
+        && notes.read == PIECES[0].len() + PIECES[1].len() + PIECES[2].len()
+        && notes.written == HELLO.len() + CHUNKS.len() + NOT_FOUND_AND_CLOSE.len()
+}
+
+/// Whether that holds of this one of two connections.
+fn is_read_in_time<H: Wait>(rt: &H, alloc: Global, conn: u32) -> Result<bool, AllocError> {
+    let one = sending(alloc, &PIECES, &[3, 0, 40, 0, 0, 1])?;
+    let other = sending(alloc, &PIECES, &[0, 200, 5, 0])?;
+    let net = MemoryNet::new(alloc, 8080, vec![in alloc; one, other]?);
+    match noted(rt, alloc, net, conn)? {
+        Some(notes) => Ok(is_timely(&notes)),
+        None => Ok(false),
+    }
 }
 
 #[test]
 fn a_connection_is_read_only_when_all_that_is_due_was_written(rt: HostRuntime) -> Result<(), Fail> {
-    let alloc = rt.alloc();
     for conn in 0..2 {
-        let one = sending(alloc, &PIECES, &[3, 0, 40, 0, 0, 1])?;
-        let other = sending(alloc, &PIECES, &[0, 200, 5, 0])?;
-        let net = MemoryNet::new(alloc, 8080, vec![in alloc; one, other]?);
-        let (status, notes) = noted(&rt, alloc, net, conn)?;
-        assert_eq!(rt; status, 0);
-        assert_eq!(rt; notes.early, 0);
-        assert!(rt; notes.timely >= 3);
-        assert_eq!(rt;
-            notes.read,
-            PIECES[0].len() + PIECES[1].len() + PIECES[2].len()
-        );
-        assert_eq!(rt;
-            notes.written,
-            HELLO.len() + CHUNKS.len() + NOT_FOUND_AND_CLOSE.len()
+        assert!(rt;
+            is_read_in_time(&rt, rt.alloc(), conn)?,
+            "connection {conn}"
         );
     }
     Ok(())
 }
 
-/// Serves connections of a net that accepts two and then breaks off, and gives that net back with what was left.
+/// Serves connections of a net that accepts two and then breaks off, and gives that net back, where the call says what
+/// it is to.
 fn broken_off<N: Net + Drop, H: Wait>(
     rt: &H,
     alloc: Global,
     net: N,
     fails: bool,
-) -> Result<(N, Left), AllocError>
+    served: &Served,
+) -> Result<Option<N>, AllocError>
     requires { IsFresh (N.meaning net) }
 {
     let mut net = Worn {
@@ -151,32 +108,57 @@ fn broken_off<N: Net + Drop, H: Wait>(
         refused: false,
         faults: 0,
     };
-    let left = served(rt, alloc, "serve --port 8080 --conns 3", &mut net)?;
-    Ok((net.net, left))
+    let holds = is_served(rt, alloc, served, &mut net)?;
+    Ok(if holds { Some(net.net) } else { None })
+}
+
+/// Whether two connections are accepted, of which one was answered, and both are open.
+fn are_open(net: &MemoryNet) -> bool {
+    net.written(0) == Some(&b""[..])
+        && net.written(1) == Some(HELLO)
+        && net.written(2).is_none()
+        && net.closed_at(0).is_none()
+        && net.closed_at(1).is_none()
+}
+
+/// Half a request, and two whole ones.
+fn three(alloc: Global) -> Result<Vec<ConnScript>, AllocError>
+    ensures { IfOk result (λ scripts. length scripts.items < 2 ^ 32) }
+{
+    let half = sending(alloc, &[b"GET / HT"], &[])?;
+    let whole = sending(alloc, &[b"GET / HTTP/1.1\r\n\r\n"], &[])?;
+    let more = sending(alloc, &[b"GET / HTTP/1.1\r\n\r\n"], &[])?;
+    Ok(vec![in alloc; half, whole, more]?)
+}
+
+/// Whether what is open stays open where the server breaks off like that, with this status and line.
+fn stays_open<H: Wait>(
+    rt: &H,
+    alloc: Global,
+    fails: bool,
+    status: u8,
+    err: &[u8],
+) -> Result<bool, AllocError> {
+    let served = Served {
+        words: "serve --port 8080 --conns 3",
+        room: 100,
+        status,
+        out: b"listening 8080\n",
+        err,
+    };
+    let net = MemoryNet::new(alloc, 8080, three(alloc)?);
+    match broken_off(rt, alloc, net, fails, &served)? {
+        Some(net) => Ok(are_open(&net)),
+        None => Ok(false),
+    }
 }
 
 #[test]
 fn what_is_open_when_the_server_breaks_off_stays_open(rt: HostRuntime) -> Result<(), Fail> {
     let alloc = rt.alloc();
-    // whether the listener fails or memory is wanting, the status and the line on err
-    let table: [(bool, u8, &[u8]); 2] = [
-        (true, 10, b"gvr: network fault\n"),
-        (false, 7, b"gvr: out of memory\n"),
-    ];
-    for (fails, status, complaint) in table {
-        let half = sending(alloc, &[b"GET / HT"], &[])?;
-        let whole = sending(alloc, &[b"GET / HTTP/1.1\r\n\r\n"], &[])?;
-        let more = sending(alloc, &[b"GET / HTTP/1.1\r\n\r\n"], &[])?;
-        let net = MemoryNet::new(alloc, 8080, vec![in alloc; half, whole, more]?);
-        let (net, left) = broken_off(&rt, alloc, net, fails)?;
-        assert_eq!(rt; left.status, status);
-        assert_eq!(rt; left.out.bytes(), b"listening 8080\n".as_slice());
-        assert_eq!(rt; left.err.bytes(), complaint);
-        assert_eq!(rt; net.written(0), Some(&b""[..]));
-        assert_eq!(rt; net.written(1), Some(HELLO));
-        assert!(rt; net.written(2).is_none());
-        assert!(rt; net.closed_at(0).is_none());
-        assert!(rt; net.closed_at(1).is_none());
-    }
+    // The listener fails.
+    assert!(rt; stays_open(&rt, alloc, true, 10, b"gvr: network fault\n")?);
+    // Memory is wanting.
+    assert!(rt; stays_open(&rt, alloc, false, 7, b"gvr: out of memory\n")?);
     Ok(())
 }
