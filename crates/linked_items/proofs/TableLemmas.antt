@@ -1,5 +1,5 @@
 -- What a table keeps when a slot is written.
-use Rattle.std.proofs.Common.{◌≡◌, ◌≢◌, ◌⊎◌, ℕ, zero, suc, ◌+◌, ◌<◌, ◌≤◌, List, [], ◌∷◌, ◌++◌, length, Bool, true, false, cond, refl, sym, ap, ◌∙◌, inl, inr, subst, arith, count_by, set, get_or-set_same, get_or-set_other, take, replicate}
+use Rattle.std.proofs.Common.{◌≡◌, ◌≢◌, ◌⊎◌, ℕ, zero, suc, ◌+◌, ◌<◌, ◌≤◌, List, [], ◌∷◌, ◌++◌, length, Bool, true, false, cond, refl, sym, ap, ◌∙◌, inl, inr, subst, arith, count_by, set, get_or-set_same, get_or-set_other, take}
 use Rattle.std.proofs.lemmas.Bool.{cases_eq}
 use Rattle.std.proofs.lemmas.List.Sums.{sum_by-cons, sum_by-set, count_by_more_yes, count_by_more_no}
 use Rattle.std.proofs.lemmas.List.{get_or_past}
@@ -131,10 +131,6 @@ not_empty (Held q k) h = refl
 
 pub empty_counts : (s : Slot) → s ≡ Empty → empty_count s ≡ 1
 empty_counts s e = ap empty_count e
-
-pub none_held : (n : ℕ) → count_by is_held (replicate n Empty) ≡ 0
-none_held zero = refl
-none_held (suc n) = omega (arith, none_held n, sum_by-cons (λ x. cond (is_held x) 1 0) Empty (replicate n Empty))
 
 -- the slots before `at` are in the new table
 pub record IsRefilled (from to : List Slot) (homes at free : ℕ) : Type 0 where

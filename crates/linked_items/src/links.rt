@@ -36,7 +36,7 @@ impl Links {
         }
     }
 
-    // Writes what follows the node at `at`, or the first node of the line where there is no `at`.
+    /// Writes what follows the node at `at`, or the first node of the line where there is no `at`.
     fn set_after(&mut self, at: Option<usize>, link: Option<usize>)
         ensures { AfterIsSet self.old at link self.new }
     {
@@ -50,7 +50,7 @@ impl Links {
         }
     }
 
-    // Writes what stands before the node at `at`, or the last node of the line where there is no `at`.
+    /// Writes what stands before the node at `at`, or the last node of the line where there is no `at`.
     fn set_before(&mut self, at: Option<usize>, link: Option<usize>)
         ensures { BeforeIsSet self.old at link self.new }
     {

@@ -21,7 +21,7 @@ pub enum Slot {
     Held { item: u32, place: usize },
 }
 
-// Where the search for an item begins: neighbours are scattered, so that no long run of slots is in use.
+/// Where the search for an item begins: neighbours are scattered, so that no long run of slots is in use.
 fn home(item: u32, homes: usize) -> usize
     requires { 0 < homes }
     ensures { result ≡ home_of item homes }
@@ -29,7 +29,7 @@ fn home(item: u32, homes: usize) -> usize
     item as usize * 2654435761 % homes
 }
 
-// Where the item stands, if it stands at or after `from`, before an empty slot.
+/// Where the item stands, if it stands at or after `from`, before an empty slot.
 fn find_slot(slots: &[Slot], from: usize, item: u32) -> Option<usize>
     ensures found { IfSome result (λ p. (p < length slots.now) × ((k : ℕ) × HeldAt slots.now p item k)) }
     ensures absent { IfNone result ((p k : ℕ) → HeldAt slots.now p item k → from ≤ p → (j : ℕ) × (from ≤ j) × (j < p) × (slot_at slots.now j ≡ Slot.Empty)) }
@@ -44,7 +44,7 @@ fn find_slot(slots: &[Slot], from: usize, item: u32) -> Option<usize>
     None
 }
 
-// The first slot at or after `from` that holds no item.
+/// The first slot at or after `from` that holds no item.
 fn free_slot(slots: &[Slot], from: usize) -> usize
     requires { (j : ℕ) × (from ≤ j) × (j < length slots.now) × (slot_at slots.now j ≡ Slot.Empty) }
     ensures within { result < length slots.now }
@@ -60,7 +60,7 @@ fn free_slot(slots: &[Slot], from: usize) -> usize
     unreachable!()
 }
 
-// Puts an item that isn't there yet, and gives the number of slots that are still empty.
+/// Puts an item that isn't there yet, and gives the number of slots that are still empty.
 fn put(slots: &mut [Slot], homes: usize, free: usize, item: u32, place: usize) -> usize
     requires table { IsTable slots.old homes free }
     requires room { homes < free }
@@ -80,7 +80,7 @@ fn put(slots: &mut [Slot], homes: usize, free: usize, item: u32, place: usize) -
     left
 }
 
-// Fills an empty table with all that another holds, and gives the number of slots that are still empty.
+/// Fills an empty table with all that another holds, and gives the number of slots that are still empty.
 fn refill(from: &[Slot], to: &mut [Slot], homes: usize) -> usize
     requires once { IsOnce from.now }
     requires empty { to.old ≡ replicate (length to.old) Slot.Empty }
@@ -100,7 +100,7 @@ fn refill(from: &[Slot], to: &mut [Slot], homes: usize) -> usize
     free
 }
 
-// Fills the table anew where no slot is empty that may be used up, and gives the number of empty slots.
+/// Fills the table anew where no slot is empty that may be used up, and gives the number of empty slots.
 fn make_room(slots: &mut Vec<Slot>, twin: &mut Vec<Slot>, homes: usize, free: usize) -> usize
     requires table { IsTable slots.old.items homes free }
     requires some_home { 0 < homes }
