@@ -39,7 +39,7 @@ impl Model for Crew {
     ghost invariant = { IsCrew };
 }
 
-// Where the member stands, by a binary search.
+/// Where the member stands, by a binary search.
 fn place_of(members: &[u32], g: u32) -> usize
     requires rising { IsRising members.now }
     requires there { Contains members.now g }
@@ -51,7 +51,7 @@ fn place_of(members: &[u32], g: u32) -> usize
     }
 }
 
-// A number more, behind all others. Without memory nothing is changed.
+/// A number more, behind all others. Without memory nothing is changed.
 fn push_member(members: &mut Vec<u32>, g: u32) -> Result<(), AllocError>
     ensures ok { OnOk result (members.new.items ≡ members.old.items ++ g ∷ []) }
     ensures err { OnErr result (members.new.items ≡ members.old.items) }
@@ -142,7 +142,7 @@ impl Crew {
         self.members.remove(at);
     }
 
-    // So many places are free; in a group as many as are asked for.
+    /// So many places are free; in a group as many as are asked for.
     fn free(&self, asked: u64) -> u64
         ensures { result ≡ free_places asked self.now.size self.now.members }
     {
@@ -170,7 +170,7 @@ impl Crew {
         self.joins.remove(item);
     }
 
-    // So many of those that wait for the last member may go: all or none.
+    /// So many of those that wait for the last member may go: all or none.
     fn join_places(&self) -> u64
         ensures some { (result ≡ 0) ⊎ (length self.now.members ≡ 0) }
         ensures all { length self.now.members ≡ 0 → result ≡ length self.now.joins }
