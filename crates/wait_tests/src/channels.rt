@@ -42,10 +42,10 @@ fn an_offer_waits_until_it_is_taken(rt: HostRuntime) -> Result<(), Fail> {
     let mut channel = Channel::new(rt.alloc())?;
     assert!(rt; channel.make_room(1).is_ok());
     assert!(rt; offer(&mut channel, 1, 5));
-    assert!(rt; channel.tell_taken() == None);
+    assert!(rt; channel.tell_taken().is_none());
     assert!(rt; take(&mut channel) == Some(5));
     assert!(rt; channel.tell_taken() == Some(1));
-    assert!(rt; take(&mut channel) == None);
+    assert!(rt; take(&mut channel).is_none());
     drop(channel);
     Ok(())
 }
@@ -56,11 +56,11 @@ fn an_offer_is_for_the_getter_that_waits(rt: HostRuntime) -> Result<(), Fail> {
     assert!(rt; channel.make_room(2).is_ok());
     channel.park_getter(2);
     assert!(rt; offer(&mut channel, 1, 5));
-    assert!(rt; take(&mut channel) == None);
-    assert!(rt; channel.tell_taken() == None);
+    assert!(rt; take(&mut channel).is_none());
+    assert!(rt; channel.tell_taken().is_none());
     assert!(rt; next_gets(&mut channel) == Some((2, Some(5))));
     assert!(rt; channel.tell_taken() == Some(1));
-    assert!(rt; next_gets(&mut channel) == None);
+    assert!(rt; next_gets(&mut channel).is_none());
     drop(channel);
     Ok(())
 }

@@ -4,7 +4,8 @@ use groups_pools::Crew;
 use std::test::*;
 use waiters::{Parking, Side};
 
-// The next that waits for a place and may go does, and `g` becomes a member. Says who went, and whether there was memory.
+// The next that waits for a place and may go does, and `g` becomes a member. Says who went, and whether there was
+// memory.
 fn next_enters(pool: &mut Crew, g: u32) -> Option<(u32, bool)>
     requires { AreBelow g pool.old.members }
 {
@@ -33,7 +34,7 @@ fn a_newcomer_waits_for_a_place(rt: HostRuntime) -> Result<(), Fail> {
     assert!(rt; pool.admit(7).is_ok());
     assert!(rt; pool.reserve(1).is_ok());
     pool.park(Side::Only, 3);
-    assert!(rt; pool.next_ready() == None);
+    assert!(rt; pool.next_ready().is_none());
     pool.member_ended(7);
     assert!(rt; !pool.admit_now());
     assert!(rt; next_enters(&mut pool, 8) == Some((3, true)));

@@ -7,12 +7,12 @@ fn each_place_of_a_target_counts(rt: HostRuntime) -> Result<(), Fail> {
     let mut targets = Targets::new(rt.alloc());
     let pending = [Whom::Greenlet(1), Whom::Greenlet(1), Whom::Job(1)];
     assert!(rt; targets.add(4, &pending, 2).is_ok());
-    assert!(rt; targets.next_ready() == None);
+    assert!(rt; targets.next_ready().is_none());
     targets.done(Whom::Job(2));
-    assert!(rt; targets.next_ready() == None);
+    assert!(rt; targets.next_ready().is_none());
     targets.done(Whom::Greenlet(1));
     assert!(rt; targets.next_ready() == Some(4));
-    assert!(rt; targets.next_ready() == None);
+    assert!(rt; targets.next_ready().is_none());
     drop(targets);
     Ok(())
 }
@@ -22,7 +22,7 @@ fn a_cancelled_wait_is_gone(rt: HostRuntime) -> Result<(), Fail> {
     let mut targets = Targets::new(rt.alloc());
     assert!(rt; targets.add(9, &[], 0).is_ok());
     targets.cancel(9);
-    assert!(rt; targets.next_ready() == None);
+    assert!(rt; targets.next_ready().is_none());
     drop(targets);
     Ok(())
 }
@@ -42,7 +42,7 @@ fn each_end_strikes_its_own_waits(rt: HostRuntime) -> Result<(), Fail> {
         targets.done(Whom::Job(number));
         assert!(rt; targets.next_ready() == Some(number));
     }
-    assert!(rt; targets.next_ready() == None);
+    assert!(rt; targets.next_ready().is_none());
     assert!(rt; targets.len() == 100_000);
     drop(targets);
     Ok(())

@@ -26,17 +26,19 @@ fn next_link(life: &mut Life, g: u32) -> Option<u32>
     life.next_link(g)
 }
 
-// Ends a greenlet with nothing, if it hasn't ended.
-fn end(life: &mut Life, g: u32)
+// Ends a greenlet with nothing, where it hasn't ended, and says whether.
+fn end(life: &mut Life, g: u32) -> bool
     requires { g < length life.old.greenlets }
     ensures { length life.new.greenlets ≡ length life.old.greenlets }
 {
-    if life.phase(g) != Phase::Done {
-        life.end(g, Outcome::Value(Value::Nothing));
+    if life.phase(g) == Phase::Done {
+        return false;
     }
+    life.end(g, Outcome::Value(Value::Nothing));
+    true
 }
 
-// Takes a link away.
+// Takes a link away that is still to be called.
 fn unlink(life: &mut Life, link: u32) -> Option<u32>
     ensures { length life.new.greenlets ≡ length life.old.greenlets }
 {
@@ -72,16 +74,16 @@ fn links_that_fit_are_handed_out_once(rt: HostRuntime) -> Result<(), Fail> {
     assert!(rt; life.create(false, 7) == Ok(0));
     assert!(rt; link(&mut life, 0, LinkKind::Fault, 3, 30) == Ok(1));
     assert!(rt; link(&mut life, 0, LinkKind::Value, 4, 40) == Ok(2));
-    assert!(rt; next_link(&mut life, 0) == None);
-    end(&mut life, 0);
+    assert!(rt; next_link(&mut life, 0).is_none());
+    assert!(rt; end(&mut life, 0));
     assert!(rt; link(&mut life, 0, LinkKind::Any, 5, 50) == Ok(3));
-    assert!(rt; unlink(&mut life, 1) == None);
+    assert!(rt; unlink(&mut life, 1).is_none());
     assert!(rt; next_link(&mut life, 0) == Some(2));
     assert!(rt; next_link(&mut life, 0) == Some(3));
-    assert!(rt; next_link(&mut life, 0) == None);
+    assert!(rt; next_link(&mut life, 0).is_none());
     assert!(rt; unlink(&mut life, 3) == Some(50));
-    assert!(rt; unlink(&mut life, 3) == None);
-    assert!(rt; unlink(&mut life, 4) == None);
+    assert!(rt; unlink(&mut life, 3).is_none());
+    assert!(rt; unlink(&mut life, 4).is_none());
     drop(life);
     Ok(())
 }
@@ -97,11 +99,11 @@ fn link_limit(rt: HostRuntime) -> Result<(), Fail> {
         assert!(rt; link(&mut life, 5, LinkKind::Any, 0, number) == Ok(number));
     }
     assert!(rt; link(&mut life, 5, LinkKind::Any, 0, 0) == Err(LifeRefusal::TooMany));
-    end(&mut life, 5);
+    assert!(rt; end(&mut life, 5));
     for number in 1..=100_000u32 {
         assert!(rt; next_link(&mut life, 5) == Some(number));
     }
-    assert!(rt; next_link(&mut life, 5) == None);
+    assert!(rt; next_link(&mut life, 5).is_none());
     drop(life);
     Ok(())
 }

@@ -26,7 +26,7 @@ fn a_unit_stays_when_its_waiter_leaves(rt: HostRuntime) -> Result<(), Fail> {
     units.park(Side::Only, 1);
     units.park(Side::Only, 2);
     assert!(rt; units.next_ready() == Some(1));
-    assert!(rt; units.next_ready() == None);
+    assert!(rt; units.next_ready().is_none());
     units.cancel(Side::Only, 1);
     assert!(rt; !units.try_now());
     assert!(rt; units.next_ready() == Some(2));
@@ -54,9 +54,9 @@ fn a_lock_waits_for_its_owner(rt: HostRuntime) -> Result<(), Fail> {
     assert!(rt; lock.try_now(1));
     assert!(rt; lock.reserve(1).is_ok());
     lock.park(Side::Only, 5);
-    assert!(rt; lock.next_ready() == None);
+    assert!(rt; lock.next_ready().is_none());
     assert!(rt; lock.release(2) == Err(NotOwner));
-    assert!(rt; lock.next_ready() == None);
+    assert!(rt; lock.next_ready().is_none());
     assert!(rt; lock.release(1) == Ok(()));
     assert!(rt; lock.next_ready() == Some(5));
     drop(lock);
@@ -68,7 +68,7 @@ fn the_later_result_is_read(rt: HostRuntime) -> Result<(), Fail> {
     let mut result = AsyncResult::new(rt.alloc())?;
     assert!(rt; result.reserve(1).is_ok());
     result.park(Side::Only, 1);
-    assert!(rt; result.next_ready() == None);
+    assert!(rt; result.next_ready().is_none());
     result.put(Outcome::Value(Value::Int(1)));
     result.put(Outcome::Value(Value::Int(2)));
     assert!(rt; result.next_ready() == Some(1));
@@ -88,7 +88,7 @@ fn each_waiter_is_told_of_three_million_releases_once(rt: HostRuntime) -> Result
     for released in 0..3_000_000u64 {
         assert!(rt; units.counter() == released);
         assert!(rt; units.release().is_ok());
-        assert!(rt; units.next_unready() == None);
+        assert!(rt; units.next_unready().is_none());
         told = told.saturating_add(u64::from(units.next_ready().is_some()));
     }
     assert!(rt; (told, units.counter()) == (18_000, 3_000_000));

@@ -87,7 +87,7 @@ fn a_putter_waits_for_a_place(rt: HostRuntime) -> Result<(), Fail> {
     assert!(rt; !put(&mut queue, 6));
     assert!(rt; queue.make_room(1).is_ok());
     assert!(rt; put_later(&mut queue, 3, 6));
-    assert!(rt; next_puts(&mut queue) == None);
+    assert!(rt; next_puts(&mut queue).is_none());
     assert!(rt; take(&mut queue) == Some(5));
     assert!(rt; next_puts(&mut queue) == Some((3, true)));
     assert!(rt; take(&mut queue) == Some(6));
@@ -149,8 +149,8 @@ fn put_and_tell(queue: &mut GQueue, n: i64) -> (bool, Option<u32>, Option<u32>, 
     (fits, first, second, third)
 }
 
-// A getter leaves, and the peeker behind it, and a newcomer takes the item `n` that is left over. Until it does the last peeker may
-// go. Says whether it is so.
+// A getter leaves, and the peeker behind it, and a newcomer takes the item `n` that is left over. Until it does the
+// last peeker may go. Says whether it is so.
 fn pair_leaves(queue: &mut GQueue, pair: u32, n: i64, last: u32) -> bool
     requires small { pair < 100000 }
     requires getter { Contains (waiting_at queue.old Get) (2 * pair) }
