@@ -11,7 +11,7 @@ ghost use Rattle.gv_top.specs.Words.{command_of, is_native, reads_input, serve_o
 
 use crate::gateway::serve_through;
 use crate::status::Verdict;
-use crate::top::{offline, tells};
+use crate::top::{offline, tell};
 use crate::words::server_options;
 use command_words::{ServeOptions, command_of, commands_are_in_range};
 use gv_io::{Sink, Source};
@@ -35,7 +35,7 @@ fn limits_of(options: ServeOptions) -> Limits
 }
 
 /// Serves as the words say, which name `serve`.
-fn serves<K: Sink, N: Net, A: Application, H: Wait>(
+fn serve<K: Sink, N: Net, A: Application, H: Wait>(
     rt: &H,
     alloc: Global,
     words: &[String],
@@ -122,8 +122,8 @@ pub fn gvr<S: Source, K: Sink, E: Sink, W: World, N: Net, A: Application, H: Wai
     match offline(alloc, words, input, out, err, native, app) {
         Some(status) => status,
         None => {
-            let end = serves(rt, alloc, words, out, net, app);
-            tells(alloc, Verdict::Served(end), err)
+            let end = serve(rt, alloc, words, out, net, app);
+            tell(alloc, Verdict::Served(end), err)
         }
     }
 }

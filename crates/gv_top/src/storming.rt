@@ -11,7 +11,7 @@ ghost use Rattle.gv_top.specs.Verdicts.{IsExplained, number_of};
 
 use crate::reading::read_scenario;
 use crate::status::{Verdict, verdict_on};
-use crate::top::sends;
+use crate::top::send;
 use gv_io::Sink;
 use gv_values::decimal_text;
 use hub_engine::{Budgets, End, Engine, Ran};
@@ -104,7 +104,7 @@ fn count_run(alloc: Global, checked: Checked) -> Option<CountedRun>
 
 /// Runs the scenario as the storm of so many greenlets, and writes its summary to out.
 #[tactic(auto, using(gv_io::proofs::StreamLaws::writes))]
-fn sums_up<K: Sink>(alloc: Global, size: u32, checked: Checked, out: &mut K) -> End
+fn sum_up<K: Sink>(alloc: Global, size: u32, checked: Checked, out: &mut K) -> End
     ensures answer { Decided (AnyVerdict.Ran result) (answer_of_storm size (storm_run checked)) (K.written out.old) (K.written out.new) }
     ensures failed { result ≡ End.WriteFault → HasRisen (K.faults out.old) (K.faults out.new) }
     ensures never_falls { K.faults out.old ≤ K.faults out.new }
@@ -115,7 +115,7 @@ fn sums_up<K: Sink>(alloc: Global, size: u32, checked: Checked, out: &mut K) -> 
     let Ok(text) = summary_text(alloc, size, &run) else {
         return End::Memory;
     };
-    match sends(out, text.as_slice()) {
+    match send(out, text.as_slice()) {
         Ok(()) => run.ran.end,
         Err(_) => End::WriteFault,
     }
@@ -136,6 +136,6 @@ pub fn answer_storm<K: Sink>(alloc: Global, size: u32, out: &mut K) -> Verdict
     };
     match read_scenario(alloc, text.as_slice()) {
         Err(refusal) => verdict_on(refusal),
-        Ok(checked) => Verdict::Ran(sums_up(alloc, size, checked, out)),
+        Ok(checked) => Verdict::Ran(sum_up(alloc, size, checked, out)),
     }
 }

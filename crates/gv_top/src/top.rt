@@ -34,7 +34,7 @@ use wsgi_core::Application;
 const MOST_BYTES: usize = 1048576;
 
 /// All of the call but its line on err. None: the words name `serve`, and nothing was done.
-fn decides<S: Source, K: Sink, W: World, A: Application>(
+fn decide<S: Source, K: Sink, W: World, A: Application>(
     alloc: Global,
     words: &[String],
     input: &mut S,
@@ -71,13 +71,13 @@ fn decides<S: Source, K: Sink, W: World, A: Application>(
         Some(_) => None,
         None => {
             let command = without_a_net(command);
-            Some(answers_command(alloc, command, input, out, native, app))
+            Some(answer_command(alloc, command, input, out, native, app))
         }
     }
 }
 
 /// Does what the command wants, or answers that the words named none.
-fn answers_command<S: Source, K: Sink, W: World, A: Application>(
+fn answer_command<S: Source, K: Sink, W: World, A: Application>(
     alloc: Global,
     command: Option<Command>,
     input: &mut S,
@@ -113,7 +113,7 @@ fn answers_command<S: Source, K: Sink, W: World, A: Application>(
 {
     match command {
         None => Verdict::Usage,
-        Some(Command::Text(command)) => answers_input(alloc, command, input, out, native),
+        Some(Command::Text(command)) => answer_input(alloc, command, input, out, native),
         Some(Command::Wsgi(gateway)) => {
             Verdict::Connection(answer_through(alloc, gateway, input, out, app))
         }
@@ -122,7 +122,7 @@ fn answers_command<S: Source, K: Sink, W: World, A: Application>(
 }
 
 /// Reads a text, and does with it what the command wants.
-fn answers_input<S: Source, K: Sink, W: World>(
+fn answer_input<S: Source, K: Sink, W: World>(
     alloc: Global,
     command: TextCommand,
     input: &mut S,
@@ -153,11 +153,11 @@ fn answers_input<S: Source, K: Sink, W: World>(
     match read_limited(alloc, input, MOST_BYTES) {
         Err(ReadRefusal::Fault) => Verdict::ReadFault,
         Err(ReadRefusal::Memory) => Verdict::Ran(End::Memory),
-        Ok(bytes) => answers_text(alloc, command, bytes.as_slice(), out, native),
+        Ok(bytes) => answer_text(alloc, command, bytes.as_slice(), out, native),
     }
 }
 
-fn answers_text<K: Sink, W: World>(
+fn answer_text<K: Sink, W: World>(
     alloc: Global,
     command: TextCommand,
     bytes: &[u8],
@@ -181,12 +181,12 @@ fn answers_text<K: Sink, W: World>(
 {
     match read_scenario(alloc, bytes) {
         Err(refusal) => verdict_on(refusal),
-        Ok(checked) => answers_scenario(alloc, command, checked, out, native),
+        Ok(checked) => answer_scenario(alloc, command, checked, out, native),
     }
 }
 
 /// Runs the scenario, or writes its printed form.
-fn answers_scenario<K: Sink, W: World>(
+fn answer_scenario<K: Sink, W: World>(
     alloc: Global,
     command: TextCommand,
     checked: Checked,
@@ -212,13 +212,13 @@ fn answers_scenario<K: Sink, W: World>(
         TextCommand::Run(options) => Verdict::Ran(run_scenario(
             alloc, checked, options, native, out,
         )),
-        TextCommand::Format => formats(alloc, checked.scenario(), out),
+        TextCommand::Format => format_scenario(alloc, checked.scenario(), out),
     }
 }
 
 /// Writes the printed form of the scenario to out.
 #[tactic(auto, using(gv_io::proofs::StreamLaws::writes))]
-fn formats<K: Sink>(alloc: Global, scenario: &Scenario, out: &mut K) -> Verdict
+fn format_scenario<K: Sink>(alloc: Global, scenario: &Scenario, out: &mut K) -> Verdict
     ensures answer { Decided result (formatted scenario.now) (K.written out.old) (K.written out.new) }
     ensures command { number_of result ≢ 2 }
     ensures no_net { number_of result ≢ 10 }
@@ -232,7 +232,7 @@ fn formats<K: Sink>(alloc: Global, scenario: &Scenario, out: &mut K) -> Verdict
     let Ok(()) = print(scenario, &mut text) else {
         return Verdict::Ran(End::Memory);
     };
-    match sends(out, text.as_slice()) {
+    match send(out, text.as_slice()) {
         Ok(()) => Verdict::Formatted,
         Err(_) => Verdict::Ran(End::WriteFault),
     }
@@ -240,7 +240,7 @@ fn formats<K: Sink>(alloc: Global, scenario: &Scenario, out: &mut K) -> Verdict
 
 /// Writes the bytes to the sink, and hands them on.
 #[tactic(auto, using(gv_io::proofs::StreamLaws::writes))]
-pub(crate) fn sends<K: Sink>(sink: &mut K, bytes: &[u8]) -> Result<(), Failed>
+pub(crate) fn send<K: Sink>(sink: &mut K, bytes: &[u8]) -> Result<(), Failed>
     ensures ok { OnOk result (K.written sink.new ≡ appended (K.written sink.old) bytes.now) }
     ensures cut { OnErr result (AppendsPrefix (K.written sink.old) (K.written sink.new) bytes.now) }
     ensures failed { OnErr result (HasRisen (K.faults sink.old) (K.faults sink.new)) }
@@ -266,13 +266,13 @@ fn write_fault_line() -> &'static [u8]
 }
 
 /// Tries the verdict's line, once.
-fn tries<E: Sink>(verdict: Verdict, line: &[u8], err: &mut E) -> u8
+fn try_line<E: Sink>(verdict: Verdict, line: &[u8], err: &mut E) -> u8
     requires line { line.now ≡ line_of verdict }
     requires has_line { number_of verdict ≢ 0 }
     ensures told { IsTold result verdict (E.written err.old) (E.written err.new) (E.faults err.old) (E.faults err.new) }
     ensures never_falls { E.faults err.old ≤ E.faults err.new }
 {
-    match sends(err, line) {
+    match send(err, line) {
         Ok(()) => verdict.number(),
         Err(_) => 5,
     }
@@ -280,20 +280,20 @@ fn tries<E: Sink>(verdict: Verdict, line: &[u8], err: &mut E) -> u8
 
 /// Tells the verdict where there is no memory for its line: a write that failed has one that takes none, and any
 /// other verdict is want of memory.
-fn tells_without_memory<E: Sink>(verdict: Verdict, err: &mut E) -> u8
+fn tell_without_memory<E: Sink>(verdict: Verdict, err: &mut E) -> u8
     requires has_line { number_of verdict ≢ 0 }
     ensures told { (w : AnyVerdict) × IsOr verdict w × IsTold result w (E.written err.old) (E.written err.new) (E.faults err.old) (E.faults err.new) }
     ensures never_falls { E.faults err.old ≤ E.faults err.new }
 {
     if verdict.number() == 5 {
-        return tries(verdict, write_fault_line(), err);
+        return try_line(verdict, write_fault_line(), err);
     }
-    tries(Verdict::Ran(End::Memory), memory_line(), err)
+    try_line(Verdict::Ran(End::Memory), memory_line(), err)
 }
 
 /// Tells the verdict: its line goes to err, where it has one, and its status is answered. Status 0 has no line, and err
 /// is left alone then.
-pub fn tells<E: Sink>(alloc: Global, verdict: Verdict, err: &mut E) -> u8
+pub fn tell<E: Sink>(alloc: Global, verdict: Verdict, err: &mut E) -> u8
     requires { IsExplained verdict }
     ensures told { (w : AnyVerdict) × IsOr verdict w × IsTold result w (E.written err.old) (E.written err.new) (E.faults err.old) (E.faults err.new) }
     ensures silent { number_of verdict ≡ 0 → (result ≡ 0) × (E.faults err.new ≡ E.faults err.old) }
@@ -303,8 +303,8 @@ pub fn tells<E: Sink>(alloc: Global, verdict: Verdict, err: &mut E) -> u8
         return 0;
     }
     match verdict.line(alloc) {
-        Ok(line) => tries(verdict, line.as_slice(), err),
-        Err(_) => tells_without_memory(verdict, err),
+        Ok(line) => try_line(verdict, line.as_slice(), err),
+        Err(_) => tell_without_memory(verdict, err),
     }
 }
 
@@ -366,8 +366,8 @@ pub fn offline<S: Source, K: Sink, E: Sink, W: World, A: Application>(
 {
     blocks_are_quiet();
     blocks_are_told();
-    match decides(alloc, words, input, out, native, app) {
-        Some(verdict) => Some(tells(alloc, verdict, err)),
+    match decide(alloc, words, input, out, native, app) {
+        Some(verdict) => Some(tell(alloc, verdict, err)),
         None => None,
     }
 }

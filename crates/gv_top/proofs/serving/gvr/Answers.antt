@@ -23,32 +23,32 @@ returns-in-None-clause-answers g c = λ none. none_named _ _ c.in-None.ensures.s
 
 pub returns-in-None-clause-borne_out : goal.returns-in-None-clause-borne_out
 returns-in-None-clause-borne_out g c =
-    let t = c.tells.ensures.told in
+    let t = c.tell.ensures.told in
     record {
       fault_line = fault_lines _ t.0 _ _ _ _ _ (ap g.E.Sink.written c.in-None.ensures.err_alone) t.2;
-      silent = λ z. (c.tells.ensures.silent (is_silent _ _ t.0 _ _ _ _ t.1 t.2 z)).1 ∙ ap g.E.Sink.faults c.in-None.ensures.err_alone;
+      silent = λ z. (c.tell.ensures.silent (is_silent _ _ t.0 _ _ _ _ t.1 t.2 z)).1 ∙ ap g.E.Sink.faults c.in-None.ensures.err_alone;
       read_fault = λ e.
-          no_other_status _ _ 4 c.serves-end.result (status_or _ _ t.0 _ _ _ _ t.1 t.2) e (λ z. omega arith) (λ z. omega arith) (λ z. omega arith) (λ z. omega arith);
+          no_other_status _ _ 4 c.serve-end.result (status_or _ _ t.0 _ _ _ _ t.1 t.2) e (λ z. omega arith) (λ z. omega arith) (λ z. omega arith) (λ z. omega arith);
       write_fault = λ e.
-          fails_at_a_line _ c.serves-end.result t.0 _ _ _ _ _ _ _ _ _ (ap g.K.Sink.faults (c.offline.ensures.out_alone c.in-None.ensures.serve)) (ap g.E.Sink.written c.in-None.ensures.err_alone) (ap g.E.Sink.faults c.in-None.ensures.err_alone)
-          c.serves-end.ensures.write_fault t.1 t.2 e;
+          fails_at_a_line _ c.serve-end.result t.0 _ _ _ _ _ _ _ _ _ (ap g.K.Sink.faults (c.offline.ensures.out_alone c.in-None.ensures.serve)) (ap g.E.Sink.written c.in-None.ensures.err_alone) (ap g.E.Sink.faults c.in-None.ensures.err_alone)
+          c.serve-end.ensures.write_fault t.1 t.2 e;
     }
 
 pub returns-in-None-clause-usage_only : goal.returns-in-None-clause-usage_only
 returns-in-None-clause-usage_only g c = λ e.
-    let t = c.tells.ensures.told in
-    no_other_status _ _ 2 c.serves-end.result (status_or _ _ t.0 _ _ _ _ t.1 t.2) e (λ z. omega arith) (λ z. omega arith) (λ z. omega arith) (λ z. omega arith)
+    let t = c.tell.ensures.told in
+    no_other_status _ _ 2 c.serve-end.result (status_or _ _ t.0 _ _ _ _ t.1 t.2) e (λ z. omega arith) (λ z. omega arith) (λ z. omega arith) (λ z. omega arith)
 
 pub returns-in-None-clause-served : goal.returns-in-None-clause-served
 returns-in-None-clause-served g c = λ options e.
-    let t = c.tells.ensures.told in
-    serves_so _ _ options c.serves-end.result t.0 _ _ _ _ _ _ _ _ _ (ap g.K.Sink.written (c.offline.ensures.out_alone c.in-None.ensures.serve)) (ap g.E.Sink.written c.in-None.ensures.err_alone)
-    (c.serves-end.ensures.serves options e) t.1 t.2
+    let t = c.tell.ensures.told in
+    serves_so _ _ options c.serve-end.result t.0 _ _ _ _ _ _ _ _ _ (ap g.K.Sink.written (c.offline.ensures.out_alone c.in-None.ensures.serve)) (ap g.E.Sink.written c.in-None.ensures.err_alone)
+    (c.serve-end.ensures.serves options e) t.1 t.2
 
 pub returns-in-None-clause-network_fault : goal.returns-in-None-clause-network_fault
 returns-in-None-clause-network_fault g c = λ e.
-    let t = c.tells.ensures.told in
-    (c.in-None.ensures.serve, c.serves-end.ensures.listener (is_listener _ c.serves-end.result (status_or _ _ t.0 _ _ _ _ t.1 t.2) e))
+    let t = c.tell.ensures.told in
+    (c.in-None.ensures.serve, c.serve-end.ensures.listener (is_listener _ c.serve-end.result (status_or _ _ t.0 _ _ _ _ t.1 t.2) e))
 
 pub returns-in-None-clause-net_alone : goal.returns-in-None-clause-net_alone
 returns-in-None-clause-net_alone g c = λ none. none_named _ _ c.in-None.ensures.serve none

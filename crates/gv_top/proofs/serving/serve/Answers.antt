@@ -3,7 +3,7 @@ use Rattle.stream_server.specs.Serving.{IsInRange}
 use Rattle.stream_server.specs.declared.limits.Limits.{Limits}
 use Rattle.gv_top.specs.Words.{serving}
 use Rattle.gv_top.proofs.Servings.{limits_in_range, nobody_served, served_as}
-use Rattle.gv_top.proofs.serving.serves.Goals as goal
+use Rattle.gv_top.proofs.serving.serve.Goals as goal
 
 pub returns-in_default-clause-serves : goal.returns-in_default-clause-serves
 returns-in_default-clause-serves g c = λ options e. nobody_served _ _ _ _ _ _ _ c.requires.fresh refl

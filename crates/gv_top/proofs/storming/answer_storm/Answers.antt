@@ -12,5 +12,5 @@ returns-in-Err-clause-answer g c = storm_refused c.args.size c.as_slice.result.n
 
 pub returns-clause-answer : goal.returns-clause-answer
 returns-clause-answer g c =
-    storm_decided c.args.size c.in-Ok-read_scenario.checked c.as_slice.result.now (Verdict.Ran c.sums_up.result) (g.K.Sink.written c.args.out.now) (g.K.Sink.written c.sums_up.new.out)
-    (c.as_slice.ensures.value ∙ c.in-Ok.ensures) c.in-Ok-read_scenario.ensures.judged c.sums_up.ensures.answer
+    storm_decided c.args.size c.in-Ok-read_scenario.checked c.as_slice.result.now (Verdict.Ran c.sum_up.result) (g.K.Sink.written c.args.out.now) (g.K.Sink.written c.sum_up.new.out)
+    (c.as_slice.ensures.value ∙ c.in-Ok.ensures) c.in-Ok-read_scenario.ensures.judged c.sum_up.ensures.answer

@@ -1,7 +1,7 @@
 use Rattle.gv_top.proofs.Deciding.{no_command, usage_decided}
 use Rattle.gv_top.proofs.InWorlds.{text_ran}
 use Rattle.gv_top.proofs.Storms.{text_is_no_storm}
-use Rattle.gv_top.proofs.top.answers_command.Goals as goal
+use Rattle.gv_top.proofs.top.answer_command.Goals as goal
 
 pub returns-in-None-clause-answer : goal.returns-in-None-clause-answer
 returns-in-None-clause-answer g c = λ left told. usage_decided _ _ _ _ _ c.in-None.is
@@ -11,7 +11,7 @@ returns-in-None-clause-read_whole g c = λ text runs left told h4 h7. no_command
 
 pub returns-in-Some-Text-clause-native : goal.returns-in-Some-Text-clause-native
 returns-in-Some-Text-clause-native g c = λ text e.
-    text_ran c.in-Some-Text.command text _ _ _ _ (rw e at c.in-Some-Text.field-0-is) c.answers_input.ensures.native
+    text_ran c.in-Some-Text.command text _ _ _ _ (rw e at c.in-Some-Text.field-0-is) c.answer_input.ensures.native
 
 pub returns-in-Some-Storm-clause-read_whole : goal.returns-in-Some-Storm-clause-read_whole
 returns-in-Some-Storm-clause-read_whole g c = λ text runs left told h4 h7. absurd (text_is_no_storm text c.in-Some-Storm.size (rw runs at c.in-Some-Storm.field-0-is))

@@ -4,7 +4,7 @@ use Rattle.gv_top.proofs.Deciding.{left_behind, read_first}
 use Rattle.gv_top.proofs.Tops.{nothing_lawful}
 use Rattle.gv_top.specs.Top.{RanSo}
 use Rattle.gv_top.specs.Verdicts.{number_of}
-use Rattle.gv_top.proofs.top.answers_input.Goals as goal
+use Rattle.gv_top.proofs.top.answer_input.Goals as goal
 
 pub returns-in-Err-Fault-clause-answer : goal.returns-in-Err-Fault-clause-answer
 returns-in-Err-Fault-clause-answer g c = λ left told. refl
@@ -29,5 +29,5 @@ returns-in-Err-Memory-clause-lawful g c = λ options e. nothing_lawful _ _
 
 pub returns-in-Ok-clause-native : goal.returns-in-Ok-clause-native
 returns-in-Ok-clause-native g c = λ h4 left told.
-    let P : List ℕ → Type 0 = λ bytes. RanSo (number_of c.answers_text.result) c.args.command bytes (g.W.World.meaning c.answers_text.new.native) (g.W.World.stands_for c.answers_text.new.native) in
-    subst P (c.as_slice.ensures.value ∙ read_first left _ _ told c.in-Ok.ensures.first) c.answers_text.ensures.native
+    let P : List ℕ → Type 0 = λ bytes. RanSo (number_of c.answer_text.result) c.args.command bytes (g.W.World.meaning c.answer_text.new.native) (g.W.World.stands_for c.answer_text.new.native) in
+    subst P (c.as_slice.ensures.value ∙ read_first left _ _ told c.in-Ok.ensures.first) c.answer_text.ensures.native

@@ -7,7 +7,7 @@ use Rattle.gv_top.specs.Running.{run_of}
 use Rattle.gv_top.specs.Words.{is_native_text}
 use Rattle.gv_top.proofs.Deciding.{decided_of_this, run_decided}
 use Rattle.gv_top.proofs.InWorlds.{format_runs_nothing, scenario_ran}
-use Rattle.gv_top.proofs.top.answers_scenario.Goals as goal
+use Rattle.gv_top.proofs.top.answer_scenario.Goals as goal
 
 pub run_scenario-requires-clause-range : goal.run_scenario-requires-clause-range
 run_scenario-requires-clause-range g c = (let P : TextCommand → Type 0 = λ d. IsInRange (named.Text d) in subst P c.in-Run.is c.requires.range).2

@@ -2,7 +2,7 @@ use Rattle.std.proofs.Common.{arith}
 use Rattle.gv_top.proofs.Deciding.{judged_decided, refusal_decided, refusal_explained, refusal_number}
 use Rattle.gv_top.proofs.InWorlds.{judged_ran, refused_runs_nothing}
 use Rattle.gv_top.proofs.Tops.{nothing_lawful}
-use Rattle.gv_top.proofs.top.answers_text.Goals as goal
+use Rattle.gv_top.proofs.top.answer_text.Goals as goal
 
 pub returns-in-Err-clause-answer : goal.returns-in-Err-clause-answer
 returns-in-Err-clause-answer g c = refusal_decided c.args.command _ c.args.bytes.now _ _ _ c.verdict_on.ensures c.in-Err.ensures.judged
@@ -20,7 +20,7 @@ pub returns-in-Err-clause-write_fault : goal.returns-in-Err-clause-write_fault
 returns-in-Err-clause-write_fault g c = λ h. absurd (refusal_number _ _ 5 c.verdict_on.ensures h (λ e. omega arith) (λ e. omega arith))
 
 pub returns-in-Ok-clause-answer : goal.returns-in-Ok-clause-answer
-returns-in-Ok-clause-answer g c = judged_decided c.args.command _ c.args.bytes.now _ _ _ _ c.in-Ok.ensures.judged c.answers_scenario.ensures.answer
+returns-in-Ok-clause-answer g c = judged_decided c.args.command _ c.args.bytes.now _ _ _ _ c.in-Ok.ensures.judged c.answer_scenario.ensures.answer
 
 pub returns-in-Err-clause-native : goal.returns-in-Err-clause-native
 returns-in-Err-clause-native g c = refused_runs_nothing _ _ c.args.command c.args.bytes.now _ _ c.verdict_on.ensures c.in-Err.ensures.judged
@@ -29,4 +29,4 @@ pub returns-in-Err-clause-lawful : goal.returns-in-Err-clause-lawful
 returns-in-Err-clause-lawful g c = λ options e. nothing_lawful _ _
 
 pub returns-in-Ok-clause-native : goal.returns-in-Ok-clause-native
-returns-in-Ok-clause-native g c = judged_ran _ c.args.command c.args.bytes.now _ _ _ c.in-Ok.ensures.judged c.answers_scenario.ensures.native
+returns-in-Ok-clause-native g c = judged_ran _ c.args.command c.args.bytes.now _ _ _ c.in-Ok.ensures.judged c.answer_scenario.ensures.native

@@ -4,7 +4,7 @@ use Rattle.gv_top.proofs.Deciding.{nothing_exchanged}
 use Rattle.gv_top.proofs.Built.{in_range}
 use Rattle.gv_top.proofs.Servings.{is_some, none_named}
 use Rattle.gv_top.proofs.Tops.{came_as, nothing_lawful, out_of_memory_at_once}
-use Rattle.gv_top.proofs.top.decides.Goals as goal
+use Rattle.gv_top.proofs.top.decide.Goals as goal
 
 pub returns-in_default-clause-came_to : goal.returns-in_default-clause-came_to
 returns-in_default-clause-came_to g c = out_of_memory_at_once _ _ _ _ _ _ _ _
@@ -18,14 +18,14 @@ returns-in_default-clause-lawful g c = λ options e. nothing_lawful _ _
 pub returns-in-Some-clause-serve : goal.returns-in-Some-clause-serve
 returns-in-Some-clause-serve g c = is_some _ _ (ap (option_and_then serving) (sym c.in-Ok.ensures) ∙ sym c.server_options.ensures ∙ c.in-Some.is)
 
-pub answers_command-requires-clause-range : goal.answers_command-requires-clause-range
-answers_command-requires-clause-range g c = λ text e.
+pub answer_command-requires-clause-range : goal.answer_command-requires-clause-range
+answer_command-requires-clause-range g c = λ text e.
     in_range (λ w command named. c.commands_are_in_range.ensures w command named) (map string_bytes c.args.words.now) text
     (sym (c.without_a_net-command.ensures ∙ ap (option_and_then built) c.in-Ok.ensures) ∙ e)
 
 pub returns-in-None-clause-came_to : goal.returns-in-None-clause-came_to
 returns-in-None-clause-came_to g c =
-    let d = c.answers_command.ensures in
+    let d = c.answer_command.ensures in
     came_as (c.without_a_net-command.ensures ∙ ap (option_and_then built) c.in-Ok.ensures) (record {
       answer = d.answer;
       usage = d.usage;
@@ -39,16 +39,16 @@ returns-in-None-clause-came_to g c =
     })
 
 pub returns-in-None-clause-no_command : goal.returns-in-None-clause-no_command
-returns-in-None-clause-no_command g c = λ none. c.answers_command.ensures.no_command (c.without_a_net-command.ensures ∙ ap (option_and_then built) c.in-Ok.ensures ∙ none)
+returns-in-None-clause-no_command g c = λ none. c.answer_command.ensures.no_command (c.without_a_net-command.ensures ∙ ap (option_and_then built) c.in-Ok.ensures ∙ none)
 
 pub returns-in-None-clause-lawful : goal.returns-in-None-clause-lawful
-returns-in-None-clause-lawful g c = λ options e. c.answers_command.ensures.lawful options (c.without_a_net-command.ensures ∙ ap (option_and_then built) c.in-Ok.ensures ∙ e)
+returns-in-None-clause-lawful g c = λ options e. c.answer_command.ensures.lawful options (c.without_a_net-command.ensures ∙ ap (option_and_then built) c.in-Ok.ensures ∙ e)
 
 pub returns-in-None-clause-untouched : goal.returns-in-None-clause-untouched
-returns-in-None-clause-untouched g c = λ h. c.answers_command.ensures.untouched (ap is_native (c.without_a_net-command.ensures ∙ ap (option_and_then built) c.in-Ok.ensures) ∙ h)
+returns-in-None-clause-untouched g c = λ h. c.answer_command.ensures.untouched (ap is_native (c.without_a_net-command.ensures ∙ ap (option_and_then built) c.in-Ok.ensures) ∙ h)
 
 pub returns-in-None-clause-connection : goal.returns-in-None-clause-connection
-returns-in-None-clause-connection g c = λ gateway named. c.answers_command.ensures.connection gateway (c.without_a_net-command.ensures ∙ ap (option_and_then built) c.in-Ok.ensures ∙ named)
+returns-in-None-clause-connection g c = λ gateway named. c.answer_command.ensures.connection gateway (c.without_a_net-command.ensures ∙ ap (option_and_then built) c.in-Ok.ensures ∙ named)
 
 pub returns-in-None-clause-not_serve : goal.returns-in-None-clause-not_serve
 returns-in-None-clause-not_serve g c = λ named. none_named _ _ named (ap (option_and_then serving) (sym c.in-Ok.ensures) ∙ sym c.server_options.ensures ∙ c.in-None.is)
@@ -63,4 +63,4 @@ pub returns-in-None-clause-native_alone : goal.returns-in-None-clause-native_alo
 returns-in-None-clause-native_alone g c = λ named. none_named _ _ named (ap (option_and_then serving) (sym c.in-Ok.ensures) ∙ sym c.server_options.ensures ∙ c.in-None.is)
 
 pub returns-in-None-clause-untouched_input : goal.returns-in-None-clause-untouched_input
-returns-in-None-clause-untouched_input g c = λ h. c.answers_command.ensures.untouched_input (ap reads_input (c.without_a_net-command.ensures ∙ ap (option_and_then built) c.in-Ok.ensures) ∙ h)
+returns-in-None-clause-untouched_input g c = λ h. c.answer_command.ensures.untouched_input (ap reads_input (c.without_a_net-command.ensures ∙ ap (option_and_then built) c.in-Ok.ensures) ∙ h)

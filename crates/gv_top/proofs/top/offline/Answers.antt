@@ -9,7 +9,7 @@ use Rattle.gv_top.proofs.top.offline.Goals as goal
 
 pub returns-in-Some-clause-answers : goal.returns-in-Some-clause-answers
 returns-in-Some-clause-answers g c =
-    let t = c.tells.ensures.told in
+    let t = c.tell.ensures.told in
     let h = ended _ c.in-Some.verdict t.0 _ _ _ _ _ _ _ _ _ _ _ _ _ _ _ _ c.in-Some.ensures.came_to t.1 t.2 in
     record {
       trace = λ options s left runs told text well.
@@ -36,23 +36,23 @@ returns-in-Some-clause-answers g c =
 
 pub returns-in-Some-clause-borne_out : goal.returns-in-Some-clause-borne_out
 returns-in-Some-clause-borne_out g c =
-    let t = c.tells.ensures.told in
+    let t = c.tell.ensures.told in
     let h = ended _ c.in-Some.verdict t.0 _ _ _ _ _ _ _ _ _ _ _ _ _ _ _ _ c.in-Some.ensures.came_to t.1 t.2 in
     record {
       fault_line = fault_line h;
-      silent = λ z. (c.tells.ensures.silent (is_silent _ _ t.0 _ _ _ _ t.1 t.2 z)).1;
+      silent = λ z. (c.tell.ensures.silent (is_silent _ _ t.0 _ _ _ _ t.1 t.2 z)).1;
       read_fault = λ e. h.came_to.read_fault (status_is 4 h e (λ z. omega arith));
       write_fault = λ e. fails_to_write h e;
     }
 
 pub returns-in-Some-clause-usage_only : goal.returns-in-Some-clause-usage_only
 returns-in-Some-clause-usage_only g c = λ e.
-    let t = c.tells.ensures.told in
+    let t = c.tell.ensures.told in
     let h = ended _ c.in-Some.verdict t.0 _ _ _ _ _ _ _ _ _ _ _ _ _ _ _ _ c.in-Some.ensures.came_to t.1 t.2 in
     (h.came_to.usage (status_is 2 h e (λ z. omega arith)), names_no_server _ _ t.0 _ _ _ _ _ t.1 t.2 c.in-Some.ensures.not_serve (λ z. omega (arith, e, z)) (λ z. omega (arith, e, z)))
 
 pub returns-in-Some-clause-not_serve : goal.returns-in-Some-clause-not_serve
-returns-in-Some-clause-not_serve g c = λ named. let t = c.tells.ensures.told in no_memory_status _ _ t.0 _ _ _ _ t.1 t.2 (c.in-Some.ensures.not_serve named)
+returns-in-Some-clause-not_serve g c = λ named. let t = c.tell.ensures.told in no_memory_status _ _ t.0 _ _ _ _ t.1 t.2 (c.in-Some.ensures.not_serve named)
 
 pub returns-in-Some-clause-no_net : goal.returns-in-Some-clause-no_net
-returns-in-Some-clause-no_net g c = let t = c.tells.ensures.told in no_network_fault _ _ t.0 _ _ _ _ t.1 t.2 c.in-Some.ensures.no_net
+returns-in-Some-clause-no_net g c = let t = c.tell.ensures.told in no_network_fault _ _ t.0 _ _ _ _ t.1 t.2 c.in-Some.ensures.no_net
