@@ -50,7 +50,7 @@ pub fn write_endpoint(endpoint: &mut Endpoint, moment: u64, bytes: &[u8]) -> Wri
     end
 }
 
-/// Closes it.
+/// Closes the stream, and notes the moment.
 pub fn close_endpoint(endpoint: &mut Endpoint, moment: u64)
     ensures { endpoint_meaning endpoint.new ≡ closed_at moment (endpoint_meaning endpoint.old) }
 {
