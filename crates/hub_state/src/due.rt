@@ -1,6 +1,5 @@
 //! Which item is delivered next.
 ghost use Rattle.std.specs.Prelude.{◌≡◌, ◌<◌, length, slice_get, Some, IfSome};
-ghost use Rattle.machine.specs.declared.items.Item.{Item as AnyItem};
 ghost use Rattle.machine.specs.Run.{least_below};
 ghost use Rattle.machine.specs.Deliveries.{without_item};
 ghost use Rattle.hub_items.specs.Places.{item_at};
@@ -8,7 +7,7 @@ ghost use Rattle.hub_items.specs.Short.{DeliversShort};
 
 use crate::hub::Hub;
 use hub_items::least_below;
-use machine::items::{Delivery, Item};
+use machine::items::Item;
 
 impl Hub {
     /// The place of the item with the least number below the mark. Looks at each item; with linked items, at the first
@@ -18,14 +17,6 @@ impl Hub {
         ensures least { item_at result self.now.items ≡ least_below mark self.now.items }
     {
         least_below(&self.items, mark)
-    }
-
-    /// What the item at this place delivers.
-    pub fn delivery_at(&self, at: usize) -> &Delivery
-        requires { at < length self.now.items }
-        ensures { (i : AnyItem) → slice_get self.now.items at ≡ Some i → result.now ≡ i.delivery }
-    {
-        &self.items[at].delivery
     }
 
     /// Takes the item at this place away. Moves those after it up; with linked items, it leaves the lists that it is
