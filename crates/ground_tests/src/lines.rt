@@ -13,21 +13,23 @@ fn name(bytes: &[u8]) -> Result<Name, Fail> {
     }
 }
 
-fn written(alloc: Global, lines: &[Line]) -> Result<Vec<u8>, Fail> {
+/// Whether the lines are written so.
+fn are_written(alloc: Global, lines: &[Line], wanted: &[u8]) -> Result<bool, Fail> {
     let mut out = Vec::new(alloc);
     for line in lines {
         write_line(line, &mut out)?;
         out.push(b'\n')?;
     }
-    Ok(out)
+    Ok(out.as_slice() == wanted)
 }
 
 #[test]
 fn writes_the_lines_of_a_greenlet(rt: HostRuntime) -> Result<(), Fail> {
+    let main = name(b"main")?;
     let lines = [
         Line::Start {
             greenlet: 0,
-            function: name(b"main")?,
+            function: main,
         },
         Line::Print {
             greenlet: 0,
@@ -66,12 +68,13 @@ fn writes_the_lines_of_a_greenlet(rt: HostRuntime) -> Result<(), Fail> {
     ];
     let wanted: &[u8] =
         b"start g0 main\nprint g0 -4\npark g1 sleep until 10\npark g0 join g1\nwake g1\nlate g0\nthrow g0 Timeout(1)\ninto g1 fault Error(5)\nend g1 value none\n";
-    assert_eq!(rt; written(rt.alloc(), &lines)?.as_slice(), wanted);
+    assert!(rt; are_written(rt.alloc(), &lines, wanted)?);
     Ok(())
 }
 
 #[test]
 fn writes_the_lines_of_the_hub(rt: HostRuntime) -> Result<(), Fail> {
+    let event = name(b"e")?;
     let lines = [
         Line::Link {
             number: 1,
@@ -86,7 +89,7 @@ fn writes_the_lines_of_the_hub(rt: HostRuntime) -> Result<(), Fail> {
         Line::Link {
             number: 4,
             greenlet: 2,
-            call: LinkCall::Set(name(b"e")?),
+            call: LinkCall::Set(event),
         },
         Line::Job {
             number: 2,
@@ -125,6 +128,6 @@ fn writes_the_lines_of_the_hub(rt: HostRuntime) -> Result<(), Fail> {
     ];
     let wanted: &[u8] =
         b"link 1 g1 g2\nlink 3 g1 mark 8\nlink 4 g2 set e\njob j2 g2 fail 3\nblock 5\nblock jobs\nblock none\nturn 1 elapsed 5\nturn 2 nothing 5\nturn 4 done j2 10 fault Error(3)\nstop fault LoopExit turns 1 moves 5\nstop no-greenlets turns 0 moves 40000\n";
-    assert_eq!(rt; written(rt.alloc(), &lines)?.as_slice(), wanted);
+    assert!(rt; are_written(rt.alloc(), &lines, wanted)?);
     Ok(())
 }

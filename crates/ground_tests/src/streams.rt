@@ -17,60 +17,75 @@ fn source(alloc: Global, failing: &[u64]) -> Result<MemorySource, AllocError>
     Ok(MemorySource::new(bytes, 4, failing.to_vec(alloc)?))
 }
 
+/// How many bytes may be read, and how many of the eight are.
+const LIMITS: &[(usize, usize)] = &[(0, 1), (6, 7), (7, 8), (8, 8), (1048576, 8)];
+
+/// Whether so many bytes are read under this limit.
+fn reads(alloc: Global, limit: usize, count: usize) -> Result<bool, Fail> {
+    let whole: &[u8] = b"def main";
+    let bytes = read_limited(alloc, &mut source(alloc, &[])?, limit)?;
+    Ok(Some(bytes.as_slice()) == whole.get(..count))
+}
+
 #[test]
 fn reads_to_the_end_or_one_past_the_limit(rt: HostRuntime) -> Result<(), Fail> {
-    let alloc = rt.alloc();
-    let whole: &[u8] = b"def main";
-    for (limit, wanted) in [(0, 1), (6, 7), (7, 8), (8, 8), (1048576, 8)] {
-        let mut from = source(alloc, &[])?;
-        let bytes = read_limited(alloc, &mut from, limit)?;
-        assert_eq!(rt;
-            Some(bytes.as_slice()),
-            whole.get(..wanted),
-            "limit {limit}"
-        );
+    for (limit, count) in LIMITS {
+        assert!(rt; reads(rt.alloc(), *limit, *count)?, "limit {limit}");
     }
     Ok(())
 }
 
 #[test]
 fn a_listed_read_fails(rt: HostRuntime) -> Result<(), Fail> {
-    let alloc = rt.alloc();
-    let mut from = source(alloc, &[1])?;
-    let answer = read_limited(alloc, &mut from, 100);
-    assert_eq!(rt; answer.err(), Some(ReadRefusal::Fault));
+    let mut from = source(rt.alloc(), &[1])?;
+    let answer = read_limited(rt.alloc(), &mut from, 100);
+    assert!(rt; answer.err() == Some(ReadRefusal::Fault));
     let mut rest = [0; 8];
-    assert_eq!(rt; from.read(&mut rest), Ok(4));
-    assert_eq!(rt; from.read(&mut rest), Ok(0));
+    assert!(rt; from.read(&mut rest) == Ok(4));
+    assert!(rt; from.read(&mut rest) == Ok(0));
     Ok(())
+}
+
+/// Whether a sink with room for six bytes takes four, and fails at four more.
+fn fails_past_its_room(to: &mut MemorySink) -> bool {
+    to.write_all(b"abcd") == Ok(())
+        && to.write_all(b"efgh") == Err(Failed)
+        && to.write_all(b"") == Ok(())
+        && to.flush() == Ok(())
 }
 
 #[test]
 fn a_sink_fails_past_its_room(rt: HostRuntime) -> Result<(), Fail> {
     let mut to = MemorySink::new(rt.alloc(), 6)?;
-    assert_eq!(rt; to.write_all(b"abcd"), Ok(()));
-    assert_eq!(rt; to.write_all(b"efgh"), Err(Failed));
-    assert_eq!(rt; to.write_all(b""), Ok(()));
-    assert_eq!(rt; to.flush(), Ok(()));
-    let wanted: &[u8] = b"abcdef";
-    assert_eq!(rt; to.bytes(), wanted);
+    assert!(rt; fails_past_its_room(&mut to));
+    assert!(rt; to.bytes() == b"abcdef".as_slice());
     Ok(())
+}
+
+/// Whether a source over std gives its text to its end.
+fn source_passes_on(alloc: Global) -> Result<bool, Fail> {
+    let text: &[u8] = b"start g0 main";
+    let bytes = read_limited(alloc, &mut StdSource::new(Cursor::new(text)), 100)?;
+    Ok(bytes.as_slice() == text)
+}
+
+/// Whether a sink over std that keeps back four bytes passes five on, and fails for good at the sixth.
+fn sink_passes_on(alloc: Global) -> Result<bool, Fail> {
+    let mut small = [0; 5];
+    let mut to = StdSink::new(alloc, &mut small[..], 4)?;
+    Ok(
+        to.write_all(b"abc") == Ok(())
+            && to.write_all(b"de") == Ok(())
+            && to.flush() == Ok(())
+            && to.write_all(b"f") == Ok(())
+            && to.flush() == Err(Failed)
+            && to.write_all(b"g") == Err(Failed),
+    )
 }
 
 #[test]
 fn std_ends_pass_bytes_on(rt: HostRuntime) -> Result<(), Fail> {
-    let alloc = rt.alloc();
-    let text: &[u8] = b"start g0 main";
-    let mut from = StdSource::new(Cursor::new(text));
-    let bytes = read_limited(alloc, &mut from, 100)?;
-    assert_eq!(rt; bytes.as_slice(), text);
-    let mut small = [0; 5];
-    let mut to = StdSink::new(alloc, &mut small[..], 4)?;
-    assert_eq!(rt; to.write_all(b"abc"), Ok(()));
-    assert_eq!(rt; to.write_all(b"de"), Ok(()));
-    assert_eq!(rt; to.flush(), Ok(()));
-    assert_eq!(rt; to.write_all(b"f"), Ok(()));
-    assert_eq!(rt; to.flush(), Err(Failed));
-    assert_eq!(rt; to.write_all(b"g"), Err(Failed));
+    assert!(rt; source_passes_on(rt.alloc())?);
+    assert!(rt; sink_passes_on(rt.alloc())?);
     Ok(())
 }
