@@ -1,5 +1,5 @@
 -- What a sweep leaves of the cells.
-use Rattle.std.proofs.Common.{◌≡◌, ℕ, zero, suc, true, false, List, [], ◌∷◌, length, get_or, replicate, ap, refl}
+use Rattle.std.proofs.Common.{◌≡◌, ℕ, zero, suc, true, List, [], ◌∷◌, length, get_or, ap, refl}
 use Rattle.native_board.specs.declared.views.CellState.{CellState}
 use Rattle.native_board.specs.declared.views.CellState.TheVariants.{Done}
 use Rattle.native_board.specs.declared.views.HubCell.{HubCell}
@@ -21,9 +21,3 @@ pub length-after_sweep : (cells : List HubCell) (seen : List CellState) → leng
 length-after_sweep cells [] = refl
 length-after_sweep [] (st ∷ sts) = refl
 length-after_sweep (x ∷ xs) (st ∷ sts) = ap suc (length-after_sweep xs sts)
-
--- no cell of a new board has a job
-pub none_sent : (n i : ℕ) → is_sent (get_or (replicate n Vacant) i Vacant) ≡ false
-none_sent zero i = refl
-none_sent (suc n) zero = refl
-none_sent (suc n) (suc i) = none_sent n i

@@ -47,7 +47,7 @@ unanswered n (Answer.Done k o at ∷ answers) h = by_test (unanswered n answers)
 unanswered n (Answer.Elapsed at ∷ answers) h = unanswered n answers h
 unanswered n (Answer.Nothing at ∷ answers) h = unanswered n answers h
 
-some_is : {X : Type 0} (a b : X) → Some a ≡ Some b → a ≡ b
+pub some_is : {X : Type 0} (a b : X) → Some a ≡ Some b → a ≡ b
 some_is a b h = ap (λ o. elim o [ Some x ↦ x | None ↦ a ]) h
 
 -- the job under a number was posted with it

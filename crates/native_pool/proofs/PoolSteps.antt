@@ -13,7 +13,7 @@ use Rattle.std.proofs.lemmas.List.Elements.{All-nil, All-cons}
 use Rattle.native_board.specs.Passes.{is_sent}
 use Rattle.native_pool.specs.Desks.{DeskView, Balances, KeepsJobs, SameCells, Fills, occurs, sent_number, job_at, IsPostedCell, IsResult}
 use Rattle.native_pool.specs.Pools.{Pool, IsSound, IsSoundDesk, KeepsStarts, WhileRunning, passed, told_cell, numbers_from}
-use Rattle.native_pool.proofs.JobLemmas.{keeps_post}
+use Rattle.native_pool.proofs.JobLemmas.{some_is, keeps_post}
 use Rattle.native_pool.proofs.DeskSteps.{jobs_as}
 use Rattle.native_pool.proofs.AnswerSteps.{balances_as}
 
@@ -44,9 +44,6 @@ keeps_starts p d s used = record {
   one_each = s.one_each;
   running = λ i h. let same : 0 + i ≡ i = omega arith in start_at p.starts 0 p.workers i s.one_each (ap (λ l. get_or l i false) (sym s.started) ∙ used i h) ∙ ap (λ k. Some (Ok k)) same;
 }
-
-some_is : {X : Type 0} (a b : X) → Some a ≡ Some b → a ≡ b
-some_is a b h = ap (λ o. elim o [ Some x ↦ x | None ↦ a ]) h
 
 -- a pool that runs
 pub sound_running : (p : Pool) (d : DeskView) → p.desk ≡ Some d → p.moment ≤ passed p → IsSoundDesk p d → IsSound p

@@ -72,7 +72,7 @@ impl Desk {
         Ok(())
     }
 
-    // Whether the cell has a started worker and is free.
+    /// Whether the cell has a started worker and is free.
     fn can_take(&self, cell: u32) -> bool
         ensures { IsTrue result ↔ CanTake (desk_view self.now) cell }
     {
@@ -80,7 +80,7 @@ impl Desk {
         at < self.started.len() && self.started[at] && self.pass.is_free(cell)
     }
 
-    // Posts the oldest job that waits into the cell, where that is free and has a started worker.
+    /// Posts the oldest job that waits into the cell, where that is free and has a started worker.
     fn fill_cell(&mut self, cell: u32)
         requires made { (hub_view self.old.pass).made ≡ length (hub_view self.old.pass).cells }
         ensures fills { Fills (desk_view self.old) (desk_view self.new) }
@@ -106,7 +106,7 @@ impl Desk {
         }
     }
 
-    // Sweeps the board, and holds the results.
+    /// Sweeps the board, and holds the results.
     fn sweep(&mut self)
         requires { self.old.held.items ≡ [] }
         ensures held { self.new.held.items ≡ finished (hub_view self.old.pass).cells (hub_view self.new.pass).seen }
@@ -117,7 +117,7 @@ impl Desk {
         self.board.sweep(&mut self.pass, &mut self.held);
     }
 
-    // Hands on the first of the results that are held.
+    /// Hands on the first of the results that are held.
     fn take_first(&mut self) -> Finished
         requires { 0 < vec_len self.old.held }
         ensures first { result ∷ self.new.held.items ≡ self.old.held.items }
@@ -128,7 +128,7 @@ impl Desk {
         self.held.remove(0)
     }
 
-    // Evaluates the oldest job that waits.
+    /// Evaluates the oldest job that waits.
     fn evaluate_oldest(&mut self) -> Option<Finished>
         ensures some { IfSome result (λ f. (job : Job) × (self.old.waiting.items ≡ posted f.number job ∷ self.new.waiting.items) × (f.outcome ≡ eval job)) }
         ensures none { IsNone result → (self.old.waiting.items ≡ []) × (self.new.waiting.items ≡ []) }
@@ -143,7 +143,7 @@ impl Desk {
         })
     }
 
-    // Sweeps and fills the cells, where no result is held.
+    /// Sweeps and fills the cells, where no result is held.
     fn refill(&mut self)
         requires made { (hub_view self.old.pass).made ≡ length (hub_view self.old.pass).cells }
         requires none_held { self.old.held.items ≡ [] }
@@ -174,7 +174,7 @@ impl Desk {
         self.evaluate_oldest()
     }
 
-    // Whether a worker was started.
+    /// Whether a worker was started.
     fn has_workers(&self) -> bool
         ensures { result ≡ has_workers (desk_view self.now) }
     {

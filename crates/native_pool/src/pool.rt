@@ -100,7 +100,7 @@ impl<
     }
 }
 
-// The tasks of all workers, by cell.
+/// The tasks of all workers, by cell.
 fn tasks<B: Bell + Drop, G: Gate + Drop>(
     alloc: Global,
     workers: u32,
@@ -131,7 +131,7 @@ fn tasks<B: Bell + Drop, G: Gate + Drop>(
     Ok(tasks)
 }
 
-// Starts each task in order, and keeps what each start answered.
+/// Starts each task in order, and keeps what each start answered.
 fn start_all<B: Bell + Drop, G: Gate + Drop, S: Spawner<B, G>>(
     spawner: &mut S,
     mut tasks: Vec<WorkerTask<B, G>>,
@@ -152,7 +152,7 @@ fn start_all<B: Bell + Drop, G: Gate + Drop, S: Spawner<B, G>>(
     }
 }
 
-// Waits for each started worker to end.
+/// Waits for each started worker to end.
 fn join_all<B: Bell + Drop, G: Gate + Drop, S: Spawner<B, G>>(
     spawner: &mut S,
     starts: Vec<Result<S::Running, S::Refused>>,
@@ -164,7 +164,7 @@ fn join_all<B: Bell + Drop, G: Gate + Drop, S: Spawner<B, G>>(
     }
 }
 
-// What may be answered now, at this moment.
+/// What may be answered now, at this moment.
 fn offered(desk: &mut Desk, question: Question, moment: u64) -> Option<Answer>
     requires made { (hub_view desk.old.pass).made ≡ length (hub_view desk.old.pass).cells }
     ensures at { IfSome result (λ answer. moment_of answer ≡ moment) }
@@ -187,8 +187,8 @@ fn offered(desk: &mut Desk, question: Question, moment: u64) -> Option<Answer>
     }
 }
 
-// Goes on to the moment that the clock says now, and stores what may be answered then, if anything. Room was made for
-// it.
+/// Goes on to the moment that the clock says now, and stores what may be answered then, if anything. Room was made for
+/// it.
 fn try_answer<C: Clock>(
     clock: &mut C,
     began: u64,
@@ -219,7 +219,7 @@ fn try_answer<C: Clock>(
     Some(answer)
 }
 
-// How long the hub may rest at this moment.
+/// How long the hub may rest at this moment.
 fn rest_of(question: Question, moment: u64) -> Option<u64> {
     match question {
         Question::Poll => Some(0),
@@ -228,7 +228,7 @@ fn rest_of(question: Question, moment: u64) -> Option<u64> {
     }
 }
 
-// Answers the question, and stores the answer, once there is one. Room was made for it.
+/// Answers the question, and stores the answer, once there is one. Room was made for it.
 fn await_answer<H: Wait, R: Ear, C: Clock>(
     rt: &H,
     ear: &mut R,
@@ -261,7 +261,7 @@ fn await_answer<H: Wait, R: Ear, C: Clock>(
     unreachable!()
 }
 
-// Waits until no worker has a job, and tells the workers to end.
+/// Waits until no worker has a job, and tells the workers to end.
 fn wind_down<H: Wait, R: Ear>(rt: &H, ear: &mut R, mut desk: Desk) {
     for _ in rt.forever() {
         desk.give_up();

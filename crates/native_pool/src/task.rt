@@ -2,7 +2,7 @@
 ghost use Rattle.std.specs.Prelude.{◌≡◌};
 ghost use Rattle.std.specs.Arc.{arc_value};
 ghost use Rattle.native_board.specs.Boards.{board_id, worker_board, worker_view};
-ghost use Rattle.native_board.specs.declared.views.Stage.TheVariants.{Idle, Over};
+ghost use Rattle.native_board.specs.declared.views.WorkerStage.TheVariants.{Idle, Over};
 
 use native_board::{Bell, Board, Looked, WorkerPass};
 use std::alloc::Global;

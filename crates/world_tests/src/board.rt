@@ -1,5 +1,5 @@
 ghost use Rattle.std.specs.Prelude.{◌≡◌, IsTrue};
-ghost use Rattle.native_board.specs.declared.views.Stage.TheVariants.{Idle};
+ghost use Rattle.native_board.specs.declared.views.WorkerStage.TheVariants.{Idle};
 ghost use Rattle.native_board.specs.Boards.{board_id, hub_board, worker_board, worker_view};
 
 use gv_values::{FaultKind, Job, JobOutcome};

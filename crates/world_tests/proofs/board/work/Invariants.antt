@@ -1,5 +1,5 @@
 use Rattle.std.proofs.Common.{◌≡◌}
-use Rattle.native_board.specs.declared.views.Stage.TheVariants.{Idle}
+use Rattle.native_board.specs.declared.views.WorkerStage.TheVariants.{Idle}
 use Rattle.native_board.specs.Boards.{worker_board, worker_view}
 use Rattle.world_tests.proofs.board.work.Given as goal
 
