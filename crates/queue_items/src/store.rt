@@ -139,7 +139,7 @@ impl Store {
     }
 }
 
-// The value once more, where there is one.
+/// The value once more, where there is one.
 fn copied(alloc: Global, value: Option<&Value>) -> Result<Option<Value>, AllocError>
     ensures { IfOk result (λ o. o ≡ option_copied value.entry) }
 {
