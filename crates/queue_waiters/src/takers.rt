@@ -38,7 +38,7 @@ const GETTER: u64 = 0;
 
 const PEEKER: u64 = 1;
 
-// One more, where it is a getter.
+/// One more, where it is a getter.
 fn with_one(n: u64, kind: u64) -> u64
     requires { n + 1 < 2 ^ 64 }
     ensures { result ≡ n + (if kind == 0 then 1 else 0) }
@@ -46,7 +46,7 @@ fn with_one(n: u64, kind: u64) -> u64
     if kind == GETTER { n + 1 } else { n }
 }
 
-// One less, where it is a getter.
+/// One less, where it is a getter.
 fn without_one(n: u64, kind: u64) -> u64
     requires { kind ≡ 0 → 0 < n }
     ensures { result + (if kind == 0 then 1 else 0) ≡ n }
