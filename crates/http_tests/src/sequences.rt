@@ -1,25 +1,39 @@
 //! Lists.
 use http_messages::Sequence;
+use std::alloc::Global;
 use std::test::Fail;
 
-#[test]
-fn keeps_its_elements_in_order(rt: HostRuntime) -> Result<(), Fail> {
-    let alloc = rt.alloc();
+/// Whether these are the numbers that were kept, and none is behind them.
+fn are_kept(numbers: &Sequence<u32>) -> bool {
+    numbers.len() == 5
+        && numbers.items() == [3, 1, 4, 1, 5].as_slice()
+        && numbers.get(2).copied() == Some(4)
+        && numbers.get(5).is_none()
+}
+
+/// Three numbers, and two more behind them.
+fn five_numbers(alloc: Global) -> Result<Sequence<u32>, Fail> {
     let mut numbers = Sequence::from_vec(vec![in alloc; 3u32, 1, 4]?);
     numbers.push(1)?;
     numbers.push(5)?;
-    assert_eq!(rt; numbers.len(), 5);
-    assert_eq!(rt; numbers.items(), [3, 1, 4, 1, 5].as_slice());
-    assert_eq!(rt; numbers.get(2).copied(), Some(4));
-    assert!(rt; numbers.get(5).is_none());
-    numbers.truncate(2);
-    assert_eq!(rt; numbers.into_vec().as_slice(), [3, 1].as_slice());
+    Ok(numbers)
+}
 
+/// Whether an empty list keeps the bytes that it is given in two parts.
+fn keeps_bytes(alloc: Global) -> Result<bool, Fail> {
     let mut text: Sequence<u8> = Sequence::new(alloc);
-    assert!(rt; text.is_empty());
+    let was_empty = text.is_empty();
     text.extend_from_slice(b"ab")?;
     text.extend_from_slice(b"c")?;
-    assert_eq!(rt; text.items(), b"abc".as_slice());
-    assert!(rt; !text.is_empty());
+    Ok(was_empty && text.items() == b"abc".as_slice() && !text.is_empty())
+}
+
+#[test]
+fn keeps_its_elements_in_order(rt: HostRuntime) -> Result<(), Fail> {
+    assert!(rt; keeps_bytes(rt.alloc())?);
+    let mut numbers = five_numbers(rt.alloc())?;
+    assert!(rt; are_kept(&numbers));
+    numbers.truncate(2);
+    assert!(rt; numbers.into_vec().as_slice() == [3, 1].as_slice());
     Ok(())
 }
