@@ -39,7 +39,7 @@ fn sum(n: i64) -> JobOutcome
     JobOutcome::Int((n * (n + 1) / 2) as i64)
 }
 
-// The number after m, where it has at most 64 bits signed.
+/// The number after m, where it has at most 64 bits signed.
 fn next(m: u64) -> Option<u64>
     requires { m < 2 ^ 63 }
     ensures { MatchOption result (2 ^ 63 ≤ next_collatz m) (λ x. (x ≡ next_collatz m) × (x < 2 ^ 63)) }
