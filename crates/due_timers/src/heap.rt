@@ -21,7 +21,7 @@ pub struct Timer {
     pub deadline: u64,
 }
 
-// Whether the timer at `a` comes before that at `b`.
+/// Whether the timer at `a` comes before that at `b`.
 #[tactic(auto, unfolding(crate::specs::Heap::rank))]
 fn is_before(heap: &[Timer], a: usize, b: usize) -> bool
     requires a_within { a < length heap.now }
@@ -37,7 +37,7 @@ fn is_before(heap: &[Timer], a: usize, b: usize) -> bool
     }
 }
 
-// Two timers change places.
+/// Two timers change places.
 fn exchange(heap: &mut [Timer], places: &mut Places, a: usize, b: usize)
     requires a_within { a < length heap.old }
     requires b_within { b < length heap.old }
@@ -53,8 +53,8 @@ fn exchange(heap: &mut [Timer], places: &mut Places, a: usize, b: usize)
     places.set(heap[b].item, b);
 }
 
-// The lesser of two children, of which the left is `left`.
-fn lesser(heap: &[Timer], left: usize) -> usize
+/// The lesser of two children, of which the left is `left`.
+fn lesser_child(heap: &[Timer], left: usize) -> usize
     requires { left < length heap.now }
     ensures child { (left ≤ result) × (result ≤ left + 1) × (result < length heap.now) }
     ensures least { (k : ℕ) → left ≤ k → k ≤ left + 1 → k < length heap.now → rank_at heap.now result ≤ rank_at heap.now k }
@@ -99,7 +99,7 @@ pub fn sift_down(heap: &mut [Timer], places: &mut Places, start: usize)
 {
     let mut at = start;
     while at < heap.len() / 2 {
-        let child = lesser(heap, 2 * at + 1);
+        let child = lesser_child(heap, 2 * at + 1);
         if !is_before(heap, child, at) {
             return;
         }

@@ -4,6 +4,7 @@ use Rattle.std.proofs.lemmas.Option.{slice_get-get_or}
 use Rattle.gv_values.specs.declared.value.Value.{Value}
 use Rattle.linked_items.specs.Items.{without, Lacks, Differ}
 use Rattle.linked_items.proofs.ItemLemmas.{without_length, without_absent, without_front, without_back, differ_front, differ_back, differ_parts, differ_of_without, differ_snoc, lacks_of_absent, absent_of_lacks, places_differ, test_keeps, test_drops}
+use Rattle.wait_lines.proofs.LineLemmas.{front_place}
 use Rattle.waiters.specs.Waits.{SeenWaits, waits, told_without}
 use Rattle.waiters.specs.declared.parking.Side.{Side}
 use Rattle.waiters.proofs.PrefixLemmas.{none_behind, not_among}
@@ -17,16 +18,6 @@ use Rattle.gqueues.proofs.PutterLemmas.{items_put_without, fewer_putters}
 
 pub place_of : (xs : List ℕ) (x : ℕ) (c : Contains xs x) → slice_get xs c.0 ≡ Some x
 place_of xs x c = slice_get-get_or xs c.0 x c.1 ∙ ap Some c.2
-
-pub front_place : (xs ys : List ℕ) (k x : ℕ) → slice_get xs k ≡ Some x → slice_get (xs ++ ys) k ≡ Some x
-front_place [] ys k x at = absurd (cc)
-front_place (y ∷ xs) ys zero x at = at
-front_place (y ∷ xs) ys (suc k) x at = front_place xs ys k x at
-
-pub place_front : (xs ys : List ℕ) (k x : ℕ) → k < length xs → slice_get (xs ++ ys) k ≡ Some x → slice_get xs k ≡ Some x
-place_front [] ys k x lt at = absurd (omega arith)
-place_front (y ∷ xs) ys zero x lt at = at
-place_front (y ∷ xs) ys (suc k) x lt at = place_front xs ys k x (omega arith) at
 
 take_part : (n : ℕ) (xs ys : List ℕ) → n ≤ length xs → take n (xs ++ ys) ≡ take n xs
 take_part zero xs ys le = refl

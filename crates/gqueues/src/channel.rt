@@ -94,7 +94,7 @@ impl Channel {
         self.take_offer()
     }
 
-    // Takes the oldest offer, and lets its putter go.
+    /// Takes the oldest offer, and lets its putter go.
     fn take_offer(&mut self) -> Value
         requires { 0 < length self.old.offers }
         ensures value { result ≡ oldest self.old.offers }

@@ -345,7 +345,7 @@ impl GQueue {
         self.putters.park(item, value)
     }
 
-    // How many getters stand before a getter; of a queue that is not shut it doesn't matter.
+    /// How many getters stand before a getter; of a queue that is not shut it doesn't matter.
     fn before_getter(&self, item: u32) -> u64
         requires there { Contains (of_kind gets self.now.takers) item }
         requires holds { IsServed (take_places self.now) self.now.takers item }
@@ -359,7 +359,7 @@ impl GQueue {
         }
     }
 
-    // The same of a peeker.
+    /// The same of a peeker.
     fn before_peeker(&self, item: u32) -> u64
         requires there { Contains (of_kind peeks self.now.takers) item }
         requires holds { IsServed (take_places self.now) self.now.takers item }
@@ -373,7 +373,7 @@ impl GQueue {
         }
     }
 
-    // So many more values fit; without a size as many as are asked for.
+    /// So many more values fit; without a size as many as are asked for.
     fn free(&self, asked: u64) -> u64
         ensures { result ≡ free_places asked self.now.size self.now.items }
     {
@@ -383,7 +383,7 @@ impl GQueue {
         }
     }
 
-    // So many putters may go.
+    /// So many putters may go.
     fn put_places(&self) -> u64
         ensures { result ≡ put_places self.now }
     {
@@ -395,7 +395,7 @@ impl GQueue {
         }
     }
 
-    // With fewer getters before them, getters and peekers may go.
+    /// With fewer getters before them, getters and peekers may go.
     fn take_places(&self) -> u64
         ensures { result ≡ take_places self.now }
     {
@@ -406,7 +406,7 @@ impl GQueue {
         }
     }
 
-    // So many of those that wait for the last task may go.
+    /// So many of those that wait for the last task may go.
     fn join_places(&self) -> u64
         ensures { result ≡ join_places self.now }
     {

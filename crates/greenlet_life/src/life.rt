@@ -56,7 +56,7 @@ impl Model for Life {
     ghost invariant = { λ l. IsLife (length l.greenlets.items) l.outcomes.items l.links.items l.pending.items };
 }
 
-// A greenlet has come so far.
+/// A greenlet has come so far.
 fn set_progress(greenlets: &mut [Greenlet], g: u32, progress: Progress)
     requires { g < length greenlets.old }
     ensures { greenlets.new ≡ progressed greenlets.old g progress }
@@ -106,7 +106,7 @@ impl Life {
         Ok(number as u32)
     }
 
-    // How a greenlet ended, once it has.
+    /// How a greenlet ended, once it has.
     fn outcome_at(&self, g: u32) -> Option<&Outcome>
         ensures { option_copied result ≡ outcome_of self.now g }
     {
@@ -241,7 +241,7 @@ impl Life {
         self.links.get(link as usize - 1).copied()
     }
 
-    // Whether a link is still to be called.
+    /// Whether a link is still to be called.
     fn is_to_be_called(&self, link: Link) -> bool
         ensures { result ≡ is_pending (outcome_of self.now link.greenlet) link }
     {
@@ -294,7 +294,7 @@ impl Life {
     }
 }
 
-// A link comes to another state.
+/// A link comes to another state.
 fn set_state(links: &mut Vec<Link>, place: usize, state: LinkState)
     requires { place < length links.old.items }
     ensures { links.new.items ≡ stated links.old.items place state }

@@ -39,14 +39,14 @@ pub fn drop_link(pending: &mut Vec<ItemList>, g: u32, place: u32)
     }
 }
 
-// Whether a link is one of the greenlet and to be handed out after this end.
+/// Whether a link is one of the greenlet and to be handed out after this end.
 fn may_go(link: Link, g: u32, outcome: &Outcome) -> bool
     ensures { result ≡ is_due (Some outcome.now) g link }
 {
     link.greenlet == g && link.state == LinkState::Waiting && is_fitting(link.kind, Some(outcome))
 }
 
-// Takes the first link that fits the end out of those that are pending, and those before it, which never will.
+/// Takes the first link that fits the end out of those that are pending, and those before it, which never will.
 fn first_fitting(pending: &mut ItemList, links: &[Link], g: u32, outcome: &Outcome) -> Option<usize>
     requires pending { ArePending (length links.now) (λ k. is_due (Some outcome.now) g (link_or links.now k)) (items_of pending.old.entries) }
     ensures first { result ≡ position (is_due (Some outcome.now) g) links.now }

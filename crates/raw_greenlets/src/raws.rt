@@ -66,7 +66,7 @@ impl Raws {
         }
     }
 
-    // The host of a number.
+    /// The host of a number.
     fn host_of(&self, number: u32) -> u32
         ensures { HasHost self.now number result }
     {

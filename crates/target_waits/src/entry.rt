@@ -22,7 +22,7 @@ impl Model for Entry {
     ghost view = { λ e. wait e.item e.targets.items e.need e.answered };
 }
 
-// Whether the two are the same.
+/// Whether the two are the same.
 fn is_same(a: Whom, b: Whom) -> bool
     ensures { result ≡ whom_eq a b }
 {

@@ -21,7 +21,7 @@ pub struct Index {
     jobs: HashMap<u32, ItemList>,
 }
 
-// Gives the target of a number a list, if it has none.
+/// Gives the target of a number a list, if it has none.
 fn make_list(
     alloc: Global,
     lists: &mut HashMap<u32, ItemList>,
@@ -36,7 +36,7 @@ fn make_list(
     Ok(())
 }
 
-// Has an item wait for the target of a number, which has a list.
+/// Has an item wait for the target of a number, which has a list.
 fn enter(lists: &mut HashMap<u32, ItemList>, number: u32, item: u32) -> Result<(), AllocError>
     requires { IsSome (get nat_eq lists.old number) }
     ensures entered { OnOk result (Contains (named lists.new number) item) }
@@ -49,7 +49,7 @@ fn enter(lists: &mut HashMap<u32, ItemList>, number: u32, item: u32) -> Result<(
     }
 }
 
-// An item waits no longer for the target of a number.
+/// An item waits no longer for the target of a number.
 fn leave(lists: &mut HashMap<u32, ItemList>, number: u32, item: u32)
     ensures left { named lists.new number ≡ without item (named lists.old number) }
     ensures others { (q : ℕ) → q ≢ number → named lists.new q ≡ named lists.old q }
@@ -59,7 +59,7 @@ fn leave(lists: &mut HashMap<u32, ItemList>, number: u32, item: u32)
     }
 }
 
-// Drops the list of a target for which nobody waits.
+/// Drops the list of a target for which nobody waits.
 fn drop_empty(lists: &mut HashMap<u32, ItemList>, number: u32)
     ensures same { (q : ℕ) → named lists.new q ≡ named lists.old q }
 {

@@ -33,7 +33,7 @@ impl Model for Targets {
     ghost invariant = { λ t. IsIndexed t.waits t.index };
 }
 
-// Each item of the list has one of its targets struck out.
+/// Each item of the list has one of its targets struck out.
 fn strike_each(waits: &mut Waits, named: &mut ItemList, whom: Whom)
     ensures struck { waits.new ≡ struck_at_all whom (list_items named.old.entries) waits.old }
     ensures differ { Differ (list_items named.old.entries) }

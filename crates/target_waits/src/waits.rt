@@ -37,7 +37,7 @@ impl Model for Waits {
     ghost invariant = { λ t. IsWaits (get nat_eq t.entries) t.order.entries t.ready };
 }
 
-// Strikes a target out of an item's wait, and tells whether it needs no more ends from now on.
+/// Strikes a target out of an item's wait, and tells whether it needs no more ends from now on.
 fn strike_at(entries: &mut HashMap<u32, Entry>, item: u32, whom: Whom) -> bool
     ensures struck { (q : ℕ) → get nat_eq entries.new q ≡ changed_at (struck whom) item (get nat_eq entries.old) q }
     ensures told { result ≡ becomes_ready whom (get nat_eq entries.old item) }
@@ -52,7 +52,7 @@ fn strike_at(entries: &mut HashMap<u32, Entry>, item: u32, whom: Whom) -> bool
     }
 }
 
-// An item's wait is answered.
+/// An item's wait is answered.
 fn answer_at(entries: &mut HashMap<u32, Entry>, item: u32)
     ensures { (q : ℕ) → get nat_eq entries.new q ≡ changed_at answered item (get nat_eq entries.old) q }
 {
