@@ -1,12 +1,7 @@
 //! The server over the sockets of the system, with a client in a thread of its own.
-ghost use Rattle.std.specs.Prelude.{IsSome};
-ghost use Rattle.stream_net.specs.Nets.{IsFresh};
-
 use mio_net::MioNet;
-use std::alloc::Global;
 use std::io::{Read, Write};
 use std::net::{Ipv4Addr, SocketAddr, TcpStream};
-use std::sync::Wait;
 use std::test::Fail;
 use std::{io, thread};
 use stream_net::Net;
@@ -25,19 +20,6 @@ fn ask(rt: &HostRuntime, port: u16) -> io::Result<Vec<u8>> {
     Ok(bytes)
 }
 
-/// Serves one connection of a net that listens at this port.
-fn served<N: Net, H: Wait>(rt: &H, alloc: Global, net: &mut N, port: u16) -> ServeEnd
-    requires listens { IsSome (N.meaning net.old).listens }
-    requires fresh { IsFresh (N.meaning net.old) }
-{
-    let limits = Limits {
-        pool: 1,
-        conns: 1,
-        idle: 60000,
-    };
-    serve(rt, alloc, net, &ShippedApp, port, limits)
-}
-
 #[test]
 fn serves_a_client_over_loopback(rt: HostRuntime) -> Result<(), Fail> {
     let mut net = MioNet::new(rt, rt.alloc())?;
@@ -45,9 +27,14 @@ fn serves_a_client_over_loopback(rt: HostRuntime) -> Result<(), Fail> {
         return Err("it doesn't listen".into());
     };
     let client = thread::spawn(&rt, move || ask(&rt, port))?;
-    let end = served(&rt, rt.alloc(), &mut net, port);
-    assert!(rt; end == ServeEnd::Finished);
+    let limits = Limits {
+        pool: 1,
+        conns: 1,
+        idle: 60000,
+    };
+    let end = serve(&rt, rt.alloc(), &mut net, &ShippedApp, port, limits);
+    assert_eq!(rt; end, ServeEnd::Finished);
     let sent = client.join(&rt)?;
-    assert!(rt; sent.as_slice() == ANSWERS);
+    assert_eq!(rt; sent.as_slice(), ANSWERS);
     Ok(())
 }

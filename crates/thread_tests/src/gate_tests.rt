@@ -2,7 +2,7 @@
 ghost use Rattle.std.specs.Prelude.{◌≡◌, false};
 
 use crate::held::{EachStarts, HoldingGate, Signals, Watched};
-use gv_io::{MemorySink, MemorySource, Sink, Source};
+use gv_io::{MemorySink, MemorySource};
 use gv_top::offline;
 use native_board::Bell;
 use native_pool::{
@@ -45,40 +45,26 @@ struct Left {
     out: MemorySink,
 }
 
-/// Calls over these streams and this world. The status.
-fn called<S: Source, K: Sink, E: Sink, W: World>(
-    alloc: Global,
-    input: &mut S,
-    out: &mut K,
-    err: &mut E,
-    native: &mut W,
-) -> Result<Option<u8>, AllocError>
-    requires { (W.meaning native.old).runs ≡ false }
-{
-    let mut words = Vec::new(alloc);
-    for word in ["run", "--native=2"] {
-        words.push(String::from_str(alloc, word)?)?;
-    }
-    Ok(offline(
-        alloc,
-        words.as_slice(),
-        input,
-        out,
-        err,
-        native,
-        &ShippedApp,
-    ))
-}
-
 /// Calls over this world, which stands still.
 fn run_in<W: World>(alloc: Global, native: &mut W) -> Result<Left, AllocError>
     requires { (W.meaning native.old).runs ≡ false }
 {
+    let mut words = Vec::new(alloc);
+    words.push(String::from_str(alloc, "run")?)?;
+    words.push(String::from_str(alloc, "--native=2")?)?;
     let bytes = Vec::from_slice(alloc, TWO_ECHOES)?;
     let mut input = MemorySource::new(bytes, 4096, Vec::new(alloc));
     let mut out = MemorySink::new(alloc, 1000)?;
     let mut err = MemorySink::new(alloc, 100)?;
-    let status = called(alloc, &mut input, &mut out, &mut err, native)?;
+    let status = offline(
+        alloc,
+        words.as_slice(),
+        &mut input,
+        &mut out,
+        &mut err,
+        native,
+        &ShippedApp,
+    );
     Ok(Left { status, out })
 }
 
@@ -105,25 +91,10 @@ fn run_over<
     Ok(run_in(alloc, &mut native)?)
 }
 
-/// Whether both jobs came to the gate, and none was let go for nothing.
-fn are_well(signals: &Signals) -> bool {
-    signals.came.load(Ordering::SeqCst) == 2 && signals.given_up.load(Ordering::SeqCst) == 0
-}
-
-/// The trace where that job was held.
-fn trace_of(signals: &Signals) -> &[u8] {
-    if signals.held.load(Ordering::SeqCst) == 1 {
-        SECOND_ENDS_FIRST
-    } else {
-        FIRST_ENDS_FIRST
-    }
-}
-
 #[test]
 fn gate_two_workers(rt: HostRuntime) -> Result<(), Fail> {
     let alloc = rt.alloc();
     let signals = Arc::new(alloc, Signals::new())?;
-    let seen = Arc::try_clone(&signals)?;
     let gate = HoldingGate {
         signals: Arc::try_clone(&signals)?,
     };
@@ -137,9 +108,15 @@ fn gate_two_workers(rt: HostRuntime) -> Result<(), Fail> {
         start,
         refused: 0,
     };
+    let seen = Arc::try_clone(&signals)?;
     let left = run_over(alloc, rt, ear, bell, Still, gate, spawner, seen)?;
-    assert!(rt; left.status == Some(0));
-    assert!(rt; are_well(&signals));
-    assert!(rt; left.out.bytes() == trace_of(&signals));
+    assert_eq!(rt; left.status, Some(0));
+    assert_eq!(rt; signals.came.load(Ordering::SeqCst), 2);
+    assert_eq!(rt; signals.given_up.load(Ordering::SeqCst), 0);
+    if signals.held.load(Ordering::SeqCst) == 1 {
+        assert_eq!(rt; left.out.bytes(), SECOND_ENDS_FIRST);
+    } else {
+        assert_eq!(rt; left.out.bytes(), FIRST_ENDS_FIRST);
+    }
     Ok(())
 }

@@ -61,68 +61,6 @@ fn swept(alloc: Global, board: &Board, hub: &mut HubPass) -> Result<Vec<Finished
     Ok(found)
 }
 
-// Posts into both cells, of which the first is free before and not after it, and there is no third.
-fn posts_both(board: &Board, hub: &mut HubPass) -> bool
-    requires { hub_board hub.old ≡ board_id board.now }
-    ensures { hub_board hub.new ≡ hub_board hub.old }
-{
-    if !hub.is_free(0) || hub.is_free(2) {
-        return false;
-    }
-    board.post(hub, 0, 1, Job::Sum(3));
-    if hub.is_free(1) {
-        board.post(hub, 1, 2, Job::Fail(-3));
-    }
-    !hub.is_free(0)
-}
-
-// Whether the sweep finds what both jobs came to.
-fn finds_both(alloc: Global, board: &Board, hub: &mut HubPass) -> Result<bool, AllocError>
-    requires { hub_board hub.old ≡ board_id board.now }
-    ensures { hub_board hub.new ≡ hub_board hub.old }
-{
-    let sum = Finished {
-        number: 1,
-        outcome: JobOutcome::Int(6),
-    };
-    let failed = Finished {
-        number: 2,
-        outcome: JobOutcome::Fault(FaultKind::Error(-3)),
-    };
-    Ok(swept(alloc, board, hub)?.as_slice() == [sum, failed].as_slice())
-}
-
-// Whether the first of two reports rings, and one more only after a sweep.
-fn rings_after_a_sweep(
-    alloc: Global,
-    board: &Board,
-    hub: &mut HubPass,
-    first: &mut WorkerPass,
-    second: &mut WorkerPass,
-    bell: &Rings,
-) -> Result<bool, AllocError>
-    requires hub { hub_board hub.old ≡ board_id board.now }
-    requires first { (worker_board first.old ≡ board_id board.now) × ((worker_view first.old).stage ≡ Idle) }
-    requires second { (worker_board second.old ≡ board_id board.now) × ((worker_view second.old).stage ≡ Idle) }
-{
-    if !swept(alloc, board, hub)?.is_empty() {
-        return Ok(false);
-    }
-    if !work_once(board, first, bell) || bell.count() != 1 {
-        return Ok(false);
-    }
-    if !work_once(board, second, bell) || bell.count() != 1 {
-        return Ok(false);
-    }
-    if !finds_both(alloc, board, hub)? {
-        return Ok(false);
-    }
-    if hub.is_free(1) {
-        board.post(hub, 1, 3, Job::Echo(9));
-    }
-    Ok(work_once(board, second, bell) && bell.count() == 2)
-}
-
 #[test]
 fn rings_once_for_each_report_that_found_the_signal_low(rt: HostRuntime) -> Result<(), Fail> {
     let Made {
@@ -130,6 +68,7 @@ fn rings_once_for_each_report_that_found_the_signal_low(rt: HostRuntime) -> Resu
         mut hub,
         mut workers,
     } = Board::new(rt.alloc(), 2)?;
+    let hub = &mut hub;
     let Some(mut first) = workers.next() else {
         unreachable!()
     };
@@ -138,9 +77,36 @@ fn rings_once_for_each_report_that_found_the_signal_low(rt: HostRuntime) -> Resu
     };
     let bell = Rings::new();
     assert!(rt; workers.next().is_none());
-    assert!(rt; posts_both(&board, &mut hub));
-    let rings = rings_after_a_sweep(rt.alloc(), &board, &mut hub, &mut first, &mut second, &bell)?;
-    assert!(rt; rings);
+    assert!(rt; hub.is_free(0) && !hub.is_free(2));
+    if hub.is_free(0) {
+        board.post(hub, 0, 1, Job::Sum(3));
+    }
+    if hub.is_free(1) {
+        board.post(hub, 1, 2, Job::Fail(-3));
+    }
+    assert!(rt; !hub.is_free(0) && swept(rt.alloc(), &board, hub)?.is_empty());
+    assert!(rt; work_once(&board, &mut first, &bell) && bell.count() == 1);
+    assert!(rt; work_once(&board, &mut second, &bell) && bell.count() == 1);
+    let found = swept(rt.alloc(), &board, hub)?;
+    assert!(rt; found.len() == 2);
+    assert!(rt;
+        found[0]
+            == Finished {
+                number: 1,
+                outcome: JobOutcome::Int(6)
+            }
+    );
+    assert!(rt;
+        found[1]
+            == Finished {
+                number: 2,
+                outcome: JobOutcome::Fault(FaultKind::Error(-3))
+            }
+    );
+    if hub.is_free(1) {
+        board.post(hub, 1, 3, Job::Echo(9));
+    }
+    assert!(rt; work_once(&board, &mut second, &bell) && bell.count() == 2);
     Ok(())
 }
 
@@ -266,22 +232,16 @@ fn both<R: Threads + Wait + Sync>(rt: &R, alloc: Global) -> Result<Vec<Finished>
     run(rt, alloc, &board, hub, first, second, &bell)
 }
 
-// Whether these are the outcomes of all jobs, in order.
-fn are_all(found: &[Finished]) -> bool {
-    let mut number = 0u32;
-    for finished in found {
-        number = number.saturating_add(1);
-        if finished.number != number || finished.outcome != JobOutcome::Int(i64::from(number)) {
-            return false;
-        }
-    }
-    number == JOBS
-}
-
 #[test]
 fn two_threads_do_each_job_once(rt: HostRuntime) -> Result<(), Fail> {
     let mut found = both(&rt, rt.alloc())?;
     found.sort_by(|a, b| a.number.cmp(&b.number))?;
-    assert!(rt; are_all(&found));
+    assert!(rt; found.len() == JOBS as usize);
+    for (i, finished) in found.iter().enumerate() {
+        let number = i as u32 + 1;
+        assert!(rt;
+            finished.number == number && finished.outcome == JobOutcome::Int(i64::from(number))
+        );
+    }
     Ok(())
 }

@@ -1,7 +1,6 @@
 ghost use Rattle.std.specs.Prelude.{◌≡◌, ◌<◌, ◌≤◌, ◌^◌, true, false, [], OnOk, IfOk, IfErr, OnErr};
 ghost use Rattle.std.specs.Arc.{arc_value};
-ghost use Rattle.native_board.specs.Boards.{board_id, hub_board, worker_board, worker_view};
-ghost use Rattle.native_board.specs.declared.views.Stage.TheVariants.{Idle};
+ghost use Rattle.native_board.specs.Boards.{board_id, hub_board, worker_view};
 ghost use Rattle.gv_values.specs.Counts.{HasRisen};
 
 use gv_values::{Answer, Job, JobOutcome};
@@ -47,77 +46,45 @@ fn first_result<R: Wait>(
     unreachable!()
 }
 
-// The task of this pass, whose worker rings this bell.
-fn task_of(
-    alloc: Global,
-    board: &Arc<Board, Global>,
-    pass: WorkerPass,
-    bell: WakerBell,
-) -> Result<WorkerTask<WakerBell, OpenGate>, AllocError>
-    requires board { worker_board pass ≡ board_id (arc_value board.now) }
-    requires idle { (worker_view pass).stage ≡ Idle }
-{
-    let bell = Arc::new(alloc, bell)?;
-    let gate = Arc::new(alloc, OpenGate)?;
-    Ok(WorkerTask::new(Arc::try_clone(board)?, pass, bell, gate))
-}
-
-// Whether the first cell is free again once the worker has done the sum that is posted into it, and stops it.
-fn is_done<R: Wait>(
-    rt: &R,
-    alloc: Global,
-    board: &Board,
-    hub: &mut HubPass,
-    ear: &mut PollEar,
-) -> Result<bool, AllocError>
-    requires { hub_board hub.old ≡ board_id board.now }
-{
-    if hub.is_free(0) {
-        board.post(hub, 0, 1, Job::Sum(4));
-    }
-    let finished = first_result(rt, alloc, board, hub, ear)?;
-    let is_sum = finished.number == 1 && finished.outcome == JobOutcome::Int(10);
-    let is_free = hub.is_free(0);
-    if is_free {
-        board.stop(hub, 0);
-    }
-    Ok(is_sum && is_free)
-}
-
-// Whether a worker on a thread of its own, if one starts, does a job, and its bell is heard.
-fn does_a_job<H: Threads + Wait>(
-    rt: &H,
-    alloc: Global,
-    ear: &mut PollEar,
-    bell: WakerBell,
-    spawner: &mut ThreadSpawner<H>,
-) -> Result<bool, Fail> {
+#[test]
+fn a_thread_takes_a_job_and_its_bell_is_heard(rt: HostRuntime) -> Result<(), Fail> {
     let Made {
         board,
         mut hub,
         mut workers,
-    } = Board::new(alloc, 1)?;
-    let board = Arc::new(alloc, board)?;
+    } = Board::new(rt.alloc(), 1)?;
+    let board = Arc::new(rt.alloc(), board)?;
     let Some(pass) = workers.next() else {
         unreachable!()
     };
-    let Ok(running) = spawner.start(task_of(alloc, &board, pass, bell)?) else {
-        return Ok(true);
-    };
-    let done = is_done(rt, alloc, &board, &mut hub, ear)?;
-    spawner.join(running);
-    Ok(done)
-}
-
-#[test]
-fn a_thread_takes_a_job_and_its_bell_is_heard(rt: HostRuntime) -> Result<(), Fail> {
+    let (mut ear, bell) = PollEar::new(&rt, rt.alloc())?;
+    let bell = Arc::new(rt.alloc(), bell)?;
+    let gate = Arc::new(rt.alloc(), OpenGate)?;
+    let task = WorkerTask::new(Arc::try_clone(&board)?, pass, bell, gate);
     let start = Box::new(
         rt.alloc(),
         move |task: WorkerTask<WakerBell, OpenGate>| spawn_worker(&rt, task),
     )?;
     let mut spawner = ThreadSpawner::new(rt, start);
-    let (mut ear, bell) = PollEar::new(&rt, rt.alloc())?;
-    assert!(rt; does_a_job(&rt, rt.alloc(), &mut ear, bell, &mut spawner)?);
+    let Ok(running) = spawner.start(task) else {
+        return Ok(());
+    };
+    if hub.is_free(0) {
+        board.post(&mut hub, 0, 1, Job::Sum(4));
+    }
+    let finished = first_result(&rt, rt.alloc(), &board, &mut hub, &mut ear)?;
+    assert!(rt;
+        finished
+            == Finished {
+                number: 1,
+                outcome: JobOutcome::Int(10)
+            }
+    );
+    assert!(rt; hub.is_free(0));
+    if hub.is_free(0) {
+        board.stop(&mut hub, 0);
+    }
+    spawner.join(running);
     Ok(())
 }
 
@@ -133,8 +100,11 @@ fn no_threads_refuses(rt: HostRuntime) -> Result<(), Fail> {
         unreachable!()
     };
     let (_, bell) = PollEar::new(&rt, rt.alloc())?;
-    let task = task_of(rt.alloc(), &board, pass, bell)?;
-    assert!(rt; NoThreads::new().start(task).is_err());
+    let bell = Arc::new(rt.alloc(), bell)?;
+    let gate = Arc::new(rt.alloc(), OpenGate)?;
+    let task = WorkerTask::new(board, pass, bell, gate);
+    let mut spawner = NoThreads::new();
+    assert!(rt; spawner.start(task).is_err());
     Ok(())
 }
 
