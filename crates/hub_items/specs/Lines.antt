@@ -1,5 +1,5 @@
 -- The lines of waits. Each wait that is served in order of parking stands in the line of its kind at its object.
-use Rattle.std.specs.Prelude.{◌≡◌, ◌==◌, ◌&&◌, ℕ, ◌+◌, ◌-◌, ◌^◌, ◌<◌, ⊤, min, Bool, false, List, Option, Some, None, length, slice_get, slice_set, unwrap_or, count_by}
+use Rattle.std.specs.Prelude.{◌≡◌, ◌==◌, ◌&&◌, ℕ, ◌+◌, ◌-◌, ◌^◌, ◌<◌, min, Bool, false, List, Option, Some, None, length, slice_get, slice_set, unwrap_or, count_by}
 use Rattle.machine.specs.declared.items.Delivery.{Delivery}
 use Rattle.machine.specs.declared.items.Item.{Item}
 use Rattle.machine.specs.declared.items.Waiting.{Waiting}
@@ -39,9 +39,9 @@ is_line kind o (Some line) = same_kind kind line.0 && o == line.1
 abbrev pub waiters : (Waiting → Bool) → List Item → ℕ
 waiters test items = count_by (λ i. wakes test i.delivery) items
 
--- so many stand in the line by this count, where there is a line and its object is one of so many objects
+-- so many stand in the line by this count, where its object is one of so many objects; in no line stands nobody
 abbrev pub IsLengthOf : ℕ → ℕ → ((Waiting → Bool) → ℕ) → Option (WaitKind × ℕ) → Type 0
-IsLengthOf before objects count None = ⊤
+IsLengthOf before objects count None = before ≡ 0
 IsLengthOf before objects count (Some line) = line.1 < objects → before ≡ count (test_of line.0 line.1)
 
 -- so many are ahead of the wait, in the line that its condition looks at
