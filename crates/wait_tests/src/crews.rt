@@ -1,3 +1,4 @@
+ghost use Rattle.std.specs.Prelude.{◌≡◌};
 ghost use Rattle.groups_pools.specs.Seen.{AreBelow};
 
 use groups_pools::Crew;
@@ -11,6 +12,19 @@ fn next_enters(pool: &mut Crew, g: u32) -> Option<(u32, bool)>
 {
     match pool.tell_place() {
         Some(item) => Some((item, pool.complete(item, g).is_ok())),
+        None => None,
+    }
+}
+
+// The next that waits for the last member to end, and may go, does. Says who.
+fn next_joins(pool: &mut Crew) -> Option<u32>
+    ensures { pool.new.members ≡ pool.old.members }
+{
+    match pool.tell_join() {
+        Some(item) => {
+            pool.complete_join(item);
+            Some(item)
+        }
         None => None,
     }
 }
@@ -41,6 +55,21 @@ fn a_newcomer_waits_for_a_place(rt: HostRuntime) -> Result<(), Fail> {
     assert!(rt; pool.members().first() == Some(&8));
     assert!(rt; !pool.admit_now());
     drop(pool);
+    Ok(())
+}
+
+#[test]
+fn a_join_waits_for_the_last_member(rt: HostRuntime) -> Result<(), Fail> {
+    let mut group = Crew::new(rt.alloc(), None)?;
+    assert!(rt; group.admit_now());
+    assert!(rt; group.admit(7).is_ok());
+    assert!(rt; group.reserve(1).is_ok());
+    group.park(Side::Join, 3);
+    assert!(rt; next_joins(&mut group).is_none());
+    group.member_ended(7);
+    assert!(rt; next_joins(&mut group) == Some(3));
+    assert!(rt; next_joins(&mut group).is_none());
+    drop(group);
     Ok(())
 }
 

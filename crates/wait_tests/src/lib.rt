@@ -5,6 +5,8 @@
 #![tactic(auto)]
 
 #[cfg(test)]
+mod border;
+#[cfg(test)]
 mod channels;
 #[cfg(test)]
 mod crews;

@@ -5,7 +5,7 @@ ghost use Rattle.waiters.specs.declared.parking.Side.{Side as Way};
 ghost use Rattle.waiters.specs.declared.parking.Side.TheVariants.{Get, Peek};
 ghost use Rattle.gqueues.specs.Seen.{waiting_at};
 
-use gqueues::GQueue;
+use gqueues::{GQueue, TooOften};
 use gv_values::Value;
 use scenario_tree::QueueKind;
 use std::alloc::Global;
@@ -67,6 +67,19 @@ fn next_puts(queue: &mut GQueue) -> Option<(u32, bool)> {
     }
 }
 
+// The next that waits for the last task, and may go, does. Says who.
+fn next_joins(queue: &mut GQueue) -> Option<u32>
+    ensures { queue.new.kind ≡ queue.old.kind }
+{
+    match queue.tell_joiner() {
+        Some(item) => {
+            queue.complete_join(item);
+            Some(item)
+        }
+        None => None,
+    }
+}
+
 // The peeker that waits alone looks, if it may go. Says who was told, and what it saw.
 fn peeker_looks(queue: &mut GQueue, alloc: Global, peeker: u32) -> Option<(u32, Option<i64>)>
     requires alone { queue.old.takers ≡ (peeker, 1) ∷ [] }
@@ -119,6 +132,31 @@ fn a_peek_leaves_the_item(rt: HostRuntime) -> Result<(), Fail> {
     assert!(rt; queue.size() == 2);
     assert!(rt; take(&mut queue) == Some(5));
     assert!(rt; look(&queue, alloc) == Some(6));
+    drop(queue);
+    Ok(())
+}
+
+#[test]
+fn a_join_waits_for_the_last_task(rt: HostRuntime) -> Result<(), Fail> {
+    let mut queue = GQueue::new(rt.alloc(), QueueKind::Join, None)?;
+    assert!(rt; put(&mut queue, 5));
+    assert!(rt; queue.make_room(1).is_ok());
+    queue.park_joiner(3);
+    assert!(rt; next_joins(&mut queue).is_none());
+    assert!(rt; queue.task_done() == Ok(()));
+    assert!(rt; next_joins(&mut queue) == Some(3));
+    assert!(rt; queue.unfinished() == 0);
+    drop(queue);
+    Ok(())
+}
+
+#[test]
+fn no_more_tasks_are_done_than_were_put(rt: HostRuntime) -> Result<(), Fail> {
+    let mut queue = GQueue::new(rt.alloc(), QueueKind::Join, None)?;
+    assert!(rt; put(&mut queue, 5));
+    assert!(rt; queue.task_done() == Ok(()));
+    assert!(rt; queue.task_done() == Err(TooOften));
+    assert!(rt; take(&mut queue) == Some(5));
     drop(queue);
     Ok(())
 }
