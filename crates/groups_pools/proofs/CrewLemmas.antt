@@ -8,7 +8,7 @@ use Rattle.linked_items.proofs.ItemLemmas.{without_length, test_keeps, test_drop
 use Rattle.waiters.specs.Waits.{SeenWaits, waits, told_without}
 use Rattle.waiters.specs.OneSide.{IsAmongFirst}
 use Rattle.waiters.specs.declared.parking.Side.{Side}
-use Rattle.waiters.proofs.PrefixLemmas.{none_behind, told_without_le, told_within, completed_told}
+use Rattle.waiters.proofs.PrefixLemmas.{none_behind, without_le, told_without_le, told_within, completed_told}
 use Rattle.groups_pools.specs.Seen.{SeenCrew, free_places, open_places, HasSide, waiting_at, told_on, holds_on, place_gone, join_gone, AreBelow, AreAbove, IsRising, IsSound}
 use Rattle.groups_pools.specs.Parts.{seen_crew, IsCrew}
 use Rattle.groups_pools.specs.declared.Crew.TheInside.{Inside}
@@ -35,7 +35,7 @@ rising_at (m ∷ ms) r zero (suc j) le lt = let a = above_at m ms j r.0 (omega a
 rising_at (m ∷ ms) r (suc i) zero le lt = absurd (omega arith)
 rising_at (m ∷ ms) r (suc i) (suc j) le lt = rising_at ms r.1 i j (omega arith) (omega arith)
 
-above_lacks : (m : ℕ) (ms : List ℕ) → AreAbove m ms → Lacks m ms
+pub above_lacks : (m : ℕ) (ms : List ℕ) → AreAbove m ms → Lacks m ms
 above_lacks m [] h = tt
 above_lacks m (x ∷ ms) h = (λ e. let lt = h.0 in omega arith, above_lacks m ms h.1)
 
@@ -68,14 +68,6 @@ rising_without g (m ∷ ms) r = by (not (m == g)) (rising_without g ms r.1)
     by : (b : Bool) → IsRising (without g ms) → IsRising (cond b (m ∷ without g ms) (without g ms))
     by true more = (above_without m g ms r.0, more)
     by false more = more
-
-pub fewer_members : (g : ℕ) (ms : List ℕ) → length (without g ms) ≤ length ms
-fewer_members g [] = omega arith
-fewer_members g (m ∷ ms) = by (not (m == g)) (fewer_members g ms)
-  where
-    by : (b : Bool) → length (without g ms) ≤ length ms → length (cond b (m ∷ without g ms) (without g ms)) ≤ suc (length ms)
-    by true h = omega arith
-    by false h = omega arith
 
 -- what the binary search found
 pub found_at : (ms : List ℕ) (g i : ℕ) → (i < length ms) × (get_or ms i 0 ≡ g) → slice_get ms i ≡ Some g
@@ -110,7 +102,7 @@ place_left_open (Some size) ms told' told waiting left fits less within = omega 
 -- a member leaves
 pub place_freed : (size : Option ℕ) (ms : List ℕ) (g told waiting : ℕ) → told ≤ free_places waiting size ms → told ≤ free_places waiting size (without g ms)
 place_freed None ms g told waiting fits = fits
-place_freed (Some size) ms g told waiting fits = let n = fewer_members g ms in omega arith
+place_freed (Some size) ms g told waiting fits = let n = without_le g ms in omega arith
 
 -- a newcomer takes a place where more are free than wait
 pub place_admitted : (size : Option ℕ) (ms : List ℕ) (g told waiting : ℕ) → told ≤ waiting → waiting < free_places (waiting + 1) size ms → told ≤ free_places waiting size (ms ++ g ∷ [])

@@ -1,7 +1,7 @@
 -- A body that fits stays one that fits, and asks only what it may.
 use Rattle.std.proofs.Common.{◌≡◌, refl, ap, ◌∙◌, sym, subst, ℕ, zero, suc, ◌-◌, Bool, true, false, List, [], ◌∷◌, ◌++◌, length, map, append-nil, append_assoc, Option, Some, None, Result, Ok, Err, arith}
 use Rattle.std.proofs.lemmas.Bool.Decides.{nat_tests}
-use Rattle.std.proofs.lemmas.List.Folds.{flat_map-map, list_all-append, list_all-map}
+use Rattle.std.proofs.lemmas.List.Folds.{list_all-append, list_all-map}
 use Rattle.std.specs.Prelude.{◌&&◌, if◌then◌else◌, nat_lt, unwrap_or, is_some}
 use Rattle.std.specs.List.{list_all}
 use Rattle.gv_values.specs.declared.fault.FaultKind.{FaultKind}
@@ -24,7 +24,7 @@ use Rattle.scenario_rules.specs.declared.mention.Says.{Says}
 use Rattle.scenario_rules.specs.declared.mention.Says.TheVariants as says
 use Rattle.scenario_rules.specs.declared.mention.Wanted.TheVariants as wanted
 use Rattle.scenario_rules.specs.Mentions.{Part, action_mentions, action_says, block_mentions, command_says, each_part, except_mentions, except_says, expression_says, giving_says, handler_mentions, most_timeouts, on, statement_mentions, statement_says, target_says, timeout_says}
-use Rattle.scenario_rules.proofs.Layers.{except_out}
+use Rattle.scenario_rules.proofs.Layers.{except_out, in_block, in_handlers}
 use Rattle.machine.specs.declared.state.Leaving.{Leaving}
 use Rattle.machine.specs.declared.state.Local.{Local}
 use Rattle.machine.specs.declared.state.Todo.{Todo}
@@ -50,12 +50,6 @@ form_mentions (Action-F.If e then_part else_part) line left = on line (expressio
 form_mentions (Action-F.While e body) line left = on line (expression_says e) ++ block_mentions left body
 form_mentions (Action-F.Try body excepts finally) line left = block_mentions left body ++ handler_mentions left excepts ++ perhaps_block left finally
 form_mentions (Action-F.Timeout after silent body) line left = on line (timeout_says left) ++ block_mentions (left - 1) body
-
-in_block : (left : ℕ) (ss : List Statement) → each_part (map statement_mentions ss) left ≡ block_mentions left ss
-in_block left ss = flat_map-map (λ (part : Part). part left) statement_mentions ss
-
-in_handlers : (left : ℕ) (es : List Except) → each_part (map except_mentions es) left ≡ handler_mentions left es
-in_handlers left es = flat_map-map (λ (part : Part). part left) except_mentions es
 
 abbrev mapped : Action-F Action Except Statement → Action-F (ℕ → Part) Part Part
 mapped x = map-Action Action Except Statement (ℕ → Part) Part Part action_mentions except_mentions statement_mentions x

@@ -41,7 +41,7 @@ none_plus None = refl
 none_plus (Some x) = refl
 
 -- one more at the end
-each_more : {A B : Type 0} (f : A → Written B) (xs : List A) (x : A) → each f (xs ++ x ∷ []) ≡ each f xs ⊕ f x
+pub each_more : {A B : Type 0} (f : A → Written B) (xs : List A) (x : A) → each f (xs ++ x ∷ []) ≡ each f xs ⊕ f x
 each_more f [] x = plus_none (f x) ∙ sym (none_plus (f x))
 each_more f (y ∷ ys) x = ap (λ w. f y ⊕ w) (each_more f ys x) ∙ sym (plus_assoc (f y) (each f ys) (f x))
 

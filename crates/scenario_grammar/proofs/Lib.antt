@@ -1,6 +1,6 @@
 mod Atoms
 mod BareLaws
-mod Begun
+pub mod Begun
 mod BlockLaws
 pub mod Complete
 mod ExpressionLaws

@@ -9,7 +9,7 @@ use Rattle.scenario_grammar.specs.declared.token.Token.{Token}
 use Rattle.scenario_grammar.specs.Phrases.{class_keyword, flag, head_tokens, timeout_tokens}
 use Rattle.scenario_grammar.specs.Tokens.{Written, ◌⊕◌, ◌▹◌, each, fixed, name, perhaps}
 use Rattle.scenario_print.specs.Written.{after_tokens, Started, Wrote, WroteLine}
-use Rattle.scenario_print.proofs.Each.{joined_none}
+use Rattle.scenario_grammar.proofs.Begun.{plus_none}
 use Rattle.scenario_print.proofs.Words.{further, line, started}
 
 pub except_line : {T E : Type 0} {o m l n : List ℕ} {x y : T} {r : Result T E} (class : Class) {w : Keyword} → w ≡ class_keyword class → (target : Option Name)
@@ -33,5 +33,5 @@ pub head_line : {T E : Type 0} {o m n : List ℕ} {x : T} {r : Result T E} (is_r
     → (let done : Result T E = Ok x in Started o m done w (name f)) → Wrote m n r (each name parameters) → WroteLine o n r (head_tokens is_raw f parameters)
 head_line false f parameters word g h = line_of word (further g h)
 head_line true f [] word g h = no_line (further g h).front
-head_line {o = o} {n = n} {r = r} true f (p ∷ []) word g h = subst (λ z. WroteLine o n r (k.RawFunction ▹ name f ⊕ z)) (joined_none (name p)) (line_of word (further g h))
+head_line {o = o} {n = n} {r = r} true f (p ∷ []) word g h = subst (λ z. WroteLine o n r (k.RawFunction ▹ name f ⊕ z)) (plus_none (name p)) (line_of word (further g h))
 head_line true f (p ∷ q ∷ ps) word g h = no_line (further g h).front

@@ -29,10 +29,10 @@ pub statement_out : (s : Statement) (left : ℕ) → statement_mentions s left �
 unfolding statement_mentions action_mentions shown-the_row-Statement-0 denote.Hole.Carrier.shown
 statement_out s left = ap (λ (f : Part). f left) (lays-Statement (family (ℕ → Part) Part Part) (steps (ℕ → Part) Part Part action_says except_says statement_says) s)
 
-in_block : (left : ℕ) (ss : List Statement) → each_part (map statement_mentions ss) left ≡ block_mentions left ss
+pub in_block : (left : ℕ) (ss : List Statement) → each_part (map statement_mentions ss) left ≡ block_mentions left ss
 in_block left ss = flat_map-map (λ (part : Part). part left) statement_mentions ss
 
-in_handlers : (left : ℕ) (es : List Except) → each_part (map except_mentions es) left ≡ handler_mentions left es
+pub in_handlers : (left : ℕ) (es : List Except) → each_part (map except_mentions es) left ≡ handler_mentions left es
 in_handlers left es = flat_map-map (λ (part : Part). part left) except_mentions es
 
 pub except_out : (e : Except) (left : ℕ) → except_mentions e left ≡ on (out-Except e).line (target_says (out-Except e).name) ++ block_mentions left (out-Except e).body

@@ -1,9 +1,9 @@
 -- The crew of a table: who is a member when one comes, is taken out, is listed again and goes.
-use Rattle.std.proofs.Common.{◌≡◌, ◌≢◌, ℕ, zero, suc, ◌+◌, ◌-◌, ◌<◌, ◌==◌, Bool, true, false, not, cond, List, [], ◌∷◌, ◌++◌, length, get_or, Option, Some, None, refl, sym, ap, ◌∙◌, subst, arith, length-append}
+use Rattle.std.proofs.Common.{◌≡◌, ◌≢◌, ℕ, ◌+◌, ◌-◌, ◌<◌, ◌==◌, Bool, true, false, not, cond, List, [], ◌∷◌, ◌++◌, length, Option, Some, None, refl, sym, ap, ◌∙◌, subst, arith, length-append}
 use Rattle.std.specs.List.{Contains}
 use Rattle.std.proofs.lemmas.List.Elements.{Contains-append_left, Contains-append_right}
-use Rattle.linked_items.specs.Items.{without, Lacks, Differ}
-use Rattle.linked_items.proofs.ItemLemmas.{test_keeps}
+use Rattle.linked_items.specs.Items.{without, Differ}
+use Rattle.linked_items.proofs.StrideLemmas.{contains_without}
 use Rattle.groups_pools.specs.Seen.{SeenCrew, free_places, AreBelow, AreAbove, IsRising, HasPlace}
 use Rattle.stream_net.specs.Nets.{Meaning}
 use Rattle.stream_server.specs.declared.client.Client.{Client}
@@ -12,6 +12,7 @@ use Rattle.stream_server.specs.Served.{Speech}
 use Rattle.stream_server.specs.Steps.{TalkState}
 use Rattle.stream_server.specs.Serving.{IsServing, IsServingBut}
 use Rattle.stream_server.specs.Tables.{SeenTable, AreAdmitted, AreAdmittedBut, IsListed, Relists, client_count, with_members}
+use Rattle.groups_pools.proofs.CrewLemmas.{above_lacks}
 use Rattle.stream_net.proofs.Lists.{everywhere}
 
 -- ---- lists of members
@@ -27,25 +28,6 @@ below_without n g (m ∷ ms) h = by (not (m == g)) (below_without n g ms h.1)
     by : (b : Bool) → AreBelow n (without g ms) → AreBelow n (cond b (m ∷ without g ms) (without g ms))
     by true more = (h.0, more)
     by false more = more
-
-contains_without : (g x : ℕ) (ms : List ℕ) → x ≢ g → Contains ms x → Contains (without g ms) x
-contains_without g x [] other h = absurd (omega (arith, h.1))
-contains_without g x (m ∷ ms) other h = by (contains_without g x ms other) h.0 h.1 h.2
-  where
-    put_behind : Contains (without g ms) x → Contains (without g (m ∷ ms)) x
-    put_behind r = under (not (m == g)) r
-      where
-        under : (b : Bool) → Contains (without g ms) x → Contains (cond b (m ∷ without g ms) (without g ms)) x
-        under true r = (suc r.0, omega (arith, r.1), r.2)
-        under false r = r
-
-    by : (Contains ms x → Contains (without g ms) x) → (k : ℕ) → k < suc (length ms) → get_or (m ∷ ms) k x ≡ x → Contains (without g (m ∷ ms)) x
-    by more zero within found = rw (test_keeps m g (λ e. other (sym found ∙ sym e))) (zero, omega arith, found)
-    by more (suc k) within found = put_behind (more (k, omega (arith, within), found))
-
-above_lacks : (m : ℕ) (ms : List ℕ) → AreAbove m ms → Lacks m ms
-above_lacks m [] h = tt
-above_lacks m (x ∷ ms) h = (λ e. let lt = h.0 in omega (arith, lt, e), above_lacks m ms h.1)
 
 -- members whose numbers rise differ
 pub rising_differ : (ms : List ℕ) → IsRising ms → Differ ms

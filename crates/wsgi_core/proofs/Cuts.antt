@@ -1,6 +1,5 @@
 -- A session that ran out of memory, once bytes were taken.
 use Rattle.std.proofs.Common.{◌≡◌, List, ℕ, ◌++◌, take, drop, ap, sym, ◌∙◌, append_assoc}
-use Rattle.std.specs.Prelude.{Result, Ok, Err, OnOk, OnErr}
 use Rattle.std.proofs.lemmas.List.{take-append-drop}
 use Rattle.wsgi_core.specs.Applications.{App}
 use Rattle.wsgi_core.specs.declared.session.Session.{Session}
@@ -16,12 +15,3 @@ stopped_took app port fed taken s n rest e h =
       tail = h.tail;
       due = h.due ∙ ap (λ (l : List ℕ). taken ++ l ++ h.tail) whole ∙ ap (λ (l : List ℕ). l ++ h.tail) (sym (append_assoc taken first rest));
     }
-
--- what holds where it is `Ok`, or where it is `Err`, gives what follows from it
-pub map_ok : {T E : Type 0} (r : Result T E) (A B : Type 0) → OnOk r A → (A → B) → OnOk r B
-map_ok (Ok x) A B h f = f h
-map_ok (Err x) A B h f = h
-
-pub map_err : {T E : Type 0} (r : Result T E) (A B : Type 0) → OnErr r A → (A → B) → OnErr r B
-map_err (Ok x) A B h f = h
-map_err (Err x) A B h f = f h

@@ -18,7 +18,7 @@ use Rattle.wsgi_core.specs.Steps.{asked_at, asked_if_open, IsReplyTo}
 use Rattle.wsgi_core.specs.Progress.{Progress, GoesOn, IsSettled}
 use Rattle.wsgi_core.proofs.ProgressLaws.{progress_at, same_progress, head_alike, head_waits, head_refused, head_whole, body_alike, body_waits, body_refused, body_whole, asked_answered}
 
--- ---- results
+-- ---- results: what holds where it is `Ok`, or where it is `Err`, gives what follows from it
 
 pub one_ok : {T E : Type 0} (r : Result T E) (A P : Type 0) → OnOk r A → (A → P) → OnOk r P
 one_ok (Ok x) A P a f = f a

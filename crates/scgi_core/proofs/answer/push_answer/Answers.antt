@@ -1,6 +1,6 @@
 use Rattle.std.proofs.Common.{◌≡◌, ◌++◌, ◌∙◌, sym, ap, List, ℕ}
 use Rattle.wsgi_core.specs.declared.reply.Reply.{Reply}
-use Rattle.wsgi_core.proofs.Cuts.{map_ok}
+use Rattle.wsgi_core.proofs.ProgressSteps.{one_ok}
 use Rattle.scgi_core.specs.Answers.{answer, answer_for, started}
 use Rattle.scgi_core.proofs.AnswerLaws.{answer_faulty, answer_sent}
 use Rattle.scgi_core.proofs.answer.push_answer.Goals as goal
@@ -8,7 +8,7 @@ use Rattle.scgi_core.proofs.answer.push_answer.Goals as goal
 pub returns-then-is_faulty : goal.returns-then-is_faulty
 returns-then-is_faulty c =
     let e = answer_faulty c.args.is_head c.args.reply.now (sym c.if-is_faulty.ensures) in
-    map_ok c.push_server_error.result _ _ c.push_server_error.ensures (λ h. h ∙ ap (λ (l : List ℕ). c.args.out.now.items ++ l) (sym e))
+    one_ok c.push_server_error.result _ _ c.push_server_error.ensures (λ h. h ∙ ap (λ (l : List ℕ). c.args.out.now.items ++ l) (sym e))
 
 pub returns-in-Started : goal.returns-in-Started
 returns-in-Started c =
@@ -17,4 +17,4 @@ returns-in-Started c =
     answer_sent c.args.is_head c.args.reply.now (sym c.if-is_faulty.ensures)
     ∙ ap (λ (x : Reply). answer_for c.args.is_head x) r.is
     ∙ (λ i. started c.args.is_head (sym c.items.ensures i) r.headers r.pieces r.raised) in
-    map_ok c.push_started.result _ _ c.push_started.ensures (λ h. h ∙ ap (λ (l : List ℕ). c.args.out.now.items ++ l) (sym e))
+    one_ok c.push_started.result _ _ c.push_started.ensures (λ h. h ∙ ap (λ (l : List ℕ). c.args.out.now.items ++ l) (sym e))
