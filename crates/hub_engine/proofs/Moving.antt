@@ -26,7 +26,7 @@ use Rattle.machine.specs.Moves.{does, enters, look, move, timeout_item}
 use Rattle.machine.specs.Requests.{follows}
 use Rattle.machine.specs.Unwinding.{unwind}
 use Rattle.machine.specs.Settle.{numbers_after, settle, settled}
-use Rattle.machine.specs.Soundness.{is_under_way}
+use Rattle.machine.specs.Soundness.{is_live}
 use Rattle.machine.specs.State.{State}
 use Rattle.body_frames.specs.Places.{Came, Place, came_by, place_of}
 use Rattle.hub_state.specs.Sights.{look_of, outcome_seen}
@@ -182,7 +182,7 @@ does-as g locals (Did.Enters ms silent body todo) s = refl
 does-as g locals (Did.Asks request x todo) s = refl
 
 -- the body of the greenlet at this place
-body-at : (gs : List Greenlet) (g : ℕ) (body : Frame) → is_under_way (phase_of g (slice_set gs g (phased gs g (Phase.Live body)))) ≡ true →
+body-at : (gs : List Greenlet) (g : ℕ) (body : Frame) → is_live (phase_of g (slice_set gs g (phased gs g (Phase.Live body)))) ≡ true →
     frame_of (unwrap_or (slice_get (slice_set gs g (phased gs g (Phase.Live body))) g) nobody).phase ≡ body
 body-at [] g body h = absurd (grind (arith, h))
 body-at (x ∷ gs) zero body h = refl
@@ -204,7 +204,7 @@ came-same g body s t came e f =
     ∙ ap (λ (l : Look). came_by body.locals (body_move body.todo (around s.scenario l body.locals))) (look-counted g s ∙ look-same g body s)
 
 -- the move is by what came of it
-move-came : (g : ℕ) (body : Frame) (s t : State) (came : Came) → is_under_way (phase_of g (with_phase g (Phase.Live body) s).greenlets) ≡ true →
+move-came : (g : ℕ) (body : Frame) (s t : State) (came : Came) → is_live (phase_of g (with_phase g (Phase.Live body) s).greenlets) ≡ true →
     came ≡ came_by body.locals (body_move body.todo (around t.scenario (look_of (record { current = g; state = t })) body.locals)) →
     t ≡ record s { moves = s.moves + 1 } → move g (with_phase g (Phase.Live body) s) ≡ does_came g came (with_phase g (Phase.Live body) t)
 move-came g body s t came h e f =

@@ -42,11 +42,11 @@ abbrev pub named : List Name → List Value → List Local
 named (x ∷ xs) (v ∷ vs) = record { name = x; value = v } ∷ named xs vs
 named xs vs = []
 
--- in place of a body that is not under way
+-- in place of the body of a greenlet that is not live
 abbrev pub no_frame : Frame
 no_frame = record { locals = []; todo = []; gives = None }
 
--- the body of a greenlet that is under way
+-- the body of a live greenlet
 abbrev pub frame_of : Phase → Frame
 frame_of (Phase.Live frame) = frame
 frame_of _ = no_frame

@@ -55,18 +55,18 @@ is_unstarted (Some (Phase.New args)) = true
 is_unstarted phase = false
 
 -- there is such a greenlet, and it was started and has not ended
-abbrev pub is_under_way : Option Phase → Bool
-is_under_way (Some (Phase.Live frame)) = true
-is_under_way phase = false
+abbrev pub is_live : Option Phase → Bool
+is_live (Some (Phase.Live frame)) = true
+is_live phase = false
 
 -- a start is of a greenlet that is New, a Wake, Late, Timeout or Kill of one that is suspended; timeouts and links have
 -- numbers that were drawn
 abbrev pub is_meant : State → Delivery → Bool
 is_meant s (Delivery.Start g deadline) = is_unstarted (phase_of g s.greenlets)
-is_meant s (Delivery.Wake g w) = is_under_way (phase_of g s.greenlets)
-is_meant s (Delivery.Late g deadline n) = is_under_way (phase_of g s.greenlets)
-is_meant s (Delivery.Timeout g n deadline) = is_under_way (phase_of g s.greenlets) && nat_le n s.timeouts
-is_meant s (Delivery.Kill g f) = is_under_way (phase_of g s.greenlets)
+is_meant s (Delivery.Wake g w) = is_live (phase_of g s.greenlets)
+is_meant s (Delivery.Late g deadline n) = is_live (phase_of g s.greenlets)
+is_meant s (Delivery.Timeout g n deadline) = is_live (phase_of g s.greenlets) && nat_le n s.timeouts
+is_meant s (Delivery.Kill g f) = is_live (phase_of g s.greenlets)
 is_meant s (Delivery.Link n g kind f) = nat_le n s.links
 
 -- the state is sound

@@ -32,7 +32,7 @@ use Rattle.machine.specs.Greenlets.{add_greenlet, has_greenlet_left}
 use Rattle.machine.specs.Items.{add_item}
 use Rattle.machine.specs.Hosts.{host_of}
 use Rattle.machine.specs.Requests.{on_host, typed}
-use Rattle.machine.specs.Soundness.{is_under_way}
+use Rattle.machine.specs.Soundness.{is_live}
 use Rattle.machine.specs.Objects.{with_slot_taken, is_left, is_shut, item_of, name_of_object, object_at, with_item, with_item_taken, with_member, with_object, with_offer, with_offer_taken, with_owner, with_unit_taken}
 use Rattle.machine.specs.Waits.{Performed, add_member, comes, completes, drawn, draws, gathered, made_member, map_ends, map_goes_on, maps, nothing, offered, outcome_of_greenlet, parked, peeks_item, posted, puts_item, raises, takes_item, until_of, waits}
 use Rattle.machine_soundness.specs.Going.{has_no_wait, is_plain, IsKept}
@@ -102,7 +102,7 @@ pub record Parks (b : History) (s : State) : Type 0 where
   pub tells : Tells b story s.lines s.posts
   pub ties : Ties None story s
   pub parking : AreParkedBut None s
-  pub main : is_under_way (phase_of 0 s.greenlets) ≡ true
+  pub main : is_live (phase_of 0 s.greenlets) ≡ true
   pub sides : Sides s
   pub held : AreHeld s.greenlets s.items
 
@@ -127,7 +127,7 @@ parks-wake b g word w until s z m =
     or true = refl
     or false = refl
 
-    by : (k : ℕ) (c : Bool) → (k == g) ≡ c → is_plain s.greenlets k ≡ true → is_under_way (phase_of k s.greenlets) ≡ true → (has_wake k s.items || c) ≡ true
+    by : (k : ℕ) (c : Bool) → (k == g) ≡ c → is_plain s.greenlets k ≡ true → is_live (phase_of k s.greenlets) ≡ true → (has_wake k s.items || c) ≡ true
     by k true e p l = or (has_wake k s.items)
     by k false e p l = ap (λ z. z || false) (m.parking k e p l)
 

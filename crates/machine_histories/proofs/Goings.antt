@@ -24,7 +24,7 @@ use Rattle.machine.specs.Ends.{ended}
 use Rattle.machine.specs.Objects.{without_member}
 use Rattle.machine.specs.Requests.{is_kill, kills_standing}
 use Rattle.machine.specs.Settle.{settle}
-use Rattle.machine.specs.Soundness.{Claim, claim_of, is_under_way, same_claim}
+use Rattle.machine.specs.Soundness.{Claim, claim_of, is_live, same_claim}
 use Rattle.machine.specs.Objects.{object_at, with_object}
 use Rattle.machine_soundness.specs.Going.{has_no_wait, is_plain, IsKept}
 use Rattle.machine_soundness.specs.Laws.{is_wake_of}
@@ -44,9 +44,9 @@ use Rattle.machine_histories.proofs.Ties.{Ties, IsOwn, is_over, is_begun, has_wa
 
 -- ---- what is parked
 
--- each greenlet that is under way and not raw, but for this one, has a Wake
+-- each greenlet that is live and not raw, but for this one, has a Wake
 abbrev pub AreParkedBut : Option ℕ → State → Type 0
-AreParkedBut x s = (k : ℕ) → is_some_number k x ≡ false → is_plain s.greenlets k ≡ true → is_under_way (phase_of k s.greenlets) ≡ true → has_wake k s.items ≡ true
+AreParkedBut x s = (k : ℕ) → is_some_number k x ≡ false → is_plain s.greenlets k ≡ true → is_live (phase_of k s.greenlets) ≡ true → has_wake k s.items ≡ true
 
 -- ---- what else is so of states
 
@@ -203,7 +203,7 @@ pub record Goes (b : History) (g h : ℕ) (s : State) : Type 0 where
   pub tells : Tells b story s.lines s.posts
   pub ties : Ties None story s
   pub parking : AreParkedBut (Some h) s
-  pub main : is_under_way (phase_of 0 s.greenlets) ≡ true
+  pub main : is_live (phase_of 0 s.greenlets) ≡ true
   pub sides : Sides s
   pub held : AreHeld s.greenlets s.items
 
@@ -214,7 +214,7 @@ pub record Rests (b : History) (s : State) : Type 0 where
   pub tells : Tells b story s.lines s.posts
   pub ties : Ties None story s
   pub parking : AreParkedBut None s
-  pub main : is_under_way (phase_of 0 s.greenlets) ≡ true
+  pub main : is_live (phase_of 0 s.greenlets) ≡ true
   pub sides : Sides s
   pub held : AreHeld s.greenlets s.items
 
@@ -226,7 +226,7 @@ pub record Hosted (b : History) (h : ℕ) (s : State) : Type 0 where
   pub tells : Tells b story s.lines s.posts
   pub ties : Ties None story s
   pub parking : AreParkedBut (Some h) s
-  pub main : is_under_way (phase_of 0 s.greenlets) ≡ true
+  pub main : is_live (phase_of 0 s.greenlets) ≡ true
   pub sides : Sides s
   pub held : AreHeld s.greenlets s.items
 
@@ -239,7 +239,7 @@ pub record Loose (b : History) (g h : ℕ) (s : State) : Type 0 where
   pub tells : Tells b story s.lines s.posts
   pub ties : Ties (Some g) story s
   pub parking : AreParkedBut (Some h) s
-  pub main : (0 == g) ≡ false → is_under_way (phase_of 0 s.greenlets) ≡ true
+  pub main : (0 == g) ≡ false → is_live (phase_of 0 s.greenlets) ≡ true
   pub sides : Sides s
 
 -- the run is over
@@ -435,15 +435,15 @@ goes-timeout b g h s m =
       held = m.held;
     }
 
--- one that is New is not under way
-more-old : (gs : List Greenlet) (y : Greenlet) (k : ℕ) → is_begun (Some y.phase) ≡ false → is_under_way (phase_of k (gs ++ y ∷ [])) ≡ true → is_under_way (phase_of k gs) ≡ true
+-- one that is New is not live
+more-old : (gs : List Greenlet) (y : Greenlet) (k : ℕ) → is_begun (Some y.phase) ≡ false → is_live (phase_of k (gs ++ y ∷ [])) ≡ true → is_live (phase_of k gs) ≡ true
 more-old [] y zero e l = absurd (cc (e, live-begun (Some y.phase) l))
 more-old [] y (suc k) e l = l
 more-old (z ∷ gs) y zero e l = l
 more-old (z ∷ gs) y (suc k) e l = more-old gs y k e l
 
 -- so it was there, raw or not as before
-more-plain : (gs : List Greenlet) (y : Greenlet) (k : ℕ) → is_under_way (phase_of k gs) ≡ true → is_plain (gs ++ y ∷ []) k ≡ is_plain gs k
+more-plain : (gs : List Greenlet) (y : Greenlet) (k : ℕ) → is_live (phase_of k gs) ≡ true → is_plain (gs ++ y ∷ []) k ≡ is_plain gs k
 more-plain [] y k l = absurd (cc l)
 more-plain (z ∷ gs) y zero l = refl
 more-plain (z ∷ gs) y (suc k) l = more-plain gs y k l
@@ -587,18 +587,18 @@ wake-ended g o k s e w =
     by (Delivery.Kill j f) z = absurd (cc z)
     by (Delivery.Link n j kind f) z = absurd (cc z)
 
--- who is under way after an end is not who ended, and was so before
-live-ended : (g : ℕ) (o : Outcome) (k : ℕ) (s : State) → slice_get s.greenlets g ≡ Some (greenlet g s) → is_under_way (phase_of k (ended g o s).greenlets) ≡ true →
-    ((k == g) ≡ false) × (is_under_way (phase_of k s.greenlets) ≡ true)
+-- who is live after an end is not who ended, and was so before
+live-ended : (g : ℕ) (o : Outcome) (k : ℕ) (s : State) → slice_get s.greenlets g ≡ Some (greenlet g s) → is_live (phase_of k (ended g o s).greenlets) ≡ true →
+    ((k == g) ≡ false) × (is_live (phase_of k s.greenlets) ≡ true)
 live-ended g o k s there l = by (k == g) refl
   where
     new : Greenlet
     new = record (greenlet g s) { phase = Phase.Done o }
 
-    by : (b : Bool) → (k == g) ≡ b → ((k == g) ≡ false) × (is_under_way (phase_of k s.greenlets) ≡ true)
+    by : (b : Bool) → (k == g) ≡ b → ((k == g) ≡ false) × (is_live (phase_of k s.greenlets) ≡ true)
     by true e =
-        absurd (cc (ap is_under_way (phase-here s.greenlets g new (greenlet g s) there), subst (λ i. is_under_way (phase_of i (slice_set s.greenlets g new)) ≡ true) (equal k g e) l))
-    by false e = (e, ap is_under_way (sym (phase-other s.greenlets g k new (unequal g k (turned g k ∙ e)))) ∙ l)
+        absurd (cc (ap is_live (phase-here s.greenlets g new (greenlet g s) there), subst (λ i. is_live (phase_of i (slice_set s.greenlets g new)) ≡ true) (equal k g e) l))
+    by false e = (e, ap is_live (sym (phase-other s.greenlets g k new (unequal g k (turned g k ∙ e)))) ∙ l)
 
 pub parked-ended : (x : Option ℕ) (g : ℕ) (o : Outcome) (s : State) → slice_get s.greenlets g ≡ Some (greenlet g s) → AreParkedBut x s → AreParkedBut x (ended g o s)
 parked-ended x g o s there f k d p l =
@@ -611,8 +611,8 @@ parked-all g o s there f k d p l =
     let old = live-ended g o k s there l in
     wake-ended g o k s old.0 (f k old.0 (sym (plain-phased g (Phase.Done o) s k) ∙ p) old.1)
 
-pub main-ended : (g : ℕ) (o : Outcome) (s : State) → (g ≡ 0 → ⊥) → is_under_way (phase_of 0 s.greenlets) ≡ true → is_under_way (phase_of 0 (ended g o s).greenlets) ≡ true
-main-ended g o s e l = ap is_under_way (phase-other s.greenlets g 0 (record (greenlet g s) { phase = Phase.Done o }) e) ∙ l
+pub main-ended : (g : ℕ) (o : Outcome) (s : State) → (g ≡ 0 → ⊥) → is_live (phase_of 0 s.greenlets) ≡ true → is_live (phase_of 0 (ended g o s).greenlets) ≡ true
+main-ended g o s e l = ap is_live (phase-other s.greenlets g 0 (record (greenlet g s) { phase = Phase.Done o }) e) ∙ l
 
 pub settled-ended : (g : ℕ) (o : Outcome) (s : State) → is_settled (ended g o s) ≡ true
 settled-ended g o s =

@@ -25,7 +25,7 @@ use Rattle.machine.specs.Greenlets.{frame_of, function_of, greenlet, named, with
 use Rattle.machine.specs.Hosts.{host_of, host_within}
 use Rattle.gv_values.specs.Ends.{kept}
 use Rattle.machine.specs.Unwinding.{Unwound, unwind}
-use Rattle.machine.specs.Soundness.{Claim, is_unclaimed, is_under_way, is_unstarted}
+use Rattle.machine.specs.Soundness.{Claim, is_live, is_unclaimed, is_unstarted}
 use Rattle.machine_soundness.specs.Going.{has_no_wait, is_plain, IsGoing, IsKept}
 use Rattle.machine_soundness.specs.Laws.{is_wake_of}
 use Rattle.machine_soundness.proofs.Lists.{all-filter, all-set, both, equal, left, unequal}
@@ -137,7 +137,7 @@ loose-say b g h line s o calm w m =
     unsame : (a : ℕ) → (a == a) ≡ false → ⊥
     unsame a e = grind (arith, nat_tests, e)
 
--- it is under way, with this frame
+-- it is live, with this frame
 now-live : (b : History) (g h : ℕ) (frame : Frame) (s : State) → fits_rest s.scenario (not (greenlet g s).raw) frame.todo ≡ true →
     AreHeld (slice_set s.greenlets g (record (greenlet g s) { phase = Phase.Live frame })) s.items → Moves g h (with_phase g (Phase.Live frame) s) → ((k : ℕ) → (k == h) ≡ false → is_plain s.greenlets k ≡ true → (g == k) ≡ false) →
     Loose b g h s → Goes b g h (with_phase g (Phase.Live frame) s)
@@ -149,7 +149,7 @@ now-live b g h frame s fits held moves apart m =
       ties = ties-live g frame m.story s m.there m.going m.ties;
       parking = λ k e p l.
           let q : is_plain s.greenlets k ≡ true = sym (plain-phased g (Phase.Live frame) s k) ∙ p in
-          m.parking k e q (ap is_under_way (sym (phase-other s.greenlets g k new (unequal g k (apart k e q)))) ∙ l);
+          m.parking k e q (ap is_live (sym (phase-other s.greenlets g k new (unequal g k (apart k e q)))) ∙ l);
       main = main (0 == g) refl;
       sides = record { kills = m.sides.kills; bodies = m.sides.bodies; fit = all-set (is_fit_greenlet s.scenario) s.greenlets g new own m.sides.fit; known = known-set s.scenario s.greenlets g new s.items s.objects refl m.sides.known; offers = m.sides.offers };
       held = held;
@@ -163,11 +163,11 @@ now-live b g h frame s fits held moves apart m =
         both (if new.raw then is_raw_function s.scenario new.function else true) (fits_rest s.scenario (not (greenlet g s).raw) frame.todo)
         (left (if new.raw then is_raw_function s.scenario new.function else true) (fits_phase s.scenario (not new.raw) (greenlet g s).phase) (greenlet-fit s.scenario g s.greenlets m.sides.fit)) fits
 
-    main : (c : Bool) → (0 == g) ≡ c → is_under_way (phase_of 0 (slice_set s.greenlets g new)) ≡ true
+    main : (c : Bool) → (0 == g) ≡ c → is_live (phase_of 0 (slice_set s.greenlets g new)) ≡ true
     main true e =
-        let here : is_under_way (phase_of g (slice_set s.greenlets g new)) ≡ true = live-here s.greenlets g new (greenlet g s) refl m.there in
-        subst (λ z. is_under_way (phase_of z (slice_set s.greenlets g new)) ≡ true) (sym (equal 0 g e)) here
-    main false e = ap is_under_way (phase-other s.greenlets g 0 new (λ z. unequal 0 g e (sym z))) ∙ m.main e
+        let here : is_live (phase_of g (slice_set s.greenlets g new)) ≡ true = live-here s.greenlets g new (greenlet g s) refl m.there in
+        subst (λ z. is_live (phase_of z (slice_set s.greenlets g new)) ≡ true) (sym (equal 0 g e)) here
+    main false e = ap is_live (phase-other s.greenlets g 0 new (λ z. unequal 0 g e (sym z))) ∙ m.main e
 
 -- ---- one that is not raw
 
@@ -226,7 +226,7 @@ goes_on-plain-at up b g (Unwound.Out left how) s p u f h placed m =
 abbrev pub LandsAt : ℕ → Landing → Type 0
 LandsAt n up = (b : History) (g h k : ℕ) (o : Outcome) (s : State) → k < n → n ≤ length s.greenlets → Climbs s.greenlets g h k → is_settled s ≡ true → Hosted b h s → At b (up g o s)
 
--- a raw greenlet is loose where its host is under way
+-- a raw greenlet is loose where its host is live
 raw-loose : (b : History) (g h : ℕ) (s : State) → (greenlet g s).raw ≡ true → is_over (phase_of g s.greenlets) ≡ false → Hosted b h s → Loose b g h s
 raw-loose b g h s r o m =
     record {
@@ -416,9 +416,9 @@ host-loose b g s m =
     }
 
 land-plain-at : (n : ℕ) (b : History) (g : ℕ) (o : Outcome) (s : State) → is_settled s ≡ true → Hosted b g s → At b (land (suc n) g o s)
-land-plain-at n b g o s st m = by (greenlet g s).phase refl (ap is_under_way (sym (live-phase s.greenlets g m.host.live)) ∙ m.host.live) o
+land-plain-at n b g o s st m = by (greenlet g s).phase refl (ap is_live (sym (live-phase s.greenlets g m.host.live)) ∙ m.host.live) o
   where
-    by : (p : Phase) → (greenlet g s).phase ≡ p → is_under_way (Some p) ≡ true → (o : Outcome) → At b (elim p [
+    by : (p : Phase) → (greenlet g s).phase ≡ p → is_live (Some p) ≡ true → (o : Outcome) → At b (elim p [
       | Phase.Done out ↦ land n (greenlet g s).parent (kept o) s
       | Phase.Live frame ↦ resumes (land n) g frame o (say (Line.Into g o) s)
       | Phase.New args ↦ elim o [
@@ -481,9 +481,9 @@ goes_on-at b g h u s st m placed loose = by (greenlet g s).raw refl
 
 -- who goes is in its frame
 pub goes-frame : (b : History) (g h : ℕ) (s : State) → Goes b g h s → (greenlet g s).phase ≡ Phase.Live (frame_of (greenlet g s).phase)
-goes-frame b g h s m = by (greenlet g s).phase (ap is_under_way (sym (live-phase s.greenlets g m.moves.live)) ∙ m.moves.live)
+goes-frame b g h s m = by (greenlet g s).phase (ap is_live (sym (live-phase s.greenlets g m.moves.live)) ∙ m.moves.live)
   where
-    by : (p : Phase) → is_under_way (Some p) ≡ true → p ≡ Phase.Live (frame_of p)
+    by : (p : Phase) → is_live (Some p) ≡ true → p ≡ Phase.Live (frame_of p)
     by (Phase.New args) e = absurd (cc e)
     by (Phase.Live frame) e = refl
     by (Phase.Done o) e = absurd (cc e)

@@ -50,7 +50,7 @@ frame-fits c g gs frame e fit =
     subst (λ (p : Phase). fits_phase c (not (at gs g).raw) p ≡ true) e
     (right (if (at gs g).raw then is_raw_function c (at gs g).function else true) (fits_phase c (not (at gs g).raw) (at gs g).phase) (greenlet-fit c g gs fit))
 
--- a body under way goes on
+-- the body of a live greenlet goes on
 pub placed-frame : (c : Scenario) (g : ℕ) (gs : List Greenlet) (items : List Item) (frame : Frame) (how : Leaving) (locals : List Local) → (at gs g).phase ≡ Phase.Live frame → phase_of g gs ≡ Some (at gs g).phase →
     list_all (is_fit_greenlet c) gs ≡ true → AreHeld gs items → IsPlaced c g (unwind frame.todo [] how locals) gs items
 placed-frame c g gs items frame how locals e p fit h =

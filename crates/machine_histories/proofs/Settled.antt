@@ -240,7 +240,7 @@ settled-greenlets fs s f h =
     outcomes (Whom.Greenlet k) = outcome-phase (record s { greenlets = fs }) k ∙ f k ∙ sym (outcome-phase s k)
     outcomes (Whom.Job j) = refl
 
--- one comes to be under way that has not ended
+-- one comes to be live that has not ended
 pub settled-live : (g : ℕ) (frame : Frame) (s : State) → is_over (phase_of g s.greenlets) ≡ false → slice_get s.greenlets g ≡ Some (greenlet g s) →
     is_settled s ≡ true → is_settled (with_phase g (Phase.Live frame) s) ≡ true
 settled-live g frame s u there h = settled-greenlets (slice_set s.greenlets g new) s (λ k. by k (g == k) refl) h

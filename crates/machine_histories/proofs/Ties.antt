@@ -22,7 +22,7 @@ use Rattle.machine.specs.TraceLaws.{is_of, is_some_number, greenlet_of, is_end_o
 use Rattle.machine.specs.Items.{add_item, drop_items, is_wait_of}
 use Rattle.machine.specs.Greenlets.{greenlet, with_phase}
 use Rattle.machine.specs.Settle.{settle}
-use Rattle.machine.specs.Soundness.{Claim, claim_of, is_unclaimed, is_under_way, same_claim}
+use Rattle.machine.specs.Soundness.{Claim, claim_of, is_live, is_unclaimed, same_claim}
 use Rattle.machine_soundness.specs.Going.{has_no_wait}
 use Rattle.machine_soundness.specs.Laws.{is_wake_of}
 use Rattle.machine_soundness.proofs.Lists.{left, right, both, all-imply, all-end, all-filter, equal, unequal, not-true}
@@ -42,13 +42,13 @@ is_begun (Some (Phase.Done o)) = true
 is_begun (Some (Phase.Live frame)) = true
 is_begun p = false
 
-pub live-begun : (p : Option Phase) → is_under_way p ≡ true → is_begun p ≡ true
+pub live-begun : (p : Option Phase) → is_live p ≡ true → is_begun p ≡ true
 live-begun None e = absurd (cc e)
 live-begun (Some (Phase.New args)) e = absurd (cc e)
 live-begun (Some (Phase.Live frame)) e = refl
 live-begun (Some (Phase.Done o)) e = refl
 
-pub live-not-over : (p : Option Phase) → is_under_way p ≡ true → is_over p ≡ false
+pub live-not-over : (p : Option Phase) → is_live p ≡ true → is_over p ≡ false
 live-not-over None e = absurd (cc e)
 live-not-over (Some (Phase.New args)) e = absurd (cc e)
 live-not-over (Some (Phase.Live frame)) e = refl
@@ -301,7 +301,7 @@ ties-greenlets x h fs s o b t =
       heard = t.heard;
     }
 
--- the greenlet that was about to begin is under way
+-- the greenlet that was about to begin is live
 pub ties-live : (g : ℕ) (frame : Frame) (h : History) (s : State) → slice_get s.greenlets g ≡ Some (greenlet g s) → is_over (phase_of g s.greenlets) ≡ false →
     Ties (Some g) h s → Ties None h (with_phase g (Phase.Live frame) s)
 ties-live g frame h s there u t =

@@ -42,7 +42,7 @@ use Rattle.machine.specs.Objects.{with_flag}
 use Rattle.machine.specs.Unwinding.{unwind}
 use Rattle.machine.specs.Run.{first_state}
 use Rattle.machine.specs.Settle.{settle}
-use Rattle.machine.specs.Soundness.{Claim, are_single, ascend, claim_of, is_meant, is_unclaimed, is_under_way, is_unstarted, same_claim}
+use Rattle.machine.specs.Soundness.{Claim, are_single, ascend, claim_of, is_live, is_meant, is_unclaimed, is_unstarted, same_claim}
 use Rattle.machine.proofs.Changes.{slice_get-set_other}
 use Rattle.machine.specs.Waits.{completes, late_outcome}
 use Rattle.machine.specs.Objects.{name_of_object, object_at, with_object, without_offer}
@@ -160,8 +160,8 @@ turned a b = grind (arith, nat_tests)
 
 -- its wait goes, with a line of its own
 unparked : (b : History) (g : ℕ) (line : Line) (s : State) (story : History) → IsOwn g line → throws_at_parked story.past line ≡ true → is_plain s.greenlets g ≡ true →
-    is_under_way (phase_of g s.greenlets) ≡ true → IsKept s → Tells b story s.lines s.posts → Ties None story s → AreParkedBut (Some g) s →
-    is_under_way (phase_of 0 s.greenlets) ≡ true → Sides s → AreKeptOffers s.objects (without_wait g s).items s.next_since → AreHeld s.greenlets s.items → Goes b g g (say line (without_wait g s))
+    is_live (phase_of g s.greenlets) ≡ true → IsKept s → Tells b story s.lines s.posts → Ties None story s → AreParkedBut (Some g) s →
+    is_live (phase_of 0 s.greenlets) ≡ true → Sides s → AreKeptOffers s.objects (without_wait g s).items s.next_since → AreHeld s.greenlets s.items → Goes b g g (say line (without_wait g s))
 unparked b g line s story o parked p l kept tells ties parking main sides offers held =
     let t = without_wait g s in
     record {
@@ -184,7 +184,7 @@ unparked b g line s story o parked p l kept tells ties parking main sides offers
     by k e (Delivery.Kill j f) z = absurd (cc z)
     by k e (Delivery.Link n j kind f) z = absurd (cc z)
 
-pub interrupts-at : (b : History) (g : ℕ) (f : FaultKind) (s : State) → is_plain s.greenlets g ≡ true → is_under_way (phase_of g s.greenlets) ≡ true → Rests b s → At b (interrupts g f s)
+pub interrupts-at : (b : History) (g : ℕ) (f : FaultKind) (s : State) → is_plain s.greenlets g ≡ true → is_live (phase_of g s.greenlets) ≡ true → Rests b s → At b (interrupts g f s)
 unfolding interrupts
 interrupts-at b g f s p l m =
     of (without_offer_by (since_of_wake g s.items) s) (plain (since_of_wake g s.items)) (going (since_of_wake g s.items)) (rests (since_of_wake g s.items)) (offers (since_of_wake g s.items) refl)
@@ -193,7 +193,7 @@ interrupts-at b g f s p l m =
     plain None = p
     plain (Some since) = p
 
-    going : (o : Option ℕ) → is_under_way (phase_of g (without_offer_by o s).greenlets) ≡ true
+    going : (o : Option ℕ) → is_live (phase_of g (without_offer_by o s).greenlets) ≡ true
     going None = l
     going (Some since) = l
 
@@ -205,14 +205,14 @@ interrupts-at b g f s p l m =
     offers None e = offers-drop_of g (is_wait_of g) s.objects s.items s.next_since (λ o d. waits-spared g o d) (unfound-offerless g s.items (singles s m.kept.sound) e) m.sides.offers
     offers (Some since) e = offers-broken_off g since s.objects s.items s.next_since (singles s m.kept.sound) e m.sides.offers
 
-    of : (u : State) → is_plain u.greenlets g ≡ true → is_under_way (phase_of g u.greenlets) ≡ true → Rests b u → AreKeptOffers u.objects (without_wait g u).items u.next_since → At b (answered g (Outcome.Fault f) (settle (say (Line.Throw g f) (without_wait g u))))
+    of : (u : State) → is_plain u.greenlets g ≡ true → is_live (phase_of g u.greenlets) ≡ true → Rests b u → AreKeptOffers u.objects (without_wait g u).items u.next_since → At b (answered g (Outcome.Fault f) (settle (say (Line.Throw g f) (without_wait g u))))
     of u p l m offers =
         let t = say (Line.Throw g f) (without_wait g u) in
         let park = m.ties.parked g (m.parking g refl p l) in
         answered-at b g g (Outcome.Fault f) (settle t) (settled-settle t)
         (goes-settle b g g t (unparked b g (Line.Throw g f) u m.story (own-throw g f) park p l m.kept m.tells m.ties (λ k e q d. m.parking k refl q d) m.main m.sides offers m.held))
 
-late-at : (b : History) (g n : ℕ) (w : Option Waiting) (s : State) → is_plain s.greenlets g ≡ true → is_under_way (phase_of g s.greenlets) ≡ true → is_settled s ≡ true → HasNoOffer g s.items → Rests b s →
+late-at : (b : History) (g n : ℕ) (w : Option Waiting) (s : State) → is_plain s.greenlets g ≡ true → is_live (phase_of g s.greenlets) ≡ true → is_settled s ≡ true → HasNoOffer g s.items → Rests b s →
     At b (late g n w s)
 late-at b g n None s p l st none m = (m, st)
 late-at b g n (Some w) s p l st none m =
@@ -235,7 +235,7 @@ unstarted-not-over (Some (Phase.Done o)) e = absurd (cc e)
 -- one that is New and not raw starts
 starts-new : (b : History) (g : ℕ) (args : List Value) (s : State) → is_plain s.greenlets g ≡ true → is_unstarted (phase_of g s.greenlets) ≡ true → is_unclaimed (Some (Claim.StartOf g)) s.items ≡ true →
     has_no_wait g s.items ≡ true → is_settled s ≡ true → IsKept s → (story : History) → Tells b story s.lines s.posts → Ties None story s → AreParkedBut (Some g) s →
-    ((0 == g) ≡ false → is_under_way (phase_of 0 s.greenlets) ≡ true) → Sides s → AreHeld s.greenlets s.items → At b (starts lands g args s)
+    ((0 == g) ≡ false → is_live (phase_of 0 s.greenlets) ≡ true) → Sides s → AreHeld s.greenlets s.items → At b (starts lands g args s)
 starts-new b g args s p new u f st kept story tells ties parking main sides held =
     let line = Line.Start g (function_of (greenlet g s).function s).name in
     let loose : Loose b g g s = record {
@@ -264,8 +264,8 @@ calls-at b k g f s e st m over = by (has_greenlet_left s)
     t : State
     t = say (Line.Link k g (LinkCall.Greenlet (length s.greenlets))) s
 
-    none : is_under_way (phase_of (length s.greenlets) s.greenlets) ≡ true → ⊥
-    none e = cc (ap is_under_way (none-next s.greenlets), e)
+    none : is_live (phase_of (length s.greenlets) s.greenlets) ≡ true → ⊥
+    none e = cc (ap is_live (none-next s.greenlets), e)
 
     last-new : is_unstarted (phase_of (length s.greenlets) (s.greenlets ++ y ∷ [])) ≡ true
     last-new = ap (λ (x : Option Greenlet). is_unstarted (elim x [ None ↦ None | Some z ↦ Some z.phase ])) (get-last s.greenlets y)
@@ -658,6 +658,6 @@ begins-at c text =
     starts-new at_first 0 [] (first_state c) refl refl refl refl refl (first-kept c) at_first (tells-nothing at_first) (first-ties c)
     (λ k e p l. absurd (parked k l)) (λ e. absurd (cc e)) (record { kills = omega arith; bodies = text; fit = refl; known = λ w. record { functions = both _ true w refl; named = refl; declared = first-kinds c.objects }; offers = offers-first c.objects (first_state c).next_since }) refl
   where
-    parked : (k : ℕ) → is_under_way (phase_of k (first_state c).greenlets) ≡ true → ⊥
+    parked : (k : ℕ) → is_live (phase_of k (first_state c).greenlets) ≡ true → ⊥
     parked zero l = cc l
     parked (suc k) l = cc l

@@ -43,7 +43,7 @@ use Rattle.machine.specs.Requests.{Sending, performs, follows, sends, sends_all,
 use Rattle.gv_values.specs.JobParts.{job_of}
 use Rattle.machine.specs.Moves.{does, move, enters, timeout_item, look}
 use Rattle.machine.specs.Objects.{at_bound, after_release, takes_value, members_of, sets_of, with_flag, with_shut}
-use Rattle.machine.specs.Soundness.{is_under_way, is_unstarted}
+use Rattle.machine.specs.Soundness.{is_live, is_unstarted}
 use Rattle.machine.specs.Waits.{Performed, comes, raises, nothing, maps}
 use Rattle.machine.specs.Objects.{with_object, object_at, name_of_object}
 use Rattle.machine_soundness.specs.Going.{is_plain, is_meant_request, next_did, IsKept}
@@ -107,7 +107,7 @@ goes-unrun b f k g h args s e m =
     let t = say line s in
     let phase = new-phase s.greenlets k args e in
     let there = new-found s.greenlets k (ap (λ (p : Phase). is_unstarted (Some p)) e) in
-    let asleep : is_under_way (phase_of k s.greenlets) ≡ true → ⊥ = λ l. cc (ap is_under_way (sym phase) ∙ l) in
+    let asleep : is_live (phase_of k s.greenlets) ≡ true → ⊥ = λ l. cc (ap is_live (sym phase) ∙ l) in
     let not-over : is_over (phase_of k s.greenlets) ≡ false = ap is_over phase in
     let quiet : is_park (find (is_of k) m.story.past) ≡ true = ap is_park (m.ties.fresh k refl (ap is_begun phase)) in
     let thrown : Ties (Some k) (with_line line m.story) t =
@@ -143,7 +143,7 @@ goes-kill b f k g h s moves low m =
 sends-at : (b : History) (f : FaultKind) (k g h : ℕ) (s : State) → (greenlet k s).raw ≡ false → Goes b g h s → IsSentAt b g h (sends f k s)
 sends-at b f k g h s r m = by (greenlet k s).phase refl
   where
-    kill : (c : Bool) → nat_lt (kills_standing s) 1000000 ≡ c → is_under_way (phase_of k s.greenlets) ≡ true →
+    kill : (c : Bool) → nat_lt (kills_standing s) 1000000 ≡ c → is_live (phase_of k s.greenlets) ≡ true →
         IsSentAt b g h (if c then Sending.Sent (add_item (Delivery.Kill k f) s) else Sending.TooMany s)
     kill true low l =
         goes-kill b f k g h s
@@ -157,7 +157,7 @@ sends-at b f k g h s r m = by (greenlet k s).phase refl
     ])
     by (Phase.Done o) e = m
     by (Phase.New args) e = goes-unrun b f k g h args s e m
-    by (Phase.Live frame) e = kill (nat_lt (kills_standing s) 1000000) refl (live-at s.greenlets k (ap (λ (x : Phase). is_under_way (Some x)) e))
+    by (Phase.Live frame) e = kill (nat_lt (kills_standing s) 1000000) refl (live-at s.greenlets k (ap (λ (x : Phase). is_live (Some x)) e))
 
 sends_all-at : (b : History) (f : FaultKind) (ks : List ℕ) (g h : ℕ) (s : State) → AreNotRaw s.greenlets ks → Goes b g h s → IsSentAt b g h (sends_all f ks s)
 sends_all-at b f [] g h s a m = m
@@ -328,8 +328,8 @@ goes-parent b child parent g h s moves m =
       story = m.story;
       tells = m.tells;
       ties = ties-greenlets None m.story (slice_set s.greenlets child x) s (λ k. ap is_over (phase k)) (λ k e. ap is_begun (sym (phase k)) ∙ e) m.ties;
-      parking = λ k e p l. m.parking k e (sym (parent-plain child parent k s) ∙ p) (ap is_under_way (sym (phase k)) ∙ l);
-      main = ap is_under_way (phase 0) ∙ m.main;
+      parking = λ k e p l. m.parking k e (sym (parent-plain child parent k s) ∙ p) (ap is_live (sym (phase k)) ∙ l);
+      main = ap is_live (phase 0) ∙ m.main;
       sides = record { kills = m.sides.kills; bodies = m.sides.bodies; fit = all-set (is_fit_greenlet s.scenario) s.greenlets child x (greenlet-fit s.scenario child s.greenlets m.sides.fit) m.sides.fit; known = known-set s.scenario s.greenlets child x s.items s.objects refl m.sides.known; offers = m.sides.offers };
       held = held-phases s.greenlets (slice_set s.greenlets child x) s.items (λ k. ap withins_at (phase k)) m.held;
     }
@@ -602,9 +602,9 @@ goes-live b g h frame s fits same m =
         (ap withins_at (phase-here s.greenlets g new (greenlet g s) there) ∙ same ∙ sym (goes-withins b g h s m))
     blocks k false e = ap withins_at (phase-other s.greenlets g k new (unequal g k e))
 
-    was : (k : ℕ) (c : Bool) → (g == k) ≡ c → is_under_way (phase_of k (slice_set s.greenlets g new)) ≡ true → is_under_way (phase_of k s.greenlets) ≡ true
-    was k true e l = subst (λ z. is_under_way (phase_of z s.greenlets) ≡ true) (equal g k e) m.moves.live
-    was k false e l = ap is_under_way (sym (phase-other s.greenlets g k new (unequal g k e))) ∙ l
+    was : (k : ℕ) (c : Bool) → (g == k) ≡ c → is_live (phase_of k (slice_set s.greenlets g new)) ≡ true → is_live (phase_of k s.greenlets) ≡ true
+    was k true e l = subst (λ z. is_live (phase_of z s.greenlets) ≡ true) (equal g k e) m.moves.live
+    was k false e l = ap is_live (sym (phase-other s.greenlets g k new (unequal g k e))) ∙ l
 
 -- one that is there is raw or plain
 pub plain-not-raw : (gs : List Greenlet) (g : ℕ) → slice_get gs g ≡ Some (at gs g) → is_plain gs g ≡ not (at gs g).raw

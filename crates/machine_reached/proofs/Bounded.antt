@@ -24,7 +24,7 @@ use Rattle.machine.specs.Greenlets.{frame_of, greenlet}
 use Rattle.machine.specs.Requests.{is_kill}
 use Rattle.machine.specs.Moves.{move, look}
 use Rattle.machine.specs.Run.{first_state, silent}
-use Rattle.machine.specs.Soundness.{Claim, are_single, claim_eq, claim_of, is_meant, is_unclaimed, is_under_way, is_unstarted, same_claim}
+use Rattle.machine.specs.Soundness.{Claim, are_single, claim_eq, claim_of, is_live, is_meant, is_unclaimed, is_unstarted, same_claim}
 use Rattle.machine_soundness.specs.Going.{IsKept}
 use Rattle.machine_soundness.proofs.Lists.{both, left, right}
 use Rattle.machine_soundness.proofs.States.{meants, singles}
@@ -271,10 +271,10 @@ unstarted-below gs g e = by (phase_of g gs) refl e
     by None z e = absurd (cc e)
     by (Some p) z e = phase-below gs g p z
 
-live-below : (gs : List Greenlet) (g : ℕ) → is_under_way (phase_of g gs) ≡ true → g < length gs
+live-below : (gs : List Greenlet) (g : ℕ) → is_live (phase_of g gs) ≡ true → g < length gs
 live-below gs g e = by (phase_of g gs) refl e
   where
-    by : (p : Option Phase) → phase_of g gs ≡ p → is_under_way p ≡ true → g < length gs
+    by : (p : Option Phase) → phase_of g gs ≡ p → is_live p ≡ true → g < length gs
     by None z e = absurd (cc e)
     by (Some p) z e = phase-below gs g p z
 

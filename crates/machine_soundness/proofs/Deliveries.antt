@@ -36,7 +36,7 @@ use Rattle.machine.specs.Ends.{leaving_of, outcome_of_leaving}
 use Rattle.machine.specs.Objects.{with_flag}
 use Rattle.machine.specs.Run.{first_state, object_of}
 use Rattle.machine.specs.Settle.{settle}
-use Rattle.machine.specs.Soundness.{Claim, ascend, are_single, claim_of, is_meant, is_unclaimed, is_under_way, same_claim}
+use Rattle.machine.specs.Soundness.{Claim, ascend, are_single, claim_of, is_live, is_meant, is_unclaimed, same_claim}
 use Rattle.machine.specs.Waits.{completes, late_outcome}
 use Rattle.machine.specs.Objects.{object_at, name_of_object, without_offer}
 use Rattle.machine_soundness.specs.Going.{is_plain, is_for_plain, has_plain_members, has_no_wait, IsKept, IsSoundAt}
@@ -136,13 +136,13 @@ start-gone low next (suc n) g (j ∷ items) i c h k e =
 pub no-wait-left : (g : ℕ) (s : State) → has_no_wait g (without_wait g s).items ≡ true
 no-wait-left g s = all-filter _ (λ i. true) _ s.items (λ i k p. k) (all-of (λ i. true) s.items (λ i. refl))
 
--- one that is under way, is not raw and has no wait
-pub free-moves : (g : ℕ) (s : State) → is_plain s.greenlets g ≡ true → is_under_way (phase_of g s.greenlets) ≡ true → has_no_wait g s.items ≡ true → IsKept s → Moves g g s
+-- one that is live, is not raw and has no wait
+pub free-moves : (g : ℕ) (s : State) → is_plain s.greenlets g ≡ true → is_live (phase_of g s.greenlets) ≡ true → has_no_wait g s.items ≡ true → IsKept s → Moves g g s
 free-moves g s p l f k =
     record { kept = k; live = l; same = host-plain (length s.greenlets) s.greenlets g (plain-raw s.greenlets g p); host = record { plain = p; live = l; free = f } }
 
--- what is answered where nothing is under way ends
-ends-answered : (g : ℕ) (o : Outcome) (x : Phase) (s : State) → is_under_way (Some x) ≡ false → is_plain s.greenlets g ≡ true → IsKept s →
+-- what is answered at one that is not live ends
+ends-answered : (g : ℕ) (o : Outcome) (x : Phase) (s : State) → is_live (Some x) ≡ false → is_plain s.greenlets g ≡ true → IsKept s →
     IsSoundAt (resumes lands g (frame_of x) o s)
 ends-answered g o (Phase.New args) s e p k =
     after_end-plain lands g (outcome_of_leaving (leaving_of o)) (drop_items (is_timeout_of g []) s) (plain-raw s.greenlets g p) (kept-drop (is_timeout_of g []) s k)
@@ -151,10 +151,10 @@ ends-answered g o (Phase.Done out) s e p k =
 ends-answered g o (Phase.Live frame) s e p k = absurd (cc e)
 
 plain-answered : (g : ℕ) (o : Outcome) (s : State) → is_plain s.greenlets g ≡ true → has_no_wait g s.items ≡ true → IsKept s → IsSoundAt (answered g o s)
-plain-answered g o s p f k = by (is_under_way (Some (greenlet g s).phase)) refl
+plain-answered g o s p f k = by (is_live (Some (greenlet g s).phase)) refl
   where
-    by : (b : Bool) → is_under_way (Some (greenlet g s).phase) ≡ b → IsSoundAt (answered g o s)
-    by true e = answered-soundly g g o s (free-moves g s p (ap is_under_way (plain-phase s.greenlets g p) ∙ e) f k)
+    by : (b : Bool) → is_live (Some (greenlet g s).phase) ≡ b → IsSoundAt (answered g o s)
+    by true e = answered-soundly g g o s (free-moves g s p (ap is_live (plain-phase s.greenlets g p) ∙ e) f k)
     by false e = ends-answered g o (greenlet g s).phase s e p k
 
 -- a settling keeps it free
@@ -192,12 +192,12 @@ late-soundly g n (Some w) s p k =
 
 -- ---- starts
 
--- one that is not under way has no wait
-pub asleep-free : (g : ℕ) (s : State) → (is_under_way (phase_of g s.greenlets) ≡ true → ⊥) → IsKept s → has_no_wait g s.items ≡ true
+-- one that is not live has no wait
+pub asleep-free : (g : ℕ) (s : State) → (is_live (phase_of g s.greenlets) ≡ true → ⊥) → IsKept s → has_no_wait g s.items ≡ true
 asleep-free g s f h = all-imply _ _ s.items (λ i. none i.delivery) (meants s h.sound)
   where
-    by : (k : ℕ) (b : Bool) → (g == k) ≡ b → is_under_way (phase_of k s.greenlets) ≡ true → not b ≡ true
-    by k true e m = absurd (f (ap (λ z. is_under_way (phase_of z s.greenlets)) (equal g k e) ∙ m))
+    by : (k : ℕ) (b : Bool) → (g == k) ≡ b → is_live (phase_of k s.greenlets) ≡ true → not b ≡ true
+    by k true e m = absurd (f (ap (λ z. is_live (phase_of z s.greenlets)) (equal g k e) ∙ m))
     by k false e m = refl
 
     none : (d : Delivery) → is_meant s d ≡ true → not (is_wait_of g d) ≡ true
@@ -212,8 +212,8 @@ asleep-free g s f h = all-imply _ _ s.items (λ i. none i.delivery) (meants s h.
 calls-soundly : (k g f : ℕ) (s : State) → IsKept s → IsSoundAt (calls k g f s)
 calls-soundly k g f s h = by (has_greenlet_left s)
   where
-    none : is_under_way (phase_of (length s.greenlets) s.greenlets) ≡ true → ⊥
-    none e = cc (ap is_under_way (none-next s.greenlets), e)
+    none : is_live (phase_of (length s.greenlets) s.greenlets) ≡ true → ⊥
+    none e = cc (ap is_live (none-next s.greenlets), e)
 
     by : (b : Bool) → IsSoundAt (if b then
         starts lands (length s.greenlets) (Value.Greenlet g ∷ []) (add_greenlet false 0 f (Value.Greenlet g ∷ []) (say (Line.Link k g (LinkCall.Greenlet (length s.greenlets))) s))

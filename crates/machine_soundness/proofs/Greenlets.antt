@@ -6,7 +6,7 @@ use Rattle.machine.specs.declared.state.Phase.{Phase}
 use Rattle.machine.specs.Holds.{phase_of}
 use Rattle.machine.specs.Greenlets.{nobody}
 use Rattle.machine.specs.Hosts.{host_within}
-use Rattle.machine.specs.Soundness.{is_under_way, is_unstarted}
+use Rattle.machine.specs.Soundness.{is_live, is_unstarted}
 use Rattle.machine_soundness.specs.Going.{is_plain}
 use Rattle.machine_soundness.proofs.Lists.{get-append}
 
@@ -40,11 +40,11 @@ raw-found gs g h = by (slice_get gs g) h
     by None h = absurd (cc h)
     by (Some x) h = refl
 
--- so is one that is under way
-pub live-found : (gs : List Greenlet) (g : ℕ) → is_under_way (phase_of g gs) ≡ true → slice_get gs g ≡ Some (at gs g)
+-- so is one that is live
+pub live-found : (gs : List Greenlet) (g : ℕ) → is_live (phase_of g gs) ≡ true → slice_get gs g ≡ Some (at gs g)
 live-found gs g h = by (slice_get gs g) h
   where
-    by : (o : Option Greenlet) → is_under_way (elim o [ None ↦ None | Some x ↦ Some x.phase ]) ≡ true → o ≡ Some (unwrap_or o nobody)
+    by : (o : Option Greenlet) → is_live (elim o [ None ↦ None | Some x ↦ Some x.phase ]) ≡ true → o ≡ Some (unwrap_or o nobody)
     by None h = absurd (cc h)
     by (Some x) h = refl
 
@@ -78,16 +78,16 @@ phase-other (y ∷ gs) zero (suc h) x e = refl
 phase-other (y ∷ gs) (suc g) zero x e = refl
 phase-other (y ∷ gs) (suc g) (suc h) x e = phase-other gs g h x (λ k. e (ap suc k))
 
-pub live-set : (gs : List Greenlet) (g h : ℕ) (x : Greenlet) → is_under_way (Some x.phase) ≡ true →
-    is_under_way (phase_of h gs) ≡ true → is_under_way (phase_of h (slice_set gs g x)) ≡ true
+pub live-set : (gs : List Greenlet) (g h : ℕ) (x : Greenlet) → is_live (Some x.phase) ≡ true →
+    is_live (phase_of h gs) ≡ true → is_live (phase_of h (slice_set gs g x)) ≡ true
 live-set [] g h x e k = k
 live-set (y ∷ gs) zero zero x e k = e
 live-set (y ∷ gs) zero (suc h) x e k = k
 live-set (y ∷ gs) (suc g) zero x e k = k
 live-set (y ∷ gs) (suc g) (suc h) x e k = live-set gs g h x e k
 
-pub live-here : (gs : List Greenlet) (g : ℕ) (x y : Greenlet) → is_under_way (Some x.phase) ≡ true → slice_get gs g ≡ Some y →
-    is_under_way (phase_of g (slice_set gs g x)) ≡ true
+pub live-here : (gs : List Greenlet) (g : ℕ) (x y : Greenlet) → is_live (Some x.phase) ≡ true → slice_get gs g ≡ Some y →
+    is_live (phase_of g (slice_set gs g x)) ≡ true
 live-here [] g x y e k = absurd (cc k)
 live-here (z ∷ gs) zero x y e k = e
 live-here (z ∷ gs) (suc g) x y e k = live-here gs g x y e k
@@ -150,7 +150,7 @@ unstarted-more [] fs g h = absurd (cc h)
 unstarted-more (y ∷ gs) fs zero h = h
 unstarted-more (y ∷ gs) fs (suc g) h = unstarted-more gs fs g h
 
-pub live-more : (gs fs : List Greenlet) (g : ℕ) → is_under_way (phase_of g gs) ≡ true → is_under_way (phase_of g (gs ++ fs)) ≡ true
+pub live-more : (gs fs : List Greenlet) (g : ℕ) → is_live (phase_of g gs) ≡ true → is_live (phase_of g (gs ++ fs)) ≡ true
 live-more [] fs g h = absurd (cc h)
 live-more (y ∷ gs) fs zero h = h
 live-more (y ∷ gs) fs (suc g) h = live-more gs fs g h
@@ -160,17 +160,17 @@ pub none-next : (gs : List Greenlet) → phase_of (length gs) gs ≡ None
 none-next [] = refl
 none-next (y ∷ gs) = none-next gs
 
--- one that was not started is not under way
-pub unstarted-not-live : (o : Option Phase) → is_unstarted o ≡ true → is_under_way o ≡ true → ⊥
+-- one that was not started is not live
+pub unstarted-not-live : (o : Option Phase) → is_unstarted o ≡ true → is_live o ≡ true → ⊥
 unstarted-not-live None h k = cc h
 unstarted-not-live (Some (Phase.New args)) h k = cc k
 unstarted-not-live (Some (Phase.Live frame)) h k = cc h
 unstarted-not-live (Some (Phase.Done o)) h k = cc h
 
-pub live-phase : (gs : List Greenlet) (g : ℕ) → is_under_way (phase_of g gs) ≡ true → phase_of g gs ≡ Some (at gs g).phase
+pub live-phase : (gs : List Greenlet) (g : ℕ) → is_live (phase_of g gs) ≡ true → phase_of g gs ≡ Some (at gs g).phase
 live-phase gs g h = by (slice_get gs g) h
   where
-    by : (o : Option Greenlet) → is_under_way (elim o [ None ↦ None | Some x ↦ Some x.phase ]) ≡ true →
+    by : (o : Option Greenlet) → is_live (elim o [ None ↦ None | Some x ↦ Some x.phase ]) ≡ true →
         ◌≡◌ {A = Option Phase} (elim o [ None ↦ None | Some x ↦ Some x.phase ]) (Some (unwrap_or o nobody).phase)
     by None h = absurd (cc h)
     by (Some x) h = refl
@@ -192,9 +192,9 @@ new-found gs g h = by (slice_get gs g) h
     by (Some x) h = refl
 
 -- one with this phase that isn't New is there
-pub live-at : (gs : List Greenlet) (g : ℕ) → is_under_way (Some (at gs g).phase) ≡ true → is_under_way (phase_of g gs) ≡ true
+pub live-at : (gs : List Greenlet) (g : ℕ) → is_live (Some (at gs g).phase) ≡ true → is_live (phase_of g gs) ≡ true
 live-at gs g h = by (slice_get gs g) h
   where
-    by : (o : Option Greenlet) → is_under_way (Some (unwrap_or o nobody).phase) ≡ true → is_under_way (elim o [ None ↦ None | Some x ↦ Some x.phase ]) ≡ true
+    by : (o : Option Greenlet) → is_live (Some (unwrap_or o nobody).phase) ≡ true → is_live (elim o [ None ↦ None | Some x ↦ Some x.phase ]) ≡ true
     by None h = absurd (cc h)
     by (Some x) h = h

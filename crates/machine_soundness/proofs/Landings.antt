@@ -16,7 +16,7 @@ use Rattle.machine.specs.Greenlets.{with_phase, greenlet, function_of, frame_of}
 use Rattle.machine.specs.Ends.{ended, stop_of, leaving_of, outcome_of_leaving}
 use Rattle.machine.specs.Hosts.{host_within, host_of}
 use Rattle.gv_values.specs.Ends.{kept}
-use Rattle.machine.specs.Soundness.{Claim, claim_of, is_unclaimed, is_under_way, same_claim}
+use Rattle.machine.specs.Soundness.{Claim, claim_of, is_live, is_unclaimed, same_claim}
 use Rattle.machine_soundness.specs.Going.{is_plain, is_for_plain, has_no_wait, IsKept, IsGoing, IsSoundAt}
 use Rattle.machine_soundness.proofs.Lists.{all-imply, all-filter, equal}
 use Rattle.machine_soundness.proofs.Greenlets.{at, plain-found, plain-raw, raw-found, live-here, live-phase, host-plain, host-more}
@@ -45,7 +45,7 @@ goes_on-plain up g (Unwound.Runs left locals todo) s p u f h =
     let t = drop_items (is_timeout_of g left) s in
     let found = plain-found s.greenlets g p in
     let now = with_phase g (Phase.Live frame) t in
-    let lives : is_under_way (phase_of g now.greenlets) ≡ true = live-here s.greenlets g (record (greenlet g s) { phase = Phase.Live frame }) found.0 refl found.1 in
+    let lives : is_live (phase_of g now.greenlets) ≡ true = live-here s.greenlets g (record (greenlet g s) { phase = Phase.Live frame }) found.0 refl found.1 in
     let plain : is_plain now.greenlets g ≡ true = plain-phased g (Phase.Live frame) t g ∙ p in
     let k : IsKept now = kept-live g frame t (all-filter _ _ _ s.items (λ i a b. b) u) (kept-drop (is_timeout_of g left) s h) in (
       k,
@@ -99,7 +99,7 @@ goes_on-raw n up g h (Unwound.Runs left locals todo) s l few e k same m =
     let frame : Frame = record { locals = locals; todo = todo; gives = None } in
     let t = drop_items (is_timeout_of g left) s in
     let now = with_phase g (Phase.Live frame) t in
-    let lives : is_under_way (phase_of g now.greenlets) ≡ true = live-here s.greenlets g (record (greenlet g s) { phase = Phase.Live frame }) (greenlet g s) refl (raw-found s.greenlets g e) in
+    let lives : is_live (phase_of g now.greenlets) ≡ true = live-here s.greenlets g (record (greenlet g s) { phase = Phase.Live frame }) (greenlet g s) refl (raw-found s.greenlets g e) in
     let new : IsKept now = kept-live g frame t (all-filter _ _ _ s.items (λ i a b. b) (raw-unclaimed g s e k)) (kept-drop (is_timeout_of g left) s k) in
     let within : host_within (suc n) s.greenlets g ≡ h = ap (λ b. elim b [ true ↦ host_within n s.greenlets (greenlet g s).parent | false ↦ g ]) e ∙ same in
     let host : host_of s g ≡ h =
@@ -135,9 +135,9 @@ land-raw n g h o s l few e k same m = by (greenlet g s).phase o
     by (Phase.New args) (Outcome.Fault f) = after_end-raw n (land n) g h (Outcome.Fault f) s l (omega (arith, few)) e k same m
 
 land-plain : (n : ℕ) (g : ℕ) (o : Outcome) (s : State) → IsKept s → IsHost g s → IsSoundAt (land (suc n) g o s)
-land-plain n g o s k m = by (greenlet g s).phase (ap is_under_way (sym (live-phase s.greenlets g m.live)) ∙ m.live) o
+land-plain n g o s k m = by (greenlet g s).phase (ap is_live (sym (live-phase s.greenlets g m.live)) ∙ m.live) o
   where
-    by : (p : Phase) → is_under_way (Some p) ≡ true → (o : Outcome) → IsSoundAt (elim p [
+    by : (p : Phase) → is_live (Some p) ≡ true → (o : Outcome) → IsSoundAt (elim p [
       | Phase.Done out ↦ land n (greenlet g s).parent (kept o) s
       | Phase.Live frame ↦ resumes (land n) g frame o (say (Line.Into g o) s)
       | Phase.New args ↦ elim o [
@@ -157,7 +157,7 @@ land-soundly (suc n) g h o s few k same m = by (greenlet g s).raw refl same (lan
     by true e same l = land-raw n g h o s l few e k same m
     by false e same l = land-plain n g o s k (subst (λ z. IsHost z s) (sym same) m)
 
--- the input lands at a greenlet whose host is under way
+-- the input lands at a greenlet whose host is live
 pub lands-soundly : (g h : ℕ) (o : Outcome) (s : State) → IsKept s → host_of s g ≡ h → IsHost h s → IsSoundAt (lands g o s)
 lands-soundly g h o s k same m = land-soundly (length s.greenlets) g h o s (omega arith) k same m
 

@@ -14,16 +14,16 @@ use Rattle.machine.specs.Items.{drop_items, is_timeout_of}
 use Rattle.machine.specs.Greenlets.{greenlet, function_of}
 use Rattle.machine.specs.Ends.{ended, stop_of, outcome_of_leaving}
 use Rattle.machine.specs.Hosts.{host_of}
-use Rattle.machine.specs.Soundness.{is_under_way}
+use Rattle.machine.specs.Soundness.{is_live}
 use Rattle.machine_soundness.specs.Going.{is_plain}
 use Rattle.machine_soundness.specs.Onward.{GoesOnward}
 use Rattle.machine_soundness.proofs.Greenlets.{at, plain-raw, plain-set, raw-set, parent-set, live-phase, phase-other, live-found}
 use Rattle.machine_soundness.proofs.Chains.{Climbs, climb-of, climb-short}
 
--- the host is under way and is not raw
+-- the host is live and is not raw
 record IsTop (h : ℕ) (gs : List Greenlet) : Type 0 where
   plain : is_plain gs h ≡ true
-  live : is_under_way (phase_of h gs) ≡ true
+  live : is_live (phase_of h gs) ≡ true
 
 -- so far up, and with so many steps at hand, what lands goes onward
 abbrev Onward : ℕ → Landing → Type 0
@@ -44,7 +44,7 @@ climbs-phased gs c p g h (suc k) w =
 top-phased : (gs : List Greenlet) (c h : ℕ) (p : Phase) → (c ≡ h → ⊥) → IsTop h gs → IsTop h (slice_set gs c (record (at gs c) { phase = p }))
 top-phased gs c h p e t = record {
   plain = plain-set gs c h (record (at gs c) { phase = p }) refl ∙ t.plain;
-  live = ap is_under_way (phase-other gs c h (record (at gs c) { phase = p }) e) ∙ t.live;
+  live = ap is_live (phase-other gs c h (record (at gs c) { phase = p }) e) ∙ t.live;
 }
 
 -- what has ended is Done
@@ -53,7 +53,7 @@ set-here [] g x y e = absurd (cc e)
 set-here (z ∷ gs) zero x y e = refl
 set-here (z ∷ gs) (suc g) x y e = set-here gs g x y e
 
-done-ended : (g : ℕ) (o : Outcome) (s : State) → is_under_way (phase_of g s.greenlets) ≡ true → is_done (ended g o s) g ≡ true
+done-ended : (g : ℕ) (o : Outcome) (s : State) → is_live (phase_of g s.greenlets) ≡ true → is_done (ended g o s) g ≡ true
 done-ended g o s l =
     let found = set-here s.greenlets g (record (greenlet g s) { phase = Phase.Done o }) (at s.greenlets g) (live-found s.greenlets g l) in
     subst (λ (x : Option Greenlet). is_some (elim x [ None ↦ None | Some y ↦ outcome_of_phase y.phase ]) ≡ true) (sym found) refl
@@ -109,9 +109,9 @@ land-raw n g h k o s l e c few t = by (greenlet g s).phase o
     by (Phase.New args) (Outcome.Fault f) = after_end-raw n (land n) g h k (Outcome.Fault f) s l e c few t
 
 land-top : (n h : ℕ) (o : Outcome) (s : State) → IsTop h s.greenlets → GoesOnward h (land (suc n) h o s)
-land-top n h o s t = by (greenlet h s).phase (ap is_under_way (sym (live-phase s.greenlets h t.live)) ∙ t.live) o
+land-top n h o s t = by (greenlet h s).phase (ap is_live (sym (live-phase s.greenlets h t.live)) ∙ t.live) o
   where
-    by : (p : Phase) → is_under_way (Some p) ≡ true → (o : Outcome) → GoesOnward h (elim p [
+    by : (p : Phase) → is_live (Some p) ≡ true → (o : Outcome) → GoesOnward h (elim p [
       | Phase.Done out ↦ land n (greenlet h s).parent (kept o) s
       | Phase.Live frame ↦ resumes (land n) h frame o (say (Line.Into h o) s)
       | Phase.New args ↦ elim o [
@@ -129,7 +129,7 @@ land-onward zero g h k o s c few t = absurd (omega (arith, few))
 land-onward (suc n) g h zero o s c few t = subst (λ z. GoesOnward h (land (suc n) z o s)) (sym c) (land-top n h o s t)
 land-onward (suc n) g h (suc k) o s c few t = land-raw n g h k o s (land-onward n) c.0 c.1 (omega (arith, few)) t
 
-pub lands-onward : (g h : ℕ) (o : Outcome) (s : State) → host_of s g ≡ h → is_plain s.greenlets h ≡ true → is_under_way (phase_of h s.greenlets) ≡ true → GoesOnward h (lands g o s)
+pub lands-onward : (g h : ℕ) (o : Outcome) (s : State) → host_of s g ≡ h → is_plain s.greenlets h ≡ true → is_live (phase_of h s.greenlets) ≡ true → GoesOnward h (lands g o s)
 lands-onward g h o s e p l =
     let c = climb-of (length s.greenlets) s.greenlets g h e in
     land-onward (length s.greenlets) g h c.0 o s c.1 (climb-short s.greenlets g h c.0 p c.1) (record { plain = p; live = l })

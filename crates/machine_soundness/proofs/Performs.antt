@@ -35,7 +35,7 @@ use Rattle.machine.specs.Requests.{Sending, performs, follows, sends, sends_all,
 use Rattle.gv_values.specs.JobParts.{job_of}
 use Rattle.machine.specs.Moves.{does, move, enters, timeout_item}
 use Rattle.machine.specs.Objects.{at_bound, after_release, takes_value, members_of, sets_of}
-use Rattle.machine.specs.Soundness.{Claim, claim_of, is_meant, is_unclaimed, is_under_way, is_unstarted, same_claim}
+use Rattle.machine.specs.Soundness.{Claim, claim_of, is_live, is_meant, is_unclaimed, is_unstarted, same_claim}
 use Rattle.machine.specs.Waits.{Performed, comes, raises, nothing, maps}
 use Rattle.machine.specs.Objects.{with_object, object_at, name_of_object}
 use Rattle.machine_soundness.specs.Going.{is_plain, is_meant_request, is_meant_did, is_meant_move, next_did, IsKept, IsGoing, IsSoundAt}
@@ -52,18 +52,18 @@ abbrev IsSent : ℕ → ℕ → Sending → Type 0
 IsSent g h (Sending.Sent s) = Moves g h s
 IsSent g h (Sending.TooMany s) = Moves g h s
 
--- what was not started is not under way
-pub not-live : (gs : List Greenlet) (k g : ℕ) (args : List Value) → (at gs k).phase ≡ Phase.New args → is_under_way (phase_of g gs) ≡ true → k ≡ g → ⊥
+-- what was not started is not live
+pub not-live : (gs : List Greenlet) (k g : ℕ) (args : List Value) → (at gs k).phase ≡ Phase.New args → is_live (phase_of g gs) ≡ true → k ≡ g → ⊥
 not-live gs k g args e l same =
     let p : phase_of g gs ≡ Some (at gs g).phase = live-phase gs g l in
     let q : Some (at gs g).phase ≡ Some (Phase.New args) = ap (λ i. Some (at gs i).phase) (sym same) ∙ ap (λ (x : Phase). Some x) e in
-    let r : is_under_way (Some (Phase.New args)) ≡ true = sym (ap is_under_way (p ∙ q)) ∙ l in
+    let r : is_live (Some (Phase.New args)) ≡ true = sym (ap is_live (p ∙ q)) ∙ l in
     cc r
 
 pub sends-fine : (f : FaultKind) (k g h : ℕ) (s : State) → (greenlet k s).raw ≡ false → Moves g h s → IsSent g h (sends f k s)
 sends-fine f k g h s r m = by (greenlet k s).phase refl
   where
-    kill : (b : Bool) → is_under_way (phase_of k s.greenlets) ≡ true → IsSent g h (if b then Sending.Sent (add_item (Delivery.Kill k f) s) else Sending.TooMany s)
+    kill : (b : Bool) → is_live (phase_of k s.greenlets) ≡ true → IsSent g h (if b then Sending.Sent (add_item (Delivery.Kill k f) s) else Sending.TooMany s)
     kill true l =
         moves-add (Delivery.Kill k f) g h s (all-of _ s.items (λ i. refl)) l (plain-here s.greenlets k (greenlet k s) (live-found s.greenlets k l) r) refl m
     kill false l = m
@@ -76,7 +76,7 @@ sends-fine f k g h s r m = by (greenlet k s).phase refl
     by (Phase.Done o) e = m
     by (Phase.New args) e =
         moves-ended k (kept (Outcome.Fault f)) g h (say (Line.Throw k f) s) (not-live s.greenlets k g args e m.live) (not-live s.greenlets k h args e m.host.live) (moves-say _ g h s m)
-    by (Phase.Live frame) e = kill (nat_lt (kills_standing s) 1000000) (live-at s.greenlets k (ap (λ (x : Phase). is_under_way (Some x)) e))
+    by (Phase.Live frame) e = kill (nat_lt (kills_standing s) 1000000) (live-at s.greenlets k (ap (λ (x : Phase). is_live (Some x)) e))
 
 -- a kill that is sent makes none raw
 pub sends-raw : (f : FaultKind) (k : ℕ) (s t : State) (ks : List ℕ) → sends f k s ≡ Sending.Sent t → AreNotRaw s.greenlets ks → AreNotRaw t.greenlets ks
@@ -141,7 +141,7 @@ timeout-unclaimed s h = all-imply _ _ s.items (λ i. none i.delivery) (meants s 
     none (Delivery.Start k deadline) m = refl
     none (Delivery.Wake k w) m = refl
     none (Delivery.Late k deadline n) m = refl
-    none (Delivery.Timeout k n deadline) m = next-other n s.timeouts (right (is_under_way (phase_of k s.greenlets)) _ m)
+    none (Delivery.Timeout k n deadline) m = next-other n s.timeouts (right (is_live (phase_of k s.greenlets)) _ m)
     none (Delivery.Kill k kind) m = refl
     none (Delivery.Link n k kind x) m = refl
 
@@ -256,9 +256,9 @@ moves-parent child parent g h s r theirs apart m =
     let fs = slice_set s.greenlets child x in
     record {
       kept = kept-greenlets fs s (λ k p. plain-set s.greenlets child k x refl ∙ p) (all-imply _ _ s.items (λ i. still i.delivery) (meants s m.kept.sound)) m.kept;
-      live = ap is_under_way (phase-kept s.greenlets child g x refl) ∙ m.live;
+      live = ap is_live (phase-kept s.greenlets child g x refl) ∙ m.live;
       same = host-turned s.greenlets child g h x (greenlet child s) (raw-found s.greenlets child r) refl (plain-raw s.greenlets h m.host.plain) m.same theirs apart;
-      host = record { plain = plain-set s.greenlets child h x refl ∙ m.host.plain; live = ap is_under_way (phase-kept s.greenlets child h x refl) ∙ m.host.live; free = m.host.free };
+      host = record { plain = plain-set s.greenlets child h x refl ∙ m.host.plain; live = ap is_live (phase-kept s.greenlets child h x refl) ∙ m.host.live; free = m.host.free };
     }
   where
     phase : (k : ℕ) → phase_of k (slice_set s.greenlets child (record (greenlet child s) { parent = parent })) ≡ phase_of k s.greenlets
@@ -266,10 +266,10 @@ moves-parent child parent g h s r theirs apart m =
 
     still : (d : Delivery) → is_meant s d ≡ true → is_meant (record s { greenlets = slice_set s.greenlets child (record (greenlet child s) { parent = parent }) }) d ≡ true
     still (Delivery.Start k deadline) e = ap is_unstarted (phase k) ∙ e
-    still (Delivery.Wake k w) e = ap is_under_way (phase k) ∙ e
-    still (Delivery.Late k deadline n) e = ap is_under_way (phase k) ∙ e
-    still (Delivery.Timeout k n deadline) e = both _ _ (ap is_under_way (phase k) ∙ left _ (nat_le n s.timeouts) e) (right (is_under_way (phase_of k s.greenlets)) _ e)
-    still (Delivery.Kill k kind) e = ap is_under_way (phase k) ∙ e
+    still (Delivery.Wake k w) e = ap is_live (phase k) ∙ e
+    still (Delivery.Late k deadline n) e = ap is_live (phase k) ∙ e
+    still (Delivery.Timeout k n deadline) e = both _ _ (ap is_live (phase k) ∙ left _ (nat_le n s.timeouts) e) (right (is_live (phase_of k s.greenlets)) _ e)
+    still (Delivery.Kill k kind) e = ap is_live (phase k) ∙ e
     still (Delivery.Link n k kind y) e = e
 
 sets_parent-fine : (child parent g h : ℕ) (s : State) → (greenlet child s).raw ≡ true → Moves g h s → IsFine g h (sets_parent g child parent s)

@@ -19,7 +19,7 @@ use Rattle.machine.specs.Ends.{ended}
 use Rattle.machine.specs.Objects.{without_member}
 use Rattle.machine.specs.Hosts.{host_within, host_of}
 use Rattle.machine.specs.Settle.{settle, settled, number_after}
-use Rattle.machine.specs.Soundness.{Claim, ascend, are_single, claim_of, is_meant, is_sound, is_unclaimed, is_under_way, is_unstarted, same_claim}
+use Rattle.machine.specs.Soundness.{Claim, ascend, are_single, claim_of, is_live, is_meant, is_sound, is_unclaimed, is_unstarted, same_claim}
 use Rattle.machine.specs.Objects.{with_object}
 use Rattle.machine.proofs.Soundness.{sound-settle, sound-drop_items, sound-add_item}
 use Rattle.machine_soundness.specs.Going.{is_plain, is_for_plain, has_plain_members, has_no_wait, IsKept, IsGoing}
@@ -55,7 +55,7 @@ kept-timeout s h =
     }
   where
     more : (d : Delivery) → is_meant s d ≡ true → is_meant (record s { timeouts = s.timeouts + 1 }) d ≡ true
-    more (Delivery.Timeout g n deadline) k = both _ _ (left _ (nat_le n s.timeouts) k) (above n s.timeouts (right (is_under_way (phase_of g s.greenlets)) _ k))
+    more (Delivery.Timeout g n deadline) k = both _ _ (left _ (nat_le n s.timeouts) k) (above n s.timeouts (right (is_live (phase_of g s.greenlets)) _ k))
     more d k = k
 
 pub kept-link : (s : State) → IsKept s → IsKept (record s { links = s.links + 1 })
@@ -134,7 +134,7 @@ kept-made raw parent f args s h = kept-greenlets (add_greenlet raw parent f args
     still (Delivery.Start g deadline) k = unstarted-more s.greenlets _ g k
     still (Delivery.Wake g w) k = live-more s.greenlets _ g k
     still (Delivery.Late g deadline n) k = live-more s.greenlets _ g k
-    still (Delivery.Timeout g n deadline) k = both _ _ (live-more s.greenlets _ g (left _ (nat_le n s.timeouts) k)) (right (is_under_way (phase_of g s.greenlets)) _ k)
+    still (Delivery.Timeout g n deadline) k = both _ _ (live-more s.greenlets _ g (left _ (nat_le n s.timeouts) k)) (right (is_live (phase_of g s.greenlets)) _ k)
     still (Delivery.Kill g kind) k = live-more s.greenlets _ g k
     still (Delivery.Link n g kind x) k = k
 
@@ -142,13 +142,13 @@ kept-made raw parent f args s h = kept-greenlets (add_greenlet raw parent f args
 pub plain-phased : (g : ℕ) (p : Phase) (s : State) (h : ℕ) → is_plain (with_phase g p s).greenlets h ≡ is_plain s.greenlets h
 plain-phased g p s h = plain-set s.greenlets g h (record (greenlet g s) { phase = p }) refl
 
--- one that has no start item comes to be under way
+-- one that has no start item comes to be live
 pub kept-live : (g : ℕ) (frame : Frame) (s : State) → is_unclaimed (Some (Claim.StartOf g)) s.items ≡ true → IsKept s → IsKept (with_phase g (Phase.Live frame) s)
 kept-live g frame s u h =
     kept-greenlets (with_phase g (Phase.Live frame) s).greenlets s (λ k e. plain-phased g (Phase.Live frame) s k ∙ e)
     (all-imply2 _ _ _ s.items (λ i. still i.delivery) (meants s h.sound) u) h
   where
-    lives : (k : ℕ) → is_under_way (phase_of k s.greenlets) ≡ true → is_under_way (phase_of k (with_phase g (Phase.Live frame) s).greenlets) ≡ true
+    lives : (k : ℕ) → is_live (phase_of k s.greenlets) ≡ true → is_live (phase_of k (with_phase g (Phase.Live frame) s).greenlets) ≡ true
     lives k e = live-set s.greenlets g k (record (greenlet g s) { phase = Phase.Live frame }) refl e
 
     still : (d : Delivery) → is_meant s d ≡ true → not (same_claim (Some (Claim.StartOf g)) (claim_of d)) ≡ true → is_meant (with_phase g (Phase.Live frame) s) d ≡ true
@@ -156,7 +156,7 @@ kept-live g frame s u h =
         ap is_unstarted (phase-other s.greenlets g k (record (greenlet g s) { phase = Phase.Live frame }) (unequal g k (not-true (g == k) n))) ∙ e
     still (Delivery.Wake k w) e n = lives k e
     still (Delivery.Late k deadline m) e n = lives k e
-    still (Delivery.Timeout k m deadline) e n = both _ _ (lives k (left _ (nat_le m s.timeouts) e)) (right (is_under_way (phase_of k s.greenlets)) _ e)
+    still (Delivery.Timeout k m deadline) e n = both _ _ (lives k (left _ (nat_le m s.timeouts) e)) (right (is_live (phase_of k s.greenlets)) _ e)
     still (Delivery.Kill k kind) e n = lives k e
     still (Delivery.Link m k kind x) e n = e
 
@@ -178,17 +178,17 @@ kept-ended g o s h =
 
     still : (d : Delivery) → not (goes_at_end g o d) ≡ true → is_meant s d ≡ true → is_meant (with_phase g (Phase.Done o) s) d ≡ true
     still (Delivery.Start k deadline) e m = ap is_unstarted (other k e) ∙ m
-    still (Delivery.Wake k w) e m = ap is_under_way (other k e) ∙ m
-    still (Delivery.Late k deadline n) e m = ap is_under_way (other k e) ∙ m
-    still (Delivery.Timeout k n deadline) e m = both _ _ (ap is_under_way (other k e) ∙ left _ (nat_le n s.timeouts) m) (right (is_under_way (phase_of k s.greenlets)) _ m)
-    still (Delivery.Kill k kind) e m = ap is_under_way (other k e) ∙ m
+    still (Delivery.Wake k w) e m = ap is_live (other k e) ∙ m
+    still (Delivery.Late k deadline n) e m = ap is_live (other k e) ∙ m
+    still (Delivery.Timeout k n deadline) e m = both _ _ (ap is_live (other k e) ∙ left _ (nat_le n s.timeouts) m) (right (is_live (phase_of k s.greenlets)) _ m)
+    still (Delivery.Kill k kind) e m = ap is_live (other k e) ∙ m
     still (Delivery.Link n k kind x) e m = m
 
--- ---- a host that is under way and waits for nothing
+-- ---- a host that is live and waits for nothing
 
 pub record IsHost (h : ℕ) (s : State) : Type 0 where
   pub plain : is_plain s.greenlets h ≡ true
-  pub live : is_under_way (phase_of h s.greenlets) ≡ true
+  pub live : is_live (phase_of h s.greenlets) ≡ true
   pub free : has_no_wait h s.items ≡ true
 
 pub host-say : (line : Line) (h : ℕ) (s : State) → IsHost h s → IsHost h (say line s)
@@ -220,7 +220,7 @@ host-ended g o h s e m =
     let t = record d { greenlets = (with_phase g (Phase.Done o) s).greenlets; objects = map (without_member g) s.objects } in
     host-settle h t (record {
       plain = plain-phased g (Phase.Done o) s h ∙ m.plain;
-      live = ap is_under_way (phase-other s.greenlets g h (record (greenlet g s) { phase = Phase.Done o }) e) ∙ m.live;
+      live = ap is_live (phase-other s.greenlets g h (record (greenlet g s) { phase = Phase.Done o }) e) ∙ m.live;
       free = all-filter _ _ _ s.items (λ i k p. p) m.free;
     })
 
@@ -249,7 +249,7 @@ host_of-made raw parent f args s k h e p =
 
 pub record Moves (g h : ℕ) (s : State) : Type 0 where
   pub kept : IsKept s
-  pub live : is_under_way (phase_of g s.greenlets) ≡ true
+  pub live : is_live (phase_of g s.greenlets) ≡ true
   pub same : host_of s g ≡ h
   pub host : IsHost h s
 
@@ -258,7 +258,7 @@ going g h s m =
     record {
       live = m.live;
       host = subst (λ k. is_plain s.greenlets k ≡ true) (sym m.same) m.host.plain;
-      host_live = subst (λ k. is_under_way (phase_of k s.greenlets) ≡ true) (sym m.same) m.host.live;
+      host_live = subst (λ k. is_live (phase_of k s.greenlets) ≡ true) (sym m.same) m.host.live;
       free = subst (λ k. has_no_wait k s.items ≡ true) (sym m.same) m.host.free;
     }
 
@@ -299,12 +299,12 @@ moves-made raw parent f args g h s m =
       host = host-made raw parent f args h s m.host;
     }
 
--- no start is of one that is under way
-pub live-unclaimed : (g : ℕ) (s : State) → IsKept s → is_under_way (phase_of g s.greenlets) ≡ true → is_unclaimed (Some (Claim.StartOf g)) s.items ≡ true
+-- no start is of one that is live
+pub live-unclaimed : (g : ℕ) (s : State) → IsKept s → is_live (phase_of g s.greenlets) ≡ true → is_unclaimed (Some (Claim.StartOf g)) s.items ≡ true
 live-unclaimed g s h l = all-imply _ _ s.items (λ i. none i.delivery) (meants s h.sound)
   where
     by : (k : ℕ) (b : Bool) → (g == k) ≡ b → is_unstarted (phase_of k s.greenlets) ≡ true → not b ≡ true
-    by k true e m = absurd (unstarted-not-live (phase_of k s.greenlets) m (ap (λ z. is_under_way (phase_of z s.greenlets)) (sym (equal g k e)) ∙ l))
+    by k true e m = absurd (unstarted-not-live (phase_of k s.greenlets) m (ap (λ z. is_live (phase_of z s.greenlets)) (sym (equal g k e)) ∙ l))
     by k false e m = refl
 
     none : (d : Delivery) → is_meant s d ≡ true → not (same_claim (Some (Claim.StartOf g)) (claim_of d)) ≡ true
@@ -331,7 +331,7 @@ moves-ended k o g h s e f m =
     let fs = (with_phase k (Phase.Done o) s).greenlets in
     record {
       kept = kept-ended k o s m.kept;
-      live = ap is_under_way (phase-other s.greenlets k g (record (greenlet k s) { phase = Phase.Done o }) e) ∙ m.live;
+      live = ap is_live (phase-other s.greenlets k g (record (greenlet k s) { phase = Phase.Done o }) e) ∙ m.live;
       same = ap (λ n. host_within n fs g) (length-phased k (Phase.Done o) s) ∙ host_of-phased (length s.greenlets) k (Phase.Done o) s g ∙ m.same;
       host = host-ended k o h s f m.host;
     }

@@ -16,7 +16,7 @@ use Rattle.machine.specs.Items.{is_wait_of}
 use Rattle.machine.specs.Hosts.{host_of}
 use Rattle.machine.specs.Greenlets.{greenlet, frame_of}
 use Rattle.machine.specs.Moves.{look}
-use Rattle.machine.specs.Soundness.{is_sound, is_under_way}
+use Rattle.machine.specs.Soundness.{is_live, is_sound}
 
 -- there is such a greenlet, and it is not raw
 abbrev pub is_plain : List Greenlet → ℕ → Bool
@@ -47,11 +47,11 @@ pub record IsKept (s : State) : Type 0 where
 abbrev pub has_no_wait : ℕ → List Item → Bool
 has_no_wait g items = list_all (λ i. not (is_wait_of g i.delivery)) items
 
--- the greenlet is under way, and so is its host, which waits for nothing
+-- the greenlet is live, and so is its host, which waits for nothing
 pub record IsGoing (g : ℕ) (s : State) : Type 0 where
-  pub live : is_under_way (phase_of g s.greenlets) ≡ true
+  pub live : is_live (phase_of g s.greenlets) ≡ true
   pub host : is_plain s.greenlets (host_of s g) ≡ true
-  pub host_live : is_under_way (phase_of (host_of s g) s.greenlets) ≡ true
+  pub host_live : is_live (phase_of (host_of s g) s.greenlets) ≡ true
   pub free : has_no_wait (host_of s g) s.items ≡ true
 
 -- the hub stands soundly

@@ -5,7 +5,7 @@ use Rattle.machine.specs.State.{State}
 use Rattle.machine.specs.Holds.{is_done, phase_of}
 use Rattle.machine.specs.Landing.{Next, lands}
 use Rattle.machine.specs.Hosts.{host_of}
-use Rattle.machine.specs.Soundness.{is_under_way}
+use Rattle.machine.specs.Soundness.{is_live}
 use Rattle.machine_soundness.specs.Going.{is_plain}
 
 -- a greenlet goes on, or the run is over, or the host has ended
@@ -14,8 +14,8 @@ GoesOnward h (Next.Going g s) = Unit {0}
 GoesOnward h (Next.Resting s) = is_done s h ≡ true
 GoesOnward h (Next.Over cause s) = Unit {0}
 
--- what lands at a greenlet whose host is under way goes onward
+-- what lands at a greenlet whose host is live goes onward
 abbrev pub LandsOnward : Type 0
 LandsOnward =
-    (g h : ℕ) (o : Outcome) (s : State) → host_of s g ≡ h → is_plain s.greenlets h ≡ true → is_under_way (phase_of h s.greenlets) ≡ true →
+    (g h : ℕ) (o : Outcome) (s : State) → host_of s g ≡ h → is_plain s.greenlets h ≡ true → is_live (phase_of h s.greenlets) ≡ true →
     GoesOnward h (lands g o s)

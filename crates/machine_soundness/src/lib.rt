@@ -23,7 +23,7 @@ pub fn waits_are_single()
     ensures under_way { GoesUnparked }
 {}
 
-/// What lands at a greenlet whose host is under way goes on in some greenlet, or the run is over, or the host
+/// What lands at a greenlet whose host is live goes on in some greenlet, or the run is over, or the host
 /// has ended: no landing stops for want of steps.
 pub fn landings_go_onward()
     ensures { LandsOnward }
