@@ -29,7 +29,7 @@ use Rattle.machine_laws.specs.Reached.{state_of}
 use Rattle.hub_requests.specs.Performing.{performed_of}
 use Rattle.hub_requests.specs.declared.performed.Performed.{Performed as Came}
 use Rattle.hub_engine.specs.Ready.{AreDeclared}
-use Rattle.hub_engine.specs.Stands.{goes_to, hopped, lands_at}
+use Rattle.hub_engine.specs.Stands.{goes_to, hopped}
 use Rattle.hub_engine.specs.declared.stand.Hop.{Hop}
 use Rattle.hub_engine.specs.declared.stand.Stand.{Stand}
 use Rattle.hub_engine.proofs.Blind.{phased}
@@ -110,8 +110,8 @@ alike-resumes up keeps g frame o s = alike-goes_on up keeps g (unwind frame.todo
 alike-said : (line : Line) (s t : State) → IsAlike (say line s) t → IsAlike s t
 alike-said line s t m = record { scenario = m.scenario; functions = m.functions }
 
-alike-lands_at : (up : Landing) → Keeps up → (g : ℕ) (input : Outcome) (s : State) → IsAlike s (state_of (lands_at up g input s))
-alike-lands_at up keeps g input s = by (greenlet g s).phase input
+alike-lands_once : (up : Landing) → Keeps up → (g : ℕ) (input : Outcome) (s : State) → IsAlike s (state_of (lands_once up g input s))
+alike-lands_once up keeps g input s = by (greenlet g s).phase input
   where
     by : (p : Phase) (o : Outcome) → IsAlike s (state_of (elim p [
       | Phase.Done k ↦ up (greenlet g s).parent (kept o) s
@@ -128,7 +128,7 @@ alike-lands_at up keeps g input s = by (greenlet g s).phase input
 
 alike-land : (n : ℕ) → Keeps (land n)
 alike-land zero g o s = record { scenario = refl; functions = refl }
-alike-land (suc n) g o s = alike-lands_at (land n) (alike-land n) g o s
+alike-land (suc n) g o s = alike-lands_once (land n) (alike-land n) g o s
 
 alike-lands : Keeps lands
 alike-lands g o s = alike-land (length s.greenlets) g o s
@@ -162,8 +162,8 @@ declared_started g args s t hop h e = hop-declared (starts put_down g args s) ho
 pub declared_resumed : (g : ℕ) (frame : Frame) (o : Outcome) (s t : State) (hop : Hop) → AreDeclared s → ((up : Landing) → resumes up g frame o s ≡ hopped up hop t) → AreDeclared t
 declared_resumed g frame o s t hop h e = hop-declared (resumes put_down g frame o s) hop s t (alike-resumes put_down alike-put_down g frame o s) (e put_down) h
 
-pub declared_landed : (g : ℕ) (o : Outcome) (s t : State) (hop : Hop) → AreDeclared s → ((up : Landing) → lands_at up g o s ≡ hopped up hop t) → AreDeclared t
-declared_landed g o s t hop h e = hop-declared (lands_at put_down g o s) hop s t (alike-lands_at put_down alike-put_down g o s) (e put_down) h
+pub declared_landed : (g : ℕ) (o : Outcome) (s t : State) (hop : Hop) → AreDeclared s → ((up : Landing) → lands_once up g o s ≡ hopped up hop t) → AreDeclared t
+declared_landed g o s t hop h e = hop-declared (lands_once put_down g o s) hop s t (alike-lands_once put_down alike-put_down g o s) (e put_down) h
 
 alike-goes_to : (g : ℕ) (place : Place) (s : State) → IsAlike s (state_of (goes_to put_down g place s))
 alike-goes_to g (Place.AtMove left body) s = record { scenario = refl; functions = phase-functions s.greenlets g (Phase.Live body) }

@@ -7,12 +7,12 @@ use Rattle.trace_text.specs.declared.line.Line.{Line}
 use Rattle.machine.specs.declared.state.Greenlet.{Greenlet}
 use Rattle.machine.specs.declared.state.Phase.{Phase}
 use Rattle.machine.specs.Holds.{phase_of}
-use Rattle.machine.specs.Landing.{Landing, after_end, land, resumes, starts}
+use Rattle.machine.specs.Landing.{Landing, after_end, land, lands_once, resumes, starts}
 use Rattle.machine.specs.Greenlets.{frame_of, greenlet, nobody}
 use Rattle.gv_values.specs.Ends.{kept}
 use Rattle.machine.specs.State.{State, say}
 use Rattle.hub_requests.specs.Far.{far_of}
-use Rattle.hub_engine.specs.Stands.{hopped, lands_at}
+use Rattle.hub_engine.specs.Stands.{hopped}
 use Rattle.hub_requests.specs.declared.far.Far.{Far}
 use Rattle.hub_engine.specs.declared.stand.Hop.{Hop}
 
@@ -44,32 +44,32 @@ by-option : (x : Option Greenlet) (up : Landing) (g : ℕ) (input : Outcome) (s 
 by-option None up g input s = refl
 by-option (Some x) up g input s = by-phase x x.phase up g input s refl
 
-lands-far : (far : Far) (up : Landing) (g : ℕ) (input : Outcome) (s : State) → far ≡ far_of (phase_of g s.greenlets) → lands_at up g input s ≡ by_far far (greenlet g s) up g input s
+lands-far : (far : Far) (up : Landing) (g : ℕ) (input : Outcome) (s : State) → far ≡ far_of (phase_of g s.greenlets) → lands_once up g input s ≡ by_far far (greenlet g s) up g input s
 lands-far far up g input s e =
     by-option (slice_get s.greenlets g) up g input s ∙ ap (λ (f : Far). by_far f (greenlet g s) up g input s) (sym e)
 
 pub lands_done : (far : Far) (up : Landing) (g parent : ℕ) (input o : Outcome) (s : State) → far ≡ far_of (phase_of g s.greenlets) → far ≡ Far.Done → parent ≡ (greenlet g s).parent →
-    o ≡ kept input → lands_at up g input s ≡ hopped up (Hop.Up parent o) s
+    o ≡ kept input → lands_once up g input s ≡ hopped up (Hop.Up parent o) s
 lands_done far up g parent input o s e f p k =
     lands-far far up g input s e ∙ ap (λ (x : Far). by_far x (greenlet g s) up g input s) f ∙ ap (λ (n : ℕ). up n (kept input) s) (sym p) ∙ ap (λ (x : Outcome). up parent x s) (sym k)
 
 pub lands_live : (far : Far) (up : Landing) (g : ℕ) (input : Outcome) (s t u : State) (hop : Hop) → far ≡ far_of (phase_of g s.greenlets) → far ≡ Far.Live → t ≡ say (Line.Into g input) s →
-    resumes up g (frame_of (greenlet g t).phase) input t ≡ hopped up hop u → lands_at up g input s ≡ hopped up hop u
+    resumes up g (frame_of (greenlet g t).phase) input t ≡ hopped up hop u → lands_once up g input s ≡ hopped up hop u
 lands_live far up g input s t u hop e f k r =
     lands-far far up g input s e ∙ ap (λ (x : Far). by_far x (greenlet g s) up g input s) f
     ∙ subst (λ (x : State). resumes up g (frame_of (greenlet g x).phase) input x ≡ hopped up hop u) k r
 
 pub lands_value : (far : Far) (up : Landing) (g : ℕ) (input : Outcome) (v : Value) (s u : State) (hop : Hop) → far ≡ far_of (phase_of g s.greenlets) → far ≡ Far.New → input ≡ Outcome.Value v →
-    starts up g (v ∷ []) s ≡ hopped up hop u → lands_at up g input s ≡ hopped up hop u
+    starts up g (v ∷ []) s ≡ hopped up hop u → lands_once up g input s ≡ hopped up hop u
 lands_value far up g input v s u hop e f i r =
     lands-far far up g input s e ∙ ap (λ (x : Far). by_far x (greenlet g s) up g input s) f ∙ ap (λ (o : Outcome). by_far Far.New (greenlet g s) up g o s) i ∙ r
 
 pub lands_fault : (far : Far) (up : Landing) (g : ℕ) (input : Outcome) (k : FaultKind) (s u : State) (hop : Hop) → far ≡ far_of (phase_of g s.greenlets) → far ≡ Far.New → input ≡ Outcome.Fault k →
-    after_end up g (Outcome.Fault k) s ≡ hopped up hop u → lands_at up g input s ≡ hopped up hop u
+    after_end up g (Outcome.Fault k) s ≡ hopped up hop u → lands_once up g input s ≡ hopped up hop u
 lands_fault far up g input k s u hop e f i r =
     lands-far far up g input s e ∙ ap (λ (x : Far). by_far x (greenlet g s) up g input s) f ∙ ap (λ (o : Outcome). by_far Far.New (greenlet g s) up g o s) i ∙ r
 
 -- one landing of several
-pub land_step : (n g : ℕ) (input : Outcome) (s : State) → 0 < n → land n g input s ≡ lands_at (land (n - 1)) g input s
+pub land_step : (n g : ℕ) (input : Outcome) (s : State) → 0 < n → land n g input s ≡ lands_once (land (n - 1)) g input s
 land_step zero g input s h = absurd (omega (arith, h))
-land_step (suc n) g input s h = let one : suc n - 1 ≡ n = omega arith in ap (λ (m : ℕ). lands_at (land m) g input s) (sym one)
+land_step (suc n) g input s h = let one : suc n - 1 ≡ n = omega arith in ap (λ (m : ℕ). lands_once (land m) g input s) (sym one)

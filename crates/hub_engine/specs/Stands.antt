@@ -1,11 +1,8 @@
 -- Where the hub stands between two steps, and what the code's steps come to.
-use Rattle.std.specs.Prelude.{ℕ, [], ◌∷◌}
-use Rattle.gv_values.specs.Ends.{kept}
-use Rattle.gv_values.specs.declared.value.Outcome.{Outcome}
-use Rattle.trace_text.specs.declared.line.Line.{Line}
+use Rattle.std.specs.Prelude.{ℕ}
 use Rattle.machine.specs.declared.state.Phase.{Phase}
-use Rattle.machine.specs.State.{State, say}
-use Rattle.machine.specs.Landing.{Next, Landing, after_end, resumes, starts}
+use Rattle.machine.specs.State.{State}
+use Rattle.machine.specs.Landing.{Next, Landing, after_end}
 use Rattle.machine.specs.Items.{drop_items, is_timeout_of}
 use Rattle.machine.specs.Greenlets.{greenlet, with_phase}
 use Rattle.body_frames.specs.Places.{Place}
@@ -27,15 +24,3 @@ hopped up (Hop.Up g o) s = up g o s
 abbrev pub goes_to : Landing → ℕ → Place → State → Next
 goes_to up g (Place.AtMove left body) s = Next.Going g (with_phase g (Phase.Live body) (drop_items (is_timeout_of g left) s))
 goes_to up g (Place.AtEnd left o) s = after_end up g o (drop_items (is_timeout_of g left) s)
-
--- one landing, after which what goes up is taken up
-abbrev pub lands_at : Landing → Landing
-lands_at up g input s =
-    elim (greenlet g s).phase [
-      | Phase.Done o ↦ up (greenlet g s).parent (kept input) s
-      | Phase.Live frame ↦ resumes up g frame input (say (Line.Into g input) s)
-      | Phase.New args ↦ elim input [
-        | Outcome.Value v ↦ starts up g (v ∷ []) s
-        | Outcome.Fault f ↦ after_end up g (Outcome.Fault f) s
-      ]
-    ]

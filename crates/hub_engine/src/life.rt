@@ -2,11 +2,11 @@
 ghost use Rattle.std.specs.Prelude.{◌≡◌, IfOk};
 ghost use Rattle.body_values.specs.Functions.{IsFunction};
 ghost use Rattle.body_frames.specs.Standings.{reached_of};
-ghost use Rattle.machine.specs.Landing.{Landing, after_end, starts, resumes, answered, lands};
+ghost use Rattle.machine.specs.Landing.{Landing, after_end, starts, resumes, answered, lands, lands_once};
 ghost use Rattle.machine.specs.Ends.{outcome_of_leaving, leaving_of, stop_of};
 ghost use Rattle.machine.specs.Greenlets.{frame_of, greenlet};
 ghost use Rattle.hub_engine.specs.Ready.{AreDeclared};
-ghost use Rattle.hub_engine.specs.Stands.{goes_to, hopped, lands_at, next_at};
+ghost use Rattle.hub_engine.specs.Stands.{goes_to, hopped, next_at};
 
 use crate::stand::{Hop, Stand};
 use body_frames::{Reached, answer_body, begin_body};
@@ -122,7 +122,7 @@ fn resume_greenlet(alloc: Global, hub: &mut Hub, g: u32, answer: Outcome) -> Res
 #[tactic(auto, using(crate::proofs::Landing::lands_done, crate::proofs::Landing::lands_live, crate::proofs::Landing::lands_value, crate::proofs::Landing::lands_fault))]
 fn land_once(alloc: Global, hub: &mut Hub, g: u32, input: Outcome) -> Result<Hop, AllocError>
     requires declared { IsFunction hub.old.scenario (greenlet g hub.old).function }
-    ensures { IfOk result (λ hop. (up : Landing) → lands_at up g input hub.old ≡ hopped up hop hub.new) }
+    ensures { IfOk result (λ hop. (up : Landing) → lands_once up g input hub.old ≡ hopped up hop hub.new) }
 {
     match how_far(hub, g) {
         Far::Done => Ok(Hop::Up(hub.parent_of(g), kept_outcome(input))),

@@ -58,18 +58,22 @@ resumes up g frame o s = goes_on up g (unwind frame.todo [] (leaving_of o) (give
 
 -- ---- landing
 
+-- the input lands at the greenlet, once; what goes up is handed to `up`
+abbrev pub lands_once : Landing → Landing
+lands_once up g input s =
+    elim (greenlet g s).phase [
+      | Phase.Done o ↦ up (greenlet g s).parent (kept input) s
+      | Phase.Live frame ↦ resumes up g frame input (say (Line.Into g input) s)
+      | Phase.New args ↦ elim input [
+        | Outcome.Value v ↦ starts up g (v ∷ []) s
+        | Outcome.Fault f ↦ after_end up g (Outcome.Fault f) s
+      ]
+    ]
+
 -- An input lands at a greenlet, and goes on to parents, at most n of them.
 abbrev pub land : ℕ → Landing
 land zero g input s = Next.Resting s
-land (suc n) g input s =
-    elim (greenlet g s).phase [
-      | Phase.Done o ↦ land n (greenlet g s).parent (kept input) s
-      | Phase.Live frame ↦ resumes (land n) g frame input (say (Line.Into g input) s)
-      | Phase.New args ↦ elim input [
-        | Outcome.Value v ↦ starts (land n) g (v ∷ []) s
-        | Outcome.Fault f ↦ after_end (land n) g (Outcome.Fault f) s
-      ]
-    ]
+land (suc n) g input s = lands_once (land n) g input s
 
 -- no chain of parents is longer than the number of greenlets
 abbrev pub lands : Landing
