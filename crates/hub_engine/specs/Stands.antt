@@ -4,7 +4,7 @@ use Rattle.machine.specs.declared.state.Phase.{Phase}
 use Rattle.machine.specs.State.{State}
 use Rattle.machine.specs.Landing.{Next, Landing, after_end}
 use Rattle.machine.specs.Items.{drop_items, is_timeout_of}
-use Rattle.machine.specs.Greenlets.{greenlet, with_phase}
+use Rattle.machine.specs.Greenlets.{with_phase}
 use Rattle.body_frames.specs.Places.{Place}
 use Rattle.hub_engine.specs.declared.stand.Hop.{Hop}
 use Rattle.hub_engine.specs.declared.stand.Stand.{Stand}

@@ -1,13 +1,7 @@
 -- What is read of an object by its number, also where none is declared.
-use Rattle.std.specs.Prelude.{ℕ, Bool, List, [], Option, Some, None, slice_get, unwrap_or}
-use Rattle.scenario_tree.specs.declared.tree.Declaration.{Declaration}
+use Rattle.std.specs.Prelude.{ℕ, Bool, Option, unwrap_or}
 use Rattle.machine.specs.declared.state.Object.{Object}
 use Rattle.machine.specs.Objects.{no_object, is_shut, is_left}
-use Rattle.machine.specs.State.{Name}
-
--- the name of the object of this number
-abbrev pub name_at : ℕ → List Declaration → Name
-name_at o ds = elim (slice_get ds o) [ None ↦ [] | Some d ↦ d.name ]
 
 -- the queue is shut
 abbrev pub is_shut_at : Option Object → Bool

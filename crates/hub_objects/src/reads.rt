@@ -2,7 +2,7 @@
 ghost use Rattle.std.specs.Prelude.{◌≡◌, ◌<◌, length};
 ghost use Rattle.std.specs.Option.{option_copied};
 ghost use Rattle.machine.specs.Moves.{is_set_object, size_of_object, unfinished_of_object};
-ghost use Rattle.hub_objects.specs.Reads.{name_at};
+ghost use Rattle.machine.specs.Objects.{name_at};
 
 use gv_values::Name;
 use machine::state::Object;

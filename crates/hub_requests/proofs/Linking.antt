@@ -1,5 +1,5 @@
 -- A link that stands, or is dropped.
-use Rattle.std.proofs.Common.{◌≡◌, refl, ap, sym, ◌∙◌, ℕ, ◌+◌, ◌<◌, ◌≤◌, Bool, true, false, Option, Some, None, arith}
+use Rattle.std.proofs.Common.{◌≡◌, ap, sym, ◌∙◌, ℕ, ◌+◌, ◌<◌, ◌≤◌, Bool, true, false, Option, Some, None, arith}
 use Rattle.std.specs.Prelude.{if◌then◌else◌, nat_lt, pos, ℤ}
 use Rattle.std.proofs.lemmas.Bool.Decides.{nat_tests}
 use Rattle.gv_values.specs.declared.value.Outcome.{Outcome}
@@ -8,23 +8,13 @@ use Rattle.gv_values.specs.declared.value.Whom.{Whom}
 use Rattle.trace_text.specs.declared.line.StopCause.{StopCause}
 use Rattle.machine.specs.declared.items.Delivery.{Delivery}
 use Rattle.gv_values.specs.declared.link.LinkKind.{LinkKind}
-use Rattle.gv_values.specs.Ends.{link_fits}
 use Rattle.machine.specs.Holds.{outcome_of}
 use Rattle.gv_values.specs.declared.fault.FaultKind.{FaultKind}
 use Rattle.machine.specs.declared.request.Request.{Request}
 use Rattle.machine.specs.Items.{add_item, drop_items}
-use Rattle.machine.specs.Requests.{done, int_operand, is_link, links, performs, typed}
+use Rattle.machine.specs.Requests.{done, int_operand, is_link, link_stands, links, performs, typed}
 use Rattle.machine.specs.State.{State}
 use Rattle.machine.specs.Waits.{Performed, raises}
-use Rattle.hub_requests.specs.Sendings.{link_stands}
-
-by-stands : (k : ℕ) (kind : LinkKind) (f : ℕ) (o : Option Outcome) (t : State) →
-    elim o [
-      | None ↦ Performed.Answers (Outcome.Value (Value.Int (pos t.links))) (add_item (Delivery.Link t.links k kind f) t)
-      | Some x ↦ Performed.Answers (Outcome.Value (Value.Int (pos t.links))) (if link_fits kind x then add_item (Delivery.Link t.links k kind f) t else t)
-    ] ≡ Performed.Answers (Outcome.Value (Value.Int (pos t.links))) (if link_stands kind o then add_item (Delivery.Link t.links k kind f) t else t)
-by-stands k kind f None t = refl
-by-stands k kind f (Some x) t = refl
 
 -- one more may be made, and this is whether it stands
 pub linked : (k : ℕ) (kind : LinkKind) (f n : ℕ) (b : Bool) (s t u : State) → s.links < 100000 → n ≡ s.links + 1 → t ≡ record s { links = s.links + 1 } →
@@ -33,8 +23,7 @@ pub linked : (k : ℕ) (kind : LinkKind) (f n : ℕ) (b : Bool) (s t u : State) 
 linked k kind f n b s t u h e z r v =
     let few : nat_lt s.links 100000 ≡ true = grind (arith, nat_tests) in
     let x = record s { links = s.links + 1 } in
-    rw few (by-stands k kind f (outcome_of x (Whom.Greenlet k)) x
-    ∙ ap (λ (m : ℕ). Performed.Answers (Outcome.Value (Value.Int (pos m))) (if link_stands kind (outcome_of x (Whom.Greenlet k)) then add_item (Delivery.Link m k kind f) x else x)) (sym e)
+    rw few (ap (λ (m : ℕ). Performed.Answers (Outcome.Value (Value.Int (pos m))) (if link_stands kind (outcome_of x (Whom.Greenlet k)) then add_item (Delivery.Link m k kind f) x else x)) (sym e)
     ∙ ap (λ (y : State). Performed.Answers (Outcome.Value (Value.Int (pos n))) (if link_stands kind (outcome_of y (Whom.Greenlet k)) then add_item (Delivery.Link n k kind f) y else y)) (sym z)
     ∙ ap (λ (c : Bool). Performed.Answers (Outcome.Value (Value.Int (pos n))) (if c then add_item (Delivery.Link n k kind f) t else t)) (sym r)
     ∙ ap (λ (y : State). Performed.Answers (Outcome.Value (Value.Int (pos n))) y) (sym v))

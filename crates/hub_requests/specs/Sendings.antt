@@ -1,10 +1,7 @@
 -- What the sending of kills comes to.
-use Rattle.std.specs.Prelude.{◌≡◌, ℕ, Bool, true, false, not, List, Option, Some, None, slice_get, unwrap_or}
+use Rattle.std.specs.Prelude.{◌≡◌, ℕ, Bool, true, false, not, List, slice_get, unwrap_or}
 use Rattle.std.specs.List.{list_all}
-use Rattle.gv_values.specs.declared.value.Outcome.{Outcome}
-use Rattle.gv_values.specs.declared.link.LinkKind.{LinkKind}
 use Rattle.machine.specs.declared.state.Greenlet.{Greenlet}
-use Rattle.gv_values.specs.Ends.{link_fits}
 use Rattle.machine.specs.Requests.{Sending}
 use Rattle.machine.specs.State.{State}
 use Rattle.machine.specs.Greenlets.{nobody}
@@ -17,8 +14,3 @@ sent false s = Sending.TooMany s
 -- none of these greenlets is raw
 abbrev pub AreNotRaw : List Greenlet → List ℕ → Type 0
 AreNotRaw gs ks = list_all (λ k. not (unwrap_or (slice_get gs k) nobody).raw) ks ≡ true
-
--- a link of this kind stands where its greenlet has not ended, or so
-abbrev pub link_stands : LinkKind → Option Outcome → Bool
-link_stands kind None = true
-link_stands kind (Some o) = link_fits kind o

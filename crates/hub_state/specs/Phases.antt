@@ -1,5 +1,5 @@
 -- How far a greenlet has come.
-use Rattle.std.specs.Prelude.{ℕ, Bool, List, Option, Some, None, slice_get}
+use Rattle.std.specs.Prelude.{ℕ, Bool}
 use Rattle.machine.specs.declared.state.Greenlet.{Greenlet as Shown}
 use Rattle.machine.specs.declared.state.Phase.{Phase}
 use Rattle.machine.specs.Greenlets.{no_frame}
@@ -15,6 +15,3 @@ phase_of (Stage.Done o) = Phase.Done o
 -- a greenlet by its parts
 abbrev pub shown : Bool → ℕ → ℕ → Phase → Shown
 shown raw parent function phase = record { raw = raw; parent = parent; function = function; phase = phase }
-
-abbrev pub phase_at : ℕ → List Shown → Option Phase
-phase_at g greenlets = elim (slice_get greenlets g) [ None ↦ None | Some x ↦ Some x.phase ]

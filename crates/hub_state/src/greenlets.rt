@@ -2,9 +2,9 @@
 ghost use Rattle.std.specs.Prelude.{◌≡◌, ◌<◌, ◌≤◌, [], ◌∷◌, ◌++◌, false, length, slice_get, slice_set, unwrap_or, option_map, nat_lt, OnOk, IfOk};
 ghost use Rattle.std.specs.Option.{option_copied};
 ghost use Rattle.machine.specs.declared.state.Phase.{Phase};
-ghost use Rattle.machine.specs.Holds.{outcome_of_phase};
+ghost use Rattle.machine.specs.Holds.{outcome_of_phase, phase_of as phase_of_greenlet};
 ghost use Rattle.machine.specs.Greenlets.{nobody};
-ghost use Rattle.hub_state.specs.Phases.{phase_of, phase_at, shown};
+ghost use Rattle.hub_state.specs.Phases.{phase_of, shown};
 
 use body_frames::Parked;
 use gv_values::{Outcome, Value};
@@ -191,7 +191,7 @@ impl Greenlets {
     /// Gives the greenlet this stage, and answers the one that it had.
     pub(crate) fn swap(&mut self, g: u32, stage: Stage) -> Option<Stage>
         ensures set { self.new ≡ slice_set self.old g (record (unwrap_or (slice_get self.old g) nobody) { phase = phase_of stage }) }
-        ensures was { option_map phase_of result ≡ phase_at g self.old }
+        ensures was { option_map phase_of result ≡ phase_of_greenlet g self.old }
     {
         swap_stage(&mut self.all, g, stage)
     }
@@ -213,7 +213,7 @@ fn set_parent_at(greenlets: &mut [Greenlet], g: u32, parent: u32)
 #[tactic(auto, using(crate::proofs::PhaseSets::phase_set, crate::proofs::PhaseSets::phase_was, crate::proofs::PhaseSets::phase_none, crate::proofs::PhaseSets::phase_out))]
 fn swap_stage(greenlets: &mut [Greenlet], g: u32, stage: Stage) -> Option<Stage>
     ensures set { greenlets.new ≡ slice_set greenlets.old g (record (unwrap_or (slice_get greenlets.old g) nobody) { phase = phase_of stage }) }
-    ensures was { option_map phase_of result ≡ phase_at g greenlets.old }
+    ensures was { option_map phase_of result ≡ phase_of_greenlet g greenlets.old }
 {
     if g as usize >= greenlets.len() {
         return None;

@@ -81,7 +81,7 @@ abbrev pub on_ints : (ℤ → ℤ → Outcome) → Value → Value → Outcome
 on_ints f (Value.Int a) (Value.Int b) = f a b
 on_ints f _ _ = type_error
 
--- a truth value as the outcome of an expression
+-- a truth value as an outcome
 abbrev pub truth : Bool → Outcome
 truth b = Outcome.Value (Value.Bool b)
 

@@ -4,6 +4,7 @@ use Rattle.std.specs.Prelude.{ℕ, zero, suc, ◌+◌, ◌-◌, ◌==◌, Bool, 
 use Rattle.scenario_tree.specs.declared.tree.QueueKind.{QueueKind}
 use Rattle.gv_values.specs.declared.value.Value.{Value}
 use Rattle.machine.specs.declared.state.Object.{Object}
+use Rattle.scenario_tree.specs.declared.tree.Declaration.{Declaration}
 use Rattle.machine.specs.State.{State, Name}
 use Rattle.machine.specs.Holds.{is_offer_of}
 
@@ -66,9 +67,13 @@ no_object = Object.Event false 0
 abbrev pub object_at : ℕ → State → Object
 object_at o s = unwrap_or (slice_get s.objects o) no_object
 
+-- the name at this place of the declarations, which is empty where none is
+abbrev pub name_at : ℕ → List Declaration → Name
+name_at o ds = elim (slice_get ds o) [ None ↦ [] | Some d ↦ d.name ]
+
 -- the name of the object of this number
 abbrev pub name_of_object : ℕ → State → Name
-name_of_object o s = elim (slice_get s.scenario.objects o) [ None ↦ [] | Some d ↦ d.name ]
+name_of_object o s = name_at o s.scenario.objects
 
 -- the place of the least integer
 abbrev pub least_from : ℕ → ℕ → ℤ → List Value → ℕ

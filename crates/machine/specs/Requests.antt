@@ -132,16 +132,18 @@ kills g word f gs how s = elim (sends_all f gs s) [
 
 -- ---- links
 
+-- a link of this kind stands at a greenlet that is not Done, or is Done so
+abbrev pub link_stands : LinkKind → Option Outcome → Bool
+link_stands kind None = true
+link_stands kind (Some o) = link_fits kind o
+
 -- the link of the next number stands, or is dropped where its greenlet is Done otherwise
 abbrev pub links : ℕ → LinkKind → ℕ → State → Performed
 links g kind f s =
     if nat_lt s.links 100000 then
     (let t = record s { links = s.links + 1 } in
-    let k = Outcome.Value (Value.Int (pos t.links)) in
-    elim (outcome_of s (Whom.Greenlet g)) [
-      | None ↦ Performed.Answers k (add_item (Delivery.Link t.links g kind f) t)
-      | Some o ↦ Performed.Answers k (if link_fits kind o then add_item (Delivery.Link t.links g kind f) t else t)
-    ])
+    Performed.Answers (Outcome.Value (Value.Int (pos t.links)))
+    (if link_stands kind (outcome_of s (Whom.Greenlet g)) then add_item (Delivery.Link t.links g kind f) t else t))
     else Performed.Stops StopCause.NoLinks s
 
 -- it is the link of this number

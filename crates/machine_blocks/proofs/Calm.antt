@@ -39,14 +39,13 @@ use Rattle.machine.specs.Deliveries.{arguments, called, calls, deliver, delivers
 use Rattle.machine.specs.BodyMoves.{Did, body_move}
 use Rattle.machine.specs.declared.request.Request.{Request}
 use Rattle.machine.specs.Holds.{earlier, is_take, job_at, newcomer_completes, outcome_of}
-use Rattle.gv_values.specs.Ends.{link_fits}
 use Rattle.machine.specs.Landing.{Landing, Next, after_end, answered, given, goes_on, land, lands, resumes, starts}
 use Rattle.machine.specs.Greenlets.{add_greenlet, frame_of, function_of, greenlet, has_greenlet_left, named, with_phase}
 use Rattle.machine.specs.Items.{add_item, drop_items, is_timeout_of}
 use Rattle.machine.specs.Ends.{ended, leaving_of, outcome_of_leaving, stop_of}
 use Rattle.machine.specs.Hosts.{host_of, is_above}
 use Rattle.gv_values.specs.Ends.{kept}
-use Rattle.machine.specs.Requests.{Sending, acquires, any_greenlet, done, fault_operand, finishes, follows, has_start, int_operand, is_link, is_new, kills, kills_standing, links, list_operand, makes, on_host, performs, plain_greenlet, plain_greenlet_list, put_result, raw_greenlet, releases, sends, sends_all, sets_parent, start_of, starts_at, typed, whom_operand}
+use Rattle.machine.specs.Requests.{Sending, acquires, any_greenlet, done, fault_operand, finishes, follows, has_start, int_operand, is_link, is_new, kills, kills_standing, link_stands, links, list_operand, makes, on_host, performs, plain_greenlet, plain_greenlet_list, put_result, raw_greenlet, releases, sends, sends_all, sets_parent, start_of, starts_at, typed, whom_operand}
 use Rattle.gv_values.specs.JobParts.{job_of}
 use Rattle.machine.specs.Objects.{after_release, at_bound, members_of, sets_of, takes_value}
 use Rattle.machine.specs.Moves.{does, look, move, timeout_item}
@@ -269,27 +268,14 @@ kills-calm ls g word f ks how s h = by (sends_all f ks s) (sends_all-calm ls f k
     by (Sending.Sent t) c = comes-calm ls g word (Waiting.Kill ks) how t c
 
 links-calm : (ls : List Line) (k : ℕ) (kind : LinkKind) (f : ℕ) (s : State) → IsCalm ls s → CalmPerformed ls (links k kind f s)
-links-calm ls k kind f s h = by (nat_lt s.links 100000)
+links-calm ls k kind f s h = by (nat_lt s.links 100000) (link_stands kind (outcome_of s (Whom.Greenlet k)))
   where
-    fits : (c : Bool) → IsCalm ls (if c then add_item (Delivery.Link (s.links + 1) k kind f) (record s { links = s.links + 1 }) else record s { links = s.links + 1 })
-    fits true = h
-    fits false = h
-
-    of : (x : Option Outcome) → CalmPerformed ls (elim x [
-      | None ↦ Performed.Answers (Outcome.Value (Value.Int (pos (s.links + 1)))) (add_item (Delivery.Link (s.links + 1) k kind f) (record s { links = s.links + 1 }))
-      | Some o ↦ Performed.Answers (Outcome.Value (Value.Int (pos (s.links + 1)))) (if link_fits kind o then add_item (Delivery.Link (s.links + 1) k kind f) (record s { links = s.links + 1 }) else record s { links = s.links + 1 })
-    ])
-    of None = h
-    of (Some o) = fits (link_fits kind o)
-
-    by : (c : Bool) → CalmPerformed ls (if c then
-        elim (outcome_of (record s { links = s.links + 1 }) (Whom.Greenlet k)) [
-          | None ↦ Performed.Answers (Outcome.Value (Value.Int (pos (s.links + 1)))) (add_item (Delivery.Link (s.links + 1) k kind f) (record s { links = s.links + 1 }))
-          | Some o ↦ Performed.Answers (Outcome.Value (Value.Int (pos (s.links + 1)))) (if link_fits kind o then add_item (Delivery.Link (s.links + 1) k kind f) (record s { links = s.links + 1 }) else record s { links = s.links + 1 })
-        ]
+    by : (b c : Bool) → CalmPerformed ls (if b then
+        Performed.Answers (Outcome.Value (Value.Int (pos (s.links + 1)))) (if c then add_item (Delivery.Link (s.links + 1) k kind f) (record s { links = s.links + 1 }) else record s { links = s.links + 1 })
         else Performed.Stops StopCause.NoLinks s)
-    by true = of (outcome_of (record s { links = s.links + 1 }) (Whom.Greenlet k))
-    by false = h
+    by true true = h
+    by true false = h
+    by false c = h
 
 start_of-calm : (ls : List Line) (k : ℕ) (s : State) → IsCalm ls s → IsCalm ls (start_of k s)
 start_of-calm ls k s h = by (is_new (greenlet k s).phase && not (has_start k s))

@@ -28,7 +28,6 @@ use Rattle.machine.specs.declared.state.Phase.{Phase}
 use Rattle.machine.specs.declared.state.Todo.{Todo}
 use Rattle.machine.specs.State.{State, say}
 use Rattle.machine.specs.Holds.{phase_of, outcome_of}
-use Rattle.gv_values.specs.Ends.{link_fits}
 use Rattle.machine.specs.BodyMoves.{Did}
 use Rattle.machine.specs.declared.request.Request.{Request}
 use Rattle.machine.specs.TraceLaws.{is_link_line, is_of, is_park}
@@ -39,7 +38,7 @@ use Rattle.machine.specs.Greenlets.{add_greenlet, has_greenlet_left, greenlet, w
 use Rattle.machine.specs.Ends.{ended}
 use Rattle.machine.specs.Hosts.{host_of, is_above}
 use Rattle.gv_values.specs.Ends.{kept}
-use Rattle.machine.specs.Requests.{Sending, performs, follows, sends, sends_all, kills, kills_standing, links, makes, starts_at, start_of, is_new, has_start, releases, finishes, acquires, fault_operand, plain_greenlet, plain_greenlet_list, list_operand, int_operand, any_greenlet, whom_operand, is_link, is_kill, put_result, done, typed, on_host, raw_greenlet, sets_parent}
+use Rattle.machine.specs.Requests.{Sending, performs, follows, sends, sends_all, kills, kills_standing, link_stands, links, makes, starts_at, start_of, is_new, has_start, releases, finishes, acquires, fault_operand, plain_greenlet, plain_greenlet_list, list_operand, int_operand, any_greenlet, whom_operand, is_link, is_kill, put_result, done, typed, on_host, raw_greenlet, sets_parent}
 use Rattle.gv_values.specs.JobParts.{job_of}
 use Rattle.machine.specs.Moves.{does, move, enters, timeout_item, look}
 use Rattle.machine.specs.Objects.{at_bound, after_release, takes_value, members_of, sets_of, with_flag, with_shut}
@@ -233,27 +232,14 @@ goes-linked b k kind f g h s z m =
     other j e = turned (s.links + 1) j (next-other j s.links (left (nat_le j s.links) _ (m.ties.links j e)))
 
 links-at : (b : History) (k : ℕ) (kind : LinkKind) (f g h : ℕ) (s : State) → (HasMain s.scenario → fits_link s.scenario kind f ≡ true) → Goes b g h s → IsFineAt b g h (links k kind f s)
-links-at b k kind f g h s z m = by (nat_lt s.links 100000)
+links-at b k kind f g h s z m = by (nat_lt s.links 100000) (link_stands kind (outcome_of s (Whom.Greenlet k)))
   where
-    fits : (c : Bool) → Goes b g h (if c then add_item (Delivery.Link (s.links + 1) k kind f) (record s { links = s.links + 1 }) else record s { links = s.links + 1 })
-    fits true = goes-linked b k kind f g h s z m
-    fits false = goes-link b g h s m
-
-    of : (x : Option Outcome) → IsFineAt b g h (elim x [
-      | None ↦ Performed.Answers (Outcome.Value (Value.Int (pos (s.links + 1)))) (add_item (Delivery.Link (s.links + 1) k kind f) (record s { links = s.links + 1 }))
-      | Some o ↦ Performed.Answers (Outcome.Value (Value.Int (pos (s.links + 1)))) (if link_fits kind o then add_item (Delivery.Link (s.links + 1) k kind f) (record s { links = s.links + 1 }) else record s { links = s.links + 1 })
-    ])
-    of None = goes-linked b k kind f g h s z m
-    of (Some o) = fits (link_fits kind o)
-
-    by : (c : Bool) → IsFineAt b g h (if c then
-        elim (outcome_of (record s { links = s.links + 1 }) (Whom.Greenlet k)) [
-          | None ↦ Performed.Answers (Outcome.Value (Value.Int (pos (s.links + 1)))) (add_item (Delivery.Link (s.links + 1) k kind f) (record s { links = s.links + 1 }))
-          | Some o ↦ Performed.Answers (Outcome.Value (Value.Int (pos (s.links + 1)))) (if link_fits kind o then add_item (Delivery.Link (s.links + 1) k kind f) (record s { links = s.links + 1 }) else record s { links = s.links + 1 })
-        ]
+    by : (d c : Bool) → IsFineAt b g h (if d then
+        Performed.Answers (Outcome.Value (Value.Int (pos (s.links + 1)))) (if c then add_item (Delivery.Link (s.links + 1) k kind f) (record s { links = s.links + 1 }) else record s { links = s.links + 1 })
         else Performed.Stops StopCause.NoLinks s)
-    by true = of (outcome_of (record s { links = s.links + 1 }) (Whom.Greenlet k))
-    by false = goes-ends b g h s m
+    by true true = goes-linked b k kind f g h s z m
+    by true false = goes-link b g h s m
+    by false c = goes-ends b g h s m
 
 no-link-wake : (n : ℤ) (k : ℕ) (d : Delivery) → is_wake_of k d ≡ true → not (is_link n d) ≡ true
 no-link-wake (pos n) k (Delivery.Wake j w) e = refl

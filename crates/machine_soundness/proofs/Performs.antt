@@ -21,7 +21,6 @@ use Rattle.machine.specs.declared.state.Phase.{Phase}
 use Rattle.machine.specs.declared.state.Todo.{Todo}
 use Rattle.machine.specs.State.{State, say}
 use Rattle.machine.specs.Holds.{phase_of, outcome_of}
-use Rattle.gv_values.specs.Ends.{link_fits}
 use Rattle.machine.specs.BodyMoves.{Did}
 use Rattle.machine.specs.declared.request.Request.{Request}
 use Rattle.machine.specs.Unwinding.{unwind}
@@ -31,7 +30,7 @@ use Rattle.machine.specs.Greenlets.{add_greenlet, has_greenlet_left, greenlet, w
 use Rattle.machine.specs.Ends.{ended}
 use Rattle.machine.specs.Hosts.{host_of, is_above}
 use Rattle.gv_values.specs.Ends.{kept}
-use Rattle.machine.specs.Requests.{Sending, performs, follows, sends, sends_all, kills, kills_standing, links, makes, starts_at, start_of, is_new, has_start, releases, finishes, acquires, fault_operand, plain_greenlet, plain_greenlet_list, list_operand, int_operand, any_greenlet, whom_operand, is_link, put_result, done, typed, on_host, raw_greenlet, sets_parent}
+use Rattle.machine.specs.Requests.{Sending, performs, follows, sends, sends_all, kills, kills_standing, link_stands, links, makes, starts_at, start_of, is_new, has_start, releases, finishes, acquires, fault_operand, plain_greenlet, plain_greenlet_list, list_operand, int_operand, any_greenlet, whom_operand, is_link, put_result, done, typed, on_host, raw_greenlet, sets_parent}
 use Rattle.gv_values.specs.JobParts.{job_of}
 use Rattle.machine.specs.Moves.{does, move, enters, timeout_item}
 use Rattle.machine.specs.Objects.{at_bound, after_release, takes_value, members_of, sets_of}
@@ -146,30 +145,14 @@ timeout-unclaimed s h = all-imply _ _ s.items (λ i. none i.delivery) (meants s 
     none (Delivery.Link n k kind x) m = refl
 
 links-fine : (k : ℕ) (kind : LinkKind) (f g h : ℕ) (s : State) → Moves g h s → IsFine g h (links k kind f s)
-links-fine k kind f g h s m = by (nat_lt s.links 100000)
+links-fine k kind f g h s m = by (nat_lt s.links 100000) (link_stands kind (outcome_of s (Whom.Greenlet k)))
   where
-    more : Moves g h (add_item (Delivery.Link (s.links + 1) k kind f) (record s { links = s.links + 1 }))
-    more = moves-add (Delivery.Link (s.links + 1) k kind f) g h (record s { links = s.links + 1 }) (link-unclaimed s m.kept) (at-most (s.links + 1)) refl refl (moves-link g h s m)
-
-    fits : (b : Bool) → Moves g h (if b then add_item (Delivery.Link (s.links + 1) k kind f) (record s { links = s.links + 1 }) else record s { links = s.links + 1 })
-    fits true = more
-    fits false = moves-link g h s m
-
-    of : (x : Option Outcome) → IsFine g h (elim x [
-      | None ↦ Performed.Answers (Outcome.Value (Value.Int (pos (s.links + 1)))) (add_item (Delivery.Link (s.links + 1) k kind f) (record s { links = s.links + 1 }))
-      | Some o ↦ Performed.Answers (Outcome.Value (Value.Int (pos (s.links + 1)))) (if link_fits kind o then add_item (Delivery.Link (s.links + 1) k kind f) (record s { links = s.links + 1 }) else record s { links = s.links + 1 })
-    ])
-    of None = more
-    of (Some o) = fits (link_fits kind o)
-
-    by : (b : Bool) → IsFine g h (if b then
-        elim (outcome_of (record s { links = s.links + 1 }) (Whom.Greenlet k)) [
-          | None ↦ Performed.Answers (Outcome.Value (Value.Int (pos (s.links + 1)))) (add_item (Delivery.Link (s.links + 1) k kind f) (record s { links = s.links + 1 }))
-          | Some o ↦ Performed.Answers (Outcome.Value (Value.Int (pos (s.links + 1)))) (if link_fits kind o then add_item (Delivery.Link (s.links + 1) k kind f) (record s { links = s.links + 1 }) else record s { links = s.links + 1 })
-        ]
+    by : (b c : Bool) → IsFine g h (if b then
+        Performed.Answers (Outcome.Value (Value.Int (pos (s.links + 1)))) (if c then add_item (Delivery.Link (s.links + 1) k kind f) (record s { links = s.links + 1 }) else record s { links = s.links + 1 })
         else Performed.Stops StopCause.NoLinks s)
-    by true = of (outcome_of (record s { links = s.links + 1 }) (Whom.Greenlet k))
-    by false = m.kept
+    by true true = moves-add (Delivery.Link (s.links + 1) k kind f) g h (record s { links = s.links + 1 }) (link-unclaimed s m.kept) (at-most (s.links + 1)) refl refl (moves-link g h s m)
+    by true false = moves-link g h s m
+    by false c = m.kept
 
 pub no_start : (k : ℕ) (d : Delivery) → not (is_start_of k d) ≡ true → not (same_claim (Some (Claim.StartOf k)) (claim_of d)) ≡ true
 no_start k (Delivery.Start j deadline) e = e

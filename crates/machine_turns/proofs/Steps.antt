@@ -27,7 +27,7 @@ use Rattle.gv_values.specs.declared.job.Job.{Job}
 use Rattle.machine.specs.declared.state.Phase.{Phase}
 use Rattle.machine.specs.State.{State, say}
 use Rattle.machine.specs.Holds.{newcomer_completes, outcome_of, earlier, is_take}
-use Rattle.gv_values.specs.Ends.{kept, link_fits}
+use Rattle.gv_values.specs.Ends.{kept}
 use Rattle.machine.specs.Settle.{settle}
 use Rattle.machine.specs.Unwinding.{Unwound}
 use Rattle.machine.specs.BodyMoves.{Did, body_move}
@@ -39,7 +39,7 @@ use Rattle.machine.specs.Ends.{ended, stop_of, outcome_of_leaving}
 use Rattle.machine.specs.Hosts.{host_of, is_above}
 use Rattle.machine.specs.Waits.{Performed, raises, parked, drawn, draws, waits, add_member, map_ends, maps, map_goes_on, made_member, gathered, outcome_of_greenlet, posted, completes, comes, nothing, puts_item, takes_item, peeks_item, offered}
 use Rattle.machine.specs.Objects.{with_object, object_at, name_of_object, is_shut, is_left, item_of, with_item, with_item_taken}
-use Rattle.machine.specs.Requests.{typed, done, makes, starts_at, greenlet_value, start_of, is_new, has_start, Sending, sends, sends_all, kills, kills_standing, links, is_link, put_result, releases, acquires, finishes, int_operand, list_operand, whom_operand, any_greenlet, on_host, sets_parent, raw_greenlet, plain_greenlet, plain_greenlet_list, fault_operand, performs, follows}
+use Rattle.machine.specs.Requests.{typed, done, makes, starts_at, greenlet_value, start_of, is_new, has_start, Sending, sends, sends_all, kills, kills_standing, link_stands, links, is_link, put_result, releases, acquires, finishes, int_operand, list_operand, whom_operand, any_greenlet, on_host, sets_parent, raw_greenlet, plain_greenlet, plain_greenlet_list, fault_operand, performs, follows}
 use Rattle.gv_values.specs.JobParts.{job_of}
 use Rattle.machine.specs.Objects.{at_bound, after_release, takes_value, members_of, sets_of}
 use Rattle.machine.specs.Moves.{timeout_item, does, move, look}
@@ -328,7 +328,7 @@ kills-keeps P keeps g word f gs how s u = by (sends_all f gs s) (sends_all-keeps
 
 links-keeps : (P : State → Type 0) (keeps : Keeps P) (k : ℕ) (kind : LinkKind) (f : ℕ) (s : State) → P s → Comes P (links k kind f s)
 unfolding Comes
-links-keeps P keeps k kind f s u = by (nat_lt s.links 100000) (outcome_of s (Whom.Greenlet k))
+links-keeps P keeps k kind f s u = by (nat_lt s.links 100000) (link_stands kind (outcome_of s (Whom.Greenlet k)))
   where
     t : State
     t = record s { links = s.links + 1 }
@@ -336,17 +336,10 @@ links-keeps P keeps k kind f s u = by (nat_lt s.links 100000) (outcome_of s (Who
     v : P t
     v = keeps.alike s t refl u
 
-    fits : (o : Outcome) (b : Bool) → P (if b then add_item (Delivery.Link t.links k kind f) t else t)
-    fits o true = keeps.adds _ t v
-    fits o false = v
-
-    by : (b : Bool) (x : Option Outcome) → Comes P (if b then (elim x [
-      | None ↦ Performed.Answers (Outcome.Value (Value.Int (pos t.links))) (add_item (Delivery.Link t.links k kind f) t)
-      | Some o ↦ Performed.Answers (Outcome.Value (Value.Int (pos t.links))) (if link_fits kind o then add_item (Delivery.Link t.links k kind f) t else t)
-    ]) else Performed.Stops StopCause.NoLinks s)
-    by true None = keeps.adds _ t v
-    by true (Some o) = fits o (link_fits kind o)
-    by false x = u
+    by : (b c : Bool) → Comes P (if b then Performed.Answers (Outcome.Value (Value.Int (pos t.links))) (if c then add_item (Delivery.Link t.links k kind f) t else t) else Performed.Stops StopCause.NoLinks s)
+    by true true = keeps.adds _ t v
+    by true false = v
+    by false c = u
 
 releases-keeps : (P : State → Type 0) (keeps : Keeps P) (g o : ℕ) (x : Object) (s : State) → P s → Comes P (releases g o x s)
 unfolding Comes
