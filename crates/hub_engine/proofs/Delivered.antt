@@ -19,7 +19,8 @@ use Rattle.machine.specs.Items.{is_wait_of}
 use Rattle.machine_laws.specs.Reached.{state_of}
 use Rattle.machine_soundness.specs.Going.{IsKept}
 use Rattle.machine_soundness.proofs.Deliveries.{claimed, free-moves, kept-without, no-wait-left, owned}
-use Rattle.machine_soundness.proofs.Lists.{all-get, left}
+use Rattle.machine.proofs.Halves.{left}
+use Rattle.machine_soundness.proofs.Lists.{all-get}
 use Rattle.machine_soundness.proofs.States.{Moves, going, kept-drop}
 use Rattle.machine_texts.specs.Texts.{fits_item, fits_wait, is_function}
 use Rattle.hub_requests.specs.Naming.{IsNamed}

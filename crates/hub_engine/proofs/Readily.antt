@@ -1,5 +1,6 @@
 -- That each part of a run leaves the hub ready for the next.
 use Rattle.std.proofs.Common.{◌≡◌, refl, ap, sym, subst, ℕ, ◌+◌, ◌<◌, Bool, true, false, length, Some, slice_get, [], arith}
+use Rattle.std.proofs.lemmas.Bool.{and_from}
 use Rattle.std.specs.Prelude.{if◌then◌else◌}
 use Rattle.std.proofs.lemmas.Bool.Decides.{nat_tests}
 use Rattle.gv_values.specs.declared.fault.FaultKind.{FaultKind}
@@ -20,7 +21,6 @@ use Rattle.machine.specs.Moves.{move}
 use Rattle.machine.specs.Run.{first_state, silent}
 use Rattle.machine_soundness.specs.Going.{IsGoing, IsKept, IsSoundAt, next_did}
 use Rattle.machine_soundness.proofs.Deliveries.{begins-soundly, deliver-soundly, interrupts-soundly, take_answer-kept}
-use Rattle.machine_soundness.proofs.Lists.{both}
 use Rattle.machine_soundness.proofs.Performs.{move-soundly}
 use Rattle.machine_texts.specs.Texts.{HasMain, IsKnown, is_function}
 use Rattle.machine_texts.proofs.WellFormed.{well-formed-fits}
@@ -202,4 +202,4 @@ ready_started c h =
     }
 
 pub declared_first : (c : Scenario) → HasMain c → AreDeclared (first_state c)
-declared_first c main = record { each = λ g. is_function_there c (greenlet g (first_state c)).function (function-known c g (first_state c).greenlets main (both _ true main refl)) }
+declared_first c main = record { each = λ g. is_function_there c (greenlet g (first_state c)).function (function-known c g (first_state c).greenlets main (and_from _ true main refl)) }

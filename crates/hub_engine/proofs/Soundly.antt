@@ -9,8 +9,9 @@ use Rattle.machine.specs.Greenlets.{no_frame, with_phase}
 use Rattle.machine.specs.Hosts.{host_of}
 use Rattle.machine.specs.Soundness.{Claim, is_unclaimed}
 use Rattle.machine_soundness.proofs.Performs.{timeout-unclaimed}
-use Rattle.machine_soundness.proofs.States.{Moves, going, moves-live, moving}
+use Rattle.machine_soundness.proofs.States.{Moves, moves-live, moving}
 use Rattle.hub_requests.specs.Making.{MayMake}
+use Rattle.hub_requests.proofs.Soundly.{from-moves}
 use Rattle.hub_engine.specs.Making.{MayMove}
 use Rattle.hub_engine.specs.Ready.{IsReadyToMove}
 use Rattle.hub_engine.proofs.Blind.{with_phase_twice}
@@ -23,9 +24,6 @@ timeout_free g n s t u h e f k =
     subst (λ (x : State). is_unclaimed (Some (Claim.TimeoutNumbered n)) x.items ≡ true) (sym k)
     (subst (λ (m : ℕ). is_unclaimed (Some (Claim.TimeoutNumbered m)) t.items ≡ true) (sym f)
     (subst (λ (x : State). is_unclaimed (Some (Claim.TimeoutNumbered (x.timeouts + 1))) x.items ≡ true) (sym e) (timeout-unclaimed (with_phase g (Phase.Live no_frame) s) (h.any no_frame).sound.0)))
-
-from-moves : (g h : ℕ) (s : State) → Moves g h s → MayMake g s
-from-moves g h s m = record { sound = (m.kept, going g h s m) }
 
 -- where its body waits for an answer
 pub sound_parked : (g : ℕ) (frame : Frame) (s t : State) → MayMove g s → t ≡ with_phase g (Phase.Live frame) s → MayMake g t

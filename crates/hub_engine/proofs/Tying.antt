@@ -12,20 +12,16 @@ use Rattle.scenario_tree.specs.declared.tree.Scenario.{Scenario}
 use Rattle.trace_text.specs.declared.line.Line.{Line}
 use Rattle.machine.specs.declared.items.Item.{Item}
 use Rattle.machine.specs.declared.state.Frame.{Frame}
-use Rattle.machine.specs.declared.state.JobState.{JobState}
 use Rattle.machine.specs.declared.state.Phase.{Phase}
 use Rattle.machine.specs.declared.state.Post.{Post}
-use Rattle.gv_values.specs.declared.job.JobOutcome.{JobOutcome}
-use Rattle.std.specs.Prelude.{Option, None}
 use Rattle.machine.specs.State.{State, say}
-use Rattle.machine.specs.Holds.{job_at}
-use Rattle.machine.specs.Questions.{any_numbered, arrives, block_line, job_done, question, take_answer}
+use Rattle.machine.specs.Questions.{any_numbered, block_line, question, take_answer}
 use Rattle.machine.specs.Deliveries.{deliver, interrupts}
 use Rattle.machine.specs.Greenlets.{with_phase}
 use Rattle.machine.specs.Landing.{Next, lands, starts}
 use Rattle.machine.specs.Moves.{move}
 use Rattle.machine.specs.Run.{first_state, logged, silent}
-use Rattle.world_rules.specs.Legal.{moment_of}
+use Rattle.machine.proofs.Answered.{posts-answered}
 use Rattle.machine_turns.specs.Logs.{KnowsJobs, StandsKnowing, posts_of_step}
 use Rattle.machine_turns.proofs.Knowing.{answers-know, delivers-know, exits-know, may-ask, moves-know, starts-know}
 use Rattle.hub_items.proofs.Leasts.{item_there}
@@ -166,19 +162,9 @@ tied_exit m s t u at h e f =
 pub may_be_asked : (m : Meaning) (q : Question) (s : State) → IsTied m s → question s ≡ Some q → MayAsk m.posts m.answers q
 may_be_asked m q s h e = may-ask m.posts m.answers q s (none_posted m s h) h.knows e
 
-arrived_posts : (number : ℕ) (o : JobOutcome) (job : Option JobState) (s : State) → (arrives number o job s).posts ≡ s.posts
-arrived_posts number o None s = refl
-arrived_posts number o (Some job) s = refl
-
-done_posts : (a : Answer) (s : State) → (job_done a s).posts ≡ s.posts
-done_posts (Answer.Nothing t) s = refl
-done_posts (Answer.Done number o at) s = arrived_posts number o (job_at number s.jobs) s
-done_posts (Answer.Elapsed t) s = refl
-
 -- an answer posts nothing
 pub posts_answered : (m : Meaning) (a : Answer) (s : State) → IsTied m s → (take_answer a s).posts ≡ []
-unfolding take_answer
-posts_answered m a s h = done_posts a (record s { moment = moment_of a }) ∙ none_posted m s h
+posts_answered m a s h = posts-answered a s ∙ none_posted m s h
 
 pub posts_taken : (m : Meaning) (a : Answer) (s t : State) → IsTied m s → t ≡ take_answer a s → t.posts ≡ []
 posts_taken m a s t h e = ap (λ (x : State). x.posts) e ∙ posts_answered m a s h

@@ -1,11 +1,11 @@
 -- What keeps the items in order of making, no two of which say the same.
-use Rattle.std.proofs.Common.{◌≡◌, refl, ℕ, ◌+◌, ◌≤◌, Bool, true, false, cond, List, [], ◌∷◌, ◌++◌, None, arith, rules}
+use Rattle.std.proofs.Common.{◌≡◌, refl, ◌∙◌, ℕ, ◌+◌, ◌≤◌, Bool, true, false, cond, List, [], ◌∷◌, ◌++◌, None, arith, rules}
 use Rattle.std.specs.Prelude.{filter}
 use Rattle.machine.specs.declared.items.Item.{Item}
 use Rattle.machine.specs.declared.items.Delivery.{Delivery}
 use Rattle.machine.specs.Settle.{settled, number_after}
 use Rattle.machine.specs.Soundness.{claim_of, is_unclaimed}
-use Rattle.machine_soundness.proofs.Singles.{single_filter, single_more, single_settled}
+use Rattle.machine.proofs.Soundness.{single-append, single-filter, single-settled}
 use Rattle.hub_items.specs.Short.{DeliversShort}
 use Rattle.hub_items.specs.Sound.{AscendTo, IsSound}
 use Rattle.hub_items.proofs.Shorts.{short_filter, short_more, short_settled}
@@ -39,10 +39,10 @@ sound_none next = record { ascends = omega arith; single = refl; short = search 
 
 pub sound_more : (next : ℕ) (d : Delivery) (items : List Item) → IsSound next items → is_unclaimed (claim_of d) items ≡ true → DeliversShort d →
     IsSound (next + 1) (items ++ record { since = next; delivery = d; ready = None } ∷ [])
-sound_more next d items s u h = record { ascends = more 0 next d items s.ascends; single = single_more items _ u s.single; short = short_more next d items h s.short }
+sound_more next d items s u h = record { ascends = more 0 next d items s.ascends; single = single-append items _ u s.single; short = short_more next d items h s.short }
 
 pub sound_filter : (p : Item → Bool) (next : ℕ) (items : List Item) → IsSound next items → IsSound next (filter p items)
-sound_filter p next items s = record { ascends = kept p 0 next items s.ascends; single = single_filter p items s.single; short = short_filter p items s.short }
+sound_filter p next items s = record { ascends = kept p 0 next items s.ascends; single = single-filter p items s.single; short = short_filter p items s.short }
 
 pub sound_settled : (hs : List Bool) (n next : ℕ) (items : List Item) → IsSound next items → IsSound next (settled hs n items)
-sound_settled hs n next items s = record { ascends = numbered hs n 0 next items s.ascends; single = single_settled hs n items s.single; short = short_settled hs n items s.short }
+sound_settled hs n next items s = record { ascends = numbered hs n 0 next items s.ascends; single = single-settled hs n items ∙ s.single; short = short_settled hs n items s.short }

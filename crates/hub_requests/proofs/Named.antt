@@ -7,7 +7,7 @@ use Rattle.machine.specs.declared.items.Waiting.{Waiting}
 use Rattle.machine.specs.declared.state.Object.{Object}
 use Rattle.machine.specs.Requests.{acquires}
 use Rattle.machine.specs.declared.request.Request.{Request}
-use Rattle.machine_soundness.proofs.Lists.{left}
+use Rattle.machine.proofs.Halves.{left}
 use Rattle.machine_texts.specs.Texts.{fits_request, is_declared, is_function}
 use Rattle.scenario_rules.specs.Declarations.{is_kind}
 use Rattle.scenario_rules.specs.declared.mention.Wanted.TheVariants as wanted

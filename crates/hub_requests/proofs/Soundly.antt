@@ -8,17 +8,18 @@ use Rattle.machine.specs.declared.items.Delivery.{Delivery}
 use Rattle.machine.specs.declared.items.Waiting.{Waiting}
 use Rattle.machine.specs.State.{State, say}
 use Rattle.machine.specs.Greenlets.{add_greenlet, greenlet}
-use Rattle.machine.specs.Items.{add_item, is_start_of, is_wait_of}
+use Rattle.machine.specs.Items.{add_item, is_start_of}
 use Rattle.machine.specs.Hosts.{host_of}
-use Rattle.machine.specs.Requests.{Sending, has_start, plain_greenlet_list, sends, sends_all}
+use Rattle.machine.specs.Requests.{Sending, has_start, sends, sends_all}
 use Rattle.machine.specs.Objects.{members_of}
-use Rattle.machine.specs.Soundness.{Claim, claim_of, is_unclaimed, same_claim}
+use Rattle.machine.specs.Soundness.{Claim, is_unclaimed}
 use Rattle.machine.specs.Waits.{add_member}
 use Rattle.machine.specs.Objects.{object_at}
 use Rattle.machine_soundness.proofs.Landings.{going-free}
-use Rattle.machine_soundness.proofs.Lists.{all-end, all-imply, left, none-counted, right}
+use Rattle.machine.proofs.Halves.{left, right}
+use Rattle.machine_soundness.proofs.Lists.{all-end, all-imply, none-counted}
 use Rattle.machine_soundness.proofs.Performs.{link-unclaimed, no_start, sends-fine, sends-raw}
-use Rattle.machine_soundness.proofs.Requests.{members-raw, moves-member, next-unclaimed, object-plain, plain_greenlet_list-raw}
+use Rattle.machine_soundness.proofs.Requests.{members-raw, moves-member, next-unclaimed, no_late, object-plain}
 use Rattle.machine_soundness.proofs.Singles.{wake_unclaimed}
 use Rattle.machine_soundness.proofs.States.{Moves, going, moving}
 use Rattle.hub_requests.specs.Making.{MayMake}
@@ -29,16 +30,8 @@ pub wake_free : (g : ℕ) (line : Line) (s t : State) → MayMake g s → t ≡ 
 wake_free g line s t h e =
     subst (λ (x : State). is_unclaimed (Some (Claim.WakeOf g)) x.items ≡ true) (sym e) (wake_unclaimed g s.items (going-free g s h.sound.0 h.sound.1))
 
-late : (g : ℕ) (d : Delivery) → not (is_wait_of g d) ≡ true → not (same_claim (Some (Claim.LateOf g)) (claim_of d)) ≡ true
-late g (Delivery.Start k deadline) e = refl
-late g (Delivery.Wake k w) e = refl
-late g (Delivery.Late k deadline n) e = e
-late g (Delivery.Timeout k n deadline) e = refl
-late g (Delivery.Kill k kind) e = refl
-late g (Delivery.Link n k kind x) e = refl
-
 late-unclaimed : (g : ℕ) (s : State) → MayMake g s → is_unclaimed (Some (Claim.LateOf g)) s.items ≡ true
-late-unclaimed g s h = all-imply _ _ s.items (λ i. late g i.delivery) (going-free g s h.sound.0 h.sound.1)
+late-unclaimed g s h = all-imply _ _ s.items (λ i. no_late g i.delivery) (going-free g s h.sound.0 h.sound.1)
 
 -- nor a Late right after its Wake
 pub late_free : (g : ℕ) (w : Waiting) (line : Line) (s t u : State) → MayMake g s → t ≡ say line s → u ≡ add_item (Delivery.Wake g w) t →
@@ -73,7 +66,7 @@ start_missing k s h = all-imply _ _ s.items (λ i. no_start k i.delivery) (none-
 
 -- ---- a greenlet goes on soundly
 
-from-moves : (g h : ℕ) (s : State) → Moves g h s → MayMake g s
+pub from-moves : (g h : ℕ) (s : State) → Moves g h s → MayMake g s
 from-moves g h s m = record { sound = (m.kept, going g h s m) }
 
 -- wherever the sending of kills comes to, the greenlet goes on
@@ -108,9 +101,6 @@ sound_member o f g args s t h e =
     subst (MayMake g) (sym e) (from-moves g (host_of s g) _ (moves-member o f args g (host_of s g) s (moving g s h.sound.0 h.sound.1)))
 
 -- ---- whom kills are sent to
-
-pub listed_plain : (s : State) (v : Value) (ks : List ℕ) → plain_greenlet_list s v ≡ Some ks → AreNotRaw s.greenlets ks
-listed_plain s v ks e = plain_greenlet_list-raw s v ks e
 
 pub members_plain : (o g : ℕ) (s : State) (ks : List ℕ) → MayMake g s → ks ≡ members_of (object_at o s) → AreNotRaw s.greenlets ks
 members_plain o g s ks h e = subst (AreNotRaw s.greenlets) (sym e) (members-raw s.greenlets (object_at o s) (object-plain o s h.sound.0))

@@ -1,5 +1,6 @@
 -- What comes of requests, lawfully.
 use Rattle.std.proofs.Common.{◌≡◌, refl, ap, ◌∙◌, sym, subst, ℕ, zero, suc, ◌+◌, Bool, true, false, List, [], ◌∷◌, ◌++◌, length, length-append, map, cond, inl, inr, ◌⊎◌, arith}
+use Rattle.std.proofs.lemmas.Bool.{and_from}
 use Rattle.std.proofs.lemmas.Bool.Decides.{nat_tests}
 use Rattle.std.proofs.lemmas.List.Sums.{sum_by-cons}
 use Rattle.std.specs.Prelude.{not, ◌==◌, ◌&&◌, ◌||◌, Option, Some, None, is_none, is_some, find, count_by, nat_le, slice_get, Contains, if◌then◌else◌, ℤ, pos, negsuc, slice_set}
@@ -37,7 +38,8 @@ use Rattle.machine.specs.Objects.{with_slot_taken, is_left, is_shut, item_of, na
 use Rattle.machine.specs.Waits.{Performed, add_member, comes, completes, drawn, draws, gathered, made_member, map_ends, map_goes_on, maps, nothing, offered, outcome_of_greenlet, parked, peeks_item, posted, puts_item, raises, takes_item, until_of, waits}
 use Rattle.machine_soundness.specs.Going.{has_no_wait, is_plain, IsKept}
 use Rattle.machine_soundness.specs.Laws.{is_wake_of}
-use Rattle.machine_soundness.proofs.Lists.{all-end, both, equal, left, right}
+use Rattle.machine.proofs.Halves.{left, right}
+use Rattle.machine_soundness.proofs.Lists.{all-end, equal}
 use Rattle.machine_soundness.proofs.Greenlets.{host-plain, plain-more, plain-raw}
 use Rattle.machine_soundness.proofs.Landings.{going-free}
 use Rattle.machine_soundness.proofs.Requests.{completes-fine, item-plain, kept-parked, moves-change, moves-member, moves-spawned, offered-fine, own-host, taken-plain}
@@ -267,9 +269,9 @@ get-end (z ∷ xs) y (suc p) x e = by (get-end xs y p x e)
     by (inr f) = inr (ap suc f.0, f.1)
 
 counted-end : (n : ℕ) (ps : List PostedJob) (p : PostedJob) → p.number ≡ n + length ps → are_counted n ps ≡ true → are_counted n (ps ++ p ∷ []) ≡ true
-counted-end n [] p e h = both (p.number == n) true (grind (arith, nat_tests, e)) refl
+counted-end n [] p e h = and_from (p.number == n) true (grind (arith, nat_tests, e)) refl
 counted-end n (q ∷ ps) p e h =
-    both (q.number == n) (are_counted (n + 1) (ps ++ p ∷ [])) (left (q.number == n) _ h) (counted-end (n + 1) ps p (omega (arith, e)) (right (q.number == n) _ h))
+    and_from (q.number == n) (are_counted (n + 1) (ps ++ p ∷ [])) (left (q.number == n) _ h) (counted-end (n + 1) ps p (omega (arith, e)) (right (q.number == n) _ h))
 
 int-itself : (z : ℤ) → int_eq z z ≡ true
 int-itself (pos n) = grind (arith, nat_tests)
@@ -419,7 +421,7 @@ maps-at (x ∷ xs) b g h o f made s p zo e m =
             | true ↦ maps xs g o f (made ++ length s.greenlets ∷ []) (add_member o f (value_of_scalar x ∷ []) s)
           ]
         ])
-    by false d rest = parked-rests b g h (Awaited.Map (name_of_object o s)) (Waiting.MapPlace o f (x ∷ xs) made) None s p refl (λ w. both _ _ (zo w) (e w)) m
+    by false d rest = parked-rests b g h (Awaited.Map (name_of_object o s)) (Waiting.MapPlace o f (x ∷ xs) made) None s p refl (λ w. and_from _ _ (zo w) (e w)) m
     by true false rest = goes-ends b g h s m
     by true true rest = rest
 

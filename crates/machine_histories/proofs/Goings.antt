@@ -1,5 +1,6 @@
 -- Where the hub stands, with all that was told so far.
 use Rattle.std.proofs.Common.{◌≡◌, refl, ap, ◌∙◌, sym, subst, ℕ, zero, suc, ◌+◌, ◌≤◌, Bool, true, false, List, [], ◌∷◌, ◌++◌, length, map, cond, arith}
+use Rattle.std.proofs.lemmas.Bool.{and_from}
 use Rattle.std.proofs.lemmas.Bool.Decides.{nat_tests}
 use Rattle.std.proofs.lemmas.List.Sums.{sum_by-cons}
 use Rattle.std.specs.Prelude.{not, ◌==◌, ◌||◌, Option, Some, None, if◌then◌else◌, nat_le, nat_lt, find, filter, count_by, slice_get, slice_set, unwrap_or, codes}
@@ -28,7 +29,8 @@ use Rattle.machine.specs.Soundness.{Claim, claim_of, is_live, same_claim}
 use Rattle.machine.specs.Objects.{object_at, with_object}
 use Rattle.machine_soundness.specs.Going.{has_no_wait, is_plain, IsKept}
 use Rattle.machine_soundness.specs.Laws.{is_wake_of}
-use Rattle.machine_soundness.proofs.Lists.{left, right, both, all-end, all-get, all-imply, all-filter, all-of, all-set, equal, unequal}
+use Rattle.machine.proofs.Halves.{left, right}
+use Rattle.machine_soundness.proofs.Lists.{all-end, all-get, all-imply, all-filter, all-of, all-set, equal, unequal}
 use Rattle.machine_soundness.proofs.Greenlets.{phase-more, phase-other, live-more}
 use Rattle.machine_soundness.proofs.Landings.{going-free}
 use Rattle.machine_soundness.proofs.States.{IsHost, Moves, all-settle, going, plain-phased, moves-say, moves-settle, moves-drop, moves-made, moves-timeout}
@@ -463,7 +465,7 @@ goes-made b raw parent f args g h s z e m =
       ties = ties-greenlets None m.story (s.greenlets ++ y ∷ []) s (λ k. over-more s.greenlets y k refl) (λ k. begun-more s.greenlets y k) m.ties;
       parking = parked-more (Some h) y s refl m.parking;
       main = live-more s.greenlets _ 0 m.main;
-      sides = record { kills = m.sides.kills; bodies = m.sides.bodies; fit = all-end (is_fit_greenlet s.scenario) s.greenlets y m.sides.fit (both _ true z refl); known = known-made s.scenario s.greenlets y s.items s.objects e m.sides.known; offers = m.sides.offers };
+      sides = record { kills = m.sides.kills; bodies = m.sides.bodies; fit = all-end (is_fit_greenlet s.scenario) s.greenlets y m.sides.fit (and_from _ true z refl); known = known-made s.scenario s.greenlets y s.items s.objects e m.sides.known; offers = m.sides.offers };
       held = held-more s.greenlets (y ∷ []) s.items m.held;
     }
 
@@ -479,7 +481,7 @@ ties-ended g o h s there t =
       ended = λ k. over k (k == g) refl;
       fresh = λ k e z. fresh k (k == g) refl z;
       parked = λ k e. parked k (k == g) refl (sym (any-settle (is_wake_of k) gone) ∙ e);
-      links = λ n e. both _ _ (left _ _ (t.links n e))
+      links = λ n e. and_from _ _ (left _ _ (t.links n e))
           (all-settle (λ d. not (same_claim (Some (Claim.LinkNumbered n)) (claim_of d))) gone
           ∙ all-filter _ _ _ s.items (λ i k z. z) (right (nat_le n s.links) _ (t.links n e)));
       jobs = λ j job c. told-other (length s.jobs) j job (Line.End g o) h.past refl (t.jobs j job c);
@@ -533,7 +535,7 @@ sides-ended g o s free m =
     let less = sides-drop (goes_at_end g o) s (offers-drop_of g (goes_at_end g o) s.objects s.items s.next_since (λ p d. spared p d) (free-offerless g s.items free) m.offers) m in
     let new : Greenlet = record (greenlet g s) { phase = Phase.Done o } in
     let own : is_fit_greenlet s.scenario new ≡ true =
-    both (if new.raw then is_raw_function s.scenario new.function else true) true
+    and_from (if new.raw then is_raw_function s.scenario new.function else true) true
     (left (if new.raw then is_raw_function s.scenario new.function else true) (fits_phase s.scenario (not new.raw) (greenlet g s).phase) (greenlet-fit s.scenario g s.greenlets m.fit)) refl in
     sides-settle (record u { objects = map (without_member g) u.objects })
     (record {

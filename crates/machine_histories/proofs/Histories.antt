@@ -1,5 +1,6 @@
 -- What was told so far: lines, posts and answers. Laws on lists of lines, line by line.
 use Rattle.std.proofs.Common.{◌≡◌, refl, ap, ◌∙◌, sym, subst, Bool, true, List, [], ◌∷◌, ◌++◌, map, append_assoc}
+use Rattle.std.proofs.lemmas.Bool.{and_from}
 use Rattle.std.proofs.lemmas.List.{append-nil}
 use Rattle.gv_values.specs.declared.job.Answer.{Answer}
 use Rattle.world_rules.specs.declared.question.LogEntry.{LogEntry}
@@ -9,7 +10,6 @@ use Rattle.trace_text.specs.declared.line.Line.{Line}
 use Rattle.machine.specs.declared.state.Post.{Post}
 use Rattle.machine.specs.TraceLaws.{each_line, ends_once, nothing_after_end, throws_at_parked, links_after_end, moments_rise, jobs_done_once, meets_laws}
 use Rattle.machine.specs.Run.{logged}
-use Rattle.machine_soundness.proofs.Lists.{both}
 
 -- ---- lines
 
@@ -50,11 +50,11 @@ lawful-append before (x ∷ xs) ys h k = (h.0, lawful-append (x ∷ before) xs y
 each : (test : List Line → Line → Bool) → ((before : List Line) (line : Line) → IsLawful before line → test before line ≡ true) →
     (before lines : List Line) → AreLawful before lines → each_line test before lines ≡ true
 each test f before [] h = refl
-each test f before (line ∷ lines) h = both (test before line) _ (f before line h.0) (each test f (line ∷ before) lines h.1)
+each test f before (line ∷ lines) h = and_from (test before line) _ (f before line h.0) (each test f (line ∷ before) lines h.1)
 
 pub lawful-meets : (lines : List Line) → AreLawful [] lines → meets_laws lines ≡ true
 lawful-meets lines h =
-    both _ _ (both _ _ (both _ _ (both _ _ (both _ _
+    and_from _ _ (and_from _ _ (and_from _ _ (and_from _ _ (and_from _ _
     (each ends_once (λ b l m. m.once) [] lines h)
     (each nothing_after_end (λ b l m. m.last) [] lines h))
     (each throws_at_parked (λ b l m. m.parked) [] lines h))

@@ -1,6 +1,6 @@
 -- How a greenlet goes on, ends and lands, lawfully.
 use Rattle.std.proofs.Common.{◌≡◌, refl, ap, ◌∙◌, sym, subst, ℕ, zero, suc, ◌≤◌, ◌<◌, Bool, true, false, List, [], ◌∷◌, length, eqb, inl, inr, arith}
-use Rattle.std.proofs.lemmas.Bool.{cases_eq}
+use Rattle.std.proofs.lemmas.Bool.{cases_eq, and_from}
 use Rattle.std.proofs.lemmas.Bool.Decides.{nat_tests}
 use Rattle.std.proofs.lemmas.Map.Steps.{length-le_from_distinct_below}
 use Rattle.std.specs.Prelude.{not, ◌==◌, Option, Some, None, slice_set, if◌then◌else◌}
@@ -28,7 +28,8 @@ use Rattle.machine.specs.Unwinding.{Unwound, unwind}
 use Rattle.machine.specs.Soundness.{Claim, is_live, is_unclaimed, is_unstarted}
 use Rattle.machine_soundness.specs.Going.{has_no_wait, is_plain, IsGoing, IsKept}
 use Rattle.machine_soundness.specs.Laws.{is_wake_of}
-use Rattle.machine_soundness.proofs.Lists.{all-filter, all-set, both, equal, left, unequal}
+use Rattle.machine.proofs.Halves.{left}
+use Rattle.machine_soundness.proofs.Lists.{all-filter, all-set, equal, unequal}
 use Rattle.machine_soundness.proofs.Greenlets.{at, host-plain, host-more, live-here, live-found, live-phase, parent-set, phase-other, plain-found, plain-raw, raw-found, raw-set}
 use Rattle.machine_soundness.proofs.Chains.{Climbs, climb-of, distinct, below, found-below, host-of-climb, length-visited, test_differs, visited}
 use Rattle.machine_soundness.proofs.Landings.{goes_on-plain, goes_on-raw, land-soundly, raw-free}
@@ -160,7 +161,7 @@ now-live b g h frame s fits held moves apart m =
 
     own : is_fit_greenlet s.scenario new ≡ true
     own =
-        both (if new.raw then is_raw_function s.scenario new.function else true) (fits_rest s.scenario (not (greenlet g s).raw) frame.todo)
+        and_from (if new.raw then is_raw_function s.scenario new.function else true) (fits_rest s.scenario (not (greenlet g s).raw) frame.todo)
         (left (if new.raw then is_raw_function s.scenario new.function else true) (fits_phase s.scenario (not new.raw) (greenlet g s).phase) (greenlet-fit s.scenario g s.greenlets m.sides.fit)) fits
 
     main : (c : Bool) → (0 == g) ≡ c → is_live (phase_of 0 (slice_set s.greenlets g new)) ≡ true

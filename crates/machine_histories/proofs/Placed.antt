@@ -1,5 +1,6 @@
 -- Where a body stands, it fits, and the timeouts of its greenlet are those of blocks that it left or in which it is.
 use Rattle.std.proofs.Common.{◌≡◌, refl, ap, ◌∙◌, sym, subst, ℕ, Bool, true, false, List, [], ◌∷◌, ◌++◌}
+use Rattle.std.proofs.lemmas.Bool.{and_from}
 use Rattle.std.specs.Prelude.{not, ◌==◌, ◌&&◌, ◌||◌, Option, Some, None, if◌then◌else◌, filter, slice_get, slice_set, unwrap_or}
 use Rattle.std.specs.List.{list_all, list_any}
 use Rattle.scenario_tree.specs.declared.tree.Function.{Function}
@@ -22,7 +23,8 @@ use Rattle.machine.specs.Greenlets.{no_function}
 use Rattle.machine.specs.Unwinding.{Unwound, unwind}
 use Rattle.machine.specs.Soundness.{is_unstarted}
 use Rattle.machine_soundness.proofs.Greenlets.{at, phase-other}
-use Rattle.machine_soundness.proofs.Lists.{all-filter, all-get, all-imply, both, equal, left, right, unequal}
+use Rattle.machine.proofs.Halves.{left, right}
+use Rattle.machine_soundness.proofs.Lists.{all-filter, all-get, all-imply, equal, unequal}
 use Rattle.machine_texts.specs.Texts.{IsFitText, fits_block, fits_phase, fits_rest, is_among, is_fit_function, is_fit_greenlet, is_held, is_raw_function, may_say, withins, withins_at}
 use Rattle.machine_texts.proofs.Bodies.{IsFitUnwound, unwind-fit}
 use Rattle.machine_histories.proofs.Goings.{AreHeld, AreHeldBy, greenlet-fit, held-by, is_held_by}
@@ -96,7 +98,7 @@ placed-start c g gs items locals u text fit h =
     let own = left (if (at gs g).raw then is_raw_function c (at gs g).function else true) (fits_phase c (not (at gs g).raw) (at gs g).phase) (greenlet-fit c g gs fit) in
     let body : fits_block c (not (at gs g).raw) most_timeouts f.body ≡ true = body-fit c f (at gs g).raw own (function-fit c (at gs g).function text) in
     placed-of c g (unwind (Todo.Statements f.body ∷ []) [] Leaving.Normally locals) gs items []
-    (unwind-fit c (not (at gs g).raw) [] (Todo.Statements f.body ∷ []) [] Leaving.Normally locals (both (fits_block c (not (at gs g).raw) most_timeouts f.body) true body refl) refl)
+    (unwind-fit c (not (at gs g).raw) [] (Todo.Statements f.body ∷ []) [] Leaving.Normally locals (and_from (fits_block c (not (at gs g).raw) most_timeouts f.body) true body refl) refl)
     (unstarted-free g [] gs items u h)
 
 -- ---- a body goes on

@@ -1,5 +1,6 @@
 -- Settled states: each item has a number exactly where it holds.
 use Rattle.std.proofs.Common.{◌≡◌, refl, ap, ◌∙◌, sym, subst, ℕ, zero, suc, ◌+◌, Bool, true, false, List, [], ◌∷◌, ◌++◌, cond, arith}
+use Rattle.std.proofs.lemmas.Bool.{and_from}
 use Rattle.std.proofs.lemmas.Bool.Decides.{nat_tests}
 use Rattle.std.proofs.lemmas.List.Sums.{sum_by-cons}
 use Rattle.std.specs.Prelude.{not, ◌==◌, ◌&&◌, Option, Some, None, is_some, if◌then◌else◌, nat_lt, nat_le, filter, count_by, slice_get, slice_set, map}
@@ -21,7 +22,8 @@ use Rattle.machine.specs.Items.{drop_items, is_timeout_of}
 use Rattle.machine.specs.Greenlets.{greenlet, with_phase}
 use Rattle.machine.specs.Settle.{settle, settled, settled_ready, number_after}
 use Rattle.machine.specs.Soundness.{ascend}
-use Rattle.machine_soundness.proofs.Lists.{right, both, all-imply, all-filter, equal, unequal}
+use Rattle.machine.proofs.Halves.{right}
+use Rattle.machine_soundness.proofs.Lists.{all-imply, all-filter, equal, unequal}
 use Rattle.machine_soundness.proofs.Greenlets.{phase-other}
 use Rattle.machine_soundness.proofs.Deliveries.{all-without, later}
 use Rattle.machine_histories.proofs.Ties.{is_over, phase-here}
@@ -151,7 +153,7 @@ settled-numbers : (hold : ℕ → Delivery → Bool) (n : ℕ) (items : List Ite
     list_all (λ (i : Item). same_bool (is_numbered i) (hold i.since i.delivery)) (settled (map (λ (i : Item). hold i.since i.delivery) items) n items) ≡ true
 settled-numbers hold n [] = refl
 settled-numbers hold n (i ∷ items) =
-    both _ _ (by (hold i.since i.delivery) i.ready) (settled-numbers hold (number_after (hold i.since i.delivery) i.ready n) items)
+    and_from _ _ (by (hold i.since i.delivery) i.ready) (settled-numbers hold (number_after (hold i.since i.delivery) i.ready n) items)
   where
     by : (b : Bool) (r : Option ℕ) → same_bool (is_some (settled_ready b r n)) b ≡ true
     by true None = refl

@@ -1,5 +1,6 @@
 -- What the lines told so far say of the state.
 use Rattle.std.proofs.Common.{◌≡◌, refl, ap, ◌∙◌, sym, subst, ℕ, zero, suc, ◌+◌, Bool, true, false, List, [], ◌∷◌, ◌++◌, length, cond, arith}
+use Rattle.std.proofs.lemmas.Bool.{and_from, not-true}
 use Rattle.std.proofs.lemmas.Bool.Decides.{nat_tests}
 use Rattle.std.proofs.lemmas.List.Sums.{sum_by-cons}
 use Rattle.std.specs.Prelude.{not, ◌==◌, ◌&&◌, ◌||◌, Option, Some, None, is_none, nat_le, find, count_by, slice_get, slice_set, Contains}
@@ -25,7 +26,8 @@ use Rattle.machine.specs.Settle.{settle}
 use Rattle.machine.specs.Soundness.{Claim, claim_of, is_live, is_unclaimed, same_claim}
 use Rattle.machine_soundness.specs.Going.{has_no_wait}
 use Rattle.machine_soundness.specs.Laws.{is_wake_of}
-use Rattle.machine_soundness.proofs.Lists.{left, right, both, all-imply, all-end, all-filter, equal, unequal, not-true}
+use Rattle.machine.proofs.Halves.{left, right}
+use Rattle.machine_soundness.proofs.Lists.{all-imply, all-end, all-filter, equal, unequal}
 use Rattle.machine_soundness.proofs.Greenlets.{phase-other}
 use Rattle.machine_soundness.proofs.States.{all-settle}
 use Rattle.machine_offers.proofs.Anys.{any-all, any-end}
@@ -245,7 +247,7 @@ ties-items x h items s f t =
       ended = t.ended;
       fresh = t.fresh;
       parked = λ k e. parked k e (has_wake k s.items) refl;
-      links = λ n e. both _ _ (left _ _ (t.links n e)) (f _ (right (nat_le n s.links) _ (t.links n e)));
+      links = λ n e. and_from _ _ (left _ _ (t.links n e)) (f _ (right (nat_le n s.links) _ (t.links n e)));
       jobs = t.jobs;
       fewer = t.fewer;
       done = t.done;
@@ -271,7 +273,7 @@ ties-add x h d s w u t =
       ended = t.ended;
       fresh = t.fresh;
       parked = λ k e. parked k (has_wake k s.items) refl (sym (any-end (λ (i : Item). is_wake_of k i.delivery) s.items _) ∙ e);
-      links = λ n e. both _ _ (left _ _ (t.links n e)) (all-end _ s.items _ (right (nat_le n s.links) _ (t.links n e)) (u n e));
+      links = λ n e. and_from _ _ (left _ _ (t.links n e)) (all-end _ s.items _ (right (nat_le n s.links) _ (t.links n e)) (u n e));
       jobs = t.jobs;
       fewer = t.fewer;
       done = t.done;

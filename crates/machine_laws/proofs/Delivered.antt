@@ -1,5 +1,6 @@
 -- Deliveries, LoopExit, answers and the beginning, lawfully.
 use Rattle.std.proofs.Common.{◌≡◌, refl, ap, ◌∙◌, sym, subst, ℕ, zero, suc, ◌+◌, ◌-◌, ◌≤◌, Bool, true, false, List, [], ◌∷◌, ◌++◌, length, map, cond, arith}
+use Rattle.std.proofs.lemmas.Bool.{and_from}
 use Rattle.std.proofs.lemmas.Bool.Decides.{nat_tests}
 use Rattle.std.proofs.lemmas.List.Sums.{sum_by-cons}
 use Rattle.std.specs.Prelude.{not, ◌==◌, ◌&&◌, ◌||◌, slice_get, slice_set, Option, Some, None, if◌then◌else◌, is_none, nat_le, find, count_by, unwrap_or, Contains}
@@ -48,11 +49,12 @@ use Rattle.machine.specs.Waits.{completes, late_outcome}
 use Rattle.machine.specs.Objects.{name_of_object, object_at, with_object, without_offer}
 use Rattle.machine_soundness.specs.Going.{has_no_wait, is_plain, IsKept}
 use Rattle.machine_soundness.specs.Laws.{is_wake_of}
-use Rattle.machine_soundness.proofs.Lists.{all-end, all-filter, all-get, both, equal, get-last, left, length-set, right, unequal}
+use Rattle.machine.proofs.Halves.{left, right}
+use Rattle.machine_soundness.proofs.Lists.{all-end, all-filter, all-get, equal, get-last, length-set, unequal}
 use Rattle.machine_soundness.proofs.Greenlets.{at, live-more, none-next, plain-found, unstarted-not-live}
 use Rattle.machine_soundness.proofs.Deliveries.{all-without, asleep-free, claimed, first-kept, free-moves, kept-without, later, no-wait-left, offer-gone, owned, start-gone, take_answer-kept}
 use Rattle.machine_soundness.proofs.Requests.{flag-plain, next-plain, next-unclaimed, object-plain}
-use Rattle.machine_soundness.proofs.Singles.{same-turned}
+use Rattle.machine.proofs.Soundness.{same-symmetric}
 use Rattle.machine_soundness.proofs.States.{all-settle, ascends, kept-drop, kept-made, kept-object, kept-say, kept-settle, meants, singles}
 use Rattle.machine_texts.specs.Kinds.{kinds}
 use Rattle.machine_texts.proofs.KindLemmas.{first-kinds, flag-kept, freed-kept, kinds-map, kinds-set, offer_gone-kept}
@@ -114,8 +116,8 @@ claim-gone low next (suc n) c (j ∷ items) i f h k e =
     let rest = claim-gone (j.since + 1) next n c items i f (right (nat_le low j.since) _ h) (right (is_unclaimed (claim_of j.delivery) items) _ k) e in
     let apart : not (same_claim (claim_of j.delivery) (claim_of i.delivery)) ≡ true = all-get _ items n i e (left _ (are_single items) k) in
     let told : not (same_claim (claim_of j.delivery) (Some c)) ≡ true = subst (λ (x : Option Claim). not (same_claim (claim_of j.delivery) x) ≡ true) f apart in
-    let mine : not (same_claim (Some c) (claim_of j.delivery)) ≡ true = ap not (same-turned (Some c) (claim_of j.delivery)) ∙ told in
-    subst (λ (b : Bool). is_unclaimed (Some c) (if b then items else (j ∷ without i.since items)) ≡ true) (sym other) (both _ _ mine rest)
+    let mine : not (same_claim (Some c) (claim_of j.delivery)) ≡ true = ap not (same-symmetric (Some c) (claim_of j.delivery)) ∙ told in
+    subst (λ (b : Bool). is_unclaimed (Some c) (if b then items else (j ∷ without i.since items)) ≡ true) (sym other) (and_from _ _ mine rest)
 
 sides-taken : (n : ℕ) (i : Item) (s : State) → IsKept s → slice_get s.items n ≡ Some i → is_numbered i ≡ true → Sides s → Sides (without_item i s)
 sides-taken n i s kept there numbered m = let less = count-fewer (λ (j : Item). is_kill j.delivery) i.since s.items in let k = m.kills in record { kills = omega (arith, less, k); bodies = m.bodies; fit = m.fit; known = known-items s.scenario s.greenlets s.items (without i.since s.items) s.objects (λ p e. all-without p i.since s.items e) m.known; offers = offers-items s.objects s.items (without i.since s.items) s.next_since (λ p e. all-without p i.since s.items e) (λ o k e. any-without (awaits_taking o k) 0 s.next_since n s.items i (ascends s kept.sound) there (numbered-unawaited o k i numbered) ∙ e) m.offers }
@@ -333,7 +335,7 @@ linked b n k g kind f call i s is there numbered st m =
       once = refl;
       last = refl;
       parked = refl;
-      links = both _ _ (m.ties.ended g ∙ over) (once (list_any (is_link_line k) m.story.past) refl);
+      links = and_from _ _ (m.ties.ended g ∙ over) (once (list_any (is_link_line k) m.story.past) refl);
       rising = refl;
       jobs = refl;
     }
@@ -359,7 +361,7 @@ linked b n k g kind f call i s is there numbered st m =
       where
         links : (j : ℕ) (c : Bool) → (j == k) ≡ c → (c || list_any (is_link_line j) m.story.past) ≡ true →
             (nat_le j s.links && is_unclaimed (Some (Claim.LinkNumbered j)) (without i.since s.items)) ≡ true
-        links j true e f = subst (λ z. (nat_le z s.links && is_unclaimed (Some (Claim.LinkNumbered z)) (without i.since s.items)) ≡ true) (sym (equal j k e)) (both _ _ low gone)
+        links j true e f = subst (λ z. (nat_le z s.links && is_unclaimed (Some (Claim.LinkNumbered z)) (without i.since s.items)) ≡ true) (sym (equal j k e)) (and_from _ _ low gone)
         links j false e f = t.links j f
 
 called-at : (b : History) (k g : ℕ) (kind : LinkKind) (f : ℕ) (s : State) → (HasMain s.scenario → fits_link s.scenario kind f ≡ true) → is_settled s ≡ true → Ends b s → ((call : LinkCall) → Rests b (say (Line.Link k g call) s)) → At b (called k g kind f s)
@@ -480,7 +482,7 @@ lawful-done h s k (Question.Wait until) (Answer.Nothing t) l m = refl
 lawful-done h s k q (Answer.Elapsed t) l m = refl
 lawful-done h s k q (Answer.Done j o t) l m =
     let told = m.jobs j l.0.0 l.0.1 in
-    both _ _ (both _ _ (eq-one (count_by (is_job_line j) h.past) told.one) (ap not (m.done j ∙ l.1)))
+    and_from _ _ (and_from _ _ (eq-one (count_by (is_job_line j) h.past) told.one) (ap not (m.done j ∙ l.1)))
     (subst (λ z. gives_outcome z (find (is_job_line j) h.past) ≡ true) (sym l.0.2) told.gives)
 
 rising : (a c d : ℕ) → c ≡ d → d ≤ a → nat_le c a ≡ true
@@ -656,7 +658,7 @@ first-ties c =
 pub begins-at : (c : Scenario) → IsFitText c → At at_first (starts lands 0 [] (first_state c))
 begins-at c text =
     starts-new at_first 0 [] (first_state c) refl refl refl refl refl (first-kept c) at_first (tells-nothing at_first) (first-ties c)
-    (λ k e p l. absurd (parked k l)) (λ e. absurd (cc e)) (record { kills = omega arith; bodies = text; fit = refl; known = λ w. record { functions = both _ true w refl; named = refl; declared = first-kinds c.objects }; offers = offers-first c.objects (first_state c).next_since }) refl
+    (λ k e p l. absurd (parked k l)) (λ e. absurd (cc e)) (record { kills = omega arith; bodies = text; fit = refl; known = λ w. record { functions = and_from _ true w refl; named = refl; declared = first-kinds c.objects }; offers = offers-first c.objects (first_state c).next_since }) refl
   where
     parked : (k : ℕ) → is_live (phase_of k (first_state c).greenlets) ≡ true → ⊥
     parked zero l = cc l

@@ -1,5 +1,6 @@
 -- Each request, and a whole move, lawfully.
 use Rattle.std.proofs.Common.{◌≡◌, refl, ap, ◌∙◌, sym, subst, ℕ, zero, suc, ◌+◌, ◌-◌, Bool, true, false, List, [], ◌∷◌, length, arith}
+use Rattle.std.proofs.lemmas.Bool.{and_from}
 use Rattle.std.proofs.lemmas.Bool.Decides.{nat_tests}
 use Rattle.std.specs.Prelude.{not, ◌==◌, ◌&&◌, ◌||◌, slice_get, slice_set, Option, Some, None, if◌then◌else◌, nat_lt, nat_le, unwrap_or, min, ℤ, pos, negsuc, find}
 use Rattle.std.specs.List.{list_any}
@@ -47,7 +48,8 @@ use Rattle.machine.specs.Waits.{Performed, comes, raises, nothing, maps}
 use Rattle.machine.specs.Objects.{with_object, object_at, name_of_object}
 use Rattle.machine_soundness.specs.Going.{is_plain, is_meant_request, next_did, IsKept}
 use Rattle.machine_soundness.specs.Laws.{is_wake_of}
-use Rattle.machine_soundness.proofs.Lists.{left, right, both, all-end, all-set, all-of, next-other, at-most, above, equal, unequal}
+use Rattle.machine.proofs.Halves.{left, right}
+use Rattle.machine_soundness.proofs.Lists.{all-end, all-set, all-of, next-other, at-most, above, equal, unequal}
 use Rattle.machine_soundness.proofs.Greenlets.{at, plain-here, live-at, live-found, live-phase, live-set, new-found, phase-other, host-plain, plain-raw, plain-set}
 use Rattle.machine_soundness.proofs.Chains.{phase-kept}
 use Rattle.machine_soundness.proofs.Deliveries.{asleep-free}
@@ -187,7 +189,7 @@ ties-linked h s t =
       ended = t.ended;
       fresh = t.fresh;
       parked = t.parked;
-      links = λ n e. both _ _ (above n s.links (left _ _ (t.links n e))) (right (nat_le n s.links) _ (t.links n e));
+      links = λ n e. and_from _ _ (above n s.links (left _ _ (t.links n e))) (right (nat_le n s.links) _ (t.links n e));
       jobs = t.jobs;
       fewer = t.fewer;
       done = t.done;
@@ -375,7 +377,7 @@ performs-at b (Request.Kill v f how) g h s e q m =
     alone b g h s (typed (plain_greenlet s v) s (λ k. typed (fault_operand f) s (λ fault. kills g (Awaited.Kill (Whom.Greenlet k)) fault (k ∷ []) how s))) e m
     (λ n. typed-at b g g (plain_greenlet s v) s (λ k. typed (fault_operand f) s (λ fault. kills g (Awaited.Kill (Whom.Greenlet k)) fault (k ∷ []) how s)) n
     (λ k z. typed-at b g g (fault_operand f) s (λ fault. kills g (Awaited.Kill (Whom.Greenlet k)) fault (k ∷ []) how s) n
-    (λ fault y. kills-at b g (Awaited.Kill (Whom.Greenlet k)) fault (k ∷ []) how s (both (not (greenlet k s).raw) true (ap not (plain_greenlet-raw s v k z)) refl) n)))
+    (λ fault y. kills-at b g (Awaited.Kill (Whom.Greenlet k)) fault (k ∷ []) how s (and_from (not (greenlet k s).raw) true (ap not (plain_greenlet-raw s v k z)) refl) n)))
 performs-at b (Request.KillAll v f how) g h s e q m =
     alone b g h s (typed (plain_greenlet_list s v) s (λ ks. typed (fault_operand f) s (λ fault. kills g Awaited.KillAll fault ks how s))) e m
     (λ n. typed-at b g g (plain_greenlet_list s v) s (λ ks. typed (fault_operand f) s (λ fault. kills g Awaited.KillAll fault ks how s)) n
@@ -546,7 +548,7 @@ enters-at b g h ms silent body locals todo s p fits same m =
     entered (Some ms) =
         let u = record s { timeouts = s.timeouts + 1 } in
         let moved : Moves g h (add_item (Delivery.Timeout g (s.timeouts + 1) (s.moment + ms)) u) =
-        moves-add (Delivery.Timeout g (s.timeouts + 1) (s.moment + ms)) g h u (timeout-unclaimed s m.moves.kept) (both _ _ m.moves.live (at-most (s.timeouts + 1))) p refl (moves-timeout g h s m.moves) in
+        moves-add (Delivery.Timeout g (s.timeouts + 1) (s.moment + ms)) g h u (timeout-unclaimed s m.moves.kept) (and_from _ _ m.moves.live (at-most (s.timeouts + 1))) p refl (moves-timeout g h s m.moves) in
         record {
           moves = moved;
           loose = loose-timed b g h (s.timeouts + 1) (s.moment + ms) u moved.kept (loose-drawn b g h s (goes-loose b g h s m));
@@ -579,7 +581,7 @@ goes-live b g h frame s fits same m =
 
     own : is_fit_greenlet s.scenario new ≡ true
     own =
-        both (if new.raw then is_raw_function s.scenario new.function else true) (fits_rest s.scenario (not (greenlet g s).raw) frame.todo)
+        and_from (if new.raw then is_raw_function s.scenario new.function else true) (fits_rest s.scenario (not (greenlet g s).raw) frame.todo)
         (left (if new.raw then is_raw_function s.scenario new.function else true) (fits_phase s.scenario (not new.raw) (greenlet g s).phase) (greenlet-fit s.scenario g s.greenlets m.sides.fit)) fits
 
     blocks : (k : ℕ) (c : Bool) → (g == k) ≡ c → withins_at (phase_of k (slice_set s.greenlets g new)) ≡ withins_at (phase_of k s.greenlets)

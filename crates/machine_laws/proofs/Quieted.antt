@@ -1,5 +1,6 @@
 -- A settled state in which no item has a number is quiet, and so is each state at a block line.
 use Rattle.std.proofs.Common.{◌≡◌, refl, ap, ◌∙◌, sym, subst, ℕ, zero, suc, ◌+◌, ◌-◌, Bool, true, false, List, [], ◌∷◌, ◌++◌, length, cond, arith}
+use Rattle.std.proofs.lemmas.Bool.{and_from}
 use Rattle.std.proofs.lemmas.Bool.Decides.{nat_tests}
 use Rattle.std.proofs.lemmas.List.Sums.{sum_by-cons}
 use Rattle.std.specs.Prelude.{not, ◌==◌, ◌&&◌, ◌||◌, Option, Some, None, is_none, if◌then◌else◌, nat_le, nat_lt, slice_get, slice_set}
@@ -29,7 +30,8 @@ use Rattle.machine.specs.Objects.{object_at}
 use Rattle.machine_soundness.specs.Going.{IsKept}
 use Rattle.machine_soundness.specs.Laws.{is_wake_of}
 use Rattle.machine_soundness.proofs.Deliveries.{take_answer-kept}
-use Rattle.machine_soundness.proofs.Lists.{all-get, all-imply2, both, equal, left, length-set, right}
+use Rattle.machine.proofs.Halves.{left, right}
+use Rattle.machine_soundness.proofs.Lists.{all-get, all-imply2, equal, length-set}
 use Rattle.machine_soundness.proofs.States.{all-settle, ascends}
 use Rattle.machine_texts.specs.Texts.{IsFitText, is_held}
 use Rattle.machine_laws.specs.Reached.{Reached}
@@ -50,7 +52,7 @@ use Rattle.machine_laws.proofs.Runs.{IsReady, Left, exit-passed, ready-block_lin
 
 all-by-get : {X : Type 0} (p : X → Bool) (xs : List X) → ((n : ℕ) (x : X) → slice_get xs n ≡ Some x → p x ≡ true) → list_all p xs ≡ true
 all-by-get p [] f = refl
-all-by-get p (x ∷ xs) f = both (p x) _ (f zero x refl) (all-by-get p xs (λ n y e. f (suc n) y e))
+all-by-get p (x ∷ xs) f = and_from (p x) _ (f zero x refl) (all-by-get p xs (λ n y e. f (suc n) y e))
 
 any-get : {X : Type 0} (p : X → Bool) (xs : List X) (n : ℕ) (x : X) → slice_get xs n ≡ Some x → p x ≡ true → list_any p xs ≡ true
 any-get p [] n x e h = absurd (cc e)
@@ -386,14 +388,14 @@ unpolled false rest until e = refl
 block-quiet : (c : Scenario) (b : History) (q : Question) (s : State) (states : List State) → question s ≡ Some q → IsReady c b s → list_all is_quiet states ≡ true →
     list_all is_quiet (blocked_at q s ++ states) ≡ true
 block-quiet c b Question.Poll s states z m h = h
-block-quiet c b (Question.Wait until) s states z m h = both _ _ (quiet-at c b s m (unpolled (any_numbered s.items) _ until z)) h
+block-quiet c b (Question.Wait until) s states z m h = and_from _ _ (quiet-at c b s m (unpolled (any_numbered s.items) _ until z)) h
 
 question-quiet : (c : Scenario) → (go : GoingOn) → GoesQuietly c go → (budget : ℕ) (q : Option Question) (source : Source) (b : History) (s : State) → question s ≡ q → s ≡ silent s →
     IsReady c b s → list_all is_quiet (after_question go budget q source s).blocked ≡ true
 question-quiet c go f budget None source b s z e m =
     let p = exit-passed c budget b s e m in
     let part = loop_exit budget (block_line s) in
-    both _ _ (quiet-at c b s m (unasked (any_numbered s.items) _ z)) (exit-quiet c go f (with_posts s.moment part.posts source) p.0 part.next p.2)
+    and_from _ _ (quiet-at c b s m (unasked (any_numbered s.items) _ z)) (exit-quiet c go f (with_posts s.moment part.posts source) p.0 part.next p.2)
 question-quiet c go f budget (Some q) source b s z e m =
     let ready = ready-block_line c b s e m in
     block-quiet c b q s (asks go q source (silent (block_line s))).blocked z m

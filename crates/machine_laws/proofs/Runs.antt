@@ -3,24 +3,22 @@ use Rattle.std.proofs.Common.{◌≡◌, refl, ap, ◌∙◌, sym, subst, ℕ, z
 use Rattle.std.specs.Prelude.{Option, Some, None, if◌then◌else◌, is_some, nat_lt, slice_get}
 use Rattle.gv_values.specs.declared.fault.FaultKind.{FaultKind}
 use Rattle.gv_values.specs.declared.job.Answer.{Answer}
-use Rattle.gv_values.specs.declared.job.JobOutcome.{JobOutcome}
 use Rattle.world_rules.specs.declared.question.Question.{Question}
-use Rattle.world_rules.specs.Legal.{AreLegal, IsLegal, moment_of}
+use Rattle.world_rules.specs.Legal.{AreLegal, IsLegal}
 use Rattle.world_rules.specs.Script.{scripted, without}
 use Rattle.scenario_tree.specs.declared.tree.Scenario.{Scenario}
 use Rattle.trace_text.specs.declared.line.Blocked.{Blocked}
 use Rattle.trace_text.specs.declared.line.Line.{Line}
 use Rattle.trace_text.specs.declared.line.StopCause.{StopCause}
 use Rattle.machine.specs.declared.items.Item.{Item}
-use Rattle.machine.specs.declared.state.JobState.{JobState}
 use Rattle.machine.specs.State.{State, say}
-use Rattle.machine.specs.Questions.{any_numbered, arrives, block_line, is_numbered, job_done, question, take_answer}
+use Rattle.machine.specs.Questions.{any_numbered, block_line, is_numbered, question, take_answer}
 use Rattle.machine.specs.Deliveries.{deliver, interrupts}
 use Rattle.machine.specs.TraceLaws.{meets_laws}
-use Rattle.machine.specs.Holds.{job_at}
 use Rattle.machine.specs.Landing.{Next, lands, starts}
 use Rattle.machine.specs.Moves.{move}
 use Rattle.machine.specs.Run.{GoingOn, Passed, Ran, Source, after_answer, after_delivery, after_exit, after_question, after_start, after_turn, asks, deliveries, delivers_one, first_state, given_out, least_below, logged, loop_exit, nearer, passed, rests, run_from, run_turns, runs, silent, stopped, turn, with_posts, with_this}
+use Rattle.machine.proofs.Answered.{posts-answered}
 use Rattle.machine_soundness.proofs.States.{kept-say}
 use Rattle.machine_texts.specs.Texts.{IsFitText}
 use Rattle.machine_laws.specs.Reached.{Reached}
@@ -287,19 +285,6 @@ exit-lawful : (c : Scenario) (go : GoingOn) → GoesLawfully c go → (source : 
 exit-lawful c go f source h (Next.Over cause s) l = lawful-stopped h cause s
 exit-lawful c go f source h (Next.Resting s) l = f source h s l.2 (record { rests = l.0; is_calm = l.1; reached = l.3 })
 exit-lawful c go f source h (Next.Going g s) l = lawful-stopped h StopCause.NoMoves s
-
-posts-arrived : (j : ℕ) (o : JobOutcome) (job : Option JobState) (s : State) → (arrives j o job s).posts ≡ s.posts
-posts-arrived j o None s = refl
-posts-arrived j o (Some job) s = refl
-
-posts-done : (a : Answer) (s : State) → (job_done a s).posts ≡ s.posts
-posts-done (Answer.Done j o t) s = posts-arrived j o (job_at j s.jobs) s
-posts-done (Answer.Elapsed t) s = refl
-posts-done (Answer.Nothing t) s = refl
-
-pub posts-answered : (a : Answer) (s : State) → (take_answer a s).posts ≡ s.posts
-unfolding take_answer
-posts-answered a s = posts-done a (record s { moment = moment_of a })
 
 answer-lawful : (c : Scenario) (go : GoingOn) → GoesLawfully c go → (source : Source) (b : History) (q : Question) (a : Answer) (s : State) → s ≡ silent s → (m : Rests b s) → m.story ≡ b →
     Reached c (Next.Resting s) → IsLawfulRun b (after_answer go source q a s)

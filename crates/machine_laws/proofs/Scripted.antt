@@ -22,14 +22,16 @@ use Rattle.machine.specs.State.{State, say}
 use Rattle.machine.specs.Questions.{any_numbered, any_outstanding, asks_wait, block_line, is_outstanding, least_deadline, question, take_answer}
 use Rattle.machine.specs.Landing.{Next, lands, starts}
 use Rattle.machine.specs.Run.{GoingOn, Passed, Ran, Source, after_answer, after_exit, after_question, after_start, after_turn, asks, due_jobs, first_state, given_out, logged, loop_exit, run_turns, runs, script_run, silent, turn, with_posts}
-use Rattle.machine_soundness.proofs.Lists.{equal, left, right}
+use Rattle.machine.proofs.Halves.{left, right}
+use Rattle.machine.proofs.Answered.{posts-answered}
+use Rattle.machine_soundness.proofs.Lists.{equal}
 use Rattle.machine_laws.specs.Reached.{Reached}
 use Rattle.machine_texts.specs.Texts.{IsFitText}
 use Rattle.machine_histories.proofs.Histories.{History, Tells, as_posted, at_first}
 use Rattle.machine_histories.proofs.Ties.{IsHeard, are_counted}
 use Rattle.machine_histories.proofs.Goings.{Rests}
 use Rattle.machine_laws.proofs.Delivered.{begins-at, last-end, take_answer-at, with_answer}
-use Rattle.machine_laws.proofs.Runs.{IsReady, Left, exit-passed, posts-answered, posts-block_line, ready-block_line, rests-silent, runs-passed, turn-passed}
+use Rattle.machine_laws.proofs.Runs.{IsReady, Left, exit-passed, posts-block_line, ready-block_line, rests-silent, runs-passed, turn-passed}
 
 -- ---- posts
 

@@ -1,5 +1,6 @@
 -- Each offer of a channel has its Wake, and what is done to objects and items keeps it so.
 use Rattle.std.proofs.Common.{◌≡◌, refl, ap, ◌∙◌, sym, subst, ℕ, zero, suc, ◌+◌, Bool, true, false, List, [], ◌∷◌, ◌++◌, map, cond, inl, inr, ◌⊎◌, arith}
+use Rattle.std.proofs.lemmas.Bool.{and_from}
 use Rattle.std.proofs.lemmas.Bool.Decides.{nat_tests}
 use Rattle.std.specs.Prelude.{not, ◌==◌, ◌&&◌, ◌||◌, Option, Some, None, if◌then◌else◌, is_some, nat_le, filter, drop, slice_get, slice_set, unwrap_or}
 use Rattle.std.specs.List.{list_all, list_any}
@@ -22,7 +23,8 @@ use Rattle.machine.specs.Settle.{number_after, settle, settled, settled_ready}
 use Rattle.machine.specs.Soundness.{Claim, are_single, claim_of, is_unclaimed, same_claim}
 use Rattle.machine_soundness.specs.Going.{has_no_wait}
 use Rattle.machine_soundness.specs.Laws.{is_late_of, is_wake_of}
-use Rattle.machine_soundness.proofs.Lists.{all-end, all-filter, all-get, all-imply, both, equal, left, right}
+use Rattle.machine.proofs.Halves.{left, right}
+use Rattle.machine_soundness.proofs.Lists.{all-end, all-filter, all-get, all-imply, equal}
 use Rattle.machine_soundness.proofs.States.{all-settle}
 use Rattle.machine_offers.specs.Offers.{awaits_taking, is_offered_on, offers_at, offers_of}
 use Rattle.machine_offers.proofs.Anys.{any-end, any-filter, any-kept}
@@ -103,7 +105,7 @@ rise-lower low high next [] h k = grind (arith, nat_tests, h, k)
 rise-lower low high next (f ∷ fs) h k =
     let above : nat_le high f.since ≡ true = left _ (rise (f.since + 1) next fs) k in
     let lower : nat_le low f.since ≡ true = grind (arith, nat_tests, h, above) in
-    both (nat_le low f.since) (rise (f.since + 1) next fs) lower (right (nat_le high f.since) _ k)
+    and_from (nat_le low f.since) (rise (f.since + 1) next fs) lower (right (nat_le high f.since) _ k)
 
 rise-on : (low since next : ℕ) (fs : List Offer) → nat_le low since ≡ true → rise (since + 1) next fs ≡ true → rise low next fs ≡ true
 rise-on low since next fs h k = let lower : nat_le low (since + 1) ≡ true = grind (arith, nat_tests, h) in rise-lower low (since + 1) next fs lower k
@@ -124,7 +126,7 @@ rise-filter kept low next (f ∷ fs) h = by (kept f) (rise-filter kept (f.since 
     own = left _ (rise (f.since + 1) next fs) h
 
     by : (b : Bool) → rise (f.since + 1) next (filter kept fs) ≡ true → rise low next (cond b (f ∷ filter kept fs) (filter kept fs)) ≡ true
-    by true e = both (nat_le low f.since) _ own e
+    by true e = and_from (nat_le low f.since) _ own e
     by false e = rise-on low f.since next (filter kept fs) own e
 
 fewer-filter : (kept : Offer → Bool) (old : List Offer) → IsFewer old (filter kept old)
@@ -333,7 +335,7 @@ FitsTwins d items = Unit {0}
 
 rise-more : (low next : ℕ) (fs : List Offer) → rise low next fs ≡ true → rise low (next + 1) fs ≡ true
 rise-more low next [] h = grind (arith, nat_tests, h)
-rise-more low next (f ∷ fs) h = both (nat_le low f.since) _ (left _ (rise (f.since + 1) next fs) h) (rise-more (f.since + 1) next fs (right (nat_le low f.since) _ h))
+rise-more low next (f ∷ fs) h = and_from (nat_le low f.since) _ (left _ (rise (f.since + 1) next fs) h) (rise-more (f.since + 1) next fs (right (nat_le low f.since) _ h))
 
 twins-add : (d : Delivery) (next g : ℕ) (items : List Item) → FitsTwins d items → HasNoLate g items ⊎ HasNoOffer g items →
     HasNoLate g (items ++ record { since = next; delivery = d; ready = None } ∷ []) ⊎ HasNoOffer g (items ++ record { since = next; delivery = d; ready = None } ∷ [])
@@ -381,8 +383,8 @@ rise-end : (low next : ℕ) (fs : List Offer) (f : Offer) → f.since ≡ next �
 rise-end low next [] f e h =
     let own : nat_le low f.since ≡ true = grind (arith, nat_tests, e, h) in
     let top : nat_le (f.since + 1) (next + 1) ≡ true = grind (arith, nat_tests, e) in
-    both (nat_le low f.since) _ own top
-rise-end low next (y ∷ fs) f e h = both (nat_le low y.since) _ (left _ (rise (y.since + 1) next fs) h) (rise-end (y.since + 1) next fs f e (right (nat_le low y.since) _ h))
+    and_from (nat_le low f.since) _ own top
+rise-end low next (y ∷ fs) f e h = and_from (nat_le low y.since) _ (left _ (rise (y.since + 1) next fs) h) (rise-end (y.since + 1) next fs f e (right (nat_le low y.since) _ h))
 
 or-true : (a : Bool) → (a || true) ≡ true
 or-true true = refl
@@ -415,7 +417,7 @@ offers-offered g o v objects items next free m =
 
     here : (n : ℕ) (c : Bool) → (next == n) ≡ c → (list_any (is_offer_of n) (offers_at o objects) || c) ≡ true → list_any (awaits_taking o n) (items ++ new ∷ []) ≡ true
     here n true e h =
-        let own : awaits_taking o n new ≡ true = both (next == n && o == o) true (both (next == n) (o == o) e (itself o)) refl in
+        let own : awaits_taking o n new ≡ true = and_from (next == n && o == o) true (and_from (next == n) (o == o) e (itself o)) refl in
         any-end (awaits_taking o n) items new ∙ ap (λ b. list_any (awaits_taking o n) items || b) own ∙ or-true (list_any (awaits_taking o n) items)
     here n false e h = old.waited o n (or (list_any (is_offer_of n) (offers_at o objects)) h)
       where
@@ -466,7 +468,7 @@ any-settled hold o n f k (i ∷ items) e = by (awaits_taking o n i) refl e (any-
         let since : i.since ≡ n = awaits-since o n i z in
         let offered = awaits-offered o n i z in
         let out : hold i.since i.delivery ≡ false = subst (λ m. hold m i.delivery ≡ false) (sym since) (of i.delivery offered) in
-        both (i.since == n && is_offered_on o i.delivery) _ (left (i.since == n && is_offered_on o i.delivery) (not (is_numbered i)) z) (ap (λ b. not (is_some (settled_ready b i.ready k))) out)
+        and_from (i.since == n && is_offered_on o i.delivery) _ (left (i.since == n && is_offered_on o i.delivery) (not (is_numbered i)) z) (ap (λ b. not (is_some (settled_ready b i.ready k))) out)
 
     or : (a b : Bool) → b ≡ true → (a || b) ≡ true
     or true b z = refl
@@ -522,7 +524,7 @@ wake-since g (i ∷ items) h = by i.delivery refl (left _ (are_single items) h) 
     other : (d : Delivery) → i.delivery ≡ d → since_of_wake g (i ∷ items) ≡ since_of_wake g items → is_wake_of g d ≡ false → list_all (has_since g (since_of_wake g items)) items ≡ true → list_all (has_since g (since_of_wake g (i ∷ items))) (i ∷ items) ≡ true
     other d e same f rest =
         subst (λ (o : Option ℕ). list_all (has_since g o) (i ∷ items) ≡ true) (sym same)
-        (both (has_since g (since_of_wake g items) i) _ (others (since_of_wake g items) (ap (λ x. not (is_wake_of g x)) e ∙ ap not f)) rest)
+        (and_from (has_since g (since_of_wake g items) i) _ (others (since_of_wake g items) (ap (λ x. not (is_wake_of g x)) e ∙ ap not f)) rest)
 
     reads : (d : Delivery) → i.delivery ≡ d → (o : Option ℕ) → since_of_wake g (record { since = i.since; delivery = d; ready = i.ready } ∷ items) ≡ o → since_of_wake g (i ∷ items) ≡ o
     reads d e o z = subst (λ (x : Delivery). since_of_wake g (record { since = i.since; delivery = x; ready = i.ready } ∷ items) ≡ o) (sym e) z
@@ -532,7 +534,7 @@ wake-since g (i ∷ items) h = by i.delivery refl (left _ (are_single items) h) 
     wake k w e true z u rest =
         subst (λ (o : Option ℕ). list_all (has_since g o) (i ∷ items) ≡ true)
         (sym (reads (Delivery.Wake k w) e (Some i.since) (ap (λ (b : Bool). if b then Some i.since else since_of_wake g items) z)))
-        (both (has_since g (Some i.since) i) _ (second (not (is_wake_of g i.delivery)) (i.since == i.since) (itself i.since)) (unsaid k i.since z u))
+        (and_from (has_since g (Some i.since) i) _ (second (not (is_wake_of g i.delivery)) (i.since == i.since) (itself i.since)) (unsaid k i.since z u))
     wake k w e false z u rest =
         other (Delivery.Wake k w) e (reads (Delivery.Wake k w) e (since_of_wake g items) (ap (λ (b : Bool). if b then Some i.since else since_of_wake g items) z)) z rest
 

@@ -1,5 +1,6 @@
 -- The items of a state are bounded.
 use Rattle.std.proofs.Common.{◌≡◌, refl, ap, ◌∙◌, sym, subst, ℕ, zero, suc, ◌+◌, ◌*◌, ◌-◌, ◌≤◌, ◌<◌, Bool, true, false, List, [], ◌∷◌, ◌++◌, length, length-append, cond, eqb, arith}
+use Rattle.std.proofs.lemmas.Bool.{and_from}
 use Rattle.std.proofs.lemmas.Bool.Decides.{nat_tests}
 use Rattle.std.proofs.lemmas.List.Sums.{sum_by-cons}
 use Rattle.std.proofs.lemmas.Map.Made.{length-le_from_is_member}
@@ -26,7 +27,7 @@ use Rattle.machine.specs.Moves.{move, look}
 use Rattle.machine.specs.Run.{first_state, silent}
 use Rattle.machine.specs.Soundness.{Claim, are_single, claim_eq, claim_of, is_live, is_meant, is_unclaimed, is_unstarted, same_claim}
 use Rattle.machine_soundness.specs.Going.{IsKept}
-use Rattle.machine_soundness.proofs.Lists.{both, left, right}
+use Rattle.machine.proofs.Halves.{left, right}
 use Rattle.machine_soundness.proofs.States.{meants, singles}
 use Rattle.machine.specs.BodyMoves.{Did}
 use Rattle.machine_soundness.specs.Going.{is_meant_did, next_did}
@@ -335,7 +336,7 @@ links-few s kept held =
         list_all (λ (i : Item). is_meant s i.delivery && is_held s.greenlets i.delivery) items ≡ true
     and-all [] h k = refl
     and-all (i ∷ items) h k =
-        both (is_meant s i.delivery && is_held s.greenlets i.delivery) _ (both (is_meant s i.delivery) (is_held s.greenlets i.delivery) (left _ _ h) (left _ _ k))
+        and_from (is_meant s i.delivery && is_held s.greenlets i.delivery) _ (and_from (is_meant s i.delivery) (is_held s.greenlets i.delivery) (left _ _ h) (left _ _ k))
         (and-all items (right (is_meant s i.delivery) _ h) (right (is_held s.greenlets i.delivery) _ k))
 
     numbered : (n : ℕ) → nat_le n s.links ≡ true → nat_lt 0 n ≡ true → IsLinkNumber s.links n

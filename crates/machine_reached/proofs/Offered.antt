@@ -6,7 +6,7 @@ use Rattle.std.specs.List.{list_any}
 use Rattle.machine.specs.declared.state.Offer.{Offer}
 use Rattle.machine.specs.State.{State}
 use Rattle.machine.specs.Holds.{is_offer_of}
-use Rattle.machine_soundness.proofs.Lists.{left, right}
+use Rattle.machine.proofs.Halves.{left, right}
 use Rattle.machine_offers.specs.Offers.{offers_at}
 use Rattle.machine_offers.proofs.Offers.{AreKeptOffers, rise}
 use Rattle.machine_reached.specs.Offers.{AreOffered}

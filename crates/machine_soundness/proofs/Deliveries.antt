@@ -1,5 +1,6 @@
 -- Deliveries, LoopExit, answers and the beginning, soundly.
 use Rattle.std.proofs.Common.{◌≡◌, refl, ap, ◌∙◌, sym, subst, ℕ, zero, suc, ◌+◌, Bool, true, false, List, [], ◌∷◌, length, map, arith}
+use Rattle.std.proofs.lemmas.Bool.{and_from}
 use Rattle.std.proofs.lemmas.Bool.Decides.{nat_tests}
 use Rattle.std.specs.Prelude.{not, ◌==◌, slice_get, Option, Some, None, if◌then◌else◌, nat_le}
 use Rattle.std.specs.List.{list_all}
@@ -39,8 +40,10 @@ use Rattle.machine.specs.Settle.{settle}
 use Rattle.machine.specs.Soundness.{Claim, ascend, are_single, claim_of, is_live, is_meant, is_unclaimed, same_claim}
 use Rattle.machine.specs.Waits.{completes, late_outcome}
 use Rattle.machine.specs.Objects.{object_at, name_of_object, without_offer}
+use Rattle.machine.proofs.Soundness.{ascend-lower}
 use Rattle.machine_soundness.specs.Going.{is_plain, is_for_plain, has_plain_members, has_no_wait, IsKept, IsSoundAt}
-use Rattle.machine_soundness.proofs.Lists.{left, right, both, all-imply, all-map, all-filter, all-get, all-of, equal}
+use Rattle.machine.proofs.Halves.{left, right}
+use Rattle.machine_soundness.proofs.Lists.{above, all-imply, all-map, all-filter, all-get, all-of, equal}
 use Rattle.machine_soundness.proofs.Greenlets.{plain-raw, plain-phase, none-next, host-plain, unstarted-not-live}
 use Rattle.machine_soundness.proofs.States.{Moves, all-settle, ascends, singles, meants, sound-of, kept-say, kept-settle, kept-drop, kept-object, kept-objects, kept-made}
 use Rattle.machine_soundness.proofs.Landings.{after_end-plain, answered-soundly, starts-soundly}
@@ -55,24 +58,15 @@ all-without p n (i ∷ items) h = by (i.since == n) (all-without p n items (righ
   where
     by : (b : Bool) → list_all p (without n items) ≡ true → list_all p (if b then items else (i ∷ without n items)) ≡ true
     by true rest = right (p i) _ h
-    by false rest = both (p i) _ (left (p i) (list_all p items) h) rest
-
-ascend-lower : (low high next : ℕ) (items : List Item) → nat_le low high ≡ true → ascend high next items ≡ true → ascend low next items ≡ true
-ascend-lower low high next [] h k = grind (arith, nat_tests)
-ascend-lower low high next (i ∷ items) h k =
-    let above : nat_le high i.since ≡ true = left _ (ascend (i.since + 1) next items) k in
-    both _ _ (grind (arith, nat_tests)) (right (nat_le high i.since) _ k)
-
-pub lower : (low n : ℕ) → nat_le low n ≡ true → nat_le low (n + 1) ≡ true
-lower low n h = grind (arith, nat_tests)
+    by false rest = and_from (p i) _ (left (p i) (list_all p items) h) rest
 
 pub ascend-without : (n low next : ℕ) (items : List Item) → ascend low next items ≡ true → ascend low next (without n items) ≡ true
 ascend-without n low next [] h = h
 ascend-without n low next (i ∷ items) h = by (i.since == n) (ascend-without n (i.since + 1) next items (right (nat_le low i.since) _ h))
   where
     by : (b : Bool) → ascend (i.since + 1) next (without n items) ≡ true → ascend low next (if b then items else (i ∷ without n items)) ≡ true
-    by true rest = ascend-lower low (i.since + 1) next items (lower low i.since (left _ (ascend (i.since + 1) next items) h)) (right (nat_le low i.since) _ h)
-    by false rest = both _ _ (left _ (ascend (i.since + 1) next items) h) rest
+    by true rest = ascend-lower low (i.since + 1) next items (above low i.since (left _ (ascend (i.since + 1) next items) h)) (right (nat_le low i.since) _ h)
+    by false rest = and_from _ _ (left _ (ascend (i.since + 1) next items) h) rest
 
 pub single-without : (n : ℕ) (items : List Item) → are_single items ≡ true → are_single (without n items) ≡ true
 single-without n [] h = refl
@@ -80,7 +74,7 @@ single-without n (i ∷ items) h = by (i.since == n) (single-without n items (ri
   where
     by : (b : Bool) → are_single (without n items) ≡ true → are_single (if b then items else (i ∷ without n items)) ≡ true
     by true rest = right (is_unclaimed (claim_of i.delivery) items) _ h
-    by false rest = both _ _ (all-without _ n items (left _ (are_single items) h)) rest
+    by false rest = and_from _ _ (all-without _ n items (left _ (are_single items) h)) rest
 
 pub kept-without : (i : Item) (s : State) → IsKept s → IsKept (without_item i s)
 kept-without i s h =
@@ -117,7 +111,7 @@ start-gone low next (suc n) g (j ∷ items) i c h k e =
     let rest = start-gone (j.since + 1) next n g items i c (right (nat_le low j.since) _ h) (right (is_unclaimed (claim_of j.delivery) items) _ k) e in
     let apart : not (same_claim (claim_of j.delivery) (claim_of i.delivery)) ≡ true = all-get _ items n i e (left _ (are_single items) k) in
     let mine : not (same_claim (Some (Claim.StartOf g)) (claim_of j.delivery)) ≡ true = turned (claim_of j.delivery) (subst (λ (x : Option Claim). not (same_claim (claim_of j.delivery) x) ≡ true) c apart) in
-    subst (λ (b : Bool). is_unclaimed (Some (Claim.StartOf g)) (if b then items else (j ∷ without i.since items)) ≡ true) (sym other) (both _ _ mine rest)
+    subst (λ (b : Bool). is_unclaimed (Some (Claim.StartOf g)) (if b then items else (j ∷ without i.since items)) ≡ true) (sym other) (and_from _ _ mine rest)
   where
     flip : (a b : ℕ) → not (a == b) ≡ true → not (b == a) ≡ true
     flip a b e = let same : (a == b) ≡ (b == a) = grind (arith, nat_tests) in subst (λ z. not z ≡ true) same e
@@ -307,7 +301,7 @@ first-kept c = record { sound = refl; owners = refl; members = none c.objects; m
 
     none : (ds : List Declaration) → list_all (has_plain_members (first_state c).greenlets) (map (λ d. object_of d.object) ds) ≡ true
     none [] = refl
-    none (d ∷ ds) = both _ _ (new d.object) (none ds)
+    none (d ∷ ds) = and_from _ _ (new d.object) (none ds)
 
 pub begins-soundly : (c : Scenario) → IsSoundAt (starts lands 0 [] (first_state c))
 begins-soundly c = starts-soundly 0 [] (first_state c) refl refl refl (first-kept c)

@@ -1,5 +1,6 @@
 -- Each request, and a whole move, soundly.
 use Rattle.std.proofs.Common.{◌≡◌, refl, ap, ◌∙◌, sym, subst, ℕ, zero, suc, ◌+◌, ◌-◌, Bool, true, false, List, [], ◌∷◌, length}
+use Rattle.std.proofs.lemmas.Bool.{and_from}
 use Rattle.std.specs.Prelude.{not, ◌==◌, ◌&&◌, slice_set, Option, Some, None, if◌then◌else◌, nat_lt, nat_le, unwrap_or, min, pos}
 use Rattle.gv_values.specs.declared.value.Value.{Value}
 use Rattle.gv_values.specs.declared.value.Outcome.{Outcome}
@@ -38,7 +39,8 @@ use Rattle.machine.specs.Soundness.{Claim, claim_of, is_live, is_meant, is_uncla
 use Rattle.machine.specs.Waits.{Performed, comes, raises, nothing, maps}
 use Rattle.machine.specs.Objects.{with_object, object_at, name_of_object}
 use Rattle.machine_soundness.specs.Going.{is_plain, is_meant_request, is_meant_did, is_meant_move, next_did, IsKept, IsGoing, IsSoundAt}
-use Rattle.machine_soundness.proofs.Lists.{left, right, both, all-imply, all-of, none-counted, next-other, at-most}
+use Rattle.machine.proofs.Halves.{left, right}
+use Rattle.machine_soundness.proofs.Lists.{all-imply, all-of, none-counted, next-other, at-most}
 use Rattle.machine_soundness.proofs.Greenlets.{at, plain-here, live-at, live-found, live-phase, new-found, raw-set, host-plain, plain-raw, plain-set, raw-found}
 use Rattle.machine_soundness.proofs.Chains.{host-turned, phase-kept}
 use Rattle.machine_soundness.proofs.States.{Moves, moving, meants, kept-settle, kept-greenlets, moves-say, moves-settle, moves-drop, moves-add, moves-object, moves-made, moves-timeout, moves-link, moves-live, moves-ended, plain-phased, host-settle}
@@ -251,7 +253,7 @@ moves-parent child parent g h s r theirs apart m =
     still (Delivery.Start k deadline) e = ap is_unstarted (phase k) ∙ e
     still (Delivery.Wake k w) e = ap is_live (phase k) ∙ e
     still (Delivery.Late k deadline n) e = ap is_live (phase k) ∙ e
-    still (Delivery.Timeout k n deadline) e = both _ _ (ap is_live (phase k) ∙ left _ (nat_le n s.timeouts) e) (right (is_live (phase_of k s.greenlets)) _ e)
+    still (Delivery.Timeout k n deadline) e = and_from _ _ (ap is_live (phase k) ∙ left _ (nat_le n s.timeouts) e) (right (is_live (phase_of k s.greenlets)) _ e)
     still (Delivery.Kill k kind) e = ap is_live (phase k) ∙ e
     still (Delivery.Link n k kind y) e = e
 
@@ -296,7 +298,7 @@ performs-fine (Request.Kill v f how) g h s e m =
     alone g h s (typed (plain_greenlet s v) s (λ k. typed (fault_operand f) s (λ fault. kills g (Awaited.Kill (Whom.Greenlet k)) fault (k ∷ []) how s))) e m
     (λ n. typed-fine g g (plain_greenlet s v) s (λ k. typed (fault_operand f) s (λ fault. kills g (Awaited.Kill (Whom.Greenlet k)) fault (k ∷ []) how s)) n
     (λ k z. typed-fine g g (fault_operand f) s (λ fault. kills g (Awaited.Kill (Whom.Greenlet k)) fault (k ∷ []) how s) n
-    (λ fault y. kills-fine g (Awaited.Kill (Whom.Greenlet k)) fault (k ∷ []) how s (both (not (greenlet k s).raw) true (ap not (plain_greenlet-raw s v k z)) refl) n)))
+    (λ fault y. kills-fine g (Awaited.Kill (Whom.Greenlet k)) fault (k ∷ []) how s (and_from (not (greenlet k s).raw) true (ap not (plain_greenlet-raw s v k z)) refl) n)))
 performs-fine (Request.KillAll v f how) g h s e m =
     alone g h s (typed (plain_greenlet_list s v) s (λ ks. typed (fault_operand f) s (λ fault. kills g Awaited.KillAll fault ks how s))) e m
     (λ n. typed-fine g g (plain_greenlet_list s v) s (λ ks. typed (fault_operand f) s (λ fault. kills g Awaited.KillAll fault ks how s)) n
@@ -374,7 +376,7 @@ enters-soundly g h ms silent body locals todo s p m =
     item None = moves-timeout g h s m
     item (Some ms) =
         moves-add (Delivery.Timeout g (s.timeouts + 1) (s.moment + ms)) g h (record s { timeouts = s.timeouts + 1 })
-        (timeout-unclaimed s m.kept) (both _ _ m.live (at-most (s.timeouts + 1))) p refl (moves-timeout g h s m)
+        (timeout-unclaimed s m.kept) (and_from _ _ m.live (at-most (s.timeouts + 1))) p refl (moves-timeout g h s m)
 
 does-soundly : (g h : ℕ) (locals : List Local) (d : Did) (s : State) → is_meant_did (is_plain s.greenlets g) d ≡ true → Moves g h s → IsSoundAt (does g locals d s)
 does-soundly g h locals (Did.GoesOn how own todo) s e m = goes_on-soundly g h (unwind todo [] how own) (settle s) (moves-settle g h s m)

@@ -1,5 +1,6 @@
 -- What comes of requests, soundly.
 use Rattle.std.proofs.Common.{◌≡◌, refl, ap, ◌∙◌, sym, subst, ℕ, ◌+◌, Bool, true, false, List, [], ◌∷◌, ◌++◌, length, map}
+use Rattle.std.proofs.lemmas.Bool.{and_from}
 use Rattle.std.specs.Prelude.{not, ◌==◌, slice_get, Option, Some, None, if◌then◌else◌, unwrap_or}
 use Rattle.std.specs.List.{list_all}
 use Rattle.gv_values.specs.declared.value.Value.{Value}
@@ -27,7 +28,7 @@ use Rattle.machine.specs.Soundness.{Claim, claim_of, is_meant, is_unclaimed, is_
 use Rattle.machine.specs.Waits.{Performed, add_member, map_ends, maps, map_goes_on, made_member, posted, completes, comes, waits, parked, drawn, draws, until_of, gathered, outcome_of_greenlet, raises, nothing, offered, puts_item, takes_item, peeks_item}
 use Rattle.machine.specs.Objects.{with_object, object_at, no_object, with_unit_taken, with_owner, with_item, with_item_taken, with_member, with_slot_taken, name_of_object, with_offer, with_offer_taken, is_shut, is_left, item_of}
 use Rattle.machine_soundness.specs.Going.{is_plain, has_plain_members, IsKept}
-use Rattle.machine_soundness.proofs.Lists.{both, all-imply, all-end, all-get, get-last, equal}
+use Rattle.machine_soundness.proofs.Lists.{all-imply, all-end, all-get, get-last, equal}
 use Rattle.machine_soundness.proofs.Greenlets.{at, plain-here, plain-raw, none-next, host-plain, plain-more}
 use Rattle.machine_soundness.proofs.Singles.{wake_unclaimed}
 use Rattle.machine_soundness.proofs.States.{IsHost, Moves, meants, kept-say, kept-timeout, kept-add, kept-object, moves-add, moves-object, moves-made, moves-timeout, host-say}
@@ -321,7 +322,7 @@ plain_greenlets-raw s (Scalar.Greenlet g ∷ xs) ks e = by (plain_greenlets s xs
     by (Some gs) true r rest z e = absurd (cc e)
     by (Some gs) false r rest z e =
         let same : g ∷ gs ≡ ks = cc e in
-        subst (AreNotRaw s.greenlets) same (both (not (greenlet g s).raw) _ (ap not r) (rest gs z))
+        subst (AreNotRaw s.greenlets) same (and_from (not (greenlet g s).raw) _ (ap not r) (rest gs z))
 plain_greenlets-raw s (x ∷ xs) ks e = absurd (cc e)
 
 pub plain_greenlet_list-raw : (s : State) (v : Value) (ks : List ℕ) → plain_greenlet_list s v ≡ Some ks → AreNotRaw s.greenlets ks

@@ -1,73 +1,33 @@
 -- Items of which no two say the same, one by one.
 use Rattle.std.proofs.Common.{◌≡◌, ◌≤◌, refl, ap, sym, subst, ◌∙◌, ℕ, zero, suc, ◌+◌, Bool, true, false, cond, List, [], ◌∷◌, ◌++◌, take, drop, arith}
+use Rattle.std.proofs.lemmas.Bool.{and_from}
 use Rattle.std.proofs.lemmas.Bool.Decides.{nat_tests}
 use Rattle.std.proofs.lemmas.List.Sums.{sum_by-cons}
-use Rattle.std.specs.Prelude.{count_by, not, ◌==◌, filter, Option, Some, None}
+use Rattle.std.specs.Prelude.{count_by, not, ◌==◌, Option, Some}
 use Rattle.std.specs.List.{list_all}
 use Rattle.machine.specs.declared.items.Delivery.{Delivery}
 use Rattle.machine.specs.declared.items.Item.{Item}
-use Rattle.machine.specs.Settle.{settled, number_after}
 use Rattle.machine.specs.Items.{is_wait_of}
 use Rattle.machine.specs.Soundness.{Claim, are_single, claim_eq, claim_of, is_unclaimed, same_claim}
 use Rattle.machine_soundness.specs.Going.{has_no_wait}
-use Rattle.machine_soundness.proofs.Lists.{left, right, both, all-end, all-filter, all-imply}
-use Rattle.machine_soundness.proofs.States.{all-settled}
-
-pub single_filter : (p : Item → Bool) (items : List Item) → are_single items ≡ true → are_single (filter p items) ≡ true
-single_filter p [] h = h
-single_filter p (i ∷ items) h = by (p i) (single_filter p items (right (is_unclaimed (claim_of i.delivery) items) _ h))
-  where
-    by : (b : Bool) → are_single (filter p items) ≡ true → are_single (cond b (i ∷ filter p items) (filter p items)) ≡ true
-    by true rest = both _ _ (all-filter p _ _ items (λ j k e. e) (left _ (are_single items) h)) rest
-    by false rest = rest
-
-pub single_settled : (hs : List Bool) (n : ℕ) (items : List Item) → are_single items ≡ true → are_single (settled hs n items) ≡ true
-single_settled [] n items h = h
-single_settled (b ∷ hs) n [] h = h
-single_settled (b ∷ hs) n (i ∷ items) h =
-    both _ _ (all-settled (λ d. not (same_claim (claim_of i.delivery) (claim_of d))) hs (number_after b i.ready n) items ∙ left _ (are_single items) h)
-    (single_settled hs (number_after b i.ready n) items (right (is_unclaimed (claim_of i.delivery) items) _ h))
+use Rattle.machine.proofs.Halves.{left, right}
+use Rattle.machine_soundness.proofs.Lists.{all-imply}
 
 itself : (a : ℕ) → (a == a) ≡ true
 itself a = grind (arith, nat_tests)
-
-turned : (a b : ℕ) → (a == b) ≡ (b == a)
-turned a b = grind (arith, nat_tests)
-
-claim-turned : (a b : Claim) → claim_eq a b ≡ claim_eq b a
-claim-turned (Claim.StartOf g) (Claim.StartOf h) = turned g h
-claim-turned (Claim.WakeOf g) (Claim.WakeOf h) = turned g h
-claim-turned (Claim.LateOf g) (Claim.LateOf h) = turned g h
-claim-turned (Claim.TimeoutNumbered g) (Claim.TimeoutNumbered h) = turned g h
-claim-turned (Claim.LinkNumbered g) (Claim.LinkNumbered h) = turned g h
-claim-turned a b = refl
-
-pub same-turned : (a b : Option Claim) → same_claim a b ≡ same_claim b a
-same-turned (Some a) (Some b) = claim-turned a b
-same-turned None None = refl
-same-turned None (Some b) = refl
-same-turned (Some a) None = refl
-
-pub single_more : (items : List Item) (i : Item) → is_unclaimed (claim_of i.delivery) items ≡ true → are_single items ≡ true → are_single (items ++ i ∷ []) ≡ true
-single_more [] i h k = refl
-single_more (j ∷ items) i h k =
-    let other : not (same_claim (claim_of j.delivery) (claim_of i.delivery)) ≡ true =
-    ap not (same-turned (claim_of j.delivery) (claim_of i.delivery)) ∙ left _ (is_unclaimed (claim_of i.delivery) items) h in
-    both _ _ (all-end _ items i (left _ (are_single items) k) other)
-    (single_more items i (right (not (same_claim (claim_of i.delivery) (claim_of j.delivery))) _ h) (right (is_unclaimed (claim_of j.delivery) items) _ k))
 
 all-removed : (p : Item → Bool) (at : ℕ) (items : List Item) → list_all p items ≡ true → list_all p (take at items ++ drop (suc at) items) ≡ true
 all-removed p zero [] h = h
 all-removed p (suc at) [] h = h
 all-removed p zero (i ∷ items) h = right (p i) _ h
-all-removed p (suc at) (i ∷ items) h = both (p i) _ (left (p i) (list_all p items) h) (all-removed p at items (right (p i) _ h))
+all-removed p (suc at) (i ∷ items) h = and_from (p i) _ (left (p i) (list_all p items) h) (all-removed p at items (right (p i) _ h))
 
 pub single_removed : (at : ℕ) (items : List Item) → are_single items ≡ true → are_single (take at items ++ drop (suc at) items) ≡ true
 single_removed zero [] h = h
 single_removed (suc at) [] h = h
 single_removed zero (i ∷ items) h = right (is_unclaimed (claim_of i.delivery) items) _ h
 single_removed (suc at) (i ∷ items) h =
-    both _ _ (all-removed _ at items (left _ (are_single items) h)) (single_removed at items (right (is_unclaimed (claim_of i.delivery) items) _ h))
+    and_from _ _ (all-removed _ at items (left _ (are_single items) h)) (single_removed at items (right (is_unclaimed (claim_of i.delivery) items) _ h))
 
 -- who waits for nothing has no Wake
 pub wake_unclaimed : (g : ℕ) (items : List Item) → has_no_wait g items ≡ true → is_unclaimed (Some (Claim.WakeOf g)) items ≡ true

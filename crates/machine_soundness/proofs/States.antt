@@ -1,12 +1,12 @@
 -- What keeps a state sound.
-use Rattle.std.proofs.Common.{◌≡◌, refl, ap, ◌∙◌, sym, subst, ℕ, ◌+◌, ◌≤◌, Bool, true, false, List, [], ◌∷◌, length, length-append, map, arith}
+use Rattle.std.proofs.Common.{◌≡◌, refl, ap, ◌∙◌, sym, subst, ℕ, ◌+◌, ◌≤◌, Bool, true, false, List, ◌∷◌, length, length-append, map, arith}
+use Rattle.std.proofs.lemmas.Bool.{and_from, not-true}
 use Rattle.std.specs.Prelude.{not, ◌==◌, ◌&&◌, Some, nat_le}
 use Rattle.std.specs.List.{list_all}
 use Rattle.gv_values.specs.declared.value.Value.{Value}
 use Rattle.gv_values.specs.declared.value.Outcome.{Outcome}
 use Rattle.trace_text.specs.declared.line.Line.{Line}
 use Rattle.machine.specs.declared.items.Delivery.{Delivery}
-use Rattle.machine.specs.declared.items.Item.{Item}
 use Rattle.machine.specs.declared.state.Frame.{Frame}
 use Rattle.machine.specs.declared.state.Greenlet.{Greenlet}
 use Rattle.machine.specs.declared.state.Object.{Object}
@@ -18,12 +18,13 @@ use Rattle.machine.specs.Greenlets.{with_phase, greenlet, add_greenlet}
 use Rattle.machine.specs.Ends.{ended}
 use Rattle.machine.specs.Objects.{without_member}
 use Rattle.machine.specs.Hosts.{host_within, host_of}
-use Rattle.machine.specs.Settle.{settle, settled, number_after}
+use Rattle.machine.specs.Settle.{settle}
 use Rattle.machine.specs.Soundness.{Claim, ascend, are_single, claim_of, is_live, is_meant, is_sound, is_unclaimed, is_unstarted, same_claim}
 use Rattle.machine.specs.Objects.{with_object}
-use Rattle.machine.proofs.Soundness.{sound-settle, sound-drop_items, sound-add_item}
+use Rattle.machine.proofs.Soundness.{list_all-settled, sound-settle, sound-drop_items, sound-add_item}
 use Rattle.machine_soundness.specs.Going.{is_plain, is_for_plain, has_plain_members, has_no_wait, IsKept, IsGoing}
-use Rattle.machine_soundness.proofs.Lists.{left, right, both, all-imply, all-imply2, all-end, all-filter, all-set, all-map, length-set, unequal, equal, not-true, above}
+use Rattle.machine.proofs.Halves.{left, right}
+use Rattle.machine_soundness.proofs.Lists.{all-imply, all-imply2, all-end, all-filter, all-set, all-map, length-set, unequal, equal, above}
 use Rattle.machine_soundness.proofs.Greenlets.{at, plain-raw, plain-set, raw-set, parent-set, phase-other, live-set, host-same, host-more, plain-more, unstarted-more, live-more, host-append, unstarted-not-live}
 
 -- ---- the parts of soundness
@@ -38,7 +39,7 @@ pub meants : (s : State) → is_sound s ≡ true → list_all (λ i. is_meant s 
 meants s h = right (ascend 0 s.next_since s.items && are_single s.items) _ h
 
 pub sound-of : (s : State) → ascend 0 s.next_since s.items ≡ true → are_single s.items ≡ true → list_all (λ i. is_meant s i.delivery) s.items ≡ true → is_sound s ≡ true
-sound-of s a b c = both _ _ (both _ _ a b) c
+sound-of s a b c = and_from _ _ (and_from _ _ a b) c
 
 -- ---- lines, and numbers that are drawn
 
@@ -55,7 +56,7 @@ kept-timeout s h =
     }
   where
     more : (d : Delivery) → is_meant s d ≡ true → is_meant (record s { timeouts = s.timeouts + 1 }) d ≡ true
-    more (Delivery.Timeout g n deadline) k = both _ _ (left _ (nat_le n s.timeouts) k) (above n s.timeouts (right (is_live (phase_of g s.greenlets)) _ k))
+    more (Delivery.Timeout g n deadline) k = and_from _ _ (left _ (nat_le n s.timeouts) k) (above n s.timeouts (right (is_live (phase_of g s.greenlets)) _ k))
     more d k = k
 
 pub kept-link : (s : State) → IsKept s → IsKept (record s { links = s.links + 1 })
@@ -73,15 +74,9 @@ kept-link s h =
 
 -- ---- items
 
-pub all-settled : (test : Delivery → Bool) (hs : List Bool) (n : ℕ) (items : List Item) →
-    list_all (λ i. test i.delivery) (settled hs n items) ≡ list_all (λ i. test i.delivery) items
-all-settled test [] n items = refl
-all-settled test (h ∷ hs) n [] = refl
-all-settled test (h ∷ hs) n (i ∷ items) = ap (λ b. test i.delivery && b) (all-settled test hs (number_after h i.ready n) items)
-
 -- what is said of all deliveries is not changed by a settling
 pub all-settle : (test : Delivery → Bool) (s : State) → list_all (λ i. test i.delivery) (settle s).items ≡ list_all (λ i. test i.delivery) s.items
-all-settle test s = all-settled test (map (holds s) s.items) s.next_ready s.items
+all-settle test s = list_all-settled test (map (holds s) s.items) s.next_ready s.items
 
 pub kept-settle : (s : State) → IsKept s → IsKept (settle s)
 kept-settle s h = record { sound = sound-settle s ∙ h.sound; owners = all-settle (is_for_plain s.greenlets) s ∙ h.owners; members = h.members; main = h.main }
@@ -134,7 +129,7 @@ kept-made raw parent f args s h = kept-greenlets (add_greenlet raw parent f args
     still (Delivery.Start g deadline) k = unstarted-more s.greenlets _ g k
     still (Delivery.Wake g w) k = live-more s.greenlets _ g k
     still (Delivery.Late g deadline n) k = live-more s.greenlets _ g k
-    still (Delivery.Timeout g n deadline) k = both _ _ (live-more s.greenlets _ g (left _ (nat_le n s.timeouts) k)) (right (is_live (phase_of g s.greenlets)) _ k)
+    still (Delivery.Timeout g n deadline) k = and_from _ _ (live-more s.greenlets _ g (left _ (nat_le n s.timeouts) k)) (right (is_live (phase_of g s.greenlets)) _ k)
     still (Delivery.Kill g kind) k = live-more s.greenlets _ g k
     still (Delivery.Link n g kind x) k = k
 
@@ -156,7 +151,7 @@ kept-live g frame s u h =
         ap is_unstarted (phase-other s.greenlets g k (record (greenlet g s) { phase = Phase.Live frame }) (unequal g k (not-true (g == k) n))) ∙ e
     still (Delivery.Wake k w) e n = lives k e
     still (Delivery.Late k deadline m) e n = lives k e
-    still (Delivery.Timeout k m deadline) e n = both _ _ (lives k (left _ (nat_le m s.timeouts) e)) (right (is_live (phase_of k s.greenlets)) _ e)
+    still (Delivery.Timeout k m deadline) e n = and_from _ _ (lives k (left _ (nat_le m s.timeouts) e)) (right (is_live (phase_of k s.greenlets)) _ e)
     still (Delivery.Kill k kind) e n = lives k e
     still (Delivery.Link m k kind x) e n = e
 
@@ -180,7 +175,7 @@ kept-ended g o s h =
     still (Delivery.Start k deadline) e m = ap is_unstarted (other k e) ∙ m
     still (Delivery.Wake k w) e m = ap is_live (other k e) ∙ m
     still (Delivery.Late k deadline n) e m = ap is_live (other k e) ∙ m
-    still (Delivery.Timeout k n deadline) e m = both _ _ (ap is_live (other k e) ∙ left _ (nat_le n s.timeouts) m) (right (is_live (phase_of k s.greenlets)) _ m)
+    still (Delivery.Timeout k n deadline) e m = and_from _ _ (ap is_live (other k e) ∙ left _ (nat_le n s.timeouts) m) (right (is_live (phase_of k s.greenlets)) _ m)
     still (Delivery.Kill k kind) e m = ap is_live (other k e) ∙ m
     still (Delivery.Link n k kind x) e m = m
 

@@ -1,5 +1,6 @@
 -- A body that fits stays one that fits, and asks only what it may.
 use Rattle.std.proofs.Common.{◌≡◌, refl, ap, ◌∙◌, sym, subst, ℕ, zero, suc, ◌-◌, Bool, true, false, List, [], ◌∷◌, ◌++◌, length, map, append-nil, append_assoc, Option, Some, None, Result, Ok, Err, arith}
+use Rattle.std.proofs.lemmas.Bool.{and_from}
 use Rattle.std.proofs.lemmas.Bool.Decides.{nat_tests}
 use Rattle.std.proofs.lemmas.List.Folds.{list_all-append, list_all-map}
 use Rattle.std.specs.Prelude.{◌&&◌, if◌then◌else◌, nat_lt, unwrap_or, is_some}
@@ -34,7 +35,7 @@ use Rattle.machine.specs.BodyMoves.{Asked, Did, action_move, asked, body_move, c
 use Rattle.machine.specs.declared.request.Request.{Request}
 use Rattle.machine.specs.Unwinding.{Caught, Unwound, bind_if, block_first, catching, finally_first, unwind}
 use Rattle.machine_soundness.specs.Going.{is_meant_request, may_wait}
-use Rattle.machine_soundness.proofs.Lists.{left, right, both}
+use Rattle.machine.proofs.Halves.{left, right}
 use Rattle.machine_texts.specs.Texts.{fits, fits_block, fits_request, fits_rest, is_raw_function, left_in, may_say, withins, fits_link, is_wanted}
 
 -- ---- what a statement says, by its form
@@ -135,13 +136,13 @@ finally-fit : (c : Scenario) (hub : Bool) (ns : List ℕ) (ss : List Statement) 
     fits_block c hub (left_in todo) ss ≡ true → fits_rest c hub todo ≡ true → own ++ withins todo ≡ ns → IsFitUnwound c hub ns otherwise →
     IsFitUnwound c hub ns (finally_first ss own how locals todo otherwise)
 finally-fit c hub ns [] own how locals todo otherwise h k e o = o
-finally-fit c hub ns (s ∷ ss) own how locals todo otherwise h k e o = record { rest = both (fits_block c hub (left_in todo) (s ∷ ss)) _ h k; numbers = e }
+finally-fit c hub ns (s ∷ ss) own how locals todo otherwise h k e o = record { rest = and_from (fits_block c hub (left_in todo) (s ∷ ss)) _ h k; numbers = e }
 
 block-fit : (c : Scenario) (hub : Bool) (ns : List ℕ) (ss : List Statement) (own : List ℕ) (locals : List Local) (todo : List Todo) (otherwise : Unwound) →
     fits_block c hub (left_in todo) ss ≡ true → fits_rest c hub todo ≡ true → own ++ withins todo ≡ ns → IsFitUnwound c hub ns otherwise →
     IsFitUnwound c hub ns (block_first ss own locals todo otherwise)
 block-fit c hub ns [] own locals todo otherwise h k e o = o
-block-fit c hub ns (s ∷ ss) own locals todo otherwise h k e o = record { rest = both (fits_block c hub (left_in todo) (s ∷ ss)) _ h k; numbers = e }
+block-fit c hub ns (s ∷ ss) own locals todo otherwise h k e o = record { rest = and_from (fits_block c hub (left_in todo) (s ∷ ss)) _ h k; numbers = e }
 
 pub unwind-fit : (c : Scenario) (hub : Bool) (ns : List ℕ) (todo : List Todo) (own : List ℕ) (how : Leaving) (locals : List Local) → fits_rest c hub todo ≡ true → own ++ withins todo ≡ ns →
     IsFitUnwound c hub ns (unwind todo own how locals)
@@ -179,7 +180,7 @@ unwind-fit c hub ns (Todo.Guard excepts finally ∷ todo) own (Leaving.Raising f
     by (Some x) k outer =
         let mine = bind_if x.name (Value.Fault f) locals in
         block-fit c hub ns x.body own mine (Todo.Guard [] finally ∷ todo)
-        (finally_first finally own Leaving.Normally mine todo (unwind todo own Leaving.Normally mine)) k (both (fits_block c hub (left_in todo) finally) _ last rest) e
+        (finally_first finally own Leaving.Normally mine todo (unwind todo own Leaving.Normally mine)) k (and_from (fits_block c hub (left_in todo) finally) _ last rest) e
         (finally-fit c hub ns finally own Leaving.Normally mine todo (unwind todo own Leaving.Normally mine) last rest e (outer Leaving.Normally mine))
 unwind-fit c hub ns (Todo.Guard excepts finally ∷ todo) own how locals h e =
     finally-fit c hub ns finally own how locals todo (unwind todo own how locals)
@@ -259,7 +260,7 @@ while_move-fit c hub ns e body a todo h k =
     tested-fit c hub ns (meaning e a) a.locals (λ b. if b then (Todo.Statements body ∷ Todo.Again e body ∷ todo) else todo) by
   where
     by : (b : Bool) → IsFitTodo c hub ns [] (if b then (Todo.Statements body ∷ Todo.Again e body ∷ todo) else todo)
-    by true = record { rest = both (fits_block c hub (left_in todo) body) _ h (both (fits_block c hub (left_in todo) body) _ h k.rest); numbers = k.numbers }
+    by true = record { rest = and_from (fits_block c hub (left_in todo) body) _ h (and_from (fits_block c hub (left_in todo) body) _ h k.rest); numbers = k.numbers }
     by false = k
 
 -- the first word of a statement that asks the hub
@@ -365,8 +366,8 @@ giving-asked hub (Giving.ChannelGet x) a h = free a.scenario hub _ (hub-asked a.
 giving-asked hub (Giving.QueueGet x w) a h = free a.scenario hub _ (hub-asked a.scenario hub (giving_says (Giving.QueueGet x w)) refl h) (second-said a.scenario hub (giving_says (Giving.QueueGet x w)) refl h)
 giving-asked hub (Giving.QueuePeek x w) a h = free a.scenario hub _ (hub-asked a.scenario hub (giving_says (Giving.QueuePeek x w)) refl h) (second-said a.scenario hub (giving_says (Giving.QueuePeek x w)) refl h)
 giving-asked hub (Giving.QueueJoin x t) a h = free a.scenario hub _ (hub-asked a.scenario hub (giving_says (Giving.QueueJoin x t)) refl h) (second-said a.scenario hub (giving_says (Giving.QueueJoin x t)) refl h)
-giving-asked hub (Giving.GroupSpawn x f es) a h = many-fit a.scenario hub _ _ (λ args. free a.scenario hub _ (hub-asked a.scenario hub (giving_says (Giving.GroupSpawn x f es)) refl h) (both _ _ (second-said a.scenario hub (giving_says (Giving.GroupSpawn x f es)) refl h) (third-said a.scenario hub (giving_says (Giving.GroupSpawn x f es)) refl h)))
-giving-asked hub (Giving.Map x f e) a h = one-fit a.scenario hub (meaning e a) _ (λ v. free a.scenario hub _ (hub-asked a.scenario hub (giving_says (Giving.Map x f e)) refl h) (both _ _ (second-said a.scenario hub (giving_says (Giving.Map x f e)) refl h) (third-said a.scenario hub (giving_says (Giving.Map x f e)) refl h)))
+giving-asked hub (Giving.GroupSpawn x f es) a h = many-fit a.scenario hub _ _ (λ args. free a.scenario hub _ (hub-asked a.scenario hub (giving_says (Giving.GroupSpawn x f es)) refl h) (and_from _ _ (second-said a.scenario hub (giving_says (Giving.GroupSpawn x f es)) refl h) (third-said a.scenario hub (giving_says (Giving.GroupSpawn x f es)) refl h)))
+giving-asked hub (Giving.Map x f e) a h = one-fit a.scenario hub (meaning e a) _ (λ v. free a.scenario hub _ (hub-asked a.scenario hub (giving_says (Giving.Map x f e)) refl h) (and_from _ _ (second-said a.scenario hub (giving_says (Giving.Map x f e)) refl h) (third-said a.scenario hub (giving_says (Giving.Map x f e)) refl h)))
 giving-asked hub (Giving.NativeSpawn x k e t) a h = one-fit a.scenario hub (meaning e a) _ (λ v. free a.scenario hub _ (hub-asked a.scenario hub (giving_says (Giving.NativeSpawn x k e t)) refl h) (second-said a.scenario hub (giving_says (Giving.NativeSpawn x k e t)) refl h))
 giving-asked hub (Giving.Raw f e) a h =
     if_any-fit a.scenario hub _ _ (λ w. record { meant = refl; fit = left (is_raw_function a.scenario (function_number f a.scenario.functions)) _ h })
@@ -404,10 +405,10 @@ action_move-fit hub ns (Action-F.If e yes' no') line a todo h k =
 
     by : (b : Bool) → IsFitTodo a.scenario hub ns [] (Todo.Statements (if b then yes' else unwrap_or no' []) ∷ todo)
     by true =
-        record { rest = both (fits_block a.scenario hub (left_in todo) yes') _ (fits-right a.scenario hub (on line (expression_says e)) (block_mentions (left_in todo) yes') front) k.rest; numbers = k.numbers }
+        record { rest = and_from (fits_block a.scenario hub (left_in todo) yes') _ (fits-right a.scenario hub (on line (expression_says e)) (block_mentions (left_in todo) yes') front) k.rest; numbers = k.numbers }
     by false =
         record {
-          rest = both (fits_block a.scenario hub (left_in todo) (unwrap_or no' [])) _
+          rest = and_from (fits_block a.scenario hub (left_in todo) (unwrap_or no' [])) _
               (perhaps-fit a.scenario hub (left_in todo) no' (fits-right a.scenario hub (on line (expression_says e) ++ block_mentions (left_in todo) yes') (perhaps_block (left_in todo) no') h)) k.rest;
           numbers = k.numbers;
         }
@@ -417,9 +418,9 @@ action_move-fit hub ns (Action-F.Try body excepts finally) line a todo h k =
     let n = left_in todo in
     let tried = fits-left a.scenario hub (block_mentions n body ++ handler_mentions n excepts) (perhaps_block n finally) h in
     record {
-      rest = both (fits_block a.scenario hub n body) _ (fits-left a.scenario hub (block_mentions n body) (handler_mentions n excepts) tried)
-          (both (fits a.scenario hub (handler_mentions n excepts) && fits_block a.scenario hub n (unwrap_or finally [])) _
-          (both (fits a.scenario hub (handler_mentions n excepts)) _ (fits-right a.scenario hub (block_mentions n body) (handler_mentions n excepts) tried)
+      rest = and_from (fits_block a.scenario hub n body) _ (fits-left a.scenario hub (block_mentions n body) (handler_mentions n excepts) tried)
+          (and_from (fits a.scenario hub (handler_mentions n excepts) && fits_block a.scenario hub n (unwrap_or finally [])) _
+          (and_from (fits a.scenario hub (handler_mentions n excepts)) _ (fits-right a.scenario hub (block_mentions n body) (handler_mentions n excepts) tried)
           (perhaps-fit a.scenario hub n finally (fits-right a.scenario hub (block_mentions n body ++ handler_mentions n excepts) (perhaps_block n finally) h))) k.rest);
       numbers = k.numbers;
     }
@@ -429,8 +430,8 @@ action_move-fit hub ns (Action-F.Timeout ms silent body) line a todo h k =
     let inner = fits-right a.scenario hub (on line (timeout_says n)) (block_mentions (n - 1) body) h in (
       one.0,
       k,
-      λ m. both (fits_block a.scenario hub (left_in (Todo.Within m silent ∷ todo)) body) _
-          (subst (λ z. fits_block a.scenario hub z body ≡ true) (fewer-left m todo silent) inner) (both (nat_lt 0 n) _ one.1 k.rest),
+      λ m. and_from (fits_block a.scenario hub (left_in (Todo.Within m silent ∷ todo)) body) _
+          (subst (λ z. fits_block a.scenario hub z body ≡ true) (fewer-left m todo silent) inner) (and_from (nat_lt 0 n) _ one.1 k.rest),
     )
 
 pub body_move-fit : (hub : Bool) (todo : List Todo) (a : Around) → fits_rest a.scenario hub todo ≡ true → IsFitDid a.scenario hub (withins todo) (body_move todo a)
@@ -440,7 +441,7 @@ body_move-fit hub (Todo.Statements (s ∷ ss) ∷ todo) a h =
     action_move-fit hub (withins todo) (out-Action (out-Statement s).action) (out-Statement s).line a (Todo.Statements ss ∷ todo)
     (subst (λ ms. fits a.scenario hub ms ≡ true) (statement-form s n) own)
     (record {
-      rest = both (fits_block a.scenario hub n ss) _ (block-rest-fits a.scenario hub n s ss (left _ (fits_rest a.scenario hub todo) h)) (right (fits_block a.scenario hub n (s ∷ ss)) _ h);
+      rest = and_from (fits_block a.scenario hub n ss) _ (block-rest-fits a.scenario hub n s ss (left _ (fits_rest a.scenario hub todo) h)) (right (fits_block a.scenario hub n (s ∷ ss)) _ h);
       numbers = refl;
     })
 body_move-fit hub (Todo.Again e body ∷ todo) a h =

@@ -1,5 +1,6 @@
 -- The bodies of a well-formed scenario fit.
 use Rattle.std.proofs.Common.{◌≡◌, refl, ap, ◌∙◌, sym, ℕ, suc, ◌+◌, Bool, true, false, List, [], ◌∷◌, ◌++◌, map, cond, arith}
+use Rattle.std.proofs.lemmas.Bool.{and_from}
 use Rattle.std.proofs.lemmas.Bool.Decides.{nat_tests}
 use Rattle.std.proofs.lemmas.List.Folds.{list_all-append}
 use Rattle.std.specs.Cmp.Lexicographic.{pointwise}
@@ -26,7 +27,7 @@ use Rattle.scenario_tree.specs.Limits.{most_parameters}
 use Rattle.scenario_rules.specs.Rules.{IsWellFormed, function_refusals, is_hub_in_raw_body, is_too_deep, is_undeclared, is_wrong_count, is_wrong_head, is_wrong_kind, most_functions, most_local_names, most_objects, past, refused, refused_names, word_refusals}
 use Rattle.machine.specs.Expressions.{function_number, object_number}
 use Rattle.machine.specs.Greenlets.{no_function}
-use Rattle.machine_soundness.proofs.Lists.{right, both}
+use Rattle.machine.proofs.Halves.{right}
 use Rattle.machine_texts.specs.Texts.{IsFitText, fits, is_fit_function, is_raw_function, may_say, is_function, is_wanted}
 
 none-left : {X : Type 0} (xs ys : List X) → xs ++ ys ≡ [] → xs ≡ []
@@ -40,7 +41,7 @@ none-right (x ∷ xs) ys h = absurd (cc h)
 -- nothing comes of any
 none-each : {X Y : Type 0} (f : X → List Y) (p : X → Bool) → ((x : X) → f x ≡ [] → p x ≡ true) → (xs : List X) → flat_map f xs ≡ [] → list_all p xs ≡ true
 none-each f p g [] h = refl
-none-each f p g (x ∷ xs) h = both (p x) _ (g x (none-left (f x) (flat_map f xs) h)) (none-each f p g xs (none-right (f x) (flat_map f xs) h))
+none-each f p g (x ∷ xs) h = and_from (p x) _ (g x (none-left (f x) (flat_map f xs) h)) (none-each f p g xs (none-right (f x) (flat_map f xs) h))
 
 unrefused : (why : RuleReason) (line : ℕ) (so : Bool) → refused why line so ≡ [] → so ≡ false
 unrefused why line true h = absurd (cc h)

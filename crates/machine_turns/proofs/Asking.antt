@@ -6,21 +6,19 @@ use Rattle.gv_values.specs.declared.job.Answer.{Answer}
 use Rattle.world_rules.specs.declared.question.LogEntry.{LogEntry}
 use Rattle.world_rules.specs.declared.question.PostedJob.{PostedJob}
 use Rattle.world_rules.specs.declared.question.Question.{Question}
-use Rattle.world_rules.specs.Legal.{AreLegal, moment_of, posted as posted_job}
+use Rattle.world_rules.specs.Legal.{AreLegal, posted as posted_job}
 use Rattle.world_rules.specs.Script.{scripted, without as without_answered}
 use Rattle.scenario_tree.specs.declared.tree.Scenario.{Scenario}
 use Rattle.trace_text.specs.declared.line.Line.{Line}
 use Rattle.machine.specs.declared.items.Item.{Item}
 use Rattle.machine.specs.declared.state.Post.{Post}
 use Rattle.machine.specs.State.{State, say}
-use Rattle.machine.specs.Questions.{any_numbered, arrives, block_line, job_done, question, take_answer}
-use Rattle.machine.specs.Holds.{job_at}
-use Rattle.machine.specs.declared.state.JobState.{JobState}
-use Rattle.gv_values.specs.declared.job.JobOutcome.{JobOutcome}
+use Rattle.machine.specs.Questions.{any_numbered, block_line, question, take_answer}
 use Rattle.machine.specs.Deliveries.{deliver, interrupts}
 use Rattle.machine.specs.Landing.{Next, starts, lands}
 use Rattle.machine.specs.Moves.{move}
 use Rattle.machine.specs.Run.{End, GoingOn, Passed, Ran, Source, after_answer, after_delivery, after_exit, after_question, after_start, after_turn, asks, deliveries, delivers_one, first_state, given_out, least_below, logged, loop_exit, rests, run_from, run_turns, runs, runs_on, silent, turn, with_posts}
+use Rattle.machine.proofs.Answered.{posts-answered}
 use Rattle.machine_turns.specs.Logs.{AnswersLegally, AsksLegally, KnowsJobs, StandsKnowing, posts_of_step}
 use Rattle.machine_turns.proofs.Knowing.{answers-know, delivers-know, exits-know, may-ask, moves-know, starts-know}
 
@@ -125,20 +123,6 @@ exit-asks go h posts answers source (Next.Over cause s) r = tt
 exit-asks go h posts answers source (Next.Resting s) r = h posts answers source s r
 exit-asks go h posts answers source (Next.Going g s) r = tt
 
-arrived-posts : (number : ℕ) (o : JobOutcome) (job : Option JobState) (s : State) → (arrives number o job s).posts ≡ s.posts
-arrived-posts number o None s = refl
-arrived-posts number o (Some job) s = refl
-
-done-posts : (a : Answer) (s : State) → (job_done a s).posts ≡ s.posts
-done-posts (Answer.Nothing t) s = refl
-done-posts (Answer.Done number o at) s = arrived-posts number o (job_at number s.jobs) s
-done-posts (Answer.Elapsed t) s = refl
-
--- an answer posts nothing
-posts-same : (a : Answer) (s : State) → (take_answer a s).posts ≡ s.posts
-unfolding take_answer
-posts-same a s = done-posts a (record s { moment = moment_of a })
-
 answer-asks : (go : GoingOn) → GoesOn go → (posts : List PostedJob) (answers : List Answer) (source : Source) (q : Question) (a : Answer) (s : State) → question s ≡ Some q → Rests posts answers s →
     AsksAs posts answers (after_answer go source q a s)
 unfolding GoesOn AsksAs take_answer
@@ -148,7 +132,7 @@ answer-asks go h posts answers source q a s e r = (
       let t = take_answer a s in
       let k = answers-know posts answers q a s r.none legal r.knows in
       h posts (answers ++ a ∷ []) source (silent t)
-      (record { none = refl; knows = record { posts_are = ap (λ ps. posts ++ posts_of_step ps) (sym (posts-same a s ∙ r.none)) ∙ k.posts_are; arrived = k.arrived; no_other = k.no_other } }),
+      (record { none = refl; knows = record { posts_are = ap (λ ps. posts ++ posts_of_step ps) (sym (posts-answered a s ∙ r.none)) ∙ k.posts_are; arrived = k.arrived; no_other = k.no_other } }),
 )
 
 asks-as : (go : GoingOn) → GoesOn go → (posts : List PostedJob) (answers : List Answer) (q : Question) (source : Source) (s : State) → question s ≡ Some q → Rests posts answers s →

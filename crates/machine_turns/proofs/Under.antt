@@ -12,7 +12,7 @@ use Rattle.machine.specs.Soundness.{ascend}
 use Rattle.machine.specs.Deliveries.{without, without_item}
 use Rattle.machine.specs.Run.{least_below, nearer, with_this}
 use Rattle.machine.proofs.Soundness.{ascend-settled, ascend-filter, ascend-append}
-use Rattle.machine_soundness.proofs.Lists.{right}
+use Rattle.machine.proofs.Halves.{right}
 use Rattle.machine_soundness.proofs.Deliveries.{ascend-without, later}
 use Rattle.machine_turns.proofs.Steps.{Keeps, Core}
 
