@@ -1,6 +1,6 @@
 -- Items that are settled one after another.
 use Rattle.std.proofs.Common.{◌≡◌, refl, ap, sym, ◌∙◌, subst, ℕ, suc, ◌+◌, ◌<◌, ◌≤◌, Bool, true, false, List, [], ◌∷◌, ◌++◌, length, map, take, drop, get_or, slice_set, Option, Some, None, arith}
-use Rattle.std.proofs.lemmas.List.{append-nil, append_assoc, drop_all, drop_more, get_or_at, length-take-le, set_at, take_all, take_more}
+use Rattle.std.proofs.lemmas.List.{append_assoc, drop_more, get_or_at, length-take-le, set_at, take_more}
 use Rattle.machine.specs.declared.items.Item.{Item}
 use Rattle.machine.specs.Settle.{settled, settled_ready, number_after, numbers_after}
 
@@ -9,18 +9,6 @@ pub record AreSettledTo (holds : Item → Bool) (first : ℕ) (all : List Item) 
   pub are : items ≡ settled (map holds (take k all)) first (take k all) ++ drop k all
   pub next_is : next ≡ numbers_after (map holds (take k all)) first (take k all)
   pub few : next ≤ first + k
-
-pub settled_none : (holds : Item → Bool) (first : ℕ) (all : List Item) → AreSettledTo holds first all 0 all first
-settled_none holds first all = record { are = refl; next_is = refl; few = omega arith }
-
-pub settled_all : (holds : Item → Bool) (first : ℕ) (all : List Item) (k : ℕ) (items : List Item) (next : ℕ) → k ≡ length all → AreSettledTo holds first all k items next →
-    (items ≡ settled (map holds all) first all) × (next ≡ numbers_after (map holds all) first all)
-settled_all holds first all k items next e s =
-    let front : take k all ≡ all = take_all k all (omega arith) in
-    let rest : drop k all ≡ [] = drop_all k all (omega arith) in (
-      s.are ∙ ap (λ ys. settled (map holds (take k all)) first (take k all) ++ ys) rest ∙ append-nil (settled (map holds (take k all)) first (take k all)) ∙ ap (λ xs. settled (map holds xs) first xs) front,
-      s.next_is ∙ ap (λ xs. numbers_after (map holds xs) first xs) front,
-    )
 
 -- an item after it is settled
 abbrev pub settled_item : (Item → Bool) → ℕ → Item → Item
