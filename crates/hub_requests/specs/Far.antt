@@ -1,4 +1,4 @@
--- How far a greenlet has come.
+-- How far a greenlet has come, by its phase.
 use Rattle.std.specs.Prelude.{Option, Some, None}
 use Rattle.machine.specs.declared.state.Phase.{Phase}
 use Rattle.hub_requests.specs.declared.far.Far.{Far}

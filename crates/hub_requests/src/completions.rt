@@ -142,6 +142,10 @@ fn take_offer(
 }
 
 /// Completes the wait of the greenlet, which was begun with this since: what it waited for is taken.
+///
+/// # Errors
+///
+/// Memory is wanting, or a number would pass its width, which no run within its budget comes to; the hub is given up.
 pub fn complete_wait(
     alloc: Global,
     hub: &mut Hub,

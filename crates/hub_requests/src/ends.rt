@@ -9,6 +9,10 @@ use trace_text::Line;
 
 /// Ends the greenlet so: its line is said, its items but its links go, links that don't fit are dropped, and it leaves
 /// its group or pool.
+///
+/// # Errors
+///
+/// Memory is wanting, or a number would pass its width, which no run within its budget comes to; the hub is given up.
 pub fn end_greenlet(
     alloc: Global,
     hub: &mut Hub,

@@ -6,7 +6,7 @@ ghost use Rattle.hub_requests.specs.Far.{far_of};
 
 use hub_state::{Hub, Stage};
 
-/// How far a greenlet has come.
+/// How far a greenlet has come and no more: neither its arguments, nor its body, nor its outcome.
 #[derive(Clone, Copy, Debug, PartialEq, Eq)]
 pub enum Far {
     /// It has not started.

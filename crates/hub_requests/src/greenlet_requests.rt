@@ -80,7 +80,8 @@ pub fn make_new(
     Ok(make_greenlet(hub, false, 0, function, arguments.into_values())?)
 }
 
-/// Starts the greenlet of the handle.
+/// Gives the greenlet of the handle a start, where it is New and has none. The answer is none, or a TypeError where the
+/// value is no handle of a greenlet that is not raw.
 #[tactic(auto, unfolding(machine::specs::Requests::performs))]
 pub fn start_handle(hub: &mut Hub, g: u32, value: Value) -> Result<Performed, AllocError>
     requires { MayMake g hub.old }

@@ -57,7 +57,7 @@ pub fn done_ones(alloc: Global, hub: &Hub, greenlets: &[u32]) -> Result<Outcome,
     Ok(Outcome::Value(Value::List(done)))
 }
 
-/// What the wait gives where its time is over; `n` is the number of its Timeout.
+/// What the wait gives where its time is over; `n` is the number of its Timeout. `AllocError`: memory is wanting.
 pub fn late_outcome(
     alloc: Global,
     hub: &Hub,

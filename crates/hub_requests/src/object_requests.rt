@@ -22,7 +22,7 @@ use scenario_tree::Wait;
 use std::alloc::{AllocError, Global};
 use trace_text::Awaited;
 
-/// Sets the event.
+/// Sets the event's flag, and counts the set for those who wait for one. The answer is none.
 #[tactic(auto, unfolding(machine::specs::Requests::performs))]
 pub fn set_event(hub: &mut Hub, g: u32, o: u32) -> Result<Performed, AllocError>
     ensures { IfOk result (λ p. performs (Asked.Set o) g hub.old ≡ performed_of p hub.new) }
@@ -31,7 +31,7 @@ pub fn set_event(hub: &mut Hub, g: u32, o: u32) -> Result<Performed, AllocError>
     Ok(done())
 }
 
-/// Clears the event.
+/// Clears the event's flag. The answer is none.
 #[tactic(auto, unfolding(machine::specs::Requests::performs))]
 pub fn clear_event(hub: &mut Hub, g: u32, o: u32) -> Result<Performed, AllocError>
     ensures { IfOk result (λ p. performs (Asked.Clear o) g hub.old ≡ performed_of p hub.new) }

@@ -23,7 +23,11 @@ use hub_state::Hub;
 use machine::request::Request;
 use std::alloc::{AllocError, Global};
 
-/// Performs the request of the greenlet, which is under way. `AllocError`: memory is wanting.
+/// Performs the request of the greenlet, which is under way.
+///
+/// # Errors
+///
+/// Memory is wanting, or a number would pass its width, which no run within its budget comes to; the hub is given up.
 #[tactic(auto, using(crate::proofs::Named::fits_there))]
 pub fn perform(
     alloc: Global,

@@ -20,7 +20,8 @@ fn share_host(hub: &Hub, g: u32, other: u32) -> bool
     hub.host_of(g) == hub.host_of(other)
 }
 
-/// Makes a raw greenlet.
+/// Makes a raw greenlet of the function, under the greenlet that is given, or else under the one that asks. The answer
+/// is its handle; where the value is no greenlet it is a TypeError, and at one of another host an InvalidSwitch.
 #[tactic(auto, unfolding(machine::specs::Requests::performs))]
 pub fn make_raw(
     alloc: Global,

@@ -1,4 +1,4 @@
--- How far a greenlet has come.
+-- The machine's phase of a greenlet that the hub keeps.
 use Rattle.std.specs.Prelude.{ℕ, Bool}
 use Rattle.machine.specs.declared.state.Greenlet.{Greenlet as Shown}
 use Rattle.machine.specs.declared.state.Phase.{Phase}

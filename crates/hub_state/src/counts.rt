@@ -58,7 +58,7 @@ impl Hub {
         self.items.len()
     }
 
-    /// Counts one turn more. `AllocError`: its number would pass 64 bits, and nothing changes.
+    /// Counts one turn more. `AllocError`: its number would pass 64 bits; the hub is given up.
     pub fn count_turn(&mut self) -> Result<(), AllocError>
         ensures { OnOk result (self.new ≡ record self.old { turns = self.old.turns + 1 }) }
     {
@@ -66,7 +66,7 @@ impl Hub {
         Ok(())
     }
 
-    /// Counts one move more. `AllocError`: its number would pass 64 bits, and nothing changes.
+    /// Counts one move more. `AllocError`: its number would pass 64 bits; the hub is given up.
     pub fn count_move(&mut self) -> Result<(), AllocError>
         ensures { OnOk result (self.new ≡ record self.old { moves = self.old.moves + 1 }) }
     {
@@ -81,7 +81,7 @@ impl Hub {
         self.timeouts
     }
 
-    /// Numbers one timeout more, and gives its number. `AllocError`: it would pass 32 bits, and nothing changes.
+    /// Numbers one timeout more, and gives its number. `AllocError`: it would pass 32 bits; the hub is given up.
     pub fn count_timeout(&mut self) -> Result<u32, AllocError>
         ensures counted { OnOk result (self.new ≡ record self.old { timeouts = self.old.timeouts + 1 }) }
         ensures number { IfOk result (λ n. n ≡ self.old.timeouts + 1) }
@@ -97,7 +97,7 @@ impl Hub {
         self.links
     }
 
-    /// Numbers one link more, and gives its number. `AllocError`: it would pass 32 bits, and nothing changes.
+    /// Numbers one link more, and gives its number. `AllocError`: it would pass 32 bits; the hub is given up.
     pub fn count_link(&mut self) -> Result<u32, AllocError>
         ensures counted { OnOk result (self.new ≡ record self.old { links = self.old.links + 1 }) }
         ensures number { IfOk result (λ n. n ≡ self.old.links + 1) }

@@ -10,8 +10,7 @@ use hub_items::least_below;
 use machine::items::Item;
 
 impl Hub {
-    /// The place of the item with the least number below the mark. Looks at each item; with linked items, at the first
-    /// of the line of those that have a number.
+    /// The place of the item with the least number below the mark. Looks at each item.
     pub fn next_below(&self, mark: u64) -> Option<usize>
         ensures within { IfSome result (λ best. best < length self.now.items) }
         ensures least { item_at result self.now.items ≡ least_below mark self.now.items }
@@ -19,8 +18,7 @@ impl Hub {
         least_below(&self.items, mark)
     }
 
-    /// Takes the item at this place away. Moves those after it up; with linked items, it leaves the lists that it is
-    /// in.
+    /// Takes the item at this place away, and moves those after it up.
     #[tactic(auto, using(hub_items::proofs::Removals::taken, hub_items::proofs::Removals::sound_taken))]
     pub fn take_item(&mut self, at: usize) -> Item
         requires { at < length self.old.items }

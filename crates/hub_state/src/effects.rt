@@ -36,27 +36,25 @@ impl Hub {
     }
 
     /// Changes the object of this number. Takes one step, but where an item of a queue or an offer goes: the others are
-    /// looked at or moved up. With linked items it leaves its list, and the waiters of the object are told in the same
-    /// call.
+    /// looked at or moved up.
     ///
     /// # Errors
     ///
-    /// Memory is wanting, or a count would pass 2^63, which no run within its budget comes to.
+    /// Memory is wanting, or a count would pass 2^63, which no run within its budget comes to; the hub is given up.
     pub fn change(&mut self, o: u32, change: Change) -> Result<(), AllocError>
         ensures { OnOk result (self.new ≡ with_object o (changed change (object_at o self.old)) self.old) }
     {
         self.objects.change(o, change)
     }
 
-    /// The greenlet leaves its group or pool. Looks at each member of each; with linked items, at its own place alone.
+    /// The greenlet leaves its group or pool. Looks at each member of each.
     pub fn leave_crews(&mut self, g: u32)
         ensures { self.new ≡ record self.old { objects = map (without_member g) self.old.objects } }
     {
         self.objects.leave(g);
     }
 
-    /// What the greenlet offers on a channel goes, where it is still there. Looks at each item, and then at each offer;
-    /// with linked items, at the greenlet's wait and its offer.
+    /// What the greenlet offers on a channel goes, where it is still there. Looks at each item, and then at each offer.
     pub fn withdraw_offer(&mut self, g: u32)
         ensures { self.new ≡ without_offer_by (since_of_wake g self.old.items) self.old }
     {
@@ -65,8 +63,8 @@ impl Hub {
         }
     }
 
-    /// The item of the queue that is next, again. Looks at each item of a priority queue; with linked items, at the
-    /// first. `AllocError`: memory is wanting.
+    /// A copy of the item of the queue that is next, which stays there. Looks at each item of a priority queue.
+    /// `AllocError`: memory is wanting.
     pub fn item_of(&self, alloc: Global, o: u32) -> Result<Value, AllocError>
         ensures { IfOk result (λ value. value ≡ item_of (object_at o self.now)) }
     {
@@ -76,7 +74,7 @@ impl Hub {
         }
     }
 
-    /// The value of the oldest offer of the channel, again. `AllocError`: memory is wanting.
+    /// A copy of the value of the channel's oldest offer, which stays there. `AllocError`: memory is wanting.
     pub fn offer_of(&self, alloc: Global, o: u32) -> Result<Value, AllocError>
         ensures { IfOk result (λ value. value ≡ offer_of (object_at o self.now)) }
     {
@@ -93,8 +91,7 @@ impl Hub {
         is_shut(self.objects.get(o))
     }
 
-    /// Whether the getters of the queue from before this since leave an item. Looks at each item; with linked items, at
-    /// the place in the queue's line.
+    /// Whether the getters of the queue from before this since leave an item. Looks at each item.
     pub fn has_item_left(&self, o: u32, since: u64) -> bool
         ensures { result ≡ is_left (earlier (is_take o) since self.now.items) (object_at o self.now) }
     {
@@ -106,7 +103,7 @@ impl Hub {
     ///
     /// # Errors
     ///
-    /// Memory is wanting, or the units would pass 2^63, which no run within its budget comes to.
+    /// Memory is wanting, or the units would pass 2^63, which no run within its budget comes to; the hub is given up.
     #[tactic(auto, using(hub_objects::proofs::Releasing::released))]
     pub fn release(&mut self, g: u32, o: u32) -> Result<Option<FaultKind>, AllocError>
         ensures { IfOk result (λ fault. releases g o (object_at o self.old) self.old ≡ refused fault self.new) }
@@ -125,7 +122,8 @@ impl Hub {
         }
     }
 
-    /// A task of the queue is done, or refused by a fault where none is unfinished. `AllocError`: memory is wanting.
+    /// A task of the queue is done, or refused by a fault where none is unfinished. `AllocError`: memory is wanting;
+    /// the hub is given up.
     #[tactic(auto, using(hub_objects::proofs::Releasing::finished))]
     pub fn finish(&mut self, o: u32) -> Result<Option<FaultKind>, AllocError>
         ensures { IfOk result (λ fault. finishes o (object_at o self.old) self.old ≡ refused fault self.new) }
@@ -142,7 +140,8 @@ impl Hub {
     ///
     /// # Errors
     ///
-    /// Memory is wanting, or the number would pass 32 bits, which no run within its budget comes to.
+    /// Memory is wanting, or the number would pass 32 bits, which no run within its budget comes to; the hub is given
+    /// up, and may have the job already.
     pub fn post(&mut self, g: u32, o: u32, job: Job, takes: u64) -> Result<u32, AllocError>
         ensures posted { OnOk result (self.new ≡ posted g o job takes self.old) }
         ensures number { IfOk result (λ n. n ≡ length self.old.jobs + 1) }

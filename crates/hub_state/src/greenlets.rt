@@ -16,7 +16,8 @@ use std::mem;
 /// The most greenlets of a run.
 const MOST: usize = 20000;
 
-/// How far a greenlet has come.
+/// How far a greenlet has come, as the hub keeps it: it has the body of one that is parked, and not of the one that
+/// moves.
 #[derive(Drop)]
 pub enum Stage {
     /// Not started, with the arguments of its function.
@@ -29,7 +30,7 @@ pub enum Stage {
     Done(Outcome),
 }
 
-/// A greenlet.
+/// What the hub keeps of a greenlet: its function, where its outcome goes if it is raw, and how far it has come.
 #[derive(Drop)]
 pub struct Greenlet {
     raw: bool,

@@ -17,7 +17,7 @@ use std::alloc::AllocError;
 use trace_text::Line;
 
 impl Hub {
-    /// Writes a line of the step under way. `AllocError`: memory is wanting, and nothing changes.
+    /// Writes a line of the step under way. `AllocError`: memory is wanting; the hub is given up.
     pub fn say(&mut self, line: Line) -> Result<(), AllocError>
         ensures { OnOk result (self.new ≡ say line self.old) }
     {
@@ -25,12 +25,12 @@ impl Hub {
         Ok(())
     }
 
-    /// Makes one item more, the newest, which says what no other says. Puts it at the end; with linked items also into
-    /// the list of its wait and, where it has a deadline, among the timers.
+    /// Makes one item more, the newest, which says what no other says.
     ///
     /// # Errors
     ///
-    /// Memory is wanting, or its place would pass 64 bits, which no run within its budget comes to.
+    /// Memory is wanting, or its place would pass 64 bits, which no run within its budget comes to; the hub is given
+    /// up.
     pub fn add_item(&mut self, delivery: Delivery) -> Result<(), AllocError>
         requires unclaimed { is_unclaimed (claim_of delivery) self.old.items ≡ true }
         requires short { DeliversShort delivery }
@@ -46,21 +46,21 @@ impl Hub {
         Ok(())
     }
 
-    /// Whether the greenlet has a start. Looks at each item; with linked items, at the greenlet's own.
+    /// Whether the greenlet has a start. Looks at each item.
     pub fn has_start(&self, g: u32) -> bool
         ensures { result ≡ has_start g self.now }
     {
         starts(&self.items, g) > 0
     }
 
-    /// How many kills are not delivered yet. Looks at each item; with linked items, a counter.
+    /// How many kills are not delivered yet. Looks at each item.
     pub fn kills_standing(&self) -> u64
         ensures { result ≡ kills_standing self.now }
     {
         kills(&self.items)
     }
 
-    /// What the greenlet waits for. Looks at each item; with linked items, at the greenlet's own.
+    /// What the greenlet waits for. Looks at each item.
     pub fn waiting_of(&self, g: u32) -> Option<&Waiting>
         ensures waiting { option_copied result ≡ waiting_of g self.now.items }
         ensures short { IfSome (option_copied result) IsShort }
@@ -68,8 +68,7 @@ impl Hub {
         waiting_of(&self.items, g)
     }
 
-    /// Removes the items that `gone` names. Looks at each item; with linked items, at those of the greenlet or at the
-    /// link.
+    /// Removes the items that `gone` names. Looks at each item.
     pub fn drop_items(&mut self, gone: &Gone)
         ensures { self.new ≡ drop_items (gone_of gone.now) self.old }
     {

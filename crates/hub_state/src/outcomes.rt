@@ -117,8 +117,7 @@ impl Hub {
         self.wait_holds(self.next_since, waiting, before)
     }
 
-    /// Whether a group or pool has a place that nobody waits for. Looks at each item; with linked items, at the length
-    /// of the group's or pool's line.
+    /// Whether a group or pool has a place that nobody waits for. Looks at each item.
     pub fn has_place(&self, o: u32) -> bool
         ensures { result ≡ has_place (earlier (is_place o) self.now.next_since self.now.items) (slice_get self.now.objects o) }
     {
@@ -127,7 +126,7 @@ impl Hub {
     }
 
     /// Whether a greenlet that comes to the wait does not begin it, since its condition holds for the last of all
-    /// waiters. Looks at each item; with linked items, at the length of the object's line.
+    /// waiters. Looks at each item.
     pub fn newcomer_completes(&self, g: u32, waiting: &Waiting) -> bool
         ensures { result ≡ newcomer_completes self.now g waiting.now }
     {

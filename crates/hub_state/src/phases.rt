@@ -80,7 +80,8 @@ impl Hub {
         self.greenlets.len()
     }
 
-    /// Makes a greenlet that has not started, and gives its number. `AllocError`: memory is wanting.
+    /// Makes a greenlet that has not started, and gives its number. `AllocError`: memory is wanting; the hub is given
+    /// up.
     pub fn add_greenlet(
         &mut self,
         raw: bool,

@@ -15,8 +15,7 @@ use world_rules::Question;
 const LAST_MOMENT: u64 = 4611686018427387903;
 
 impl Hub {
-    /// What the turn asks at its end, and none where nothing can come. Looks at each item and each job; with linked
-    /// items, at the first of those with a number, the first timer, and a count of the jobs.
+    /// What the turn asks at its end, and none where nothing can come. Looks at each item and each job.
     pub fn question(&self) -> Option<Question>
         ensures { result ≡ question self.now }
     {
@@ -36,7 +35,7 @@ impl Hub {
     }
 
     /// Writes the block line, where no item has a number. Looks at the same as the question. `AllocError`: memory is
-    /// wanting, and nothing changes.
+    /// wanting; the hub is given up.
     pub fn block(&mut self) -> Result<(), AllocError>
         ensures { OnOk result (self.new ≡ block_line self.old) }
     {
@@ -67,12 +66,12 @@ impl Hub {
         }
     }
 
-    /// Takes an answer: it sets the moment, brings its job's outcome, and is written. Settles all items; with linked
-    /// items, those whose timers came due, the job's waiters and those of its pool.
+    /// Takes an answer: it sets the moment, brings its job's outcome, and is written. Settles all items.
     ///
     /// # Errors
     ///
-    /// Memory is wanting, or a ready number would pass 64 bits, which no run within its budget comes to.
+    /// Memory is wanting, or a ready number would pass 64 bits, which no run within its budget comes to; the hub is
+    /// given up, and may have a part of the answer already.
     #[tactic(auto, unfolding(machine::specs::Questions::take_answer))]
     pub fn take(&mut self, alloc: Global, answer: Answer) -> Result<(), AllocError>
         ensures { OnOk result (self.new ≡ take_answer answer self.old) }

@@ -23,7 +23,7 @@ impl Hub {
     }
 
     /// The greenlet that is not raw and in which this one runs: the first one up the chain of parents. Goes up the
-    /// chain; with hosts that are kept, a look at one.
+    /// chain.
     pub fn host_of(&self, g: u32) -> u32
         ensures { result ≡ host_of self.now g }
     {
