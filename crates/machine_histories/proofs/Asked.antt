@@ -39,7 +39,7 @@ use Rattle.machine.specs.Waits.{Performed, add_member, comes, completes, drawn, 
 use Rattle.machine_soundness.specs.Going.{has_no_wait, is_plain, IsKept}
 use Rattle.machine_soundness.specs.Laws.{is_wake_of}
 use Rattle.machine.proofs.Halves.{left, right}
-use Rattle.machine_soundness.proofs.Lists.{all-end, equal}
+use Rattle.machine_soundness.proofs.Lists.{all-end, equal, itself}
 use Rattle.machine_soundness.proofs.Greenlets.{host-plain, plain-more, plain-raw}
 use Rattle.machine_soundness.proofs.Landings.{going-free}
 use Rattle.machine_soundness.proofs.Requests.{completes-fine, item-plain, kept-parked, moves-change, moves-member, moves-spawned, offered-fine, own-host, taken-plain}
@@ -277,12 +277,9 @@ int-itself : (z : ℤ) → int_eq z z ≡ true
 int-itself (pos n) = grind (arith, nat_tests)
 int-itself (negsuc n) = grind (arith, nat_tests)
 
-nat-itself : (n : ℕ) → (n == n) ≡ true
-nat-itself n = grind (arith, nat_tests)
-
 fault-itself : (f : FaultKind) → fault_eq f f ≡ true
 fault-itself (FaultKind.Error z) = int-itself z
-fault-itself (FaultKind.Timeout n) = nat-itself n
+fault-itself (FaultKind.Timeout n) = itself n
 fault-itself f = refl
 
 outcome-itself : (o : JobOutcome) → outcome_eq o o ≡ true
@@ -381,12 +378,12 @@ goes-posted b g h o job takes s moves m =
         let above : nat_le number (length s.jobs) ≡ false = grind (arith, nat_tests) in
         let counted : count_by (is_job_line number) (line ∷ m.story.past) ≡ cond (number == number) 1 0 + count_by (is_job_line number) m.story.past =
         sum_by-cons (λ l. cond (is_job_line number l) 1 0) line m.story.past in
-        let one : ◌≡◌ {A = ℕ} (cond (number == number) 1 0) 1 = ap (λ z. cond z 1 0) (nat-itself number) in
+        let one : ◌≡◌ {A = ℕ} (cond (number == number) 1 0) 1 = ap (λ z. cond z 1 0) (itself number) in
         let none = m.ties.fewer number above in
         record {
           within = ap (nat_le number) (length-more s.jobs new) ∙ top;
           one = omega (arith, counted, one, none);
-          gives = ap (λ z. gives_outcome (eval job) (cond z (Some line) (find (is_job_line number) m.story.past))) (nat-itself number) ∙ outcome-itself (eval job);
+          gives = ap (λ z. gives_outcome (eval job) (cond z (Some line) (find (is_job_line number) m.story.past))) (itself number) ∙ outcome-itself (eval job);
         }
 
     told : (j : ℕ) (other : Job) → Contains m.story.posts (job_posted j other) ⊎ (as_posted post ≡ job_posted j other) → IsJobTold (length (s.jobs ++ new ∷ [])) j other (line ∷ m.story.past)

@@ -30,7 +30,7 @@ use Rattle.machine.specs.Objects.{object_at, with_object}
 use Rattle.machine_soundness.specs.Going.{has_no_wait, is_plain, IsKept}
 use Rattle.machine_soundness.specs.Laws.{is_wake_of}
 use Rattle.machine.proofs.Halves.{left, right}
-use Rattle.machine_soundness.proofs.Lists.{all-end, all-get, all-imply, all-filter, all-of, all-set, equal, unequal}
+use Rattle.machine_soundness.proofs.Lists.{all-end, all-get, all-imply, all-filter, all-of, all-set, equal, itself, unequal}
 use Rattle.machine_soundness.proofs.Greenlets.{phase-more, phase-other, live-more}
 use Rattle.machine_soundness.proofs.Landings.{going-free}
 use Rattle.machine_soundness.proofs.States.{IsHost, Moves, all-settle, going, plain-phased, moves-say, moves-settle, moves-drop, moves-made, moves-timeout}
@@ -330,9 +330,6 @@ goes-drop b g h test s f m =
       held = all-filter _ _ _ s.items (λ i k z. z) m.held;
     }
   where
-    itself : (k : ℕ) → (k == k) ≡ true
-    itself k = grind (arith, nat_tests)
-
     spared : (o : ℕ) (d : Delivery) → is_offered_on o d ≡ true → not (test d) ≡ true
     spared o (Delivery.Wake k w) e = f k (Delivery.Wake k w) (itself k)
     spared o (Delivery.Start k deadline) e = absurd (cc e)

@@ -50,7 +50,7 @@ use Rattle.machine.specs.Objects.{name_of_object, object_at, with_object, withou
 use Rattle.machine_soundness.specs.Going.{has_no_wait, is_plain, IsKept}
 use Rattle.machine_soundness.specs.Laws.{is_wake_of}
 use Rattle.machine.proofs.Halves.{left, right}
-use Rattle.machine_soundness.proofs.Lists.{all-end, all-filter, all-get, equal, get-last, length-set, unequal}
+use Rattle.machine_soundness.proofs.Lists.{all-end, all-filter, all-get, equal, get-last, itself, length-set, unequal}
 use Rattle.machine_soundness.proofs.Greenlets.{at, live-more, none-next, plain-found, unstarted-not-live}
 use Rattle.machine_soundness.proofs.Deliveries.{all-without, asleep-free, claimed, first-kept, free-moves, kept-without, later, no-wait-left, offer-gone, owned, start-gone, take_answer-kept}
 use Rattle.machine_soundness.proofs.Requests.{flag-plain, next-plain, next-unclaimed, object-plain}
@@ -306,9 +306,6 @@ linked b n k g kind f call i s is there numbered st m =
     line : Line
     line = Line.Link k g call
 
-    nat-itself : (a : ℕ) → (a == a) ≡ true
-    nat-itself a = grind (arith, nat_tests)
-
     held : link_holds kind (outcome_of s (Whom.Greenlet g)) ≡ true
     held =
         let both-same = same-equal (is_numbered i) (holds s i) (all-get (λ (j : Item). same_bool (is_numbered j) (holds s j)) s.items n i there st) in
@@ -326,7 +323,7 @@ linked b n k g kind f call i s is there numbered st m =
     once : (c : Bool) → list_any (is_link_line k) m.story.past ≡ c → not c ≡ true
     once true e =
         let free = all-get (λ (j : Item). not (same_claim (Some (Claim.LinkNumbered k)) (claim_of j.delivery))) s.items n i there (right (nat_le k s.links) _ (m.ties.links k e)) in
-        let own : same_claim (Some (Claim.LinkNumbered k)) (claim_of i.delivery) ≡ true = ap (λ (d : Delivery). same_claim (Some (Claim.LinkNumbered k)) (claim_of d)) is ∙ nat-itself k in
+        let own : same_claim (Some (Claim.LinkNumbered k)) (claim_of i.delivery) ≡ true = ap (λ (d : Delivery). same_claim (Some (Claim.LinkNumbered k)) (claim_of d)) is ∙ itself k in
         absurd (cc (free, ap not own))
     once false e = refl
 

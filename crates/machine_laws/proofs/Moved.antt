@@ -49,7 +49,7 @@ use Rattle.machine.specs.Objects.{with_object, object_at, name_of_object}
 use Rattle.machine_soundness.specs.Going.{is_plain, is_meant_request, next_did, IsKept}
 use Rattle.machine_soundness.specs.Laws.{is_wake_of}
 use Rattle.machine.proofs.Halves.{left, right}
-use Rattle.machine_soundness.proofs.Lists.{all-end, all-set, all-of, next-other, at-most, above, equal, unequal}
+use Rattle.machine_soundness.proofs.Lists.{all-end, all-set, all-of, next-other, at-most, above, equal, itself, unequal}
 use Rattle.machine_soundness.proofs.Greenlets.{at, plain-here, live-at, live-found, live-phase, live-set, new-found, phase-other, host-plain, plain-raw, plain-set}
 use Rattle.machine_soundness.proofs.Chains.{phase-kept}
 use Rattle.machine_soundness.proofs.Deliveries.{asleep-free}
@@ -91,9 +91,6 @@ own-throw g f =
       timeless = λ l. refl;
       jobless = λ l. refl;
     }
-
-itself : (a : ℕ) → (a == a) ≡ true
-itself a = grind (arith, nat_tests)
 
 new-phase : (gs : List Greenlet) (k : ℕ) (args : List Value) → (at gs k).phase ≡ Phase.New args → phase_of k gs ≡ Some (Phase.New args)
 new-phase gs k args e =

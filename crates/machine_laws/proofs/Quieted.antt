@@ -3,7 +3,7 @@ use Rattle.std.proofs.Common.{◌≡◌, refl, ap, ◌∙◌, sym, subst, ℕ, z
 use Rattle.std.proofs.lemmas.Bool.{and_from}
 use Rattle.std.proofs.lemmas.Bool.Decides.{nat_tests}
 use Rattle.std.proofs.lemmas.List.Sums.{sum_by-cons}
-use Rattle.std.specs.Prelude.{not, ◌==◌, ◌&&◌, ◌||◌, Option, Some, None, is_none, if◌then◌else◌, nat_le, nat_lt, slice_get, slice_set}
+use Rattle.std.specs.Prelude.{not, ◌&&◌, ◌||◌, Option, Some, None, is_none, if◌then◌else◌, nat_le, nat_lt, slice_get, slice_set}
 use Rattle.std.specs.List.{list_any, list_all}
 use Rattle.gv_values.specs.declared.job.Answer.{Answer}
 use Rattle.gv_values.specs.declared.job.JobOutcome.{JobOutcome}
@@ -31,7 +31,7 @@ use Rattle.machine_soundness.specs.Going.{IsKept}
 use Rattle.machine_soundness.specs.Laws.{is_wake_of}
 use Rattle.machine_soundness.proofs.Deliveries.{take_answer-kept}
 use Rattle.machine.proofs.Halves.{left, right}
-use Rattle.machine_soundness.proofs.Lists.{all-get, all-imply2, equal, length-set}
+use Rattle.machine_soundness.proofs.Lists.{all-get, all-imply2, equal, itself, length-set}
 use Rattle.machine_soundness.proofs.States.{all-settle, ascends}
 use Rattle.machine_texts.specs.Texts.{IsFitText, is_held}
 use Rattle.machine_laws.specs.Reached.{Reached}
@@ -115,9 +115,6 @@ first-of test low next (i ∷ items) h e = by (wakes test i.delivery) refl e (fi
 -- what such a wait holds by
 abbrev IsRanked : (ℕ → Option Object → Bool) → (Waiting → Bool) → ℕ → State → Type 0
 IsRanked f test o s = (since : ℕ) (w : Waiting) → test w ≡ true → wait_holds s since w ≡ f (earlier test since s.items) (slice_get s.objects o)
-
-itself : (n : ℕ) → (n == n) ≡ true
-itself n = grind (arith, nat_tests)
 
 acquire-ranked : (o : ℕ) (s : State) → IsRanked has_unit (is_acquire o) o s
 acquire-ranked o s since (Waiting.Acquire p) e = subst (λ z. wait_holds s since (Waiting.Acquire z) ≡ has_unit (earlier (is_acquire o) since s.items) (slice_get s.objects o)) (equal o p e) refl

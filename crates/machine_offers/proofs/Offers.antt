@@ -24,7 +24,7 @@ use Rattle.machine.specs.Soundness.{Claim, are_single, claim_of, is_unclaimed, s
 use Rattle.machine_soundness.specs.Going.{has_no_wait}
 use Rattle.machine_soundness.specs.Laws.{is_late_of, is_wake_of}
 use Rattle.machine.proofs.Halves.{left, right}
-use Rattle.machine_soundness.proofs.Lists.{all-end, all-filter, all-get, all-imply, equal}
+use Rattle.machine_soundness.proofs.Lists.{all-end, all-filter, all-get, all-imply, equal, itself}
 use Rattle.machine_soundness.proofs.States.{all-settle}
 use Rattle.machine_offers.specs.Offers.{awaits_taking, is_offered_on, offers_at, offers_of}
 use Rattle.machine_offers.proofs.Anys.{any-end, any-filter, any-kept}
@@ -310,9 +310,6 @@ waits-spared g o (Delivery.Late k deadline n) e z = absurd (cc z)
 waits-spared g o (Delivery.Timeout k n deadline) e z = refl
 waits-spared g o (Delivery.Kill k f) e z = refl
 waits-spared g o (Delivery.Link n k kind f) e z = refl
-
-itself : (n : ℕ) → (n == n) ≡ true
-itself n = grind (arith, nat_tests)
 
 -- who has a Late offers nothing
 pub late-offerless : (g deadline k n : ℕ) (i : Item) (objects : List Object) (items : List Item) (next : ℕ) → Delivery.Late g deadline k ≡ i.delivery → slice_get items n ≡ Some i → AreKeptOffers objects items next → HasNoOffer g items

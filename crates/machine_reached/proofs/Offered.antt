@@ -1,12 +1,13 @@
 -- Offers that are kept each have a Wake, and each a since of its own.
 use Rattle.std.proofs.Common.{◌≡◌, refl, ap, ◌∙◌, sym, subst, ℕ, zero, suc, ◌+◌, Bool, true, false, List, [], ◌∷◌, arith}
 use Rattle.std.proofs.lemmas.Bool.Decides.{nat_tests}
-use Rattle.std.specs.Prelude.{◌==◌, ◌||◌, Some, nat_le, slice_get}
+use Rattle.std.specs.Prelude.{◌||◌, Some, nat_le, slice_get}
 use Rattle.std.specs.List.{list_any}
 use Rattle.machine.specs.declared.state.Offer.{Offer}
 use Rattle.machine.specs.State.{State}
 use Rattle.machine.specs.Holds.{is_offer_of}
 use Rattle.machine.proofs.Halves.{left, right}
+use Rattle.machine_soundness.proofs.Lists.{itself}
 use Rattle.machine_offers.specs.Offers.{offers_at}
 use Rattle.machine_offers.proofs.Offers.{AreKeptOffers, rise}
 use Rattle.machine_reached.specs.Offers.{AreOffered}
@@ -41,9 +42,6 @@ own-since low next (y ∷ fs) (suc j) zero a b h there here e =
     let same : y ≡ b = cc here in
     absurd (beyond y.since a.since (later-since (y.since + 1) next j fs a (right (nat_le low y.since) _ h) there) (ap (λ (x : Offer). x.since) same ∙ sym e))
 own-since low next (y ∷ fs) (suc j) (suc k) a b h there here e = ap suc (own-since (y.since + 1) next fs j k a b (right (nat_le low y.since) _ h) there here e)
-
-itself : (n : ℕ) → (n == n) ≡ true
-itself n = grind (arith, nat_tests)
 
 pub offered : (s : State) → AreKeptOffers s.objects s.items s.next_since → AreOffered s
 offered s m =

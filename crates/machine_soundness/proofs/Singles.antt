@@ -1,9 +1,8 @@
 -- Items of which no two say the same, one by one.
 use Rattle.std.proofs.Common.{◌≡◌, ◌≤◌, refl, ap, sym, subst, ◌∙◌, ℕ, zero, suc, ◌+◌, Bool, true, false, cond, List, [], ◌∷◌, ◌++◌, take, drop, arith}
 use Rattle.std.proofs.lemmas.Bool.{and_from}
-use Rattle.std.proofs.lemmas.Bool.Decides.{nat_tests}
 use Rattle.std.proofs.lemmas.List.Sums.{sum_by-cons}
-use Rattle.std.specs.Prelude.{count_by, not, ◌==◌, Option, Some}
+use Rattle.std.specs.Prelude.{count_by, not, Option, Some}
 use Rattle.std.specs.List.{list_all}
 use Rattle.machine.specs.declared.items.Delivery.{Delivery}
 use Rattle.machine.specs.declared.items.Item.{Item}
@@ -11,10 +10,7 @@ use Rattle.machine.specs.Items.{is_wait_of}
 use Rattle.machine.specs.Soundness.{Claim, are_single, claim_eq, claim_of, is_unclaimed, same_claim}
 use Rattle.machine_soundness.specs.Going.{has_no_wait}
 use Rattle.machine.proofs.Halves.{left, right}
-use Rattle.machine_soundness.proofs.Lists.{all-imply}
-
-itself : (a : ℕ) → (a == a) ≡ true
-itself a = grind (arith, nat_tests)
+use Rattle.machine_soundness.proofs.Lists.{all-imply, itself}
 
 all-removed : (p : Item → Bool) (at : ℕ) (items : List Item) → list_all p items ≡ true → list_all p (take at items ++ drop (suc at) items) ≡ true
 all-removed p zero [] h = h

@@ -1,5 +1,5 @@
 -- What keeps a state sound.
-use Rattle.std.proofs.Common.{◌≡◌, refl, ap, ◌∙◌, sym, subst, ℕ, ◌+◌, ◌≤◌, Bool, true, false, List, ◌∷◌, length, length-append, map, arith}
+use Rattle.std.proofs.Common.{◌≡◌, refl, ap, ◌∙◌, sym, subst, ℕ, ◌+◌, ◌≤◌, Bool, true, false, List, length, length-append, map, arith}
 use Rattle.std.proofs.lemmas.Bool.{and_from, not-true}
 use Rattle.std.specs.Prelude.{not, ◌==◌, ◌&&◌, Some, nat_le}
 use Rattle.std.specs.List.{list_all}
