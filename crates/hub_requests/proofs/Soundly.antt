@@ -23,7 +23,8 @@ use Rattle.machine_soundness.proofs.Requests.{members-raw, moves-member, next-un
 use Rattle.machine_soundness.proofs.Singles.{wake_unclaimed}
 use Rattle.machine_soundness.proofs.States.{Moves, going, moving}
 use Rattle.hub_requests.specs.Making.{MayMake}
-use Rattle.hub_requests.specs.Sendings.{AreNotRaw, sent}
+use Rattle.machine_soundness.specs.Going.{AreNotRaw}
+use Rattle.hub_requests.specs.Sendings.{sent}
 
 -- the greenlet has no Wake yet
 pub wake_free : (g : ℕ) (line : Line) (s t : State) → MayMake g s → t ≡ say line s → is_unclaimed (Some (Claim.WakeOf g)) t.items ≡ true

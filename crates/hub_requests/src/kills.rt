@@ -8,7 +8,8 @@ ghost use Rattle.machine.specs.State.{say};
 ghost use Rattle.machine.specs.Requests.{kills, sends, sends_all};
 ghost use Rattle.hub_requests.specs.Making.{MayMake};
 ghost use Rattle.hub_requests.specs.Performing.{performed_of};
-ghost use Rattle.hub_requests.specs.Sendings.{AreNotRaw, sent};
+ghost use Rattle.machine_soundness.specs.Going.{AreNotRaw};
+ghost use Rattle.hub_requests.specs.Sendings.{sent};
 
 use crate::ends::end_greenlet;
 use crate::far::{Far, how_far};

@@ -46,7 +46,7 @@ use Rattle.machine.specs.Objects.{at_bound, after_release, takes_value, members_
 use Rattle.machine.specs.Soundness.{is_live, is_unstarted}
 use Rattle.machine.specs.Waits.{Performed, comes, raises, nothing, maps}
 use Rattle.machine.specs.Objects.{with_object, object_at, name_of_object}
-use Rattle.machine_soundness.specs.Going.{is_plain, is_meant_request, next_did, IsKept}
+use Rattle.machine_soundness.specs.Going.{AreNotRaw, is_plain, is_meant_request, next_did, IsKept}
 use Rattle.machine_soundness.specs.Laws.{is_wake_of}
 use Rattle.machine.proofs.Halves.{left, right}
 use Rattle.machine_soundness.proofs.Lists.{all-end, all-set, all-of, next-other, at-most, above, equal, itself, unequal}
@@ -54,7 +54,7 @@ use Rattle.machine_soundness.proofs.Greenlets.{at, plain-here, live-at, live-fou
 use Rattle.machine_soundness.proofs.Chains.{phase-kept}
 use Rattle.machine_soundness.proofs.Deliveries.{asleep-free}
 use Rattle.machine_soundness.proofs.Performs.{link-unclaimed, moves-parent, not-live, raw_greenlet-raw, sends-raw, start_of-fine, timeout-unclaimed}
-use Rattle.machine_soundness.proofs.Requests.{AreNotRaw, members-raw, moves-flag, moves-shut, object-plain, plain_greenlet-raw, plain_greenlet_list-raw}
+use Rattle.machine_soundness.proofs.Requests.{members-raw, moves-flag, moves-shut, object-plain, plain_greenlet-raw, plain_greenlet_list-raw}
 use Rattle.machine_soundness.proofs.States.{Moves, all-settle, kept-settle, kept-timeout, host-settle, moves-add, moves-ended, moves-link, moves-live, moves-object, moves-say, moves-settle, moves-timeout, plain-phased}
 use Rattle.machine_texts.specs.Kinds.{kind_of}
 use Rattle.machine_texts.proofs.KindLemmas.{acquires-fits, flag-kept, result-kept, shut-kept}

@@ -38,14 +38,14 @@ use Rattle.machine.specs.Objects.{at_bound, after_release, takes_value, members_
 use Rattle.machine.specs.Soundness.{Claim, claim_of, is_live, is_meant, is_unclaimed, is_unstarted, same_claim}
 use Rattle.machine.specs.Waits.{Performed, comes, raises, nothing, maps}
 use Rattle.machine.specs.Objects.{with_object, object_at, name_of_object}
-use Rattle.machine_soundness.specs.Going.{is_plain, is_meant_request, is_meant_did, is_meant_move, next_did, IsKept, IsGoing, IsSoundAt}
+use Rattle.machine_soundness.specs.Going.{AreNotRaw, is_plain, is_meant_request, is_meant_did, is_meant_move, next_did, IsKept, IsGoing, IsSoundAt}
 use Rattle.machine.proofs.Halves.{left, right}
 use Rattle.machine_soundness.proofs.Lists.{all-imply, all-of, none-counted, next-other, at-most}
 use Rattle.machine_soundness.proofs.Greenlets.{at, plain-here, live-at, live-found, live-phase, new-found, raw-set, host-plain, plain-raw, plain-set, raw-found}
 use Rattle.machine_soundness.proofs.Chains.{host-turned, phase-kept}
 use Rattle.machine_soundness.proofs.States.{Moves, moving, meants, kept-settle, kept-greenlets, moves-say, moves-settle, moves-drop, moves-add, moves-object, moves-made, moves-timeout, moves-link, moves-live, moves-ended, plain-phased, host-settle}
 use Rattle.machine_soundness.proofs.Landings.{goes_on-soundly, answered-soundly, lands-soundly}
-use Rattle.machine_soundness.proofs.Requests.{IsFine, AreNotRaw, comes-fine, maps-fine, typed-fine, on_host-fine, moves-spawned, moves-flag, plain_greenlet-raw, plain_greenlet_list-raw, members-raw, object-plain, offered-fine, moves-shut}
+use Rattle.machine_soundness.proofs.Requests.{IsFine, comes-fine, maps-fine, typed-fine, on_host-fine, moves-spawned, moves-flag, plain_greenlet-raw, plain_greenlet_list-raw, members-raw, object-plain, offered-fine, moves-shut}
 
 -- ---- kills
 

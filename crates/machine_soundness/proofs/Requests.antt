@@ -2,7 +2,6 @@
 use Rattle.std.proofs.Common.{◌≡◌, refl, ap, ◌∙◌, sym, subst, ℕ, ◌+◌, Bool, true, false, List, [], ◌∷◌, ◌++◌, length, map}
 use Rattle.std.proofs.lemmas.Bool.{and_from}
 use Rattle.std.specs.Prelude.{not, ◌==◌, slice_get, Option, Some, None, if◌then◌else◌, unwrap_or}
-use Rattle.std.specs.List.{list_all}
 use Rattle.gv_values.specs.declared.value.Value.{Value}
 use Rattle.gv_values.specs.declared.value.Outcome.{Outcome}
 use Rattle.gv_values.specs.declared.scalar.Scalar.{Scalar}
@@ -27,9 +26,9 @@ use Rattle.machine.specs.declared.state.Greenlet.{Greenlet}
 use Rattle.machine.specs.Soundness.{Claim, claim_of, is_meant, is_unclaimed, is_unstarted, same_claim}
 use Rattle.machine.specs.Waits.{Performed, add_member, map_ends, maps, map_goes_on, made_member, posted, completes, comes, waits, parked, drawn, draws, until_of, gathered, outcome_of_greenlet, raises, nothing, offered, puts_item, takes_item, peeks_item}
 use Rattle.machine.specs.Objects.{with_object, object_at, no_object, with_unit_taken, with_owner, with_item, with_item_taken, with_member, with_slot_taken, name_of_object, with_offer, with_offer_taken, is_shut, is_left, item_of}
-use Rattle.machine_soundness.specs.Going.{is_plain, has_plain_members, IsKept}
+use Rattle.machine_soundness.specs.Going.{AreNotRaw, is_plain, has_plain_members, IsKept}
 use Rattle.machine_soundness.proofs.Lists.{all-imply, all-end, all-get, get-last, equal}
-use Rattle.machine_soundness.proofs.Greenlets.{at, plain-here, plain-raw, none-next, host-plain, plain-more}
+use Rattle.machine_soundness.proofs.Greenlets.{plain-here, plain-raw, none-next, host-plain, plain-more}
 use Rattle.machine_soundness.proofs.Singles.{wake_unclaimed}
 use Rattle.machine_soundness.proofs.States.{IsHost, Moves, meants, kept-say, kept-timeout, kept-add, kept-object, moves-add, moves-object, moves-made, moves-timeout, host-say}
 
@@ -299,10 +298,6 @@ on_host-fine g h k s go m f = by (host_of s g == host_of s k) refl
     by : (b : Bool) → (host_of s g == host_of s k) ≡ b → IsFine g h (if b then go else raises FaultKind.InvalidSwitch s)
     by true e = f (sym (equal (host_of s g) (host_of s k) e) ∙ m.same)
     by false e = m
-
--- no one of these is raw
-abbrev pub AreNotRaw : List Greenlet → List ℕ → Type 0
-AreNotRaw gs ks = list_all (λ k. not (at gs k).raw) ks ≡ true
 
 pub plain_greenlet-raw : (s : State) (v : Value) (k : ℕ) → plain_greenlet s v ≡ Some k → (greenlet k s).raw ≡ false
 plain_greenlet-raw s (Value.Greenlet j) k e = by (greenlet j s).raw refl e

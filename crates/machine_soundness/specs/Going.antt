@@ -1,7 +1,7 @@
 -- Which greenlet may go on in a sound state. The hub delivers to greenlets that are not raw; one of them is under way
 -- by itself, or by the raw greenlet that it switched to, and it waits for nothing meanwhile. This project's own, after
 -- the greenlet documentation, parents.
-use Rattle.std.specs.Prelude.{◌≡◌, ℕ, Bool, true, false, not, List, Some, None, slice_get, if◌then◌else◌}
+use Rattle.std.specs.Prelude.{◌≡◌, ℕ, Bool, true, false, not, List, Some, None, slice_get, if◌then◌else◌, unwrap_or}
 use Rattle.std.specs.List.{list_all}
 use Rattle.machine.specs.declared.items.Delivery.{Delivery}
 use Rattle.machine.specs.declared.items.Item.{Item}
@@ -14,13 +14,17 @@ use Rattle.machine.specs.declared.request.Request.{Request}
 use Rattle.machine.specs.Landing.{Next}
 use Rattle.machine.specs.Items.{is_wait_of}
 use Rattle.machine.specs.Hosts.{host_of}
-use Rattle.machine.specs.Greenlets.{greenlet, frame_of}
+use Rattle.machine.specs.Greenlets.{greenlet, frame_of, nobody}
 use Rattle.machine.specs.Moves.{look}
 use Rattle.machine.specs.Soundness.{is_live, is_sound}
 
 -- there is such a greenlet, and it is not raw
 abbrev pub is_plain : List Greenlet → ℕ → Bool
 is_plain gs g = elim (slice_get gs g) [ None ↦ false | Some x ↦ not x.raw ]
+
+-- none of these greenlets is raw
+abbrev pub AreNotRaw : List Greenlet → List ℕ → Type 0
+AreNotRaw gs ks = list_all (λ k. not (unwrap_or (slice_get gs k) nobody).raw) ks ≡ true
 
 -- the item goes to a greenlet that is not raw; a link is called in a new one
 abbrev pub is_for_plain : List Greenlet → Delivery → Bool
