@@ -59,7 +59,7 @@ abbrev pub is_live : Option Phase → Bool
 is_live (Some (Phase.Live frame)) = true
 is_live phase = false
 
--- a start is of a greenlet that is New, a Wake, Late, Timeout or Kill of one that is suspended; timeouts and links have
+-- a start is of a greenlet that is New, a Wake, Late, Timeout or Kill of one that is live; timeouts and links have
 -- numbers that were drawn
 abbrev pub is_meant : State → Delivery → Bool
 is_meant s (Delivery.Start g deadline) = is_unstarted (phase_of g s.greenlets)
