@@ -1,7 +1,7 @@
 ghost use Rattle.std.specs.Prelude.{◌≡◌};
 ghost use Rattle.gv_values.specs.Counts.{one_more};
 
-/// The count after one more fault; it stands still at its last value.
+/// The count after one more; it stands still at its last value.
 pub fn one_more(count: u64) -> u64
     ensures { result ≡ one_more count }
 {

@@ -11,6 +11,7 @@ mod source;
 mod std_sink;
 mod std_source;
 
+pub use count::one_more;
 pub use limited::{ReadRefusal, read_limited};
 pub use memory_sink::MemorySink;
 pub use memory_source::MemorySource;

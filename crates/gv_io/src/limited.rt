@@ -33,6 +33,8 @@ pub fn read_limited<S: Source>(
     ensures end { IfOk result (λ v. vec_len v ≤ limit → IfSome (S.remaining source.new) (λ left. left ≡ [])) }
     ensures err { OnErr result (TakesAtMost (limit + 1) (S.remaining source.old) (S.remaining source.new)) }
     ensures fault { IsErrOf result ReadRefusal.Fault → HasRisen (S.faults source.old) (S.faults source.new) }
+    ensures unfailed { OnOk result (S.faults source.new ≡ S.faults source.old) }
+    ensures unfailed_memory { IsErrOf result ReadRefusal.Memory → S.faults source.new ≡ S.faults source.old }
     ensures never_falls { S.faults source.old ≤ S.faults source.new }
 {
     let mut bytes = Vec::new(alloc);
@@ -60,6 +62,8 @@ fn read_piece<S: Source>(
     ensures end { IfOk result (λ n. n ≡ 0 → IfSome (S.remaining source.new) (λ left. left ≡ [])) }
     ensures err { OnErr result (TakesAtMost most (S.remaining source.old) (S.remaining source.new)) }
     ensures fault { IsErrOf result ReadRefusal.Fault → HasRisen (S.faults source.old) (S.faults source.new) }
+    ensures unfailed { OnOk result (S.faults source.new ≡ S.faults source.old) }
+    ensures unfailed_memory { IsErrOf result ReadRefusal.Memory → S.faults source.new ≡ S.faults source.old }
     ensures never_falls { S.faults source.old ≤ S.faults source.new }
 {
     let mut buffer = [0; PIECE];

@@ -63,6 +63,7 @@ impl Sink for MemorySink {
         ensures err { OnErr result (AppendsPrefix (Some self.old.bytes) (Some self.new.bytes) bytes.now) }
         ensures never_falls { self.old.faults ≤ self.new.faults }
         ensures failed { OnErr result (HasRisen self.old.faults self.new.faults) }
+        ensures unfailed { OnOk result (self.new.faults ≡ self.old.faults) }
         ensures fails { is_err result ≡ is_past_room self.old bytes.now }
         ensures after { self.new ≡ after_write self.old bytes.now }
     {
@@ -81,6 +82,7 @@ impl Sink for MemorySink {
         ensures same { Some self.new.bytes ≡ Some self.old.bytes }
         ensures never_falls { self.old.faults ≤ self.new.faults }
         ensures failed { OnErr result (HasRisen self.old.faults self.new.faults) }
+        ensures unfailed { OnOk result (self.new.faults ≡ self.old.faults) }
         ensures ok { is_ok result ≡ true }
         ensures unchanged { self.new ≡ self.old }
     {

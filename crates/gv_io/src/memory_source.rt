@@ -50,7 +50,7 @@ impl MemorySource {
 }
 
 impl Source for MemorySource {
-    ghost use Rattle.std.specs.Prelude.{◌≡◌, ◌<◌, ◌≤◌, Some, Ok, [], length, take, is_err, if◌then◌else◌, IfOk, IfSome, OnErr};
+    ghost use Rattle.std.specs.Prelude.{◌≡◌, ◌<◌, ◌≤◌, Some, Ok, [], length, take, is_err, if◌then◌else◌, IfOk, IfSome, OnOk, OnErr};
     ghost use Rattle.gv_io.specs.Streams.{prepended};
     ghost use Rattle.gv_values.specs.Counts.{HasRisen};
     ghost use Rattle.gv_io.specs.Memory.{SourceState, fails_next, given, after_read, after_fault};
@@ -68,6 +68,7 @@ impl Source for MemorySource {
         ensures same { OnErr result (Some self.new.left ≡ Some self.old.left) }
         ensures never_falls { self.old.faults ≤ self.new.faults }
         ensures failed { OnErr result (HasRisen self.old.faults self.new.faults) }
+        ensures unfailed { OnOk result (self.new.faults ≡ self.old.faults) }
         ensures fails { is_err result ≡ fails_next self.old }
         ensures fault { OnErr result (self.new ≡ after_fault self.old) }
         ensures read { IfOk result (λ n. self.new ≡ after_read self.old n) }

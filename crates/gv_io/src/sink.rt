@@ -17,11 +17,13 @@ pub trait Sink {
         ensures ok { OnOk result (written self.new ≡ appended (written self.old) bytes.now) }
         ensures err { OnErr result (AppendsPrefix (written self.old) (written self.new) bytes.now) }
         ensures never_falls { faults self.old ≤ faults self.new }
-        ensures failed { OnErr result (HasRisen (faults self.old) (faults self.new)) };
+        ensures failed { OnErr result (HasRisen (faults self.old) (faults self.new)) }
+        ensures unfailed { OnOk result (faults self.new ≡ faults self.old) };
 
     /// Hands on what is kept back. Nothing is appended.
     fn flush(&mut self) -> Result<(), Failed>
         ensures same { written self.new ≡ written self.old }
         ensures never_falls { faults self.old ≤ faults self.new }
-        ensures failed { OnErr result (HasRisen (faults self.old) (faults self.new)) };
+        ensures failed { OnErr result (HasRisen (faults self.old) (faults self.new)) }
+        ensures unfailed { OnOk result (faults self.new ≡ faults self.old) };
 }

@@ -1,10 +1,10 @@
-ghost use Rattle.std.specs.Prelude.{◌≡◌, ℕ, ◌<◌, ◌≤◌, List, Option, [], length, take, IfOk, OnErr, IfSome, Ok};
+ghost use Rattle.std.specs.Prelude.{◌≡◌, ℕ, ◌<◌, ◌≤◌, List, Option, [], length, take, IfOk, OnOk, OnErr, IfSome, Ok};
 ghost use Rattle.gv_io.specs.Streams.{prepended};
 ghost use Rattle.gv_values.specs.Counts.{HasRisen};
 
 use thiserror::Error;
 
-/// A read or a write that failed. The count of faults of its object has risen then.
+/// A read or a write that failed. The count of faults of its object has risen then, and only then.
 #[derive(Clone, Copy, Debug, PartialEq, Eq, Error)]
 #[error("a read or a write failed")]
 pub struct Failed;
@@ -26,5 +26,6 @@ pub trait Source {
         ensures end { result ≡ Ok 0 → IfSome (remaining self.old) (λ left. left ≡ []) }
         ensures same { OnErr result (remaining self.new ≡ remaining self.old) }
         ensures never_falls { faults self.old ≤ faults self.new }
-        ensures failed { OnErr result (HasRisen (faults self.old) (faults self.new)) };
+        ensures failed { OnErr result (HasRisen (faults self.old) (faults self.new)) }
+        ensures unfailed { OnOk result (faults self.new ≡ faults self.old) };
 }

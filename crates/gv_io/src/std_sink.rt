@@ -1,4 +1,4 @@
-ghost use Rattle.std.specs.Prelude.{◌≡◌, ◌≤◌, OnErr};
+ghost use Rattle.std.specs.Prelude.{◌≡◌, ◌≤◌, OnOk, OnErr};
 ghost use Rattle.gv_values.specs.Counts.{HasRisen};
 
 use crate::count::one_more;
@@ -58,6 +58,7 @@ impl<W: Write> StdSink<W> {
     fn counted(&mut self, went_well: bool) -> Result<(), Failed>
         ensures never_falls { self.old.faults ≤ self.new.faults }
         ensures failed { OnErr result (HasRisen self.old.faults self.new.faults) }
+        ensures unfailed { OnOk result (self.new.faults ≡ self.old.faults) }
     {
         if went_well {
             return Ok(());

@@ -65,6 +65,7 @@ impl Sink for LineCounter {
         ensures err { OnErr result (AppendsPrefix (Some self.old.text) (Some self.new.text) bytes.now) }
         ensures never_falls { self.old.faults ≤ self.new.faults }
         ensures failed { OnErr result (HasRisen self.old.faults self.new.faults) }
+        ensures unfailed { OnOk result (self.new.faults ≡ self.old.faults) }
         ensures fails { is_err result ≡ is_past_count self.old bytes.now }
         ensures kept { OnErr result (self.new.text ≡ self.old.text) }
     {
@@ -86,6 +87,7 @@ impl Sink for LineCounter {
         ensures same { Some self.new.text ≡ Some self.old.text }
         ensures never_falls { self.old.faults ≤ self.new.faults }
         ensures failed { OnErr result (HasRisen self.old.faults self.new.faults) }
+        ensures unfailed { OnOk result (self.new.faults ≡ self.old.faults) }
         ensures ok { is_ok result ≡ true }
         ensures unchanged { self.new ≡ self.old }
     {
