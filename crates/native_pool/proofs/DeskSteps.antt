@@ -17,7 +17,7 @@ use Rattle.native_board.specs.declared.views.HubCell.{HubCell}
 use Rattle.native_board.specs.declared.views.HubCell.TheVariants.{Vacant, Sent}
 use Rattle.native_board.specs.Boards.{after_post}
 use Rattle.native_board.specs.Passes.{is_sent, Sweeps, finished, after_sweep}
-use Rattle.native_pool.specs.Desks.{DeskView, CanTake, has_workers, IsResult, KeepsJobs, SameCells, IsLater, Rests, Fills, Refills, Settles, Hands, HandsDue}
+use Rattle.native_pool.specs.Desks.{DeskView, CanTake, has_workers, IsResult, KeepsJobs, SameCells, IsLater, Rests, Fills, Refills, Settles, KeepsResults, Hands, HandsDue}
 use Rattle.native_pool.proofs.DeskKeeps.{length-after_sweep}
 use Rattle.native_pool.proofs.JobLemmas.{keeps_fill, keeps_sweep, keeps_hand, keeps_eval}
 
@@ -80,6 +80,14 @@ fills_trans d m e a b = record {
   sweeps = b.sweeps ∙ a.sweeps;
   empty = λ h. b.empty (a.empty h);
   takes = λ i h. a.takes i (b.takes i h);
+}
+
+-- a job more waits, and some were posted to cells
+pub keeps_results : (d m e : DeskView) (w : List PostedJob) → m ≡ record d { waiting = w } → Fills m e → KeepsResults d e
+keeps_results d m e w added fills = record {
+  held = fills.rests.held ∙ ap (λ v. v.held) added;
+  seen = fills.seen ∙ ap (λ v. v.hub.seen) added;
+  sweeps = fills.sweeps ∙ ap (λ v. v.hub.sweeps) added;
 }
 
 -- the desk once its oldest job was posted to a cell

@@ -132,6 +132,12 @@ pub record Settles (d e : DeskView) : Type 0 where
 abbrev pub WaitsBehind : ℕ → Job → DeskView → DeskView → Type 0
 WaitsBehind number job d e = IsLater (d.waiting ++ posted number job ∷ []) e.waiting
 
+-- no sweep was made, and the results that were held are held in their order
+pub record KeepsResults (d e : DeskView) : Type 0 where
+  pub held : e.held ≡ d.held
+  pub seen : e.hub.seen ≡ d.hub.seen
+  pub sweeps : e.hub.sweeps ≡ d.hub.sweeps
+
 -- the result was held, and was the first of those
 abbrev pub HandsHeld : DeskView → DeskView → Finished → Type 0
 HandsHeld d e f = (f ∷ e.held ≡ d.held) × IsLater d.waiting e.waiting

@@ -286,7 +286,7 @@ impl<
     ghost use Rattle.world_rules.specs.declared.question.LogEntry.TheVariants as entry;
     ghost use Rattle.world_rules.specs.Legal.{is_posted, MayAsk};
     ghost use Rattle.world.specs.Worlds.{Begins, Posts, Stores};
-    ghost use Rattle.native_pool.specs.Desks.{WaitsBehind};
+    ghost use Rattle.native_pool.specs.Desks.{WaitsBehind, KeepsResults};
     ghost use Rattle.native_pool.specs.Pools.{pool_meaning, pool_log, IsTimely, HasCome, WhileRunning, Between, KeepsStarts};
 
     ghost meaning = { pool_meaning };
@@ -337,6 +337,8 @@ impl<
         ensures moment { OnOk result (IsTimely self.new) }
         ensures starts { OnOk result (WhileRunning KeepsStarts self.new) }
         ensures waits { OnOk result (Between (WaitsBehind number job) self.old.desk self.new.desk) }
+        ensures held { OnOk result (Between KeepsResults self.old.desk self.new.desk) }
+        ensures unchanged { OnErr result (self.new ≡ self.old) }
         ensures same_starts { self.new.starts ≡ self.old.starts }
         ensures same_began { self.new.began ≡ self.old.began }
     {
@@ -364,6 +366,7 @@ impl<
         ensures moment { OnOk result (IsTimely self.new) }
         ensures come { IfOk result (λ answer. HasCome self.new question answer) }
         ensures gives { IfOk result (λ answer. Between (λ d e. Gives d e answer) self.old.desk self.new.desk) }
+        ensures unchanged { OnErr result (self.new ≡ self.old) }
         ensures starts { OnOk result (WhileRunning KeepsStarts self.new) }
         ensures same_starts { self.new.starts ≡ self.old.starts }
         ensures same_began { self.new.began ≡ self.old.began }

@@ -4,9 +4,10 @@ use Rattle.std.specs.Prelude.{option_map}
 use Rattle.world_rules.specs.Legal.{posted, is_posted}
 use Rattle.world_rules.proofs.Logs.{posts_of-post, answers_of-post}
 use Rattle.world_rules.specs.declared.question.PostedJob.{PostedJob}
-use Rattle.native_pool.specs.Desks.{DeskView, IsLater, WaitsBehind}
+use Rattle.native_pool.specs.Desks.{DeskView, IsLater, WaitsBehind, KeepsResults}
 use Rattle.native_pool.specs.Pools.{Between}
 use Rattle.native_pool.specs.Views.{desk_view}
+use Rattle.native_pool.proofs.DeskSteps.{keeps_results}
 use Rattle.native_pool.proofs.PoolSteps.{sound_post, sound_running, starts_of}
 use Rattle.native_pool.proofs.pool.ThreadWorldWorld.post.Goals as goal
 
@@ -44,3 +45,10 @@ returns-clause-waits g c =
     let there = sym (ap (option_map desk_view) c.in-Some.is) ∙ ap (λ p. p.desk) c.self.view_is in
     subst (λ (o : Option DeskView). Between (WaitsBehind c.args.number c.args.job) o (Some e)) there
     (subst (λ (l : List PostedJob). IsLater l e.waiting) (ap (λ (v : DeskView). v.waiting) c.in_ok-add.ensures.added) c.fill.ensures.fills.rests.order)
+
+-- no result is handed on, and none is found
+pub returns-clause-held : goal.returns-clause-held
+returns-clause-held g c =
+    let d = desk_view c.in-Some.desk in let e = desk_view c.fill.new.self in
+    let there = sym (ap (option_map desk_view) c.in-Some.is) ∙ ap (λ p. p.desk) c.self.view_is in
+    subst (λ (o : Option DeskView). Between KeepsResults o (Some e)) there (keeps_results d (desk_view c.add.new.self) e (d.waiting ++ posted c.args.number c.args.job ∷ []) c.in_ok-add.ensures.added c.fill.ensures.fills)
