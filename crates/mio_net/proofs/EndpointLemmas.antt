@@ -1,5 +1,5 @@
 -- A net over the system, one connection at a time.
-use Rattle.std.proofs.Common.{◌≡◌, ℕ, ◌+◌, ◌<◌, ◌≤◌, max, Bool, true, false, List, [], ◌∷◌, ◌++◌, length, map, get_or, set, Option, refl, sym, ap, ◌∙◌, subst, arith, slice_set}
+use Rattle.std.proofs.Common.{◌≡◌, ◌≢◌, ℕ, ◌+◌, ◌<◌, ◌≤◌, max, Bool, true, false, List, [], ◌∷◌, ◌++◌, length, map, get_or, set, Option, refl, sym, ap, ◌∙◌, subst, arith, slice_set}
 use Rattle.gv_values.specs.Counts.{HasRisen}
 use Rattle.std.proofs.lemmas.List.{length-map, get_or-map, map-append}
 use Rattle.stream_net.specs.Nets.{Connection, Changes, connection_at, nobody, live_count, IsNew}
@@ -44,23 +44,25 @@ module _ (endpoints : List Endpoint) (k : ℕ) (old new : Endpoint) (within : k 
     }
 
     pub one_read : (end : ReadEnd) (bytes : List ℕ) → endpoint_meaning new ≡ after_read end bytes now new.account.faults (endpoint_meaning old) → old.account.faults ≤ new.account.faults
-        → (end ≡ ReadEnd.Failed → HasRisen old.account.faults new.account.faults)
+        → (end ≡ ReadEnd.Failed → HasRisen old.account.faults new.account.faults) → (end ≢ ReadEnd.Failed → new.account.faults ≡ old.account.faults)
         → Reads (meaning_by endpoints most moment listens faults blocked) (meaning_by (slice_set endpoints k new) most now listens faults blocked) k end bytes
-    one_read end bytes e rises failed = record {
+    one_read end bytes e rises failed unfailed = record {
       faults = new.account.faults;
       changes = one_changed (after_read end bytes now new.account.faults) e;
       never_falls = subst (λ (c : Connection). c.faults ≤ new.account.faults) (sym at_old) rises;
       failed = λ f. subst (λ (c : Connection). HasRisen c.faults new.account.faults) (sym at_old) (failed f);
+      unfailed = λ f. unfailed f ∙ ap (λ (c : Connection). c.faults) (sym at_old);
     }
 
     pub one_written : (end : WriteEnd) (bytes : List ℕ) → endpoint_meaning new ≡ after_write end bytes now new.account.faults (endpoint_meaning old) → old.account.faults ≤ new.account.faults
-        → (end ≡ WriteEnd.Failed → HasRisen old.account.faults new.account.faults)
+        → (end ≡ WriteEnd.Failed → HasRisen old.account.faults new.account.faults) → (end ≢ WriteEnd.Failed → new.account.faults ≡ old.account.faults)
         → Writes (meaning_by endpoints most moment listens faults blocked) (meaning_by (slice_set endpoints k new) most now listens faults blocked) k end bytes
-    one_written end bytes e rises failed = record {
+    one_written end bytes e rises failed unfailed = record {
       faults = new.account.faults;
       changes = one_changed (after_write end bytes now new.account.faults) e;
       never_falls = subst (λ (c : Connection). c.faults ≤ new.account.faults) (sym at_old) rises;
       failed = λ f. subst (λ (c : Connection). HasRisen c.faults new.account.faults) (sym at_old) (failed f);
+      unfailed = λ f. unfailed f ∙ ap (λ (c : Connection). c.faults) (sym at_old);
     }
 
 -- a read and a write leave it as open as it was

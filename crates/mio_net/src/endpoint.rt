@@ -1,5 +1,5 @@
 //! A connection of the system.
-ghost use Rattle.std.specs.Prelude.{◌≡◌, ◌<◌, ◌≤◌, map, ℕ, List, length};
+ghost use Rattle.std.specs.Prelude.{◌≡◌, ◌≢◌, ◌<◌, ◌≤◌, map, ℕ, List, length};
 ghost use Rattle.gv_values.specs.Counts.{HasRisen};
 ghost use Rattle.mio_net.specs.Endpoints.{endpoint_meaning};
 ghost use Rattle.stream_net.specs.Nets.{closed_at, held_as};
@@ -27,6 +27,7 @@ pub fn read_endpoint(endpoint: &mut Endpoint, moment: u64, buf: &mut [u8]) -> Re
     ensures after { endpoint_meaning endpoint.new ≡ after_read result buf.new moment endpoint.new.account.faults (endpoint_meaning endpoint.old) }
     ensures never_falls { endpoint.old.account.faults ≤ endpoint.new.account.faults }
     ensures failed { result ≡ ReadEnd.Failed → HasRisen endpoint.old.account.faults endpoint.new.account.faults }
+    ensures unfailed { result ≢ ReadEnd.Failed → endpoint.new.account.faults ≡ endpoint.old.account.faults }
     ensures some { (n : ℕ) → result ≡ ReadEnd.Got n → 0 < n }
     ensures fits { (n : ℕ) → result ≡ ReadEnd.Got n → n ≤ length buf.new }
 {
@@ -42,6 +43,7 @@ pub fn write_endpoint(endpoint: &mut Endpoint, moment: u64, bytes: &[u8]) -> Wri
     ensures after { endpoint_meaning endpoint.new ≡ after_write result bytes.now moment endpoint.new.account.faults (endpoint_meaning endpoint.old) }
     ensures never_falls { endpoint.old.account.faults ≤ endpoint.new.account.faults }
     ensures failed { result ≡ WriteEnd.Failed → HasRisen endpoint.old.account.faults endpoint.new.account.faults }
+    ensures unfailed { result ≢ WriteEnd.Failed → endpoint.new.account.faults ≡ endpoint.old.account.faults }
     ensures some { (n : ℕ) → result ≡ WriteEnd.Took n → 0 < n }
     ensures fits { (n : ℕ) → result ≡ WriteEnd.Took n → n ≤ length bytes.now }
 {

@@ -44,23 +44,25 @@ module _ (lines : List Line) (k : ℕ) (old new : Line) (most moment : ℕ) (lis
   at_old = line_at lines k old in_lines is
 
   pub one_read : (end : ReadEnd) (bytes : List ℕ) → line_meaning new ≡ after_read end bytes moment new.account.faults (line_meaning old) → old.account.faults ≤ new.account.faults
-      → (end ≡ ReadEnd.Failed → HasRisen old.account.faults new.account.faults)
+      → (end ≡ ReadEnd.Failed → HasRisen old.account.faults new.account.faults) → (end ≢ ReadEnd.Failed → new.account.faults ≡ old.account.faults)
       → Reads (meaning_by lines most moment listens faults blocked) (meaning_by (slice_set lines k new) most moment listens faults blocked) k end bytes
-  one_read end bytes e rises failed = record {
+  one_read end bytes e rises failed unfailed = record {
     faults = new.account.faults;
     changes = one_changed (after_read end bytes moment new.account.faults) e;
     never_falls = subst (λ (c : Connection). c.faults ≤ new.account.faults) (sym at_old) rises;
     failed = λ f. subst (λ (c : Connection). HasRisen c.faults new.account.faults) (sym at_old) (failed f);
+    unfailed = λ f. unfailed f ∙ ap (λ (c : Connection). c.faults) (sym at_old);
   }
 
   pub one_written : (end : WriteEnd) (bytes : List ℕ) → line_meaning new ≡ after_write end bytes moment new.account.faults (line_meaning old) → old.account.faults ≤ new.account.faults
-      → (end ≡ WriteEnd.Failed → HasRisen old.account.faults new.account.faults)
+      → (end ≡ WriteEnd.Failed → HasRisen old.account.faults new.account.faults) → (end ≢ WriteEnd.Failed → new.account.faults ≡ old.account.faults)
       → Writes (meaning_by lines most moment listens faults blocked) (meaning_by (slice_set lines k new) most moment listens faults blocked) k end bytes
-  one_written end bytes e rises failed = record {
+  one_written end bytes e rises failed unfailed = record {
     faults = new.account.faults;
     changes = one_changed (after_write end bytes moment new.account.faults) e;
     never_falls = subst (λ (c : Connection). c.faults ≤ new.account.faults) (sym at_old) rises;
     failed = λ f. subst (λ (c : Connection). HasRisen c.faults new.account.faults) (sym at_old) (failed f);
+    unfailed = λ f. unfailed f ∙ ap (λ (c : Connection). c.faults) (sym at_old);
   }
 
 -- a read or write that failed: the call was counted, and nothing else is changed but what is kept

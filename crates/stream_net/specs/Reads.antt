@@ -1,5 +1,5 @@
 -- What a read does to its connection.
-use Rattle.std.specs.Prelude.{◌≡◌, ℕ, ◌≤◌, true, List, take}
+use Rattle.std.specs.Prelude.{◌≡◌, ◌≢◌, ℕ, ◌≤◌, true, List, take}
 use Rattle.gv_values.specs.Counts.{HasRisen}
 use Rattle.gv_io.specs.Streams.{appended}
 use Rattle.stream_net.specs.declared.net.ReadEnd.{ReadEnd}
@@ -14,9 +14,10 @@ after_read End bytes moment faults c = record c { ended = true; quiet = Awake; f
 after_read WouldBlock bytes moment faults c = record c { quiet = ByRead; faults = faults }
 after_read Failed bytes moment faults c = record c { quiet = Awake; faults = faults }
 
--- only that connection is changed; its count of faults doesn't fall, and has risen where the read failed
+-- only that connection is changed; its count of faults has risen where the read failed, and else is as it was
 pub record Reads (v w : Meaning) (k : ℕ) (answer : ReadEnd) (bytes : List ℕ) : Type 0 where
   pub faults : ℕ
   pub changes : Changes v w k (after_read answer bytes w.moment faults)
   pub never_falls : (connection_at v.connections k).faults ≤ faults
   pub failed : answer ≡ Failed → HasRisen (connection_at v.connections k).faults faults
+  pub unfailed : answer ≢ Failed → faults ≡ (connection_at v.connections k).faults

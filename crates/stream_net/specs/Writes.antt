@@ -1,5 +1,5 @@
 -- What a write does to its connection.
-use Rattle.std.specs.Prelude.{◌≡◌, ℕ, ◌≤◌, List, take}
+use Rattle.std.specs.Prelude.{◌≡◌, ◌≢◌, ℕ, ◌≤◌, List, take}
 use Rattle.gv_values.specs.Counts.{HasRisen}
 use Rattle.gv_io.specs.Streams.{appended}
 use Rattle.stream_net.specs.declared.net.WriteEnd.{WriteEnd}
@@ -13,9 +13,10 @@ after_write WouldBlock bytes moment faults c = record c { quiet = ByWrite; fault
 after_write Failed bytes moment faults c = record c { quiet = Awake; faults = faults }
 after_write Memory bytes moment faults c = record c { quiet = Awake; faults = faults }
 
--- only that connection is changed; its count of faults doesn't fall, and has risen where the write failed
+-- only that connection is changed; its count of faults has risen where the write failed, and else is as it was
 pub record Writes (v w : Meaning) (k : ℕ) (answer : WriteEnd) (bytes : List ℕ) : Type 0 where
   pub faults : ℕ
   pub changes : Changes v w k (after_write answer bytes w.moment faults)
   pub never_falls : (connection_at v.connections k).faults ≤ faults
   pub failed : answer ≡ Failed → HasRisen (connection_at v.connections k).faults faults
+  pub unfailed : answer ≢ Failed → faults ≡ (connection_at v.connections k).faults

@@ -1,5 +1,5 @@
 //! What a net keeps of a connection, but for its bytes.
-ghost use Rattle.std.specs.Prelude.{◌≡◌, ℕ, ◌≤◌, List, Option, IfSome, []};
+ghost use Rattle.std.specs.Prelude.{◌≡◌, ◌≢◌, ℕ, ◌≤◌, List, Option, IfSome, []};
 ghost use Rattle.gv_values.specs.Counts.{HasRisen, one_more as count_after};
 ghost use Rattle.stream_net.specs.Accounts.{account_meaning, read_after};
 ghost use Rattle.stream_net.specs.Nets.{IsNew, closed_at, held_as};
@@ -59,6 +59,7 @@ impl Account {
             ≡ after_read end bytes moment self.new.faults (account_meaning self.old read written) }
         ensures never_falls { self.old.faults ≤ self.new.faults }
         ensures failed { end ≡ ReadEnd.Failed → HasRisen self.old.faults self.new.faults }
+        ensures unfailed { end ≢ ReadEnd.Failed → self.new.faults ≡ self.old.faults }
     {
         match end {
             ReadEnd::Got(_) => {
@@ -84,6 +85,7 @@ impl Account {
             ≡ after_write end bytes moment self.new.faults (account_meaning self.old read written) }
         ensures never_falls { self.old.faults ≤ self.new.faults }
         ensures failed { end ≡ WriteEnd.Failed → HasRisen self.old.faults self.new.faults }
+        ensures unfailed { end ≢ WriteEnd.Failed → self.new.faults ≡ self.old.faults }
     {
         match end {
             WriteEnd::Took(_) => {

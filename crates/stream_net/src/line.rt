@@ -211,6 +211,7 @@ pub fn read_line(line: &mut Line, moment: u64, buf: &mut [u8]) -> ReadEnd
     ensures after { line_meaning line.new ≡ after_read result buf.new moment line.new.account.faults (line_meaning line.old) }
     ensures never_falls { line.old.account.faults ≤ line.new.account.faults }
     ensures failed { result ≡ ReadEnd.Failed → HasRisen line.old.account.faults line.new.account.faults }
+    ensures unfailed { result ≢ ReadEnd.Failed → line.new.account.faults ≡ line.old.account.faults }
     ensures some { (n : ℕ) → result ≡ ReadEnd.Got n → 0 < n }
     ensures fits { (n : ℕ) → result ≡ ReadEnd.Got n → n ≤ length buf.new }
     ensures fails { (result ≡ ReadEnd.Failed) ↔ (is_failing line.old ≡ true) }
@@ -265,6 +266,7 @@ pub fn write_line(line: &mut Line, moment: u64, bytes: &[u8]) -> WriteEnd
     ensures after { line_meaning line.new ≡ after_write result bytes.now moment line.new.account.faults (line_meaning line.old) }
     ensures never_falls { line.old.account.faults ≤ line.new.account.faults }
     ensures failed { result ≡ WriteEnd.Failed → HasRisen line.old.account.faults line.new.account.faults }
+    ensures unfailed { result ≢ WriteEnd.Failed → line.new.account.faults ≡ line.old.account.faults }
     ensures some { (n : ℕ) → result ≡ WriteEnd.Took n → 0 < n }
     ensures fits { (n : ℕ) → result ≡ WriteEnd.Took n → n ≤ length bytes.now }
     ensures fails { (result ≡ WriteEnd.Failed) ↔ (is_failing line.old ≡ true) }

@@ -1,5 +1,5 @@
 //! What a net is to a server.
-ghost use Rattle.std.specs.Prelude.{◌≡◌, ℕ, ◌<◌, ◌≤◌, false, length, IfOk, IsSome, OnOk, OnErr};
+ghost use Rattle.std.specs.Prelude.{◌≡◌, ◌≢◌, ℕ, ◌<◌, ◌≤◌, false, length, IfOk, IsSome, OnOk, OnErr};
 ghost use Rattle.gv_values.specs.Counts.{HasRisen};
 ghost use Rattle.stream_net.specs.Nets.{Changes, IsLive, IsNotReady, Meaning, Readiness, closed_at, connection_at, held_as, listens_at};
 ghost use Rattle.stream_net.specs.Reads.{Reads};
@@ -99,6 +99,7 @@ pub trait Net {
         ensures asks_again { OnOk result ((meaning self.new).blocked ≡ false) }
         ensures kept { OnErr result ((meaning self.new).listens ≡ (meaning self.old).listens) }
         ensures failed { OnErr result (HasRisen (meaning self.old).faults (meaning self.new).faults) }
+        ensures unfailed { OnOk result ((meaning self.new).faults ≡ (meaning self.old).faults) }
         ensures never_falls { (meaning self.old).faults ≤ (meaning self.new).faults }
         ensures same { (meaning self.new).connections ≡ (meaning self.old).connections }
         ensures most { (meaning self.new).most ≡ (meaning self.old).most };
@@ -107,12 +108,14 @@ pub trait Net {
     /// a connection that is closed or was never accepted.
     fn next(&mut self, until: Option<u64>) -> Result<Ready, Failed>
         requires { MayWait (meaning self.old) until }
-        ensures { Waits (meaning self.old) (meaning self.new) until result };
+        ensures waits { Waits (meaning self.old) (meaning self.new) until result }
+        ensures unfailed { OnOk result ((meaning self.new).faults ≡ (meaning self.old).faults) };
 
     /// Accepts a connection.
     fn accept(&mut self) -> Accepted
         requires { IsSome (meaning self.old).listens }
         ensures accepts { Accepts (meaning self.old) (meaning self.new) result }
+        ensures unfailed { result ≢ Accepted.Failed → (meaning self.new).faults ≡ (meaning self.old).faults }
         ensures not_ready { result ≡ Accepted.WouldBlock → IsNotReady (readiness self.old).incoming };
 
     /// Reads the next bytes of a connection into the front of the buffer.

@@ -20,4 +20,4 @@ returns-clause-reads g c =
     let n = c.args.self.now in
     let w = c.read_endpoint.ensures in
     one_read n.endpoints.items c.args.conn c.index_mut.result.now c.read_endpoint.new.endpoint c.requires.live.accepted c.index_mut.ensures.value n.most n.moment c.reading-self.result n.listens n.faults n.blocked c.reading-self.ensures
-    c.read_endpoint.result c.read_endpoint.new.buf w.after w.never_falls w.failed
+    c.read_endpoint.result c.read_endpoint.new.buf w.after w.never_falls w.failed w.unfailed

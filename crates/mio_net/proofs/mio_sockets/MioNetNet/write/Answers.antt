@@ -20,4 +20,4 @@ returns-clause-writes g c =
     let n = c.args.self.now in
     let w = c.write_endpoint.ensures in
     one_written n.endpoints.items c.args.conn c.index_mut.result.now c.write_endpoint.new.endpoint c.requires.live.accepted c.index_mut.ensures.value n.most n.moment c.reading-self.result n.listens n.faults n.blocked c.reading-self.ensures
-    c.write_endpoint.result c.args.bytes.now w.after w.never_falls w.failed
+    c.write_endpoint.result c.args.bytes.now w.after w.never_falls w.failed w.unfailed
