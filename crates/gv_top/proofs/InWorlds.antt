@@ -20,10 +20,11 @@ use Rattle.hub_engine.specs.declared.run.End.{End}
 use Rattle.hub_engine.specs.Prepared.{Prepared}
 use Rattle.hub_engine.specs.Ends.{HasLogged, IsPartLogged, RanTo, WroteAhead, end_of_run}
 use Rattle.gv_top.proofs.Deciding.{prefix_of_trace}
-use Rattle.gv_top.specs.Running.{RanInWorld, RanNatively, run_of}
+use Rattle.gv_top.proofs.Tops.{unchanged_lawful}
+use Rattle.gv_top.specs.Running.{IsBegun, IsUnbegun, RanInWorld, RanNatively, run_of}
 use Rattle.gv_top.specs.Answers.{judged, most_read}
 use Rattle.gv_top.specs.declared.words.Command.{Command}
-use Rattle.gv_top.specs.Top.{BlocksAtQuiet, HasLawfulLines, RanScenarioSo, RanSo}
+use Rattle.gv_top.specs.Top.{BlocksAtQuiet, HasLawfulLines, RanScenarioSo, RanSo, RanWith}
 use Rattle.machine_blocks.specs.Blocks.{BlocksAreTold}
 use Rattle.machine_laws.specs.Laws.{BlocksQuietly}
 use Rattle.scenario_rules.specs.Rules.{IsWellFormed}
@@ -168,8 +169,8 @@ ran_natively posts answers end c turns moves workers before after stands out0 ou
 -- ---- lines that meet the laws
 
 -- what out has of a run whose lines meet the laws
-pub run_lawful : (end : End) (r : Ran) (out0 out1 : Option (List ℕ)) → RanTo end r out0 out1 → meets_laws r.lines ≡ true → HasLawfulLines (number_of (Verdict.Ran end)) out0 out1
-run_lawful end r out0 out1 h lawful = record { lines = r.lines; lawful = lawful; prefix = prefix_of_trace end r out0 out1 h; whole = λ h4 h5 h7. whole end h h5 h7 }
+lines_lawful : (end : End) (r : Ran) (out0 out1 : Option (List ℕ)) → RanTo end r out0 out1 → meets_laws r.lines ≡ true → HasLawfulLines (number_of (Verdict.Ran end)) out0 out1
+lines_lawful end r out0 out1 h lawful = record { lines = r.lines; lawful = lawful; prefix = prefix_of_trace end r out0 out1 h; whole = λ h4 h5 h7. whole end h h5 h7 }
   where
     whole : (end : End) → RanTo end r out0 out1 → number_of (Verdict.Ran end) ≢ 5 → number_of (Verdict.Ran end) ≢ 7 → out1 ≡ appended out0 (text_of r.lines)
     whole End.WriteFault h h5 h7 = absurd (h5 refl)
@@ -182,16 +183,35 @@ run_lawful end r out0 out1 h lawful = record { lines = r.lines; lawful = lawful;
     whole End.NoLinks h h5 h7 = h.0
     whole End.NoKills h h5 h7 = h.0
 
+-- what out has of a run whose lines meet the laws, or of one that was not begun
+pub run_lawful : (end : End) (options : RunOptions) (answers : List Answer) (s : Scenario) (out0 out1 : Option (List ℕ)) → RanTo end (run_of options answers s) out0 out1
+    → IsBegun options s answers ⊎ IsUnbegun (number_of (Verdict.Ran end)) out0 out1 → HasLawfulLines (number_of (Verdict.Ran end)) out0 out1
+run_lawful end options answers s out0 out1 h (inl begun) = lines_lawful end (run_of options answers s) out0 out1 h begun.lawful
+run_lawful end options answers s out0 out1 h (inr unbegun) = unchanged_lawful (number_of (Verdict.Ran end)) out0 out1 unbegun.0
+
 -- ---- under the command
 
+-- where no run was begun, no native workers ran
+pub none_ran : (n : ℕ) (options : RunOptions) (s : Scenario) (after : Meaning) (stands : List LogEntry → Type 0) (out0 out1 : Option (List ℕ)) → IsUnbegun n out0 out1
+    → RanWith n options s after stands out0 out1
+none_ran n options s after stands out0 out1 u = record { begun = inr u; native = λ workers w h4 h5 h7. absurd (by u.1 h4 h5 h7) }
+  where
+    by : (n ≡ 4) ⊎ (n ≡ 5) ⊎ (n ≡ 7) → n ≢ 4 → n ≢ 5 → n ≢ 7 → ⊥
+    by (inl e) h4 h5 h7 = h4 e
+    by (inr (inl e)) h4 h5 h7 = h5 e
+    by (inr (inr e)) h4 h5 h7 = h7 e
+
 -- what a run of these options came to is what the command that asks for it came to
-pub scenario_ran : (command : TextCommand) (options : RunOptions) (end : End) (s : Scenario) (after : Meaning) (stands : List LogEntry → Type 0) → command ≡ TextCommand.Run options
+pub scenario_ran : (command : TextCommand) (options : RunOptions) (end : End) (s : Scenario) (after : Meaning) (stands : List LogEntry → Type 0) (out0 out1 : Option (List ℕ)) → command ≡ TextCommand.Run options
+    → IsBegun options s after.answers ⊎ IsUnbegun (number_of (Verdict.Ran end)) out0 out1
     → ((workers : ℕ) → options.world ≡ RunWorld.Native workers → end ≢ End.WriteFault → end ≢ End.Memory → RanNatively workers (run_of options after.answers s) after stands)
-    → RanScenarioSo (number_of (Verdict.Ran end)) command s after stands
-scenario_ran command options end s after stands is h = λ wanted workers e w h5 h7.
-    let same : options ≡ wanted = same_options options wanted (sym is ∙ e) in
-    let P : RunOptions → Type 0 = λ o. o.world ≡ RunWorld.Native workers → RanNatively workers (run_of o after.answers s) after stands in
-    subst P same (λ v. h workers v (λ z. h5 (ap (λ x. number_of (Verdict.Ran x)) z)) (λ z. h7 (ap (λ x. number_of (Verdict.Ran x)) z))) w
+    → RanScenarioSo (number_of (Verdict.Ran end)) command s after stands out0 out1
+scenario_ran command options end s after stands out0 out1 is begun h = λ wanted e.
+    let P : RunOptions → Type 0 = λ o. RanWith (number_of (Verdict.Ran end)) o s after stands out0 out1 in
+    subst P (same_options options wanted (sym is ∙ e)) (record {
+      begun = begun;
+      native = λ workers v h4 h5 h7. h workers v (λ z. h5 (ap (λ x. number_of (Verdict.Ran x)) z)) (λ z. h7 (ap (λ x. number_of (Verdict.Ran x)) z));
+    })
   where
     same_options : (a b : RunOptions) → TextCommand.Run a ≡ TextCommand.Run b → a ≡ b
     same_options a b e = cc e
@@ -207,29 +227,29 @@ format_runs_nothing command options P is e = absurd (no (sym is ∙ e))
 other_judged : (p : Place) (s : Scenario) → ◌≡◌ {A = Result Scenario Place} (Err p) (Ok s) → ⊥
 other_judged p s z = cc z
 
-pub refused_runs_nothing : (e : ParseRefusal) (v : Verdict) (command : TextCommand) (bytes : List ℕ) (after : Meaning) (stands : List LogEntry → Type 0) → v ≡ verdict_on e → Parses (judged bytes) (Err e)
-    → RanSo (number_of v) command bytes after stands
-refused_runs_nothing e v command bytes after stands is h = λ s j options workers c w h5 h7. absurd (by e h s j (λ z. h7 (ap number_of is ∙ z)))
+pub refused_runs_nothing : (e : ParseRefusal) (v : Verdict) (command : TextCommand) (bytes : List ℕ) (after : Meaning) (stands : List LogEntry → Type 0) (out : Option (List ℕ)) → v ≡ verdict_on e → Parses (judged bytes) (Err e)
+    → RanSo (number_of v) command bytes after stands out out
+refused_runs_nothing e v command bytes after stands out is h = λ s j options c. none_ran (number_of v) options s after stands out out (refl, inr (inr (ap number_of is ∙ by e h s j)))
   where
-    by : (e : ParseRefusal) → Parses (judged bytes) (Err e) → (s : Scenario) → judged bytes ≡ Ok s → number_of (verdict_on e) ≢ 7 → ⊥
-    by (parse.Refused p) h s j h7 = other_judged p s (sym h ∙ j)
-    by parse.Memory h s j h7 = h7 refl
+    by : (e : ParseRefusal) → Parses (judged bytes) (Err e) → (s : Scenario) → judged bytes ≡ Ok s → number_of (verdict_on e) ≡ 7
+    by (parse.Refused p) h s j = absurd (other_judged p s (sym h ∙ j))
+    by parse.Memory h s j = refl
 
 -- one whose text was judged so ran that scenario
-pub judged_ran : (n : ℕ) (command : TextCommand) (bytes : List ℕ) (s : Scenario) (after : Meaning) (stands : List LogEntry → Type 0) → judged bytes ≡ Ok s → RanScenarioSo n command s after stands
-    → RanSo n command bytes after stands
-judged_ran n command bytes s after stands j h = λ t k.
-    let P : Scenario → Type 0 = λ x. RanScenarioSo n command x after stands in subst P (same s t (sym j ∙ k)) h
+pub judged_ran : (n : ℕ) (command : TextCommand) (bytes : List ℕ) (s : Scenario) (after : Meaning) (stands : List LogEntry → Type 0) (out0 out1 : Option (List ℕ)) → judged bytes ≡ Ok s
+    → RanScenarioSo n command s after stands out0 out1 → RanSo n command bytes after stands out0 out1
+judged_ran n command bytes s after stands out0 out1 j h = λ t k.
+    let P : Scenario → Type 0 = λ x. RanScenarioSo n command x after stands out0 out1 in subst P (same s t (sym j ∙ k)) h
   where
     same : (a b : Scenario) → ◌≡◌ {A = Result Scenario Place} (Ok a) (Ok b) → a ≡ b
     same a b z = cc z
 
 -- so did one that is the same
-pub text_ran : (given text : TextCommand) (n : ℕ) (input : Option (List ℕ)) (after : Meaning) (stands : List LogEntry → Type 0) → Command.Text text ≡ Command.Text given
-    → (n ≢ 4 → (left : List ℕ) → input ≡ Some left → RanSo n given (take most_read left) after stands)
-    → n ≢ 4 → (left : List ℕ) → input ≡ Some left → RanSo n text (take most_read left) after stands
-text_ran given text n input after stands is h h4 left told =
-    let P : TextCommand → Type 0 = λ t. RanSo n t (take most_read left) after stands in subst P (same given text (sym is)) (h h4 left told)
+pub text_ran : (given text : TextCommand) (n : ℕ) (input out0 out1 : Option (List ℕ)) (after : Meaning) (stands : List LogEntry → Type 0) → Command.Text text ≡ Command.Text given
+    → ((left : List ℕ) → input ≡ Some left → RanSo n given (take most_read left) after stands out0 out1)
+    → (left : List ℕ) → input ≡ Some left → RanSo n text (take most_read left) after stands out0 out1
+text_ran given text n input out0 out1 after stands is h left told =
+    let P : TextCommand → Type 0 = λ t. RanSo n t (take most_read left) after stands out0 out1 in subst P (same given text (sym is)) (h left told)
   where
     same : (a b : TextCommand) → Command.Text a ≡ Command.Text b → a ≡ b
     same a b z = cc z
@@ -275,3 +295,30 @@ ran_by_workers end options workers answers s engine out0 out1 is natively h =
       | RunWorld.Native k ↦ run s options.turns options.moves answers
     ]) out0 out1 in
     subst Q (sym natively) (subst P is h)
+
+-- under the rule of a script each run is begun
+pub begun_by_script : (n : ℕ) (options : RunOptions) (tick : ℕ) (answers : List Answer) (s : Scenario) (engine : Prepared) (out0 out1 : Option (List ℕ)) →
+    engine ≡ record { scenario = s; turns = options.turns; moves = options.moves } → options.world ≡ RunWorld.Script tick →
+    meets_laws (script_run engine.scenario engine.turns engine.moves tick).lines ≡ true → IsBegun options s answers ⊎ IsUnbegun n out0 out1
+begun_by_script n options tick answers s engine out0 out1 is by_script h =
+    let P : Prepared → Type 0 = λ e. meets_laws (script_run e.scenario e.turns e.moves tick).lines ≡ true in
+    let L : Ran → Type 0 = λ r. meets_laws r.lines ≡ true in
+    let Q : RunWorld → Type 0 = λ w. L (elim w [
+      | RunWorld.Script n ↦ script_run s options.turns options.moves n
+      | RunWorld.Native workers ↦ run s options.turns options.moves answers
+    ]) in
+    inl (record { lawful = subst Q (sym by_script) (subst P is h) })
+
+-- with native workers it is, or is not
+pub begun_by_workers : (n : ℕ) (options : RunOptions) (workers : ℕ) (answers : List Answer) (s : Scenario) (engine : Prepared) (out0 out1 : Option (List ℕ)) →
+    engine ≡ record { scenario = s; turns = options.turns; moves = options.moves } → options.world ≡ RunWorld.Native workers →
+    (meets_laws (run engine.scenario engine.turns engine.moves answers).lines ≡ true) ⊎ IsUnbegun n out0 out1 → IsBegun options s answers ⊎ IsUnbegun n out0 out1
+begun_by_workers n options workers answers s engine out0 out1 is natively (inl h) =
+    let P : Prepared → Type 0 = λ e. meets_laws (run e.scenario e.turns e.moves answers).lines ≡ true in
+    let L : Ran → Type 0 = λ r. meets_laws r.lines ≡ true in
+    let Q : RunWorld → Type 0 = λ w. L (elim w [
+      | RunWorld.Script n ↦ script_run s options.turns options.moves n
+      | RunWorld.Native k ↦ run s options.turns options.moves answers
+    ]) in
+    inl (record { lawful = subst Q (sym natively) (subst P is h) })
+begun_by_workers n options workers answers s engine out0 out1 is natively (inr u) = inr u

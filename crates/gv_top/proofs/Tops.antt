@@ -12,12 +12,14 @@ use Rattle.serve_command.specs.declared.serving.Served.{Served}
 use Rattle.gv_top.specs.declared.status.Verdict.{Verdict}
 use Rattle.gv_top.specs.declared.words.Command.{Command}
 use Rattle.command_words.specs.declared.command.GatewayKind.{GatewayKind}
+use Rattle.command_words.specs.declared.command.RunOptions.{RunOptions}
 use Rattle.command_words.specs.declared.command.TextCommand.{TextCommand}
 use Rattle.trace_text.specs.LineTexts.{text_of}
 use Rattle.scenario_tree.specs.declared.tree.Scenario.{Scenario}
 use Rattle.gv_top.specs.Answers.{Answer, answer_to, answer_to_storm, judged, memory_line, most_read, read_fault_line, write_fault_line}
+use Rattle.gv_top.specs.Running.{IsBegun, IsUnbegun}
 use Rattle.gv_top.specs.Verdicts.{number_of, line_of}
-use Rattle.gv_top.specs.Top.{Fits, Decided, CameTo, Ended, FailsToWrite, IsOr, IsStatusOf, IsTold, IsTried, AnswersConnection, IsAnswered, IsOfConnection, HasFaultLine, HasLawfulLines, RanScenarioSo}
+use Rattle.gv_top.specs.Top.{Fits, Decided, CameTo, Ended, FailsToWrite, IsOr, IsStatusOf, IsTold, IsTried, AnswersConnection, IsAnswered, IsOfConnection, HasFaultLine, HasLawfulLines, RanScenarioSo, RanWith}
 
 -- nothing was appended
 pub left_as_it_was : (old new : Option (List ℕ)) (text : List ℕ) → new ≡ old → AppendsPrefix old new text
@@ -88,6 +90,20 @@ answered n v a out0 out1 err0 err1 e0 e1 d l =
 
 -- ---- the verdict that is told
 
+-- what is said of a run by its verdict is said by the status that is answered
+ran_told : (n : ℕ) (v : Verdict) (options : RunOptions) (s : Scenario) (after : Meaning) (stands : List LogEntry → Type 0) (out0 out1 : Option (List ℕ)) → IsStatusOf n v → RanWith (number_of v) options s after stands out0 out1
+    → RanWith n options s after stands out0 out1
+ran_told n v options s after stands out0 out1 (inl e) h = let P : ℕ → Type 0 = λ m. RanWith m options s after stands out0 out1 in subst P (sym e) h
+ran_told n v options s after stands out0 out1 (inr p) h = record { begun = by h.begun; native = λ workers w h4 h5 h7. absurd (no p.1 h5 h7) }
+  where
+    by : IsBegun options s after.answers ⊎ IsUnbegun (number_of v) out0 out1 → IsBegun options s after.answers ⊎ IsUnbegun n out0 out1
+    by (inl b) = inl b
+    by (inr u) = inr (u.0, inr p.1)
+
+    no : (n ≡ 5) ⊎ (n ≡ 7) → n ≢ 5 → n ≢ 7 → ⊥
+    no (inl e) h5 h7 = h5 e
+    no (inr e) h5 h7 = h7 e
+
 -- where there is no memory for the line of a verdict, the command came to want of memory
 out_of_memory : (v : Verdict) (app : App) (c : Option Command) (after : Meaning) (stands : List LogEntry → Type 0) (in0 in1 out0 out1 : Option (List ℕ)) (r0 r1 w0 w1 : ℕ) → CameTo v app c after stands in0 in1 out0 out1 r0 r1 w0 w1 →
     number_of v ≢ 0 → number_of v ≢ 5 → CameTo (Verdict.Ran End.Memory) app c after stands in0 in1 out0 out1 r0 r1 w0 w1
@@ -101,7 +117,8 @@ out_of_memory v app c after stands in0 in1 out0 out1 r0 r1 w0 w1 h n0 n5 =
       unprinted = λ is h0 h5. h.unprinted is n0 n5;
       read_whole = λ text is h4 h7. absurd (h7 refl);
       storm = λ size is. ((λ e. omega arith), prefix_of v (answer_to_storm size) out0 out1 (decided v (answer_to_storm size) out0 out1 (h.storm size is).1));
-      native = λ text is h4 left told s j options workers e w h5 h7. absurd (h7 refl);
+      ran = λ text is left told s j options e.
+          ran_told 7 v options s after stands out0 out1 (inr (n0, inr refl)) (h.ran text is left told s j options e);
     }
 
 -- memory ran out before anything was done
@@ -116,7 +133,7 @@ out_of_memory_at_once app c after stands input out reads writes =
       unprinted = λ is h0 h5. refl;
       read_whole = λ text is h4 h7. absurd (h7 refl);
       storm = λ size is. ((λ e. omega arith), AppendsPrefix-nothing out (answer_to_storm size).out);
-      native = λ text is h4 left told s j options workers e w h5 h7. absurd (h7 refl);
+      ran = λ text is left told s j options e. record { begun = inr (refl, inr (inr refl)); native = λ workers w h4 h5 h7. absurd (h7 refl) };
     }
 
 -- what a command came to, another that is the same came to
@@ -324,14 +341,12 @@ answers_connection n v w gateway app err0 err1 in0 in1 out0 out1 e0 e1 o l c =
     let P : ℕ → Type 0 = λ m. (n ≡ m) ⊎ ((m ≢ 0) × ((n ≡ 5) ⊎ (n ≡ 7))) in
     record { end = c.end; exchanged = c.exchanged; status = subst P c.number (status_or n v w err0 err1 e0 e1 o l) }
 
--- the native workers ran as the words want
+-- the run is what is said of it by the status
 pub ran_so : {n : ℕ} {app : App} {c : Option Command} {after : Meaning} {stands : List LogEntry → Type 0} {in0 in1 out0 out1 err0 err1 : Option (List ℕ)} {r0 r1 w0 w1 e0 e1 : ℕ} (text : TextCommand) →
-    Ended n app c after stands in0 in1 out0 out1 err0 err1 r0 r1 w0 w1 e0 e1 → c ≡ Some (Command.Text text) → n ≢ 4 → n ≢ 5 → n ≢ 7 →
-    (left : List ℕ) → in0 ≡ Some left → (s : Scenario) → judged (take most_read left) ≡ Ok s → RanScenarioSo n text s after stands
-ran_so {n} {after = after} {stands = stands} text h is h4 h5 h7 left told s j =
-    let e = status_is n h refl h5 in
-    let P : ℕ → Type 0 = λ m. RanScenarioSo m text s after stands in
-    subst P e (h.came_to.native text is (λ z. h4 (sym e ∙ z)) left told s j)
+    Ended n app c after stands in0 in1 out0 out1 err0 err1 r0 r1 w0 w1 e0 e1 → c ≡ Some (Command.Text text) →
+    (left : List ℕ) → in0 ≡ Some left → (s : Scenario) → judged (take most_read left) ≡ Ok s → RanScenarioSo n text s after stands out0 out1
+ran_so {n} {after = after} {stands = stands} {out0 = out0} {out1 = out1} {err0 = err0} {err1 = err1} {e0 = e0} {e1 = e1} text h is left told s j = λ options e.
+    ran_told n h.verdict options s after stands out0 out1 (status_or n h.verdict h.verdict err0 err1 e0 e1 (inl refl) h.told) (h.came_to.ran text is left told s j options e)
 
 -- ---- lines that meet the laws
 

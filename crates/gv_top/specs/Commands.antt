@@ -15,7 +15,7 @@ use Rattle.wsgi_core.specs.Applications.{App}
 use Rattle.gv_top.specs.declared.words.Command.{Command}
 use Rattle.gv_top.specs.Answers.{answer_to, answer_to_storm, formatted, most_read, refusal}
 use Rattle.gv_top.specs.Refusals.{IsRefusedAt}
-use Rattle.gv_top.specs.Running.{RanNatively, run_of}
+use Rattle.gv_top.specs.Running.{IsBegun, IsUnbegun, RanNatively, run_of}
 use Rattle.gv_top.specs.Top.{AnswersConnection, AnswersRun, BlocksAtQuiet, Ended, FailsToWrite, HasFaultLine, HasLawfulLines, IsAnswered}
 
 -- What words that name no server leave: the status, by the command that they name, if any; by what native workers are
@@ -27,9 +27,14 @@ pub record AnswersCommand (status : ℕ) (app : App) (command : Option Command) 
   pub trace : (options : RunOptions) (s : Scenario) (left : List ℕ) → command ≡ Some (Command.Text (TextCommand.Run options)) →
       in0 ≡ Some left → Spells s (take most_read left) → IsWellFormed s →
       AnswersRun status (run_of options after.answers s) out0 out1 err0 err1
-  -- What out has after `run` are lines that meet the laws of a trace, whatever the input.
+  -- That run was begun, and its lines meet the laws of a trace; or it was not, and out is as it was, with the status 4,
+  -- 5 or 7.
+  pub begun : (options : RunOptions) (s : Scenario) (left : List ℕ) → command ≡ Some (Command.Text (TextCommand.Run options)) →
+      in0 ≡ Some left → Spells s (take most_read left) → IsWellFormed s →
+      IsBegun options s after.answers ⊎ IsUnbegun status out0 out1
+  -- What out has after `run` are lines that meet these laws, whatever the input.
   pub lawful : (options : RunOptions) → command ≡ Some (Command.Text (TextCommand.Run options)) → HasLawfulLines status out0 out1
-  -- And at each of its block lines nothing that waits could go on.
+  -- At each block line of the run nothing that waits could go on.
   pub quiet : (options : RunOptions) (s : Scenario) (left : List ℕ) → command ≡ Some (Command.Text (TextCommand.Run options)) →
       in0 ≡ Some left → Spells s (take most_read left) → IsWellFormed s →
       BlocksAtQuiet (run_of options after.answers s)

@@ -1,11 +1,12 @@
 -- Runs of a scenario in a world, which is begun before and finished after.
-use Rattle.std.specs.Prelude.{◌≡◌, ◌≢◌, ℕ, false, List, [], Option}
+use Rattle.std.specs.Prelude.{◌≡◌, ◌≢◌, ◌⊎◌, ℕ, true, false, List, [], Option}
 use Rattle.gv_values.specs.declared.job.Answer.{Answer}
 use Rattle.world_rules.specs.declared.question.LogEntry.{LogEntry}
 use Rattle.world_rules.specs.Legal.{AreLegal}
 use Rattle.world.specs.Worlds.{Meaning}
 use Rattle.scenario_tree.specs.declared.tree.Scenario.{Scenario}
 use Rattle.machine.specs.Run.{Ran, run, script_run}
+use Rattle.machine.specs.TraceLaws.{meets_laws}
 use Rattle.trace_text.specs.LineTexts.{answers_of as answers_told}
 use Rattle.machine_told.specs.Told.{posts_told}
 use Rattle.hub_engine.specs.declared.run.End.{End}
@@ -19,6 +20,14 @@ run_of options answers s = elim options.world [
   | Script tick ↦ script_run s options.turns options.moves tick
   | Native workers ↦ run s options.turns options.moves answers
 ]
+
+-- what holds of a run with these options that was begun: its lines meet the laws of a trace
+pub record IsBegun (options : RunOptions) (s : Scenario) (answers : List Answer) : Type 0 where
+  pub lawful : meets_laws (run_of options answers s).lines ≡ true
+
+-- no run was begun: out is as it was, and the status is that of a fault or of want of memory
+abbrev pub IsUnbegun : ℕ → Option (List ℕ) → Option (List ℕ) → Type 0
+IsUnbegun n out0 out1 = (out1 ≡ out0) × ((n ≡ 4) ⊎ (n ≡ 5) ⊎ (n ≡ 7))
 
 -- What a world is after the scenario ran in it to this end, where `whole` is the run under each list of answers: it had
 -- so many workers and runs no longer; it stands for the log of the run, or for the part up to the break.

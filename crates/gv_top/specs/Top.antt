@@ -24,7 +24,7 @@ use Rattle.wsgi_connection.specs.Connections.{Exchanged}
 use Rattle.wsgi_connection.specs.declared.connection.ConnectionEnd.{ConnectionEnd}
 use Rattle.gv_top.specs.declared.status.Verdict.{Verdict}
 use Rattle.gv_top.specs.declared.words.Command.{Command}
-use Rattle.gv_top.specs.Running.{RanNatively, run_of}
+use Rattle.gv_top.specs.Running.{IsBegun, IsUnbegun, RanNatively, run_of}
 use Rattle.gv_top.specs.Answers.{Answer, answer_to, answer_to_storm, judged, memory_line, most_read, no_port, read_fault_line, write_fault_line}
 use Rattle.gv_top.specs.Gateways.{answers_by}
 use Rattle.gv_top.specs.Verdicts.{number_of, line_of}
@@ -52,16 +52,21 @@ pub record IsOfConnection (v : Verdict) (gateway : GatewayKind) (app : App) (in0
   pub number : number_of v ≡ number_of (Verdict.Connection end)
   pub exchanged : Exchanged end (answers_by gateway) app no_port in0 in1 out0 out1
 
--- where the command was a run of the scenario with native workers, and nothing failed, it ran so
-abbrev pub RanScenarioSo : ℕ → TextCommand → Scenario → Meaning → (List LogEntry → Type 0) → Type 0
-RanScenarioSo n command s after stands =
-    (options : RunOptions) (workers : ℕ) → command ≡ TextCommand.Run options → options.world ≡ RunWorld.Native workers → n ≢ 5 → n ≢ 7 →
-    RanNatively workers (run_of options after.answers s) after stands
+-- the run of the scenario with these options was begun, or it was not; and where nothing failed, its native workers ran
+-- so
+pub record RanWith (n : ℕ) (options : RunOptions) (s : Scenario) (after : Meaning) (stands : List LogEntry → Type 0) (out0 out1 : Option (List ℕ)) : Type 0 where
+  pub begun : IsBegun options s after.answers ⊎ IsUnbegun n out0 out1
+  pub native : (workers : ℕ) → options.world ≡ RunWorld.Native workers → n ≢ 4 → n ≢ 5 → n ≢ 7 → RanNatively workers (run_of options after.answers s) after stands
 
--- so where it was one of the scenario that the bytes spell
-abbrev pub RanSo : ℕ → TextCommand → List ℕ → Meaning → (List LogEntry → Type 0) → Type 0
-RanSo n command bytes after stands =
-    (s : Scenario) → judged bytes ≡ Ok s → RanScenarioSo n command s after stands
+-- where the command is a run of the scenario, it ran so
+abbrev pub RanScenarioSo : ℕ → TextCommand → Scenario → Meaning → (List LogEntry → Type 0) → Option (List ℕ) → Option (List ℕ) → Type 0
+RanScenarioSo n command s after stands out0 out1 =
+    (options : RunOptions) → command ≡ TextCommand.Run options → RanWith n options s after stands out0 out1
+
+-- so where it is one of the scenario that the bytes spell
+abbrev pub RanSo : ℕ → TextCommand → List ℕ → Meaning → (List LogEntry → Type 0) → Option (List ℕ) → Option (List ℕ) → Type 0
+RanSo n command bytes after stands out0 out1 =
+    (s : Scenario) → judged bytes ≡ Ok s → RanScenarioSo n command s after stands out0 out1
 
 -- What a command came to, by the bytes of its input and of out, by the counts of their faults, and by what native
 -- workers are after it.
@@ -82,9 +87,9 @@ pub record CameTo (v : Verdict) (app : App) (command : Option Command) (after : 
       (left : List ℕ) → in0 ≡ Some left → in1 ≡ Some (drop most_read left)
   -- a storm reads no input, and is answered whatever that is
   pub storm : (size : ℕ) → command ≡ Some (Command.Storm size) → (number_of v ≢ 4) × Decided v (answer_to_storm size) out0 out1
-  -- native workers were begun and asked as the words want
-  pub native : (text : TextCommand) → command ≡ Some (Command.Text text) → number_of v ≢ 4 →
-      (left : List ℕ) → in0 ≡ Some left → RanSo (number_of v) text (take most_read left) after stands
+  -- a run was begun, or was not; and native workers were begun and asked as the words want
+  pub ran : (text : TextCommand) → command ≡ Some (Command.Text text) →
+      (left : List ℕ) → in0 ≡ Some left → RanSo (number_of v) text (take most_read left) after stands out0 out1
 
 -- ---- its line on err
 

@@ -1,13 +1,13 @@
 //! Runs of a scenario in a world.
-ghost use Rattle.std.specs.Prelude.{◌≡◌, ◌≢◌, ◌≤◌, ◌<◌, ◌⊎◌, ℕ, List, false, IfNone, IfSome};
+ghost use Rattle.std.specs.Prelude.{◌≡◌, ◌≢◌, ◌≤◌, ◌<◌, ◌⊎◌, ℕ, List, true, false, IfNone, IfSome};
 ghost use Rattle.gv_values.specs.Counts.{HasRisen};
 ghost use Rattle.machine.specs.Run.{run, script_run};
+ghost use Rattle.machine.specs.TraceLaws.{meets_laws};
 ghost use Rattle.command_words.specs.Ranges.{IsWorldInRange};
 ghost use Rattle.hub_engine.specs.Ends.{RanTo};
 ghost use Rattle.scenario_rules.specs.Rules.{IsWellFormed};
 ghost use Rattle.gv_top.specs.declared.status.Verdict.{Verdict};
-ghost use Rattle.gv_top.specs.Running.{RanInWorld, RanNatively, run_of};
-ghost use Rattle.gv_top.specs.Top.{HasLawfulLines};
+ghost use Rattle.gv_top.specs.Running.{IsBegun, IsUnbegun, RanInWorld, RanNatively, run_of};
 ghost use Rattle.gv_top.specs.Verdicts.{number_of};
 ghost use Rattle.gv_top.specs.Words.{is_native_world};
 
@@ -71,7 +71,7 @@ fn run_in_world<K: Sink, W: World>(
 fn run_script<K: Sink>(alloc: Global, engine: Engine, tick: u64, out: &mut K) -> End
     requires well_formed { IsWellFormed engine.scenario }
     ensures written { RanTo result (script_run engine.scenario engine.turns engine.moves tick) (K.written out.old) (K.written out.new) }
-    ensures lawful { HasLawfulLines (number_of (Verdict.Ran result)) (K.written out.old) (K.written out.new) }
+    ensures lawful { meets_laws (script_run engine.scenario engine.turns engine.moves tick).lines ≡ true }
     ensures failed { result ≡ End.WriteFault → HasRisen (K.faults out.old) (K.faults out.new) }
     ensures never_falls { K.faults out.old ≤ K.faults out.new }
 {
@@ -96,7 +96,8 @@ fn run_natively<K: Sink, W: World>(
     requires some { 0 < workers }
     requires few { workers ≤ 16 }
     requires well_formed { IsWellFormed engine.scenario }
-    ensures lawful { HasLawfulLines (number_of (Verdict.Ran result)) (K.written out.old) (K.written out.new) }
+    ensures begun { (meets_laws (run engine.scenario engine.turns engine.moves (W.meaning native.new).answers).lines ≡ true)
+        ⊎ IsUnbegun (number_of (Verdict.Ran result)) (K.written out.old) (K.written out.new) }
     ensures written { RanTo result (run engine.scenario engine.turns engine.moves (W.meaning native.new).answers) (K.written out.old) (K.written out.new) }
     ensures native { result ≢ End.WriteFault → result ≢ End.Memory →
         RanNatively workers (run engine.scenario engine.turns engine.moves (W.meaning native.new).answers) (W.meaning native.new) (W.stands_for native.new) }
@@ -125,7 +126,7 @@ pub fn run_scenario<K: Sink, W: World>(
     ensures written { RanTo result (run_of options (W.meaning native.new).answers checked) (K.written out.old) (K.written out.new) }
     ensures native { (workers : ℕ) → options.world ≡ RunWorld.Native workers → result ≢ End.WriteFault → result ≢ End.Memory →
         RanNatively workers (run_of options (W.meaning native.new).answers checked) (W.meaning native.new) (W.stands_for native.new) }
-    ensures lawful { HasLawfulLines (number_of (Verdict.Ran result)) (K.written out.old) (K.written out.new) }
+    ensures begun { IsBegun options checked (W.meaning native.new).answers ⊎ IsUnbegun (number_of (Verdict.Ran result)) (K.written out.old) (K.written out.new) }
     ensures untouched { is_native_world options.world ≡ false → native.new ≡ native.old }
     ensures rests { (W.meaning native.new).runs ≡ false }
     ensures failed { result ≡ End.WriteFault → HasRisen (K.faults out.old) (K.faults out.new) }

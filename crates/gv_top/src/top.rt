@@ -92,8 +92,8 @@ fn answer_command<S: Source, K: Sink, W: World, A: Application>(
     ensures usage { number_of result ≡ 2 → command ≡ None }
     ensures no_net { number_of result ≢ 10 }
     ensures no_command { command ≡ None → (number_of result ≡ 2) ⊎ (number_of result ≡ 7) }
-    ensures native { (text : TextCommand) → command ≡ Some (Command.Text text) → number_of result ≢ 4 → (left : List ℕ) → S.remaining input.old ≡ Some left →
-        RanSo (number_of result) text (take most_read left) (W.meaning native.new) (W.stands_for native.new) }
+    ensures ran { (text : TextCommand) → command ≡ Some (Command.Text text) → (left : List ℕ) → S.remaining input.old ≡ Some left →
+        RanSo (number_of result) text (take most_read left) (W.meaning native.new) (W.stands_for native.new) (K.written out.old) (K.written out.new) }
     ensures lawful { (options : AnyOptions) → command ≡ Some (Command.Text (TextCommand.Run options)) → HasLawfulLines (number_of result) (K.written out.old) (K.written out.new) }
     ensures untouched { is_native command ≡ false → native.new ≡ native.old }
     ensures rests { (W.meaning native.new).runs ≡ false }
@@ -131,8 +131,8 @@ fn answer_input<S: Source, K: Sink, W: World>(
 ) -> Verdict
     requires range { IsInRange (NamedCommand.Text command) }
     requires rests { (W.meaning native.old).runs ≡ false }
-    ensures native { number_of result ≢ 4 → (left : List ℕ) → S.remaining input.old ≡ Some left →
-        RanSo (number_of result) command (take most_read left) (W.meaning native.new) (W.stands_for native.new) }
+    ensures ran { (left : List ℕ) → S.remaining input.old ≡ Some left →
+        RanSo (number_of result) command (take most_read left) (W.meaning native.new) (W.stands_for native.new) (K.written out.old) (K.written out.new) }
     ensures lawful { (options : AnyOptions) → command ≡ TextCommand.Run options → HasLawfulLines (number_of result) (K.written out.old) (K.written out.new) }
     ensures untouched { is_native_text command ≡ false → native.new ≡ native.old }
     ensures rests { (W.meaning native.new).runs ≡ false }
@@ -166,7 +166,7 @@ fn answer_text<K: Sink, W: World>(
 ) -> Verdict
     requires range { IsInRange (NamedCommand.Text command) }
     requires rests { (W.meaning native.old).runs ≡ false }
-    ensures native { RanSo (number_of result) command bytes.now (W.meaning native.new) (W.stands_for native.new) }
+    ensures ran { RanSo (number_of result) command bytes.now (W.meaning native.new) (W.stands_for native.new) (K.written out.old) (K.written out.new) }
     ensures lawful { (options : AnyOptions) → command ≡ TextCommand.Run options → HasLawfulLines (number_of result) (K.written out.old) (K.written out.new) }
     ensures untouched { is_native_text command ≡ false → native.new ≡ native.old }
     ensures rests { (W.meaning native.new).runs ≡ false }
@@ -195,7 +195,7 @@ fn answer_scenario<K: Sink, W: World>(
 ) -> Verdict
     requires range { IsInRange (NamedCommand.Text command) }
     requires rests { (W.meaning native.old).runs ≡ false }
-    ensures native { RanScenarioSo (number_of result) command checked (W.meaning native.new) (W.stands_for native.new) }
+    ensures ran { RanScenarioSo (number_of result) command checked (W.meaning native.new) (W.stands_for native.new) (K.written out.old) (K.written out.new) }
     ensures lawful { (options : AnyOptions) → command ≡ TextCommand.Run options → HasLawfulLines (number_of result) (K.written out.old) (K.written out.new) }
     ensures untouched { is_native_text command ≡ false → native.new ≡ native.old }
     ensures rests { (W.meaning native.new).runs ≡ false }

@@ -1,6 +1,7 @@
-use Rattle.gv_top.proofs.Tops.{left_as_it_was, unchanged_lawful}
-use Rattle.machine.specs.Run.{Source, run}
-use Rattle.gv_top.proofs.InWorlds.{ran_natively, run_lawful}
+use Rattle.std.proofs.Common.{inl, inr, refl}
+use Rattle.gv_top.proofs.Tops.{left_as_it_was}
+use Rattle.machine.specs.Run.{Source}
+use Rattle.gv_top.proofs.InWorlds.{ran_natively}
 use Rattle.gv_top.proofs.running.run_natively.Goals as goal
 
 pub returns-in-Some-clause-native : goal.returns-in-Some-clause-native
@@ -9,15 +10,13 @@ returns-in-Some-clause-native g c = λ w m.
     ran_natively told.posts told.answers c.in-Some.end c.args.engine.scenario c.args.engine.turns c.args.engine.moves c.args.workers _ _ _ _ _
     (λ log stood. g.met.W.World.log_is c.run_in_world.new.world log stood) c.in-Some.ensures.ran w m
 
-pub returns-in-Some-clause-lawful : goal.returns-in-Some-clause-lawful
-returns-in-Some-clause-lawful g c =
-    let ran = c.in-Some.ensures.ran in
+pub returns-in-Some-clause-begun : goal.returns-in-Some-clause-begun
+returns-in-Some-clause-begun g c =
     let given = (g.W.World.meaning c.run_in_world.new.world).answers in
-    run_lawful c.in-Some.end (run c.args.engine.scenario c.args.engine.turns c.args.engine.moves given) _ _ ran.written
-    (c.runs_are_lawful.ensures c.args.engine.scenario (Source.Given given) c.args.engine.turns c.args.engine.moves c.requires.well_formed ran.legal)
+    inl (c.runs_are_lawful.ensures c.args.engine.scenario (Source.Given given) c.args.engine.turns c.args.engine.moves c.requires.well_formed c.in-Some.ensures.ran.legal)
 
 pub returns-in-None-clause-written : goal.returns-in-None-clause-written
 returns-in-None-clause-written g c = left_as_it_was _ _ _ c.in-None.ensures.unwritten
 
-pub returns-in-None-clause-lawful : goal.returns-in-None-clause-lawful
-returns-in-None-clause-lawful g c = unchanged_lawful 7 _ _ c.in-None.ensures.unwritten
+pub returns-in-None-clause-begun : goal.returns-in-None-clause-begun
+returns-in-None-clause-begun g c = inr (c.in-None.ensures.unwritten, inr (inr refl))

@@ -1,7 +1,7 @@
-use Rattle.gv_top.proofs.InWorlds.{ran_by_script, ran_by_workers}
+use Rattle.std.proofs.Common.{inr, refl}
+use Rattle.gv_top.proofs.InWorlds.{begun_by_script, begun_by_workers, ran_by_script, ran_by_workers}
 use Rattle.gv_io.proofs.StreamLaws.{AppendsPrefix-nothing}
 use Rattle.gv_top.proofs.Built.{few_workers, some_workers}
-use Rattle.gv_top.proofs.Tops.{nothing_lawful}
 use Rattle.gv_top.proofs.running.run_scenario.Goals as goal
 
 pub run_natively-requires-clause-some : goal.run_natively-requires-clause-some
@@ -13,8 +13,8 @@ run_natively-requires-clause-few g c = few_workers c.args.options.world _ c.in-N
 pub returns-in_default-clause-written : goal.returns-in_default-clause-written
 returns-in_default-clause-written g c = AppendsPrefix-nothing _ _
 
-pub returns-in_default-clause-lawful : goal.returns-in_default-clause-lawful
-returns-in_default-clause-lawful g c = nothing_lawful 7 _
+pub returns-in_default-clause-begun : goal.returns-in_default-clause-begun
+returns-in_default-clause-begun g c = inr (refl, inr (inr refl))
 
 pub returns-in-Script-clause-written : goal.returns-in-Script-clause-written
 returns-in-Script-clause-written g c =
@@ -23,3 +23,11 @@ returns-in-Script-clause-written g c =
 pub returns-in-Native-clause-written : goal.returns-in-Native-clause-written
 returns-in-Native-clause-written g c =
     ran_by_workers c.run_natively.result c.args.options c.in-Native.workers _ c.args.checked c.in-Ok.engine _ _ c.in-Ok.ensures c.in-Native.is c.run_natively.ensures.written
+
+pub returns-in-Script-clause-begun : goal.returns-in-Script-clause-begun
+returns-in-Script-clause-begun g c =
+    begun_by_script _ c.args.options c.in-Script.tick _ c.args.checked c.in-Ok.engine _ _ c.in-Ok.ensures c.in-Script.is c.run_script.ensures.lawful
+
+pub returns-in-Native-clause-begun : goal.returns-in-Native-clause-begun
+returns-in-Native-clause-begun g c =
+    begun_by_workers _ c.args.options c.in-Native.workers _ c.args.checked c.in-Ok.engine _ _ c.in-Ok.ensures c.in-Native.is c.run_natively.ensures.begun

@@ -1,6 +1,6 @@
-use Rattle.gv_top.proofs.Tops.{left_as_it_was, unchanged_lawful}
+use Rattle.gv_top.proofs.Tops.{left_as_it_was}
 use Rattle.world.specs.Kept.{script_meaning}
-use Rattle.gv_top.proofs.InWorlds.{run_lawful, script_ran}
+use Rattle.gv_top.proofs.InWorlds.{script_ran}
 use Rattle.gv_top.proofs.running.run_script.Goals as goal
 
 pub returns-in-Some-clause-written : goal.returns-in-Some-clause-written
@@ -10,11 +10,11 @@ returns-in-Some-clause-written g c =
 
 pub returns-in-Some-clause-lawful : goal.returns-in-Some-clause-lawful
 returns-in-Some-clause-lawful g c =
-    run_lawful c.in-Some.end _ _ _ (returns-in-Some-clause-written g c)
     (c.scripts_run_lawfully.ensures c.args.engine.scenario c.args.engine.turns c.args.engine.moves c.args.tick c.requires.well_formed).lawful
 
 pub returns-clause-written : goal.returns-clause-written
 returns-clause-written g c = left_as_it_was _ _ _ c.in-None.ensures.unwritten
 
 pub returns-clause-lawful : goal.returns-clause-lawful
-returns-clause-lawful g c = unchanged_lawful 7 _ _ c.in-None.ensures.unwritten
+returns-clause-lawful g c =
+    (c.scripts_run_lawfully.ensures c.args.engine.scenario c.args.engine.turns c.args.engine.moves c.args.tick c.requires.well_formed).lawful

@@ -9,9 +9,9 @@ returns-in-None-clause-answer g c = λ left told. usage_decided _ _ _ _ _ c.in-N
 pub returns-in-None-clause-read_whole : goal.returns-in-None-clause-read_whole
 returns-in-None-clause-read_whole g c = λ text runs left told h4 h7. no_command _ _ _ c.in-None.is runs
 
-pub returns-in-Some-Text-clause-native : goal.returns-in-Some-Text-clause-native
-returns-in-Some-Text-clause-native g c = λ text e.
-    text_ran c.in-Some-Text.command text _ _ _ _ (rw e at c.in-Some-Text.field-0-is) c.answer_input.ensures.native
+pub returns-in-Some-Text-clause-ran : goal.returns-in-Some-Text-clause-ran
+returns-in-Some-Text-clause-ran g c = λ text e.
+    text_ran c.in-Some-Text.command text _ _ _ _ _ _ (rw e at c.in-Some-Text.field-0-is) c.answer_input.ensures.ran
 
 pub returns-in-Some-Storm-clause-read_whole : goal.returns-in-Some-Storm-clause-read_whole
 returns-in-Some-Storm-clause-read_whole g c = λ text runs left told h4 h7. absurd (text_is_no_storm text c.in-Some-Storm.size (rw runs at c.in-Some-Storm.field-0-is))

@@ -6,7 +6,7 @@ use Rattle.gv_top.specs.declared.status.Verdict.{Verdict}
 use Rattle.gv_top.specs.Running.{run_of}
 use Rattle.gv_top.specs.Words.{is_native_text}
 use Rattle.gv_top.proofs.Deciding.{decided_of_this, run_decided}
-use Rattle.gv_top.proofs.InWorlds.{format_runs_nothing, scenario_ran}
+use Rattle.gv_top.proofs.InWorlds.{format_runs_nothing, run_lawful, scenario_ran}
 use Rattle.gv_top.proofs.top.answer_scenario.Goals as goal
 
 pub run_scenario-requires-clause-range : goal.run_scenario-requires-clause-range
@@ -20,14 +20,20 @@ returns-in-Run-clause-answer g c =
     decided_of_this c.args.command (TextCommand.Run c.in-Run.options) given c.args.checked (Verdict.Ran c.run_scenario.result) old new c.in-Run.is
     (run_decided c.run_scenario.result (run_of c.in-Run.options given c.args.checked) old new c.run_scenario.ensures.written)
 
-pub returns-in-Run-clause-native : goal.returns-in-Run-clause-native
-returns-in-Run-clause-native g c = scenario_ran c.args.command c.in-Run.options c.run_scenario.result c.args.checked _ _ c.in-Run.is c.run_scenario.ensures.native
+pub returns-in-Run-clause-ran : goal.returns-in-Run-clause-ran
+returns-in-Run-clause-ran g c =
+    scenario_ran c.args.command c.in-Run.options c.run_scenario.result c.args.checked _ _ _ _ c.in-Run.is c.run_scenario.ensures.begun c.run_scenario.ensures.native
+
+pub returns-in-Run-clause-lawful : goal.returns-in-Run-clause-lawful
+returns-in-Run-clause-lawful g c = λ options e.
+    let given = (g.W.World.meaning c.run_scenario.new.native).answers in
+    run_lawful c.run_scenario.result c.in-Run.options given c.args.checked _ _ c.run_scenario.ensures.written c.run_scenario.ensures.begun
 
 pub returns-in-Run-clause-untouched : goal.returns-in-Run-clause-untouched
 returns-in-Run-clause-untouched g c = λ h. c.run_scenario.ensures.untouched (sym (ap is_native_text c.in-Run.is) ∙ h)
 
-pub returns-in-Format-clause-native : goal.returns-in-Format-clause-native
-returns-in-Format-clause-native g c = λ options workers e w h5 h7. format_runs_nothing c.args.command options _ c.in-Format.is e
+pub returns-in-Format-clause-ran : goal.returns-in-Format-clause-ran
+returns-in-Format-clause-ran g c = λ options e. format_runs_nothing c.args.command options _ c.in-Format.is e
 
 pub returns-in-Format-clause-lawful : goal.returns-in-Format-clause-lawful
 returns-in-Format-clause-lawful g c = λ options e. format_runs_nothing c.args.command options _ c.in-Format.is e

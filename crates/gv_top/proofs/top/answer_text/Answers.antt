@@ -22,11 +22,11 @@ returns-in-Err-clause-write_fault g c = λ h. absurd (refusal_number _ _ 5 c.ver
 pub returns-in-Ok-clause-answer : goal.returns-in-Ok-clause-answer
 returns-in-Ok-clause-answer g c = judged_decided c.args.command _ c.args.bytes.now _ _ _ _ c.in-Ok.ensures.judged c.answer_scenario.ensures.answer
 
-pub returns-in-Err-clause-native : goal.returns-in-Err-clause-native
-returns-in-Err-clause-native g c = refused_runs_nothing _ _ c.args.command c.args.bytes.now _ _ c.verdict_on.ensures c.in-Err.ensures.judged
+pub returns-in-Err-clause-ran : goal.returns-in-Err-clause-ran
+returns-in-Err-clause-ran g c = refused_runs_nothing _ _ c.args.command c.args.bytes.now _ _ _ c.verdict_on.ensures c.in-Err.ensures.judged
 
 pub returns-in-Err-clause-lawful : goal.returns-in-Err-clause-lawful
 returns-in-Err-clause-lawful g c = λ options e. nothing_lawful _ _
 
-pub returns-in-Ok-clause-native : goal.returns-in-Ok-clause-native
-returns-in-Ok-clause-native g c = judged_ran _ c.args.command c.args.bytes.now _ _ _ c.in-Ok.ensures.judged c.answer_scenario.ensures.native
+pub returns-in-Ok-clause-ran : goal.returns-in-Ok-clause-ran
+returns-in-Ok-clause-ran g c = judged_ran _ c.args.command c.args.bytes.now _ _ _ _ _ c.in-Ok.ensures.judged c.answer_scenario.ensures.ran

@@ -35,7 +35,7 @@ returns-in-None-clause-came_to g c =
       unprinted = d.unprinted;
       read_whole = λ text is h4 h7 left told. d.read_whole text is left told h4 h7;
       storm = d.storm;
-      native = d.native;
+      ran = d.ran;
     })
 
 pub returns-in-None-clause-no_command : goal.returns-in-None-clause-no_command

@@ -15,10 +15,11 @@ returns-in-Some-clause-answers g c =
       trace = λ options s left runs told text well.
           answers_run _ _ _ _ _ _
           (answered_so _ _ _ (TextCommand.Run options) _ _ left _ _ _ _ runs (answered_as (TextCommand.Run options) _ s _ text well) (is_answered h left told));
+      begun = λ options s left runs told text well. (ran_so (TextCommand.Run options) h runs left told s (spelt_is_judged s _ text well) options refl).begun;
       lawful = λ options runs. lawful_told _ c.in-Some.verdict t.0 _ _ _ _ _ _ t.1 t.2 (c.in-Some.ensures.lawful options runs);
       quiet = λ options s left runs told text well. quiet_blocks c.blocks_are_told.ensures c.blocks_are_quiet.ensures options _ s well;
       native = λ options workers s left runs native told text well h4 h5 h7.
-          ran_so (TextCommand.Run options) h runs h4 h5 h7 left told s (spelt_is_judged s _ text well) options workers refl native h5 h7;
+          (ran_so (TextCommand.Run options) h runs left told s (spelt_is_judged s _ text well) options refl).native workers native h4 h5 h7;
       formatted = λ s left formats told text well.
           answered_so _ _ _ TextCommand.Format _ _ left _ _ _ _ formats (answered_as TextCommand.Format _ s _ text well) (is_answered h left told);
       refused = λ command left wanted told none.
