@@ -185,7 +185,7 @@ lines_lawful end r out0 out1 h lawful = record { lines = r.lines; lawful = lawfu
 
 -- what out has of a run whose lines meet the laws, or of one that was not begun
 pub run_lawful : (end : End) (options : RunOptions) (answers : List Answer) (s : Scenario) (out0 out1 : Option (List ℕ)) → RanTo end (run_of options answers s) out0 out1
-    → IsBegun options s answers ⊎ IsUnbegun (number_of (Verdict.Ran end)) out0 out1 → HasLawfulLines (number_of (Verdict.Ran end)) out0 out1
+    → IsBegun options s answers out0 out1 ⊎ IsUnbegun (number_of (Verdict.Ran end)) out0 out1 → HasLawfulLines (number_of (Verdict.Ran end)) out0 out1
 run_lawful end options answers s out0 out1 h (inl begun) = lines_lawful end (run_of options answers s) out0 out1 h begun.lawful
 run_lawful end options answers s out0 out1 h (inr unbegun) = unchanged_lawful (number_of (Verdict.Ran end)) out0 out1 unbegun.0
 
@@ -203,7 +203,7 @@ none_ran n options s after stands out0 out1 u = record { begun = inr u; native =
 
 -- what a run of these options came to is what the command that asks for it came to
 pub scenario_ran : (command : TextCommand) (options : RunOptions) (end : End) (s : Scenario) (after : Meaning) (stands : List LogEntry → Type 0) (out0 out1 : Option (List ℕ)) → command ≡ TextCommand.Run options
-    → IsBegun options s after.answers ⊎ IsUnbegun (number_of (Verdict.Ran end)) out0 out1
+    → IsBegun options s after.answers out0 out1 ⊎ IsUnbegun (number_of (Verdict.Ran end)) out0 out1
     → ((workers : ℕ) → options.world ≡ RunWorld.Native workers → end ≢ End.WriteFault → end ≢ End.Memory → RanNatively workers (run_of options after.answers s) after stands)
     → RanScenarioSo (number_of (Verdict.Ran end)) command s after stands out0 out1
 scenario_ran command options end s after stands out0 out1 is begun h = λ wanted e.
@@ -299,7 +299,7 @@ ran_by_workers end options workers answers s engine out0 out1 is natively h =
 -- under the rule of a script each run is begun
 pub begun_by_script : (n : ℕ) (options : RunOptions) (tick : ℕ) (answers : List Answer) (s : Scenario) (engine : Prepared) (out0 out1 : Option (List ℕ)) →
     engine ≡ record { scenario = s; turns = options.turns; moves = options.moves } → options.world ≡ RunWorld.Script tick →
-    meets_laws (script_run engine.scenario engine.turns engine.moves tick).lines ≡ true → IsBegun options s answers ⊎ IsUnbegun n out0 out1
+    meets_laws (script_run engine.scenario engine.turns engine.moves tick).lines ≡ true → IsBegun options s answers out0 out1 ⊎ IsUnbegun n out0 out1
 begun_by_script n options tick answers s engine out0 out1 is by_script h =
     let P : Prepared → Type 0 = λ e. meets_laws (script_run e.scenario e.turns e.moves tick).lines ≡ true in
     let L : Ran → Type 0 = λ r. meets_laws r.lines ≡ true in
@@ -307,18 +307,27 @@ begun_by_script n options tick answers s engine out0 out1 is by_script h =
       | RunWorld.Script n ↦ script_run s options.turns options.moves n
       | RunWorld.Native workers ↦ run s options.turns options.moves answers
     ]) in
-    inl (record { lawful = subst Q (sym by_script) (subst P is h) })
+    inl (record { lawful = subst Q (sym by_script) (subst P is h); ahead = λ workers natively. absurd (other_world workers (sym by_script ∙ natively)) })
+  where
+    other_world : (workers : ℕ) → RunWorld.Script tick ≡ RunWorld.Native workers → ⊥
+    other_world workers z = cc z
 
 -- with native workers it is, or is not
 pub begun_by_workers : (n : ℕ) (options : RunOptions) (workers : ℕ) (answers : List Answer) (s : Scenario) (engine : Prepared) (out0 out1 : Option (List ℕ)) →
     engine ≡ record { scenario = s; turns = options.turns; moves = options.moves } → options.world ≡ RunWorld.Native workers →
-    (meets_laws (run engine.scenario engine.turns engine.moves answers).lines ≡ true) ⊎ IsUnbegun n out0 out1 → IsBegun options s answers ⊎ IsUnbegun n out0 out1
+    ((meets_laws (run engine.scenario engine.turns engine.moves answers).lines ≡ true) × WroteAhead (run engine.scenario engine.turns engine.moves) answers out0 out1) ⊎ IsUnbegun n out0 out1
+    → IsBegun options s answers out0 out1 ⊎ IsUnbegun n out0 out1
 begun_by_workers n options workers answers s engine out0 out1 is natively (inl h) =
-    let P : Prepared → Type 0 = λ e. meets_laws (run e.scenario e.turns e.moves answers).lines ≡ true in
+    let P : Prepared → Type 0 = λ e. (meets_laws (run e.scenario e.turns e.moves answers).lines ≡ true) × WroteAhead (run e.scenario e.turns e.moves) answers out0 out1 in
     let L : Ran → Type 0 = λ r. meets_laws r.lines ≡ true in
     let Q : RunWorld → Type 0 = λ w. L (elim w [
       | RunWorld.Script n ↦ script_run s options.turns options.moves n
       | RunWorld.Native k ↦ run s options.turns options.moves answers
     ]) in
-    inl (record { lawful = subst Q (sym natively) (subst P is h) })
+    let A : RunWorld → Type 0 = λ w. WroteAhead (λ given. elim w [
+      | RunWorld.Script n ↦ script_run s options.turns options.moves n
+      | RunWorld.Native k ↦ run s options.turns options.moves given
+    ]) answers out0 out1 in
+    let begun = subst P is h in
+    inl (record { lawful = subst Q (sym natively) begun.0; ahead = λ others e. subst A (sym natively) begun.1 })
 begun_by_workers n options workers answers s engine out0 out1 is natively (inr u) = inr u

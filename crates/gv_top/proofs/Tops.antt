@@ -96,7 +96,7 @@ ran_told : (n : ℕ) (v : Verdict) (options : RunOptions) (s : Scenario) (after 
 ran_told n v options s after stands out0 out1 (inl e) h = let P : ℕ → Type 0 = λ m. RanWith m options s after stands out0 out1 in subst P (sym e) h
 ran_told n v options s after stands out0 out1 (inr p) h = record { begun = by h.begun; native = λ workers w h4 h5 h7. absurd (no p.1 h5 h7) }
   where
-    by : IsBegun options s after.answers ⊎ IsUnbegun (number_of v) out0 out1 → IsBegun options s after.answers ⊎ IsUnbegun n out0 out1
+    by : IsBegun options s after.answers out0 out1 ⊎ IsUnbegun (number_of v) out0 out1 → IsBegun options s after.answers out0 out1 ⊎ IsUnbegun n out0 out1
     by (inl b) = inl b
     by (inr u) = inr (u.0, inr p.1)
 

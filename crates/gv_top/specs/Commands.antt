@@ -27,11 +27,11 @@ pub record AnswersCommand (status : ℕ) (app : App) (command : Option Command) 
   pub trace : (options : RunOptions) (s : Scenario) (left : List ℕ) → command ≡ Some (Command.Text (TextCommand.Run options)) →
       in0 ≡ Some left → Spells s (take most_read left) → IsWellFormed s →
       AnswersRun status (run_of options after.answers s) out0 out1 err0 err1
-  -- That run was begun, and its lines meet the laws of a trace; or it was not, and out is as it was, with the status 4,
-  -- 5 or 7.
+  -- That run was begun: its lines meet the laws of a trace, and with native workers what it says before a question stood
+  -- in out when that was answered. Or it was not, and out is as it was, with the status 4, 5 or 7.
   pub begun : (options : RunOptions) (s : Scenario) (left : List ℕ) → command ≡ Some (Command.Text (TextCommand.Run options)) →
       in0 ≡ Some left → Spells s (take most_read left) → IsWellFormed s →
-      IsBegun options s after.answers ⊎ IsUnbegun status out0 out1
+      IsBegun options s after.answers out0 out1 ⊎ IsUnbegun status out0 out1
   -- What out has after `run` are lines that meet these laws, whatever the input.
   pub lawful : (options : RunOptions) → command ≡ Some (Command.Text (TextCommand.Run options)) → HasLawfulLines status out0 out1
   -- At each block line of the run nothing that waits could go on.

@@ -21,9 +21,11 @@ run_of options answers s = elim options.world [
   | Native workers ↦ run s options.turns options.moves answers
 ]
 
--- what holds of a run with these options that was begun: its lines meet the laws of a trace
-pub record IsBegun (options : RunOptions) (s : Scenario) (answers : List Answer) : Type 0 where
+-- what holds of a run with these options that was begun: its lines meet the laws of a trace; and with native workers
+-- what it says before the last question stood in out when that was answered
+pub record IsBegun (options : RunOptions) (s : Scenario) (answers : List Answer) (out0 out1 : Option (List ℕ)) : Type 0 where
   pub lawful : meets_laws (run_of options answers s).lines ≡ true
+  pub ahead : (workers : ℕ) → options.world ≡ Native workers → WroteAhead (λ given. run_of options given s) answers out0 out1
 
 -- no run was begun: out is as it was, and the status is that of a fault or of want of memory
 abbrev pub IsUnbegun : ℕ → Option (List ℕ) → Option (List ℕ) → Type 0

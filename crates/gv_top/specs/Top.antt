@@ -55,7 +55,7 @@ pub record IsOfConnection (v : Verdict) (gateway : GatewayKind) (app : App) (in0
 -- the run of the scenario with these options was begun, or it was not; and where nothing failed, its native workers ran
 -- so
 pub record RanWith (n : ℕ) (options : RunOptions) (s : Scenario) (after : Meaning) (stands : List LogEntry → Type 0) (out0 out1 : Option (List ℕ)) : Type 0 where
-  pub begun : IsBegun options s after.answers ⊎ IsUnbegun n out0 out1
+  pub begun : IsBegun options s after.answers out0 out1 ⊎ IsUnbegun n out0 out1
   pub native : (workers : ℕ) → options.world ≡ RunWorld.Native workers → n ≢ 4 → n ≢ 5 → n ≢ 7 → RanNatively workers (run_of options after.answers s) after stands
 
 -- where the command is a run of the scenario, it ran so

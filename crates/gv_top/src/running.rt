@@ -4,7 +4,7 @@ ghost use Rattle.gv_values.specs.Counts.{HasRisen};
 ghost use Rattle.machine.specs.Run.{run, script_run};
 ghost use Rattle.machine.specs.TraceLaws.{meets_laws};
 ghost use Rattle.command_words.specs.Ranges.{IsWorldInRange};
-ghost use Rattle.hub_engine.specs.Ends.{RanTo};
+ghost use Rattle.hub_engine.specs.Ends.{RanTo, WroteAhead};
 ghost use Rattle.scenario_rules.specs.Rules.{IsWellFormed};
 ghost use Rattle.gv_top.specs.declared.status.Verdict.{Verdict};
 ghost use Rattle.gv_top.specs.Running.{IsBegun, IsUnbegun, RanInWorld, RanNatively, run_of};
@@ -96,7 +96,8 @@ fn run_natively<K: Sink, W: World>(
     requires some { 0 < workers }
     requires few { workers ≤ 16 }
     requires well_formed { IsWellFormed engine.scenario }
-    ensures begun { (meets_laws (run engine.scenario engine.turns engine.moves (W.meaning native.new).answers).lines ≡ true)
+    ensures begun { ((meets_laws (run engine.scenario engine.turns engine.moves (W.meaning native.new).answers).lines ≡ true)
+        × WroteAhead (run engine.scenario engine.turns engine.moves) (W.meaning native.new).answers (K.written out.old) (K.written out.new))
         ⊎ IsUnbegun (number_of (Verdict.Ran result)) (K.written out.old) (K.written out.new) }
     ensures written { RanTo result (run engine.scenario engine.turns engine.moves (W.meaning native.new).answers) (K.written out.old) (K.written out.new) }
     ensures native { result ≢ End.WriteFault → result ≢ End.Memory →
@@ -126,7 +127,8 @@ pub fn run_scenario<K: Sink, W: World>(
     ensures written { RanTo result (run_of options (W.meaning native.new).answers checked) (K.written out.old) (K.written out.new) }
     ensures native { (workers : ℕ) → options.world ≡ RunWorld.Native workers → result ≢ End.WriteFault → result ≢ End.Memory →
         RanNatively workers (run_of options (W.meaning native.new).answers checked) (W.meaning native.new) (W.stands_for native.new) }
-    ensures begun { IsBegun options checked (W.meaning native.new).answers ⊎ IsUnbegun (number_of (Verdict.Ran result)) (K.written out.old) (K.written out.new) }
+    ensures begun { IsBegun options checked (W.meaning native.new).answers (K.written out.old) (K.written out.new)
+        ⊎ IsUnbegun (number_of (Verdict.Ran result)) (K.written out.old) (K.written out.new) }
     ensures untouched { is_native_world options.world ≡ false → native.new ≡ native.old }
     ensures rests { (W.meaning native.new).runs ≡ false }
     ensures failed { result ≡ End.WriteFault → HasRisen (K.faults out.old) (K.faults out.new) }

@@ -13,7 +13,8 @@ returns-in-Some-clause-native g c = λ w m.
 pub returns-in-Some-clause-begun : goal.returns-in-Some-clause-begun
 returns-in-Some-clause-begun g c =
     let given = (g.W.World.meaning c.run_in_world.new.world).answers in
-    inl (c.runs_are_lawful.ensures c.args.engine.scenario (Source.Given given) c.args.engine.turns c.args.engine.moves c.requires.well_formed c.in-Some.ensures.ran.legal)
+    let ran = c.in-Some.ensures.ran in
+    inl (c.runs_are_lawful.ensures c.args.engine.scenario (Source.Given given) c.args.engine.turns c.args.engine.moves c.requires.well_formed ran.legal, ran.ahead)
 
 pub returns-in-None-clause-written : goal.returns-in-None-clause-written
 returns-in-None-clause-written g c = left_as_it_was _ _ _ c.in-None.ensures.unwritten
