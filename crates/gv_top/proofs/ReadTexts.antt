@@ -1,5 +1,5 @@
 -- What is answered to a text: its scenario's run or printed form, or the place where it is refused.
-use Rattle.std.proofs.Common.{◌≡◌, ◌≢◌, ℕ, inl, inr, List, Option, Some, None, Result, Ok, Err, refl, ap, subst, ◌∙◌, take}
+use Rattle.std.proofs.Common.{◌≡◌, ◌≢◌, ℕ, inl, inr, List, Option, Some, None, Result, Ok, Err, refl, ap, sym, subst, ◌∙◌, take}
 use Rattle.gv_values.specs.declared.job.Answer.{Answer as Given}
 use Rattle.gv_io.specs.Streams.{appended}
 use Rattle.scenario_tree.specs.declared.tree.Scenario.{Scenario}
@@ -55,25 +55,29 @@ unfolding answer_to_text
 answered_as command given s bytes t w = ap (answer_by command given) (spelt_is_judged s bytes t w)
 
 -- bytes that are no text of a well-formed scenario are refused at their place
-record Refused (command : TextCommand) (given : List Given) (bytes : List ℕ) (p : Place) : Type 0 where
+record Refused (bytes : List ℕ) (p : Place) : Type 0 where
   at : IsRefusedAt bytes p
-  answer : answer_to_text command given bytes ≡ refusal p
+  judged_so : judged bytes ≡ Err p
 
-refuses : (command : TextCommand) (given : List Given) (bytes : List ℕ) (r : Result Scenario Place) → reading bytes ≡ r → ((s : Scenario) → Spells s bytes → IsWellFormed s → ⊥)
-    → (p : Place) × Refused command given bytes p
-unfolding answer_to_text
-refuses command given bytes (Err p) e none =
-    (p, record { at = inl (refused_there bytes p e); answer = ap (answer_by command given) (judged_unread bytes p e) })
-refuses command given bytes (Ok s) e none = by (place_of s) refl
+refuses : (bytes : List ℕ) (r : Result Scenario Place) → reading bytes ≡ r → ((s : Scenario) → Spells s bytes → IsWellFormed s → ⊥) → (p : Place) × Refused bytes p
+refuses bytes (Err p) e none = (p, record { at = inl (refused_there bytes p e); judged_so = judged_unread bytes p e })
+refuses bytes (Ok s) e none = by (place_of s) refl
   where
-    by : (o : Option Place) → place_of s ≡ o → (p : Place) × Refused command given bytes p
+    by : (o : Option Place) → place_of s ≡ o → (p : Place) × Refused bytes p
     by None placed = absurd (none s (sound s bytes e) (well_formed s placed))
-    by (Some p) placed =
-        (p, record { at = inr (s, sound s bytes e, placed); answer = ap (answer_by command given) (judged_read bytes s (Some p) e placed) })
+    by (Some p) placed = (p, record { at = inr (s, sound s bytes e, placed); judged_so = judged_read bytes s (Some p) e placed })
 
 pub refuses_the_rest : (command : TextCommand) (given : List Given) (bytes : List ℕ) → ((s : Scenario) → Spells s bytes → IsWellFormed s → ⊥)
     → (p : Place) × IsRefusedAt bytes p × (answer_to_text command given bytes ≡ refusal p)
-refuses_the_rest command given bytes none = let r = refuses command given bytes (reading bytes) refl none in (r.0, r.1.at, r.1.answer)
+unfolding answer_to_text
+refuses_the_rest command given bytes none = let r = refuses bytes (reading bytes) refl none in (r.0, r.1.at, ap (answer_by command given) r.1.judged_so)
+
+-- no scenario is read of them
+pub none_judged : (bytes : List ℕ) → ((s : Scenario) → Spells s bytes → IsWellFormed s → ⊥) → (s : Scenario) → judged bytes ≡ Ok s → ⊥
+none_judged bytes none s e = let r = refuses bytes (reading bytes) refl none in no r.0 (sym r.1.judged_so ∙ e)
+  where
+    no : (p : Place) → ◌≡◌ {A = Result Scenario Place} (Err p) (Ok s) → ⊥
+    no p z = cc z
 
 -- ---- what is left behind
 

@@ -17,6 +17,7 @@ use Rattle.command_words.specs.declared.command.TextCommand.{TextCommand}
 use Rattle.trace_text.specs.LineTexts.{text_of}
 use Rattle.scenario_tree.specs.declared.tree.Scenario.{Scenario}
 use Rattle.gv_top.specs.Answers.{Answer, answer_to, answer_to_storm, judged, memory_line, most_read, read_fault_line, write_fault_line}
+use Rattle.gv_top.specs.Commands.{IsLeftAlone}
 use Rattle.gv_top.specs.Running.{IsBegun, IsUnbegun}
 use Rattle.gv_top.specs.Verdicts.{number_of, line_of}
 use Rattle.gv_top.specs.Top.{Fits, Decided, CameTo, Ended, FailsToWrite, IsOr, IsStatusOf, IsTold, IsTried, AnswersConnection, IsAnswered, IsOfConnection, HasFaultLine, HasLawfulLines, RanScenarioSo, RanWith}
@@ -290,6 +291,12 @@ status_or n v w old new e0 e1 (inl e) (inr p) = inr ((λ z. p.1 (ap number_of e 
 status_or n v w old new e0 e1 (inr q) (inl p) = inr (q.1, inr (p.0 ∙ ap number_of q.0))
 status_or n v w old new e0 e1 (inr q) (inr p) = inr (q.1, inl p.0)
 
+-- a status that is neither 5 nor 7 is that of the verdict
+number_was : (n m : ℕ) (v : Verdict) → IsStatusOf n v → n ≡ m → m ≢ 5 → m ≢ 7 → number_of v ≡ m
+number_was n m v (inl p) e h5 h7 = sym p ∙ e
+number_was n m v (inr (_, inl p)) e h5 h7 = absurd (h5 (sym e ∙ p))
+number_was n m v (inr (_, inr p)) e h5 h7 = absurd (h7 (sym e ∙ p))
+
 -- the words are no command, or memory ran out, and the status is that of this, 5 or 7
 pub usage_status : (n : ℕ) (v w : Verdict) (old new : Option (List ℕ)) (e0 e1 : ℕ) → IsOr v w → IsTold n w old new e0 e1 → (number_of v ≡ 2) ⊎ (number_of v ≡ 7)
     → (n ≡ 2) ⊎ (n ≡ 5) ⊎ (n ≡ 7)
@@ -347,6 +354,22 @@ pub ran_so : {n : ℕ} {app : App} {c : Option Command} {after : Meaning} {stand
     (left : List ℕ) → in0 ≡ Some left → (s : Scenario) → judged (take most_read left) ≡ Ok s → RanScenarioSo n text s after stands out0 out1
 ran_so {n} {after = after} {stands = stands} {out0 = out0} {out1 = out1} {err0 = err0} {err1 = err1} {e0 = e0} {e1 = e1} text h is left told s j = λ options e.
     ran_told n h.verdict options s after stands out0 out1 (status_or n h.verdict h.verdict err0 err1 e0 e1 (inl refl) h.told) (h.came_to.ran text is left told s j options e)
+
+-- ---- native workers that are left alone
+
+pub left_alone : {W : Type 0} (n : ℕ) (in0 : Option (List ℕ)) (old new : W) → new ≡ old → IsLeftAlone n in0 old new
+left_alone n in0 old new e = record { unread = λ z. e; refused = λ z. e; unspelt = λ left told none. e }
+
+-- what a verdict leaves alone, the status that is answered does
+pub left_alone_told : {W : Type 0} (n : ℕ) (v w : Verdict) (in0 err0 err1 : Option (List ℕ)) (e0 e1 : ℕ) (old new : W) → IsOr v w → IsTold n w err0 err1 e0 e1 → IsLeftAlone (number_of v) in0 old new
+    → IsLeftAlone n in0 old new
+left_alone_told n v w in0 err0 err1 e0 e1 old new o l h =
+    let s = status_or n v w err0 err1 e0 e1 o l in
+    record {
+      unread = λ e. h.unread (number_was n 4 v s e (λ z. omega arith) (λ z. omega arith));
+      refused = λ e. h.refused (number_was n 3 v s e (λ z. omega arith) (λ z. omega arith));
+      unspelt = h.unspelt;
+    }
 
 -- ---- lines that meet the laws
 

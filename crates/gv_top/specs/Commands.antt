@@ -71,6 +71,13 @@ pub record AnswersCommand (status : ℕ) (app : App) (command : Option Command) 
   pub read_whole : (text : TextCommand) → command ≡ Some (Command.Text text) → status ≢ 4 → status ≢ 5 → status ≢ 7 →
       (left : List ℕ) → in0 ≡ Some left → in1 ≡ Some (drop most_read left)
 
+-- Native workers are left alone where no text is run: where the input could not be read, where it is refused, and,
+-- whatever the status, where what it has is told and spells no well-formed scenario.
+pub record IsLeftAlone {W : Type 0} (status : ℕ) (in0 : Option (List ℕ)) (old new : W) : Type 0 where
+  pub unread : status ≡ 4 → new ≡ old
+  pub refused : status ≡ 3 → new ≡ old
+  pub unspelt : (left : List ℕ) → in0 ≡ Some left → ((s : Scenario) → Spells s (take most_read left) → IsWellFormed s → ⊥) → new ≡ old
+
 -- What streams show of a status, whatever the words name: by what err has, and by the counts of faults.
 pub record IsBorneOut (status : ℕ) (err0 err1 : Option (List ℕ)) (reads0 reads1 writes0 writes1 faults0 faults1 : ℕ) : Type 0 where
   -- A read that failed and want of memory have their line on err.

@@ -4,7 +4,7 @@ ghost use Rattle.gv_values.specs.Counts.{HasRisen};
 ghost use Rattle.command_words.specs.declared.command.ServeOptions.{ServeOptions as AnyServer};
 ghost use Rattle.stream_net.specs.Nets.{IsFresh};
 ghost use Rattle.serve_command.specs.Served.{ServesAt};
-ghost use Rattle.gv_top.specs.Commands.{AnswersCommand, IsBorneOut};
+ghost use Rattle.gv_top.specs.Commands.{AnswersCommand, IsBorneOut, IsLeftAlone};
 ghost use Rattle.gv_top.specs.Gateways.{answers_by};
 ghost use Rattle.gv_top.specs.Serving.{Serves, limits_of};
 ghost use Rattle.gv_top.specs.Words.{command_of, is_native, reads_input, serve_of};
@@ -103,6 +103,7 @@ pub fn gvr<S: Source, K: Sink, E: Sink, W: World, N: Net, A: Application, H: Wai
     ensures borne_out { IsBorneOut result (E.written err.old) (E.written err.new)
         (S.faults input.old) (S.faults input.new) (K.faults out.old) (K.faults out.new) (E.faults err.old) (E.faults err.new) }
     ensures untouched { is_native (command_of (map string_bytes words.now)) ≡ false → native.new ≡ native.old }
+    ensures left_alone { IsLeftAlone result (S.remaining input.old) native.old native.new }
     ensures native_rests { (W.meaning native.new).runs ≡ false }
     // A storm reads no input; neither does `serve`, nor do words that are no command.
     ensures untouched_input { reads_input (command_of (map string_bytes words.now)) ≡ false → input.new ≡ input.old }

@@ -6,8 +6,11 @@ ghost use Rattle.command_words.specs.declared.command.GatewayKind.{GatewayKind a
 ghost use Rattle.command_words.specs.declared.command.RunOptions.{RunOptions as AnyOptions};
 ghost use Rattle.command_words.specs.declared.command.Command.{Command as NamedCommand};
 ghost use Rattle.command_words.specs.Ranges.{IsInRange};
+ghost use Rattle.scenario_grammar.specs.Spells.{Spells};
+ghost use Rattle.scenario_rules.specs.Rules.{IsWellFormed};
+ghost use Rattle.scenario_tree.specs.declared.tree.Scenario.{Scenario as AnyScenario};
 ghost use Rattle.gv_top.specs.Answers.{answer_to, answer_to_scenario, answer_to_storm, answer_to_text, formatted, memory_line, most_read, refusal, write_fault_line};
-ghost use Rattle.gv_top.specs.Commands.{AnswersCommand, IsBorneOut};
+ghost use Rattle.gv_top.specs.Commands.{AnswersCommand, IsBorneOut, IsLeftAlone};
 ghost use Rattle.gv_top.specs.declared.status.Verdict.{Verdict as AnyVerdict};
 ghost use Rattle.gv_top.specs.Top.{CameTo, Decided, HasLawfulLines, IsOfConnection, IsOr, IsTold, RanScenarioSo, RanSo};
 ghost use Rattle.gv_top.specs.Verdicts.{IsExplained, line_of, number_of};
@@ -49,6 +52,7 @@ fn decide<S: Source, K: Sink, W: World, A: Application>(
     ensures lawful { IfSome result (λ verdict. (options : AnyOptions) → command_of (map string_bytes words.now) ≡ Some (Command.Text (TextCommand.Run options)) →
         HasLawfulLines (number_of verdict) (K.written out.old) (K.written out.new)) }
     ensures untouched { is_native (command_of (map string_bytes words.now)) ≡ false → native.new ≡ native.old }
+    ensures left_alone { IfSome result (λ verdict. IsLeftAlone (number_of verdict) (S.remaining input.old) native.old native.new) }
     ensures rests { (W.meaning native.new).runs ≡ false }
     ensures connection { IfSome result (λ verdict. (gateway : AnyGateway) → command_of (map string_bytes words.now) ≡ Some (Command.Wsgi gateway) →
         IsOfConnection verdict gateway (A.answer_of app.now) (S.remaining input.old) (S.remaining input.new) (K.written out.old) (K.written out.new)) }
@@ -96,6 +100,7 @@ fn answer_command<S: Source, K: Sink, W: World, A: Application>(
         RanSo (number_of result) text (take most_read left) (W.meaning native.new) (W.stands_for native.new) (K.written out.old) (K.written out.new) }
     ensures lawful { (options : AnyOptions) → command ≡ Some (Command.Text (TextCommand.Run options)) → HasLawfulLines (number_of result) (K.written out.old) (K.written out.new) }
     ensures untouched { is_native command ≡ false → native.new ≡ native.old }
+    ensures left_alone { IsLeftAlone (number_of result) (S.remaining input.old) native.old native.new }
     ensures rests { (W.meaning native.new).runs ≡ false }
     ensures connection { (gateway : AnyGateway) → command ≡ Some (Command.Wsgi gateway) →
         IsOfConnection result gateway (A.answer_of app.now) (S.remaining input.old) (S.remaining input.new) (K.written out.old) (K.written out.new) }
@@ -135,6 +140,7 @@ fn answer_input<S: Source, K: Sink, W: World>(
         RanSo (number_of result) command (take most_read left) (W.meaning native.new) (W.stands_for native.new) (K.written out.old) (K.written out.new) }
     ensures lawful { (options : AnyOptions) → command ≡ TextCommand.Run options → HasLawfulLines (number_of result) (K.written out.old) (K.written out.new) }
     ensures untouched { is_native_text command ≡ false → native.new ≡ native.old }
+    ensures left_alone { IsLeftAlone (number_of result) (S.remaining input.old) native.old native.new }
     ensures rests { (W.meaning native.new).runs ≡ false }
     ensures answer { (left : List ℕ) → S.remaining input.old ≡ Some left →
         Decided result (answer_to_text command (W.meaning native.new).answers (take most_read left)) (K.written out.old) (K.written out.new) }
@@ -169,6 +175,8 @@ fn answer_text<K: Sink, W: World>(
     ensures ran { RanSo (number_of result) command bytes.now (W.meaning native.new) (W.stands_for native.new) (K.written out.old) (K.written out.new) }
     ensures lawful { (options : AnyOptions) → command ≡ TextCommand.Run options → HasLawfulLines (number_of result) (K.written out.old) (K.written out.new) }
     ensures untouched { is_native_text command ≡ false → native.new ≡ native.old }
+    ensures refused { number_of result ≡ 3 → native.new ≡ native.old }
+    ensures unspelt { ((s : AnyScenario) → Spells s bytes.now → IsWellFormed s → ⊥) → native.new ≡ native.old }
     ensures rests { (W.meaning native.new).runs ≡ false }
     ensures answer { Decided result (answer_to_text command (W.meaning native.new).answers bytes.now) (K.written out.old) (K.written out.new) }
     ensures command { number_of result ≢ 2 }
@@ -202,6 +210,7 @@ fn answer_scenario<K: Sink, W: World>(
     ensures answer { Decided result (answer_to_scenario command (W.meaning native.new).answers checked) (K.written out.old) (K.written out.new) }
     ensures command { number_of result ≢ 2 }
     ensures no_net { number_of result ≢ 10 }
+    ensures unrefused { number_of result ≢ 3 }
     ensures read { number_of result ≢ 4 }
     ensures unprinted { command ≡ TextCommand.Format → number_of result ≢ 0 → number_of result ≢ 5 → K.written out.new ≡ K.written out.old }
     ensures explained { IsExplained result }
@@ -222,6 +231,7 @@ fn format_scenario<K: Sink>(alloc: Global, scenario: &Scenario, out: &mut K) -> 
     ensures answer { Decided result (formatted scenario.now) (K.written out.old) (K.written out.new) }
     ensures command { number_of result ≢ 2 }
     ensures no_net { number_of result ≢ 10 }
+    ensures unrefused { number_of result ≢ 3 }
     ensures read { number_of result ≢ 4 }
     ensures unprinted { number_of result ≢ 0 → number_of result ≢ 5 → K.written out.new ≡ K.written out.old }
     ensures explained { IsExplained result }
@@ -347,6 +357,7 @@ pub fn offline<S: Source, K: Sink, E: Sink, W: World, A: Application>(
     ensures borne_out { IfSome result (λ status. IsBorneOut status (E.written err.old) (E.written err.new)
         (S.faults input.old) (S.faults input.new) (K.faults out.old) (K.faults out.new) (E.faults err.old) (E.faults err.new)) }
     ensures untouched { is_native (command_of (map string_bytes words.now)) ≡ false → native.new ≡ native.old }
+    ensures left_alone { IfSome result (λ status. IsLeftAlone status (S.remaining input.old) native.old native.new) }
     ensures native_rests { (W.meaning native.new).runs ≡ false }
     // A storm reads no input; neither do words that are no command.
     ensures untouched_input { reads_input (command_of (map string_bytes words.now)) ≡ false → input.new ≡ input.old }

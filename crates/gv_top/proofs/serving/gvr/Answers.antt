@@ -1,6 +1,6 @@
 use Rattle.std.proofs.Common.{ap, arith, ◌∙◌}
 use Rattle.gv_top.proofs.Servings.{fails_at_a_line, fault_lines, is_listener, is_some, no_other_status, none_named, serves_nobody, serves_so}
-use Rattle.gv_top.proofs.Tops.{is_silent, status_or}
+use Rattle.gv_top.proofs.Tops.{is_silent, left_alone, status_or}
 use Rattle.gv_top.proofs.serving.gvr.Goals as goal
 
 -- ---- where the words were answered without a net
@@ -52,3 +52,6 @@ returns-in-None-clause-network_fault g c = λ e.
 
 pub returns-in-None-clause-net_alone : goal.returns-in-None-clause-net_alone
 returns-in-None-clause-net_alone g c = λ none. none_named _ _ c.in-None.ensures.serve none
+
+pub returns-in-None-clause-left_alone : goal.returns-in-None-clause-left_alone
+returns-in-None-clause-left_alone g c = left_alone _ _ _ _ (c.offline.ensures.native_alone c.in-None.ensures.serve)

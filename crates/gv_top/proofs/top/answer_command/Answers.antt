@@ -1,4 +1,6 @@
+use Rattle.std.proofs.Common.{refl}
 use Rattle.gv_top.proofs.Deciding.{no_command, usage_decided}
+use Rattle.gv_top.proofs.Tops.{left_alone}
 use Rattle.gv_top.proofs.InWorlds.{text_ran}
 use Rattle.gv_top.proofs.Storms.{text_is_no_storm}
 use Rattle.gv_top.proofs.top.answer_command.Goals as goal
@@ -15,3 +17,12 @@ returns-in-Some-Text-clause-ran g c = λ text e.
 
 pub returns-in-Some-Storm-clause-read_whole : goal.returns-in-Some-Storm-clause-read_whole
 returns-in-Some-Storm-clause-read_whole g c = λ text runs left told h4 h7. absurd (text_is_no_storm text c.in-Some-Storm.size (rw runs at c.in-Some-Storm.field-0-is))
+
+pub returns-in-None-clause-left_alone : goal.returns-in-None-clause-left_alone
+returns-in-None-clause-left_alone g c = left_alone _ _ _ _ refl
+
+pub returns-in-Some-Wsgi-clause-left_alone : goal.returns-in-Some-Wsgi-clause-left_alone
+returns-in-Some-Wsgi-clause-left_alone g c = left_alone _ _ _ _ refl
+
+pub returns-in-Some-Storm-clause-left_alone : goal.returns-in-Some-Storm-clause-left_alone
+returns-in-Some-Storm-clause-left_alone g c = left_alone _ _ _ _ refl

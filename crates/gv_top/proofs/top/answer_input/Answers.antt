@@ -1,8 +1,11 @@
-use Rattle.std.proofs.Common.{List, ℕ, inl, inr, refl, subst, ◌∙◌}
+use Rattle.std.proofs.Common.{◌≡◌, List, ℕ, inl, inr, refl, subst, ◌∙◌}
 use Rattle.gv_io.proofs.StreamLaws.{AppendsPrefix-nothing}
 use Rattle.gv_top.proofs.Deciding.{left_behind, read_first}
 use Rattle.gv_top.proofs.InWorlds.{none_ran}
-use Rattle.gv_top.proofs.Tops.{nothing_lawful}
+use Rattle.gv_top.proofs.Tops.{left_alone, nothing_lawful}
+use Rattle.scenario_grammar.specs.Spells.{Spells}
+use Rattle.scenario_rules.specs.Rules.{IsWellFormed}
+use Rattle.scenario_tree.specs.declared.tree.Scenario.{Scenario}
 use Rattle.gv_top.specs.Top.{RanSo}
 use Rattle.gv_top.specs.Verdicts.{number_of}
 use Rattle.gv_top.proofs.top.answer_input.Goals as goal
@@ -34,3 +37,18 @@ returns-in-Ok-clause-ran g c = λ left told.
     RanSo (number_of c.answer_text.result) c.args.command bytes (g.W.World.meaning c.answer_text.new.native) (g.W.World.stands_for c.answer_text.new.native)
     (g.K.Sink.written c.args.out.now) (g.K.Sink.written c.answer_text.new.out) in
     subst P (c.as_slice.ensures.value ∙ read_first left _ _ told c.in-Ok.ensures.first) c.answer_text.ensures.ran
+
+pub returns-in-Err-Fault-clause-left_alone : goal.returns-in-Err-Fault-clause-left_alone
+returns-in-Err-Fault-clause-left_alone g c = left_alone _ _ _ _ refl
+
+pub returns-in-Err-Memory-clause-left_alone : goal.returns-in-Err-Memory-clause-left_alone
+returns-in-Err-Memory-clause-left_alone g c = left_alone _ _ _ _ refl
+
+pub returns-in-Ok-clause-left_alone : goal.returns-in-Ok-clause-left_alone
+returns-in-Ok-clause-left_alone g c = record {
+  unread = λ e. absurd (c.answer_text.ensures.read e);
+  refused = c.answer_text.ensures.refused;
+  unspelt = λ left told none.
+      let P : List ℕ → Type 0 = λ bytes. ((s : Scenario) → Spells s bytes → IsWellFormed s → ⊥) → c.answer_text.new.native ≡ c.args.native.now in
+      subst P (c.as_slice.ensures.value ∙ read_first left _ _ told c.in-Ok.ensures.first) c.answer_text.ensures.unspelt none;
+}

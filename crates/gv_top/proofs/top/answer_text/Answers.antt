@@ -1,6 +1,7 @@
 use Rattle.std.proofs.Common.{arith}
 use Rattle.gv_top.proofs.Deciding.{judged_decided, refusal_decided, refusal_explained, refusal_number}
 use Rattle.gv_top.proofs.InWorlds.{judged_ran, refused_runs_nothing}
+use Rattle.gv_top.proofs.ReadTexts.{none_judged}
 use Rattle.gv_top.proofs.Tops.{nothing_lawful}
 use Rattle.gv_top.proofs.top.answer_text.Goals as goal
 
@@ -30,3 +31,9 @@ returns-in-Err-clause-lawful g c = λ options e. nothing_lawful _ _
 
 pub returns-in-Ok-clause-ran : goal.returns-in-Ok-clause-ran
 returns-in-Ok-clause-ran g c = judged_ran _ c.args.command c.args.bytes.now _ _ _ _ _ c.in-Ok.ensures.judged c.answer_scenario.ensures.ran
+
+pub returns-in-Ok-clause-refused : goal.returns-in-Ok-clause-refused
+returns-in-Ok-clause-refused g c = λ e. absurd (c.answer_scenario.ensures.unrefused e)
+
+pub returns-in-Ok-clause-unspelt : goal.returns-in-Ok-clause-unspelt
+returns-in-Ok-clause-unspelt g c = λ none. absurd (none_judged c.args.bytes.now none _ c.in-Ok.ensures.judged)

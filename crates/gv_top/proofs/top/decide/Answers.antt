@@ -1,9 +1,9 @@
-use Rattle.std.proofs.Common.{ap, map, option_and_then, string_bytes, sym, ◌∙◌}
+use Rattle.std.proofs.Common.{ap, map, option_and_then, refl, string_bytes, sym, ◌∙◌}
 use Rattle.gv_top.specs.Words.{built, is_native, reads_input, serving}
 use Rattle.gv_top.proofs.Deciding.{nothing_exchanged}
 use Rattle.gv_top.proofs.Built.{in_range}
 use Rattle.gv_top.proofs.Servings.{is_some, none_named}
-use Rattle.gv_top.proofs.Tops.{came_as, nothing_lawful, out_of_memory_at_once}
+use Rattle.gv_top.proofs.Tops.{came_as, left_alone, nothing_lawful, out_of_memory_at_once}
 use Rattle.gv_top.proofs.top.decide.Goals as goal
 
 pub returns-in_default-clause-came_to : goal.returns-in_default-clause-came_to
@@ -14,6 +14,9 @@ returns-in_default-clause-connection g c = λ gateway named. nothing_exchanged g
 
 pub returns-in_default-clause-lawful : goal.returns-in_default-clause-lawful
 returns-in_default-clause-lawful g c = λ options e. nothing_lawful _ _
+
+pub returns-in_default-clause-left_alone : goal.returns-in_default-clause-left_alone
+returns-in_default-clause-left_alone g c = left_alone _ _ _ _ refl
 
 pub returns-in-Some-clause-serve : goal.returns-in-Some-clause-serve
 returns-in-Some-clause-serve g c = is_some _ _ (ap (option_and_then serving) (sym c.in-Ok.ensures) ∙ sym c.server_options.ensures ∙ c.in-Some.is)

@@ -1,7 +1,7 @@
 use Rattle.std.proofs.Common.{refl, arith}
 use Rattle.command_words.specs.declared.command.TextCommand.{TextCommand}
 use Rattle.gv_top.proofs.ReadTexts.{answered_as, answered_so, answers_run, refuses_the_rest, spelt_is_judged}
-use Rattle.gv_top.proofs.Tops.{answers_connection, ended, fails_to_write, fault_line, is_answered, is_silent, lawful_told, prints_nothing, ran_so, reads_whole, status_is, usage_status}
+use Rattle.gv_top.proofs.Tops.{answers_connection, ended, fails_to_write, fault_line, is_answered, is_silent, lawful_told, left_alone_told, prints_nothing, ran_so, reads_whole, status_is, usage_status}
 use Rattle.gv_top.proofs.InWorlds.{quiet_blocks}
 use Rattle.gv_top.proofs.Servings.{names_no_server, no_memory_status, no_network_fault}
 use Rattle.gv_top.proofs.Storms.{answers_storm}
@@ -57,3 +57,6 @@ returns-in-Some-clause-not_serve g c = λ named. let t = c.tell.ensures.told in 
 
 pub returns-in-Some-clause-no_net : goal.returns-in-Some-clause-no_net
 returns-in-Some-clause-no_net g c = let t = c.tell.ensures.told in no_network_fault _ _ t.0 _ _ _ _ t.1 t.2 c.in-Some.ensures.no_net
+
+pub returns-in-Some-clause-left_alone : goal.returns-in-Some-clause-left_alone
+returns-in-Some-clause-left_alone g c = let t = c.tell.ensures.told in left_alone_told _ _ t.0 _ _ _ _ _ _ _ t.1 t.2 c.in-Some.ensures.left_alone
