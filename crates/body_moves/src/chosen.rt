@@ -28,6 +28,7 @@ pub enum Chosen {
     Binds(Name, Value),
 }
 
+/// The wait of a statement that may have a time of `within`.
 fn timed(within: Option<u64>) -> Wait
     ensures { result ≡ timed within }
 {
@@ -37,6 +38,7 @@ fn timed(within: Option<u64>) -> Wait
     }
 }
 
+/// The wait of a statement at which `now` may stand.
 fn at_once(now: bool) -> Wait
     ensures { result ≡ at_once now }
 {
@@ -74,7 +76,7 @@ macro_rules! value_of {
     };
 }
 
-/// The values of the arguments; where one has none, its fault is raised.
+/// What the operands gave; where one has no value, its fault is raised.
 macro_rules! values_of {
     ($values:expr) => {
         match $values {
@@ -171,75 +173,61 @@ pub fn choose_command<L: Look>(
     }
 }
 
+/// A kill: the greenlet, and the fault that may stand after `with`.
 fn kill<L: Look>(
     evaluation: &Evaluation<'_, L>,
-    e: &Expression,
-    second: &Option<Expression>,
+    greenlet: &Expression,
+    fault: &Option<Expression>,
     wait: Wait,
 ) -> Result<Chosen, AllocError>
-    ensures { IfOk result (λ chosen. DoesAs chosen evaluation.now.locals.now (command_move (Word.Kill e.now second.now wait) (around evaluation.now.code.now (L.answers evaluation.now.look.now) evaluation.now.locals.now))) }
+    ensures { IfOk result (λ chosen. DoesAs chosen evaluation.now.locals.now (command_move (Word.Kill greenlet.now fault.now wait) (around evaluation.now.code.now (L.answers evaluation.now.look.now) evaluation.now.locals.now))) }
 {
-    let value = value_of!(evaluation.meaning(e)?);
-    match second {
-        None => Ok(Chosen::Asks(Request::Kill(value, None, wait), None)),
-        Some(second) => {
-            let second = value_of!(evaluation.meaning(second)?);
-            Ok(Chosen::Asks(Request::Kill(value, Some(second), wait), None))
-        }
-    }
+    let greenlet = value_of!(evaluation.meaning(greenlet)?);
+    let fault = values_of!(evaluation.optional(fault)?);
+    Ok(Chosen::Asks(Request::Kill(greenlet, fault, wait), None))
 }
 
+/// A killall: the list of greenlets, and the fault that may stand after `with`.
 fn kill_all<L: Look>(
     evaluation: &Evaluation<'_, L>,
-    e: &Expression,
-    second: &Option<Expression>,
+    greenlets: &Expression,
+    fault: &Option<Expression>,
     wait: Wait,
 ) -> Result<Chosen, AllocError>
-    ensures { IfOk result (λ chosen. DoesAs chosen evaluation.now.locals.now (command_move (Word.KillAll e.now second.now wait) (around evaluation.now.code.now (L.answers evaluation.now.look.now) evaluation.now.locals.now))) }
+    ensures { IfOk result (λ chosen. DoesAs chosen evaluation.now.locals.now (command_move (Word.KillAll greenlets.now fault.now wait) (around evaluation.now.code.now (L.answers evaluation.now.look.now) evaluation.now.locals.now))) }
 {
-    let value = value_of!(evaluation.meaning(e)?);
-    match second {
-        None => Ok(Chosen::Asks(Request::KillAll(value, None, wait), None)),
-        Some(second) => {
-            let second = value_of!(evaluation.meaning(second)?);
-            Ok(Chosen::Asks(Request::KillAll(value, Some(second), wait), None))
-        }
-    }
+    let greenlets = value_of!(evaluation.meaning(greenlets)?);
+    let fault = values_of!(evaluation.optional(fault)?);
+    Ok(Chosen::Asks(Request::KillAll(greenlets, fault, wait), None))
 }
 
+/// The kill of a group, with the fault that may stand after `with`.
 fn group_kill<L: Look>(
     evaluation: &Evaluation<'_, L>,
     group: &Name,
-    second: &Option<Expression>,
+    fault: &Option<Expression>,
     now: bool,
 ) -> Result<Chosen, AllocError>
-    ensures { IfOk result (λ chosen. DoesAs chosen evaluation.now.locals.now (command_move (Word.GroupKill group.now second.now now) (around evaluation.now.code.now (L.answers evaluation.now.look.now) evaluation.now.locals.now))) }
+    ensures { IfOk result (λ chosen. DoesAs chosen evaluation.now.locals.now (command_move (Word.GroupKill group.now fault.now now) (around evaluation.now.code.now (L.answers evaluation.now.look.now) evaluation.now.locals.now))) }
 {
-    match second {
-        None => Ok(Chosen::Asks(
-            Request::GroupKill(evaluation.code.object(group), None, at_once(now)),
-            None,
-        )),
-        Some(second) => {
-            let second = value_of!(evaluation.meaning(second)?);
-            Ok(Chosen::Asks(
-                Request::GroupKill(evaluation.code.object(group), Some(second), at_once(now)),
-                None,
-            ))
-        }
-    }
+    let fault = values_of!(evaluation.optional(fault)?);
+    Ok(Chosen::Asks(
+        Request::GroupKill(evaluation.code.object(group), fault, at_once(now)),
+        None,
+    ))
 }
 
+/// A setparent: the greenlet, and the one that becomes its parent.
 fn set_parent<L: Look>(
     evaluation: &Evaluation<'_, L>,
-    e: &Expression,
-    second: &Expression,
+    child: &Expression,
+    parent: &Expression,
 ) -> Result<Chosen, AllocError>
-    ensures { IfOk result (λ chosen. DoesAs chosen evaluation.now.locals.now (command_move (Word.SetParent e.now second.now) (around evaluation.now.code.now (L.answers evaluation.now.look.now) evaluation.now.locals.now))) }
+    ensures { IfOk result (λ chosen. DoesAs chosen evaluation.now.locals.now (command_move (Word.SetParent child.now parent.now) (around evaluation.now.code.now (L.answers evaluation.now.look.now) evaluation.now.locals.now))) }
 {
-    let value = value_of!(evaluation.meaning(e)?);
-    let second = value_of!(evaluation.meaning(second)?);
-    Ok(Chosen::Asks(Request::SetParent(value, second), None))
+    let child = value_of!(evaluation.meaning(child)?);
+    let parent = value_of!(evaluation.meaning(parent)?);
+    Ok(Chosen::Asks(Request::SetParent(child, parent), None))
 }
 
 /// What a statement does that gives a value, which the name takes.
@@ -365,55 +353,48 @@ pub fn choose_giving<L: Look>(
     }
 }
 
+/// A raw: its function, and the parent that may stand after `under`.
 fn raw<L: Look>(
     evaluation: &Evaluation<'_, L>,
     name: Option<Name>,
     function: &Name,
-    second: &Option<Expression>,
+    parent: &Option<Expression>,
 ) -> Result<Chosen, AllocError>
-    ensures { IfOk result (λ chosen. DoesAs chosen evaluation.now.locals.now (giving_move name (Grant.Raw function.now second.now) (around evaluation.now.code.now (L.answers evaluation.now.look.now) evaluation.now.locals.now))) }
+    ensures { IfOk result (λ chosen. DoesAs chosen evaluation.now.locals.now (giving_move name (Grant.Raw function.now parent.now) (around evaluation.now.code.now (L.answers evaluation.now.look.now) evaluation.now.locals.now))) }
 {
-    match second {
-        None => Ok(Chosen::Asks(Request::Raw(evaluation.code.function(function), None), name)),
-        Some(second) => {
-            let second = value_of!(evaluation.meaning(second)?);
-            Ok(Chosen::Asks(
-                Request::Raw(evaluation.code.function(function), Some(second)),
-                name,
-            ))
-        }
-    }
+    let parent = values_of!(evaluation.optional(parent)?);
+    Ok(Chosen::Asks(
+        Request::Raw(evaluation.code.function(function), parent),
+        name,
+    ))
 }
 
+/// A switch: the greenlet, and the value that it takes.
 fn switch<L: Look>(
     evaluation: &Evaluation<'_, L>,
     name: Option<Name>,
-    e: &Expression,
-    second: &Expression,
+    greenlet: &Expression,
+    value: &Expression,
 ) -> Result<Chosen, AllocError>
-    ensures { IfOk result (λ chosen. DoesAs chosen evaluation.now.locals.now (giving_move name (Grant.Switch e.now second.now) (around evaluation.now.code.now (L.answers evaluation.now.look.now) evaluation.now.locals.now))) }
+    ensures { IfOk result (λ chosen. DoesAs chosen evaluation.now.locals.now (giving_move name (Grant.Switch greenlet.now value.now) (around evaluation.now.code.now (L.answers evaluation.now.look.now) evaluation.now.locals.now))) }
 {
-    let value = value_of!(evaluation.meaning(e)?);
-    let second = value_of!(evaluation.meaning(second)?);
-    Ok(Chosen::Asks(Request::Switch(value, second), name))
+    let greenlet = value_of!(evaluation.meaning(greenlet)?);
+    let value = value_of!(evaluation.meaning(value)?);
+    Ok(Chosen::Asks(Request::Switch(greenlet, value), name))
 }
 
+/// A throw: the greenlet, and the fault that may stand after `with`.
 fn throw<L: Look>(
     evaluation: &Evaluation<'_, L>,
     name: Option<Name>,
-    e: &Expression,
-    second: &Option<Expression>,
+    greenlet: &Expression,
+    fault: &Option<Expression>,
 ) -> Result<Chosen, AllocError>
-    ensures { IfOk result (λ chosen. DoesAs chosen evaluation.now.locals.now (giving_move name (Grant.Throw e.now second.now) (around evaluation.now.code.now (L.answers evaluation.now.look.now) evaluation.now.locals.now))) }
+    ensures { IfOk result (λ chosen. DoesAs chosen evaluation.now.locals.now (giving_move name (Grant.Throw greenlet.now fault.now) (around evaluation.now.code.now (L.answers evaluation.now.look.now) evaluation.now.locals.now))) }
 {
-    let value = value_of!(evaluation.meaning(e)?);
-    match second {
-        None => Ok(Chosen::Asks(Request::Throw(value, None), name)),
-        Some(second) => {
-            let second = value_of!(evaluation.meaning(second)?);
-            Ok(Chosen::Asks(Request::Throw(value, Some(second)), name))
-        }
-    }
+    let greenlet = value_of!(evaluation.meaning(greenlet)?);
+    let fault = values_of!(evaluation.optional(fault)?);
+    Ok(Chosen::Asks(Request::Throw(greenlet, fault), name))
 }
 
 /// The fault is raised at the statement.

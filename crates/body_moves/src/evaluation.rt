@@ -2,11 +2,12 @@
 ghost use Rattle.std.specs.Prelude.{◌≡◌, ◌≤◌, IfOk, length};
 ghost use Rattle.scenario_tree.specs.Limits.{most_parameters};
 ghost use Rattle.machine.specs.Bodies.{around};
-ghost use Rattle.machine.specs.BodyMoves.{values};
+ghost use Rattle.machine.specs.BodyMoves.{meaning_if, values};
 ghost use Rattle.machine.specs.Expressions.{meaning};
+ghost use Rattle.body_moves.specs.Operands.{outcome_if};
 
 use body_values::{Code, Look};
-use gv_values::{FaultKind, Outcome};
+use gv_values::{FaultKind, Outcome, Value};
 use machine::arguments::Arguments;
 use machine::state::Local;
 use scenario_tree::{Expression, Items};
@@ -31,6 +32,22 @@ impl<'a, L: Look> Evaluation<'a, L> {
             self.code
                 .meaning(self.alloc, self.look, self.locals, expression)?,
         )
+    }
+
+    /// The value of an operand that may be missing, or its first fault. `AllocError`: memory is wanting.
+    pub fn optional(
+        &self,
+        operand: &Option<Expression>,
+    ) -> Result<Result<Option<Value>, FaultKind>, AllocError>
+        ensures { IfOk result (λ given. meaning_if operand.now (around self.now.code.now (L.answers self.now.look.now) self.now.locals.now) ≡ outcome_if given) }
+    {
+        match operand {
+            None => Ok(Ok(None)),
+            Some(operand) => match self.meaning(operand)? {
+                Outcome::Value(value) => Ok(Ok(Some(value))),
+                Outcome::Fault(kind) => Ok(Err(kind)),
+            },
+        }
     }
 
     /// The values of the arguments, or the first fault. `AllocError`: memory is wanting.
