@@ -1,5 +1,5 @@
 //! The engine as its callers see it: prepared, and then run once.
-ghost use Rattle.std.specs.Prelude.{◌≡◌, ◌≤◌, true, [], IfOk};
+ghost use Rattle.std.specs.Prelude.{◌≡◌, ◌≢◌, ◌≤◌, true, [], IfOk};
 ghost use Rattle.std.specs.List.{list_all};
 ghost use Rattle.gv_values.specs.Counts.{HasRisen};
 ghost use Rattle.scenario_rules.specs.Rules.{IsWellFormed};
@@ -116,6 +116,7 @@ impl Engine {
         ensures legal { AreLegal [] [] (run self.scenario self.turns self.moves (W.meaning world.new).answers).log }
         ensures rule { GoesOn (W.meaning world.old) (W.meaning world.new) }
         ensures write_fault { result.end ≡ ends.WriteFault → HasRisen (K.faults sink.old) (K.faults sink.new) }
+        ensures unfailed { result.end ≢ ends.WriteFault → K.faults sink.new ≡ K.faults sink.old }
         ensures never_falls { K.faults sink.old ≤ K.faults sink.new }
         // the lines meet the laws of a trace, and at each block line nothing that waits could go on
         ensures lawful { meets_laws (run self.scenario self.turns self.moves (W.meaning world.new).answers).lines ≡ true }

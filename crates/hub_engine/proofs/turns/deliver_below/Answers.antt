@@ -1,4 +1,4 @@
-use Rattle.std.proofs.Common.{rules, ◌≡◌, None, arith}
+use Rattle.std.proofs.Common.{rules, ◌≡◌, ◌∙◌, None, refl, arith}
 use Rattle.machine.specs.Run.{least_below}
 use Rattle.hub_engine.proofs.Delivering.{broke_off, found_numbered, none_delivered, none_left, went_on, went_over}
 use Rattle.hub_engine.proofs.Passing.{passing}
@@ -6,7 +6,7 @@ use Rattle.hub_engine.proofs.Tying.{tied_after}
 use Rattle.hub_engine.proofs.turns.deliver_below.Goals as goal
 
 pub loop-left-init : goal.loop-left-init
-loop-left-init g c = (passing _ _, omega arith, c.requires.tied)
+loop-left-init g c = (passing _ _, refl, c.requires.tied)
 
 pub deliver_one-requires : goal.deliver_one-requires
 deliver_one-requires g c = record {
@@ -34,7 +34,7 @@ pub loop-left-preserved : goal.loop-left-preserved
 loop-left-preserved g c = (
   went_on _ _ _ _ c.loop-left.left c.args.budget c.args.mark c.in-Some.at _ c.loop-left.hub _ c.loop-left-test.true c.loop-left.invariant.0 c.in-Some.ensures.within c.in-Some.ensures.least c.in-ToRest.is
       c.in_ok-deliver_one.ensures.next c.in_ok-deliver_one.ensures.given,
-  omega (arith, c.loop-left.invariant.1, c.deliver_one.ensures.counts.never_falls),
+  c.in_ok-deliver_one.ensures.counts.tells ∙ c.loop-left.invariant.1,
   tied_after _ _ c.deliver_one.new.hub c.in-ToRest.is c.in_ok-deliver_one.ensures.tied,
 )
 

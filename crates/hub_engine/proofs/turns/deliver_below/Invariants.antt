@@ -1,4 +1,4 @@
-use Rattle.std.proofs.Common.{◌≤◌}
+use Rattle.std.proofs.Common.{◌≡◌}
 use Rattle.machine.specs.Run.{deliveries}
 use Rattle.hub_engine.specs.Outside.{outside}
 use Rattle.hub_engine.specs.Tied.{IsTied}
@@ -10,7 +10,7 @@ invariant-loop-left g l =
     IsPassing (outside (g.K.Sink.written l.initial.sink) (g.W.World.meaning l.initial.world) (g.W.World.stands_for l.initial.world))
     (outside (g.K.Sink.written l.sink) (g.W.World.meaning l.world) (g.W.World.stands_for l.world))
     (deliveries l.most l.budget l.mark l.initial.hub) (deliveries l.left l.budget l.mark l.hub)
-    × (g.K.Sink.faults l.initial.sink ≤ g.K.Sink.faults l.sink) × IsTied (g.W.World.meaning l.world) l.hub
+    × (g.K.Sink.faults l.sink ≡ g.K.Sink.faults l.initial.sink) × IsTied (g.W.World.meaning l.world) l.hub
 
 abbrev pub decreases-loop-left : goal.decreases-loop-left
 decreases-loop-left g l = l.left

@@ -1,4 +1,4 @@
-use Rattle.std.proofs.Common.{rules, ◌<◌, subst, sym, arith}
+use Rattle.std.proofs.Common.{rules, ◌<◌, ◌∙◌, refl, subst, sym, arith}
 use Rattle.trace_text.specs.declared.line.StopCause.{StopCause}
 use Rattle.machine.specs.Run.{runs}
 use Rattle.machine.specs.State.{State}
@@ -10,7 +10,7 @@ use Rattle.hub_engine.proofs.Tying.{postable_at, runs_at, tied_at_rest, tied_mov
 use Rattle.hub_engine.proofs.turns.run_greenlet.Goals as goal
 
 pub loop-at-init : goal.loop-at-init
-loop-at-init g c = (passing _ _, omega arith, c.requires.tied)
+loop-at-init g c = (passing _ _, refl, c.requires.tied)
 
 pub give_out-requires : goal.give_out-requires
 give_out-requires g c =
@@ -66,7 +66,7 @@ loop-at-preserved g c =
     let some : 0 < c.loop-at.left = omega (arith, c.if-left-eq0.false) in (
       moved_on _ _ _ _ c.loop-at.left c.loop-at.at _ _ _ c.loop-at.hub c.give_out.new.hub c.step_greenlet.new.hub some c.in-Going.is c.loop-at.invariant.0
           c.in_ok-give_out.ensures.given c.in_ok-give_out.ensures.silent c.in_ok-at-in-Going.ensures.moved,
-      omega (arith, c.loop-at.invariant.1, c.give_out.ensures.counts.never_falls),
+      c.in_ok-give_out.ensures.counts.tells ∙ c.loop-at.invariant.1,
       tied_moved _ _ c.loop-at.at _ _ _ c.loop-at.hub c.give_out.new.hub c.step_greenlet.new.hub c.loop-at.invariant.2 c.in_ok-give_out.ensures.given
           c.in_ok-give_out.ensures.silent c.in_ok-at-in-Going.ensures.moved c.in_ok-at-in-Going.ensures.ready,
     )

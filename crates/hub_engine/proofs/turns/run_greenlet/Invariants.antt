@@ -1,4 +1,4 @@
-use Rattle.std.proofs.Common.{◌≤◌}
+use Rattle.std.proofs.Common.{◌≡◌}
 use Rattle.machine.specs.Run.{runs}
 use Rattle.hub_engine.specs.Outside.{outside}
 use Rattle.hub_engine.specs.Stands.{next_at}
@@ -11,7 +11,7 @@ invariant-loop-at g l =
     IsPassing (outside (g.K.Sink.written l.initial.sink) (g.W.World.meaning l.initial.world) (g.W.World.stands_for l.initial.world))
     (outside (g.K.Sink.written l.sink) (g.W.World.meaning l.world) (g.W.World.stands_for l.world))
     (runs l.moves (next_at l.fn.at l.initial.hub)) (runs l.left (next_at l.at l.hub))
-    × (g.K.Sink.faults l.initial.sink ≤ g.K.Sink.faults l.sink) × IsTiedAt (g.W.World.meaning l.world) (next_at l.at l.hub)
+    × (g.K.Sink.faults l.sink ≡ g.K.Sink.faults l.initial.sink) × IsTiedAt (g.W.World.meaning l.world) (next_at l.at l.hub)
 
 abbrev pub decreases-loop-at : goal.decreases-loop-at
 decreases-loop-at g l = l.left

@@ -1,4 +1,4 @@
-use Rattle.std.proofs.Common.{rules, ◌-◌, arith}
+use Rattle.std.proofs.Common.{rules, ◌-◌, ◌∙◌, refl}
 use Rattle.std.specs.Prelude.{Ok, Err}
 use Rattle.trace_text.specs.declared.line.StopCause.{StopCause}
 use Rattle.hub_engine.specs.Outside.{outside}
@@ -9,7 +9,7 @@ use Rattle.hub_engine.proofs.Tying.{tied_after}
 use Rattle.hub_engine.proofs.turns.run_turns.Goals as goal
 
 pub loop-left-init : goal.loop-left-init
-loop-left-init g c = (running _ _, omega arith, c.requires.tied)
+loop-left-init g c = (running _ _, refl, c.requires.tied)
 
 pub returns-in_err-round-clause-ran : goal.returns-in_err-round-clause-ran
 returns-in_err-round-clause-ran g c =
@@ -22,7 +22,7 @@ loop-left-preserved g c = (
   rests_on (outside (g.K.Sink.written c.args.sink.now) (g.W.World.meaning c.args.world.now) (g.W.World.stands_for c.args.world.now)) (outside (g.K.Sink.written c.round.new.sink) (g.W.World.meaning c.round.new.world) (g.W.World.stands_for c.round.new.world)) c.in_ok-round.field-0 (from_turn c.args.turns c.args.moves c.args.hub.now) (from_turn (c.loop-left.left - 1) c.args.moves) c.round.new.hub c.in-ToRest.is
       (next_round (outside (g.K.Sink.written c.args.sink.now) (g.W.World.meaning c.args.world.now) (g.W.World.stands_for c.args.world.now)) (outside (g.K.Sink.written c.loop-left.sink) (g.W.World.meaning c.loop-left.world) (g.W.World.stands_for c.loop-left.world)) (outside (g.K.Sink.written c.round.new.sink) (g.W.World.meaning c.round.new.world) (g.W.World.stands_for c.round.new.world)) c.loop-left.left c.args.moves (Ok c.in_ok-round.field-0) (from_turn c.args.turns c.args.moves c.args.hub.now)
       c.loop-left.hub c.round.new.hub c.loop-left-test.true c.loop-left.invariant.0 c.in_ok-round.ensures.ran),
-  omega (arith, c.loop-left.invariant.1, c.round.ensures.counts.never_falls),
+  c.in_ok-round.ensures.counts.tells ∙ c.loop-left.invariant.1,
   tied_after _ _ c.round.new.hub c.in-ToRest.is c.in_ok-round.ensures.tied,
 )
 

@@ -1,4 +1,4 @@
-use Rattle.std.proofs.Common.{◌≤◌}
+use Rattle.std.proofs.Common.{◌≡◌}
 use Rattle.hub_engine.specs.Outside.{outside}
 use Rattle.hub_engine.specs.Tied.{IsTied}
 use Rattle.hub_engine.specs.Written.{IsRunning, from_turn}
@@ -9,7 +9,7 @@ invariant-loop-left g l =
     IsRunning (outside (g.K.Sink.written l.initial.sink) (g.W.World.meaning l.initial.world) (g.W.World.stands_for l.initial.world))
     (outside (g.K.Sink.written l.sink) (g.W.World.meaning l.world) (g.W.World.stands_for l.world))
     (from_turn l.turns l.moves l.initial.hub) (from_turn l.left l.moves l.hub)
-    × (g.K.Sink.faults l.initial.sink ≤ g.K.Sink.faults l.sink) × IsTied (g.W.World.meaning l.world) l.hub
+    × (g.K.Sink.faults l.sink ≡ g.K.Sink.faults l.initial.sink) × IsTied (g.W.World.meaning l.world) l.hub
 
 abbrev pub decreases-loop-left : goal.decreases-loop-left
 decreases-loop-left g l = l.left
