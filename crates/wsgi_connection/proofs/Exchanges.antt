@@ -24,6 +24,10 @@ pub where_ok : {T E : Type 0} (r : Result T E) (A P : Type 0) → OnOk r A → i
 where_ok (Ok x) A P h e f = f h
 where_ok (Err x) A P h e f = absurd (cc)
 
+pub where_either : {T E : Type 0} (r : Result T E) (A B P : Type 0) → OnOk r A → OnErr r B → (A → P) → (B → P) → P
+where_either (Ok x) A B P a b f g = f a
+where_either (Err x) A B P a b f g = g b
+
 or_true : (b : Bool) → b || true ≡ true
 or_true true = refl
 or_true false = refl

@@ -1,5 +1,5 @@
 //! A connection, answered piece by piece.
-ghost use Rattle.std.specs.Prelude.{◌≡◌, ◌⊎◌, ◌≤◌, ◌++◌, ℕ, List, Option, Some, IfErr, OnErr, OnOk, false};
+ghost use Rattle.std.specs.Prelude.{◌≡◌, ◌≢◌, ◌⊎◌, ◌≤◌, ◌++◌, ℕ, List, Option, Some, IfErr, OnErr, OnOk, false};
 ghost use Rattle.gv_values.specs.Counts.{HasRisen};
 ghost use Rattle.gv_io.specs.Streams.{appended, AppendsPrefix};
 ghost use Rattle.wsgi_core.specs.Applications.{App};
@@ -49,6 +49,7 @@ fn send<T: Talk, K: Sink>(session: &mut T, out: &mut K) -> Result<(), Failed>
         → T.is_at app port fed false (taken ++ T.due session.old) session.new) }
     ensures never_falls { K.faults out.old ≤ K.faults out.new }
     ensures failed { OnErr result (HasRisen (K.faults out.old) (K.faults out.new)) }
+    ensures unfailed { OnOk result (K.faults out.new ≡ K.faults out.old) }
 {
     out.write_all(session.pending())?;
     out.flush()?;
@@ -57,7 +58,8 @@ fn send<T: Talk, K: Sink>(session: &mut T, out: &mut K) -> Result<(), Failed>
     Ok(())
 }
 
-/// Feeds the piece to the session, and sends what it says.
+/// Feeds the piece to the session, and sends what it says, also where memory ran out for the rest of it; a fault of
+/// the sink is told before that.
 fn answer_piece<T: Talk, K: Sink, A: Application>(
     session: &mut T,
     piece: &[u8],
@@ -72,14 +74,16 @@ fn answer_piece<T: Talk, K: Sink, A: Application>(
     ensures broke { IfErr result (λ end. Breaks end T.answers T.is_at (A.answer_of app.now) piece.now session.old (K.written out.old) (K.written out.new)) }
     ensures never_falls { K.faults out.old ≤ K.faults out.new }
     ensures failed { IfErr result (λ end. end ≡ ConnectionEnd.WriteFault → HasRisen (K.faults out.old) (K.faults out.new)) }
+    ensures unfailed { OnOk result (K.faults out.new ≡ K.faults out.old) }
+    ensures unfailed_end { IfErr result (λ end. end ≢ ConnectionEnd.WriteFault → K.faults out.new ≡ K.faults out.old) }
 {
     let fed = session.feed(piece, app);
     let sent = send(session, out);
-    if fed.is_err() {
-        return Err(ConnectionEnd::Memory);
-    }
     if sent.is_err() {
         return Err(ConnectionEnd::WriteFault);
+    }
+    if fed.is_err() {
+        return Err(ConnectionEnd::Memory);
     }
     Ok(())
 }
@@ -90,6 +94,7 @@ fn end_input<T: Talk, K: Sink>(session: &mut T, out: &mut K) -> ConnectionEnd
     ensures nothing { (app : App) (port : ℕ) (fed : List ℕ) → IsAtRest T.answers T.is_at app port fed session.old → K.written out.new ≡ K.written out.old }
     ensures never_falls { K.faults out.old ≤ K.faults out.new }
     ensures failed { result ≡ ConnectionEnd.WriteFault → HasRisen (K.faults out.old) (K.faults out.new) }
+    ensures unfailed { result ≢ ConnectionEnd.WriteFault → K.faults out.new ≡ K.faults out.old }
 {
     session.end();
     match send(session, out) {
@@ -115,6 +120,8 @@ fn exchange<T: Talk, S: Source, K: Sink, A: Application>(
     ensures out_never_falls { K.faults out.old ≤ K.faults out.new }
     ensures read_fault { result ≡ Turn.Ended ConnectionEnd.ReadFault → HasRisen (S.faults input.old) (S.faults input.new) }
     ensures write_fault { result ≡ Turn.Ended ConnectionEnd.WriteFault → HasRisen (K.faults out.old) (K.faults out.new) }
+    ensures unfailed_reads { result ≢ Turn.Ended ConnectionEnd.ReadFault → S.faults input.new ≡ S.faults input.old }
+    ensures unfailed_writes { result ≢ Turn.Ended ConnectionEnd.WriteFault → K.faults out.new ≡ K.faults out.old }
 {
     let mut buffer = [0; PIECE];
     let most = (MOST_BYTES - count).min(PIECE - 1) + 1;
@@ -151,6 +158,8 @@ pub fn answer_connection<T: Talk + Drop, S: Source, K: Sink, A: Application>(
         IsWhole result (whole_session T.answers (A.answer_of app.now) port left) (K.written out.old) (K.written out.new) }
     ensures read_fault { result ≡ ConnectionEnd.ReadFault → HasRisen (S.faults input.old) (S.faults input.new) }
     ensures write_fault { result ≡ ConnectionEnd.WriteFault → HasRisen (K.faults out.old) (K.faults out.new) }
+    ensures unfailed_reads { result ≢ ConnectionEnd.ReadFault → S.faults input.new ≡ S.faults input.old }
+    ensures unfailed_writes { result ≢ ConnectionEnd.WriteFault → K.faults out.new ≡ K.faults out.old }
     ensures input_never_falls { S.faults input.old ≤ S.faults input.new }
     ensures out_never_falls { K.faults out.old ≤ K.faults out.new }
 {

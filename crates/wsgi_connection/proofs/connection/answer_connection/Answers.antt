@@ -1,4 +1,4 @@
-use Rattle.std.proofs.Common.{◌<◌, arith}
+use Rattle.std.proofs.Common.{◌<◌, ◌∙◌, refl, arith}
 use Rattle.wsgi_connection.specs.Connections.{most_bytes}
 use Rattle.wsgi_connection.proofs.Exchanges.{begins, too_long, whole_of}
 use Rattle.wsgi_connection.proofs.connection.answer_connection.Goals as goal
@@ -7,16 +7,16 @@ pub loop-count-init : goal.loop-count-init
 loop-count-init g c = record {
   goes = begins _ _ _ c.args.port _ _ _ (c.is_silent_at_first.ensures _ c.args.port) (c.begin-session.ensures (g.A.Application.answer_of c.args.app.now));
   most = omega arith;
-  input_faults = omega arith;
-  out_faults = omega arith;
+  input_faults = refl;
+  out_faults = refl;
 }
 
 pub loop-count-preserved : goal.loop-count-preserved
 loop-count-preserved g c = record {
   goes = c.in-Answered.ensures.leaves c.args.port _ _ c.loop-count.invariant.goes;
   most = c.in-Answered.ensures.counts.1;
-  input_faults = omega (arith, c.loop-count.invariant.input_faults, c.exchange.ensures.input_never_falls);
-  out_faults = omega (arith, c.loop-count.invariant.out_faults, c.exchange.ensures.out_never_falls);
+  input_faults = c.in-Answered.ensures.unfailed_reads (λ e. cc e) ∙ c.loop-count.invariant.input_faults;
+  out_faults = c.in-Answered.ensures.unfailed_writes (λ e. cc e) ∙ c.loop-count.invariant.out_faults;
 }
 
 pub returns-in-Ended-clause-whole : goal.returns-in-Ended-clause-whole

@@ -1,4 +1,4 @@
-use Rattle.std.proofs.Common.{◌≤◌, ◌+◌, ◌-◌}
+use Rattle.std.proofs.Common.{◌≡◌, ◌≤◌, ◌+◌, ◌-◌}
 use Rattle.wsgi_connection.specs.Connections.{most_bytes}
 use Rattle.wsgi_connection.specs.Pieces.{Goes}
 use Rattle.wsgi_connection.proofs.connection.answer_connection.Given as goal
@@ -8,8 +8,8 @@ invariant-loop-count g l = record {
   goes : Goes g.T.Talk.answers g.T.Talk.is_at (g.A.Application.answer_of l.app) l.port l.count (g.S.Source.remaining l.initial.input) (g.S.Source.remaining l.input)
       (g.K.Sink.written l.initial.out) (g.K.Sink.written l.out) l.session;
   most : l.count ≤ most_bytes + 1;
-  input_faults : g.S.Source.faults l.initial.input ≤ g.S.Source.faults l.input;
-  out_faults : g.K.Sink.faults l.initial.out ≤ g.K.Sink.faults l.out;
+  input_faults : g.S.Source.faults l.input ≡ g.S.Source.faults l.initial.input;
+  out_faults : g.K.Sink.faults l.out ≡ g.K.Sink.faults l.initial.out;
 }
 
 abbrev pub decreases-loop-count : goal.decreases-loop-count
