@@ -5,7 +5,7 @@ use Rattle.std.proofs.lemmas.List.{length-set, set-get_or, get_or_append_left}
 use Rattle.std.proofs.lemmas.Bool.{cases_lt}
 use Rattle.std.proofs.lemmas.List.Elements.{All-nil}
 use Rattle.std.proofs.Math.Seq.{get_or-append_seam}
-use Rattle.stream_net.specs.Nets.{Connection, Meaning, Changes, IsFresh, IsLive, IsAtRest, connection_at, nobody, live_count, closed_at}
+use Rattle.stream_net.specs.Nets.{Connection, Meaning, Changes, IsFresh, IsLive, connection_at, nobody, live_count, closed_at}
 use Rattle.stream_net.specs.declared.net.Quiet.{Quiet}
 use Rattle.stream_net.specs.declared.net.Quiet.TheVariants.{Awake, ByRead}
 use Rattle.stream_net.specs.Accepts.{Gains, GainsNone}
@@ -16,7 +16,7 @@ use Rattle.stream_server.specs.declared.client.Client.{Client}
 use Rattle.stream_server.specs.declared.limits.Limits.{Limits}
 use Rattle.stream_server.specs.Served.{Speech, BeginsSaid, IsServed, RestsBy, Cause, Closing, Ended, Failing, Idle}
 use Rattle.stream_server.specs.Steps.{TalkState, IsOpen, IsCalm, IsOver, IsDone, IsCut, OnlyAt}
-use Rattle.stream_server.specs.Serving.{Listing, IsKept, IsServing, IsServingBut, IsLeft, IsWoken, Keeps}
+use Rattle.stream_server.specs.Serving.{Listing, IsKept, IsServing, IsServingBut, IsLeft, IsWoken, Keeps, Rests}
 use Rattle.stream_net.proofs.Lists.{none_open, everywhere, all_from, at_all, at_other, at_same, set_over, live_kept, live_closed, live_more_one}
 use Rattle.stream_server.proofs.Stepping.{changed_at, still_live, timely_after}
 
@@ -97,7 +97,7 @@ module _ {T : Type 0} (said : Speech) (at : TalkState T) (due : T → List ℕ) 
       → IsServingBut said at due limits w listed count room k
   but_after v w listed count room k h within only = record {
     served = λ j other in'. subst (IsServed said limits.idle) (sym (elsewhere j other)) (h.served j other (omega (arith, long, in')));
-    resting = λ j other in'. subst IsAtRest (sym (elsewhere j other)) (h.resting j other (omega (arith, long, in')));
+    resting = λ j other in'. subst Rests (sym (elsewhere j other)) (h.resting j other (omega (arith, long, in')));
     kept = λ j slot other row. kept_at j slot other (h.kept j slot other row);
     only = h.only;
     live = ap (λ (cs : List Connection). live_count cs) only.connections ∙ live_kept v.connections k (connection_at w.connections k) within only.same_closed ∙ h.live;
@@ -125,7 +125,7 @@ module _ {T : Type 0} (said : Speech) (at : TalkState T) (due : T → List ℕ) 
       → IsServing said at due limits v now (count + 1) room
   but_listed v listed now count room k g h within is_open calm here others = record {
     served = all_from (IsServed said limits.idle) v.connections (everywhere k (λ j. j < length v.connections → IsServed said limits.idle (connection_at v.connections j)) (λ _. served_open (connection_at v.connections k) g is_open (calm_none (connection_at v.connections k) g calm)) h.served);
-    resting = all_from IsAtRest v.connections (everywhere k (λ j. j < length v.connections → IsAtRest (connection_at v.connections j)) (λ _ _ _. rests_calm (connection_at v.connections k) g calm) h.resting);
+    resting = all_from Rests v.connections (everywhere k (λ j. j < length v.connections → Rests (connection_at v.connections j)) (λ _ _. rests_calm (connection_at v.connections k) g calm) h.resting);
     kept = everywhere k (λ j. (slot : Option (Client T)) → now j slot → IsKept at due limits.idle v.connections j slot)
         (λ slot row. subst (IsKept at due limits.idle v.connections k) (sym (here slot row)) (within, is_open, calm))
         (λ j other slot row. h.kept j slot other (others j slot other row));
@@ -145,9 +145,9 @@ module _ {T : Type 0} (said : Speech) (at : TalkState T) (due : T → List ℕ) 
     served = all_from (IsServed said limits.idle) w.connections (everywhere k (λ j. j < length w.connections → IsServed said limits.idle (connection_at w.connections j))
         (λ _. subst (IsServed said limits.idle) (sym here) served)
         (λ j other in'. subst (IsServed said limits.idle) (sym (elsewhere j other)) (h.served j other (omega (arith, long, in')))));
-    resting = all_from IsAtRest w.connections (everywhere k (λ j. j < length w.connections → IsAtRest (connection_at w.connections j))
-        (λ _. subst IsAtRest (sym here) (λ still _ _. cc))
-        (λ j other in'. subst IsAtRest (sym (elsewhere j other)) (h.resting j other (omega (arith, long, in')))));
+    resting = all_from Rests w.connections (everywhere k (λ j. j < length w.connections → Rests (connection_at w.connections j))
+        (λ _. subst Rests (sym here) (λ still _. cc))
+        (λ j other in'. subst Rests (sym (elsewhere j other)) (h.resting j other (omega (arith, long, in')))));
     kept = everywhere k (λ j. (slot : Option (Client T)) → listed j slot → IsKept at due limits.idle w.connections j slot)
         (λ slot row. subst (IsKept at due limits.idle w.connections k) (sym (h.only slot row)) (λ _. ap (λ (c : Connection). c.closed) here))
         (λ j other slot row. kept_at j slot other (h.kept j slot other row));
@@ -177,11 +177,16 @@ module _ {T : Type 0} (said : Speech) (at : TalkState T) (due : T → List ℕ) 
       → IsServed said limits.idle (connection_at v.connections k) → IsLeft said limits v
   but_cut v listed count room k h served = record {
     served = all_from (IsServed said limits.idle) v.connections (everywhere k (λ j. j < length v.connections → IsServed said limits.idle (connection_at v.connections j)) (λ _. served) h.served);
+    rest = record { one = k; others = h.resting };
     most = h.most;
   }
 
   pub serving_left : (v : Meaning) (listed : Listing T) (count room : ℕ) → IsServing said at due limits v listed count room → IsLeft said limits v
-  serving_left v listed count room h = record { served = h.served; most = h.most }
+  serving_left v listed count room h = record {
+    served = h.served;
+    rest = record { one = length v.connections; others = λ j _ in'. at_all Rests v.connections h.resting j in' };
+    most = h.most;
+  }
 
   -- ---- a client that isn't listed
 
@@ -215,7 +220,7 @@ module _ {T : Type 0} (said : Speech) (at : TalkState T) (due : T → List ℕ) 
       → IsServingBut said at due limits v now left room' k
   but_taken v listed now count left room room' k h counts limit only others = record {
     served = λ j _ in'. at_all (IsServed said limits.idle) v.connections h.served j in';
-    resting = λ j _ in'. at_all IsAtRest v.connections h.resting j in';
+    resting = λ j _ in'. at_all Rests v.connections h.resting j in';
     kept = λ j slot other row. h.kept j slot (others j slot other row);
     only = only;
     live = h.live ∙ sym counts;
@@ -232,7 +237,7 @@ module _ {T : Type 0} (said : Speech) (at : TalkState T) (due : T → List ℕ) 
       → IsServing said at due limits w listed count room
   serving_after v w listed count room h passes same = record {
     served = subst (All (IsServed said limits.idle)) (sym same) h.served;
-    resting = subst (All IsAtRest) (sym same) h.resting;
+    resting = subst (All Rests) (sym same) h.resting;
     kept = λ k slot row. subst (λ (cs : List Connection). IsKept at due limits.idle cs k slot) (sym same) (h.kept k slot row);
     live = ap (λ (cs : List Connection). live_count cs) same ∙ h.live;
     few = h.few;
@@ -312,7 +317,7 @@ module _ {T : Type 0} (said : Speech) (at : TalkState T) (due : T → List ℕ) 
       all : IsServingBut said at due limits w now left room' k
       all = record {
         served = λ j other in'. subst (IsServed said limits.idle) (sym (elsewhere j other)) (but.served j other (omega (arith, long, in')));
-        resting = λ j other in'. subst IsAtRest (sym (elsewhere j other)) (but.resting j other (omega (arith, long, in')));
+        resting = λ j other in'. subst Rests (sym (elsewhere j other)) (but.resting j other (omega (arith, long, in')));
         kept = λ j slot other row. kept_at j slot other (but.kept j slot other row);
         only = but.only;
         live = ap (λ (cs : List Connection). live_count cs) r.named ∙ live_kept v.connections k (woken_if c.closed c) was.0 same_closed ∙ but.live;
@@ -329,7 +334,7 @@ module _ {T : Type 0} (said : Speech) (at : TalkState T) (due : T → List ℕ) 
       → IsServingBut said at due limits w listed count room k
   new_but v w listed count room k h x place more = record {
     served = λ j other in'. subst (IsServed said limits.idle) (sym (elsewhere j (before j other in'))) (at_all (IsServed said limits.idle) v.connections h.served j (before j other in'));
-    resting = λ j other in'. subst IsAtRest (sym (elsewhere j (before j other in'))) (at_all IsAtRest v.connections h.resting j (before j other in'));
+    resting = λ j other in'. subst Rests (sym (elsewhere j (before j other in'))) (at_all Rests v.connections h.resting j (before j other in'));
     kept = λ j slot other row. kept_at j slot other (h.kept j slot row);
     only = λ slot row. nobody_at slot (h.kept k slot row);
     live = lives;
@@ -408,7 +413,7 @@ module _ {T : Type 0} (said : Speech) (at : TalkState T) (due : T → List ℕ) 
           → IsServing said at due limits w listed count room
       serving_kept v w listed count room h same most listens = record {
         served = subst (All (IsServed said limits.idle)) (sym same) h.served;
-        resting = subst (All IsAtRest) (sym same) h.resting;
+        resting = subst (All Rests) (sym same) h.resting;
         kept = λ k slot row. subst (λ (cs : List Connection). IsKept at due limits.idle cs k slot) (sym same) (h.kept k slot row);
         live = ap (λ (cs : List Connection). live_count cs) same ∙ h.live;
         few = h.few;
@@ -441,7 +446,7 @@ module _ {T : Type 0} (said : Speech) (at : TalkState T) (due : T → List ℕ) 
       → IsServing said at due limits v listed count room
   nothing_yet v listed count room fresh listens none limit nobody' = record {
     served = subst (All (IsServed said limits.idle)) (sym fresh.none) (All-nil (IsServed said limits.idle));
-    resting = subst (All IsAtRest) (sym fresh.none) (All-nil IsAtRest);
+    resting = subst (All Rests) (sym fresh.none) (All-nil Rests);
     kept = λ k slot row. by k slot row;
     live = ap (λ (cs : List Connection). live_count cs) fresh.none ∙ sym none;
     few = omega (arith, none);

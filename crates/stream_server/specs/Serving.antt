@@ -1,8 +1,8 @@
 -- A server between two events.
 use Rattle.std.specs.Prelude.{◌≡◌, ◌≢◌, ◌⊎◌, ℕ, ◌+◌, ◌<◌, ◌≤◌, true, false, List, ◌++◌, length, Option, Some, None, IsSome}
 use Rattle.std.specs.List.{All}
-use Rattle.stream_net.specs.Nets.{Connection, Meaning, connection_at, live_count, IsAtRest}
-use Rattle.stream_net.specs.declared.net.Quiet.TheVariants.{ByRead, ByWrite}
+use Rattle.stream_net.specs.Nets.{Connection, Meaning, connection_at, live_count}
+use Rattle.stream_net.specs.declared.net.Quiet.TheVariants.{Awake, ByRead, ByWrite}
 use Rattle.stream_net.specs.Waits.{Passes, woken}
 use Rattle.stream_server.specs.declared.client.Client.{Client}
 use Rattle.stream_server.specs.declared.limits.Limits.{Limits}
@@ -23,10 +23,14 @@ abbrev pub IsKept : {T : Type 0} → TalkState T → (T → List ℕ) → ℕ �
 IsKept at due idle cs k None = k < length cs → (connection_at cs k).closed ≡ true
 IsKept at due idle cs k (Some client) = (k < length cs) × IsOpen at idle (connection_at cs k) client × IsCalm due (connection_at cs k) client
 
+-- it is closed, or waits by a read or by a write
+abbrev pub Rests : Connection → Type 0
+Rests c = c.closed ≡ false → c.quiet ≢ Awake
+
 -- all connections rest, and each open one has its client
 pub record IsServing {T : Type 0} (said : Speech) (at : TalkState T) (due : T → List ℕ) (limits : Limits) (m : Meaning) (listed : Listing T) (count room : ℕ) : Type 0 where
   pub served : All (IsServed said limits.idle) m.connections
-  pub resting : All IsAtRest m.connections
+  pub resting : All Rests m.connections
   pub kept : (k : ℕ) (slot : Option (Client T)) → listed k slot → IsKept at due limits.idle m.connections k slot
   pub live : live_count m.connections ≡ count
   pub few : count ≤ limits.pool
@@ -38,7 +42,7 @@ pub record IsServing {T : Type 0} (said : Speech) (at : TalkState T) (due : T �
 -- the same but for one connection, whose client isn't listed
 pub record IsServingBut {T : Type 0} (said : Speech) (at : TalkState T) (due : T → List ℕ) (limits : Limits) (m : Meaning) (listed : Listing T) (count room k : ℕ) : Type 0 where
   pub served : (j : ℕ) → j ≢ k → j < length m.connections → IsServed said limits.idle (connection_at m.connections j)
-  pub resting : (j : ℕ) → j ≢ k → j < length m.connections → IsAtRest (connection_at m.connections j)
+  pub resting : (j : ℕ) → j ≢ k → j < length m.connections → Rests (connection_at m.connections j)
   pub kept : (j : ℕ) (slot : Option (Client T)) → j ≢ k → listed j slot → IsKept at due limits.idle m.connections j slot
   pub only : (slot : Option (Client T)) → listed k slot → slot ≡ None
   pub live : live_count m.connections ≡ count + 1
@@ -48,9 +52,15 @@ pub record IsServingBut {T : Type 0} (said : Speech) (at : TalkState T) (due : T
   pub room_is : room ≡ limits.pool
   pub within : length m.connections ≤ limits.conns
 
+-- all connections rest, but for one at most
+pub record RestBut (cs : List Connection) : Type 0 where
+  pub one : ℕ
+  pub others : (k : ℕ) → k ≢ one → k < length cs → Rests (connection_at cs k)
+
 -- what holds of all connections whenever the server ends
 pub record IsLeft (said : Speech) (limits : Limits) (m : Meaning) : Type 0 where
   pub served : All (IsServed said limits.idle) m.connections
+  pub rest : RestBut m.connections
   pub most : m.most ≤ limits.pool
 
 -- what a call leaves as it was where nothing is accepted

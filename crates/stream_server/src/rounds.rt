@@ -1,9 +1,10 @@
 //! The server's loop.
-ghost use Rattle.std.specs.Prelude.{◌≡◌, ◌≢◌, ◌⊎◌, ℕ, ◌+◌, ◌<◌, ◌≤◌, Some, None, Err, true, false, List, Option, length, IsSome, OnOk, OnErr, IfOk};
+ghost use Rattle.std.specs.Prelude.{◌≡◌, ◌≢◌, ◌⊎◌, ℕ, ◌+◌, ◌<◌, ◌≤◌, Some, None, Ok, Err, true, false, List, Option, length, IsSome, OnOk, OnErr, IfOk};
+ghost use Rattle.std.specs.List.{All};
 ghost use Rattle.gv_values.specs.Counts.{HasRisen};
 ghost use Rattle.stream_net.specs.Nets.{IsFresh, IsLive, connection_at};
 ghost use Rattle.stream_server.specs.Served.{Cause};
-ghost use Rattle.stream_server.specs.Serving.{Admits, AdmitsBut, BeginsSo, EachTold, HasAccepted, IsAllServed, IsClosedWell, IsInRange, Keeps, LeftBy, Serves, ServesBut, WaitsToRead, WokenAt};
+ghost use Rattle.stream_server.specs.Serving.{Admits, AdmitsBut, BeginsSo, EachTold, HasAccepted, IsAllServed, IsClosedWell, IsInRange, Keeps, LeftBy, RestBut, Rests, Serves, ServesBut, WaitsToRead, WokenAt};
 ghost use Rattle.stream_server.specs.Steps.{IsOpen};
 ghost use Rattle.stream_server.specs.Tables.{client_count};
 ghost use Rattle.wsgi_core.specs.Gateways.{said_by};
@@ -17,6 +18,24 @@ use std::alloc::{AllocError, Global};
 use std::sync::Wait;
 use stream_net::{Accepted, Net, Ready};
 use wsgi_core::{Application, Session, Talk};
+
+/// Why the server can't go on.
+#[derive(Clone, Copy)]
+enum Fault {
+    /// The listener failed.
+    Listener,
+    /// Memory ran out.
+    Memory,
+}
+
+/// What a turn led to.
+#[derive(Clone, Copy)]
+enum Round {
+    /// So many connections were accepted so far.
+    GoesOn(u32),
+    /// So many as were to be served were accepted and closed.
+    Finished,
+}
 
 /// Goes on with a client that isn't listed: lists it where its connection rests, and closes the connection where that
 /// is to be closed.
@@ -64,7 +83,7 @@ fn accept_client<T: Talk + Drop, N: Net, A: Application, H: Wait>(
     port: u16,
     limits: Limits,
     table: &mut ClientTable<T>,
-) -> Result<bool, ServeEnd>
+) -> Result<bool, Fault>
     requires serving { Serves T.answers T.is_at T.due (A.answer_of app.now) port limits (N.meaning net.old) table.old }
     requires admitted { Admits table.old (N.meaning net.old) }
     requires place { length table.old.members < table.old.limit }
@@ -77,8 +96,9 @@ fn accept_client<T: Talk + Drop, N: Net, A: Application, H: Wait>(
     ensures blocked { IfOk result (λ came. came ≡ false → (N.meaning net.new).blocked ≡ true) }
     ensures listens { (N.meaning net.new).listens ≡ (N.meaning net.old).listens }
     ensures never_falls { (N.meaning net.old).faults ≤ (N.meaning net.new).faults }
-    ensures listener { result ≡ Err ServeEnd.Listener → HasRisen (N.meaning net.old).faults (N.meaning net.new).faults }
-    ensures unfinished { result ≢ Err ServeEnd.Finished }
+    ensures listener { result ≡ Err Fault.Listener → HasRisen (N.meaning net.old).faults (N.meaning net.new).faults }
+    ensures resting { result ≡ Err Fault.Listener → All Rests (N.meaning net.new).connections }
+    ensures unfailed { result ≢ Err Fault.Listener → (N.meaning net.new).faults ≡ (N.meaning net.old).faults }
 {
     match net.accept() {
         Accepted::New(conn) => {
@@ -91,16 +111,16 @@ fn accept_client<T: Talk + Drop, N: Net, A: Application, H: Wait>(
                 deadline,
             };
             let Ok(()) = table.admit(conn) else {
-                return Err(ServeEnd::Memory);
+                return Err(Fault::Memory);
             };
             match serve_client(rt, net, app, port, limits, table, client) {
                 Ok(()) => Ok(true),
-                Err(_) => Err(ServeEnd::Memory),
+                Err(_) => Err(Fault::Memory),
             }
         }
         Accepted::WouldBlock => Ok(false),
-        Accepted::Failed => Err(ServeEnd::Listener),
-        Accepted::Memory => Err(ServeEnd::Memory),
+        Accepted::Failed => Err(Fault::Listener),
+        Accepted::Memory => Err(Fault::Memory),
     }
 }
 
@@ -115,7 +135,7 @@ fn accept_clients<T: Talk + Drop, N: Net, A: Application, H: Wait>(
     limits: Limits,
     table: &mut ClientTable<T>,
     accepted: u32,
-) -> Result<u32, ServeEnd>
+) -> Result<u32, Fault>
     requires serving { Serves T.answers T.is_at T.due (A.answer_of app.now) port limits (N.meaning net.old) table.old }
     requires admitted { Admits table.old (N.meaning net.old) }
     requires accepted { accepted ≡ length (N.meaning net.old).connections }
@@ -125,8 +145,9 @@ fn accept_clients<T: Talk + Drop, N: Net, A: Application, H: Wait>(
     ensures accepted { IfOk result (λ accepted. HasAccepted accepted limits.conns (length table.new.members) table.new.limit (N.meaning net.new)) }
     ensures listens { (N.meaning net.new).listens ≡ (N.meaning net.old).listens }
     ensures never_falls { (N.meaning net.old).faults ≤ (N.meaning net.new).faults }
-    ensures listener { result ≡ Err ServeEnd.Listener → HasRisen (N.meaning net.old).faults (N.meaning net.new).faults }
-    ensures unfinished { result ≢ Err ServeEnd.Finished }
+    ensures listener { result ≡ Err Fault.Listener → HasRisen (N.meaning net.old).faults (N.meaning net.new).faults }
+    ensures resting { result ≡ Err Fault.Listener → All Rests (N.meaning net.new).connections }
+    ensures unfailed { result ≢ Err Fault.Listener → (N.meaning net.new).faults ≡ (N.meaning net.old).faults }
 {
     let mut count = accepted;
     while count < limits.conns {
@@ -172,7 +193,7 @@ fn wait_next<T: Talk + Drop, N: Net, A: Application, H: Wait>(
     port: u16,
     limits: Limits,
     table: &mut ClientTable<T>,
-) -> Result<(), ServeEnd>
+) -> Result<(), Fault>
     requires serving { Serves T.answers T.is_at T.due (A.answer_of app.now) port limits (N.meaning net.old) table.old }
     requires admitted { Admits table.old (N.meaning net.old) }
     requires asked { client_count table.old ≡ 0 → (N.meaning net.old).blocked ≡ true }
@@ -182,12 +203,13 @@ fn wait_next<T: Talk + Drop, N: Net, A: Application, H: Wait>(
     ensures accepted { length (N.meaning net.new).connections ≡ length (N.meaning net.old).connections }
     ensures listens { (N.meaning net.new).listens ≡ (N.meaning net.old).listens }
     ensures never_falls { (N.meaning net.old).faults ≤ (N.meaning net.new).faults }
-    ensures listener { result ≡ Err ServeEnd.Listener → HasRisen (N.meaning net.old).faults (N.meaning net.new).faults }
-    ensures unfinished { result ≢ Err ServeEnd.Finished }
+    ensures listener { result ≡ Err Fault.Listener → HasRisen (N.meaning net.old).faults (N.meaning net.new).faults }
+    ensures resting { result ≡ Err Fault.Listener → All Rests (N.meaning net.new).connections }
+    ensures unfailed { result ≢ Err Fault.Listener → (N.meaning net.new).faults ≡ (N.meaning net.old).faults }
 {
     let until = table.least();
     let Ok(ready) = net.next(until) else {
-        return Err(ServeEnd::Listener);
+        return Err(Fault::Listener);
     };
     let served = match ready {
         Ready::Incoming => return Ok(()),
@@ -197,7 +219,7 @@ fn wait_next<T: Talk + Drop, N: Net, A: Application, H: Wait>(
     };
     match served {
         Ok(()) => Ok(()),
-        Err(_) => Err(ServeEnd::Memory),
+        Err(_) => Err(Fault::Memory),
     }
 }
 
@@ -223,7 +245,7 @@ fn close_idle<T: Talk + Drop, N: Net, A: Application>(
     }
 }
 
-/// Accepts, waits, goes on with what was named, and closes what was idle; answers how many were accepted so far.
+/// Accepts, waits, goes on with what was named, and closes what was idle.
 fn turn<T: Talk + Drop, N: Net, A: Application, H: Wait>(
     rt: &H,
     alloc: Global,
@@ -233,29 +255,31 @@ fn turn<T: Talk + Drop, N: Net, A: Application, H: Wait>(
     limits: Limits,
     table: &mut ClientTable<T>,
     accepted: u32,
-) -> Result<u32, ServeEnd>
+) -> Result<Round, Fault>
     requires serving { Serves T.answers T.is_at T.due (A.answer_of app.now) port limits (N.meaning net.old) table.old }
     requires admitted { Admits table.old (N.meaning net.old) }
     requires accepted { accepted ≡ length (N.meaning net.old).connections }
     requires some_place { 1 ≤ limits.pool }
     ensures serving { OnOk result (Serves T.answers T.is_at T.due (A.answer_of app.now) port limits (N.meaning net.new) table.new) }
     ensures admitted { OnOk result (Admits table.new (N.meaning net.new)) }
-    ensures left { OnErr result (LeftBy T.answers (A.answer_of app.now) port limits (N.meaning net.new)) }
-    ensures accepted { IfOk result (λ accepted. accepted ≡ length (N.meaning net.new).connections) }
+    ensures left { LeftBy T.answers (A.answer_of app.now) port limits (N.meaning net.new) }
+    ensures accepted { (count : ℕ) → result ≡ Ok (Round.GoesOn count) → count ≡ length (N.meaning net.new).connections }
     ensures listens { (N.meaning net.new).listens ≡ (N.meaning net.old).listens }
     ensures never_falls { (N.meaning net.old).faults ≤ (N.meaning net.new).faults }
-    ensures listener { result ≡ Err ServeEnd.Listener → HasRisen (N.meaning net.old).faults (N.meaning net.new).faults }
-    ensures finished { result ≡ Err ServeEnd.Finished → IsAllServed (N.meaning net.new) limits.conns }
+    ensures listener { result ≡ Err Fault.Listener → HasRisen (N.meaning net.old).faults (N.meaning net.new).faults }
+    ensures resting { result ≡ Err Fault.Listener → All Rests (N.meaning net.new).connections }
+    ensures unfailed { result ≢ Err Fault.Listener → (N.meaning net.new).faults ≡ (N.meaning net.old).faults }
+    ensures finished { result ≡ Ok Round.Finished → IsAllServed (N.meaning net.new) limits.conns }
 {
     let accepted = accept_clients(rt, alloc, net, app, port, limits, table, accepted)?;
     if accepted == limits.conns {
         if table.is_empty() {
-            return Err(ServeEnd::Finished);
+            return Ok(Round::Finished);
         }
     }
     wait_next(rt, net, app, port, limits, table)?;
     close_idle(net, app, port, limits, table);
-    Ok(accepted)
+    Ok(Round::GoesOn(accepted))
 }
 
 /// Serves connections, each with a talk of its own, until so many as the limits say were accepted and closed.
@@ -289,7 +313,11 @@ pub fn serve_with<T: Talk + Drop, N: Net, A: Application, H: Wait>(
     ensures most { (N.meaning net.new).most ≤ limits.pool }
     ensures cause { EachTold (N.meaning net.new).connections (λ c bytes out. c.closed ≡ true → Cause (said_by T.answers (A.answer_of app.now) port bytes c.ended) out limits.idle c) }
     ensures finished { result ≡ ServeEnd.Finished → IsAllServed (N.meaning net.new) limits.conns }
+    // At any end all open connections but one wait, by a read or by a write; where the listener failed, all do.
+    ensures rest_but { RestBut (N.meaning net.new).connections }
+    ensures resting { result ≡ ServeEnd.Listener → All Rests (N.meaning net.new).connections }
     ensures listener { result ≡ ServeEnd.Listener → HasRisen (N.meaning net.old).faults (N.meaning net.new).faults }
+    ensures unfailed { result ≢ ServeEnd.Listener → (N.meaning net.new).faults ≡ (N.meaning net.old).faults }
     ensures listens { (N.meaning net.new).listens ≡ (N.meaning net.old).listens }
     ensures never_falls { (N.meaning net.old).faults ≤ (N.meaning net.new).faults }
 {
@@ -299,8 +327,10 @@ pub fn serve_with<T: Talk + Drop, N: Net, A: Application, H: Wait>(
     let mut accepted = 0;
     for _ in rt.forever() {
         match turn::<T, N, A, H>(rt, alloc, net, app, port, limits, &mut table, accepted) {
-            Ok(count) => accepted = count,
-            Err(end) => return end,
+            Ok(Round::GoesOn(count)) => accepted = count,
+            Ok(Round::Finished) => return ServeEnd::Finished,
+            Err(Fault::Listener) => return ServeEnd::Listener,
+            Err(Fault::Memory) => return ServeEnd::Memory,
         }
     }
     unreachable!()
@@ -327,7 +357,11 @@ pub fn serve<N: Net, A: Application, H: Wait>(
     ensures most { (N.meaning net.new).most ≤ limits.pool }
     ensures cause { EachTold (N.meaning net.new).connections (λ c bytes out. c.closed ≡ true → Cause (session (A.answer_of app.now) port bytes c.ended) out limits.idle c) }
     ensures finished { result ≡ ServeEnd.Finished → IsAllServed (N.meaning net.new) limits.conns }
+    // At any end all open connections but one wait, by a read or by a write; where the listener failed, all do.
+    ensures rest_but { RestBut (N.meaning net.new).connections }
+    ensures resting { result ≡ ServeEnd.Listener → All Rests (N.meaning net.new).connections }
     ensures listener { result ≡ ServeEnd.Listener → HasRisen (N.meaning net.old).faults (N.meaning net.new).faults }
+    ensures unfailed { result ≢ ServeEnd.Listener → (N.meaning net.new).faults ≡ (N.meaning net.old).faults }
     ensures listens { (N.meaning net.new).listens ≡ (N.meaning net.old).listens }
     ensures never_falls { (N.meaning net.old).faults ≤ (N.meaning net.new).faults }
 {

@@ -1,4 +1,4 @@
-use Rattle.std.proofs.Common.{◌≡◌, ◌≤◌, ◌-◌, length}
+use Rattle.std.proofs.Common.{◌≡◌, ◌-◌, length}
 use Rattle.stream_server.specs.Serving.{Admits, Serves}
 use Rattle.stream_server.proofs.rounds.accept_clients.Given as goal
 
@@ -8,7 +8,7 @@ invariant-loop-count g l = record {
   admitted : Admits l.table (g.N.Net.meaning l.net);
   accepted : l.count ≡ length (g.N.Net.meaning l.net).connections;
   listens : (g.N.Net.meaning l.net).listens ≡ (g.N.Net.meaning l.fn.net).listens;
-  never_falls : (g.N.Net.meaning l.fn.net).faults ≤ (g.N.Net.meaning l.net).faults;
+  faults : (g.N.Net.meaning l.net).faults ≡ (g.N.Net.meaning l.fn.net).faults;
 }
 
 abbrev pub decreases-loop-count : goal.decreases-loop-count

@@ -1,4 +1,4 @@
-use Rattle.std.proofs.Common.{◌≡◌, ◌≤◌, length}
+use Rattle.std.proofs.Common.{◌≡◌, length}
 use Rattle.stream_server.specs.Serving.{Admits, Serves}
 use Rattle.stream_server.proofs.rounds.serve_with.Given as goal
 
@@ -10,5 +10,5 @@ invariant-loop g l = record {
   admitted : Admits l.table (g.N.Net.meaning l.net);
   accepted : l.accepted ≡ length (g.N.Net.meaning l.net).connections;
   listens : (g.N.Net.meaning l.net).listens ≡ (g.N.Net.meaning l.fn.net).listens;
-  never_falls : (g.N.Net.meaning l.fn.net).faults ≤ (g.N.Net.meaning l.net).faults;
+  faults : (g.N.Net.meaning l.net).faults ≡ (g.N.Net.meaning l.fn.net).faults;
 }
