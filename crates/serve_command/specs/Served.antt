@@ -1,12 +1,13 @@
 -- What the command `serve` leaves behind.
-use Rattle.std.specs.Prelude.{◌≡◌, ◌⊎◌, ℕ, ◌<◌, ◌≤◌, true, List, [], ◌++◌, length, Option, codes}
+use Rattle.std.specs.Prelude.{◌≡◌, ◌≢◌, ◌⊎◌, ℕ, ◌<◌, ◌≤◌, true, List, [], ◌++◌, length, Option, codes}
+use Rattle.std.specs.List.{All}
 use Rattle.gv_io.specs.Streams.{appended, AppendsPrefix}
 use Rattle.wsgi_core.specs.Applications.{App}
 use Rattle.wsgi_core.specs.Gateways.{Gateway, said_by}
 use Rattle.stream_net.specs.Nets.{Meaning, listens_at}
 use Rattle.stream_server.specs.declared.limits.Limits.{Limits}
 use Rattle.stream_server.specs.Served.{Cause}
-use Rattle.stream_server.specs.Serving.{BeginsSo, EachTold, IsAllServed, IsClosedWell}
+use Rattle.stream_server.specs.Serving.{BeginsSo, EachTold, IsAllServed, IsClosedWell, RestBut, Rests, WaitsToRead}
 use Rattle.serve_command.specs.Lines.{number_line}
 use Rattle.serve_command.specs.declared.serving.Served.{Served}
 
@@ -26,16 +27,22 @@ pub record ServesAt (end : Served) (asked : ℕ) (answers : Gateway) (app : App)
   -- out has the two lines, or a beginning of them; both where all were served
   pub begins : AppendsPrefix out0 out1 (listening port ++ served limits.conns)
   pub both : end ≡ Served.Finished → out1 ≡ appended out0 (listening port ++ served limits.conns)
-  -- where the net failed, out has the first line, or is as it was
-  pub first : end ≡ Served.Listener → (out1 ≡ out0) ⊎ (out1 ≡ appended out0 (listening port))
+  -- where the net failed or memory ran out, out has the first line, or is as it was
+  pub first : (end ≡ Served.Listener) ⊎ (end ≡ Served.Memory) → (out1 ≡ out0) ⊎ (out1 ≡ appended out0 (listening port))
   -- the port was told before the first connection was accepted
   pub told : 0 < length w.connections → (rest : List ℕ) × (out1 ≡ appended out0 (listening port ++ rest))
   -- what was written to a connection begins what is said to what was read from it, and is all of it where it was closed
   -- well
   pub own : EachTold w.connections (λ c bytes sent. BeginsSo (said_by answers app port bytes c.ended).bytes sent)
   pub whole : EachTold w.connections (λ c bytes sent. IsClosedWell c → sent ≡ (said_by answers app port bytes c.ended).bytes)
+  -- an open one was left to wait for bytes only after all that was due had been written; all that are open wait, by
+  -- a read or by a write, but for one where memory ran out
+  pub answered : EachTold w.connections (λ c bytes sent. WaitsToRead c → sent ≡ (said_by answers app port bytes c.ended).bytes)
+  pub resting : end ≢ Served.Memory → All Rests w.connections
+  pub rest_but : RestBut w.connections
   -- each closed one was closed for a cause, and no more were open than there are places
   pub cause : EachTold w.connections (λ c bytes sent. c.closed ≡ true → Cause (said_by answers app port bytes c.ended) sent limits.idle c)
   pub most : w.most ≤ limits.pool
-  -- as many as asked for were accepted, and all are closed
+  -- as many as asked for were accepted, and all are closed; where a line could not be written, that or nobody was
   pub all : end ≡ Served.Finished → IsAllServed w limits.conns
+  pub at_line : end ≡ Served.WriteFault → (w.connections ≡ []) ⊎ IsAllServed w limits.conns

@@ -39,7 +39,7 @@ fn number_line(alloc: Global, word: &[u8], number: u64) -> Result<Vec<u8>, Alloc
     Ok(line)
 }
 
-/// Writes the line, and hands it on, so that a reader of out has it at once.
+/// Writes the line, and hands it on, so that a reader of out has it at once. Where memory runs out, out is as it was.
 #[tactic(auto, using(gv_io::proofs::StreamLaws::writes))]
 pub fn write_line<K: Sink>(
     alloc: Global,
@@ -49,7 +49,9 @@ pub fn write_line<K: Sink>(
 ) -> Result<(), Unwritten>
     ensures whole { OnOk result (K.written out.new ≡ appended (K.written out.old) (number_line word.now number)) }
     ensures cut { OnErr result (AppendsPrefix (K.written out.old) (K.written out.new) (number_line word.now number)) }
+    ensures unwritten { IsErrOf result Unwritten.Memory → out.new ≡ out.old }
     ensures failed { IsErrOf result Unwritten.Fault → HasRisen (K.faults out.old) (K.faults out.new) }
+    ensures unfailed { OnOk result (K.faults out.new ≡ K.faults out.old) }
     ensures never_falls { K.faults out.old ≤ K.faults out.new }
 {
     let Ok(line) = number_line(alloc, word, number) else {

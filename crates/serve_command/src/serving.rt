@@ -1,5 +1,5 @@
 //! Listens, tells the port, serves, and tells how many connections were served.
-ghost use Rattle.std.specs.Prelude.{◌≡◌, ◌≤◌, ℕ};
+ghost use Rattle.std.specs.Prelude.{◌≡◌, ◌≢◌, ◌≤◌, ℕ};
 ghost use Rattle.gv_values.specs.Counts.{HasRisen};
 ghost use Rattle.stream_net.specs.Nets.{IsFresh};
 ghost use Rattle.stream_server.specs.Serving.{IsInRange};
@@ -29,6 +29,7 @@ pub enum Served {
 /// The end of a line that isn't out.
 fn unwritten(refusal: Unwritten) -> Served
     ensures fault { result ≡ Served.WriteFault → refusal ≡ Unwritten.Fault }
+    ensures memory { result ≢ Served.WriteFault → refusal ≡ Unwritten.Memory }
     ensures unfinished { result ≡ Served.Finished → ⊥ }
     ensures not_listener { result ≡ Served.Listener → ⊥ }
 {
@@ -58,6 +59,8 @@ pub fn serve_command<T: Talk + Drop, K: Sink, N: Net, A: Application, H: Wait>(
     ensures serves { ServesAt result port T.answers (A.answer_of app.now) limits (N.meaning net.new) (K.written out.old) (K.written out.new) }
     ensures listener { result ≡ Served.Listener → HasRisen (N.meaning net.old).faults (N.meaning net.new).faults }
     ensures write_fault { result ≡ Served.WriteFault → HasRisen (K.faults out.old) (K.faults out.new) }
+    ensures net_unfailed { result ≢ Served.Listener → (N.meaning net.new).faults ≡ (N.meaning net.old).faults }
+    ensures out_unfailed { result ≢ Served.WriteFault → K.faults out.new ≡ K.faults out.old }
     ensures net_never_falls { (N.meaning net.old).faults ≤ (N.meaning net.new).faults }
     ensures out_never_falls { K.faults out.old ≤ K.faults out.new }
 {
