@@ -1,6 +1,6 @@
 //! What a net keeps of a connection, but for its bytes.
 ghost use Rattle.std.specs.Prelude.{◌≡◌, ◌≢◌, ℕ, ◌≤◌, List, Option, IfSome, []};
-ghost use Rattle.gv_values.specs.Counts.{HasRisen, one_more as count_after};
+ghost use Rattle.gv_values.specs.Counts.{HasRisen};
 ghost use Rattle.stream_net.specs.Accounts.{account_meaning, read_after};
 ghost use Rattle.stream_net.specs.Nets.{IsNew, closed_at, held_as};
 ghost use Rattle.stream_net.specs.Reads.{after_read};
@@ -9,6 +9,7 @@ ghost use Rattle.stream_net.specs.Waits.{woken_if};
 ghost use Rattle.stream_net.specs.Writes.{after_write};
 
 use crate::net::{Quiet, ReadEnd, WriteEnd};
+use gv_io::one_more;
 
 /// What is kept of a connection.
 #[derive(Clone, Copy, Debug, PartialEq, Eq)]
@@ -27,13 +28,6 @@ pub struct Account {
     pub quiet: Quiet,
     /// Whether it is held.
     pub held: bool,
-}
-
-/// The count after one more; it stands still at its last value.
-pub fn one_more(count: u64) -> u64
-    ensures { result ≡ count_after count }
-{
-    if count < u64::MAX { count + 1 } else { count }
 }
 
 impl Account {

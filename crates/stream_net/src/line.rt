@@ -12,9 +12,10 @@ ghost use Rattle.stream_net.specs.Taken.{written_after};
 ghost use Rattle.stream_net.specs.Waits.{woken_if};
 ghost use Rattle.stream_net.specs.Writes.{after_write};
 
-use crate::account::{Account, one_more};
+use crate::account::Account;
 use crate::net::{ReadEnd, Ready, WriteEnd};
 use crate::script::{ConnScript, Piece};
+use gv_io::one_more;
 use std::alloc::Global;
 
 /// An accepted connection, by its script.
