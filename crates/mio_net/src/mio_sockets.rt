@@ -1,6 +1,5 @@
 //! The net over the system.
 ghost use Rattle.std.specs.Prelude.{◌≡◌, ◌<◌, ◌≤◌, ◌^◌, length, map, false, IfOk};
-ghost use Rattle.gv_values.specs.Counts.{one_more as count_after};
 ghost use Rattle.mio_net.specs.Endpoints.{endpoint_meaning};
 ghost use Rattle.stream_net.specs.Nets.{live_count};
 
@@ -8,7 +7,7 @@ use crate::endpoint::{
     Endpoint, close_endpoint, hold_endpoint, name_endpoint, read_endpoint, write_endpoint,
 };
 use crate::sockets::{LISTENER, Taken, next_stream, poll_into};
-use gv_io::Failed;
+use gv_io::{Failed, one_more};
 use mio::net::TcpListener;
 use mio::{Events, Interest, Poll};
 use std::alloc::Global;
@@ -23,13 +22,6 @@ const EVENTS: usize = 256;
 
 /// The most connections, so that each has a number.
 const MOST: usize = 4294967295;
-
-/// The count after one more; it stands still at its last value.
-fn one_more(count: u64) -> u64
-    ensures { result ≡ count_after count }
-{
-    if count < u64::MAX { count + 1 } else { count }
-}
 
 /// The listener and the connections of the system, on 127.0.0.1.
 ///
