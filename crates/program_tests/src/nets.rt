@@ -1,8 +1,7 @@
 //! Nets of the tests' own, around another.
 ghost use Rattle.std.specs.Prelude.{◌≡◌, not, ◌&&◌};
-ghost use Rattle.gv_values.specs.Counts.{one_more as count_after};
 
-use gv_io::Failed;
+use gv_io::{Failed, one_more};
 use stream_net::{Accepted, Net, ReadEnd, Ready, WriteEnd};
 
 /// What is noted of one connection.
@@ -118,13 +117,6 @@ pub(crate) struct Worn<N> {
     pub(crate) refused: bool,
     /// How often its listener failed.
     pub(crate) faults: u64,
-}
-
-/// The count after one more; it stands still at its last value.
-fn one_more(count: u64) -> u64
-    ensures { result ≡ count_after count }
-{
-    if count < u64::MAX { count + 1 } else { count }
 }
 
 impl<N: Net + Drop> Net for Worn<N> {
