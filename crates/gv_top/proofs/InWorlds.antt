@@ -1,5 +1,6 @@
 -- From the calls of a world and of the engine to what a run in it came to.
-use Rattle.std.proofs.Common.{◌≡◌, ◌≢◌, ◌⊎◌, ◌↔◌, inl, inr, refl, ap, sym, subst, ◌∙◌, ℕ, Result, Ok, Err, true, false, List, [], ◌∷◌, ◌++◌, Option, Some, append_assoc, append-nil, take}
+use Rattle.std.proofs.Common.{◌≡◌, ◌≢◌, ◌⊎◌, ◌↔◌, inl, inr, refl, ap, sym, subst, ◌∙◌, ℕ, Result, Ok, Err, true, false, List, [], ◌∷◌, ◌++◌, Option, Some, append_assoc, append-nil, take, ◌≤◌, arith}
+use Rattle.gv_values.specs.Counts.{HasRisen}
 use Rattle.gv_values.specs.declared.job.Answer.{Answer}
 use Rattle.gv_io.specs.Streams.{appended, AppendsPrefix}
 use Rattle.gv_io.proofs.StreamLaws.{AppendsPrefix-longer}
@@ -24,7 +25,7 @@ use Rattle.gv_top.proofs.Tops.{unchanged_lawful}
 use Rattle.gv_top.specs.Running.{IsBegun, IsUnbegun, RanInWorld, RanNatively, run_of}
 use Rattle.gv_top.specs.Answers.{judged, most_read}
 use Rattle.gv_top.specs.declared.words.Command.{Command}
-use Rattle.gv_top.specs.Top.{BlocksAtQuiet, HasLawfulLines, RanScenarioSo, RanSo, RanWith}
+use Rattle.gv_top.specs.Top.{BlocksAtQuiet, Counts, HasLawfulLines, RanScenarioSo, RanSo, RanWith}
 use Rattle.machine_blocks.specs.Blocks.{BlocksAreTold}
 use Rattle.machine_laws.specs.Laws.{BlocksQuietly}
 use Rattle.scenario_rules.specs.Rules.{IsWellFormed}
@@ -78,6 +79,28 @@ handed_on end handed r out0 out1 h (inr e) = let P : End → Type 0 = λ x. RanT
 was_handed : (end handed : End) → (handed ≡ end) ⊎ (handed ≡ End.WriteFault) → handed ≢ End.WriteFault → handed ≡ end
 was_handed end handed (inl e) w = e
 was_handed end handed (inr e) w = absurd (w e)
+
+-- the count of faults over the run and over handing on
+pub counts_handed : (end handed : End) (old ran new : ℕ) → (end ≡ End.WriteFault → HasRisen old ran) → (end ≢ End.WriteFault → ran ≡ old) → old ≤ ran →
+    (handed ≡ end) ⊎ (handed ≡ End.WriteFault) → (handed ≡ End.WriteFault → (end ≡ End.WriteFault) ⊎ HasRisen ran new) → (handed ≢ End.WriteFault → new ≡ ran) → ran ≤ new →
+    Counts (handed ≡ End.WriteFault) old new
+counts_handed end handed old ran new failed unfailed rises how handed_failed handed_unfailed later = record {
+  failed = λ e. by (handed_failed e);
+  unfailed = λ w. handed_unfailed w ∙ unfailed (λ z. w (was_handed end handed how w ∙ z));
+  never_falls = omega (arith, rises, later);
+}
+  where
+    risen : HasRisen old ran → HasRisen old new
+    risen (inl h) = inl (omega (arith, h, later))
+    risen (inr h) = inr (omega (arith, h, later))
+
+    later_risen : HasRisen ran new → HasRisen old new
+    later_risen (inl h) = inl (omega (arith, h, rises))
+    later_risen (inr h) = inr h
+
+    by : (end ≡ End.WriteFault) ⊎ HasRisen ran new → HasRisen old new
+    by (inl e) = risen (failed e)
+    by (inr h) = later_risen h
 
 pub ran_in_world : (end handed : End) (whole : List Answer → Ran) (workers : ℕ) (before begun ran after : Meaning) (stood stands : List LogEntry → Type 0) (out0 out1 out2 : Option (List ℕ))
     → Begins before begun workers → GoesOn begun ran → after ≡ record ran { runs = false } → ((log : List LogEntry) → stood log ↔ stands log)

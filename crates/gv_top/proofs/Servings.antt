@@ -188,6 +188,18 @@ no_other_status P n m end (inl p) e h0 h5 h7 h10 = absurd (other_number end m h0
 no_other_status P n m end (inr (_, inl p)) e h0 h5 h7 h10 = absurd (h5 (sym e ∙ p))
 no_other_status P n m end (inr (_, inr p)) e h0 h5 h7 h10 = absurd (h7 (sym e ∙ p))
 
+-- a status that is not 5 is not that of a server that failed to write
+pub not_write_fault : (n : ℕ) (end : Served) (w : Verdict) (old new : Option (List ℕ)) (e0 e1 : ℕ) → IsOr (Verdict.Served end) w → IsTold n w old new e0 e1 → n ≢ 5 → end ≢ Served.WriteFault
+not_write_fault n end w old new e0 e1 (inl e) (inl p) h5 = λ z. h5 (p.0 ∙ ap number_of e ∙ ap (λ x. number_of (Verdict.Served x)) z)
+not_write_fault n end w old new e0 e1 (inr q) (inl p) h5 = λ z. q.3 (ap (λ x. number_of (Verdict.Served x)) z)
+not_write_fault n end w old new e0 e1 o (inr p) h5 = absurd (h5 p.0)
+
+-- one that is neither 5 nor 10 is not that of one whose listener failed
+pub not_listener : (n : ℕ) (end : Served) (w : Verdict) (old new : Option (List ℕ)) (e0 e1 : ℕ) → IsOr (Verdict.Served end) w → IsTold n w old new e0 e1 → n ≢ 5 → n ≢ 10 → end ≢ Served.Listener
+not_listener n end w old new e0 e1 (inl e) (inl p) h5 h10 = λ z. h10 (p.0 ∙ ap number_of e ∙ ap (λ x. number_of (Verdict.Served x)) z)
+not_listener n end w old new e0 e1 (inr q) (inl p) h5 h10 = λ z. q.4 (ap (λ x. number_of (Verdict.Served x)) z)
+not_listener n end w old new e0 e1 o (inr p) h5 h10 = absurd (h5 p.0)
+
 -- the lines of faults, where the call had left err as it was
 pub fault_lines : (n : ℕ) (w : Verdict) (err0 silent err1 : Option (List ℕ)) (e0 e1 : ℕ) → silent ≡ err0 → IsTold n w silent err1 e0 e1 → HasFaultLine n err0 err1
 fault_lines n w err0 silent err1 e0 e1 quiet l =

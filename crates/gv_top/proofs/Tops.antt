@@ -20,11 +20,59 @@ use Rattle.gv_top.specs.Answers.{Answer, answer_to, answer_to_storm, judged, mem
 use Rattle.gv_top.specs.Commands.{IsLeftAlone}
 use Rattle.gv_top.specs.Running.{IsBegun, IsUnbegun}
 use Rattle.gv_top.specs.Verdicts.{number_of, line_of}
-use Rattle.gv_top.specs.Top.{Fits, Decided, CameTo, Ended, FailsToWrite, IsOr, IsStatusOf, IsTold, IsTried, AnswersConnection, IsAnswered, IsOfConnection, HasFaultLine, HasLawfulLines, RanScenarioSo, RanWith}
+use Rattle.gv_top.specs.Top.{Counts, Fits, Decided, CameTo, Ended, FailsToWrite, IsOr, IsStatusOf, IsTold, IsTried, AnswersConnection, IsAnswered, IsOfConnection, HasFaultLine, HasLawfulLines, RanScenarioSo, RanWith}
 
 -- nothing was appended
 pub left_as_it_was : (old new : Option (List ℕ)) (text : List ℕ) → new ≡ old → AppendsPrefix old new text
 left_as_it_was old new text e = let P : Option (List ℕ) → Type 0 = λ x. AppendsPrefix old x text in subst P (sym e) (AppendsPrefix-nothing old text)
+
+-- ---- faults
+
+-- where nothing failed, the count is as it was
+pub uncounted : (fails : Type 0) (old new : ℕ) → (fails → ⊥) → new ≡ old → Counts fails old new
+uncounted fails old new never e = record { failed = λ f. absurd (never f); unfailed = λ f. e; never_falls = omega (arith, e) }
+
+-- faults that are told in two ways are counted by both
+counted_as : (fails told : Type 0) (old new : ℕ) → (told → fails) → (fails → told) → Counts fails old new → Counts told old new
+counted_as fails told old new f g h = record { failed = λ t. h.failed (f t); unfailed = λ never. h.unfailed (λ x. never (g x)); never_falls = h.never_falls }
+
+pub run_counts : (end : End) (old new : ℕ) → Counts (end ≡ End.WriteFault) old new → Counts (number_of (Verdict.Ran end) ≡ 5) old new
+run_counts end old new h = counted_as (end ≡ End.WriteFault) (number_of (Verdict.Ran end) ≡ 5) old new (by end) (λ e. ap (λ (x : End). number_of (Verdict.Ran x)) e) h
+  where
+    by : (end : End) → number_of (Verdict.Ran end) ≡ 5 → end ≡ End.WriteFault
+    by End.MainValue e = absurd (omega arith)
+    by (End.MainFault f) e = absurd (omega arith)
+    by End.NoTurns e = absurd (omega arith)
+    by End.NoMoves e = absurd (omega arith)
+    by End.NoGreenlets e = absurd (omega arith)
+    by End.NoLinks e = absurd (omega arith)
+    by End.NoKills e = absurd (omega arith)
+    by End.WriteFault e = refl
+    by End.Memory e = absurd (omega arith)
+
+pub connection_writes : (end : ConnectionEnd) (old new : ℕ) → Counts (end ≡ ConnectionEnd.WriteFault) old new → Counts (number_of (Verdict.Connection end) ≡ 5) old new
+connection_writes end old new h =
+    counted_as (end ≡ ConnectionEnd.WriteFault) (number_of (Verdict.Connection end) ≡ 5) old new (by end) (λ e. ap (λ (x : ConnectionEnd). number_of (Verdict.Connection x)) e) h
+  where
+    by : (end : ConnectionEnd) → number_of (Verdict.Connection end) ≡ 5 → end ≡ ConnectionEnd.WriteFault
+    by ConnectionEnd.Closed e = absurd (omega arith)
+    by ConnectionEnd.TooLong e = absurd (omega arith)
+    by ConnectionEnd.ReadFault e = absurd (omega arith)
+    by ConnectionEnd.WriteFault e = refl
+    by ConnectionEnd.Memory e = absurd (omega arith)
+
+pub connection_reads : (end : ConnectionEnd) (old new : ℕ) → Counts (end ≡ ConnectionEnd.ReadFault) old new → Counts (number_of (Verdict.Connection end) ≡ 4) old new
+connection_reads end old new h =
+    counted_as (end ≡ ConnectionEnd.ReadFault) (number_of (Verdict.Connection end) ≡ 4) old new (by end) (λ e. ap (λ (x : ConnectionEnd). number_of (Verdict.Connection x)) e) h
+  where
+    by : (end : ConnectionEnd) → number_of (Verdict.Connection end) ≡ 4 → end ≡ ConnectionEnd.ReadFault
+    by ConnectionEnd.Closed e = absurd (omega arith)
+    by ConnectionEnd.TooLong e = absurd (omega arith)
+    by ConnectionEnd.ReadFault e = refl
+    by ConnectionEnd.WriteFault e = absurd (omega arith)
+    by ConnectionEnd.Memory e = absurd (omega arith)
+
+-- ---- what was decided
 
 -- out has a prefix, and the status is one of a fault or of want of memory
 record Broke (v : Verdict) (a : Answer) (old new : Option (List ℕ)) : Type 0 where
@@ -107,13 +155,13 @@ ran_told n v options s after stands out0 out1 (inr p) h = record { begun = by h.
 
 -- where there is no memory for the line of a verdict, the command came to want of memory
 out_of_memory : (v : Verdict) (app : App) (c : Option Command) (after : Meaning) (stands : List LogEntry → Type 0) (in0 in1 out0 out1 : Option (List ℕ)) (r0 r1 w0 w1 : ℕ) → CameTo v app c after stands in0 in1 out0 out1 r0 r1 w0 w1 →
-    number_of v ≢ 0 → number_of v ≢ 5 → CameTo (Verdict.Ran End.Memory) app c after stands in0 in1 out0 out1 r0 r1 w0 w1
-out_of_memory v app c after stands in0 in1 out0 out1 r0 r1 w0 w1 h n0 n5 =
+    number_of v ≢ 0 → number_of v ≢ 4 → number_of v ≢ 5 → CameTo (Verdict.Ran End.Memory) app c after stands in0 in1 out0 out1 r0 r1 w0 w1
+out_of_memory v app c after stands in0 in1 out0 out1 r0 r1 w0 w1 h n0 n4 n5 =
     record {
       answer = λ left told. prefix_of v (answer_to app c after.answers left) out0 out1 (decided v (answer_to app c after.answers left) out0 out1 (h.answer left told));
       usage = λ e. absurd (omega arith);
-      read_fault = λ e. absurd (omega arith);
-      write_fault = λ e. absurd (omega arith);
+      reads = uncounted _ _ _ (λ e. omega arith) (h.reads.unfailed n4);
+      writes = uncounted _ _ _ (λ e. omega arith) (h.writes.unfailed n5);
       unread = λ text is e. absurd (omega arith);
       unprinted = λ is h0 h5. h.unprinted is n0 n5;
       read_whole = λ text is h4 h7. absurd (h7 refl);
@@ -128,8 +176,8 @@ out_of_memory_at_once app c after stands input out reads writes =
     record {
       answer = λ left told. AppendsPrefix-nothing out (answer_to app c after.answers left).out;
       usage = λ e. absurd (omega arith);
-      read_fault = λ e. absurd (omega arith);
-      write_fault = λ e. absurd (omega arith);
+      reads = uncounted _ _ _ (λ e. omega arith) refl;
+      writes = uncounted _ _ _ (λ e. omega arith) refl;
       unread = λ text is e. refl;
       unprinted = λ is h0 h5. refl;
       read_whole = λ text is h4 h7. absurd (h7 refl);
@@ -148,7 +196,7 @@ came_to : (v w : Verdict) (app : App) (c : Option Command) (after : Meaning) (st
 came_to v w app c after stands in0 in1 out0 out1 r0 r1 w0 w1 h (inl e) =
     let P : Verdict → Type 0 = λ x. CameTo x app c after stands in0 in1 out0 out1 r0 r1 w0 w1 in subst P (sym e) h
 came_to v w app c after stands in0 in1 out0 out1 r0 r1 w0 w1 h (inr p) =
-    let P : Verdict → Type 0 = λ x. CameTo x app c after stands in0 in1 out0 out1 r0 r1 w0 w1 in subst P (sym p.0) (out_of_memory v app c after stands in0 in1 out0 out1 r0 r1 w0 w1 h p.1 p.2)
+    let P : Verdict → Type 0 = λ x. CameTo x app c after stands in0 in1 out0 out1 r0 r1 w0 w1 in subst P (sym p.0) (out_of_memory v app c after stands in0 in1 out0 out1 r0 r1 w0 w1 h p.1 p.2 p.3)
 
 pub ended : (n : ℕ) (v w : Verdict) (app : App) (c : Option Command) (after : Meaning) (stands : List LogEntry → Type 0) (in0 in1 out0 out1 err0 err1 : Option (List ℕ)) (r0 r1 w0 w1 e0 e1 : ℕ) →
     CameTo v app c after stands in0 in1 out0 out1 r0 r1 w0 w1 → IsOr v w → IsTold n w err0 err1 e0 e1 → Ended n app c after stands in0 in1 out0 out1 err0 err1 r0 r1 w0 w1 e0 e1
@@ -255,7 +303,7 @@ no_line (Verdict.Served Served.Memory) e = absurd (omega arith)
 
 -- status 0 is told by no line
 pub told_nothing : (v : Verdict) (err : Option (List ℕ)) (faults : ℕ) → number_of v ≡ 0 → (w : Verdict) × IsOr v w × IsTold 0 w err err faults faults
-told_nothing v err faults h = (v, inl refl, inl (sym h, sym (appended-nothing err) ∙ ap (appended err) (sym (no_line v h))))
+told_nothing v err faults h = (v, inl refl, inl (sym h, sym (appended-nothing err) ∙ ap (appended err) (sym (no_line v h)), refl))
 
 pub read_line : (n : ℕ) (v : Verdict) (old new : Option (List ℕ)) (e0 e1 : ℕ) → IsTold n v old new e0 e1 → n ≡ 4 → new ≡ appended old read_fault_line
 read_line n v old new e0 e1 (inl p) e = p.1 ∙ ap (appended old) (line_of_read v (sym p.0 ∙ e))
@@ -320,7 +368,7 @@ fails n v old new w0 w1 e0 e1 f (inr p) e = inr (v, p.1, p.2, p.3)
 
 pub fails_to_write : {n : ℕ} {app : App} {c : Option Command} {after : Meaning} {stands : List LogEntry → Type 0} {in0 in1 out0 out1 err0 err1 : Option (List ℕ)} {r0 r1 w0 w1 e0 e1 : ℕ} →
     Ended n app c after stands in0 in1 out0 out1 err0 err1 r0 r1 w0 w1 e0 e1 → n ≡ 5 → FailsToWrite err0 err1 w0 w1 e0 e1
-fails_to_write h e = fails _ h.verdict _ _ _ _ _ _ h.came_to.write_fault h.told e
+fails_to_write h e = fails _ h.verdict _ _ _ _ _ _ h.came_to.writes.failed h.told e
 
 -- `fmt` leaves out as it was
 pub prints_nothing : {n : ℕ} {app : App} {c : Option Command} {after : Meaning} {stands : List LogEntry → Type 0} {in0 in1 out0 out1 err0 err1 : Option (List ℕ)} {r0 r1 w0 w1 e0 e1 : ℕ} →
@@ -335,11 +383,22 @@ pub reads_whole : {n : ℕ} {app : App} {c : Option Command} {after : Meaning} {
 reads_whole {n} text h is h4 h5 h7 left told =
     let e = status_is n h refl h5 in h.came_to.read_whole text is (λ z. h4 (sym e ∙ z)) (λ z. h7 (sym e ∙ z)) left told
 
--- the verdict has no line, and err is left alone
-pub is_silent : (n : ℕ) (v w : Verdict) (old new : Option (List ℕ)) (e0 e1 : ℕ) → IsOr v w → IsTold n w old new e0 e1 → n ≡ 0 → number_of v ≡ 0
-is_silent n v w old new e0 e1 (inl e) (inl p) z = sym (ap number_of e) ∙ sym p.0 ∙ z
-is_silent n v w old new e0 e1 (inr q) (inl p) z = let s = sym z ∙ p.0 ∙ ap number_of q.0 in absurd (omega arith)
-is_silent n v w old new e0 e1 o (inr p) z = let s = sym z ∙ p.0 in absurd (omega arith)
+-- err does not fail with a status but 5
+pub err_unfailed : (n : ℕ) (v : Verdict) (old new : Option (List ℕ)) (e0 e1 : ℕ) → IsTold n v old new e0 e1 → n ≢ 5 → e1 ≡ e0
+err_unfailed n v old new e0 e1 (inl p) h5 = p.2
+err_unfailed n v old new e0 e1 (inr p) h5 = absurd (h5 p.0)
+
+-- nor does out
+pub unfailed : {n : ℕ} {app : App} {c : Option Command} {after : Meaning} {stands : List LogEntry → Type 0} {in0 in1 out0 out1 err0 err1 : Option (List ℕ)} {r0 r1 w0 w1 e0 e1 : ℕ} →
+    Ended n app c after stands in0 in1 out0 out1 err0 err1 r0 r1 w0 w1 e0 e1 → n ≢ 5 → (w1 ≡ w0) × (e1 ≡ e0)
+unfailed {n} h h5 =
+    let e = status_is n h refl h5 in (h.came_to.writes.unfailed (λ z. h5 (sym e ∙ z)), err_unfailed _ h.verdict _ _ _ _ h.told h5)
+
+-- no read fails with a status but 4 and 5
+pub read_unfailed : {n : ℕ} {app : App} {c : Option Command} {after : Meaning} {stands : List LogEntry → Type 0} {in0 in1 out0 out1 err0 err1 : Option (List ℕ)} {r0 r1 w0 w1 e0 e1 : ℕ} →
+    Ended n app c after stands in0 in1 out0 out1 err0 err1 r0 r1 w0 w1 e0 e1 → n ≢ 4 → n ≢ 5 → r1 ≡ r0
+read_unfailed {n} h h4 h5 =
+    let e = status_is n h refl h5 in h.came_to.reads.unfailed (λ z. h4 (sym e ∙ z))
 
 -- the connection that was answered
 pub answers_connection : (n : ℕ) (v w : Verdict) (gateway : GatewayKind) (app : App) (err0 err1 in0 in1 out0 out1 : Option (List ℕ)) (e0 e1 : ℕ) → IsOr v w → IsTold n w err0 err1 e0 e1 →

@@ -82,9 +82,10 @@ pub record IsLeftAlone {W : Type 0} (status : ℕ) (in0 : Option (List ℕ)) (ol
 pub record IsBorneOut (status : ℕ) (err0 err1 : Option (List ℕ)) (reads0 reads1 writes0 writes1 faults0 faults1 : ℕ) : Type 0 where
   -- A read that failed and want of memory have their line on err.
   pub fault_line : HasFaultLine status err0 err1
-  -- Status 0 has no line on err, and err is left alone.
-  pub silent : status ≡ 0 → faults1 ≡ faults0
-  -- Status 4 comes where the input could not be read.
+  -- Status 4 comes where the input could not be read, and no read fails with any other status but 5.
   pub read_fault : status ≡ 4 → HasRisen reads0 reads1
+  pub read_unfailed : status ≢ 4 → status ≢ 5 → reads1 ≡ reads0
   -- Status 5 comes where out failed, whatever became of its line; or where err failed at the line of another status.
+  -- Neither fails with any other status.
   pub write_fault : status ≡ 5 → FailsToWrite err0 err1 writes0 writes1 faults0 faults1
+  pub unfailed : status ≢ 5 → (writes1 ≡ writes0) × (faults1 ≡ faults0)

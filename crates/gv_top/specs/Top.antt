@@ -1,5 +1,5 @@
 -- What the call leaves behind.
-use Rattle.std.specs.Prelude.{◌≡◌, ◌≢◌, ◌⊎◌, ℕ, true, List, Option, Some, None, Ok, drop, filter, take}
+use Rattle.std.specs.Prelude.{◌≡◌, ◌≢◌, ◌≤◌, ◌⊎◌, ℕ, true, List, Option, Some, None, Ok, drop, filter, take}
 use Rattle.std.specs.List.{list_all, flat_map}
 use Rattle.gv_values.specs.Counts.{HasRisen}
 use Rattle.gv_io.specs.Streams.{appended, AppendsPrefix}
@@ -28,6 +28,14 @@ use Rattle.gv_top.specs.Running.{IsBegun, IsUnbegun, RanNatively, run_of}
 use Rattle.gv_top.specs.Answers.{Answer, answer_to, answer_to_storm, judged, memory_line, most_read, no_port, read_fault_line, write_fault_line}
 use Rattle.gv_top.specs.Gateways.{answers_by}
 use Rattle.gv_top.specs.Verdicts.{number_of, line_of}
+
+-- ---- faults
+
+-- the count of a stream's faults never falls: it rose where the stream failed so, and is as it was where it did not
+pub record Counts (fails : Type 0) (old new : ℕ) : Type 0 where
+  pub failed : fails → HasRisen old new
+  pub unfailed : (fails → ⊥) → new ≡ old
+  pub never_falls : old ≤ new
 
 -- ---- a verdict
 
@@ -75,9 +83,9 @@ pub record CameTo (v : Verdict) (app : App) (command : Option Command) (after : 
   pub answer : (left : List ℕ) → in0 ≡ Some left → Decided v (answer_to app command after.answers left) out0 out1
   -- the words are no command
   pub usage : number_of v ≡ 2 → command ≡ None
-  -- a read or a write failed
-  pub read_fault : number_of v ≡ 4 → HasRisen reads0 reads1
-  pub write_fault : number_of v ≡ 5 → HasRisen writes0 writes1
+  -- a read or a write failed, and none with any other verdict
+  pub reads : Counts (number_of v ≡ 4) reads0 reads1
+  pub writes : Counts (number_of v ≡ 5) writes0 writes1
   -- a text that could not be read leaves out as it was
   pub unread : (text : TextCommand) → command ≡ Some (Command.Text text) → number_of v ≡ 4 → out1 ≡ out0
   -- so does a text that is not printed
@@ -93,15 +101,15 @@ pub record CameTo (v : Verdict) (app : App) (command : Option Command) (after : 
 
 -- ---- its line on err
 
--- the verdict, or want of memory where it has a line for which there is none
+-- the verdict, or want of memory where it has a line for which there is none; the line of a fault takes none
 abbrev pub IsOr : Verdict → Verdict → Type 0
-IsOr v w = (w ≡ v) ⊎ ((w ≡ Verdict.Ran End.Memory) × (number_of v ≢ 0) × (number_of v ≢ 5))
+IsOr v w = (w ≡ v) ⊎ ((w ≡ Verdict.Ran End.Memory) × (number_of v ≢ 0) × (number_of v ≢ 4) × (number_of v ≢ 5) × (number_of v ≢ 10))
 
--- err has the whole line of the verdict, whose status is answered; or the verdict has a line, err failed at it and has
--- a prefix of it, and the status is 5
+-- err has the whole line of the verdict, whose status is answered, and did not fail; or the verdict has a line, err
+-- failed at it and has a prefix of it, and the status is 5
 abbrev pub IsTold : ℕ → Verdict → Option (List ℕ) → Option (List ℕ) → ℕ → ℕ → Type 0
 IsTold n v old new faults0 faults1 =
-    ((n ≡ number_of v) × (new ≡ appended old (line_of v)))
+    ((n ≡ number_of v) × (new ≡ appended old (line_of v)) × (faults1 ≡ faults0))
     ⊎ ((n ≡ 5) × (number_of v ≢ 0) × HasRisen faults0 faults1 × AppendsPrefix old new (line_of v))
 
 -- the verdict of a command, and what of its line came to err

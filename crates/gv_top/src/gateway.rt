@@ -1,12 +1,12 @@
 //! What the program says through the gateway that its words name.
-ghost use Rattle.std.specs.Prelude.{◌≡◌, ◌≤◌, ℕ, List, Some};
-ghost use Rattle.gv_values.specs.Counts.{HasRisen};
+ghost use Rattle.std.specs.Prelude.{◌≡◌, ℕ, List, Some};
 ghost use Rattle.stream_net.specs.Nets.{IsFresh};
 ghost use Rattle.stream_server.specs.Serving.{IsInRange};
 ghost use Rattle.serve_command.specs.Served.{ServesAt};
 ghost use Rattle.wsgi_connection.specs.Connections.{Exchanged, IsWhole, whole_session};
 ghost use Rattle.gv_top.specs.Answers.{no_port};
 ghost use Rattle.gv_top.specs.Gateways.{answers_by};
+ghost use Rattle.gv_top.specs.Top.{Counts};
 
 use command_words::GatewayKind;
 use gv_io::{Sink, Source};
@@ -33,10 +33,8 @@ pub fn answer_through<S: Source, K: Sink, A: Application>(
     ensures exchanged { Exchanged result (answers_by gateway) (A.answer_of app.now) no_port (S.remaining input.old) (S.remaining input.new) (K.written out.old) (K.written out.new) }
     ensures whole { (left : List ℕ) → S.remaining input.old ≡ Some left →
         IsWhole result (whole_session (answers_by gateway) (A.answer_of app.now) no_port left) (K.written out.old) (K.written out.new) }
-    ensures read_fault { result ≡ ConnectionEnd.ReadFault → HasRisen (S.faults input.old) (S.faults input.new) }
-    ensures write_fault { result ≡ ConnectionEnd.WriteFault → HasRisen (K.faults out.old) (K.faults out.new) }
-    ensures input_never_falls { S.faults input.old ≤ S.faults input.new }
-    ensures out_never_falls { K.faults out.old ≤ K.faults out.new }
+    ensures reads { Counts (result ≡ ConnectionEnd.ReadFault) (S.faults input.old) (S.faults input.new) }
+    ensures writes { Counts (result ≡ ConnectionEnd.WriteFault) (K.faults out.old) (K.faults out.new) }
 {
     match gateway {
         GatewayKind::Http => answer_connection::<Session, S, K, A>(alloc, NO_PORT, input, out, app),
@@ -60,10 +58,8 @@ pub fn serve_through<K: Sink, N: Net, A: Application, H: Wait>(
     requires fresh { IsFresh (N.meaning net.old) }
     requires in_range { IsInRange limits }
     ensures serves { ServesAt result port (answers_by gateway) (A.answer_of app.now) limits (N.meaning net.new) (K.written out.old) (K.written out.new) }
-    ensures listener { result ≡ Served.Listener → HasRisen (N.meaning net.old).faults (N.meaning net.new).faults }
-    ensures write_fault { result ≡ Served.WriteFault → HasRisen (K.faults out.old) (K.faults out.new) }
-    ensures net_never_falls { (N.meaning net.old).faults ≤ (N.meaning net.new).faults }
-    ensures out_never_falls { K.faults out.old ≤ K.faults out.new }
+    ensures listens { Counts (result ≡ Served.Listener) (N.meaning net.old).faults (N.meaning net.new).faults }
+    ensures writes { Counts (result ≡ Served.WriteFault) (K.faults out.old) (K.faults out.new) }
 {
     match gateway {
         GatewayKind::Http => {

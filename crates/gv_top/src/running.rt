@@ -8,6 +8,7 @@ ghost use Rattle.hub_engine.specs.Ends.{RanTo, WroteAhead};
 ghost use Rattle.scenario_rules.specs.Rules.{IsWellFormed};
 ghost use Rattle.gv_top.specs.declared.status.Verdict.{Verdict};
 ghost use Rattle.gv_top.specs.Running.{IsBegun, IsUnbegun, RanInWorld, RanNatively, run_of};
+ghost use Rattle.gv_top.specs.Top.{Counts};
 ghost use Rattle.gv_top.specs.Verdicts.{number_of};
 ghost use Rattle.gv_top.specs.Words.{is_native_world};
 
@@ -29,6 +30,7 @@ fn handed_on<K: Sink>(end: End, out: &mut K) -> End
     ensures same { K.written out.new ≡ K.written out.old }
     ensures end { (result ≡ end) ⊎ (result ≡ End.WriteFault) }
     ensures failed { result ≡ End.WriteFault → (end ≡ End.WriteFault) ⊎ HasRisen (K.faults out.old) (K.faults out.new) }
+    ensures unfailed { result ≢ End.WriteFault → K.faults out.new ≡ K.faults out.old }
     ensures never_falls { K.faults out.old ≤ K.faults out.new }
 {
     if matches!(end, End::WriteFault | End::Memory) {
@@ -54,10 +56,10 @@ fn run_in_world<K: Sink, W: World>(
     requires few { workers ≤ 16 }
     ensures ran { IfSome result (λ end. RanInWorld end (run engine.scenario engine.turns engine.moves) workers
         (W.meaning world.old) (W.meaning world.new) (W.stands_for world.new) (K.written out.old) (K.written out.new)) }
-    ensures failed { IfSome result (λ end. end ≡ End.WriteFault → HasRisen (K.faults out.old) (K.faults out.new)) }
+    ensures counts { IfSome result (λ end. Counts (end ≡ End.WriteFault) (K.faults out.old) (K.faults out.new)) }
     ensures kept { IfNone result (W.meaning world.new ≡ W.meaning world.old) }
     ensures unwritten { IfNone result (K.written out.new ≡ K.written out.old) }
-    ensures never_falls { K.faults out.old ≤ K.faults out.new }
+    ensures untried { IfNone result (K.faults out.new ≡ K.faults out.old) }
 {
     let Ok(()) = world.begin(workers) else {
         return None;
@@ -72,8 +74,7 @@ fn run_script<K: Sink>(alloc: Global, engine: Engine, tick: u64, out: &mut K) ->
     requires well_formed { IsWellFormed engine.scenario }
     ensures written { RanTo result (script_run engine.scenario engine.turns engine.moves tick) (K.written out.old) (K.written out.new) }
     ensures lawful { meets_laws (script_run engine.scenario engine.turns engine.moves tick).lines ≡ true }
-    ensures failed { result ≡ End.WriteFault → HasRisen (K.faults out.old) (K.faults out.new) }
-    ensures never_falls { K.faults out.old ≤ K.faults out.new }
+    ensures counts { Counts (result ≡ End.WriteFault) (K.faults out.old) (K.faults out.new) }
 {
     followers_run_scripts();
     scripts_run_lawfully();
@@ -103,8 +104,7 @@ fn run_natively<K: Sink, W: World>(
     ensures native { result ≢ End.WriteFault → result ≢ End.Memory →
         RanNatively workers (run engine.scenario engine.turns engine.moves (W.meaning native.new).answers) (W.meaning native.new) (W.stands_for native.new) }
     ensures rests { (W.meaning native.new).runs ≡ false }
-    ensures failed { result ≡ End.WriteFault → HasRisen (K.faults out.old) (K.faults out.new) }
-    ensures never_falls { K.faults out.old ≤ K.faults out.new }
+    ensures counts { Counts (result ≡ End.WriteFault) (K.faults out.old) (K.faults out.new) }
 {
     posts_and_answers_are_told();
     runs_are_lawful();
@@ -131,8 +131,7 @@ pub fn run_scenario<K: Sink, W: World>(
         ⊎ IsUnbegun (number_of (Verdict.Ran result)) (K.written out.old) (K.written out.new) }
     ensures untouched { is_native_world options.world ≡ false → native.new ≡ native.old }
     ensures rests { (W.meaning native.new).runs ≡ false }
-    ensures failed { result ≡ End.WriteFault → HasRisen (K.faults out.old) (K.faults out.new) }
-    ensures never_falls { K.faults out.old ≤ K.faults out.new }
+    ensures counts { Counts (result ≡ End.WriteFault) (K.faults out.old) (K.faults out.new) }
 {
     let budgets = Budgets {
         turns: options.turns,

@@ -1,5 +1,5 @@
 //! The call that the program makes, over a net too.
-ghost use Rattle.std.specs.Prelude.{◌≡◌, ◌≤◌, false, Some, None, map, string_bytes, IsSome};
+ghost use Rattle.std.specs.Prelude.{◌≡◌, ◌≢◌, ◌≤◌, false, Some, None, map, string_bytes, IsSome};
 ghost use Rattle.gv_values.specs.Counts.{HasRisen};
 ghost use Rattle.command_words.specs.declared.command.ServeOptions.{ServeOptions as AnyServer};
 ghost use Rattle.stream_net.specs.Nets.{IsFresh};
@@ -7,6 +7,7 @@ ghost use Rattle.serve_command.specs.Served.{ServesAt};
 ghost use Rattle.gv_top.specs.Commands.{AnswersCommand, IsBorneOut, IsLeftAlone};
 ghost use Rattle.gv_top.specs.Gateways.{answers_by};
 ghost use Rattle.gv_top.specs.Serving.{Serves, limits_of};
+ghost use Rattle.gv_top.specs.Top.{Counts};
 ghost use Rattle.gv_top.specs.Words.{command_of, is_native, reads_input, serve_of};
 
 use crate::gateway::serve_through;
@@ -47,10 +48,8 @@ fn serve<K: Sink, N: Net, A: Application, H: Wait>(
     requires named { IsSome (serve_of (map string_bytes words.now)) }
     ensures serves { (options : AnyServer) → serve_of (map string_bytes words.now) ≡ Some options →
         ServesAt result options.port (answers_by options.gateway) (A.answer_of app.now) (limits_of options) (N.meaning net.new) (K.written out.old) (K.written out.new) }
-    ensures listener { result ≡ Served.Listener → HasRisen (N.meaning net.old).faults (N.meaning net.new).faults }
-    ensures write_fault { result ≡ Served.WriteFault → HasRisen (K.faults out.old) (K.faults out.new) }
-    ensures net_never_falls { (N.meaning net.old).faults ≤ (N.meaning net.new).faults }
-    ensures out_never_falls { K.faults out.old ≤ K.faults out.new }
+    ensures listens { Counts (result ≡ Served.Listener) (N.meaning net.old).faults (N.meaning net.new).faults }
+    ensures writes { Counts (result ≡ Served.WriteFault) (K.faults out.old) (K.faults out.new) }
 {
     commands_are_in_range();
     let Ok(command) = command_of(alloc, words) else {
@@ -114,6 +113,7 @@ pub fn gvr<S: Source, K: Sink, E: Sink, W: World, N: Net, A: Application, H: Wai
     ensures served { (options : AnyServer) → serve_of (map string_bytes words.now) ≡ Some options →
         Serves result (A.answer_of app.now) options (N.meaning net.new) (K.written out.old) (K.written out.new) (E.written err.old) (E.written err.new) }
     ensures network_fault { result ≡ 10 → IsSome (serve_of (map string_bytes words.now)) × HasRisen (N.meaning net.old).faults (N.meaning net.new).faults }
+    ensures net_unfailed { result ≢ 5 → result ≢ 10 → (N.meaning net.new).faults ≡ (N.meaning net.old).faults }
     ensures net_alone { serve_of (map string_bytes words.now) ≡ None → net.new ≡ net.old }
     ensures net_never_falls { (N.meaning net.old).faults ≤ (N.meaning net.new).faults }
     ensures input_never_falls { S.faults input.old ≤ S.faults input.new }

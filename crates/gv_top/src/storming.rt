@@ -1,12 +1,11 @@
 //! The storm of many greenlets: its text, its run into a sink that counts lines, and the summary of that.
-ghost use Rattle.std.specs.Prelude.{◌≡◌, ◌≢◌, ◌≤◌, IfOk, IfSome};
-ghost use Rattle.gv_values.specs.Counts.{HasRisen};
+ghost use Rattle.std.specs.Prelude.{◌≡◌, ◌≢◌, IfOk, IfSome};
 ghost use Rattle.machine.specs.Run.{Ran as AnyRan};
 ghost use Rattle.gv_top.specs.declared.status.Verdict.{Verdict as AnyVerdict};
 ghost use Rattle.gv_top.specs.Answers.{answer_of_storm, answer_to_storm};
 ghost use Rattle.gv_top.specs.Counted.{WasCounted, is_broken_off};
 ghost use Rattle.gv_top.specs.Storm.{storm_run, storm_text, summary};
-ghost use Rattle.gv_top.specs.Top.{Decided};
+ghost use Rattle.gv_top.specs.Top.{Counts, Decided};
 ghost use Rattle.gv_top.specs.Verdicts.{IsExplained, number_of};
 
 use crate::reading::read_scenario;
@@ -106,8 +105,7 @@ fn count_run(alloc: Global, checked: Checked) -> Option<CountedRun>
 #[tactic(auto, using(gv_io::proofs::StreamLaws::writes))]
 fn sum_up<K: Sink>(alloc: Global, size: u32, checked: Checked, out: &mut K) -> End
     ensures answer { Decided (AnyVerdict.Ran result) (answer_of_storm size (storm_run checked)) (K.written out.old) (K.written out.new) }
-    ensures failed { result ≡ End.WriteFault → HasRisen (K.faults out.old) (K.faults out.new) }
-    ensures never_falls { K.faults out.old ≤ K.faults out.new }
+    ensures counts { Counts (result ≡ End.WriteFault) (K.faults out.old) (K.faults out.new) }
 {
     let Some(run) = count_run(alloc, checked) else {
         return End::Memory;
@@ -128,8 +126,7 @@ pub fn answer_storm<K: Sink>(alloc: Global, size: u32, out: &mut K) -> Verdict
     ensures read { number_of result ≢ 4 }
     ensures no_net { number_of result ≢ 10 }
     ensures explained { IsExplained result }
-    ensures write_fault { number_of result ≡ 5 → HasRisen (K.faults out.old) (K.faults out.new) }
-    ensures never_falls { K.faults out.old ≤ K.faults out.new }
+    ensures writes { Counts (number_of result ≡ 5) (K.faults out.old) (K.faults out.new) }
 {
     let Ok(text) = storm_text(alloc, size) else {
         return Verdict::Ran(End::Memory);

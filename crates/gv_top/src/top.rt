@@ -9,10 +9,10 @@ ghost use Rattle.command_words.specs.Ranges.{IsInRange};
 ghost use Rattle.scenario_grammar.specs.Spells.{Spells};
 ghost use Rattle.scenario_rules.specs.Rules.{IsWellFormed};
 ghost use Rattle.scenario_tree.specs.declared.tree.Scenario.{Scenario as AnyScenario};
-ghost use Rattle.gv_top.specs.Answers.{answer_to, answer_to_scenario, answer_to_storm, answer_to_text, formatted, memory_line, most_read, refusal, write_fault_line};
+ghost use Rattle.gv_top.specs.Answers.{answer_to, answer_to_scenario, answer_to_storm, answer_to_text, formatted, memory_line, most_read, network_fault_line, read_fault_line, refusal, write_fault_line};
 ghost use Rattle.gv_top.specs.Commands.{AnswersCommand, IsBorneOut, IsLeftAlone};
 ghost use Rattle.gv_top.specs.declared.status.Verdict.{Verdict as AnyVerdict};
-ghost use Rattle.gv_top.specs.Top.{CameTo, Decided, HasLawfulLines, IsOfConnection, IsOr, IsTold, RanScenarioSo, RanSo};
+ghost use Rattle.gv_top.specs.Top.{CameTo, Counts, Decided, HasLawfulLines, IsOfConnection, IsOr, IsTold, RanScenarioSo, RanSo};
 ghost use Rattle.gv_top.specs.Verdicts.{IsExplained, line_of, number_of};
 ghost use Rattle.gv_top.specs.Words.{command_of, is_native, is_native_text, reads_input, serve_of};
 
@@ -106,15 +106,13 @@ fn answer_command<S: Source, K: Sink, W: World, A: Application>(
         IsOfConnection result gateway (A.answer_of app.now) (S.remaining input.old) (S.remaining input.new) (K.written out.old) (K.written out.new) }
     ensures storm { (size : ℕ) → command ≡ Some (Command.Storm size) → (number_of result ≢ 4) × Decided result (answer_to_storm size) (K.written out.old) (K.written out.new) }
     ensures untouched_input { reads_input command ≡ false → input.new ≡ input.old }
-    ensures read_fault { number_of result ≡ 4 → HasRisen (S.faults input.old) (S.faults input.new) }
-    ensures write_fault { number_of result ≡ 5 → HasRisen (K.faults out.old) (K.faults out.new) }
+    ensures reads { Counts (number_of result ≡ 4) (S.faults input.old) (S.faults input.new) }
+    ensures writes { Counts (number_of result ≡ 5) (K.faults out.old) (K.faults out.new) }
     ensures unread { (text : TextCommand) → command ≡ Some (Command.Text text) → number_of result ≡ 4 → K.written out.new ≡ K.written out.old }
     ensures unprinted { command ≡ Some (Command.Text TextCommand.Format) → number_of result ≢ 0 → number_of result ≢ 5 → K.written out.new ≡ K.written out.old }
     ensures explained { IsExplained result }
     ensures read_whole { (text : TextCommand) → command ≡ Some (Command.Text text) →
         (left : List ℕ) → S.remaining input.old ≡ Some left → number_of result ≢ 4 → number_of result ≢ 7 → S.remaining input.new ≡ Some (drop most_read left) }
-    ensures input_never_falls { S.faults input.old ≤ S.faults input.new }
-    ensures out_never_falls { K.faults out.old ≤ K.faults out.new }
 {
     match command {
         None => Verdict::Usage,
@@ -149,12 +147,10 @@ fn answer_input<S: Source, K: Sink, W: World>(
     ensures unread { number_of result ≡ 4 → K.written out.new ≡ K.written out.old }
     ensures unprinted { command ≡ TextCommand.Format → number_of result ≢ 0 → number_of result ≢ 5 → K.written out.new ≡ K.written out.old }
     ensures explained { IsExplained result }
-    ensures read_fault { number_of result ≡ 4 → HasRisen (S.faults input.old) (S.faults input.new) }
-    ensures write_fault { number_of result ≡ 5 → HasRisen (K.faults out.old) (K.faults out.new) }
+    ensures reads { Counts (number_of result ≡ 4) (S.faults input.old) (S.faults input.new) }
+    ensures writes { Counts (number_of result ≡ 5) (K.faults out.old) (K.faults out.new) }
     ensures read_whole { (left : List ℕ) → S.remaining input.old ≡ Some left →
         number_of result ≢ 4 → number_of result ≢ 7 → S.remaining input.new ≡ Some (drop most_read left) }
-    ensures input_never_falls { S.faults input.old ≤ S.faults input.new }
-    ensures out_never_falls { K.faults out.old ≤ K.faults out.new }
 {
     match read_limited(alloc, input, MOST_BYTES) {
         Err(ReadRefusal::Fault) => Verdict::ReadFault,
@@ -184,8 +180,7 @@ fn answer_text<K: Sink, W: World>(
     ensures read { number_of result ≢ 4 }
     ensures unprinted { command ≡ TextCommand.Format → number_of result ≢ 0 → number_of result ≢ 5 → K.written out.new ≡ K.written out.old }
     ensures explained { IsExplained result }
-    ensures write_fault { number_of result ≡ 5 → HasRisen (K.faults out.old) (K.faults out.new) }
-    ensures never_falls { K.faults out.old ≤ K.faults out.new }
+    ensures writes { Counts (number_of result ≡ 5) (K.faults out.old) (K.faults out.new) }
 {
     match read_scenario(alloc, bytes) {
         Err(refusal) => verdict_on(refusal),
@@ -214,8 +209,7 @@ fn answer_scenario<K: Sink, W: World>(
     ensures read { number_of result ≢ 4 }
     ensures unprinted { command ≡ TextCommand.Format → number_of result ≢ 0 → number_of result ≢ 5 → K.written out.new ≡ K.written out.old }
     ensures explained { IsExplained result }
-    ensures write_fault { number_of result ≡ 5 → HasRisen (K.faults out.old) (K.faults out.new) }
-    ensures never_falls { K.faults out.old ≤ K.faults out.new }
+    ensures writes { Counts (number_of result ≡ 5) (K.faults out.old) (K.faults out.new) }
 {
     match command {
         TextCommand::Run(options) => Verdict::Ran(run_scenario(
@@ -235,8 +229,7 @@ fn format_scenario<K: Sink>(alloc: Global, scenario: &Scenario, out: &mut K) -> 
     ensures read { number_of result ≢ 4 }
     ensures unprinted { number_of result ≢ 0 → number_of result ≢ 5 → K.written out.new ≡ K.written out.old }
     ensures explained { IsExplained result }
-    ensures write_fault { number_of result ≡ 5 → HasRisen (K.faults out.old) (K.faults out.new) }
-    ensures never_falls { K.faults out.old ≤ K.faults out.new }
+    ensures writes { Counts (number_of result ≡ 5) (K.faults out.old) (K.faults out.new) }
 {
     let mut text = Vec::new(alloc);
     let Ok(()) = print(scenario, &mut text) else {
@@ -254,6 +247,7 @@ pub(crate) fn send<K: Sink>(sink: &mut K, bytes: &[u8]) -> Result<(), Failed>
     ensures ok { OnOk result (K.written sink.new ≡ appended (K.written sink.old) bytes.now) }
     ensures cut { OnErr result (AppendsPrefix (K.written sink.old) (K.written sink.new) bytes.now) }
     ensures failed { OnErr result (HasRisen (K.faults sink.old) (K.faults sink.new)) }
+    ensures unfailed { OnOk result (K.faults sink.new ≡ K.faults sink.old) }
     ensures never_falls { K.faults sink.old ≤ K.faults sink.new }
 {
     sink.write_all(bytes)?;
@@ -266,6 +260,20 @@ fn memory_line() -> &'static [u8]
     ensures { result.now ≡ memory_line }
 {
     b"gvr: out of memory\n"
+}
+
+/// The line of a read that failed, which takes no memory.
+fn read_fault_line() -> &'static [u8]
+    ensures { result.now ≡ read_fault_line }
+{
+    b"gvr: read fault\n"
+}
+
+/// The line of a net that could not listen, which takes no memory.
+fn network_fault_line() -> &'static [u8]
+    ensures { result.now ≡ network_fault_line }
+{
+    b"gvr: network fault\n"
 }
 
 /// The line of a write that failed, which takes no memory.
@@ -288,15 +296,21 @@ fn try_line<E: Sink>(verdict: Verdict, line: &[u8], err: &mut E) -> u8
     }
 }
 
-/// Tells the verdict where there is no memory for its line: a write that failed has one that takes none, and any
-/// other verdict is want of memory.
+/// Tells the verdict where there is no memory for its line: a fault has one that takes none, and any other verdict is
+/// want of memory.
 fn tell_without_memory<E: Sink>(verdict: Verdict, err: &mut E) -> u8
     requires has_line { number_of verdict ≢ 0 }
     ensures told { (w : AnyVerdict) × IsOr verdict w × IsTold result w (E.written err.old) (E.written err.new) (E.faults err.old) (E.faults err.new) }
     ensures never_falls { E.faults err.old ≤ E.faults err.new }
 {
+    if verdict.number() == 4 {
+        return try_line(verdict, read_fault_line(), err);
+    }
     if verdict.number() == 5 {
         return try_line(verdict, write_fault_line(), err);
+    }
+    if verdict.number() == 10 {
+        return try_line(verdict, network_fault_line(), err);
     }
     try_line(Verdict::Ran(End::Memory), memory_line(), err)
 }
@@ -306,7 +320,6 @@ fn tell_without_memory<E: Sink>(verdict: Verdict, err: &mut E) -> u8
 pub fn tell<E: Sink>(alloc: Global, verdict: Verdict, err: &mut E) -> u8
     requires { IsExplained verdict }
     ensures told { (w : AnyVerdict) × IsOr verdict w × IsTold result w (E.written err.old) (E.written err.new) (E.faults err.old) (E.faults err.new) }
-    ensures silent { number_of verdict ≡ 0 → (result ≡ 0) × (E.faults err.new ≡ E.faults err.old) }
     ensures never_falls { E.faults err.old ≤ E.faults err.new }
 {
     if verdict.number() == 0 {
@@ -338,6 +351,9 @@ pub fn tell<E: Sink>(alloc: Global, verdict: Verdict, err: &mut E) -> u8
 /// - 5: out or err could not be written.
 /// - 6: the run would begin one more turn or move than its budget.
 /// - 8: the run would pass a limit, or the connection did.
+///
+/// No fault is hidden: with any status but 5 no write failed, and with any but 4 and 5 no read. 5 hides a read that
+/// failed only where err failed at the line of 4.
 ///
 /// Which of 0, 1, 3, 6 and 8 it is, is said by `answer` of `AnswersCommand`, by one equation: the status is that of the
 /// answer to the words and the input. So each comes exactly where the answer has it, and its line on err with it.

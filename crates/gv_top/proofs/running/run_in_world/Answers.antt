@@ -1,4 +1,4 @@
-use Rattle.gv_top.proofs.InWorlds.{ran_in_world}
+use Rattle.gv_top.proofs.InWorlds.{counts_handed, ran_in_world}
 use Rattle.gv_top.proofs.running.run_in_world.Goals as goal
 
 pub returns-clause-ran : goal.returns-clause-ran
@@ -6,3 +6,9 @@ returns-clause-ran g c =
     let ran = c.run-end.ensures in
     ran_in_world c.run-end.result.end c.handed_on.result _ c.args.workers _ _ _ _ _ _ _ _ _ c.in-Ok.ensures.begins ran.rule c.finish.ensures.ended c.finish.ensures.log
     ran.written ran.ahead ran.log ran.legal c.handed_on.ensures.same c.handed_on.ensures.end
+
+pub returns-clause-counts : goal.returns-clause-counts
+returns-clause-counts g c =
+    let ran = c.run-end.ensures in
+    let handed = c.handed_on.ensures in
+    counts_handed c.run-end.result.end c.handed_on.result _ _ _ ran.write_fault ran.unfailed ran.never_falls handed.end handed.failed handed.unfailed handed.never_falls

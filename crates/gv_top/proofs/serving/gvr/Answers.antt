@@ -1,6 +1,6 @@
 use Rattle.std.proofs.Common.{ap, arith, ◌∙◌}
-use Rattle.gv_top.proofs.Servings.{fails_at_a_line, fault_lines, is_listener, is_some, no_other_status, none_named, serves_nobody, serves_so}
-use Rattle.gv_top.proofs.Tops.{is_silent, left_alone, status_or}
+use Rattle.gv_top.proofs.Servings.{fails_at_a_line, fault_lines, is_listener, is_some, no_other_status, none_named, not_listener, not_write_fault, serves_nobody, serves_so}
+use Rattle.gv_top.proofs.Tops.{err_unfailed, left_alone, status_or}
 use Rattle.gv_top.proofs.serving.gvr.Goals as goal
 
 -- ---- where the words were answered without a net
@@ -26,12 +26,16 @@ returns-in-None-clause-borne_out g c =
     let t = c.tell.ensures.told in
     record {
       fault_line = fault_lines _ t.0 _ _ _ _ _ (ap g.E.Sink.written c.in-None.ensures.err_alone) t.2;
-      silent = λ z. (c.tell.ensures.silent (is_silent _ _ t.0 _ _ _ _ t.1 t.2 z)).1 ∙ ap g.E.Sink.faults c.in-None.ensures.err_alone;
       read_fault = λ e.
           no_other_status _ _ 4 c.serve-end.result (status_or _ _ t.0 _ _ _ _ t.1 t.2) e (λ z. omega arith) (λ z. omega arith) (λ z. omega arith) (λ z. omega arith);
+      read_unfailed = λ h4 h5. ap g.S.Source.faults (c.offline.ensures.input_alone c.in-None.ensures.serve);
+      unfailed = λ h5. (
+        c.serve-end.ensures.writes.unfailed (not_write_fault _ c.serve-end.result t.0 _ _ _ _ t.1 t.2 h5) ∙ ap g.K.Sink.faults (c.offline.ensures.out_alone c.in-None.ensures.serve),
+        err_unfailed _ t.0 _ _ _ _ t.2 h5 ∙ ap g.E.Sink.faults c.in-None.ensures.err_alone,
+      );
       write_fault = λ e.
           fails_at_a_line _ c.serve-end.result t.0 _ _ _ _ _ _ _ _ _ (ap g.K.Sink.faults (c.offline.ensures.out_alone c.in-None.ensures.serve)) (ap g.E.Sink.written c.in-None.ensures.err_alone) (ap g.E.Sink.faults c.in-None.ensures.err_alone)
-          c.serve-end.ensures.write_fault t.1 t.2 e;
+          c.serve-end.ensures.writes.failed t.1 t.2 e;
     }
 
 pub returns-in-None-clause-usage_only : goal.returns-in-None-clause-usage_only
@@ -48,10 +52,14 @@ returns-in-None-clause-served g c = λ options e.
 pub returns-in-None-clause-network_fault : goal.returns-in-None-clause-network_fault
 returns-in-None-clause-network_fault g c = λ e.
     let t = c.tell.ensures.told in
-    (c.in-None.ensures.serve, c.serve-end.ensures.listener (is_listener _ c.serve-end.result (status_or _ _ t.0 _ _ _ _ t.1 t.2) e))
+    (c.in-None.ensures.serve, c.serve-end.ensures.listens.failed (is_listener _ c.serve-end.result (status_or _ _ t.0 _ _ _ _ t.1 t.2) e))
 
 pub returns-in-None-clause-net_alone : goal.returns-in-None-clause-net_alone
 returns-in-None-clause-net_alone g c = λ none. none_named _ _ c.in-None.ensures.serve none
 
 pub returns-in-None-clause-left_alone : goal.returns-in-None-clause-left_alone
 returns-in-None-clause-left_alone g c = left_alone _ _ _ _ (c.offline.ensures.native_alone c.in-None.ensures.serve)
+
+pub returns-in-None-clause-net_unfailed : goal.returns-in-None-clause-net_unfailed
+returns-in-None-clause-net_unfailed g c = λ h5 h10.
+    let t = c.tell.ensures.told in c.serve-end.ensures.listens.unfailed (not_listener _ c.serve-end.result t.0 _ _ _ _ t.1 t.2 h5 h10)

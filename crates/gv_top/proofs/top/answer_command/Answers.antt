@@ -1,6 +1,6 @@
 use Rattle.std.proofs.Common.{refl}
 use Rattle.gv_top.proofs.Deciding.{no_command, usage_decided}
-use Rattle.gv_top.proofs.Tops.{left_alone}
+use Rattle.gv_top.proofs.Tops.{connection_reads, connection_writes, left_alone}
 use Rattle.gv_top.proofs.InWorlds.{text_ran}
 use Rattle.gv_top.proofs.Storms.{text_is_no_storm}
 use Rattle.gv_top.proofs.top.answer_command.Goals as goal
@@ -26,3 +26,9 @@ returns-in-Some-Wsgi-clause-left_alone g c = left_alone _ _ _ _ refl
 
 pub returns-in-Some-Storm-clause-left_alone : goal.returns-in-Some-Storm-clause-left_alone
 returns-in-Some-Storm-clause-left_alone g c = left_alone _ _ _ _ refl
+
+pub returns-in-Some-Wsgi-clause-reads : goal.returns-in-Some-Wsgi-clause-reads
+returns-in-Some-Wsgi-clause-reads g c = connection_reads c.answer_through.result _ _ c.answer_through.ensures.reads
+
+pub returns-in-Some-Wsgi-clause-writes : goal.returns-in-Some-Wsgi-clause-writes
+returns-in-Some-Wsgi-clause-writes g c = connection_writes c.answer_through.result _ _ c.answer_through.ensures.writes

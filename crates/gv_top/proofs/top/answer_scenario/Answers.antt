@@ -7,6 +7,7 @@ use Rattle.gv_top.specs.Running.{run_of}
 use Rattle.gv_top.specs.Words.{is_native_text}
 use Rattle.gv_top.proofs.Deciding.{decided_of_this, run_decided}
 use Rattle.gv_top.proofs.InWorlds.{format_runs_nothing, run_lawful, scenario_ran}
+use Rattle.gv_top.proofs.Tops.{run_counts}
 use Rattle.gv_top.proofs.top.answer_scenario.Goals as goal
 
 pub run_scenario-requires-clause-range : goal.run_scenario-requires-clause-range
@@ -37,3 +38,6 @@ returns-in-Format-clause-ran g c = λ options e. format_runs_nothing c.args.comm
 
 pub returns-in-Format-clause-lawful : goal.returns-in-Format-clause-lawful
 returns-in-Format-clause-lawful g c = λ options e. format_runs_nothing c.args.command options _ c.in-Format.is e
+
+pub returns-in-Run-clause-writes : goal.returns-in-Run-clause-writes
+returns-in-Run-clause-writes g c = run_counts c.run_scenario.result _ _ c.run_scenario.ensures.counts

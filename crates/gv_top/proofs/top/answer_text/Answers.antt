@@ -1,8 +1,8 @@
-use Rattle.std.proofs.Common.{arith}
+use Rattle.std.proofs.Common.{arith, refl}
 use Rattle.gv_top.proofs.Deciding.{judged_decided, refusal_decided, refusal_explained, refusal_number}
 use Rattle.gv_top.proofs.InWorlds.{judged_ran, refused_runs_nothing}
 use Rattle.gv_top.proofs.ReadTexts.{none_judged}
-use Rattle.gv_top.proofs.Tops.{nothing_lawful}
+use Rattle.gv_top.proofs.Tops.{nothing_lawful, uncounted}
 use Rattle.gv_top.proofs.top.answer_text.Goals as goal
 
 pub returns-in-Err-clause-answer : goal.returns-in-Err-clause-answer
@@ -17,8 +17,8 @@ returns-in-Err-clause-read g c = λ h. refusal_number _ _ 4 c.verdict_on.ensures
 pub returns-in-Err-clause-explained : goal.returns-in-Err-clause-explained
 returns-in-Err-clause-explained g c = refusal_explained _ _ c.verdict_on.ensures c.in-Err.ensures.reason
 
-pub returns-in-Err-clause-write_fault : goal.returns-in-Err-clause-write_fault
-returns-in-Err-clause-write_fault g c = λ h. absurd (refusal_number _ _ 5 c.verdict_on.ensures h (λ e. omega arith) (λ e. omega arith))
+pub returns-in-Err-clause-writes : goal.returns-in-Err-clause-writes
+returns-in-Err-clause-writes g c = uncounted _ _ _ (λ h. refusal_number _ _ 5 c.verdict_on.ensures h (λ e. omega arith) (λ e. omega arith)) refl
 
 pub returns-in-Ok-clause-answer : goal.returns-in-Ok-clause-answer
 returns-in-Ok-clause-answer g c = judged_decided c.args.command _ c.args.bytes.now _ _ _ _ c.in-Ok.ensures.judged c.answer_scenario.ensures.answer

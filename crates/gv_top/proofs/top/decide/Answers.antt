@@ -32,8 +32,8 @@ returns-in-None-clause-came_to g c =
     came_as (c.without_a_net-command.ensures ∙ ap (option_and_then built) c.in-Ok.ensures) (record {
       answer = d.answer;
       usage = d.usage;
-      read_fault = d.read_fault;
-      write_fault = d.write_fault;
+      reads = d.reads;
+      writes = d.writes;
       unread = d.unread;
       unprinted = d.unprinted;
       read_whole = λ text is h4 h7 left told. d.read_whole text is left told h4 h7;

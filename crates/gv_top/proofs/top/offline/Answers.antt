@@ -1,7 +1,7 @@
 use Rattle.std.proofs.Common.{refl, arith}
 use Rattle.command_words.specs.declared.command.TextCommand.{TextCommand}
 use Rattle.gv_top.proofs.ReadTexts.{answered_as, answered_so, answers_run, refuses_the_rest, spelt_is_judged}
-use Rattle.gv_top.proofs.Tops.{answers_connection, ended, fails_to_write, fault_line, is_answered, is_silent, lawful_told, left_alone_told, prints_nothing, ran_so, reads_whole, status_is, usage_status}
+use Rattle.gv_top.proofs.Tops.{answers_connection, ended, fails_to_write, fault_line, is_answered, lawful_told, left_alone_told, prints_nothing, ran_so, read_unfailed, reads_whole, status_is, unfailed, usage_status}
 use Rattle.gv_top.proofs.InWorlds.{quiet_blocks}
 use Rattle.gv_top.proofs.Servings.{names_no_server, no_memory_status, no_network_fault}
 use Rattle.gv_top.proofs.Storms.{answers_storm}
@@ -41,9 +41,10 @@ returns-in-Some-clause-borne_out g c =
     let h = ended _ c.in-Some.verdict t.0 _ _ _ _ _ _ _ _ _ _ _ _ _ _ _ _ c.in-Some.ensures.came_to t.1 t.2 in
     record {
       fault_line = fault_line h;
-      silent = λ z. (c.tell.ensures.silent (is_silent _ _ t.0 _ _ _ _ t.1 t.2 z)).1;
-      read_fault = λ e. h.came_to.read_fault (status_is 4 h e (λ z. omega arith));
+      read_fault = λ e. h.came_to.reads.failed (status_is 4 h e (λ z. omega arith));
+      read_unfailed = λ h4 h5. read_unfailed h h4 h5;
       write_fault = λ e. fails_to_write h e;
+      unfailed = λ h5. unfailed h h5;
     }
 
 pub returns-in-Some-clause-usage_only : goal.returns-in-Some-clause-usage_only
