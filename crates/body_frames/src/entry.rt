@@ -8,7 +8,7 @@ use std::rc::Rc;
 #[derive(Drop)]
 pub enum Entry {
     /// The rest of the block, from this place on.
-    Rest(usize, usize),
+    Rest { block: usize, at: usize },
     /// The test of a while, and its body.
     Again(Rc<Expression>, usize),
     /// The excepts of the try whose body is inside it, and its finally.

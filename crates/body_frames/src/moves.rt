@@ -86,7 +86,9 @@ fn make_any_move<L: Look>(
         ≡ made_of blocks.now moves go made stack.new) }
 {
     match stack.todo.pop() {
-        Some(Entry::Rest(block, at)) => Ok(move_rest(alloc, code, blocks, look, stack, block, at)?),
+        Some(Entry::Rest { block, at }) => Ok(move_rest(
+            alloc, code, blocks, look, stack, block, at,
+        )?),
         Some(Entry::Again(test, body)) => Ok(test_while(
             alloc, code, blocks, look, stack, test, body,
         )?),
@@ -118,7 +120,7 @@ fn move_rest<L: Look>(
 {
     match blocks.ahead(block, at) {
         Some(statement) => {
-            stack.todo.push(Entry::Rest(block, at + 1))?;
+            stack.todo.push(Entry::Rest { block, at: at + 1 })?;
             Ok(act(alloc, code, blocks, look, stack, &statement.action)?)
         }
         None => unreachable!(),
@@ -177,7 +179,10 @@ fn act<L: Look>(
         FlatAction::Try(body, excepts, finally) => {
             let excepts = excepts.clone()?;
             stack.todo.push(Entry::Guard(excepts, *finally))?;
-            stack.todo.push(Entry::Rest(*body, 0))?;
+            stack.todo.push(Entry::Rest {
+                block: *body,
+                at: 0,
+            })?;
             Ok(Made::Further(go_inwards(blocks, stack)?))
         }
         FlatAction::Timeout(time, silent, body) => Ok(Made::Enters(*time, *silent, *body)),
@@ -221,12 +226,12 @@ fn branch<L: Look>(
 {
     match code.meaning(alloc, look, stack.locals.as_slice(), test)? {
         Outcome::Value(Value::Bool(true)) => {
-            stack.todo.push(Entry::Rest(yes, 0))?;
+            stack.todo.push(Entry::Rest { block: yes, at: 0 })?;
             Ok(Made::Further(go_inwards(blocks, stack)?))
         }
         Outcome::Value(Value::Bool(false)) => match no {
             Some(no) => {
-                stack.todo.push(Entry::Rest(no, 0))?;
+                stack.todo.push(Entry::Rest { block: no, at: 0 })?;
                 Ok(Made::Further(go_inwards(blocks, stack)?))
             }
             None => Ok(Made::Further(go_inwards(blocks, stack)?)),
@@ -259,7 +264,7 @@ fn test_while<L: Look>(
     match code.meaning(alloc, look, stack.locals.as_slice(), &test)? {
         Outcome::Value(Value::Bool(true)) => {
             stack.todo.push(Entry::Again(test, body))?;
-            stack.todo.push(Entry::Rest(body, 0))?;
+            stack.todo.push(Entry::Rest { block: body, at: 0 })?;
             Ok(Made::Further(go_inwards(blocks, stack)?))
         }
         Outcome::Value(Value::Bool(false)) => { Ok(Made::Further(go_inwards(blocks, stack)?)) }

@@ -21,7 +21,7 @@ pub fn make_primitive_move(blocks: &Blocks, stack: &mut Stack) -> Result<bool, A
     ensures { IfOk result (λ made. HasMade made blocks.now stack.old stack.new) }
 {
     match stack.todo.first() {
-        Some(Entry::Rest(block, at)) => {
+        Some(Entry::Rest { block, at }) => {
             let block = *block;
             let at = *at;
             Ok(make_statement(blocks, stack, block, at)?)
@@ -30,7 +30,7 @@ pub fn make_primitive_move(blocks: &Blocks, stack: &mut Stack) -> Result<bool, A
             let body = *body;
             match primitive_truth(stack.locals.as_slice(), test) {
                 Some(true) => {
-                    stack.todo.push(Entry::Rest(body, 0))?;
+                    stack.todo.push(Entry::Rest { block: body, at: 0 })?;
                     Ok(true)
                 }
                 _ => Ok(false),
@@ -73,13 +73,13 @@ fn act(
         FlatAction::If(test, yes, no) => match primitive_truth(stack.locals.as_slice(), test) {
             Some(true) => {
                 advance(&mut stack.todo, block, next)?;
-                stack.todo.push(Entry::Rest(*yes, 0))?;
+                stack.todo.push(Entry::Rest { block: *yes, at: 0 })?;
                 Ok(true)
             }
             Some(false) => match *no {
                 Some(no) => {
                     advance(&mut stack.todo, block, next)?;
-                    stack.todo.push(Entry::Rest(no, 0))?;
+                    stack.todo.push(Entry::Rest { block: no, at: 0 })?;
                     Ok(true)
                 }
                 None => Ok(false),
@@ -118,7 +118,7 @@ fn advance(todo: &mut Pile<Entry>, block: usize, next: usize) -> Result<(), Allo
     ensures { OnOk result (todo.new ≡ Listed.Rest block next ∷ drop 1 todo.old) }
 {
     todo.drop_first();
-    todo.push(Entry::Rest(block, next))?;
+    todo.push(Entry::Rest { block, at: next })?;
     Ok(())
 }
 
@@ -134,7 +134,7 @@ fn pass(
 {
     todo.drop_first();
     if begins(blocks, block, next) {
-        todo.push(Entry::Rest(block, next))?;
+        todo.push(Entry::Rest { block, at: next })?;
         return Ok(());
     }
     Ok(())

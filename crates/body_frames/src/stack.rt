@@ -92,7 +92,7 @@ fn begin_block(
         todo: Pile::new(alloc),
         left: Items::new(alloc),
     };
-    stack.todo.push(Entry::Rest(body, 0))?;
+    stack.todo.push(Entry::Rest { block: body, at: 0 })?;
     let at = go_inwards(blocks, &mut stack)?;
     Ok((stack, at))
 }
@@ -136,7 +136,7 @@ pub fn go_inside(
         ≡ goes_from blocks.now at stack.new) }
 {
     stack.todo.push(Entry::Within(number, silent))?;
-    stack.todo.push(Entry::Rest(body, 0))?;
+    stack.todo.push(Entry::Rest { block: body, at: 0 })?;
     Ok(go_inwards(blocks, stack)?)
 }
 
@@ -160,7 +160,7 @@ fn is_at_move(blocks: &Blocks, todo: &Pile<Entry>) -> bool
     ensures { IsTrue result → RunsAt (todo_of blocks.now todo.now) }
 {
     match todo.first() {
-        Some(Entry::Rest(block, at)) => begins(blocks, *block, *at),
+        Some(Entry::Rest { block, at }) => begins(blocks, *block, *at),
         Some(Entry::Again(_, _)) => true,
         _ => false,
     }

@@ -86,7 +86,10 @@ fn finally_first(
         Some(finally) => {
             if begins(blocks, finally, 0) {
                 todo.push(Entry::Afterwards(how))?;
-                todo.push(Entry::Rest(finally, 0))?;
+                todo.push(Entry::Rest {
+                    block: finally,
+                    at: 0,
+                })?;
                 return Ok(Stepped::Runs);
             }
             Ok(Stepped::Further(how))
@@ -116,7 +119,10 @@ fn guard(
             bind_if(except.name, f, locals)?;
             if begins(blocks, except.body, 0) {
                 todo.push(Entry::Final(finally))?;
-                todo.push(Entry::Rest(except.body, 0))?;
+                todo.push(Entry::Rest {
+                    block: except.body,
+                    at: 0,
+                })?;
                 return Ok(Stepped::Runs);
             }
             Ok(finally_first(blocks, todo, finally, Leaving::Normally)?)
@@ -138,7 +144,7 @@ fn step(
         unwind (entry_of blocks.now entry ∷ todo_of blocks.now todo.old) left.old how locals.old ≡ stepped_of s left.new locals.new (todo_of blocks.now todo.new)) }
 {
     match entry {
-        Entry::Rest(block, at) => Ok(leave_rest(blocks, todo, how, block, at)?),
+        Entry::Rest { block, at } => Ok(leave_rest(blocks, todo, how, block, at)?),
         Entry::Again(test, body) => match how {
             Leaving::Normally => {
                 todo.push(Entry::Again(test, body))?;
@@ -192,7 +198,7 @@ fn leave_rest(
     match how {
         Leaving::Normally => {
             if begins(blocks, block, at) {
-                todo.push(Entry::Rest(block, at))?;
+                todo.push(Entry::Rest { block, at })?;
                 return Ok(Stepped::Runs);
             }
             Ok(Stepped::Further(Leaving::Normally))
