@@ -15,7 +15,7 @@ use Rattle.machine.specs.State.{State, say}
 use Rattle.machine.specs.Ends.{ended, leaving_of, outcome_of_leaving, stop_of}
 use Rattle.machine.specs.Greenlets.{add_greenlet, frame_of, function_of, greenlet, named, nobody, with_phase}
 use Rattle.machine.specs.Items.{drop_items, is_timeout_of}
-use Rattle.machine.specs.Landing.{Landing, Next, after_end, given, goes_on, land, lands, resumes, starts}
+use Rattle.machine.specs.Landing.{Landing, Next, after_end, given, goes_on, land, lands, lands_once, resumes, starts}
 use Rattle.machine.specs.Deliveries.{without_offer_by}
 use Rattle.machine.specs.Moves.{timeout_item}
 use Rattle.machine.specs.declared.items.Delivery.{Delivery}
