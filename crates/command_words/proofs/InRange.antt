@@ -7,9 +7,11 @@ use Rattle.gv_values.specs.Digits.{is_plain_number}
 use Rattle.command_words.specs.declared.command.Command.{Command}
 use Rattle.command_words.specs.declared.command.Command.TheVariants.{Text, Wsgi, Storm}
 use Rattle.command_words.specs.declared.command.RunWorld.{RunWorld}
-use Rattle.command_words.specs.declared.command.RunWorld.TheVariants.{Script, Native}
+use Rattle.command_words.specs.declared.command.RunWorld.TheVariants.{Script}
+use Rattle.command_words.specs.declared.command.ResultOrder.{ResultOrder}
+use Rattle.command_words.specs.declared.command.ResultOrder.TheVariants as results
 use Rattle.command_words.specs.declared.command.TextCommand.TheVariants.{Format}
-use Rattle.command_words.specs.Words.{Look, OptionRow, Word, command_by, command_of, conns, gateway_by, given, idle, moves, native, number_by, number_in, options, pool, port, row_of, run, run_by, format, wsgi, serve, serve_by, size, storm, storm_by, tick, turns, value_in, world_by, wsgi_by}
+use Rattle.command_words.specs.Words.{Look, OptionRow, Word, command_by, command_of, conns, gateway_by, given, idle, moves, native, number_by, number_in, options, order, order_by, pool, port, row_of, run, run_by, format, wsgi, serve, serve_by, size, storm, storm_by, tick, turns, value_in, workers_by, workers_in, world_by, wsgi_by}
 use Rattle.command_words.specs.Ranges.{IsInRange, IsWorldInRange, Takes, takes_usual}
 
 -- ---- what gave a value
@@ -57,14 +59,27 @@ number_takes o look n h e = by (look o.name) e
 
 -- ---- commands
 
-world_takes : (look : Look) (w : RunWorld) → world_by look ≡ Some w → IsWorldInRange w
-world_takes look w e = by (is_some (look native.name)) (is_some (look tick.name)) e
+ordered_takes : (o : ResultOrder) (n : ℕ) → Takes native n → IsWorldInRange (workers_in o n)
+ordered_takes results.Free n h = h
+ordered_takes results.Held n h = h
+
+workers_take : (look : Look) (w : RunWorld) → workers_by look ≡ Some w → IsWorldInRange w
+workers_take look w e = by (is_some (look tick.name)) e
   where
-    by : (n t : Bool) → (if n then (if t then None else option_map (λ k. Native k) (number_by native look)) else option_map (λ k. Script k) (number_by tick look)) ≡ Some w
-        → IsWorldInRange w
-    by false t f = let m = some_mapped (number_by tick look) (λ k. Script k) w f in subst IsWorldInRange m.gives (number_takes tick look m.value refl m.is)
-    by true false f = let m = some_mapped (number_by native look) (λ k. Native k) w f in subst IsWorldInRange m.gives (number_takes native look m.value refl m.is)
-    by true true f = absurd (cc f)
+    by : (t : Bool) → (if t then None else given (order_by look) (λ o. option_map (workers_in o) (number_by native look))) ≡ Some w → IsWorldInRange w
+    by true f = absurd (cc f)
+    by false f =
+        let o = some_given (order_by look) (λ o. option_map (workers_in o) (number_by native look)) w f in
+        let m = some_mapped (number_by native look) (workers_in o.value) w o.gives in
+        subst IsWorldInRange m.gives (ordered_takes o.value m.value (number_takes native look m.value refl m.is))
+
+world_takes : (look : Look) (w : RunWorld) → world_by look ≡ Some w → IsWorldInRange w
+world_takes look w e = by (is_some (look native.name)) (is_some (look order)) e
+  where
+    by : (n o : Bool) → (if n then workers_by look else (if o then None else option_map (λ k. Script k) (number_by tick look))) ≡ Some w → IsWorldInRange w
+    by true o f = workers_take look w f
+    by false true f = absurd (cc f)
+    by false false f = let m = some_mapped (number_by tick look) (λ k. Script k) w f in subst IsWorldInRange m.gives (number_takes tick look m.value refl m.is)
 
 same_some : {A : Type 0} (a b : A) → Some a ≡ Some b → a ≡ b
 same_some a b e = cc e

@@ -4,7 +4,7 @@ use Rattle.command_words.specs.Words.{OptionRow, turns, moves, tick, native, por
 use Rattle.command_words.specs.declared.command.Command.{Command}
 use Rattle.command_words.specs.declared.command.Command.TheVariants.{Text, Wsgi, Serve, Storm}
 use Rattle.command_words.specs.declared.command.RunWorld.{RunWorld}
-use Rattle.command_words.specs.declared.command.RunWorld.TheVariants.{Script, Native}
+use Rattle.command_words.specs.declared.command.RunWorld.TheVariants.{Script, Native, Held}
 use Rattle.command_words.specs.declared.command.TextCommand.TheVariants.{Run, Format}
 
 -- the usual number of the option is one that it takes
@@ -18,6 +18,7 @@ Takes option n = (option.least ≤ n) × (n ≤ option.most)
 abbrev pub IsWorldInRange : RunWorld → Type 0
 IsWorldInRange (Script n) = Takes tick n
 IsWorldInRange (Native n) = Takes native n
+IsWorldInRange (Held n) = Takes native n
 
 abbrev pub IsInRange : Command → Type 0
 IsInRange (Text (Run options)) = Takes turns options.turns × Takes moves options.moves × IsWorldInRange options.world

@@ -9,7 +9,9 @@ use Rattle.command_words.specs.declared.command.Command.TheVariants.{Text, Wsgi,
 use Rattle.command_words.specs.declared.command.GatewayKind.{GatewayKind}
 use Rattle.command_words.specs.declared.command.GatewayKind.TheVariants.{Http, Scgi}
 use Rattle.command_words.specs.declared.command.RunWorld.{RunWorld}
-use Rattle.command_words.specs.declared.command.RunWorld.TheVariants.{Script, Native}
+use Rattle.command_words.specs.declared.command.RunWorld.TheVariants.{Script, Native, Held}
+use Rattle.command_words.specs.declared.command.ResultOrder.{ResultOrder}
+use Rattle.command_words.specs.declared.command.ResultOrder.TheVariants as results
 use Rattle.command_words.specs.declared.command.TextCommand.TheVariants.{Run, Format}
 
 abbrev pub Word : Type 0
@@ -37,6 +39,10 @@ tick = record { name = codes "tick"; least = 0; most = 1000; usual = Some 0 }
 abbrev pub native : OptionRow
 native = record { name = codes "native"; least = 1; most = 16; usual = None }
 
+-- the option whose value is an order, by its name; `free` stands where it is left out
+abbrev pub order : Word
+order = codes "order"
+
 abbrev pub port : OptionRow
 port = record { name = codes "port"; least = 0; most = 65535; usual = None }
 
@@ -62,7 +68,7 @@ pub record CommandRow : Type 0 where
   pub options : List Word
 
 abbrev pub run : CommandRow
-run = record { name = codes "run"; options = turns.name ∷ moves.name ∷ tick.name ∷ native.name ∷ [] }
+run = record { name = codes "run"; options = turns.name ∷ moves.name ∷ tick.name ∷ native.name ∷ order ∷ [] }
 
 abbrev pub format : CommandRow
 format = record { name = codes "fmt"; options = [] }
@@ -162,18 +168,36 @@ gateway_named word = if bytes_eq word (codes "http") then Some Http else if byte
 abbrev pub gateway_by : Look → Option GatewayKind
 gateway_by look = elim (look gateway) [ Some word ↦ gateway_named word | None ↦ Some Http ]
 
+-- ---- orders
+
+-- the order of this name
+abbrev pub order_named : Word → Option ResultOrder
+order_named word = if bytes_eq word (codes "free") then Some results.Free else if bytes_eq word (codes "held") then Some results.Held else None
+
+-- the order that is asked for: the one that is named, or else `free`; none where there is no such order
+abbrev pub order_by : Look → Option ResultOrder
+order_by look = elim (look order) [ Some word ↦ order_named word | None ↦ Some results.Free ]
+
 -- ---- commands
 
 -- what comes of the value, where there is one
 abbrev pub given : {A B : Type 0} → Option A → (A → Option B) → Option B
 given value go = option_and_then go value
 
--- the world of a run: that of its tick; or native workers, and then no tick
+-- native workers, so many, whose results are told in this order
+abbrev pub workers_in : ResultOrder → ℕ → RunWorld
+workers_in results.Free n = Native n
+workers_in results.Held n = Held n
+
+-- the native workers of a run, which no tick goes with
+abbrev pub workers_by : Look → Option RunWorld
+workers_by look = if is_some (look tick.name) then None else given (order_by look) (λ o. option_map (workers_in o) (number_by native look))
+
+-- the world of a run: native workers; or a script, which no order goes with
 abbrev pub world_by : Look → Option RunWorld
 world_by look =
-    if is_some (look native.name)
-    then (if is_some (look tick.name) then None else option_map (λ n. Native n) (number_by native look))
-    else option_map (λ n. Script n) (number_by tick look)
+    if is_some (look native.name) then workers_by look
+    else (if is_some (look order) then None else option_map (λ n. Script n) (number_by tick look))
 
 abbrev pub run_by : Look → Option Command
 run_by look =

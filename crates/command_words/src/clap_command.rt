@@ -35,6 +35,7 @@ fn name_of(option: &CommandOption) -> &'static str
     match option {
         CommandOption::Number(option) => option.name,
         CommandOption::Gateway(name) => *name,
+        CommandOption::Order(name) => *name,
     }
 }
 

@@ -5,8 +5,19 @@
 pub enum RunWorld {
     /// A script, whose moment grows by so many milliseconds at each look that finds nothing.
     Script(u64),
-    /// So many native workers.
+    /// So many native workers, whose results are told as they come.
     Native(u32),
+    /// So many native workers, whose results are told as a script without a tick tells them.
+    Held(u32),
+}
+
+/// In which order the results of native workers are told.
+#[derive(Clone, Copy, Debug, PartialEq, Eq)]
+pub enum ResultOrder {
+    /// As they come.
+    Free,
+    /// As a script tells them.
+    Held,
 }
 
 /// The options of a run.

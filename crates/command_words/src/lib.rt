@@ -8,6 +8,8 @@ mod numbers;
 mod reading;
 mod table;
 
-pub use command::{Command, GatewayKind, RunOptions, RunWorld, ServeOptions, TextCommand};
+pub use command::{
+    Command, GatewayKind, ResultOrder, RunOptions, RunWorld, ServeOptions, TextCommand,
+};
 pub use laws::commands_are_in_range;
 pub use reading::command_of;

@@ -2,13 +2,15 @@
 ghost use Rattle.std.specs.Prelude.{◌≡◌, IfOk, map, string_bytes};
 ghost use Rattle.std.specs.List.{list_any};
 ghost use Rattle.clap.specs.Words.{first_of, found_of, rows_of, subcommand_rows_of};
-ghost use Rattle.command_words.specs.Words.{command_by, command_of, gateway_by, gateway_named, run_by, serve_by, storm_by, world_by, wsgi_by};
+ghost use Rattle.command_words.specs.Words.{command_by, command_of, gateway_by, gateway_named, run_by, serve_by, storm_by, order_by, order_named, workers_by, workers_in, world_by, wsgi_by};
 ghost use Rattle.command_words.specs.Clap.{by_clap, command_in, is_stray};
 
 use crate::clap_command::program;
-use crate::command::{Command, GatewayKind, RunOptions, RunWorld, ServeOptions, TextCommand};
+use crate::command::{
+    Command, GatewayKind, ResultOrder, RunOptions, RunWorld, ServeOptions, TextCommand,
+};
 use crate::numbers::{given, number_by};
-use crate::table::{CONNS, GATEWAY, IDLE, MOVES, NATIVE, POOL, PORT, SIZE, TICK, TURNS};
+use crate::table::{CONNS, GATEWAY, IDLE, MOVES, NATIVE, ORDER, POOL, PORT, SIZE, TICK, TURNS};
 use clap::ArgMatches;
 use clap::error::ErrorKind;
 use std::alloc::{AllocError, Global};
@@ -17,8 +19,9 @@ use std::alloc::{AllocError, Global};
 ///
 /// The command is the first word. Each option is one word `--name` followed by one word, or the one word
 /// `--name=value`; options stand in any order, each at most once. A value is a number in decimal digits without a
-/// leading zero, in the option's range; that of `--gateway` is `http` or `scgi`. All other words are no command, and
-/// neither are those of a run with a tick and native workers.
+/// leading zero, in the option's range; that of `--gateway` is `http` or `scgi`, that of
+/// `--order` is `free` or `held`. All other words are no command, and
+/// neither are those of a run with a tick and native workers, or with an order and no native workers.
 ///
 /// # Errors
 ///
@@ -101,15 +104,57 @@ fn command_by(name: &str, matches: &ArgMatches) -> Option<Command>
 fn world_by(matches: &ArgMatches) -> Option<RunWorld>
     ensures { result ≡ world_by (λ n. first_of n (rows_of (found_of matches.now))) }
 {
-    if given(NATIVE.name, matches).is_none() {
-        let tick = number_by(TICK, matches)?;
-        return Some(RunWorld::Script(tick));
+    if given(NATIVE.name, matches).is_some() {
+        return workers_by(matches);
     }
+    if given(ORDER, matches).is_some() {
+        return None;
+    }
+    let tick = number_by(TICK, matches)?;
+    Some(RunWorld::Script(tick))
+}
+
+/// The native workers that a run is asked for, which no tick goes with.
+fn workers_by(matches: &ArgMatches) -> Option<RunWorld>
+    ensures { result ≡ workers_by (λ n. first_of n (rows_of (found_of matches.now))) }
+{
     if given(TICK.name, matches).is_some() {
         return None;
     }
+    let order = order_by(matches)?;
     let workers = number_by(NATIVE, matches)?;
-    Some(RunWorld::Native(workers as u32))
+    Some(workers_in(order, workers as u32))
+}
+
+/// Native workers, so many, whose results are told in this order.
+fn workers_in(order: ResultOrder, workers: u32) -> RunWorld
+    ensures { result ≡ workers_in order workers }
+{
+    match order {
+        ResultOrder::Free => RunWorld::Native(workers),
+        ResultOrder::Held => RunWorld::Held(workers),
+    }
+}
+
+/// The order of this name, if there is one.
+fn order_named(name: &str) -> Option<ResultOrder>
+    ensures { result ≡ order_named name.now }
+{
+    match name {
+        "free" => Some(ResultOrder::Free),
+        "held" => Some(ResultOrder::Held),
+        _ => None,
+    }
+}
+
+/// The order that is asked for: the one that is named, that in which results come where none is.
+fn order_by(matches: &ArgMatches) -> Option<ResultOrder>
+    ensures { result ≡ order_by (λ n. first_of n (rows_of (found_of matches.now))) }
+{
+    match given(ORDER, matches) {
+        Some(name) => order_named(name),
+        None => Some(ResultOrder::Free),
+    }
 }
 
 fn run_by(matches: &ArgMatches) -> Option<Command>

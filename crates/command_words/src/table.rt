@@ -20,6 +20,8 @@ pub enum CommandOption {
     Number(NumberOption),
     /// The option of this name, whose value is the name of a gateway.
     Gateway(&'static str),
+    /// The option of this name, whose value is the name of an order.
+    Order(&'static str),
 }
 
 /// A command: its name, and its options.
@@ -62,6 +64,9 @@ pub const NATIVE: NumberOption = NumberOption {
     most: 16,
     usual: None,
 };
+
+/// The option that names the order in which the results of native workers are told.
+pub const ORDER: &str = "order";
 
 /// The port of a server.
 pub const PORT: NumberOption = NumberOption {
@@ -106,11 +111,12 @@ pub const SIZE: NumberOption = NumberOption {
     usual: None,
 };
 
-const OF_RUN: [CommandOption; 4] = [
+const OF_RUN: [CommandOption; 5] = [
     CommandOption::Number(TURNS),
     CommandOption::Number(MOVES),
     CommandOption::Number(TICK),
     CommandOption::Number(NATIVE),
+    CommandOption::Order(ORDER),
 ];
 
 const OF_WSGI: [CommandOption; 1] = [CommandOption::Gateway(GATEWAY)];

@@ -45,3 +45,10 @@ some_workers world workers e h = let r : (1 ≤ workers) × (workers ≤ 16) = s
 
 pub few_workers : (world : RunWorld) (workers : ℕ) → world ≡ RunWorld.Native workers → IsWorldInRange world → workers ≤ 16
 few_workers world workers e h = let r : (1 ≤ workers) × (workers ≤ 16) = subst IsWorldInRange e h in r.1
+
+-- the same of those whose results are told in the order of a script
+pub some_held : (world : RunWorld) (workers : ℕ) → world ≡ RunWorld.Held workers → IsWorldInRange world → 0 < workers
+some_held world workers e h = let r : (1 ≤ workers) × (workers ≤ 16) = subst IsWorldInRange e h in omega (arith, r.0)
+
+pub few_held : (world : RunWorld) (workers : ℕ) → world ≡ RunWorld.Held workers → IsWorldInRange world → workers ≤ 16
+few_held world workers e h = let r : (1 ≤ workers) × (workers ≤ 16) = subst IsWorldInRange e h in r.1

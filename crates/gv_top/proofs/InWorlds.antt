@@ -1,28 +1,30 @@
 -- From the calls of a world and of the engine to what a run in it came to.
-use Rattle.std.proofs.Common.{◌≡◌, ◌≢◌, ◌⊎◌, ◌↔◌, inl, inr, refl, ap, sym, subst, ◌∙◌, ℕ, Result, Ok, Err, true, false, List, [], ◌∷◌, ◌++◌, Option, Some, append_assoc, append-nil, take, ◌≤◌, arith}
+use Rattle.std.proofs.Common.{◌≡◌, ◌≢◌, ◌⊎◌, ◌↔◌, inl, inr, refl, ap, sym, subst, ◌∙◌, ℕ, ◌<◌, Result, Ok, Err, true, false, List, [], ◌∷◌, ◌++◌, Option, Some, append_assoc, append-nil, take, ◌≤◌, arith}
 use Rattle.gv_values.specs.Counts.{HasRisen}
 use Rattle.gv_values.specs.declared.job.Answer.{Answer}
 use Rattle.gv_io.specs.Streams.{appended, AppendsPrefix}
 use Rattle.gv_io.proofs.StreamLaws.{AppendsPrefix-longer}
 use Rattle.trace_text.specs.declared.line.Line.{Line}
 use Rattle.trace_text.specs.declared.line.StopCause.{StopCause}
-use Rattle.trace_text.specs.LineTexts.{line_text, text_of}
+use Rattle.trace_text.specs.LineTexts.{answers_of as answers_told, line_text, text_of}
 use Rattle.scenario_tree.specs.declared.tree.Scenario.{Scenario}
 use Rattle.world_rules.specs.declared.question.LogEntry.{LogEntry}
-use Rattle.world_rules.specs.Legal.{AreLegal, answers_of, posts_of}
+use Rattle.world_rules.specs.Legal.{AreLegal, answers_of, is_answered, posts_of}
 use Rattle.world_rules.specs.Script.{Follows, start}
 use Rattle.world.specs.declared.script.ScriptWorld.{ScriptWorld}
+use Rattle.world.specs.Holding.{Leads}
 use Rattle.world.specs.Kept.{rule_state, script_log, script_meaning}
+use Rattle.world.specs.Logged.{script_log_is}
 use Rattle.world.specs.Worlds.{Begins, GoesOn, Meaning}
 use Rattle.machine.specs.Run.{End as RunEnd, Ran, Source, run, run_from, script_run}
 use Rattle.machine_scripts.specs.Scripts.{FollowersRunScripts, IsBeginningOf}
-use Rattle.machine_told.specs.Told.{AnswersAreTold, PostsAreTold}
+use Rattle.machine_told.specs.Told.{AnswersAreTold, PostsAreTold, posts_told}
 use Rattle.hub_engine.specs.declared.run.End.{End}
 use Rattle.hub_engine.specs.Prepared.{Prepared}
 use Rattle.hub_engine.specs.Ends.{HasLogged, IsPartLogged, RanTo, WroteAhead, end_of_run}
 use Rattle.gv_top.proofs.Deciding.{prefix_of_trace}
 use Rattle.gv_top.proofs.Tops.{unchanged_lawful}
-use Rattle.gv_top.specs.Running.{IsBegun, IsUnbegun, RanInWorld, RanNatively, run_of}
+use Rattle.gv_top.specs.Running.{IsBegun, IsUnbegun, RanHeld, RanInWorld, RanNatively, run_of}
 use Rattle.gv_top.specs.Answers.{judged, most_read}
 use Rattle.gv_top.specs.declared.words.Command.{Command}
 use Rattle.gv_top.specs.Top.{BlocksAtQuiet, Counts, HasLawfulLines, RanScenarioSo, RanSo, RanWith}
@@ -126,6 +128,7 @@ ran_in_world end handed whole workers before begun ran after stood stands out0 o
       legal = subst S (sym same_answers) legal;
       workers_are = ap (λ (m : Meaning). m.workers) f ∙ g.workers ∙ b.workers_are;
       tick = ap (λ (m : Meaning). m.tick) f ∙ g.tick ∙ b.tick;
+      reference = ap (λ (m : Meaning). m.reference) f ∙ g.reference ∙ b.reference;
       rests = ap (λ (m : Meaning). m.runs) f;
     }
 
@@ -163,13 +166,37 @@ ran_to_whole End.NoGreenlets whole r out0 out1 b h = stopped_whole End.NoGreenle
 ran_to_whole End.NoLinks whole r out0 out1 b h = stopped_whole End.NoLinks whole r out0 out1 b h
 ran_to_whole End.NoKills whole r out0 out1 b h = stopped_whole End.NoKills whole r out0 out1 b h
 
--- a run in a script world is the run under its rule
-pub script_ran : FollowersRunScripts → (end : End) (c : Scenario) (turns moves workers tick : ℕ) (before : Meaning) (w : ScriptWorld) (out0 out1 : Option (List ℕ)) → before.tick ≡ tick
-    → RanInWorld end (run c turns moves) workers before (script_meaning w) (script_log w) out0 out1 → RanTo end (script_run c turns moves tick) out0 out1
-script_ran law end c turns moves workers tick before w out0 out1 same h =
-    let F : ℕ → Type 0 = λ k. Follows k (start []) h.part.part (rule_state w []) in
-    ran_to_whole end (script_run c turns moves tick) (run c turns moves w.answers.items) out0 out1
-    (law c turns moves tick w.answers.items h.part.part h.part.later (rule_state w []) h.part.is h.part.all (subst F (h.tick ∙ same) h.part.stood)) h.written
+-- what the world answered are answers under the rule of its script
+script_begins : FollowersRunScripts → (end : End) (c : Scenario) (turns moves workers tick k : ℕ) (before : Meaning) (w : ScriptWorld) (out0 out1 : Option (List ℕ)) → before.tick ≡ tick
+    → RanInWorld end (run c turns moves) workers before (record (script_meaning w) { reference = k }) (script_log w) out0 out1
+    → IsBeginningOf (script_run c turns moves tick) (run c turns moves w.answers.items)
+script_begins law end c turns moves workers tick k before w out0 out1 same h =
+    let F : ℕ → Type 0 = λ t. Follows t (start []) h.part.part (rule_state w []) in
+    law c turns moves tick w.answers.items h.part.part h.part.later (rule_state w []) h.part.is h.part.all (subst F (h.tick ∙ same) h.part.stood)
+
+-- a run in a world that keeps a script is the run under its rule, whatever reference it works through
+pub script_ran : FollowersRunScripts → (end : End) (c : Scenario) (turns moves workers tick k : ℕ) (before : Meaning) (w : ScriptWorld) (out0 out1 : Option (List ℕ)) → before.tick ≡ tick
+    → RanInWorld end (run c turns moves) workers before (record (script_meaning w) { reference = k }) (script_log w) out0 out1 → RanTo end (script_run c turns moves tick) out0 out1
+script_ran law end c turns moves workers tick k before w out0 out1 same h =
+    ran_to_whole end (script_run c turns moves tick) (run c turns moves w.answers.items) out0 out1 (script_begins law end c turns moves workers tick k before w out0 out1 same h) h.written
+
+-- where it came to its end, it is the whole run
+same_whole : (end : End) (whole r : Ran) (out0 out1 : Option (List ℕ)) → IsBeginningOf whole r → RanTo end r out0 out1 → end ≢ End.WriteFault → end ≢ End.Memory → r ≡ whole
+same_whole end whole r out0 out1 b h w m = by end h w m
+  where
+    stopped : (e : End) → Some e ≡ end_of_run r.end → r ≡ whole
+    stopped e is = let stop = stops_for e r.end is in b.stopped stop.0 stop.1
+
+    by : (e : End) → RanTo e r out0 out1 → e ≢ End.WriteFault → e ≢ End.Memory → r ≡ whole
+    by End.WriteFault h w m = absurd (w refl)
+    by End.Memory h w m = absurd (m refl)
+    by End.MainValue h w m = stopped End.MainValue h.1
+    by (End.MainFault f) h w m = stopped (End.MainFault f) h.1
+    by End.NoTurns h w m = stopped End.NoTurns h.1
+    by End.NoMoves h w m = stopped End.NoMoves h.1
+    by End.NoGreenlets h w m = stopped End.NoGreenlets h.1
+    by End.NoLinks h w m = stopped End.NoLinks h.1
+    by End.NoKills h w m = stopped End.NoKills h.1
 
 -- ---- with native workers
 
@@ -187,6 +214,24 @@ ran_natively posts answers end c turns moves workers before after stands out0 ou
       answers = answers (Source.Given after.answers) turns moves c ∙ is.1;
       legal = h.legal;
       log = log;
+    }
+
+-- ---- with native workers whose results are told in the order of a script
+
+pub ran_held : FollowersRunScripts → PostsAreTold → AnswersAreTold → (end : End) (c : Scenario) (turns moves workers k : ℕ) (before inner : Meaning) (w : ScriptWorld) (out0 out1 : Option (List ℕ)) → before.tick ≡ 0 → 0 < workers
+    → RanInWorld end (run c turns moves) workers before (record (script_meaning w) { reference = k }) (script_log w) out0 out1 → Leads inner (script_meaning w) → end ≢ End.WriteFault → end ≢ End.Memory
+    → RanHeld workers (script_run c turns moves 0) inner
+ran_held law posts answers end c turns moves workers k before inner w out0 out1 same some_ h l wf m =
+    let r = run c turns moves w.answers.items in
+    let whole = script_run c turns moves 0 in
+    let is : r ≡ whole = same_whole end whole r out0 out1 (script_begins law end c turns moves workers 0 k before w out0 out1 same h) h.written wf m in
+    let n = ran_natively posts answers end c turns moves workers before (record (script_meaning w) { reference = k }) (script_log w) out0 out1 (script_log_is w) h wf m in
+    let begun : 0 < w.workers = subst (λ (x : ℕ). 0 < x) (sym n.workers_are) some_ in
+    record {
+      workers_are = l.same_workers begun ∙ n.workers_are;
+      rests = l.same_runs ∙ n.rests;
+      posts = ap (λ (x : Ran). posts_told x.lines) (sym is) ∙ n.posts ∙ sym (l.same_posts begun);
+      done = λ number told. l.ahead number (sym (ap (is_answered number) n.answers) ∙ ap (λ (x : Ran). is_answered number (answers_told x.lines)) is ∙ told);
     }
 
 -- ---- lines that meet the laws
@@ -217,7 +262,7 @@ run_lawful end options answers s out0 out1 h (inr unbegun) = unchanged_lawful (n
 -- where no run was begun, no native workers ran
 pub none_ran : (n : ℕ) (options : RunOptions) (s : Scenario) (after : Meaning) (stands : List LogEntry → Type 0) (out0 out1 : Option (List ℕ)) → IsUnbegun n out0 out1
     → RanWith n options s after stands out0 out1
-none_ran n options s after stands out0 out1 u = record { begun = inr u; native = λ workers w h4 h5 h7. absurd (by u.1 h4 h5 h7) }
+none_ran n options s after stands out0 out1 u = record { begun = inr u; native = λ workers w h4 h5 h7. absurd (by u.1 h4 h5 h7); held = λ workers w h4 h5 h7. absurd (by u.1 h4 h5 h7) }
   where
     by : (n ≡ 4) ⊎ (n ≡ 5) ⊎ (n ≡ 7) → n ≢ 4 → n ≢ 5 → n ≢ 7 → ⊥
     by (inl e) h4 h5 h7 = h4 e
@@ -228,12 +273,14 @@ none_ran n options s after stands out0 out1 u = record { begun = inr u; native =
 pub scenario_ran : (command : TextCommand) (options : RunOptions) (end : End) (s : Scenario) (after : Meaning) (stands : List LogEntry → Type 0) (out0 out1 : Option (List ℕ)) → command ≡ TextCommand.Run options
     → IsBegun options s after.answers out0 out1 ⊎ IsUnbegun (number_of (Verdict.Ran end)) out0 out1
     → ((workers : ℕ) → options.world ≡ RunWorld.Native workers → end ≢ End.WriteFault → end ≢ End.Memory → RanNatively workers (run_of options after.answers s) after stands)
+    → ((workers : ℕ) → options.world ≡ RunWorld.Held workers → end ≢ End.WriteFault → end ≢ End.Memory → RanHeld workers (run_of options after.answers s) after)
     → RanScenarioSo (number_of (Verdict.Ran end)) command s after stands out0 out1
-scenario_ran command options end s after stands out0 out1 is begun h = λ wanted e.
+scenario_ran command options end s after stands out0 out1 is begun h k = λ wanted e.
     let P : RunOptions → Type 0 = λ o. RanWith (number_of (Verdict.Ran end)) o s after stands out0 out1 in
     subst P (same_options options wanted (sym is ∙ e)) (record {
       begun = begun;
       native = λ workers v h4 h5 h7. h workers v (λ z. h5 (ap (λ x. number_of (Verdict.Ran x)) z)) (λ z. h7 (ap (λ x. number_of (Verdict.Ran x)) z));
+      held = λ workers v h4 h5 h7. k workers v (λ z. h5 (ap (λ x. number_of (Verdict.Ran x)) z)) (λ z. h7 (ap (λ x. number_of (Verdict.Ran x)) z));
     })
   where
     same_options : (a b : RunOptions) → TextCommand.Run a ≡ TextCommand.Run b → a ≡ b
@@ -289,9 +336,11 @@ quiet_blocks told quiet options given s well = by options.world
     by : (world : RunWorld) → BlocksAtQuiet (elim world [
       | RunWorld.Script tick ↦ script_run s options.turns options.moves tick
       | RunWorld.Native workers ↦ run s options.turns options.moves given
+      | RunWorld.Held held ↦ script_run s options.turns options.moves 0
     ])
     by (RunWorld.Script tick) = of (Source.Scripted tick [])
     by (RunWorld.Native workers) = of (Source.Given given)
+    by (RunWorld.Held workers) = of (Source.Scripted 0 [])
 
 -- ---- the run of the options
 
@@ -304,6 +353,7 @@ ran_by_script end options tick answers s engine out0 out1 is by_script h =
     let Q : RunWorld → Type 0 = λ w. RanTo end (elim w [
       | RunWorld.Script n ↦ script_run s options.turns options.moves n
       | RunWorld.Native workers ↦ run s options.turns options.moves answers
+      | RunWorld.Held held ↦ script_run s options.turns options.moves 0
     ]) out0 out1 in
     subst Q (sym by_script) (subst P is h)
 
@@ -316,6 +366,7 @@ ran_by_workers end options workers answers s engine out0 out1 is natively h =
     let Q : RunWorld → Type 0 = λ w. RanTo end (elim w [
       | RunWorld.Script n ↦ script_run s options.turns options.moves n
       | RunWorld.Native k ↦ run s options.turns options.moves answers
+      | RunWorld.Held held ↦ script_run s options.turns options.moves 0
     ]) out0 out1 in
     subst Q (sym natively) (subst P is h)
 
@@ -329,6 +380,7 @@ begun_by_script n options tick answers s engine out0 out1 is by_script h =
     let Q : RunWorld → Type 0 = λ w. L (elim w [
       | RunWorld.Script n ↦ script_run s options.turns options.moves n
       | RunWorld.Native workers ↦ run s options.turns options.moves answers
+      | RunWorld.Held held ↦ script_run s options.turns options.moves 0
     ]) in
     inl (record { lawful = subst Q (sym by_script) (subst P is h); ahead = λ workers natively. absurd (other_world workers (sym by_script ∙ natively)) })
   where
@@ -346,11 +398,62 @@ begun_by_workers n options workers answers s engine out0 out1 is natively (inl h
     let Q : RunWorld → Type 0 = λ w. L (elim w [
       | RunWorld.Script n ↦ script_run s options.turns options.moves n
       | RunWorld.Native k ↦ run s options.turns options.moves answers
+      | RunWorld.Held held ↦ script_run s options.turns options.moves 0
     ]) in
     let A : RunWorld → Type 0 = λ w. WroteAhead (λ given. elim w [
       | RunWorld.Script n ↦ script_run s options.turns options.moves n
       | RunWorld.Native k ↦ run s options.turns options.moves given
+      | RunWorld.Held held ↦ script_run s options.turns options.moves 0
     ]) answers out0 out1 in
     let begun = subst P is h in
     inl (record { lawful = subst Q (sym natively) begun.0; ahead = λ others e. subst A (sym natively) begun.1 })
 begun_by_workers n options workers answers s engine out0 out1 is natively (inr u) = inr u
+
+-- ---- with held order
+
+-- the engine that is prepared with these options has run as they say
+pub ran_by_held : (end : End) (options : RunOptions) (workers : ℕ) (answers : List Answer) (s : Scenario) (engine : Prepared) (out0 out1 : Option (List ℕ)) →
+    engine ≡ record { scenario = s; turns = options.turns; moves = options.moves } → options.world ≡ RunWorld.Held workers →
+    RanTo end (script_run engine.scenario engine.turns engine.moves 0) out0 out1 → RanTo end (run_of options answers s) out0 out1
+ran_by_held end options workers answers s engine out0 out1 is held h =
+    let P : Prepared → Type 0 = λ e. RanTo end (script_run e.scenario e.turns e.moves 0) out0 out1 in
+    let Q : RunWorld → Type 0 = λ w. RanTo end (elim w [
+      | RunWorld.Script n ↦ script_run s options.turns options.moves n
+      | RunWorld.Native k ↦ run s options.turns options.moves answers
+      | RunWorld.Held k ↦ script_run s options.turns options.moves 0
+    ]) out0 out1 in
+    subst Q (sym held) (subst P is h)
+
+-- and each run is begun
+pub begun_by_held : (n : ℕ) (options : RunOptions) (workers : ℕ) (answers : List Answer) (s : Scenario) (engine : Prepared) (out0 out1 : Option (List ℕ)) →
+    engine ≡ record { scenario = s; turns = options.turns; moves = options.moves } → options.world ≡ RunWorld.Held workers →
+    meets_laws (script_run engine.scenario engine.turns engine.moves 0).lines ≡ true → IsBegun options s answers out0 out1 ⊎ IsUnbegun n out0 out1
+begun_by_held n options workers answers s engine out0 out1 is held h =
+    let P : Prepared → Type 0 = λ e. meets_laws (script_run e.scenario e.turns e.moves 0).lines ≡ true in
+    let L : Ran → Type 0 = λ r. meets_laws r.lines ≡ true in
+    let Q : RunWorld → Type 0 = λ w. L (elim w [
+      | RunWorld.Script n ↦ script_run s options.turns options.moves n
+      | RunWorld.Native k ↦ run s options.turns options.moves answers
+      | RunWorld.Held k ↦ script_run s options.turns options.moves 0
+    ]) in
+    inl (record { lawful = subst Q (sym held) (subst P is h); ahead = λ others natively. absurd (other_world others (sym held ∙ natively)) })
+  where
+    other_world : (others : ℕ) → RunWorld.Held workers ≡ RunWorld.Native others → ⊥
+    other_world others z = cc z
+
+-- what its native workers are is what the options ask for
+pub held_so : (options : RunOptions) (workers others : ℕ) (answers : List Answer) (s : Scenario) (engine : Prepared) (after : Meaning) →
+    engine ≡ record { scenario = s; turns = options.turns; moves = options.moves } → options.world ≡ RunWorld.Held workers → options.world ≡ RunWorld.Held others →
+    RanHeld workers (script_run engine.scenario engine.turns engine.moves 0) after → RanHeld others (run_of options answers s) after
+held_so options workers others answers s engine after is held asked h =
+    let P : Prepared → Type 0 = λ e. RanHeld workers (script_run e.scenario e.turns e.moves 0) after in
+    let Q : RunWorld → Type 0 = λ w. RanHeld workers (elim w [
+      | RunWorld.Script n ↦ script_run s options.turns options.moves n
+      | RunWorld.Native k ↦ run s options.turns options.moves answers
+      | RunWorld.Held k ↦ script_run s options.turns options.moves 0
+    ]) after in
+    let same : workers ≡ others = same_held workers others (sym held ∙ asked) in
+    subst (λ (n : ℕ). RanHeld n (run_of options answers s) after) same (subst Q (sym held) (subst P is h))
+  where
+    same_held : (a b : ℕ) → RunWorld.Held a ≡ RunWorld.Held b → a ≡ b
+    same_held a b z = cc z

@@ -143,7 +143,7 @@ answered n v a out0 out1 err0 err1 e0 e1 d l =
 ran_told : (n : ℕ) (v : Verdict) (options : RunOptions) (s : Scenario) (after : Meaning) (stands : List LogEntry → Type 0) (out0 out1 : Option (List ℕ)) → IsStatusOf n v → RanWith (number_of v) options s after stands out0 out1
     → RanWith n options s after stands out0 out1
 ran_told n v options s after stands out0 out1 (inl e) h = let P : ℕ → Type 0 = λ m. RanWith m options s after stands out0 out1 in subst P (sym e) h
-ran_told n v options s after stands out0 out1 (inr p) h = record { begun = by h.begun; native = λ workers w h4 h5 h7. absurd (no p.1 h5 h7) }
+ran_told n v options s after stands out0 out1 (inr p) h = record { begun = by h.begun; native = λ workers w h4 h5 h7. absurd (no p.1 h5 h7); held = λ workers w h4 h5 h7. absurd (no p.1 h5 h7) }
   where
     by : IsBegun options s after.answers out0 out1 ⊎ IsUnbegun (number_of v) out0 out1 → IsBegun options s after.answers out0 out1 ⊎ IsUnbegun n out0 out1
     by (inl b) = inl b
@@ -182,7 +182,7 @@ out_of_memory_at_once app c after stands input out reads writes =
       unprinted = λ is h0 h5. refl;
       read_whole = λ text is h4 h7. absurd (h7 refl);
       storm = λ size is. ((λ e. omega arith), AppendsPrefix-nothing out (answer_to_storm size).out);
-      ran = λ text is left told s j options e. record { begun = inr (refl, inr (inr refl)); native = λ workers w h4 h5 h7. absurd (h7 refl) };
+      ran = λ text is left told s j options e. record { begun = inr (refl, inr (inr refl)); native = λ workers w h4 h5 h7. absurd (h7 refl); held = λ workers w h4 h5 h7. absurd (h7 refl) };
     }
 
 -- what a command came to, another that is the same came to

@@ -15,7 +15,7 @@ use Rattle.wsgi_core.specs.Applications.{App}
 use Rattle.gv_top.specs.declared.words.Command.{Command}
 use Rattle.gv_top.specs.Answers.{answer_to, answer_to_storm, formatted, most_read, refusal}
 use Rattle.gv_top.specs.Refusals.{IsRefusedAt}
-use Rattle.gv_top.specs.Running.{IsBegun, IsUnbegun, RanNatively, run_of}
+use Rattle.gv_top.specs.Running.{IsBegun, IsUnbegun, RanHeld, RanNatively, run_of}
 use Rattle.gv_top.specs.Top.{AnswersConnection, AnswersRun, BlocksAtQuiet, Ended, FailsToWrite, HasFaultLine, HasLawfulLines, IsAnswered}
 
 -- What words that name no server leave: the status, by the command that they name, if any; by what native workers are
@@ -43,6 +43,12 @@ pub record AnswersCommand (status : ℕ) (app : App) (command : Option Command) 
   pub native : (options : RunOptions) (workers : ℕ) (s : Scenario) (left : List ℕ) → command ≡ Some (Command.Text (TextCommand.Run options)) →
       options.world ≡ RunWorld.Native workers → in0 ≡ Some left → Spells s (take most_read left) → IsWellFormed s → status ≢ 4 → status ≢ 5 → status ≢ 7 →
       RanNatively workers (run_of options after.answers s) after stands
+  -- With held order the run is that of a script, whatever the native workers answer. They were begun in the number that
+  -- the words ask for, posted the jobs of the job lines, and answered that each job is done of which a turn line says so;
+  -- and they run no longer.
+  pub held : (options : RunOptions) (workers : ℕ) (s : Scenario) (left : List ℕ) → command ≡ Some (Command.Text (TextCommand.Run options)) →
+      options.world ≡ RunWorld.Held workers → in0 ≡ Some left → Spells s (take most_read left) → IsWellFormed s → status ≢ 4 → status ≢ 5 → status ≢ 7 →
+      RanHeld workers (run_of options after.answers s) after
   -- A text of a well-formed scenario is printed: out has its printed form.
   pub formatted : (s : Scenario) (left : List ℕ) → command ≡ Some (Command.Text TextCommand.Format) →
       in0 ≡ Some left → Spells s (take most_read left) → IsWellFormed s →

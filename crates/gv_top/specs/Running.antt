@@ -2,7 +2,7 @@
 use Rattle.std.specs.Prelude.{◌≡◌, ◌≢◌, ◌⊎◌, ℕ, true, false, List, [], Option}
 use Rattle.gv_values.specs.declared.job.Answer.{Answer}
 use Rattle.world_rules.specs.declared.question.LogEntry.{LogEntry}
-use Rattle.world_rules.specs.Legal.{AreLegal}
+use Rattle.world_rules.specs.Legal.{AreLegal, is_answered}
 use Rattle.world.specs.Worlds.{Meaning}
 use Rattle.scenario_tree.specs.declared.tree.Scenario.{Scenario}
 use Rattle.machine.specs.Run.{Ran, run, script_run}
@@ -12,13 +12,15 @@ use Rattle.machine_told.specs.Told.{posts_told}
 use Rattle.hub_engine.specs.declared.run.End.{End}
 use Rattle.hub_engine.specs.Ends.{IsPartLogged, RanTo, WroteAhead}
 use Rattle.command_words.specs.declared.command.RunOptions.{RunOptions}
-use Rattle.command_words.specs.declared.command.RunWorld.TheVariants.{Script, Native}
+use Rattle.command_words.specs.declared.command.RunWorld.TheVariants.{Script, Native, Held}
 
--- the run of the scenario with these options: under the rule of a script, or under the answers of native workers
+-- the run of the scenario with these options: under the rule of a script, also where native workers do the jobs and
+-- their results are told in its order; or under the answers of native workers
 abbrev pub run_of : RunOptions → List Answer → Scenario → Ran
 run_of options answers s = elim options.world [
   | Script tick ↦ script_run s options.turns options.moves tick
   | Native workers ↦ run s options.turns options.moves answers
+  | Held workers ↦ script_run s options.turns options.moves 0
 ]
 
 -- what holds of a run with these options that was begun: its lines meet the laws of a trace; and with native workers
@@ -41,6 +43,7 @@ pub record RanInWorld (end : End) (whole : List Answer → Ran) (workers : ℕ) 
   pub legal : AreLegal [] [] (whole after.answers).log
   pub workers_are : after.workers ≡ workers
   pub tick : after.tick ≡ before.tick
+  pub reference : after.reference ≡ before.reference
   pub rests : after.runs ≡ false
 
 -- What native workers are after a whole run: so many were begun, and run no longer; they were posted the jobs of the
@@ -53,3 +56,12 @@ pub record RanNatively (workers : ℕ) (r : Ran) (after : Meaning) (stands : Lis
   pub answers : answers_told r.lines ≡ after.answers
   pub legal : AreLegal [] [] r.log
   pub log : stands r.log
+
+-- What native workers are after a whole run whose results were told in the order of a script: so many were begun, and
+-- run no longer; they were posted the jobs of the job lines, in order; and they answered that a job is done for each of
+-- which a turn line says so.
+pub record RanHeld (workers : ℕ) (r : Ran) (after : Meaning) : Type 0 where
+  pub workers_are : after.workers ≡ workers
+  pub rests : after.runs ≡ false
+  pub posts : posts_told r.lines ≡ after.posts
+  pub done : (number : ℕ) → is_answered number (answers_told r.lines) ≡ true → is_answered number after.answers ≡ true

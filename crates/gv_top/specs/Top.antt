@@ -24,7 +24,7 @@ use Rattle.wsgi_connection.specs.Connections.{Exchanged}
 use Rattle.wsgi_connection.specs.declared.connection.ConnectionEnd.{ConnectionEnd}
 use Rattle.gv_top.specs.declared.status.Verdict.{Verdict}
 use Rattle.gv_top.specs.declared.words.Command.{Command}
-use Rattle.gv_top.specs.Running.{IsBegun, IsUnbegun, RanNatively, run_of}
+use Rattle.gv_top.specs.Running.{IsBegun, IsUnbegun, RanHeld, RanNatively, run_of}
 use Rattle.gv_top.specs.Answers.{Answer, answer_to, answer_to_storm, judged, memory_line, most_read, no_port, read_fault_line, write_fault_line}
 use Rattle.gv_top.specs.Gateways.{answers_by}
 use Rattle.gv_top.specs.Verdicts.{number_of, line_of}
@@ -65,6 +65,7 @@ pub record IsOfConnection (v : Verdict) (gateway : GatewayKind) (app : App) (in0
 pub record RanWith (n : ℕ) (options : RunOptions) (s : Scenario) (after : Meaning) (stands : List LogEntry → Type 0) (out0 out1 : Option (List ℕ)) : Type 0 where
   pub begun : IsBegun options s after.answers out0 out1 ⊎ IsUnbegun n out0 out1
   pub native : (workers : ℕ) → options.world ≡ RunWorld.Native workers → n ≢ 4 → n ≢ 5 → n ≢ 7 → RanNatively workers (run_of options after.answers s) after stands
+  pub held : (workers : ℕ) → options.world ≡ RunWorld.Held workers → n ≢ 4 → n ≢ 5 → n ≢ 7 → RanHeld workers (run_of options after.answers s) after
 
 -- where the command is a run of the scenario, it ran so
 abbrev pub RanScenarioSo : ℕ → TextCommand → Scenario → Meaning → (List LogEntry → Type 0) → Option (List ℕ) → Option (List ℕ) → Type 0

@@ -5,7 +5,7 @@ use Rattle.command_words.specs.Words as words
 use Rattle.command_words.specs.declared.command.Command.{Command as NamedCommand}
 use Rattle.command_words.specs.declared.command.Command.TheVariants as named
 use Rattle.command_words.specs.declared.command.RunWorld.{RunWorld}
-use Rattle.command_words.specs.declared.command.RunWorld.TheVariants.{Script, Native}
+use Rattle.command_words.specs.declared.command.RunWorld.TheVariants.{Script, Native, Held}
 use Rattle.command_words.specs.declared.command.ServeOptions.{ServeOptions}
 use Rattle.command_words.specs.declared.command.TextCommand.{TextCommand}
 use Rattle.command_words.specs.declared.command.TextCommand.TheVariants.{Run, Format}
@@ -37,6 +37,7 @@ serve_of w = option_and_then serving (words.command_of w)
 abbrev pub is_native_world : RunWorld → Bool
 is_native_world (Script tick) = false
 is_native_world (Native workers) = true
+is_native_world (Held workers) = true
 
 -- the command is a run with native workers
 abbrev pub is_native_text : TextCommand → Bool

@@ -7,7 +7,7 @@ ghost use Rattle.command_words.specs.Ranges.{IsWorldInRange};
 ghost use Rattle.hub_engine.specs.Ends.{RanTo, WroteAhead};
 ghost use Rattle.scenario_rules.specs.Rules.{IsWellFormed};
 ghost use Rattle.gv_top.specs.declared.status.Verdict.{Verdict};
-ghost use Rattle.gv_top.specs.Running.{IsBegun, IsUnbegun, RanInWorld, RanNatively, run_of};
+ghost use Rattle.gv_top.specs.Running.{IsBegun, IsUnbegun, RanHeld, RanInWorld, RanNatively, run_of};
 ghost use Rattle.gv_top.specs.Top.{Counts};
 ghost use Rattle.gv_top.specs.Verdicts.{number_of};
 ghost use Rattle.gv_top.specs.Words.{is_native_world};
@@ -20,7 +20,7 @@ use machine_scripts::followers_run_scripts;
 use machine_told::posts_and_answers_are_told;
 use scenario_check::Checked;
 use std::alloc::Global;
-use world::{ScriptWorld, World};
+use world::{Held, ScriptWorld, World};
 
 /// The workers of a script, which has none to start.
 const SCRIPT_WORKERS: u32 = 1;
@@ -114,6 +114,36 @@ fn run_natively<K: Sink, W: World>(
     }
 }
 
+/// Runs the engine with native workers, so many of them, whose results are told in the order of a script.
+fn run_held<K: Sink, W: World>(
+    alloc: Global,
+    engine: Engine,
+    workers: u32,
+    native: &mut W,
+    out: &mut K,
+) -> End
+    requires rests { (W.meaning native.old).runs ≡ false }
+    requires some { 0 < workers }
+    requires few { workers ≤ 16 }
+    requires well_formed { IsWellFormed engine.scenario }
+    ensures written { RanTo result (script_run engine.scenario engine.turns engine.moves 0) (K.written out.old) (K.written out.new) }
+    ensures lawful { meets_laws (script_run engine.scenario engine.turns engine.moves 0).lines ≡ true }
+    ensures native { result ≢ End.WriteFault → result ≢ End.Memory → RanHeld workers (script_run engine.scenario engine.turns engine.moves 0) (W.meaning native.new) }
+    ensures rests { (W.meaning native.new).runs ≡ false }
+    ensures counts { Counts (result ≡ End.WriteFault) (K.faults out.old) (K.faults out.new) }
+{
+    followers_run_scripts();
+    scripts_run_lawfully();
+    posts_and_answers_are_told();
+    let mut held = Held::new(alloc, native);
+    let ran = run_in_world(alloc, engine, workers, &mut held, out);
+    let _ = held.into_inner();
+    match ran {
+        Some(end) => end,
+        None => End::Memory,
+    }
+}
+
 /// Runs the scenario with these options, and writes its trace to out.
 pub fn run_scenario<K: Sink, W: World>(
     alloc: Global,
@@ -127,6 +157,8 @@ pub fn run_scenario<K: Sink, W: World>(
     ensures written { RanTo result (run_of options (W.meaning native.new).answers checked) (K.written out.old) (K.written out.new) }
     ensures native { (workers : ℕ) → options.world ≡ RunWorld.Native workers → result ≢ End.WriteFault → result ≢ End.Memory →
         RanNatively workers (run_of options (W.meaning native.new).answers checked) (W.meaning native.new) (W.stands_for native.new) }
+    ensures held { (workers : ℕ) → options.world ≡ RunWorld.Held workers → result ≢ End.WriteFault → result ≢ End.Memory →
+        RanHeld workers (run_of options (W.meaning native.new).answers checked) (W.meaning native.new) }
     ensures begun { IsBegun options checked (W.meaning native.new).answers (K.written out.old) (K.written out.new)
         ⊎ IsUnbegun (number_of (Verdict.Ran result)) (K.written out.old) (K.written out.new) }
     ensures untouched { is_native_world options.world ≡ false → native.new ≡ native.old }
@@ -144,5 +176,6 @@ pub fn run_scenario<K: Sink, W: World>(
     match options.world {
         RunWorld::Script(tick) => run_script(alloc, engine, tick, out),
         RunWorld::Native(workers) => run_natively(alloc, engine, workers, native, out),
+        RunWorld::Held(workers) => run_held(alloc, engine, workers, native, out),
     }
 }

@@ -16,10 +16,11 @@ use Rattle.hub_engine.specs.declared.broken.Broken.{Broken}
 use Rattle.hub_engine.specs.declared.run.End.{End}
 use Rattle.hub_engine.specs.declared.run.Ran.{Ran}
 use Rattle.hub_engine.specs.Ends.{CountsOf, HasLogged, HasNumbersAt, IsPartLogged, RanTo, WroteAhead, end_of, end_of_run}
-use Rattle.hub_engine.specs.Outside.{Outside}
+use Rattle.hub_engine.specs.Outside.{Outside, WritesPart}
 use Rattle.hub_engine.specs.Written.{HasBroken, HasEnded, Runs, RunsTo, ended_as, finished, preceded}
 use Rattle.hub_engine.proofs.Giving.{answers_of_append, legal_append}
 use Rattle.hub_engine.proofs.Texts.{text_of_append}
+use Rattle.hub_engine.proofs.Trying.{part-prefix, tried-whole}
 use Rattle.machine_turns.proofs.Taking.{run-takes}
 
 -- ---- the run is over
@@ -108,7 +109,7 @@ broken_answers : (v w : Outside) (whole : Runs) → v.means.answers ≡ [] → (
 broken_answers v w whole e b = b.done.answers ∙ ap (λ z. z ++ answers_of b.entries) e
 
 broken_written : (v w : Outside) (whole : Runs) → v.means.answers ≡ [] → HasBroken v w whole → AppendsPrefix v.written w.written (text_of (whole w.means.answers).lines)
-broken_written v w whole e b = subst (λ z. AppendsPrefix v.written w.written (text_of (whole z).lines)) (sym (broken_answers v w whole e b)) b.text
+broken_written v w whole e b = subst (λ z. AppendsPrefix v.written w.written (text_of (whole z).lines)) (sym (broken_answers v w whole e b)) (part-prefix v.written w.written (whole (answers_of b.entries)).lines b.text)
 
 broken_log : (v w : Outside) (whole : Runs) → v.means.answers ≡ [] → (b : HasBroken v w whole) → (whole w.means.answers).log ≡ b.entries ++ b.later
 broken_log v w whole e b = ap (λ z. (whole z).log) (broken_answers v w whole e b) ∙ b.is
@@ -150,6 +151,19 @@ pub ran_written : (v w : Outside) (whole : Runs) (r : Result End Broken) (s : St
 ran_written v w whole (Ok end) s e h = ended_written v w whole end s e h
 ran_written v w whole (Err Broken.Memory) s e h = broken_written v w whole e h
 ran_written v w whole (Err Broken.Write) s e h = broken_written v w whole e h
+
+-- which lines were tried
+ended_tried : (v w : Outside) (whole : Runs) (end : End) (s : State) → v.means.answers ≡ [] → HasEnded v w whole end s → WritesPart v.written w.written (whole w.means.answers).lines
+ended_tried v w whole end s e r =
+    subst (WritesPart v.written w.written) (sym (ap (λ (x : Whole). x.lines) (whole_is v w whole end s e r)))
+    (tried-whole v.written w.written r.running.lines [] r.running.given.text r.running.given.fit)
+
+broken_tried : (v w : Outside) (whole : Runs) → v.means.answers ≡ [] → HasBroken v w whole → WritesPart v.written w.written (whole w.means.answers).lines
+broken_tried v w whole e b = subst (λ z. WritesPart v.written w.written (whole z).lines) (sym (broken_answers v w whole e b)) b.text
+
+pub ran_tried : (v w : Outside) (whole : Runs) (r : Result End Broken) (s : State) → v.means.answers ≡ [] → RunsTo r v w whole s → WritesPart v.written w.written (whole w.means.answers).lines
+ran_tried v w whole (Ok end) s e h = ended_tried v w whole end s e h
+ran_tried v w whole (Err b) s e h = broken_tried v w whole e h
 
 pub ran_ahead : (v w : Outside) (whole : Runs) (r : Result End Broken) (s : State) → v.means.answers ≡ [] → RunsTo r v w whole s → WroteAhead whole w.means.answers v.written w.written
 ran_ahead v w whole (Ok end) s e h = ended_ahead v w whole end s e h

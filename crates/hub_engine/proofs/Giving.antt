@@ -3,8 +3,8 @@ use Rattle.std.proofs.Common.{◌≡◌, refl, ap, sym, ◌∙◌, subst, ℕ, L
 use Rattle.std.proofs.lemmas.List.{append-nil, map-append}
 use Rattle.trace_text.specs.declared.line.Line.{Line}
 use Rattle.trace_text.specs.LineTexts.{text_of}
-use Rattle.gv_io.specs.Streams.{appended, AppendsPrefix}
-use Rattle.gv_io.proofs.StreamLaws.{appended-nothing, appended-appended, AppendsPrefix-nothing, AppendsPrefix-all, AppendsPrefix-whole, AppendsPrefix-after, AppendsPrefix-longer}
+use Rattle.gv_io.specs.Streams.{appended}
+use Rattle.gv_io.proofs.StreamLaws.{appended-nothing, appended-appended}
 use Rattle.gv_values.specs.declared.job.Answer.{Answer}
 use Rattle.world_rules.specs.declared.question.LogEntry.{LogEntry}
 use Rattle.world_rules.specs.declared.question.PostedJob.{PostedJob}
@@ -14,8 +14,9 @@ use Rattle.world.specs.Worlds.{GoesOn, Meaning, Stores}
 use Rattle.machine.specs.declared.state.Post.{Post}
 use Rattle.machine.specs.Run.{logged}
 use Rattle.machine_turns.specs.Logs.{posts_of_step}
-use Rattle.hub_engine.specs.Outside.{HasDone, HasGiven, HasGivenPart, HasPostedPart, Outside, outside}
+use Rattle.hub_engine.specs.Outside.{HasDone, HasGiven, HasGivenPart, HasPostedPart, Outside, WritesPart, outside}
 use Rattle.hub_engine.proofs.Texts.{text_of_append}
+use Rattle.hub_engine.proofs.Trying.{fit_append, tried-after, tried-longer, tried-nothing, tried-whole}
 
 -- ---- logs one after another
 
@@ -49,7 +50,7 @@ answers_of_logged (p ∷ posts) = answers_of_logged posts
 
 -- nothing of what stays has changed
 pub same_rest : (m : Meaning) → GoesOn m m
-same_rest m = record { workers = refl; tick = refl; listed = refl; runs = refl }
+same_rest m = record { workers = refl; tick = refl; listed = refl; runs = refl; reference = refl }
 
 pub done_nothing : (v : Outside) → HasDone v v []
 done_nothing v = record {
@@ -72,6 +73,7 @@ done_then u v w log more d e = record {
     tick = e.rest.tick ∙ d.rest.tick;
     listed = e.rest.listed ∙ d.rest.listed;
     runs = e.rest.runs ∙ d.rest.runs;
+    reference = e.rest.reference ∙ d.rest.reference;
   };
   log = λ before h. subst w.stands (append_assoc before log more) (e.log (before ++ log) (d.log before h));
 }
@@ -90,11 +92,12 @@ done_asked v w q a legal s f = record {
 -- ---- what was given out
 
 pub given_nothing : (v : Outside) → HasGiven v v [] []
-given_nothing v = record { text = sym (appended-nothing v.written); done = done_nothing v }
+given_nothing v = record { text = sym (appended-nothing v.written); fit = tt; done = done_nothing v }
 
 pub given_then : (u v w : Outside) (lines more : List Line) (log later : List LogEntry) → HasGiven u v lines log → HasGiven v w more later → HasGiven u w (lines ++ more) (log ++ later)
 given_then u v w lines more log later g h = record {
   text = h.text ∙ ap (λ m. appended m (text_of more)) g.text ∙ appended-appended u.written (text_of lines) (text_of more) ∙ ap (appended u.written) (sym (text_of_append lines more));
+  fit = fit_append lines more g.fit h.fit;
   done = done_then u v w log later g.done h.done;
 }
 
@@ -115,20 +118,20 @@ pub made_all : (v w : Outside) (posts : List Post) → HasDone v w (map logged p
 made_all v w posts d = record { part = posts; later = []; is = sym (append-nil posts); done = d }
 
 pub part_nothing : (v : Outside) (lines : List Line) (posts : List Post) → HasGivenPart v v lines posts
-part_nothing v lines posts = record { text = AppendsPrefix-nothing v.written (text_of lines); made = made_nothing v posts }
+part_nothing v lines posts = record { text = tried-nothing v.written lines; made = made_nothing v posts }
 
 -- all was given out, and it broke off behind that
 pub given_whole : (v w : Outside) (written : Option (List ℕ)) (lines : List Line) (posts : List Post) → HasGiven v w lines (map logged posts) → written ≡ w.written →
     HasGivenPart v (outside written w.means w.stands) lines posts
 given_whole v w written lines posts g same = record {
-  text = AppendsPrefix-all v.written written (text_of lines) (same ∙ g.text);
+  text = subst (WritesPart v.written written) (append-nil lines) (tried-whole v.written written lines [] (same ∙ g.text) g.fit);
   made = made_all v (outside written w.means w.stands) posts g.done;
 }
 
 pub part_after : (u v w : Outside) (lines more : List Line) (posts later : List Post) → HasGiven u v lines (map logged posts) → HasGivenPart v w more later →
     HasGivenPart u w (lines ++ more) (posts ++ later)
 part_after u v w lines more posts later g h = record {
-  text = subst (AppendsPrefix u.written w.written) (sym (text_of_append lines more)) (AppendsPrefix-after u.written v.written w.written (text_of lines) (text_of more) g.text h.text);
+  text = tried-after u.written v.written w.written lines more g.text g.fit h.text;
   made = record {
     part = posts ++ h.made.part;
     later = h.made.later;
@@ -139,7 +142,7 @@ part_after u v w lines more posts later g h = record {
 
 pub part_longer : (v w : Outside) (lines more : List Line) (posts later : List Post) → HasGivenPart v w lines posts → HasGivenPart v w (lines ++ more) (posts ++ later)
 part_longer v w lines more posts later g = record {
-  text = subst (AppendsPrefix v.written w.written) (sym (text_of_append lines more)) (AppendsPrefix-longer v.written w.written (text_of lines) (text_of more) g.text);
+  text = tried-longer v.written w.written lines more g.text;
   made = record {
     part = g.made.part;
     later = g.made.later ++ later;
@@ -150,7 +153,7 @@ part_longer v w lines more posts later g = record {
 
 pub part_whole : (v w : Outside) (lines more : List Line) (posts later : List Post) → HasGiven v w lines (map logged posts) → HasGivenPart v w (lines ++ more) (posts ++ later)
 part_whole v w lines more posts later g = record {
-  text = subst (AppendsPrefix v.written w.written) (sym (text_of_append lines more)) (AppendsPrefix-whole v.written w.written (text_of lines) (text_of more) g.text);
+  text = tried-whole v.written w.written lines more g.text g.fit;
   made = record { part = posts; later = later; is = refl; done = g.done };
 }
 

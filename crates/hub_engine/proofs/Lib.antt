@@ -16,3 +16,4 @@ pub mod Running
 pub mod Soundly
 pub mod Texts
 pub mod Tying
+pub mod Trying

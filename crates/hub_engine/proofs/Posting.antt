@@ -98,6 +98,7 @@ done_refused u v w log e f d = record {
     tick = ap (λ (m : Meaning). m.tick) e ∙ d.rest.tick;
     listed = ap (λ (m : Meaning). m.listed) e ∙ d.rest.listed;
     runs = ap (λ (m : Meaning). m.runs) e ∙ d.rest.runs;
+    reference = ap (λ (m : Meaning). m.reference) e ∙ d.rest.reference;
   };
   log = λ before h. f (before ++ log) (d.log before h);
 }

@@ -5,8 +5,9 @@ use Rattle.std.proofs.lemmas.List.{append-nil}
 use Rattle.trace_text.specs.declared.line.Line.{Line}
 use Rattle.trace_text.specs.declared.line.StopCause.{StopCause}
 use Rattle.trace_text.specs.LineTexts.{text_of}
-use Rattle.gv_io.specs.Streams.{appended, AppendsPrefix}
-use Rattle.gv_io.proofs.StreamLaws.{appended-appended, AppendsPrefix-nothing, AppendsPrefix-after, AppendsPrefix-longer}
+use Rattle.trace_reader.specs.Ranges.{LinesFit}
+use Rattle.gv_io.specs.Streams.{appended}
+use Rattle.gv_io.proofs.StreamLaws.{appended-appended}
 use Rattle.gv_values.specs.declared.fault.FaultKind.{FaultKind}
 use Rattle.gv_values.specs.declared.job.Answer.{Answer}
 use Rattle.world_rules.specs.declared.question.LogEntry.{LogEntry}
@@ -25,13 +26,14 @@ use Rattle.hub_engine.specs.declared.run.End.{End as Ended}
 use Rattle.hub_engine.specs.declared.stand.Came.{Came}
 use Rattle.hub_engine.specs.declared.stand.Stand.{Stand}
 use Rattle.hub_engine.specs.Ends.{end_of}
-use Rattle.hub_engine.specs.Outside.{HasDone, HasGiven, HasGivenPart, Outside}
+use Rattle.hub_engine.specs.Outside.{HasDone, HasGiven, HasGivenPart, Outside, WritesPart}
 use Rattle.hub_engine.specs.Stands.{next_at}
-use Rattle.hub_engine.specs.Written.{AreLike, CameTo, HasBroken, HasEnded, IsRunning, IsStopping, RunsTo, Rounds, Runs, finished, from_turn, preceded}
+use Rattle.hub_engine.specs.Written.{AreLike, CameTo, HasBroken, HasEnded, IsRunning, IsStopping, RunsTo, Rounds, Runs, WritesAll, finished, from_turn, preceded}
 use Rattle.hub_engine.proofs.Giving.{answers_of_append, answers_of_logged, done_asked, done_nothing, done_then, given_nothing, given_then, logged_then}
 use Rattle.hub_engine.proofs.Passing.{like}
 use Rattle.hub_engine.proofs.Posting.{done_refused}
 use Rattle.hub_engine.proofs.Texts.{text_of_append}
+use Rattle.hub_engine.proofs.Trying.{part-prefix, tried-after, tried-longer, tried-nothing}
 
 -- ---- one part after another
 
@@ -128,8 +130,8 @@ running_broken u v w whole left r b =
       later = b.later;
       done = done_then u v w r.entries b.entries r.given.done b.done;
       is = ap (λ (x : Ran). x.log) here ∙ ap (λ z. r.entries ++ z) b.is ∙ sym (append_assoc r.entries b.entries b.later);
-      text = subst (AppendsPrefix u.written w.written) (sym (ap (λ (x : Ran). text_of x.lines) here ∙ text_of_append r.lines (left (answers_of b.entries)).lines))
-          (AppendsPrefix-after u.written v.written w.written (text_of r.lines) (text_of (left (answers_of b.entries)).lines) r.given.text b.text);
+      text = subst (WritesPart u.written w.written) (sym (ap (λ (x : Ran). x.lines) here))
+          (tried-after u.written v.written w.written r.lines (left (answers_of b.entries)).lines r.given.text r.given.fit b.text);
       ahead = λ before last e. by before last e (has_last (answers_of b.entries));
     }
   where
@@ -137,9 +139,10 @@ running_broken u v w whole left r b =
         (more : List ℕ) × (w.written ≡ appended u.written (text_of (whole before).lines ++ more))
     by before last e (HasLast.Empty none) =
         let own = r.ahead before last (sym (append-nil (answers_of r.entries)) ∙ ap (λ z. answers_of r.entries ++ z) (sym none) ∙ sym (answers_of_append r.entries b.entries) ∙ e) in
-        let rest = take b.text.count (text_of (left (answers_of b.entries)).lines) in (
+        let p = part-prefix v.written w.written (left (answers_of b.entries)).lines b.text in
+        let rest = take p.count (text_of (left (answers_of b.entries)).lines) in (
           text_of own.0 ++ rest,
-          b.text.is ∙ ap (λ m. appended m rest) r.given.text ∙ appended-appended u.written (text_of r.lines) rest
+          p.is ∙ ap (λ m. appended m rest) r.given.text ∙ appended-appended u.written (text_of r.lines) rest
               ∙ ap (λ z. appended u.written (z ++ rest)) (ap text_of own.1 ∙ text_of_append (whole before).lines own.0)
               ∙ ap (appended u.written) (append_assoc (text_of (whole before).lines) (text_of own.0) rest),
         )
@@ -162,7 +165,7 @@ broken_first v whole = record {
   later = (whole []).log;
   done = done_nothing v;
   is = refl;
-  text = AppendsPrefix-nothing v.written (text_of (whole []).lines);
+  text = tried-nothing v.written (whole []).lines;
   ahead = λ before last e. absurd (none_last before last e);
 }
 
@@ -190,8 +193,7 @@ part_broken v w whole left lines posts blocked is g =
       done = g.made.done;
       is = ap (λ (x : Ran). x.log) here ∙ ap (λ ps. map logged ps ++ (left []).log) g.made.is ∙ ap (λ z. z ++ (left []).log) (logged_then part g.made.later)
           ∙ append_assoc (map logged part) (map logged g.made.later) (left []).log;
-      text = subst (AppendsPrefix v.written w.written) (sym (ap (λ (x : Ran). text_of x.lines) here ∙ text_of_append lines (left []).lines))
-          (AppendsPrefix-longer v.written w.written (text_of lines) (text_of (left []).lines) g.text);
+      text = subst (WritesPart v.written w.written) (sym (ap (λ (x : Ran). x.lines) here)) (tried-longer v.written w.written lines (left []).lines g.text);
       ahead = λ before last e. absurd (none_last before last (sym (answers_of_logged part) ∙ e));
     }
 
@@ -208,7 +210,7 @@ answered_on v w x go q a s t u same legal stored log e none g f =
       lines = t.lines;
       entries = LogEntry.Asked q a ∷ [];
       blocked = [];
-      given = record { text = h.text ∙ ap (λ m. appended m (text_of t.lines)) (sym same); done = done_then v w x (LogEntry.Asked q a ∷ []) [] d h.done };
+      given = record { text = h.text ∙ ap (λ m. appended m (text_of t.lines)) (sym same); fit = h.fit; done = done_then v w x (LogEntry.Asked q a ∷ []) [] d h.done };
       is = λ later. goes later;
       ahead = λ before last z. (t.lines, ap (λ b. (asks go q (Source.Given b) s).lines ++ t.lines) (sym (single before last z)));
     }
@@ -223,7 +225,7 @@ answered_on v w x go q a s t u same legal stored log e none g f =
 
 -- the answer was stored, and a part of its turn line was given out, or nothing
 pub answered_broken : (v w x : Outside) (go : GoingOn) (q : Question) (a : Answer) (s t : State) → v.written ≡ w.written → IsLegal v.means.posts v.means.answers q a → Stores v.means w.means a →
-    ((before : List LogEntry) → v.stands before → w.stands (before ++ LogEntry.Asked q a ∷ [])) → t ≡ take_answer a s → AppendsPrefix w.written x.written (text_of t.lines) → HasDone w x [] →
+    ((before : List LogEntry) → v.stands before → w.stands (before ++ LogEntry.Asked q a ∷ [])) → t ≡ take_answer a s → WritesPart w.written x.written t.lines → HasDone w x [] →
     HasBroken v x (λ later. asks go q (Source.Given later) s)
 answered_broken v w x go q a s t same legal stored log e p d =
     let whole = λ (later : List Answer). asks go q (Source.Given later) s in
@@ -234,9 +236,8 @@ answered_broken v w x go q a s t same legal stored log e p d =
       later = (go (Source.Given []) (silent (take_answer a s))).log;
       done = done_then v w x (LogEntry.Asked q a ∷ []) [] first d;
       is = refl;
-      text = subst (AppendsPrefix v.written x.written) (sym (ap text_of lines ∙ text_of_append t.lines (go (Source.Given []) (silent (take_answer a s))).lines))
-          (AppendsPrefix-longer v.written x.written (text_of t.lines) (text_of (go (Source.Given []) (silent (take_answer a s))).lines)
-          (subst (λ m. AppendsPrefix m x.written (text_of t.lines)) (sym same) p));
+      text = subst (WritesPart v.written x.written) (sym lines)
+          (tried-longer v.written x.written t.lines (go (Source.Given []) (silent (take_answer a s))).lines (subst (λ m. WritesPart m x.written t.lines) (sym same) p));
       ahead = λ before last z. begun before (single before last z);
     }
   where
@@ -245,11 +246,12 @@ answered_broken v w x go q a s t same legal stored log e p d =
     single (b ∷ before) last z = absurd (none_last before last (let r : [] ≡ before ++ last ∷ [] = cc z in r))
 
     begun : (before : List Answer) → before ≡ [] → (more : List ℕ) × (x.written ≡ appended v.written (text_of (asks go q (Source.Given before) s).lines ++ more))
-    begun before z = (
-      take p.count (text_of t.lines),
-      p.is ∙ ap (λ m. appended m (take p.count (text_of t.lines))) (sym same)
-          ∙ ap (λ b. appended v.written (text_of (asks go q (Source.Given b) s).lines ++ take p.count (text_of t.lines))) (sym z),
-    )
+    begun before z =
+        let k = part-prefix w.written x.written t.lines p in (
+          take k.count (text_of t.lines),
+          k.is ∙ ap (λ m. appended m (take k.count (text_of t.lines))) (sym same)
+              ∙ ap (λ b. appended v.written (text_of (asks go q (Source.Given b) s).lines ++ take k.count (text_of t.lines))) (sym z),
+        )
 
 -- the question was refused
 pub asked_refused : (v w : Outside) (go : GoingOn) (q : Question) (s : State) → v.written ≡ w.written → w.means ≡ v.means → ((l : List LogEntry) → v.stands l → w.stands l) →
@@ -259,7 +261,7 @@ asked_refused v w go q s same e f = record {
   later = [];
   done = done_refused v v w [] e f (done_nothing v);
   is = refl;
-  text = subst (λ m. AppendsPrefix v.written m []) same (AppendsPrefix-nothing v.written []);
+  text = subst (λ m. WritesPart v.written m []) same (tried-nothing v.written []);
   ahead = λ before last z. absurd (none_last before last z);
 }
 
@@ -429,16 +431,16 @@ ran_then u v w (Err e) whole left s r q = running_broken u v w whole left r q
 
 -- ---- the stop
 
-stop_texts : (cause : StopCause) (s t : State) → AreLike s t → text_of (stopped cause s).lines ≡ text_of (stopped cause t).lines
-stop_texts cause s t same =
-    ap (λ (n : ℕ). text_of (Line.Stop cause n s.moves ∷ [])) same.turns ∙ ap (λ (n : ℕ). text_of (Line.Stop cause t.turns n ∷ [])) same.moves
+stop_lines : (cause : StopCause) (s t : State) → AreLike s t → (stopped cause s).lines ≡ (stopped cause t).lines
+stop_lines cause s t same = ap (λ (n : ℕ). Line.Stop cause n s.moves ∷ []) same.turns ∙ ap (λ (n : ℕ). Line.Stop cause t.turns n ∷ []) same.moves
 
 -- the stop line was written
 pub stopped_on : (u v w : Outside) (whole : Runs) (cause : StopCause) (end : Ended) (s : State) → IsStopping u v whole cause s →
-    w.written ≡ appended v.written (text_of (stopped cause s).lines) → HasDone v w [] → end ≡ end_of cause → HasEnded u w whole end s
+    WritesAll v.written w.written (stopped cause s).lines → HasDone v w [] → end ≡ end_of cause → HasEnded u w whole end s
 stopped_on u v w whole cause end s r e d f =
     let lines = (stopped cause r.last).lines in
-    let given : HasGiven v w lines [] = record { text = e ∙ ap (appended v.written) (sym (stop_texts cause r.last s r.like)); done = d } in
+    let same = sym (stop_lines cause r.last s r.like) in
+    let given : HasGiven v w lines [] = record { text = e.text ∙ ap (λ ls. appended v.written (text_of ls)) same; fit = subst LinesFit same e.fit; done = d } in
     let last = part_run v w (λ later. stopped cause r.last) (λ later. finished cause r.last) lines [] [] (λ later. refl) given in
     record {
       cause = cause;
@@ -449,11 +451,11 @@ stopped_on u v w whole cause end s r e d f =
     }
 
 pub stop_broken : (u v w : Outside) (whole : Runs) (cause : StopCause) (s : State) → IsStopping u v whole cause s →
-    AppendsPrefix v.written w.written (text_of (stopped cause s).lines) → HasDone v w [] → HasBroken u w whole
+    WritesPart v.written w.written (stopped cause s).lines → HasDone v w [] → HasBroken u w whole
 stop_broken u v w whole cause s r p d =
     let lines = (stopped cause r.last).lines in
     let given : HasGivenPart v w lines [] = record {
-      text = subst (AppendsPrefix v.written w.written) (sym (stop_texts cause r.last s r.like)) p;
+      text = subst (WritesPart v.written w.written) (sym (stop_lines cause r.last s r.like)) p;
       made = record { part = []; later = []; is = refl; done = d };
     } in
     running_broken u v w whole (λ later. stopped cause r.last) r.running

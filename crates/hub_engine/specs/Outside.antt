@@ -2,6 +2,7 @@
 use Rattle.std.specs.Prelude.{◌≡◌, ℕ, false, List, [], ◌∷◌, ◌++◌, map, ⊤, Option, Result, Ok, Err}
 use Rattle.trace_text.specs.declared.line.Line.{Line}
 use Rattle.trace_text.specs.LineTexts.{text_of}
+use Rattle.trace_reader.specs.Ranges.{LinesFit}
 use Rattle.gv_io.specs.Streams.{appended, AppendsPrefix}
 use Rattle.world_rules.specs.declared.question.LogEntry.{LogEntry}
 use Rattle.world_rules.specs.declared.question.PostedJob.{PostedJob}
@@ -49,14 +50,23 @@ abbrev pub PostsOn : {A E : Type 0} → Result A E → Outside → Outside → L
 PostsOn (Ok x) v w posts = HasDone v w (map logged posts)
 PostsOn (Err e) v w posts = HasPostedPart v w posts
 
--- the text of these lines was written, and this was done with the world
+-- of these lines the first were tried, each one that its type has: a prefix of their text was written
+pub record WritesPart (old new : Option (List ℕ)) (lines : List Line) : Type 0 where
+  pub tried : List Line
+  pub later : List Line
+  pub is : lines ≡ tried ++ later
+  pub fit : LinesFit tried
+  pub text : AppendsPrefix old new (text_of tried)
+
+-- the text of these lines was written, each one that its type has, and this was done with the world
 pub record HasGiven (v w : Outside) (lines : List Line) (entries : List LogEntry) : Type 0 where
   pub text : w.written ≡ appended v.written (text_of lines)
+  pub fit : LinesFit lines
   pub done : HasDone v w entries
 
 -- a prefix of the text was written, and the first of these posts were made
 pub record HasGivenPart (v w : Outside) (lines : List Line) (posts : List Post) : Type 0 where
-  pub text : AppendsPrefix v.written w.written (text_of lines)
+  pub text : WritesPart v.written w.written lines
   pub made : HasPostedPart v w posts
 
 -- the lines and posts of a part of a run were given out, or a part of them where it broke off

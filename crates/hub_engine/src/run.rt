@@ -11,6 +11,7 @@ ghost use Rattle.world.specs.Worlds.{GoesOn};
 ghost use Rattle.world_rules.specs.Legal.{AreLegal};
 ghost use Rattle.hub_objects.specs.Counted.{AreCounted};
 ghost use Rattle.hub_engine.specs.Ends.{HasLogged, HasNumbers, RanTo, WroteAhead};
+ghost use Rattle.hub_engine.specs.Outside.{WritesPart};
 ghost use Rattle.hub_engine.specs.declared.run.End.TheVariants as ends;
 
 use crate::turns::{ended_as, run};
@@ -110,6 +111,8 @@ impl Engine {
         requires runs { (W.meaning world.old).runs ≡ true }
         requires begun { W.stands_for world.old [] }
         ensures written { RanTo result.end (run self.scenario self.turns self.moves (W.meaning world.new).answers) (K.written sink.old) (K.written sink.new) }
+        // each line of which anything was written, or tried, is one that its type has
+        ensures tried { WritesPart (K.written sink.old) (K.written sink.new) (run self.scenario self.turns self.moves (W.meaning world.new).answers).lines }
         ensures ahead { WroteAhead (run self.scenario self.turns self.moves) (W.meaning world.new).answers (K.written sink.old) (K.written sink.new) }
         ensures numbers { HasNumbers result (run self.scenario self.turns self.moves (W.meaning world.new).answers).state }
         ensures log { HasLogged result.end (run self.scenario self.turns self.moves (W.meaning world.new).answers).log (W.meaning world.new).answers (W.stands_for world.new) }

@@ -1,6 +1,7 @@
 //! Turns, and the whole run, whose trace is given out step by step.
 ghost use Rattle.std.specs.Prelude.{◌≡◌, ◌<◌, ℕ, suc, true, [], length, slice_get, OnOk, IfOk, None, Some};
 ghost use Rattle.trace_text.specs.LineTexts.{text_of};
+ghost use Rattle.trace_reader.specs.Ranges.{LinesFit};
 ghost use Rattle.machine.specs.declared.items.Item.{Item as AnyItem};
 ghost use Rattle.machine.specs.Deliveries.{deliver};
 ghost use Rattle.machine.specs.Questions.{is_numbered, question as question_of};
@@ -24,16 +25,19 @@ use hub_state::Hub;
 use machine::state::Post;
 use scenario_tree::Items;
 use std::alloc::{AllocError, Global};
+use trace_reader::line_fits;
 use trace_text::{Line, StopCause, write_line};
 use world::{Question, World};
 
 /// The texts of the lines, each with LF.
-#[tactic(auto, using(crate::proofs::Texts::text_more))]
+#[tactic(auto, using(crate::proofs::Texts::text_more, crate::proofs::Texts::fit_more))]
 fn texts(alloc: Global, lines: &[Line]) -> Result<Vec<u8>, AllocError>
-    ensures { IfOk result (λ text. text.items ≡ text_of lines.now) }
+    ensures text { IfOk result (λ text. text.items ≡ text_of lines.now) }
+    ensures fit { OnOk result (LinesFit lines.now) }
 {
     let mut text = Vec::new(alloc);
     for line in lines {
+        line_fits(line);
         write_line(line, &mut text)?;
         text.push(b'\n')?;
     }
@@ -54,7 +58,7 @@ fn post_all<W: World>(world: &mut W, posts: &[Post]) -> Result<(), AllocError>
 }
 
 /// The lines and posts of the step under way are given out.
-#[tactic(auto, using(gv_io::proofs::StreamLaws::writes, crate::proofs::Giving::part_nothing))]
+#[tactic(auto, using(crate::proofs::Trying::tries, crate::proofs::Giving::part_nothing))]
 fn give_out<W: World, K: Sink>(
     alloc: Global,
     hub: &mut Hub,
@@ -307,9 +311,9 @@ fn round<W: World, K: Sink>(
 }
 
 /// The stop line is given out.
-#[tactic(auto, using(gv_io::proofs::StreamLaws::writes))]
+#[tactic(auto, using(crate::proofs::Trying::tries))]
 fn stop<K: Sink>(alloc: Global, hub: &Hub, sink: &mut K, cause: StopCause) -> Result<End, Broken>
-    ensures written { Writes result (K.written sink.old) (K.written sink.new) (text_of (stopped cause hub.now).lines) }
+    ensures written { Writes result (K.written sink.old) (K.written sink.new) (stopped cause hub.now).lines }
     ensures end { IfOk result (λ end. end ≡ end_of cause) }
     ensures counts { Counts result (K.faults sink.old) (K.faults sink.new) }
 {

@@ -29,7 +29,7 @@ pub record Pool : Type 0 where
 -- what it means as a world: its rule rests on nothing
 abbrev pub pool_meaning : Pool → Meaning
 pool_meaning p =
-    record { posts = p.posts; answers = p.answers; moment = p.moment; workers = p.workers; tick = 0; listed = []; runs = is_some p.desk }
+    record { posts = p.posts; answers = p.answers; moment = p.moment; workers = p.workers; tick = 0; listed = []; runs = is_some p.desk; reference = 0 }
 
 -- the logs for which it stands: those with its posts and answers
 abbrev pub pool_log : Pool → List LogEntry → Type 0

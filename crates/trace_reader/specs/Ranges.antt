@@ -127,3 +127,8 @@ LineFits (Line.Job j g job) = (j < 2 ^ 32) × (g < 2 ^ 32) × JobFits job
 LineFits (Line.Block b) = BlockedFits b
 LineFits (Line.Turn k a) = (k < 2 ^ 64) × AnswerFits a
 LineFits (Line.Stop c t m) = CauseFits c × (t < 2 ^ 64) × (m < 2 ^ 64)
+
+-- each of the lines is one that the type has
+abbrev pub LinesFit : List Line → Type 0
+LinesFit [] = Unit {0}
+LinesFit (line ∷ lines) = LineFits line × LinesFit lines

@@ -3,6 +3,7 @@
 
 mod cursor;
 mod fault;
+mod fits;
 mod laws;
 mod lines;
 mod parts;
@@ -10,5 +11,6 @@ mod read;
 mod values;
 
 pub use fault::LineFault;
+pub use fits::line_fits;
 pub use laws::texts_tell_lines;
 pub use read::read_line;

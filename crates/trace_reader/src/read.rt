@@ -20,6 +20,7 @@ pub fn read_line(alloc: Global, bytes: &[u8]) -> Result<Line, LineFault>
     ensures line { IfOk result (λ line. line_text line ≡ bytes.now) }
     ensures again { (line : LineOf) → LineFits line → line_text line ≡ bytes.now → IsRead line result }
     ensures refused { IsRefused bytes.now result }
+    ensures fits { IfOk result LineFits }
 {
     texts_tell_lines();
     let mut cursor = Cursor::new(bytes);

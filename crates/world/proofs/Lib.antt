@@ -3,3 +3,4 @@ pub mod Sound
 pub mod Finding
 pub mod Ranking
 pub mod Listing
+pub mod Tying

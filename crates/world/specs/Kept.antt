@@ -19,6 +19,7 @@ script_meaning w = record {
   tick = w.tick;
   listed = [];
   runs = w.running;
+  reference = 0;
 }
 
 -- the jobs that are outstanding, in the order of their posts

@@ -4,3 +4,5 @@ pub mod Outstanding
 pub mod Kept
 pub mod Logged
 pub mod Listed
+pub mod Upshots
+pub mod Holding

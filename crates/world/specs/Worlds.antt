@@ -6,7 +6,8 @@ use Rattle.world_rules.specs.declared.question.PostedJob.{PostedJob}
 use Rattle.world_rules.specs.Legal.{posted, moment_of}
 
 -- the jobs posted since the world began, in order; the answers since then; its moment; its number of workers; what its
--- rule rests on, a tick and a list of answers; and whether it runs
+-- rule rests on, a tick and a list of answers; whether it runs; and the name of the reference through which it works,
+-- or 0 where it works through none
 pub record Meaning : Type 0 where
   pub posts : List PostedJob
   pub answers : List Answer
@@ -15,6 +16,7 @@ pub record Meaning : Type 0 where
   pub tick : ℕ
   pub listed : List Answer
   pub runs : Bool
+  pub reference : ℕ
 
 -- a world that begins: nothing was posted, asked or answered. Its rule keeps its tick
 pub record Begins (v w : Meaning) (workers : ℕ) : Type 0 where
@@ -24,6 +26,7 @@ pub record Begins (v w : Meaning) (workers : ℕ) : Type 0 where
   pub workers_are : w.workers ≡ workers
   pub tick : w.tick ≡ v.tick
   pub runs : w.runs ≡ true
+  pub reference : w.reference ≡ v.reference
 
 -- what stays the same while a world runs
 pub record GoesOn (v w : Meaning) : Type 0 where
@@ -31,6 +34,7 @@ pub record GoesOn (v w : Meaning) : Type 0 where
   pub tick : w.tick ≡ v.tick
   pub listed : w.listed ≡ v.listed
   pub runs : w.runs ≡ v.runs
+  pub reference : w.reference ≡ v.reference
 
 -- a job more was posted; the moment doesn't fall
 pub record Posts (v w : Meaning) (number : ℕ) (job : Job) : Type 0 where

@@ -3,12 +3,14 @@
 #![tactic(auto)]
 
 mod due;
+mod held;
 mod legal;
 mod list;
 mod outside;
 mod outstanding;
 mod script;
 
+pub use held::Held;
 pub use list::ListWorld;
 pub use outside::World;
 pub use script::ScriptWorld;

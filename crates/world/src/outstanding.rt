@@ -70,13 +70,18 @@ impl OutstandingJobs {
         ensures { (number : ℕ) → get nat_eq self.new.by_number number ≡ (if is_done_of number answer then None else get nat_eq self.old.by_number number) }
     {
         match answer {
-            Answer::Done { number, .. } => {
-                if let Some(job) = self.by_number.remove(&number) {
-                    self.ranks.remove(&(job.due, number));
-                }
-            }
+            Answer::Done { number, .. } => self.remove(number),
             Answer::Elapsed { .. } => {}
             Answer::Nothing { .. } => {}
+        }
+    }
+
+    /// Takes off the job of this number, if it is there.
+    pub(crate) fn remove(&mut self, number: u32)
+        ensures { (n : ℕ) → get nat_eq self.new.by_number n ≡ (if number == n then None else get nat_eq self.old.by_number n) }
+    {
+        if let Some(job) = self.by_number.remove(&number) {
+            self.ranks.remove(&(job.due, number));
         }
     }
 

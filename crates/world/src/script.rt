@@ -4,7 +4,7 @@ ghost use Rattle.std.specs.HashMap.{get};
 ghost use Rattle.world.specs.Ruled.{IsSound};
 ghost use Rattle.world.specs.Outstanding.{still_due, ArePosted};
 
-use crate::due::{due_at, moment_of, scripted};
+use crate::due::{Upshot, answer_of, decide, due_at, moment_of};
 use crate::legal::is_legal;
 use crate::outside::World;
 use crate::outstanding::OutstandingJobs;
@@ -33,11 +33,15 @@ impl ScriptWorld {
     ghost use Rattle.world_rules.specs.Legal.{is_posted, IsLegal, MayAsk};
     ghost use Rattle.world_rules.specs.Script.{start, after_post, after_answer, scripted};
     ghost use Rattle.world.specs.Kept.{script_meaning, due_jobs, rule_state, SameSetting, SameScript};
+    ghost use Rattle.world.specs.Upshots.{said};
+    ghost use Rattle.world.specs.Worlds.{Posts};
 
     /// A world that doesn't run yet, whose moment grows by so many milliseconds at each Poll.
     pub fn new(alloc: Global, tick: u64) -> ScriptWorld
         ensures tick { (script_meaning result).tick ≡ tick }
         ensures stopped { (script_meaning result).runs ≡ false }
+        ensures workers { (script_meaning result).workers ≡ 0 }
+        ensures state { (listed : List Answer) → rule_state result listed ≡ start listed }
     {
         ScriptWorld {
             tick,
@@ -84,13 +88,51 @@ impl ScriptWorld {
         Ok(())
     }
 
+    /// Adds a job as `add` does, once the other world was posted it too, where it takes none of that world's own time.
+    /// Where either has no memory for it, neither was posted it.
+    pub(crate) fn add_beside<W: World>(
+        &mut self,
+        other: &mut W,
+        number: u32,
+        job: Job,
+        takes: u64,
+    ) -> Result<(), AllocError>
+        requires new { is_posted number self.old.posts.items ≡ false }
+        requires runs { (W.meaning other.old).runs ≡ true }
+        requires new_there { is_posted number (W.meaning other.old).posts ≡ false }
+        ensures state { OnOk result ((listed : List Answer) → rule_state self.new listed ≡ after_post (rule_state self.old listed) number job takes) }
+        ensures setting { OnOk result (SameSetting self.old self.new) }
+        ensures refused { OnErr result (SameScript self.old self.new) }
+        ensures posted { OnOk result (Posts (W.meaning other.old) (W.meaning other.new) number job) }
+        ensures refused_there { OnErr result (W.meaning other.new ≡ W.meaning other.old) }
+    {
+        self.posts.reserve(1)?;
+        let due = due_at(self.moment, takes);
+        self.outstanding.add(DueJob { number, job, due })?;
+        if other.post(number, job, 0).is_err() {
+            self.outstanding.remove(number);
+            return Err(AllocError);
+        }
+        self.posts.push_reserved(PostedJob { number, job });
+        Ok(())
+    }
+
     /// What the script answers, which is legal where the question may be asked.
     pub(crate) fn by_script(&self, question: Question) -> Answer
         requires { MayAsk self.now.posts.items self.now.answers.items question }
         ensures script { result ≡ scripted self.now.tick (due_jobs self.now) self.now.moment question }
         ensures legal { IsLegal self.now.posts.items self.now.answers.items question result }
     {
-        scripted(self.tick, self.outstanding.first(), self.moment, question)
+        answer_of(self.decide(question))
+    }
+
+    /// The same, before the job that it names is evaluated.
+    pub(crate) fn decide(&self, question: Question) -> Upshot
+        requires { MayAsk self.now.posts.items self.now.answers.items question }
+        ensures script { said result ≡ scripted self.now.tick (due_jobs self.now) self.now.moment question }
+        ensures legal { IsLegal self.now.posts.items self.now.answers.items question (said result) }
+    {
+        decide(self.tick, self.outstanding.first(), self.moment, question)
     }
 
     /// Whether an answer to the question is legal now.

@@ -1,7 +1,7 @@
 use Rattle.std.proofs.Common.{inr, refl}
-use Rattle.gv_top.proofs.InWorlds.{begun_by_script, begun_by_workers, ran_by_script, ran_by_workers}
+use Rattle.gv_top.proofs.InWorlds.{begun_by_held, begun_by_script, begun_by_workers, held_so, ran_by_held, ran_by_script, ran_by_workers}
 use Rattle.gv_io.proofs.StreamLaws.{AppendsPrefix-nothing}
-use Rattle.gv_top.proofs.Built.{few_workers, some_workers}
+use Rattle.gv_top.proofs.Built.{few_held, few_workers, some_held, some_workers}
 use Rattle.gv_top.proofs.running.run_scenario.Goals as goal
 
 pub run_natively-requires-clause-some : goal.run_natively-requires-clause-some
@@ -31,3 +31,21 @@ returns-in-Script-clause-begun g c =
 pub returns-in-Native-clause-begun : goal.returns-in-Native-clause-begun
 returns-in-Native-clause-begun g c =
     begun_by_workers _ c.args.options c.in-Native.workers _ c.args.checked c.in-Ok.engine _ _ c.in-Ok.ensures c.in-Native.is c.run_natively.ensures.begun
+
+pub run_held-requires-clause-some : goal.run_held-requires-clause-some
+run_held-requires-clause-some g c = some_held c.args.options.world _ c.in-Held.is c.requires.range
+
+pub run_held-requires-clause-few : goal.run_held-requires-clause-few
+run_held-requires-clause-few g c = few_held c.args.options.world _ c.in-Held.is c.requires.range
+
+pub returns-in-Held-clause-written : goal.returns-in-Held-clause-written
+returns-in-Held-clause-written g c =
+    ran_by_held c.run_held.result c.args.options c.in-Held.workers _ c.args.checked c.in-Ok.engine _ _ c.in-Ok.ensures c.in-Held.is c.run_held.ensures.written
+
+pub returns-in-Held-clause-held : goal.returns-in-Held-clause-held
+returns-in-Held-clause-held g c = λ workers is wf m.
+    held_so c.args.options c.in-Held.workers workers _ c.args.checked c.in-Ok.engine _ c.in-Ok.ensures c.in-Held.is is (c.run_held.ensures.native wf m)
+
+pub returns-in-Held-clause-begun : goal.returns-in-Held-clause-begun
+returns-in-Held-clause-begun g c =
+    begun_by_held _ c.args.options c.in-Held.workers _ c.args.checked c.in-Ok.engine _ _ c.in-Ok.ensures c.in-Held.is c.run_held.ensures.lawful

@@ -5,7 +5,7 @@ use Rattle.gv_top.proofs.running.run_script.Goals as goal
 
 pub returns-in-Some-clause-written : goal.returns-in-Some-clause-written
 returns-in-Some-clause-written g c =
-    script_ran c.followers_run_scripts.ensures c.in-Some.end c.args.engine.scenario c.args.engine.turns c.args.engine.moves _ c.args.tick (script_meaning c.new-world.result) c.run_in_world.new.world _ _
+    script_ran c.followers_run_scripts.ensures c.in-Some.end c.args.engine.scenario c.args.engine.turns c.args.engine.moves _ c.args.tick 0 (script_meaning c.new-world.result) c.run_in_world.new.world _ _
     c.new-world.ensures.tick c.in-Some.ensures.ran
 
 pub returns-in-Some-clause-lawful : goal.returns-in-Some-clause-lawful

@@ -23,7 +23,7 @@ returns-in-Run-clause-answer g c =
 
 pub returns-in-Run-clause-ran : goal.returns-in-Run-clause-ran
 returns-in-Run-clause-ran g c =
-    scenario_ran c.args.command c.in-Run.options c.run_scenario.result c.args.checked _ _ _ _ c.in-Run.is c.run_scenario.ensures.begun c.run_scenario.ensures.native
+    scenario_ran c.args.command c.in-Run.options c.run_scenario.result c.args.checked _ _ _ _ c.in-Run.is c.run_scenario.ensures.begun c.run_scenario.ensures.native c.run_scenario.ensures.held
 
 pub returns-in-Run-clause-lawful : goal.returns-in-Run-clause-lawful
 returns-in-Run-clause-lawful g c = λ options e.

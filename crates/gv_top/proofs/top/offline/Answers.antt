@@ -20,6 +20,8 @@ returns-in-Some-clause-answers g c =
       quiet = λ options s left runs told text well. quiet_blocks c.blocks_are_told.ensures c.blocks_are_quiet.ensures options _ s well;
       native = λ options workers s left runs native told text well h4 h5 h7.
           (ran_so (TextCommand.Run options) h runs left told s (spelt_is_judged s _ text well) options refl).native workers native h4 h5 h7;
+      held = λ options workers s left runs native told text well h4 h5 h7.
+          (ran_so (TextCommand.Run options) h runs left told s (spelt_is_judged s _ text well) options refl).held workers native h4 h5 h7;
       formatted = λ s left formats told text well.
           answered_so _ _ _ TextCommand.Format _ _ left _ _ _ _ formats (answered_as TextCommand.Format _ s _ text well) (is_answered h left told);
       refused = λ command left wanted told none.

@@ -1,10 +1,10 @@
 use Rattle.std.proofs.Common.{rules, refl}
-use Rattle.gv_io.proofs.StreamLaws.{AppendsPrefix-nothing}
 use Rattle.machine.specs.Questions.{take_answer}
 use Rattle.hub_engine.specs.declared.stand.Stand.{Stand}
 use Rattle.hub_engine.specs.Outside.{outside}
 use Rattle.hub_engine.proofs.Giving.{done_nothing, none_done}
 use Rattle.hub_engine.proofs.Running.{answered_broken, answered_on, asked_refused}
+use Rattle.hub_engine.proofs.Trying.{tried-nothing}
 use Rattle.hub_engine.proofs.Tying.{may_be_asked, posts_taken, postable_at, tied_answered, tied_at_rest}
 use Rattle.hub_engine.proofs.turns.take_answer.Goals as goal
 
@@ -20,7 +20,7 @@ pub returns-in_err-take-clause-ran : goal.returns-in_err-take-clause-ran
 returns-in_err-take-clause-ran g c = λ go.
     let after = outside (g.K.Sink.written c.args.sink.now) (g.W.World.meaning c.ask.new.self) (g.W.World.stands_for c.ask.new.self) in
     let broken = answered_broken (outside (g.K.Sink.written c.args.sink.now) (g.W.World.meaning c.args.world.now) (g.W.World.stands_for c.args.world.now)) after after go c.args.question c.in_ok-answer.answer c.args.hub.now (take_answer c.in_ok-answer.answer c.args.hub.now) refl
-    c.in_ok-answer.ensures.legal c.in_ok-answer.ensures.stored c.in_ok-answer.ensures.log refl (AppendsPrefix-nothing _ _) (done_nothing after) in
+    c.in_ok-answer.ensures.legal c.in_ok-answer.ensures.stored c.in_ok-answer.ensures.log refl (tried-nothing _ _) (done_nothing after) in
     search (rules, broken)
 
 pub give_out-requires : goal.give_out-requires

@@ -7,7 +7,7 @@ use Rattle.hub_engine.specs.Ends.{CountsOf, HasLogged, HasNumbersAt, RanTo}
 use Rattle.hub_engine.specs.Outside.{outside}
 use Rattle.hub_engine.specs.Prepared.{Prepared}
 use Rattle.hub_engine.specs.Written.{RunsTo}
-use Rattle.hub_engine.proofs.Ending.{ran_ahead, ran_legal, ran_logged, ran_numbers, ran_written}
+use Rattle.hub_engine.proofs.Ending.{ran_ahead, ran_legal, ran_logged, ran_numbers, ran_tried, ran_written}
 use Rattle.hub_engine.proofs.run.Engine.run.Goals as goal
 
 pub returns-clause-written : goal.returns-clause-written
@@ -16,6 +16,12 @@ returns-clause-written g c =
     let ran = subst (λ (p : Prepared). RunsTo c.run-ran.result (outside (g.K.Sink.written c.args.sink.now) (g.W.World.meaning c.args.world.now) (g.W.World.stands_for c.args.world.now)) (outside (g.K.Sink.written c.run-ran.new.sink) (g.W.World.meaning c.run-ran.new.world) (g.W.World.stands_for c.run-ran.new.world)) (run p.scenario p.turns p.moves) c.run-ran.new.hub) c.self.view_is c.run-ran.ensures.ran in
     subst (λ (e : End). RanTo e (run c.args.self.scenario c.args.self.turns c.args.self.moves (g.W.World.meaning c.run-ran.new.world).answers) (g.K.Sink.written c.args.sink.now) (g.K.Sink.written c.run-ran.new.sink)) (sym c.ended_as.ensures)
     (ran_written (outside (g.K.Sink.written c.args.sink.now) (g.W.World.meaning c.args.world.now) (g.W.World.stands_for c.args.world.now)) (outside (g.K.Sink.written c.run-ran.new.sink) (g.W.World.meaning c.run-ran.new.world) (g.W.World.stands_for c.run-ran.new.world)) (run c.args.self.scenario c.args.self.turns c.args.self.moves) c.run-ran.result c.run-ran.new.hub (sym none.1) ran)
+
+pub returns-clause-tried : goal.returns-clause-tried
+returns-clause-tried g c =
+    let none = g.met.W.World.log_is c.args.world.now [] c.requires.begun in
+    let ran = subst (λ (p : Prepared). RunsTo c.run-ran.result (outside (g.K.Sink.written c.args.sink.now) (g.W.World.meaning c.args.world.now) (g.W.World.stands_for c.args.world.now)) (outside (g.K.Sink.written c.run-ran.new.sink) (g.W.World.meaning c.run-ran.new.world) (g.W.World.stands_for c.run-ran.new.world)) (run p.scenario p.turns p.moves) c.run-ran.new.hub) c.self.view_is c.run-ran.ensures.ran in
+    ran_tried (outside (g.K.Sink.written c.args.sink.now) (g.W.World.meaning c.args.world.now) (g.W.World.stands_for c.args.world.now)) (outside (g.K.Sink.written c.run-ran.new.sink) (g.W.World.meaning c.run-ran.new.world) (g.W.World.stands_for c.run-ran.new.world)) (run c.args.self.scenario c.args.self.turns c.args.self.moves) c.run-ran.result c.run-ran.new.hub (sym none.1) ran
 
 pub returns-clause-ahead : goal.returns-clause-ahead
 returns-clause-ahead g c =

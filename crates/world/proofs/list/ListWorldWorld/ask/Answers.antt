@@ -13,7 +13,7 @@ returns-in_ok-store-in-Some-clause-stored c = let state = c.in_ok-store-in-Some.
   answers = ap (λ (s : RuleState). s.answers) state;
   at = ap (λ (s : RuleState). s.moment) state;
   moment = c.in_ok-store-in-Some.ensures.moment;
-  rest = record { workers = setting.workers; tick = setting.tick; listed = refl; runs = setting.running };
+  rest = record { workers = setting.workers; tick = setting.tick; listed = refl; runs = setting.running; reference = refl };
 }
 
 pub returns-in_ok-store-in-Some-clause-log : goal.returns-in_ok-store-in-Some-clause-log
@@ -32,7 +32,7 @@ returns-in_ok-store-in-None-clause-stored c = let state = c.in_ok-store-in-None.
   answers = ap (λ (s : RuleState). s.answers) state;
   at = ap (λ (s : RuleState). s.moment) state;
   moment = c.in_ok-store-in-None.ensures.moment;
-  rest = record { workers = setting.workers; tick = setting.tick; listed = refl; runs = setting.running };
+  rest = record { workers = setting.workers; tick = setting.tick; listed = refl; runs = setting.running; reference = refl };
 }
 
 pub returns-in_ok-store-in-None-clause-log : goal.returns-in_ok-store-in-None-clause-log

@@ -1,4 +1,4 @@
-use Rattle.std.proofs.Common.{sym, ap, ◌∙◌}
+use Rattle.std.proofs.Common.{refl, sym, ap, ◌∙◌}
 use Rattle.world_rules.specs.Script.{RuleState, start}
 use Rattle.world.proofs.list.ListWorldWorld.begin.Goals as goal
 
@@ -10,6 +10,7 @@ returns-clause-begins c = let listed = c.args.self.now.listed.items in let state
   workers_are = setting.1;
   tick = setting.0;
   runs = setting.2;
+  reference = refl;
 }
 
 pub returns-clause-log : goal.returns-clause-log

@@ -12,7 +12,7 @@ returns-clause-posted c = let state = c.in_ok-add.ensures.state [] in let settin
       answers = ap (λ (s : RuleState). s.answers) state;
       moment = omega arith;
       fits = omega arith;
-      rest = record { workers = setting.workers; tick = setting.tick; listed = refl; runs = setting.running };
+      rest = record { workers = setting.workers; tick = setting.tick; listed = refl; runs = setting.running; reference = refl };
     }
 
 pub returns-clause-log : goal.returns-clause-log

@@ -11,7 +11,7 @@ returns-clause-stored c = let state = c.in_ok-store.ensures.state [] [] in let s
   answers = ap (λ s. s.answers) state;
   at = ap (λ s. s.moment) state;
   moment = c.in_ok-store.ensures.moment;
-  rest = record { workers = setting.workers; tick = setting.tick; listed = refl; runs = setting.running };
+  rest = record { workers = setting.workers; tick = setting.tick; listed = refl; runs = setting.running; reference = refl };
 }
 
 pub returns-clause-log : goal.returns-clause-log

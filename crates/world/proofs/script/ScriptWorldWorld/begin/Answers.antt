@@ -1,4 +1,4 @@
-use Rattle.std.proofs.Common.{[], sym, ap}
+use Rattle.std.proofs.Common.{[], refl, sym, ap}
 use Rattle.world.proofs.script.ScriptWorldWorld.begin.Goals as goal
 
 pub returns-clause-begins : goal.returns-clause-begins
@@ -9,6 +9,7 @@ returns-clause-begins c = let state = c.restart.ensures.state [] in let setting 
   workers_are = setting.1;
   tick = setting.0;
   runs = setting.2;
+  reference = refl;
 }
 
 pub returns-clause-log : goal.returns-clause-log

@@ -1,0 +1,29 @@
+use Rattle.std.proofs.Common.{rules, ◌≡◌, subst}
+use Rattle.machine.specs.Run.{script_run}
+use Rattle.gv_top.specs.Running.{RanHeld}
+use Rattle.gv_top.proofs.Tops.{left_as_it_was}
+use Rattle.gv_top.proofs.InWorlds.{ran_held, script_ran}
+use Rattle.gv_top.proofs.running.run_held.Goals as goal
+
+-- what holds of the world that was given back holds of the one that was lent
+held_there : {W : Type 0} (P : W → Type 0) (back lent : W) → back ≡ lent → P back → P lent
+held_there P back lent e h = subst P e h
+
+pub returns-in-Some-clause-lawful : goal.returns-in-Some-clause-lawful
+returns-in-Some-clause-lawful g c =
+    (c.scripts_run_lawfully.ensures c.args.engine.scenario c.args.engine.turns c.args.engine.moves 0 c.requires.well_formed).lawful
+
+pub returns-in-Some-clause-written : goal.returns-in-Some-clause-written
+returns-in-Some-clause-written g c =
+    script_ran c.followers_run_scripts.ensures c.in-Some.end c.args.engine.scenario c.args.engine.turns c.args.engine.moves _ 0 c.run_in_world-ran.new.world.inner.ghost_name _ c.run_in_world-ran.new.world.script _ _
+    c.new-held.result.no_tick c.in-Some.ensures.ran
+
+pub returns-in-Some-clause-native : goal.returns-in-Some-clause-native
+returns-in-Some-clause-native g c = λ wf m.
+    let told = c.posts_and_answers_are_told.ensures in
+    let ran = ran_held c.followers_run_scripts.ensures told.posts told.answers c.in-Some.end c.args.engine.scenario c.args.engine.turns c.args.engine.moves c.args.workers c.run_in_world-ran.new.world.inner.ghost_name _
+    (g.W.World.meaning c.into_inner.result.now) c.run_in_world-ran.new.world.script _ _ c.new-held.result.no_tick c.requires.some c.in-Some.ensures.ran c.into_inner.ensures.leads wf m in
+    held_there (λ v. RanHeld c.args.workers (script_run c.args.engine.scenario c.args.engine.turns c.args.engine.moves 0) (g.W.World.meaning v)) c.into_inner.result.now _ (search rules) ran
+
+pub returns-in-None-clause-written : goal.returns-in-None-clause-written
+returns-in-None-clause-written g c = left_as_it_was _ _ _ c.in-None.ensures.unwritten

@@ -1,0 +1,27 @@
+use Rattle.std.proofs.Common.{refl, sym, ap}
+use Rattle.std.specs.Prelude.{nat_eq, ℕ, List, [], Option}
+use Rattle.std.specs.Map.{lookup}
+use Rattle.gv_values.specs.declared.job.JobOutcome.{JobOutcome}
+use Rattle.std.specs.HashMap.{get}
+use Rattle.world_rules.specs.Script.{RuleState}
+use Rattle.world.proofs.Tying.{tied_after_begin}
+use Rattle.world.proofs.held.HeldWorld.begin.Goals as goal
+
+pub invariant_of-self-2-clause-tied : goal.invariant_of-self-2-clause-tied
+invariant_of-self-2-clause-tied g c =
+    tied_after_begin (g.W.World.meaning c.args.self.now.inner.now) (g.W.World.meaning c.begin.new.self) c.restart.new.self (get nat_eq c.clear.new.self) c.args.workers c.requires.some
+    c.in_ok-begin.ensures.begins (c.restart.ensures.state []) c.restart.ensures.setting.1 c.restart.ensures.setting.2 (λ n. ap (λ (es : List (ℕ × Option JobOutcome)). lookup (nat_eq n) es) c.clear.ensures.empty)
+
+pub returns-clause-begins : goal.returns-clause-begins
+returns-clause-begins g c = let state = c.restart.ensures.state [] in let setting = c.restart.ensures.setting in record {
+  posts = ap (λ (s : RuleState). s.posts) state;
+  answers = ap (λ (s : RuleState). s.answers) state;
+  moment = ap (λ (s : RuleState). s.moment) state;
+  workers_are = setting.1;
+  tick = setting.0;
+  runs = setting.2;
+  reference = refl;
+}
+
+pub returns-clause-log : goal.returns-clause-log
+returns-clause-log g c = sym (c.restart.ensures.state [])
