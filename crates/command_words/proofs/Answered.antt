@@ -15,7 +15,7 @@ use Rattle.clap.specs.declared.error.kind.ErrorKind.{ErrorKind}
 use Rattle.clap.specs.declared.error.kind.ErrorKind.TheVariants as kind
 use Rattle.clap.specs.Faults.{turn_fault, check_fault, default_fault, defaults_fault, entered_fault, level_fault, settle_fault, walk_fault}
 use Rattle.command_words.specs.declared.command.Command.{Command}
-use Rattle.command_words.specs.Words.{Word, Said, CommandRow, run, format, wsgi, serve, storm, begins_with_dash, command_by, command_of, is_among, option_word, options, row_of, says, value_in}
+use Rattle.command_words.specs.Words.{Word, Said, CommandRow, run, format, wsgi, serve, storm, verify, begins_with_dash, command_by, command_of, is_among, option_word, options, row_of, says, value_in}
 use Rattle.command_words.specs.Clap.{by_clap, command_in, is_stray, program}
 use Rattle.command_words.proofs.Rules.{opt, row}
 use Rattle.command_words.proofs.Walks.{differs, full, Long, Plain, or_parts, view, reads_are, shape, total}
@@ -165,6 +165,10 @@ storm_is : (words : List Word) → list_any is_stray words ≡ false → by_clap
 unfolding clap_on_literals
 storm_is words e = entered_at storm.name words refl refl ∙ row_is storm words e
 
+verify_is : (words : List Word) → list_any is_stray words ≡ false → by_clap (verify.name ∷ words) ≡ command_of (verify.name ∷ words)
+unfolding clap_on_literals
+verify_is words e = entered_at verify.name words refl refl ∙ row_is verify words e
+
 -- ---- a first word that names no command
 
 record IsNone (name : Word) : Type 0 where
@@ -173,12 +177,13 @@ record IsNone (name : Word) : Type 0 where
   wsgi : bytes_eq name (codes "wsgi") ≡ false
   serve : bytes_eq name (codes "serve") ≡ false
   storm : bytes_eq name (codes "storm") ≡ false
+  verify : bytes_eq name (codes "verify") ≡ false
 
 flip : (a b : Word) → bytes_eq a b ≡ false → bytes_eq b a ≡ false
 flip a b e = differs b a (λ s. true≢false (sym ((bytes_eq-Decides a b).1 (sym s)) ∙ e))
 
 no_command : (name : Word) (words : List Word) → IsNone name → command_of (name ∷ words) ≡ None
-no_command name words n = rw (n.run, n.format, n.wsgi, n.serve, n.storm) refl
+no_command name words n = rw (n.run, n.format, n.wsgi, n.serve, n.storm, n.verify) refl
 
 turn_off : (name : Word) (words : List Word) (k : ErrorKind) (ks : Kinds) → turn_fault whole.top (names_of whole) (walk_from nothing_held) name ≡ k ∷ ks → by_clap (name ∷ words) ≡ None
 unfolding walk_fault
@@ -186,9 +191,9 @@ turn_off name words k ks e = at_top_is (name ∷ words) ∙ rw (e, full k ks) re
 
 unknown_is : (name : Word) (words : List Word) → IsNone name → Plain name ⊎ ((p : Word × Option Word) × Long name p) → by_clap (name ∷ words) ≡ None
 unknown_is name words n (inl p) = turn_off name words kind.UnknownArgument (kind.InvalidSubcommand ∷ [])
-    (rw (flip name (codes "run") n.run, flip name (codes "fmt") n.format, flip name (codes "wsgi") n.wsgi, flip name (codes "serve") n.serve, flip name (codes "storm") n.storm, p.ends, p.long, p.short) refl)
+    (rw (flip name (codes "run") n.run, flip name (codes "fmt") n.format, flip name (codes "wsgi") n.wsgi, flip name (codes "serve") n.serve, flip name (codes "storm") n.storm, flip name (codes "verify") n.verify, p.ends, p.long, p.short) refl)
 unknown_is name words n (inr q) = turn_off name words kind.UnknownArgument []
-    (rw (flip name (codes "run") n.run, flip name (codes "fmt") n.format, flip name (codes "wsgi") n.wsgi, flip name (codes "serve") n.serve, flip name (codes "storm") n.storm, q.1.ends, q.1.long) refl)
+    (rw (flip name (codes "run") n.run, flip name (codes "fmt") n.format, flip name (codes "wsgi") n.wsgi, flip name (codes "serve") n.serve, flip name (codes "storm") n.storm, flip name (codes "verify") n.verify, q.1.ends, q.1.long) refl)
 
 at_name : (name s : Word) (words : List Word) → bytes_eq name s ≡ true → by_clap (s ∷ words) ≡ command_of (s ∷ words) → by_clap (name ∷ words) ≡ command_of (name ∷ words)
 at_name name s words e h = subst (λ w. by_clap (w ∷ words) ≡ command_of (w ∷ words)) (sym ((bytes_eq-Decides name s).0 e)) h
@@ -197,20 +202,22 @@ at_name name s words e h = subst (λ w. by_clap (w ∷ words) ≡ command_of (w 
 pub answered : (words : List Word) → list_any is_stray words ≡ false → by_clap words ≡ command_of words
 unfolding clap_on_literals
 answered [] e = refl
-answered (name ∷ words) e = a (bytes_eq name (codes "run")) (bytes_eq name (codes "fmt")) (bytes_eq name (codes "wsgi")) (bytes_eq name (codes "serve")) (bytes_eq name (codes "storm")) refl refl refl refl refl
+answered (name ∷ words) e =
+    a (bytes_eq name (codes "run")) (bytes_eq name (codes "fmt")) (bytes_eq name (codes "wsgi")) (bytes_eq name (codes "serve")) (bytes_eq name (codes "storm")) (bytes_eq name (codes "verify")) refl refl refl refl refl refl
   where
     rest : list_any is_stray words ≡ false
     rest = (or_parts (is_stray name) (list_any is_stray words) e).1
 
-    a : (r f w s t : Bool) → bytes_eq name (codes "run") ≡ r → bytes_eq name (codes "fmt") ≡ f → bytes_eq name (codes "wsgi") ≡ w → bytes_eq name (codes "serve") ≡ s
-        → bytes_eq name (codes "storm") ≡ t → by_clap (name ∷ words) ≡ command_of (name ∷ words)
-    a true f w s t er ef ew es et = at_name name (codes "run") words er (run_is words rest)
-    a false true w s t er ef ew es et = at_name name (codes "fmt") words ef (format_is words rest)
-    a false false true s t er ef ew es et = at_name name (codes "wsgi") words ew (wsgi_is words rest)
-    a false false false true t er ef ew es et = at_name name (codes "serve") words es (serve_is words rest)
-    a false false false false true er ef ew es et = at_name name (codes "storm") words et (storm_is words rest)
-    a false false false false false er ef ew es et =
-        let n : IsNone name = record { run = er; format = ef; wsgi = ew; serve = es; storm = et } in
+    a : (r f w s t v : Bool) → bytes_eq name (codes "run") ≡ r → bytes_eq name (codes "fmt") ≡ f → bytes_eq name (codes "wsgi") ≡ w → bytes_eq name (codes "serve") ≡ s
+        → bytes_eq name (codes "storm") ≡ t → bytes_eq name (codes "verify") ≡ v → by_clap (name ∷ words) ≡ command_of (name ∷ words)
+    a true f w s t v er ef ew es et ev = at_name name (codes "run") words er (run_is words rest)
+    a false true w s t v er ef ew es et ev = at_name name (codes "fmt") words ef (format_is words rest)
+    a false false true s t v er ef ew es et ev = at_name name (codes "wsgi") words ew (wsgi_is words rest)
+    a false false false true t v er ef ew es et ev = at_name name (codes "serve") words es (serve_is words rest)
+    a false false false false true v er ef ew es et ev = at_name name (codes "storm") words et (storm_is words rest)
+    a false false false false false true er ef ew es et ev = at_name name (codes "verify") words ev (verify_is words rest)
+    a false false false false false false er ef ew es et ev =
+        let n : IsNone name = record { run = er; format = ef; wsgi = ew; serve = es; storm = et; verify = ev } in
         unknown_is name words n (view name (or_parts (is_stray name) (list_any is_stray words) e).0) ∙ sym (no_command name words n)
 
 -- ---- words with a stray dash
@@ -266,6 +273,6 @@ stray_none [] e = refl
 stray_none (name ∷ words) e = sym (by (is_stray name) refl)
   where
     by : (b : Bool) → is_stray name ≡ b → command_of (name ∷ words) ≡ None
-    by true f = no_command name words (record { run = stray_name name (codes "run") f refl; format = stray_name name (codes "fmt") f refl; wsgi = stray_name name (codes "wsgi") f refl; serve = stray_name name (codes "serve") f refl; storm = stray_name name (codes "storm") f refl })
+    by true f = no_command name words (record { run = stray_name name (codes "run") f refl; format = stray_name name (codes "fmt") f refl; wsgi = stray_name name (codes "wsgi") f refl; serve = stray_name name (codes "serve") f refl; storm = stray_name name (codes "storm") f refl; verify = stray_name name (codes "verify") f refl })
     by false f = no_and_then _ (row_of name) (λ row. ap (option_and_then (λ said. command_by row.name (value_in said)))
         (stray_options row.options words (or_true (is_stray name) (list_any is_stray words) e f) None []))

@@ -1,18 +1,19 @@
 -- The numbers of a command that words name are those that its options take.
-use Rattle.std.proofs.Common.{◌≡◌, ◌&&◌, ℕ, ◌≤◌, Bool, true, false, if◌then◌else◌, List, [], ◌∷◌, Option, Some, None, option_map, is_some, nat_le, refl, subst, leb-true}
+use Rattle.std.proofs.Common.{◌≡◌, ◌&&◌, ℕ, ◌≤◌, Bool, true, false, if◌then◌else◌, List, [], ◌∷◌, Option, Some, None, option_map, is_some, nat_le, codes, refl, subst, leb-true}
 use Rattle.std.proofs.lemmas.Bool.{and_parts}
 use Rattle.std.specs.Str.{bytes_eq}
 use Rattle.std.specs.Str.Parse.{digits_value}
 use Rattle.gv_values.specs.Digits.{is_plain_number}
 use Rattle.command_words.specs.declared.command.Command.{Command}
-use Rattle.command_words.specs.declared.command.Command.TheVariants.{Text, Wsgi, Storm}
+use Rattle.command_words.specs.declared.command.Command.TheVariants.{Text, Wsgi, Storm, Verify}
 use Rattle.command_words.specs.declared.command.RunWorld.{RunWorld}
 use Rattle.command_words.specs.declared.command.RunWorld.TheVariants.{Script}
 use Rattle.command_words.specs.declared.command.ResultOrder.{ResultOrder}
 use Rattle.command_words.specs.declared.command.ResultOrder.TheVariants as results
 use Rattle.command_words.specs.declared.command.TextCommand.TheVariants.{Format}
-use Rattle.command_words.specs.Words.{Look, OptionRow, Word, command_by, command_of, conns, gateway_by, given, idle, moves, native, number_by, number_in, options, order, order_by, pool, port, row_of, run, run_by, format, wsgi, serve, serve_by, size, storm, storm_by, tick, turns, value_in, workers_by, workers_in, world_by, wsgi_by}
-use Rattle.command_words.specs.Ranges.{IsInRange, IsWorldInRange, Takes, takes_usual}
+use Rattle.command_words.specs.declared.command.TraceCheck.{TraceCheck}
+use Rattle.command_words.specs.Words.{Look, OptionRow, Word, check, check_by, check_named, command_by, command_of, conns, gateway_by, given, idle, laws_check, moves, native, number_by, number_in, options, order, order_by, pool, port, row_of, run, run_by, run_check, format, wsgi, serve, serve_by, size, storm, storm_by, tick, turns, value_in, verify, verify_by, workers_by, workers_in, world_by, wsgi_by}
+use Rattle.command_words.specs.Ranges.{IsCheckInRange, IsInRange, IsWorldInRange, Takes, takes_usual}
 
 -- ---- what gave a value
 
@@ -107,18 +108,49 @@ wsgi_takes look c e = let g = some_mapped (gateway_by look) (λ k. Wsgi k) c e i
 storm_takes : (look : Look) (c : Command) → storm_by look ≡ Some c → IsInRange c
 storm_takes look c e = let s = some_mapped (number_by size look) (λ n. Storm n) c e in subst IsInRange s.gives (number_takes size look s.value refl s.is)
 
+run_check_takes : (look : Look) (c : TraceCheck) → run_check look ≡ Some c → IsCheckInRange c
+run_check_takes look c e =
+    let t = some_given (number_by turns look) _ c e in
+    let m = some_given (number_by moves look) _ c t.gives in
+    subst IsCheckInRange (same_some _ _ m.gives) (number_takes turns look t.value refl t.is, number_takes moves look m.value refl m.is)
+
+laws_check_takes : (look : Look) (c : TraceCheck) → laws_check look ≡ Some c → IsCheckInRange c
+laws_check_takes look c e = by (is_some (look turns.name)) (is_some (look moves.name)) e
+  where
+    by : (t m : Bool) → (if t then None else if m then None else Some TraceCheck.Laws) ≡ Some c → IsCheckInRange c
+    by true m f = absurd (cc f)
+    by false true f = absurd (cc f)
+    by false false f = subst IsCheckInRange (same_some _ _ f) tt
+
+check_takes : (look : Look) (c : TraceCheck) → check_by look ≡ Some c → IsCheckInRange c
+check_takes look c e = by (look check) e
+  where
+    named : (r l : Bool) → (if r then run_check look else if l then laws_check look else None) ≡ Some c → IsCheckInRange c
+    named true l f = run_check_takes look c f
+    named false true f = laws_check_takes look c f
+    named false false f = absurd (cc f)
+
+    by : (o : Option Word) → (elim o [ Some word ↦ check_named word look | None ↦ run_check look ]) ≡ Some c → IsCheckInRange c
+    by (Some word) f = named (bytes_eq word (codes "run")) (bytes_eq word (codes "laws")) f
+    by None f = run_check_takes look c f
+
+verify_takes : (look : Look) (c : Command) → verify_by look ≡ Some c → IsInRange c
+verify_takes look c e = let v = some_mapped (check_by look) (λ k. Verify k) c e in subst IsInRange v.gives (check_takes look v.value v.is)
+
 by_name : (name : Word) (look : Look) (c : Command) → command_by name look ≡ Some c → IsInRange c
 by_name name look c e =
-    by (bytes_eq name run.name) (bytes_eq name format.name) (bytes_eq name wsgi.name) (bytes_eq name serve.name) (bytes_eq name storm.name) e
+    by (bytes_eq name run.name) (bytes_eq name format.name) (bytes_eq name wsgi.name) (bytes_eq name serve.name) (bytes_eq name storm.name) (bytes_eq name verify.name) e
   where
-    by : (r f w s t : Bool) → (if r then run_by look else if f then Some (Text Format) else if w then wsgi_by look else if s then serve_by look else if t then storm_by look else None) ≡ Some c
+    by : (r f w s t v : Bool)
+        → (if r then run_by look else if f then Some (Text Format) else if w then wsgi_by look else if s then serve_by look else if t then storm_by look else if v then verify_by look else None) ≡ Some c
         → IsInRange c
-    by true f w s t h = run_takes look c h
-    by false true w s t h = subst IsInRange (same_some _ _ h) tt
-    by false false true s t h = wsgi_takes look c h
-    by false false false true t h = serve_takes look c h
-    by false false false false true h = storm_takes look c h
-    by false false false false false h = absurd (cc h)
+    by true f w s t v h = run_takes look c h
+    by false true w s t v h = subst IsInRange (same_some _ _ h) tt
+    by false false true s t v h = wsgi_takes look c h
+    by false false false true t v h = serve_takes look c h
+    by false false false false true v h = storm_takes look c h
+    by false false false false false true h = verify_takes look c h
+    by false false false false false false h = absurd (cc h)
 
 pub in_range : (words : List Word) (c : Command) → command_of words ≡ Some c → IsInRange c
 in_range [] c e = absurd (cc e)

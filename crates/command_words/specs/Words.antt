@@ -5,7 +5,7 @@ use Rattle.std.specs.Str.{bytes_eq}
 use Rattle.std.specs.Str.Parse.{digits_value}
 use Rattle.gv_values.specs.Digits.{is_plain_number}
 use Rattle.command_words.specs.declared.command.Command.{Command}
-use Rattle.command_words.specs.declared.command.Command.TheVariants.{Text, Wsgi, Serve, Storm}
+use Rattle.command_words.specs.declared.command.Command.TheVariants.{Text, Wsgi, Serve, Storm, Verify}
 use Rattle.command_words.specs.declared.command.GatewayKind.{GatewayKind}
 use Rattle.command_words.specs.declared.command.GatewayKind.TheVariants.{Http, Scgi}
 use Rattle.command_words.specs.declared.command.RunWorld.{RunWorld}
@@ -13,6 +13,7 @@ use Rattle.command_words.specs.declared.command.RunWorld.TheVariants.{Script, Na
 use Rattle.command_words.specs.declared.command.ResultOrder.{ResultOrder}
 use Rattle.command_words.specs.declared.command.ResultOrder.TheVariants as results
 use Rattle.command_words.specs.declared.command.TextCommand.TheVariants.{Run, Format}
+use Rattle.command_words.specs.declared.command.TraceCheck.{TraceCheck}
 
 abbrev pub Word : Type 0
 Word = List ℕ
@@ -62,6 +63,10 @@ gateway = codes "gateway"
 abbrev pub size : OptionRow
 size = record { name = codes "size"; least = 1; most = 19000; usual = None }
 
+-- the option whose value is a check, by its name; `run` stands where it is left out
+abbrev pub check : Word
+check = codes "check"
+
 -- a command: its name, and the names of its options
 pub record CommandRow : Type 0 where
   pub name : Word
@@ -82,8 +87,11 @@ serve = record { name = codes "serve"; options = port.name ∷ conns.name ∷ po
 abbrev pub storm : CommandRow
 storm = record { name = codes "storm"; options = size.name ∷ [] }
 
+abbrev pub verify : CommandRow
+verify = record { name = codes "verify"; options = check ∷ turns.name ∷ moves.name ∷ [] }
+
 abbrev pub commands : List CommandRow
-commands = run ∷ format ∷ wsgi ∷ serve ∷ storm ∷ []
+commands = run ∷ format ∷ wsgi ∷ serve ∷ storm ∷ verify ∷ []
 
 -- ---- options
 
@@ -221,6 +229,28 @@ serve_by look =
 abbrev pub storm_by : Look → Option Command
 storm_by look = option_map (λ n. Storm n) (number_by size look)
 
+-- the check of a run within the turns and moves that are asked for
+abbrev pub run_check : Look → Option TraceCheck
+run_check look =
+    given (number_by turns look) (λ turns.
+    given (number_by moves look) (λ moves.
+    Some (TraceCheck.Run turns moves)))
+
+-- the check of the laws, which takes neither turns nor moves
+abbrev pub laws_check : Look → Option TraceCheck
+laws_check look = if is_some (look turns.name) then None else if is_some (look moves.name) then None else Some TraceCheck.Laws
+
+-- the check of this name
+abbrev pub check_named : Word → Look → Option TraceCheck
+check_named word look = if bytes_eq word (codes "run") then run_check look else if bytes_eq word (codes "laws") then laws_check look else None
+
+-- the check that is asked for: the one that is named, or else that of a run; none where there is no such check
+abbrev pub check_by : Look → Option TraceCheck
+check_by look = elim (look check) [ Some word ↦ check_named word look | None ↦ run_check look ]
+
+abbrev pub verify_by : Look → Option Command
+verify_by look = option_map (λ c. Verify c) (check_by look)
+
 -- the command of this name, by the values of its options
 abbrev pub command_by : Word → Look → Option Command
 command_by name look =
@@ -229,6 +259,7 @@ command_by name look =
     else if bytes_eq name wsgi.name then wsgi_by look
     else if bytes_eq name serve.name then serve_by look
     else if bytes_eq name storm.name then storm_by look
+    else if bytes_eq name verify.name then verify_by look
     else None
 
 abbrev pub row_of : Word → Option CommandRow

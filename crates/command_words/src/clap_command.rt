@@ -36,6 +36,7 @@ fn name_of(option: &CommandOption) -> &'static str
         CommandOption::Number(option) => option.name,
         CommandOption::Gateway(name) => *name,
         CommandOption::Order(name) => *name,
+        CommandOption::Check(name) => *name,
     }
 }
 

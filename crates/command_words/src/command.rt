@@ -64,6 +64,15 @@ pub struct ServeOptions {
     pub gateway: GatewayKind,
 }
 
+/// What is checked of a trace.
+#[derive(Clone, Copy, Debug, PartialEq, Eq)]
+pub enum TraceCheck {
+    /// Whether it is the run of a scenario, which makes at most so many turns and moves.
+    Run { turns: u64, moves: u64 },
+    /// Whether its lines meet the laws.
+    Laws,
+}
+
 /// What the program is asked to do.
 #[derive(Clone, Copy, Debug, PartialEq, Eq)]
 pub enum Command {
@@ -75,4 +84,6 @@ pub enum Command {
     Serve(ServeOptions),
     /// Run the storm of so many greenlets.
     Storm(u32),
+    /// Check this of the trace that the input has.
+    Verify(TraceCheck),
 }

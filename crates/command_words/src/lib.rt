@@ -9,7 +9,7 @@ mod reading;
 mod table;
 
 pub use command::{
-    Command, GatewayKind, ResultOrder, RunOptions, RunWorld, ServeOptions, TextCommand,
+    Command, GatewayKind, ResultOrder, RunOptions, RunWorld, ServeOptions, TextCommand, TraceCheck,
 };
 pub use laws::commands_are_in_range;
 pub use reading::command_of;

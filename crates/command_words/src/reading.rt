@@ -2,15 +2,17 @@
 ghost use Rattle.std.specs.Prelude.{◌≡◌, IfOk, map, string_bytes};
 ghost use Rattle.std.specs.List.{list_any};
 ghost use Rattle.clap.specs.Words.{first_of, found_of, rows_of, subcommand_rows_of};
-ghost use Rattle.command_words.specs.Words.{command_by, command_of, gateway_by, gateway_named, run_by, serve_by, storm_by, order_by, order_named, workers_by, workers_in, world_by, wsgi_by};
+ghost use Rattle.command_words.specs.Words.{check_by, check_named, command_by, command_of, gateway_by, gateway_named, laws_check, order_by, order_named, run_by, run_check, serve_by, storm_by, verify_by, workers_by, workers_in, world_by, wsgi_by};
 ghost use Rattle.command_words.specs.Clap.{by_clap, command_in, is_stray};
 
 use crate::clap_command::program;
 use crate::command::{
-    Command, GatewayKind, ResultOrder, RunOptions, RunWorld, ServeOptions, TextCommand,
+    Command, GatewayKind, ResultOrder, RunOptions, RunWorld, ServeOptions, TextCommand, TraceCheck,
 };
 use crate::numbers::{given, number_by};
-use crate::table::{CONNS, GATEWAY, IDLE, MOVES, NATIVE, ORDER, POOL, PORT, SIZE, TICK, TURNS};
+use crate::table::{
+    CHECK, CONNS, GATEWAY, IDLE, MOVES, NATIVE, ORDER, POOL, PORT, SIZE, TICK, TURNS,
+};
 use clap::ArgMatches;
 use clap::error::ErrorKind;
 use std::alloc::{AllocError, Global};
@@ -19,9 +21,9 @@ use std::alloc::{AllocError, Global};
 ///
 /// The command is the first word. Each option is one word `--name` followed by one word, or the one word
 /// `--name=value`; options stand in any order, each at most once. A value is a number in decimal digits without a
-/// leading zero, in the option's range; that of `--gateway` is `http` or `scgi`, that of
-/// `--order` is `free` or `held`. All other words are no command, and
-/// neither are those of a run with a tick and native workers, or with an order and no native workers.
+/// leading zero, in the option's range; that of `--gateway` is `http` or `scgi`, that of `--order` is `free` or
+/// `held`, that of `--check` is `run` or `laws`. All other words are no command, and neither are those of a run with a
+/// tick and native workers, or with an order and no native workers, or those of a check of laws with turns or moves.
 ///
 /// # Errors
 ///
@@ -96,11 +98,12 @@ fn command_by(name: &str, matches: &ArgMatches) -> Option<Command>
         "wsgi" => wsgi_by(matches),
         "serve" => serve_by(matches),
         "storm" => storm_by(matches),
+        "verify" => verify_by(matches),
         _ => None,
     }
 }
 
-/// The world that a run is asked for: that of its tick, or native workers and then no tick.
+/// The world that a run is asked for: native workers, or that of its tick and then no order.
 fn world_by(matches: &ArgMatches) -> Option<RunWorld>
     ensures { result ≡ world_by (λ n. first_of n (rows_of (found_of matches.now))) }
 {
@@ -220,4 +223,54 @@ fn storm_by(matches: &ArgMatches) -> Option<Command>
 {
     let size = number_by(SIZE, matches)?;
     Some(Command::Storm(size as u32))
+}
+
+/// The check of a run within the turns and moves that are asked for.
+fn run_check(matches: &ArgMatches) -> Option<TraceCheck>
+    ensures { result ≡ run_check (λ n. first_of n (rows_of (found_of matches.now))) }
+{
+    let turns = number_by(TURNS, matches)?;
+    let moves = number_by(MOVES, matches)?;
+    Some(TraceCheck::Run { turns, moves })
+}
+
+/// The check of the laws, which takes neither turns nor moves.
+fn laws_check(matches: &ArgMatches) -> Option<TraceCheck>
+    ensures { result ≡ laws_check (λ n. first_of n (rows_of (found_of matches.now))) }
+{
+    if given(TURNS.name, matches).is_some() {
+        return None;
+    }
+    if given(MOVES.name, matches).is_some() {
+        return None;
+    }
+    Some(TraceCheck::Laws)
+}
+
+/// The check of this name, if there is one.
+fn check_named(name: &str, matches: &ArgMatches) -> Option<TraceCheck>
+    ensures { result ≡ check_named name.now (λ n. first_of n (rows_of (found_of matches.now))) }
+{
+    match name {
+        "run" => run_check(matches),
+        "laws" => laws_check(matches),
+        _ => None,
+    }
+}
+
+/// The check that is asked for: the one that is named, that of a run where none is.
+fn check_by(matches: &ArgMatches) -> Option<TraceCheck>
+    ensures { result ≡ check_by (λ n. first_of n (rows_of (found_of matches.now))) }
+{
+    match given(CHECK, matches) {
+        Some(name) => check_named(name, matches),
+        None => run_check(matches),
+    }
+}
+
+fn verify_by(matches: &ArgMatches) -> Option<Command>
+    ensures { result ≡ verify_by (λ n. first_of n (rows_of (found_of matches.now))) }
+{
+    let check = check_by(matches)?;
+    Some(Command::Verify(check))
 }

@@ -22,6 +22,8 @@ pub enum CommandOption {
     Gateway(&'static str),
     /// The option of this name, whose value is the name of an order.
     Order(&'static str),
+    /// The option of this name, whose value is the name of a check.
+    Check(&'static str),
 }
 
 /// A command: its name, and its options.
@@ -111,6 +113,9 @@ pub const SIZE: NumberOption = NumberOption {
     usual: None,
 };
 
+/// The option that names what is checked of a trace.
+pub const CHECK: &str = "check";
+
 const OF_RUN: [CommandOption; 5] = [
     CommandOption::Number(TURNS),
     CommandOption::Number(MOVES),
@@ -131,8 +136,14 @@ const OF_SERVE: [CommandOption; 5] = [
 
 const OF_STORM: [CommandOption; 1] = [CommandOption::Number(SIZE)];
 
+const OF_VERIFY: [CommandOption; 3] = [
+    CommandOption::Check(CHECK),
+    CommandOption::Number(TURNS),
+    CommandOption::Number(MOVES),
+];
+
 /// The commands, each with its options.
-pub const COMMANDS: [CommandRow; 5] = [
+pub const COMMANDS: [CommandRow; 6] = [
     CommandRow {
         name: "run",
         options: &OF_RUN,
@@ -152,5 +163,9 @@ pub const COMMANDS: [CommandRow; 5] = [
     CommandRow {
         name: "storm",
         options: &OF_STORM,
+    },
+    CommandRow {
+        name: "verify",
+        options: &OF_VERIFY,
     },
 ];

@@ -75,6 +75,13 @@ impl DueLine {
         self.next
     }
 
+    /// The item of the least number, with that number.
+    pub fn first(&self) -> Option<(u32, u64)>
+        ensures { result ≡ slice_get self.now.entries 0 }
+    {
+        self.list.first()
+    }
+
     /// How many items are ready. Their numbers rise, and no item has two.
     pub fn len(&self) -> usize
         ensures len { result ≡ length self.now.entries }

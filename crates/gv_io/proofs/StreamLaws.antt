@@ -2,7 +2,7 @@
 use Rattle.std.proofs.Common.{◌≡◌, ℕ, ◌+◌, List, [], ◌++◌, length, take, drop, Option, Some, None, ◌≤◌, refl, ap, sym, ◌∙◌, append_assoc}
 use Rattle.std.proofs.lemmas.List.{append-nil, take-append-drop, length-take-le, drop-drop}
 use Rattle.std.proofs.Math.Seq.{take-length, take-append_seam, take-append-add}
-use Rattle.gv_io.specs.Streams.{appended, prepended, AppendsPrefix}
+use Rattle.gv_io.specs.Streams.{appended, prepended, AppendsPrefix, Extends}
 
 pub appended-nothing : (told : Option (List ℕ)) → appended told [] ≡ told
 unfolding appended
@@ -62,6 +62,20 @@ AppendsPrefix-longer old new a b p =
 pub AppendsPrefix-all : (old new : Option (List ℕ)) (a : List ℕ) → new ≡ appended old a → AppendsPrefix old new a
 AppendsPrefix-all old new a e = record { count = length a; is = e ∙ ap (appended old) (sym (take-length a)) }
 
+-- ---- what was handed on
+
+pub Extends-nothing : (old : Option (List ℕ)) → Extends old old
+Extends-nothing old = record { more = []; is = sym (appended-nothing old) }
+
+pub Extends-after : (old middle new : Option (List ℕ)) → Extends old middle → Extends middle new → Extends old new
+Extends-after old middle new e f =
+    record { more = e.more ++ f.more; is = f.is ∙ ap (λ m. appended m f.more) e.is ∙ appended-appended old e.more f.more }
+
+-- for functions that only hand on that no call takes back what was handed on
+pub ruleset hands = (Extends-nothing, Extends-after)
+
+-- ----
+
 -- for functions that write one text after another
 pub ruleset writes = (appended-nothing, appended-appended, AppendsPrefix-nothing, AppendsPrefix-all, AppendsPrefix-whole, AppendsPrefix-after, AppendsPrefix-longer)
 
@@ -96,8 +110,11 @@ AppendsPrefix-told old new text n e =
 pub take-past : (xs ys : List ℕ) (room n : ℕ) → room ≡ length xs + n → take room (xs ++ ys) ≡ xs ++ take n ys
 take-past xs ys room n e = ap (λ m. take m (xs ++ ys)) e ∙ take-append-add xs ys n
 
+pub Extends-told : (old new text : List ℕ) → new ≡ old ++ text → Extends (Some old) (Some new)
+Extends-told old new text e = record { more = text; is = ap (λ (z : List ℕ). Some z) e ∙ sym (appended-told old text) }
+
 -- for a sink that tells its bytes
-pub ruleset tells = (appended-told, AppendsPrefix-told, take-past)
+pub ruleset tells = (appended-told, AppendsPrefix-told, take-past, Extends-told, Extends-nothing)
 
 -- ---- where they are not
 
@@ -113,4 +130,4 @@ pub AppendsPrefix-untold : (text : List ℕ) → AppendsPrefix None None text
 AppendsPrefix-untold text = record { count = 0; is = sym (appended-untold (take 0 text)) }
 
 -- for an object that tells no bytes
-pub ruleset untold = (appended-untold, prepended-untold, AppendsPrefix-untold)
+pub ruleset untold = (appended-untold, prepended-untold, AppendsPrefix-untold, Extends-nothing)

@@ -16,3 +16,8 @@ prepended bytes (Some told) = Some (bytes ++ told)
 pub record AppendsPrefix (old new : Option (List ℕ)) (text : List ℕ) : Type 0 where
   pub count : ℕ
   pub is : new ≡ appended old (take count text)
+
+-- the new bytes begin with the old ones
+pub record Extends (old new : Option (List ℕ)) : Type 0 where
+  pub more : List ℕ
+  pub is : new ≡ appended old more

@@ -5,7 +5,7 @@ use std::alloc::{AllocError, Global};
 use std::marker::Model;
 
 /// A sink that keeps what is written in memory, and takes so many bytes in all. Exactly the writes that go past
-/// them fail; these add as many bytes as there is room for.
+/// them fail; these add as many bytes as there is room for. Nothing is kept back: what is written is handed on.
 #[derive(Debug, Drop)]
 pub struct MemorySink {
     bytes: Vec<u8>,
@@ -49,11 +49,13 @@ impl MemorySink {
 
 impl Sink for MemorySink {
     ghost use Rattle.std.specs.Prelude.{◌≡◌, ◌≤◌, Some, true, is_ok, is_err, OnOk, OnErr};
-    ghost use Rattle.gv_io.specs.Streams.{appended, AppendsPrefix};
+    ghost use Rattle.gv_io.specs.Streams.{appended, AppendsPrefix, Extends};
     ghost use Rattle.gv_values.specs.Counts.{HasRisen};
     ghost use Rattle.gv_io.specs.Memory.{SinkState, is_past_room, after_write};
 
     ghost written = { λ s. Some s.bytes };
+
+    ghost handed = { λ s. Some s.bytes };
 
     ghost faults = { λ s. s.faults };
 
@@ -61,6 +63,7 @@ impl Sink for MemorySink {
     fn write_all(&mut self, bytes: &[u8]) -> Result<(), Failed>
         ensures ok { OnOk result (Some self.new.bytes ≡ appended (Some self.old.bytes) bytes.now) }
         ensures err { OnErr result (AppendsPrefix (Some self.old.bytes) (Some self.new.bytes) bytes.now) }
+        ensures never_taken_back { Extends (Some self.old.bytes) (Some self.new.bytes) }
         ensures never_falls { self.old.faults ≤ self.new.faults }
         ensures failed { OnErr result (HasRisen self.old.faults self.new.faults) }
         ensures unfailed { OnOk result (self.new.faults ≡ self.old.faults) }
@@ -78,8 +81,11 @@ impl Sink for MemorySink {
     }
 
     /// Nothing is kept back, so this never fails.
+    #[tactic(auto, using(crate::proofs::StreamLaws::tells))]
     fn flush(&mut self) -> Result<(), Failed>
         ensures same { Some self.new.bytes ≡ Some self.old.bytes }
+        ensures handed { OnOk result (Some self.new.bytes ≡ Some self.new.bytes) }
+        ensures never_taken_back { Extends (Some self.old.bytes) (Some self.new.bytes) }
         ensures never_falls { self.old.faults ≤ self.new.faults }
         ensures failed { OnErr result (HasRisen self.old.faults self.new.faults) }
         ensures unfailed { OnOk result (self.new.faults ≡ self.old.faults) }

@@ -74,6 +74,8 @@ impl<W: Write> Sink for StdSink<W> {
 
     ghost written = { λ _. None };
 
+    ghost handed = { λ _. None };
+
     ghost faults = { λ s. s.faults };
 
     #[tactic(auto, using(crate::proofs::StreamLaws::untold))]
@@ -82,6 +84,7 @@ impl<W: Write> Sink for StdSink<W> {
         self.counted(went_well)
     }
 
+    #[tactic(auto, using(crate::proofs::StreamLaws::untold))]
     fn flush(&mut self) -> Result<(), Failed> {
         let went_well = self.empty() && self.writer.flush().is_ok();
         self.counted(went_well)

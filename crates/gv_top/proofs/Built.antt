@@ -25,6 +25,7 @@ built_in_range text (named.Text given) e h = let P : TextCommand → Type 0 = λ
 built_in_range text (named.Wsgi gateway) e h = absurd (cc e)
 built_in_range text (named.Serve options) e h = absurd (cc e)
 built_in_range text (named.Storm n) e h = absurd (cc e)
+built_in_range text (named.Verify check) e h = absurd (cc e)
 
 -- so are those of them that are built
 pub in_range : NamedAreInRange → (w : List Word) (text : TextCommand) → command_of w ≡ Some (Command.Text text) → IsInRange (named.Text text)

@@ -20,11 +20,13 @@ use Rattle.scenario_lang.specs.Lines.{Parses}
 use Rattle.command_words.specs.declared.command.GatewayKind.{GatewayKind}
 use Rattle.command_words.specs.declared.command.TextCommand.{TextCommand}
 use Rattle.gv_top.proofs.ReadTexts.{answer_by}
-use Rattle.gv_top.specs.Answers.{Answer, answer_to, answer_to_scenario, answer_to_text, answer_of_run, err_of, judged, most_read, status_of}
-use Rattle.gv_top.specs.Verdicts.{IsExplained, IsRefusedWithReason, number_of, line_of, verdict_on}
+use Rattle.gv_top.specs.Answers.{Answer, answer_to_scenario, answer_to_text, answer_of_run, err_of, status_of, usage}
+use Rattle.scenario_reading.specs.Judged.{IsRefusedWithReason, judged}
+use Rattle.gv_top.specs.Verdicts.{IsExplained, number_of, line_of, verdict_on}
 use Rattle.wsgi_core.specs.Applications.{App}
 use Rattle.wsgi_connection.specs.declared.connection.ConnectionEnd.{ConnectionEnd}
 use Rattle.gv_top.specs.Top.{Decided, IsOfConnection}
+use Rattle.gv_top.specs.Verifying.{IsAnswerOf}
 
 -- ---- the run
 
@@ -130,9 +132,16 @@ decided_of_this command wanted given s v old new is h = let Q : TextCommand → 
 
 -- ---- the verdict of a command
 
-pub usage_decided : (app : App) (c : Option Command) (given : List Given) (left : List ℕ) (old : Option (List ℕ)) → c ≡ None → Decided Verdict.Usage (answer_to app c given left) old old
-usage_decided app c given left old e =
-    let P : Option Command → Type 0 = λ d. Decided Verdict.Usage (answer_to app d given left) old old in subst P (sym e) (sym (appended-nothing old), refl, refl)
+-- the answer to this command is the answer to one that is the same
+pub answer_as : (app : App) (c d : Option Command) (given : List Given) (left : List ℕ) (a : Answer) → c ≡ d → IsAnswerOf app c given left a → IsAnswerOf app d given left a
+answer_as app c d given left a e h = let P : Option Command → Type 0 = λ x. IsAnswerOf app x given left a in subst P e h
+
+-- what is decided of an answer is decided of one that is the same
+pub decided_as : (v : Verdict) (a b : Answer) (old new : Option (List ℕ)) → a ≡ b → Decided v b old new → Decided v a old new
+decided_as v a b old new e h = let P : Answer → Type 0 = λ x. Decided v x old new in subst P (sym e) h
+
+pub usage_decided : (app : App) (c : Option Command) (given : List Given) (left : List ℕ) (a : Answer) (old : Option (List ℕ)) → c ≡ None → IsAnswerOf app c given left a → Decided Verdict.Usage a old old
+usage_decided app c given left a old e h = decided_as Verdict.Usage a usage old old (answer_as app c None given left a e h) (sym (appended-nothing old), refl, refl)
 
 -- another command than this one is named
 pub no_command : (c : Option Command) (d : Command) (P : Type 0) → c ≡ None → c ≡ Some d → P
@@ -152,28 +161,28 @@ nothing_exchanged gateway app input out =
 
 -- ---- what was read
 
-rest_of : (left items rest : List ℕ) → items ≡ take most_read left → left ≡ items ++ rest → rest ≡ drop most_read left
-rest_of left items rest e h =
-    append_cancel_left items rest (drop most_read left) (sym h ∙ sym (take-append-drop most_read left) ∙ ap (λ xs. xs ++ drop most_read left) (sym e))
+rest_of : (most : ℕ) (left items rest : List ℕ) → items ≡ take most left → left ≡ items ++ rest → rest ≡ drop most left
+rest_of most left items rest e h =
+    append_cancel_left items rest (drop most left) (sym h ∙ sym (take-append-drop most left) ∙ ap (λ xs. xs ++ drop most left) (sym e))
 
 some_left : (a b : List ℕ) → Some a ≡ Some b → a ≡ b
 some_left a b e = ap (λ (o : Option (List ℕ)). unwrap_or o a) e
 
-none_read : (items : List ℕ) (left : List ℕ) → prepended items None ≡ Some left → None ≡ Some (drop most_read left)
+none_read : (most : ℕ) (items : List ℕ) (left : List ℕ) → prepended items None ≡ Some left → None ≡ Some (drop most left)
 unfolding prepended
-none_read items left e = cc
+none_read most items left e = cc
 
 some_read : (items rest left : List ℕ) → Some left ≡ prepended items (Some rest) → left ≡ items ++ rest
 unfolding prepended
 some_read items rest left e = some_left left (items ++ rest) e
 
-pub read_first : (left items : List ℕ) (old : Option (List ℕ)) → old ≡ Some left → IfSome old (λ all. items ≡ take most_read all) → items ≡ take most_read left
-read_first left items None e f = cc
-read_first left items (Some all) e f = f ∙ ap (take most_read) (some_left all left e)
+pub read_first : (most : ℕ) (left items : List ℕ) (old : Option (List ℕ)) → old ≡ Some left → IfSome old (λ all. items ≡ take most all) → items ≡ take most left
+read_first most left items None e f = cc
+read_first most left items (Some all) e f = f ∙ ap (take most) (some_left all left e)
 
 -- what is left of the input is what stands behind the bytes that were read
-pub left_behind : (left items : List ℕ) (old new : Option (List ℕ)) → old ≡ Some left → IfSome old (λ all. items ≡ take most_read all) → old ≡ prepended items new
-    → new ≡ Some (drop most_read left)
-left_behind left items old None told first next = none_read items left (sym next ∙ told)
-left_behind left items old (Some rest) told first next =
-    ap Some (rest_of left items rest (read_first left items old told first) (some_read items rest left (sym told ∙ next)))
+pub left_behind : (most : ℕ) (left items : List ℕ) (old new : Option (List ℕ)) → old ≡ Some left → IfSome old (λ all. items ≡ take most all) → old ≡ prepended items new
+    → new ≡ Some (drop most left)
+left_behind most left items old None told first next = none_read most items left (sym next ∙ told)
+left_behind most left items old (Some rest) told first next =
+    ap Some (rest_of most left items rest (read_first most left items old told first) (some_read items rest left (sym told ∙ next)))

@@ -13,6 +13,7 @@ use Rattle.world_rules.specs.Legal.{AreLegal, answers_of, is_answered, posts_of}
 use Rattle.world_rules.specs.Script.{Follows, start}
 use Rattle.world.specs.declared.script.ScriptWorld.{ScriptWorld}
 use Rattle.world.specs.Holding.{Leads}
+use Rattle.world.specs.LegalLogs.{HasLegalLog}
 use Rattle.world.specs.Kept.{rule_state, script_log, script_meaning}
 use Rattle.world.specs.Logged.{script_log_is}
 use Rattle.world.specs.Worlds.{Begins, GoesOn, Meaning}
@@ -25,7 +26,8 @@ use Rattle.hub_engine.specs.Ends.{HasLogged, IsPartLogged, RanTo, WroteAhead, en
 use Rattle.gv_top.proofs.Deciding.{prefix_of_trace}
 use Rattle.gv_top.proofs.Tops.{unchanged_lawful}
 use Rattle.gv_top.specs.Running.{IsBegun, IsUnbegun, RanHeld, RanInWorld, RanNatively, run_of}
-use Rattle.gv_top.specs.Answers.{judged, most_read}
+use Rattle.scenario_reading.specs.Judged.{judged}
+use Rattle.gv_top.specs.Answers.{most_read}
 use Rattle.gv_top.specs.declared.words.Command.{Command}
 use Rattle.gv_top.specs.Top.{BlocksAtQuiet, Counts, HasLawfulLines, RanScenarioSo, RanSo, RanWith}
 use Rattle.machine_blocks.specs.Blocks.{BlocksAreTold}
@@ -218,10 +220,10 @@ ran_natively posts answers end c turns moves workers before after stands out0 ou
 
 -- ---- with native workers whose results are told in the order of a script
 
-pub ran_held : FollowersRunScripts → PostsAreTold → AnswersAreTold → (end : End) (c : Scenario) (turns moves workers k : ℕ) (before inner : Meaning) (w : ScriptWorld) (out0 out1 : Option (List ℕ)) → before.tick ≡ 0 → 0 < workers
-    → RanInWorld end (run c turns moves) workers before (record (script_meaning w) { reference = k }) (script_log w) out0 out1 → Leads inner (script_meaning w) → end ≢ End.WriteFault → end ≢ End.Memory
-    → RanHeld workers (script_run c turns moves 0) inner
-ran_held law posts answers end c turns moves workers k before inner w out0 out1 same some_ h l wf m =
+pub ran_held : FollowersRunScripts → PostsAreTold → AnswersAreTold → (end : End) (c : Scenario) (turns moves workers k : ℕ) (before inner : Meaning) (stands : List LogEntry → Type 0) (w : ScriptWorld) (out0 out1 : Option (List ℕ)) → before.tick ≡ 0 → 0 < workers
+    → RanInWorld end (run c turns moves) workers before (record (script_meaning w) { reference = k }) (script_log w) out0 out1 → Leads inner (script_meaning w) → (0 < w.workers → ∥ HasLegalLog inner stands ∥₁)
+    → end ≢ End.WriteFault → end ≢ End.Memory → RanHeld workers (script_run c turns moves 0) inner stands
+ran_held law posts answers end c turns moves workers k before inner stands w out0 out1 same some_ h l logged wf m =
     let r = run c turns moves w.answers.items in
     let whole = script_run c turns moves 0 in
     let is : r ≡ whole = same_whole end whole r out0 out1 (script_begins law end c turns moves workers 0 k before w out0 out1 same h) h.written wf m in
@@ -232,6 +234,7 @@ ran_held law posts answers end c turns moves workers k before inner w out0 out1 
       rests = l.same_runs ∙ n.rests;
       posts = ap (λ (x : Ran). posts_told x.lines) (sym is) ∙ n.posts ∙ sym (l.same_posts begun);
       done = λ number told. l.ahead number (sym (ap (is_answered number) n.answers) ∙ ap (λ (x : Ran). is_answered number (answers_told x.lines)) is ∙ told);
+      logged = logged begun;
     }
 
 -- ---- lines that meet the laws
@@ -273,7 +276,7 @@ none_ran n options s after stands out0 out1 u = record { begun = inr u; native =
 pub scenario_ran : (command : TextCommand) (options : RunOptions) (end : End) (s : Scenario) (after : Meaning) (stands : List LogEntry → Type 0) (out0 out1 : Option (List ℕ)) → command ≡ TextCommand.Run options
     → IsBegun options s after.answers out0 out1 ⊎ IsUnbegun (number_of (Verdict.Ran end)) out0 out1
     → ((workers : ℕ) → options.world ≡ RunWorld.Native workers → end ≢ End.WriteFault → end ≢ End.Memory → RanNatively workers (run_of options after.answers s) after stands)
-    → ((workers : ℕ) → options.world ≡ RunWorld.Held workers → end ≢ End.WriteFault → end ≢ End.Memory → RanHeld workers (run_of options after.answers s) after)
+    → ((workers : ℕ) → options.world ≡ RunWorld.Held workers → end ≢ End.WriteFault → end ≢ End.Memory → RanHeld workers (run_of options after.answers s) after stands)
     → RanScenarioSo (number_of (Verdict.Ran end)) command s after stands out0 out1
 scenario_ran command options end s after stands out0 out1 is begun h k = λ wanted e.
     let P : RunOptions → Type 0 = λ o. RanWith (number_of (Verdict.Ran end)) o s after stands out0 out1 in
@@ -442,18 +445,18 @@ begun_by_held n options workers answers s engine out0 out1 is held h =
     other_world others z = cc z
 
 -- what its native workers are is what the options ask for
-pub held_so : (options : RunOptions) (workers others : ℕ) (answers : List Answer) (s : Scenario) (engine : Prepared) (after : Meaning) →
+pub held_so : (options : RunOptions) (workers others : ℕ) (answers : List Answer) (s : Scenario) (engine : Prepared) (after : Meaning) (stands : List LogEntry → Type 0) →
     engine ≡ record { scenario = s; turns = options.turns; moves = options.moves } → options.world ≡ RunWorld.Held workers → options.world ≡ RunWorld.Held others →
-    RanHeld workers (script_run engine.scenario engine.turns engine.moves 0) after → RanHeld others (run_of options answers s) after
-held_so options workers others answers s engine after is held asked h =
-    let P : Prepared → Type 0 = λ e. RanHeld workers (script_run e.scenario e.turns e.moves 0) after in
+    RanHeld workers (script_run engine.scenario engine.turns engine.moves 0) after stands → RanHeld others (run_of options answers s) after stands
+held_so options workers others answers s engine after stands is held asked h =
+    let P : Prepared → Type 0 = λ e. RanHeld workers (script_run e.scenario e.turns e.moves 0) after stands in
     let Q : RunWorld → Type 0 = λ w. RanHeld workers (elim w [
       | RunWorld.Script n ↦ script_run s options.turns options.moves n
       | RunWorld.Native k ↦ run s options.turns options.moves answers
       | RunWorld.Held k ↦ script_run s options.turns options.moves 0
-    ]) after in
+    ]) after stands in
     let same : workers ≡ others = same_held workers others (sym held ∙ asked) in
-    subst (λ (n : ℕ). RanHeld n (run_of options answers s) after) same (subst Q (sym held) (subst P is h))
+    subst (λ (n : ℕ). RanHeld n (run_of options answers s) after stands) same (subst Q (sym held) (subst P is h))
   where
     same_held : (a b : ℕ) → RunWorld.Held a ≡ RunWorld.Held b → a ≡ b
     same_held a b z = cc z

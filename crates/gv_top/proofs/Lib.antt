@@ -1,8 +1,9 @@
 pub mod Tops
 pub mod ReadTexts
 pub mod Deciding
+pub mod Checking
 pub mod InWorlds
-pub mod Reasons
 pub mod Built
 pub mod Servings
 pub mod Storms
+pub mod Handing

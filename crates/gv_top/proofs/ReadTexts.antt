@@ -14,7 +14,9 @@ use Rattle.scenario_check.proofs.FirstPlace.{well_formed, not_well_formed}
 use Rattle.machine.specs.Run.{Ran, End}
 use Rattle.gv_top.specs.Refusals.{IsRefusedAt}
 use Rattle.gv_top.specs.Top.{AnswersRun, IsAnswered, IsWholeRun}
-use Rattle.gv_top.specs.Answers.{Answer, answer_to, answer_to_scenario, answer_to_text, answer_of_run, checked, err_of, judged, most_read, refusal, status_of}
+use Rattle.gv_top.specs.Answers.{Answer, answer_to_scenario, answer_to_text, answer_of_run, err_of, most_read, refusal, status_of}
+use Rattle.scenario_reading.specs.Judged.{checked, judged}
+use Rattle.gv_top.specs.Verifying.{IsAnswerOf}
 use Rattle.gv_top.specs.declared.words.Command.{Command}
 use Rattle.command_words.specs.declared.command.TextCommand.{TextCommand}
 use Rattle.wsgi_core.specs.Applications.{App}
@@ -93,7 +95,7 @@ answers_run n r out0 out1 err0 err1 h = record { prefix = h.prefix; whole = λ h
 
 -- what is said of the answer to the command is said of this answer
 pub answered_so : (n : ℕ) (app : App) (c : Option Command) (command : TextCommand) (given : List Given) (a : Answer) (left : List ℕ) (out0 out1 err0 err1 : Option (List ℕ)) →
-    c ≡ Some (Command.Text command) → answer_to_text command given (take most_read left) ≡ a → IsAnswered n (answer_to app c given left) out0 out1 err0 err1 →
-    IsAnswered n a out0 out1 err0 err1
+    c ≡ Some (Command.Text command) → answer_to_text command given (take most_read left) ≡ a →
+    ((b : Answer) → IsAnswerOf app c given left b → IsAnswered n b out0 out1 err0 err1) → IsAnswered n a out0 out1 err0 err1
 answered_so n app c command given a left out0 out1 err0 err1 e is h =
-    let P : Answer → Type 0 = λ a. IsAnswered n a out0 out1 err0 err1 in subst P (ap (λ d. answer_to app d given left) e ∙ is) h
+    let P : Option Command → Type 0 = λ d. IsAnswerOf app d given left a in h a (subst P (sym e) (sym is))

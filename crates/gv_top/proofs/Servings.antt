@@ -14,7 +14,7 @@ use Rattle.stream_net.specs.Nets.{IsFresh, Meaning}
 use Rattle.stream_server.specs.declared.limits.Limits.{Limits}
 use Rattle.stream_server.specs.Serving.{IsInRange}
 use Rattle.serve_command.specs.declared.serving.Served.{Served}
-use Rattle.serve_command.specs.Served.{ServesAt, listening}
+use Rattle.serve_command.specs.Served.{IsToldFirst, ServesAt, listening}
 use Rattle.serve_command.proofs.Ends.{memory_unfinished, none_served}
 use Rattle.gv_top.specs.declared.status.Verdict.{Verdict}
 use Rattle.gv_top.specs.declared.words.Command.{Command}
@@ -33,6 +33,7 @@ serves_none : (o : Option NamedCommand) (command : Command) → option_and_then 
 serves_none (Some (named.Text text)) command e = refl
 serves_none (Some (named.Wsgi gateway)) command e = refl
 serves_none (Some (named.Storm n)) command e = refl
+serves_none (Some (named.Verify check)) command e = refl
 serves_none (Some (named.Serve options)) command e = absurd (cc e)
 serves_none None command e = absurd (cc e)
 
@@ -98,6 +99,7 @@ serving_in_range options (named.Serve given) e h =
 serving_in_range options (named.Text text) e h = absurd (cc e)
 serving_in_range options (named.Wsgi gateway) e h = absurd (cc e)
 serving_in_range options (named.Storm n) e h = absurd (cc e)
+serving_in_range options (named.Verify check) e h = absurd (cc e)
 
 -- the limits of the server that words ask for are in their ranges
 pub limits_in_range : NamedAreInRange → (w : List Word) (options : ServeOptions) → serve_of w ≡ Some options → IsInRange (limits_of options)
@@ -115,6 +117,12 @@ served_as end app given limits o w out0 out1 is fit h = λ options e.
     let P : Limits → Type 0 = λ l. ServesAt end given.port (answers_by given.gateway) app l w out0 out1 in
     let Q : ServeOptions → Type 0 = λ x. ServesAt end x.port (answers_by x.gateway) app (limits_of x) w out0 out1 in
     subst Q (same_options given options (sym is ∙ e)) (subst P fit h)
+
+-- what it told was told of the port that the words ask for
+pub told_at : (o : Option ServeOptions) (given : ServeOptions) (w : Meaning) (out0 handed1 : Option (List ℕ)) → o ≡ Some given → IsToldFirst given.port w out0 handed1 →
+    (options : ServeOptions) → o ≡ Some options → IsToldFirst options.port w out0 handed1
+told_at o given w out0 handed1 is h = λ options e.
+    subst (λ (x : ServeOptions). IsToldFirst x.port w out0 handed1) (same_options given options (sym is ∙ e)) h
 
 -- where memory ran out before it listened, it served nobody
 pub nobody_served : (asked : ℕ) (answers : Gateway) (app : App) (limits : Limits) (w : Meaning) (out0 out1 : Option (List ℕ)) → IsFresh w → out1 ≡ out0 → ServesAt Served.Memory asked answers app limits w out0 out1

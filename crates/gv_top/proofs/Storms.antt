@@ -26,7 +26,8 @@ use Rattle.hub_engine.specs.Ends.{CountsOf, HasLogged, HasNumbers, HasNumbersAt,
 use Rattle.hub_engine.specs.Prepared.{Prepared}
 use Rattle.gv_top.specs.declared.status.Verdict.{Verdict}
 use Rattle.gv_top.specs.declared.words.Command.{Command}
-use Rattle.gv_top.specs.Answers.{Answer, answer_of_storm, answer_to_storm, judged, refusal}
+use Rattle.scenario_reading.specs.Judged.{judged}
+use Rattle.gv_top.specs.Answers.{Answer, answer_of_storm, answer_to_storm, refusal}
 use Rattle.gv_top.specs.Counted.{WasCounted, is_broken_off}
 use Rattle.gv_top.specs.Storm.{storm_run, storm_text}
 use Rattle.gv_top.specs.Top.{Decided, Ended, IsAnswered}

@@ -14,12 +14,18 @@ use Rattle.gv_top.specs.declared.words.Command.{Command}
 use Rattle.command_words.specs.declared.command.GatewayKind.{GatewayKind}
 use Rattle.command_words.specs.declared.command.RunOptions.{RunOptions}
 use Rattle.command_words.specs.declared.command.TextCommand.{TextCommand}
+use Rattle.command_words.specs.declared.command.TraceCheck.{TraceCheck}
 use Rattle.trace_text.specs.LineTexts.{text_of}
 use Rattle.scenario_tree.specs.declared.tree.Scenario.{Scenario}
-use Rattle.gv_top.specs.Answers.{Answer, answer_to, answer_to_storm, judged, memory_line, most_read, read_fault_line, write_fault_line}
+use Rattle.scenario_reading.specs.Judged.{judged}
+use Rattle.verify_command.specs.Inputs.{most_checked_read}
+use Rattle.verify_command.specs.declared.checking.Unverified.{Unverified}
+use Rattle.gv_top.specs.Answers.{Answer, answer_to_storm, memory_line, most_read, read_fault_line, write_fault_line}
 use Rattle.gv_top.specs.Commands.{IsLeftAlone}
 use Rattle.gv_top.specs.Running.{IsBegun, IsUnbegun}
 use Rattle.gv_top.specs.Verdicts.{number_of, line_of}
+use Rattle.gv_top.specs.Checks.{AnswersCheck}
+use Rattle.gv_top.specs.Verifying.{IsAnswerOf, IsCheckAnswer}
 use Rattle.gv_top.specs.Top.{Counts, Fits, Decided, CameTo, Ended, FailsToWrite, IsOr, IsStatusOf, IsTold, IsTried, AnswersConnection, IsAnswered, IsOfConnection, HasFaultLine, HasLawfulLines, RanScenarioSo, RanWith}
 
 -- nothing was appended
@@ -102,6 +108,13 @@ decided (Verdict.Served Served.Finished) a old new d = inl d
 decided (Verdict.Served Served.Listener) a old new d = inl d
 decided (Verdict.Served Served.WriteFault) a old new d = inl d
 decided (Verdict.Served Served.Memory) a old new d = inl d
+decided Verdict.Verified a old new d = inl d
+decided (Verdict.Unverified (Unverified.Overlong line)) a old new d = inl d
+decided (Verdict.Unverified (Unverified.Unmarked line)) a old new d = inl d
+decided (Verdict.Unverified (Unverified.Refused place)) a old new d = inl d
+decided (Verdict.Unverified (Unverified.Wrong line cause)) a old new d = inl d
+decided (Verdict.Unverified (Unverified.Lawless line law)) a old new d = inl d
+decided (Verdict.Unverified Unverified.Memory) a old new d = inr (record { prefix = d; number = inr (inr refl) })
 
 prefix_of : (v : Verdict) (a : Answer) (old new : Option (List ℕ)) → Fits v a old new ⊎ Broke v a old new → AppendsPrefix old new a.out
 prefix_of v a old new (inl f) = AppendsPrefix-all old new a.out f.0
@@ -158,7 +171,10 @@ out_of_memory : (v : Verdict) (app : App) (c : Option Command) (after : Meaning)
     number_of v ≢ 0 → number_of v ≢ 4 → number_of v ≢ 5 → CameTo (Verdict.Ran End.Memory) app c after stands in0 in1 out0 out1 r0 r1 w0 w1
 out_of_memory v app c after stands in0 in1 out0 out1 r0 r1 w0 w1 h n0 n4 n5 =
     record {
-      answer = λ left told. prefix_of v (answer_to app c after.answers left) out0 out1 (decided v (answer_to app c after.answers left) out0 out1 (h.answer left told));
+      answer = λ left a told is. prefix_of v a out0 out1 (decided v a out0 out1 (h.answer left a told is));
+      checked = λ check left is told h4 h5 h7. absurd (h7 refl);
+      untold = λ check is h0 h5. h.untold check is n0 n5;
+      read_trace = λ check is h4 h7. absurd (h7 refl);
       usage = λ e. absurd (omega arith);
       reads = uncounted _ _ _ (λ e. omega arith) (h.reads.unfailed n4);
       writes = uncounted _ _ _ (λ e. omega arith) (h.writes.unfailed n5);
@@ -174,7 +190,10 @@ out_of_memory v app c after stands in0 in1 out0 out1 r0 r1 w0 w1 h n0 n4 n5 =
 pub out_of_memory_at_once : (app : App) (c : Option Command) (after : Meaning) (stands : List LogEntry → Type 0) (input out : Option (List ℕ)) (reads writes : ℕ) → CameTo (Verdict.Ran End.Memory) app c after stands input input out out reads reads writes writes
 out_of_memory_at_once app c after stands input out reads writes =
     record {
-      answer = λ left told. AppendsPrefix-nothing out (answer_to app c after.answers left).out;
+      answer = λ left a told is. AppendsPrefix-nothing out a.out;
+      checked = λ check left is told h4 h5 h7. absurd (h7 refl);
+      untold = λ check is h0 h5. refl;
+      read_trace = λ check is h4 h7. absurd (h7 refl);
       usage = λ e. absurd (omega arith);
       reads = uncounted _ _ _ (λ e. omega arith) refl;
       writes = uncounted _ _ _ (λ e. omega arith) refl;
@@ -228,6 +247,13 @@ line_of_read (Verdict.Served Served.Finished) e = absurd (omega arith)
 line_of_read (Verdict.Served Served.Listener) e = absurd (omega arith)
 line_of_read (Verdict.Served Served.WriteFault) e = absurd (omega arith)
 line_of_read (Verdict.Served Served.Memory) e = absurd (omega arith)
+line_of_read Verdict.Verified e = absurd (omega arith)
+line_of_read (Verdict.Unverified (Unverified.Overlong line)) e = absurd (omega arith)
+line_of_read (Verdict.Unverified (Unverified.Unmarked line)) e = absurd (omega arith)
+line_of_read (Verdict.Unverified (Unverified.Refused place)) e = absurd (omega arith)
+line_of_read (Verdict.Unverified (Unverified.Wrong line cause)) e = absurd (omega arith)
+line_of_read (Verdict.Unverified (Unverified.Lawless line law)) e = absurd (omega arith)
+line_of_read (Verdict.Unverified Unverified.Memory) e = absurd (omega arith)
 
 line_of_memory : (v : Verdict) → number_of v ≡ 7 → line_of v ≡ memory_line
 line_of_memory Verdict.Usage e = absurd (omega arith)
@@ -252,6 +278,13 @@ line_of_memory (Verdict.Served Served.Finished) e = absurd (omega arith)
 line_of_memory (Verdict.Served Served.Listener) e = absurd (omega arith)
 line_of_memory (Verdict.Served Served.WriteFault) e = absurd (omega arith)
 line_of_memory (Verdict.Served Served.Memory) e = refl
+line_of_memory Verdict.Verified e = absurd (omega arith)
+line_of_memory (Verdict.Unverified (Unverified.Overlong line)) e = absurd (omega arith)
+line_of_memory (Verdict.Unverified (Unverified.Unmarked line)) e = absurd (omega arith)
+line_of_memory (Verdict.Unverified (Unverified.Refused place)) e = absurd (omega arith)
+line_of_memory (Verdict.Unverified (Unverified.Wrong line cause)) e = absurd (omega arith)
+line_of_memory (Verdict.Unverified (Unverified.Lawless line law)) e = absurd (omega arith)
+line_of_memory (Verdict.Unverified Unverified.Memory) e = refl
 
 pub line_of_write : (v : Verdict) → number_of v ≡ 5 → line_of v ≡ write_fault_line
 line_of_write Verdict.Usage e = absurd (omega arith)
@@ -276,6 +309,13 @@ line_of_write (Verdict.Served Served.Finished) e = absurd (omega arith)
 line_of_write (Verdict.Served Served.Listener) e = absurd (omega arith)
 line_of_write (Verdict.Served Served.WriteFault) e = refl
 line_of_write (Verdict.Served Served.Memory) e = absurd (omega arith)
+line_of_write Verdict.Verified e = absurd (omega arith)
+line_of_write (Verdict.Unverified (Unverified.Overlong line)) e = absurd (omega arith)
+line_of_write (Verdict.Unverified (Unverified.Unmarked line)) e = absurd (omega arith)
+line_of_write (Verdict.Unverified (Unverified.Refused place)) e = absurd (omega arith)
+line_of_write (Verdict.Unverified (Unverified.Wrong line cause)) e = absurd (omega arith)
+line_of_write (Verdict.Unverified (Unverified.Lawless line law)) e = absurd (omega arith)
+line_of_write (Verdict.Unverified Unverified.Memory) e = absurd (omega arith)
 
 no_line : (v : Verdict) → number_of v ≡ 0 → line_of v ≡ []
 no_line Verdict.Usage e = absurd (omega arith)
@@ -300,6 +340,13 @@ no_line (Verdict.Served Served.Finished) e = refl
 no_line (Verdict.Served Served.Listener) e = absurd (omega arith)
 no_line (Verdict.Served Served.WriteFault) e = absurd (omega arith)
 no_line (Verdict.Served Served.Memory) e = absurd (omega arith)
+no_line Verdict.Verified e = refl
+no_line (Verdict.Unverified (Unverified.Overlong line)) e = absurd (omega arith)
+no_line (Verdict.Unverified (Unverified.Unmarked line)) e = absurd (omega arith)
+no_line (Verdict.Unverified (Unverified.Refused place)) e = absurd (omega arith)
+no_line (Verdict.Unverified (Unverified.Wrong line cause)) e = absurd (omega arith)
+no_line (Verdict.Unverified (Unverified.Lawless line law)) e = absurd (omega arith)
+no_line (Verdict.Unverified Unverified.Memory) e = absurd (omega arith)
 
 -- status 0 is told by no line
 pub told_nothing : (v : Verdict) (err : Option (List ℕ)) (faults : ℕ) → number_of v ≡ 0 → (w : Verdict) × IsOr v w × IsTold 0 w err err faults faults
@@ -316,8 +363,8 @@ no_memory_line n v old new e0 e1 (inr p) e = let q = p.0 in absurd (omega arith)
 -- ---- what an end says
 
 pub is_answered : {n : ℕ} {app : App} {c : Option Command} {after : Meaning} {stands : List LogEntry → Type 0} {in0 in1 out0 out1 err0 err1 : Option (List ℕ)} {r0 r1 w0 w1 e0 e1 : ℕ} →
-    Ended n app c after stands in0 in1 out0 out1 err0 err1 r0 r1 w0 w1 e0 e1 → (left : List ℕ) → in0 ≡ Some left → IsAnswered n (answer_to app c after.answers left) out0 out1 err0 err1
-is_answered h left told = answered _ h.verdict _ _ _ _ _ _ _ (h.came_to.answer left told) h.told
+    Ended n app c after stands in0 in1 out0 out1 err0 err1 r0 r1 w0 w1 e0 e1 → (left : List ℕ) (a : Answer) → in0 ≡ Some left → IsAnswerOf app c after.answers left a → IsAnswered n a out0 out1 err0 err1
+is_answered h left a told is = answered _ h.verdict a _ _ _ _ _ _ (h.came_to.answer left a told is) h.told
 
 pub fault_line : {n : ℕ} {app : App} {c : Option Command} {after : Meaning} {stands : List LogEntry → Type 0} {in0 in1 out0 out1 err0 err1 : Option (List ℕ)} {r0 r1 w0 w1 e0 e1 : ℕ} →
     Ended n app c after stands in0 in1 out0 out1 err0 err1 r0 r1 w0 w1 e0 e1 → HasFaultLine n err0 err1
@@ -375,6 +422,47 @@ pub prints_nothing : {n : ℕ} {app : App} {c : Option Command} {after : Meaning
     Ended n app c after stands in0 in1 out0 out1 err0 err1 r0 r1 w0 w1 e0 e1 → c ≡ Some (Command.Text TextCommand.Format) → n ≢ 0 → n ≢ 5 → out1 ≡ out0
 prints_nothing {n} h is h0 h5 =
     let e = status_is n h refl h5 in h.came_to.unprinted is (λ z. h0 (sym e ∙ z)) (λ z. h5 (sym e ∙ z))
+
+-- a check leaves out as it was
+tells_nothing : {n : ℕ} {app : App} {c : Option Command} {after : Meaning} {stands : List LogEntry → Type 0} {in0 in1 out0 out1 err0 err1 : Option (List ℕ)} {r0 r1 w0 w1 e0 e1 : ℕ} (check : TraceCheck) →
+    Ended n app c after stands in0 in1 out0 out1 err0 err1 r0 r1 w0 w1 e0 e1 → c ≡ Some (Command.Verify check) → n ≢ 0 → n ≢ 5 → out1 ≡ out0
+tells_nothing {n} check h is h0 h5 =
+    let e = status_is n h refl h5 in h.came_to.untold check is (λ z. h0 (sym e ∙ z)) (λ z. h5 (sym e ∙ z))
+
+-- the input of a check was read whole
+reads_trace : {n : ℕ} {app : App} {c : Option Command} {after : Meaning} {stands : List LogEntry → Type 0} {in0 in1 out0 out1 err0 err1 : Option (List ℕ)} {r0 r1 w0 w1 e0 e1 : ℕ} (check : TraceCheck) →
+    Ended n app c after stands in0 in1 out0 out1 err0 err1 r0 r1 w0 w1 e0 e1 → c ≡ Some (Command.Verify check) → n ≢ 4 → n ≢ 5 → n ≢ 7 →
+    (left : List ℕ) → in0 ≡ Some left → in1 ≡ Some (drop most_checked_read left)
+reads_trace {n} check h is h4 h5 h7 left told =
+    let e = status_is n h refl h5 in h.came_to.read_trace check is (λ z. h4 (sym e ∙ z)) (λ z. h7 (sym e ∙ z)) left told
+
+-- what was said of a check
+said_of_check : (n : ℕ) (v : Verdict) (a : Answer) (out0 out1 err0 err1 : Option (List ℕ)) (e0 e1 : ℕ) → Fits v a out0 out1 → IsTold n v err0 err1 e0 e1 → n ≢ 5 → IsAnswered n a out0 out1 err0 err1
+said_of_check n v a out0 out1 err0 err1 e0 e1 f l h5 =
+    let s = said n v err0 err1 e0 e1 l h5 in
+    record {
+      prefix = AppendsPrefix-all out0 out1 a.out f.0;
+      status = λ h4 z h7. s.number ∙ f.1;
+      out = λ h4 z h7. f.0;
+      err = λ h4 z h7. s.line ∙ ap (appended err0) f.2;
+    }
+
+checks_so : {n : ℕ} {app : App} {c : Option Command} {after : Meaning} {stands : List LogEntry → Type 0} {in0 in1 out0 out1 err0 err1 : Option (List ℕ)} {r0 r1 w0 w1 e0 e1 : ℕ} (check : TraceCheck) (left : List ℕ) →
+    Ended n app c after stands in0 in1 out0 out1 err0 err1 r0 r1 w0 w1 e0 e1 → c ≡ Some (Command.Verify check) → in0 ≡ Some left → n ≢ 4 → n ≢ 5 → n ≢ 7 →
+    (a : Answer) × IsCheckAnswer check (take most_checked_read left) a × IsAnswered n a out0 out1 err0 err1
+checks_so {n} check left h is told h4 h5 h7 =
+    let e = status_is n h refl h5 in
+    let d = h.came_to.checked check left is told (λ z. h4 (sym e ∙ z)) (λ z. h5 (sym e ∙ z)) (λ z. h7 (sym e ∙ z)) in
+    (d.0, d.1, said_of_check n h.verdict d.0 _ _ _ _ _ _ d.2 h.told h5)
+
+-- what a check leaves
+pub answers_check : {n : ℕ} {app : App} {c : Option Command} {after : Meaning} {stands : List LogEntry → Type 0} {in0 in1 out0 out1 err0 err1 : Option (List ℕ)} {r0 r1 w0 w1 e0 e1 : ℕ} →
+    Ended n app c after stands in0 in1 out0 out1 err0 err1 r0 r1 w0 w1 e0 e1 → AnswersCheck n c in0 in1 out0 out1 err0 err1
+answers_check h = record {
+  answer = λ check left is told h4 h5 h7. checks_so check left h is told h4 h5 h7;
+  unprinted = λ check is h0 h5. tells_nothing check h is h0 h5;
+  read_whole = λ check is h4 h5 h7 left told. reads_trace check h is h4 h5 h7 left told;
+}
 
 -- the text was read whole
 pub reads_whole : {n : ℕ} {app : App} {c : Option Command} {after : Meaning} {stands : List LogEntry → Type 0} {in0 in1 out0 out1 err0 err1 : Option (List ℕ)} {r0 r1 w0 w1 e0 e1 : ℕ} (text : TextCommand) →

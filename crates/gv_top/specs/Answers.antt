@@ -5,18 +5,15 @@ use Rattle.gv_values.specs.ValueTexts.{decimal}
 use Rattle.gv_values.specs.declared.job.Answer.{Answer as Given}
 use Rattle.scenario_tree.specs.declared.tree.Scenario.{Scenario}
 use Rattle.scenario_grammar.specs.declared.place.Place.{Place}
-use Rattle.scenario_grammar.specs.Parsed.{reading}
 use Rattle.scenario_grammar.specs.Printed.{printed}
 use Rattle.scenario_grammar.specs.Reasons.{reason_text}
-use Rattle.scenario_rules.specs.Rules.{place_of}
+use Rattle.scenario_reading.specs.Judged.{judged}
 use Rattle.wsgi_core.specs.Answers.{Sent}
 use Rattle.wsgi_core.specs.Applications.{App}
 use Rattle.wsgi_connection.specs.Connections.{whole_session}
 use Rattle.gv_top.specs.Gateways.{answers_by}
 use Rattle.gv_top.specs.Running.{run_of}
 use Rattle.gv_top.specs.Storm.{storm_run, storm_text, summary}
-use Rattle.gv_top.specs.declared.words.Command.{Command}
-use Rattle.gv_top.specs.declared.words.Command.TheVariants.{Text, Wsgi, Storm}
 use Rattle.command_words.specs.declared.command.TextCommand.{TextCommand}
 use Rattle.command_words.specs.declared.command.TextCommand.TheVariants.{Run, Format}
 use Rattle.machine.specs.Run.{Ran, End}
@@ -39,14 +36,6 @@ err_of End.Asking = []
 
 -- ---- the call
 
--- a scenario, unless it breaks a rule, or the first place where it does
-abbrev pub checked : Scenario → Result Scenario Place
-checked s = elim (place_of s) [ None ↦ Ok s | Some place ↦ Err place ]
-
--- the well-formed scenario that the bytes spell, or the place where they are refused
-abbrev pub judged : List ℕ → Result Scenario Place
-judged bytes = elim (reading bytes) [ Ok s ↦ checked s | Err place ↦ Err place ]
-
 pub record Answer : Type 0 where
   pub status : ℕ
   pub out : List ℕ
@@ -54,7 +43,7 @@ pub record Answer : Type 0 where
 
 -- the words name no command
 abbrev pub usage : Answer
-usage = record { status = 2; out = []; err = line (codes "usage: gvr run, fmt, wsgi, serve or storm") }
+usage = record { status = 2; out = []; err = line (codes "usage: gvr run, fmt, wsgi, serve, storm or verify") }
 
 -- a line of the input, with a reason by its number and its text
 abbrev pub place_text : ℕ → ℕ → List ℕ → List ℕ
@@ -103,14 +92,6 @@ most_read = 1048577
 -- the port of a session whose bytes come from the input
 abbrev pub no_port : ℕ
 no_port = 0
-
--- what a command answers with this application to an input of which these bytes are left, where nothing fails and
--- native workers gave these answers
-abbrev pub answer_to : App → Option Command → List Given → List ℕ → Answer
-answer_to app None given left = usage
-answer_to app (Some (Text command)) given left = answer_to_text command given (take most_read left)
-answer_to app (Some (Wsgi gateway)) given left = answer_of_session (whole_session (answers_by gateway) app no_port left)
-answer_to app (Some (Storm n)) given left = answer_to_storm n
 
 abbrev pub read_fault_line : List ℕ
 read_fault_line = line (codes "read fault")

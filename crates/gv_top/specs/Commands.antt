@@ -13,9 +13,10 @@ use Rattle.world.specs.Worlds.{Meaning}
 use Rattle.world_rules.specs.declared.question.LogEntry.{LogEntry}
 use Rattle.wsgi_core.specs.Applications.{App}
 use Rattle.gv_top.specs.declared.words.Command.{Command}
-use Rattle.gv_top.specs.Answers.{answer_to, answer_to_storm, formatted, most_read, refusal}
+use Rattle.gv_top.specs.Answers.{Answer, answer_to_storm, formatted, most_read, refusal}
 use Rattle.gv_top.specs.Refusals.{IsRefusedAt}
 use Rattle.gv_top.specs.Running.{IsBegun, IsUnbegun, RanHeld, RanNatively, run_of}
+use Rattle.gv_top.specs.Verifying.{IsAnswerOf}
 use Rattle.gv_top.specs.Top.{AnswersConnection, AnswersRun, BlocksAtQuiet, Ended, FailsToWrite, HasFaultLine, HasLawfulLines, IsAnswered}
 
 -- What words that name no server leave: the status, by the command that they name, if any; by what native workers are
@@ -44,11 +45,11 @@ pub record AnswersCommand (status : ℕ) (app : App) (command : Option Command) 
       options.world ≡ RunWorld.Native workers → in0 ≡ Some left → Spells s (take most_read left) → IsWellFormed s → status ≢ 4 → status ≢ 5 → status ≢ 7 →
       RanNatively workers (run_of options after.answers s) after stands
   -- With held order the run is that of a script, whatever the native workers answer. They were begun in the number that
-  -- the words ask for, posted the jobs of the job lines, and answered that each job is done of which a turn line says so;
-  -- and they run no longer.
+  -- the words ask for, posted the jobs of the job lines, and answered that each job is done of which a turn line says so,
+  -- legally; and they run no longer.
   pub held : (options : RunOptions) (workers : ℕ) (s : Scenario) (left : List ℕ) → command ≡ Some (Command.Text (TextCommand.Run options)) →
       options.world ≡ RunWorld.Held workers → in0 ≡ Some left → Spells s (take most_read left) → IsWellFormed s → status ≢ 4 → status ≢ 5 → status ≢ 7 →
-      RanHeld workers (run_of options after.answers s) after
+      RanHeld workers (run_of options after.answers s) after stands
   -- A text of a well-formed scenario is printed: out has its printed form.
   pub formatted : (s : Scenario) (left : List ℕ) → command ≡ Some (Command.Text TextCommand.Format) →
       in0 ≡ Some left → Spells s (take most_read left) → IsWellFormed s →
@@ -63,8 +64,9 @@ pub record AnswersCommand (status : ℕ) (app : App) (command : Option Command) 
   -- A storm is run: out has its summary, and the status and the line on err are those of its end. Its text is read and
   -- checked as any other.
   pub storm : (size : ℕ) → command ≡ Some (Command.Storm size) → (status ≢ 4) × IsAnswered status (answer_to_storm size) out0 out1 err0 err1
-  -- The status, what out has and what err has are the answer's, but with the statuses 4, 5 and 7.
-  pub answer : (left : List ℕ) → in0 ≡ Some left → IsAnswered status (answer_to app command after.answers left) out0 out1 err0 err1
+  -- The status, what out has and what err has are those of the one answer to the command, but with the statuses 4, 5
+  -- and 7.
+  pub answer : (left : List ℕ) (a : Answer) → in0 ≡ Some left → IsAnswerOf app command after.answers left a → IsAnswered status a out0 out1 err0 err1
   -- It ended with a verdict, which the streams bear out, and whose line was tried on err.
   pub ended : Ended status app command after stands in0 in1 out0 out1 err0 err1 reads0 reads1 writes0 writes1 faults0 faults1
   -- A text that could not be read leaves out as it was; so does `fmt` with every status but 0 and 5.

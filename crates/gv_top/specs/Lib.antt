@@ -8,4 +8,6 @@ pub mod Refusals
 pub mod Serving
 pub mod Top
 pub mod Verdicts
+pub mod Verifying
+pub mod Checks
 pub mod Words

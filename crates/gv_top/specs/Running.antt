@@ -1,8 +1,9 @@
 -- Runs of a scenario in a world, which is begun before and finished after.
-use Rattle.std.specs.Prelude.{◌≡◌, ◌≢◌, ◌⊎◌, ℕ, true, false, List, [], Option}
+use Rattle.std.specs.Prelude.{◌≡◌, ◌≢◌, ◌⊎◌, ℕ, Bool, true, false, List, [], Option}
 use Rattle.gv_values.specs.declared.job.Answer.{Answer}
 use Rattle.world_rules.specs.declared.question.LogEntry.{LogEntry}
 use Rattle.world_rules.specs.Legal.{AreLegal, is_answered}
+use Rattle.world.specs.LegalLogs.{HasLegalLog}
 use Rattle.world.specs.Worlds.{Meaning}
 use Rattle.scenario_tree.specs.declared.tree.Scenario.{Scenario}
 use Rattle.machine.specs.Run.{Ran, run, script_run}
@@ -33,6 +34,17 @@ pub record IsBegun (options : RunOptions) (s : Scenario) (answers : List Answer)
 abbrev pub IsUnbegun : ℕ → Option (List ℕ) → Option (List ℕ) → Type 0
 IsUnbegun n out0 out1 = (out1 ≡ out0) × ((n ≡ 4) ⊎ (n ≡ 5) ⊎ (n ≡ 7))
 
+-- With native workers, what a run says before its last question stood in out when that was answered, and was handed on
+-- where they may be long in answering.
+pub record IsAhead (waits : Bool) (options : RunOptions) (s : Scenario) (answers : List Answer) (out0 out1 handed1 : Option (List ℕ)) : Type 0 where
+  pub written : (workers : ℕ) → options.world ≡ Native workers → WroteAhead (λ given. run_of options given s) answers out0 out1
+  pub handed : (workers : ℕ) → options.world ≡ Native workers → waits ≡ true → WroteAhead (λ given. run_of options given s) answers out0 handed1
+
+-- the run was begun so; or it was not, and native workers are as they were: nothing was posted to them, and they
+-- answered nothing
+abbrev pub BeganSo : Bool → RunOptions → Scenario → Meaning → Meaning → Option (List ℕ) → Option (List ℕ) → Option (List ℕ) → Type 0
+BeganSo waits options s before after out0 out1 handed1 = IsAhead waits options s after.answers out0 out1 handed1 ⊎ (after ≡ before)
+
 -- What a world is after the scenario ran in it to this end, where `whole` is the run under each list of answers: it had
 -- so many workers and runs no longer; it stands for the log of the run, or for the part up to the break.
 pub record RanInWorld (end : End) (whole : List Answer → Ran) (workers : ℕ) (before after : Meaning) (stands : List LogEntry → Type 0) (out0 out1 : Option (List ℕ)) : Type 0 where
@@ -58,10 +70,11 @@ pub record RanNatively (workers : ℕ) (r : Ran) (after : Meaning) (stands : Lis
   pub log : stands r.log
 
 -- What native workers are after a whole run whose results were told in the order of a script: so many were begun, and
--- run no longer; they were posted the jobs of the job lines, in order; and they answered that a job is done for each of
--- which a turn line says so.
-pub record RanHeld (workers : ℕ) (r : Ran) (after : Meaning) : Type 0 where
+-- run no longer; they were posted the jobs of the job lines, in order; they answered that a job is done for each of
+-- which a turn line says so; and they stand for a log of those posts and of their answers, each of which is legal.
+pub record RanHeld (workers : ℕ) (r : Ran) (after : Meaning) (stands : List LogEntry → Type 0) : Type 0 where
   pub workers_are : after.workers ≡ workers
   pub rests : after.runs ≡ false
   pub posts : posts_told r.lines ≡ after.posts
   pub done : (number : ℕ) → is_answered number (answers_told r.lines) ≡ true → is_answered number after.answers ≡ true
+  pub logged : ∥ HasLegalLog after stands ∥₁

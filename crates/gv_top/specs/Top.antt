@@ -1,5 +1,5 @@
 -- What the call leaves behind.
-use Rattle.std.specs.Prelude.{◌≡◌, ◌≢◌, ◌≤◌, ◌⊎◌, ℕ, true, List, Option, Some, None, Ok, drop, filter, take}
+use Rattle.std.specs.Prelude.{◌≡◌, ◌≢◌, ◌≤◌, ◌⊎◌, ℕ, Bool, true, List, Option, Some, None, Ok, drop, filter, take}
 use Rattle.std.specs.List.{list_all, flat_map}
 use Rattle.gv_values.specs.Counts.{HasRisen}
 use Rattle.gv_io.specs.Streams.{appended, AppendsPrefix}
@@ -7,7 +7,9 @@ use Rattle.command_words.specs.declared.command.GatewayKind.{GatewayKind}
 use Rattle.command_words.specs.declared.command.RunOptions.{RunOptions}
 use Rattle.command_words.specs.declared.command.RunWorld.{RunWorld}
 use Rattle.command_words.specs.declared.command.TextCommand.{TextCommand}
+use Rattle.command_words.specs.declared.command.TraceCheck.{TraceCheck}
 use Rattle.scenario_tree.specs.declared.tree.Scenario.{Scenario}
+use Rattle.scenario_reading.specs.Judged.{judged}
 use Rattle.world.specs.Worlds.{Meaning}
 use Rattle.world_rules.specs.declared.question.LogEntry.{LogEntry}
 use Rattle.trace_text.specs.LineTexts.{text_of}
@@ -24,10 +26,13 @@ use Rattle.wsgi_connection.specs.Connections.{Exchanged}
 use Rattle.wsgi_connection.specs.declared.connection.ConnectionEnd.{ConnectionEnd}
 use Rattle.gv_top.specs.declared.status.Verdict.{Verdict}
 use Rattle.gv_top.specs.declared.words.Command.{Command}
-use Rattle.gv_top.specs.Running.{IsBegun, IsUnbegun, RanHeld, RanNatively, run_of}
-use Rattle.gv_top.specs.Answers.{Answer, answer_to, answer_to_storm, judged, memory_line, most_read, no_port, read_fault_line, write_fault_line}
+use Rattle.gv_top.specs.Running.{BeganSo, IsBegun, IsUnbegun, RanHeld, RanNatively, run_of}
+use Rattle.gv_top.specs.Answers.{Answer, answer_to_storm, memory_line, most_read, no_port, read_fault_line, write_fault_line}
 use Rattle.gv_top.specs.Gateways.{answers_by}
 use Rattle.gv_top.specs.Verdicts.{number_of, line_of}
+use Rattle.gv_top.specs.Verifying.{IsAnswerOf, IsCheckAnswer}
+use Rattle.verify_command.specs.Inputs.{most_checked_read}
+use Rattle.verify_command.specs.declared.checking.Unverified.{Unverified}
 
 -- ---- faults
 
@@ -36,6 +41,10 @@ pub record Counts (fails : Type 0) (old new : ℕ) : Type 0 where
   pub failed : fails → HasRisen old new
   pub unfailed : (fails → ⊥) → new ≡ old
   pub never_falls : old ≤ new
+
+-- nothing that was written is kept back, where nothing was before; but where a write failed or memory ran out
+abbrev pub HandsOn : ℕ → Option (List ℕ) → Option (List ℕ) → Option (List ℕ) → Option (List ℕ) → Type 0
+HandsOn n written0 handed0 written1 handed1 = n ≢ 5 → n ≢ 7 → handed0 ≡ written0 → handed1 ≡ written1
 
 -- ---- a verdict
 
@@ -52,6 +61,7 @@ Decided (Verdict.Ran End.Memory) a old new = AppendsPrefix old new a.out
 Decided (Verdict.Connection ConnectionEnd.ReadFault) a old new = AppendsPrefix old new a.out
 Decided (Verdict.Connection ConnectionEnd.WriteFault) a old new = AppendsPrefix old new a.out
 Decided (Verdict.Connection ConnectionEnd.Memory) a old new = AppendsPrefix old new a.out
+Decided (Verdict.Unverified Unverified.Memory) a old new = AppendsPrefix old new a.out
 Decided v a old new = Fits v a old new
 
 -- the verdict is the end of the connection that the input and out are, through this gateway and with this application
@@ -65,7 +75,7 @@ pub record IsOfConnection (v : Verdict) (gateway : GatewayKind) (app : App) (in0
 pub record RanWith (n : ℕ) (options : RunOptions) (s : Scenario) (after : Meaning) (stands : List LogEntry → Type 0) (out0 out1 : Option (List ℕ)) : Type 0 where
   pub begun : IsBegun options s after.answers out0 out1 ⊎ IsUnbegun n out0 out1
   pub native : (workers : ℕ) → options.world ≡ RunWorld.Native workers → n ≢ 4 → n ≢ 5 → n ≢ 7 → RanNatively workers (run_of options after.answers s) after stands
-  pub held : (workers : ℕ) → options.world ≡ RunWorld.Held workers → n ≢ 4 → n ≢ 5 → n ≢ 7 → RanHeld workers (run_of options after.answers s) after
+  pub held : (workers : ℕ) → options.world ≡ RunWorld.Held workers → n ≢ 4 → n ≢ 5 → n ≢ 7 → RanHeld workers (run_of options after.answers s) after stands
 
 -- where the command is a run of the scenario, it ran so
 abbrev pub RanScenarioSo : ℕ → TextCommand → Scenario → Meaning → (List LogEntry → Type 0) → Option (List ℕ) → Option (List ℕ) → Type 0
@@ -77,11 +87,19 @@ abbrev pub RanSo : ℕ → TextCommand → List ℕ → Meaning → (List LogEnt
 RanSo n command bytes after stands out0 out1 =
     (s : Scenario) → judged bytes ≡ Ok s → RanScenarioSo n command s after stands out0 out1
 
+-- where the command is a run of the scenario that the bytes spell, native workers ran so
+abbrev pub BeganText : Bool → TextCommand → List ℕ → Meaning → Meaning → Option (List ℕ) → Option (List ℕ) → Option (List ℕ) → Type 0
+BeganText waits command bytes before after out0 out1 handed1 =
+    (options : RunOptions) (s : Scenario) → command ≡ TextCommand.Run options → judged bytes ≡ Ok s → BeganSo waits options s before after out0 out1 handed1
+
 -- What a command came to, by the bytes of its input and of out, by the counts of their faults, and by what native
 -- workers are after it.
 pub record CameTo (v : Verdict) (app : App) (command : Option Command) (after : Meaning) (stands : List LogEntry → Type 0) (in0 in1 out0 out1 : Option (List ℕ)) (reads0 reads1 writes0 writes1 : ℕ) : Type 0 where
   -- where the input is told, the answer is decided
-  pub answer : (left : List ℕ) → in0 ≡ Some left → Decided v (answer_to app command after.answers left) out0 out1
+  pub answer : (left : List ℕ) (a : Answer) → in0 ≡ Some left → IsAnswerOf app command after.answers left a → Decided v a out0 out1
+  -- a check of a trace has an answer
+  pub checked : (check : TraceCheck) (left : List ℕ) → command ≡ Some (Command.Verify check) → in0 ≡ Some left → number_of v ≢ 4 → number_of v ≢ 5 → number_of v ≢ 7 →
+      (a : Answer) × IsCheckAnswer check (take most_checked_read left) a × Fits v a out0 out1
   -- the words are no command
   pub usage : number_of v ≡ 2 → command ≡ None
   -- a read or a write failed, and none with any other verdict
@@ -91,6 +109,11 @@ pub record CameTo (v : Verdict) (app : App) (command : Option Command) (after : 
   pub unread : (text : TextCommand) → command ≡ Some (Command.Text text) → number_of v ≡ 4 → out1 ≡ out0
   -- so does a text that is not printed
   pub unprinted : command ≡ Some (Command.Text TextCommand.Format) → number_of v ≢ 0 → number_of v ≢ 5 → out1 ≡ out0
+  -- so does a trace whose lines are not told
+  pub untold : (check : TraceCheck) → command ≡ Some (Command.Verify check) → number_of v ≢ 0 → number_of v ≢ 5 → out1 ≡ out0
+  -- an input that is checked was read to its end, or to one byte past the most
+  pub read_trace : (check : TraceCheck) → command ≡ Some (Command.Verify check) → number_of v ≢ 4 → number_of v ≢ 7 →
+      (left : List ℕ) → in0 ≡ Some left → in1 ≡ Some (drop most_checked_read left)
   -- any other text was read to its end, or to one byte past the most
   pub read_whole : (text : TextCommand) → command ≡ Some (Command.Text text) → number_of v ≢ 4 → number_of v ≢ 7 →
       (left : List ℕ) → in0 ≡ Some left → in1 ≡ Some (drop most_read left)

@@ -1,15 +1,17 @@
 -- The statuses and lines of the ways in which a call ends.
-use Rattle.std.specs.Prelude.{ℕ, ◌≤◌, List, [], codes}
+use Rattle.std.specs.Prelude.{ℕ, List, [], codes}
 use Rattle.trace_text.specs.declared.line.StopCause.{StopCause}
-use Rattle.scenario_grammar.specs.declared.place.Place.{Place}
+use Rattle.scenario_reading.specs.Judged.{HasReason}
 use Rattle.scenario_lang.specs.declared.text.ParseRefusal.{ParseRefusal}
 use Rattle.scenario_lang.specs.declared.text.ParseRefusal.TheVariants as parse
 use Rattle.machine.specs.Status.{status, err_line}
 use Rattle.hub_engine.specs.declared.run.End.{End}
 use Rattle.wsgi_connection.specs.declared.connection.ConnectionEnd.{ConnectionEnd}
 use Rattle.serve_command.specs.declared.serving.Served.{Served}
+use Rattle.verify_command.specs.Judged.{IsReasoned}
 use Rattle.gv_top.specs.declared.status.Verdict.{Verdict}
 use Rattle.gv_top.specs.Answers.{line, usage, refusal, read_fault_line, write_fault_line, memory_line, network_fault_line}
+use Rattle.gv_top.specs.Verifying.{unverified}
 
 abbrev pub number_of : Verdict → ℕ
 number_of Verdict.Usage = 2
@@ -34,6 +36,8 @@ number_of (Verdict.Served Served.Finished) = 0
 number_of (Verdict.Served Served.Listener) = 10
 number_of (Verdict.Served Served.WriteFault) = 5
 number_of (Verdict.Served Served.Memory) = 7
+number_of Verdict.Verified = 0
+number_of (Verdict.Unverified refusal) = (unverified refusal).status
 
 abbrev pub line_of : Verdict → List ℕ
 line_of Verdict.Usage = usage.err
@@ -58,19 +62,14 @@ line_of (Verdict.Served Served.Finished) = []
 line_of (Verdict.Served Served.Listener) = network_fault_line
 line_of (Verdict.Served Served.WriteFault) = write_fault_line
 line_of (Verdict.Served Served.Memory) = memory_line
-
--- the place has one of the reasons, which are numbered from 1 to 22
-abbrev pub HasReason : Place → Type 0
-HasReason place = (1 ≤ place.reason) × (place.reason ≤ 22)
+line_of Verdict.Verified = []
+line_of (Verdict.Unverified refusal) = (unverified refusal).err
 
 -- a refusal has one of the reasons
 abbrev pub IsExplained : Verdict → Type 0
 IsExplained (Verdict.Refused place) = HasReason place
+IsExplained (Verdict.Unverified refusal) = IsReasoned refusal
 IsExplained v = Unit {0}
-
-abbrev pub IsRefusedWithReason : ParseRefusal → Type 0
-IsRefusedWithReason (parse.Refused place) = HasReason place
-IsRefusedWithReason parse.Memory = Unit {0}
 
 -- the verdict on a text that no scenario was read of
 abbrev pub verdict_on : ParseRefusal → Verdict

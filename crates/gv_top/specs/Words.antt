@@ -10,7 +10,7 @@ use Rattle.command_words.specs.declared.command.ServeOptions.{ServeOptions}
 use Rattle.command_words.specs.declared.command.TextCommand.{TextCommand}
 use Rattle.command_words.specs.declared.command.TextCommand.TheVariants.{Run, Format}
 use Rattle.gv_top.specs.declared.words.Command.{Command}
-use Rattle.gv_top.specs.declared.words.Command.TheVariants.{Text, Wsgi, Storm}
+use Rattle.gv_top.specs.declared.words.Command.TheVariants.{Text, Wsgi, Storm, Verify}
 
 -- the command, if it is built and needs no net
 abbrev pub built : NamedCommand → Option Command
@@ -18,6 +18,7 @@ built (named.Text command) = Some (Text command)
 built (named.Wsgi gateway) = Some (Wsgi gateway)
 built (named.Serve options) = None
 built (named.Storm n) = Some (Storm n)
+built (named.Verify check) = Some (Verify check)
 
 -- the command that the words name, if they name one that is built and needs no net
 abbrev pub command_of : List Word → Option Command
@@ -48,6 +49,7 @@ abbrev pub is_native : Option Command → Bool
 is_native (Some (Text command)) = is_native_text command
 is_native (Some (Wsgi gateway)) = false
 is_native (Some (Storm n)) = false
+is_native (Some (Verify check)) = false
 is_native None = false
 
 -- ---- the input
@@ -57,4 +59,5 @@ abbrev pub reads_input : Option Command → Bool
 reads_input (Some (Text command)) = true
 reads_input (Some (Wsgi gateway)) = true
 reads_input (Some (Storm n)) = false
+reads_input (Some (Verify check)) = true
 reads_input None = false

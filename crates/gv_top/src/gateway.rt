@@ -1,8 +1,8 @@
 //! What the program says through the gateway that its words name.
-ghost use Rattle.std.specs.Prelude.{◌≡◌, ℕ, List, Some};
+ghost use Rattle.std.specs.Prelude.{◌≡◌, ◌≢◌, ℕ, List, Some};
 ghost use Rattle.stream_net.specs.Nets.{IsFresh};
 ghost use Rattle.stream_server.specs.Serving.{IsInRange};
-ghost use Rattle.serve_command.specs.Served.{ServesAt};
+ghost use Rattle.serve_command.specs.Served.{IsToldFirst, ServesAt};
 ghost use Rattle.wsgi_connection.specs.Connections.{Exchanged, IsWhole, whole_session};
 ghost use Rattle.gv_top.specs.Answers.{no_port};
 ghost use Rattle.gv_top.specs.Gateways.{answers_by};
@@ -33,6 +33,7 @@ pub fn answer_through<S: Source, K: Sink, A: Application>(
     ensures exchanged { Exchanged result (answers_by gateway) (A.answer_of app.now) no_port (S.remaining input.old) (S.remaining input.new) (K.written out.old) (K.written out.new) }
     ensures whole { (left : List ℕ) → S.remaining input.old ≡ Some left →
         IsWhole result (whole_session (answers_by gateway) (A.answer_of app.now) no_port left) (K.written out.old) (K.written out.new) }
+    ensures handed { K.handed out.old ≡ K.written out.old → result ≢ ConnectionEnd.WriteFault → result ≢ ConnectionEnd.Memory → K.handed out.new ≡ K.written out.new }
     ensures reads { Counts (result ≡ ConnectionEnd.ReadFault) (S.faults input.old) (S.faults input.new) }
     ensures writes { Counts (result ≡ ConnectionEnd.WriteFault) (K.faults out.old) (K.faults out.new) }
 {
@@ -58,6 +59,8 @@ pub fn serve_through<K: Sink, N: Net, A: Application, H: Wait>(
     requires fresh { IsFresh (N.meaning net.old) }
     requires in_range { IsInRange limits }
     ensures serves { ServesAt result port (answers_by gateway) (A.answer_of app.now) limits (N.meaning net.new) (K.written out.old) (K.written out.new) }
+    ensures told { IsToldFirst port (N.meaning net.new) (K.written out.old) (K.handed out.new) }
+    ensures handed { K.handed out.old ≡ K.written out.old → result ≢ Served.WriteFault → result ≢ Served.Memory → K.handed out.new ≡ K.written out.new }
     ensures listens { Counts (result ≡ Served.Listener) (N.meaning net.old).faults (N.meaning net.new).faults }
     ensures writes { Counts (result ≡ Served.WriteFault) (K.faults out.old) (K.faults out.new) }
 {

@@ -3,12 +3,12 @@
 
 mod gateway;
 mod laws;
-mod reading;
 mod running;
 mod serving;
 mod status;
 mod storming;
 mod top;
+mod verifying;
 mod words;
 
 pub use laws::{budgets_are_in_range, texts_are_answered, words_name_one};

@@ -1,4 +1,5 @@
 //! Runs of a scenario in a world.
+ghost use Rattle.gv_io.specs.Streams.{Extends};
 ghost use Rattle.std.specs.Prelude.{◌≡◌, ◌≢◌, ◌≤◌, ◌<◌, ◌⊎◌, ℕ, List, true, false, IfNone, IfSome};
 ghost use Rattle.gv_values.specs.Counts.{HasRisen};
 ghost use Rattle.machine.specs.Run.{run, script_run};
@@ -7,11 +8,12 @@ ghost use Rattle.command_words.specs.Ranges.{IsWorldInRange};
 ghost use Rattle.hub_engine.specs.Ends.{RanTo, WroteAhead};
 ghost use Rattle.scenario_rules.specs.Rules.{IsWellFormed};
 ghost use Rattle.gv_top.specs.declared.status.Verdict.{Verdict};
-ghost use Rattle.gv_top.specs.Running.{IsBegun, IsUnbegun, RanHeld, RanInWorld, RanNatively, run_of};
-ghost use Rattle.gv_top.specs.Top.{Counts};
+ghost use Rattle.gv_top.specs.Running.{BeganSo, IsBegun, IsUnbegun, RanHeld, RanInWorld, RanNatively, run_of};
+ghost use Rattle.gv_top.specs.Top.{Counts, HandsOn};
 ghost use Rattle.gv_top.specs.Verdicts.{number_of};
 ghost use Rattle.gv_top.specs.Words.{is_native_world};
 
+use crate::storming::is_broken_off;
 use command_words::{RunOptions, RunWorld};
 use gv_io::Sink;
 use hub_engine::{Budgets, End, Engine};
@@ -26,14 +28,17 @@ use world::{Held, ScriptWorld, World};
 const SCRIPT_WORKERS: u32 = 1;
 
 /// The end of the run, once out has handed on what was written to it.
+#[tactic(auto, using(gv_io::proofs::StreamLaws::hands))]
 fn handed_on<K: Sink>(end: End, out: &mut K) -> End
     ensures same { K.written out.new ≡ K.written out.old }
+    ensures hands { number_of (Verdict.Ran result) ≢ 5 → number_of (Verdict.Ran result) ≢ 7 → K.handed out.new ≡ K.written out.new }
+    ensures never_taken_back { Extends (K.handed out.old) (K.handed out.new) }
     ensures end { (result ≡ end) ⊎ (result ≡ End.WriteFault) }
     ensures failed { result ≡ End.WriteFault → (end ≡ End.WriteFault) ⊎ HasRisen (K.faults out.old) (K.faults out.new) }
     ensures unfailed { result ≢ End.WriteFault → K.faults out.new ≡ K.faults out.old }
     ensures never_falls { K.faults out.old ≤ K.faults out.new }
 {
-    if matches!(end, End::WriteFault | End::Memory) {
+    if is_broken_off(end) {
         return end;
     }
     match out.flush() {
@@ -57,6 +62,8 @@ fn run_in_world<K: Sink, W: World>(
     ensures ran { IfSome result (λ end. RanInWorld end (run engine.scenario engine.turns engine.moves) workers
         (W.meaning world.old) (W.meaning world.new) (W.stands_for world.new) (K.written out.old) (K.written out.new)) }
     ensures counts { IfSome result (λ end. Counts (end ≡ End.WriteFault) (K.faults out.old) (K.faults out.new)) }
+    ensures ahead { IfSome result (λ end. W.waits ≡ true → WroteAhead (run engine.scenario engine.turns engine.moves) (W.meaning world.new).answers (K.written out.old) (K.handed out.new)) }
+    ensures hands { IfSome result (λ end. number_of (Verdict.Ran end) ≢ 5 → number_of (Verdict.Ran end) ≢ 7 → K.handed out.new ≡ K.written out.new) }
     ensures kept { IfNone result (W.meaning world.new ≡ W.meaning world.old) }
     ensures unwritten { IfNone result (K.written out.new ≡ K.written out.old) }
     ensures untried { IfNone result (K.faults out.new ≡ K.faults out.old) }
@@ -74,6 +81,7 @@ fn run_script<K: Sink>(alloc: Global, engine: Engine, tick: u64, out: &mut K) ->
     requires well_formed { IsWellFormed engine.scenario }
     ensures written { RanTo result (script_run engine.scenario engine.turns engine.moves tick) (K.written out.old) (K.written out.new) }
     ensures lawful { meets_laws (script_run engine.scenario engine.turns engine.moves tick).lines ≡ true }
+    ensures hands { HandsOn (number_of (Verdict.Ran result)) (K.written out.old) (K.handed out.old) (K.written out.new) (K.handed out.new) }
     ensures counts { Counts (result ≡ End.WriteFault) (K.faults out.old) (K.faults out.new) }
 {
     followers_run_scripts();
@@ -100,10 +108,14 @@ fn run_natively<K: Sink, W: World>(
     ensures begun { ((meets_laws (run engine.scenario engine.turns engine.moves (W.meaning native.new).answers).lines ≡ true)
         × WroteAhead (run engine.scenario engine.turns engine.moves) (W.meaning native.new).answers (K.written out.old) (K.written out.new))
         ⊎ IsUnbegun (number_of (Verdict.Ran result)) (K.written out.old) (K.written out.new) }
+    ensures began { (WroteAhead (run engine.scenario engine.turns engine.moves) (W.meaning native.new).answers (K.written out.old) (K.written out.new)
+        × (W.waits ≡ true → WroteAhead (run engine.scenario engine.turns engine.moves) (W.meaning native.new).answers (K.written out.old) (K.handed out.new)))
+        ⊎ (W.meaning native.new ≡ W.meaning native.old) }
     ensures written { RanTo result (run engine.scenario engine.turns engine.moves (W.meaning native.new).answers) (K.written out.old) (K.written out.new) }
     ensures native { result ≢ End.WriteFault → result ≢ End.Memory →
         RanNatively workers (run engine.scenario engine.turns engine.moves (W.meaning native.new).answers) (W.meaning native.new) (W.stands_for native.new) }
     ensures rests { (W.meaning native.new).runs ≡ false }
+    ensures hands { HandsOn (number_of (Verdict.Ran result)) (K.written out.old) (K.handed out.old) (K.written out.new) (K.handed out.new) }
     ensures counts { Counts (result ≡ End.WriteFault) (K.faults out.old) (K.faults out.new) }
 {
     posts_and_answers_are_told();
@@ -128,8 +140,10 @@ fn run_held<K: Sink, W: World>(
     requires well_formed { IsWellFormed engine.scenario }
     ensures written { RanTo result (script_run engine.scenario engine.turns engine.moves 0) (K.written out.old) (K.written out.new) }
     ensures lawful { meets_laws (script_run engine.scenario engine.turns engine.moves 0).lines ≡ true }
-    ensures native { result ≢ End.WriteFault → result ≢ End.Memory → RanHeld workers (script_run engine.scenario engine.turns engine.moves 0) (W.meaning native.new) }
+    ensures native { result ≢ End.WriteFault → result ≢ End.Memory →
+        RanHeld workers (script_run engine.scenario engine.turns engine.moves 0) (W.meaning native.new) (W.stands_for native.new) }
     ensures rests { (W.meaning native.new).runs ≡ false }
+    ensures hands { HandsOn (number_of (Verdict.Ran result)) (K.written out.old) (K.handed out.old) (K.written out.new) (K.handed out.new) }
     ensures counts { Counts (result ≡ End.WriteFault) (K.faults out.old) (K.faults out.new) }
 {
     followers_run_scripts();
@@ -158,11 +172,13 @@ pub fn run_scenario<K: Sink, W: World>(
     ensures native { (workers : ℕ) → options.world ≡ RunWorld.Native workers → result ≢ End.WriteFault → result ≢ End.Memory →
         RanNatively workers (run_of options (W.meaning native.new).answers checked) (W.meaning native.new) (W.stands_for native.new) }
     ensures held { (workers : ℕ) → options.world ≡ RunWorld.Held workers → result ≢ End.WriteFault → result ≢ End.Memory →
-        RanHeld workers (run_of options (W.meaning native.new).answers checked) (W.meaning native.new) }
+        RanHeld workers (run_of options (W.meaning native.new).answers checked) (W.meaning native.new) (W.stands_for native.new) }
     ensures begun { IsBegun options checked (W.meaning native.new).answers (K.written out.old) (K.written out.new)
         ⊎ IsUnbegun (number_of (Verdict.Ran result)) (K.written out.old) (K.written out.new) }
+    ensures began { BeganSo W.waits options checked (W.meaning native.old) (W.meaning native.new) (K.written out.old) (K.written out.new) (K.handed out.new) }
     ensures untouched { is_native_world options.world ≡ false → native.new ≡ native.old }
     ensures rests { (W.meaning native.new).runs ≡ false }
+    ensures hands { HandsOn (number_of (Verdict.Ran result)) (K.written out.old) (K.handed out.old) (K.written out.new) (K.handed out.new) }
     ensures counts { Counts (result ≡ End.WriteFault) (K.faults out.old) (K.faults out.new) }
 {
     let budgets = Budgets {

@@ -1,13 +1,22 @@
 //! The call that the program makes, over a net too.
-ghost use Rattle.std.specs.Prelude.{◌≡◌, ◌≢◌, ◌≤◌, false, Some, None, map, string_bytes, IsSome};
+ghost use Rattle.std.specs.Prelude.{◌≡◌, ◌≢◌, ◌≤◌, ℕ, false, List, Some, None, map, string_bytes, take, IsSome};
 ghost use Rattle.gv_values.specs.Counts.{HasRisen};
 ghost use Rattle.command_words.specs.declared.command.ServeOptions.{ServeOptions as AnyServer};
 ghost use Rattle.stream_net.specs.Nets.{IsFresh};
-ghost use Rattle.serve_command.specs.Served.{ServesAt};
+ghost use Rattle.serve_command.specs.Served.{IsToldFirst, ServesAt};
+ghost use Rattle.gv_top.specs.Checks.{AnswersCheck};
 ghost use Rattle.gv_top.specs.Commands.{AnswersCommand, IsBorneOut, IsLeftAlone};
+ghost use Rattle.command_words.specs.declared.command.RunOptions.{RunOptions as AnyOptions};
+ghost use Rattle.command_words.specs.declared.command.TextCommand.{TextCommand};
+ghost use Rattle.scenario_grammar.specs.Spells.{Spells};
+ghost use Rattle.scenario_rules.specs.Rules.{IsWellFormed};
+ghost use Rattle.scenario_tree.specs.declared.tree.Scenario.{Scenario as AnyScenario};
+ghost use Rattle.gv_top.specs.Answers.{most_read};
 ghost use Rattle.gv_top.specs.Gateways.{answers_by};
+ghost use Rattle.gv_top.specs.Running.{BeganSo};
+ghost use Rattle.gv_top.specs.declared.words.Command.{Command};
 ghost use Rattle.gv_top.specs.Serving.{Serves, limits_of};
-ghost use Rattle.gv_top.specs.Top.{Counts};
+ghost use Rattle.gv_top.specs.Top.{Counts, HandsOn};
 ghost use Rattle.gv_top.specs.Words.{command_of, is_native, reads_input, serve_of};
 
 use crate::gateway::serve_through;
@@ -48,6 +57,9 @@ fn serve<K: Sink, N: Net, A: Application, H: Wait>(
     requires named { IsSome (serve_of (map string_bytes words.now)) }
     ensures serves { (options : AnyServer) → serve_of (map string_bytes words.now) ≡ Some options →
         ServesAt result options.port (answers_by options.gateway) (A.answer_of app.now) (limits_of options) (N.meaning net.new) (K.written out.old) (K.written out.new) }
+    ensures told { (options : AnyServer) → serve_of (map string_bytes words.now) ≡ Some options →
+        IsToldFirst options.port (N.meaning net.new) (K.written out.old) (K.handed out.new) }
+    ensures handed { K.handed out.old ≡ K.written out.old → result ≢ Served.WriteFault → result ≢ Served.Memory → K.handed out.new ≡ K.written out.new }
     ensures listens { Counts (result ≡ Served.Listener) (N.meaning net.old).faults (N.meaning net.new).faults }
     ensures writes { Counts (result ≡ Served.WriteFault) (K.faults out.old) (K.faults out.new) }
 {
@@ -99,8 +111,19 @@ pub fn gvr<S: Source, K: Sink, E: Sink, W: World, N: Net, A: Application, H: Wai
         AnswersCommand result (A.answer_of app.now) (command_of (map string_bytes words.now)) (W.meaning native.new) (W.stands_for native.new)
         (S.remaining input.old) (S.remaining input.new) (K.written out.old) (K.written out.new) (E.written err.old) (E.written err.new)
         (S.faults input.old) (S.faults input.new) (K.faults out.old) (K.faults out.new) (E.faults err.old) (E.faults err.new) }
+    ensures checks { serve_of (map string_bytes words.now) ≡ None →
+        AnswersCheck result (command_of (map string_bytes words.now)) (S.remaining input.old) (S.remaining input.new)
+        (K.written out.old) (K.written out.new) (E.written err.old) (E.written err.new) }
     ensures borne_out { IsBorneOut result (E.written err.old) (E.written err.new)
         (S.faults input.old) (S.faults input.new) (K.faults out.old) (K.faults out.new) (E.faults err.old) (E.faults err.new) }
+    // Native workers were asked only after what the run says before was written, and handed on where they may be long in
+    // answering; or they are as they were.
+    ensures began { (options : AnyOptions) (s : AnyScenario) (left : List ℕ) → command_of (map string_bytes words.now) ≡ Some (Command.Text (TextCommand.Run options)) →
+        S.remaining input.old ≡ Some left → Spells s (take most_read left) → IsWellFormed s →
+        BeganSo W.waits options s (W.meaning native.old) (W.meaning native.new) (K.written out.old) (K.written out.new) (K.handed out.new) }
+    // All that was written is handed on, where all was before, but with the statuses 5 and 7; the line of status 7 too.
+    ensures handed { HandsOn result (K.written out.old) (K.handed out.old) (K.written out.new) (K.handed out.new) }
+    ensures err_handed { result ≢ 5 → E.handed err.old ≡ E.written err.old → E.handed err.new ≡ E.written err.new }
     ensures untouched { is_native (command_of (map string_bytes words.now)) ≡ false → native.new ≡ native.old }
     ensures left_alone { IsLeftAlone result (S.remaining input.old) native.old native.new }
     ensures native_rests { (W.meaning native.new).runs ≡ false }
@@ -112,6 +135,8 @@ pub fn gvr<S: Source, K: Sink, E: Sink, W: World, N: Net, A: Application, H: Wai
     // no input.
     ensures served { (options : AnyServer) → serve_of (map string_bytes words.now) ≡ Some options →
         Serves result (A.answer_of app.now) options (N.meaning net.new) (K.written out.old) (K.written out.new) (E.written err.old) (E.written err.new) }
+    ensures told { (options : AnyServer) → serve_of (map string_bytes words.now) ≡ Some options →
+        IsToldFirst options.port (N.meaning net.new) (K.written out.old) (K.handed out.new) }
     ensures network_fault { result ≡ 10 → IsSome (serve_of (map string_bytes words.now)) × HasRisen (N.meaning net.old).faults (N.meaning net.new).faults }
     ensures net_unfailed { result ≢ 5 → result ≢ 10 → (N.meaning net.new).faults ≡ (N.meaning net.old).faults }
     ensures net_alone { serve_of (map string_bytes words.now) ≡ None → net.new ≡ net.old }

@@ -1,6 +1,6 @@
 //! How a call ends: its status and its line on err.
 ghost use Rattle.std.specs.Prelude.{◌≡◌, List, OnOk, IfOk};
-ghost use Rattle.gv_top.specs.Verdicts.{HasReason, IsExplained, number_of, line_of, verdict_on};
+ghost use Rattle.gv_top.specs.Verdicts.{IsExplained, number_of, line_of, verdict_on};
 
 use gv_values::{FaultKind, decimal_text, fault_text};
 use hub_engine::End;
@@ -8,6 +8,8 @@ use scenario_grammar::{Place, reason_text};
 use scenario_lang::ParseRefusal;
 use serve_command::Served;
 use std::alloc::{AllocError, Global};
+use trace_check::Cause;
+use verify_command::Unverified;
 use wsgi_connection::ConnectionEnd;
 
 /// How a call ends.
@@ -27,6 +29,10 @@ pub enum Verdict {
     Connection(ConnectionEnd),
     /// The server came to this end.
     Served(Served),
+    /// The trace was checked, and how many lines it has is out.
+    Verified,
+    /// The input was not verified.
+    Unverified(Unverified),
 }
 
 impl Verdict {
@@ -57,6 +63,13 @@ impl Verdict {
             Verdict::Served(Served::Listener) => 10,
             Verdict::Served(Served::WriteFault) => 5,
             Verdict::Served(Served::Memory) => 7,
+            Verdict::Verified => 0,
+            Verdict::Unverified(Unverified::Overlong { line: _ }) => 3,
+            Verdict::Unverified(Unverified::Unmarked { line: _ }) => 3,
+            Verdict::Unverified(Unverified::Refused(_)) => 3,
+            Verdict::Unverified(Unverified::Wrong { line: _, cause: _ }) => 9,
+            Verdict::Unverified(Unverified::Lawless { line: _, law: _ }) => 9,
+            Verdict::Unverified(Unverified::Memory) => 7,
         }
     }
 
@@ -66,7 +79,10 @@ impl Verdict {
         ensures { IfOk result (λ line. line.items ≡ line_of self) }
     {
         match self {
-            Verdict::Usage => line_with(alloc, b"usage: gvr run, fmt, wsgi, serve or storm"),
+            Verdict::Usage => line_with(
+                alloc,
+                b"usage: gvr run, fmt, wsgi, serve, storm or verify",
+            ),
             Verdict::ReadFault => line_with(alloc, b"read fault"),
             Verdict::Refused(place) => refusal_line(alloc, place),
             Verdict::Formatted => Ok(Vec::new(alloc)),
@@ -91,6 +107,8 @@ impl Verdict {
             Verdict::Served(Served::Listener) => line_with(alloc, b"network fault"),
             Verdict::Served(Served::WriteFault) => line_with(alloc, b"write fault"),
             Verdict::Served(Served::Memory) => line_with(alloc, b"out of memory"),
+            Verdict::Verified => Ok(Vec::new(alloc)),
+            Verdict::Unverified(refusal) => unverified_line(alloc, refusal),
         }
     }
 }
@@ -108,6 +126,9 @@ pub fn verdict_on(refusal: ParseRefusal) -> Verdict
 ghost use Rattle.machine.specs.Status.{err_line};
 ghost use Rattle.trace_text.specs.declared.line.StopCause.{StopCause};
 ghost use Rattle.gv_top.specs.Answers.{line, place_text, refusal};
+ghost use Rattle.gv_top.specs.Verifying.{lawless, trace_line, unverified, wrong};
+ghost use Rattle.scenario_reading.specs.Judged.{HasReason};
+ghost use Rattle.verify_command.specs.Judged.{IsReasoned};
 
 fn line_with(alloc: Global, text: &[u8]) -> Result<Vec<u8>, AllocError>
     ensures { IfOk result (λ made. made.items ≡ line text.now) }
@@ -139,21 +160,77 @@ fn refusal_line(alloc: Global, place: Place) -> Result<Vec<u8>, AllocError>
 {
     place_line(
         alloc,
-        place.line,
+        u64::from(place.line),
         place.reason,
         reason_text(place.reason).as_bytes(),
     )
 }
 
-fn place_line(alloc: Global, number: u32, reason: u8, text: &[u8]) -> Result<Vec<u8>, AllocError>
+fn place_line(alloc: Global, number: u64, reason: u8, text: &[u8]) -> Result<Vec<u8>, AllocError>
     ensures { IfOk result (λ made. made.items ≡ line (place_text number reason text.now)) }
 {
     let mut made = Vec::new(alloc);
     made.extend_from_slice(b"line ")?;
-    decimal_text(u64::from(number), &mut made)?;
+    decimal_text(number, &mut made)?;
     made.extend_from_slice(b": reason ")?;
     decimal_text(u64::from(reason), &mut made)?;
     made.extend_from_slice(b": ")?;
     made.extend_from_slice(text)?;
     line_with(alloc, made.as_slice())
+}
+
+/// The line on err of an input that was not verified.
+fn unverified_line(alloc: Global, refusal: Unverified) -> Result<Vec<u8>, AllocError>
+    requires { IsReasoned refusal }
+    ensures { IfOk result (λ made. made.items ≡ (unverified refusal).err) }
+{
+    match refusal {
+        Unverified::Overlong { line } => place_line(
+            alloc,
+            line,
+            25,
+            b"input longer than 67108864 bytes",
+        ),
+        Unverified::Unmarked { line } => place_line(
+            alloc,
+            line,
+            24,
+            b"no line of four equals signs",
+        ),
+        Unverified::Refused(place) => refusal_line(alloc, place),
+        Unverified::Wrong { line, cause } => cause_line(alloc, line, cause),
+        Unverified::Lawless { line, law } => law_line(alloc, line, law),
+        Unverified::Memory => line_with(alloc, b"out of memory"),
+    }
+}
+
+fn trace_line(alloc: Global, number: u64, text: &[u8]) -> Result<Vec<u8>, AllocError>
+    ensures { IfOk result (λ made. made.items ≡ trace_line number text.now) }
+{
+    let mut made = Vec::new(alloc);
+    made.extend_from_slice(b"trace line ")?;
+    decimal_text(number, &mut made)?;
+    made.extend_from_slice(b": ")?;
+    made.extend_from_slice(text)?;
+    line_with(alloc, made.as_slice())
+}
+
+fn cause_line(alloc: Global, number: u64, cause: Cause) -> Result<Vec<u8>, AllocError>
+    ensures { IfOk result (λ made. made.items ≡ (wrong number cause).err) }
+{
+    let mut text = Vec::new(alloc);
+    text.extend_from_slice(b"cause ")?;
+    decimal_text(u64::from(cause.number()), &mut text)?;
+    text.extend_from_slice(b": ")?;
+    text.extend_from_slice(cause.text().as_bytes())?;
+    trace_line(alloc, number, text.as_slice())
+}
+
+fn law_line(alloc: Global, number: u64, law: u8) -> Result<Vec<u8>, AllocError>
+    ensures { IfOk result (λ made. made.items ≡ (lawless number law).err) }
+{
+    let mut text = Vec::new(alloc);
+    text.extend_from_slice(b"law ")?;
+    decimal_text(u64::from(law), &mut text)?;
+    trace_line(alloc, number, text.as_slice())
 }

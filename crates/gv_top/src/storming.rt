@@ -5,10 +5,9 @@ ghost use Rattle.gv_top.specs.declared.status.Verdict.{Verdict as AnyVerdict};
 ghost use Rattle.gv_top.specs.Answers.{answer_of_storm, answer_to_storm};
 ghost use Rattle.gv_top.specs.Counted.{WasCounted, is_broken_off};
 ghost use Rattle.gv_top.specs.Storm.{storm_run, storm_text, summary};
-ghost use Rattle.gv_top.specs.Top.{Counts, Decided};
+ghost use Rattle.gv_top.specs.Top.{Counts, Decided, HandsOn};
 ghost use Rattle.gv_top.specs.Verdicts.{IsExplained, number_of};
 
-use crate::reading::read_scenario;
 use crate::status::{Verdict, verdict_on};
 use crate::top::send;
 use gv_io::Sink;
@@ -17,6 +16,7 @@ use hub_engine::{Budgets, End, Engine, Ran};
 use line_counter::LineCounter;
 use machine_scripts::followers_run_scripts;
 use scenario_check::Checked;
+use scenario_reading::read_scenario;
 use serve_command::push_number_line;
 use std::alloc::{AllocError, Global};
 use world::{ScriptWorld, World};
@@ -71,7 +71,7 @@ fn summary_text(alloc: Global, size: u32, run: &CountedRun) -> Result<Vec<u8>, A
 }
 
 /// The run was broken off: its trace could not be written, or memory ran out.
-fn is_broken_off(end: End) -> bool
+pub(crate) fn is_broken_off(end: End) -> bool
     ensures { result ≡ is_broken_off end }
 {
     matches!(end, End::WriteFault | End::Memory)
@@ -105,6 +105,7 @@ fn count_run(alloc: Global, checked: Checked) -> Option<CountedRun>
 #[tactic(auto, using(gv_io::proofs::StreamLaws::writes))]
 fn sum_up<K: Sink>(alloc: Global, size: u32, checked: Checked, out: &mut K) -> End
     ensures answer { Decided (AnyVerdict.Ran result) (answer_of_storm size (storm_run checked)) (K.written out.old) (K.written out.new) }
+    ensures hands { HandsOn (number_of (AnyVerdict.Ran result)) (K.written out.old) (K.handed out.old) (K.written out.new) (K.handed out.new) }
     ensures counts { Counts (result ≡ End.WriteFault) (K.faults out.old) (K.faults out.new) }
 {
     let Some(run) = count_run(alloc, checked) else {
@@ -126,6 +127,7 @@ pub fn answer_storm<K: Sink>(alloc: Global, size: u32, out: &mut K) -> Verdict
     ensures read { number_of result ≢ 4 }
     ensures no_net { number_of result ≢ 10 }
     ensures explained { IsExplained result }
+    ensures hands { HandsOn (number_of result) (K.written out.old) (K.handed out.old) (K.written out.new) (K.handed out.new) }
     ensures writes { Counts (number_of result ≡ 5) (K.faults out.old) (K.faults out.new) }
 {
     let Ok(text) = storm_text(alloc, size) else {

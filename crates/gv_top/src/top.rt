@@ -5,22 +5,27 @@ ghost use Rattle.gv_io.specs.Streams.{appended, AppendsPrefix};
 ghost use Rattle.command_words.specs.declared.command.GatewayKind.{GatewayKind as AnyGateway};
 ghost use Rattle.command_words.specs.declared.command.RunOptions.{RunOptions as AnyOptions};
 ghost use Rattle.command_words.specs.declared.command.Command.{Command as NamedCommand};
+ghost use Rattle.command_words.specs.declared.command.TraceCheck.{TraceCheck as AnyCheck};
 ghost use Rattle.command_words.specs.Ranges.{IsInRange};
 ghost use Rattle.scenario_grammar.specs.Spells.{Spells};
 ghost use Rattle.scenario_rules.specs.Rules.{IsWellFormed};
 ghost use Rattle.scenario_tree.specs.declared.tree.Scenario.{Scenario as AnyScenario};
-ghost use Rattle.gv_top.specs.Answers.{answer_to, answer_to_scenario, answer_to_storm, answer_to_text, formatted, memory_line, most_read, network_fault_line, read_fault_line, refusal, write_fault_line};
+ghost use Rattle.gv_top.specs.Answers.{Answer, answer_to_scenario, answer_to_storm, answer_to_text, formatted, memory_line, most_read, network_fault_line, read_fault_line, refusal, write_fault_line};
 ghost use Rattle.gv_top.specs.Commands.{AnswersCommand, IsBorneOut, IsLeftAlone};
+ghost use Rattle.gv_top.specs.Running.{BeganSo};
 ghost use Rattle.gv_top.specs.declared.status.Verdict.{Verdict as AnyVerdict};
-ghost use Rattle.gv_top.specs.Top.{CameTo, Counts, Decided, HasLawfulLines, IsOfConnection, IsOr, IsTold, RanScenarioSo, RanSo};
+ghost use Rattle.gv_top.specs.Top.{BeganText, CameTo, Counts, Decided, Fits, HandsOn, HasLawfulLines, IsOfConnection, IsOr, IsTold, RanScenarioSo, RanSo};
 ghost use Rattle.gv_top.specs.Verdicts.{IsExplained, line_of, number_of};
+ghost use Rattle.gv_top.specs.Checks.{AnswersCheck};
+ghost use Rattle.gv_top.specs.Verifying.{IsAnswerOf, IsCheckAnswer};
+ghost use Rattle.verify_command.specs.Inputs.{most_checked_read};
 ghost use Rattle.gv_top.specs.Words.{command_of, is_native, is_native_text, reads_input, serve_of};
 
 use crate::gateway::answer_through;
-use crate::reading::read_scenario;
 use crate::running::run_scenario;
 use crate::status::{Verdict, verdict_on};
 use crate::storming::answer_storm;
+use crate::verifying::answer_check;
 use crate::words::{Command, server_options, without_a_net};
 use command_words::{TextCommand, command_of, commands_are_in_range};
 use gv_io::{Failed, ReadRefusal, Sink, Source, read_limited};
@@ -29,6 +34,7 @@ use machine_blocks::blocks_are_told;
 use machine_laws::blocks_are_quiet;
 use scenario_check::Checked;
 use scenario_lang::{Scenario, print};
+use scenario_reading::read_scenario;
 use std::alloc::Global;
 use world::World;
 use wsgi_core::Application;
@@ -51,6 +57,9 @@ fn decide<S: Source, K: Sink, W: World, A: Application>(
     ensures no_command { IfSome result (λ verdict. command_of (map string_bytes words.now) ≡ None → (number_of verdict ≡ 2) ⊎ (number_of verdict ≡ 7)) }
     ensures lawful { IfSome result (λ verdict. (options : AnyOptions) → command_of (map string_bytes words.now) ≡ Some (Command.Text (TextCommand.Run options)) →
         HasLawfulLines (number_of verdict) (K.written out.old) (K.written out.new)) }
+    ensures hands { IfSome result (λ verdict. HandsOn (number_of verdict) (K.written out.old) (K.handed out.old) (K.written out.new) (K.handed out.new)) }
+    ensures began { IfSome result (λ verdict. (text : TextCommand) → command_of (map string_bytes words.now) ≡ Some (Command.Text text) → (left : List ℕ) → S.remaining input.old ≡ Some left →
+        BeganText W.waits text (take most_read left) (W.meaning native.old) (W.meaning native.new) (K.written out.old) (K.written out.new) (K.handed out.new)) }
     ensures untouched { is_native (command_of (map string_bytes words.now)) ≡ false → native.new ≡ native.old }
     ensures left_alone { IfSome result (λ verdict. IsLeftAlone (number_of verdict) (S.remaining input.old) native.old native.new) }
     ensures rests { (W.meaning native.new).runs ≡ false }
@@ -91,14 +100,22 @@ fn answer_command<S: Source, K: Sink, W: World, A: Application>(
 ) -> Verdict
     requires range { (text : TextCommand) → command ≡ Some (Command.Text text) → IsInRange (NamedCommand.Text text) }
     requires rests { (W.meaning native.old).runs ≡ false }
-    ensures answer { (left : List ℕ) → S.remaining input.old ≡ Some left →
-        Decided result (answer_to (A.answer_of app.now) command (W.meaning native.new).answers left) (K.written out.old) (K.written out.new) }
+    ensures answer { (left : List ℕ) (a : Answer) → S.remaining input.old ≡ Some left → IsAnswerOf (A.answer_of app.now) command (W.meaning native.new).answers left a →
+        Decided result a (K.written out.old) (K.written out.new) }
+    ensures checked { (check : AnyCheck) (left : List ℕ) → command ≡ Some (Command.Verify check) → S.remaining input.old ≡ Some left →
+        number_of result ≢ 4 → number_of result ≢ 5 → number_of result ≢ 7 →
+        (a : Answer) × IsCheckAnswer check (take most_checked_read left) a × Fits result a (K.written out.old) (K.written out.new) }
+    ensures untold { (check : AnyCheck) → command ≡ Some (Command.Verify check) → number_of result ≢ 0 → number_of result ≢ 5 → K.written out.new ≡ K.written out.old }
+    ensures read_trace { (check : AnyCheck) → command ≡ Some (Command.Verify check) →
+        (left : List ℕ) → S.remaining input.old ≡ Some left → number_of result ≢ 4 → number_of result ≢ 7 → S.remaining input.new ≡ Some (drop most_checked_read left) }
     ensures usage { number_of result ≡ 2 → command ≡ None }
     ensures no_net { number_of result ≢ 10 }
     ensures no_command { command ≡ None → (number_of result ≡ 2) ⊎ (number_of result ≡ 7) }
     ensures ran { (text : TextCommand) → command ≡ Some (Command.Text text) → (left : List ℕ) → S.remaining input.old ≡ Some left →
         RanSo (number_of result) text (take most_read left) (W.meaning native.new) (W.stands_for native.new) (K.written out.old) (K.written out.new) }
     ensures lawful { (options : AnyOptions) → command ≡ Some (Command.Text (TextCommand.Run options)) → HasLawfulLines (number_of result) (K.written out.old) (K.written out.new) }
+    ensures began { (text : TextCommand) → command ≡ Some (Command.Text text) → (left : List ℕ) → S.remaining input.old ≡ Some left →
+        BeganText W.waits text (take most_read left) (W.meaning native.old) (W.meaning native.new) (K.written out.old) (K.written out.new) (K.handed out.new) }
     ensures untouched { is_native command ≡ false → native.new ≡ native.old }
     ensures left_alone { IsLeftAlone (number_of result) (S.remaining input.old) native.old native.new }
     ensures rests { (W.meaning native.new).runs ≡ false }
@@ -107,6 +124,7 @@ fn answer_command<S: Source, K: Sink, W: World, A: Application>(
     ensures storm { (size : ℕ) → command ≡ Some (Command.Storm size) → (number_of result ≢ 4) × Decided result (answer_to_storm size) (K.written out.old) (K.written out.new) }
     ensures untouched_input { reads_input command ≡ false → input.new ≡ input.old }
     ensures reads { Counts (number_of result ≡ 4) (S.faults input.old) (S.faults input.new) }
+    ensures hands { HandsOn (number_of result) (K.written out.old) (K.handed out.old) (K.written out.new) (K.handed out.new) }
     ensures writes { Counts (number_of result ≡ 5) (K.faults out.old) (K.faults out.new) }
     ensures unread { (text : TextCommand) → command ≡ Some (Command.Text text) → number_of result ≡ 4 → K.written out.new ≡ K.written out.old }
     ensures unprinted { command ≡ Some (Command.Text TextCommand.Format) → number_of result ≢ 0 → number_of result ≢ 5 → K.written out.new ≡ K.written out.old }
@@ -121,6 +139,7 @@ fn answer_command<S: Source, K: Sink, W: World, A: Application>(
             Verdict::Connection(answer_through(alloc, gateway, input, out, app))
         }
         Some(Command::Storm(size)) => answer_storm(alloc, size, out),
+        Some(Command::Verify(check)) => answer_check(alloc, check, input, out),
     }
 }
 
@@ -137,6 +156,8 @@ fn answer_input<S: Source, K: Sink, W: World>(
     ensures ran { (left : List ℕ) → S.remaining input.old ≡ Some left →
         RanSo (number_of result) command (take most_read left) (W.meaning native.new) (W.stands_for native.new) (K.written out.old) (K.written out.new) }
     ensures lawful { (options : AnyOptions) → command ≡ TextCommand.Run options → HasLawfulLines (number_of result) (K.written out.old) (K.written out.new) }
+    ensures began { (left : List ℕ) → S.remaining input.old ≡ Some left →
+        BeganText W.waits command (take most_read left) (W.meaning native.old) (W.meaning native.new) (K.written out.old) (K.written out.new) (K.handed out.new) }
     ensures untouched { is_native_text command ≡ false → native.new ≡ native.old }
     ensures left_alone { IsLeftAlone (number_of result) (S.remaining input.old) native.old native.new }
     ensures rests { (W.meaning native.new).runs ≡ false }
@@ -148,6 +169,7 @@ fn answer_input<S: Source, K: Sink, W: World>(
     ensures unprinted { command ≡ TextCommand.Format → number_of result ≢ 0 → number_of result ≢ 5 → K.written out.new ≡ K.written out.old }
     ensures explained { IsExplained result }
     ensures reads { Counts (number_of result ≡ 4) (S.faults input.old) (S.faults input.new) }
+    ensures hands { HandsOn (number_of result) (K.written out.old) (K.handed out.old) (K.written out.new) (K.handed out.new) }
     ensures writes { Counts (number_of result ≡ 5) (K.faults out.old) (K.faults out.new) }
     ensures read_whole { (left : List ℕ) → S.remaining input.old ≡ Some left →
         number_of result ≢ 4 → number_of result ≢ 7 → S.remaining input.new ≡ Some (drop most_read left) }
@@ -170,6 +192,7 @@ fn answer_text<K: Sink, W: World>(
     requires rests { (W.meaning native.old).runs ≡ false }
     ensures ran { RanSo (number_of result) command bytes.now (W.meaning native.new) (W.stands_for native.new) (K.written out.old) (K.written out.new) }
     ensures lawful { (options : AnyOptions) → command ≡ TextCommand.Run options → HasLawfulLines (number_of result) (K.written out.old) (K.written out.new) }
+    ensures began { BeganText W.waits command bytes.now (W.meaning native.old) (W.meaning native.new) (K.written out.old) (K.written out.new) (K.handed out.new) }
     ensures untouched { is_native_text command ≡ false → native.new ≡ native.old }
     ensures refused { number_of result ≡ 3 → native.new ≡ native.old }
     ensures unspelt { ((s : AnyScenario) → Spells s bytes.now → IsWellFormed s → ⊥) → native.new ≡ native.old }
@@ -180,6 +203,7 @@ fn answer_text<K: Sink, W: World>(
     ensures read { number_of result ≢ 4 }
     ensures unprinted { command ≡ TextCommand.Format → number_of result ≢ 0 → number_of result ≢ 5 → K.written out.new ≡ K.written out.old }
     ensures explained { IsExplained result }
+    ensures hands { HandsOn (number_of result) (K.written out.old) (K.handed out.old) (K.written out.new) (K.handed out.new) }
     ensures writes { Counts (number_of result ≡ 5) (K.faults out.old) (K.faults out.new) }
 {
     match read_scenario(alloc, bytes) {
@@ -200,6 +224,8 @@ fn answer_scenario<K: Sink, W: World>(
     requires rests { (W.meaning native.old).runs ≡ false }
     ensures ran { RanScenarioSo (number_of result) command checked (W.meaning native.new) (W.stands_for native.new) (K.written out.old) (K.written out.new) }
     ensures lawful { (options : AnyOptions) → command ≡ TextCommand.Run options → HasLawfulLines (number_of result) (K.written out.old) (K.written out.new) }
+    ensures began { (options : AnyOptions) → command ≡ TextCommand.Run options →
+        BeganSo W.waits options checked (W.meaning native.old) (W.meaning native.new) (K.written out.old) (K.written out.new) (K.handed out.new) }
     ensures untouched { is_native_text command ≡ false → native.new ≡ native.old }
     ensures rests { (W.meaning native.new).runs ≡ false }
     ensures answer { Decided result (answer_to_scenario command (W.meaning native.new).answers checked) (K.written out.old) (K.written out.new) }
@@ -209,6 +235,7 @@ fn answer_scenario<K: Sink, W: World>(
     ensures read { number_of result ≢ 4 }
     ensures unprinted { command ≡ TextCommand.Format → number_of result ≢ 0 → number_of result ≢ 5 → K.written out.new ≡ K.written out.old }
     ensures explained { IsExplained result }
+    ensures hands { HandsOn (number_of result) (K.written out.old) (K.handed out.old) (K.written out.new) (K.handed out.new) }
     ensures writes { Counts (number_of result ≡ 5) (K.faults out.old) (K.faults out.new) }
 {
     match command {
@@ -229,6 +256,7 @@ fn format_scenario<K: Sink>(alloc: Global, scenario: &Scenario, out: &mut K) -> 
     ensures read { number_of result ≢ 4 }
     ensures unprinted { number_of result ≢ 0 → number_of result ≢ 5 → K.written out.new ≡ K.written out.old }
     ensures explained { IsExplained result }
+    ensures hands { HandsOn (number_of result) (K.written out.old) (K.handed out.old) (K.written out.new) (K.handed out.new) }
     ensures writes { Counts (number_of result ≡ 5) (K.faults out.old) (K.faults out.new) }
 {
     let mut text = Vec::new(alloc);
@@ -246,6 +274,7 @@ fn format_scenario<K: Sink>(alloc: Global, scenario: &Scenario, out: &mut K) -> 
 pub(crate) fn send<K: Sink>(sink: &mut K, bytes: &[u8]) -> Result<(), Failed>
     ensures ok { OnOk result (K.written sink.new ≡ appended (K.written sink.old) bytes.now) }
     ensures cut { OnErr result (AppendsPrefix (K.written sink.old) (K.written sink.new) bytes.now) }
+    ensures handed { OnOk result (K.handed sink.new ≡ K.written sink.new) }
     ensures failed { OnErr result (HasRisen (K.faults sink.old) (K.faults sink.new)) }
     ensures unfailed { OnOk result (K.faults sink.new ≡ K.faults sink.old) }
     ensures never_falls { K.faults sink.old ≤ K.faults sink.new }
@@ -288,6 +317,7 @@ fn try_line<E: Sink>(verdict: Verdict, line: &[u8], err: &mut E) -> u8
     requires line { line.now ≡ line_of verdict }
     requires has_line { number_of verdict ≢ 0 }
     ensures told { IsTold result verdict (E.written err.old) (E.written err.new) (E.faults err.old) (E.faults err.new) }
+    ensures handed { result ≢ 5 → E.handed err.old ≡ E.written err.old → E.handed err.new ≡ E.written err.new }
     ensures never_falls { E.faults err.old ≤ E.faults err.new }
 {
     match send(err, line) {
@@ -301,6 +331,7 @@ fn try_line<E: Sink>(verdict: Verdict, line: &[u8], err: &mut E) -> u8
 fn tell_without_memory<E: Sink>(verdict: Verdict, err: &mut E) -> u8
     requires has_line { number_of verdict ≢ 0 }
     ensures told { (w : AnyVerdict) × IsOr verdict w × IsTold result w (E.written err.old) (E.written err.new) (E.faults err.old) (E.faults err.new) }
+    ensures handed { result ≢ 5 → E.handed err.old ≡ E.written err.old → E.handed err.new ≡ E.written err.new }
     ensures never_falls { E.faults err.old ≤ E.faults err.new }
 {
     if verdict.number() == 4 {
@@ -320,6 +351,7 @@ fn tell_without_memory<E: Sink>(verdict: Verdict, err: &mut E) -> u8
 pub fn tell<E: Sink>(alloc: Global, verdict: Verdict, err: &mut E) -> u8
     requires { IsExplained verdict }
     ensures told { (w : AnyVerdict) × IsOr verdict w × IsTold result w (E.written err.old) (E.written err.new) (E.faults err.old) (E.faults err.new) }
+    ensures handed { result ≢ 5 → E.handed err.old ≡ E.written err.old → E.handed err.new ≡ E.written err.new }
     ensures never_falls { E.faults err.old ≤ E.faults err.new }
 {
     if verdict.number() == 0 {
@@ -339,23 +371,27 @@ pub fn tell<E: Sink>(alloc: Global, verdict: Verdict, err: &mut E) -> u8
 /// and finished after it and is left alone otherwise. `fmt` reads a scenario, and writes its printed form to out.
 /// `wsgi` reads the bytes of one connection, of HTTP (RFC 9112) or, with `--gateway scgi`, of SCGI (N. Schemenauer,
 /// 2008), and writes the answers of the application (PEP 3333) to out. `storm` runs many greenlets that hand one unit
-/// on, and writes the numbers of that run to out.
+/// on, and writes the numbers of that run to out. `verify` reads a scenario, a line of four equals signs and a trace, and
+/// writes to out how many lines the trace has, where it is the run of the scenario under the answers that its turn lines
+/// name; with `--check laws` the input is a trace, which is checked by the laws of a trace alone.
 ///
 /// The statuses, of which 4, 5 and 7 (want of memory) come before every other:
 ///
-/// - 0: the run's main ended with a value, or `fmt`, `wsgi` or `storm` came to its end.
+/// - 0: the run's main ended with a value, or `fmt`, `wsgi` or `storm` came to its end, or the trace was verified.
 /// - 1: the run's main ended by a fault.
 /// - 2: the words are no command.
-/// - 3: the input spells no well-formed scenario.
+/// - 3: the input spells no well-formed scenario; with `verify` also where it has no line of four equals signs or is too
+///   long.
 /// - 4: the input could not be read.
 /// - 5: out or err could not be written.
 /// - 6: the run would begin one more turn or move than its budget.
 /// - 8: the run would pass a limit, or the connection did.
+/// - 9: the trace is not the run, or does not meet the laws.
 ///
 /// No fault is hidden: with any status but 5 no write failed, and with any but 4 and 5 no read. 5 hides a read that
 /// failed only where err failed at the line of 4.
 ///
-/// Which of 0, 1, 3, 6 and 8 it is, is said by `answer` of `AnswersCommand`, by one equation: the status is that of the
+/// Which of 0, 1, 3, 6, 8 and 9 it is, is said by `answer` of `AnswersCommand`, by one equation: the status is that of the
 /// answer to the words and the input. So each comes exactly where the answer has it, and its line on err with it.
 pub fn offline<S: Source, K: Sink, E: Sink, W: World, A: Application>(
     alloc: Global,
@@ -370,8 +406,18 @@ pub fn offline<S: Source, K: Sink, E: Sink, W: World, A: Application>(
     ensures answers { IfSome result (λ status. AnswersCommand status (A.answer_of app.now) (command_of (map string_bytes words.now)) (W.meaning native.new) (W.stands_for native.new)
         (S.remaining input.old) (S.remaining input.new) (K.written out.old) (K.written out.new) (E.written err.old) (E.written err.new)
         (S.faults input.old) (S.faults input.new) (K.faults out.old) (K.faults out.new) (E.faults err.old) (E.faults err.new)) }
+    ensures checks { IfSome result (λ status. AnswersCheck status (command_of (map string_bytes words.now)) (S.remaining input.old) (S.remaining input.new)
+        (K.written out.old) (K.written out.new) (E.written err.old) (E.written err.new)) }
     ensures borne_out { IfSome result (λ status. IsBorneOut status (E.written err.old) (E.written err.new)
         (S.faults input.old) (S.faults input.new) (K.faults out.old) (K.faults out.new) (E.faults err.old) (E.faults err.new)) }
+    // Native workers were asked only after what the run says before was written, and handed on where they may be long in
+    // answering; or they are as they were.
+    ensures began { IfSome result (λ status. (options : AnyOptions) (s : AnyScenario) (left : List ℕ) → command_of (map string_bytes words.now) ≡ Some (Command.Text (TextCommand.Run options)) →
+        S.remaining input.old ≡ Some left → Spells s (take most_read left) → IsWellFormed s →
+        BeganSo W.waits options s (W.meaning native.old) (W.meaning native.new) (K.written out.old) (K.written out.new) (K.handed out.new)) }
+    // All that was written is handed on, where all was before.
+    ensures handed { IfSome result (λ status. HandsOn status (K.written out.old) (K.handed out.old) (K.written out.new) (K.handed out.new)) }
+    ensures err_handed { IfSome result (λ status. status ≢ 5 → E.handed err.old ≡ E.written err.old → E.handed err.new ≡ E.written err.new) }
     ensures untouched { is_native (command_of (map string_bytes words.now)) ≡ false → native.new ≡ native.old }
     ensures left_alone { IfSome result (λ status. IsLeftAlone status (S.remaining input.old) native.old native.new) }
     ensures native_rests { (W.meaning native.new).runs ≡ false }

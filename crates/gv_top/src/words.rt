@@ -2,7 +2,7 @@
 ghost use Rattle.std.specs.Prelude.{◌≡◌, option_and_then};
 ghost use Rattle.gv_top.specs.Words.{built, serving};
 
-use command_words::{Command as NamedCommand, GatewayKind, ServeOptions, TextCommand};
+use command_words::{Command as NamedCommand, GatewayKind, ServeOptions, TextCommand, TraceCheck};
 
 /// What the program is asked to do without a net.
 #[derive(Clone, Copy, Debug, PartialEq, Eq)]
@@ -13,6 +13,8 @@ pub enum Command {
     Wsgi(GatewayKind),
     /// Run the storm of so many greenlets.
     Storm(u32),
+    /// Check this of the trace that the input has.
+    Verify(TraceCheck),
 }
 
 /// The command, if it is built and needs no net.
@@ -24,6 +26,7 @@ fn built(command: NamedCommand) -> Option<Command>
         NamedCommand::Wsgi(gateway) => Some(Command::Wsgi(gateway)),
         NamedCommand::Serve(_) => None,
         NamedCommand::Storm(size) => Some(Command::Storm(size)),
+        NamedCommand::Verify(check) => Some(Command::Verify(check)),
     }
 }
 

@@ -66,7 +66,7 @@ fn run_over<H: Wait + Copy, R: Ear + Drop, B: Bell + Drop, S: Spawner<B, OpenGat
     let Ok(mut net) = MioNet::new(rt, rt.alloc()) else {
         return Err(AllocError);
     };
-    Ok(gvr(
+    let status = gvr(
         &handle,
         rt.alloc(),
         words.as_slice(),
@@ -76,7 +76,9 @@ fn run_over<H: Wait + Copy, R: Ear + Drop, B: Bell + Drop, S: Spawner<B, OpenGat
         &mut native,
         &mut net,
         &ShippedApp,
-    ))
+    );
+    net.let_go();
+    Ok(status)
 }
 
 /// Runs the command, and gives its status. Where the system has no poll by which a worker could wake the hub, the hub

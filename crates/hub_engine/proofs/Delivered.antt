@@ -1,5 +1,5 @@
 -- What is delivered.
-use Rattle.std.proofs.Common.{◌≡◌, refl, ap, sym, ◌∙◌, subst, ℕ, true, Option, Some, None, slice_get}
+use Rattle.std.proofs.Common.{◌≡◌, refl, ap, sym, ◌∙◌, subst, ℕ, true, Option, Some, None}
 use Rattle.gv_values.specs.declared.value.Outcome.{Outcome}
 use Rattle.scenario_rules.specs.declared.mention.Wanted.TheVariants as wanted
 use Rattle.scenario_rules.specs.Declarations.{is_kind}
@@ -11,12 +11,13 @@ use Rattle.machine.specs.declared.items.Item.{Item}
 use Rattle.machine.specs.declared.items.Waiting.{Waiting}
 use Rattle.machine.specs.Deliveries.{deliver, delivers, late, waiting_of, without_item, without_wait}
 use Rattle.machine.specs.Landing.{Next, answered}
-use Rattle.machine.specs.Questions.{is_numbered}
+use Rattle.machine.specs.Run.{least_below}
 use Rattle.machine.specs.Settle.{settle}
 use Rattle.machine.specs.State.{State, say}
 use Rattle.machine.specs.Waits.{late_outcome}
 use Rattle.machine.specs.Items.{is_wait_of}
 use Rattle.machine_laws.specs.Reached.{state_of}
+use Rattle.machine_laws.proofs.Runs.{IsFound, least-found}
 use Rattle.machine_soundness.specs.Going.{IsKept}
 use Rattle.machine_soundness.proofs.Deliveries.{claimed, free-moves, kept-without, no-wait-left, owned}
 use Rattle.machine.proofs.Halves.{left}
@@ -105,25 +106,28 @@ named_wait c (Waiting.TakeOffer o) h = tt
 
 -- ---- an item
 
-pub delivered_as : (n : ℕ) (i j : Item) (s t v : State) (at : Stand) → slice_get s.items n ≡ Some j → t ≡ without_item j s → delivers j.since j.delivery t ≡ next_at at v →
-    slice_get s.items n ≡ Some i → deliver i s ≡ next_at at v
+pub delivered_as : (mark : ℕ) (i j : Item) (s t v : State) (at : Stand) → least_below mark s.items ≡ Some j → t ≡ without_item j s → delivers j.since j.delivery t ≡ next_at at v →
+    least_below mark s.items ≡ Some i → deliver i s ≡ next_at at v
 unfolding deliver
-delivered_as n i j s t v at e f d g =
+delivered_as mark i j s t v at e f d g =
     let same : i ≡ j = some-is (sym g ∙ e) in
     subst (λ (x : Item). deliver x s ≡ next_at at v) (sym same) (subst (λ (x : State). delivers j.since j.delivery x ≡ next_at at v) f d)
 
 -- what is taken may be delivered
-pub may_deliver : (n : ℕ) (j : Item) (s t : State) → slice_get s.items n ≡ Some j → t ≡ without_item j s → IsReady s → IsDelivered j.delivery t
-may_deliver n j s t e k h = subst (IsDelivered j.delivery) (sym k) (by j.delivery refl)
+pub may_deliver : (mark : ℕ) (j : Item) (s t : State) → least_below mark s.items ≡ Some j → t ≡ without_item j s → IsReady s → IsDelivered j.delivery t
+may_deliver mark j s t e k h = subst (IsDelivered j.delivery) (sym k) (by j.delivery refl)
   where
     kept : IsKept s
     kept = h.at.sound
+
+    found : IsFound s.items j
+    found = least-found mark s.items j e
 
     by : (d : Delivery) → d ≡ j.delivery → IsDelivered d (without_item j s)
     by (Delivery.Wake g w) f =
         let u = without_wait g (without_item j s) in
         let m : Moves g g u =
-        free-moves g u (owned n j (Delivery.Wake g w) s f e kept) (claimed n j (Delivery.Wake g w) s f e kept) (no-wait-left g (without_item j s)) (kept-drop (is_wait_of g) _ (kept-without j s kept)) in
+        free-moves g u (owned found.place j (Delivery.Wake g w) s f found.there kept) (claimed found.place j (Delivery.Wake g w) s f found.there kept) (no-wait-left g (without_item j s)) (kept-drop (is_wait_of g) _ (kept-without j s kept)) in
         record { sound = (m.kept, going g g u m) }
     by (Delivery.Start g deadline) f = tt
     by (Delivery.Late g deadline m) f = tt
@@ -132,17 +136,19 @@ may_deliver n j s t e k h = subst (IsDelivered j.delivery) (sym k) (by j.deliver
     by (Delivery.Link m g kind x) f = tt
 
 -- it names what is there
-pub taken_fits : (n : ℕ) (j : Item) (s t : State) → slice_get s.items n ≡ Some j → t ≡ without_item j s → IsReady s → fits_item t.scenario j.delivery ≡ true
-taken_fits n j s t e k h =
+pub taken_fits : (mark : ℕ) (j : Item) (s t : State) → least_below mark s.items ≡ Some j → t ≡ without_item j s → IsReady s → fits_item t.scenario j.delivery ≡ true
+taken_fits mark j s t e k h =
+    let found = least-found mark s.items j e in
     subst (λ (x : State). fits_item x.scenario j.delivery ≡ true) (sym k)
-    (all-get (λ (i : Item). fits_item s.scenario i.delivery) s.items n j e (known_ready (Next.Resting s) h.at).named)
+    (all-get (λ (i : Item). fits_item s.scenario i.delivery) s.items found.place j found.there (known_ready (Next.Resting s) h.at).named)
 
 pub taken_declared : (j : Item) (s t : State) → t ≡ without_item j s → IsReady s → AreDeclared t
 taken_declared j s t k h = subst AreDeclared (sym k) (record { each = (declared_ready (Next.Resting s) h.at).each })
 
 -- after its delivery too each greenlet runs a function that there is
-pub delivered_declared : (n : ℕ) (j : Item) (s t : State) → slice_get s.items n ≡ Some j → t ≡ without_item j s → IsReady s → ((i : Item) → slice_get s.items n ≡ Some i → is_numbered i ≡ true) →
+pub delivered_declared : (mark : ℕ) (j : Item) (s t : State) → least_below mark s.items ≡ Some j → t ≡ without_item j s → IsReady s →
     AreDeclared (state_of (delivers j.since j.delivery t))
 unfolding deliver
-delivered_declared n j s t e k h numbered =
-    subst (λ (x : State). AreDeclared (state_of (delivers j.since j.delivery x))) (sym k) (declared_ready (deliver j s) (ready_deliver n j s e (numbered j e) h))
+delivered_declared mark j s t e k h =
+    let found = least-found mark s.items j e in
+    subst (λ (x : State). AreDeclared (state_of (delivers j.since j.delivery x))) (sym k) (declared_ready (deliver j s) (ready_deliver found.place j s found.there found.numbered h))

@@ -1,50 +1,19 @@
 -- Deliveries one after another.
-use Rattle.std.proofs.Common.{◌≡◌, refl, ap, sym, ◌∙◌, subst, ℕ, zero, suc, ◌-◌, ◌<◌, Bool, true, false, List, [], ◌∷◌, ◌++◌, length, map, Option, Some, None, slice_get, arith}
+use Rattle.std.proofs.Common.{◌≡◌, refl, ap, sym, ◌∙◌, subst, ℕ, zero, suc, ◌-◌, ◌<◌, Bool, true, false, List, [], ◌++◌, map, Option, Some, None, IsSome, arith, rules}
 use Rattle.std.proofs.lemmas.List.{append-nil}
-use Rattle.std.specs.Prelude.{if◌then◌else◌, is_some, nat_lt}
+use Rattle.std.specs.Prelude.{is_some}
 use Rattle.trace_text.specs.declared.line.StopCause.{StopCause}
 use Rattle.machine.specs.declared.items.Item.{Item}
 use Rattle.machine.specs.Deliveries.{deliver}
 use Rattle.machine.specs.Landing.{Next}
-use Rattle.machine.specs.Questions.{is_numbered}
-use Rattle.machine.specs.Run.{Passed, after_delivery, deliveries, least_below, logged, nearer, rests, runs_on, with_this}
+use Rattle.machine.specs.Run.{Passed, after_delivery, deliveries, least_below, logged, rests, runs_on}
 use Rattle.machine.specs.State.{State}
-use Rattle.hub_items.proofs.Leasts.{item_there}
 use Rattle.hub_engine.specs.declared.stand.Came.{Came}
 use Rattle.hub_engine.specs.Outside.{HasGiven, HasGivenPart, Outside}
 use Rattle.hub_engine.specs.Written.{CameTo}
 use Rattle.hub_engine.proofs.Giving.{given_nothing}
+use Rattle.hub_engine.proofs.Readily.{some_item}
 use Rattle.hub_engine.proofs.Passing.{HasPassed, IsPassing, at_an_end, at_rest, behind, broken, onward, over}
-
--- ---- the item with the least number has one
-
-nearer_numbered : (i j : Item) (n : ℕ) (best : Option Item) → is_numbered i ≡ true → ((k : Item) → best ≡ Some k → is_numbered k ≡ true) → nearer i n best ≡ Some j → is_numbered j ≡ true
-nearer_numbered i j n None h rest e = subst (λ (x : Item). is_numbered x ≡ true) (let same : i ≡ j = cc e in same) h
-nearer_numbered i j n (Some k) h rest e = by k.ready e
-  where
-    chosen : (b : Bool) → (if b then Some k else Some i) ≡ Some j → is_numbered j ≡ true
-    chosen true e = rest j (let same : k ≡ j = cc e in ap (λ (x : Item). Some x) same)
-    chosen false e = subst (λ (x : Item). is_numbered x ≡ true) (let same : i ≡ j = cc e in same) h
-
-    by : (r : Option ℕ) → ◌≡◌ {A = Option Item} (elim r [ None ↦ Some i | Some m ↦ if nat_lt m n then Some k else Some i ]) (Some j) → is_numbered j ≡ true
-    by None e = chosen false e
-    by (Some m) e = chosen (nat_lt m n) e
-
-pub least_numbered : (mark : ℕ) (items : List Item) (i : Item) → least_below mark items ≡ Some i → is_numbered i ≡ true
-least_numbered mark [] i e = absurd (cc e)
-least_numbered mark (j ∷ items) i e = by j.ready refl e (least_numbered mark items)
-  where
-    by : (r : Option ℕ) → j.ready ≡ r → with_this j mark r (least_below mark items) ≡ Some i → ((k : Item) → least_below mark items ≡ Some k → is_numbered k ≡ true) → is_numbered i ≡ true
-    by None z e rest = rest i e
-    by (Some n) z e rest = chosen (nat_lt n mark) e
-      where
-        chosen : (b : Bool) → (if b then nearer j n (least_below mark items) else least_below mark items) ≡ Some i → is_numbered i ≡ true
-        chosen true e = nearer_numbered j i n (least_below mark items) (ap is_some z) rest e
-        chosen false e = rest i e
-
--- the item at the place that was found
-pub found_numbered : (mark at : ℕ) (items : List Item) → slice_get items at ≡ least_below mark items → (i : Item) → slice_get items at ≡ Some i → is_numbered i ≡ true
-found_numbered mark at items e i f = least_numbered mark items i (sym e ∙ f)
 
 -- ---- one delivery, and then the others
 
@@ -115,32 +84,46 @@ none_delivered u v p (suc n) budget mark s h g e =
 pub none_left : (u v : Outside) (p : Passed) (n budget mark : ℕ) (s : State) → n ≡ 0 → IsPassing u v p (deliveries n budget mark s) → HasPassed u v p Came.ToRest s
 none_left u v p n budget mark s z g = none_more u v p s (subst (λ (m : ℕ). IsPassing u v p (deliveries m budget mark s)) z g)
 
--- ---- the item at the place that was found
+-- ---- the item that was found
 
-pub went_on : (u v w : Outside) (p : Passed) (n budget mark at : ℕ) (came : Came) (s t : State) → 0 < n →
-    IsPassing u v p (deliveries n budget mark s) → at < length s.items → slice_get s.items at ≡ least_below mark s.items → came ≡ Came.ToRest →
-    ((i : Item) → slice_get s.items at ≡ Some i → CameTo came (runs_on budget s (deliver i s)).next t) →
-    ((i : Item) → slice_get s.items at ≡ Some i → HasGiven v w (runs_on budget s (deliver i s)).lines (map logged (runs_on budget s (deliver i s)).posts)) →
+pub is_below : (mark : ℕ) (items : List Item) (b : Bool) → b ≡ is_some (least_below mark items) → b ≡ true → IsSome (least_below mark items)
+is_below mark items b e h = by (least_below mark items) (sym e ∙ h)
+  where
+    by : (o : Option Item) → is_some o ≡ true → IsSome o
+    by None g = absurd (cc)
+    by (Some i) g = search rules
+
+pub none_below : (mark : ℕ) (items : List Item) (b : Bool) → b ≡ is_some (least_below mark items) → b ≡ false → least_below mark items ≡ None
+none_below mark items b e h = by (least_below mark items) (sym e ∙ h)
+  where
+    by : (o : Option Item) → is_some o ≡ false → o ≡ None
+    by None g = refl
+    by (Some i) g = absurd (cc)
+
+pub went_on : (u v w : Outside) (p : Passed) (n budget mark : ℕ) (came : Came) (s t : State) → 0 < n →
+    IsPassing u v p (deliveries n budget mark s) → IsSome (least_below mark s.items) → came ≡ Came.ToRest →
+    ((i : Item) → least_below mark s.items ≡ Some i → CameTo came (runs_on budget s (deliver i s)).next t) →
+    ((i : Item) → least_below mark s.items ≡ Some i → HasGiven v w (runs_on budget s (deliver i s)).lines (map logged (runs_on budget s (deliver i s)).posts)) →
     IsPassing u w p (deliveries (n - 1) budget mark t)
-went_on u v w p n budget mark at came s t h g k e z f m =
-    let r = item_there at s.items k in
-    let next = at_rest came (runs_on budget s (deliver r.0 s)).next t z (f r.0 r.1.got) in
-    delivered u v w p n budget mark r.0 s t h g (sym e ∙ r.1.got) next (m r.0 r.1.got)
+went_on u v w p n budget mark came s t h g k z f m =
+    let r = some_item (least_below mark s.items) k in
+    let next = at_rest came (runs_on budget s (deliver r.0 s)).next t z (f r.0 r.1) in
+    delivered u v w p n budget mark r.0 s t h g r.1 next (m r.0 r.1)
 
-pub went_over : (u v w : Outside) (p : Passed) (n budget mark at : ℕ) (came : Came) (c : StopCause) (s t : State) → 0 < n →
-    IsPassing u v p (deliveries n budget mark s) → at < length s.items → slice_get s.items at ≡ least_below mark s.items → came ≡ Came.ToAnEnd c →
-    ((i : Item) → slice_get s.items at ≡ Some i → CameTo came (runs_on budget s (deliver i s)).next t) →
-    ((i : Item) → slice_get s.items at ≡ Some i → HasGiven v w (runs_on budget s (deliver i s)).lines (map logged (runs_on budget s (deliver i s)).posts)) →
+pub went_over : (u v w : Outside) (p : Passed) (n budget mark : ℕ) (came : Came) (c : StopCause) (s t : State) → 0 < n →
+    IsPassing u v p (deliveries n budget mark s) → IsSome (least_below mark s.items) → came ≡ Came.ToAnEnd c →
+    ((i : Item) → least_below mark s.items ≡ Some i → CameTo came (runs_on budget s (deliver i s)).next t) →
+    ((i : Item) → least_below mark s.items ≡ Some i → HasGiven v w (runs_on budget s (deliver i s)).lines (map logged (runs_on budget s (deliver i s)).posts)) →
     HasPassed u w p (Came.ToAnEnd c) t
-went_over u v w p n budget mark at came c s t h g k e z f m =
-    let r = item_there at s.items k in
-    let next = at_an_end came c (runs_on budget s (deliver r.0 s)).next t z (f r.0 r.1.got) in
-    delivered_last u v w p n budget mark r.0 c s t h g (sym e ∙ r.1.got) next (m r.0 r.1.got)
+went_over u v w p n budget mark came c s t h g k z f m =
+    let r = some_item (least_below mark s.items) k in
+    let next = at_an_end came c (runs_on budget s (deliver r.0 s)).next t z (f r.0 r.1) in
+    delivered_last u v w p n budget mark r.0 c s t h g r.1 next (m r.0 r.1)
 
-pub broke_off : (u v w : Outside) (p : Passed) (n budget mark at : ℕ) (s : State) → 0 < n →
-    IsPassing u v p (deliveries n budget mark s) → at < length s.items → slice_get s.items at ≡ least_below mark s.items →
-    ((i : Item) → slice_get s.items at ≡ Some i → HasGivenPart v w (runs_on budget s (deliver i s)).lines (runs_on budget s (deliver i s)).posts) →
+pub broke_off : (u v w : Outside) (p : Passed) (n budget mark : ℕ) (s : State) → 0 < n →
+    IsPassing u v p (deliveries n budget mark s) → IsSome (least_below mark s.items) →
+    ((i : Item) → least_below mark s.items ≡ Some i → HasGivenPart v w (runs_on budget s (deliver i s)).lines (runs_on budget s (deliver i s)).posts) →
     HasGivenPart u w p.lines p.posts
-broke_off u v w p n budget mark at s h g k e m =
-    let r = item_there at s.items k in
-    delivered_broken u v w p n budget mark r.0 s h g (sym e ∙ r.1.got) (m r.0 r.1.got)
+broke_off u v w p n budget mark s h g k m =
+    let r = some_item (least_below mark s.items) k in
+    delivered_broken u v w p n budget mark r.0 s h g r.1 (m r.0 r.1)

@@ -18,7 +18,8 @@ use Rattle.hub_engine.specs.declared.run.Ran.{Ran}
 use Rattle.hub_engine.specs.Ends.{CountsOf, HasLogged, HasNumbersAt, IsPartLogged, RanTo, WroteAhead, end_of, end_of_run}
 use Rattle.hub_engine.specs.Outside.{Outside, WritesPart}
 use Rattle.hub_engine.specs.Written.{HasBroken, HasEnded, Runs, RunsTo, ended_as, finished, preceded}
-use Rattle.hub_engine.proofs.Giving.{answers_of_append, legal_append}
+use Rattle.hub_engine.proofs.Giving.{answers_of_append}
+use Rattle.world.proofs.LegalLogs.{legal_append}
 use Rattle.hub_engine.proofs.Texts.{text_of_append}
 use Rattle.hub_engine.proofs.Trying.{part-prefix, tried-whole}
 use Rattle.machine_turns.proofs.Taking.{run-takes}
@@ -80,6 +81,9 @@ ended_ahead v w whole end s e r before last z =
     let own = r.running.ahead before last (sym (answers_are v w whole end s e r) ∙ z) in
     (text_of own.0, r.running.given.text ∙ ap (λ ls. appended v.written (text_of ls)) own.1 ∙ ap (appended v.written) (text_of_append (whole before).lines own.0))
 
+ended_out : (v w : Outside) (whole : Runs) (end : End) (s : State) → v.means.answers ≡ [] → HasEnded v w whole end s → WroteAhead whole w.means.answers v.written w.out
+ended_out v w whole end s e r before last z = r.running.out_ahead before last (sym (answers_are v w whole end s e r) ∙ z)
+
 numbered_so : (c : StopCause) (came : Ran) (s : State) → CountsOf came s → HasNumbersAt (end_of c) came s
 numbered_so (StopCause.Value v) came s h = h
 numbered_so (StopCause.Fault k) came s h = h
@@ -126,6 +130,9 @@ broken_logged v w whole e h b = record {
 broken_ahead : (v w : Outside) (whole : Runs) → v.means.answers ≡ [] → HasBroken v w whole → WroteAhead whole w.means.answers v.written w.written
 broken_ahead v w whole e b before last z = b.ahead before last (sym (broken_answers v w whole e b) ∙ z)
 
+broken_out : (v w : Outside) (whole : Runs) → v.means.answers ≡ [] → HasBroken v w whole → WroteAhead whole w.means.answers v.written w.out
+broken_out v w whole e b before last z = b.out_ahead before last (sym (broken_answers v w whole e b) ∙ z)
+
 -- a log without answers is legal
 no_answers : (posts : List PostedJob) (answers : List Answer) (log : List LogEntry) → answers_of log ≡ [] → AreLegal posts answers log
 no_answers posts answers [] e = tt
@@ -168,6 +175,10 @@ ran_tried v w whole (Err b) s e h = broken_tried v w whole e h
 pub ran_ahead : (v w : Outside) (whole : Runs) (r : Result End Broken) (s : State) → v.means.answers ≡ [] → RunsTo r v w whole s → WroteAhead whole w.means.answers v.written w.written
 ran_ahead v w whole (Ok end) s e h = ended_ahead v w whole end s e h
 ran_ahead v w whole (Err b) s e h = broken_ahead v w whole e h
+
+pub ran_out : (v w : Outside) (whole : Runs) (r : Result End Broken) (s : State) → v.means.answers ≡ [] → RunsTo r v w whole s → WroteAhead whole w.means.answers v.written w.out
+ran_out v w whole (Ok end) s e h = ended_out v w whole end s e h
+ran_out v w whole (Err b) s e h = broken_out v w whole e h
 
 pub ran_logged : (v w : Outside) (whole : Runs) (r : Result End Broken) (s : State) → v.means.answers ≡ [] → v.stands [] → RunsTo r v w whole s →
     HasLogged (ended_as r) (whole w.means.answers).log w.means.answers w.stands

@@ -1,20 +1,21 @@
 -- What parts of a run do outside of the hub, one after another.
-use Rattle.std.proofs.Common.{◌≡◌, refl, ap, sym, ◌∙◌, subst, ℕ, List, [], ◌∷◌, ◌++◌, append_assoc, Option, map}
+use Rattle.std.proofs.Common.{◌≡◌, refl, ap, sym, ◌∙◌, subst, ℕ, List, [], ◌∷◌, ◌++◌, append_assoc, Option, None, map, Bool}
 use Rattle.std.proofs.lemmas.List.{append-nil, map-append}
 use Rattle.trace_text.specs.declared.line.Line.{Line}
 use Rattle.trace_text.specs.LineTexts.{text_of}
-use Rattle.gv_io.specs.Streams.{appended}
-use Rattle.gv_io.proofs.StreamLaws.{appended-nothing, appended-appended}
+use Rattle.gv_io.specs.Streams.{appended, Extends}
+use Rattle.gv_io.proofs.StreamLaws.{appended-nothing, appended-appended, Extends-after, Extends-nothing}
 use Rattle.gv_values.specs.declared.job.Answer.{Answer}
 use Rattle.world_rules.specs.declared.question.LogEntry.{LogEntry}
 use Rattle.world_rules.specs.declared.question.PostedJob.{PostedJob}
 use Rattle.world_rules.specs.declared.question.Question.{Question}
 use Rattle.world_rules.specs.Legal.{AreLegal, IsLegal, answers_of, posted, posts_of}
 use Rattle.world.specs.Worlds.{GoesOn, Meaning, Stores}
+use Rattle.world.proofs.LegalLogs.{legal_append}
 use Rattle.machine.specs.declared.state.Post.{Post}
 use Rattle.machine.specs.Run.{logged}
 use Rattle.machine_turns.specs.Logs.{posts_of_step}
-use Rattle.hub_engine.specs.Outside.{HasDone, HasGiven, HasGivenPart, HasPostedPart, Outside, WritesPart, outside}
+use Rattle.hub_engine.specs.Outside.{HasDone, HasGiven, HasGivenPart, HasPostedPart, Outside, WritesPart, out_of, outside}
 use Rattle.hub_engine.proofs.Texts.{text_of_append}
 use Rattle.hub_engine.proofs.Trying.{fit_append, tried-after, tried-longer, tried-nothing, tried-whole}
 
@@ -29,14 +30,6 @@ pub answers_of_append : (log more : List LogEntry) → answers_of (log ++ more) 
 answers_of_append [] more = refl
 answers_of_append (LogEntry.Post n j t ∷ log) more = answers_of_append log more
 answers_of_append (LogEntry.Asked q a ∷ log) more = ap (λ answers. a ∷ answers) (answers_of_append log more)
-
-pub legal_append : (posts : List PostedJob) (answers : List Answer) (log more : List LogEntry) → AreLegal posts answers log →
-    AreLegal (posts ++ posts_of log) (answers ++ answers_of log) more → AreLegal posts answers (log ++ more)
-legal_append posts answers [] more h k = subst (λ ps. AreLegal ps answers more) (append-nil posts) (subst (λ z. AreLegal (posts ++ []) z more) (append-nil answers) k)
-legal_append posts answers (LogEntry.Post n j t ∷ log) more h k =
-    legal_append (posts ++ posted n j ∷ []) answers log more h (subst (λ ps. AreLegal ps (answers ++ answers_of log) more) (sym (append_assoc posts (posted n j ∷ []) (posts_of log))) k)
-legal_append posts answers (LogEntry.Asked q a ∷ log) more h k =
-    (h.0, legal_append posts (answers ++ a ∷ []) log more h.1 (subst (λ z. AreLegal (posts ++ posts_of log) z more) (sym (append_assoc answers (a ∷ []) (answers_of log))) k))
 
 pub posts_of_logged : (posts : List Post) → posts_of (map logged posts) ≡ posts_of_step posts
 posts_of_logged [] = refl
@@ -92,11 +85,12 @@ done_asked v w q a legal s f = record {
 -- ---- what was given out
 
 pub given_nothing : (v : Outside) → HasGiven v v [] []
-given_nothing v = record { text = sym (appended-nothing v.written); fit = tt; done = done_nothing v }
+given_nothing v = record { text = sym (appended-nothing v.written); out = Extends-nothing v.out; fit = tt; done = done_nothing v }
 
 pub given_then : (u v w : Outside) (lines more : List Line) (log later : List LogEntry) → HasGiven u v lines log → HasGiven v w more later → HasGiven u w (lines ++ more) (log ++ later)
 given_then u v w lines more log later g h = record {
   text = h.text ∙ ap (λ m. appended m (text_of more)) g.text ∙ appended-appended u.written (text_of lines) (text_of more) ∙ ap (appended u.written) (sym (text_of_append lines more));
+  out = Extends-after u.out v.out w.out g.out h.out;
   fit = fit_append lines more g.fit h.fit;
   done = done_then u v w log later g.done h.done;
 }
@@ -118,20 +112,41 @@ pub made_all : (v w : Outside) (posts : List Post) → HasDone v w (map logged p
 made_all v w posts d = record { part = posts; later = []; is = sym (append-nil posts); done = d }
 
 pub part_nothing : (v : Outside) (lines : List Line) (posts : List Post) → HasGivenPart v v lines posts
-part_nothing v lines posts = record { text = tried-nothing v.written lines; made = made_nothing v posts }
+part_nothing v lines posts = record { text = tried-nothing v.written lines; out = Extends-nothing v.out; made = made_nothing v posts }
 
 -- all was given out, and it broke off behind that
-pub given_whole : (v w : Outside) (written : Option (List ℕ)) (lines : List Line) (posts : List Post) → HasGiven v w lines (map logged posts) → written ≡ w.written →
-    HasGivenPart v (outside written w.means w.stands) lines posts
-given_whole v w written lines posts g same = record {
+pub given_whole : (v w : Outside) (waits : Bool) (written handed : Option (List ℕ)) (lines : List Line) (posts : List Post) → HasGiven v w lines (map logged posts) → written ≡ w.written →
+    Extends w.out (outside waits written handed w.means w.stands).out → HasGivenPart v (outside waits written handed w.means w.stands) lines posts
+given_whole v w waits written handed lines posts g same more = record {
   text = subst (WritesPart v.written written) (append-nil lines) (tried-whole v.written written lines [] (same ∙ g.text) g.fit);
-  made = made_all v (outside written w.means w.stands) posts g.done;
+  out = Extends-after v.out w.out (outside waits written handed w.means w.stands).out g.out more;
+  made = made_all v (outside waits written handed w.means w.stands) posts g.done;
+}
+
+-- what was given out was handed on too
+pub given_flushed : (v w : Outside) (waits : Bool) (written handed : Option (List ℕ)) (lines : List Line) (entries : List LogEntry) → HasGiven v w lines entries → written ≡ w.written →
+    Extends w.out (outside waits written handed w.means w.stands).out → HasGiven v (outside waits written handed w.means w.stands) lines entries
+given_flushed v w waits written handed lines entries g same more = record {
+  text = same ∙ g.text;
+  out = Extends-after v.out w.out (outside waits written handed w.means w.stands).out g.out more;
+  fit = g.fit;
+  done = g.done;
+}
+
+-- some posts were made, and nothing was written
+pub part_posted : (waits : Bool) (written handed : Option (List ℕ)) (m n : Meaning) (stood stands : List LogEntry → Type 0) (lines : List Line) (posts : List Post) →
+    HasPostedPart (outside waits None None m stood) (outside waits None None n stands) posts → HasGivenPart (outside waits written handed m stood) (outside waits written handed n stands) lines posts
+part_posted waits written handed m n stood stands lines posts h = record {
+  text = tried-nothing written lines;
+  out = Extends-nothing (out_of waits written handed);
+  made = record { part = h.part; later = h.later; is = h.is; done = h.done };
 }
 
 pub part_after : (u v w : Outside) (lines more : List Line) (posts later : List Post) → HasGiven u v lines (map logged posts) → HasGivenPart v w more later →
     HasGivenPart u w (lines ++ more) (posts ++ later)
 part_after u v w lines more posts later g h = record {
   text = tried-after u.written v.written w.written lines more g.text g.fit h.text;
+  out = Extends-after u.out v.out w.out g.out h.out;
   made = record {
     part = posts ++ h.made.part;
     later = h.made.later;
@@ -143,6 +158,7 @@ part_after u v w lines more posts later g h = record {
 pub part_longer : (v w : Outside) (lines more : List Line) (posts later : List Post) → HasGivenPart v w lines posts → HasGivenPart v w (lines ++ more) (posts ++ later)
 part_longer v w lines more posts later g = record {
   text = tried-longer v.written w.written lines more g.text;
+  out = g.out;
   made = record {
     part = g.made.part;
     later = g.made.later ++ later;
@@ -154,6 +170,7 @@ part_longer v w lines more posts later g = record {
 pub part_whole : (v w : Outside) (lines more : List Line) (posts later : List Post) → HasGiven v w lines (map logged posts) → HasGivenPart v w (lines ++ more) (posts ++ later)
 part_whole v w lines more posts later g = record {
   text = tried-whole v.written w.written lines more g.text g.fit;
+  out = g.out;
   made = record { part = posts; later = later; is = refl; done = g.done };
 }
 

@@ -1,5 +1,5 @@
 -- That each part of a run leaves the hub ready for the next.
-use Rattle.std.proofs.Common.{◌≡◌, refl, ap, sym, subst, ℕ, ◌+◌, ◌<◌, Bool, true, false, length, Some, slice_get, [], arith}
+use Rattle.std.proofs.Common.{◌≡◌, refl, ap, sym, subst, ℕ, ◌+◌, Bool, true, false, Option, None, Some, IsSome, slice_get, [], arith, rules}
 use Rattle.std.proofs.lemmas.Bool.{and_from}
 use Rattle.std.specs.Prelude.{if◌then◌else◌}
 use Rattle.std.proofs.lemmas.Bool.Decides.{nat_tests}
@@ -18,7 +18,7 @@ use Rattle.machine.specs.Greenlets.{greenlet, with_phase}
 use Rattle.machine.specs.declared.state.Frame.{Frame}
 use Rattle.machine.specs.declared.state.Phase.{Phase}
 use Rattle.machine.specs.Moves.{move}
-use Rattle.machine.specs.Run.{first_state, silent}
+use Rattle.machine.specs.Run.{first_state, least_below, silent}
 use Rattle.machine_soundness.specs.Going.{IsGoing, IsKept, IsSoundAt, next_did}
 use Rattle.machine_soundness.proofs.Deliveries.{begins-soundly, deliver-soundly, interrupts-soundly, take_answer-kept}
 use Rattle.machine_soundness.proofs.Performs.{move-soundly}
@@ -26,9 +26,9 @@ use Rattle.machine_texts.specs.Texts.{HasMain, IsKnown, is_function}
 use Rattle.machine_texts.proofs.WellFormed.{well-formed-fits}
 use Rattle.machine_histories.proofs.Goings.{function-known}
 use Rattle.machine_laws.specs.Reached.{Reached, state_of}
+use Rattle.machine_laws.proofs.Runs.{least-found}
 use Rattle.machine_reached.specs.Meant.{IsMeantText, fits_did}
 use Rattle.machine_reached.proofs.Bounded.{text-meant}
-use Rattle.hub_items.proofs.Leasts.{item_there}
 use Rattle.hub_engine.specs.Ready.{AreDeclared, IsReady, IsReadyAt, IsReadyToMove, MayRun}
 use Rattle.hub_engine.specs.Stands.{next_at}
 use Rattle.hub_engine.specs.declared.stand.Stand.{Stand}
@@ -113,11 +113,17 @@ ready_deliver n i s there numbered h =
       sound = deliver-soundly n i s there h.at.sound;
     }
 
-pub ready_delivered : (n : ℕ) (s t : State) (at : Stand) → n < length s.items → IsReady s → ((i : Item) → slice_get s.items n ≡ Some i → is_numbered i ≡ true) →
-    ((i : Item) → slice_get s.items n ≡ Some i → deliver i s ≡ next_at at t) → IsReadyAt (next_at at t)
-ready_delivered n s t at w h numbered f =
-    let r = item_there n s.items w in
-    subst IsReadyAt (f r.0 r.1.got) (ready_deliver n r.0 s r.1.got (numbered r.0 r.1.got) h)
+-- an item that there is
+pub some_item : (o : Option Item) → IsSome o → (i : Item) × (o ≡ Some i)
+some_item None h = search (rules, h)
+some_item (Some i) h = (i, refl)
+
+pub ready_delivered : (mark : ℕ) (s t : State) (at : Stand) → IsSome (least_below mark s.items) → IsReady s →
+    ((i : Item) → least_below mark s.items ≡ Some i → deliver i s ≡ next_at at t) → IsReadyAt (next_at at t)
+ready_delivered mark s t at w h f =
+    let r = some_item (least_below mark s.items) w in
+    let found = least-found mark s.items r.0 r.1 in
+    subst IsReadyAt (f r.0 r.1) (ready_deliver found.place r.0 s found.there found.numbered h)
 
 -- ---- what is given out, and counted
 

@@ -6,8 +6,8 @@ use Rattle.trace_text.specs.declared.line.Line.{Line}
 use Rattle.trace_text.specs.declared.line.StopCause.{StopCause}
 use Rattle.trace_text.specs.LineTexts.{text_of}
 use Rattle.trace_reader.specs.Ranges.{LinesFit}
-use Rattle.gv_io.specs.Streams.{appended}
-use Rattle.gv_io.proofs.StreamLaws.{appended-appended}
+use Rattle.gv_io.specs.Streams.{appended, Extends}
+use Rattle.gv_io.proofs.StreamLaws.{appended-appended, Extends-after, Extends-nothing}
 use Rattle.gv_values.specs.declared.fault.FaultKind.{FaultKind}
 use Rattle.gv_values.specs.declared.job.Answer.{Answer}
 use Rattle.world_rules.specs.declared.question.LogEntry.{LogEntry}
@@ -28,7 +28,7 @@ use Rattle.hub_engine.specs.declared.stand.Stand.{Stand}
 use Rattle.hub_engine.specs.Ends.{end_of}
 use Rattle.hub_engine.specs.Outside.{HasDone, HasGiven, HasGivenPart, Outside, WritesPart}
 use Rattle.hub_engine.specs.Stands.{next_at}
-use Rattle.hub_engine.specs.Written.{AreLike, CameTo, HasBroken, HasEnded, IsRunning, IsStopping, RunsTo, Rounds, Runs, WritesAll, finished, from_turn, preceded}
+use Rattle.hub_engine.specs.Written.{AreLike, CameTo, HasBroken, HasEnded, IsOutAhead, IsRunning, IsStopping, RunsTo, Rounds, Runs, WritesAll, finished, from_turn, preceded}
 use Rattle.hub_engine.proofs.Giving.{answers_of_append, answers_of_logged, done_asked, done_nothing, done_then, given_nothing, given_then, logged_then}
 use Rattle.hub_engine.proofs.Passing.{like}
 use Rattle.hub_engine.proofs.Posting.{done_refused}
@@ -99,10 +99,45 @@ ahead_then whole left lines more entries later blocked is f g before last e = by
         let whole_lines : (whole before).lines ≡ lines ++ (left front).lines = ap (λ z. (whole z).lines) (sym same) ∙ ap (λ (r : Ran). r.lines) (is front) in
         (own.0, ap (λ ls. lines ++ ls) own.1 ∙ sym (append_assoc lines (left front).lines own.0) ∙ ap (λ ls. ls ++ own.0) (sym whole_lines))
 
+-- ---- what was out before the last answer
+
+-- what was out stays out
+out_later : (u v w : Outside) (whole : Runs) (before : List Answer) → Extends v.out w.out → IsOutAhead u v whole before → IsOutAhead u w whole before
+out_later u v w whole before k own = (
+  own.0 ++ k.more,
+  k.is ∙ ap (λ m. appended m k.more) own.1 ∙ appended-appended u.written (text_of (whole before).lines ++ own.0) k.more
+      ∙ ap (appended u.written) (append_assoc (text_of (whole before).lines) own.0 k.more),
+)
+
+out_then : (u v w : Outside) (whole left : Runs) (lines : List Line) (entries later : List LogEntry) (blocked : List State) →
+    ((rest : List Answer) → whole (answers_of entries ++ rest) ≡ preceded lines entries blocked (left rest)) →
+    v.written ≡ appended u.written (text_of lines) → Extends v.out w.out →
+    ((before : List Answer) (last : Answer) → answers_of entries ≡ before ++ last ∷ [] → IsOutAhead u v whole before) →
+    ((before : List Answer) (last : Answer) → answers_of later ≡ before ++ last ∷ [] → IsOutAhead v w left before) →
+    (before : List Answer) (last : Answer) → answers_of (entries ++ later) ≡ before ++ last ∷ [] → IsOutAhead u w whole before
+out_then u v w whole left lines entries later blocked is text k f g before last e = by (has_last (answers_of later))
+  where
+    both : answers_of entries ++ answers_of later ≡ before ++ last ∷ []
+    both = sym (answers_of_append entries later) ∙ e
+
+    by : HasLast (answers_of later) → IsOutAhead u w whole before
+    by (HasLast.Empty none) =
+        out_later u v w whole before k (f before last (sym (append-nil (answers_of entries)) ∙ ap (λ z. answers_of entries ++ z) (sym none) ∙ both))
+    by (HasLast.Ends front end is_end) =
+        let own = g front end is_end in
+        let same : answers_of entries ++ front ≡ before =
+        same_before (answers_of entries ++ front) before end last (append_assoc (answers_of entries) front (end ∷ []) ∙ ap (λ z. answers_of entries ++ z) (sym is_end) ∙ both) in
+        let said : text_of (whole before).lines ≡ text_of lines ++ text_of (left front).lines =
+        ap (λ z. text_of (whole z).lines) (sym same) ∙ ap (λ (x : Ran). text_of x.lines) (is front) ∙ text_of_append lines (left front).lines in (
+          own.0,
+          own.1 ∙ ap (λ m. appended m (text_of (left front).lines ++ own.0)) text ∙ appended-appended u.written (text_of lines) (text_of (left front).lines ++ own.0)
+              ∙ ap (appended u.written) (sym (append_assoc (text_of lines) (text_of (left front).lines) own.0) ∙ ap (λ z. z ++ own.0) (sym said)),
+        )
+
 -- ---- a run
 
 pub running : (v : Outside) (whole : Runs) → IsRunning v v whole whole
-running v whole = record { lines = []; entries = []; blocked = []; given = given_nothing v; is = λ later. refl; ahead = λ before last e. absurd (none_last before last e) }
+running v whole = record { lines = []; entries = []; blocked = []; given = given_nothing v; is = λ later. refl; ahead = λ before last e. absurd (none_last before last e); out_ahead = λ before last e. absurd (none_last before last e) }
 
 pub running_then : (u v w : Outside) (whole left next : Runs) → IsRunning u v whole left → IsRunning v w left next → IsRunning u w whole next
 running_then u v w whole left next r q = record {
@@ -115,6 +150,7 @@ running_then u v w whole left next r q = record {
       ∙ r.is (answers_of q.entries ++ later) ∙ ap (preceded r.lines r.entries r.blocked) (q.is later)
       ∙ preceded_preceded r.lines q.lines r.entries q.entries r.blocked q.blocked (next later);
   ahead = ahead_then whole left r.lines q.lines r.entries q.entries r.blocked r.is r.ahead q.ahead;
+  out_ahead = out_then u v w whole left r.lines r.entries q.entries r.blocked r.is r.given.text q.given.out r.out_ahead q.out_ahead;
 }
 
 -- the run under the answers of both parts
@@ -133,6 +169,8 @@ running_broken u v w whole left r b =
       text = subst (WritesPart u.written w.written) (sym (ap (λ (x : Ran). x.lines) here))
           (tried-after u.written v.written w.written r.lines (left (answers_of b.entries)).lines r.given.text r.given.fit b.text);
       ahead = λ before last e. by before last e (has_last (answers_of b.entries));
+      out = Extends-after u.out v.out w.out r.given.out b.out;
+      out_ahead = out_then u v w whole left r.lines r.entries b.entries r.blocked r.is r.given.text b.out r.out_ahead b.out_ahead;
     }
   where
     by : (before : List Answer) (last : Answer) → answers_of (r.entries ++ b.entries) ≡ before ++ last ∷ [] → HasLast (answers_of b.entries) →
@@ -167,6 +205,8 @@ broken_first v whole = record {
   is = refl;
   text = tried-nothing v.written (whole []).lines;
   ahead = λ before last e. absurd (none_last before last e);
+  out = Extends-nothing v.out;
+  out_ahead = λ before last e. absurd (none_last before last e);
 }
 
 -- ---- a part without answers
@@ -180,6 +220,7 @@ part_run v w whole left lines posts blocked is g = record {
   given = g;
   is = λ later. ap (λ z. whole (z ++ later)) (answers_of_logged posts) ∙ is later;
   ahead = λ before last e. absurd (none_last before last (sym (answers_of_logged posts) ∙ e));
+  out_ahead = λ before last e. absurd (none_last before last (sym (answers_of_logged posts) ∙ e));
 }
 
 pub part_broken : (v w : Outside) (whole left : Runs) (lines : List Line) (posts : List Post) (blocked : List State) →
@@ -195,24 +236,30 @@ part_broken v w whole left lines posts blocked is g =
           ∙ append_assoc (map logged part) (map logged g.made.later) (left []).log;
       text = subst (WritesPart v.written w.written) (sym (ap (λ (x : Ran). x.lines) here)) (tried-longer v.written w.written lines (left []).lines g.text);
       ahead = λ before last e. absurd (none_last before last (sym (answers_of_logged part) ∙ e));
+      out = g.out;
+      out_ahead = λ before last e. absurd (none_last before last (sym (answers_of_logged part) ∙ e));
     }
 
 -- ---- a question
 
 -- the answer was stored, and its turn line was given out
-pub answered_on : (v w x : Outside) (go : GoingOn) (q : Question) (a : Answer) (s t u : State) → v.written ≡ w.written → IsLegal v.means.posts v.means.answers q a → Stores v.means w.means a →
+pub answered_on : (v w x : Outside) (go : GoingOn) (q : Question) (a : Answer) (s t u : State) → v.written ≡ w.written → v.out ≡ w.out → v.out ≡ v.written → IsLegal v.means.posts v.means.answers q a → Stores v.means w.means a →
     ((before : List LogEntry) → v.stands before → w.stands (before ++ LogEntry.Asked q a ∷ [])) → t ≡ take_answer a s → t.posts ≡ [] → HasGiven w x t.lines (map logged t.posts) → u ≡ silent t →
     IsRunning v x (λ later. asks go q (Source.Given later) s) (λ later. go (Source.Given later) u)
-answered_on v w x go q a s t u same legal stored log e none g f =
+answered_on v w x go q a s t u same kept out legal stored log e none g f =
     let d = done_asked v w q a legal stored log in
     let h : HasGiven w x t.lines [] = subst (λ ps. HasGiven w x t.lines (map logged ps)) none g in
     record {
       lines = t.lines;
       entries = LogEntry.Asked q a ∷ [];
       blocked = [];
-      given = record { text = h.text ∙ ap (λ m. appended m (text_of t.lines)) (sym same); fit = h.fit; done = done_then v w x (LogEntry.Asked q a ∷ []) [] d h.done };
+      given = record { text = h.text ∙ ap (λ m. appended m (text_of t.lines)) (sym same); out = subst (λ m. Extends m x.out) (sym kept) h.out; fit = h.fit; done = done_then v w x (LogEntry.Asked q a ∷ []) [] d h.done };
       is = λ later. goes later;
       ahead = λ before last z. (t.lines, ap (λ b. (asks go q (Source.Given b) s).lines ++ t.lines) (sym (single before last z)));
+      out_ahead = λ before last z. (
+        h.out.more,
+        h.out.is ∙ ap (λ m. appended m h.out.more) (sym kept ∙ out) ∙ ap (λ b. appended v.written (text_of (asks go q (Source.Given b) s).lines ++ h.out.more)) (sym (single before last z)),
+      );
     }
   where
     single : (before : List Answer) (last : Answer) → a ∷ [] ≡ before ++ last ∷ [] → before ≡ []
@@ -224,10 +271,10 @@ answered_on v w x go q a s t u same legal stored log e none g f =
         (subst (λ (y : State). asks go q (Source.Given (a ∷ later)) s ≡ preceded y.lines (LogEntry.Asked q a ∷ []) [] (go (Source.Given later) (silent y))) (sym e) refl)
 
 -- the answer was stored, and a part of its turn line was given out, or nothing
-pub answered_broken : (v w x : Outside) (go : GoingOn) (q : Question) (a : Answer) (s t : State) → v.written ≡ w.written → IsLegal v.means.posts v.means.answers q a → Stores v.means w.means a →
-    ((before : List LogEntry) → v.stands before → w.stands (before ++ LogEntry.Asked q a ∷ [])) → t ≡ take_answer a s → WritesPart w.written x.written t.lines → HasDone w x [] →
+pub answered_broken : (v w x : Outside) (go : GoingOn) (q : Question) (a : Answer) (s t : State) → v.written ≡ w.written → v.out ≡ w.out → v.out ≡ v.written → IsLegal v.means.posts v.means.answers q a → Stores v.means w.means a →
+    ((before : List LogEntry) → v.stands before → w.stands (before ++ LogEntry.Asked q a ∷ [])) → t ≡ take_answer a s → WritesPart w.written x.written t.lines → Extends w.out x.out → HasDone w x [] →
     HasBroken v x (λ later. asks go q (Source.Given later) s)
-answered_broken v w x go q a s t same legal stored log e p d =
+answered_broken v w x go q a s t same kept out legal stored log e p k d =
     let whole = λ (later : List Answer). asks go q (Source.Given later) s in
     let first = done_asked v w q a legal stored log in
     let lines : (whole (a ∷ [])).lines ≡ t.lines ++ (go (Source.Given []) (silent (take_answer a s))).lines = ap (λ (y : State). y.lines ++ (go (Source.Given []) (silent (take_answer a s))).lines) (sym e) in
@@ -239,6 +286,11 @@ answered_broken v w x go q a s t same legal stored log e p d =
       text = subst (WritesPart v.written x.written) (sym lines)
           (tried-longer v.written x.written t.lines (go (Source.Given []) (silent (take_answer a s))).lines (subst (λ m. WritesPart m x.written t.lines) (sym same) p));
       ahead = λ before last z. begun before (single before last z);
+      out = subst (λ m. Extends m x.out) (sym kept) k;
+      out_ahead = λ before last z. (
+        k.more,
+        k.is ∙ ap (λ m. appended m k.more) (sym kept ∙ out) ∙ ap (λ b. appended v.written (text_of (asks go q (Source.Given b) s).lines ++ k.more)) (sym (single before last z)),
+      );
     }
   where
     single : (before : List Answer) (last : Answer) → a ∷ [] ≡ before ++ last ∷ [] → before ≡ []
@@ -254,15 +306,17 @@ answered_broken v w x go q a s t same legal stored log e p d =
         )
 
 -- the question was refused
-pub asked_refused : (v w : Outside) (go : GoingOn) (q : Question) (s : State) → v.written ≡ w.written → w.means ≡ v.means → ((l : List LogEntry) → v.stands l → w.stands l) →
+pub asked_refused : (v w : Outside) (go : GoingOn) (q : Question) (s : State) → v.written ≡ w.written → v.out ≡ w.out → w.means ≡ v.means → ((l : List LogEntry) → v.stands l → w.stands l) →
     HasBroken v w (λ later. asks go q (Source.Given later) s)
-asked_refused v w go q s same e f = record {
+asked_refused v w go q s same kept e f = record {
   entries = [];
   later = [];
   done = done_refused v v w [] e f (done_nothing v);
   is = refl;
   text = subst (λ m. WritesPart v.written m []) same (tried-nothing v.written []);
   ahead = λ before last z. absurd (none_last before last z);
+  out = subst (Extends v.out) kept (Extends-nothing v.out);
+  out_ahead = λ before last z. absurd (none_last before last z);
 }
 
 -- the block line before it
@@ -436,11 +490,11 @@ stop_lines cause s t same = ap (λ (n : ℕ). Line.Stop cause n s.moves ∷ []) 
 
 -- the stop line was written
 pub stopped_on : (u v w : Outside) (whole : Runs) (cause : StopCause) (end : Ended) (s : State) → IsStopping u v whole cause s →
-    WritesAll v.written w.written (stopped cause s).lines → HasDone v w [] → end ≡ end_of cause → HasEnded u w whole end s
-stopped_on u v w whole cause end s r e d f =
+    WritesAll v.written w.written (stopped cause s).lines → Extends v.out w.out → HasDone v w [] → end ≡ end_of cause → HasEnded u w whole end s
+stopped_on u v w whole cause end s r e k d f =
     let lines = (stopped cause r.last).lines in
     let same = sym (stop_lines cause r.last s r.like) in
-    let given : HasGiven v w lines [] = record { text = e.text ∙ ap (λ ls. appended v.written (text_of ls)) same; fit = subst LinesFit same e.fit; done = d } in
+    let given : HasGiven v w lines [] = record { text = e.text ∙ ap (λ ls. appended v.written (text_of ls)) same; out = k; fit = subst LinesFit same e.fit; done = d } in
     let last = part_run v w (λ later. stopped cause r.last) (λ later. finished cause r.last) lines [] [] (λ later. refl) given in
     record {
       cause = cause;
@@ -451,11 +505,12 @@ stopped_on u v w whole cause end s r e d f =
     }
 
 pub stop_broken : (u v w : Outside) (whole : Runs) (cause : StopCause) (s : State) → IsStopping u v whole cause s →
-    WritesPart v.written w.written (stopped cause s).lines → HasDone v w [] → HasBroken u w whole
-stop_broken u v w whole cause s r p d =
+    WritesPart v.written w.written (stopped cause s).lines → Extends v.out w.out → HasDone v w [] → HasBroken u w whole
+stop_broken u v w whole cause s r p k d =
     let lines = (stopped cause r.last).lines in
     let given : HasGivenPart v w lines [] = record {
       text = subst (WritesPart v.written w.written) (sym (stop_lines cause r.last s r.like)) p;
+      out = k;
       made = record { part = []; later = []; is = refl; done = d };
     } in
     running_broken u v w whole (λ later. stopped cause r.last) r.running

@@ -1,12 +1,12 @@
 -- What was written of lines that were tried one after another.
-use Rattle.std.proofs.Common.{◌≡◌, refl, ap, sym, ◌∙◌, subst, ℕ, List, [], ◌∷◌, ◌++◌, append_assoc, Option}
+use Rattle.std.proofs.Common.{◌≡◌, refl, ap, sym, ◌∙◌, subst, ℕ, List, [], ◌∷◌, ◌++◌, append_assoc, Option, Bool, true, false, take}
 use Rattle.std.proofs.lemmas.List.{append-nil}
 use Rattle.trace_text.specs.declared.line.Line.{Line}
 use Rattle.trace_text.specs.LineTexts.{text_of}
 use Rattle.trace_reader.specs.Ranges.{LinesFit}
-use Rattle.gv_io.specs.Streams.{appended, AppendsPrefix}
-use Rattle.gv_io.proofs.StreamLaws.{AppendsPrefix-nothing, AppendsPrefix-all, AppendsPrefix-after, AppendsPrefix-longer, writes}
-use Rattle.hub_engine.specs.Outside.{WritesPart}
+use Rattle.gv_io.specs.Streams.{appended, AppendsPrefix, Extends}
+use Rattle.gv_io.proofs.StreamLaws.{AppendsPrefix-nothing, AppendsPrefix-all, AppendsPrefix-after, AppendsPrefix-longer, Extends-nothing, writes}
+use Rattle.hub_engine.specs.Outside.{WritesPart, out_of}
 use Rattle.hub_engine.specs.Written.{WritesAll}
 use Rattle.hub_engine.proofs.Texts.{text_of_append}
 
@@ -54,5 +54,23 @@ tried-longer old new lines more p = record {
 pub wrote-all : (old new : Option (List ℕ)) (lines : List Line) (text : List ℕ) → text ≡ text_of lines → LinesFit lines → new ≡ appended old text → WritesAll old new lines
 wrote-all old new lines text e fit p = record { text = p ∙ ap (appended old) e; fit = fit }
 
+-- ---- what is out
+
+pub out_written : (waits : Bool) (old new handed0 handed1 : Option (List ℕ)) (text : List ℕ) → AppendsPrefix old new text → Extends handed0 handed1 → Extends (out_of waits old handed0) (out_of waits new handed1)
+out_written true old new handed0 handed1 text p k = k
+out_written false old new handed0 handed1 text p k = record { more = take p.count text; is = p.is }
+
+pub out_flushed : (waits : Bool) (old new handed0 handed1 : Option (List ℕ)) → new ≡ old → Extends handed0 handed1 → Extends (out_of waits old handed0) (out_of waits new handed1)
+out_flushed true old new handed0 handed1 same k = k
+out_flushed false old new handed0 handed1 same k = subst (Extends old) (sym same) (Extends-nothing old)
+
+-- all that was written is out
+pub all_handed : (waits : Bool) (written handed : Option (List ℕ)) → handed ≡ written → out_of waits written handed ≡ written
+all_handed true written handed e = e
+all_handed false written handed e = refl
+
+pub all_out : (waits may_wait : Bool) (written handed : Option (List ℕ)) → may_wait ≡ waits → may_wait ≡ false → out_of waits written handed ≡ written
+all_out waits may_wait written handed e f = subst (λ (b : Bool). out_of b written handed ≡ written) (sym f ∙ e) refl
+
 -- for functions that write the texts of lines
-pub ruleset tries = (writes, tried-nothing, tried-all, wrote-all)
+pub ruleset tries = (writes, tried-nothing, tried-all, wrote-all, out_written)

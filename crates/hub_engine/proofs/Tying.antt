@@ -1,5 +1,5 @@
 -- That each step keeps hub and world tied.
-use Rattle.std.proofs.Common.{◌≡◌, refl, ap, sym, ◌∙◌, subst, ℕ, ◌<◌, Bool, true, false, List, [], ◌++◌, length, map, Some, slice_get}
+use Rattle.std.proofs.Common.{◌≡◌, refl, ap, sym, ◌∙◌, subst, ℕ, Bool, true, false, List, [], ◌++◌, map, Some, IsSome}
 use Rattle.std.proofs.lemmas.List.{append-nil}
 use Rattle.std.specs.Prelude.{if◌then◌else◌}
 use Rattle.gv_values.specs.declared.fault.FaultKind.{FaultKind}
@@ -20,11 +20,10 @@ use Rattle.machine.specs.Deliveries.{deliver, interrupts}
 use Rattle.machine.specs.Greenlets.{with_phase}
 use Rattle.machine.specs.Landing.{Next, lands, starts}
 use Rattle.machine.specs.Moves.{move}
-use Rattle.machine.specs.Run.{first_state, logged, silent}
+use Rattle.machine.specs.Run.{first_state, least_below, logged, silent}
 use Rattle.machine.proofs.Answered.{posts-answered}
 use Rattle.machine_turns.specs.Logs.{KnowsJobs, StandsKnowing, posts_of_step}
 use Rattle.machine_turns.proofs.Knowing.{answers-know, delivers-know, exits-know, may-ask, moves-know, starts-know}
-use Rattle.hub_items.proofs.Leasts.{item_there}
 use Rattle.hub_engine.specs.declared.stand.Came.{Came}
 use Rattle.hub_engine.specs.declared.stand.Stand.{Stand}
 use Rattle.hub_engine.specs.Outside.{ArePostable, HasDone, HasGiven, Outside}
@@ -33,7 +32,7 @@ use Rattle.hub_engine.specs.Stands.{next_at}
 use Rattle.hub_engine.specs.Tied.{IsTied, IsTiedAfter, IsTiedAt}
 use Rattle.hub_engine.proofs.Giving.{answers_of_logged, posts_of_logged}
 use Rattle.hub_engine.proofs.Posting.{standing_postable}
-use Rattle.hub_engine.proofs.Readily.{declared_first, declared_ready, ready_answered, ready_at_rest, ready_blocked, ready_exit, ready_going, ready_started, ready_turned}
+use Rattle.hub_engine.proofs.Readily.{declared_first, declared_ready, ready_answered, ready_at_rest, ready_blocked, ready_exit, ready_going, ready_started, ready_turned, some_item}
 
 -- ---- a state and its jobs
 
@@ -96,11 +95,11 @@ tied_at_rest v w at s t k h d e =
 
 -- ---- a delivery
 
-pub tied_delivered : (m : Meaning) (n : ℕ) (s t : State) (at : Stand) → n < length s.items → IsTied m s → ((i : Item) → slice_get s.items n ≡ Some i → deliver i s ≡ next_at at t) →
+pub tied_delivered : (m : Meaning) (mark : ℕ) (s t : State) (at : Stand) → IsSome (least_below mark s.items) → IsTied m s → ((i : Item) → least_below mark s.items ≡ Some i → deliver i s ≡ next_at at t) →
     IsReadyAt (next_at at t) → IsTiedAt m (next_at at t)
-tied_delivered m n s t at w h f r =
-    let i = item_there n s.items w in
-    record { ready = r; runs = h.runs; knows = subst (StandsKnowing m.posts m.answers) (f i.0 i.1.got) (delivers-know m.posts m.answers i.0 s h.knows) }
+tied_delivered m mark s t at w h f r =
+    let i = some_item (least_below mark s.items) w in
+    record { ready = r; runs = h.runs; knows = subst (StandsKnowing m.posts m.answers) (f i.0 i.1) (delivers-know m.posts m.answers i.0 s h.knows) }
 
 pub tied_turned : (m : Meaning) (n : ℕ) (s t : State) → t ≡ record s { turns = n } → IsTied m s → IsTied m t
 tied_turned m n s t e h = subst (IsTied m) (sym e) (record {

@@ -1,9 +1,9 @@
 -- What a part of a run does outside of the hub: the text that it writes to the sink, and what it does with the world.
-use Rattle.std.specs.Prelude.{◌≡◌, ℕ, false, List, [], ◌∷◌, ◌++◌, map, ⊤, Option, Result, Ok, Err}
+use Rattle.std.specs.Prelude.{◌≡◌, ℕ, Bool, false, if◌then◌else◌, List, [], ◌∷◌, ◌++◌, map, ⊤, Option, Result, Ok, Err}
 use Rattle.trace_text.specs.declared.line.Line.{Line}
 use Rattle.trace_text.specs.LineTexts.{text_of}
 use Rattle.trace_reader.specs.Ranges.{LinesFit}
-use Rattle.gv_io.specs.Streams.{appended, AppendsPrefix}
+use Rattle.gv_io.specs.Streams.{appended, AppendsPrefix, Extends}
 use Rattle.world_rules.specs.declared.question.LogEntry.{LogEntry}
 use Rattle.world_rules.specs.declared.question.PostedJob.{PostedJob}
 use Rattle.world_rules.specs.Legal.{AreLegal, answers_of, is_posted, posted, posts_of}
@@ -12,14 +12,20 @@ use Rattle.machine.specs.declared.state.Post.{Post}
 use Rattle.machine.specs.Run.{logged}
 use Rattle.hub_engine.specs.declared.broken.Broken.{Broken}
 
--- what the sink was written, where it is told; what the world means; and the logs for which it stands
+-- what the sink was written, where it is told, and what of it is out; what the world means; and the logs for which it
+-- stands
 pub record Outside : Type 1 where
   pub written : Option (List ℕ)
+  pub out : Option (List ℕ)
   pub means : Meaning
   pub stands : List LogEntry → Type 0
 
-abbrev pub outside : Option (List ℕ) → Meaning → (List LogEntry → Type 0) → Outside
-outside written means stands = record { written = written; means = means; stands = stands }
+-- what counts as out: what the sink handed on, where the world may wait; else what it was written
+abbrev pub out_of : Bool → Option (List ℕ) → Option (List ℕ) → Option (List ℕ)
+out_of waits written handed = if waits then handed else written
+
+abbrev pub outside : Bool → Option (List ℕ) → Option (List ℕ) → Meaning → (List LogEntry → Type 0) → Outside
+outside waits written handed means stands = record { written = written; out = out_of waits written handed; means = means; stands = stands }
 
 -- each of the posts has a number that was not posted before
 abbrev pub ArePostable : List PostedJob → List Post → Type 0
@@ -61,12 +67,14 @@ pub record WritesPart (old new : Option (List ℕ)) (lines : List Line) : Type 0
 -- the text of these lines was written, each one that its type has, and this was done with the world
 pub record HasGiven (v w : Outside) (lines : List Line) (entries : List LogEntry) : Type 0 where
   pub text : w.written ≡ appended v.written (text_of lines)
+  pub out : Extends v.out w.out
   pub fit : LinesFit lines
   pub done : HasDone v w entries
 
 -- a prefix of the text was written, and the first of these posts were made
 pub record HasGivenPart (v w : Outside) (lines : List Line) (posts : List Post) : Type 0 where
   pub text : WritesPart v.written w.written lines
+  pub out : Extends v.out w.out
   pub made : HasPostedPart v w posts
 
 -- the lines and posts of a part of a run were given out, or a part of them where it broke off

@@ -1,5 +1,5 @@
 //! The delivery of items.
-ghost use Rattle.std.specs.Prelude.{◌≡◌, ◌<◌, ◌∷◌, [], true, length, slice_get, Some, IfOk, IfSome};
+ghost use Rattle.std.specs.Prelude.{◌≡◌, ◌∷◌, [], true, Some, IsSome, IfOk, IfSome};
 ghost use Rattle.gv_values.specs.declared.value.Value.TheVariants as value;
 ghost use Rattle.machine.specs.declared.items.Item.{Item as AnyItem};
 ghost use Rattle.machine.specs.declared.items.Delivery.TheVariants as delivery;
@@ -7,7 +7,7 @@ ghost use Rattle.gv_values.specs.declared.link.LinkKind.{LinkKind as AnyLinkKind
 ghost use Rattle.machine.specs.Landing.{starts, lands};
 ghost use Rattle.machine.specs.Greenlets.{greenlet};
 ghost use Rattle.machine.specs.Deliveries.{called, calls, deliver, delivers, interrupts, arguments, late, waiting_of, without_wait};
-ghost use Rattle.machine.specs.Questions.{is_numbered};
+ghost use Rattle.machine.specs.Run.{least_below};
 ghost use Rattle.machine_laws.specs.Reached.{state_of};
 ghost use Rattle.machine_texts.specs.Texts.{fits_item, fits_link};
 ghost use Rattle.hub_items.specs.Short.{DeliversShort, IsShort};
@@ -216,19 +216,18 @@ fn deliver_content(
     }
 }
 
-/// Takes the item away, which has its number, and delivers it.
+/// Takes the item with the least number below the mark away, and delivers it.
 #[tactic(auto, using(crate::proofs::Delivered::delivered_as, crate::proofs::Readily::ready_delivered))]
-pub fn deliver_item(alloc: Global, hub: &mut Hub, at: usize) -> Result<Stand, AllocError>
-    requires there { at < length hub.old.items }
+pub fn deliver_item(alloc: Global, hub: &mut Hub, mark: u64) -> Result<Stand, AllocError>
+    requires there { IsSome (least_below mark hub.old.items) }
     requires ready { IsReady hub.old }
-    requires numbered { (i : AnyItem) → slice_get hub.old.items at ≡ Some i → is_numbered i ≡ true }
-    ensures delivered { IfOk result (λ next. (i : AnyItem) → slice_get hub.old.items at ≡ Some i → deliver i hub.old ≡ next_at next hub.new) }
+    ensures delivered { IfOk result (λ next. (i : AnyItem) → least_below mark hub.old.items ≡ Some i → deliver i hub.old ≡ next_at next hub.new) }
     ensures ready { IfOk result (λ next. IsReadyAt (next_at next hub.new)) }
 {
     let Item {
         since,
         delivery,
         ready: _,
-    } = hub.take_item(at);
+    } = hub.take_below(mark);
     Ok(deliver_content(alloc, hub, since, delivery)?)
 }

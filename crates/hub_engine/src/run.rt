@@ -114,6 +114,8 @@ impl Engine {
         // each line of which anything was written, or tried, is one that its type has
         ensures tried { WritesPart (K.written sink.old) (K.written sink.new) (run self.scenario self.turns self.moves (W.meaning world.new).answers).lines }
         ensures ahead { WroteAhead (run self.scenario self.turns self.moves) (W.meaning world.new).answers (K.written sink.old) (K.written sink.new) }
+        // in a world that may wait, what stood in the sink before a question had been handed on
+        ensures handed { W.waits ≡ true → WroteAhead (run self.scenario self.turns self.moves) (W.meaning world.new).answers (K.written sink.old) (K.handed sink.new) }
         ensures numbers { HasNumbers result (run self.scenario self.turns self.moves (W.meaning world.new).answers).state }
         ensures log { HasLogged result.end (run self.scenario self.turns self.moves (W.meaning world.new).answers).log (W.meaning world.new).answers (W.stands_for world.new) }
         ensures legal { AreLegal [] [] (run self.scenario self.turns self.moves (W.meaning world.new).answers).log }

@@ -1,13 +1,14 @@
 //! Turns, and the whole run, whose trace is given out step by step.
-ghost use Rattle.std.specs.Prelude.{◌≡◌, ◌<◌, ℕ, suc, true, [], length, slice_get, OnOk, IfOk, None, Some};
+ghost use Rattle.std.specs.Prelude.{◌≡◌, ℕ, suc, Bool, true, [], OnOk, IfOk, IsSome, None, Some};
 ghost use Rattle.trace_text.specs.LineTexts.{text_of};
 ghost use Rattle.trace_reader.specs.Ranges.{LinesFit};
+ghost use Rattle.gv_io.specs.Streams.{Extends};
 ghost use Rattle.machine.specs.declared.items.Item.{Item as AnyItem};
 ghost use Rattle.machine.specs.Deliveries.{deliver};
-ghost use Rattle.machine.specs.Questions.{is_numbered, question as question_of};
-ghost use Rattle.machine.specs.Run.{GoingOn, Source, after_question, asks, deliveries, run, runs, runs_on, silent, stopped, turn};
+ghost use Rattle.machine.specs.Questions.{question as question_of};
+ghost use Rattle.machine.specs.Run.{GoingOn, Source, after_question, asks, deliveries, least_below, run, runs, runs_on, silent, stopped, turn};
 ghost use Rattle.hub_engine.specs.Ends.{end_of};
-ghost use Rattle.hub_engine.specs.Outside.{ArePostable, Gives, PostsOn, outside};
+ghost use Rattle.hub_engine.specs.Outside.{ArePostable, Gives, PostsOn, out_of, outside};
 ghost use Rattle.hub_engine.specs.Ready.{IsPrepared};
 ghost use Rattle.hub_engine.specs.Stands.{next_at};
 ghost use Rattle.hub_engine.specs.Tied.{IsTied, IsTiedAfter, IsTiedAt};
@@ -49,7 +50,7 @@ fn texts(alloc: Global, lines: &[Line]) -> Result<Vec<u8>, AllocError>
 fn post_all<W: World>(world: &mut W, posts: &[Post]) -> Result<(), AllocError>
     requires runs { (W.meaning world.old).runs ≡ true }
     requires new { ArePostable (W.meaning world.old).posts posts.now }
-    ensures posted { PostsOn result (outside None (W.meaning world.old) (W.stands_for world.old)) (outside None (W.meaning world.new) (W.stands_for world.new)) posts.now }
+    ensures posted { PostsOn result (outside W.waits None None (W.meaning world.old) (W.stands_for world.old)) (outside W.waits None None (W.meaning world.new) (W.stands_for world.new)) posts.now }
 {
     for post in posts {
         world.post(post.number, post.job, post.takes)?;
@@ -67,7 +68,7 @@ fn give_out<W: World, K: Sink>(
 ) -> Result<(), Broken>
     requires runs { (W.meaning world.old).runs ≡ true }
     requires new { ArePostable (W.meaning world.old).posts hub.old.posts }
-    ensures given { Gives result (outside (K.written sink.old) (W.meaning world.old) (W.stands_for world.old)) (outside (K.written sink.new) (W.meaning world.new) (W.stands_for world.new)) hub.old.lines hub.old.posts }
+    ensures given { Gives result (outside W.waits (K.written sink.old) (K.handed sink.old) (W.meaning world.old) (W.stands_for world.old)) (outside W.waits (K.written sink.new) (K.handed sink.new) (W.meaning world.new) (W.stands_for world.new)) hub.old.lines hub.old.posts }
     ensures silent { OnOk result (hub.new ≡ silent hub.old) }
     ensures counts { Counts result (K.faults sink.old) (K.faults sink.new) }
 {
@@ -78,22 +79,23 @@ fn give_out<W: World, K: Sink>(
     Ok(())
 }
 
-/// As `give_out`, before this question: what was written is handed on where the answer may be long in coming.
+/// As `give_out`, before a question: what was written is handed on where the answer may be long in coming.
+#[tactic(auto, using(crate::proofs::Trying::all_handed, crate::proofs::Trying::all_out))]
 fn give_out_before<W: World, K: Sink>(
     alloc: Global,
     hub: &mut Hub,
     world: &mut W,
     sink: &mut K,
-    question: Question,
 ) -> Result<(), Broken>
     requires runs { (W.meaning world.old).runs ≡ true }
     requires new { ArePostable (W.meaning world.old).posts hub.old.posts }
-    ensures given { Gives result (outside (K.written sink.old) (W.meaning world.old) (W.stands_for world.old)) (outside (K.written sink.new) (W.meaning world.new) (W.stands_for world.new)) hub.old.lines hub.old.posts }
+    ensures given { Gives result (outside W.waits (K.written sink.old) (K.handed sink.old) (W.meaning world.old) (W.stands_for world.old)) (outside W.waits (K.written sink.new) (K.handed sink.new) (W.meaning world.new) (W.stands_for world.new)) hub.old.lines hub.old.posts }
+    ensures out { OnOk result (out_of W.waits (K.written sink.new) (K.handed sink.new) ≡ K.written sink.new) }
     ensures silent { OnOk result (hub.new ≡ silent hub.old) }
     ensures counts { Counts result (K.faults sink.old) (K.faults sink.new) }
 {
     give_out(alloc, hub, world, sink)?;
-    if matches!(question, Question::Wait(_)) && world.may_wait() {
+    if world.may_wait() {
         sink.flush()?;
     }
     Ok(())
@@ -110,7 +112,7 @@ fn run_greenlet<W: World, K: Sink>(
 ) -> Result<Came, Broken>
     requires tied { IsTiedAt (W.meaning world.old) (next_at at hub.old) }
     ensures tied { IfOk result (λ came. IsTiedAfter came (W.meaning world.new) hub.new) }
-    ensures given { Gives result (outside (K.written sink.old) (W.meaning world.old) (W.stands_for world.old)) (outside (K.written sink.new) (W.meaning world.new) (W.stands_for world.new)) (runs moves (next_at at hub.old)).lines (runs moves (next_at at hub.old)).posts }
+    ensures given { Gives result (outside W.waits (K.written sink.old) (K.handed sink.old) (W.meaning world.old) (W.stands_for world.old)) (outside W.waits (K.written sink.new) (K.handed sink.new) (W.meaning world.new) (W.stands_for world.new)) (runs moves (next_at at hub.old)).lines (runs moves (next_at at hub.old)).posts }
     ensures next { IfOk result (λ came. CameTo came (runs moves (next_at at hub.old)).next hub.new) }
     ensures counts { Counts result (K.faults sink.old) (K.faults sink.new) }
 {
@@ -144,17 +146,17 @@ fn deliver_below<W: World, K: Sink>(
 ) -> Result<Came, Broken>
     requires tied { IsTied (W.meaning world.old) hub.old }
     ensures tied { IfOk result (λ came. IsTiedAfter came (W.meaning world.new) hub.new) }
-    ensures given { Gives result (outside (K.written sink.old) (W.meaning world.old) (W.stands_for world.old)) (outside (K.written sink.new) (W.meaning world.new) (W.stands_for world.new)) (deliveries most budget mark hub.old).lines (deliveries most budget mark hub.old).posts }
+    ensures given { Gives result (outside W.waits (K.written sink.old) (K.handed sink.old) (W.meaning world.old) (W.stands_for world.old)) (outside W.waits (K.written sink.new) (K.handed sink.new) (W.meaning world.new) (W.stands_for world.new)) (deliveries most budget mark hub.old).lines (deliveries most budget mark hub.old).posts }
     ensures next { IfOk result (λ came. CameTo came (deliveries most budget mark hub.old).next hub.new) }
     ensures counts { Counts result (K.faults sink.old) (K.faults sink.new) }
 {
     let mut left = most;
     while left > 0 {
         left -= 1;
-        let Some(at) = hub.next_below(mark) else {
+        if !hub.has_below(mark) {
             return Ok(Came::ToRest);
-        };
-        match deliver_one(alloc, hub, world, sink, at, budget)? {
+        }
+        match deliver_one(alloc, hub, world, sink, mark, budget)? {
             Came::ToRest => {}
             Came::ToAnEnd(cause) => return Ok(Came::ToAnEnd(cause)),
         }
@@ -162,27 +164,26 @@ fn deliver_below<W: World, K: Sink>(
     Ok(Came::ToRest)
 }
 
-/// The item is delivered, and its greenlet runs until it parks or ends.
+/// The item with the least number below the mark is delivered, and its greenlet runs until it parks or ends.
 #[tactic(auto, using(crate::proofs::Giving::part_nothing, crate::proofs::Tying::tied_delivered))]
 fn deliver_one<W: World, K: Sink>(
     alloc: Global,
     hub: &mut Hub,
     world: &mut W,
     sink: &mut K,
-    at: usize,
+    mark: u64,
     budget: u64,
 ) -> Result<Came, Broken>
-    requires there { at < length hub.old.items }
-    requires numbered { (i : AnyItem) → slice_get hub.old.items at ≡ Some i → is_numbered i ≡ true }
+    requires there { IsSome (least_below mark hub.old.items) }
     requires tied { IsTied (W.meaning world.old) hub.old }
     ensures tied { IfOk result (λ came. IsTiedAfter came (W.meaning world.new) hub.new) }
-    ensures given { (i : AnyItem) → slice_get hub.old.items at ≡ Some i → Gives result (outside (K.written sink.old) (W.meaning world.old) (W.stands_for world.old)) (outside (K.written sink.new) (W.meaning world.new) (W.stands_for world.new)) (runs_on budget hub.old (deliver i hub.old)).lines (runs_on budget hub.old (deliver i hub.old)).posts }
-    ensures next { (i : AnyItem) → slice_get hub.old.items at ≡ Some i →
+    ensures given { (i : AnyItem) → least_below mark hub.old.items ≡ Some i → Gives result (outside W.waits (K.written sink.old) (K.handed sink.old) (W.meaning world.old) (W.stands_for world.old)) (outside W.waits (K.written sink.new) (K.handed sink.new) (W.meaning world.new) (W.stands_for world.new)) (runs_on budget hub.old (deliver i hub.old)).lines (runs_on budget hub.old (deliver i hub.old)).posts }
+    ensures next { (i : AnyItem) → least_below mark hub.old.items ≡ Some i →
         IfOk result (λ came. CameTo came (runs_on budget hub.old (deliver i hub.old)).next hub.new) }
     ensures counts { Counts result (K.faults sink.old) (K.faults sink.new) }
 {
     let left = budget.saturating_sub(hub.moves());
-    let next = deliver_item(alloc, hub, at)?;
+    let next = deliver_item(alloc, hub, mark)?;
     Ok(run_greenlet(alloc, hub, world, sink, next, left)?)
 }
 
@@ -197,7 +198,7 @@ fn turn<W: World, K: Sink>(
 ) -> Result<Came, Broken>
     requires tied { IsTied (W.meaning world.old) hub.old }
     ensures tied { IfOk result (λ came. IsTiedAfter came (W.meaning world.new) hub.new) }
-    ensures given { Gives result (outside (K.written sink.old) (W.meaning world.old) (W.stands_for world.old)) (outside (K.written sink.new) (W.meaning world.new) (W.stands_for world.new)) (turn budget hub.old).lines (turn budget hub.old).posts }
+    ensures given { Gives result (outside W.waits (K.written sink.old) (K.handed sink.old) (W.meaning world.old) (W.stands_for world.old)) (outside W.waits (K.written sink.new) (K.handed sink.new) (W.meaning world.new) (W.stands_for world.new)) (turn budget hub.old).lines (turn budget hub.old).posts }
     ensures next { IfOk result (λ came. CameTo came (turn budget hub.old).next hub.new) }
     ensures counts { Counts result (K.faults sink.old) (K.faults sink.new) }
 {
@@ -217,8 +218,9 @@ fn take_answer<W: World, K: Sink>(
 ) -> Result<(), Broken>
     requires tied { IsTied (W.meaning world.old) hub.old }
     requires asked { question_of hub.old ≡ Some question }
+    requires out { out_of W.waits (K.written sink.old) (K.handed sink.old) ≡ K.written sink.old }
     ensures tied { OnOk result (IsTied (W.meaning world.new) hub.new) }
-    ensures ran { (go : GoingOn) → RunsOn result (outside (K.written sink.old) (W.meaning world.old) (W.stands_for world.old)) (outside (K.written sink.new) (W.meaning world.new) (W.stands_for world.new))
+    ensures ran { (go : GoingOn) → RunsOn result (outside W.waits (K.written sink.old) (K.handed sink.old) (W.meaning world.old) (W.stands_for world.old)) (outside W.waits (K.written sink.new) (K.handed sink.new) (W.meaning world.new) (W.stands_for world.new))
         (λ later. asks go question (Source.Given later) hub.old) (λ later. go (Source.Given later) hub.new) }
     ensures counts { Counts result (K.faults sink.old) (K.faults sink.new) }
 {
@@ -238,12 +240,12 @@ fn ask_world<W: World, K: Sink>(
     requires tied { IsTied (W.meaning world.old) hub.old }
     requires asked { question_of hub.old ≡ Some question }
     ensures tied { OnOk result (IsTied (W.meaning world.new) hub.new) }
-    ensures ran { (go : GoingOn) (budget : ℕ) → RunsOn result (outside (K.written sink.old) (W.meaning world.old) (W.stands_for world.old)) (outside (K.written sink.new) (W.meaning world.new) (W.stands_for world.new))
+    ensures ran { (go : GoingOn) (budget : ℕ) → RunsOn result (outside W.waits (K.written sink.old) (K.handed sink.old) (W.meaning world.old) (W.stands_for world.old)) (outside W.waits (K.written sink.new) (K.handed sink.new) (W.meaning world.new) (W.stands_for world.new))
         (λ later. after_question go budget (Some question) (Source.Given later) hub.old) (λ later. go (Source.Given later) hub.new) }
     ensures counts { Counts result (K.faults sink.old) (K.faults sink.new) }
 {
     hub.block()?;
-    give_out_before(alloc, hub, world, sink, question)?;
+    give_out_before(alloc, hub, world, sink)?;
     Ok(take_answer(alloc, hub, world, sink, question)?)
 }
 
@@ -257,7 +259,7 @@ fn throw_loop_exit<W: World, K: Sink>(
 ) -> Result<Came, Broken>
     requires tied { IsTied (W.meaning world.old) hub.old }
     ensures tied { IfOk result (λ came. IsTiedAfter came (W.meaning world.new) hub.new) }
-    ensures ran { (go : GoingOn) → Rounds result (outside (K.written sink.old) (W.meaning world.old) (W.stands_for world.old)) (outside (K.written sink.new) (W.meaning world.new) (W.stands_for world.new))
+    ensures ran { (go : GoingOn) → Rounds result (outside W.waits (K.written sink.old) (K.handed sink.old) (W.meaning world.old) (W.stands_for world.old)) (outside W.waits (K.written sink.new) (K.handed sink.new) (W.meaning world.new) (W.stands_for world.new))
         (λ later. after_question go budget None (Source.Given later) hub.old) (λ s later. go (Source.Given later) s) hub.new }
     ensures counts { Counts result (K.faults sink.old) (K.faults sink.new) }
 {
@@ -277,7 +279,7 @@ fn end_turn<W: World, K: Sink>(
 ) -> Result<Came, Broken>
     requires tied { IsTied (W.meaning world.old) hub.old }
     ensures tied { IfOk result (λ came. IsTiedAfter came (W.meaning world.new) hub.new) }
-    ensures ran { (go : GoingOn) → Rounds result (outside (K.written sink.old) (W.meaning world.old) (W.stands_for world.old)) (outside (K.written sink.new) (W.meaning world.new) (W.stands_for world.new))
+    ensures ran { (go : GoingOn) → Rounds result (outside W.waits (K.written sink.old) (K.handed sink.old) (W.meaning world.old) (W.stands_for world.old)) (outside W.waits (K.written sink.new) (K.handed sink.new) (W.meaning world.new) (W.stands_for world.new))
         (λ later. after_question go budget (question_of hub.old) (Source.Given later) hub.old) (λ s later. go (Source.Given later) s) hub.new }
     ensures counts { Counts result (K.faults sink.old) (K.faults sink.new) }
 {
@@ -300,7 +302,7 @@ fn round<W: World, K: Sink>(
 ) -> Result<Came, Broken>
     requires tied { IsTied (W.meaning world.old) hub.old }
     ensures tied { IfOk result (λ came. IsTiedAfter came (W.meaning world.new) hub.new) }
-    ensures ran { (turns : ℕ) → Rounds result (outside (K.written sink.old) (W.meaning world.old) (W.stands_for world.old)) (outside (K.written sink.new) (W.meaning world.new) (W.stands_for world.new))
+    ensures ran { (turns : ℕ) → Rounds result (outside W.waits (K.written sink.old) (K.handed sink.old) (W.meaning world.old) (W.stands_for world.old)) (outside W.waits (K.written sink.new) (K.handed sink.new) (W.meaning world.new) (W.stands_for world.new))
         (from_turn (suc turns) budget hub.old) (from_turn turns budget) hub.new }
     ensures counts { Counts result (K.faults sink.old) (K.faults sink.new) }
 {
@@ -315,6 +317,7 @@ fn round<W: World, K: Sink>(
 fn stop<K: Sink>(alloc: Global, hub: &Hub, sink: &mut K, cause: StopCause) -> Result<End, Broken>
     ensures written { Writes result (K.written sink.old) (K.written sink.new) (stopped cause hub.now).lines }
     ensures end { IfOk result (λ end. end ≡ end_of cause) }
+    ensures out { (waits : Bool) → Extends (out_of waits (K.written sink.old) (K.handed sink.old)) (out_of waits (K.written sink.new) (K.handed sink.new)) }
     ensures counts { Counts result (K.faults sink.old) (K.faults sink.new) }
 {
     let end = end_of(&cause);
@@ -338,7 +341,7 @@ fn run_turns<W: World, K: Sink>(
     moves: u64,
 ) -> Result<End, Broken>
     requires tied { IsTied (W.meaning world.old) hub.old }
-    ensures ran { RunsTo result (outside (K.written sink.old) (W.meaning world.old) (W.stands_for world.old)) (outside (K.written sink.new) (W.meaning world.new) (W.stands_for world.new)) (from_turn turns moves hub.old) hub.new }
+    ensures ran { RunsTo result (outside W.waits (K.written sink.old) (K.handed sink.old) (W.meaning world.old) (W.stands_for world.old)) (outside W.waits (K.written sink.new) (K.handed sink.new) (W.meaning world.new) (W.stands_for world.new)) (from_turn turns moves hub.old) hub.new }
     ensures counts { Counts result (K.faults sink.old) (K.faults sink.new) }
 {
     let mut left = turns;
@@ -365,7 +368,7 @@ pub fn run<W: World, K: Sink>(
     requires runs { (W.meaning world.old).runs ≡ true }
     requires no_posts { (W.meaning world.old).posts ≡ [] }
     requires no_answers { (W.meaning world.old).answers ≡ [] }
-    ensures ran { RunsTo result (outside (K.written sink.old) (W.meaning world.old) (W.stands_for world.old)) (outside (K.written sink.new) (W.meaning world.new) (W.stands_for world.new)) (run hub.old.scenario turns moves) hub.new }
+    ensures ran { RunsTo result (outside W.waits (K.written sink.old) (K.handed sink.old) (W.meaning world.old) (W.stands_for world.old)) (outside W.waits (K.written sink.new) (K.handed sink.new) (W.meaning world.new) (W.stands_for world.new)) (run hub.old.scenario turns moves) hub.new }
     ensures counts { Counts result (K.faults sink.old) (K.faults sink.new) }
 {
     let at = start_body(alloc, hub, 0, Items::new(alloc))?;

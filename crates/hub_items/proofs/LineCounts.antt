@@ -1,5 +1,5 @@
 -- The lengths of lines as items are passed, and that those who wait before an item are those passed before it.
-use Rattle.std.proofs.Common.{◌≡◌, ◌≢◌, refl, ap, sym, subst, ◌∙◌, ℕ, zero, suc, ◌+◌, ◌^◌, ◌<◌, ◌≤◌, ◌==◌, ◌&&◌, Bool, true, false, cond, List, [], ◌∷◌, ◌++◌, length, take, get_or, slice_get, unwrap_or, Option, Some, None, nat_lt, arith, length-set}
+use Rattle.std.proofs.Common.{◌≡◌, ◌≢◌, refl, ap, sym, subst, ◌∙◌, ℕ, zero, suc, ◌+◌, ◌^◌, ◌<◌, ◌≤◌, ◌==◌, ◌&&◌, Bool, true, false, cond, List, [], ◌∷◌, ◌++◌, length, slice_get, unwrap_or, Option, Some, None, nat_lt, arith, length-set}
 use Rattle.std.proofs.lemmas.List.Sums.{sum_by-cons, sum_by_push, count_by-le-length}
 use Rattle.std.proofs.lemmas.List.{length_push}
 use Rattle.std.proofs.lemmas.Bool.Decides.{nat_tests}
@@ -11,7 +11,6 @@ use Rattle.hub_items.specs.Sound.{AscendTo}
 use Rattle.hub_items.specs.WaitKinds.{same_kind, test_of}
 use Rattle.hub_items.specs.declared.lines.Lengths.{Lengths}
 use Rattle.hub_items.specs.declared.waits.WaitKind.{WaitKind}
-use Rattle.hub_items.proofs.Removals.{later}
 use Rattle.hub_items.proofs.WaitKinds.{wakes_line}
 
 -- ---- the lengths
@@ -120,25 +119,27 @@ none_before test since low next (i ∷ items) h a =
     by true e r = let b = a.above in absurd (grind (arith, nat_tests))
     by false e r = omega (arith, r)
 
-earlier_at : (test : Waiting → Bool) (low next k : ℕ) (items : List Item) (d : Item) → AscendTo low next items → k < length items →
-    earlier test (get_or items k d).since items ≡ waiters test (take k items)
-earlier_at test low next k [] d a h = absurd (omega (arith, h))
-earlier_at test low next zero (i ∷ items) d a h = none_before test i.since i.since next (i ∷ items) (omega arith) (record { above = omega arith; rest = a.rest })
-earlier_at test low next (suc k) (i ∷ items) d a h =
-    let since = (get_or items k d).since in
-    let above : i.since + 1 ≤ since = later (i.since + 1) next k items d a.rest (omega (arith, h)) in
-    sum_by-cons (λ (j : Item). cond (nat_lt j.since since && wakes test j.delivery) 1 0) i items
-    ∙ by (nat_lt i.since since) refl above (earlier_at test (i.since + 1) next k items d a.rest (omega (arith, h)))
-    ∙ sym (sum_by-cons (λ (j : Item). cond (wakes test j.delivery) 1 0) i (take k items))
+-- an item further on has a higher since
+later : (low next : ℕ) (front : List Item) (i : Item) (rest : List Item) → AscendTo low next (front ++ i ∷ rest) → low ≤ i.since
+later low next [] i rest a = a.above
+later low next (j ∷ front) i rest a = let r = later (j.since + 1) next front i rest a.rest in let b = a.above in omega (arith, r, b)
+
+earlier_behind : (test : Waiting → Bool) (low next : ℕ) (front : List Item) (i : Item) (rest : List Item) → AscendTo low next (front ++ i ∷ rest) →
+    earlier test i.since (front ++ i ∷ rest) ≡ waiters test front
+earlier_behind test low next [] i rest a = none_before test i.since i.since next (i ∷ rest) (omega arith) (record { above = omega arith; rest = a.rest })
+earlier_behind test low next (j ∷ front) i rest a =
+    sum_by-cons (λ (k : Item). cond (nat_lt k.since i.since && wakes test k.delivery) 1 0) j (front ++ i ∷ rest)
+    ∙ by (nat_lt j.since i.since) refl (later (j.since + 1) next front i rest a.rest) (earlier_behind test (j.since + 1) next front i rest a.rest)
+    ∙ sym (sum_by-cons (λ (k : Item). cond (wakes test k.delivery) 1 0) j front)
   where
-    by : (b : Bool) → nat_lt i.since (get_or items k d).since ≡ b → i.since + 1 ≤ (get_or items k d).since → earlier test (get_or items k d).since items ≡ waiters test (take k items) →
-        cond (b && wakes test i.delivery) 1 0 + earlier test (get_or items k d).since items ≡ cond (wakes test i.delivery) 1 0 + waiters test (take k items)
-    by true e l r = ap (λ n. cond (wakes test i.delivery) 1 0 + n) r
+    by : (b : Bool) → nat_lt j.since i.since ≡ b → j.since + 1 ≤ i.since → earlier test i.since (front ++ i ∷ rest) ≡ waiters test front →
+        cond (b && wakes test j.delivery) 1 0 + earlier test i.since (front ++ i ∷ rest) ≡ cond (wakes test j.delivery) 1 0 + waiters test front
+    by true e l r = ap (λ n. cond (wakes test j.delivery) 1 0 + n) r
     by false e l r = absurd (grind (arith, nat_tests))
 
--- the item at a place comes after those that stand before it
-pub next_at : (next k : ℕ) (items : List Item) (d : Item) → AscendTo 0 next items → k < length items → IsNext (take k items) (get_or items k d) items
-next_at next k items d a h = λ test. earlier_at test 0 next k items d a h
+-- the item comes after those that stand before it
+pub next_behind : (next : ℕ) (front : List Item) (i : Item) (rest : List Item) → AscendTo 0 next (front ++ i ∷ rest) → IsNext front i (front ++ i ∷ rest)
+next_behind next front i rest a = λ test. earlier_behind test 0 next front i rest a
 
 -- counts that agree tell a wait's condition the same
 pub ahead_alike : (before objects : ℕ) (f g : (Waiting → Bool) → ℕ) (w : Waiting) → ((test : Waiting → Bool) → f test ≡ g test) → IsAhead before objects g w → IsAhead before objects f w

@@ -1,9 +1,10 @@
 -- What keeps the waits of items short.
-use Rattle.std.proofs.Common.{ℕ, zero, suc, ◌<◌, Bool, true, false, cond, List, [], ◌∷◌, ◌++◌, length, take, drop, get_or, Some, None, arith}
-use Rattle.std.specs.Prelude.{◌==◌, filter, IfSome}
+use Rattle.std.proofs.Common.{ℕ, Bool, true, false, cond, List, [], ◌∷◌, ◌++◌, Option, Some, None}
+use Rattle.std.specs.Prelude.{◌==◌, filter, nat_lt, IfSome}
 use Rattle.machine.specs.declared.items.Item.{Item}
 use Rattle.machine.specs.declared.items.Delivery.{Delivery}
-use Rattle.machine.specs.Deliveries.{waiting_of}
+use Rattle.machine.specs.Deliveries.{waiting_of, without}
+use Rattle.machine.specs.Run.{least_below, nearer, with_this}
 use Rattle.machine.specs.Settle.{settled, number_after}
 use Rattle.hub_items.specs.Short.{AreShort, DeliversShort, IsShort}
 
@@ -24,16 +25,44 @@ short_settled [] n items a = a
 short_settled (h ∷ hs) n [] a = a
 short_settled (h ∷ hs) n (i ∷ items) a = record { here = a.here; rest = short_settled hs (number_after h i.ready n) items a.rest }
 
-pub short_removed : (at : ℕ) (items : List Item) → AreShort items → AreShort (take at items ++ drop (suc at) items)
-short_removed zero [] a = a
-short_removed (suc at) [] a = a
-short_removed zero (i ∷ items) a = a.rest
-short_removed (suc at) (i ∷ items) a = record { here = a.here; rest = short_removed at items a.rest }
+pub short_without : (since : ℕ) (items : List Item) → AreShort items → AreShort (without since items)
+short_without since [] a = a
+short_without since (i ∷ items) a = by (i.since == since) (short_without since items a.rest)
+  where
+    by : (b : Bool) → AreShort (without since items) → AreShort (cond b items (i ∷ without since items))
+    by true r = a.rest
+    by false r = record { here = a.here; rest = r }
 
-pub short_at : (at : ℕ) (items : List Item) (d : Item) → at < length items → AreShort items → DeliversShort (get_or items at d).delivery
-short_at at [] d h a = absurd (omega (arith, h))
-short_at zero (i ∷ items) d h a = a.here
-short_at (suc at) (i ∷ items) d h a = short_at at items d (omega (arith, h)) a.rest
+-- what is delivered is short, where all waits are
+pub short_least : (mark : ℕ) (items : List Item) → AreShort items → IfSome (least_below mark items) (λ i. DeliversShort i.delivery)
+short_least mark [] a = search a
+short_least mark (i ∷ items) a = by i.ready (least_below mark items) (short_least mark items a.rest)
+  where
+    Fits : Option Item → Type 0
+    Fits o = IfSome o (λ j. DeliversShort j.delivery)
+
+    here : Fits (Some i)
+    here = a.here
+
+    near : (n : ℕ) (best : Option Item) → Fits best → Fits (nearer i n best)
+    near n None r = here
+    near n (Some j) r = of j.ready
+      where
+        pick : (b : Bool) → Fits (cond b (Some j) (Some i))
+        pick true = r
+        pick false = here
+
+        of : (m : Option ℕ) → Fits (elim m [ None ↦ Some i | Some k ↦ cond (nat_lt k n) (Some j) (Some i) ])
+        of None = here
+        of (Some k) = pick (nat_lt k n)
+
+    by : (m : Option ℕ) (best : Option Item) → Fits best → Fits (with_this i mark m best)
+    by None best r = r
+    by (Some n) best r = pick (nat_lt n mark)
+      where
+        pick : (b : Bool) → Fits (cond b (nearer i n best) best)
+        pick true = near n best r
+        pick false = r
 
 -- what a greenlet waits for is short, where all waits are
 pub short_wait : (g : ℕ) (items : List Item) → AreShort items → IfSome (waiting_of g items) IsShort

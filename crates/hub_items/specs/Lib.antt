@@ -1,6 +1,5 @@
 pub mod Gone
 pub mod Lines
-pub mod Places
 pub mod Short
 pub mod Sound
 pub mod WaitKinds

@@ -9,9 +9,8 @@ abbrev pub AscendTo : ℕ → ℕ → List Item → Type 0
 AscendTo low next [] = low ≤ next
 AscendTo low next (i ∷ items) = record { above : low ≤ i.since; rest : AscendTo (i.since + 1) next items }
 
--- the sinces ascend, and stay below the next; of each greenlet there is at most one Start, one Wake and one Late, and
--- timeouts and links have numbers of their own; and what a wait ends with fits a list
-pub record IsSound (next : ℕ) (items : List Item) : Type 0 where
-  pub ascends : AscendTo 0 next items
+-- of each greenlet there is at most one Start, one Wake and one Late, and timeouts and links have numbers of their own;
+-- and what a wait ends with fits a list
+pub record IsSound (items : List Item) : Type 0 where
   pub single : are_single items ≡ true
   pub short : AreShort items

@@ -1,7 +1,7 @@
-//! Who waits at an object, in order of parking.
-ghost use Rattle.std.specs.Prelude.{◌≡◌, ◌&&◌, ℕ, nat_lt};
-ghost use Rattle.machine.specs.Holds.{earlier, wakes};
-ghost use Rattle.hub_items.specs.Lines.{IsAhead, is_line, line_ahead, line_of, line_of_delivery};
+//! The lines of those who wait at an object, in order of parking.
+ghost use Rattle.std.specs.Prelude.{◌≡◌, ◌&&◌, nat_lt};
+ghost use Rattle.machine.specs.Holds.{wakes};
+ghost use Rattle.hub_items.specs.Lines.{is_line, line_ahead, line_of, line_of_delivery};
 ghost use Rattle.hub_items.specs.WaitKinds.{test_of};
 
 use machine::items::{Delivery, Item, Waiting};
@@ -53,7 +53,7 @@ pub(crate) fn line_of_delivery(delivery: &Delivery) -> Option<(WaitKind, u32)>
 }
 
 /// The line that the wait's condition looks at: its own, and for one who peeks at a queue that of those who take.
-pub(crate) fn line_ahead(waiting: &Waiting) -> Option<(WaitKind, u32)>
+pub fn line_ahead(waiting: &Waiting) -> Option<(WaitKind, u32)>
     ensures { result ≡ line_ahead waiting.now }
 {
     match waiting {
@@ -64,7 +64,7 @@ pub(crate) fn line_ahead(waiting: &Waiting) -> Option<(WaitKind, u32)>
 
 /// Whether the item is a wait of this kind at this object, from before this since.
 #[tactic(auto, using(crate::proofs::WaitKinds::wakes_line))]
-fn is_in_line(item: &Item, kind: WaitKind, object: u32, since: u64) -> bool
+pub fn is_in_line(item: &Item, kind: WaitKind, object: u32, since: u64) -> bool
     ensures { result ≡ (nat_lt item.now.since since && wakes (test_of kind object) item.now.delivery) }
 {
     item.since < since && is_line(line_of_delivery(&item.delivery), kind, object)
@@ -77,25 +77,5 @@ fn is_line(line: Option<(WaitKind, u32)>, kind: WaitKind, object: u32) -> bool
     match line {
         Some((other, o)) => kind == other && object == o,
         None => false,
-    }
-}
-
-/// How many wait so at this object since before this since.
-pub fn earlier(items: &[Item], kind: WaitKind, object: u32, since: u64) -> u64
-    ensures { result ≡ earlier (test_of kind object) since items.now }
-{
-    items
-        .iter()
-        .filter(|item| is_in_line(item, kind, object, since))
-        .count() as u64
-}
-
-/// How many wait since before this since in the line that the wait's condition looks at; 0 where it looks at none.
-pub fn earlier_ahead(items: &[Item], waiting: &Waiting, since: u64) -> u64
-    ensures { (objects : ℕ) → IsAhead result objects (λ test. earlier test since items.now) waiting.now }
-{
-    match line_ahead(waiting) {
-        Some((kind, object)) => earlier(items, kind, object, since),
-        None => 0,
     }
 }

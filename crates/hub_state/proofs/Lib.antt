@@ -1,2 +1,5 @@
 pub mod Conditions
+pub mod Keeping
 pub mod PhaseSets
+pub mod Settling
+pub mod Walks

@@ -1,3 +1,4 @@
 pub mod Hosts
+pub mod Over
 pub mod Phases
 pub mod Sights

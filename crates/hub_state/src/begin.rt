@@ -8,6 +8,7 @@ use crate::greenlets::Greenlets;
 use crate::hub::Hub;
 use body_frames::Code;
 use gv_values::Name;
+use held_items::HeldItems;
 use hub_items::LineLengths;
 use hub_objects::Objects;
 use std::alloc::{AllocError, Global};
@@ -35,8 +36,6 @@ impl Hub {
         Ok(Hub {
             code,
             moment: 0,
-            next_ready: 0,
-            next_since: 0,
             turns: 0,
             moves: 0,
             timeouts: 0,
@@ -44,7 +43,7 @@ impl Hub {
             objects,
             greenlets,
             jobs: Vec::new(alloc),
-            items: Vec::new(alloc),
+            held: HeldItems::new(alloc),
             lengths: LineLengths::new(alloc),
             lines: Vec::new(alloc),
             posts: Vec::new(alloc),

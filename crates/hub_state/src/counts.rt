@@ -41,21 +41,22 @@ impl Hub {
     pub fn next_ready(&self) -> u64
         ensures { result ≡ self.now.next_ready }
     {
-        self.next_ready
+        self.held.mark()
     }
 
     /// The place in order of making that the next item is given.
     pub fn next_since(&self) -> u64
         ensures { result ≡ self.now.next_since }
     {
-        self.next_since
+        self.held.next_since()
     }
 
     /// How many items there are.
+    #[tactic(auto, using(crate::proofs::Walks::length_flat))]
     pub fn items_len(&self) -> usize
         ensures { result ≡ length self.now.items }
     {
-        self.items.len()
+        self.held.len()
     }
 
     /// Counts one turn more. `AllocError`: its number would pass 64 bits; the hub is given up.

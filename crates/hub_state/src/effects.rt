@@ -9,9 +9,10 @@ ghost use Rattle.machine.specs.Waits.{posted};
 ghost use Rattle.hub_objects.specs.Changes.{changed};
 ghost use Rattle.hub_objects.specs.Releases.{refused};
 
+use crate::ahead::earlier;
 use crate::hub::Hub;
 use gv_values::{FaultKind, Job, Name, Value};
-use hub_items::{WaitKind, earlier, since_of_wake};
+use hub_items::WaitKind;
 use hub_objects::{
     Change, Posted, Release, has_task, is_left, is_shut, item_of, name_at, offer_of, release_of,
 };
@@ -54,11 +55,11 @@ impl Hub {
         self.objects.leave(g);
     }
 
-    /// What the greenlet offers on a channel goes, where it is still there. Looks at each item, and then at each offer.
+    /// What the greenlet offers on a channel goes, where it is still there. Looks at each offer.
     pub fn withdraw_offer(&mut self, g: u32)
         ensures { self.new ≡ without_offer_by (since_of_wake g self.old.items) self.old }
     {
-        if let Some(since) = since_of_wake(&self.items, g) {
+        if let Some(since) = self.held.since_of_wake(g) {
             self.objects.withdraw(since);
         }
     }
@@ -95,7 +96,7 @@ impl Hub {
     pub fn has_item_left(&self, o: u32, since: u64) -> bool
         ensures { result ≡ is_left (earlier (is_take o) since self.now.items) (object_at o self.now) }
     {
-        let before = earlier(&self.items, WaitKind::Take, o, since);
+        let before = earlier(&self.held, WaitKind::Take, o, since);
         is_left(self.objects.get(o), before)
     }
 

@@ -1,9 +1,9 @@
 //! The state itself.
 use crate::greenlets::Greenlets;
 use body_frames::Code;
+use held_items::HeldItems;
 use hub_items::LineLengths;
 use hub_objects::{Objects, Posted};
-use machine::items::Item;
 use machine::state::Post;
 use std::marker::Model;
 use trace_text::Line;
@@ -13,8 +13,6 @@ use trace_text::Line;
 pub struct Hub {
     pub(crate) code: Code,
     pub(crate) moment: u64,
-    pub(crate) next_ready: u64,
-    pub(crate) next_since: u64,
     pub(crate) turns: u64,
     pub(crate) moves: u64,
     pub(crate) timeouts: u32,
@@ -22,7 +20,7 @@ pub struct Hub {
     pub(crate) objects: Objects,
     pub(crate) greenlets: Greenlets,
     pub(crate) jobs: Vec<Posted>,
-    pub(crate) items: Vec<Item>,
+    pub(crate) held: HeldItems,
     /// How long the lines are in a settling; kept from one to the next, so that none but the first allocates.
     pub(crate) lengths: LineLengths,
     pub(crate) lines: Vec<Line>,
@@ -32,6 +30,7 @@ pub struct Hub {
 impl Model for Hub {
     ghost use Rattle.machine.specs.State.{State};
     ghost use Rattle.scenario_tree.specs.Trees.{trees};
+    ghost use Rattle.held_items.specs.Entries.{flat};
     ghost use Rattle.hub_items.specs.Sound.{IsSound};
 
     ghost Value = { State };
@@ -41,8 +40,8 @@ impl Model for Hub {
     ghost view = { λ h. record {
       scenario = h.code;
       moment = h.moment;
-      next_ready = h.next_ready;
-      next_since = h.next_since;
+      next_ready = h.held.next;
+      next_since = h.held.next_since;
       turns = h.turns;
       moves = h.moves;
       timeouts = h.timeouts;
@@ -50,10 +49,10 @@ impl Model for Hub {
       objects = h.objects;
       greenlets = h.greenlets;
       jobs = h.jobs.items;
-      items = h.items.items;
+      items = flat h.held.entries;
       lines = h.lines.items;
       posts = h.posts.items;
     } };
 
-    ghost invariant = { λ h. IsSound h.next_since h.items.items };
+    ghost invariant = { λ h. IsSound (flat h.held.entries) };
 }

@@ -10,8 +10,8 @@ ghost use Rattle.hub_items.specs.Gone.{gone_of};
 ghost use Rattle.hub_items.specs.Short.{DeliversShort, IsShort};
 
 use crate::hub::Hub;
-use hub_items::{Gone, drop_gone, kills, starts, waiting_of};
-use machine::items::{Delivery, Item, Waiting};
+use hub_items::Gone;
+use machine::items::{Delivery, Waiting};
 use scenario_tree::Items;
 use std::alloc::AllocError;
 use trace_text::Line;
@@ -36,53 +36,44 @@ impl Hub {
         requires short { DeliversShort delivery }
         ensures { OnOk result (self.new ≡ add_item delivery self.old) }
     {
-        let next = self.next_since.checked_add(1).ok_or(AllocError)?;
-        self.items.push(Item {
-            since: self.next_since,
-            delivery,
-            ready: None,
-        })?;
-        self.next_since = next;
+        self.held.add(delivery)?;
         Ok(())
     }
 
-    /// Whether the greenlet has a start. Looks at each item.
+    /// Whether the greenlet has a start.
     pub fn has_start(&self, g: u32) -> bool
         ensures { result ≡ has_start g self.now }
     {
-        starts(&self.items, g) > 0
+        self.held.has_start(g)
     }
 
-    /// How many kills are not delivered yet. Looks at each item.
+    /// How many kills are not delivered yet.
     pub fn kills_standing(&self) -> u64
         ensures { result ≡ kills_standing self.now }
     {
-        kills(&self.items)
+        self.held.kills()
     }
 
-    /// What the greenlet waits for. Looks at each item.
+    /// What the greenlet waits for.
     pub fn waiting_of(&self, g: u32) -> Option<&Waiting>
         ensures waiting { option_copied result ≡ waiting_of g self.now.items }
         ensures short { IfSome (option_copied result) IsShort }
     {
-        waiting_of(&self.items, g)
+        self.held.waiting_of(g)
     }
 
-    /// Removes the items that `gone` names. Looks at each item.
+    /// Removes the items that `gone` names. Looks at the greenlet's own items alone, or at the link.
+    #[tactic(auto, using(crate::proofs::Walks::flat_kept))]
     pub fn drop_items(&mut self, gone: &Gone)
         ensures { self.new ≡ drop_items (gone_of gone.now) self.old }
     {
-        drop_gone(&mut self.items, gone);
+        self.held.drop_items(gone);
     }
 
     /// Removes the timeouts of the greenlet with these numbers.
-    #[tactic(auto, using(hub_items::proofs::Timeouts::none_dropped))]
     pub fn drop_timeouts(&mut self, g: u32, numbers: Items<u32>)
         ensures { self.new ≡ drop_items (is_timeout_of g numbers) self.old }
     {
-        // Most moves leave no timeout block, and then no item is looked at.
-        if !numbers.is_empty() {
-            self.drop_items(&Gone::TimeoutsOf(g, numbers));
-        }
+        self.drop_items(&Gone::TimeoutsOf(g, numbers));
     }
 }

@@ -1,10 +1,10 @@
 //! The state of the hub: its greenlets, its objects and jobs, its items, and the operations that its steps are made of.
 //! Each operation's contract is one equation on the state of the machine, or says what is read of it.
 //!
-//! An operation says what it costs over the flat list, and what it is to cost over items that are linked: by their
-//! waits, by their deadlines and by their greenlets.
+//! An operation finds items by their greenlets, their numbers and their deadlines, and says where it looks at each.
 #![tactic(auto)]
 
+mod ahead;
 mod begin;
 mod counts;
 mod due;

@@ -1,14 +1,16 @@
 //! What has ended, and which item holds.
-ghost use Rattle.std.specs.Prelude.{◌≡◌, List, length, is_some, slice_get};
+ghost use Rattle.std.specs.Prelude.{◌≡◌, ℕ, List, length, is_some, slice_get};
 ghost use Rattle.std.specs.Option.{option_copied};
 ghost use Rattle.gv_values.specs.declared.value.Whom.{Whom as Target};
 ghost use Rattle.machine.specs.Holds.{holds, wait_holds, outcome_of, is_done, all_done, done_among, newcomer_completes, earlier, is_place, has_place};
 ghost use Rattle.machine.specs.declared.items.Item.{Item as AnyItem};
 ghost use Rattle.hub_items.specs.Lines.{AreLengths, IsAhead, IsNext};
+ghost use Rattle.hub_state.specs.Over.{over};
 
+use crate::ahead::{earlier, earlier_ahead};
 use crate::hub::Hub;
 use gv_values::{Outcome, Whom, link_fits};
-use hub_items::{LineLengths, WaitKind, earlier, earlier_ahead};
+use hub_items::{LineLengths, WaitKind};
 use hub_objects::{
     all_finished, has_item, has_offer, has_place, has_result, has_room, has_set_since, has_slot,
     has_unit, is_deserted, is_flagged, is_free, is_owner, is_taken, job_at,
@@ -81,8 +83,8 @@ impl Hub {
     /// Whether the wait's condition holds, for a waiter with this since, where so many wait before it in the line that
     /// the condition looks at.
     fn wait_holds(&self, since: u64, waiting: &Waiting, before: u64) -> bool
-        ensures { (items : List AnyItem) → IsAhead before (length self.now.objects) (λ test. earlier test since items) waiting.now
-            → result ≡ wait_holds (record self.now { items = items }) since waiting.now }
+        ensures { (items : List AnyItem) (m n : ℕ) → IsAhead before (length self.now.objects) (λ test. earlier test since items) waiting.now
+            → result ≡ wait_holds (over items m n self.now) since waiting.now }
     {
         match waiting {
             Waiting::Sleep(until) => *until <= self.moment,
@@ -113,15 +115,16 @@ impl Hub {
     fn holds_last(&self, waiting: &Waiting) -> bool
         ensures { result ≡ wait_holds self.now self.now.next_since waiting.now }
     {
-        let before = earlier_ahead(&self.items, waiting, self.next_since);
-        self.wait_holds(self.next_since, waiting, before)
+        let since = self.held.next_since();
+        let before = earlier_ahead(&self.held, waiting, since);
+        self.wait_holds(since, waiting, before)
     }
 
     /// Whether a group or pool has a place that nobody waits for. Looks at each item.
     pub fn has_place(&self, o: u32) -> bool
         ensures { result ≡ has_place (earlier (is_place o) self.now.next_since self.now.items) (slice_get self.now.objects o) }
     {
-        let before = earlier(&self.items, WaitKind::Place, o, self.next_since);
+        let before = earlier(&self.held, WaitKind::Place, o, self.held.next_since());
         has_place(self.object(o), before)
     }
 
@@ -141,8 +144,8 @@ impl Hub {
 
     /// Whether the item's condition holds, where just the items before it were passed to the lengths of the lines.
     pub(crate) fn holds(&self, item: &Item, lengths: &LineLengths) -> bool
-        ensures { (items passed : List AnyItem) → AreLengths (length self.now.objects) lengths.now passed
-            → IsNext passed item.now items → result ≡ holds (record self.now { items = items }) item.now }
+        ensures { (items passed : List AnyItem) (m n : ℕ) → AreLengths (length self.now.objects) lengths.now passed
+            → IsNext passed item.now items → result ≡ holds (over items m n self.now) item.now }
     {
         match &item.delivery {
             Delivery::Start(_, None) => true,

@@ -5,7 +5,6 @@ ghost use Rattle.machine.specs.Holds.{job_at};
 
 use crate::hub::Hub;
 use gv_values::{Answer, JobOutcome};
-use hub_items::{any_numbered, least_deadline};
 use hub_objects::{Change, any_outstanding, arrive_at};
 use std::alloc::{AllocError, Global};
 use trace_text::{Blocked, Line};
@@ -15,14 +14,15 @@ use world_rules::Question;
 const LAST_MOMENT: u64 = 4611686018427387903;
 
 impl Hub {
-    /// What the turn asks at its end, and none where nothing can come. Looks at each item and each job.
+    /// What the turn asks at its end, and none where nothing can come. Looks at each job where no item has a number or
+    /// a deadline.
     pub fn question(&self) -> Option<Question>
         ensures { result ≡ question self.now }
     {
-        if any_numbered(&self.items) {
+        if self.held.any_numbered() {
             return Some(Question::Poll);
         }
-        match least_deadline(&self.items) {
+        match self.held.least_deadline() {
             Some(moment) => Some(Question::Wait(Some(moment.min(LAST_MOMENT)))),
             None => {
                 if any_outstanding(&self.jobs) {
@@ -39,10 +39,10 @@ impl Hub {
     pub fn block(&mut self) -> Result<(), AllocError>
         ensures { OnOk result (self.new ≡ block_line self.old) }
     {
-        if any_numbered(&self.items) {
+        if self.held.any_numbered() {
             return Ok(());
         }
-        let blocked = match least_deadline(&self.items) {
+        let blocked = match self.held.least_deadline() {
             Some(moment) => Blocked::Until(moment),
             None => {
                 if any_outstanding(&self.jobs) {

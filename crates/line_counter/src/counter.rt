@@ -51,11 +51,13 @@ impl LineCounter {
 
 impl Sink for LineCounter {
     ghost use Rattle.std.specs.Prelude.{◌≡◌, ◌≤◌, Some, is_err, is_ok, true, OnOk, OnErr};
-    ghost use Rattle.gv_io.specs.Streams.{appended, AppendsPrefix};
+    ghost use Rattle.gv_io.specs.Streams.{appended, AppendsPrefix, Extends};
     ghost use Rattle.gv_values.specs.Counts.{HasRisen};
     ghost use Rattle.line_counter.specs.Lines.{is_past_count};
 
     ghost written = { λ s. Some s.text };
+
+    ghost handed = { λ s. Some s.text };
 
     ghost faults = { λ s. s.faults };
 
@@ -63,6 +65,7 @@ impl Sink for LineCounter {
     fn write_all(&mut self, bytes: &[u8]) -> Result<(), Failed>
         ensures ok { OnOk result (Some self.new.text ≡ appended (Some self.old.text) bytes.now) }
         ensures err { OnErr result (AppendsPrefix (Some self.old.text) (Some self.new.text) bytes.now) }
+        ensures never_taken_back { Extends (Some self.old.text) (Some self.new.text) }
         ensures never_falls { self.old.faults ≤ self.new.faults }
         ensures failed { OnErr result (HasRisen self.old.faults self.new.faults) }
         ensures unfailed { OnOk result (self.new.faults ≡ self.old.faults) }
@@ -83,8 +86,11 @@ impl Sink for LineCounter {
     }
 
     /// Nothing is kept back, so this never fails.
+    #[tactic(auto, using(gv_io::proofs::StreamLaws::tells))]
     fn flush(&mut self) -> Result<(), Failed>
         ensures same { Some self.new.text ≡ Some self.old.text }
+        ensures handed { OnOk result (Some self.new.text ≡ Some self.new.text) }
+        ensures never_taken_back { Extends (Some self.old.text) (Some self.new.text) }
         ensures never_falls { self.old.faults ≤ self.new.faults }
         ensures failed { OnErr result (HasRisen self.old.faults self.new.faults) }
         ensures unfailed { OnOk result (self.new.faults ≡ self.old.faults) }

@@ -52,12 +52,12 @@ pub fn write_endpoint(endpoint: &mut Endpoint, moment: u64, bytes: &[u8]) -> Wri
     end
 }
 
-/// Closes the stream, and notes the moment.
-pub fn close_endpoint(endpoint: &mut Endpoint, moment: u64)
+/// Gives the stream up, and notes the moment.
+pub fn close_endpoint(endpoint: &mut Endpoint, moment: u64) -> Option<TcpStream>
     ensures { endpoint_meaning endpoint.new ≡ closed_at moment (endpoint_meaning endpoint.old) }
 {
-    endpoint.stream = None;
     endpoint.account.note_close(moment);
+    endpoint.stream.take()
 }
 
 /// Holds it, or releases it.

@@ -2,6 +2,7 @@
 #![tactic(auto)]
 
 mod endpoint;
+mod linger;
 mod mio_sockets;
 mod sockets;
 

@@ -6,6 +6,7 @@ ghost use Rattle.stream_net.specs.Nets.{live_count};
 use crate::endpoint::{
     Endpoint, close_endpoint, hold_endpoint, name_endpoint, read_endpoint, write_endpoint,
 };
+use crate::linger::Lingering;
 use crate::sockets::{LISTENER, Taken, next_stream, poll_into};
 use gv_io::{Failed, one_more};
 use mio::net::TcpListener;
@@ -23,12 +24,19 @@ const EVENTS: usize = 256;
 /// The most connections, so that each has a number.
 const MOST: usize = 4294967295;
 
+/// How often the last closed connections are waited for.
+const LAST_WAITS: usize = 65536;
+
 /// The listener and the connections of the system, on 127.0.0.1.
 ///
 /// Its moment is the milliseconds since it was made, as the clock gave them at the last wait, acceptance, read or
 /// write. It keeps the account of each connection that was ever accepted, since its clauses speak of the closed ones
 /// too, and the streams of those that are open. Where the system has no room for another stream (`EMFILE`), nobody is
 /// accepted until something else has happened.
+///
+/// A closed connection lingers, so that its peer gets what it was sent: the writing side is ended, and what still comes
+/// is read and dropped until the peer ends too, for at most a second or 1 MiB. At most 256 linger; the first is let go
+/// for one more, and where there is no room for another stream.
 #[derive(Drop)]
 pub struct MioNet<R> {
     rt: R,
@@ -41,6 +49,7 @@ pub struct MioNet<R> {
     // Whether somebody may wait: the listener was told of since nobody was found.
     arrived: bool,
     endpoints: Vec<Endpoint>,
+    lingering: Lingering,
     live: usize,
     most: usize,
     moment: u64,
@@ -63,6 +72,39 @@ fn listen_at<R: std::net::Net>(rt: &R, poll: &Poll, port: u16) -> io::Result<(Tc
 /// Whether the listener was told of.
 fn is_incoming(ready: Ready) -> bool {
     matches!(ready, Ready::Incoming)
+}
+
+/// The earlier of two moments, where there are any.
+fn earlier(a: Option<u64>, b: Option<u64>) -> Option<u64> {
+    match (a, b) {
+        (Some(a), Some(b)) => Some(a.min(b)),
+        (Some(a), None) => Some(a),
+        (None, b) => b,
+    }
+}
+
+/// The next that was told and isn't a connection that lingers.
+fn next_told(queue: &mut Vec<Ready>, lingering: &mut Lingering) -> Option<Ready> {
+    for _ in 0..EVENTS {
+        let ready = queue.pop()?;
+        if !lingering.takes(ready) {
+            return Some(ready);
+        }
+    }
+    None
+}
+
+/// Accepts a connection. Where the system has no room for its stream, one that lingers is let go first.
+fn accept_stream(
+    poll: &Option<Poll>,
+    listener: &Option<TcpListener>,
+    lingering: &mut Lingering,
+    number: usize,
+) -> Taken {
+    match next_stream(poll, listener, number) {
+        Taken::Full if lingering.let_first_go() => next_stream(poll, listener, number),
+        taken => taken,
+    }
 }
 
 /// The milliseconds since the start, or as many as before where the clock gives fewer or none.
@@ -104,6 +146,7 @@ impl<R: std::net::Net + Clock + Drop> MioNet<R> {
             listener: None,
             arrived: false,
             endpoints: Vec::new(alloc),
+            lingering: Lingering::new(alloc)?,
             live: 0,
             most: 0,
             moment: 0,
@@ -111,6 +154,35 @@ impl<R: std::net::Net + Clock + Drop> MioNet<R> {
             faults: 0,
             blocked: false,
         })
+    }
+
+    /// Waits until no closed connection lingers, at most a second. All that are open are let go at once.
+    pub fn let_go(self) {
+        let MioNet {
+            rt,
+            start,
+            mut poll,
+            mut events,
+            mut queue,
+            mut lingering,
+            mut moment,
+            ..
+        } = self;
+        for _ in 0..LAST_WAITS {
+            let _ = next_told(&mut queue, &mut lingering);
+            moment = reading(&rt, &start, moment);
+            lingering.let_go(moment);
+            let Some(until) = lingering.earliest() else {
+                return;
+            };
+            let Some(poll) = &mut poll else {
+                return;
+            };
+            let timeout = Some(Duration::from_millis(until.saturating_sub(moment)));
+            if queue.is_empty() && poll_into(poll, &mut events, &mut queue, timeout).is_err() {
+                return;
+            }
+        }
     }
 }
 
@@ -141,7 +213,7 @@ impl<R: std::net::Net + Clock + Drop> Net for MioNet<R> {
         self.blocked = false;
         if self.queue.is_empty() {
             self.moment = reading(&self.rt, &self.start, self.moment);
-            let timeout = match until {
+            let timeout = match earlier(until, self.lingering.earliest()) {
                 Some(limit) => Some(Duration::from_millis(limit.saturating_sub(self.moment))),
                 None => None,
             };
@@ -150,12 +222,13 @@ impl<R: std::net::Net + Clock + Drop> Net for MioNet<R> {
                 None => Err(Failed),
             };
             self.moment = reading(&self.rt, &self.start, self.moment);
+            self.lingering.let_go(self.moment);
             if polled.is_err() {
                 self.faults = one_more(self.faults);
                 return Err(Failed);
             }
         }
-        match self.queue.pop() {
+        match next_told(&mut self.queue, &mut self.lingering) {
             Some(ready) => {
                 if let Ready::Elapsed = ready {
                     return Ok(Ready::Incoming);
@@ -184,7 +257,7 @@ impl<R: std::net::Net + Clock + Drop> Net for MioNet<R> {
             return Accepted::Memory;
         }
         let number = self.endpoints.len();
-        match next_stream(&self.poll, &self.listener, number) {
+        match accept_stream(&self.poll, &self.listener, &mut self.lingering, number) {
             Taken::Stream(stream) => {
                 self.moment = reading(&self.rt, &self.start, self.moment);
                 self.endpoints.push_reserved(Endpoint {
@@ -222,8 +295,9 @@ impl<R: std::net::Net + Clock + Drop> Net for MioNet<R> {
     }
 
     fn close(&mut self, conn: u32) {
-        close_endpoint(&mut self.endpoints[conn as usize], self.moment);
+        let stream = close_endpoint(&mut self.endpoints[conn as usize], self.moment);
         self.live -= 1;
+        self.lingering.add(conn, stream, self.moment);
     }
 
     fn hold(&mut self, conn: u32, held: bool) {

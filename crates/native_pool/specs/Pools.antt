@@ -1,20 +1,22 @@
 -- What a world of native threads means to those that use it, beside what every world means.
-use Rattle.std.specs.Prelude.{◌≡◌, ℕ, zero, suc, ◌-◌, ◌≤◌, true, List, [], ◌∷◌, map, min, length, slice_get, All, Option, Some, Result, Ok, Err, is_some, is_ok, IfErr}
+use Rattle.std.specs.Prelude.{◌≡◌, ℕ, zero, suc, ◌-◌, ◌<◌, ◌≤◌, true, List, [], ◌∷◌, map, min, length, slice_get, All, Option, Some, Result, Ok, Err, is_some, is_ok, IfErr}
 use Rattle.gv_values.specs.declared.job.Answer.{Answer}
 use Rattle.world_rules.specs.declared.question.PostedJob.{PostedJob}
 use Rattle.world_rules.specs.declared.question.Question.{Question}
 use Rattle.world_rules.specs.declared.question.LogEntry.{LogEntry}
 use Rattle.world_rules.specs.Legal.{posts_of, answers_of}
 use Rattle.world_rules.specs.Script.{last_moment}
+use Rattle.native_board.specs.declared.views.HubCell.TheVariants.{Stopped}
+use Rattle.native_board.specs.declared.views.HubView.{HubView}
 use Rattle.native_board.specs.Rules.{hub_cell}
 use Rattle.native_board.specs.Passes.{is_sent}
 use Rattle.world.specs.Worlds.{Meaning}
-use Rattle.gv_values.specs.Counts.{HasRisen}
+use Rattle.gv_values.specs.Counts.{HasRisen, one_more}
 use Rattle.native_pool.specs.Desks.{DeskView, Balances}
 
 -- posts, answers, moment and number of workers; the clock's last reading, and that at which it began; how often its
--- spawner refused; what each start answered, the cell of the worker that runs or of the task that was given up; and,
--- while it runs, what its hub keeps
+-- spawner refused and how often it joined; what each start answered, the cell of the worker that runs or of the task
+-- that was given up; while it runs, what its hub keeps; and what the hub knew of the board when it last ended
 pub record Pool : Type 0 where
   pub posts : List PostedJob
   pub answers : List Answer
@@ -23,8 +25,10 @@ pub record Pool : Type 0 where
   pub reading : ℕ
   pub began : ℕ
   pub refusals : ℕ
+  pub joins : ℕ
   pub starts : List (Result ℕ ℕ)
   pub desk : Option DeskView
+  pub ended : Option HubView
 
 -- what it means as a world: its rule rests on nothing
 abbrev pub pool_meaning : Pool → Meaning
@@ -76,6 +80,20 @@ Between R _ _ = ⊥
 -- a start is refused only where the spawner's count rose
 abbrev pub RefusedWhereRisen : ℕ → ℕ → List (Result ℕ ℕ) → Type 0
 RefusedWhereRisen old new starts = All (λ (start : Result ℕ ℕ). IfErr start (λ cell. HasRisen old new)) starts
+
+-- the count of joins, once each worker that runs was joined
+abbrev pub joined_each : List (Result ℕ ℕ) → ℕ → ℕ
+joined_each [] joins = joins
+joined_each (Ok cell ∷ starts) joins = joined_each starts (one_more joins)
+joined_each (Err cell ∷ starts) joins = joined_each starts joins
+
+-- Since then the board was swept, no job was posted to it, and each worker that runs was told to end
+pub record HasStopped (p : Pool) (ended : Option HubView) (d : DeskView) : Type 0 where
+  pub hub : HubView
+  pub is : ended ≡ Some hub
+  pub posts : hub.posts ≡ d.hub.posts
+  pub swept : d.hub.sweeps < hub.sweeps
+  pub stopped : (i : ℕ) → slice_get p.starts i ≡ Some (Ok i) → hub_cell hub i ≡ Stopped
 
 -- what holds of the hub of a pool that runs
 pub record IsSoundDesk (p : Pool) (d : DeskView) : Type 0 where

@@ -1,5 +1,6 @@
 -- What a desk and a pool are seen as.
 use Rattle.std.specs.Prelude.{ℕ, List, Result, Ok, Err, Option, option_map}
+use Rattle.native_board.specs.declared.passes.HubPass.{HubPass}
 use Rattle.native_board.specs.Boards.{hub_view}
 use Rattle.native_pool.specs.declared.desk.Desk.{Desk}
 use Rattle.native_pool.specs.declared.history.History.{History}
@@ -16,8 +17,8 @@ start_cell running refused (Ok r) = Ok (running r)
 start_cell running refused (Err f) = Err (refused f)
 
 -- a pool, by what it keeps
-abbrev pub pool_of : Option Desk → History → ℕ → ℕ → ℕ → ℕ → List (Result ℕ ℕ) → Pool
-pool_of desk history workers reading began refusals starts = record {
+abbrev pub pool_of : Option Desk → Option HubPass → History → ℕ → ℕ → ℕ → ℕ → ℕ → List (Result ℕ ℕ) → Pool
+pool_of desk ended history workers reading began refusals joins starts = record {
   posts = history.posts.items;
   answers = history.answers.items;
   moment = history.moment;
@@ -25,6 +26,8 @@ pool_of desk history workers reading began refusals starts = record {
   reading = reading;
   began = began;
   refusals = refusals;
+  joins = joins;
   starts = starts;
   desk = option_map desk_view desk;
+  ended = option_map hub_view ended;
 }

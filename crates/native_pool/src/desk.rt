@@ -1,13 +1,14 @@
 //! The hub's side of a board: the jobs that wait, those in the cells of started workers, and the results that wait to
 //! be handed on.
-ghost use Rattle.std.specs.Prelude.{◌≡◌, ℕ, ◌<◌, ◌≤◌, ◌++◌, ◌∷◌, [], true, false, List, length, vec_len, vec_capacity, slice_index_or, IsNone, IfSome, OnOk, OnErr, IsTrue, ◌↔◌};
+ghost use Rattle.std.specs.Prelude.{◌≡◌, ℕ, ◌<◌, ◌≤◌, ◌++◌, ◌∷◌, [], true, false, List, length, vec_len, vec_capacity, slice_index_or, IsNone, IfSome, OnOk, OnErr, IsTrue, ◌↔◌, IsFalse};
 ghost use Rattle.std.specs.Arc.{arc_value};
 ghost use Rattle.gv_values.specs.declared.job.Job.{Job};
 ghost use Rattle.world_rules.specs.Jobs.{eval};
 ghost use Rattle.world_rules.specs.Legal.{posted};
 ghost use Rattle.native_board.specs.Boards.{board_id, hub_board, hub_view};
 ghost use Rattle.native_board.specs.Rules.{hub_cell};
-ghost use Rattle.native_board.specs.Passes.{is_sent, Sweeps, finished};
+ghost use Rattle.native_board.specs.declared.views.HubCell.TheVariants.{Stopped};
+ghost use Rattle.native_board.specs.Passes.{KnowsFree, is_sent, Sweeps, finished};
 ghost use Rattle.native_pool.specs.Desks.{CanTake, has_workers, SameCells, Fills, Refills, Settles, Hands, HandsDue};
 
 use gv_values::Job;
@@ -33,6 +34,7 @@ pub struct Desk {
     held: Vec<Finished>,
     ghost same_board: { hub_board pass ≡ board_id (arc_value board) },
     ghost cells: { length (hub_view pass).cells ≤ 16 },
+    ghost few: { vec_len started ≤ 16 },
     ghost room: { 16 ≤ vec_capacity held },
     ghost used: { (i : ℕ) → is_sent (hub_cell (hub_view pass) i) ≡ true → slice_index_or started.items i false ≡ true },
 }
@@ -50,6 +52,7 @@ impl Desk {
     ) -> Desk
         requires board { hub_board pass ≡ board_id (arc_value board) }
         requires cells { length (hub_view pass).cells ≤ 16 }
+        requires few { vec_len started ≤ 16 }
         requires room { 16 ≤ vec_capacity held }
         requires unused { (i : ℕ) → is_sent (hub_cell (hub_view pass) i) ≡ false }
         ensures { desk_view result ≡ record { hub = hub_view pass; started = started.items; waiting = []; held = held.items } }
@@ -181,8 +184,12 @@ impl Desk {
         self.started.iter().any(|started| *started)
     }
 
-    /// Gives up the jobs that wait and the results that are held.
-    pub(crate) fn give_up(&mut self) {
+    /// Sweeps the board, and gives up the jobs that wait and all results.
+    pub(crate) fn give_up(&mut self)
+        ensures swept { (hub_view self.old.pass).sweeps < (hub_view self.new.pass).sweeps }
+        ensures posts { (hub_view self.new.pass).posts ≡ (hub_view self.old.pass).posts }
+        ensures started { self.new.started.items ≡ self.old.started.items }
+    {
         self.waiting.clear();
         self.held.clear();
         self.sweep();
@@ -190,7 +197,9 @@ impl Desk {
     }
 
     /// Whether a job lies in a cell.
-    pub(crate) fn is_busy(&self) -> bool {
+    pub(crate) fn is_busy(&self) -> bool
+        ensures { IsFalse result → (i : ℕ) → i < vec_len self.now.started → KnowsFree (hub_view self.now.pass) i }
+    {
         for cell in 0..MOST_CELLS {
             if (cell as usize) < self.started.len() && !self.pass.is_free(cell) {
                 return true;
@@ -199,8 +208,12 @@ impl Desk {
         false
     }
 
-    /// Tells the workers of the free cells to end.
-    pub(crate) fn stop(self) {
+    /// Tells the workers of the free cells to end, and answers what is known of the board then.
+    pub(crate) fn stop(self) -> HubPass
+        ensures stopped { (i : ℕ) → i < 16 → KnowsFree (hub_view self.pass) i → hub_cell (hub_view result) i ≡ Stopped }
+        ensures sweeps { (hub_view result).sweeps ≡ (hub_view self.pass).sweeps }
+        ensures posts { (hub_view result).posts ≡ (hub_view self.pass).posts }
+    {
         let Desk {
             board,
             mut pass,
@@ -211,5 +224,6 @@ impl Desk {
                 board.stop(&mut pass, cell);
             }
         }
+        pass
     }
 }

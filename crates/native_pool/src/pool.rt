@@ -1,12 +1,14 @@
 //! The world of native threads.
-ghost use Rattle.std.specs.Prelude.{◌≡◌, ◌<◌, ◌≤◌, ◌-◌, ◌++◌, ◌∷◌, [], vec_len, vec_capacity, length, map, min, IfSome, IfOk, IsNone, is_ok};
+ghost use Rattle.std.specs.Prelude.{◌≡◌, ℕ, ◌<◌, ◌≤◌, ◌-◌, ◌++◌, ◌∷◌, [], vec_len, vec_capacity, length, map, min, IfSome, IfOk, IsNone, is_ok};
 ghost use Rattle.std.specs.Arc.{arc_value};
+ghost use Rattle.native_board.specs.declared.views.HubCell.TheVariants.{Stopped};
+ghost use Rattle.native_board.specs.Rules.{hub_cell};
 ghost use Rattle.native_board.specs.Boards.{board_id, hub_view, worker_view};
 ghost use Rattle.native_board.specs.Given.{passes_board, next_cell, passes_left};
 ghost use Rattle.world_rules.specs.Legal.{moment_of, IsLegal};
 ghost use Rattle.world_rules.specs.Script.{last_moment};
 ghost use Rattle.native_pool.specs.Desks.{Balances, SameCells, Rests, Settles, Gives, IsDue};
-ghost use Rattle.native_pool.specs.Pools.{told_cell, numbers_from, RefusedWhereRisen};
+ghost use Rattle.native_pool.specs.Pools.{told_cell, numbers_from, joined_each, RefusedWhereRisen};
 ghost use Rattle.native_pool.specs.Views.{desk_view, start_cell};
 
 use crate::desk::{Desk, MOST_CELLS};
@@ -15,7 +17,7 @@ use crate::history::History;
 use crate::spawner::Spawner;
 use crate::task::{Gate, WorkerTask};
 use gv_values::{Answer, Job};
-use native_board::{Bell, Board, Made, WorkerPasses};
+use native_board::{Bell, Board, HubPass, Made, WorkerPasses};
 use std::alloc::{AllocError, Global};
 use std::marker::Model;
 use std::mem;
@@ -41,6 +43,8 @@ pub struct ThreadWorld<H, R, B: Bell + Drop, C: Clock, G: Gate + Drop, S: Spawne
     began: u64,
     starts: Vec<Result<S::Running, S::Refused>>,
     desk: Option<Desk>,
+    // What was known of the board when the workers were last told to end.
+    ended: Option<HubPass>,
     history: History,
 }
 
@@ -52,9 +56,9 @@ impl<H, R, B: Bell + Drop, C: Clock, G: Gate + Drop, S: Spawner<B, G>> Model
 
     ghost Value = { Pool };
 
-    ghost view = { λ w. pool_of w.desk w.history w.workers (C.reading w.clock) w.began (S.refusals w.spawner) (map (start_cell S.running_cell S.refused_cell) w.starts.items) };
+    ghost view = { λ w. pool_of w.desk w.ended w.history w.workers (C.reading w.clock) w.began (S.refusals w.spawner) (S.joins w.spawner) (map (start_cell S.running_cell S.refused_cell) w.starts.items) };
 
-    ghost invariant = { λ w. IsSound (pool_of w.desk w.history w.workers (C.reading w.clock) w.began (S.refusals w.spawner) (map (start_cell S.running_cell S.refused_cell) w.starts.items)) };
+    ghost invariant = { λ w. IsSound (pool_of w.desk w.ended w.history w.workers (C.reading w.clock) w.began (S.refusals w.spawner) (S.joins w.spawner) (map (start_cell S.running_cell S.refused_cell) w.starts.items)) };
 }
 
 impl<
@@ -95,6 +99,7 @@ impl<
             began: 0,
             starts: Vec::new(alloc),
             desk: None,
+            ended: None,
             history: History::new(alloc),
         })
     }
@@ -143,6 +148,7 @@ fn start_all<B: Bell + Drop, G: Gate + Drop, S: Spawner<B, G>>(
     requires none { (starts.old.items ≡ []) × (started.old.items ≡ []) }
     ensures cells { map told_cell (map (start_cell S.running_cell S.refused_cell) starts.new.items) ≡ map (λ task. (worker_view task.pass).cell) tasks.items }
     ensures started { started.new.items ≡ map (λ start. is_ok start) (map (start_cell S.running_cell S.refused_cell) starts.new.items) }
+    ensures count { vec_len started.new ≡ vec_len tasks }
     ensures risen { RefusedWhereRisen (S.refusals spawner.old) (S.refusals spawner.new) (map (start_cell S.running_cell S.refused_cell) starts.new.items) }
 {
     while tasks.len() > 0 {
@@ -152,15 +158,27 @@ fn start_all<B: Bell + Drop, G: Gate + Drop, S: Spawner<B, G>>(
     }
 }
 
-/// Waits for each started worker to end.
+/// Waits for the worker to end where it was started, and counts it.
+fn join_start<B: Bell + Drop, G: Gate + Drop, S: Spawner<B, G>>(
+    spawner: &mut S,
+    start: Result<S::Running, S::Refused>,
+)
+    ensures { S.joins spawner.new ≡ joined_each (start_cell S.running_cell S.refused_cell start ∷ []) (S.joins spawner.old) }
+{
+    if let Ok(running) = start {
+        spawner.join(running);
+    }
+}
+
+/// Waits for each started worker to end, and counts them.
 fn join_all<B: Bell + Drop, G: Gate + Drop, S: Spawner<B, G>>(
     spawner: &mut S,
-    starts: Vec<Result<S::Running, S::Refused>>,
-) {
-    for start in starts {
-        if let Ok(running) = start {
-            spawner.join(running);
-        }
+    mut starts: Vec<Result<S::Running, S::Refused>>,
+)
+    ensures { S.joins spawner.new ≡ joined_each (map (start_cell S.running_cell S.refused_cell) starts.items) (S.joins spawner.old) }
+{
+    while starts.len() > 0 {
+        join_start(spawner, starts.remove(0));
     }
 }
 
@@ -261,16 +279,20 @@ fn await_answer<H: Wait, R: Ear, C: Clock>(
     unreachable!()
 }
 
-/// Waits until no worker has a job, and tells the workers to end.
-fn wind_down<H: Wait, R: Ear>(rt: &H, ear: &mut R, mut desk: Desk) {
+/// Waits until no worker has a job, and tells the workers to end. What is known of the board then is answered.
+fn wind_down<H: Wait, R: Ear>(rt: &H, ear: &mut R, mut desk: Desk) -> HubPass
+    ensures posts { (hub_view result).posts ≡ (hub_view desk.pass).posts }
+    ensures swept { (hub_view desk.pass).sweeps < (hub_view result).sweeps }
+    ensures stopped { (i : ℕ) → i < vec_len desk.started → hub_cell (hub_view result) i ≡ Stopped }
+{
     for _ in rt.forever() {
         desk.give_up();
         if !desk.is_busy() {
-            break;
+            return desk.stop();
         }
         ear.rest(Some(REST));
     }
-    desk.stop();
+    unreachable!()
 }
 
 impl<
@@ -287,13 +309,15 @@ impl<
     ghost use Rattle.world_rules.specs.Legal.{is_posted, MayAsk};
     ghost use Rattle.world.specs.Worlds.{Begins, Posts, Stores};
     ghost use Rattle.native_pool.specs.Desks.{WaitsBehind, KeepsResults};
-    ghost use Rattle.native_pool.specs.Pools.{pool_meaning, pool_log, IsTimely, HasCome, WhileRunning, Between, KeepsStarts};
+    ghost use Rattle.native_pool.specs.Pools.{pool_meaning, pool_log, IsTimely, HasCome, WhileRunning, Between, KeepsStarts, HasStopped, joined_each};
 
     ghost meaning = { pool_meaning };
 
     ghost stands_for = { pool_log };
 
     ghost log_is = { λ p log h. h };
+
+    ghost waits = { true };
 
     fn begin(&mut self, workers: u32) -> Result<(), AllocError>
         requires stopped { (pool_meaning self.old).runs ≡ false }
@@ -395,10 +419,13 @@ impl<
         ensures ended { pool_meaning self.new ≡ record (pool_meaning self.old) { runs = false } }
         ensures log { (log : List LogEntry) → pool_log self.old log ↔ pool_log self.new log }
         ensures starts { self.new.starts ≡ [] }
+        ensures told { WhileRunning (λ pool desk. HasStopped pool self.new.ended desk) self.old }
+        ensures joined { self.new.joins ≡ joined_each self.old.starts self.old.joins }
     {
-        if let Some(desk) = self.desk.take() {
-            wind_down(&self.rt, &mut self.ear, desk);
-        }
+        let Some(desk) = self.desk.take() else {
+            unreachable!()
+        };
+        self.ended = Some(wind_down(&self.rt, &mut self.ear, desk));
         let starts = mem::replace(&mut self.starts, Vec::new(self.alloc));
         join_all(&mut self.spawner, starts);
     }

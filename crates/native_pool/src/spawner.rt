@@ -1,16 +1,17 @@
 //! What starts the workers.
 ghost use Rattle.std.specs.Prelude.{◌≡◌, ◌<◌, ◌≤◌, ◌^◌, ℕ, IfOk, IfErr, OnErr, IsErr};
 ghost use Rattle.native_board.specs.Boards.{worker_view};
-ghost use Rattle.gv_values.specs.Counts.{HasRisen};
+ghost use Rattle.gv_values.specs.Counts.{HasRisen, one_more};
 
 use crate::edge::{OpenGate, WakerBell};
 use crate::task::{Gate, WorkerTask};
+use gv_io::one_more;
 use native_board::{Bell, WorkerPass};
 use std::sync::Wait;
 use std::thread;
 use std::thread::{JoinHandle, Threads};
 
-/// Starts workers, and counts how often it refused.
+/// Starts workers, and counts how often it refused and how often it joined.
 pub trait Spawner<B: Bell + Drop, G: Gate + Drop> {
     /// A worker that was started.
     type Running: Drop;
@@ -20,6 +21,9 @@ pub trait Spawner<B: Bell + Drop, G: Gate + Drop> {
 
     /// How often a start was refused.
     ghost refusals: { Self → ℕ };
+
+    /// How many workers were joined.
+    ghost joins: { Self → ℕ };
 
     /// The cell of the task that was started.
     ghost running_cell: { Self.Running → ℕ };
@@ -32,12 +36,14 @@ pub trait Spawner<B: Bell + Drop, G: Gate + Drop> {
         ensures running { IfOk result (λ running. running_cell running ≡ (worker_view task.pass).cell) }
         ensures refused { IfErr result (λ refused. refused_cell refused ≡ (worker_view task.pass).cell) }
         ensures count { refusals self.old ≤ refusals self.new }
+        ensures same_joins { joins self.new ≡ joins self.old }
         ensures cause { OnErr result (HasRisen (refusals self.old) (refusals self.new)) }
         ensures fits { OnErr result (refusals self.new < 2 ^ 64) };
 
-    /// Waits for a worker to end.
+    /// Waits for a worker to end, and counts it.
     fn join(&mut self, running: Self::Running)
-        ensures { refusals self.old ≤ refusals self.new };
+        ensures count { refusals self.old ≤ refusals self.new }
+        ensures joined { joins self.new ≡ one_more (joins self.old) };
 }
 
 /// A worker's thread.
@@ -75,6 +81,7 @@ pub struct ThreadSpawner<H> {
     rt: H,
     start: StartThread,
     refused: u64,
+    joined: u64,
     ghost callable: { IsAlwaysCallable start },
 }
 
@@ -87,6 +94,7 @@ impl<H: Threads> ThreadSpawner<H> {
             rt,
             start,
             refused: 0,
+            joined: 0,
         }
     }
 }
@@ -98,6 +106,8 @@ impl<H: Threads> Spawner<WakerBell, OpenGate> for ThreadSpawner<H> {
 
     ghost refusals = { λ s. s.refused };
 
+    ghost joins = { λ s. s.joined };
+
     ghost running_cell = { λ thread. thread.cell };
 
     ghost refused_cell = { λ refused. refused.cell };
@@ -106,6 +116,7 @@ impl<H: Threads> Spawner<WakerBell, OpenGate> for ThreadSpawner<H> {
         ensures running { IfOk result (λ thread. thread.cell ≡ (worker_view task.pass).cell) }
         ensures refused { IfErr result (λ refused. refused.cell ≡ (worker_view task.pass).cell) }
         ensures count { self.old.refused ≤ self.new.refused }
+        ensures same_joins { self.new.joined ≡ self.old.joined }
         ensures cause { OnErr result (HasRisen self.old.refused self.new.refused) }
         ensures fits { OnErr result (self.new.refused < 2 ^ 64) }
     {
@@ -122,6 +133,7 @@ impl<H: Threads> Spawner<WakerBell, OpenGate> for ThreadSpawner<H> {
     fn join(&mut self, running: Thread) {
         let Thread { cell: _, handle } = running;
         handle.join(&self.rt);
+        self.joined = one_more(self.joined);
     }
 }
 
@@ -129,12 +141,16 @@ impl<H: Threads> Spawner<WakerBell, OpenGate> for ThreadSpawner<H> {
 #[derive(Drop)]
 pub struct NoThreads {
     refused: u64,
+    joined: u64,
 }
 
 impl NoThreads {
     /// A spawner that has refused nothing yet.
     pub fn new() -> NoThreads {
-        NoThreads { refused: 0 }
+        NoThreads {
+            refused: 0,
+            joined: 0,
+        }
     }
 }
 
@@ -145,6 +161,8 @@ impl<B: Bell + Drop, G: Gate + Drop> Spawner<B, G> for NoThreads {
 
     ghost refusals = { λ s. s.refused };
 
+    ghost joins = { λ s. s.joined };
+
     ghost running_cell = { λ running. running.cell };
 
     ghost refused_cell = { λ refused. refused.cell };
@@ -153,6 +171,7 @@ impl<B: Bell + Drop, G: Gate + Drop> Spawner<B, G> for NoThreads {
         ensures running { IsErr result }
         ensures refused { IfErr result (λ refused. refused.cell ≡ (worker_view task.pass).cell) }
         ensures count { self.old.refused ≤ self.new.refused }
+        ensures same_joins { self.new.joined ≡ self.old.joined }
         ensures cause { OnErr result (HasRisen self.old.refused self.new.refused) }
         ensures fits { OnErr result (self.new.refused < 2 ^ 64) }
     {
@@ -162,5 +181,6 @@ impl<B: Bell + Drop, G: Gate + Drop> Spawner<B, G> for NoThreads {
 
     fn join(&mut self, running: NotStarted) {
         let _ = running;
+        self.joined = one_more(self.joined);
     }
 }

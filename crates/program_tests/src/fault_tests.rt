@@ -124,6 +124,18 @@ const FAULTS: &[Row<'static>] = &[
         err: b"gvr: main",
     },
     Row {
+        name: "err with no room",
+        words: "run",
+        input: b"def main\nprint / -7 2\nprint % -7 2\nlet x + 9223372036854775807 1\nend\n",
+        piece: 4096,
+        failing: &[],
+        room: 1000,
+        err_room: 0,
+        status: 5,
+        out: b"start g0 main\nprint g0 -4\nprint g0 1\nend g0 fault OverflowError\nstop fault OverflowError turns 0 moves 3\n",
+        err: b"",
+    },
+    Row {
         name: "out and err with room for 9",
         words: "run",
         input: ENDS_BY_A_FAULT,
@@ -254,6 +266,8 @@ pub(crate) struct Way<'a> {
 impl Sink for Way<'_> {
     ghost written = { λ _. None };
 
+    ghost handed = { λ _. None };
+
     ghost faults = { λ _. 0 };
 
     #[tactic(auto, using(gv_io::proofs::StreamLaws::untold))]
@@ -262,6 +276,7 @@ impl Sink for Way<'_> {
         Ok(())
     }
 
+    #[tactic(auto, using(gv_io::proofs::StreamLaws::untold))]
     fn flush(&mut self) -> Result<(), Failed> {
         self.reached
             .set(self.reached.get().saturating_add(self.held));

@@ -2,7 +2,7 @@
 use Rattle.std.proofs.Common.{◌≡◌, ◌≢◌, ◌⊎◌, inl, inr, ℕ, ◌≤◌, true, List, [], ◌++◌, length, Option, refl, ap, sym, ◌∙◌, subst, arith, take}
 use Rattle.std.specs.List.{All}
 use Rattle.std.proofs.lemmas.List.Elements.{All-nil, All-weaker}
-use Rattle.gv_io.specs.Streams.{appended, AppendsPrefix}
+use Rattle.gv_io.specs.Streams.{appended, AppendsPrefix, Extends}
 use Rattle.gv_io.proofs.StreamLaws.{appended-appended, AppendsPrefix-after, AppendsPrefix-all, AppendsPrefix-longer}
 use Rattle.wsgi_core.specs.Applications.{App}
 use Rattle.wsgi_core.specs.Gateways.{Gateway, said_by}
@@ -11,7 +11,7 @@ use Rattle.stream_server.specs.declared.limits.Limits.{Limits}
 use Rattle.stream_server.specs.Served.{Cause}
 use Rattle.stream_server.specs.Serving.{BeginsSo, EachTold, IsAllServed, IsClosedWell, RestBut, Rests, WaitsToRead}
 use Rattle.serve_command.specs.declared.serving.Served.{Served}
-use Rattle.serve_command.specs.Served.{ServesAt, listening, served}
+use Rattle.serve_command.specs.Served.{IsToldFirst, ServesAt, listening, served}
 
 -- nothing is said of no connections
 no_connection : (cs : List Connection) (P : Connection → List ℕ → List ℕ → Type 0) → cs ≡ [] → EachTold cs P
@@ -46,6 +46,30 @@ at_no_line end (inr e) f = absurd (cc)
 finished_at_line : (end : Served) → end ≡ Served.Finished → (end ≡ Served.Listener) ⊎ (end ≡ Served.Memory) → ⊥
 finished_at_line end e (inl f) = absurd (cc)
 finished_at_line end e (inr f) = absurd (cc)
+
+-- ---- what was handed on
+
+pub none_told : (asked : ℕ) (w : Meaning) (out0 handed1 : Option (List ℕ)) → w.connections ≡ [] → IsToldFirst asked w out0 handed1
+none_told asked w out0 handed1 none some = absurd (let e = ap (λ (xs : List Connection). length xs) none in omega (arith, some, e))
+
+-- the first line was handed on, and nothing of it is taken back
+pub told_first : (asked port : ℕ) (w : Meaning) (out0 out1 handed1 handed2 : Option (List ℕ)) → out1 ≡ appended out0 (listening port) → handed1 ≡ out1 → Extends handed1 handed2 → w.listens ≡ listens_at asked port
+    → IsToldFirst asked w out0 handed2
+told_first asked port w out0 out1 handed1 handed2 told all kept listens some = (
+  port,
+  listens,
+  kept.more,
+  kept.is ∙ ap (λ o. appended o kept.more) (all ∙ told) ∙ appended-appended out0 (listening port) kept.more,
+)
+
+-- an end at a line that isn't out is that of a write or of want of memory
+pub no_other_end : (end : Served) (P : Type 0) → (end ≡ Served.Finished → ⊥) → (end ≡ Served.Listener → ⊥) → end ≢ Served.WriteFault → end ≢ Served.Memory → P
+no_other_end Served.Finished P f l w m = absurd (f refl)
+no_other_end Served.Listener P f l w m = absurd (l refl)
+no_other_end Served.WriteFault P f l w m = absurd (w refl)
+no_other_end Served.Memory P f l w m = absurd (m refl)
+
+-- ---- the ends
 
 -- nobody was accepted
 pub none_served : (end : Served) (asked : ℕ) (answers : Gateway) (app : App) (limits : Limits) (w : Meaning) (out0 out1 : Option (List ℕ)) (port : ℕ) → (end ≡ Served.Finished → ⊥) → w.connections ≡ [] → w.most ≡ 0

@@ -46,3 +46,9 @@ pub record ServesAt (end : Served) (asked : ℕ) (answers : Gateway) (app : App)
   -- as many as asked for were accepted, and all are closed; where a line could not be written, that or nobody was
   pub all : end ≡ Served.Finished → IsAllServed w limits.conns
   pub at_line : end ≡ Served.WriteFault → (w.connections ≡ []) ⊎ IsAllServed w limits.conns
+
+-- The line that tells the port was handed on before the first connection was accepted. It is said of the end alone, and
+-- shows the order too: had a connection come first, a write or a flush that fails would keep the line back.
+abbrev pub IsToldFirst : ℕ → Meaning → Option (List ℕ) → Option (List ℕ) → Type 0
+IsToldFirst asked w out0 handed1 =
+    0 < length w.connections → (port : ℕ) × (w.listens ≡ listens_at asked port) × (rest : List ℕ) × (handed1 ≡ appended out0 (listening port ++ rest))

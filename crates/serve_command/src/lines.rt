@@ -1,6 +1,6 @@
 //! Lines of a word and a number, as those that tell the port and the number of connections.
 ghost use Rattle.std.specs.Prelude.{◌≡◌, ◌≤◌, ◌++◌, IfOk, IsErrOf, OnErr, OnOk};
-ghost use Rattle.gv_io.specs.Streams.{AppendsPrefix, appended};
+ghost use Rattle.gv_io.specs.Streams.{AppendsPrefix, Extends, appended};
 ghost use Rattle.gv_values.specs.Counts.{HasRisen};
 ghost use Rattle.serve_command.specs.Lines.{number_line};
 
@@ -40,7 +40,7 @@ fn number_line(alloc: Global, word: &[u8], number: u64) -> Result<Vec<u8>, Alloc
 }
 
 /// Writes the line, and hands it on, so that a reader of out has it at once. Where memory runs out, out is as it was.
-#[tactic(auto, using(gv_io::proofs::StreamLaws::writes))]
+#[tactic(auto, using(gv_io::proofs::StreamLaws::writes, gv_io::proofs::StreamLaws::hands))]
 pub fn write_line<K: Sink>(
     alloc: Global,
     word: &[u8],
@@ -49,6 +49,8 @@ pub fn write_line<K: Sink>(
 ) -> Result<(), Unwritten>
     ensures whole { OnOk result (K.written out.new ≡ appended (K.written out.old) (number_line word.now number)) }
     ensures cut { OnErr result (AppendsPrefix (K.written out.old) (K.written out.new) (number_line word.now number)) }
+    ensures handed { OnOk result (K.handed out.new ≡ K.written out.new) }
+    ensures never_taken_back { Extends (K.handed out.old) (K.handed out.new) }
     ensures unwritten { IsErrOf result Unwritten.Memory → out.new ≡ out.old }
     ensures failed { IsErrOf result Unwritten.Fault → HasRisen (K.faults out.old) (K.faults out.new) }
     ensures unfailed { OnOk result (K.faults out.new ≡ K.faults out.old) }

@@ -3,7 +3,7 @@ ghost use Rattle.std.specs.Prelude.{◌≡◌, ◌≢◌, ◌≤◌, ℕ};
 ghost use Rattle.gv_values.specs.Counts.{HasRisen};
 ghost use Rattle.stream_net.specs.Nets.{IsFresh};
 ghost use Rattle.stream_server.specs.Serving.{IsInRange};
-ghost use Rattle.serve_command.specs.Served.{ServesAt};
+ghost use Rattle.serve_command.specs.Served.{IsToldFirst, ServesAt};
 
 use crate::lines::{Unwritten, write_line};
 use gv_io::Sink;
@@ -57,6 +57,8 @@ pub fn serve_command<T: Talk + Drop, K: Sink, N: Net, A: Application, H: Wait>(
     requires fresh { IsFresh (N.meaning net.old) }
     requires in_range { IsInRange limits }
     ensures serves { ServesAt result port T.answers (A.answer_of app.now) limits (N.meaning net.new) (K.written out.old) (K.written out.new) }
+    ensures told { IsToldFirst port (N.meaning net.new) (K.written out.old) (K.handed out.new) }
+    ensures handed { K.handed out.old ≡ K.written out.old → result ≢ Served.WriteFault → result ≢ Served.Memory → K.handed out.new ≡ K.written out.new }
     ensures listener { result ≡ Served.Listener → HasRisen (N.meaning net.old).faults (N.meaning net.new).faults }
     ensures write_fault { result ≡ Served.WriteFault → HasRisen (K.faults out.old) (K.faults out.new) }
     ensures net_unfailed { result ≢ Served.Listener → (N.meaning net.new).faults ≡ (N.meaning net.old).faults }

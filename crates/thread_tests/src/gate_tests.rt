@@ -1,9 +1,6 @@
 //! Two jobs, each on a thread of its own, of which the one that comes first is held until the other is answered.
-ghost use Rattle.std.specs.Prelude.{◌≡◌, false};
-
+use crate::calls::{Left, Still, called};
 use crate::held::{EachStarts, HoldingGate, Signals, Watched};
-use gv_io::{MemorySink, MemorySource};
-use gv_top::offline;
 use native_board::Bell;
 use native_pool::{
     Clock, Ear, Gate, PollEar, Spawner, ThreadWorld, WakerBell, WorkerTask, spawn_worker,
@@ -12,8 +9,7 @@ use std::alloc::{AllocError, Global};
 use std::sync::atomic::Ordering;
 use std::sync::{Arc, Wait};
 use std::test::Fail;
-use world::World;
-use wsgi_core::ShippedApp;
+use world::ListWorld;
 
 const TWO_ECHOES: &[u8] =
     b"native n 2\ndef main\na <- nspawn n echo 1\nb <- nspawn n echo 2\nx <- get b\ny <- get a\nprint y\nend\n";
@@ -26,46 +22,13 @@ const SECOND_ENDS_FIRST: &[u8] =
 const FIRST_ENDS_FIRST: &[u8] =
     b"start g0 main\njob j1 g0 echo 1\njob j2 g0 echo 2\npark g0 get j2\nblock jobs\nturn 1 done j1 0 value 1\nblock jobs\nturn 2 done j2 0 value 2\nwake g0\nprint g0 1\nend g0 value none\nstop value none turns 3 moves 5\n";
 
-/// A clock that stands still.
-#[derive(Clone, Copy)]
-struct Still;
-
-impl Clock for Still {
-    ghost reading = { λ _. 0 };
-
-    fn now(&mut self) -> u64 {
-        0
-    }
-}
-
-/// What the call left.
-#[derive(Drop)]
-struct Left {
-    status: Option<u8>,
-    out: MemorySink,
-}
-
-/// Calls over this world, which stands still.
-fn run_in<W: World>(alloc: Global, native: &mut W) -> Result<Left, AllocError>
-    requires { (W.meaning native.old).runs ≡ false }
-{
-    let mut words = Vec::new(alloc);
-    words.push(String::from_str(alloc, "run")?)?;
-    words.push(String::from_str(alloc, "--native=2")?)?;
-    let bytes = Vec::from_slice(alloc, TWO_ECHOES)?;
-    let mut input = MemorySource::new(bytes, 4096, Vec::new(alloc));
-    let mut out = MemorySink::new(alloc, 1000)?;
-    let mut err = MemorySink::new(alloc, 100)?;
-    let status = offline(
-        alloc,
-        words.as_slice(),
-        &mut input,
-        &mut out,
-        &mut err,
-        native,
-        &ShippedApp,
-    );
-    Ok(Left { status, out })
+/// Calls to verify that this trace is a run of the two jobs, over a world that has no answers.
+fn verify_recorded(alloc: Global, trace: &[u8]) -> Result<Left, AllocError> {
+    let mut bytes = Vec::from_slice(alloc, TWO_ECHOES)?;
+    bytes.extend_from_slice(b"====\n")?;
+    bytes.extend_from_slice(trace)?;
+    let mut native = ListWorld::new(alloc, Vec::new(alloc));
+    called(alloc, &["verify"], bytes.as_slice(), &mut native)
 }
 
 /// Calls over a world of these parts, whose answers are signalled.
@@ -88,7 +51,7 @@ fn run_over<
 ) -> Result<Left, AllocError> {
     let world = ThreadWorld::new(alloc, rt, ear, bell, clock, gate, spawner)?;
     let mut native = Watched { world, signals };
-    Ok(run_in(alloc, &mut native)?)
+    Ok(called(alloc, &["run", "--native=2"], TWO_ECHOES, &mut native)?)
 }
 
 #[test]
@@ -107,16 +70,21 @@ fn gate_two_workers(rt: HostRuntime) -> Result<(), Fail> {
         rt,
         start,
         refused: 0,
+        joined: 0,
     };
     let seen = Arc::try_clone(&signals)?;
     let left = run_over(alloc, rt, ear, bell, Still, gate, spawner, seen)?;
     assert_eq!(rt; left.status, Some(0));
     assert_eq!(rt; signals.came.load(Ordering::SeqCst), 2);
     assert_eq!(rt; signals.given_up.load(Ordering::SeqCst), 0);
+    let verified = verify_recorded(alloc, left.out.bytes())?;
+    assert_eq!(rt; verified.status, Some(0));
     if signals.held.load(Ordering::SeqCst) == 1 {
         assert_eq!(rt; left.out.bytes(), SECOND_ENDS_FIRST);
+        assert_eq!(rt; verified.out.bytes(), b"verified lines 14\n".as_slice());
     } else {
         assert_eq!(rt; left.out.bytes(), FIRST_ENDS_FIRST);
+        assert_eq!(rt; verified.out.bytes(), b"verified lines 12\n".as_slice());
     }
     Ok(())
 }

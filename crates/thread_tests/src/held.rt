@@ -3,6 +3,7 @@ ghost use Rattle.std.specs.Prelude.{◌≡◌, ◌≤◌, ◌<◌, ◌^◌, IfOk
 ghost use Rattle.native_board.specs.Boards.{worker_view};
 ghost use Rattle.gv_values.specs.Counts.{HasRisen};
 
+use gv_io::one_more;
 use gv_values::Answer;
 use native_board::WorkerPass;
 use native_pool::{Gate, Spawner, WakerBell, WorkerTask};
@@ -86,6 +87,8 @@ impl<W: World + Drop> World for Watched<W> {
 
     ghost log_is = { λ w log h. W.log_is w.world log h };
 
+    ghost waits = { W.waits };
+
     fn begin(&mut self, workers: u32) -> Result<(), AllocError> {
         self.world.begin(workers)
     }
@@ -102,6 +105,10 @@ impl<W: World + Drop> World for Watched<W> {
                 .store(u64::from(number), Ordering::SeqCst);
         }
         Ok(answer)
+    }
+
+    fn may_wait(&self) -> bool {
+        self.world.may_wait()
     }
 
     fn finish(&mut self) {
@@ -131,6 +138,7 @@ pub(crate) struct EachStarts<H> {
     pub(crate) rt: H,
     pub(crate) start: Start,
     pub(crate) refused: u64,
+    pub(crate) joined: u64,
     ghost callable: { IsAlwaysCallable start },
 }
 
@@ -141,6 +149,8 @@ impl<H: Threads> Spawner<WakerBell, HoldingGate> for EachStarts<H> {
 
     ghost refusals = { λ s. s.refused };
 
+    ghost joins = { λ s. s.joined };
+
     ghost running_cell = { λ started. started.cell };
 
     ghost refused_cell = { λ not_started. not_started.cell };
@@ -149,6 +159,7 @@ impl<H: Threads> Spawner<WakerBell, HoldingGate> for EachStarts<H> {
         ensures running { IfOk result (λ started. started.cell ≡ (worker_view task.pass).cell) }
         ensures refused { IfErr result (λ not_started. not_started.cell ≡ (worker_view task.pass).cell) }
         ensures count { self.old.refused ≤ self.new.refused }
+        ensures same_joins { self.new.joined ≡ self.old.joined }
         ensures cause { OnErr result (HasRisen self.old.refused self.new.refused) }
         ensures fits { OnErr result (self.new.refused < 2 ^ 64) }
     {
@@ -163,5 +174,6 @@ impl<H: Threads> Spawner<WakerBell, HoldingGate> for EachStarts<H> {
     fn join(&mut self, running: Started) {
         let Started { cell: _, handle } = running;
         handle.join(&self.rt);
+        self.joined = one_more(self.joined);
     }
 }

@@ -4,3 +4,4 @@ pub mod Finding
 pub mod Ranking
 pub mod Listing
 pub mod Tying
+pub mod LegalLogs

@@ -6,3 +6,4 @@ pub mod Logged
 pub mod Listed
 pub mod Upshots
 pub mod Holding
+pub mod LegalLogs

@@ -3,6 +3,7 @@ ghost use Rattle.std.specs.Prelude.{◌≡◌, ◌≢◌, ℕ, ◌<◌, true, fa
 ghost use Rattle.std.specs.HashMap.{get};
 ghost use Rattle.world.specs.Kept.{script_meaning};
 ghost use Rattle.world.specs.Holding.{IsTied, Leads, Takes};
+ghost use Rattle.world.specs.LegalLogs.{HasLegalLog};
 ghost use Rattle.world_rules.specs.Legal.{is_answered, is_done_of, is_posted, outstanding};
 
 use crate::due::Upshot;
@@ -23,6 +24,7 @@ pub struct Held<'a, W: World> {
     places: HashMap<u32, Option<JobOutcome>>,
     ghost no_tick: { (script_meaning script).tick ≡ 0 },
     ghost tied: { IsTied (W.meaning inner.now) (script_meaning script) (get nat_eq places) },
+    ghost logged: { 0 < (script_meaning script).workers → ∥ HasLegalLog (W.meaning inner.now) (W.stands_for inner.now) ∥₁ },
 }
 
 /// Waits for the end of a job, and puts its result into its place.
@@ -36,6 +38,7 @@ fn take_result<W: World>(
         → get nat_eq places.old number ≢ None }
     ensures took { OnOk result (Takes (W.meaning inner.old) (W.meaning inner.new) (get nat_eq places.old) (get nat_eq places.new)) }
     ensures refused { OnErr result (W.meaning inner.new ≡ W.meaning inner.old) }
+    ensures logged { HasLegalLog (W.meaning inner.old) (W.stands_for inner.old) → HasLegalLog (W.meaning inner.new) (W.stands_for inner.new) }
     ensures kept { OnErr result ((number : ℕ) → get nat_eq places.new number ≡ get nat_eq places.old number) }
 {
     match inner.ask(Question::Wait(None))? {
@@ -44,6 +47,7 @@ fn take_result<W: World>(
             outcome,
             ..
         } => {
+            // A job that is owed has a place, so no memory is needed.
             let Ok(_) = places.insert(number, Some(outcome)) else {
                 unreachable!()
             };
@@ -69,6 +73,11 @@ fn clear_place(places: &mut HashMap<u32, Option<JobOutcome>>, answer: Answer)
 
 impl<'a, W: World> Held<'a, W> {
     ghost use Rattle.std.specs.Prelude.{Some, IfOk};
+    ghost use Rattle.gv_values.specs.declared.job.Answer.TheVariants.{Done};
+    ghost use Rattle.gv_values.specs.declared.job.JobOutcome.{JobOutcome};
+    ghost use Rattle.world_rules.specs.Legal.{IsLegal, MayAsk};
+    ghost use Rattle.world_rules.specs.Script.{scripted};
+    ghost use Rattle.world.specs.Kept.{due_jobs};
 
     /// A world over this one, of which neither runs yet.
     pub fn new(alloc: Global, inner: &'a mut W) -> Held<'a, W>
@@ -89,6 +98,7 @@ impl<'a, W: World> Held<'a, W> {
         ensures same_reference { result.ghost_name ≡ self.entry.inner.ghost_name }
         ensures same { result.now ≡ self.entry.inner.now }
         ensures leads { Leads (W.meaning result.now) (script_meaning self.entry.script) }
+        ensures logged { 0 < (script_meaning self.entry.script).workers → ∥ HasLegalLog (W.meaning result.now) (W.stands_for result.now) ∥₁ }
     {
         let Held {
             inner,
@@ -117,15 +127,6 @@ impl<'a, W: World> Held<'a, W> {
             }
         }
     }
-}
-
-impl<'a, W: World> Held<'a, W> {
-    ghost use Rattle.std.specs.Prelude.{Some, IfOk};
-    ghost use Rattle.gv_values.specs.declared.job.Answer.TheVariants.{Done};
-    ghost use Rattle.gv_values.specs.declared.job.JobOutcome.{JobOutcome};
-    ghost use Rattle.world_rules.specs.Legal.{IsLegal, MayAsk};
-    ghost use Rattle.world_rules.specs.Script.{scripted};
-    ghost use Rattle.world.specs.Kept.{due_jobs};
 
     /// What the script answers, once the result of the job that it names came.
     fn answer_to(&mut self, question: Question) -> Result<Answer, AllocError>
@@ -161,6 +162,8 @@ impl<'a, W: World> World for Held<'a, W> {
     ghost stands_for = { λ h. script_log h.script };
 
     ghost log_is = { λ h. script_log_is h.script };
+
+    ghost waits = { W.waits };
 
     fn begin(&mut self, workers: u32) -> Result<(), AllocError> {
         self.inner.begin(workers)?;

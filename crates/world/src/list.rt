@@ -68,6 +68,8 @@ impl World for ListWorld {
 
     ghost log_is = { list_log_is };
 
+    ghost waits = { false };
+
     fn begin(&mut self, workers: u32) -> Result<(), AllocError>
         requires stopped { (list_meaning self.old).runs ≡ false }
         requires some { 0 < workers }
@@ -101,6 +103,10 @@ impl World for ListWorld {
                 Ok(answer)
             }
         }
+    }
+
+    fn may_wait(&self) -> bool {
+        false
     }
 
     fn finish(&mut self) {

@@ -1,5 +1,5 @@
 //! The interface of a world.
-ghost use Rattle.std.specs.Prelude.{◌≡◌, ℕ, ◌<◌, ◌≤◌, ◌↔◌, false, true, List, [], ◌∷◌, ◌++◌, IfOk, OnOk, OnErr};
+ghost use Rattle.std.specs.Prelude.{◌≡◌, ℕ, ◌<◌, ◌≤◌, ◌↔◌, Bool, false, true, List, [], ◌∷◌, ◌++◌, IfOk, OnOk, OnErr};
 ghost use Rattle.world_rules.specs.declared.question.LogEntry.{LogEntry};
 ghost use Rattle.world_rules.specs.declared.question.LogEntry.TheVariants as entry;
 ghost use Rattle.world_rules.specs.Legal.{is_posted, posts_of, answers_of, IsLegal, MayAsk};
@@ -19,6 +19,9 @@ pub trait World {
 
     /// Whether the world stands for a log.
     ghost stands_for: { Self → List LogEntry → Type 0 };
+
+    // Whether it may be long in answering.
+    ghost waits: { Bool };
 
     /// Begins with no posts and no answers, at moment 0, with 1 to 16 workers. `AllocError`: memory is wanting.
     fn begin(&mut self, workers: u32) -> Result<(), AllocError>
@@ -51,11 +54,10 @@ pub trait World {
         ensures refused { OnErr result (meaning self.new ≡ meaning self.old) }
         ensures refused_log { OnErr result ((log : List LogEntry) → stands_for self.old log ↔ stands_for self.new log) };
 
-    /// Whether the answer to `Question::Wait` may be long in coming, since it comes from outside of the program. A
-    /// caller then hands on first what it has written.
-    fn may_wait(&self) -> bool {
-        false
-    }
+    /// Whether an answer may be long in coming, since it comes from outside of the program. A caller then hands on
+    /// first what it has written.
+    fn may_wait(&self) -> bool
+        ensures { result ≡ waits };
 
     /// Ends the workers. Posts and answers stay. It may wait.
     fn finish(&mut self)

@@ -33,6 +33,7 @@ impl ScriptWorld {
     ghost use Rattle.world_rules.specs.Legal.{is_posted, IsLegal, MayAsk};
     ghost use Rattle.world_rules.specs.Script.{start, after_post, after_answer, scripted};
     ghost use Rattle.world.specs.Kept.{script_meaning, due_jobs, rule_state, SameSetting, SameScript};
+    ghost use Rattle.world.specs.LegalLogs.{HasLegalLog};
     ghost use Rattle.world.specs.Upshots.{said};
     ghost use Rattle.world.specs.Worlds.{Posts};
 
@@ -105,6 +106,7 @@ impl ScriptWorld {
         ensures refused { OnErr result (SameScript self.old self.new) }
         ensures posted { OnOk result (Posts (W.meaning other.old) (W.meaning other.new) number job) }
         ensures refused_there { OnErr result (W.meaning other.new ≡ W.meaning other.old) }
+        ensures logged_there { HasLegalLog (W.meaning other.old) (W.stands_for other.old) → HasLegalLog (W.meaning other.new) (W.stands_for other.new) }
     {
         self.posts.reserve(1)?;
         let due = due_at(self.moment, takes);
@@ -159,6 +161,7 @@ impl ScriptWorld {
 }
 
 impl World for ScriptWorld {
+    ghost use Rattle.std.specs.Prelude.{false};
     ghost use Rattle.world.specs.Kept.{script_meaning, script_log};
     ghost use Rattle.world.specs.Logged.{script_log_is};
 
@@ -167,6 +170,8 @@ impl World for ScriptWorld {
     ghost stands_for = { script_log };
 
     ghost log_is = { script_log_is };
+
+    ghost waits = { false };
 
     fn begin(&mut self, workers: u32) -> Result<(), AllocError> {
         self.restart(workers);
@@ -182,6 +187,10 @@ impl World for ScriptWorld {
         let answer = self.by_script(question);
         self.store(question, answer)?;
         Ok(answer)
+    }
+
+    fn may_wait(&self) -> bool {
+        false
     }
 
     fn finish(&mut self) {

@@ -3,6 +3,7 @@ ghost use Rattle.std.specs.Arc.{arc_value};
 ghost use Rattle.native_board.specs.Boards.{board_id, hub_board, worker_view};
 ghost use Rattle.gv_values.specs.Counts.{HasRisen};
 
+use gv_io::one_more;
 use gv_values::{Answer, Job, JobOutcome};
 use native_board::{Bell, Board, Finished, HubPass, Made, WorkerPass};
 use native_pool::{
@@ -298,6 +299,7 @@ struct EverySecond<H> {
     start: Start,
     skipped: bool,
     refused: u64,
+    joined: u64,
     ghost callable: { IsAlwaysCallable start },
 }
 
@@ -308,6 +310,8 @@ impl<H: Threads> Spawner<WakerBell, Passed> for EverySecond<H> {
 
     ghost refusals = { λ s. s.refused };
 
+    ghost joins = { λ s. s.joined };
+
     ghost running_cell = { λ started. started.cell };
 
     ghost refused_cell = { λ skipped. skipped.cell };
@@ -316,6 +320,7 @@ impl<H: Threads> Spawner<WakerBell, Passed> for EverySecond<H> {
         ensures running { IfOk result (λ started. started.cell ≡ (worker_view task.pass).cell) }
         ensures refused { IfErr result (λ skipped. skipped.cell ≡ (worker_view task.pass).cell) }
         ensures count { self.old.refused ≤ self.new.refused }
+        ensures same_joins { self.new.joined ≡ self.old.joined }
         ensures cause { OnErr result (HasRisen self.old.refused self.new.refused) }
         ensures fits { OnErr result (self.new.refused < 2 ^ 64) }
     {
@@ -333,6 +338,7 @@ impl<H: Threads> Spawner<WakerBell, Passed> for EverySecond<H> {
     fn join(&mut self, running: Started) {
         let Started { cell: _, handle } = running;
         handle.join(&self.rt);
+        self.joined = one_more(self.joined);
     }
 }
 
@@ -353,6 +359,7 @@ fn where_every_second_start_is_refused_the_others_do_the_jobs(rt: HostRuntime) -
         start,
         skipped: false,
         refused: 0,
+        joined: 0,
     };
     assert!(rt; parts_answer(rt.alloc(), rt, ear, bell, clock, gate, spawner, 100)?);
     assert!(rt; count.load(Ordering::SeqCst) == 200);

@@ -1,5 +1,5 @@
 -- A connection, piece by piece, and the whole of it.
-use Rattle.std.proofs.Common.{◌≡◌, ℕ, zero, suc, ◌+◌, ◌-◌, ◌<◌, ◌≤◌, Bool, true, false, ◌||◌, List, [], ◌∷◌, ◌++◌, length, take, min, ◌⊎◌, inl, inr, length-take-le, take-take, nat_le, Option, Some, None, IfSome, Result, Ok, Err, OnOk, OnErr, is_err, refl, sym, ap, ◌∙◌, subst, arith, append-nil, length-append, unwrap_or}
+use Rattle.std.proofs.Common.{◌≡◌, ◌≢◌, ℕ, zero, suc, ◌+◌, ◌-◌, ◌<◌, ◌≤◌, Bool, true, false, ◌||◌, List, [], ◌∷◌, ◌++◌, length, take, min, ◌⊎◌, inl, inr, length-take-le, take-take, nat_le, Option, Some, None, IfSome, Result, Ok, Err, OnOk, OnErr, is_err, refl, sym, ap, ◌∙◌, subst, arith, append-nil, length-append, unwrap_or}
 use Rattle.std.proofs.lemmas.List.{append_cancel_left, take-append-le, take_all}
 use Rattle.gv_io.specs.Streams.{appended, prepended, AppendsPrefix}
 use Rattle.gv_io.proofs.StreamLaws.{appended-nothing, appended-appended, prepended-prepended, prepended-nothing, AppendsPrefix-after, AppendsPrefix-longer, AppendsPrefix-all}
@@ -10,6 +10,7 @@ use Rattle.wsgi_core.specs.Gateways.{Gateway, IsBefore, said_by}
 use Rattle.wsgi_core.specs.Standings.{Standing}
 use Rattle.wsgi_core.specs.declared.session.SessionPhase.{SessionPhase}
 use Rattle.wsgi_connection.specs.declared.connection.ConnectionEnd.{ConnectionEnd}
+use Rattle.wsgi_connection.specs.declared.connection.Turn.{Turn}
 use Rattle.wsgi_connection.specs.declared.connection.ConnectionEnd.TheVariants.{Closed, TooLong, ReadFault, WriteFault, Memory}
 use Rattle.wsgi_connection.specs.Connections.{most_bytes, whole_session, Exchanged, IsServed, IsWhole, SentFor}
 use Rattle.wsgi_connection.specs.Pieces.{Breaks, Goes, IsAtRest, said}
@@ -331,3 +332,22 @@ pub too_long : {T : Type 0} (gw : Gateway) (at : Standing T) (app : App) (port c
     → most_bytes < count → count ≤ most_bytes + 1 → Exchanged TooLong gw app port in0 in1 out0 out1
 too_long gw at app port count in0 in1 out0 out1 s h many few =
     record { read = h.read; is_read = h.is_read; within = omega (arith, h.is_long, few); sent = (omega (arith, h.is_long, many, few), h.served) }
+
+-- ---- what was handed on
+
+-- an input that ended leaves nothing kept back, unless the write failed
+pub was_closed : (end : ConnectionEnd) → (end ≡ Closed) ⊎ (end ≡ WriteFault) → Turn.Ended end ≢ Turn.Ended WriteFault → end ≡ Closed
+was_closed end (inl e) w = e
+was_closed end (inr e) w = absurd (w (ap Turn.Ended e))
+
+-- a piece is cut by a write that failed or by want of memory alone
+pub cut_only : {T : Type 0} (end : ConnectionEnd) (gw : Gateway) (at : Standing T) (app : App) (piece : List ℕ) (s : T) (old new : Option (List ℕ)) (P : Type 0) → Breaks end gw at app piece s old new
+    → Turn.Ended end ≢ Turn.Ended WriteFault → Turn.Ended end ≢ Turn.Ended Memory → P
+cut_only Closed gw at app piece s old new P b w m = absurd b
+cut_only TooLong gw at app piece s old new P b w m = absurd b
+cut_only ReadFault gw at app piece s old new P b w m = absurd b
+cut_only WriteFault gw at app piece s old new P b w m = absurd (w refl)
+cut_only Memory gw at app piece s old new P b w m = absurd (m refl)
+
+pub same_end : (a b : ConnectionEnd) → Turn.Ended a ≡ Turn.Ended b → a ≡ b
+same_end a b e = cc e

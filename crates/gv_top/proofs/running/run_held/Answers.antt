@@ -1,4 +1,4 @@
-use Rattle.std.proofs.Common.{rules, ◌≡◌, subst}
+use Rattle.std.proofs.Common.{rules, ◌≡◌, refl, subst}
 use Rattle.machine.specs.Run.{script_run}
 use Rattle.gv_top.specs.Running.{RanHeld}
 use Rattle.gv_top.proofs.Tops.{left_as_it_was}
@@ -22,8 +22,14 @@ pub returns-in-Some-clause-native : goal.returns-in-Some-clause-native
 returns-in-Some-clause-native g c = λ wf m.
     let told = c.posts_and_answers_are_told.ensures in
     let ran = ran_held c.followers_run_scripts.ensures told.posts told.answers c.in-Some.end c.args.engine.scenario c.args.engine.turns c.args.engine.moves c.args.workers c.run_in_world-ran.new.world.inner.ghost_name _
-    (g.W.World.meaning c.into_inner.result.now) c.run_in_world-ran.new.world.script _ _ c.new-held.result.no_tick c.requires.some c.in-Some.ensures.ran c.into_inner.ensures.leads wf m in
-    held_there (λ v. RanHeld c.args.workers (script_run c.args.engine.scenario c.args.engine.turns c.args.engine.moves 0) (g.W.World.meaning v)) c.into_inner.result.now _ (search rules) ran
+    (g.W.World.meaning c.into_inner.result.now) (g.W.World.stands_for c.into_inner.result.now) c.run_in_world-ran.new.world.script _ _ c.new-held.result.no_tick c.requires.some c.in-Some.ensures.ran c.into_inner.ensures.leads c.into_inner.ensures.logged wf m in
+    held_there (λ v. RanHeld c.args.workers (script_run c.args.engine.scenario c.args.engine.turns c.args.engine.moves 0) (g.W.World.meaning v) (g.W.World.stands_for v)) c.into_inner.result.now _ (search rules) ran
 
 pub returns-in-None-clause-written : goal.returns-in-None-clause-written
 returns-in-None-clause-written g c = left_as_it_was _ _ _ c.in-None.ensures.unwritten
+
+pub returns-in-Some-clause-hands : goal.returns-in-Some-clause-hands
+returns-in-Some-clause-hands g c = λ h5 h7 e. c.in-Some.ensures.hands h5 h7
+
+pub returns-in-None-clause-hands : goal.returns-in-None-clause-hands
+returns-in-None-clause-hands g c = λ h5 h7 e. absurd (h7 refl)

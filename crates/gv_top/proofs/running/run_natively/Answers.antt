@@ -21,3 +21,15 @@ returns-in-None-clause-written g c = left_as_it_was _ _ _ c.in-None.ensures.unwr
 
 pub returns-in-None-clause-begun : goal.returns-in-None-clause-begun
 returns-in-None-clause-begun g c = inr (c.in-None.ensures.unwritten, inr (inr refl))
+
+pub returns-in-Some-clause-began : goal.returns-in-Some-clause-began
+returns-in-Some-clause-began g c = inl (c.in-Some.ensures.ran.ahead, c.in-Some.ensures.ahead)
+
+pub returns-in-None-clause-began : goal.returns-in-None-clause-began
+returns-in-None-clause-began g c = inr c.in-None.ensures.kept
+
+pub returns-in-Some-clause-hands : goal.returns-in-Some-clause-hands
+returns-in-Some-clause-hands g c = λ h5 h7 e. c.in-Some.ensures.hands h5 h7
+
+pub returns-in-None-clause-hands : goal.returns-in-None-clause-hands
+returns-in-None-clause-hands g c = λ h5 h7 e. absurd (h7 refl)

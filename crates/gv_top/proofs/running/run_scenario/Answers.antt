@@ -1,6 +1,7 @@
 use Rattle.std.proofs.Common.{inr, refl}
 use Rattle.gv_top.proofs.InWorlds.{begun_by_held, begun_by_script, begun_by_workers, held_so, ran_by_held, ran_by_script, ran_by_workers}
 use Rattle.gv_io.proofs.StreamLaws.{AppendsPrefix-nothing}
+use Rattle.gv_top.proofs.Handing.{began_held, began_natively}
 use Rattle.gv_top.proofs.Built.{few_held, few_workers, some_held, some_workers}
 use Rattle.gv_top.proofs.running.run_scenario.Goals as goal
 
@@ -44,8 +45,24 @@ returns-in-Held-clause-written g c =
 
 pub returns-in-Held-clause-held : goal.returns-in-Held-clause-held
 returns-in-Held-clause-held g c = λ workers is wf m.
-    held_so c.args.options c.in-Held.workers workers _ c.args.checked c.in-Ok.engine _ c.in-Ok.ensures c.in-Held.is is (c.run_held.ensures.native wf m)
+    held_so c.args.options c.in-Held.workers workers _ c.args.checked c.in-Ok.engine _ _ c.in-Ok.ensures c.in-Held.is is (c.run_held.ensures.native wf m)
 
 pub returns-in-Held-clause-begun : goal.returns-in-Held-clause-begun
 returns-in-Held-clause-begun g c =
     begun_by_held _ c.args.options c.in-Held.workers _ c.args.checked c.in-Ok.engine _ _ c.in-Ok.ensures c.in-Held.is c.run_held.ensures.lawful
+
+pub returns-in_default-clause-began : goal.returns-in_default-clause-began
+returns-in_default-clause-began g c = inr refl
+
+pub returns-in-Script-clause-began : goal.returns-in-Script-clause-began
+returns-in-Script-clause-began g c = inr refl
+
+pub returns-in-Native-clause-began : goal.returns-in-Native-clause-began
+returns-in-Native-clause-began g c =
+    began_natively _ c.args.options c.in-Native.workers c.args.checked _ _ c.in-Ok.engine _ _ _ c.in-Ok.ensures c.in-Native.is c.run_natively.ensures.began
+
+pub returns-in-Held-clause-began : goal.returns-in-Held-clause-began
+returns-in-Held-clause-began g c = began_held _ c.args.options c.in-Held.workers c.args.checked _ _ _ _ _ c.in-Held.is
+
+pub returns-in_default-clause-hands : goal.returns-in_default-clause-hands
+returns-in_default-clause-hands g c = λ h5 h7 e. absurd (h7 refl)

@@ -1,3 +1,4 @@
+use Rattle.std.proofs.Common.{refl}
 use Rattle.gv_top.proofs.Tops.{left_as_it_was}
 use Rattle.world.specs.Kept.{script_meaning}
 use Rattle.gv_top.proofs.InWorlds.{script_ran}
@@ -18,3 +19,9 @@ returns-clause-written g c = left_as_it_was _ _ _ c.in-None.ensures.unwritten
 pub returns-clause-lawful : goal.returns-clause-lawful
 returns-clause-lawful g c =
     (c.scripts_run_lawfully.ensures c.args.engine.scenario c.args.engine.turns c.args.engine.moves c.args.tick c.requires.well_formed).lawful
+
+pub returns-in-Some-clause-hands : goal.returns-in-Some-clause-hands
+returns-in-Some-clause-hands g c = λ h5 h7 e. c.in-Some.ensures.hands h5 h7
+
+pub returns-clause-hands : goal.returns-clause-hands
+returns-clause-hands g c = λ h5 h7 e. absurd (h7 refl)

@@ -1,4 +1,7 @@
-use Rattle.std.proofs.Common.{ap, arith, ◌∙◌}
+use Rattle.std.proofs.Common.{ap, arith, inr, sym, ◌∙◌}
+use Rattle.serve_command.proofs.Ends.{none_told}
+use Rattle.gv_top.specs.declared.status.Verdict.{Verdict}
+use Rattle.gv_top.proofs.Handing.{hands_from, serving_hands, told_from, told_hands}
 use Rattle.gv_top.proofs.Servings.{fails_at_a_line, fault_lines, is_listener, is_some, no_other_status, none_named, not_listener, not_write_fault, serves_nobody, serves_so}
 use Rattle.gv_top.proofs.Tops.{err_unfailed, left_alone, status_or}
 use Rattle.gv_top.proofs.serving.gvr.Goals as goal
@@ -7,6 +10,9 @@ use Rattle.gv_top.proofs.serving.gvr.Goals as goal
 
 pub returns-in-Some-clause-answers : goal.returns-in-Some-clause-answers
 returns-in-Some-clause-answers g c = λ none. c.in-Some.ensures.answers
+
+pub returns-in-Some-clause-checks : goal.returns-in-Some-clause-checks
+returns-in-Some-clause-checks g c = λ none. c.in-Some.ensures.checks
 
 pub returns-in-Some-clause-served : goal.returns-in-Some-clause-served
 returns-in-Some-clause-served g c = λ options e.
@@ -20,6 +26,9 @@ returns-in-Some-clause-network_fault g c = λ e. absurd (c.in-Some.ensures.no_ne
 
 pub returns-in-None-clause-answers : goal.returns-in-None-clause-answers
 returns-in-None-clause-answers g c = λ none. none_named _ _ c.in-None.ensures.serve none
+
+pub returns-in-None-clause-checks : goal.returns-in-None-clause-checks
+returns-in-None-clause-checks g c = λ none. none_named _ _ c.in-None.ensures.serve none
 
 pub returns-in-None-clause-borne_out : goal.returns-in-None-clause-borne_out
 returns-in-None-clause-borne_out g c =
@@ -63,3 +72,25 @@ returns-in-None-clause-left_alone g c = left_alone _ _ _ _ (c.offline.ensures.na
 pub returns-in-None-clause-net_unfailed : goal.returns-in-None-clause-net_unfailed
 returns-in-None-clause-net_unfailed g c = λ h5 h10.
     let t = c.tell.ensures.told in c.serve-end.ensures.listens.unfailed (not_listener _ c.serve-end.result t.0 _ _ _ _ t.1 t.2 h5 h10)
+
+-- ---- what was handed on
+
+pub returns-in-Some-clause-told : goal.returns-in-Some-clause-told
+returns-in-Some-clause-told g c = λ options e. none_told _ (g.N.Net.meaning c.args.net.now) _ _ c.requires.fresh.none
+
+pub returns-in-None-clause-told : goal.returns-in-None-clause-told
+returns-in-None-clause-told g c = λ options e.
+    told_from _ (g.N.Net.meaning c.serve-end.new.net) _ _ _ (ap g.K.Sink.written (c.offline.ensures.out_alone c.in-None.ensures.serve)) (c.serve-end.ensures.told options e)
+
+pub returns-in-None-clause-began : goal.returns-in-None-clause-began
+returns-in-None-clause-began g c = λ options s left named told text well. inr (ap g.W.World.meaning (c.offline.ensures.native_alone c.in-None.ensures.serve))
+
+pub returns-in-None-clause-handed : goal.returns-in-None-clause-handed
+returns-in-None-clause-handed g c =
+    let t = c.tell.ensures.told in
+    let same = c.offline.ensures.out_alone c.in-None.ensures.serve in
+    hands_from (ap g.K.Sink.written same) (ap g.K.Sink.handed same) (told_hands _ (Verdict.Served c.serve-end.result) t.0 _ _ _ _ _ _ _ _ t.1 t.2 (serving_hands c.serve-end.result _ _ _ _ c.serve-end.ensures.handed))
+
+pub returns-in-None-clause-err_handed : goal.returns-in-None-clause-err_handed
+returns-in-None-clause-err_handed g c = λ h5 e.
+    let same = c.in-None.ensures.err_alone in c.tell.ensures.handed h5 (ap g.E.Sink.handed same ∙ e ∙ sym (ap g.E.Sink.written same))

@@ -1,12 +1,14 @@
 use Rattle.std.proofs.Common.{refl}
+use Rattle.gv_top.proofs.Checking.{check_is_no_storm, check_is_no_text, text_is_no_check}
 use Rattle.gv_top.proofs.Deciding.{no_command, usage_decided}
 use Rattle.gv_top.proofs.Tops.{connection_reads, connection_writes, left_alone}
+use Rattle.gv_top.proofs.Handing.{command_began, connection_hands, none_began}
 use Rattle.gv_top.proofs.InWorlds.{text_ran}
 use Rattle.gv_top.proofs.Storms.{text_is_no_storm}
 use Rattle.gv_top.proofs.top.answer_command.Goals as goal
 
 pub returns-in-None-clause-answer : goal.returns-in-None-clause-answer
-returns-in-None-clause-answer g c = λ left told. usage_decided _ _ _ _ _ c.in-None.is
+returns-in-None-clause-answer g c = λ left a told of. usage_decided _ _ _ left a _ c.in-None.is of
 
 pub returns-in-None-clause-read_whole : goal.returns-in-None-clause-read_whole
 returns-in-None-clause-read_whole g c = λ text runs left told h4 h7. no_command _ _ _ c.in-None.is runs
@@ -32,3 +34,37 @@ returns-in-Some-Wsgi-clause-reads g c = connection_reads c.answer_through.result
 
 pub returns-in-Some-Wsgi-clause-writes : goal.returns-in-Some-Wsgi-clause-writes
 returns-in-Some-Wsgi-clause-writes g c = connection_writes c.answer_through.result _ _ c.answer_through.ensures.writes
+
+pub returns-in-None-clause-began : goal.returns-in-None-clause-began
+returns-in-None-clause-began g c = λ text e left told. none_began _ _ _ _ _ _ _
+
+pub returns-in-Some-Text-clause-began : goal.returns-in-Some-Text-clause-began
+returns-in-Some-Text-clause-began g c = λ text e left told.
+    command_began _ c.in-Some-Text.command text _ _ _ _ _ _ (rw e at c.in-Some-Text.field-0-is) (c.answer_input.ensures.began left told)
+
+pub returns-in-Some-Wsgi-clause-began : goal.returns-in-Some-Wsgi-clause-began
+returns-in-Some-Wsgi-clause-began g c = λ text e left told. none_began _ _ _ _ _ _ _
+
+pub returns-in-Some-Storm-clause-began : goal.returns-in-Some-Storm-clause-began
+returns-in-Some-Storm-clause-began g c = λ text e left told. none_began _ _ _ _ _ _ _
+
+pub returns-in-Some-Wsgi-clause-hands : goal.returns-in-Some-Wsgi-clause-hands
+returns-in-Some-Wsgi-clause-hands g c = connection_hands c.answer_through.result _ _ _ _ c.answer_through.ensures.handed
+
+pub returns-in-Some-Verify-clause-left_alone : goal.returns-in-Some-Verify-clause-left_alone
+returns-in-Some-Verify-clause-left_alone g c = left_alone _ _ _ _ refl
+
+pub returns-in-Some-Verify-clause-began : goal.returns-in-Some-Verify-clause-began
+returns-in-Some-Verify-clause-began g c = λ text e left told. none_began _ _ _ _ _ _ _
+
+pub returns-in-None-clause-read_trace : goal.returns-in-None-clause-read_trace
+returns-in-None-clause-read_trace g c = λ check is left told h4 h7. no_command _ _ _ c.in-None.is is
+
+pub returns-in-Some-Text-clause-read_trace : goal.returns-in-Some-Text-clause-read_trace
+returns-in-Some-Text-clause-read_trace g c = λ check is left told h4 h7. absurd (check_is_no_text check c.in-Some-Text.command (rw is at c.in-Some-Text.field-0-is))
+
+pub returns-in-Some-Storm-clause-read_trace : goal.returns-in-Some-Storm-clause-read_trace
+returns-in-Some-Storm-clause-read_trace g c = λ check is left told h4 h7. absurd (check_is_no_storm check c.in-Some-Storm.size (rw is at c.in-Some-Storm.field-0-is))
+
+pub returns-in-Some-Verify-clause-read_whole : goal.returns-in-Some-Verify-clause-read_whole
+returns-in-Some-Verify-clause-read_whole g c = λ text runs left told h4 h7. absurd (text_is_no_check text c.in-Some-Verify.check (rw runs at c.in-Some-Verify.field-0-is))

@@ -6,6 +6,7 @@ use Rattle.gv_top.specs.declared.status.Verdict.{Verdict}
 use Rattle.gv_top.specs.Running.{run_of}
 use Rattle.gv_top.specs.Words.{is_native_text}
 use Rattle.gv_top.proofs.Deciding.{decided_of_this, run_decided}
+use Rattle.gv_top.proofs.Handing.{scenario_began}
 use Rattle.gv_top.proofs.InWorlds.{format_runs_nothing, run_lawful, scenario_ran}
 use Rattle.gv_top.proofs.Tops.{run_counts}
 use Rattle.gv_top.proofs.top.answer_scenario.Goals as goal
@@ -41,3 +42,9 @@ returns-in-Format-clause-lawful g c = λ options e. format_runs_nothing c.args.c
 
 pub returns-in-Run-clause-writes : goal.returns-in-Run-clause-writes
 returns-in-Run-clause-writes g c = run_counts c.run_scenario.result _ _ c.run_scenario.ensures.counts
+
+pub returns-in-Run-clause-began : goal.returns-in-Run-clause-began
+returns-in-Run-clause-began g c = scenario_began _ c.args.command c.in-Run.options c.args.checked _ _ _ _ _ c.in-Run.is c.run_scenario.ensures.began
+
+pub returns-in-Format-clause-began : goal.returns-in-Format-clause-began
+returns-in-Format-clause-began g c = λ options e. format_runs_nothing c.args.command options _ c.in-Format.is e

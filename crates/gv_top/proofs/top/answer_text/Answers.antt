@@ -1,5 +1,6 @@
 use Rattle.std.proofs.Common.{arith, refl}
 use Rattle.gv_top.proofs.Deciding.{judged_decided, refusal_decided, refusal_explained, refusal_number}
+use Rattle.gv_top.proofs.Handing.{none_began, text_began}
 use Rattle.gv_top.proofs.InWorlds.{judged_ran, refused_runs_nothing}
 use Rattle.gv_top.proofs.ReadTexts.{none_judged}
 use Rattle.gv_top.proofs.Tops.{nothing_lawful, uncounted}
@@ -37,3 +38,9 @@ returns-in-Ok-clause-refused g c = λ e. absurd (c.answer_scenario.ensures.unref
 
 pub returns-in-Ok-clause-unspelt : goal.returns-in-Ok-clause-unspelt
 returns-in-Ok-clause-unspelt g c = λ none. absurd (none_judged c.args.bytes.now none _ c.in-Ok.ensures.judged)
+
+pub returns-in-Err-clause-began : goal.returns-in-Err-clause-began
+returns-in-Err-clause-began g c = none_began _ _ _ _ _ _ _
+
+pub returns-in-Ok-clause-began : goal.returns-in-Ok-clause-began
+returns-in-Ok-clause-began g c = text_began _ c.args.command c.args.bytes.now _ _ _ _ _ _ c.in-Ok.ensures.judged c.answer_scenario.ensures.began

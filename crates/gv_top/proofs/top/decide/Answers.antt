@@ -1,6 +1,7 @@
 use Rattle.std.proofs.Common.{ap, map, option_and_then, refl, string_bytes, sym, ◌∙◌}
 use Rattle.gv_top.specs.Words.{built, is_native, reads_input, serving}
 use Rattle.gv_top.proofs.Deciding.{nothing_exchanged}
+use Rattle.gv_top.proofs.Handing.{none_began}
 use Rattle.gv_top.proofs.Built.{in_range}
 use Rattle.gv_top.proofs.Servings.{is_some, none_named}
 use Rattle.gv_top.proofs.Tops.{came_as, left_alone, nothing_lawful, out_of_memory_at_once}
@@ -31,6 +32,9 @@ returns-in-None-clause-came_to g c =
     let d = c.answer_command.ensures in
     came_as (c.without_a_net-command.ensures ∙ ap (option_and_then built) c.in-Ok.ensures) (record {
       answer = d.answer;
+      checked = d.checked;
+      untold = d.untold;
+      read_trace = λ check is h4 h7 left told. d.read_trace check is left told h4 h7;
       usage = d.usage;
       reads = d.reads;
       writes = d.writes;
@@ -67,3 +71,9 @@ returns-in-None-clause-native_alone g c = λ named. none_named _ _ named (ap (op
 
 pub returns-in-None-clause-untouched_input : goal.returns-in-None-clause-untouched_input
 returns-in-None-clause-untouched_input g c = λ h. c.answer_command.ensures.untouched_input (ap reads_input (c.without_a_net-command.ensures ∙ ap (option_and_then built) c.in-Ok.ensures) ∙ h)
+
+pub returns-in_default-clause-began : goal.returns-in_default-clause-began
+returns-in_default-clause-began g c = λ text e left told. none_began _ _ _ _ _ _ _
+
+pub returns-in-None-clause-began : goal.returns-in-None-clause-began
+returns-in-None-clause-began g c = λ text e. c.answer_command.ensures.began text (c.without_a_net-command.ensures ∙ ap (option_and_then built) c.in-Ok.ensures ∙ e)

@@ -1,7 +1,8 @@
 use Rattle.std.proofs.Common.{refl, arith}
 use Rattle.command_words.specs.declared.command.TextCommand.{TextCommand}
 use Rattle.gv_top.proofs.ReadTexts.{answered_as, answered_so, answers_run, refuses_the_rest, spelt_is_judged}
-use Rattle.gv_top.proofs.Tops.{answers_connection, ended, fails_to_write, fault_line, is_answered, lawful_told, left_alone_told, prints_nothing, ran_so, read_unfailed, reads_whole, status_is, unfailed, usage_status}
+use Rattle.gv_top.proofs.Tops.{answers_check, answers_connection, ended, fails_to_write, fault_line, is_answered, lawful_told, left_alone_told, prints_nothing, ran_so, read_unfailed, reads_whole, status_is, unfailed, usage_status}
+use Rattle.gv_top.proofs.Handing.{told_hands}
 use Rattle.gv_top.proofs.InWorlds.{quiet_blocks}
 use Rattle.gv_top.proofs.Servings.{names_no_server, no_memory_status, no_network_fault}
 use Rattle.gv_top.proofs.Storms.{answers_storm}
@@ -14,7 +15,7 @@ returns-in-Some-clause-answers g c =
     record {
       trace = λ options s left runs told text well.
           answers_run _ _ _ _ _ _
-          (answered_so _ _ _ (TextCommand.Run options) _ _ left _ _ _ _ runs (answered_as (TextCommand.Run options) _ s _ text well) (is_answered h left told));
+          (answered_so _ _ _ (TextCommand.Run options) _ _ left _ _ _ _ runs (answered_as (TextCommand.Run options) _ s _ text well) (λ b of. is_answered h left b told of));
       begun = λ options s left runs told text well. (ran_so (TextCommand.Run options) h runs left told s (spelt_is_judged s _ text well) options refl).begun;
       lawful = λ options runs. lawful_told _ c.in-Some.verdict t.0 _ _ _ _ _ _ t.1 t.2 (c.in-Some.ensures.lawful options runs);
       quiet = λ options s left runs told text well. quiet_blocks c.blocks_are_told.ensures c.blocks_are_quiet.ensures options _ s well;
@@ -23,19 +24,24 @@ returns-in-Some-clause-answers g c =
       held = λ options workers s left runs native told text well h4 h5 h7.
           (ran_so (TextCommand.Run options) h runs left told s (spelt_is_judged s _ text well) options refl).held workers native h4 h5 h7;
       formatted = λ s left formats told text well.
-          answered_so _ _ _ TextCommand.Format _ _ left _ _ _ _ formats (answered_as TextCommand.Format _ s _ text well) (is_answered h left told);
+          answered_so _ _ _ TextCommand.Format _ _ left _ _ _ _ formats (answered_as TextCommand.Format _ s _ text well) (λ b of. is_answered h left b told of);
       refused = λ command left wanted told none.
           let r = refuses_the_rest command _ _ none in
-          (r.0, r.1, answered_so _ _ _ command _ _ left _ _ _ _ wanted r.2 (is_answered h left told));
+          (r.0, r.1, answered_so _ _ _ command _ _ left _ _ _ _ wanted r.2 (λ b of. is_answered h left b told of));
       connection = λ gateway named. answers_connection _ _ t.0 gateway _ _ _ _ _ _ _ _ _ t.1 t.2 (c.in-Some.ensures.connection gateway named);
       storm = λ size named. answers_storm size h named;
-      answer = λ left told. is_answered h left told;
+      answer = λ left a told of. is_answered h left a told of;
       ended = h;
       unread = λ command wanted e. h.came_to.unread command wanted (status_is 4 h e (λ z. omega arith));
       unprinted = λ formats h0 h5. prints_nothing h formats h0 h5;
       usage_always = λ none. usage_status _ _ t.0 _ _ _ _ t.1 t.2 (c.in-Some.ensures.no_command none);
       read_whole = λ command wanted h4 h5 h7 left told. reads_whole command h wanted h4 h5 h7 left told;
     }
+
+pub returns-in-Some-clause-checks : goal.returns-in-Some-clause-checks
+returns-in-Some-clause-checks g c =
+    let t = c.tell.ensures.told in
+    answers_check (ended _ c.in-Some.verdict t.0 _ _ _ _ _ _ _ _ _ _ _ _ _ _ _ _ c.in-Some.ensures.came_to t.1 t.2)
 
 pub returns-in-Some-clause-borne_out : goal.returns-in-Some-clause-borne_out
 returns-in-Some-clause-borne_out g c =
@@ -63,3 +69,10 @@ returns-in-Some-clause-no_net g c = let t = c.tell.ensures.told in no_network_fa
 
 pub returns-in-Some-clause-left_alone : goal.returns-in-Some-clause-left_alone
 returns-in-Some-clause-left_alone g c = let t = c.tell.ensures.told in left_alone_told _ _ t.0 _ _ _ _ _ _ _ t.1 t.2 c.in-Some.ensures.left_alone
+
+pub returns-in-Some-clause-began : goal.returns-in-Some-clause-began
+returns-in-Some-clause-began g c = λ options s left named told text well.
+    c.in-Some.ensures.began (TextCommand.Run options) named left told options s refl (spelt_is_judged s _ text well)
+
+pub returns-in-Some-clause-handed : goal.returns-in-Some-clause-handed
+returns-in-Some-clause-handed g c = let t = c.tell.ensures.told in told_hands _ c.in-Some.verdict t.0 _ _ _ _ _ _ _ _ t.1 t.2 c.in-Some.ensures.hands

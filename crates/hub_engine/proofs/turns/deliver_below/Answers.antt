@@ -1,6 +1,5 @@
-use Rattle.std.proofs.Common.{rules, ◌≡◌, ◌∙◌, None, refl, arith}
-use Rattle.machine.specs.Run.{least_below}
-use Rattle.hub_engine.proofs.Delivering.{broke_off, found_numbered, none_delivered, none_left, went_on, went_over}
+use Rattle.std.proofs.Common.{rules, ◌∙◌, refl, arith}
+use Rattle.hub_engine.proofs.Delivering.{broke_off, is_below, none_below, none_delivered, none_left, went_on, went_over}
 use Rattle.hub_engine.proofs.Passing.{passing}
 use Rattle.hub_engine.proofs.Tying.{tied_after}
 use Rattle.hub_engine.proofs.turns.deliver_below.Goals as goal
@@ -10,29 +9,28 @@ loop-left-init g c = (passing _ _, refl, c.requires.tied)
 
 pub deliver_one-requires : goal.deliver_one-requires
 deliver_one-requires g c = record {
-  there = c.in-Some.ensures.within;
-  numbered = found_numbered c.args.mark c.in-Some.at c.loop-left.hub.items c.in-Some.ensures.least;
+  there = is_below c.args.mark c.loop-left.hub.items _ c.has_below.ensures c.if-not-has_below.false;
   tied = c.loop-left.invariant.2;
 }
 
-pub returns-in_default-clause-given : goal.returns-in_default-clause-given
-returns-in_default-clause-given g c =
-    let none : least_below c.args.mark c.loop-left.hub.items ≡ None = search rules in
+pub returns-then-not-has_below-clause-given : goal.returns-then-not-has_below-clause-given
+returns-then-not-has_below-clause-given g c =
+    let none = none_below c.args.mark c.loop-left.hub.items _ c.has_below.ensures c.if-not-has_below.true in
     (none_delivered _ _ _ c.loop-left.left c.args.budget c.args.mark c.loop-left.hub c.loop-left-test.true c.loop-left.invariant.0 none).given
 
-pub returns-in_default-clause-next : goal.returns-in_default-clause-next
-returns-in_default-clause-next g c =
-    let none : least_below c.args.mark c.loop-left.hub.items ≡ None = search rules in
+pub returns-then-not-has_below-clause-next : goal.returns-then-not-has_below-clause-next
+returns-then-not-has_below-clause-next g c =
+    let none = none_below c.args.mark c.loop-left.hub.items _ c.has_below.ensures c.if-not-has_below.true in
     (none_delivered _ _ _ c.loop-left.left c.args.budget c.args.mark c.loop-left.hub c.loop-left-test.true c.loop-left.invariant.0 none).next
 
 pub returns-in_err-deliver_one-clause-given : goal.returns-in_err-deliver_one-clause-given
 returns-in_err-deliver_one-clause-given g c =
-    let broken = broke_off _ _ _ _ c.loop-left.left c.args.budget c.args.mark c.in-Some.at c.loop-left.hub c.loop-left-test.true c.loop-left.invariant.0 c.in-Some.ensures.within c.in-Some.ensures.least c.in_err-deliver_one.ensures.given in
+    let broken = broke_off _ _ _ _ c.loop-left.left c.args.budget c.args.mark c.loop-left.hub c.loop-left-test.true c.loop-left.invariant.0 (is_below c.args.mark c.loop-left.hub.items _ c.has_below.ensures c.if-not-has_below.false) c.in_err-deliver_one.ensures.given in
     search (rules, broken)
 
 pub loop-left-preserved : goal.loop-left-preserved
 loop-left-preserved g c = (
-  went_on _ _ _ _ c.loop-left.left c.args.budget c.args.mark c.in-Some.at _ c.loop-left.hub _ c.loop-left-test.true c.loop-left.invariant.0 c.in-Some.ensures.within c.in-Some.ensures.least c.in-ToRest.is
+  went_on _ _ _ _ c.loop-left.left c.args.budget c.args.mark _ c.loop-left.hub _ c.loop-left-test.true c.loop-left.invariant.0 (is_below c.args.mark c.loop-left.hub.items _ c.has_below.ensures c.if-not-has_below.false) c.in-ToRest.is
       c.in_ok-deliver_one.ensures.next c.in_ok-deliver_one.ensures.given,
   c.in_ok-deliver_one.ensures.counts.tells ∙ c.loop-left.invariant.1,
   tied_after _ _ c.deliver_one.new.hub c.in-ToRest.is c.in_ok-deliver_one.ensures.tied,
@@ -40,12 +38,12 @@ loop-left-preserved g c = (
 
 pub returns-in-ToAnEnd-clause-given : goal.returns-in-ToAnEnd-clause-given
 returns-in-ToAnEnd-clause-given g c =
-    (went_over _ _ _ _ c.loop-left.left c.args.budget c.args.mark c.in-Some.at _ _ c.loop-left.hub c.deliver_one.new.hub c.loop-left-test.true c.loop-left.invariant.0 c.in-Some.ensures.within c.in-Some.ensures.least c.in-ToAnEnd.is
+    (went_over _ _ _ _ c.loop-left.left c.args.budget c.args.mark _ _ c.loop-left.hub c.deliver_one.new.hub c.loop-left-test.true c.loop-left.invariant.0 (is_below c.args.mark c.loop-left.hub.items _ c.has_below.ensures c.if-not-has_below.false) c.in-ToAnEnd.is
     c.in_ok-deliver_one.ensures.next c.in_ok-deliver_one.ensures.given).given
 
 pub returns-in-ToAnEnd-clause-next : goal.returns-in-ToAnEnd-clause-next
 returns-in-ToAnEnd-clause-next g c =
-    (went_over _ _ _ _ c.loop-left.left c.args.budget c.args.mark c.in-Some.at _ _ c.loop-left.hub c.deliver_one.new.hub c.loop-left-test.true c.loop-left.invariant.0 c.in-Some.ensures.within c.in-Some.ensures.least c.in-ToAnEnd.is
+    (went_over _ _ _ _ c.loop-left.left c.args.budget c.args.mark _ _ c.loop-left.hub c.deliver_one.new.hub c.loop-left-test.true c.loop-left.invariant.0 (is_below c.args.mark c.loop-left.hub.items _ c.has_below.ensures c.if-not-has_below.false) c.in-ToAnEnd.is
     c.in_ok-deliver_one.ensures.next c.in_ok-deliver_one.ensures.given).next
 
 pub returns-clause-given : goal.returns-clause-given

@@ -9,10 +9,10 @@ use Rattle.hub_engine.proofs.turns.deliver_one.Goals as goal
 pub returns-in_err-next-clause-given : goal.returns-in_err-next-clause-given
 returns-in_err-next-clause-given g c = λ i e.
     let p = runs_on c.args.budget c.args.hub.now (deliver i c.args.hub.now) in
-    let broken = part_nothing (outside (g.K.Sink.written c.args.sink.now) (g.W.World.meaning c.args.world.now) (g.W.World.stands_for c.args.world.now)) p.lines p.posts in
+    let broken = part_nothing (outside g.W.World.waits (g.K.Sink.written c.args.sink.now) (g.K.Sink.handed c.args.sink.now) (g.W.World.meaning c.args.world.now) (g.W.World.stands_for c.args.world.now)) p.lines p.posts in
     search (rules, broken)
 
 pub run_greenlet-requires : goal.run_greenlet-requires
 run_greenlet-requires g c = record {
-  tied = tied_delivered _ c.args.at c.args.hub.now c.deliver_item.new.hub c.in_ok-next.next c.requires.there c.requires.tied c.in_ok-next.ensures.delivered c.in_ok-next.ensures.ready;
+  tied = tied_delivered _ c.args.mark c.args.hub.now c.deliver_item.new.hub c.in_ok-next.next c.requires.there c.requires.tied c.in_ok-next.ensures.delivered c.in_ok-next.ensures.ready;
 }

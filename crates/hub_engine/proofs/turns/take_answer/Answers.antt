@@ -1,6 +1,7 @@
 use Rattle.std.proofs.Common.{rules, refl}
 use Rattle.machine.specs.Questions.{take_answer}
 use Rattle.hub_engine.specs.declared.stand.Stand.{Stand}
+use Rattle.gv_io.proofs.StreamLaws.{Extends-nothing}
 use Rattle.hub_engine.specs.Outside.{outside}
 use Rattle.hub_engine.proofs.Giving.{done_nothing, none_done}
 use Rattle.hub_engine.proofs.Running.{answered_broken, answered_on, asked_refused}
@@ -13,14 +14,14 @@ ask-requires g c = record { runs = c.requires.tied.runs; asks = may_be_asked _ c
 
 pub returns-in_err-answer-clause-ran : goal.returns-in_err-answer-clause-ran
 returns-in_err-answer-clause-ran g c = λ go.
-    let broken = asked_refused (outside (g.K.Sink.written c.args.sink.now) (g.W.World.meaning c.args.world.now) (g.W.World.stands_for c.args.world.now)) (outside (g.K.Sink.written c.args.sink.now) (g.W.World.meaning c.ask.new.self) (g.W.World.stands_for c.ask.new.self)) go c.args.question c.args.hub.now refl c.in_err-answer.ensures.refused (λ l. (c.in_err-answer.ensures.refused_log l).0) in
+    let broken = asked_refused (outside g.W.World.waits (g.K.Sink.written c.args.sink.now) (g.K.Sink.handed c.args.sink.now) (g.W.World.meaning c.args.world.now) (g.W.World.stands_for c.args.world.now)) (outside g.W.World.waits (g.K.Sink.written c.args.sink.now) (g.K.Sink.handed c.args.sink.now) (g.W.World.meaning c.ask.new.self) (g.W.World.stands_for c.ask.new.self)) go c.args.question c.args.hub.now refl refl c.in_err-answer.ensures.refused (λ l. (c.in_err-answer.ensures.refused_log l).0) in
     search (rules, broken)
 
 pub returns-in_err-take-clause-ran : goal.returns-in_err-take-clause-ran
 returns-in_err-take-clause-ran g c = λ go.
-    let after = outside (g.K.Sink.written c.args.sink.now) (g.W.World.meaning c.ask.new.self) (g.W.World.stands_for c.ask.new.self) in
-    let broken = answered_broken (outside (g.K.Sink.written c.args.sink.now) (g.W.World.meaning c.args.world.now) (g.W.World.stands_for c.args.world.now)) after after go c.args.question c.in_ok-answer.answer c.args.hub.now (take_answer c.in_ok-answer.answer c.args.hub.now) refl
-    c.in_ok-answer.ensures.legal c.in_ok-answer.ensures.stored c.in_ok-answer.ensures.log refl (tried-nothing _ _) (done_nothing after) in
+    let after = outside g.W.World.waits (g.K.Sink.written c.args.sink.now) (g.K.Sink.handed c.args.sink.now) (g.W.World.meaning c.ask.new.self) (g.W.World.stands_for c.ask.new.self) in
+    let broken = answered_broken (outside g.W.World.waits (g.K.Sink.written c.args.sink.now) (g.K.Sink.handed c.args.sink.now) (g.W.World.meaning c.args.world.now) (g.W.World.stands_for c.args.world.now)) after after go c.args.question c.in_ok-answer.answer c.args.hub.now (take_answer c.in_ok-answer.answer c.args.hub.now) refl refl c.requires.out
+    c.in_ok-answer.ensures.legal c.in_ok-answer.ensures.stored c.in_ok-answer.ensures.log refl (tried-nothing _ _) (Extends-nothing _) (done_nothing after) in
     search (rules, broken)
 
 pub give_out-requires : goal.give_out-requires
@@ -31,18 +32,18 @@ give_out-requires g c =
 pub returns-in_err-give_out-clause-ran : goal.returns-in_err-give_out-clause-ran
 returns-in_err-give_out-clause-ran g c = λ go.
     let none = posts_taken _ c.in_ok-answer.answer c.args.hub.now c.take.new.self c.requires.tied c.in_ok-take.ensures in
-    let broken = answered_broken (outside (g.K.Sink.written c.args.sink.now) (g.W.World.meaning c.args.world.now) (g.W.World.stands_for c.args.world.now)) (outside (g.K.Sink.written c.args.sink.now) (g.W.World.meaning c.ask.new.self) (g.W.World.stands_for c.ask.new.self)) (outside (g.K.Sink.written c.give_out.new.sink) (g.W.World.meaning c.give_out.new.world) (g.W.World.stands_for c.give_out.new.world)) go c.args.question c.in_ok-answer.answer c.args.hub.now c.take.new.self refl
-    c.in_ok-answer.ensures.legal c.in_ok-answer.ensures.stored c.in_ok-answer.ensures.log c.in_ok-take.ensures c.in_err-give_out.ensures.given.text
-    (none_done (outside (g.K.Sink.written c.args.sink.now) (g.W.World.meaning c.ask.new.self) (g.W.World.stands_for c.ask.new.self)) (outside (g.K.Sink.written c.give_out.new.sink) (g.W.World.meaning c.give_out.new.world) (g.W.World.stands_for c.give_out.new.world)) _ _ none c.in_err-give_out.ensures.given) in
+    let broken = answered_broken (outside g.W.World.waits (g.K.Sink.written c.args.sink.now) (g.K.Sink.handed c.args.sink.now) (g.W.World.meaning c.args.world.now) (g.W.World.stands_for c.args.world.now)) (outside g.W.World.waits (g.K.Sink.written c.args.sink.now) (g.K.Sink.handed c.args.sink.now) (g.W.World.meaning c.ask.new.self) (g.W.World.stands_for c.ask.new.self)) (outside g.W.World.waits (g.K.Sink.written c.give_out.new.sink) (g.K.Sink.handed c.give_out.new.sink) (g.W.World.meaning c.give_out.new.world) (g.W.World.stands_for c.give_out.new.world)) go c.args.question c.in_ok-answer.answer c.args.hub.now c.take.new.self refl refl c.requires.out
+    c.in_ok-answer.ensures.legal c.in_ok-answer.ensures.stored c.in_ok-answer.ensures.log c.in_ok-take.ensures c.in_err-give_out.ensures.given.text c.in_err-give_out.ensures.given.out
+    (none_done (outside g.W.World.waits (g.K.Sink.written c.args.sink.now) (g.K.Sink.handed c.args.sink.now) (g.W.World.meaning c.ask.new.self) (g.W.World.stands_for c.ask.new.self)) (outside g.W.World.waits (g.K.Sink.written c.give_out.new.sink) (g.K.Sink.handed c.give_out.new.sink) (g.W.World.meaning c.give_out.new.world) (g.W.World.stands_for c.give_out.new.world)) _ _ none c.in_err-give_out.ensures.given) in
     search (rules, broken)
 
 pub returns-clause-ran : goal.returns-clause-ran
 returns-clause-ran g c = λ go.
     let none = posts_taken _ c.in_ok-answer.answer c.args.hub.now c.take.new.self c.requires.tied c.in_ok-take.ensures in
-    answered_on (outside (g.K.Sink.written c.args.sink.now) (g.W.World.meaning c.args.world.now) (g.W.World.stands_for c.args.world.now)) (outside (g.K.Sink.written c.args.sink.now) (g.W.World.meaning c.ask.new.self) (g.W.World.stands_for c.ask.new.self)) (outside (g.K.Sink.written c.give_out.new.sink) (g.W.World.meaning c.give_out.new.world) (g.W.World.stands_for c.give_out.new.world)) go c.args.question c.in_ok-answer.answer c.args.hub.now c.take.new.self c.give_out.new.hub refl
+    answered_on (outside g.W.World.waits (g.K.Sink.written c.args.sink.now) (g.K.Sink.handed c.args.sink.now) (g.W.World.meaning c.args.world.now) (g.W.World.stands_for c.args.world.now)) (outside g.W.World.waits (g.K.Sink.written c.args.sink.now) (g.K.Sink.handed c.args.sink.now) (g.W.World.meaning c.ask.new.self) (g.W.World.stands_for c.ask.new.self)) (outside g.W.World.waits (g.K.Sink.written c.give_out.new.sink) (g.K.Sink.handed c.give_out.new.sink) (g.W.World.meaning c.give_out.new.world) (g.W.World.stands_for c.give_out.new.world)) go c.args.question c.in_ok-answer.answer c.args.hub.now c.take.new.self c.give_out.new.hub refl refl c.requires.out
     c.in_ok-answer.ensures.legal c.in_ok-answer.ensures.stored c.in_ok-answer.ensures.log c.in_ok-take.ensures none c.in_ok-give_out.ensures.given c.in_ok-give_out.ensures.silent
 
 pub returns-clause-tied : goal.returns-clause-tied
 returns-clause-tied g c =
     let tied = tied_answered _ _ c.args.question c.in_ok-answer.answer c.args.hub.now c.take.new.self c.requires.tied c.in_ok-answer.ensures.legal c.in_ok-answer.ensures.stored c.in_ok-take.ensures in
-    tied_at_rest (outside (g.K.Sink.written c.args.sink.now) (g.W.World.meaning c.ask.new.self) (g.W.World.stands_for c.ask.new.self)) (outside (g.K.Sink.written c.give_out.new.sink) (g.W.World.meaning c.give_out.new.world) (g.W.World.stands_for c.give_out.new.world)) Stand.Resting c.take.new.self c.give_out.new.hub refl tied c.in_ok-give_out.ensures.given c.in_ok-give_out.ensures.silent
+    tied_at_rest (outside g.W.World.waits (g.K.Sink.written c.args.sink.now) (g.K.Sink.handed c.args.sink.now) (g.W.World.meaning c.ask.new.self) (g.W.World.stands_for c.ask.new.self)) (outside g.W.World.waits (g.K.Sink.written c.give_out.new.sink) (g.K.Sink.handed c.give_out.new.sink) (g.W.World.meaning c.give_out.new.world) (g.W.World.stands_for c.give_out.new.world)) Stand.Resting c.take.new.self c.give_out.new.hub refl tied c.in_ok-give_out.ensures.given c.in_ok-give_out.ensures.silent

@@ -13,6 +13,7 @@ loop-spawner-preserved g c =
     first_off c.loop-spawner.tasks.items c.remove.new.self.items c.remove.result some c.remove.ensures.value c.remove.ensures.items in
     let rises = told.count in let count = was.count in record {
       starts = search rules;
+      counted = search rules;
       started_fits = search rules;
       cells = told_more g.S.Spawner.running_cell g.S.Spawner.refused_cell starts more start (λ task. (worker_view task.pass).cell) c.loop-spawner.tasks.items c.remove.new.self.items c.remove.result _
           pushed taken told.running told.refused was.cells;

@@ -1,10 +1,10 @@
 use Rattle.std.proofs.Common.{◌≡◌, ℕ, Result, Err, ap, inl, inr, refl, subst, ◌∙◌}
 use Rattle.gv_io.specs.Streams.{appended, AppendsPrefix}
-use Rattle.gv_io.proofs.StreamLaws.{AppendsPrefix-nothing}
+use Rattle.gv_io.proofs.StreamLaws.{AppendsPrefix-nothing, Extends-nothing}
 use Rattle.serve_command.specs.declared.lines.Unwritten.{Unwritten}
 use Rattle.serve_command.specs.declared.serving.Served.{Served}
 use Rattle.serve_command.specs.Served.{listening, served}
-use Rattle.serve_command.proofs.Ends.{all_served, closed_rest, listener_unfinished, listener_no_line, memory_no_line, memory_unfinished, none_served, some_served}
+use Rattle.serve_command.proofs.Ends.{all_served, closed_rest, listener_unfinished, listener_no_line, memory_no_line, memory_unfinished, no_other_end, none_served, none_told, some_served, told_first}
 use Rattle.serve_command.proofs.serving.serve_command.Goals as goal
 
 is_memory : (refusal : Unwritten) → refusal ≡ Unwritten.Memory → ◌≡◌ {A = Result (Unit {0}) Unwritten} (Err refusal) (Err Unwritten.Memory)
@@ -58,3 +58,47 @@ returns-in-Err-write_line-clause-serves g c =
     (λ other. ap g.K.Sink.written (c.in-Err-write_line.ensures.unwritten (is_memory c.in-Err-write_line.refusal (c.unwritten-in-Err-write_line.ensures.memory other))))
     (λ _. closed_rest (g.N.Net.meaning c.serve_with.new.net).connections (c.in-Finished.ensures.finished refl).closed) (λ _. inr (c.in-Finished.ensures.finished refl))
     (subst (λ (n : ℕ). AppendsPrefix out1 out2 (served n)) c.from-2.ensures c.in-Err-write_line.ensures.cut)
+
+pub returns-in_default-clause-told : goal.returns-in_default-clause-told
+returns-in_default-clause-told g c = none_told c.args.port (g.N.Net.meaning c.listen.new.self) _ _ (c.listen.ensures.same ∙ c.requires.fresh.none)
+
+pub returns-in-Err-clause-told : goal.returns-in-Err-clause-told
+returns-in-Err-clause-told g c = none_told c.args.port (g.N.Net.meaning c.listen.new.self) _ _ (c.listen.ensures.same ∙ c.requires.fresh.none)
+
+pub returns-in-Listener-clause-told : goal.returns-in-Listener-clause-told
+returns-in-Listener-clause-told g c =
+    told_first c.args.port c.in-Ok.port (g.N.Net.meaning c.serve_with.new.net) (g.K.Sink.written c.args.out.now) _ _ _
+    (c.in_default-write_line.ensures.whole ∙ ap (λ (n : ℕ). appended (g.K.Sink.written c.args.out.now) (listening n)) c.from.ensures) c.in_default-write_line.ensures.handed (Extends-nothing _) (c.in-Listener.ensures.listens ∙ c.in-Ok.ensures.listens)
+
+pub returns-in-Memory-clause-told : goal.returns-in-Memory-clause-told
+returns-in-Memory-clause-told g c =
+    told_first c.args.port c.in-Ok.port (g.N.Net.meaning c.serve_with.new.net) (g.K.Sink.written c.args.out.now) _ _ _
+    (c.in_default-write_line.ensures.whole ∙ ap (λ (n : ℕ). appended (g.K.Sink.written c.args.out.now) (listening n)) c.from.ensures) c.in_default-write_line.ensures.handed (Extends-nothing _) (c.in-Memory.ensures.listens ∙ c.in-Ok.ensures.listens)
+
+pub returns-in-Ok-write_line-clause-told : goal.returns-in-Ok-write_line-clause-told
+returns-in-Ok-write_line-clause-told g c =
+    told_first c.args.port c.in-Ok.port (g.N.Net.meaning c.serve_with.new.net) (g.K.Sink.written c.args.out.now) _ _ _
+    (c.in_default-write_line.ensures.whole ∙ ap (λ (n : ℕ). appended (g.K.Sink.written c.args.out.now) (listening n)) c.from.ensures) c.in_default-write_line.ensures.handed c.write_line-2.ensures.never_taken_back (c.in-Finished.ensures.listens ∙ c.in-Ok.ensures.listens)
+
+pub returns-in-Err-write_line-clause-told : goal.returns-in-Err-write_line-clause-told
+returns-in-Err-write_line-clause-told g c =
+    told_first c.args.port c.in-Ok.port (g.N.Net.meaning c.serve_with.new.net) (g.K.Sink.written c.args.out.now) _ _ _
+    (c.in_default-write_line.ensures.whole ∙ ap (λ (n : ℕ). appended (g.K.Sink.written c.args.out.now) (listening n)) c.from.ensures) c.in_default-write_line.ensures.handed c.write_line-2.ensures.never_taken_back (c.in-Finished.ensures.listens ∙ c.in-Ok.ensures.listens)
+
+pub returns-in-Err-clause-handed : goal.returns-in-Err-clause-handed
+returns-in-Err-clause-handed g c = λ _ w m. no_other_end c.unwritten.result _ c.unwritten.ensures.unfinished c.unwritten.ensures.not_listener w m
+
+pub returns-in-Err-write_line-clause-handed : goal.returns-in-Err-write_line-clause-handed
+returns-in-Err-write_line-clause-handed g c = λ _ w m. no_other_end c.unwritten-in-Err-write_line.result _ c.unwritten-in-Err-write_line.ensures.unfinished c.unwritten-in-Err-write_line.ensures.not_listener w m
+
+pub returns-in_default-clause-handed : goal.returns-in_default-clause-handed
+returns-in_default-clause-handed g c = λ e w m. e
+
+pub returns-in-Listener-clause-handed : goal.returns-in-Listener-clause-handed
+returns-in-Listener-clause-handed g c = λ e w m. c.in_default-write_line.ensures.handed
+
+pub returns-in-Memory-clause-handed : goal.returns-in-Memory-clause-handed
+returns-in-Memory-clause-handed g c = λ e w m. absurd (m refl)
+
+pub returns-in-Ok-write_line-clause-handed : goal.returns-in-Ok-write_line-clause-handed
+returns-in-Ok-write_line-clause-handed g c = λ e w m. c.in-Ok-write_line.ensures.handed

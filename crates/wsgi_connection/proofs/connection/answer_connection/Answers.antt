@@ -1,11 +1,12 @@
 use Rattle.std.proofs.Common.{◌<◌, ◌∙◌, refl, arith}
 use Rattle.wsgi_connection.specs.Connections.{most_bytes}
-use Rattle.wsgi_connection.proofs.Exchanges.{begins, too_long, whole_of}
+use Rattle.wsgi_connection.proofs.Exchanges.{begins, same_end, too_long, whole_of}
 use Rattle.wsgi_connection.proofs.connection.answer_connection.Goals as goal
 
 pub loop-count-init : goal.loop-count-init
 loop-count-init g c = record {
   goes = begins _ _ _ c.args.port _ _ _ (c.is_silent_at_first.ensures _ c.args.port) (c.begin-session.ensures (g.A.Application.answer_of c.args.app.now));
+  handed = λ e. e;
   most = omega arith;
   input_faults = refl;
   out_faults = refl;
@@ -14,6 +15,7 @@ loop-count-init g c = record {
 pub loop-count-preserved : goal.loop-count-preserved
 loop-count-preserved g c = record {
   goes = c.in-Answered.ensures.leaves c.args.port _ _ c.loop-count.invariant.goes;
+  handed = λ e. c.in-Answered.ensures.handed (c.loop-count.invariant.handed e) (λ f. cc f) (λ f. cc f);
   most = c.in-Answered.ensures.counts.1;
   input_faults = c.in-Answered.ensures.unfailed_reads (λ e. cc e) ∙ c.loop-count.invariant.input_faults;
   out_faults = c.in-Answered.ensures.unfailed_writes (λ e. cc e) ∙ c.loop-count.invariant.out_faults;
@@ -30,3 +32,10 @@ returns-clause-whole g c = λ left told.
 
 pub returns-in-Ended-clause-exchanged : goal.returns-in-Ended-clause-exchanged
 returns-in-Ended-clause-exchanged g c = c.in-Ended.ensures.leaves c.args.port _ _ c.loop-count.invariant.goes
+
+pub returns-in-Ended-clause-handed : goal.returns-in-Ended-clause-handed
+returns-in-Ended-clause-handed g c = λ e w m.
+    c.in-Ended.ensures.handed (c.loop-count.invariant.handed e) (λ z. w (same_end _ _ z)) (λ z. m (same_end _ _ z))
+
+pub returns-clause-handed : goal.returns-clause-handed
+returns-clause-handed g c = λ e w m. c.loop-count.invariant.handed e

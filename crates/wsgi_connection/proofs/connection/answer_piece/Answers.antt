@@ -37,3 +37,6 @@ returns-clause-sent g c = λ port fed out0 h told.
     (λ is_at. let all = g.T.Talk.says app port (fed ++ c.args.piece.now) false (said g.T.Talk.answers app port fed) c.feed-fed.new.self (is_at port fed (said g.T.Talk.answers app port fed) h) in
     where_ok c.send-sent.result _ _ c.send-sent.ensures.sent (sym c.is_err.ensures.value ∙ c.if-is_err.false)
     (λ sent. sends out0 _ _ (said g.T.Talk.answers app port fed) (g.T.Talk.due c.feed-fed.new.self) _ told sent all))
+
+pub returns-clause-handed : goal.returns-clause-handed
+returns-clause-handed g c = where_ok c.send-sent.result _ _ c.send-sent.ensures.handed (sym c.is_err.ensures.value ∙ c.if-is_err.false) (λ e. e)

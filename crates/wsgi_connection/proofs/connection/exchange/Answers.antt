@@ -1,7 +1,7 @@
 use Rattle.std.proofs.Common.{◌+◌, ◌≤◌, ℕ, Ok, false, ap, take, arith}
 use Rattle.std.proofs.lemmas.Grind.{common_steps}
 use Rattle.wsgi_connection.specs.Connections.{most_bytes}
-use Rattle.wsgi_connection.proofs.Exchanges.{read_failed, input_ended, piece_cut, piece_answered, piece_last, looked_at_more, is_closing, is_serving}
+use Rattle.wsgi_connection.proofs.Exchanges.{cut_only, read_failed, input_ended, piece_cut, piece_answered, piece_last, looked_at_more, is_closing, is_serving, was_closed}
 use Rattle.wsgi_connection.proofs.connection.exchange.Goals as goal
 
 pub returns-in_default-clause-leaves : goal.returns-in_default-clause-leaves
@@ -35,3 +35,18 @@ returns-in-Closing-clause-leaves g c = λ port in0 out0 h.
     piece_last _ _ _ port c.args.count c.in-Ok.came c.read.new.buf _ in0 _ _ out0 _ _ _ h c.in-Ok.ensures.count c.in-Ok.ensures.next fits more
     (c.in-Ok-answer_piece.ensures.sent port (take most_bytes h.read) out0 h.at_rest h.served.sent)
     (is_closing _ (c.in-Closing.ensures.at _ port _ false _ rest))
+
+pub returns-in_default-clause-handed : goal.returns-in_default-clause-handed
+returns-in_default-clause-handed g c = λ e w m. e
+
+pub returns-then-came-eq0-clause-handed : goal.returns-then-came-eq0-clause-handed
+returns-then-came-eq0-clause-handed g c = λ e w m. c.end_input.ensures.handed (was_closed c.end_input.result c.end_input.ensures.ended w)
+
+pub returns-in-Err-clause-handed : goal.returns-in-Err-clause-handed
+returns-in-Err-clause-handed g c = λ e w m. cut_only c.in-Err.end _ _ _ _ _ _ _ _ c.in-Err.ensures.broke w m
+
+pub returns-in-Serving-clause-handed : goal.returns-in-Serving-clause-handed
+returns-in-Serving-clause-handed g c = λ e w m. c.in-Ok-answer_piece.ensures.handed
+
+pub returns-in-Closing-clause-handed : goal.returns-in-Closing-clause-handed
+returns-in-Closing-clause-handed g c = λ e w m. c.in-Ok-answer_piece.ensures.handed

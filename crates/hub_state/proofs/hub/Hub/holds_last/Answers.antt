@@ -1,10 +1,13 @@
-use Rattle.std.proofs.Common.{ap, ◌∙◌}
-use Rattle.machine.specs.Holds.{wait_holds}
+use Rattle.std.proofs.Common.{ap, subst, ◌∙◌, length}
+use Rattle.machine.specs.Holds.{earlier, wait_holds}
 use Rattle.machine.specs.State.{State}
+use Rattle.hub_items.specs.Lines.{IsAhead}
 use Rattle.hub_state.proofs.hub.Hub.holds_last.Goals as goal
 
 pub returns : goal.returns
 returns c =
-    c.wait_holds.ensures c.deref.result.now (c.earlier_ahead-before.ensures _)
-    ∙ ap (λ items. wait_holds (record c.args.self.now { items = items }) c.self.inside.next_since c.args.waiting.now) (c.deref.ensures.value ∙ ap (λ (s : State). s.items) c.self.view_is)
-    ∙ ap (λ (s : State). wait_holds c.args.self.now s.next_since c.args.waiting.now) c.self.view_is
+    let s = c.args.self.now in
+    let n = c.next_since-since.result in
+    let ahead = subst (λ (t : State). IsAhead c.earlier_ahead-before.result (length s.objects) (λ test. earlier test n t.items) c.args.waiting.now) c.self.view_is (c.earlier_ahead-before.ensures (length s.objects)) in
+    c.wait_holds.ensures s.items s.next_ready s.next_since ahead
+    ∙ ap (λ m. wait_holds s m c.args.waiting.now) (c.next_since-since.ensures ∙ ap (λ (t : State). t.next_since) c.self.view_is)

@@ -10,6 +10,7 @@ invariant_of-self c = let d = c.args.self.now in let swept = c.sweep.ensures.swe
     let same = ap length swept.cells in let few = d.cells in let room = d.room in let kept = c.sweep.ensures.capacity in record {
       same_board = c.sweep.ensures.board ∙ d.same_board;
       cells = omega arith;
+      few = d.few;
       room = omega arith;
       used = λ i h. d.used i (after_sent (hub_view d.pass).cells (hub_view c.sweep.new.hub).seen i (ap (λ l. is_sent (get_or l i Vacant)) (sym swept.cells) ∙ h));
     }

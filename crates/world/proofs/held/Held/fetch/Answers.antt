@@ -6,6 +6,7 @@ use Rattle.world_rules.specs.Legal.{is_posted}
 use Rattle.world.specs.Kept.{script_meaning}
 use Rattle.world.specs.declared.script.ScriptWorld.{ScriptWorld}
 use Rattle.world.proofs.Tying.{owed_to, placed_there, takes_less, tied_after_take}
+use Rattle.std.proofs.Math.Logic.{∥∥₁_map}
 use Rattle.world.proofs.held.Held.fetch.Goals as goal
 
 pub take_result-requires-clause-owed : goal.take_result-requires-clause-owed
@@ -29,3 +30,6 @@ invariant_of-self-clause-tied g c = let h = c.loop-outcome.self in let same = c.
 pub loop-outcome-smaller : goal.loop-outcome-smaller
 loop-outcome-smaller g c = let h = c.loop-outcome.self in
     takes_less (g.W.World.meaning h.inner.now) (g.W.World.meaning c.take_result.new.inner) (get nat_eq h.places) (get nat_eq c.take_result.new.places) c.in_ok-take_result-in-Some-None.ensures.took
+
+pub invariant_of-self-clause-logged : goal.invariant_of-self-clause-logged
+invariant_of-self-clause-logged g c = λ some_. ∥∥₁_map (c.loop-outcome.self.logged some_) c.take_result.ensures.logged

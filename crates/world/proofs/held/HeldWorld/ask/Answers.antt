@@ -1,4 +1,4 @@
-use Rattle.std.proofs.Common.{ℕ, [], ◌∷◌, ◌++◌, refl, sym, ap, subst, ◌∙◌}
+use Rattle.std.proofs.Common.{ℕ, ◌<◌, [], ◌∷◌, ◌++◌, refl, sym, ap, subst, ◌∙◌}
 use Rattle.std.specs.Prelude.{nat_eq}
 use Rattle.std.specs.HashMap.{get}
 use Rattle.world_rules.specs.declared.question.LogEntry.{LogEntry}
@@ -41,3 +41,6 @@ returns-clause-log g c = λ log h.
     let gives = c.in_ok-answer.ensures.scripted ∙ ap (λ (t : ℕ). scripted t (due_jobs s) s.moment c.args.question) (sym before.no_tick) in
     subst (λ (z : ℕ × RuleState). Follows z.0 (start []) (log ++ LogEntry.Asked c.args.question answer ∷ []) z.1) (λ i. (sym tick i, sym state i))
     (Follows-asked log s.tick (start []) (rule_state s []) c.args.question answer [] h (gives, refl))
+
+pub invariant_of-self-2-clause-logged : goal.invariant_of-self-2-clause-logged
+invariant_of-self-2-clause-logged g c = λ some_. c.answer_to.new.self.logged (subst (λ n. 0 < n) c.in_ok-store.ensures.setting.workers some_)

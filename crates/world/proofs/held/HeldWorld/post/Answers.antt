@@ -6,6 +6,7 @@ use Rattle.world_rules.specs.Script.{RuleState, start, Follows}
 use Rattle.world_rules.proofs.Logs.{Follows-post}
 use Rattle.world.specs.Kept.{rule_state}
 use Rattle.world.proofs.Tying.{tied_after_post}
+use Rattle.std.proofs.Math.Logic.{∥∥₁_map}
 use Rattle.world.proofs.held.HeldWorld.post.Goals as goal
 
 pub invariant_of-self-2-clause-tied : goal.invariant_of-self-2-clause-tied
@@ -28,3 +29,6 @@ pub returns-clause-log : goal.returns-clause-log
 returns-clause-log g c = λ log h. let s = c.args.self.now.script in let state = c.in_ok-add_beside.ensures.state [] in let tick = c.in_ok-add_beside.ensures.setting.tick in
     subst (λ (z : ℕ × RuleState). Follows z.0 (start []) (log ++ LogEntry.Post c.args.number c.args.job c.args.takes ∷ []) z.1) (λ i. (sym tick i, sym state i))
     (Follows-post log s.tick (start []) (rule_state s []) c.args.number c.args.job c.args.takes h)
+
+pub invariant_of-self-2-clause-logged : goal.invariant_of-self-2-clause-logged
+invariant_of-self-2-clause-logged g c = λ some_. let h = c.args.self.now in ∥∥₁_map (h.logged (h.tied.begun c.requires.runs)) c.add_beside.ensures.logged_there

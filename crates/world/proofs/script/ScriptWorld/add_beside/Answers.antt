@@ -11,6 +11,8 @@ use Rattle.world.specs.Ruled.{IsSound}
 use Rattle.world.specs.Outstanding.{still_due, ArePosted}
 use Rattle.world.proofs.Sound.{sound_post}
 use Rattle.world.proofs.Finding.{due_more, more_posted, same_due}
+use Rattle.world.proofs.LegalLogs.{logged_post}
+use Rattle.world.proofs.Ranking.{at_ok}
 use Rattle.world.proofs.script.ScriptWorld.add_beside.Goals as goal
 
 pub returns-in_err-add-clause-refused : goal.returns-in_err-add-clause-refused
@@ -45,3 +47,8 @@ returns-clause-state g c = λ listed. let w = c.args.self.now in
     let jobs = ap (still_due g) posts ∙ (due_more f g job w.posts.items c.in_ok-add.ensures.added c.requires.new
     ∙ ap (λ due. due_jobs w ++ due_job c.args.number c.args.job due ∷ []) c.due_at-due.ensures) in
     λ i. record { listed = listed; posts = posts i; answers = w.answers.items; jobs = jobs i; moment = w.moment }
+
+pub returns-clause-logged_there : goal.returns-clause-logged_there
+returns-clause-logged_there g c = λ h.
+    logged_post (g.W.World.meaning c.args.other.now) (g.W.World.meaning c.post.new.self) (g.W.World.stands_for c.args.other.now) (g.W.World.stands_for c.post.new.self)
+    c.args.number c.args.job h (at_ok c.post.result c.if-is_err.ensures.value c.post.ensures.posted) (at_ok c.post.result c.if-is_err.ensures.value c.post.ensures.log)

@@ -1,0 +1,16 @@
+//! The items of the hub, each in a slot: found by slot, by greenlet, by ready number and by deadline, with no walk over
+//! all of them.
+#![tactic(auto)]
+
+mod classes;
+mod drops;
+mod held;
+mod indexes;
+mod lines;
+mod moments;
+mod next;
+mod numbers;
+mod owners;
+mod shelf;
+
+pub use held::HeldItems;

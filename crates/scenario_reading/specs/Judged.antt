@@ -1,0 +1,24 @@
+-- What comes of the bytes of a text: its well-formed scenario, or the place where it is refused.
+use Rattle.std.specs.Prelude.{◌≤◌, ℕ, List, Some, None, Ok, Err, Result}
+use Rattle.scenario_tree.specs.declared.tree.Scenario.{Scenario}
+use Rattle.scenario_grammar.specs.declared.place.Place.{Place}
+use Rattle.scenario_grammar.specs.Parsed.{reading}
+use Rattle.scenario_rules.specs.Rules.{place_of}
+use Rattle.scenario_lang.specs.declared.text.ParseRefusal.{ParseRefusal}
+use Rattle.scenario_lang.specs.declared.text.ParseRefusal.TheVariants as parse
+
+-- a scenario, unless it breaks a rule, or the first place where it does
+abbrev pub checked : Scenario → Result Scenario Place
+checked s = elim (place_of s) [ None ↦ Ok s | Some place ↦ Err place ]
+
+-- the well-formed scenario that the bytes spell, or the place where they are refused
+abbrev pub judged : List ℕ → Result Scenario Place
+judged bytes = elim (reading bytes) [ Ok s ↦ checked s | Err place ↦ Err place ]
+
+-- the place has one of the reasons, which are numbered from 1 to 22
+abbrev pub HasReason : Place → Type 0
+HasReason place = (1 ≤ place.reason) × (place.reason ≤ 22)
+
+abbrev pub IsRefusedWithReason : ParseRefusal → Type 0
+IsRefusedWithReason (parse.Refused place) = HasReason place
+IsRefusedWithReason parse.Memory = Unit {0}

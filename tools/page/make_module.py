@@ -1,0 +1,162 @@
+#!/usr/bin/env python3
+"""Makes the page's WebAssembly module of the proved static library gvr_page: make_module.py MODULE.wasm
+
+The kit's back ends for wasm64 refuse what takes memory from a Global. So the LLVM module that the kit makes of the
+library for x86-64 is taken where the kit hands it to its clang; it is given the data layout and the triple of wasm64,
+and is compiled by the same clang, with the flags that the kit has for that target. The kit's linker links it with
+heap.c. A module stands beside others under the checksum of what it is made from, and is not made again."""
+import hashlib
+import os
+import pathlib
+import re
+import shutil
+import subprocess
+import sys
+import tempfile
+import time
+
+HERE = pathlib.Path(__file__).resolve().parent
+TOP = HERE.parent.parent
+KIT = pathlib.Path(os.path.realpath(shutil.which("rt") or sys.exit("make_module: there is no rt"))).parent.parent
+CLANG = KIT / "toolchain/bin/clang"
+NAME = "gvr_page"
+CRATE = TOP / "crates" / NAME
+TRIPLE = "wasm64-unknown-unknown"
+LAYOUT = "e-m:e-p:64:64-p10:8:8-p20:8:8-i64:64-i128:128-n32:64-S128-ni:1:10:20"
+# As the kit calls clang for this target.
+FLAGS = f"""--target={TRIPLE} -mcpu=lime1 -mllvm -expand-div-rem-bits=64 -mllvm -expand-fp-convert-bits=64
+    -ffunction-sections -fdata-sections -mllvm -trap-unreachable -mllvm -no-x86-call-frame-opt
+    -mllvm -disable-machine-licm -mllvm -disable-postra-machine-licm -mllvm -sink-common-insts=false
+    --no-default-config -no-canonical-prefixes -fintegrated-cc1 -fno-crash-diagnostics -Werror -c -O3""".split()
+FLAGS_OF_C = f"--target={TRIPLE} -mcpu=lime1 -ffreestanding -nostdinc -O2 -Wall -Werror -c".split()
+X86 = ' "probe-stack"="inline-asm" "stack-probe-size"="3072" "target-cpu"="x86-64-v2"'
+STACK = "8388608"
+# What the module may name of its surroundings: the heap, and what LLVM knows itself.
+DECLARED = re.compile(
+    r"rattle_(alloc|realloc|dealloc)|llvm\.(memset|memmove|memcpy|cttz|ctlz|ctpop|bswap|trap|arithmetic\.fence"
+    r"|[su](add|sub|mul)\.with\.overflow)\b.*"
+)
+
+
+def stop(why):
+    sys.exit(f"make_module: {why}")
+
+
+def call(*words):
+    if subprocess.run([str(it) for it in words], check=False).returncode:
+        stop(f"{words[0]} failed")
+
+
+def crates():
+    """What each crate of crates.txt uses."""
+    found = {}
+    for line in (TOP / "crates.txt").read_text().splitlines():
+        head, _, used = line.partition("#")[0].partition(":")
+        if head.strip():
+            found[head.split()[0]] = used.split()
+    return found
+
+
+def below(name, uses, seen):
+    """The crates below one, in any depth."""
+    for it in uses[name]:
+        if it in uses and it not in seen:
+            seen.append(it)
+            below(it, uses, seen)
+    return seen
+
+
+def checksum(uses):
+    """The checksum of what the module is made from: the sources of its crates, the heap, this script, the kit."""
+    of = hashlib.sha256(subprocess.run(["rt", "version"], capture_output=True, check=True).stdout)
+    sources = [it for crate in [NAME, *below(NAME, uses, [])] for it in (TOP / "crates" / crate / "src").rglob("*.rt")]
+    for file in [*sorted(sources), HERE / "heap.c", HERE / "make_module.py", TOP / "crates.txt"]:
+        of.update(f"{file.relative_to(TOP)}\0".encode() + hashlib.sha256(file.read_bytes()).digest())
+    return of.hexdigest()[:16]
+
+
+def wrapped_clang(room, to):
+    """A folder of tools for the kit, whose clang keeps the module, and makes an empty object in place of its own."""
+    (room / "tools/bin").mkdir(parents=True)
+    (room / "tools/lib").symlink_to(KIT / "toolchain/lib")
+    for it in ("llvm-ar", "ld.lld"):
+        (room / "tools/bin" / it).symlink_to(KIT / "toolchain/bin" / it)
+    clang = room / "tools/bin/clang"
+    clang.write_text(
+        f"""#!/bin/sh
+for word in "$@"; do case "$word" in *.bc) cp "$word" "{to}"; found=1;; esac; done
+[ -n "$found" ] || exec "{CLANG}" "$@"
+while [ $# -gt 0 ]; do [ "$1" = -o ] && out=$2; shift; done
+echo | exec "{CLANG}" -x c -c - -o "$out"
+"""
+    )
+    clang.chmod(0o755)
+    return room / "tools"
+
+
+def take_module(room, uses):
+    """The LLVM module that the kit makes of the library. It makes one of a proved crate alone."""
+    to = room / "page.bc"
+    words = [KIT / "bin/rattle", "build", "--crate-name", NAME, "src/lib.rt"]
+    for it in ["core", "std", *uses[NAME]]:
+        place = TOP / f"crates/{it}/out/rlib/{it}.rlib" if it in uses else KIT / f"rlibs/{it}.rlib"
+        words += ["--extern", f"{it}={place}"]
+    words += ["-L", f"dependency={KIT}/rlibs"]
+    for it in below(NAME, uses, []):
+        words += ["-L", f"dependency={TOP}/crates/{it}/out/rlib"]
+    words += ["--antt-project", KIT / "rattle/logic/antt-project.json", "--logic-built", KIT / "logic_built"]
+    words += ["--incremental", "out/incremental", "--jobs", "1", "--links", f"{NAME}=", "--crate-type", "staticlib"]
+    words += ["--toolchain", wrapped_clang(room, to), "--backend", "llvm", "-o", room / "library.a"]
+    given = {"cwd": CRATE, "stdout": subprocess.PIPE, "stderr": subprocess.STDOUT, "text": True}
+    ran = subprocess.run([str(it) for it in words], check=False, **given)
+    if ran.returncode or not to.exists():
+        stop(f"the kit built no library of {NAME}: {(ran.stdout.splitlines() or [''])[-1]}")
+    return to
+
+
+def for_wasm64(text):
+    """The module's text with the layout and the triple of wasm64; it is refused where it names what a page has not."""
+    beyond = [it for it in re.findall(r'^declare .*@"?([^"(]+)', text, re.M) if not DECLARED.fullmatch(it)]
+    # An empty line of assembler keeps loads and stores in their order, and is the same for each target.
+    lines = re.findall(r"^.* asm .*$", text, re.M)
+    beyond += [it for it in lines if 'asm sideeffect "", "~{memory}"()' not in it]
+    if beyond:
+        stop(f"the module names what a page has not: {beyond[:4]}")
+    for name, value in (("datalayout", LAYOUT), ("triple", TRIPLE)):
+        text, count = re.subn(f"^target {name} = .*$", f'target {name} = "{value}"', text, flags=re.M)
+        if count != 1:
+            stop(f"the module has {count} lines of its {name}")
+    if X86 not in text:
+        stop("the module's functions are not for the processor that the kit has")
+    return text.replace(X86, ' "target-cpu"="lime1"')
+
+
+def make(to, uses):
+    with tempfile.TemporaryDirectory() as name:
+        room = pathlib.Path(name)
+        as_text = ["-S", "-emit-llvm", "-Xclang", "-disable-llvm-passes"]
+        module = take_module(room, uses)
+        call(CLANG, "-Wno-override-module", "-x", "ir", module, *as_text, "-o", room / "page.ll")
+        (room / "page64.ll").write_text(for_wasm64((room / "page.ll").read_text()))
+        call(CLANG, *FLAGS, "-x", "ir", room / "page64.ll", "-o", room / "page.o")
+        call(CLANG, *FLAGS_OF_C, HERE / "heap.c", "-o", room / "heap.o")
+        call(KIT / "toolchain/bin/llvm-ar", "rcs", room / "page.a", room / "page.o", room / "heap.o")
+        linker = [KIT / "bin/rattle-link", "--target", TRIPLE, "--toolchain", KIT / "toolchain", "--stack", STACK]
+        call(*linker, "-o", room / "page.wasm", room / "page.a")
+        shutil.move(room / "page.wasm", to)
+
+
+def main():
+    began, uses = time.time(), crates()
+    kept = CRATE / "out/modules"
+    kept.mkdir(parents=True, exist_ok=True)
+    module = kept / f"{checksum(uses)}.wasm"
+    if not module.exists():
+        for old in kept.glob("*.wasm"):
+            old.unlink()
+        make(module, uses)
+        print(f"make_module: {module.stat().st_size} bytes after {time.time() - began:.0f} s", file=sys.stderr)
+    shutil.copyfile(module, sys.argv[1])
+
+
+main()
