@@ -7,7 +7,8 @@ use gv_io::{
     Failed, MemorySink, MemorySource, ReadRefusal, Sink, Source, StdSink, StdSource, read_limited,
 };
 use std::alloc::{AllocError, Global};
-use std::io::Cursor;
+use std::io;
+use std::io::{Cursor, ErrorKind, Read};
 use std::test::Fail;
 
 fn source(alloc: Global, failing: &[u64]) -> Result<MemorySource, AllocError>
@@ -67,6 +68,40 @@ fn source_passes_on(alloc: Global) -> Result<bool, Fail> {
     let text: &[u8] = b"start g0 main";
     let bytes = read_limited(alloc, &mut StdSource::new(Cursor::new(text)), 100)?;
     Ok(bytes.as_slice() == text)
+}
+
+/// A reader of a text, three bytes at a time, that is interrupted at each second call.
+#[derive(Drop)]
+struct Interrupted<'a> {
+    left: &'a [u8],
+    is_second: bool,
+}
+
+impl Read for Interrupted<'_> {
+    fn read(&mut self, buf: &mut [u8]) -> io::Result<usize> {
+        self.is_second = !self.is_second;
+        if self.is_second {
+            return Err(ErrorKind::Interrupted.into());
+        }
+        let count = self.left.len().min(buf.len()).min(3);
+        let (piece, left) = self.left.split_at(count);
+        buf[..count].copy_from_slice(piece);
+        self.left = left;
+        Ok(count)
+    }
+}
+
+#[test]
+fn an_interrupted_read_is_tried_again(rt: HostRuntime) -> Result<(), Fail> {
+    let text: &[u8] = b"start g0 main";
+    let reader = Interrupted {
+        left: text,
+        is_second: false,
+    };
+    let mut from = StdSource::new(reader);
+    let bytes = read_limited(rt.alloc(), &mut from, 100)?;
+    assert!(rt; bytes.as_slice() == text);
+    Ok(())
 }
 
 /// Whether a sink over std that keeps back four bytes passes five on, and fails for good at the sixth.

@@ -1,8 +1,27 @@
+ghost use Rattle.std.specs.Prelude.{◌≤◌, IfSome, length};
+
 use crate::count::one_more;
 use crate::source::{Failed, Source};
-use std::io::Read;
+use std::io::{ErrorKind, Read};
 
-/// A source over a reader of the standard library. It tells no bytes.
+/// Reads, and reads again for as long as a signal interrupts it (POSIX, `read`, EINTR). None where the read failed.
+fn read_again<R: Read>(reader: &mut R, buf: &mut [u8]) -> Option<usize>
+    ensures { IfSome result (λ count. count ≤ length buf.new) }
+{
+    for _ in 0..u64::MAX {
+        match reader.read(buf) {
+            Ok(count) => return Some(count),
+            Err(error) => {
+                if error.kind() != ErrorKind::Interrupted {
+                    return None;
+                }
+            }
+        }
+    }
+    None
+}
+
+/// A source over a reader of the standard library. It tells no bytes. A read that a signal interrupts is tried again.
 #[derive(Debug, Drop)]
 pub struct StdSource<R> {
     reader: R,
@@ -25,9 +44,9 @@ impl<R: Read> Source for StdSource<R> {
 
     #[tactic(auto, using(crate::proofs::StreamLaws::untold))]
     fn read(&mut self, buf: &mut [u8]) -> Result<usize, Failed> {
-        match self.reader.read(buf) {
-            Ok(count) => Ok(count),
-            Err(_) => {
+        match read_again(&mut self.reader, buf) {
+            Some(count) => Ok(count),
+            None => {
                 self.faults = one_more(self.faults);
                 Err(Failed)
             }
