@@ -12,6 +12,7 @@ ghost use Rattle.held_items.specs.Held.{HasPlace, no_items, added, taken};
 use crate::indexes::Indexes;
 use crate::lines::Lines;
 use crate::shelf::Shelf;
+use crate::tallies::Tallies;
 use machine::items::{Delivery, Item};
 use std::alloc::{AllocError, Global};
 use std::marker::Model;
@@ -22,6 +23,7 @@ pub struct HeldItems {
     pub(crate) shelf: Shelf,
     pub(crate) indexes: Indexes,
     pub(crate) lines: Lines,
+    pub(crate) tallies: Tallies,
     pub(crate) next_since: u64,
 }
 
@@ -69,6 +71,7 @@ impl HeldItems {
             shelf: Shelf::new(alloc),
             indexes: Indexes::new(alloc),
             lines: Lines::new(alloc),
+            tallies: Tallies::new(alloc),
             next_since: 0,
         }
     }
@@ -84,6 +87,7 @@ impl HeldItems {
         ensures err { OnErr result (self.new ≡ self.old) }
     {
         let next = self.next_since.checked_add(1).ok_or(AllocError)?;
+        self.tallies.reserve(&delivery)?;
         let slot = make_room(
             &mut self.shelf,
             &mut self.indexes,
@@ -92,6 +96,7 @@ impl HeldItems {
         )?;
         self.indexes.enter(slot, &delivery);
         self.lines.enter(slot, self.next_since, &delivery);
+        self.tallies.enter(&delivery);
         self.shelf.push(Item {
             since: self.next_since,
             delivery,
@@ -111,6 +116,7 @@ impl HeldItems {
         let item = self.shelf.remove(slot);
         self.indexes.leave(slot, &item.delivery);
         self.lines.leave(slot, &item);
+        self.tallies.leave(&item);
         item
     }
 

@@ -1,5 +1,5 @@
-//! The items of the hub, each in a slot: found by slot, by greenlet, by ready number and by deadline, with no walk over
-//! all of them.
+//! The items of the hub, each in a slot: found by slot, by greenlet, by what they wait for, by ready number and by
+//! deadline, with no walk over all of them.
 #![tactic(auto)]
 
 mod classes;
@@ -12,5 +12,7 @@ mod next;
 mod numbers;
 mod owners;
 mod shelf;
+mod tallies;
+mod waits;
 
 pub use held::HeldItems;

@@ -21,7 +21,7 @@ impl HeldItems {
     }
 
     /// The slot of the greenlet's Wake.
-    fn wake_of(&self, g: u32) -> Option<u32>
+    pub fn wake_of(&self, g: u32) -> Option<u32>
         ensures { result ≡ first_of (index (is_wake_of g) self.now.entries) None }
     {
         self.indexes.first(place(Class::Wake, g))

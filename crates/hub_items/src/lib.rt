@@ -1,11 +1,8 @@
-//! What is said of the hub's items one by one: which of them go, in which line a wait stands, and how long the lines of
-//! waits are.
+//! What is said of the hub's items one by one: which of them go, in which line a wait stands, and which line it looks at.
 #![tactic(auto)]
 
 mod gone;
-mod lines;
 mod waits;
 
 pub use gone::Gone;
-pub use lines::LineLengths;
-pub use waits::{WaitKind, is_in_line, line_ahead};
+pub use waits::{WaitKind, line_ahead};

@@ -132,7 +132,7 @@ pub fn is_taken(object: Option<&Object>, since: u64) -> bool
 }
 
 /// Whether one of the offers is that of the wait with this since.
-fn has_offer_of(offers: &[Offer], since: u64) -> bool
+pub(crate) fn has_offer_of(offers: &[Offer], since: u64) -> bool
     ensures { result ≡ list_any (is_offer_of since) offers.now }
 {
     offers.iter().any(|offer| offer.since == since)

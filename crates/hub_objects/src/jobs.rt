@@ -44,7 +44,7 @@ impl Posted {
     }
 
     /// The native pool that it was posted to.
-    fn pool(&self) -> u32
+    pub fn pool(&self) -> u32
         ensures { result ≡ self.now.pool }
     {
         self.job.pool

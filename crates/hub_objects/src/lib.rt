@@ -21,5 +21,7 @@ pub use jobs::{Posted, any_outstanding, arrive_at, job_at};
 pub use objects::{Change, Objects};
 pub use offers::offer_of;
 pub use queues::{is_left, is_shut, item_of};
-pub use reads::{is_set_object, name_at, size_of_object, unfinished_of_object};
+pub use reads::{
+    has_member, has_offer_by, is_set_object, name_at, size_of_object, unfinished_of_object,
+};
 pub use releases::{Release, has_task, release_of};

@@ -1,5 +1,5 @@
 //! The objects in order of declaration, and what a step does to one of them.
-ghost use Rattle.std.specs.Prelude.{◌≡◌, ◌<◌, ◌≤◌, ◌+◌, ◌-◌, length, map, slice_get, slice_set, unwrap_or, OnOk, IfOk, Some};
+ghost use Rattle.std.specs.Prelude.{◌≡◌, ◌<◌, ◌≤◌, ◌+◌, ◌-◌, length, map, slice_get, slice_set, unwrap_or, OnOk, OnErr, IfOk, Some};
 ghost use Rattle.std.specs.Option.{option_copied};
 ghost use Rattle.machine.specs.Objects.{with_flag, no_object, with_unit_taken, with_owner, with_item, with_item_taken, with_shut, with_member, without_member, with_offer, with_offer_taken, without_offer, with_slot_taken, with_slot_freed};
 ghost use Rattle.machine.specs.Run.{object_of};
@@ -97,9 +97,14 @@ impl Objects {
         self.all.as_slice()
     }
 
-    /// What the step does to the object of this number. `AllocError`: memory is wanting, or a count would pass 2^63.
+    /// What the step does to the object of this number.
+    ///
+    /// # Errors
+    ///
+    /// Memory is wanting, or a count would pass 2^63; nothing has changed.
     pub fn change(&mut self, o: u32, change: Change) -> Result<(), AllocError>
-        ensures { OnOk result (self.new ≡ slice_set self.old o (changed change (unwrap_or (slice_get self.old o) no_object))) }
+        ensures changed { OnOk result (self.new ≡ slice_set self.old o (changed change (unwrap_or (slice_get self.old o) no_object))) }
+        ensures err { OnErr result (self.new ≡ self.old) }
     {
         change_at(&mut self.all, o, change)
     }
@@ -153,6 +158,7 @@ fn objects_of(alloc: Global, declarations: &[Declaration]) -> Result<Vec<Object>
 fn change_at(objects: &mut [Object], o: u32, change: Change) -> Result<(), AllocError>
     requires { AreCounted objects.old }
     ensures changed { OnOk result (objects.new ≡ slice_set objects.old o (changed change (unwrap_or (slice_get objects.old o) no_object))) }
+    ensures err { OnErr result (objects.new ≡ objects.old) }
     ensures counted { AreCounted objects.new }
 {
     if o as usize >= objects.len() {
@@ -165,6 +171,7 @@ fn change_at(objects: &mut [Object], o: u32, change: Change) -> Result<(), Alloc
 /// What the step does to the object.
 fn change_one(object: &mut Object, change: Change) -> Result<(), AllocError>
     ensures changed { OnOk result (object.new ≡ changed change object.old) }
+    ensures err { OnErr result (object.new ≡ object.old) }
     ensures counted { IsCounted object.old → IsCounted object.new }
 {
     match change {
@@ -212,6 +219,7 @@ fn change_one(object: &mut Object, change: Change) -> Result<(), AllocError>
 
 fn set_flag(object: &mut Object, flag: bool) -> Result<(), AllocError>
     ensures changed { OnOk result (object.new ≡ with_flag flag object.old) }
+    ensures err { OnErr result (object.new ≡ object.old) }
     ensures counted { IsCounted object.old → IsCounted object.new }
 {
     if let Object::Event(is_set, sets) = object {
@@ -232,6 +240,7 @@ fn put(object: &mut Object, outcome: Outcome)
 
 fn add_unit(object: &mut Object) -> Result<(), AllocError>
     ensures changed { OnOk result (object.new ≡ with_unit object.old) }
+    ensures err { OnErr result (object.new ≡ object.old) }
     ensures counted { IsCounted object.old → IsCounted object.new }
 {
     if let Object::Semaphore(counter, _) = object {
@@ -254,6 +263,7 @@ fn take_unit(object: &mut Object)
 
 fn own(object: &mut Object, g: u32) -> Result<(), AllocError>
     ensures changed { OnOk result (object.new ≡ with_owner g object.old) }
+    ensures err { OnErr result (object.new ≡ object.old) }
     ensures counted { IsCounted object.old → IsCounted object.new }
 {
     if let Object::Lock(owner, depth) = object {
@@ -275,6 +285,7 @@ fn disown(object: &mut Object, g: u32)
 
 fn add_item(object: &mut Object, value: Value) -> Result<(), AllocError>
     ensures changed { OnOk result (object.new ≡ with_item value object.old) }
+    ensures err { OnErr result (object.new ≡ object.old) }
     ensures counted { IsCounted object.old → IsCounted object.new }
 {
     if let Object::Queue(_, _, items, unfinished, _) = object {
@@ -320,6 +331,7 @@ fn shut(object: &mut Object, immediate: bool)
 
 fn add_member(object: &mut Object, g: u32) -> Result<(), AllocError>
     ensures changed { OnOk result (object.new ≡ with_member g object.old) }
+    ensures err { OnErr result (object.new ≡ object.old) }
     ensures counted { IsCounted object.old → IsCounted object.new }
 {
     if let Object::Crew(_, members) = object {
@@ -333,6 +345,7 @@ fn add_member(object: &mut Object, g: u32) -> Result<(), AllocError>
 
 fn take_slot(object: &mut Object) -> Result<(), AllocError>
     ensures changed { OnOk result (object.new ≡ with_slot_taken object.old) }
+    ensures err { OnErr result (object.new ≡ object.old) }
     ensures counted { IsCounted object.old → IsCounted object.new }
 {
     if let Object::Native(_, outstanding) = object {

@@ -1,5 +1,5 @@
 //! The offers of a channel: one comes, the oldest is taken, and one goes with its wait.
-ghost use Rattle.std.specs.Prelude.{◌≡◌, ◌<◌, length, map, filter, not, drop, remove, slice_get, Some, OnOk, IfOk};
+ghost use Rattle.std.specs.Prelude.{◌≡◌, ◌<◌, length, map, filter, not, drop, remove, slice_get, Some, OnOk, OnErr, IfOk};
 ghost use Rattle.machine.specs.declared.state.Offer.{Offer as AnyOffer};
 ghost use Rattle.machine.specs.Holds.{is_offer_of};
 ghost use Rattle.machine.specs.Objects.{with_offer, with_offer_taken, without_offer, offer_of};
@@ -13,6 +13,7 @@ use std::alloc::{AllocError, Global};
 /// A channel has one offer more, the newest, that of the Wake with this since.
 pub fn add_offer(object: &mut Object, value: Value, since: u64) -> Result<(), AllocError>
     ensures changed { OnOk result (object.new ≡ with_offer value since object.old) }
+    ensures err { OnErr result (object.new ≡ object.old) }
     ensures counted { IsCounted object.old → IsCounted object.new }
 {
     if let Object::Channel(offers) = object {

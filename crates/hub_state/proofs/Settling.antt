@@ -1,196 +1,180 @@
--- Items that are settled one after another.
-use Rattle.std.proofs.Common.{◌≡◌, refl, ap, sym, ◌∙◌, subst, ℕ, ◌+◌, ◌^◌, ◌<◌, ◌≤◌, Bool, true, false, List, [], ◌∷◌, ◌++◌, length, map, Option, Some, None, arith}
-use Rattle.std.proofs.lemmas.List.{append_assoc, map-append}
+-- Where those that were found lose and get their numbers, the state is settled.
+use Rattle.std.proofs.Common.{◌≡◌, refl, sym, ap, ◌∙◌, subst, ℕ, ◌+◌, ◌≤◌, Bool, true, false, cond, not, List, [], ◌∷◌, Option, Some, None, inl, inr, arith}
+use Rattle.std.proofs.lemmas.Bool.{and_parts, true≢false}
+use Rattle.std.proofs.lemmas.List.Elements.{All-from_recursion}
+use Rattle.std.proofs.lemmas.List.Sorted.{Contains-permutation, IsPermutation-map, IsPermutation-sym}
+use Rattle.std.specs.List.{All, Contains}
+use Rattle.std.specs.List.Sorted.{IsNonDecreasingBy, IsPermutation}
+use Rattle.std.specs.Prelude.{◌↔◌, IsTrue, filter, is_none, is_some, map}
 use Rattle.linked_items.specs.Items.{Differ}
-use Rattle.slot_chains.specs.Chained.{first_of}
 use Rattle.machine.specs.declared.items.Item.{Item}
-use Rattle.machine.specs.Settle.{settled, settled_ready, number_after, numbers_after}
-use Rattle.hub_items.specs.declared.lines.Lengths.{Lengths}
-use Rattle.hub_items.specs.Lines.{AreLengths, IsNext}
+use Rattle.machine.specs.Holds.{holds}
+use Rattle.machine.specs.Settle.{settle}
+use Rattle.machine.specs.Soundness.{ascend}
+use Rattle.machine.specs.State.{State}
+use Rattle.machine_settling.specs.Classes.{Class, is_of}
+use Rattle.machine_settling.specs.Locality.{AgreesOutside}
+use Rattle.machine_settling.specs.Numbers.{gives_all, loses_number, needs_number, since_of, takes_all}
+use Rattle.machine_settling.proofs.Members.{In, contains_of_in, in_of_Contains}
+use Rattle.machine_settling.proofs.Parts.{all_by, settle-touched}
 use Rattle.hub_items.specs.Sound.{AscendTo}
-use Rattle.hub_items.proofs.LineCounts.{next_behind}
-use Rattle.held_items.specs.Entries.{Entry, SeenItems, flat, item_in, slots_of, with_ready}
-use Rattle.held_items.specs.Held.{settled_at}
-use Rattle.held_items.proofs.Dropping.{behind}
-use Rattle.hub_state.proofs.Walks.{IsFirst, first_is, flat_there, item_there, left_is, length_flat, none_is, ready_there, slots_there}
+use Rattle.held_items.specs.Entries.{Entry, SeenItems, flat, item_in, slots_of}
+use Rattle.held_items.specs.Moments.{slots_in}
+use Rattle.held_items.proofs.Ordering.{same_item}
+use Rattle.hub_state.specs.Found.{AreFound, AreReady, HasFound, IsOf, LooksAt, Numbers, SeenFound, is_moment, none_found, sinces_in, touched_now}
+use Rattle.hub_state.specs.Over.{with_held}
+use Rattle.hub_state.specs.Touched.{IsKept, IsPast, SeenTouched, reopened, untouched}
+use Rattle.hub_state.proofs.Finding.{entry_there, in_flat, in_map, item_of_in, map_in, pair_of}
+use Rattle.hub_state.proofs.Joining.{looks_all}
+use Rattle.hub_state.proofs.Keeping.{hub_settled}
+use Rattle.hub_state.proofs.Sorting.{differ_moved, rising_sinces}
+use Rattle.hub_state.proofs.UpToDate.{ascending}
 
--- an item after it is settled
-abbrev pub settled_item : (Item → Bool) → ℕ → Item → Item
-settled_item holds next i = record i { ready = settled_ready (holds i) i.ready next }
+-- ---- items in order of making
 
-settled_push : (holds : Item → Bool) (first : ℕ) (front : List Item) (i : Item) →
-    settled (map holds (front ++ i ∷ [])) first (front ++ i ∷ []) ≡ settled (map holds front) first front ++ settled_item holds (numbers_after (map holds front) first front) i ∷ []
-settled_push holds first [] i = refl
-settled_push holds first (j ∷ front) i = ap (λ xs. settled_item holds first j ∷ xs) (settled_push holds (number_after (holds j) j.ready first) front i)
+since_least : (low next : ℕ) (es : List Entry) (e : Entry) → AscendTo low next (flat es) → In e es → low ≤ e.1.since
+since_least low next [] e a h = absurd h
+since_least low next (x ∷ es) e a (inl s) = subst (λ (y : Entry). low ≤ y.1.since) s a.above
+since_least low next (x ∷ es) e a (inr h) = let b = a.above in let c = since_least (x.1.since + 1) next es e a.rest h in omega (arith, b, c)
 
-numbers_push : (holds : Item → Bool) (first : ℕ) (front : List Item) (i : Item) →
-    numbers_after (map holds (front ++ i ∷ [])) first (front ++ i ∷ []) ≡ number_after (holds i) i.ready (numbers_after (map holds front) first front)
-numbers_push holds first [] i = refl
-numbers_push holds first (j ∷ front) i = numbers_push holds (number_after (holds j) j.ready first) front i
+-- entries of one since are one
+same_entry : (low next : ℕ) (es : List Entry) (a b : Entry) → AscendTo low next (flat es) → In a es → In b es → a.1.since ≡ b.1.since → a ≡ b
+same_entry low next [] a b asc h k s = absurd h
+same_entry low next (x ∷ es) a b asc (inl h) (inl k) s = sym h ∙ k
+same_entry low next (x ∷ es) a b asc (inl h) (inr k) s = absurd (let c = since_least (x.1.since + 1) next es b asc.rest k in let t : x.1.since ≡ a.1.since = ap (λ (y : Entry). y.1.since) h in omega (arith, c, t, s))
+same_entry low next (x ∷ es) a b asc (inr h) (inl k) s = absurd (let c = since_least (x.1.since + 1) next es a asc.rest h in let t : x.1.since ≡ b.1.since = ap (λ (y : Entry). y.1.since) k in omega (arith, c, t, s))
+same_entry low next (x ∷ es) a b asc (inr h) (inr k) s = same_entry (x.1.since + 1) next es a b asc.rest h k s
 
-few_more : (h : Bool) (ready : Option ℕ) (next : ℕ) → number_after h ready next ≤ next + 1
-few_more true None next = omega arith
-few_more true (Some n) next = omega arith
-few_more false ready next = omega arith
+in_kept : (q : Item → Bool) (items : List Item) (i : Item) → In i items → q i ≡ true → In i (filter q items)
+in_kept q [] i h t = absurd h
+in_kept q (j ∷ items) i (inl e) t = first (q j) (ap q e ∙ t)
+  where
+    first : (b : Bool) → b ≡ true → In i (cond b (j ∷ filter q items) (filter q items))
+    first true u = inl e
+    first false u = absurd (true≢false (sym u))
+in_kept q (j ∷ items) i (inr h) t = later (q j) (in_kept q items i h t)
+  where
+    later : (b : Bool) → In i (filter q items) → In i (cond b (j ∷ filter q items) (filter q items))
+    later true k = inr k
+    later false k = k
 
-length_both : (xs ys : List Entry) → length (xs ++ ys) ≡ length xs + length ys
-length_both [] ys = omega arith
-length_both (x ∷ xs) ys = let r = length_both xs ys in omega (arith, r)
+-- ---- what was found, by its sinces
 
--- the items before the one that the walk stands at are settled, and passed to the lengths of the lines, and the others
--- are as they were
-pub record IsSettling (holds : Item → Bool) (all now : SeenItems) (objects : ℕ) (lines : List Lengths) (at : Option ℕ) : Type 0 where
-  pub front : List Entry
-  pub done : List Entry
-  pub rest : List Entry
-  pub parts : all.entries ≡ front ++ rest
-  pub are : now.entries ≡ done ++ rest
-  pub here : at ≡ first_of (slots_of rest) None
-  pub slots : slots_of done ≡ slots_of front
-  pub items : flat done ≡ settled (map holds (flat front)) all.next (flat front)
-  pub next_is : now.next ≡ numbers_after (map holds (flat front)) all.next (flat front)
-  pub few : now.next ≤ all.next + length front
-  pub since : now.next_since ≡ all.next_since
-  pub lengths : AreLengths objects lines (flat front)
+module _ (classes : Class → Bool) (test : Item → Bool) (es : List Entry) (next : ℕ) (asc : AscendTo 0 next (flat es)) (differ : Differ (slots_of es)) (ps : List (ℕ × ℕ)) (a : AreFound (IsOf classes) test es ps) where
+  entry_of : (p : ℕ × ℕ) → (h : Contains ps p) → In (p.1, (a.sound p h).item) es
+  entry_of p h = entry_there p.1 es (a.sound p h).item (a.sound p h).there
 
-pub settling_none : (holds : Item → Bool) (all : SeenItems) (objects : ℕ) (lines : List Lengths) (at : Option ℕ) → at ≡ first_of (slots_of all.entries) None → AreLengths objects lines [] →
-    IsSettling holds all all objects lines at
-settling_none holds all objects lines at h a = record {
-  front = [];
-  done = [];
-  rest = all.entries;
-  parts = refl;
-  are = refl;
-  here = h;
-  slots = refl;
-  items = refl;
-  next_is = refl;
-  few = omega arith;
-  since = refl;
-  lengths = a;
+  pub one_slot : (p q : ℕ × ℕ) → Contains ps p → Contains ps q → p.0 ≡ q.0 → p.1 ≡ q.1
+  one_slot p q h k e = ap (λ (x : Entry). x.0) (same_entry 0 next es (p.1, (a.sound p h).item) (q.1, (a.sound q k).item) asc (entry_of p h) (entry_of q k) ((a.sound p h).since ∙ e ∙ sym (a.sound q k).since))
+
+  pub found_known : All (Contains (map since_of (filter (is_of classes) (flat es)))) (sinces_in ps)
+  found_known = All-from_recursion (Contains (map since_of (filter (is_of classes) (flat es)))) (sinces_in ps) (all_by (Contains (map since_of (filter (is_of classes) (flat es)))) (sinces_in ps) (λ n h. by n (map_in (λ (p : ℕ × ℕ). p.0) ps n h)))
+    where
+      by : (n : ℕ) → (p : ℕ × ℕ) × In p ps × (p.0 ≡ n) → Contains (map since_of (filter (is_of classes) (flat es))) n
+      by n (p, h, e) =
+          let f = a.sound p (contains_of_in ps p h) in
+          let kept = in_kept (is_of classes) (flat es) f.item (in_flat p.1 f.item es f.there) f.looked in
+          contains_of_in (map since_of (filter (is_of classes) (flat es))) n (subst (λ m. In m (map since_of (filter (is_of classes) (flat es)))) (f.since ∙ e) (in_map since_of (filter (is_of classes) (flat es)) f.item kept))
+
+  pub found_each : All (λ i. IsTrue (is_of classes i) → Contains (sinces_in ps) i.since ↔ IsTrue (test i)) (flat es)
+  found_each = All-from_recursion (λ i. IsTrue (is_of classes i) → Contains (sinces_in ps) i.since ↔ IsTrue (test i)) (flat es)
+      (all_by (λ i. IsTrue (is_of classes i) → Contains (sinces_in ps) i.since ↔ IsTrue (test i)) (flat es) (λ i k u. each i u (map_in (λ (e : Entry). e.1) es i k)))
+    where
+      to : (e : Entry) → In e es → (p : ℕ × ℕ) × In p ps × (p.0 ≡ e.1.since) → test e.1 ≡ true
+      to e k (p, h, s) =
+          let f = a.sound p (contains_of_in ps p h) in
+          let same = same_entry 0 next es (p.1, f.item) e asc (entry_there p.1 es f.item f.there) k (f.since ∙ s) in
+          ap (λ (x : Entry). test x.1) (sym same) ∙ f.passes
+
+      from : (e : Entry) → In e es → (p : ℕ × ℕ) × Contains ps p × (p.1 ≡ e.0) → Contains (sinces_in ps) e.1.since
+      from e k (p, h, s) =
+          let f = a.sound p h in
+          let same : f.item ≡ e.1 = same_item e.0 es f.item e.1 (ap (λ q. item_in q es) (sym s) ∙ f.there) (item_of_in es e differ k) in
+          contains_of_in (sinces_in ps) e.1.since (subst (λ n. In n (sinces_in ps)) (sym f.since ∙ ap since_of same) (in_map (λ (r : ℕ × ℕ). r.0) ps p (in_of_Contains ps p h)))
+
+      each : (i : Item) → is_of classes i ≡ true → (e : Entry) × In e es × (e.1 ≡ i) → Contains (sinces_in ps) i.since ↔ IsTrue (test i)
+      each i u (e, k, s) = subst (λ (j : Item). Contains (sinces_in ps) j.since ↔ IsTrue (test j)) s (
+        λ c. to e k (map_in (λ (p : ℕ × ℕ). p.0) ps e.1.since (in_of_Contains (sinces_in ps) e.1.since c)),
+        λ t. from e k (pair_of ps e.0 (a.complete e.0 e.1 (item_of_in es e differ k) (ap (is_of classes) s ∙ u) t)),
+      )
+
+-- in another order the same were found
+found_moved : (seen : Entry → Type 0) (test : Item → Bool) (es : List Entry) (ps qs : List (ℕ × ℕ)) → IsPermutation ps qs → AreFound seen test es ps → AreFound seen test es qs
+found_moved seen test es ps qs m a = record {
+  apart = differ_moved (slots_in ps) (slots_in qs) (IsPermutation-map (λ p. p.1) ps qs m) a.apart;
+  sound = λ p h. a.sound p (Contains-permutation qs ps p (IsPermutation-sym ps qs m) h);
+  complete = λ q i t l u. Contains-permutation (slots_in ps) (slots_in qs) q (IsPermutation-map (λ p. p.1) ps qs m) (a.complete q i t l u);
 }
 
--- after the last item
-pub record AreSettled (holds : Item → Bool) (all now : SeenItems) : Type 0 where
-  pub items : flat now.entries ≡ settled (map holds (flat all.entries)) all.next (flat all.entries)
-  pub next_is : now.next ≡ numbers_after (map holds (flat all.entries)) all.next (flat all.entries)
+-- who takes and gives the numbers of those that were found has settled
+found_settles : (classes : Class → Bool) (s : State) (es : List Entry) (next : ℕ) (f : SeenFound) (qs : List (ℕ × ℕ)) → s.items ≡ flat es → s.next_since ≡ next → AscendTo 0 next (flat es) → Differ (slots_of es) → AgreesOutside classes s →
+    HasFound classes s es f → IsPermutation f.gained qs → IsNonDecreasingBy (λ p. p.0) qs → settle s ≡ gives_all (sinces_in qs) (takes_all (sinces_in f.lost) s)
+found_settles classes s es next f qs items since asc differ agrees found moved sorted =
+    let gained = found_moved (IsOf classes) (needs_number (holds s)) es f.gained qs moved found.gained in
+    settle-touched classes s (sinces_in f.lost) (sinces_in qs)
+    (subst (λ n. ascend 0 n s.items ≡ true) (sym since) (subst (λ (xs : List Item). ascend 0 next xs ≡ true) (sym items) (ascending 0 next (flat es) asc)))
+    agrees
+    (record {
+      known = subst (λ (xs : List Item). All (Contains (map since_of (filter (is_of classes) xs))) (sinces_in f.lost)) (sym items) (found_known classes (loses_number (holds s)) es next asc differ f.lost found.lost);
+      each = subst (λ (xs : List Item). All (λ i. IsTrue (is_of classes i) → Contains (sinces_in f.lost) i.since ↔ IsTrue (loses_number (holds s) i)) xs) (sym items) (found_each classes (loses_number (holds s)) es next asc differ f.lost found.lost);
+    })
+    (record {
+      rising = rising_sinces qs sorted gained.apart (one_slot classes (needs_number (holds s)) es next asc differ qs gained);
+      known = subst (λ (xs : List Item). All (Contains (map since_of (filter (is_of classes) xs))) (sinces_in qs)) (sym items) (found_known classes (needs_number (holds s)) es next asc differ qs gained);
+      each = subst (λ (xs : List Item). All (λ i. IsTrue (is_of classes i) → Contains (sinces_in qs) i.since ↔ IsTrue (needs_number (holds s) i)) xs) (sym items) (found_each classes (needs_number (holds s)) es next asc differ qs gained);
+    })
 
-pub settling_all : (holds : Item → Bool) (all now : SeenItems) (objects : ℕ) (lines : List Lengths) (at : Option ℕ) → IsSettling holds all now objects lines at → at ≡ None → AreSettled holds all now
-settling_all holds all now objects lines at s e =
-    let last = none_is at s.rest s.here e in
-    let before : all.entries ≡ s.front = s.parts ∙ ap (λ xs. s.front ++ xs) last ∙ nothing s.front in
-    let after : now.entries ≡ s.done = s.are ∙ ap (λ xs. s.done ++ xs) last ∙ nothing s.done in
-    record {
-      items = ap flat after ∙ s.items ∙ ap (λ xs. settled (map holds (flat xs)) all.next (flat xs)) (sym before);
-      next_is = s.next_is ∙ ap (λ xs. numbers_after (map holds (flat xs)) all.next (flat xs)) (sym before);
-    }
+-- ---- who was found has a number, or none
+
+found_ready : (seen : Entry → Type 0) (test : Item → Bool) (numbered : Bool) (es : List Entry) (ps : List (ℕ × ℕ)) → ((i : Item) → test i ≡ true → is_some i.ready ≡ numbered) → AreFound seen test es ps → AreReady numbered es ps
+found_ready seen test numbered es ps says a = record {
+  apart = a.apart;
+  there = λ p h. (let f = a.sound p h in record { item = f.item; there = f.there; since = f.since; ready = says f.item f.passes });
+}
+
+lost_ready : (holding : Item → Bool) (i : Item) → loses_number holding i ≡ true → is_some i.ready ≡ true
+lost_ready holding i t = (and_parts (not (holding i)) (is_some i.ready) t).1
+
+gained_ready : (holding : Item → Bool) (i : Item) → needs_number holding i ≡ true → is_some i.ready ≡ false
+gained_ready holding i t = by i.ready (and_parts (holding i) (is_none i.ready) t).1
   where
-    nothing : (xs : List Entry) → xs ++ [] ≡ xs
-    nothing [] = refl
-    nothing (x ∷ xs) = ap (λ ys. x ∷ ys) (nothing xs)
+    by : (r : Option ℕ) → is_none r ≡ true → is_some r ≡ false
+    by None e = refl
+    by (Some n) e = absurd (true≢false (sym e))
 
--- the item that the walk stands at
-pub record IsNow (holds : Item → Bool) (all now : SeenItems) (objects : ℕ) (lines : List Lengths) (at : Option ℕ) (q : ℕ) (s : IsSettling holds all now objects lines at) : Type 0 where
-  pub first : IsFirst q s.rest
-  pub before : all.entries ≡ s.front ++ (q, first.item) ∷ first.others
-  pub after : now.entries ≡ s.done ++ (q, first.item) ∷ first.others
-  pub differ : Differ (slots_of now.entries)
-  pub there : item_in q now.entries ≡ Some first.item
-  pub less : length s.front < length all.entries
+-- ---- all of it
 
-pub settling_now : (holds : Item → Bool) (all now : SeenItems) (objects : ℕ) (lines : List Lengths) (at : Option ℕ) (q : ℕ) (s : IsSettling holds all now objects lines at) → Differ (slots_of all.entries) → at ≡ Some q →
-    IsNow holds all now objects lines at q s
-settling_now holds all now objects lines at q s d e =
-    let f = first_is q at s.rest s.here e in
-    let before : all.entries ≡ s.front ++ (q, f.item) ∷ f.others = s.parts ∙ ap (λ xs. s.front ++ xs) f.is in
-    let after : now.entries ≡ s.done ++ (q, f.item) ∷ f.others = s.are ∙ ap (λ xs. s.done ++ xs) f.is in
-    let same : slots_of now.entries ≡ slots_of all.entries =
-    ap slots_of after ∙ slots_there s.done q f.item f.others ∙ ap (λ qs. qs ++ q ∷ slots_of f.others) s.slots ∙ sym (slots_there s.front q f.item f.others) ∙ sym (ap slots_of before) in
-    let apart : Differ (slots_of now.entries) = subst Differ (sym same) d in
-    let long = ap length before ∙ length_both s.front ((q, f.item) ∷ f.others) in
+-- the looks at what was touched, and at those whose moment has come, find all that a settling has to look at
+pub looked_all : (held : SeenItems) (t : SeenTouched) (s : State) (x y z : SeenFound) → s.items ≡ flat held.entries → IsKept held t s → x ≡ none_found → LooksAt (touched_now t) s held.entries x y →
+    ((r : State) → r.moment ≡ s.moment → All (IsPast s.moment) (flat held.entries) → LooksAt is_moment r held.entries y z) → HasFound (reopened t) s held.entries z
+looked_all held t s x y z items k none touched due =
+    looks_all t s held.entries y z (subst (λ (f : SeenFound). LooksAt (touched_now t) s held.entries f y) none touched) (due s refl (subst (All (IsPast s.moment)) items k.current.past))
+
+-- those that were found to lose their numbers have one, and the others have none
+pub lost_there : (held before : SeenItems) (t : SeenTouched) (s : State) (f : SeenFound) → before ≡ held → HasFound (reopened t) s held.entries f → AreReady true before.entries f.lost
+lost_there held before t s f same found =
+    subst (λ (h : SeenItems). AreReady true h.entries f.lost) (sym same) (found_ready (IsOf (reopened t)) (loses_number (holds s)) true held.entries f.lost (lost_ready (holds s)) found.lost)
+
+pub gained_there : (held before : SeenItems) (t : SeenTouched) (s : State) (f : SeenFound) → before ≡ held → HasFound (reopened t) s held.entries f → AreReady false before.entries f.gained
+gained_there held before t s f same found =
+    subst (λ (h : SeenItems). AreReady false h.entries f.gained) (sym same) (found_ready (IsOf (reopened t)) (needs_number (holds s)) false held.entries f.gained (gained_ready (holds s)) found.gained)
+
+-- the state is settled, and all is up to date
+pub record AreSettled (held new : SeenItems) (t now : SeenTouched) (s : State) : Type 0 where
+  pub is : with_held new s ≡ settle s
+  pub kept : IsKept new now (with_held new s)
+
+pub numbers_settle : (held before new : SeenItems) (t now : SeenTouched) (s : State) (f g : SeenFound) → s ≡ with_held held s → IsKept held t s → Differ (slots_of held.entries) → AscendTo 0 held.next_since (flat held.entries) →
+    HasFound (reopened t) s held.entries f → before ≡ held → Numbers f g before new → now ≡ untouched t → AreSettled held new t now s
+numbers_settle held before new t now s f g whole k differ asc found same n clear =
+    let items : s.items ≡ flat held.entries = ap (λ (r : State). r.items) whole in
+    let settles = found_settles (reopened t) s held.entries held.next_since f g.gained items (ap (λ (r : State). r.next_since) whole) asc differ k.current.agrees found n.moved n.sorted in
+    let is : with_held new s ≡ settle s =
+    n.is s ∙ ap (λ (h : SeenItems). gives_all (sinces_in g.gained) (takes_all (sinces_in f.lost) (with_held h s))) same ∙ ap (λ (r : State). gives_all (sinces_in g.gained) (takes_all (sinces_in f.lost) r)) (sym whole) ∙ sym settles in
+    let settled : with_held new s ≡ settle (with_held held s) = is ∙ ap settle whole in
     record {
-      first = f;
-      before = before;
-      after = after;
-      differ = apart;
-      there = subst (λ xs. item_in q xs ≡ Some f.item) (sym after) (item_there q f.item s.done f.others (subst (λ xs. Differ (slots_of xs)) after apart));
-      less = omega (arith, long);
+      is = is;
+      kept =
+          hub_settled held new t now s (ap (λ (r : State). r.items) settled) (ap (λ (r : State). r.next_ready) settled) (ap (λ (r : State). r.next_since) settled) clear
+          (subst (IsKept held t) whole k);
     }
-
--- what a walk has to do at each item
-pub record IsSettledOn (holds : Item → Bool) (all now new : SeenItems) (objects : ℕ) (lines : List Lengths) (at next : Option ℕ) : Type 0 where
-  pub settling : IsSettling holds all new objects lines next
-  pub smaller : behind next (slots_of new.entries) < behind at (slots_of now.entries)
-
-pub settling_on : (holds : Item → Bool) (all now new : SeenItems) (objects : ℕ) (lines lines' : List Lengths) (at next : Option ℕ) (q : ℕ) (i : Item) (h : Bool) →
-    IsSettling holds all now objects lines at → Differ (slots_of all.entries) → AscendTo 0 all.next_since (flat all.entries) → all.next + length all.entries ≤ 2 ^ 63 → at ≡ Some q → item_in q now.entries ≡ Some i →
-    ((passed : List Item) → AreLengths objects lines passed → IsNext passed i (flat all.entries) → h ≡ holds i) →
-    ((passed : List Item) → length passed + 1 < 2 ^ 64 → AreLengths objects lines passed → AreLengths objects lines' (passed ++ i ∷ [])) →
-    ((xs ys : List ℕ) → slots_of now.entries ≡ xs ++ q ∷ ys → next ≡ first_of ys None) →
-    ((j : Item) → item_in q now.entries ≡ Some j → new ≡ settled_at q h j now) →
-    IsSettledOn holds all now new objects lines' at next
-settling_on holds all now new objects lines lines' at next q i h s d ascends room e got tells passes follows sets =
-    let n = settling_now holds all now objects lines at q s d e in
-    let others = n.first.others in
-    let item = n.first.item in
-    let same : i ≡ item = cc (got, n.there) in
-    let whole : flat all.entries ≡ flat s.front ++ item ∷ flat others = ap flat n.before ∙ flat_there s.front q item others in
-    let behind_all : IsNext (flat s.front) item (flat s.front ++ item ∷ flat others) = next_behind all.next_since (flat s.front) item (flat others) (subst (λ xs. AscendTo 0 all.next_since xs) whole ascends) in
-    let its : IsNext (flat s.front) i (flat all.entries) = subst (λ xs. IsNext (flat s.front) i xs) (sym whole) (subst (λ x. IsNext (flat s.front) x (flat s.front ++ item ∷ flat others)) (sym same) behind_all) in
-    let is : h ≡ holds item = tells (flat s.front) s.lengths its ∙ ap holds same in
-    let short = length_flat s.front in
-    let lengths : AreLengths objects lines' (flat s.front ++ item ∷ []) = subst (λ x. AreLengths objects lines' (flat s.front ++ x ∷ [])) same (passes (flat s.front) (let l = n.less in omega (arith, l, room, short)) s.lengths) in
-    let set : new ≡ settled_at q (holds item) item now = sets item n.there ∙ ap (λ b. settled_at q b item now) is in
-    let after = settled_item holds now.next item in
-    let entries : new.entries ≡ s.done ++ (q, after) ∷ others =
-    ap (λ (x : SeenItems). x.entries) set
-    ∙ ap (with_ready q (settled_ready (holds item) item.ready now.next)) n.after
-    ∙ ready_there q (settled_ready (holds item) item.ready now.next) item s.done others (subst (λ xs. Differ (slots_of xs)) n.after n.differ) in
-    let to : next ≡ first_of (slots_of others) None = follows (slots_of s.done) (slots_of others) (ap slots_of n.after ∙ slots_there s.done q item others) in
-    let onward : new.entries ≡ (s.done ++ (q, after) ∷ []) ++ others = entries ∙ sym (append_assoc s.done ((q, after) ∷ []) others) in
-    let slots : slots_of new.entries ≡ slots_of now.entries = ap slots_of entries ∙ slots_there s.done q after others ∙ sym (ap slots_of n.after ∙ slots_there s.done q item others) in
-    let old = ap (λ xs. behind at (slots_of xs)) s.are ∙ left_is at s.done s.rest (subst (λ xs. Differ (slots_of xs)) s.are n.differ) s.here in
-    let differ : Differ (slots_of new.entries) = subst Differ (sym slots) n.differ in
-    let newer = ap (λ xs. behind next (slots_of xs)) onward ∙ left_is next (s.done ++ (q, after) ∷ []) others (subst (λ xs. Differ (slots_of xs)) onward differ) to in
-    let longer = ap length n.first.is in
-    let next_now : new.next ≡ number_after (holds item) item.ready now.next = ap (λ (x : SeenItems). x.next) set in
-    let before : flat (s.front ++ (q, item) ∷ []) ≡ flat s.front ++ item ∷ [] = flat_there s.front q item [] in
-    record {
-      settling = record {
-        front = s.front ++ (q, item) ∷ [];
-        done = s.done ++ (q, after) ∷ [];
-        rest = others;
-        parts = n.before ∙ sym (append_assoc s.front ((q, item) ∷ []) others);
-        are = onward;
-        here = to;
-        slots = slots_there s.done q after [] ∙ ap (λ qs. qs ++ q ∷ []) s.slots ∙ sym (slots_there s.front q item []);
-        items =
-            flat_there s.done q after []
-            ∙ ap (λ xs. xs ++ after ∷ []) s.items
-            ∙ ap (λ m. settled (map holds (flat s.front)) all.next (flat s.front) ++ settled_item holds m item ∷ []) s.next_is
-            ∙ sym (settled_push holds all.next (flat s.front) item)
-            ∙ ap (λ xs. settled (map holds xs) all.next xs) (sym before);
-        next_is =
-            next_now
-            ∙ ap (λ m. number_after (holds item) item.ready m) s.next_is
-            ∙ sym (numbers_push holds all.next (flat s.front) item)
-            ∙ ap (λ xs. numbers_after (map holds xs) all.next xs) (sym before);
-        few =
-            let f = s.few in
-            let m = few_more (holds item) item.ready now.next in
-            let l = length_both s.front ((q, item) ∷ []) in
-            omega (arith, f, m, l, next_now);
-        since = ap (λ (x : SeenItems). x.next_since) set ∙ s.since;
-        lengths = subst (λ xs. AreLengths objects lines' xs) (sym before) lengths;
-      };
-      smaller = omega (arith, old, newer, longer);
-    }
-
--- a number is left for the item that the walk stands at
-pub settling_fits : (holds : Item → Bool) (all now : SeenItems) (objects : ℕ) (lines : List Lengths) (at : Option ℕ) (q : ℕ) (s : IsSettling holds all now objects lines at) → Differ (slots_of all.entries) →
-    all.next + length all.entries ≤ 2 ^ 63 → at ≡ Some q → now.next < 2 ^ 63
-settling_fits holds all now objects lines at q s d room e =
-    let n = settling_now holds all now objects lines at q s d e in
-    let few = s.few in
-    let less = n.less in
-    omega (arith, few, less, room)

@@ -1,4 +1,9 @@
+pub mod Forgotten
+pub mod Found
 pub mod Hosts
+pub mod HubParts
 pub mod Over
 pub mod Phases
 pub mod Sights
+pub mod Touched
+pub mod Waiters

@@ -2,7 +2,12 @@
 use Rattle.std.specs.Prelude.{ℕ, List}
 use Rattle.machine.specs.declared.items.Item.{Item}
 use Rattle.machine.specs.State.{State}
+use Rattle.held_items.specs.Entries.{SeenItems, flat}
 
 -- the state with these items and these next numbers in place of its own
 abbrev pub over : List Item → ℕ → ℕ → State → State
 over items next_ready next_since s = record s { items = items; next_ready = next_ready; next_since = next_since }
+
+-- the state with the items that are held
+abbrev pub with_held : SeenItems → State → State
+with_held held s = over (flat held.entries) held.next held.next_since s

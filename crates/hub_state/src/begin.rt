@@ -4,12 +4,13 @@ ghost use Rattle.machine.specs.Expressions.{function_number};
 ghost use Rattle.machine.specs.Run.{first_state};
 ghost use Rattle.hub_objects.specs.Counted.{AreCounted};
 
+use crate::found::Found;
 use crate::greenlets::Greenlets;
 use crate::hub::Hub;
+use crate::touched::Touched;
 use body_frames::Code;
 use gv_values::Name;
 use held_items::HeldItems;
-use hub_items::LineLengths;
 use hub_objects::Objects;
 use std::alloc::{AllocError, Global};
 
@@ -25,13 +26,19 @@ fn number_of_main(code: &Code) -> u32
 
 impl Hub {
     /// The state at the beginning of a run of the code: nothing is made but main, which has not started.
-    /// `AllocError`: memory is wanting.
+    /// `AllocError`: memory is wanting, or the number of an object would pass 32 bits.
     #[tactic(auto, using(hub_items::proofs::Sounds::sound_none))]
     pub fn new(alloc: Global, code: Code) -> Result<Hub, AllocError>
         requires counted { AreCounted (first_state code).objects }
         ensures { IfOk result (λ hub. hub ≡ first_state code) }
     {
         let objects = Objects::declared(alloc, code.objects())?;
+        let count = objects.as_slice().len();
+        if count > u32::MAX as usize {
+            return Err(AllocError);
+        }
+        let mut touched = Touched::new(alloc);
+        touched.reserve(count)?;
         let greenlets = Greenlets::first(alloc, number_of_main(&code))?;
         Ok(Hub {
             code,
@@ -44,7 +51,8 @@ impl Hub {
             greenlets,
             jobs: Vec::new(alloc),
             held: HeldItems::new(alloc),
-            lengths: LineLengths::new(alloc),
+            touched,
+            found: Found::new(alloc),
             lines: Vec::new(alloc),
             posts: Vec::new(alloc),
         })

@@ -5,6 +5,7 @@ ghost use Rattle.machine.specs.Deliveries.{without_item};
 ghost use Rattle.hub_items.specs.Short.{DeliversShort};
 
 use crate::hub::Hub;
+use crate::touched::object_of;
 use machine::items::Item;
 
 impl Hub {
@@ -23,7 +24,12 @@ impl Hub {
         ensures gone { self.new ≡ without_item result self.old }
     {
         match self.held.next_below(mark) {
-            Some(slot) => self.held.take(slot),
+            Some(slot) => {
+                let _ascending = self.held.len();
+                let item = self.held.take(slot);
+                self.touched.touch(object_of(&item.delivery));
+                item
+            }
             None => unreachable!(),
         }
     }

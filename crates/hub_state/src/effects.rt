@@ -11,6 +11,7 @@ ghost use Rattle.hub_objects.specs.Releases.{refused};
 
 use crate::ahead::earlier;
 use crate::hub::Hub;
+use crate::touched::{touch_crews, touch_offers};
 use gv_values::{FaultKind, Job, Name, Value};
 use hub_items::WaitKind;
 use hub_objects::{
@@ -45,6 +46,8 @@ impl Hub {
     pub fn change(&mut self, o: u32, change: Change) -> Result<(), AllocError>
         ensures { OnOk result (self.new ≡ with_object o (changed change (object_at o self.old)) self.old) }
     {
+        let _ascending = self.held.len();
+        self.touched.touch(Some(o));
         self.objects.change(o, change)
     }
 
@@ -52,6 +55,8 @@ impl Hub {
     pub fn leave_crews(&mut self, g: u32)
         ensures { self.new ≡ record self.old { objects = map (without_member g) self.old.objects } }
     {
+        let _ascending = self.held.len();
+        touch_crews(&mut self.touched, self.objects.as_slice(), g);
         self.objects.leave(g);
     }
 
@@ -60,6 +65,8 @@ impl Hub {
         ensures { self.new ≡ without_offer_by (since_of_wake g self.old.items) self.old }
     {
         if let Some(since) = self.held.since_of_wake(g) {
+            let _ascending = self.held.len();
+            touch_offers(&mut self.touched, self.objects.as_slice(), since);
             self.objects.withdraw(since);
         }
     }
@@ -92,7 +99,7 @@ impl Hub {
         is_shut(self.objects.get(o))
     }
 
-    /// Whether the getters of the queue from before this since leave an item. Looks at each item.
+    /// Whether the getters of the queue from before this since leave an item. Looks at each of them.
     pub fn has_item_left(&self, o: u32, since: u64) -> bool
         ensures { result ≡ is_left (earlier (is_take o) since self.now.items) (object_at o self.now) }
     {
@@ -113,11 +120,11 @@ impl Hub {
             Release::Refused(kind) => Ok(Some(kind)),
             Release::Nothing => Ok(None),
             Release::Unit => {
-                self.objects.change(o, Change::Unit)?;
+                self.change(o, Change::Unit)?;
                 Ok(None)
             }
             Release::Owner => {
-                self.objects.change(o, Change::OwnerGone(g))?;
+                self.change(o, Change::OwnerGone(g))?;
                 Ok(None)
             }
         }
@@ -130,7 +137,7 @@ impl Hub {
         ensures { IfOk result (λ fault. finishes o (object_at o self.old) self.old ≡ refused fault self.new) }
     {
         if has_task(self.objects.get(o)) {
-            self.objects.change(o, Change::TaskDone)?;
+            self.change(o, Change::TaskDone)?;
             Ok(None)
         } else {
             Ok(Some(FaultKind::ValueError))
@@ -142,7 +149,7 @@ impl Hub {
     /// # Errors
     ///
     /// Memory is wanting, or the number would pass 32 bits, which no run within its budget comes to; the hub is given
-    /// up, and may have the job already.
+    /// up.
     pub fn post(&mut self, g: u32, o: u32, job: Job, takes: u64) -> Result<u32, AllocError>
         ensures posted { OnOk result (self.new ≡ posted g o job takes self.old) }
         ensures number { IfOk result (λ n. n ≡ length self.old.jobs + 1) }
@@ -151,14 +158,19 @@ impl Hub {
             return Err(AllocError);
         }
         let number = self.jobs.len() as u32 + 1;
-        self.jobs.push(Posted::new(job, o))?;
-        self.posts.push(Post { number, job, takes })?;
-        self.lines.push(Line::Job {
+        self.jobs.reserve(1)?;
+        self.posts.reserve(1)?;
+        self.lines.reserve(1)?;
+        let _ascending = self.held.len();
+        self.touched.touch(Some(o));
+        self.objects.change(o, Change::SlotTaken)?;
+        self.jobs.push_reserved(Posted::new(job, o));
+        self.posts.push_reserved(Post { number, job, takes });
+        self.lines.push_reserved(Line::Job {
             number,
             greenlet: g,
             job,
-        })?;
-        self.objects.change(o, Change::SlotTaken)?;
+        });
         Ok(number)
     }
 }

@@ -1,5 +1,5 @@
 //! The greenlets in order of making, and how far each has come.
-ghost use Rattle.std.specs.Prelude.{◌≡◌, ◌<◌, ◌≤◌, [], ◌∷◌, ◌++◌, false, length, slice_get, slice_set, unwrap_or, option_map, nat_lt, OnOk, IfOk};
+ghost use Rattle.std.specs.Prelude.{◌≡◌, ◌<◌, ◌≤◌, [], ◌∷◌, ◌++◌, false, length, slice_get, slice_set, unwrap_or, option_map, nat_lt, OnOk, OnErr, IfOk};
 ghost use Rattle.std.specs.Option.{option_copied};
 ghost use Rattle.machine.specs.declared.state.Phase.{Phase};
 ghost use Rattle.machine.specs.Holds.{outcome_of_phase, phase_of as phase_of_greenlet};
@@ -166,10 +166,11 @@ impl Greenlets {
         self.all.len() < MOST
     }
 
-    /// One more, the newest.
+    /// One more, the newest. `AllocError`: memory is wanting; nothing has changed.
     pub(crate) fn push(&mut self, greenlet: Greenlet) -> Result<(), AllocError>
         requires { length self.old < 20000 }
-        ensures { OnOk result (self.new ≡ self.old ++ greenlet ∷ []) }
+        ensures ok { OnOk result (self.new ≡ self.old ++ greenlet ∷ []) }
+        ensures err { OnErr result (self.new ≡ self.old) }
     {
         self.all.push(greenlet)?;
         Ok(())

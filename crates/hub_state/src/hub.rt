@@ -1,8 +1,9 @@
 //! The state itself.
+use crate::found::Found;
 use crate::greenlets::Greenlets;
+use crate::touched::Touched;
 use body_frames::Code;
 use held_items::HeldItems;
-use hub_items::LineLengths;
 use hub_objects::{Objects, Posted};
 use machine::state::Post;
 use std::marker::Model;
@@ -21,8 +22,10 @@ pub struct Hub {
     pub(crate) greenlets: Greenlets,
     pub(crate) jobs: Vec<Posted>,
     pub(crate) held: HeldItems,
-    /// How long the lines are in a settling; kept from one to the next, so that none but the first allocates.
-    pub(crate) lengths: LineLengths,
+    /// What was touched since the last settling.
+    pub(crate) touched: Touched,
+    /// Who is found in a settling; kept from one to the next, so that few allocate.
+    pub(crate) found: Found,
     pub(crate) lines: Vec<Line>,
     pub(crate) posts: Vec<Post>,
 }
@@ -30,29 +33,13 @@ pub struct Hub {
 impl Model for Hub {
     ghost use Rattle.machine.specs.State.{State};
     ghost use Rattle.scenario_tree.specs.Trees.{trees};
-    ghost use Rattle.held_items.specs.Entries.{flat};
-    ghost use Rattle.hub_items.specs.Sound.{IsSound};
+    ghost use Rattle.hub_state.specs.HubParts.{IsHub, state_of};
 
     ghost Value = { State };
 
     ghost coded = { Prim.hlevel trees };
 
-    ghost view = { λ h. record {
-      scenario = h.code;
-      moment = h.moment;
-      next_ready = h.held.next;
-      next_since = h.held.next_since;
-      turns = h.turns;
-      moves = h.moves;
-      timeouts = h.timeouts;
-      links = h.links;
-      objects = h.objects;
-      greenlets = h.greenlets;
-      jobs = h.jobs.items;
-      items = flat h.held.entries;
-      lines = h.lines.items;
-      posts = h.posts.items;
-    } };
+    ghost view = { state_of };
 
-    ghost invariant = { λ h. IsSound (flat h.held.entries) };
+    ghost invariant = { IsHub };
 }

@@ -1,5 +1,5 @@
 //! The few operations that touch items and waits: one is made, some go, one is taken to be delivered.
-ghost use Rattle.std.specs.Prelude.{◌≡◌, true, OnOk, IfSome};
+ghost use Rattle.std.specs.Prelude.{◌≡◌, ◌<◌, true, OnOk, OnErr, IfOk, IfSome};
 ghost use Rattle.std.specs.Option.{option_copied};
 ghost use Rattle.machine.specs.State.{say};
 ghost use Rattle.machine.specs.Items.{add_item, drop_items, is_timeout_of};
@@ -8,13 +8,37 @@ ghost use Rattle.machine.specs.Deliveries.{waiting_of};
 ghost use Rattle.machine.specs.Soundness.{claim_of, is_unclaimed};
 ghost use Rattle.hub_items.specs.Gone.{gone_of};
 ghost use Rattle.hub_items.specs.Short.{DeliversShort, IsShort};
+ghost use Rattle.held_items.specs.Held.{added};
+ghost use Rattle.hub_state.specs.Touched.{IsRoomier};
 
 use crate::hub::Hub;
+use crate::touched::{Touched, object_left, object_of};
+use held_items::HeldItems;
 use hub_items::Gone;
 use machine::items::{Delivery, Waiting};
 use scenario_tree::Items;
 use std::alloc::AllocError;
 use trace_text::Line;
+
+/// Adds an item, and makes a place for its slot. `AllocError`: memory is wanting, or its place in order of making would
+/// pass 64 bits; no item is added.
+fn add_with_place(
+    held: &mut HeldItems,
+    touched: &mut Touched,
+    delivery: Delivery,
+) -> Result<u32, AllocError>
+    ensures added { IfOk result (λ slot. held.new ≡ added slot delivery held.old) }
+    ensures place { IfOk result (λ slot. slot < touched.new.slots) }
+    ensures same { IsRoomier touched.old touched.new }
+    ensures err { OnErr result (held.new.entries ≡ held.old.entries) }
+{
+    let slot = held.add(delivery)?;
+    if touched.reserve_slot(slot).is_err() {
+        drop(held.take(slot));
+        return Err(AllocError);
+    }
+    Ok(slot)
+}
 
 impl Hub {
     /// Writes a line of the step under way. `AllocError`: memory is wanting; the hub is given up.
@@ -25,7 +49,7 @@ impl Hub {
         Ok(())
     }
 
-    /// Makes one item more, the newest, which says what no other says.
+    /// Makes one item more, the newest, which says what no other says. Looks at no other.
     ///
     /// # Errors
     ///
@@ -36,7 +60,13 @@ impl Hub {
         requires short { DeliversShort delivery }
         ensures { OnOk result (self.new ≡ add_item delivery self.old) }
     {
-        self.held.add(delivery)?;
+        // One that doesn't hold changes nothing for the others that wait for the same: they need no look.
+        let holds = self.would_hold(&delivery);
+        self.touched.reserve_for(object_of(&delivery))?;
+        self.touched.touch_awaited(&delivery, holds);
+        let _ascending = self.held.len();
+        let slot = add_with_place(&mut self.held, &mut self.touched, delivery)?;
+        self.touched.touch_made(slot);
         Ok(())
     }
 
@@ -67,6 +97,8 @@ impl Hub {
     pub fn drop_items(&mut self, gone: &Gone)
         ensures { self.new ≡ drop_items (gone_of gone.now) self.old }
     {
+        let _ascending = self.held.len();
+        self.touched.touch(object_left(&self.held, gone));
         self.held.drop_items(gone);
     }
 

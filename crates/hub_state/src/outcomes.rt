@@ -1,16 +1,15 @@
 //! What has ended, and which item holds.
-ghost use Rattle.std.specs.Prelude.{◌≡◌, ℕ, List, length, is_some, slice_get};
+ghost use Rattle.std.specs.Prelude.{◌≡◌, length, is_some, slice_get};
 ghost use Rattle.std.specs.Option.{option_copied};
 ghost use Rattle.gv_values.specs.declared.value.Whom.{Whom as Target};
-ghost use Rattle.machine.specs.Holds.{holds, wait_holds, outcome_of, is_done, all_done, done_among, newcomer_completes, earlier, is_place, has_place};
-ghost use Rattle.machine.specs.declared.items.Item.{Item as AnyItem};
-ghost use Rattle.hub_items.specs.Lines.{AreLengths, IsAhead, IsNext};
-ghost use Rattle.hub_state.specs.Over.{over};
+ghost use Rattle.machine.specs.Holds.{delivery_holds, holds, wait_holds, outcome_of, is_done, all_done, done_among, newcomer_completes, earlier, is_place, has_place};
+ghost use Rattle.hub_items.specs.Lines.{IsAhead};
+ghost use Rattle.hub_state.specs.Waiters.{IsBefore, holds_in_line};
 
-use crate::ahead::{earlier, earlier_ahead};
+use crate::ahead::{ahead_of_last, earlier_than_last};
 use crate::hub::Hub;
 use gv_values::{Outcome, Whom, link_fits};
-use hub_items::{LineLengths, WaitKind};
+use hub_items::WaitKind;
 use hub_objects::{
     all_finished, has_item, has_offer, has_place, has_result, has_room, has_set_since, has_slot,
     has_unit, is_deserted, is_flagged, is_free, is_owner, is_taken, job_at,
@@ -83,8 +82,8 @@ impl Hub {
     /// Whether the wait's condition holds, for a waiter with this since, where so many wait before it in the line that
     /// the condition looks at.
     fn wait_holds(&self, since: u64, waiting: &Waiting, before: u64) -> bool
-        ensures { (items : List AnyItem) (m n : ℕ) → IsAhead before (length self.now.objects) (λ test. earlier test since items) waiting.now
-            → result ≡ wait_holds (over items m n self.now) since waiting.now }
+        ensures { IsAhead before (length self.now.objects) (λ test. earlier test since self.now.items) waiting.now
+            → result ≡ wait_holds self.now since waiting.now }
     {
         match waiting {
             Waiting::Sleep(until) => *until <= self.moment,
@@ -115,21 +114,20 @@ impl Hub {
     fn holds_last(&self, waiting: &Waiting) -> bool
         ensures { result ≡ wait_holds self.now self.now.next_since waiting.now }
     {
-        let since = self.held.next_since();
-        let before = earlier_ahead(&self.held, waiting, since);
-        self.wait_holds(since, waiting, before)
+        let before = ahead_of_last(&self.held, waiting);
+        self.wait_holds(self.held.next_since(), waiting, before)
     }
 
-    /// Whether a group or pool has a place that nobody waits for. Looks at each item.
+    /// Whether a group or pool has a place that nobody waits for.
     pub fn has_place(&self, o: u32) -> bool
         ensures { result ≡ has_place (earlier (is_place o) self.now.next_since self.now.items) (slice_get self.now.objects o) }
     {
-        let before = earlier(&self.held, WaitKind::Place, o, self.held.next_since());
+        let before = earlier_than_last(&self.held, WaitKind::Place, o);
         has_place(self.object(o), before)
     }
 
     /// Whether a greenlet that comes to the wait does not begin it, since its condition holds for the last of all
-    /// waiters. Looks at each item.
+    /// waiters.
     pub fn newcomer_completes(&self, g: u32, waiting: &Waiting) -> bool
         ensures { result ≡ newcomer_completes self.now g waiting.now }
     {
@@ -142,19 +140,31 @@ impl Hub {
         }
     }
 
-    /// Whether the item's condition holds, where just the items before it were passed to the lengths of the lines.
-    pub(crate) fn holds(&self, item: &Item, lengths: &LineLengths) -> bool
-        ensures { (items passed : List AnyItem) (m n : ℕ) → AreLengths (length self.now.objects) lengths.now passed
-            → IsNext passed item.now items → result ≡ holds (over items m n self.now) item.now }
+    /// Whether who waits so at this object holds, with so many before it in its line.
+    pub(crate) fn holds_in_line(&self, kind: WaitKind, o: u32, before: u64) -> bool
+        ensures { result ≡ holds_in_line kind before (slice_get self.now.objects o) }
     {
-        match &item.delivery {
+        let object = self.object(o);
+        match kind {
+            WaitKind::Acquire => has_unit(object, before),
+            WaitKind::Lock => is_free(object, before),
+            WaitKind::Put => has_room(object, before),
+            WaitKind::Take => has_item(object, before),
+            WaitKind::Place => has_place(object, before),
+            WaitKind::Slot => has_slot(object, before),
+            WaitKind::TakeOffer => has_offer(object, before),
+        }
+    }
+
+    /// Whether the condition of an item with this since holds that delivers this, where so many wait before it in the
+    /// line that the condition looks at.
+    fn delivery_holds(&self, since: u64, delivery: &Delivery, before: u64) -> bool
+        ensures { IsBefore before self.now since delivery.now → result ≡ delivery_holds self.now since delivery.now }
+    {
+        match delivery {
             Delivery::Start(_, None) => true,
             Delivery::Start(_, Some(deadline)) => *deadline <= self.moment,
-            Delivery::Wake(_, waiting) => self.wait_holds(
-                item.since,
-                waiting,
-                lengths.ahead_of(waiting),
-            ),
+            Delivery::Wake(_, waiting) => self.wait_holds(since, waiting, before),
             Delivery::Late(_, deadline, _) => *deadline <= self.moment,
             Delivery::Timeout(_, _, deadline) => *deadline <= self.moment,
             Delivery::Kill(_, _) => true,
@@ -162,6 +172,23 @@ impl Hub {
                 Some(outcome) => link_fits(*kind, outcome),
                 None => false,
             },
+        }
+    }
+
+    /// Whether the item's condition holds, where so many wait before it in the line that the condition looks at.
+    pub(crate) fn holds(&self, item: &Item, before: u64) -> bool
+        ensures { IsBefore before self.now item.now.since item.now.delivery → result ≡ holds self.now item.now }
+    {
+        self.delivery_holds(item.since, &item.delivery, before)
+    }
+
+    /// Whether an item that delivers this would hold if it were made now.
+    pub(crate) fn would_hold(&self, delivery: &Delivery) -> bool
+        ensures { result ≡ delivery_holds self.now self.now.next_since delivery.now }
+    {
+        match delivery {
+            Delivery::Wake(_, waiting) => self.holds_last(waiting),
+            _ => self.delivery_holds(self.held.next_since(), delivery, 0),
         }
     }
 }

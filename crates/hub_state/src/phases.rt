@@ -1,8 +1,8 @@
 //! What the steps of the hub do to its greenlets.
-ghost use Rattle.std.specs.Prelude.{◌≡◌, ◌<◌, length, option_map, OnOk, IfOk, IfSome, IfNone};
+ghost use Rattle.std.specs.Prelude.{◌≡◌, ◌<◌, ◌||◌, length, option_map, is_some, OnOk, IfOk, IfSome, IfNone};
 ghost use Rattle.std.specs.Option.{option_copied};
 ghost use Rattle.machine.specs.declared.state.Phase.{Phase};
-ghost use Rattle.machine.specs.Holds.{phase_of as phase_of_greenlet};
+ghost use Rattle.machine.specs.Holds.{is_done, outcome_of_phase, phase_of as phase_of_greenlet};
 ghost use Rattle.machine.specs.Greenlets.{no_frame, greenlet, with_phase, frame_of, add_greenlet, has_greenlet_left};
 ghost use Rattle.machine.specs.Deliveries.{arguments};
 ghost use Rattle.hub_state.specs.Phases.{phase_of};
@@ -35,10 +35,23 @@ impl Hub {
         }
     }
 
+    /// Whether the greenlet has ended, or does where it comes so far.
+    fn is_end(&self, g: u32, stage: &Stage) -> bool
+        ensures { result ≡ (is_done self.now g || is_some (outcome_of_phase (phase_of stage.now))) }
+    {
+        match stage {
+            Stage::Done(_) => true,
+            _ => self.is_done(g),
+        }
+    }
+
     /// Lets the greenlet have come so far.
     pub fn set_stage(&mut self, g: u32, stage: Stage)
         ensures { self.new ≡ with_phase g (phase_of stage) self.old }
     {
+        let ended = self.is_end(g, &stage);
+        self.touched.touch_ends(ended);
+        let _ascending = self.held.len();
         let _before = self.greenlets.swap(g, stage);
     }
 
@@ -49,6 +62,9 @@ impl Hub {
         ensures none { IfNone result (frame_of (greenlet g self.old).phase ≡ no_frame) }
         ensures taken { self.new ≡ with_phase g (Phase.Live no_frame) self.old }
     {
+        let ended = self.is_end(g, &Stage::UnderWay);
+        self.touched.touch_ends(ended);
+        let _ascending = self.held.len();
         match self.greenlets.swap(g, Stage::UnderWay) {
             Some(Stage::Parked(body)) => Some(body),
             _ => None,
@@ -60,6 +76,9 @@ impl Hub {
         ensures arguments { result ≡ arguments (greenlet g self.old).phase }
         ensures taken { self.new ≡ with_phase g (Phase.Live no_frame) self.old }
     {
+        let ended = self.is_end(g, &Stage::UnderWay);
+        self.touched.touch_ends(ended);
+        let _ascending = self.held.len();
         match self.greenlets.swap(g, Stage::UnderWay) {
             Some(Stage::New(arguments)) => arguments,
             _ => Items::new(alloc),
@@ -93,6 +112,7 @@ impl Hub {
         ensures made { OnOk result (self.new ≡ add_greenlet raw parent function arguments self.old) }
         ensures number { IfOk result (λ g. g ≡ length self.old.greenlets) }
     {
+        let _ascending = self.held.len();
         let number = self.greenlets.len();
         self.greenlets
             .push(Greenlet::new(raw, parent, function, arguments))?;

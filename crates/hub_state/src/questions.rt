@@ -1,17 +1,26 @@
 //! What the hub asks between two turns, and what the answer does.
-ghost use Rattle.std.specs.Prelude.{◌≡◌, OnOk};
+ghost use Rattle.std.specs.Prelude.{◌≡◌, ℕ, Option, OnOk};
 ghost use Rattle.machine.specs.Questions.{question, block_line, arrives, take_answer};
 ghost use Rattle.machine.specs.Holds.{job_at};
+ghost use Rattle.hub_objects.specs.Jobs.{job_came};
+ghost use Rattle.hub_state.specs.Forgotten.{came};
 
 use crate::hub::Hub;
 use gv_values::{Answer, JobOutcome};
-use hub_objects::{Change, any_outstanding, arrive_at};
+use hub_objects::{Change, Posted, any_outstanding, arrive_at, job_at};
 use std::alloc::{AllocError, Global};
 use trace_text::{Blocked, Line};
 use world_rules::Question;
 
 /// The greatest moment.
 const LAST_MOMENT: u64 = 4611686018427387903;
+
+/// The job of this number has come to this.
+fn arrive_in(jobs: &mut Vec<Posted>, j: u32, outcome: JobOutcome)
+    ensures { (pool : Option ℕ) × job_came j outcome jobs.old.items pool jobs.new.items }
+{
+    let _pool = arrive_at(jobs, j, outcome);
+}
 
 impl Hub {
     /// What the turn asks at its end, and none where nothing can come. Looks at each job where no item has a number or
@@ -60,9 +69,39 @@ impl Hub {
     fn arrive(&mut self, j: u32, outcome: JobOutcome) -> Result<(), AllocError>
         ensures { OnOk result (self.new ≡ arrives j outcome (job_at j self.old.jobs) self.old) }
     {
-        match arrive_at(&mut self.jobs, j, outcome) {
-            Some(pool) => self.objects.change(pool, Change::SlotFreed),
-            None => Ok(()),
+        let Some(job) = job_at(&self.jobs, j) else {
+            return Ok(());
+        };
+        let pool = job.pool();
+        let _ascending = self.held.len();
+        self.touched.touch_ends(true);
+        self.touched.touch(Some(pool));
+        self.objects.change(pool, Change::SlotFreed)?;
+        arrive_in(&mut self.jobs, j, outcome);
+        Ok(())
+    }
+
+    /// The moment of the answer is reached, and its job has come.
+    fn come(&mut self, answer: Answer) -> Result<(), AllocError>
+        ensures { OnOk result (self.new ≡ came answer self.old) }
+    {
+        match answer {
+            Answer::Done {
+                number,
+                outcome,
+                at,
+            } => {
+                self.reach(at);
+                Ok(self.arrive(number, outcome)?)
+            }
+            Answer::Elapsed { at } => {
+                self.reach(at);
+                Ok(())
+            }
+            Answer::Nothing { at } => {
+                self.reach(at);
+                Ok(())
+            }
         }
     }
 
@@ -72,26 +111,13 @@ impl Hub {
     ///
     /// Memory is wanting, or a ready number would pass 64 bits, which no run within its budget comes to; the hub is
     /// given up, and may have a part of the answer already.
-    #[tactic(auto, unfolding(machine::specs::Questions::take_answer))]
+    #[tactic(auto, using(crate::proofs::Forgetting::taken_so))]
     pub fn take(&mut self, alloc: Global, answer: Answer) -> Result<(), AllocError>
         ensures { OnOk result (self.new ≡ take_answer answer self.old) }
     {
-        match answer {
-            Answer::Done {
-                number,
-                outcome,
-                at,
-            } => {
-                self.moment = at;
-                self.arrive(number, outcome)?;
-            }
-            Answer::Elapsed { at } => self.moment = at,
-            Answer::Nothing { at } => self.moment = at,
-        }
-        self.say(Line::Turn {
-            number: self.turns,
-            answer,
-        })?;
+        let number = self.turns;
+        self.come(answer)?;
+        self.say(Line::Turn { number, answer })?;
         self.settle(alloc)?;
         Ok(())
     }

@@ -41,6 +41,7 @@ impl Hub {
     pub fn set_parent(&mut self, child: u32, parent: u32)
         ensures { self.new ≡ record self.old { greenlets = slice_set self.old.greenlets child (record (greenlet child self.old) { parent = parent }) } }
     {
+        let _ascending = self.held.len();
         self.greenlets.set_parent(child, parent);
     }
 }

@@ -1,6 +1,6 @@
 use gv_values::{FaultKind, LinkKind, Outcome, Value};
 use held_items::HeldItems;
-use hub_items::Gone;
+use hub_items::{Gone, WaitKind};
 use machine::items::{Delivery, Waiting};
 use scenario_tree::Items;
 use std::alloc::{AllocError, Global};
@@ -71,7 +71,7 @@ fn items_come_and_go(rt: HostRuntime) {
     drop(held);
 }
 
-/// Numbers every second item, from the first on.
+/// Numbers every second item, from the first on, and takes the numbers of the others.
 fn number_some(held: &mut HeldItems) {
     let mut at = held.oldest();
     for n in 0..15 {
@@ -79,7 +79,11 @@ fn number_some(held: &mut HeldItems) {
             return;
         };
         if held.has(slot) && held.mark() < 100 {
-            held.settle_at(slot, n % 2 == 0);
+            match held.get(slot).ready {
+                None if n % 2 == 0 => held.number(slot),
+                Some(_) if n % 2 == 1 => held.unnumber(slot),
+                _ => {}
+            }
         }
         at = held.after(slot);
     }
@@ -113,6 +117,69 @@ fn numbers_come_and_go(rt: HostRuntime) {
     drop(held);
 }
 
+/// Items that wait for objects 3 and 7, there in a line or in none, and for ends, and one that waits for neither.
+fn fill_waits(held: &mut HeldItems) -> Result<(), AllocError> {
+    held.add(Delivery::Wake(3, Waiting::Sleep(50)))?;
+    held.add(Delivery::Wake(1, Waiting::Lock(7)))?;
+    held.add(Delivery::Wake(2, Waiting::Join(9)))?;
+    held.add(Delivery::Wake(4, Waiting::Peek(3)))?;
+    held.add(Delivery::Wake(5, Waiting::Event(7, 0)))?;
+    held.add(Delivery::Link(1, 2, LinkKind::Any, 0))?;
+    held.add(Delivery::Wake(6, Waiting::Lock(7)))?;
+    held.add(Delivery::Wake(7, Waiting::Take(3)))?;
+    Ok(())
+}
+
+/// The sinces of the item in this slot and those that were made after it and wait for the same, one digit for each.
+fn waiting_from(held: &HeldItems, first: Option<u32>) -> u64 {
+    let mut all = 0u64;
+    let mut at = first;
+    for _ in 0..9 {
+        match at {
+            None => return all,
+            Some(slot) => {
+                if held.has(slot) {
+                    all = all.wrapping_mul(10).wrapping_add(held.get(slot).since);
+                }
+                at = held.next_waiting(slot);
+            }
+        }
+    }
+    all
+}
+
+/// Ends the greenlet's wait.
+fn leave_wait(held: &mut HeldItems, g: u32) {
+    if let Some(slot) = held.wake_of(g) {
+        if held.has(slot) {
+            drop(held.take(slot));
+        }
+    }
+}
+
+#[test]
+fn waits_are_found(rt: HostRuntime) {
+    let mut held = HeldItems::new(rt.alloc());
+    assert!(rt; fill_waits(&mut held).is_ok());
+    assert!(rt; waiting_from(&held, held.first_in_line(7, WaitKind::Lock)) == 16);
+    assert!(rt; waiting_from(&held, held.first_in_line(3, WaitKind::Take)) == 7);
+    assert!(rt; waiting_from(&held, held.first_of_others(7)) == 4);
+    assert!(rt; waiting_from(&held, held.first_of_others(3)) == 3);
+    assert!(rt; waiting_from(&held, held.first_for_ends()) == 25);
+    assert!(rt;
+        held.first_in_line(7, WaitKind::Acquire) == None
+            && held.first_in_line(8, WaitKind::Lock) == None
+            && held.first_of_others(8) == None
+    );
+    leave_wait(&mut held, 5);
+    leave_wait(&mut held, 1);
+    held.drop_items(&Gone::LinkNumbered(1));
+    assert!(rt; waiting_from(&held, held.first_in_line(7, WaitKind::Lock)) == 6);
+    assert!(rt; held.first_of_others(7) == None);
+    assert!(rt; waiting_from(&held, held.first_for_ends()) == 2);
+    drop(held);
+}
+
 /// How many items without a number are due by the moment, and the sum of their sinces; none where memory is wanting.
 #[tactic(auto, using(held_items::proofs::Seeing::few_items))]
 fn due(alloc: Global, held: &mut HeldItems, moment: u64) -> Option<(usize, u64)> {
@@ -139,5 +206,34 @@ fn moments_come(rt: HostRuntime) {
     number_some(&mut held);
     assert!(rt; due(rt.alloc(), &mut held, 50) == Some((2, 4)));
     assert!(rt; held.least_deadline() == Some(30));
+    drop(held);
+}
+
+/// Whether so many wait to take from queue 3, and so many of them have a number.
+fn take_line(held: &HeldItems, waiting: u64, numbered: u64) -> bool {
+    held.waiting_in(3, WaitKind::Take) == waiting && held.numbered_in(3, WaitKind::Take) == numbered
+}
+
+/// Two greenlets that wait to take from queue 3, one that waits to take from another, and one that peeks.
+fn wait(held: &mut HeldItems) -> Result<(), AllocError> {
+    held.add(Delivery::Wake(1, Waiting::Take(3)))?;
+    held.add(Delivery::Wake(2, Waiting::Take(4)))?;
+    held.add(Delivery::Wake(3, Waiting::Peek(3)))?;
+    held.add(Delivery::Wake(4, Waiting::Take(3)))?;
+    Ok(())
+}
+
+#[test]
+fn lines_are_counted(rt: HostRuntime) {
+    let mut held = HeldItems::new(rt.alloc());
+    assert!(rt; take_line(&held, 0, 0));
+    assert!(rt; wait(&mut held).is_ok());
+    assert!(rt; take_line(&held, 2, 0));
+    number_some(&mut held);
+    assert!(rt; take_line(&held, 2, 1));
+    assert!(rt; next(&mut held, 9) == Some(0));
+    assert!(rt; take_line(&held, 1, 0));
+    held.drop_items(&Gone::WaitOf(4));
+    assert!(rt; take_line(&held, 0, 0) && held.waiting_in(4, WaitKind::Take) == 1);
     drop(held);
 }

@@ -7,3 +7,5 @@ mod chains;
 mod frames;
 #[cfg(test)]
 mod held;
+#[cfg(test)]
+mod numbers;

@@ -1,23 +1,53 @@
+use Rattle.std.proofs.Common.{◌+◌, arith, refl}
+use Rattle.std.proofs.lemmas.Bool.{lt-ltb}
 use Rattle.hub_items.specs.WaitKinds.{test_of}
-use Rattle.hub_state.proofs.Walks.{counted_at, counted_on, is_there, none_more, one_more}
+use Rattle.held_items.specs.Waits.{waits_in_line}
+use Rattle.held_items.proofs.IndexWalks.{along_at, along_smaller}
+use Rattle.held_items.proofs.LineWalks.{earlier_begun, earlier_ended, earlier_few, earlier_more, earlier_stopped}
+use Rattle.held_items.proofs.Ordering.{same_item}
+use Rattle.hub_state.proofs.Walks.{is_there}
 use Rattle.hub_state.proofs.ahead.earlier.Goals as goal
-use Rattle.hub_state.proofs.ahead.earlier.Goals.{then-is_in_line, else-is_in_line}
+
+pub loop-at-init : goal.loop-at-init
+loop-at-init c = earlier_begun (test_of c.args.kind c.args.object) c.args.since c.args.held.now.entries _ c.first_in_line-at.ensures
 
 pub get-requires : goal.get-requires
-get-requires c = is_there _ _ (counted_at (test_of c.args.kind c.args.object) c.args.since c.in-Some.slot c.args.held.now.entries _ _ c.len-all.ensures.differ c.loop-at.invariant c.in-Some.is).there
+get-requires c = is_there _ _ (along_at (waits_in_line c.args.kind c.args.object) c.args.held.now.entries _ c.in-Some.slot c.loop-at.invariant.along c.len-apart.ensures.differ c.in-Some.is).there
+
+pub returns-then-get-since : goal.returns-then-get-since
+returns-then-get-since c =
+    let es = c.args.held.now.entries in
+    let i = c.get.result.now in
+    let q = c.in-Some.slot in
+    let st = along_at (waits_in_line c.args.kind c.args.object) es c.loop-at.at q c.loop-at.invariant.along c.len-apart.ensures.differ c.in-Some.is in
+    earlier_stopped (test_of c.args.kind c.args.object) c.args.since c.args.held.now.next_since es c.loop-at.at c.loop-at.n q i c.loop-at.invariant st (same_item q es st.item i st.there c.get.ensures) c.len-apart.ensures.ascends c.if-get-since.true
+
+pub overflow_add-n : goal.overflow_add-n
+overflow_add-n c =
+    let es = c.args.held.now.entries in
+    let st = along_at (waits_in_line c.args.kind c.args.object) es c.loop-at.at c.in-Some.slot c.loop-at.invariant.along c.len-apart.ensures.differ c.in-Some.is in
+    let few = earlier_few (test_of c.args.kind c.args.object) c.args.since es c.loop-at.at c.loop-at.n c.in-Some.slot c.loop-at.invariant st in
+    let all = c.len-apart.ensures.len in
+    let fits = c.len-apart.type_inv in
+    omega (arith, few, all, fits)
 
 pub loop-at-smaller : goal.loop-at-smaller
 loop-at-smaller c =
-    (counted_on (test_of c.args.kind c.args.object) c.args.since c.in-Some.slot c.args.held.now.entries _ _ c.loop-at.n c.if-is_in_line.n c.get.result.now c.len-all.ensures.differ c.loop-at.invariant c.in-Some.is c.get.ensures
-    (elim c.if-is_in_line.branch [
-      | then-is_in_line w ↦ one_more _ _ _ _ c.is_in_line.ensures w.if-is_in_line.true w.n-is
-      | else-is_in_line w ↦ none_more _ _ _ _ c.is_in_line.ensures w.if-is_in_line.false w.n-is
-    ]) c.after-at.ensures).smaller
+    let es = c.args.held.now.entries in
+    let test = waits_in_line c.args.kind c.args.object in
+    let along = c.loop-at.invariant.along in
+    along_smaller test es c.loop-at.at c.next_waiting-at.result c.in-Some.slot along (along_at test es _ c.in-Some.slot along c.len-apart.ensures.differ c.in-Some.is) c.len-apart.ensures.differ
+    (c.next_waiting-at.ensures.in_line c.args.kind c.args.object)
 
 pub loop-at-preserved : goal.loop-at-preserved
 loop-at-preserved c =
-    (counted_on (test_of c.args.kind c.args.object) c.args.since c.in-Some.slot c.args.held.now.entries _ _ c.loop-at.n c.if-is_in_line.n c.get.result.now c.len-all.ensures.differ c.loop-at.invariant c.in-Some.is c.get.ensures
-    (elim c.if-is_in_line.branch [
-      | then-is_in_line w ↦ one_more _ _ _ _ c.is_in_line.ensures w.if-is_in_line.true w.n-is
-      | else-is_in_line w ↦ none_more _ _ _ _ c.is_in_line.ensures w.if-is_in_line.false w.n-is
-    ]) c.after-at.ensures).counted
+    let es = c.args.held.now.entries in
+    let i = c.get.result.now in
+    let q = c.in-Some.slot in
+    let st = along_at (waits_in_line c.args.kind c.args.object) es c.loop-at.at q c.loop-at.invariant.along c.len-apart.ensures.differ c.in-Some.is in
+    let older = c.if-get-since.false in
+    earlier_more (test_of c.args.kind c.args.object) c.args.since es c.loop-at.at c.next_waiting-at.result c.loop-at.n (c.loop-at.n + 1) q i c.loop-at.invariant st (same_item q es st.item i st.there c.get.ensures)
+    (lt-ltb i.since c.args.since (omega (arith, older))) refl (c.next_waiting-at.ensures.in_line c.args.kind c.args.object)
+
+pub returns : goal.returns
+returns c = earlier_ended (test_of c.args.kind c.args.object) c.args.since c.args.held.now.entries c.loop-at.at c.loop-at.n c.loop-at.invariant c.in_default.is

@@ -1,8 +1,13 @@
-use Rattle.hub_state.proofs.Keeping.{short_taken, sound_taken}
+use Rattle.std.proofs.Common.{ap, ◌∙◌, ℕ, Option}
+use Rattle.hub_state.specs.HubParts.{state_of}
+use Rattle.hub_state.specs.Touched.{with_touched}
+use Rattle.hub_state.proofs.Keeping.{hub_taken, short_taken}
 use Rattle.hub_state.proofs.hub.Hub.take_below.Goals as goal
 
 pub invariant_of-self : goal.invariant_of-self
-invariant_of-self c = sound_taken _ c.self.inside.held c.take.new.self c.take.ensures.items c.self.invariant
+invariant_of-self c =
+    hub_taken _ c.take-item.result c.self.inside.held c.take-item.new.self c.self.inside.touched c.touch.new.self (state_of c.self.inside) c.len-ascending.ensures.ascends c.take-item.ensures.item c.take-item.ensures.taken
+    c.take-item.ensures.items (c.touch.ensures ∙ ap (λ (o : Option ℕ). with_touched o c.self.inside.touched) c.object_of.ensures) c.self.invariant
 
 pub returns-clause-short : goal.returns-clause-short
-returns-clause-short c = short_taken c.args.mark _ _ _ _ c.next_below.ensures.least c.in-Some.is c.take.ensures.item c.self.invariant
+returns-clause-short c = short_taken c.args.mark _ _ _ _ c.next_below.ensures.least c.in-Some.is c.take-item.ensures.item c.self.invariant.sound

@@ -4,28 +4,28 @@ use Rattle.hub_state.proofs.Conditions.{no_item, no_offer, no_place, no_room, no
 use Rattle.hub_state.proofs.hub.Hub.wait_holds.Goals as goal
 
 pub returns-in-Acquire : goal.returns-in-Acquire
-returns-in-Acquire c = λ items m n. told has_unit no_unit c.args.self.now items m n c.args.since c.args.before _ _ _ _ _ refl refl c.in-Acquire.is c.has_unit.ensures c.object-in-Acquire.ensures
+returns-in-Acquire c = told has_unit no_unit c.args.self.now c.args.since c.args.before _ _ _ _ _ refl refl c.in-Acquire.is c.has_unit.ensures c.object-in-Acquire.ensures
 
 pub returns-in-Lock : goal.returns-in-Lock
-returns-in-Lock c = λ items m n. told is_free not_free c.args.self.now items m n c.args.since c.args.before _ _ _ _ _ refl refl c.in-Lock.is c.is_free.ensures c.object-in-Lock.ensures
+returns-in-Lock c = told is_free not_free c.args.self.now c.args.since c.args.before _ _ _ _ _ refl refl c.in-Lock.is c.is_free.ensures c.object-in-Lock.ensures
 
 pub returns-in-Put : goal.returns-in-Put
-returns-in-Put c = λ items m n. told has_room no_room c.args.self.now items m n c.args.since c.args.before _ _ _ _ _ refl refl c.in-Put.is c.has_room.ensures c.object-in-Put.ensures
+returns-in-Put c = told has_room no_room c.args.self.now c.args.since c.args.before _ _ _ _ _ refl refl c.in-Put.is c.has_room.ensures c.object-in-Put.ensures
 
 pub returns-in-Take : goal.returns-in-Take
-returns-in-Take c = λ items m n. told has_item no_item c.args.self.now items m n c.args.since c.args.before _ _ _ _ _ refl refl c.in-Take.is c.has_item.ensures c.object-in-Take.ensures
+returns-in-Take c = told has_item no_item c.args.self.now c.args.since c.args.before _ _ _ _ _ refl refl c.in-Take.is c.has_item.ensures c.object-in-Take.ensures
 
 pub returns-in-Peek : goal.returns-in-Peek
-returns-in-Peek c = λ items m n. told has_item no_item c.args.self.now items m n c.args.since c.args.before _ _ _ _ _ refl refl c.in-Peek.is c.has_item-in-Peek.ensures c.object-in-Peek.ensures
+returns-in-Peek c = told has_item no_item c.args.self.now c.args.since c.args.before _ _ _ _ _ refl refl c.in-Peek.is c.has_item-in-Peek.ensures c.object-in-Peek.ensures
 
 pub returns-in-Place : goal.returns-in-Place
-returns-in-Place c = λ items m n. told has_place no_place c.args.self.now items m n c.args.since c.args.before _ _ _ _ _ refl refl c.in-Place.is c.has_place.ensures c.object-in-Place.ensures
+returns-in-Place c = told has_place no_place c.args.self.now c.args.since c.args.before _ _ _ _ _ refl refl c.in-Place.is c.has_place.ensures c.object-in-Place.ensures
 
 pub returns-in-MapPlace : goal.returns-in-MapPlace
-returns-in-MapPlace c = λ items m n. told has_place no_place c.args.self.now items m n c.args.since c.args.before _ _ _ _ _ refl refl c.in-MapPlace.is c.has_place-in-MapPlace.ensures c.object-in-MapPlace.ensures
+returns-in-MapPlace c = told has_place no_place c.args.self.now c.args.since c.args.before _ _ _ _ _ refl refl c.in-MapPlace.is c.has_place-in-MapPlace.ensures c.object-in-MapPlace.ensures
 
 pub returns-in-Slot : goal.returns-in-Slot
-returns-in-Slot c = λ items m n. told has_slot no_slot c.args.self.now items m n c.args.since c.args.before _ _ _ _ _ refl refl c.in-Slot.is c.has_slot.ensures c.object-in-Slot.ensures
+returns-in-Slot c = told has_slot no_slot c.args.self.now c.args.since c.args.before _ _ _ _ _ refl refl c.in-Slot.is c.has_slot.ensures c.object-in-Slot.ensures
 
 pub returns-in-TakeOffer : goal.returns-in-TakeOffer
-returns-in-TakeOffer c = λ items m n. told has_offer no_offer c.args.self.now items m n c.args.since c.args.before _ _ _ _ _ refl refl c.in-TakeOffer.is c.has_offer.ensures c.object-in-TakeOffer.ensures
+returns-in-TakeOffer c = told has_offer no_offer c.args.self.now c.args.since c.args.before _ _ _ _ _ refl refl c.in-TakeOffer.is c.has_offer.ensures c.object-in-TakeOffer.ensures

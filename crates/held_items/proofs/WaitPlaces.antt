@@ -1,0 +1,119 @@
+-- The places of the table of those who wait.
+use Rattle.std.proofs.Common.{◌≡◌, ℕ, ◌+◌, ◌*◌, ◌<◌, ◌==◌, ◌&&◌, Bool, true, false, Option, Some, None, refl, sym, ap, ◌∙◌, arith}
+use Rattle.std.specs.Prelude.{is_none}
+use Rattle.std.proofs.lemmas.Bool.Decides.{nat_tests}
+use Rattle.machine.specs.declared.items.Delivery.{Delivery}
+use Rattle.machine.specs.declared.items.Waiting.{Waiting}
+use Rattle.machine_settling.specs.Classes.{Class, class_of, class_of_wait, is_at}
+use Rattle.hub_items.specs.declared.waits.WaitKind.{WaitKind}
+use Rattle.hub_items.specs.Lines.{is_line, line_of, line_of_delivery}
+use Rattle.hub_items.specs.WaitKinds.{same_kind}
+use Rattle.hub_items.proofs.WaitKinds.{wakes_line}
+use Rattle.held_items.specs.Indexed.{has_key, is_key}
+use Rattle.held_items.specs.Waits.{is_of_ends, line_column, object_place, wait_column, wait_place, waits_for_ends, waits_in_line, waits_in_none, waits_key}
+use Rattle.held_items.proofs.EntryLemmas.{is_other}
+use Rattle.held_items.proofs.Owning.{grid}
+
+small : (kind : WaitKind) → line_column kind < 7
+small WaitKind.Acquire = omega arith
+small WaitKind.Lock = omega arith
+small WaitKind.Put = omega arith
+small WaitKind.Take = omega arith
+small WaitKind.Place = omega arith
+small WaitKind.Slot = omega arith
+small WaitKind.TakeOffer = omega arith
+
+same_column : (a b : WaitKind) → (line_column a == line_column b) ≡ same_kind a b
+same_column WaitKind.Acquire WaitKind.Acquire = refl
+same_column WaitKind.Lock WaitKind.Lock = refl
+same_column WaitKind.Put WaitKind.Put = refl
+same_column WaitKind.Take WaitKind.Take = refl
+same_column WaitKind.Place WaitKind.Place = refl
+same_column WaitKind.Slot WaitKind.Slot = refl
+same_column WaitKind.TakeOffer WaitKind.TakeOffer = refl
+same_column a b = refl
+
+one_place : (o p a b : ℕ) → a < 8 → b < 8 → (object_place o a == object_place p b) ≡ ((a == b) && (o == p))
+one_place o p a b s t = one (o * 8 + a) (p * 8 + b) ∙ grid o p a b s t
+  where
+    one : (m n : ℕ) → (m + 1 == n + 1) ≡ (m == n)
+    one m n = grind (arith, nat_tests)
+
+line_place : (kind other : WaitKind) (o p : ℕ) → (object_place o (line_column kind) == object_place p (line_column other)) ≡ (same_kind kind other && o == p)
+line_place kind other o p =
+    let s = small kind in
+    let t = small other in
+    one_place o p (line_column kind) (line_column other) (omega (arith, s)) (omega (arith, t)) ∙ ap (λ b. b && o == p) (same_column kind other)
+
+-- who is in no line is at another place
+off_place : (kind : WaitKind) (o p : ℕ) → (object_place o (line_column kind) == object_place p 7) ≡ false
+off_place kind o p = let s = small kind in is_other (object_place o (line_column kind)) (object_place p 7) (λ e. omega (arith, s, e))
+
+-- and who waits for ends
+off_ends : (o a : ℕ) → (object_place o a == 0) ≡ false
+off_ends o a = is_other (object_place o a) 0 (λ e. omega (arith, e))
+
+line_wait : (kind : WaitKind) (o : ℕ) (w : Waiting) → is_key (object_place o (line_column kind)) (wait_place (line_of w) (class_of_wait w)) ≡ is_line kind o (line_of w)
+line_wait kind o (Waiting.Sleep until) = refl
+line_wait kind o (Waiting.Join g) = off_ends o (line_column kind)
+line_wait kind o (Waiting.Get whom) = off_ends o (line_column kind)
+line_wait kind o (Waiting.Kill gs) = off_ends o (line_column kind)
+line_wait kind o (Waiting.JoinAll gs need) = off_ends o (line_column kind)
+line_wait kind o (Waiting.Event p sets) = off_place kind o p
+line_wait kind o (Waiting.ResultGet p) = off_place kind o p
+line_wait kind o (Waiting.ResultWait p) = off_place kind o p
+line_wait kind o (Waiting.Acquire p) = line_place kind WaitKind.Acquire o p
+line_wait kind o (Waiting.Lock p) = line_place kind WaitKind.Lock o p
+line_wait kind o (Waiting.Put p v) = line_place kind WaitKind.Put o p
+line_wait kind o (Waiting.Take p) = line_place kind WaitKind.Take o p
+line_wait kind o (Waiting.Peek p) = off_place kind o p
+line_wait kind o (Waiting.Tasks p) = off_place kind o p
+line_wait kind o (Waiting.Place p f vs) = line_place kind WaitKind.Place o p
+line_wait kind o (Waiting.MapPlace p f xs made) = line_place kind WaitKind.Place o p
+line_wait kind o (Waiting.MapEnd p made) = off_ends o (line_column kind)
+line_wait kind o (Waiting.Members p) = off_place kind o p
+line_wait kind o (Waiting.Slot p job takes) = line_place kind WaitKind.Slot o p
+line_wait kind o (Waiting.Offered p) = off_place kind o p
+line_wait kind o (Waiting.TakeOffer p) = line_place kind WaitKind.TakeOffer o p
+
+pub line_key : (kind : WaitKind) (o : ℕ) (d : Delivery) → has_key waits_key (object_place o (line_column kind)) d ≡ waits_in_line kind o d
+line_key kind o d = by d ∙ sym (wakes_line kind o d)
+  where
+    by : (d : Delivery) → has_key waits_key (object_place o (line_column kind)) d ≡ is_line kind o (line_of_delivery d)
+    by (Delivery.Start g None) = refl
+    by (Delivery.Start g (Some deadline)) = refl
+    by (Delivery.Wake g w) = line_wait kind o w
+    by (Delivery.Late g deadline n) = refl
+    by (Delivery.Timeout g n deadline) = refl
+    by (Delivery.Kill g f) = refl
+    by (Delivery.Link k g link f) = off_ends o (line_column kind)
+
+pub none_key : (o : ℕ) (d : Delivery) → has_key waits_key (object_place o 7) d ≡ waits_in_none o d
+none_key o d = by (line_of_delivery d) (class_of d)
+  where
+    last : (kind : WaitKind) (p : ℕ) → (object_place o 7 == object_place p (line_column kind)) ≡ false
+    last kind p = let s = small kind in is_other (object_place o 7) (object_place p (line_column kind)) (λ e. omega (arith, s, e))
+
+    no_and : (b : Bool) → (b && false) ≡ false
+    no_and true = refl
+    no_and false = refl
+
+    by : (line : Option (WaitKind × ℕ)) (c : Class) → is_key (object_place o 7) (wait_place line c) ≡ (is_at o c && is_none line)
+    by line Class.Always = refl
+    by line (Class.AtMoment deadline) = refl
+    by line (Class.OfEnds targets need) = off_ends o 7
+    by None (Class.AtObject p) = both (o == p) refl
+      where
+        both : (b : Bool) → (o == p) ≡ b → (object_place o 7 == object_place p 7) ≡ (b && true)
+        both true e = one_place o p 7 7 (omega arith) (omega arith) ∙ e
+        both false e = one_place o p 7 7 (omega arith) (omega arith) ∙ e
+    by (Some line) (Class.AtObject p) = last line.0 p ∙ sym (no_and (o == p))
+
+pub ends_key : (d : Delivery) → has_key waits_key 0 d ≡ waits_for_ends d
+ends_key d = by (line_of_delivery d) (class_of d)
+  where
+    by : (line : Option (WaitKind × ℕ)) (c : Class) → is_key 0 (wait_place line c) ≡ is_of_ends c
+    by line Class.Always = refl
+    by line (Class.AtMoment deadline) = refl
+    by line (Class.OfEnds targets need) = refl
+    by line (Class.AtObject p) = is_other 0 (object_place p (wait_column line)) (λ e. omega (arith, e))

@@ -1,0 +1,45 @@
+use Rattle.std.proofs.Common.{◌≡◌, ◌-◌, ℕ, true, Some, None, Option, refl, sym, ap, subst, ◌∙◌, arith, List}
+use Rattle.std.specs.Prelude.{is_some}
+use Rattle.held_items.specs.declared.tallies.Tally.{Tally}
+use Rattle.held_items.specs.Entries.{with_ready}
+use Rattle.held_items.specs.Lined.{one_if}
+use Rattle.held_items.specs.Tallied.{tally_at, tally_in}
+use Rattle.held_items.proofs.Tallying.{counted_there, exchanged_renumbered, key_tallied, none_tallied}
+use Rattle.held_items.proofs.tallies.Tallies.unnumber.Goals as goal
+
+one_number : (o : Option ℕ) → is_some o ≡ true → one_if o ≡ 1
+one_number None e = absurd (cc)
+one_number (Some n) e = refl
+
+pub overflow_sub-tally : goal.overflow_sub-tally
+overflow_sub-tally c =
+    let r = c.requires in
+    let t = counted_there _ c.in-Some.key r.0 c.args.item.now r.1 r.4 r.2 (sym c.waits_key.ensures.value ∙ c.in-Some.is) r.5 in
+    let a = t.numbered in
+    let f = ap (λ (t : Tally). t.numbered) c.at-tally.ensures in
+    let o = one_number c.args.item.now.ready r.3 in
+    omega (arith, a, f, o)
+
+pub set-requires : goal.set-requires
+set-requires c =
+    let r = c.requires in
+    (counted_there _ c.in-Some.key r.0 c.args.item.now r.1 r.4 r.2 (sym c.waits_key.ensures.value ∙ c.in-Some.is) r.5).within
+
+pub returns-in-Some : goal.returns-in-Some
+returns-in-Some c = λ q es there numbered differ are.
+    let i = c.args.item.now in
+    let key = sym c.waits_key.ensures.value ∙ c.in-Some.is in
+    let t = counted_there _ c.in-Some.key q i es differ there key are in
+    let a = t.numbered in
+    let e = ap (λ (t : Tally). t.waiting) c.at-tally.ensures in
+    let f = ap (λ (t : Tally). t.numbered) c.at-tally.ensures in
+    let o = one_number i.ready numbered in
+    subst (λ (table : List Tally). (k : ℕ) → tally_at table k ≡ tally_in (with_ready q None es) k) (sym c.set.ensures)
+    (key_tallied c.args.self.now.table.items c.in-Some.key (record { waiting = c.at-tally.result.waiting; numbered = c.at-tally.result.numbered - 1 }) (Some i) (Some (record i { ready = None })) es (with_ready q None es)
+    t.within (exchanged_renumbered es q None i differ there) key key (omega (arith, e)) (omega (arith, a, f, o)) are)
+
+pub returns-in_default : goal.returns-in_default
+returns-in_default c = λ q es there numbered differ are.
+    let i = c.args.item.now in
+    let key = sym c.waits_key.ensures.value ∙ c.in_default.is in
+    none_tallied _ (Some i) (Some (record i { ready = None })) es (with_ready q None es) (exchanged_renumbered es q None i differ there) key key are

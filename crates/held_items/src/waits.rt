@@ -1,0 +1,129 @@
+//! What an item waits for: ends or an object, there in a line or in none; and the items that wait for one thing, with no
+//! walk over the others.
+ghost use Rattle.std.specs.Prelude.{◌≡◌, ◌+◌, ◌<◌, ◌^◌, ℕ, List, ◌∷◌, ◌++◌, None, Some, IfSome};
+ghost use Rattle.slot_chains.specs.Chained.{first_of};
+ghost use Rattle.machine_settling.specs.Classes.{class_of_wait};
+ghost use Rattle.hub_items.specs.declared.waits.WaitKind.{WaitKind};
+ghost use Rattle.hub_items.specs.Lines.{line_of};
+ghost use Rattle.held_items.specs.Entries.{index};
+ghost use Rattle.held_items.specs.Waits.{line_column, object_place, wait_place, waits_for_ends, waits_in_line, waits_in_none, waits_key};
+
+use crate::held::HeldItems;
+use hub_items::WaitKind;
+use machine::items::{Delivery, Waiting};
+
+/// The place of those who wait for ends.
+pub const FOR_ENDS: usize = 0;
+
+/// How many places each object has: one for each kind of line, and the last for those who wait in none.
+const COLUMNS: usize = 8;
+
+fn line_column(kind: WaitKind) -> usize
+    ensures value { result ≡ line_column kind }
+    ensures within { result < 8 }
+{
+    match kind {
+        WaitKind::Acquire => 0,
+        WaitKind::Lock => 1,
+        WaitKind::Put => 2,
+        WaitKind::Take => 3,
+        WaitKind::Place => 4,
+        WaitKind::Slot => 5,
+        WaitKind::TakeOffer => 6,
+    }
+}
+
+/// The place of those who wait in the line of this kind at this object.
+pub fn in_line(o: u32, kind: WaitKind) -> usize
+    ensures value { result ≡ object_place o (line_column kind) }
+    ensures within { result + 1 < 2 ^ 64 }
+{
+    o as usize * COLUMNS + line_column(kind) + 1
+}
+
+/// The place of those who wait at this object in no line.
+pub fn in_none(o: u32) -> usize
+    ensures value { result ≡ object_place o 7 }
+    ensures within { result + 1 < 2 ^ 64 }
+{
+    o as usize * COLUMNS + COLUMNS
+}
+
+/// The place of those who wait so, where they wait for ends or for an object.
+fn place_of_wait(waiting: &Waiting) -> Option<usize>
+    ensures value { result ≡ wait_place (line_of waiting.now) (class_of_wait waiting.now) }
+    ensures within { IfSome result (λ place. place + 1 < 2 ^ 64) }
+{
+    match waiting {
+        Waiting::Sleep(_) => None,
+        Waiting::Join(_) => Some(FOR_ENDS),
+        Waiting::Get(_) => Some(FOR_ENDS),
+        Waiting::Kill(_) => Some(FOR_ENDS),
+        Waiting::JoinAll(_, _) => Some(FOR_ENDS),
+        Waiting::Event(o, _) => Some(in_none(*o)),
+        Waiting::ResultGet(o) => Some(in_none(*o)),
+        Waiting::ResultWait(o) => Some(in_none(*o)),
+        Waiting::Acquire(o) => Some(in_line(*o, WaitKind::Acquire)),
+        Waiting::Lock(o) => Some(in_line(*o, WaitKind::Lock)),
+        Waiting::Put(o, _) => Some(in_line(*o, WaitKind::Put)),
+        Waiting::Take(o) => Some(in_line(*o, WaitKind::Take)),
+        Waiting::Peek(o) => Some(in_none(*o)),
+        Waiting::Tasks(o) => Some(in_none(*o)),
+        Waiting::Place(o, _, _) => Some(in_line(*o, WaitKind::Place)),
+        Waiting::MapPlace(o, _, _, _) => Some(in_line(*o, WaitKind::Place)),
+        Waiting::MapEnd(_, _) => Some(FOR_ENDS),
+        Waiting::Members(o) => Some(in_none(*o)),
+        Waiting::Slot(o, _, _) => Some(in_line(*o, WaitKind::Slot)),
+        Waiting::Offered(o) => Some(in_none(*o)),
+        Waiting::TakeOffer(o) => Some(in_line(*o, WaitKind::TakeOffer)),
+    }
+}
+
+/// The place of the item among those who wait, where it waits for ends or for an object.
+pub fn waits_key(delivery: &Delivery) -> Option<usize>
+    ensures value { result ≡ waits_key delivery.now }
+    ensures within { IfSome result (λ place. place + 1 < 2 ^ 64) }
+{
+    match delivery {
+        Delivery::Start(_, None) => None,
+        Delivery::Start(_, Some(_)) => None,
+        Delivery::Wake(_, waiting) => place_of_wait(waiting),
+        Delivery::Late(_, _, _) => None,
+        Delivery::Timeout(_, _, _) => None,
+        Delivery::Kill(_, _) => None,
+        Delivery::Link(_, _, _, _) => Some(FOR_ENDS),
+    }
+}
+
+impl HeldItems {
+    /// The slot of the oldest item that waits in the line of this kind at this object.
+    pub fn first_in_line(&self, o: u32, kind: WaitKind) -> Option<u32>
+        ensures { result ≡ first_of (index (waits_in_line kind o) self.now.entries) None }
+    {
+        self.indexes.in_line(o, kind)
+    }
+
+    /// The slot of the oldest item that waits at this object in no line.
+    pub fn first_of_others(&self, o: u32) -> Option<u32>
+        ensures { result ≡ first_of (index (waits_in_none o) self.now.entries) None }
+    {
+        self.indexes.in_none(o)
+    }
+
+    /// The slot of the oldest item that waits for the ends of greenlets or jobs.
+    pub fn first_for_ends(&self) -> Option<u32>
+        ensures { result ≡ first_of (index waits_for_ends self.now.entries) None }
+    {
+        self.indexes.for_ends()
+    }
+
+    /// The slot of the item that was made after that of this slot, of those that wait in the same line, at the same object
+    /// in no line, or for ends too.
+    pub fn next_waiting(&self, slot: u32) -> Option<u32>
+        ensures in_line { (kind : WaitKind) (o : ℕ) (xs ys : List ℕ) → index (waits_in_line kind o) self.now.entries ≡ xs ++ slot ∷ ys → result ≡ first_of ys None }
+        ensures in_none { (o : ℕ) (xs ys : List ℕ) → index (waits_in_none o) self.now.entries ≡ xs ++ slot ∷ ys → result ≡ first_of ys None }
+        ensures for_ends { (xs ys : List ℕ) → index waits_for_ends self.now.entries ≡ xs ++ slot ∷ ys → result ≡ first_of ys None }
+    {
+        self.indexes.next_waiting(slot)
+    }
+}

@@ -1,0 +1,361 @@
+-- The hub stays up to date: each step keeps it so, where what the step touches is touched.
+use Rattle.std.proofs.Common.{◌≡◌, refl, sym, ◌∙◌, ap, subst, ℕ, zero, suc, ◌+◌, ◌<◌, ◌≤◌, Bool, true, false, List, [], ◌∷◌, ◌++◌, length, get_or, ◌⊎◌, inl, inr, arith}
+use Rattle.std.proofs.lemmas.Bool.{cases_lt, eq-eqb, eqb-true, le-ltb, lt-ltb, or_cases, or_left, or_right, true≢false}
+use Rattle.std.proofs.lemmas.List.Elements.{All-from_recursion}
+use Rattle.std.specs.List.{All, list_any}
+use Rattle.std.specs.Prelude.{◌==◌, cond, IfSome, IsTrue, Option, Some, None, nat_lt, slice_get}
+use Rattle.gv_values.specs.declared.value.Whom.{Whom}
+use Rattle.trace_text.specs.declared.line.Line.{Line}
+use Rattle.machine.specs.declared.items.Delivery.{Delivery}
+use Rattle.machine.specs.declared.items.Item.{Item}
+use Rattle.machine.specs.declared.state.Object.{Object}
+use Rattle.machine.specs.declared.state.Post.{Post}
+use Rattle.machine.specs.State.{State}
+use Rattle.machine.specs.Holds.{delivery_holds, holds}
+use Rattle.machine.specs.Items.{add_item}
+use Rattle.machine.specs.Questions.{is_numbered}
+use Rattle.machine_settling.specs.Classes.{Class, class_of, is_at}
+use Rattle.machine_settling.specs.Numbers.{IsAscending}
+use Rattle.machine_settling.specs.Steps.{IsOf, Step, after, either, nothing, the_ends, the_objects, touches}
+use Rattle.machine_settling.proofs.Agreements.{Agrees, adds-nothing, agreement-weakens, agrees-after, in_last, since_below}
+use Rattle.machine_settling.proofs.Fronts.{fronts_stepped}
+use Rattle.machine_settling.proofs.Members.{In, contains_of_in, in_of_Contains}
+use Rattle.machine_settling.proofs.Parts.{all_by, at_in}
+use Rattle.number_set.specs.Sets.{inserted, is_among}
+use Rattle.held_items.specs.Entries.{Entry}
+use Rattle.held_items.specs.Waits.{is_of_ends}
+use Rattle.hub_state.specs.Touched.{HasCome, HasMark, HasTouched, IsMade, IsPast, IsPending, IsRoomier, IsUpToDate, SeenTouched, awaited, reopened, with_ends, with_made, with_touched, with_waited}
+
+-- ---- numbers that were put in
+
+in_more : {X : Type 0} (xs ys : List X) (x : X) → In x xs → In x (xs ++ ys)
+in_more [] ys x h = absurd h
+in_more (z ∷ xs) ys x (inl e) = inl e
+in_more (z ∷ xs) ys x (inr h) = inr (in_more xs ys x h)
+
+in_end : {X : Type 0} (xs : List X) (x : X) → In x (xs ++ x ∷ [])
+in_end [] x = inl refl
+in_end (z ∷ xs) x = inr (in_end xs x)
+
+in_among : (k : ℕ) (ks : List ℕ) → is_among k ks ≡ true → In k ks
+in_among k [] h = absurd (true≢false (sym h))
+in_among k (j ∷ ks) h = by (or_cases (j == k) (is_among k ks) h) (in_among k ks)
+  where
+    by : ((j == k) ≡ true) ⊎ (is_among k ks ≡ true) → (is_among k ks ≡ true → In k ks) → In k (j ∷ ks)
+    by (inl e) rest = inl (eqb-true j k e)
+    by (inr m) rest = inr (rest m)
+
+pub in_still : (j k : ℕ) (ks : List ℕ) → In j ks → In j (inserted k ks)
+in_still j k ks h = by (is_among k ks)
+  where
+    by : (b : Bool) → In j (cond b ks (ks ++ k ∷ []))
+    by true = h
+    by false = in_more ks (k ∷ []) j h
+
+pub in_inserted : (k : ℕ) (ks : List ℕ) → In k (inserted k ks)
+in_inserted k ks = by (is_among k ks) refl
+  where
+    by : (b : Bool) → is_among k ks ≡ b → In k (cond b ks (ks ++ k ∷ []))
+    by true e = in_among k ks e
+    by false e = in_end ks k
+
+listed : (o : ℕ) (ks : List ℕ) → In o ks → list_any (λ p. o == p) ks ≡ true
+listed o [] h = absurd h
+listed o (k ∷ ks) (inl e) = or_left (o == k) (list_any (λ p. o == p) ks) (eq-eqb o k (sym e))
+listed o (k ∷ ks) (inr h) = or_right (o == k) (list_any (λ p. o == p) ks) (listed o ks h)
+
+in_listed : (o : ℕ) (ks : List ℕ) → list_any (λ p. o == p) ks ≡ true → In o ks
+in_listed o [] h = absurd (true≢false (sym h))
+in_listed o (k ∷ ks) h = by (or_cases (o == k) (list_any (λ p. o == p) ks) h) (in_listed o ks)
+  where
+    by : ((o == k) ≡ true) ⊎ (list_any (λ p. o == p) ks ≡ true) → (list_any (λ p. o == p) ks ≡ true → In o ks) → In o (k ∷ ks)
+    by (inl e) rest = inl (sym (eqb-true o k e))
+    by (inr m) rest = inr (rest m)
+
+-- ---- what was touched more
+
+-- what was touched is touched still, and has its place still
+pub record Grows (t u : SeenTouched) : Type 0 where
+  pub classes : (c : Class) → IsTrue (reopened t c) → IsTrue (reopened u c)
+  pub made : (q : ℕ) → In q t.made → In q u.made
+  pub rooms : t.rooms ≤ u.rooms
+
+pub grows_same : (t : SeenTouched) → Grows t t
+grows_same t = record { classes = λ c h. h; made = λ q h. h; rooms = omega arith }
+
+pub grows_on : (t u v : SeenTouched) → Grows t u → Grows u v → Grows t v
+grows_on t u v g h = record { classes = λ c k. h.classes c (g.classes c k); made = λ q k. h.made q (g.made q k); rooms = let a = g.rooms in let b = h.rooms in omega (arith, a, b) }
+
+pub grows_ends : (b : Bool) (t : SeenTouched) → Grows t (with_ends b t)
+grows_ends b t = record { classes = by; made = λ q h. h; rooms = omega arith }
+  where
+    by : (c : Class) → IsTrue (reopened t c) → IsTrue (reopened (with_ends b t) c)
+    by Class.Always h = h
+    by (Class.AtMoment deadline) h = h
+    by (Class.OfEnds targets need) h = or_left t.ends b h
+    by (Class.AtObject o) h = h
+
+pub grows_touched : (object : Option ℕ) (t : SeenTouched) → Grows t (with_touched object t)
+grows_touched None t = grows_same t
+grows_touched (Some o) t = by (nat_lt o t.rooms)
+  where
+    more : (c : Class) → IsTrue (reopened t c) → IsTrue (reopened (record t { objects = inserted o t.objects }) c)
+    more Class.Always h = h
+    more (Class.AtMoment deadline) h = h
+    more (Class.OfEnds targets need) h = h
+    more (Class.AtObject p) h = listed p (inserted o t.objects) (in_still p o t.objects (in_listed p t.objects h))
+
+    by : (b : Bool) → Grows t (cond b (record t { objects = inserted o t.objects }) t)
+    by true = record { classes = more; made = λ q h. h; rooms = omega arith }
+    by false = grows_same t
+
+pub grows_waited : (holds : Bool) (c : Class) (t : SeenTouched) → Grows t (with_waited holds c t)
+grows_waited true c t = let u = with_ends (is_of_ends c) t in grows_on t u (with_touched (awaited c) u) (grows_ends (is_of_ends c) t) (grows_touched (awaited c) u)
+grows_waited false c t = grows_same t
+
+-- what is touched now is said by an equation
+pub grows_is : (t u v : SeenTouched) → u ≡ v → Grows t v → Grows t u
+grows_is t u v e g = subst (Grows t) (sym e) g
+
+pub grows_made : (q : ℕ) (t : SeenTouched) → Grows t (with_made q t)
+grows_made q t = by (nat_lt q t.slots)
+  where
+    by : (b : Bool) → Grows t (cond b (record t { made = inserted q t.made }) t)
+    by true = record { classes = λ c h. h; made = λ p h. in_still p q t.made h; rooms = omega arith }
+    by false = grows_same t
+
+-- what has a place is touched
+pub reopens_at : (o : ℕ) (t : SeenTouched) (c : Class) → IfSome (awaited c) (λ p. p < t.rooms) → is_at o c ≡ true → IsTrue (reopened (with_touched (Some o) t) c)
+reopens_at o t Class.Always m e = refl
+reopens_at o t (Class.AtMoment deadline) m e = refl
+reopens_at o t (Class.OfEnds targets need) m e = absurd (true≢false (sym e))
+reopens_at o t (Class.AtObject p) m e = by (nat_lt o t.rooms) (lt-ltb o t.rooms (let same = eqb-true o p e in omega (arith, m, same)))
+  where
+    by : (b : Bool) → b ≡ true → IsTrue (reopened (cond b (record t { objects = inserted o t.objects }) t) (Class.AtObject p))
+    by true u = listed p (inserted o t.objects) (subst (λ k. In k (inserted o t.objects)) (eqb-true o p e) (in_inserted o t.objects))
+    by false u = absurd (true≢false (sym u))
+
+-- so is the object of an item that has a mark
+pub reopens_awaited : (d : Class) (t : SeenTouched) (o : ℕ) → IfSome (awaited d) (λ p. p < t.rooms) → is_at o d ≡ true → IsTrue (reopened (with_touched (awaited d) t) (Class.AtObject o))
+reopens_awaited (Class.AtObject p) t o m e =
+    let same = eqb-true o p e in
+    subst (λ k. IsTrue (reopened (with_touched (Some p) t) (Class.AtObject k))) (sym same) (reopens_at p t (Class.AtObject p) m (eq-eqb p p refl))
+reopens_awaited Class.Always t o m e = absurd (true≢false (sym e))
+reopens_awaited (Class.AtMoment deadline) t o m e = absurd (true≢false (sym e))
+reopens_awaited (Class.OfEnds targets need) t o m e = absurd (true≢false (sym e))
+
+-- and the ends, where the class is one of these
+pub reopens_ends : (x b : Bool) (whom : Whom) (t : SeenTouched) → (x ≡ true → b ≡ true) → (c : Class) → cond x (the_ends whom) nothing c ≡ true → IsTrue (reopened (with_ends b t) c)
+reopens_ends false b whom t f c e = absurd (true≢false (sym e))
+reopens_ends true b whom t f Class.Always e = refl
+reopens_ends true b whom t f (Class.AtMoment deadline) e = refl
+reopens_ends true b whom t f (Class.OfEnds targets need) e = or_right t.ends b (f refl)
+reopens_ends true b whom t f (Class.AtObject o) e = absurd (true≢false (sym e))
+
+-- and the class of an item that is made, where it holds
+reopens_waited : (c : Class) (t : SeenTouched) → IfSome (awaited c) (λ o. o < t.rooms) → IsTrue (reopened (with_waited true c t) c)
+reopens_waited Class.Always t m = refl
+reopens_waited (Class.AtMoment deadline) t m = refl
+reopens_waited (Class.OfEnds targets need) t m = or_right t.ends true refl
+reopens_waited (Class.AtObject o) t m = reopens_at o (with_ends false t) (Class.AtObject o) m (eq-eqb o o refl)
+
+pub waited_fails : (holds : Bool) (c : Class) (t w : SeenTouched) → IfSome (awaited c) (λ o. o < t.rooms) → Grows (with_waited holds c t) w → reopened w c ≡ false → holds ≡ false
+waited_fails true c t w m g e = absurd (true≢false (sym (g.classes c (reopens_waited c t m)) ∙ e))
+waited_fails false c t w m g e = refl
+
+-- the slot that has a place is among those that were made
+pub in_made : (q : ℕ) (t : SeenTouched) → q < t.slots → In q (with_made q t).made
+in_made q t l = let yes = lt-ltb q t.slots l in rw yes (in_inserted q t.made)
+
+-- ---- the objects that pass a test
+
+pub touched_none : (test : Option Object → Bool) (objects : List Object) (t : SeenTouched) → HasTouched test objects 0 t t
+touched_none test objects t = record { ends = refl; made = refl; rooms = refl; still = λ o h. h; each = λ o l. absurd (omega (arith, l)) }
+
+pub touched_more : (test : Option Object → Bool) (objects : List Object) (n : ℕ) (t u : SeenTouched) → HasTouched test objects n t u → HasTouched test objects (n + 1) t (with_touched (Some n) u)
+touched_more test objects n t u h = by (cases_lt n u.rooms)
+  where
+    v : SeenTouched
+    v = record u { objects = inserted n u.objects }
+
+    here : n < u.rooms → with_touched (Some n) u ≡ v
+    here l = let yes = lt-ltb n u.rooms l in rw yes refl
+
+    past : u.rooms ≤ n → with_touched (Some n) u ≡ u
+    past l = let no = le-ltb n u.rooms l in rw no refl
+
+    more : (o : ℕ) → IsTrue (reopened u (Class.AtObject o)) → IsTrue (reopened v (Class.AtObject o))
+    more o k = listed o (inserted n u.objects) (in_still o n u.objects (in_listed o u.objects k))
+
+    new : (o : ℕ) → o < n + 1 → o < t.rooms → IsTrue (test (slice_get objects o)) → IsTrue (reopened v (Class.AtObject o))
+    new o l m e = at (cases_lt o n)
+      where
+        at : (o < n) ⊎ (n ≤ o) → IsTrue (reopened v (Class.AtObject o))
+        at (inl k) = more o (h.each o k m e)
+        at (inr k) = let same : n ≡ o = omega (arith, l, k) in subst (λ p. IsTrue (reopened v (Class.AtObject p))) same (listed n (inserted n u.objects) (in_inserted n u.objects))
+
+    old : u.rooms ≤ n → (o : ℕ) → o < n + 1 → o < t.rooms → IsTrue (test (slice_get objects o)) → IsTrue (reopened u (Class.AtObject o))
+    old k o l m e = h.each o (let r = h.rooms in omega (arith, k, m, r)) m e
+
+    by : (n < u.rooms) ⊎ (u.rooms ≤ n) → HasTouched test objects (n + 1) t (with_touched (Some n) u)
+    by (inl l) = subst (HasTouched test objects (n + 1) t) (sym (here l)) (record { ends = h.ends; made = h.made; rooms = h.rooms; still = λ o k. more o (h.still o k); each = new })
+    by (inr l) = subst (HasTouched test objects (n + 1) t) (sym (past l)) (record { ends = h.ends; made = h.made; rooms = h.rooms; still = h.still; each = old l })
+
+pub touched_other : (test : Option Object → Bool) (objects : List Object) (n : ℕ) (d : Object) (t u : SeenTouched) → n < length objects → test (Some (get_or objects n d)) ≡ false → HasTouched test objects n t u →
+    HasTouched test objects (n + 1) t u
+touched_other test objects n d t u l e h = record { ends = h.ends; made = h.made; rooms = h.rooms; still = h.still; each = each }
+  where
+    there : (xs : List Object) (k : ℕ) → k < length xs → slice_get xs k ≡ Some (get_or xs k d)
+    there [] k m = absurd (omega (arith, m))
+    there (x ∷ xs) zero m = refl
+    there (x ∷ xs) (suc k) m = there xs k (omega (arith, m))
+
+    each : (o : ℕ) → o < n + 1 → o < t.rooms → IsTrue (test (slice_get objects o)) → IsTrue (reopened u (Class.AtObject o))
+    each o k m p = at (cases_lt o n)
+      where
+        at : (o < n) ⊎ (n ≤ o) → IsTrue (reopened u (Class.AtObject o))
+        at (inl q) = h.each o q m p
+        at (inr q) =
+            let same : o ≡ n = omega (arith, k, q) in
+            absurd (true≢false (sym (rw same at p) ∙ ap test (there objects n l) ∙ e))
+
+-- all that pass it are touched
+pub reopens_all : (test : Option Object → Bool) (objects : List Object) (t u : SeenTouched) → test None ≡ false → HasTouched test objects (length objects) t u →
+    (c : Class) → IfSome (awaited c) (λ p. p < t.rooms) → IsTrue (the_objects test objects c) → IsTrue (reopened u c)
+reopens_all test objects t u none h Class.Always m e = refl
+reopens_all test objects t u none h (Class.AtMoment deadline) m e = refl
+reopens_all test objects t u none h (Class.OfEnds targets need) m e = absurd (true≢false (sym e))
+reopens_all test objects t u none h (Class.AtObject o) m e = by (cases_lt o (length objects))
+  where
+    past : (xs : List Object) (k : ℕ) → length xs ≤ k → slice_get xs k ≡ None
+    past [] k l = refl
+    past (x ∷ xs) zero l = absurd (omega (arith, l))
+    past (x ∷ xs) (suc k) l = past xs k (omega (arith, l))
+
+    by : (o < length objects) ⊎ (length objects ≤ o) → IsTrue (reopened u (Class.AtObject o))
+    by (inl l) = h.each o l m e
+    by (inr l) = absurd (true≢false (sym e ∙ ap test (past objects o l) ∙ none))
+
+pub grows_all : (test : Option Object → Bool) (objects : List Object) (n : ℕ) (t u : SeenTouched) → HasTouched test objects n t u → Grows t u
+grows_all test objects n t u h = record { classes = by; made = λ q k. subst (In q) (sym h.made) k; rooms = let r = h.rooms in omega (arith, r) }
+  where
+    by : (c : Class) → IsTrue (reopened t c) → IsTrue (reopened u c)
+    by Class.Always k = refl
+    by (Class.AtMoment deadline) k = refl
+    by (Class.OfEnds targets need) k = h.ends ∙ k
+    by (Class.AtObject o) k = h.still o k
+
+pub grows_roomier : (t u : SeenTouched) → IsRoomier t u → Grows t u
+grows_roomier t u h = record { classes = by; made = λ q k. subst (In q) (sym h.made) k; rooms = h.rooms }
+  where
+    by : (c : Class) → IsTrue (reopened t c) → IsTrue (reopened u c)
+    by Class.Always k = refl
+    by (Class.AtMoment deadline) k = refl
+    by (Class.OfEnds targets need) k = h.ends ∙ k
+    by (Class.AtObject o) k = subst (λ ks. list_any (λ p. o == p) ks ≡ true) (sym h.objects) k
+
+-- ---- the state
+
+pub come_later : (m n : ℕ) (c : Class) → m ≤ n → HasCome m c → HasCome n c
+come_later m n (Class.AtMoment deadline) l h = omega (arith, l, h)
+come_later m n Class.Always l h = tt
+come_later m n (Class.OfEnds targets need) l h = tt
+come_later m n (Class.AtObject o) l h = tt
+
+pub marked_more : (m n : ℕ) (object : Option ℕ) → m ≤ n → IfSome object (λ o. o < m) → IfSome object (λ o. o < n)
+marked_more m n None l h = tt
+marked_more m n (Some o) l h = omega (arith, l, h)
+
+-- what all items have that are there
+pub each_of : {X : Type 0} (P : X → Type 0) (xs : List X) → ((x : X) → In x xs → P x) → All P xs
+each_of P xs f = All-from_recursion P xs (all_by P xs f)
+
+not_then : (x y : Bool) → (x ≡ true → y ≡ true) → y ≡ false → x ≡ false
+not_then true y f e = sym (f refl) ∙ e
+not_then false y f e = refl
+
+-- more is touched, and nothing is done
+pub kept_grown : (t u : SeenTouched) (s : State) → Grows t u → IsUpToDate t s → IsUpToDate u s
+kept_grown t u s g h = record {
+  agrees = agreement-weakens (reopened t) (reopened u) s g.classes h.agrees;
+  front = h.front;
+  past = h.past;
+  marked = each_of (HasMark u.rooms) s.items (λ i k. marked_more t.rooms u.rooms (awaited (class_of i.delivery)) g.rooms (at_in (HasMark t.rooms) s.items i h.marked k));
+  rooms = let r = h.rooms in let l = g.rooms in omega (arith, r, l);
+}
+
+-- the state with other next numbers, lines and posts, which no condition reads
+abbrev pub beside : ℕ → ℕ → List Line → List Post → State → State
+beside next_ready next_since lines posts s = record s { next_ready = next_ready; next_since = next_since; lines = lines; posts = posts }
+
+pub kept_beside : (m n : ℕ) (lines : List Line) (posts : List Post) (t : SeenTouched) (s : State) → IsUpToDate t s → IsUpToDate t (beside m n lines posts s)
+kept_beside m n lines posts t s h = record { agrees = h.agrees; front = h.front; past = h.past; marked = h.marked; rooms = h.rooms }
+
+-- a step that adds no item, where each class of some item is touched that the step touches
+pub kept_after : (step : Step) (t u : SeenTouched) (s : State) → IsAscending s → IsOf step s → Grows t u →
+    ((c : Class) → IfSome (awaited c) (λ o. o < t.rooms) → IsTrue (touches step s c) → IsTrue (reopened u c)) → ((i : Item) → In i (after step s).items → In i s.items) →
+    s.moment ≤ (after step s).moment → length (after step s).objects ≤ u.rooms → IsUpToDate t s → IsUpToDate u (after step s)
+kept_after step t u s a m g covers within later rooms h = record {
+  agrees = each_of (Agrees (reopened u) (holds (after step s))) (after step s).items agrees;
+  front = fronts_stepped step s a h.front;
+  past = each_of (IsPast (after step s).moment) (after step s).items (λ i k n. come_later s.moment (after step s).moment (class_of i.delivery) later (at_in (IsPast s.moment) s.items i h.past (within i k) n));
+  marked = each_of (HasMark u.rooms) (after step s).items (λ i k. marked_more t.rooms u.rooms (awaited (class_of i.delivery)) g.rooms (mark i k));
+  rooms = rooms;
+}
+  where
+    mark : (i : Item) → In i (after step s).items → HasMark t.rooms i
+    mark i k = at_in (HasMark t.rooms) s.items i h.marked (within i k)
+
+    agrees : (i : Item) → In i (after step s).items → reopened u (class_of i.delivery) ≡ false → is_numbered i ≡ holds (after step s) i
+    agrees i k e =
+        let c = class_of i.delivery in
+        at_in (Agrees (either (reopened t) (touches step s)) (holds (after step s))) (after step s).items i (agrees-after step (reopened t) s a m h.agrees) k
+        (not_then (either (reopened t) (touches step s) c) (reopened u c) (λ r. by (or_cases (reopened t c) (touches step s c) r)) e)
+      where
+        by : (reopened t (class_of i.delivery) ≡ true) ⊎ (touches step s (class_of i.delivery) ≡ true) → reopened u (class_of i.delivery) ≡ true
+        by (inl r) = g.classes (class_of i.delivery) r
+        by (inr r) = covers (class_of i.delivery) (mark i k) r
+
+-- an item is added whose object has a place, and which doesn't hold where its class is not touched
+pub kept_added : (d : Delivery) (t u : SeenTouched) (s : State) → IsAscending s → Grows t u → (reopened u (class_of d) ≡ false → delivery_holds s s.next_since d ≡ false) →
+    IfSome (awaited (class_of d)) (λ o. o < u.rooms) → IsUpToDate t s → IsUpToDate u (add_item d s)
+kept_added d t u s a g fails mark h = record {
+  agrees = each_of (Agrees (reopened u) (holds (add_item d s))) (add_item d s).items (λ i k. agrees i (in_last s.items new i k));
+  front = fronts_stepped (Step.Adds d) s a h.front;
+  past = each_of (IsPast s.moment) (add_item d s).items (λ i k. past i (in_last s.items new i k));
+  marked = each_of (HasMark u.rooms) (add_item d s).items (λ i k. marked i (in_last s.items new i k));
+  rooms = let r = h.rooms in let l = g.rooms in omega (arith, r, l);
+}
+  where
+    new : Item
+    new = record { since = s.next_since; delivery = d; ready = None }
+
+    agrees : (i : Item) → In i s.items ⊎ (new ≡ i) → reopened u (class_of i.delivery) ≡ false → is_numbered i ≡ holds (add_item d s) i
+    agrees i (inl k) e =
+        let c = class_of i.delivery in
+        let older = since_below 0 s.next_since s.items i a k in
+        at_in (Agrees (reopened t) (holds s)) s.items i h.agrees k (not_then (reopened t c) (reopened u c) (g.classes c) e) ∙ sym (adds-nothing d s i (omega (arith, older)))
+    agrees i (inr n) e =
+        subst (λ (j : Item). reopened u (class_of j.delivery) ≡ false → is_numbered j ≡ holds (add_item d s) j) n (λ f. sym (adds-nothing d s new (omega arith) ∙ fails f)) e
+
+    past : (i : Item) → In i s.items ⊎ (new ≡ i) → IsPast s.moment i
+    past i (inl k) = at_in (IsPast s.moment) s.items i h.past k
+    past i (inr e) = λ n. absurd (true≢false (sym n ∙ ap is_numbered (sym e)))
+
+    marked : (i : Item) → In i s.items ⊎ (new ≡ i) → HasMark u.rooms i
+    marked i (inl k) = marked_more t.rooms u.rooms (awaited (class_of i.delivery)) g.rooms (at_in (HasMark t.rooms) s.items i h.marked k)
+    marked i (inr e) = subst (HasMark u.rooms) e mark
+
+-- ---- what waits for nothing
+
+-- fewer items, of which more are known to be made
+pub pending_fewer : (made more : List ℕ) (es fs : List Entry) → ((q : ℕ) → In q made → In q more) → ((e : Entry) → In e fs → In e es) → IsPending made es → IsPending more fs
+pending_fewer made more es fs f w h = each_of (IsMade more) fs (λ e k a n. contains_of_in more e.0 (f e.0 (in_of_Contains made e.0 (at_in (IsMade made) es e h (w e k) a n))))
+
+-- one more, that is known to be made
+pub pending_more : (made more : List ℕ) (es : List Entry) (e : Entry) → ((q : ℕ) → In q made → In q more) → In e.0 more → IsPending made es → IsPending more (es ++ e ∷ [])
+pending_more made more es e f m h = each_of (IsMade more) (es ++ e ∷ []) (λ x k. by x (in_last es e x k))
+  where
+    by : (x : Entry) → In x es ⊎ (e ≡ x) → IsMade more x
+    by x (inl k) = λ a n. contains_of_in more x.0 (f x.0 (in_of_Contains made x.0 (at_in (IsMade made) es x h k a n)))
+    by x (inr s) = λ a n. contains_of_in more x.0 (subst (λ y. In y.0 more) s m)

@@ -1,0 +1,40 @@
+use Rattle.std.proofs.Common.{List, false, ap, arith, length, subst, sym, ℕ, ◌∙◌}
+use Rattle.std.proofs.lemmas.List.Sorted.{length_permutation}
+use Rattle.machine_settling.specs.Numbers.{gives_all, takes_all}
+use Rattle.hub_state.specs.Found.{AreReady, Numbers, SeenFound, sinces_in}
+use Rattle.hub_state.specs.Over.{with_held}
+use Rattle.hub_state.proofs.Numbering.{ready_moved}
+use Rattle.hub_state.proofs.found.Found.number.Goals as goal
+
+pub number_all-requires-clause-ready : goal.number_all-requires-clause-ready
+number_all-requires-clause-ready c =
+    subst (AreReady false c.unnumber_all.new.held.entries) (sym c.deref-2.ensures.value)
+    (ready_moved false c.unnumber_all.new.held.entries c.self.inside.gained.items c.sort.new.gained.items c.sort.ensures.moved
+    (c.unnumber_all.ensures.kept c.self.inside.gained.items (subst (λ (f : SeenFound). AreReady false c.args.held.now.entries f.gained) (sym c.self.view_is) c.requires.gained)))
+
+pub number_all-requires-clause-count : goal.number_all-requires-clause-count
+number_all-requires-clause-count c =
+    let same = length_permutation c.self.inside.gained.items c.sort.new.gained.items c.sort.ensures.moved in
+    let all = ap length c.deref-2.ensures.value in
+    let next = c.unnumber_all.ensures.next in
+    let mark = c.mark.ensures in
+    let count = c.len.ensures in
+    let sum = c.saturating_add.ensures in
+    let few = c.if-saturating_add-gt-NUMBERS.false in
+    omega (arith, same, all, next, mark, count, sum, few)
+
+pub returns : goal.returns
+returns c =
+    let lost = c.self.inside.lost.items in
+    let gained = c.sort.new.gained.items in
+    record {
+      numbers = subst (λ (f : SeenFound). Numbers f (record { lost = lost; gained = gained }) c.args.held.now c.number_all.new.held) c.self.view_is (record {
+        moved = c.sort.ensures.moved;
+        sorted = c.sort.ensures.sorted;
+        is = λ s.
+            c.number_all.ensures s
+            ∙ ap (λ (ps : List (ℕ × ℕ)). gives_all (sinces_in ps) (with_held c.unnumber_all.new.held s)) c.deref-2.ensures.value
+            ∙ ap (gives_all (sinces_in gained)) (c.unnumber_all.ensures.taken s ∙ ap (λ (ps : List (ℕ × ℕ)). takes_all (sinces_in ps) (with_held c.args.held.now s)) c.deref.ensures.value);
+      });
+      err = tt;
+    }

@@ -1,0 +1,230 @@
+//! What a settling looks at.
+ghost use Rattle.std.specs.Prelude.{IsTrue, ◌≡◌, ◌+◌, ◌<◌, ◌^◌, ℕ, true, List, [], ◌∷◌, ◌++◌, length, OnOk};
+ghost use Rattle.std.specs.List.{All};
+ghost use Rattle.linked_items.specs.Items.{Differ};
+ghost use Rattle.machine.specs.State.{State as Shown};
+ghost use Rattle.machine_settling.specs.Classes.{is_at};
+ghost use Rattle.machine_settling.specs.Fronts.{NumbersStandInFront};
+ghost use Rattle.held_items.specs.Entries.{flat, item_in};
+ghost use Rattle.held_items.specs.Waits.{is_of_ends, waits_in_line, waits_in_none};
+ghost use Rattle.hub_state.specs.Found.{HoldWithNumbers, LooksAlong, LooksAt, at_objects, ends_if, is_always, is_moment, noted_always, touched_now, waits_for_nothing};
+ghost use Rattle.hub_state.specs.Touched.{IsPast, IsPending};
+ghost use Rattle.hub_state.specs.Waiters.{IsBefore};
+
+use crate::ahead::earlier_ahead;
+use crate::found::Found;
+use crate::hub::Hub;
+use crate::touched::Touched;
+use held_items::HeldItems;
+use hub_items::WaitKind;
+use machine::items::{Delivery, Item};
+use std::alloc::AllocError;
+
+/// Whether such an item waits for nothing.
+fn waits_for_nothing(delivery: &Delivery) -> bool
+    ensures { result ≡ waits_for_nothing delivery.now }
+{
+    match delivery {
+        Delivery::Start(_, None) => true,
+        Delivery::Kill(_, _) => true,
+        _ => false,
+    }
+}
+
+/// Notes the item of the slot, where there is one that waits for nothing. `AllocError`: memory is wanting.
+fn note_made(held: &HeldItems, slot: u32, found: &mut Found) -> Result<(), AllocError>
+    ensures { OnOk result (found.new ≡ noted_always slot (item_in slot held.now.entries) found.old) }
+{
+    if held.has(slot) {
+        let item = held.get(slot);
+        if waits_for_nothing(&item.delivery) {
+            found.note(slot, item, true)?;
+        }
+    }
+    Ok(())
+}
+
+/// Looks at those that wait for nothing, which are among those that were made. `AllocError`: memory is wanting.
+fn look_at_made(held: &HeldItems, made: &[u32], found: &mut Found) -> Result<(), AllocError>
+    requires apart { Differ made.now }
+    requires pending { IsPending made.now held.now.entries }
+    ensures { OnOk result ((s : Shown) → LooksAt is_always s held.now.entries found.old found.new) }
+{
+    for slot in made {
+        note_made(held, *slot, found)?;
+    }
+    Ok(())
+}
+
+/// Looks at those that wait for ends. `AllocError`: memory is wanting.
+fn look_at_ends(hub: &Hub, held: &HeldItems, found: &mut Found) -> Result<(), AllocError>
+    requires { hub.now.items ≡ flat held.now.entries }
+    ensures { OnOk result (LooksAt is_of_ends hub.now held.now.entries found.old found.new) }
+{
+    let _apart = held.len();
+    let mut at = held.first_for_ends();
+    while let Some(slot) = at {
+        let item = held.get(slot);
+        found.note(slot, item, hub.holds(item, 0))?;
+        at = held.next_waiting(slot);
+    }
+    Ok(())
+}
+
+/// Whether there is somebody in the line of this kind at the object, all have numbers, and all hold: so it is where the
+/// last of them does. Looks at nobody.
+fn is_settled(hub: &Hub, held: &HeldItems, o: u32, kind: WaitKind) -> bool
+    requires { hub.now.items ≡ flat held.now.entries }
+    ensures { IsTrue result → HoldWithNumbers (waits_in_line kind o) hub.now held.now.entries }
+{
+    let waiting = held.waiting_in(o, kind);
+    if waiting == 0 {
+        return false;
+    }
+    if held.numbered_in(o, kind) != waiting {
+        return false;
+    }
+    let _ascending = held.len();
+    hub.holds_in_line(kind, o, waiting - 1)
+}
+
+/// Looks at those that wait in the line of this kind at the object, from its front: up to the first that has no number
+/// and doesn't hold, since so it is of all behind it. Looks at none where all have numbers and hold. `AllocError`: memory
+/// is wanting.
+fn look_at_line(
+    hub: &Hub,
+    held: &HeldItems,
+    o: u32,
+    kind: WaitKind,
+    found: &mut Found,
+) -> Result<(), AllocError>
+    requires same { hub.now.items ≡ flat held.now.entries }
+    requires front { NumbersStandInFront hub.now }
+    ensures { OnOk result (LooksAlong (waits_in_line kind o) hub.now held.now.entries found.old found.new) }
+{
+    if is_settled(hub, held, o, kind) {
+        return Ok(());
+    }
+    let _apart = held.len();
+    let mut before = 0;
+    let mut at = held.first_in_line(o, kind);
+    while let Some(slot) = at {
+        let item = held.get(slot);
+        let holds = hub.holds(item, before);
+        if !holds && item.ready.is_none() {
+            return Ok(());
+        }
+        found.note(slot, item, holds)?;
+        before += 1;
+        at = held.next_waiting(slot);
+    }
+    Ok(())
+}
+
+/// How many wait before the item in the line that its condition looks at; 0 where it looks at none.
+fn before_item(held: &HeldItems, item: &Item) -> u64
+    ensures { (s : Shown) → s.items ≡ flat held.now.entries → IsBefore result s item.now.since item.now.delivery }
+{
+    match &item.delivery {
+        Delivery::Wake(_, waiting) => earlier_ahead(held, waiting, item.since),
+        _ => 0,
+    }
+}
+
+/// Looks at those that wait at the object in no line. `AllocError`: memory is wanting.
+fn look_at_others(hub: &Hub, held: &HeldItems, o: u32, found: &mut Found) -> Result<(), AllocError>
+    requires { hub.now.items ≡ flat held.now.entries }
+    ensures { OnOk result (LooksAlong (waits_in_none o) hub.now held.now.entries found.old found.new) }
+{
+    let _apart = held.len();
+    let mut at = held.first_of_others(o);
+    while let Some(slot) = at {
+        let item = held.get(slot);
+        found.note(slot, item, hub.holds(item, before_item(held, item)))?;
+        at = held.next_waiting(slot);
+    }
+    Ok(())
+}
+
+/// Looks at those that wait at the object. `AllocError`: memory is wanting.
+fn look_at_object(hub: &Hub, held: &HeldItems, o: u32, found: &mut Found) -> Result<(), AllocError>
+    requires same { hub.now.items ≡ flat held.now.entries }
+    requires front { NumbersStandInFront hub.now }
+    ensures { OnOk result (LooksAt (is_at o) hub.now held.now.entries found.old found.new) }
+{
+    look_at_line(hub, held, o, WaitKind::Acquire, found)?;
+    look_at_line(hub, held, o, WaitKind::Lock, found)?;
+    look_at_line(hub, held, o, WaitKind::Put, found)?;
+    look_at_line(hub, held, o, WaitKind::Take, found)?;
+    look_at_line(hub, held, o, WaitKind::Place, found)?;
+    look_at_line(hub, held, o, WaitKind::Slot, found)?;
+    look_at_line(hub, held, o, WaitKind::TakeOffer, found)?;
+    look_at_others(hub, held, o, found)?;
+    Ok(())
+}
+
+/// Looks at those that wait at these objects. `AllocError`: memory is wanting.
+fn look_at_objects(
+    hub: &Hub,
+    held: &HeldItems,
+    objects: &[u32],
+    found: &mut Found,
+) -> Result<(), AllocError>
+    requires same { hub.now.items ≡ flat held.now.entries }
+    requires front { NumbersStandInFront hub.now }
+    requires apart { Differ objects.now }
+    ensures { OnOk result (LooksAt (at_objects objects.now) hub.now held.now.entries found.old found.new) }
+{
+    for o in objects {
+        look_at_object(hub, held, *o, found)?;
+    }
+    Ok(())
+}
+
+/// Looks at those whose moment has come. `AllocError`: memory is wanting.
+pub(crate) fn look_at_due(
+    held: &mut HeldItems,
+    moment: u64,
+    found: &mut Found,
+) -> Result<(), AllocError>
+    ensures same { held.new ≡ held.old }
+    ensures looks { OnOk result ((s : Shown) → s.moment ≡ moment → All (IsPast moment) (flat held.old.entries) → LooksAt is_moment s held.old.entries found.old found.new) }
+{
+    found.gather_due(held, moment)?;
+    Ok(())
+}
+
+/// Looks at those that wait for ends, where some were touched. `AllocError`: memory is wanting.
+fn look_at_touched_ends(
+    hub: &Hub,
+    held: &HeldItems,
+    touched: bool,
+    found: &mut Found,
+) -> Result<(), AllocError>
+    requires { hub.now.items ≡ flat held.now.entries }
+    ensures { OnOk result (LooksAt (ends_if touched) hub.now held.now.entries found.old found.new) }
+{
+    if !touched {
+        return Ok(());
+    }
+    look_at_ends(hub, held, found)?;
+    Ok(())
+}
+
+/// Looks at all that was touched: what was made, ends and objects. `AllocError`: memory is wanting.
+pub(crate) fn look_at_touched(
+    hub: &Hub,
+    held: &HeldItems,
+    touched: &Touched,
+    found: &mut Found,
+) -> Result<(), AllocError>
+    requires same { hub.now.items ≡ flat held.now.entries }
+    requires front { NumbersStandInFront hub.now }
+    requires pending { IsPending touched.now.made held.now.entries }
+    ensures { OnOk result (LooksAt (touched_now touched.now) hub.now held.now.entries found.old found.new) }
+{
+    look_at_made(held, touched.made(), found)?;
+    look_at_touched_ends(hub, held, touched.ends(), found)?;
+    look_at_objects(hub, held, touched.objects(), found)?;
+    Ok(())
+}
