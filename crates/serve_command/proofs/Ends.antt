@@ -88,6 +88,7 @@ none_served end asked answers app limits w out0 out1 port unfinished none most b
   rest_but = nobody_rests w.connections none;
   cause = no_connection w.connections (λ c bytes sent. c.closed ≡ true → Cause (said_by answers app port bytes c.ended) sent limits.idle c) none;
   most = omega (arith, most);
+  within = let e = ap (λ (xs : List Connection). length xs) none in omega (arith, e);
   all = λ e. absurd (unfinished e);
   at_line = λ _. inl none;
 }
@@ -105,7 +106,7 @@ module _ (asked : ℕ) (answers : Gateway) (app : App) (limits : Limits) (w : Me
     (whole : EachTold w.connections (λ c bytes sent. IsClosedWell c → sent ≡ (said_by answers app port bytes c.ended).bytes))
     (answered : EachTold w.connections (λ c bytes sent. WaitsToRead c → sent ≡ (said_by answers app port bytes c.ended).bytes)) (rest_but : RestBut w.connections)
     (cause : EachTold w.connections (λ c bytes sent. c.closed ≡ true → Cause (said_by answers app port bytes c.ended) sent limits.idle c))
-    (most : w.most ≤ limits.pool) (listens : w.listens ≡ listens_at asked port) where
+    (most : w.most ≤ limits.pool) (within : length w.connections ≤ limits.conns) (listens : w.listens ≡ listens_at asked port) where
   -- out has the first line, and a beginning of the second
   pub some_served : (end : Served) (out2 : Option (List ℕ)) → (end ≡ Served.Finished → ⊥) → (end ≢ Served.WriteFault → out2 ≡ out1) → (end ≢ Served.Memory → All Rests w.connections)
       → (end ≡ Served.WriteFault → (w.connections ≡ []) ⊎ IsAllServed w limits.conns) → AppendsPrefix out1 out2 (served limits.conns) → ServesAt end asked answers app limits w out0 out2
@@ -123,6 +124,7 @@ module _ (asked : ℕ) (answers : Gateway) (app : App) (limits : Limits) (w : Me
     rest_but = rest_but;
     cause = cause;
     most = most;
+    within = within;
     all = λ e. absurd (unfinished e);
     at_line = at_line;
   }
@@ -146,6 +148,7 @@ module _ (asked : ℕ) (answers : Gateway) (app : App) (limits : Limits) (w : Me
         rest_but = rest_but;
         cause = cause;
         most = most;
+        within = within;
         all = λ _. all;
         at_line = λ e. absurd (finished_no_line e);
       }

@@ -40,9 +40,10 @@ pub record ServesAt (end : Served) (asked : ℕ) (answers : Gateway) (app : App)
   pub answered : EachTold w.connections (λ c bytes sent. WaitsToRead c → sent ≡ (said_by answers app port bytes c.ended).bytes)
   pub resting : end ≢ Served.Memory → All Rests w.connections
   pub rest_but : RestBut w.connections
-  -- each closed one was closed for a cause, and no more were open than there are places
+  -- each closed one was closed for a cause; no more were open than there are places, nor accepted than asked for
   pub cause : EachTold w.connections (λ c bytes sent. c.closed ≡ true → Cause (said_by answers app port bytes c.ended) sent limits.idle c)
   pub most : w.most ≤ limits.pool
+  pub within : length w.connections ≤ limits.conns
   -- as many as asked for were accepted, and all are closed; where a line could not be written, that or nobody was
   pub all : end ≡ Served.Finished → IsAllServed w limits.conns
   pub at_line : end ≡ Served.WriteFault → (w.connections ≡ []) ⊎ IsAllServed w limits.conns

@@ -1,16 +1,11 @@
 -- The crew of a table: who is a member when one comes, is taken out, is listed again and goes.
-use Rattle.std.proofs.Common.{◌≡◌, ◌≢◌, ℕ, ◌+◌, ◌-◌, ◌<◌, ◌==◌, Bool, true, false, not, cond, List, [], ◌∷◌, ◌++◌, length, Option, Some, None, refl, sym, ap, ◌∙◌, subst, arith, length-append}
+use Rattle.std.proofs.Common.{◌≡◌, ℕ, ◌+◌, ◌-◌, ◌<◌, ◌==◌, Bool, true, false, not, cond, List, [], ◌∷◌, ◌++◌, length, Option, Some, None, refl, sym, ap, ◌∙◌, subst, arith, length-append}
 use Rattle.std.specs.List.{Contains}
 use Rattle.std.proofs.lemmas.List.Elements.{Contains-append_left, Contains-append_right}
 use Rattle.linked_items.specs.Items.{without, Differ}
 use Rattle.linked_items.proofs.StrideLemmas.{contains_without}
-use Rattle.groups_pools.specs.Seen.{SeenCrew, free_places, AreBelow, AreAbove, IsRising, HasPlace}
-use Rattle.stream_net.specs.Nets.{Meaning}
+use Rattle.groups_pools.specs.Seen.{SeenCrew, free_places, AreBelow, IsRising, HasPlace}
 use Rattle.stream_server.specs.declared.client.Client.{Client}
-use Rattle.stream_server.specs.declared.limits.Limits.{Limits}
-use Rattle.stream_server.specs.Served.{Speech}
-use Rattle.stream_server.specs.Steps.{TalkState}
-use Rattle.stream_server.specs.Serving.{IsServing, IsServingBut}
 use Rattle.stream_server.specs.Tables.{SeenTable, AreAdmitted, AreAdmittedBut, IsListed, Relists, client_count, with_members}
 use Rattle.groups_pools.proofs.CrewLemmas.{above_lacks}
 use Rattle.stream_net.proofs.Lists.{everywhere}
@@ -113,14 +108,3 @@ module _ {T : Type 0} where
     where
       never_some : (c : Client T) → Some c ≡ None → ⊥
       never_some c e = absurd (cc)
-
-  -- the loop's laws don't speak of members
-  pub serving_with : (said : Speech) (at : TalkState T) (due : T → List ℕ) (limits : Limits) (m : Meaning) (old new : SeenTable T) (members : List ℕ) → new ≡ with_members members old
-      → IsServing said at due limits m (IsListed old) (client_count old) old.limit → IsServing said at due limits m (IsListed new) (client_count new) new.limit
-  serving_with said at due limits m old new members now h =
-      subst (λ (t : SeenTable T). IsServing said at due limits m (IsListed t) (client_count t) t.limit) (sym now) h
-
-  pub serving_but_with : (said : Speech) (at : TalkState T) (due : T → List ℕ) (limits : Limits) (m : Meaning) (old new : SeenTable T) (members : List ℕ) (k : ℕ) → new ≡ with_members members old
-      → IsServingBut said at due limits m (IsListed old) (client_count old) old.limit k → IsServingBut said at due limits m (IsListed new) (client_count new) new.limit k
-  serving_but_with said at due limits m old new members k now h =
-      subst (λ (t : SeenTable T). IsServingBut said at due limits m (IsListed t) (client_count t) t.limit k) (sym now) h

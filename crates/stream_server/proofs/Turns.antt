@@ -1,24 +1,38 @@
 -- A server from event to event.
-use Rattle.std.proofs.Common.{◌≡◌, ◌≢◌, ◌⊎◌, inl, inr, ℕ, ◌+◌, ◌<◌, ◌≤◌, min, Bool, true, false, List, [], ◌∷◌, ◌++◌, length, Option, Some, None, IsSome, refl, sym, ap, ◌∙◌, subst, arith, slice_set, append-nil, length-append}
+use Rattle.std.proofs.Common.{◌≡◌, ◌≢◌, ◌⊎◌, inl, inr, ℕ, ◌+◌, ◌<◌, ◌≤◌, min, Bool, true, false, List, [], ◌∷◌, ◌++◌, length, Option, Some, None, IsSome, refl, sym, ap, ◌∙◌, subst, arith, slice_set, append-nil, append_assoc, length-append}
 use Rattle.std.specs.List.{All}
 use Rattle.std.proofs.lemmas.List.{length-set, set-get_or, get_or_append_left}
 use Rattle.std.proofs.lemmas.Bool.{cases_lt}
 use Rattle.std.proofs.lemmas.List.Elements.{All-nil}
 use Rattle.std.proofs.Math.Seq.{get_or-append_seam}
-use Rattle.stream_net.specs.Nets.{Connection, Meaning, Changes, IsFresh, IsLive, connection_at, nobody, live_count, closed_at}
+use Rattle.stream_net.specs.Nets.{Connection, Meaning, Changes, IsAtRest, IsFresh, IsLive, connection_at, nobody, live_count, closed_at, held_as}
 use Rattle.stream_net.specs.declared.net.Quiet.{Quiet}
-use Rattle.stream_net.specs.declared.net.Quiet.TheVariants.{Awake, ByRead}
+use Rattle.stream_net.specs.declared.net.Quiet.TheVariants.{Awake, ByRead, ByWrite}
 use Rattle.stream_net.specs.Accepts.{Gains, GainsNone}
 use Rattle.stream_net.specs.Waits.{Passes, named, woken, woken_if}
 use Rattle.stream_net.specs.declared.net.Ready.{Ready}
 use Rattle.stream_net.specs.declared.net.Ready.TheVariants.{Incoming, Readable, Writable, Elapsed}
 use Rattle.stream_server.specs.declared.client.Client.{Client}
 use Rattle.stream_server.specs.declared.limits.Limits.{Limits}
-use Rattle.stream_server.specs.Served.{Speech, BeginsSaid, IsServed, RestsBy, Cause, Closing, Ended, Failing, Idle}
-use Rattle.stream_server.specs.Steps.{TalkState, IsOpen, IsCalm, IsOver, IsDone, IsCut, OnlyAt}
-use Rattle.stream_server.specs.Serving.{Listing, IsKept, IsServing, IsServingBut, IsLeft, IsWoken, Keeps, Rests}
+use Rattle.stream_server.specs.Served.{BeginsSaid, IsServed, IsTimely, RestsBy, Cause, Closing, Ended, Failing, Idle}
+use Rattle.stream_server.specs.Protocols.{IsLawful, Side}
+use Rattle.stream_server.specs.Steps.{AtARead, AtAWrite, Closes, Fails, Free, HasEnded, Held, IsCalm, IsCut, IsDone, IsGoing, IsOpen, IsOver, IsResting, OnlyAt}
+use Rattle.stream_server.specs.Serving.{IsHeldAt, IsKept, IsLeft, IsServing, IsServingBut, IsStill, IsWoken, Keeps, Listing, Rests}
 use Rattle.stream_net.proofs.Lists.{none_open, everywhere, all_from, at_all, at_other, at_same, set_over, live_kept, live_closed, live_more_one}
 use Rattle.stream_server.proofs.Stepping.{changed_at, still_live, timely_after}
+
+not_both : (q : Quiet) → q ≡ Awake → q ≡ ByRead → ⊥
+not_both q e f = absurd (cc)
+
+not_awake_write : (q : Quiet) → q ≡ ByWrite → q ≡ Awake → ⊥
+not_awake_write q e f = absurd (cc)
+
+never : {A : Type 0} (b : Bool) → b ≡ false → b ≡ true → A
+never b f t = absurd (cc)
+
+-- an acceptance adds one
+pub gains_length : (v w : Meaning) (k : ℕ) → Gains v w k → length w.connections ≡ length v.connections + 1
+gains_length v w k x = ap (λ (cs : List Connection). length cs) x.connections ∙ length-append v.connections (x.connection ∷ [])
 
 -- a wait takes no connection away
 pub named_length : (ready : Ready) (cs : List Connection) → length (named ready cs) ≡ length cs
@@ -27,77 +41,96 @@ named_length (Readable k) cs = length-set cs k (woken_if (connection_at cs k).cl
 named_length (Writable k) cs = length-set cs k (woken_if (connection_at cs k).closed (connection_at cs k))
 named_length Elapsed cs = refl
 
--- an acceptance adds one
-pub gains_length : (v w : Meaning) (k : ℕ) → Gains v w k → length w.connections ≡ length v.connections + 1
-gains_length v w k x = ap (λ (cs : List Connection). length cs) x.connections ∙ length-append v.connections (x.connection ∷ [])
+-- one that is still is at rest, and where the side holds none it waits by a read or by a write
+pub still_rests : {T : Type 0} (S : Side T) (c : Connection) → IsStill S c → IsAtRest c
+still_rests S c h still loose = by (h still)
+  where
+    by : (c.quiet ≢ Awake) ⊎ IsHeldAt S c → c.quiet ≢ Awake
+    by (inl rests) = rests
+    by (inr is) = absurd (never c.held loose is.held)
 
-not_both : (q : Quiet) → q ≡ Awake → q ≡ ByRead → ⊥
-not_both q e f = absurd (cc)
+pub still_waits : {T : Type 0} (S : Side T) → ((t : T) → S.holds t ≡ false) → (c : Connection) → IsStill S c → Rests c
+still_waits S none c h still = by (h still)
+  where
+    by : (c.quiet ≢ Awake) ⊎ IsHeldAt S c → c.quiet ≢ Awake
+    by (inl rests) = rests
+    by (inr is) = absurd (never (S.holds is.talk) (none is.talk) is.holds)
 
-never : {A : Type 0} (b : Bool) → b ≡ false → b ≡ true → A
-never b f t = absurd (cc)
-
-module _ {T : Type 0} (said : Speech) (at : TalkState T) (due : T → List ℕ) (limits : Limits)
-    (all_said : (fed : List ℕ) (ended : Bool) (taken : List ℕ) (s : T) → at fed ended taken s → taken ++ due s ≡ (said fed ended).bytes) where
+module _ {T : Type 0} (S : Side T) (limits : Limits) (law : IsLawful S) where
   -- ---- one connection
 
-  pub begun_of : (c : Connection) (g : Client T) → IsOpen at limits.idle c g → BeginsSaid said c
-  begun_of c g h = record { fed = h.fed; taken = h.taken; reads = h.reads; writes = h.writes; tail = due g.talk; begins = sym (all_said h.fed c.ended h.taken g.talk h.is_at) }
+  -- what it was sent begins what is said to it
+  pub begins : (c : Connection) (g : Client T) → IsOpen S limits.idle c g → BeginsSaid S.said c
+  begins c g h =
+      let b = law.begun h.fed c.ended h.taken g.talk h.is_at in
+      record { fed = h.fed; taken = h.taken; reads = h.reads; writes = h.writes; tail = S.due g.talk ++ b.0; begins = b.1 ∙ append_assoc h.taken (S.due g.talk) b.0 }
 
-  pub served_cut : (c : Connection) → IsCut said c → IsServed said limits.idle c
+  pub served_cut : (c : Connection) → IsCut S.said c → IsServed S.said limits.idle c
   served_cut c h = record { begun = h.begun; cause = λ closed. never c.closed h.still_open closed; calm = λ _ rests. absurd (not_both c.quiet h.awake rests) }
 
-  -- all was taken where nothing is pending
-  pub all_taken : (c : Connection) (g : Client T) (h : IsOpen at limits.idle c g) → due g.talk ≡ [] → h.taken ≡ (said h.fed c.ended).bytes
-  all_taken c g h none = sym (append-nil h.taken) ∙ ap (λ (z : List ℕ). h.taken ++ z) (sym none) ∙ all_said h.fed c.ended h.taken g.talk h.is_at
+  -- all was taken where nothing is pending and no request waits
+  pub all_taken : (c : Connection) (g : Client T) (h : IsOpen S limits.idle c g) → S.due g.talk ≡ [] → S.asks g.talk ≡ false → h.taken ≡ (S.said h.fed c.ended).bytes
+  all_taken c g h none quiet = sym (append-nil h.taken) ∙ ap (λ (z : List ℕ). h.taken ++ z) (sym none) ∙ law.all_said h.fed c.ended h.taken g.talk h.is_at quiet
 
-  -- an open one, which rests by a read only while nothing is pending
-  pub served_open : (c : Connection) (g : Client T) → IsOpen at limits.idle c g → (c.quiet ≡ ByRead → due g.talk ≡ []) → IsServed said limits.idle c
-  served_open c g h none = record {
-    begun = record { fed = h.fed; taken = h.taken; reads = h.reads; writes = h.writes; tail = due g.talk; begins = sym (all_said h.fed c.ended h.taken g.talk h.is_at) };
-    cause = λ closed. never c.closed h.still_open closed;
-    calm = λ _ rests. all_taken c g h (none rests);
-  }
+  -- an open one, which rests by a read only while nothing is pending and no request waits
+  pub served_open : (c : Connection) (g : Client T) → IsOpen S limits.idle c g → (c.quiet ≡ ByRead → (S.due g.talk ≡ []) × (S.asks g.talk ≡ false)) → IsServed S.said limits.idle c
+  served_open c g h none =
+      let b = law.begun h.fed c.ended h.taken g.talk h.is_at in
+      record {
+        begun = record { fed = h.fed; taken = h.taken; reads = h.reads; writes = h.writes; tail = S.due g.talk ++ b.0; begins = b.1 ∙ append_assoc h.taken (S.due g.talk) b.0 };
+        cause = λ closed. never c.closed h.still_open closed;
+        calm = λ _ rests. let n = none rests in all_taken c g h n.0 n.1;
+      }
 
-  calm_none : (c : Connection) (g : Client T) → IsCalm due c g → c.quiet ≡ ByRead → due g.talk ≡ []
-  calm_none c g (inl e) f = absurd (cc)
-  calm_none c g (inr e) f = e.1
+  calm_none : (c : Connection) (g : Client T) → IsCalm S limits.idle c g → c.quiet ≡ ByRead → (S.due g.talk ≡ []) × (S.asks g.talk ≡ false)
+  calm_none c g (Free free (AtAWrite e)) f = absurd (cc)
+  calm_none c g (Free free (AtARead e none quiet)) f = (none, quiet)
+  calm_none c g (Held held e never_ timely) f = absurd (not_both c.quiet e f)
 
-  pub rests_calm : (c : Connection) (g : Client T) → IsCalm due c g → c.quiet ≢ Awake
-  rests_calm c g (inl e) f = absurd (cc)
-  rests_calm c g (inr e) f = let q = e.0 in absurd (cc)
+  pub rests_calm : (c : Connection) (g : Client T) → IsOpen S limits.idle c g → IsCalm S limits.idle c g → IsStill S c
+  rests_calm c g h (Free free (AtAWrite e)) still = inl (λ a. not_awake_write c.quiet e a)
+  rests_calm c g h (Free free (AtARead e none quiet)) still = inl (λ a. not_both c.quiet a e)
+  rests_calm c g h (Held held e never_ timely) still = inr record { held = h.held ∙ held; talk = g.talk; holds = held }
+
+  -- one that goes on is served
+  pub served_going : (c : Connection) (g : Client T) → IsGoing S limits.idle c g → IsServed S.said limits.idle c
+  served_going c g h = served_open c g h.is_open (λ rests. absurd (not_both c.quiet h.awake rests))
 
   -- closed at its end
-  pub served_over : (c : Connection) (g : Client T) (moment : ℕ) → IsOver said at due limits.idle c g → IsServed said limits.idle (closed_at moment c)
-  served_over c g moment h = record { begun = record { fed = o.fed; taken = o.taken; reads = o.reads; writes = o.writes; tail = due g.talk; begins = sym (all_said o.fed c.ended o.taken g.talk o.is_at) }; cause = λ _. by h.why; calm = λ still _. never true still refl }
+  pub served_over : (c : Connection) (g : Client T) (moment : ℕ) → IsOver S limits.idle c g → IsServed S.said limits.idle (closed_at moment c)
+  served_over c g moment h =
+      let b = law.begun o.fed c.ended o.taken g.talk o.is_at in
+      record { begun = record { fed = o.fed; taken = o.taken; reads = o.reads; writes = o.writes; tail = S.due g.talk ++ b.0; begins = b.1 ∙ append_assoc o.taken (S.due g.talk) b.0 }; cause = λ _. by h.why; calm = λ still _. never true still refl }
     where
-      o : IsOpen at limits.idle c g
+      o : IsOpen S limits.idle c g
       o = h.is_open
 
-      by : IsDone said due o.fed c g → Cause (said o.fed c.ended) o.taken limits.idle (closed_at moment c)
-      by (inl x) = Closing x.0 (all_taken c g o x.1)
-      by (inr (inl x)) = Ended x.0 (all_taken c g o x.1)
-      by (inr (inr x)) = Failing x
+      by : IsDone S o.fed c g → Cause (S.said o.fed c.ended) o.taken limits.idle (closed_at moment c)
+      by (Closes x none quiet) = Closing x (all_taken c g o none quiet)
+      by (HasEnded x none quiet) = Ended x (all_taken c g o none quiet)
+      by (Fails x) = Failing x
 
   -- closed after its idle time
-  pub served_idle : (c : Connection) (g : Client T) (moment : ℕ) → (o : IsOpen at limits.idle c g) → IsCalm due c g → c.last + limits.idle ≤ moment → IsServed said limits.idle (closed_at moment c)
-  served_idle c g moment o calm long = record { begun = record { fed = o.fed; taken = o.taken; reads = o.reads; writes = o.writes; tail = due g.talk; begins = sym (all_said o.fed c.ended o.taken g.talk o.is_at) }; cause = λ _. Idle long (by calm); calm = λ still _. never true still refl }
+  pub served_idle : (c : Connection) (g : Client T) (moment : ℕ) → (o : IsOpen S limits.idle c g) → IsResting S c g → c.last + limits.idle ≤ moment → IsServed S.said limits.idle (closed_at moment c)
+  served_idle c g moment o calm long =
+      let b = law.begun o.fed c.ended o.taken g.talk o.is_at in
+      record { begun = record { fed = o.fed; taken = o.taken; reads = o.reads; writes = o.writes; tail = S.due g.talk ++ b.0; begins = b.1 ∙ append_assoc o.taken (S.due g.talk) b.0 }; cause = λ _. Idle long (by calm); calm = λ still _. never true still refl }
     where
       P : Quiet → Type 0
-      P q = RestsBy q (o.taken ≡ (said o.fed c.ended).bytes)
+      P q = RestsBy q (o.taken ≡ (S.said o.fed c.ended).bytes)
 
-      by : IsCalm due c g → P c.quiet
-      by (inl e) = subst P (sym e) tt
-      by (inr e) = subst P (sym e.0) (all_taken c g o e.1)
+      by : IsResting S c g → P c.quiet
+      by (AtAWrite e) = subst P (sym e) tt
+      by (AtARead e none quiet) = subst P (sym e) (all_taken c g o none quiet)
 
   -- ---- all but one
 
   -- what goes over that one is nothing to the others
-  pub but_after : (v w : Meaning) (listed : Listing T) (count room k : ℕ) → IsServingBut said at due limits v listed count room k → k < length v.connections → OnlyAt v w k
-      → IsServingBut said at due limits w listed count room k
+  pub but_after : (v w : Meaning) (listed : Listing T) (count room k : ℕ) → IsServingBut S limits v listed count room k → k < length v.connections → OnlyAt v w k
+      → IsServingBut S limits w listed count room k
   but_after v w listed count room k h within only = record {
-    served = λ j other in'. subst (IsServed said limits.idle) (sym (elsewhere j other)) (h.served j other (omega (arith, long, in')));
-    resting = λ j other in'. subst Rests (sym (elsewhere j other)) (h.resting j other (omega (arith, long, in')));
+    served = λ j other in'. subst (IsServed S.said limits.idle) (sym (elsewhere j other)) (h.served j other (omega (arith, long, in')));
+    resting = λ j other in'. subst (IsStill S) (sym (elsewhere j other)) (h.resting j other (omega (arith, long, in')));
     kept = λ j slot other row. kept_at j slot other (h.kept j slot other row);
     only = h.only;
     live = ap (λ (cs : List Connection). live_count cs) only.connections ∙ live_kept v.connections k (connection_at w.connections k) within only.same_closed ∙ h.live;
@@ -114,20 +147,20 @@ module _ {T : Type 0} (said : Speech) (at : TalkState T) (due : T → List ℕ) 
       elsewhere : (j : ℕ) → j ≢ k → connection_at w.connections j ≡ connection_at v.connections j
       elsewhere j other = ap (λ (cs : List Connection). connection_at cs j) only.connections ∙ at_other v.connections k j (connection_at w.connections k) other
 
-      kept_at : (j : ℕ) (slot : Option (Client T)) → j ≢ k → IsKept at due limits.idle v.connections j slot → IsKept at due limits.idle w.connections j slot
+      kept_at : (j : ℕ) (slot : Option (Client T)) → j ≢ k → IsKept S limits.idle v.connections j slot → IsKept S limits.idle w.connections j slot
       kept_at j None other f = λ in'. ap (λ (c : Connection). c.closed) (elsewhere j other) ∙ f (omega (arith, long, in'))
-      kept_at j (Some g) other f = (omega (arith, long, f.0), subst (λ c. IsOpen at limits.idle c g) (sym (elsewhere j other)) f.1, subst (λ c. IsCalm due c g) (sym (elsewhere j other)) f.2)
+      kept_at j (Some g) other f = (omega (arith, long, f.0), subst (λ c. IsOpen S limits.idle c g) (sym (elsewhere j other)) f.1, subst (λ c. IsCalm S limits.idle c g) (sym (elsewhere j other)) f.2)
 
   -- its client is listed
-  pub but_listed : (v : Meaning) (listed now : Listing T) (count room k : ℕ) (g : Client T) → IsServingBut said at due limits v listed count room k → k < length v.connections
-      → IsOpen at limits.idle (connection_at v.connections k) g → IsCalm due (connection_at v.connections k) g
+  pub but_listed : (v : Meaning) (listed now : Listing T) (count room k : ℕ) (g : Client T) → IsServingBut S limits v listed count room k → k < length v.connections
+      → IsOpen S limits.idle (connection_at v.connections k) g → IsCalm S limits.idle (connection_at v.connections k) g
       → ((s : Option (Client T)) → now k s → s ≡ Some g) → ((j : ℕ) (s : Option (Client T)) → j ≢ k → now j s → listed j s)
-      → IsServing said at due limits v now (count + 1) room
+      → IsServing S limits v now (count + 1) room
   but_listed v listed now count room k g h within is_open calm here others = record {
-    served = all_from (IsServed said limits.idle) v.connections (everywhere k (λ j. j < length v.connections → IsServed said limits.idle (connection_at v.connections j)) (λ _. served_open (connection_at v.connections k) g is_open (calm_none (connection_at v.connections k) g calm)) h.served);
-    resting = all_from Rests v.connections (everywhere k (λ j. j < length v.connections → Rests (connection_at v.connections j)) (λ _ _. rests_calm (connection_at v.connections k) g calm) h.resting);
-    kept = everywhere k (λ j. (slot : Option (Client T)) → now j slot → IsKept at due limits.idle v.connections j slot)
-        (λ slot row. subst (IsKept at due limits.idle v.connections k) (sym (here slot row)) (within, is_open, calm))
+    served = all_from (IsServed S.said limits.idle) v.connections (everywhere k (λ j. j < length v.connections → IsServed S.said limits.idle (connection_at v.connections j)) (λ _. served_open (connection_at v.connections k) g is_open (calm_none (connection_at v.connections k) g calm)) h.served);
+    resting = all_from (IsStill S) v.connections (everywhere k (λ j. j < length v.connections → IsStill S (connection_at v.connections j)) (λ _. rests_calm (connection_at v.connections k) g is_open calm) h.resting);
+    kept = everywhere k (λ j. (slot : Option (Client T)) → now j slot → IsKept S limits.idle v.connections j slot)
+        (λ slot row. subst (IsKept S limits.idle v.connections k) (sym (here slot row)) (within, is_open, calm))
         (λ j other slot row. h.kept j slot other (others j slot other row));
     live = h.live;
     few = h.few;
@@ -138,18 +171,18 @@ module _ {T : Type 0} (said : Speech) (at : TalkState T) (due : T → List ℕ) 
   }
 
   -- it is closed
-  pub but_closed : (v w : Meaning) (listed : Listing T) (count room k : ℕ) → IsServingBut said at due limits v listed count room k → IsLive v k
-      → Changes v w k (closed_at w.moment) → IsServed said limits.idle (closed_at w.moment (connection_at v.connections k))
-      → IsServing said at due limits w listed count room
+  pub but_closed : (v w : Meaning) (listed : Listing T) (count room k : ℕ) → IsServingBut S limits v listed count room k → IsLive v k
+      → Changes v w k (closed_at w.moment) → IsServed S.said limits.idle (closed_at w.moment (connection_at v.connections k))
+      → IsServing S limits w listed count room
   but_closed v w listed count room k h live closes served = record {
-    served = all_from (IsServed said limits.idle) w.connections (everywhere k (λ j. j < length w.connections → IsServed said limits.idle (connection_at w.connections j))
-        (λ _. subst (IsServed said limits.idle) (sym here) served)
-        (λ j other in'. subst (IsServed said limits.idle) (sym (elsewhere j other)) (h.served j other (omega (arith, long, in')))));
-    resting = all_from Rests w.connections (everywhere k (λ j. j < length w.connections → Rests (connection_at w.connections j))
-        (λ _. subst Rests (sym here) (λ still _. cc))
-        (λ j other in'. subst Rests (sym (elsewhere j other)) (h.resting j other (omega (arith, long, in')))));
-    kept = everywhere k (λ j. (slot : Option (Client T)) → listed j slot → IsKept at due limits.idle w.connections j slot)
-        (λ slot row. subst (IsKept at due limits.idle w.connections k) (sym (h.only slot row)) (λ _. ap (λ (c : Connection). c.closed) here))
+    served = all_from (IsServed S.said limits.idle) w.connections (everywhere k (λ j. j < length w.connections → IsServed S.said limits.idle (connection_at w.connections j))
+        (λ _. subst (IsServed S.said limits.idle) (sym here) served)
+        (λ j other in'. subst (IsServed S.said limits.idle) (sym (elsewhere j other)) (h.served j other (omega (arith, long, in')))));
+    resting = all_from (IsStill S) w.connections (everywhere k (λ j. j < length w.connections → IsStill S (connection_at w.connections j))
+        (λ _. subst (IsStill S) (sym here) (λ still. never true still refl))
+        (λ j other in'. subst (IsStill S) (sym (elsewhere j other)) (h.resting j other (omega (arith, long, in')))));
+    kept = everywhere k (λ j. (slot : Option (Client T)) → listed j slot → IsKept S limits.idle w.connections j slot)
+        (λ slot row. subst (IsKept S limits.idle w.connections k) (sym (h.only slot row)) (λ _. ap (λ (c : Connection). c.closed) here))
         (λ j other slot row. kept_at j slot other (h.kept j slot other row));
     live = omega (arith, h.live, ap (λ (cs : List Connection). live_count cs) closes.connections, live_closed v.connections k (closed_at w.moment (connection_at v.connections k)) live.accepted live.still_open refl);
     few = omega (arith, h.few);
@@ -168,59 +201,61 @@ module _ {T : Type 0} (said : Speech) (at : TalkState T) (due : T → List ℕ) 
       elsewhere : (j : ℕ) → j ≢ k → connection_at w.connections j ≡ connection_at v.connections j
       elsewhere j other = ap (λ (cs : List Connection). connection_at cs j) closes.connections ∙ at_other v.connections k j (closed_at w.moment (connection_at v.connections k)) other
 
-      kept_at : (j : ℕ) (slot : Option (Client T)) → j ≢ k → IsKept at due limits.idle v.connections j slot → IsKept at due limits.idle w.connections j slot
+      kept_at : (j : ℕ) (slot : Option (Client T)) → j ≢ k → IsKept S limits.idle v.connections j slot → IsKept S limits.idle w.connections j slot
       kept_at j None other f = λ in'. ap (λ (c : Connection). c.closed) (elsewhere j other) ∙ f (omega (arith, long, in'))
-      kept_at j (Some g) other f = (omega (arith, long, f.0), subst (λ c. IsOpen at limits.idle c g) (sym (elsewhere j other)) f.1, subst (λ c. IsCalm due c g) (sym (elsewhere j other)) f.2)
+      kept_at j (Some g) other f = (omega (arith, long, f.0), subst (λ c. IsOpen S limits.idle c g) (sym (elsewhere j other)) f.1, subst (λ c. IsCalm S limits.idle c g) (sym (elsewhere j other)) f.2)
 
   -- memory ran out at it
-  pub but_cut : (v : Meaning) (listed : Listing T) (count room k : ℕ) → IsServingBut said at due limits v listed count room k
-      → IsServed said limits.idle (connection_at v.connections k) → IsLeft said limits v
+  pub but_cut : (v : Meaning) (listed : Listing T) (count room k : ℕ) → IsServingBut S limits v listed count room k
+      → IsServed S.said limits.idle (connection_at v.connections k) → IsLeft S limits v
   but_cut v listed count room k h served = record {
-    served = all_from (IsServed said limits.idle) v.connections (everywhere k (λ j. j < length v.connections → IsServed said limits.idle (connection_at v.connections j)) (λ _. served) h.served);
+    served = all_from (IsServed S.said limits.idle) v.connections (everywhere k (λ j. j < length v.connections → IsServed S.said limits.idle (connection_at v.connections j)) (λ _. served) h.served);
     rest = record { one = k; others = h.resting };
     most = h.most;
+    within = h.within;
   }
 
-  pub serving_left : (v : Meaning) (listed : Listing T) (count room : ℕ) → IsServing said at due limits v listed count room → IsLeft said limits v
+  pub serving_left : (v : Meaning) (listed : Listing T) (count room : ℕ) → IsServing S limits v listed count room → IsLeft S limits v
   serving_left v listed count room h = record {
     served = h.served;
-    rest = record { one = length v.connections; others = λ j _ in'. at_all Rests v.connections h.resting j in' };
+    rest = record { one = length v.connections; others = λ j _ in'. at_all (IsStill S) v.connections h.resting j in' };
     most = h.most;
+    within = h.within;
   }
 
   -- ---- a client that isn't listed
 
-  pub client_waits : (v w : Meaning) (listed now : Listing T) (count total room room' k j : ℕ) (g : Client T) → IsServingBut said at due limits v listed count room k → IsLive v k → OnlyAt v w k
-      → (IsOpen at limits.idle (connection_at w.connections k) g × IsCalm due (connection_at w.connections k) g) → j ≡ k → total ≡ count + 1 → room' ≡ room
+  pub client_waits : (v w : Meaning) (listed now : Listing T) (count total room room' k j : ℕ) (g : Client T) → IsServingBut S limits v listed count room k → IsLive v k → OnlyAt v w k
+      → (IsOpen S limits.idle (connection_at w.connections k) g × IsCalm S limits.idle (connection_at w.connections k) g) → j ≡ k → total ≡ count + 1 → room' ≡ room
       → ((s : Option (Client T)) → now j s → s ≡ Some g) → ((i : ℕ) (s : Option (Client T)) → i ≢ j → now i s → listed i s)
-      → IsServing said at due limits w now total room'
+      → IsServing S limits w now total room'
   client_waits v w listed now count total room room' k j g h live only rests same counts limit here others =
       let long : length w.connections ≡ length v.connections = ap (λ (cs : List Connection). length cs) only.connections ∙ length-set v.connections k (connection_at w.connections k) in
       let at_w = but_after v w listed count room k h live.accepted only in
       let done = but_listed w listed now count room k g at_w (omega (arith, long, live.accepted)) rests.0 rests.1
       (subst (λ (n : ℕ). (s : Option (Client T)) → now n s → s ≡ Some g) same here)
       (subst (λ (n : ℕ). (i : ℕ) (s : Option (Client T)) → i ≢ n → now i s → listed i s) same others) in
-      subst (λ (n : ℕ). IsServing said at due limits w now total n) (sym limit) (subst (λ (n : ℕ). IsServing said at due limits w now n room) (sym counts) done)
+      subst (λ (n : ℕ). IsServing S limits w now total n) (sym limit) (subst (λ (n : ℕ). IsServing S limits w now n room) (sym counts) done)
 
-  pub client_over : (u v w : Meaning) (listed : Listing T) (count room k : ℕ) (g : Client T) → IsServingBut said at due limits u listed count room k → IsLive u k → OnlyAt u v k
-      → IsOver said at due limits.idle (connection_at v.connections k) g → Changes v w k (closed_at w.moment)
-      → IsServing said at due limits w listed count room
+  pub client_over : (u v w : Meaning) (listed : Listing T) (count room k : ℕ) (g : Client T) → IsServingBut S limits u listed count room k → IsLive u k → OnlyAt u v k
+      → IsOver S limits.idle (connection_at v.connections k) g → Changes v w k (closed_at w.moment)
+      → IsServing S limits w listed count room
   client_over u v w listed count room k g h live only over closes =
       but_closed v w listed count room k (but_after u v listed count room k h live.accepted only) (still_live u v k only live) closes (served_over (connection_at v.connections k) g w.moment over)
 
-  pub client_cut : (v w : Meaning) (listed : Listing T) (count room k : ℕ) → IsServingBut said at due limits v listed count room k → IsLive v k → OnlyAt v w k
-      → IsCut said (connection_at w.connections k) → IsLeft said limits w
+  pub client_cut : (v w : Meaning) (listed : Listing T) (count room k : ℕ) → IsServingBut S limits v listed count room k → IsLive v k → OnlyAt v w k
+      → IsCut S.said (connection_at w.connections k) → IsLeft S limits w
   client_cut v w listed count room k h live only cut =
       but_cut w listed count room k (but_after v w listed count room k h live.accepted only) (served_cut (connection_at w.connections k) cut)
 
   -- ---- a client is taken out
 
-  pub but_taken : (v : Meaning) (listed now : Listing T) (count left room room' k : ℕ) → IsServing said at due limits v listed count room → left + 1 ≡ count → room' ≡ room
+  pub but_taken : (v : Meaning) (listed now : Listing T) (count left room room' k : ℕ) → IsServing S limits v listed count room → left + 1 ≡ count → room' ≡ room
       → ((s : Option (Client T)) → now k s → s ≡ None) → ((j : ℕ) (s : Option (Client T)) → j ≢ k → now j s → listed j s)
-      → IsServingBut said at due limits v now left room' k
+      → IsServingBut S limits v now left room' k
   but_taken v listed now count left room room' k h counts limit only others = record {
-    served = λ j _ in'. at_all (IsServed said limits.idle) v.connections h.served j in';
-    resting = λ j _ in'. at_all Rests v.connections h.resting j in';
+    served = λ j _ in'. at_all (IsServed S.said limits.idle) v.connections h.served j in';
+    resting = λ j _ in'. at_all (IsStill S) v.connections h.resting j in';
     kept = λ j slot other row. h.kept j slot (others j slot other row);
     only = only;
     live = h.live ∙ sym counts;
@@ -231,14 +266,91 @@ module _ {T : Type 0} (said : Speech) (at : TalkState T) (due : T → List ℕ) 
     within = h.within;
   }
 
+  -- ---- held and released
+
+  quiet_held : (c : Connection) → c.quiet ≡ Awake → (held_as true c).quiet ≡ Awake
+  quiet_held c e = e
+
+  -- its connection is held for a job
+  pub client_held : (u v w : Meaning) (listed now : Listing T) (count total room room' k : ℕ) (g h : Client T) → IsServingBut S limits u listed count room k → IsLive u k → OnlyAt u v k
+      → IsGoing S limits.idle (connection_at v.connections k) g → Changes v w k (held_as true) → h.ended ≡ g.ended → h.deadline ≡ 18446744073709551615 → S.holds h.talk ≡ true → S.kept h.talk ≡ g.deadline
+      → ((fed : List ℕ) (ended : Bool) (taken : List ℕ) → S.at fed ended taken g.talk → S.at fed ended taken h.talk) → total ≡ count + 1 → room' ≡ room
+      → ((s : Option (Client T)) → now k s → s ≡ Some h) → ((i : ℕ) (s : Option (Client T)) → i ≢ k → now i s → listed i s)
+      → IsServing S limits w now total room'
+  client_held u v w listed now count total room room' k g h but live only going holds ended deadline held kept same counts limit here others =
+      let o = going.is_open in
+      let c = connection_at v.connections k in
+      let long_v : length v.connections ≡ length u.connections = ap (λ (cs : List Connection). length cs) only.connections ∙ length-set u.connections k (connection_at v.connections k) in
+      let within_v : k < length v.connections = omega (arith, long_v, live.accepted) in
+      let at_k : connection_at w.connections k ≡ held_as true c = changed_at v w k (held_as true) holds within_v in
+      let only_w : OnlyAt v w k = record {
+        connections = holds.connections ∙ ap (λ (d : Connection). slice_set v.connections k d) (sym at_k);
+        same_closed = ap (λ (d : Connection). d.closed) at_k;
+        rest = holds.rest;
+      } in
+      let long_w : length w.connections ≡ length v.connections = ap (λ (cs : List Connection). length cs) only_w.connections ∙ length-set v.connections k (connection_at w.connections k) in
+      let is_open : IsOpen S limits.idle (held_as true c) h = record {
+        fed = o.fed;
+        taken = o.taken;
+        reads = o.reads;
+        writes = o.writes;
+        still_open = o.still_open;
+        held = sym held;
+        same_end = ended ∙ o.same_end;
+        timely = λ short. absurd (omega (arith, short, deadline));
+        is_at = same o.fed c.ended o.taken o.is_at;
+      } in
+      let calm : IsCalm S limits.idle (held_as true c) h = Held held going.awake deadline (λ short. let e = o.timely (omega (arith, kept, short)) in omega (arith, e, kept)) in
+      let but_w = but_after v w listed count room k (but_after u v listed count room k but live.accepted only) within_v only_w in
+      let done = but_listed w listed now count room k h but_w (omega (arith, long_w, within_v)) (subst (λ (d : Connection). IsOpen S limits.idle d h) (sym at_k) is_open) (subst (λ (d : Connection). IsCalm S limits.idle d h) (sym at_k) calm) here others in
+      subst (λ (n : ℕ). IsServing S limits w now total n) (sym limit) (subst (λ (n : ℕ). IsServing S limits w now n room) (sym counts) done)
+
+  kept_timely : (c : Connection) (g : Client T) → IsCalm S limits.idle c g → S.holds g.talk ≡ true → IsTimely limits.idle c (S.kept g.talk)
+  kept_timely c g (Free free rests) held = never (S.holds g.talk) free held
+  kept_timely c g (Held held' e never_ timely) held = timely
+
+  -- it is released, and goes on
+  pub client_released : (v w : Meaning) (listed : Listing T) (count room k : ℕ) (g h : Client T) → IsServingBut S limits v listed count room k → IsLive v k
+      → IsOpen S limits.idle (connection_at v.connections k) g → IsCalm S limits.idle (connection_at v.connections k) g → Changes v w k (held_as false)
+      → h.ended ≡ g.ended → S.holds g.talk ≡ true → S.kept g.talk ≤ h.deadline → S.holds h.talk ≡ false
+      → ((fed : List ℕ) (ended : Bool) (taken : List ℕ) → S.at fed ended taken g.talk → S.at fed ended taken h.talk)
+      → IsServingBut S limits w listed count room k × IsLive w k × IsGoing S limits.idle (connection_at w.connections k) h
+  client_released v w listed count room k g h but live o calm frees ended held later free same =
+      let c = connection_at v.connections k in
+      let at_k : connection_at w.connections k ≡ held_as false c = changed_at v w k (held_as false) frees live.accepted in
+      let only_w : OnlyAt v w k = record {
+        connections = frees.connections ∙ ap (λ (d : Connection). slice_set v.connections k d) (sym at_k);
+        same_closed = ap (λ (d : Connection). d.closed) at_k;
+        rest = frees.rest;
+      } in
+      let going : IsGoing S limits.idle (held_as false c) h = record {
+        is_open = record {
+          fed = o.fed;
+          taken = o.taken;
+          reads = o.reads;
+          writes = o.writes;
+          still_open = o.still_open;
+          held = sym free;
+          same_end = ended ∙ o.same_end;
+          timely = λ short. let e = kept_timely c g calm held (omega (arith, later, short)) in omega (arith, e, later);
+          is_at = same o.fed c.ended o.taken o.is_at;
+        };
+        awake = refl;
+      } in
+      (but_after v w listed count room k but live.accepted only_w, still_live v w k only_w live, subst (λ (d : Connection). IsGoing S limits.idle d h) (sym at_k) going)
+
+  -- one that is held is served
+  pub served_calm : (c : Connection) (g : Client T) → IsOpen S limits.idle c g → IsCalm S limits.idle c g → IsServed S.said limits.idle c
+  served_calm c g h calm = served_open c g h (calm_none c g calm)
+
   -- ---- a wait
 
-  pub serving_after : (v w : Meaning) (listed : Listing T) (count room : ℕ) → IsServing said at due limits v listed count room → Passes v w → w.connections ≡ v.connections
-      → IsServing said at due limits w listed count room
+  pub serving_after : (v w : Meaning) (listed : Listing T) (count room : ℕ) → IsServing S limits v listed count room → Passes v w → w.connections ≡ v.connections
+      → IsServing S limits w listed count room
   serving_after v w listed count room h passes same = record {
-    served = subst (All (IsServed said limits.idle)) (sym same) h.served;
-    resting = subst (All Rests) (sym same) h.resting;
-    kept = λ k slot row. subst (λ (cs : List Connection). IsKept at due limits.idle cs k slot) (sym same) (h.kept k slot row);
+    served = subst (All (IsServed S.said limits.idle)) (sym same) h.served;
+    resting = subst (All (IsStill S)) (sym same) h.resting;
+    kept = λ k slot row. subst (λ (cs : List Connection). IsKept S limits.idle cs k slot) (sym same) (h.kept k slot row);
     live = ap (λ (cs : List Connection). live_count cs) same ∙ h.live;
     few = h.few;
     most = subst (λ (n : ℕ). n ≤ limits.pool) (sym passes.most) h.most;
@@ -248,8 +360,8 @@ module _ {T : Type 0} (said : Speech) (at : TalkState T) (due : T → List ℕ) 
   }
 
   -- nobody was found under the name: it is of no live connection
-  pub unknown_named : (w : Meaning) (listed : Listing T) (count room k : ℕ) → IsWoken said at due limits w listed count room k → listed k None
-      → IsServing said at due limits w listed count room
+  pub unknown_named : (w : Meaning) (listed : Listing T) (count room k : ℕ) → IsWoken S limits w listed count room k → listed k None
+      → IsServing S limits w listed count room
   unknown_named w listed count room k r row = serving_after v w listed count room r.serving r.passes (r.named ∙ by (cases_lt k (length v.connections)))
     where
       v : Meaning
@@ -261,29 +373,29 @@ module _ {T : Type 0} (said : Speech) (at : TalkState T) (due : T → List ℕ) 
           let closed : (connection_at v.connections k).closed ≡ true = r.serving.kept k None row in' in
           ap (λ (b : Bool). slice_set v.connections k (woken_if b (connection_at v.connections k))) closed ∙ set-get_or v.connections k nobody
 
-  open_woken : (c : Connection) (g : Client T) → IsOpen at limits.idle c g → IsOpen at limits.idle (woken_if c.closed c) g
-  open_woken c g h = subst (λ (b : Bool). IsOpen at limits.idle (woken_if b c) g) (sym h.still_open) record {
+  open_woken : (c : Connection) (g : Client T) → IsOpen S limits.idle c g → IsOpen S limits.idle (woken_if c.closed c) g
+  open_woken c g h = subst (λ (b : Bool). IsOpen S limits.idle (woken_if b c) g) (sym h.still_open) record {
     fed = h.fed;
     taken = h.taken;
     reads = h.reads;
     writes = h.writes;
     still_open = h.still_open;
-    free = h.free;
+    held = h.held;
     same_end = h.same_end;
     timely = h.timely;
     is_at = h.is_at;
   }
 
   -- its client was found
-  pub known_named : (w : Meaning) (listed now : Listing T) (count left room room' k : ℕ) (g : Client T) → IsWoken said at due limits w listed count room k → listed k (Some g)
+  pub known_named : (w : Meaning) (listed now : Listing T) (count left room room' k : ℕ) (g : Client T) → IsWoken S limits w listed count room k → listed k (Some g)
       → left + 1 ≡ count → room' ≡ room → ((s : Option (Client T)) → now k s → s ≡ None) → ((j : ℕ) (s : Option (Client T)) → j ≢ k → now j s → listed j s)
-      → IsServingBut said at due limits w now left room' k × IsLive w k × IsOpen at limits.idle (connection_at w.connections k) g
-  known_named w listed now count left room room' k g r row counts limit only others = (all, live, is_open)
+      → IsServingBut S limits w now left room' k × IsLive w k × IsGoing S limits.idle (connection_at w.connections k) g × (S.holds g.talk ≡ true → IsCalm S limits.idle (connection_at w.connections k) g)
+  known_named w listed now count left room room' k g r row counts limit only others = (all, live, record { is_open = is_open; awake = awake }, calm)
     where
       v : Meaning
       v = r.before
 
-      was : IsKept at due limits.idle v.connections k (Some g)
+      was : IsKept S limits.idle v.connections k (Some g)
       was = r.serving.kept k (Some g) row
 
       c : Connection
@@ -292,8 +404,22 @@ module _ {T : Type 0} (said : Speech) (at : TalkState T) (due : T → List ℕ) 
       here : connection_at w.connections k ≡ woken_if c.closed c
       here = ap (λ (cs : List Connection). connection_at cs k) r.named ∙ at_same v.connections k (woken_if c.closed c) was.0
 
-      is_open : IsOpen at limits.idle (connection_at w.connections k) g
-      is_open = subst (λ (d : Connection). IsOpen at limits.idle d g) (sym here) (open_woken c g was.1)
+      is_open : IsOpen S limits.idle (connection_at w.connections k) g
+      is_open = subst (λ (d : Connection). IsOpen S limits.idle d g) (sym here) (open_woken c g was.1)
+
+      awake : (connection_at w.connections k).quiet ≡ Awake
+      awake = ap (λ (d : Connection). d.quiet) here ∙ ap (λ (b : Bool). (woken_if b c).quiet) was.1.still_open
+
+      calm : S.holds g.talk ≡ true → IsCalm S limits.idle (connection_at w.connections k) g
+      calm held = held_calm was.2
+        where
+          timely_woken : (b : Bool) → IsTimely limits.idle c (S.kept g.talk) → IsTimely limits.idle (woken_if b c) (S.kept g.talk)
+          timely_woken true timely = timely
+          timely_woken false timely = timely
+
+          held_calm : IsCalm S limits.idle c g → IsCalm S limits.idle (connection_at w.connections k) g
+          held_calm (Free free rests) = never (S.holds g.talk) free held
+          held_calm (Held held' e never_ timely) = Held held' awake never_ (subst (λ (d : Connection). IsTimely limits.idle d (S.kept g.talk)) (sym here) (timely_woken c.closed timely))
 
       long : length w.connections ≡ length v.connections
       long = ap (λ (cs : List Connection). length cs) r.named ∙ length-set v.connections k (woken_if c.closed c)
@@ -304,20 +430,20 @@ module _ {T : Type 0} (said : Speech) (at : TalkState T) (due : T → List ℕ) 
       elsewhere : (j : ℕ) → j ≢ k → connection_at w.connections j ≡ connection_at v.connections j
       elsewhere j other = ap (λ (cs : List Connection). connection_at cs j) r.named ∙ at_other v.connections k j (woken_if c.closed c) other
 
-      kept_at : (j : ℕ) (slot : Option (Client T)) → j ≢ k → IsKept at due limits.idle v.connections j slot → IsKept at due limits.idle w.connections j slot
+      kept_at : (j : ℕ) (slot : Option (Client T)) → j ≢ k → IsKept S limits.idle v.connections j slot → IsKept S limits.idle w.connections j slot
       kept_at j None other f = λ in'. ap (λ (d : Connection). d.closed) (elsewhere j other) ∙ f (omega (arith, long, in'))
-      kept_at j (Some x) other f = (omega (arith, long, f.0), subst (λ d. IsOpen at limits.idle d x) (sym (elsewhere j other)) f.1, subst (λ d. IsCalm due d x) (sym (elsewhere j other)) f.2)
+      kept_at j (Some x) other f = (omega (arith, long, f.0), subst (λ d. IsOpen S limits.idle d x) (sym (elsewhere j other)) f.1, subst (λ d. IsCalm S limits.idle d x) (sym (elsewhere j other)) f.2)
 
-      but : IsServingBut said at due limits v now left room' k
+      but : IsServingBut S limits v now left room' k
       but = but_taken v listed now count left room room' k r.serving counts limit only others
 
       same_closed : (woken_if c.closed c).closed ≡ c.closed
       same_closed = ap (λ (d : Connection). d.closed) (sym here) ∙ (is_open.still_open ∙ sym was.1.still_open)
 
-      all : IsServingBut said at due limits w now left room' k
+      all : IsServingBut S limits w now left room' k
       all = record {
-        served = λ j other in'. subst (IsServed said limits.idle) (sym (elsewhere j other)) (but.served j other (omega (arith, long, in')));
-        resting = λ j other in'. subst Rests (sym (elsewhere j other)) (but.resting j other (omega (arith, long, in')));
+        served = λ j other in'. subst (IsServed S.said limits.idle) (sym (elsewhere j other)) (but.served j other (omega (arith, long, in')));
+        resting = λ j other in'. subst (IsStill S) (sym (elsewhere j other)) (but.resting j other (omega (arith, long, in')));
         kept = λ j slot other row. kept_at j slot other (but.kept j slot other row);
         only = but.only;
         live = ap (λ (cs : List Connection). live_count cs) r.named ∙ live_kept v.connections k (woken_if c.closed c) was.0 same_closed ∙ but.live;
@@ -330,11 +456,11 @@ module _ {T : Type 0} (said : Speech) (at : TalkState T) (due : T → List ℕ) 
 
   -- ---- a new connection
 
-  pub new_but : (v w : Meaning) (listed : Listing T) (count room k : ℕ) → IsServing said at due limits v listed count room → Gains v w k → count < room → length v.connections < limits.conns
-      → IsServingBut said at due limits w listed count room k
+  pub new_but : (v w : Meaning) (listed : Listing T) (count room k : ℕ) → IsServing S limits v listed count room → Gains v w k → count < room → length v.connections < limits.conns
+      → IsServingBut S limits w listed count room k
   new_but v w listed count room k h x place more = record {
-    served = λ j other in'. subst (IsServed said limits.idle) (sym (elsewhere j (before j other in'))) (at_all (IsServed said limits.idle) v.connections h.served j (before j other in'));
-    resting = λ j other in'. subst Rests (sym (elsewhere j (before j other in'))) (at_all Rests v.connections h.resting j (before j other in'));
+    served = λ j other in'. subst (IsServed S.said limits.idle) (sym (elsewhere j (before j other in'))) (at_all (IsServed S.said limits.idle) v.connections h.served j (before j other in'));
+    resting = λ j other in'. subst (IsStill S) (sym (elsewhere j (before j other in'))) (at_all (IsStill S) v.connections h.resting j (before j other in'));
     kept = λ j slot other row. kept_at j slot other (h.kept j slot row);
     only = λ slot row. nobody_at slot (h.kept k slot row);
     live = lives;
@@ -361,11 +487,11 @@ module _ {T : Type 0} (said : Speech) (at : TalkState T) (due : T → List ℕ) 
       elsewhere : (j : ℕ) → j < length v.connections → connection_at w.connections j ≡ connection_at v.connections j
       elsewhere j in' = ap (λ (cs : List Connection). connection_at cs j) x.connections ∙ get_or_append_left v.connections (x.connection ∷ []) nobody j in'
 
-      kept_at : (j : ℕ) (slot : Option (Client T)) → j ≢ k → IsKept at due limits.idle v.connections j slot → IsKept at due limits.idle w.connections j slot
+      kept_at : (j : ℕ) (slot : Option (Client T)) → j ≢ k → IsKept S limits.idle v.connections j slot → IsKept S limits.idle w.connections j slot
       kept_at j None other f = λ in'. ap (λ (d : Connection). d.closed) (elsewhere j (before j other in')) ∙ f (before j other in')
-      kept_at j (Some g) other f = (omega (arith, long, f.0), subst (λ d. IsOpen at limits.idle d g) (sym (elsewhere j f.0)) f.1, subst (λ d. IsCalm due d g) (sym (elsewhere j f.0)) f.2)
+      kept_at j (Some g) other f = (omega (arith, long, f.0), subst (λ d. IsOpen S limits.idle d g) (sym (elsewhere j f.0)) f.1, subst (λ d. IsCalm S limits.idle d g) (sym (elsewhere j f.0)) f.2)
 
-      nobody_at : (slot : Option (Client T)) → IsKept at due limits.idle v.connections k slot → slot ≡ None
+      nobody_at : (slot : Option (Client T)) → IsKept S limits.idle v.connections k slot → slot ≡ None
       nobody_at None f = refl
       nobody_at (Some g) f = let y = f.0 in absurd (omega (arith, y, x.number))
 
@@ -380,41 +506,43 @@ module _ {T : Type 0} (said : Speech) (at : TalkState T) (due : T → List ℕ) 
       let long : length w.connections ≡ length v.connections + 1 = ap (λ (cs : List Connection). length cs) x.connections ∙ length-append v.connections (x.connection ∷ []) in
       record { accepted = omega (arith, long, x.number); still_open = ap (λ (d : Connection). d.closed) (new_here v w k x) ∙ x.is_new.still_open }
 
-  pub new_open : (v w : Meaning) (k : ℕ) (talk : T) (moment deadline : ℕ) → (x : Gains v w k) → at [] false [] talk → moment ≡ w.moment → deadline ≡ min (moment + limits.idle) 18446744073709551615
-      → IsOpen at limits.idle (connection_at w.connections k) record { conn = k; talk = talk; ended = false; deadline = deadline }
-  new_open v w k talk moment deadline x begins now last =
+  pub new_going : (v w : Meaning) (k : ℕ) (talk : T) (moment deadline : ℕ) → (x : Gains v w k) → S.at [] false [] talk → S.holds talk ≡ false → moment ≡ w.moment → deadline ≡ min (moment + limits.idle) 18446744073709551615
+      → IsGoing S limits.idle (connection_at w.connections k) record { conn = k; talk = talk; ended = false; deadline = deadline }
+  new_going v w k talk moment deadline x begins free now last =
       let client : Client T = record { conn = k; talk = talk; ended = false; deadline = deadline } in
       let e : deadline ≡ min (x.connection.last + limits.idle) 18446744073709551615 = last ∙ ap (λ (m : ℕ). min (m + limits.idle) 18446744073709551615) (now ∙ sym x.is_new.last_is) in
-      subst (λ (d : Connection). IsOpen at limits.idle d client) (sym (new_here v w k x)) record {
-        fed = [];
-        taken = [];
-        reads = x.is_new.none_read;
-        writes = x.is_new.none_written;
-        still_open = x.is_new.still_open;
-        free = x.is_new.free;
-        same_end = sym x.is_new.goes_on;
-        timely = timely_after x.connection.last limits.idle deadline e;
-        is_at = subst (λ (b : Bool). at [] b [] talk) (sym x.is_new.goes_on) begins;
+      subst (λ (d : Connection). IsGoing S limits.idle d client) (sym (new_here v w k x)) record {
+        is_open = record {
+          fed = [];
+          taken = [];
+          reads = x.is_new.none_read;
+          writes = x.is_new.none_written;
+          still_open = x.is_new.still_open;
+          held = x.is_new.free ∙ sym free;
+          same_end = sym x.is_new.goes_on;
+          timely = timely_after x.connection.last limits.idle deadline e;
+          is_at = subst (λ (b : Bool). S.at [] b [] talk) (sym x.is_new.goes_on) begins;
+        };
+        awake = x.is_new.awake;
       }
 
   -- there was no memory to admit it
-  pub new_left : (v w : Meaning) (listed : Listing T) (count room k : ℕ) (g : Client T) → IsServing said at due limits v listed count room → Gains v w k → count < room → length v.connections < limits.conns
-      → IsOpen at limits.idle (connection_at w.connections k) g → IsLeft said limits w
-  new_left v w listed count room k g h x place more is_open =
-      let awake : (connection_at w.connections k).quiet ≡ Awake = ap (λ (d : Connection). d.quiet) (new_here v w k x) ∙ x.is_new.awake in
-      but_cut w listed count room k (new_but v w listed count room k h x place more) (served_open (connection_at w.connections k) g is_open (λ rests. absurd (not_both (connection_at w.connections k).quiet awake rests)))
+  pub new_left : (v w : Meaning) (listed : Listing T) (count room k : ℕ) (g : Client T) → IsServing S limits v listed count room → Gains v w k → count < room → length v.connections < limits.conns
+      → IsGoing S limits.idle (connection_at w.connections k) g → IsLeft S limits w
+  new_left v w listed count room k g h x place more going =
+      but_cut w listed count room k (new_but v w listed count room k h x place more) (served_going (connection_at w.connections k) g going)
 
-  pub none_new : (v w : Meaning) (listed : Listing T) (count room : ℕ) (blocked : Bool) → IsServing said at due limits v listed count room → GainsNone v w blocked
-      → IsServing said at due limits w listed count room
+  pub none_new : (v w : Meaning) (listed : Listing T) (count room : ℕ) (blocked : Bool) → IsServing S limits v listed count room → GainsNone v w blocked
+      → IsServing S limits w listed count room
   none_new v w listed count room blocked h x =
       serving_kept v w listed count room h x.connections x.most x.listens
     where
-      serving_kept : (v w : Meaning) (listed : Listing T) (count room : ℕ) → IsServing said at due limits v listed count room → w.connections ≡ v.connections → w.most ≡ v.most → w.listens ≡ v.listens
-          → IsServing said at due limits w listed count room
+      serving_kept : (v w : Meaning) (listed : Listing T) (count room : ℕ) → IsServing S limits v listed count room → w.connections ≡ v.connections → w.most ≡ v.most → w.listens ≡ v.listens
+          → IsServing S limits w listed count room
       serving_kept v w listed count room h same most listens = record {
-        served = subst (All (IsServed said limits.idle)) (sym same) h.served;
-        resting = subst (All Rests) (sym same) h.resting;
-        kept = λ k slot row. subst (λ (cs : List Connection). IsKept at due limits.idle cs k slot) (sym same) (h.kept k slot row);
+        served = subst (All (IsServed S.said limits.idle)) (sym same) h.served;
+        resting = subst (All (IsStill S)) (sym same) h.resting;
+        kept = λ k slot row. subst (λ (cs : List Connection). IsKept S limits.idle cs k slot) (sym same) (h.kept k slot row);
         live = ap (λ (cs : List Connection). live_count cs) same ∙ h.live;
         few = h.few;
         most = subst (λ (n : ℕ). n ≤ limits.pool) (sym most) h.most;
@@ -425,28 +553,33 @@ module _ {T : Type 0} (said : Speech) (at : TalkState T) (due : T → List ℕ) 
 
   -- ---- idle connections
 
-  pub idle_closed : (v w : Meaning) (listed now : Listing T) (count left room room' k moment : ℕ) (g : Client T) → IsServing said at due limits v listed count room → listed k (Some g)
+  -- one whose deadline has come isn't held
+  pub due_rests : (c : Connection) (g : Client T) (moment : ℕ) → IsCalm S limits.idle c g → g.deadline ≤ moment → moment < 18446744073709551615 → (S.holds g.talk ≡ false) × IsResting S c g
+  due_rests c g moment (Free free rests) has_come short = (free, rests)
+  due_rests c g moment (Held held e never_ timely) has_come short = absurd (omega (arith, never_, has_come, short))
+
+  pub idle_closed : (v w : Meaning) (listed now : Listing T) (count left room room' k moment : ℕ) (g : Client T) → IsServing S limits v listed count room → listed k (Some g)
       → left + 1 ≡ count → room' ≡ room → ((s : Option (Client T)) → now k s → s ≡ None) → ((j : ℕ) (s : Option (Client T)) → j ≢ k → now j s → listed j s)
       → Changes v w k (closed_at w.moment) → g.deadline ≤ moment → moment < 18446744073709551615 → moment ≤ v.moment
-      → IsServing said at due limits w now left room'
+      → IsServing S limits w now left room'
   idle_closed v w listed now count left room room' k moment g h row counts limit only others closes has_come short past =
       let was = h.kept k (Some g) row in
       let c = connection_at v.connections k in
       let long : c.last + limits.idle ≤ g.deadline = was.1.timely (omega (arith, has_come, short)) in
       let rises = closes.rest.moment in
       but_closed v w now left room' k (but_taken v listed now count left room room' k h counts limit only others) record { accepted = was.0; still_open = was.1.still_open } closes
-      (served_idle c g w.moment was.1 was.2 (omega (arith, long, has_come, past, rises)))
+      (served_idle c g w.moment was.1 (due_rests c g moment was.2 has_come short).1 (omega (arith, long, has_come, past, rises)))
 
   -- ---- the end
 
-  pub all_closed : (v : Meaning) (listed : Listing T) (count room : ℕ) → IsServing said at due limits v listed count room → count ≡ 0 → All (λ (c : Connection). c.closed ≡ true) v.connections
+  pub all_closed : (v : Meaning) (listed : Listing T) (count room : ℕ) → IsServing S limits v listed count room → count ≡ 0 → All (λ (c : Connection). c.closed ≡ true) v.connections
   all_closed v listed count room h none = all_from (λ c. c.closed ≡ true) v.connections (λ j in'. none_open v.connections j in' (h.live ∙ none))
 
   pub nothing_yet : (v : Meaning) (listed : Listing T) (count room : ℕ) → IsFresh v → IsSome v.listens → count ≡ 0 → room ≡ limits.pool → ((k : ℕ) (g : Client T) → listed k (Some g) → ⊥)
-      → IsServing said at due limits v listed count room
+      → IsServing S limits v listed count room
   nothing_yet v listed count room fresh listens none limit nobody' = record {
-    served = subst (All (IsServed said limits.idle)) (sym fresh.none) (All-nil (IsServed said limits.idle));
-    resting = subst (All Rests) (sym fresh.none) (All-nil Rests);
+    served = subst (All (IsServed S.said limits.idle)) (sym fresh.none) (All-nil (IsServed S.said limits.idle));
+    resting = subst (All (IsStill S)) (sym fresh.none) (All-nil (IsStill S));
     kept = λ k slot row. by k slot row;
     live = ap (λ (cs : List Connection). live_count cs) fresh.none ∙ sym none;
     few = omega (arith, none);
@@ -456,15 +589,15 @@ module _ {T : Type 0} (said : Speech) (at : TalkState T) (due : T → List ℕ) 
     within = subst (λ (cs : List Connection). length cs ≤ limits.conns) (sym fresh.none) (omega arith);
   }
     where
-      by : (k : ℕ) (slot : Option (Client T)) → listed k slot → IsKept at due limits.idle v.connections k slot
+      by : (k : ℕ) (slot : Option (Client T)) → listed k slot → IsKept S limits.idle v.connections k slot
       by k None row = λ in'. absurd (omega (arith, in', ap (λ (cs : List Connection). length cs) fresh.none))
       by k (Some g) row = absurd (nobody' k g row)
 
-  pub known_at : (w : Meaning) (listed now : Listing T) (count left room room' k j : ℕ) (g : Client T) → IsWoken said at due limits w listed count room k → j ≡ k → listed k (Some g)
+  pub known_at : (w : Meaning) (listed now : Listing T) (count left room room' k j : ℕ) (g : Client T) → IsWoken S limits w listed count room k → j ≡ k → listed k (Some g)
       → left + 1 ≡ count → room' ≡ room → ((s : Option (Client T)) → now k s → s ≡ None) → ((i : ℕ) (s : Option (Client T)) → i ≢ k → now i s → listed i s)
-      → IsServingBut said at due limits w now left room' j × IsLive w j × IsOpen at limits.idle (connection_at w.connections j) g
+      → IsServingBut S limits w now left room' j × IsLive w j × IsGoing S limits.idle (connection_at w.connections j) g × (S.holds g.talk ≡ true → IsCalm S limits.idle (connection_at w.connections j) g)
   known_at w listed now count left room room' k j g r same row counts limit only others =
-      subst (λ (n : ℕ). IsServingBut said at due limits w now left room' n × IsLive w n × IsOpen at limits.idle (connection_at w.connections n) g) (sym same)
+      subst (λ (n : ℕ). IsServingBut S limits w now left room' n × IsLive w n × IsGoing S limits.idle (connection_at w.connections n) g × (S.holds g.talk ≡ true → IsCalm S limits.idle (connection_at w.connections n) g)) (sym same)
       (known_named w listed now count left room room' k g r row counts limit only others)
 
   pub keeps_more : (u v w : Meaning) (k : ℕ) (change : Connection → Connection) → Keeps u v → Changes v w k change → Keeps u w

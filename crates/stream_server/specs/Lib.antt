@@ -1,4 +1,8 @@
+pub mod Answering
+pub mod Protocols
+pub mod Running
 pub mod Served
+pub mod Services
 pub mod Serving
 pub mod Steps
 pub mod TableParts

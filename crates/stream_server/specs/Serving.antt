@@ -6,32 +6,48 @@ use Rattle.stream_net.specs.declared.net.Quiet.TheVariants.{Awake, ByRead, ByWri
 use Rattle.stream_net.specs.Waits.{Passes, woken}
 use Rattle.stream_server.specs.declared.client.Client.{Client}
 use Rattle.stream_server.specs.declared.limits.Limits.{Limits}
-use Rattle.stream_server.specs.Served.{Speech, IsServed}
-use Rattle.stream_server.specs.Steps.{TalkState, IsOpen, IsCalm}
-use Rattle.stream_server.specs.Tables.{SeenTable, AreAdmitted, AreAdmittedBut, IsListed, client_count}
-use Rattle.wsgi_core.specs.Applications.{App}
-use Rattle.wsgi_core.specs.Gateways.{Gateway, said_by}
-use Rattle.wsgi_core.specs.Standings.{Standing}
+use Rattle.stream_server.specs.Served.{IsServed}
+use Rattle.stream_server.specs.Protocols.{Side}
+use Rattle.stream_server.specs.Steps.{IsCalm, IsOpen}
 
 -- what is listed under a number
 abbrev pub Listing : Type 0 → Type 1
 Listing T = ℕ → Option (Client T) → Type 0
 
 -- what the server keeps of a connection against what the net means by it: it keeps nothing of a closed one, and an
--- open one rests
-abbrev pub IsKept : {T : Type 0} → TalkState T → (T → List ℕ) → ℕ → List Connection → ℕ → Option (Client T) → Type 0
-IsKept at due idle cs k None = k < length cs → (connection_at cs k).closed ≡ true
-IsKept at due idle cs k (Some client) = (k < length cs) × IsOpen at idle (connection_at cs k) client × IsCalm due (connection_at cs k) client
+-- open one rests or is held
+abbrev pub IsKept : {T : Type 0} → Side T → ℕ → List Connection → ℕ → Option (Client T) → Type 0
+IsKept S idle cs k None = k < length cs → (connection_at cs k).closed ≡ true
+IsKept S idle cs k (Some g) = (k < length cs) × IsOpen S idle (connection_at cs k) g × IsCalm S idle (connection_at cs k) g
 
 -- it is closed, or waits by a read or by a write
 abbrev pub Rests : Connection → Type 0
 Rests c = c.closed ≡ false → c.quiet ≢ Awake
 
--- all connections rest, and each open one has its client
-pub record IsServing {T : Type 0} (said : Speech) (at : TalkState T) (due : T → List ℕ) (limits : Limits) (m : Meaning) (listed : Listing T) (count room : ℕ) : Type 0 where
-  pub served : All (IsServed said limits.idle) m.connections
-  pub resting : All Rests m.connections
-  pub kept : (k : ℕ) (slot : Option (Client T)) → listed k slot → IsKept at due limits.idle m.connections k slot
+-- it is held, as the side holds some
+pub record IsHeldAt {T : Type 0} (S : Side T) (c : Connection) : Type 0 where
+  pub held : c.held ≡ true
+  pub talk : T
+  pub holds : S.holds talk ≡ true
+
+-- it is closed, or waits by a read or by a write, or is held
+abbrev pub IsStill : {T : Type 0} → Side T → Connection → Type 0
+IsStill S c = c.closed ≡ false → (c.quiet ≢ Awake) ⊎ IsHeldAt S c
+
+-- P holds of all connections, but for one at most
+pub record AllBut (P : Connection → Type 0) (cs : List Connection) : Type 0 where
+  pub one : ℕ
+  pub others : (k : ℕ) → k ≢ one → k < length cs → P (connection_at cs k)
+
+-- all connections rest, but for one at most
+abbrev pub RestBut : List Connection → Type 0
+RestBut cs = AllBut Rests cs
+
+-- all connections rest or are held, and each open one has its client
+pub record IsServing {T : Type 0} (S : Side T) (limits : Limits) (m : Meaning) (listed : Listing T) (count room : ℕ) : Type 0 where
+  pub served : All (IsServed S.said limits.idle) m.connections
+  pub resting : All (IsStill S) m.connections
+  pub kept : (k : ℕ) (slot : Option (Client T)) → listed k slot → IsKept S limits.idle m.connections k slot
   pub live : live_count m.connections ≡ count
   pub few : count ≤ limits.pool
   pub most : m.most ≤ limits.pool
@@ -40,10 +56,10 @@ pub record IsServing {T : Type 0} (said : Speech) (at : TalkState T) (due : T �
   pub within : length m.connections ≤ limits.conns
 
 -- the same but for one connection, whose client isn't listed
-pub record IsServingBut {T : Type 0} (said : Speech) (at : TalkState T) (due : T → List ℕ) (limits : Limits) (m : Meaning) (listed : Listing T) (count room k : ℕ) : Type 0 where
-  pub served : (j : ℕ) → j ≢ k → j < length m.connections → IsServed said limits.idle (connection_at m.connections j)
-  pub resting : (j : ℕ) → j ≢ k → j < length m.connections → Rests (connection_at m.connections j)
-  pub kept : (j : ℕ) (slot : Option (Client T)) → j ≢ k → listed j slot → IsKept at due limits.idle m.connections j slot
+pub record IsServingBut {T : Type 0} (S : Side T) (limits : Limits) (m : Meaning) (listed : Listing T) (count room k : ℕ) : Type 0 where
+  pub served : (j : ℕ) → j ≢ k → j < length m.connections → IsServed S.said limits.idle (connection_at m.connections j)
+  pub resting : (j : ℕ) → j ≢ k → j < length m.connections → IsStill S (connection_at m.connections j)
+  pub kept : (j : ℕ) (slot : Option (Client T)) → j ≢ k → listed j slot → IsKept S limits.idle m.connections j slot
   pub only : (slot : Option (Client T)) → listed k slot → slot ≡ None
   pub live : live_count m.connections ≡ count + 1
   pub few : count + 1 ≤ limits.pool
@@ -52,16 +68,12 @@ pub record IsServingBut {T : Type 0} (said : Speech) (at : TalkState T) (due : T
   pub room_is : room ≡ limits.pool
   pub within : length m.connections ≤ limits.conns
 
--- all connections rest, but for one at most
-pub record RestBut (cs : List Connection) : Type 0 where
-  pub one : ℕ
-  pub others : (k : ℕ) → k ≢ one → k < length cs → Rests (connection_at cs k)
-
 -- what holds of all connections whenever the server ends
-pub record IsLeft (said : Speech) (limits : Limits) (m : Meaning) : Type 0 where
-  pub served : All (IsServed said limits.idle) m.connections
-  pub rest : RestBut m.connections
+pub record IsLeft {T : Type 0} (S : Side T) (limits : Limits) (m : Meaning) : Type 0 where
+  pub served : All (IsServed S.said limits.idle) m.connections
+  pub rest : AllBut (IsStill S) m.connections
   pub most : m.most ≤ limits.pool
+  pub within : length m.connections ≤ limits.conns
 
 -- what a call leaves as it was where nothing is accepted
 pub record Keeps (v w : Meaning) : Type 0 where
@@ -70,10 +82,10 @@ pub record Keeps (v w : Meaning) : Type 0 where
   pub faults : w.faults ≡ v.faults
   pub blocked : w.blocked ≡ v.blocked
 
--- all connections rested before a wait that named this one
-pub record IsWoken {T : Type 0} (said : Speech) (at : TalkState T) (due : T → List ℕ) (limits : Limits) (m : Meaning) (listed : Listing T) (count room k : ℕ) : Type 0 where
+-- all connections rested or were held before a wait that named this one
+pub record IsWoken {T : Type 0} (S : Side T) (limits : Limits) (m : Meaning) (listed : Listing T) (count room k : ℕ) : Type 0 where
   pub before : Meaning
-  pub serving : IsServing said at due limits before listed count room
+  pub serving : IsServing S limits before listed count room
   pub passes : Passes before m
   pub named : m.connections ≡ woken k before.connections
 
@@ -81,30 +93,6 @@ pub record IsWoken {T : Type 0} (said : Speech) (at : TalkState T) (due : T → 
 pub record HasAccepted (accepted conns count room : ℕ) (m : Meaning) : Type 0 where
   pub number : accepted ≡ length m.connections
   pub why : (conns ≤ accepted) ⊎ ((room ≤ count) ⊎ (m.blocked ≡ true))
-
--- ---- the same of the talks of an application at a port, and of a table
-
-abbrev pub Serves : {T : Type 0} → Gateway → Standing T → (T → List ℕ) → App → ℕ → Limits → Meaning → SeenTable T → Type 0
-Serves answers is_at due app port limits m table =
-    IsServing (said_by answers app port) (is_at app port) due limits m (IsListed table) (client_count table) table.limit
-
-abbrev pub ServesBut : {T : Type 0} → Gateway → Standing T → (T → List ℕ) → App → ℕ → Limits → Meaning → SeenTable T → ℕ → Type 0
-ServesBut answers is_at due app port limits m table k =
-    IsServingBut (said_by answers app port) (is_at app port) due limits m (IsListed table) (client_count table) table.limit k
-
-abbrev pub WokenAt : {T : Type 0} → Gateway → Standing T → (T → List ℕ) → App → ℕ → Limits → Meaning → SeenTable T → ℕ → Type 0
-WokenAt answers is_at due app port limits m table k =
-    IsWoken (said_by answers app port) (is_at app port) due limits m (IsListed table) (client_count table) table.limit k
-
-abbrev pub LeftBy : Gateway → App → ℕ → Limits → Meaning → Type 0
-LeftBy answers app port limits m = IsLeft (said_by answers app port) limits m
-
--- the clients' numbers were admitted, and the next connection has the next number
-abbrev pub Admits : {T : Type 0} → SeenTable T → Meaning → Type 0
-Admits table m = AreAdmitted table (length m.connections)
-
-abbrev pub AdmitsBut : {T : Type 0} → SeenTable T → Meaning → ℕ → Type 0
-AdmitsBut table m k = AreAdmittedBut table (length m.connections) k
 
 -- ---- what is said of a server that ended
 

@@ -1,43 +1,51 @@
 -- A client under way: the server's side of a connection against the net's.
-use Rattle.std.specs.Prelude.{◌≡◌, ◌⊎◌, ℕ, ◌<◌, Bool, true, false, List, [], IfSome, slice_set}
+use Rattle.std.specs.Prelude.{◌≡◌, ℕ, ◌<◌, true, false, List, [], IfSome, slice_set}
 use Rattle.stream_net.specs.Nets.{Connection, Meaning, GoesOn, connection_at}
 use Rattle.stream_net.specs.declared.net.Quiet.TheVariants.{Awake, ByRead, ByWrite}
 use Rattle.stream_server.specs.Served.{Speech, BeginsSaid, IsTimely}
+use Rattle.stream_server.specs.Protocols.{Side}
 use Rattle.stream_server.specs.declared.client.Client.{Client}
 use Rattle.stream_server.specs.declared.exchange.Step.{Step}
-use Rattle.stream_server.specs.declared.exchange.Step.TheVariants.{Goes, Waits, Over, Memory}
+use Rattle.stream_server.specs.declared.exchange.Step.TheVariants.{Goes, Waits, Asks, Over, Memory}
 
--- the talk was fed these bytes, was told of their end or not, and those were taken from it
-abbrev pub TalkState : Type 0 → Type 1
-TalkState T = List ℕ → Bool → List ℕ → T → Type 0
-
--- the connection is open, and the talk was fed what was read and gave what was written
-pub record IsOpen {T : Type 0} (at : TalkState T) (idle : ℕ) (c : Connection) (client : Client T) : Type 0 where
+-- The connection is open, and the talk was fed what was read and gave what was written. It is held where the talk says
+-- so.
+pub record IsOpen {T : Type 0} (S : Side T) (idle : ℕ) (c : Connection) (g : Client T) : Type 0 where
   pub fed : List ℕ
   pub taken : List ℕ
   pub reads : IfSome c.read (λ bytes. bytes ≡ fed)
   pub writes : IfSome c.written (λ bytes. bytes ≡ taken)
   pub still_open : c.closed ≡ false
-  pub free : c.held ≡ false
-  pub same_end : client.ended ≡ c.ended
-  pub timely : IsTimely idle c client.deadline
-  pub is_at : at fed c.ended taken client.talk
+  pub held : c.held ≡ S.holds g.talk
+  pub same_end : g.ended ≡ c.ended
+  pub timely : IsTimely idle c g.deadline
+  pub is_at : S.at fed c.ended taken g.talk
 
--- it rests: by a write, or by a read while nothing was pending
-abbrev pub IsCalm : {T : Type 0} → (T → List ℕ) → Connection → Client T → Type 0
-IsCalm due c client = (c.quiet ≡ ByWrite) ⊎ ((c.quiet ≡ ByRead) × (due client.talk ≡ []))
+-- its last read or write, if there was one, went through
+pub record IsGoing {T : Type 0} (S : Side T) (idle : ℕ) (c : Connection) (g : Client T) : Type 0 where
+  pub is_open : IsOpen S idle c g
+  pub awake : c.quiet ≡ Awake
+
+-- it rests: by a write, or by a read while nothing was pending and no request waited
+pub data IsResting {T : Type 0} (S : Side T) (c : Connection) (g : Client T) : Type 0 where
+  AtAWrite : c.quiet ≡ ByWrite → IsResting S c g
+  AtARead : c.quiet ≡ ByRead → S.due g.talk ≡ [] → S.asks g.talk ≡ false → IsResting S c g
+
+-- it rests and isn't held; or it is held, its deadline never comes, and the one that it had before is timely
+pub data IsCalm {T : Type 0} (S : Side T) (idle : ℕ) (c : Connection) (g : Client T) : Type 0 where
+  Free : S.holds g.talk ≡ false → IsResting S c g → IsCalm S idle c g
+  Held : S.holds g.talk ≡ true → c.quiet ≡ Awake → g.deadline ≡ 18446744073709551615 → IsTimely idle c (S.kept g.talk) → IsCalm S idle c g
 
 -- why a client's connection is to be closed at once
-abbrev pub IsDone : {T : Type 0} → Speech → (T → List ℕ) → List ℕ → Connection → Client T → Type 0
-IsDone said due fed c client =
-    ((said fed c.ended).closes ≡ true × due client.talk ≡ [])
-    ⊎ ((c.ended ≡ true × due client.talk ≡ [])
-    ⊎ (0 < c.faults))
+pub data IsDone {T : Type 0} (S : Side T) (fed : List ℕ) (c : Connection) (g : Client T) : Type 0 where
+  Closes : (S.said fed c.ended).closes ≡ true → S.due g.talk ≡ [] → S.asks g.talk ≡ false → IsDone S fed c g
+  HasEnded : c.ended ≡ true → S.due g.talk ≡ [] → S.asks g.talk ≡ false → IsDone S fed c g
+  Fails : 0 < c.faults → IsDone S fed c g
 
 -- it is to be closed
-pub record IsOver {T : Type 0} (said : Speech) (at : TalkState T) (due : T → List ℕ) (idle : ℕ) (c : Connection) (client : Client T) : Type 0 where
-  pub is_open : IsOpen at idle c client
-  pub why : IsDone said due is_open.fed c client
+pub record IsOver {T : Type 0} (S : Side T) (idle : ℕ) (c : Connection) (g : Client T) : Type 0 where
+  pub is_open : IsOpen S idle c g
+  pub why : IsDone S is_open.fed c g
 
 -- memory ran out
 pub record IsCut (said : Speech) (c : Connection) : Type 0 where
@@ -46,11 +54,12 @@ pub record IsCut (said : Speech) (c : Connection) : Type 0 where
   pub awake : c.quiet ≡ Awake
 
 -- what a step leaves
-abbrev pub Leaves : {T : Type 0} → Step → Speech → TalkState T → (T → List ℕ) → ℕ → Connection → Client T → Type 0
-Leaves Goes said at due idle c client = IsOpen at idle c client
-Leaves Waits said at due idle c client = IsOpen at idle c client × IsCalm due c client
-Leaves Over said at due idle c client = IsOver said at due idle c client
-Leaves Memory said at due idle c client = IsCut said c
+abbrev pub Leaves : {T : Type 0} → Step → Side T → ℕ → Connection → Client T → Type 0
+Leaves Goes S idle c g = IsGoing S idle c g
+Leaves Waits S idle c g = IsOpen S idle c g × IsResting S c g
+Leaves Asks S idle c g = IsGoing S idle c g
+Leaves Over S idle c g = IsOver S idle c g
+Leaves Memory S idle c g = IsCut S.said c
 
 -- of one connection things were changed, and nothing else; it wasn't closed
 pub record OnlyAt (v w : Meaning) (k : ℕ) : Type 0 where

@@ -1,14 +1,15 @@
 //! What goes over one connection.
-ghost use Rattle.std.specs.Prelude.{◌≡◌, ℕ, ◌<◌, ◌≤◌, false, List, [], length};
-ghost use Rattle.wsgi_core.specs.Applications.{App};
-ghost use Rattle.wsgi_core.specs.Gateways.{said_by};
+ghost use Rattle.std.specs.Prelude.{◌≡◌, ℕ, ◌<◌, false, [], length};
 ghost use Rattle.stream_net.specs.Nets.{IsLive, connection_at};
-ghost use Rattle.stream_server.specs.Steps.{IsOpen, Leaves, OnlyAt};
+ghost use Rattle.stream_server.specs.Protocols.{side_of};
+ghost use Rattle.stream_server.specs.Steps.{IsGoing, Leaves, OnlyAt};
+ghost use Rattle.wsgi_core.specs.Applications.{App};
 
 use crate::client::Client;
+use crate::service::{Replied, Service};
 use std::sync::Wait;
 use stream_net::{Net, ReadEnd, WriteEnd};
-use wsgi_core::{Application, SessionPhase, Talk};
+use wsgi_core::SessionPhase;
 
 /// The most bytes that one read asks for.
 const PIECE: usize = 4096;
@@ -20,6 +21,8 @@ pub enum Step {
     Goes,
     /// The connection rests.
     Waits,
+    /// Its request waits for a reply, and all that was due is written.
+    Asks,
     /// The connection is to be closed.
     Over,
     /// Memory ran out.
@@ -27,17 +30,24 @@ pub enum Step {
 }
 
 /// Writes some of what is to be sent.
-fn send<T: Talk + Drop, N: Net>(net: &mut N, client: &mut Client<T>, idle: u64) -> Step
+fn send<T: Drop, W, V: Service<T, W>, N: Net>(
+    net: &mut N,
+    service: &V,
+    client: &mut Client<T>,
+    idle: u64,
+) -> Step
     requires live { IsLive (N.meaning net.old) client.old.conn }
-    requires some { 0 < length (T.due client.old.talk) }
+    requires some { 0 < length (V.protocol.due client.old.talk) }
     ensures only { OnlyAt (N.meaning net.old) (N.meaning net.new) client.old.conn }
     ensures same { client.new.conn ≡ client.old.conn }
-    ensures leaves { (app : App) (port : ℕ) → IsOpen (T.is_at app port) idle (connection_at (N.meaning net.old).connections client.old.conn) client.old
-        → Leaves result (said_by T.answers app port) (T.is_at app port) T.due idle (connection_at (N.meaning net.new).connections client.old.conn) client.new }
+    ensures holds { V.protocol.holds client.new.talk ≡ V.protocol.holds client.old.talk }
+    ensures leaves { (w : W) (app : App) (port : ℕ) → V.fits service.now w app → IsGoing (side_of V.protocol app port) idle (connection_at (N.meaning net.old).connections client.old.conn) client.old
+        → Leaves result (side_of V.protocol app port) idle (connection_at (N.meaning net.new).connections client.old.conn) client.new }
+    ensures asks_not { result ≡ Step.Asks → ⊥ }
 {
-    match net.write(client.conn, client.talk.pending()) {
+    match net.write(client.conn, service.pending(&client.talk)) {
         WriteEnd::Took(count) => {
-            client.talk.took(count);
+            service.took(&mut client.talk, count);
             client.deadline = net.now().saturating_add(idle);
             Step::Goes
         }
@@ -48,31 +58,34 @@ fn send<T: Talk + Drop, N: Net>(net: &mut N, client: &mut Client<T>, idle: u64) 
 }
 
 /// Reads some of what came, and feeds it.
-fn receive<T: Talk + Drop, N: Net, A: Application>(
+fn receive<T: Drop, W, V: Service<T, W>, N: Net>(
     net: &mut N,
+    service: &V,
     client: &mut Client<T>,
     idle: u64,
-    app: &A,
 ) -> Step
     requires live { IsLive (N.meaning net.old) client.old.conn }
-    requires none { T.due client.old.talk ≡ [] }
+    requires none { V.protocol.due client.old.talk ≡ [] }
+    requires quiet { V.protocol.asks client.old.talk ≡ false }
     requires goes_on { client.old.ended ≡ false }
     ensures only { OnlyAt (N.meaning net.old) (N.meaning net.new) client.old.conn }
     ensures same { client.new.conn ≡ client.old.conn }
-    ensures leaves { (port : ℕ) → IsOpen (T.is_at (A.answer_of app.now) port) idle (connection_at (N.meaning net.old).connections client.old.conn) client.old
-        → Leaves result (said_by T.answers (A.answer_of app.now) port) (T.is_at (A.answer_of app.now) port) T.due idle (connection_at (N.meaning net.new).connections client.old.conn) client.new }
+    ensures holds { V.protocol.holds client.new.talk ≡ V.protocol.holds client.old.talk }
+    ensures leaves { (w : W) (app : App) (port : ℕ) → V.fits service.now w app → IsGoing (side_of V.protocol app port) idle (connection_at (N.meaning net.old).connections client.old.conn) client.old
+        → Leaves result (side_of V.protocol app port) idle (connection_at (N.meaning net.new).connections client.old.conn) client.new }
+    ensures asks_not { result ≡ Step.Asks → ⊥ }
 {
     let mut buffer = [0; PIECE];
     match net.read(client.conn, &mut buffer) {
         ReadEnd::Got(count) => {
             client.deadline = net.now().saturating_add(idle);
-            match client.talk.feed(&buffer[..count], app) {
+            match service.feed(&mut client.talk, &buffer[..count]) {
                 Ok(()) => Step::Goes,
                 Err(_) => Step::Memory,
             }
         }
         ReadEnd::End => {
-            client.talk.end();
+            service.end(&mut client.talk);
             client.ended = true;
             Step::Goes
         }
@@ -81,48 +94,77 @@ fn receive<T: Talk + Drop, N: Net, A: Application>(
     }
 }
 
-/// Writes where something is to be sent, and else reads.
-fn advance<T: Talk + Drop, N: Net, A: Application>(
+/// Closes the connection at the end of its talk, and else reads.
+fn listen_on<T: Drop, W, V: Service<T, W>, N: Net>(
     net: &mut N,
+    service: &V,
     client: &mut Client<T>,
     idle: u64,
-    app: &A,
 ) -> Step
     requires live { IsLive (N.meaning net.old) client.old.conn }
+    requires none { V.protocol.due client.old.talk ≡ [] }
+    requires quiet { V.protocol.asks client.old.talk ≡ false }
     ensures only { OnlyAt (N.meaning net.old) (N.meaning net.new) client.old.conn }
     ensures same { client.new.conn ≡ client.old.conn }
-    ensures leaves { (port : ℕ) → IsOpen (T.is_at (A.answer_of app.now) port) idle (connection_at (N.meaning net.old).connections client.old.conn) client.old
-        → Leaves result (said_by T.answers (A.answer_of app.now) port) (T.is_at (A.answer_of app.now) port) T.due idle (connection_at (N.meaning net.new).connections client.old.conn) client.new }
+    ensures holds { V.protocol.holds client.new.talk ≡ V.protocol.holds client.old.talk }
+    ensures leaves { (w : W) (app : App) (port : ℕ) → V.fits service.now w app → IsGoing (side_of V.protocol app port) idle (connection_at (N.meaning net.old).connections client.old.conn) client.old
+        → Leaves result (side_of V.protocol app port) idle (connection_at (N.meaning net.new).connections client.old.conn) client.new }
+    ensures asks_not { result ≡ Step.Asks → ⊥ }
 {
-    if !client.talk.pending().is_empty() {
-        return send(net, client, idle);
-    }
     if client.ended {
         return Step::Over;
     }
-    match client.talk.phase() {
+    match service.phase(&client.talk) {
         SessionPhase::Closing => Step::Over,
-        SessionPhase::Serving => receive(net, client, idle, app),
+        SessionPhase::Serving => receive::<T, W, V, N>(net, service, client, idle),
     }
 }
 
-/// Goes on with a connection until it rests or is to be closed.
-pub fn proceed<T: Talk + Drop, N: Net, A: Application, H: Wait>(
-    rt: &H,
+/// Writes where something is to be sent, replies where a request waits, and else reads.
+fn advance<T: Drop, W, V: Service<T, W>, N: Net>(
     net: &mut N,
+    service: &V,
     client: &mut Client<T>,
     idle: u64,
-    app: &A,
 ) -> Step
     requires live { IsLive (N.meaning net.old) client.old.conn }
     ensures only { OnlyAt (N.meaning net.old) (N.meaning net.new) client.old.conn }
     ensures same { client.new.conn ≡ client.old.conn }
+    ensures holds { V.protocol.holds client.new.talk ≡ V.protocol.holds client.old.talk }
+    ensures leaves { (w : W) (app : App) (port : ℕ) → V.fits service.now w app → IsGoing (side_of V.protocol app port) idle (connection_at (N.meaning net.old).connections client.old.conn) client.old
+        → Leaves result (side_of V.protocol app port) idle (connection_at (N.meaning net.new).connections client.old.conn) client.new }
+    ensures wants { result ≡ Step.Asks → V.wants client.new.talk }
+{
+    if !service.pending(&client.talk).is_empty() {
+        return send::<T, W, V, N>(net, service, client, idle);
+    }
+    match service.reply(&mut client.talk) {
+        Replied::NoRequest => listen_on::<T, W, V, N>(net, service, client, idle),
+        Replied::Given => Step::Goes,
+        Replied::Asks => Step::Asks,
+        Replied::Memory => Step::Memory,
+    }
+}
+
+/// Goes on with a connection until it rests, asks for a reply that has to be waited for, or is to be closed.
+pub fn proceed<T: Drop, W, V: Service<T, W>, N: Net, H: Wait>(
+    rt: &H,
+    net: &mut N,
+    service: &V,
+    client: &mut Client<T>,
+    idle: u64,
+) -> Step
+    requires live { IsLive (N.meaning net.old) client.old.conn }
+    ensures only { OnlyAt (N.meaning net.old) (N.meaning net.new) client.old.conn }
+    ensures same { client.new.conn ≡ client.old.conn }
+    ensures holds { V.protocol.holds client.new.talk ≡ V.protocol.holds client.old.talk }
     ensures rests { result ≡ Step.Goes → ⊥ }
-    ensures leaves { (port : ℕ) → IsOpen (T.is_at (A.answer_of app.now) port) idle (connection_at (N.meaning net.old).connections client.old.conn) client.old
-        → Leaves result (said_by T.answers (A.answer_of app.now) port) (T.is_at (A.answer_of app.now) port) T.due idle (connection_at (N.meaning net.new).connections client.old.conn) client.new }
+    ensures leaves { (w : W) (app : App) (port : ℕ) → V.fits service.now w app → IsGoing (side_of V.protocol app port) idle (connection_at (N.meaning net.old).connections client.old.conn) client.old
+        → Leaves result (side_of V.protocol app port) idle (connection_at (N.meaning net.new).connections client.old.conn) client.new }
+    ensures wants { result ≡ Step.Asks → V.wants client.new.talk }
 {
     for _ in rt.forever() {
-        match advance(net, client, idle, app) {
+        match advance::<T, W, V, N>(net, service, client, idle) {
             Step::Goes => {}
             end => return end,
         }

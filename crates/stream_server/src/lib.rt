@@ -1,14 +1,17 @@
 //! A server over any net: each connection is its own session, whatever the others do.
 #![tactic(auto)]
 
+mod answering;
 mod client;
 mod exchange;
 mod limits;
 mod rounds;
+mod service;
 mod table;
 
+pub use answering::{serve, serve_with};
 pub use client::Client;
-pub use exchange::{Step, proceed};
 pub use limits::{Limits, ServeEnd};
-pub use rounds::{serve, serve_with};
+pub use rounds::{ServiceEnd, serve_on};
+pub use service::{Polled, Refusal, Replied, Service};
 pub use table::ClientTable;

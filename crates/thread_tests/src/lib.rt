@@ -1,5 +1,5 @@
-//! Tests of the call over native threads: two that do their jobs at one time, and some whose results are told in the
-//! order of a script.
+//! Tests over native threads: of the call with two that do their jobs at one time, of some whose results are told in the
+//! order of a script, and of a server whose requests they answer.
 #![tactic(auto)]
 
 #[cfg(test)]
@@ -8,5 +8,7 @@ mod calls;
 mod gate_tests;
 #[cfg(test)]
 mod held;
+#[cfg(test)]
+mod job_answers;
 #[cfg(test)]
 mod order_tests;

@@ -29,7 +29,7 @@ returns-in-Listener-clause-serves g c =
     let out1 = g.K.Sink.written c.write_line.new.out in
     some_served c.args.port g.T.Talk.answers (g.A.Application.answer_of c.args.app.now) c.args.limits (g.N.Net.meaning c.serve_with.new.net) (g.K.Sink.written c.args.out.now) (g.K.Sink.written c.write_line.new.out) c.in-Ok.port
     (c.in_default-write_line.ensures.whole ∙ ap (λ (n : ℕ). appended (g.K.Sink.written c.args.out.now) (listening n)) c.from.ensures)
-    c.in-Listener.ensures.own c.in-Listener.ensures.whole c.in-Listener.ensures.answered c.in-Listener.ensures.rest_but c.in-Listener.ensures.cause c.in-Listener.ensures.most (c.in-Listener.ensures.listens ∙ c.in-Ok.ensures.listens)
+    c.in-Listener.ensures.own c.in-Listener.ensures.whole c.in-Listener.ensures.answered c.in-Listener.ensures.rest_but c.in-Listener.ensures.cause c.in-Listener.ensures.most c.in-Listener.ensures.within (c.in-Listener.ensures.listens ∙ c.in-Ok.ensures.listens)
     Served.Listener out1 listener_unfinished (λ _. refl) (λ _. c.in-Listener.ensures.resting refl) (λ e. absurd (listener_no_line e)) (AppendsPrefix-nothing out1 (served c.args.limits.conns))
 
 pub returns-in-Memory-clause-serves : goal.returns-in-Memory-clause-serves
@@ -37,14 +37,14 @@ returns-in-Memory-clause-serves g c =
     let out1 = g.K.Sink.written c.write_line.new.out in
     some_served c.args.port g.T.Talk.answers (g.A.Application.answer_of c.args.app.now) c.args.limits (g.N.Net.meaning c.serve_with.new.net) (g.K.Sink.written c.args.out.now) (g.K.Sink.written c.write_line.new.out) c.in-Ok.port
     (c.in_default-write_line.ensures.whole ∙ ap (λ (n : ℕ). appended (g.K.Sink.written c.args.out.now) (listening n)) c.from.ensures)
-    c.in-Memory.ensures.own c.in-Memory.ensures.whole c.in-Memory.ensures.answered c.in-Memory.ensures.rest_but c.in-Memory.ensures.cause c.in-Memory.ensures.most (c.in-Memory.ensures.listens ∙ c.in-Ok.ensures.listens)
+    c.in-Memory.ensures.own c.in-Memory.ensures.whole c.in-Memory.ensures.answered c.in-Memory.ensures.rest_but c.in-Memory.ensures.cause c.in-Memory.ensures.most c.in-Memory.ensures.within (c.in-Memory.ensures.listens ∙ c.in-Ok.ensures.listens)
     Served.Memory out1 memory_unfinished (λ _. refl) (λ other. absurd (other refl)) (λ e. absurd (memory_no_line e)) (AppendsPrefix-nothing out1 (served c.args.limits.conns))
 
 pub returns-in-Ok-write_line-clause-serves : goal.returns-in-Ok-write_line-clause-serves
 returns-in-Ok-write_line-clause-serves g c =
     all_served c.args.port g.T.Talk.answers (g.A.Application.answer_of c.args.app.now) c.args.limits (g.N.Net.meaning c.serve_with.new.net) (g.K.Sink.written c.args.out.now) (g.K.Sink.written c.write_line.new.out) c.in-Ok.port
     (c.in_default-write_line.ensures.whole ∙ ap (λ (n : ℕ). appended (g.K.Sink.written c.args.out.now) (listening n)) c.from.ensures)
-    c.in-Finished.ensures.own c.in-Finished.ensures.whole c.in-Finished.ensures.answered c.in-Finished.ensures.rest_but c.in-Finished.ensures.cause c.in-Finished.ensures.most (c.in-Finished.ensures.listens ∙ c.in-Ok.ensures.listens)
+    c.in-Finished.ensures.own c.in-Finished.ensures.whole c.in-Finished.ensures.answered c.in-Finished.ensures.rest_but c.in-Finished.ensures.cause c.in-Finished.ensures.most c.in-Finished.ensures.within (c.in-Finished.ensures.listens ∙ c.in-Ok.ensures.listens)
     (g.K.Sink.written c.write_line-2.new.out) (c.in-Ok-write_line.ensures.whole ∙ ap (λ (n : ℕ). appended (g.K.Sink.written c.write_line.new.out) (served n)) c.from-2.ensures) (c.in-Finished.ensures.finished refl)
 
 pub returns-in-Err-write_line-clause-serves : goal.returns-in-Err-write_line-clause-serves
@@ -53,7 +53,7 @@ returns-in-Err-write_line-clause-serves g c =
     let out2 = g.K.Sink.written c.write_line-2.new.out in
     some_served c.args.port g.T.Talk.answers (g.A.Application.answer_of c.args.app.now) c.args.limits (g.N.Net.meaning c.serve_with.new.net) (g.K.Sink.written c.args.out.now) (g.K.Sink.written c.write_line.new.out) c.in-Ok.port
     (c.in_default-write_line.ensures.whole ∙ ap (λ (n : ℕ). appended (g.K.Sink.written c.args.out.now) (listening n)) c.from.ensures)
-    c.in-Finished.ensures.own c.in-Finished.ensures.whole c.in-Finished.ensures.answered c.in-Finished.ensures.rest_but c.in-Finished.ensures.cause c.in-Finished.ensures.most (c.in-Finished.ensures.listens ∙ c.in-Ok.ensures.listens)
+    c.in-Finished.ensures.own c.in-Finished.ensures.whole c.in-Finished.ensures.answered c.in-Finished.ensures.rest_but c.in-Finished.ensures.cause c.in-Finished.ensures.most c.in-Finished.ensures.within (c.in-Finished.ensures.listens ∙ c.in-Ok.ensures.listens)
     c.unwritten-in-Err-write_line.result out2 c.unwritten-in-Err-write_line.ensures.unfinished
     (λ other. ap g.K.Sink.written (c.in-Err-write_line.ensures.unwritten (is_memory c.in-Err-write_line.refusal (c.unwritten-in-Err-write_line.ensures.memory other))))
     (λ _. closed_rest (g.N.Net.meaning c.serve_with.new.net).connections (c.in-Finished.ensures.finished refl).closed) (λ _. inr (c.in-Finished.ensures.finished refl))

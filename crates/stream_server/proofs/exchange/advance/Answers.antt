@@ -1,10 +1,36 @@
-use Rattle.wsgi_core.specs.Gateways.{said_by}
-use Rattle.stream_server.proofs.Stepping.{is_done, none_left, is_closing}
+use Rattle.std.proofs.Common.{◌≡◌, [], refl, sym, subst}
+use Rattle.stream_net.specs.Nets.{connection_at}
+use Rattle.stream_server.specs.Protocols.{side_of}
+use Rattle.stream_server.proofs.Stepping.{none_left, reply_cut, same_going, was_given}
 use Rattle.stream_server.proofs.exchange.advance.Goals as goal
 
-pub returns-in-Closing-clause-leaves : goal.returns-in-Closing-clause-leaves
-returns-in-Closing-clause-leaves g c = λ port h.
-    let app = g.A.Application.answer_of c.args.app.now in
-    is_done (said_by g.T.Talk.answers app port) (g.T.Talk.is_at app port) g.T.Talk.due c.args.idle _ c.args.client.now h
-    (none_left _ _ _ c.is_empty.ensures c.if-not-is_empty.false c.pending.ensures)
-    (λ fed ended taken at. is_closing _ (c.in-Closing.ensures.at app port fed ended taken at))
+pub listen_on-requires-clause-none : goal.listen_on-requires-clause-none
+listen_on-requires-clause-none g c =
+    let P : g.row.T.Denot → Type 0 = λ t. g.V.Service.protocol.due t ≡ [] in
+    subst P (sym (c.in-NoRequest.ensures.no_request refl).0) (none_left _ _ _ c.is_empty.ensures c.if-not-is_empty.false c.pending.ensures)
+
+pub listen_on-requires-clause-quiet : goal.listen_on-requires-clause-quiet
+listen_on-requires-clause-quiet g c = (c.in-NoRequest.ensures.no_request refl).1
+
+pub returns-in-NoRequest-clause-leaves : goal.returns-in-NoRequest-clause-leaves
+returns-in-NoRequest-clause-leaves g c = λ w app port fits h.
+    let S = side_of g.V.Service.protocol app port in
+    let c0 = connection_at (g.N.Net.meaning c.args.net.now).connections c.args.client.now.conn in
+    c.listen_on.ensures.leaves w app port fits (same_going S c.args.idle 0 c0 c.args.client.now c.reply.new.talk (c.in-NoRequest.ensures.no_request refl).0 h)
+
+pub returns-in-Given-clause-leaves : goal.returns-in-Given-clause-leaves
+returns-in-Given-clause-leaves g c = λ w app port fits h.
+    was_given (side_of g.V.Service.protocol app port) c.args.idle 0 _ c.args.client.now c.reply.new.talk h c.reply.ensures.holds (c.in-Given.ensures.given refl w app fits port)
+
+pub returns-in-Asks-clause-leaves : goal.returns-in-Asks-clause-leaves
+returns-in-Asks-clause-leaves g c = λ w app port fits h.
+    let S = side_of g.V.Service.protocol app port in
+    let c0 = connection_at (g.N.Net.meaning c.args.net.now).connections c.args.client.now.conn in
+    same_going S c.args.idle 0 c0 c.args.client.now c.reply.new.talk (c.in-Asks.ensures.asks refl).0 h
+
+pub returns-in-Asks-clause-wants : goal.returns-in-Asks-clause-wants
+returns-in-Asks-clause-wants g c = λ _. (c.in-Asks.ensures.asks refl).1
+
+pub returns-in-Memory-clause-leaves : goal.returns-in-Memory-clause-leaves
+returns-in-Memory-clause-leaves g c = λ w app port fits h.
+    reply_cut (side_of g.V.Service.protocol app port) c.args.idle 0 _ c.args.client.now (g.V.Service.protocol.due c.reply.new.talk) h (c.in-Memory.ensures.cut refl w app fits port)

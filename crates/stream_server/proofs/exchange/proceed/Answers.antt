@@ -1,6 +1,6 @@
-use Rattle.std.proofs.Common.{◌∙◌}
-use Rattle.wsgi_core.specs.Gateways.{said_by}
-use Rattle.stream_server.specs.Steps.{IsOpen, Leaves}
+use Rattle.std.proofs.Common.{refl, ◌∙◌}
+use Rattle.stream_server.specs.Protocols.{side_of}
+use Rattle.stream_server.specs.Steps.{IsGoing, Leaves}
 use Rattle.stream_server.proofs.Stepping.{only_none, only_more, live_more, live_same, leaves_more}
 use Rattle.stream_server.proofs.exchange.proceed.Goals as goal
 
@@ -11,7 +11,8 @@ loop-init g c = record {
   live = c.requires.live;
   only = only_none _ c.args.client.now.conn;
   same = λ i. c.args.client.now.conn;
-  leaves = λ port h. h;
+  holds = refl;
+  leaves = λ w app port fits h. h;
 }
 
 pub advance-requires : goal.advance-requires
@@ -26,10 +27,11 @@ loop-preserved g c =
       live = live_more _ _ c.args.client.now.conn c.loop.client.conn was.same c.in-Goes.ensures.only was.live;
       only = only_more _ _ _ c.args.client.now.conn c.loop.client.conn was.same was.only c.in-Goes.ensures.only;
       same = c.in-Goes.ensures.same ∙ was.same;
-      leaves = λ port h.
-          let at = g.T.Talk.is_at (g.A.Application.answer_of c.args.app.now) port in
+      holds = c.in-Goes.ensures.holds ∙ was.holds;
+      leaves = λ w app port fits h.
+          let S = side_of g.V.Service.protocol app port in
           leaves_more (g.N.Net.meaning c.loop.net) (g.N.Net.meaning c.advance.new.net) c.args.client.now.conn c.loop.client.conn was.same
-          (λ d. IsOpen at c.args.idle d c.loop.client) (λ d. IsOpen at c.args.idle d c.advance.new.client) (c.in-Goes.ensures.leaves port) (was.leaves port h);
+          (λ d. IsGoing S c.args.idle d c.loop.client) (λ d. IsGoing S c.args.idle d c.advance.new.client) (c.in-Goes.ensures.leaves w app port fits) (was.leaves w app port fits h);
     }
 
 pub returns-in_default : goal.returns-in_default
@@ -38,10 +40,11 @@ returns-in_default g c =
     record {
       only = only_more _ _ _ c.args.client.now.conn c.loop.client.conn was.same was.only c.advance.ensures.only;
       same = c.advance.ensures.same ∙ was.same;
+      holds = c.advance.ensures.holds ∙ was.holds;
       rests = c.in_default.not-Goes;
-      leaves = λ port h.
-          let app = g.A.Application.answer_of c.args.app.now in
-          let at = g.T.Talk.is_at app port in
+      leaves = λ w app port fits h.
+          let S = side_of g.V.Service.protocol app port in
           leaves_more (g.N.Net.meaning c.loop.net) (g.N.Net.meaning c.advance.new.net) c.args.client.now.conn c.loop.client.conn was.same
-          (λ d. IsOpen at c.args.idle d c.loop.client) (λ d. Leaves c.advance.result (said_by g.T.Talk.answers app port) at g.T.Talk.due c.args.idle d c.advance.new.client) (c.advance.ensures.leaves port) (was.leaves port h);
+          (λ d. IsGoing S c.args.idle d c.loop.client) (λ d. Leaves c.advance.result S c.args.idle d c.advance.new.client) (c.advance.ensures.leaves w app port fits) (was.leaves w app port fits h);
+      wants = c.advance.ensures.wants;
     }

@@ -1,12 +1,12 @@
 use Rattle.std.proofs.Common.{◌<◌, ◌≤◌}
+use Rattle.stream_server.specs.Running.{IsRunning}
+use Rattle.stream_server.specs.Serving.{Keeps}
 use Rattle.stream_server.specs.Tables.{client_count}
-use Rattle.stream_server.specs.Serving.{Admits, Keeps, Serves}
 use Rattle.stream_server.proofs.rounds.close_idle.Given as goal
 
 abbrev pub invariant-loop-client : goal.invariant-loop-client
 invariant-loop-client g l = record {
-  serving : Serves g.T.Talk.answers g.T.Talk.is_at g.T.Talk.due (g.A.Application.answer_of l.fn.app) l.fn.port l.fn.limits (g.N.Net.meaning l.net) l.table;
-  admitted : Admits l.table (g.N.Net.meaning l.net);
+  running : IsRunning g.V.Service.protocol (g.V.Service.fits l.fn.service l.fn.world) (g.V.Service.tied l.fn.service l.fn.world) l.fn.port l.fn.limits (g.N.Net.meaning l.net) l.table;
   keeps : Keeps (g.N.Net.meaning l.fn.net) (g.N.Net.meaning l.net);
   short : l.now < 18446744073709551615;
   past : l.now ≤ (g.N.Net.meaning l.net).moment;

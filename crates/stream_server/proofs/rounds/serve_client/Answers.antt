@@ -1,48 +1,56 @@
-use Rattle.std.proofs.Common.{◌∙◌}
-use Rattle.wsgi_core.specs.Gateways.{said_by}
-use Rattle.stream_server.specs.Tables.{IsListed, client_count}
+use Rattle.std.proofs.Common.{sym, subst, ◌∙◌, ℕ, refl}
+use Rattle.stream_net.specs.Nets.{connection_at}
 use Rattle.stream_net.proofs.Lists.{is_absent}
-use Rattle.stream_server.proofs.Members.{listed_again, released, serving_with}
-use Rattle.stream_server.proofs.Stepping.{changed_length, only_length}
-use Rattle.stream_server.proofs.Turns.{client_waits, client_over, client_cut}
+use Rattle.stream_server.specs.Protocols.{side_of}
+use Rattle.stream_server.specs.Steps.{IsGoing}
+use Rattle.stream_server.specs.Tables.{IsListed}
+use Rattle.stream_server.proofs.Rounding.{but_more, but_only, but_place, cut_left, running_over, running_waits}
 use Rattle.stream_server.proofs.rounds.serve_client.Goals as goal
 
 pub insert-requires-clause-absent : goal.insert-requires-clause-absent
-insert-requires-clause-absent g c = is_absent (IsListed c.args.table.now) c.args.client.conn c.proceed.new.client.conn c.in-Waits.ensures.same c.requires.but.only
+insert-requires-clause-absent g c = is_absent (IsListed c.args.table.now) c.args.client.conn c.proceed.new.client.conn c.in-Waits.ensures.same
+    (but_only g.V.Service.protocol g.met.V.Service.lawful c.args.port c.args.limits (g.V.Service.fits c.args.service.now c.args.world.now) (g.V.Service.tied_but c.args.service.now c.args.world.now) (g.N.Net.meaning c.args.net.now) c.args.table.now c.args.client.conn (g.V.Service.one c.args.service.now c.args.world.now) (g.met.V.Service.fits_one c.args.service.now c.args.world.now) c.requires.but)
 
-pub returns-in-Waits-clause-serving : goal.returns-in-Waits-clause-serving
-returns-in-Waits-clause-serving g c =
-    let app = g.A.Application.answer_of c.args.app.now in
-    client_waits (said_by g.T.Talk.answers app c.args.port) (g.T.Talk.is_at app c.args.port) g.T.Talk.due c.args.limits (g.T.Talk.says app c.args.port)
-    _ _ (IsListed c.args.table.now) (IsListed c.insert.new.self) (client_count c.args.table.now) (client_count c.insert.new.self) _ _ c.args.client.conn c.proceed.new.client.conn c.proceed.new.client
-    c.requires.but c.requires.live c.in-Waits.ensures.only (c.in-Waits.ensures.leaves c.args.port c.requires.still_open) c.in-Waits.ensures.same c.insert.ensures.count c.insert.ensures.relists.limit
-    c.insert.ensures.relists.only c.insert.ensures.relists.others
+pub insert-requires-clause-place : goal.insert-requires-clause-place
+insert-requires-clause-place g c = but_place g.V.Service.protocol g.met.V.Service.lawful c.args.port c.args.limits (g.V.Service.fits c.args.service.now c.args.world.now) (g.V.Service.tied_but c.args.service.now c.args.world.now) (g.N.Net.meaning c.args.net.now) c.args.table.now c.args.client.conn (g.V.Service.one c.args.service.now c.args.world.now) (g.met.V.Service.fits_one c.args.service.now c.args.world.now) c.requires.but
 
-pub returns-in-Waits-clause-admitted : goal.returns-in-Waits-clause-admitted
-returns-in-Waits-clause-admitted g c =
-    listed_again c.args.table.now c.insert.new.self _ _ c.args.client.conn c.proceed.new.client.conn c.proceed.new.client
-    c.requires.admitted c.insert.ensures.relists c.in-Waits.ensures.same (only_length _ _ c.args.client.conn c.in-Waits.ensures.only) c.insert.ensures.count
+pub hold_client-requires-clause-going : goal.hold_client-requires-clause-going
+hold_client-requires-clause-going g c =
+    λ app fits. subst (λ (n : ℕ). IsGoing (side_of g.V.Service.protocol app c.args.port) c.args.limits.idle (connection_at (g.N.Net.meaning c.proceed.new.net).connections n) c.proceed.new.client) (sym c.in-Asks.ensures.same)
+    (c.in-Asks.ensures.leaves c.args.world.now app c.args.port fits (c.requires.going app fits))
 
-pub release-requires : goal.release-requires
-release-requires g c = c.requires.admitted.here
+pub hold_client-requires-clause-wants : goal.hold_client-requires-clause-wants
+hold_client-requires-clause-wants g c = c.in-Asks.ensures.wants refl
 
-pub returns-in-Over-clause-serving : goal.returns-in-Over-clause-serving
-returns-in-Over-clause-serving g c =
-    let app = g.A.Application.answer_of c.args.app.now in
-    serving_with (said_by g.T.Talk.answers app c.args.port) (g.T.Talk.is_at app c.args.port) g.T.Talk.due c.args.limits _ c.args.table.now c.release.new.self _ c.release.ensures.released
-    (client_over (said_by g.T.Talk.answers app c.args.port) (g.T.Talk.is_at app c.args.port) g.T.Talk.due c.args.limits (g.T.Talk.says app c.args.port)
-    _ _ _ (IsListed c.args.table.now) (client_count c.args.table.now) _ c.args.client.conn c.proceed.new.client
-    c.requires.but c.requires.live c.in-Over.ensures.only (c.in-Over.ensures.leaves c.args.port c.requires.still_open) c.close.ensures)
+pub hold_client-requires-clause-free : goal.hold_client-requires-clause-free
+hold_client-requires-clause-free g c = c.in-Asks.ensures.holds ∙ c.requires.free
 
-pub returns-in-Over-clause-admitted : goal.returns-in-Over-clause-admitted
-returns-in-Over-clause-admitted g c =
-    released c.args.table.now c.release.new.self _ _ c.args.client.conn c.requires.admitted c.requires.but.only
-    (changed_length _ _ c.args.client.conn _ c.close.ensures ∙ only_length _ _ c.args.client.conn c.in-Over.ensures.only)
-    c.release.ensures.released c.release.ensures.fewer
+pub hold_client-requires-clause-but : goal.hold_client-requires-clause-but
+hold_client-requires-clause-but g c =
+    but_more g.V.Service.protocol g.met.V.Service.lawful c.args.port c.args.limits (g.V.Service.fits c.args.service.now c.args.world.now) (g.V.Service.tied_but c.args.service.now c.args.world.now) (g.N.Net.meaning c.args.net.now) (g.N.Net.meaning c.proceed.new.net) c.args.table.now c.args.client.conn c.proceed.new.client.conn c.requires.but c.requires.live c.in-Asks.ensures.only c.in-Asks.ensures.same
+
+pub returns-in-Waits-clause-running : goal.returns-in-Waits-clause-running
+returns-in-Waits-clause-running g c =
+    running_waits g.V.Service.protocol g.met.V.Service.lawful c.args.port c.args.limits (g.V.Service.fits c.args.service.now c.args.world.now) (g.V.Service.tied c.args.service.now c.args.world.now) (g.V.Service.tied_but c.args.service.now c.args.world.now) (g.N.Net.meaning c.args.net.now) (g.N.Net.meaning c.proceed.new.net) c.args.table.now c.insert.new.self c.args.client.conn c.proceed.new.client
+    c.requires.but c.requires.live c.in-Waits.ensures.only (λ app fits. c.in-Waits.ensures.leaves c.args.world.now app c.args.port fits (c.requires.going app fits)) c.in-Waits.ensures.same (c.in-Waits.ensures.holds ∙ c.requires.free)
+    (λ n tied others. g.met.V.Service.tied_again c.args.service.now c.args.world.now c.args.table.now c.insert.new.self n c.args.client.conn tied others)
+    c.insert.ensures.relists c.insert.ensures.count
 
 pub returns-in-Memory-clause-left : goal.returns-in-Memory-clause-left
 returns-in-Memory-clause-left g c =
-    let app = g.A.Application.answer_of c.args.app.now in
-    client_cut (said_by g.T.Talk.answers app c.args.port) (g.T.Talk.is_at app c.args.port) g.T.Talk.due c.args.limits (g.T.Talk.says app c.args.port)
-    _ _ (IsListed c.args.table.now) (client_count c.args.table.now) _ c.args.client.conn
-    c.requires.but c.requires.live c.in-Memory.ensures.only (c.in-Memory.ensures.leaves c.args.port c.requires.still_open)
+    cut_left g.V.Service.protocol g.met.V.Service.lawful c.args.port c.args.limits (g.V.Service.fits c.args.service.now c.args.world.now) (g.V.Service.tied_but c.args.service.now c.args.world.now) (g.N.Net.meaning c.args.net.now) (g.N.Net.meaning c.proceed.new.net) c.args.table.now c.args.client.conn c.requires.but c.requires.live c.in-Memory.ensures.only
+    (λ app fits. c.in-Memory.ensures.leaves c.args.world.now app c.args.port fits (c.requires.going app fits))
+
+pub release-requires : goal.release-requires
+release-requires g c = c.requires.but.admitted.here
+
+pub returns-in-Over-clause-running : goal.returns-in-Over-clause-running
+returns-in-Over-clause-running g c =
+    running_over g.V.Service.protocol g.met.V.Service.lawful c.args.port c.args.limits (g.V.Service.fits c.args.service.now c.args.world.now) (g.V.Service.tied c.args.service.now c.args.world.now) (g.V.Service.tied_but c.args.service.now c.args.world.now) (g.N.Net.meaning c.args.net.now) (g.N.Net.meaning c.proceed.new.net) (g.N.Net.meaning c.close.new.self) c.args.table.now c.release.new.self c.args.client.conn c.proceed.new.client (g.V.Service.one c.args.service.now c.args.world.now) (g.met.V.Service.fits_one c.args.service.now c.args.world.now)
+    c.requires.but c.requires.live c.in-Over.ensures.only (λ app fits. c.in-Over.ensures.leaves c.args.world.now app c.args.port fits (c.requires.going app fits)) c.close.ensures
+    (λ n tied others. g.met.V.Service.tied_again c.args.service.now c.args.world.now c.args.table.now c.release.new.self n c.args.client.conn tied others)
+    c.release.ensures.released c.release.ensures.fewer
+
+pub close-requires-clause-free : goal.close-requires-clause-free
+close-requires-clause-free g c =
+    (c.in-Over.ensures.leaves c.args.world.now (g.V.Service.one c.args.service.now c.args.world.now) c.args.port (g.met.V.Service.fits_one c.args.service.now c.args.world.now) (c.requires.going (g.V.Service.one c.args.service.now c.args.world.now) (g.met.V.Service.fits_one c.args.service.now c.args.world.now))).is_open.held ∙ (c.in-Over.ensures.holds ∙ c.requires.free)

@@ -1,47 +1,26 @@
-use Rattle.std.proofs.Common.{ap, ◌∙◌, length, List}
-use Rattle.wsgi_core.specs.Gateways.{said_by}
+use Rattle.std.proofs.Common.{ap, ◌∙◌}
 use Rattle.stream_net.specs.declared.net.Ready.{Ready}
-use Rattle.stream_net.specs.Nets.{Connection}
 use Rattle.stream_net.specs.Waits.{named}
-use Rattle.stream_server.specs.Tables.{IsListed, client_count}
-use Rattle.stream_server.proofs.Members.{admitted_still}
-use Rattle.stream_server.proofs.Turns.{named_length, serving_after, serving_left}
+use Rattle.stream_server.proofs.Rounding.{may_wait, running_after, running_left, running_rests, running_woken}
 use Rattle.stream_server.proofs.rounds.wait_next.Goals as goal
 
+pub next-requires : goal.next-requires
+next-requires g c = may_wait g.V.Service.protocol g.met.V.Service.lawful c.args.port c.args.limits (g.V.Service.fits c.args.service.now c.args.world.now) (g.V.Service.tied c.args.service.now c.args.world.now) (g.N.Net.meaning c.args.net.now) c.args.table.now c.until-until.result (g.V.Service.one c.args.service.now c.args.world.now) (g.met.V.Service.fits_one c.args.service.now c.args.world.now) c.requires.running c.until-until.ensures c.requires.asked
+
 pub returns-in_default-clause-left : goal.returns-in_default-clause-left
-returns-in_default-clause-left g c =
-    let app = g.A.Application.answer_of c.args.app.now in
-    serving_left (said_by g.T.Talk.answers app c.args.port) (g.T.Talk.is_at app c.args.port) g.T.Talk.due c.args.limits (g.T.Talk.says app c.args.port)
-    _ (IsListed c.args.table.now) (client_count c.args.table.now) c.args.table.now.limit
-    (serving_after (said_by g.T.Talk.answers app c.args.port) (g.T.Talk.is_at app c.args.port) g.T.Talk.due c.args.limits (g.T.Talk.says app c.args.port)
-    _ _ (IsListed c.args.table.now) (client_count c.args.table.now) c.args.table.now.limit c.requires.serving c.in_default.ensures.waits.0 c.in_default.ensures.waits.1)
+returns-in_default-clause-left g c = running_left g.V.Service.protocol g.met.V.Service.lawful c.args.port c.args.limits (g.V.Service.fits c.args.service.now c.args.world.now) (g.V.Service.tied c.args.service.now c.args.world.now) (g.N.Net.meaning c.next.new.self) c.args.table.now (running_after g.V.Service.protocol g.met.V.Service.lawful c.args.port c.args.limits (g.V.Service.fits c.args.service.now c.args.world.now) (g.V.Service.tied c.args.service.now c.args.world.now) (g.N.Net.meaning c.args.net.now) (g.N.Net.meaning c.next.new.self) c.args.table.now c.requires.running c.in_default.ensures.waits.0 c.in_default.ensures.waits.1)
 
-pub returns-in-Incoming-clause-serving : goal.returns-in-Incoming-clause-serving
-returns-in-Incoming-clause-serving g c =
-    let app = g.A.Application.answer_of c.args.app.now in
-    serving_after (said_by g.T.Talk.answers app c.args.port) (g.T.Talk.is_at app c.args.port) g.T.Talk.due c.args.limits (g.T.Talk.says app c.args.port)
-    _ _ (IsListed c.args.table.now) (client_count c.args.table.now) c.args.table.now.limit c.requires.serving c.in-Ok.ensures.waits.0
-    (c.in-Ok.ensures.waits.1 ∙ ap (λ (r : Ready). named r (g.N.Net.meaning c.args.net.now).connections) c.in-Incoming.is)
+pub returns-in_default-clause-resting : goal.returns-in_default-clause-resting
+returns-in_default-clause-resting g c = λ _. running_rests g.V.Service.protocol g.met.V.Service.lawful c.args.port c.args.limits (g.V.Service.fits c.args.service.now c.args.world.now) (g.V.Service.tied c.args.service.now c.args.world.now) (g.N.Net.meaning c.next.new.self) c.args.table.now (g.V.Service.one c.args.service.now c.args.world.now) (g.met.V.Service.fits_one c.args.service.now c.args.world.now) (running_after g.V.Service.protocol g.met.V.Service.lawful c.args.port c.args.limits (g.V.Service.fits c.args.service.now c.args.world.now) (g.V.Service.tied c.args.service.now c.args.world.now) (g.N.Net.meaning c.args.net.now) (g.N.Net.meaning c.next.new.self) c.args.table.now c.requires.running c.in_default.ensures.waits.0 c.in_default.ensures.waits.1)
 
-pub returns-in-Elapsed-clause-serving : goal.returns-in-Elapsed-clause-serving
-returns-in-Elapsed-clause-serving g c =
-    let app = g.A.Application.answer_of c.args.app.now in
-    serving_after (said_by g.T.Talk.answers app c.args.port) (g.T.Talk.is_at app c.args.port) g.T.Talk.due c.args.limits (g.T.Talk.says app c.args.port)
-    _ _ (IsListed c.args.table.now) (client_count c.args.table.now) c.args.table.now.limit c.requires.serving c.in-Ok.ensures.waits.0
-    (c.in-Ok.ensures.waits.1 ∙ ap (λ (r : Ready). named r (g.N.Net.meaning c.args.net.now).connections) c.in-Elapsed.is)
+pub returns-in-Incoming-clause-running : goal.returns-in-Incoming-clause-running
+returns-in-Incoming-clause-running g c = running_after g.V.Service.protocol g.met.V.Service.lawful c.args.port c.args.limits (g.V.Service.fits c.args.service.now c.args.world.now) (g.V.Service.tied c.args.service.now c.args.world.now) (g.N.Net.meaning c.args.net.now) (g.N.Net.meaning c.next.new.self) c.args.table.now c.requires.running c.in-Ok.ensures.waits.0 (c.in-Ok.ensures.waits.1 ∙ ap (λ (r : Ready). named r (g.N.Net.meaning c.args.net.now).connections) c.in-Incoming.is)
 
-pub returns-in-Incoming-clause-admitted : goal.returns-in-Incoming-clause-admitted
-returns-in-Incoming-clause-admitted g c =
-    admitted_still c.args.table.now _ _ (ap (λ (cs : List Connection). length cs) c.in-Ok.ensures.waits.1 ∙ named_length c.in-Ok.ready _) c.requires.admitted
+pub returns-in-Elapsed-clause-running : goal.returns-in-Elapsed-clause-running
+returns-in-Elapsed-clause-running g c = running_after g.V.Service.protocol g.met.V.Service.lawful c.args.port c.args.limits (g.V.Service.fits c.args.service.now c.args.world.now) (g.V.Service.tied c.args.service.now c.args.world.now) (g.N.Net.meaning c.args.net.now) (g.N.Net.meaning c.next.new.self) c.args.table.now c.requires.running c.in-Ok.ensures.waits.0 (c.in-Ok.ensures.waits.1 ∙ ap (λ (r : Ready). named r (g.N.Net.meaning c.args.net.now).connections) c.in-Elapsed.is)
 
-pub returns-in-Elapsed-clause-admitted : goal.returns-in-Elapsed-clause-admitted
-returns-in-Elapsed-clause-admitted g c =
-    admitted_still c.args.table.now _ _ (ap (λ (cs : List Connection). length cs) c.in-Ok.ensures.waits.1 ∙ named_length c.in-Ok.ready _) c.requires.admitted
+pub wake_client-requires-clause-woken : goal.wake_client-requires-clause-woken
+wake_client-requires-clause-woken g c = running_woken g.V.Service.protocol g.met.V.Service.lawful c.args.port c.args.limits (g.V.Service.fits c.args.service.now c.args.world.now) (g.V.Service.tied c.args.service.now c.args.world.now) (g.N.Net.meaning c.args.net.now) (g.N.Net.meaning c.next.new.self) c.args.table.now c.in-Readable.conn c.requires.running c.in-Ok.ensures.waits.0 (c.in-Ok.ensures.waits.1 ∙ ap (λ (r : Ready). named r (g.N.Net.meaning c.args.net.now).connections) c.in-Readable.is)
 
-pub wake_client-served-requires-clause-admitted : goal.wake_client-served-requires-clause-admitted
-wake_client-served-requires-clause-admitted g c =
-    admitted_still c.args.table.now _ _ (ap (λ (cs : List Connection). length cs) c.in-Ok.ensures.waits.1 ∙ named_length c.in-Ok.ready _) c.requires.admitted
-
-pub wake_client-served-requires-in-Writable-clause-admitted : goal.wake_client-served-requires-in-Writable-clause-admitted
-wake_client-served-requires-in-Writable-clause-admitted g c =
-    admitted_still c.args.table.now _ _ (ap (λ (cs : List Connection). length cs) c.in-Ok.ensures.waits.1 ∙ named_length c.in-Ok.ready _) c.requires.admitted
+pub wake_client-requires-in-Writable-clause-woken : goal.wake_client-requires-in-Writable-clause-woken
+wake_client-requires-in-Writable-clause-woken g c = running_woken g.V.Service.protocol g.met.V.Service.lawful c.args.port c.args.limits (g.V.Service.fits c.args.service.now c.args.world.now) (g.V.Service.tied c.args.service.now c.args.world.now) (g.N.Net.meaning c.args.net.now) (g.N.Net.meaning c.next.new.self) c.args.table.now c.in-Writable.conn c.requires.running c.in-Ok.ensures.waits.0 (c.in-Ok.ensures.waits.1 ∙ ap (λ (r : Ready). named r (g.N.Net.meaning c.args.net.now).connections) c.in-Writable.is)

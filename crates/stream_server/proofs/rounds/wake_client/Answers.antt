@@ -1,33 +1,36 @@
-use Rattle.std.proofs.Common.{sym, subst}
-use Rattle.wsgi_core.specs.Gateways.{said_by}
-use Rattle.stream_server.specs.Tables.{SeenTable, IsListed, client_count}
-use Rattle.stream_server.specs.Serving.{Admits, IsServing}
-use Rattle.stream_server.proofs.Members.{taken_out}
-use Rattle.stream_server.proofs.Turns.{known_at, unknown_named}
+use Rattle.std.proofs.Common.{sym, ◌∙◌}
+use Rattle.stream_server.proofs.Rounding.{found_absent, found_place, running_back, running_found, running_unknown}
 use Rattle.stream_server.proofs.rounds.wake_client.Goals as goal
 
-pub serve_client-requires : goal.serve_client-requires
-serve_client-requires g c =
-    let app = g.A.Application.answer_of c.args.app.now in
-    let taken = c.in-Some.ensures in
-    let x = known_at (said_by g.T.Talk.answers app c.args.port) (g.T.Talk.is_at app c.args.port) g.T.Talk.due c.args.limits (g.T.Talk.says app c.args.port)
-    (g.N.Net.meaning c.args.net.now) (IsListed c.args.table.now) (IsListed c.remove.new.self) (client_count c.args.table.now) (client_count c.remove.new.self) c.args.table.now.limit c.remove.new.self.limit c.args.conn c.in-Some.client.conn c.in-Some.client
-    c.requires.woken taken.number taken.was taken.count taken.relists.limit taken.relists.only taken.relists.others in
-    record {
-      live = x.1;
-      still_open = x.2;
-      but = x.0;
-      admitted = taken_out c.args.table.now c.remove.new.self _ c.args.conn c.in-Some.client.conn c.in-Some.client c.requires.admitted taken.was taken.relists taken.number taken.count;
-    }
+pub insert-requires-clause-absent : goal.insert-requires-clause-absent
+insert-requires-clause-absent g c = found_absent c.args.table.now c.remove.new.self c.args.conn c.in-Some.client c.in-Some.ensures.number c.in-Some.ensures.relists
 
-pub returns-in-None-clause-serving : goal.returns-in-None-clause-serving
-returns-in-None-clause-serving g c =
-    let app = g.A.Application.answer_of c.args.app.now in
-    let m = g.N.Net.meaning c.args.net.now in
-    let x = unknown_named (said_by g.T.Talk.answers app c.args.port) (g.T.Talk.is_at app c.args.port) g.T.Talk.due c.args.limits (g.T.Talk.says app c.args.port)
-    m (IsListed c.args.table.now) (client_count c.args.table.now) c.args.table.now.limit c.args.conn c.requires.woken c.in-None.ensures.was in
-    subst (λ (h : SeenTable g.row.T.Denot). IsServing (said_by g.T.Talk.answers app c.args.port) (g.T.Talk.is_at app c.args.port) g.T.Talk.due c.args.limits m (IsListed h) (client_count h) h.limit) (sym c.in-None.ensures.same) x
+pub insert-requires-clause-place : goal.insert-requires-clause-place
+insert-requires-clause-place g c =
+    found_place g.V.Service.protocol g.met.V.Service.lawful c.args.port c.args.limits (g.V.Service.fits c.args.service.now c.args.world.now) (g.V.Service.tied c.args.service.now c.args.world.now) (g.N.Net.meaning c.args.net.now) c.args.table.now c.remove.new.self c.args.conn (g.V.Service.one c.args.service.now c.args.world.now) (g.met.V.Service.fits_one c.args.service.now c.args.world.now) c.requires.woken c.in-Some.ensures.relists c.in-Some.ensures.count
 
-pub returns-in-None-clause-admitted : goal.returns-in-None-clause-admitted
-returns-in-None-clause-admitted g c =
-    subst (λ (h : SeenTable g.row.T.Denot). Admits h (g.N.Net.meaning c.args.net.now)) (sym c.in-None.ensures.same) c.requires.admitted
+pub returns-then-is_held-clause-running : goal.returns-then-is_held-clause-running
+returns-then-is_held-clause-running g c =
+    let e = c.in-Some.ensures in
+    running_back g.V.Service.protocol g.met.V.Service.lawful c.args.port c.args.limits (g.V.Service.fits c.args.service.now c.args.world.now) (g.V.Service.tied c.args.service.now c.args.world.now) (g.N.Net.meaning c.args.net.now) c.args.table.now c.remove.new.self c.insert.new.self c.args.conn c.in-Some.client c.requires.woken e.was e.number (sym c.is_held.ensures ∙ c.if-is_held.true)
+    (λ n tied row here others. g.met.V.Service.tied_back c.args.service.now c.args.world.now c.args.table.now c.insert.new.self n c.args.conn c.in-Some.client tied row here others)
+    e.relists e.count c.insert.ensures.relists c.insert.ensures.count
+
+pub returns-in-None-clause-running : goal.returns-in-None-clause-running
+returns-in-None-clause-running g c =
+    running_unknown g.V.Service.protocol g.met.V.Service.lawful c.args.port c.args.limits (g.V.Service.fits c.args.service.now c.args.world.now) (g.V.Service.tied c.args.service.now c.args.world.now) (g.N.Net.meaning c.args.net.now) c.args.table.now c.remove.new.self c.args.conn c.requires.woken c.in-None.ensures.was c.in-None.ensures.same
+
+pub serve_client-requires-clause-free : goal.serve_client-requires-clause-free
+serve_client-requires-clause-free g c = sym c.is_held.ensures ∙ c.if-is_held.false
+
+pub serve_client-requires-clause-but : goal.serve_client-requires-clause-but
+serve_client-requires-clause-but g c =
+    let e = c.in-Some.ensures in (running_found g.V.Service.protocol g.met.V.Service.lawful c.args.port c.args.limits (g.V.Service.fits c.args.service.now c.args.world.now) (g.V.Service.tied c.args.service.now c.args.world.now) (g.V.Service.tied_but c.args.service.now c.args.world.now) (g.N.Net.meaning c.args.net.now) c.args.table.now c.remove.new.self c.args.conn c.in-Some.client (g.V.Service.one c.args.service.now c.args.world.now) (g.met.V.Service.fits_one c.args.service.now c.args.world.now) c.requires.woken e.was e.number (sym c.is_held.ensures ∙ c.if-is_held.false) (λ n tied row free others. g.met.V.Service.tied_out c.args.service.now c.args.world.now c.args.table.now c.remove.new.self n c.args.conn c.in-Some.client tied row free others) e.relists e.count).0
+
+pub serve_client-requires-clause-live : goal.serve_client-requires-clause-live
+serve_client-requires-clause-live g c =
+    let e = c.in-Some.ensures in (running_found g.V.Service.protocol g.met.V.Service.lawful c.args.port c.args.limits (g.V.Service.fits c.args.service.now c.args.world.now) (g.V.Service.tied c.args.service.now c.args.world.now) (g.V.Service.tied_but c.args.service.now c.args.world.now) (g.N.Net.meaning c.args.net.now) c.args.table.now c.remove.new.self c.args.conn c.in-Some.client (g.V.Service.one c.args.service.now c.args.world.now) (g.met.V.Service.fits_one c.args.service.now c.args.world.now) c.requires.woken e.was e.number (sym c.is_held.ensures ∙ c.if-is_held.false) (λ n tied row free others. g.met.V.Service.tied_out c.args.service.now c.args.world.now c.args.table.now c.remove.new.self n c.args.conn c.in-Some.client tied row free others) e.relists e.count).1
+
+pub serve_client-requires-clause-going : goal.serve_client-requires-clause-going
+serve_client-requires-clause-going g c =
+    let e = c.in-Some.ensures in (running_found g.V.Service.protocol g.met.V.Service.lawful c.args.port c.args.limits (g.V.Service.fits c.args.service.now c.args.world.now) (g.V.Service.tied c.args.service.now c.args.world.now) (g.V.Service.tied_but c.args.service.now c.args.world.now) (g.N.Net.meaning c.args.net.now) c.args.table.now c.remove.new.self c.args.conn c.in-Some.client (g.V.Service.one c.args.service.now c.args.world.now) (g.met.V.Service.fits_one c.args.service.now c.args.world.now) c.requires.woken e.was e.number (sym c.is_held.ensures ∙ c.if-is_held.false) (λ n tied row free others. g.met.V.Service.tied_out c.args.service.now c.args.world.now c.args.table.now c.remove.new.self n c.args.conn c.in-Some.client tied row free others) e.relists e.count).2

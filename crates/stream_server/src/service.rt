@@ -1,0 +1,165 @@
+//! What a server says on its connections, and what a request may wait for there.
+ghost use Rattle.std.specs.Prelude.{◌≡◌, ◌≢◌, ℕ, ◌+◌, ◌<◌, ◌≤◌, false, List, [], Bool, length, take, Err, IfOk, OnErr, OnOk, Option, Some, None};
+ghost use Rattle.wsgi_core.specs.Applications.{App};
+ghost use Rattle.wsgi_core.specs.Standings.{IsBegun, IsFed, IsTaken, IsToldTheEnd};
+ghost use Rattle.stream_server.specs.Protocols.{IsLawful, Protocol, side_of};
+ghost use Rattle.stream_server.specs.Services.{AreBeside, Closes, IsCutAt, IsGiven, IsGivenCut, IsHeldFrom, Polls, TiesAfter};
+ghost use Rattle.stream_server.specs.Tables.{IsListed, Relists, SeenTable};
+ghost use Rattle.stream_server.specs.declared.client.Client.{Client};
+
+use crate::client::Client;
+use crate::table::ClientTable;
+use std::alloc::AllocError;
+use wsgi_core::SessionPhase;
+
+/// What became of a request that waits for its reply.
+#[derive(Clone, Copy, Debug, PartialEq, Eq)]
+pub enum Replied {
+    /// None waits.
+    NoRequest,
+    /// It was given its reply.
+    Given,
+    /// Its reply has to be waited for.
+    Asks,
+    /// Memory ran out.
+    Memory,
+}
+
+/// Why a connection isn't held for its reply.
+#[derive(Clone, Copy, Debug, PartialEq, Eq)]
+pub enum Refusal {
+    /// The service has no more of what the request asks for.
+    Spent,
+    /// Memory ran out.
+    Memory,
+}
+
+/// What a poll led to.
+#[derive(Drop)]
+pub enum Polled<T> {
+    /// No reply has come.
+    Nobody,
+    /// The reply for which this client was held has come, and was given to it. It isn't listed any more.
+    Released(Client<T>),
+    /// Memory ran out.
+    Memory,
+}
+
+/// What a server does with the bytes of its connections: it has a talk `T` with each. A request may wait for a reply
+/// that `W` gives: until then its connection is held, and the others go on.
+pub trait Service<T, W> {
+    /// What is said, and where a talk stands.
+    ghost protocol: { Protocol T };
+
+    /// The applications as which it answers, with this `W` behind it.
+    ghost fits: { Self → W → App → Type 0 };
+
+    /// One of them.
+    ghost one: { Self → W → App };
+
+    /// What ties it to the clients that are listed, where so many were accepted.
+    ghost tied: { Self → W → SeenTable T → ℕ → Type 0 };
+
+    /// The same, and of the client of this number it keeps nothing.
+    ghost tied_but: { Self → W → SeenTable T → ℕ → ℕ → Type 0 };
+
+    /// What holds of it and of `W` at any time.
+    ghost sound: { Self → W → Type 0 };
+
+    /// A request asks for something else than an application gives at once.
+    ghost wants: { T → Type 0 };
+
+    /// There is no more of that.
+    ghost spent: { Self → W → Type 0 };
+
+    /// A talk with a new connection to a server at this port.
+    fn begin(&self, port: u16) -> T
+        ensures begun { IsBegun protocol.at port result }
+        ensures free { protocol.holds result ≡ false };
+
+    /// The bytes to be sent.
+    fn pending<'a>(&self, talk: &'a T) -> &'a [u8]
+        ensures { result.now ≡ protocol.due talk.now };
+
+    /// So many of the bytes were sent.
+    fn took(&self, talk: &mut T, count: usize)
+        requires { count ≤ length (protocol.due talk.old) }
+        ensures taken { IsTaken protocol.at (take count (protocol.due talk.old)) talk.old talk.new }
+        ensures holds { protocol.holds talk.new ≡ protocol.holds talk.old };
+
+    /// The input has ended.
+    fn end(&self, talk: &mut T)
+        ensures told { IsToldTheEnd protocol.at talk.old talk.new }
+        ensures holds { protocol.holds talk.new ≡ protocol.holds talk.old };
+
+    /// Whether the talk goes on, where no request waits.
+    fn phase(&self, talk: &T) -> SessionPhase
+        requires { protocol.asks talk.now ≡ false }
+        ensures { result ≡ SessionPhase.Closing → Closes protocol talk.now };
+
+    /// Takes the next piece of the input. After an `Err` memory ran out, and what is pending begins what was to be said.
+    fn feed(&self, talk: &mut T, piece: &[u8]) -> Result<(), AllocError>
+        ensures fed { OnOk result ((w : W) (app : App) → fits self.now w app → IsFed protocol.at protocol.at app piece.now talk.old talk.new) }
+        ensures cut { OnErr result ((w : W) (app : App) → fits self.now w app → IsCutAt protocol app piece.now talk.old talk.new) }
+        ensures holds { protocol.holds talk.new ≡ protocol.holds talk.old };
+
+    /// Gives the reply to the request that waits, if one does and its reply needn't be waited for.
+    fn reply(&self, talk: &mut T) -> Replied
+        ensures no_request { result ≡ Replied.NoRequest → (talk.new ≡ talk.old) × (protocol.asks talk.new ≡ false) }
+        ensures asks { result ≡ Replied.Asks → (talk.new ≡ talk.old) × wants talk.new }
+        ensures given { result ≡ Replied.Given → (w : W) (app : App) → fits self.now w app → IsGiven protocol app talk.old talk.new }
+        ensures cut { result ≡ Replied.Memory → (w : W) (app : App) → fits self.now w app → IsGivenCut protocol app talk.old talk.new }
+        ensures holds { protocol.holds talk.new ≡ protocol.holds talk.old };
+
+    /// Asks `W` for the reply to the request of this client, which is held until it comes: its deadline never comes, and
+    /// its talk keeps the one that it had. After an `Err` the client isn't held.
+    fn hold(&mut self, world: &mut W, client: &mut Client<T>) -> Result<(), Refusal>
+        requires wants { wants client.old.talk }
+        requires tied { (table : SeenTable T) × (accepted : ℕ) × tied_but self.old world.old table accepted client.old.conn }
+        ensures held { OnOk result (IsHeldFrom protocol client.old client.new) }
+        ensures tied { OnOk result ((table now : SeenTable T) (accepted : ℕ) → tied_but self.old world.old table accepted client.old.conn
+            → client.old.conn < accepted → Relists table now client.new.conn (Some client.new) → tied self.new world.new now accepted) }
+        ensures fits { (app : App) → fits self.new world.new app → fits self.old world.old app }
+        ensures spent { result ≡ Err Refusal.Spent → spent self.new world.new }
+        ensures sound { sound self.new world.new };
+
+    /// Asks `W` whether a reply has come, gives it to the client that is held for it, and takes that out of the table. Its
+    /// deadline is this one, but not before the one that it had.
+    fn poll(&mut self, world: &mut W, table: &mut ClientTable<T>, deadline: u64) -> Polled<T>
+        requires { (accepted : ℕ) × tied self.old world.old table.old accepted }
+        ensures polled { Polls result protocol (fits self.new world.new) table.old table.new }
+        ensures tied { (accepted : ℕ) → tied self.old world.old table.old accepted
+            → TiesAfter result (tied self.new world.new table.new accepted) (λ conn. tied_but self.new world.new table.new accepted conn) }
+        ensures fits { (app : App) → fits self.new world.new app → fits self.old world.old app }
+        ensures sound { sound self.new world.new };
+
+    /// Whether the connection of this talk is held.
+    fn is_held(&self, talk: &T) -> bool
+        ensures { result ≡ protocol.holds talk.now };
+
+    /// Whether no reply is waited for.
+    fn is_idle(&self) -> bool;
+
+    /// What is said is lawful.
+    ghost lawful: { (app : App) (port : ℕ) → IsLawful (side_of protocol app port) };
+
+    /// It answers as an application.
+    ghost fits_one: { (service : Self) (world : W) → fits service world (one service world) };
+
+    /// It stays tied where one more was accepted,
+    ghost tied_new: { (service : Self) (world : W) (table now : SeenTable T) (accepted : ℕ) → tied service world table accepted
+        → ((k : ℕ) (slot : Option (Client T)) → IsListed now k slot → IsListed table k slot) → tied_but service world now (accepted + 1) accepted };
+
+    /// where a client that isn't listed was listed or closed,
+    ghost tied_again: { (service : Self) (world : W) (table now : SeenTable T) (accepted conn : ℕ) → tied_but service world table accepted conn
+        → AreBeside table now conn → tied service world now accepted };
+
+    /// where a client that isn't held was taken out,
+    ghost tied_out: { (service : Self) (world : W) (table now : SeenTable T) (accepted conn : ℕ) (client : Client T) → tied service world table accepted
+        → IsListed table conn (Some client) → protocol.holds client.talk ≡ false → AreBeside table now conn → tied_but service world now accepted conn };
+
+    /// and where one was taken out and listed again.
+    ghost tied_back: { (service : Self) (world : W) (table now : SeenTable T) (accepted conn : ℕ) (client : Client T) → tied service world table accepted
+        → IsListed table conn (Some client) → ((slot : Option (Client T)) → IsListed now conn slot → slot ≡ Some client) → AreBeside table now conn
+        → tied service world now accepted };
+}

@@ -1,0 +1,4 @@
+pub mod Polling
+pub mod Talking
+pub mod Tying
+pub mod Vain

@@ -1,0 +1,48 @@
+use Rattle.std.proofs.Common.{◌+◌, arith, refl, sym, subst}
+use Rattle.std.specs.Prelude.{Some, nat_eq}
+use Rattle.std.specs.HashMap.{get}
+use Rattle.world.specs.Worlds.{Meaning as World}
+use Rattle.world.proofs.Ranking.{at_ok}
+use Rattle.stream_server.specs.Tables.{IsListed}
+use Rattle.stream_server.specs.declared.client.Client.{Client}
+use Rattle.wsgi_native.specs.declared.job_talk.JobTalk.{JobTalk}
+use Rattle.wsgi_native.specs.Tied.{IsInOrder}
+use Rattle.wsgi_native.proofs.Polling.{agreed_before, agreed_same, at_err, wants_same}
+use Rattle.wsgi_native.proofs.Tying.{posted_order, tied_posted}
+use Rattle.wsgi_native.proofs.jobs.JobsServiceJobTalk.hold.Goals as goal
+
+pub post-requires-clause-runs : goal.post-requires-clause-runs
+post-requires-clause-runs g c = c.requires.tied.2.tied.order.runs
+
+pub post-requires-clause-new : goal.post-requires-clause-new
+post-requires-clause-new g c = c.requires.tied.2.tied.fresh (c.args.self.now.posted + 1) (omega arith)
+
+pub returns-then-self-clause-spent : goal.returns-then-self-clause-spent
+returns-then-self-clause-spent g c = λ _. c.requires.tied.2.tied.numbered 4294967295 (omega arith) (omega arith)
+
+pub returns-then-self-clause-sound : goal.returns-then-self-clause-sound
+returns-then-self-clause-sound g c = c.requires.tied.2.tied.order
+
+pub returns-then-is_err-clause-sound : goal.returns-then-is_err-clause-sound
+returns-then-is_err-clause-sound g c = c.requires.tied.2.tied.order
+
+pub returns-then-is_err-2-clause-fits : goal.returns-then-is_err-2-clause-fits
+returns-then-is_err-2-clause-fits g c = agreed_same (g.W.World.meaning c.args.world.now) (g.W.World.meaning c.post.new.self) (at_err c.post.result c.if-is_err-2.ensures.value c.post.ensures.refused)
+
+pub returns-then-is_err-2-clause-sound : goal.returns-then-is_err-2-clause-sound
+returns-then-is_err-2-clause-sound g c = subst (λ (w : World). IsInOrder w) (sym (at_err c.post.result c.if-is_err-2.ensures.value c.post.ensures.refused)) c.requires.tied.2.tied.order
+
+pub returns-clause-fits : goal.returns-clause-fits
+returns-clause-fits g c = agreed_before (g.W.World.meaning c.args.world.now) (g.W.World.meaning c.post.new.self) (c.args.self.now.posted + 1) c.wanted_job-job.result (at_ok c.post.result c.if-is_err-2.ensures.value c.post.ensures.posted)
+
+pub returns-clause-sound : goal.returns-clause-sound
+returns-clause-sound g c = posted_order (g.W.World.meaning c.args.world.now) (g.W.World.meaning c.post.new.self) (c.args.self.now.posted + 1) c.wanted_job-job.result c.requires.tied.2.tied.order (at_ok c.post.result c.if-is_err-2.ensures.value c.post.ensures.posted)
+
+pub returns-clause-tied : goal.returns-clause-tied
+returns-clause-tied g c = λ table now accepted tied within relists.
+    let was = c.args.client.now in
+    let number = c.args.self.now.posted + 1 in
+    let client : Client JobTalk = record { conn = was.conn; talk = record { session = was.talk.session; held = Some (record { job = number; deadline = was.deadline }) }; ended = was.ended; deadline = 18446744073709551615 } in
+    tied_posted (g.W.World.meaning c.args.world.now) (g.W.World.meaning c.post.new.self) c.args.self.now.posted (get nat_eq c.args.self.now.waiting) (get nat_eq c.insert.new.self) (IsListed table) (IsListed now) accepted was.conn c.wanted_job-job.result client tied within
+    (at_ok c.post.result c.if-is_err-2.ensures.value c.post.ensures.posted) (at_ok c.insert.result c.if-is_err.ensures.value c.insert.ensures.updates).0 refl
+    (wants_same was.talk client.talk c.wanted_job-job.result refl c.wanted_job-job.ensures) relists.only relists.others

@@ -1,0 +1,114 @@
+-- The laws of a service whose requests for jobs a world answers.
+use Rattle.std.proofs.Common.{◌≡◌, ◌≢◌, inl, inr, ℕ, ◌+◌, ◌<◌, false, List, Option, Some, None, is_some, option_map, refl, sym, ap, ◌∙◌, subst}
+use Rattle.std.proofs.Math.Nat.{lt_irrefl, lt_trans}
+use Rattle.std.proofs.Math.Numerals.{lt-add-one}
+use Rattle.std.proofs.lemmas.Bool.{cases_eq, false≢true}
+use Rattle.http_messages.specs.Environs.{Pair}
+use Rattle.gv_values.specs.declared.job.Job.{Job}
+use Rattle.world.specs.Worlds.{Meaning}
+use Rattle.wsgi_core.specs.Applications.{App}
+use Rattle.wsgi_core.specs.Steps.{asked_of, begun_bytes, said_bytes}
+use Rattle.stream_server.specs.Protocols.{IsLawful, side_of}
+use Rattle.stream_server.specs.Serving.{Listing}
+use Rattle.stream_server.specs.declared.client.Client.{Client}
+use Rattle.wsgi_native.specs.Agreeing.{Agrees, IsPlain}
+use Rattle.wsgi_native.specs.JobApp.{job_app, reply_by}
+use Rattle.wsgi_native.specs.Talks.{held_number, holds_for, job_protocol}
+use Rattle.wsgi_native.specs.Tied.{Awaits, IsTied, IsTiedBut}
+use Rattle.wsgi_native.specs.declared.job_talk.HeldFor.{HeldFor}
+use Rattle.wsgi_native.specs.declared.job_talk.JobTalk.{JobTalk}
+
+-- ---- what is said
+
+pub none_asked : (o : Option (List Pair × List ℕ)) → is_some o ≡ false → o ≡ None
+none_asked None e = refl
+none_asked (Some r) e = absurd (false≢true (sym e))
+
+pub job_lawful : (app : App) (port : ℕ) → IsLawful (side_of job_protocol app port)
+job_lawful app port = record {
+  all_said = λ fed ended taken t at quiet. said_bytes app port fed ended taken t.session (record { stands_at = at; quiet = none_asked (asked_of t.session) quiet });
+  begun = λ fed ended taken t at. begun_bytes app port fed ended taken t.session at;
+}
+
+pub job_plain : IsPlain job_app
+job_plain environ body e = ap (λ (o : Option Job). reply_by o environ body) e
+
+-- it agrees with itself
+pub job_agrees : (w : Meaning) → Agrees w job_app
+job_agrees w = record {
+  plain = job_plain;
+  done = λ number job environ body e there answered. ap (λ (o : Option Job). reply_by o environ body) e;
+}
+
+-- ---- the tie
+
+not_held : (t : JobTalk) (n : ℕ) → holds_for t ≡ false → held_number t ≡ Some n → ⊥
+not_held t n = by t.held
+  where
+    by : (o : Option HeldFor) → is_some o ≡ false → option_map (λ (h : HeldFor). h.job) o ≡ Some n → ⊥
+    by None free e = false≢true (ap (λ (x : Option ℕ). is_some x) e)
+    by (Some h) free e = false≢true (sym free)
+
+-- one that was just accepted waits for none
+pub tied_new : (w : Meaning) (last : ℕ) (waiting : ℕ → Option ℕ) (listed now : Listing JobTalk) (accepted : ℕ) → IsTied w last waiting listed accepted → ((k : ℕ) (s : Option (Client JobTalk)) → now k s → listed k s)
+    → IsTiedBut w last waiting now (accepted + 1) accepted
+tied_new w last waiting listed now accepted t same = record {
+  tied = record {
+    order = t.order;
+    fresh = t.fresh;
+    numbered = t.numbered;
+    alone = t.alone;
+    awaited = t.awaited;
+    below = λ n k e. lt_trans (t.below n k e) (lt-add-one accepted);
+    held = λ n k slot e row. t.held n k slot e (same k slot row);
+  };
+  others = λ n j e is. absurd (lt_irrefl accepted (subst (λ (i : ℕ). i < accepted) is (t.below n j e)));
+}
+
+-- it is listed, or closed
+pub tied_again : (w : Meaning) (last : ℕ) (waiting : ℕ → Option ℕ) (listed now : Listing JobTalk) (accepted k : ℕ) → IsTiedBut w last waiting listed accepted k
+    → ((j : ℕ) (s : Option (Client JobTalk)) → j ≢ k → now j s → listed j s) → IsTied w last waiting now accepted
+tied_again w last waiting listed now accepted k t others = record {
+  order = t.tied.order;
+  fresh = t.tied.fresh;
+  numbered = t.tied.numbered;
+  alone = t.tied.alone;
+  awaited = t.tied.awaited;
+  below = t.tied.below;
+  held = λ n j slot e row. t.tied.held n j slot e (others j slot (t.others n j e) row);
+}
+
+-- one that isn't held is taken out
+pub tied_out : (w : Meaning) (last : ℕ) (waiting : ℕ → Option ℕ) (listed now : Listing JobTalk) (accepted k : ℕ) (g : Client JobTalk) → IsTied w last waiting listed accepted → listed k (Some g) → holds_for g.talk ≡ false
+    → ((j : ℕ) (s : Option (Client JobTalk)) → j ≢ k → now j s → listed j s) → IsTiedBut w last waiting now accepted k
+tied_out w last waiting listed now accepted k g t row free others = record {
+  tied = record {
+    order = t.order;
+    fresh = t.fresh;
+    numbered = t.numbered;
+    alone = t.alone;
+    awaited = t.awaited;
+    below = t.below;
+    held = λ n j slot e now_row. t.held n j slot e (others j slot (apart n j e) now_row);
+  };
+  others = apart;
+}
+  where
+    apart : (n j : ℕ) → waiting n ≡ Some j → j ≢ k
+    apart n j e same = let a : Awaits w.posts n g = t.held n k (Some g) (e ∙ ap (λ (i : ℕ). Some i) same) row in not_held g.talk n free a.is_number
+
+-- one that is held is taken out and listed again
+pub tied_back : (w : Meaning) (last : ℕ) (waiting : ℕ → Option ℕ) (listed now : Listing JobTalk) (accepted k : ℕ) (g : Client JobTalk) → IsTied w last waiting listed accepted → listed k (Some g)
+    → ((s : Option (Client JobTalk)) → now k s → s ≡ Some g) → ((j : ℕ) (s : Option (Client JobTalk)) → j ≢ k → now j s → listed j s) → IsTied w last waiting now accepted
+tied_back w last waiting listed now accepted k g t row here others = record {
+  order = t.order;
+  fresh = t.fresh;
+  numbered = t.numbered;
+  alone = t.alone;
+  awaited = t.awaited;
+  below = t.below;
+  held = λ n j slot e now_row. t.held n j slot e (elim (cases_eq j k) [
+    | inl same ↦ subst (λ (i : ℕ). listed i slot) (sym same) (subst (λ (o : Option (Client JobTalk)). listed k o) (sym (here slot (subst (λ (i : ℕ). now i slot) same now_row))) row)
+    | inr other ↦ others j slot other now_row
+  ]);
+}

@@ -1,0 +1,217 @@
+//! The jobs that requests ask for, posted to a world, and the connections that wait for their results.
+ghost use Rattle.std.specs.Prelude.{◌≡◌, ◌≢◌, ℕ, ◌+◌, ◌<◌, ◌≤◌, true, false, List, Option, Some, None, nat_eq, IfOk, OnOk, OnErr};
+ghost use Rattle.std.specs.HashMap.{get};
+ghost use Rattle.wsgi_core.specs.Applications.{App};
+ghost use Rattle.wsgi_core.specs.Steps.{asked_of};
+ghost use Rattle.world_rules.specs.Legal.{is_posted};
+ghost use Rattle.stream_server.specs.Tables.{IsListed, SeenTable};
+ghost use Rattle.wsgi_native.specs.Agreeing.{Agrees};
+ghost use Rattle.stream_server.specs.declared.client.Client.{Client};
+ghost use Rattle.wsgi_native.specs.declared.job_talk.JobTalk.{JobTalk};
+ghost use Rattle.wsgi_native.specs.Asking.{AsksForJob, HasAsked, WantsJob};
+ghost use Rattle.wsgi_native.specs.Giving.{Gives};
+ghost use Rattle.wsgi_native.specs.JobApp.{job_app};
+ghost use Rattle.wsgi_native.specs.Talks.{job_protocol};
+ghost use Rattle.wsgi_native.specs.Tied.{IsInOrder, IsTied, IsTiedBut};
+
+use crate::job_app::{job_asked, job_reply};
+use crate::job_talk::{Asked, HeldFor, JobTalk, asked_for, freed};
+use gv_values::{Answer, Job, JobOutcome};
+use std::alloc::{AllocError, Global};
+use std::collections::HashMap;
+use stream_server::{Client, ClientTable, Polled, Refusal, Replied, Service};
+use world::{Question, World};
+use wsgi_core::{Session, SessionPhase};
+
+/// The connections that wait for a job, by the numbers of the jobs. Jobs are numbered from 1 in the order of their
+/// posts, up to 4294967295.
+#[derive(Drop)]
+pub struct Jobs {
+    alloc: Global,
+    // How many were posted.
+    posted: u32,
+    // The connection of each that was not answered.
+    waiting: HashMap<u32, u32>,
+}
+
+impl Jobs {
+    /// No jobs.
+    pub fn new(alloc: Global) -> Jobs
+        ensures none { result.posted ≡ 0 }
+        ensures nobody { (number : ℕ) → get nat_eq result.waiting number ≡ None }
+    {
+        Jobs {
+            alloc,
+            posted: 0,
+            waiting: HashMap::new(alloc),
+        }
+    }
+}
+
+/// Gives a client the result of the job that it waits for.
+fn give(
+    alloc: Global,
+    client: Client<JobTalk>,
+    outcome: JobOutcome,
+    deadline: u64,
+) -> Polled<JobTalk>
+    requires { HasAsked client.talk }
+    ensures { Gives result outcome client }
+{
+    let Ok(reply) = job_reply(alloc, outcome) else {
+        return Polled::Memory;
+    };
+    let mut client = client;
+    if client.talk.session.answer(reply).is_err() {
+        return Polled::Memory;
+    }
+    Polled::Released(freed(client, deadline))
+}
+
+/// The job for which the request that waits asks.
+fn wanted_job(talk: &JobTalk) -> Job
+    requires { AsksForJob talk.now }
+    ensures { WantsJob talk.now result }
+{
+    match talk.session.asked() {
+        None => unreachable!(),
+        Some((environ, _)) => match job_asked(environ) {
+            None => unreachable!(),
+            Some(job) => job,
+        },
+    }
+}
+
+impl<W: World> Service<JobTalk, W> for Jobs {
+    ghost protocol = { job_protocol };
+
+    ghost fits = { λ jobs world app. Agrees (W.meaning world) app };
+
+    ghost one = { λ jobs world. job_app };
+
+    ghost tied = { λ jobs world table accepted. IsTied (W.meaning world) jobs.posted (get nat_eq jobs.waiting) (IsListed table) accepted };
+
+    ghost tied_but = { λ jobs world table accepted conn. IsTiedBut (W.meaning world) jobs.posted (get nat_eq jobs.waiting) (IsListed table) accepted conn };
+
+    ghost sound = { λ jobs world. IsInOrder (W.meaning world) };
+
+    ghost wants = { AsksForJob };
+
+    ghost spent = { λ jobs world. is_posted 4294967295 (W.meaning world).posts ≡ true };
+
+    fn begin(&self, port: u16) -> JobTalk {
+        JobTalk {
+            session: Session::new(self.alloc, port),
+            held: None,
+        }
+    }
+
+    fn pending<'a>(&self, talk: &'a JobTalk) -> &'a [u8] {
+        talk.session.pending()
+    }
+
+    fn took(&self, talk: &mut JobTalk, count: usize) {
+        talk.session.took(count)
+    }
+
+    fn end(&self, talk: &mut JobTalk) {
+        talk.session.end()
+    }
+
+    fn phase(&self, talk: &JobTalk) -> SessionPhase {
+        talk.session.phase()
+    }
+
+    fn feed(&self, talk: &mut JobTalk, piece: &[u8]) -> Result<(), AllocError> {
+        match talk.session.take_in(piece) {
+            Ok(()) => Ok(()),
+            Err(refusal) => Err(refusal),
+        }
+    }
+
+    fn reply(&self, talk: &mut JobTalk) -> Replied {
+        let Ok(asked) = asked_for(self.alloc, &talk.session) else {
+            return Replied::Memory;
+        };
+        match asked {
+            Asked::Nothing => Replied::NoRequest,
+            Asked::AJob(_) => Replied::Asks,
+            Asked::AReply(reply) => match talk.session.answer(reply) {
+                Ok(()) => Replied::Given,
+                Err(_) => Replied::Memory,
+            },
+        }
+    }
+
+    /// Posts the job that the client asks for under the next number.
+    fn hold(&mut self, world: &mut W, client: &mut Client<JobTalk>) -> Result<(), Refusal> {
+        if self.posted == u32::MAX {
+            return Err(Refusal::Spent);
+        }
+        let job = wanted_job(&client.talk);
+        let number = self.posted + 1;
+        if self.waiting.insert(number, client.conn).is_err() {
+            return Err(Refusal::Memory);
+        }
+        if world.post(number, job, 0).is_err() {
+            return Err(Refusal::Memory);
+        }
+        self.posted = number;
+        client.talk.held = Some(HeldFor {
+            job: number,
+            deadline: client.deadline,
+        });
+        client.deadline = u64::MAX;
+        Ok(())
+    }
+
+    fn poll(
+        &mut self,
+        world: &mut W,
+        table: &mut ClientTable<JobTalk>,
+        deadline: u64,
+    ) -> Polled<JobTalk> {
+        let Ok(answer) = world.ask(Question::Poll) else {
+            return Polled::Memory;
+        };
+        match answer {
+            Answer::Done {
+                number,
+                outcome,
+                ..
+            } => {
+                let Some(conn) = self.waiting.remove(&number) else {
+                    unreachable!()
+                };
+                let Some(client) = table.remove(conn) else {
+                    unreachable!()
+                };
+                give(self.alloc, client, outcome, deadline)
+            }
+            Answer::Elapsed { .. } => Polled::Nobody,
+            Answer::Nothing { .. } => Polled::Nobody,
+        }
+    }
+
+    fn is_held(&self, talk: &JobTalk) -> bool {
+        talk.held.is_some()
+    }
+
+    fn is_idle(&self) -> bool {
+        self.waiting.is_empty()
+    }
+
+    ghost use Rattle.wsgi_native.specs.Laws as laws;
+
+    ghost lawful = { laws.job_lawful };
+
+    ghost fits_one = { λ jobs world. laws.job_agrees (W.meaning world) };
+
+    ghost tied_new = { λ jobs world table now accepted tied same. laws.tied_new (W.meaning world) jobs.posted (get nat_eq jobs.waiting) (IsListed table) (IsListed now) accepted tied same };
+
+    ghost tied_again = { λ jobs world table now accepted conn tied beside. laws.tied_again (W.meaning world) jobs.posted (get nat_eq jobs.waiting) (IsListed table) (IsListed now) accepted conn tied beside };
+
+    ghost tied_out = { λ jobs world table now accepted conn client tied listed free beside. laws.tied_out (W.meaning world) jobs.posted (get nat_eq jobs.waiting) (IsListed table) (IsListed now) accepted conn client tied listed free beside };
+
+    ghost tied_back = { λ jobs world table now accepted conn client tied listed here beside. laws.tied_back (W.meaning world) jobs.posted (get nat_eq jobs.waiting) (IsListed table) (IsListed now) accepted conn client tied listed here beside };
+}
