@@ -22,10 +22,11 @@ use Rattle.command_words.specs.declared.command.TextCommand.{TextCommand}
 use Rattle.gv_top.proofs.ReadTexts.{answer_by}
 use Rattle.gv_top.specs.Answers.{Answer, answer_to_scenario, answer_to_text, answer_of_run, err_of, status_of, usage}
 use Rattle.scenario_reading.specs.Judged.{IsRefusedWithReason, judged}
-use Rattle.gv_top.specs.Verdicts.{IsExplained, number_of, line_of, verdict_on}
+use Rattle.gv_top.specs.Verdicts.{number_of, line_of}
+use Rattle.gv_top.specs.Inner.{IsExplained, IsOfConnection, verdict_on}
 use Rattle.wsgi_core.specs.Applications.{App}
 use Rattle.wsgi_connection.specs.declared.connection.ConnectionEnd.{ConnectionEnd}
-use Rattle.gv_top.specs.Top.{Decided, IsOfConnection}
+use Rattle.gv_top.specs.Top.{Decided}
 use Rattle.gv_top.specs.Verifying.{IsAnswerOf}
 
 -- ---- the run

@@ -1,6 +1,5 @@
 -- What was handed on, and whether native workers were begun.
-use Rattle.std.proofs.Common.{◌≡◌, ◌≢◌, ◌⊎◌, inl, inr, refl, ap, sym, subst, ◌∙◌, ℕ, Bool, true, false, List, [], ◌∷◌, ◌++◌, Option, Some, Result, Ok, Err, append_assoc}
-use Rattle.gv_values.specs.Counts.{HasRisen}
+use Rattle.std.proofs.Common.{◌≡◌, ◌≢◌, ◌⊎◌, inl, inr, refl, ap, sym, subst, ◌∙◌, ℕ, Bool, true, List, ◌++◌, Option, Result, Ok, append_assoc}
 use Rattle.gv_values.specs.declared.job.Answer.{Answer}
 use Rattle.gv_io.specs.Streams.{appended, Extends}
 use Rattle.gv_io.proofs.StreamLaws.{appended-appended}
@@ -23,8 +22,9 @@ use Rattle.gv_top.specs.declared.status.Verdict.{Verdict}
 use Rattle.gv_top.specs.declared.words.Command.{Command}
 use Rattle.scenario_reading.specs.Judged.{judged}
 use Rattle.gv_top.specs.Counted.{is_broken_off}
-use Rattle.gv_top.specs.Running.{BeganSo, IsAhead, run_of}
-use Rattle.gv_top.specs.Top.{BeganText, HandsOn, IsOr, IsTold}
+use Rattle.gv_top.specs.Running.{BeganSo}
+use Rattle.gv_top.specs.Top.{HandsOn, IsTold}
+use Rattle.gv_top.specs.Inner.{BeganText, IsOr}
 use Rattle.gv_top.specs.Verdicts.{number_of}
 
 -- ---- what was handed on

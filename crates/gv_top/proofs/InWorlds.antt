@@ -25,7 +25,8 @@ use Rattle.hub_engine.specs.Prepared.{Prepared}
 use Rattle.hub_engine.specs.Ends.{HasLogged, IsPartLogged, RanTo, WroteAhead, end_of_run}
 use Rattle.gv_top.proofs.Deciding.{prefix_of_trace}
 use Rattle.gv_top.proofs.Tops.{unchanged_lawful}
-use Rattle.gv_top.specs.Running.{IsBegun, IsUnbegun, RanHeld, RanInWorld, RanNatively, run_of}
+use Rattle.gv_top.specs.Running.{IsBegun, IsUnbegun, RanHeld, RanNatively, run_of}
+use Rattle.gv_top.specs.Inner.{RanInWorld, verdict_on}
 use Rattle.scenario_reading.specs.Judged.{judged}
 use Rattle.gv_top.specs.Answers.{most_read}
 use Rattle.gv_top.specs.declared.words.Command.{Command}
@@ -33,7 +34,7 @@ use Rattle.gv_top.specs.Top.{BlocksAtQuiet, Counts, HasLawfulLines, RanScenarioS
 use Rattle.machine_blocks.specs.Blocks.{BlocksAreTold}
 use Rattle.machine_laws.specs.Laws.{BlocksQuietly}
 use Rattle.scenario_rules.specs.Rules.{IsWellFormed}
-use Rattle.gv_top.specs.Verdicts.{number_of, verdict_on}
+use Rattle.gv_top.specs.Verdicts.{number_of}
 use Rattle.gv_top.specs.declared.status.Verdict.{Verdict}
 use Rattle.command_words.specs.declared.command.RunOptions.{RunOptions}
 use Rattle.command_words.specs.declared.command.RunWorld.{RunWorld}

@@ -7,3 +7,4 @@ pub mod Built
 pub mod Servings
 pub mod Storms
 pub mod Handing
+pub mod ChecksTold

@@ -1,7 +1,6 @@
 -- What is answered to a text: its scenario's run or printed form, or the place where it is refused.
 use Rattle.std.proofs.Common.{◌≡◌, ◌≢◌, ℕ, inl, inr, List, Option, Some, None, Result, Ok, Err, refl, ap, sym, subst, ◌∙◌, take}
 use Rattle.gv_values.specs.declared.job.Answer.{Answer as Given}
-use Rattle.gv_io.specs.Streams.{appended}
 use Rattle.scenario_tree.specs.declared.tree.Scenario.{Scenario}
 use Rattle.scenario_grammar.specs.declared.place.Place.{Place}
 use Rattle.scenario_grammar.specs.Parsed.{reading}
@@ -13,8 +12,14 @@ use Rattle.scenario_rules.specs.Rules.{IsWellFormed, place_of}
 use Rattle.scenario_check.proofs.FirstPlace.{well_formed, not_well_formed}
 use Rattle.machine.specs.Run.{Ran, End}
 use Rattle.gv_top.specs.Refusals.{IsRefusedAt}
-use Rattle.gv_top.specs.Top.{AnswersRun, IsAnswered, IsWholeRun}
-use Rattle.gv_top.specs.Answers.{Answer, answer_to_scenario, answer_to_text, answer_of_run, err_of, most_read, refusal, status_of}
+use Rattle.world.specs.Worlds.{Meaning}
+use Rattle.world_rules.specs.declared.question.LogEntry.{LogEntry}
+use Rattle.command_words.specs.declared.command.RunOptions.{RunOptions}
+use Rattle.gv_top.specs.Commands.{Headline}
+use Rattle.gv_top.specs.Running.{run_of}
+use Rattle.gv_top.specs.Top.{BlocksAtQuiet, Ended, IsAnswered, Stream}
+use Rattle.gv_top.proofs.Tops.{is_answered, ran_so}
+use Rattle.gv_top.specs.Answers.{Answer, answer_to_scenario, answer_to_text, answer_of_run, most_read, refusal, status_of}
 use Rattle.scenario_reading.specs.Judged.{checked, judged}
 use Rattle.gv_top.specs.Verifying.{IsAnswerOf}
 use Rattle.gv_top.specs.declared.words.Command.{Command}
@@ -83,19 +88,35 @@ none_judged bytes none s e = let r = refuses bytes (reading bytes) refl none in 
 
 -- ---- what is left behind
 
--- where the status is none of a fault and not that of want of memory, the run stopped
-stopped_whole : (n : ℕ) (r : Ran) (out0 out1 err0 err1 : Option (List ℕ)) → IsAnswered n (answer_of_run r) out0 out1 err0 err1 → n ≢ 4 → n ≢ 5 → n ≢ 7
-    → (e : End) → r.end ≡ e → IsWholeRun n r out0 out1 err0 err1
-stopped_whole n r out0 out1 err0 err1 h h4 h5 h7 (End.Stopped cause) e =
-    record { cause = cause; stops = e; status = h.status h4 h5 h7 ∙ ap status_of e; out = h.out h4 h5 h7; err = h.err h4 h5 h7 ∙ ap (λ x. appended err0 (err_of x)) e }
-stopped_whole n r out0 out1 err0 err1 h h4 h5 h7 End.Asking e = absurd (h7 (h.status h4 h5 h7 ∙ ap status_of e))
-
-pub answers_run : (n : ℕ) (r : Ran) (out0 out1 err0 err1 : Option (List ℕ)) → IsAnswered n (answer_of_run r) out0 out1 err0 err1 → AnswersRun n r out0 out1 err0 err1
-answers_run n r out0 out1 err0 err1 h = record { prefix = h.prefix; whole = λ h4 h5 h7. stopped_whole n r out0 out1 err0 err1 h h4 h5 h7 r.end refl }
-
 -- what is said of the answer to the command is said of this answer
 pub answered_so : (n : ℕ) (app : App) (c : Option Command) (command : TextCommand) (given : List Given) (a : Answer) (left : List ℕ) (out0 out1 err0 err1 : Option (List ℕ)) →
     c ≡ Some (Command.Text command) → answer_to_text command given (take most_read left) ≡ a →
     ((b : Answer) → IsAnswerOf app c given left b → IsAnswered n b out0 out1 err0 err1) → IsAnswered n a out0 out1 err0 err1
 answered_so n app c command given a left out0 out1 err0 err1 e is h =
     let P : Option Command → Type 0 = λ d. IsAnswerOf app d given left a in h a (subst P (sym e) (sym is))
+
+-- ---- the claim
+
+-- where the status is none of a fault and not that of want of memory, the run stopped
+stops : (n : ℕ) (r : Ran) (out0 out1 err0 err1 : Option (List ℕ)) → IsAnswered n (answer_of_run r) out0 out1 err0 err1 → n ≢ 4 → n ≢ 5 → n ≢ 7 → r.end ≢ End.Asking
+stops n r out0 out1 err0 err1 h h4 h5 h7 e = h7 (h.status h4 h5 h7 ∙ ap status_of e)
+
+-- what is left of a text of a well-formed scenario that is run
+pub headline : {n : ℕ} {app : App} {c : Option Command} {after : Meaning} {stands : List LogEntry → Type 0} {input out err : Stream} (options : RunOptions) (s : Scenario) (left : List ℕ) →
+    Ended n app c after stands input out err → c ≡ Some (Command.Text (TextCommand.Run options)) → input.before ≡ Some left → Spells s (take most_read left) → IsWellFormed s →
+    BlocksAtQuiet (run_of options after.answers s) → Headline n options s after stands out err
+headline {n} {app = app} {c = c} {after = after} {stands = stands} {out = out} {err = err} options s left h runs told text well quiet =
+    let given = after.answers in
+    let r = run_of options given s in
+    let answer : IsAnswered n (answer_of_run r) out.before out.after err.before err.after =
+    answered_so n app c (TextCommand.Run options) given (answer_of_run r) left out.before out.after err.before err.after runs
+    (answered_as (TextCommand.Run options) given s (take most_read left) text well) (λ b of. is_answered h left b told of) in
+    let ran = ran_so (TextCommand.Run options) h runs left told s (spelt_is_judged s (take most_read left) text well) options refl in
+    record {
+      trace = answer;
+      stops = stops n r out.before out.after err.before err.after answer;
+      begun = ran.begun;
+      quiet = quiet;
+      native = ran.native;
+      held = ran.held;
+    }

@@ -20,11 +20,13 @@ use Rattle.gv_top.specs.declared.status.Verdict.{Verdict}
 use Rattle.gv_top.specs.declared.words.Command.{Command}
 use Rattle.gv_top.specs.Gateways.{answers_by}
 use Rattle.gv_top.specs.Serving.{Serves, limits_of}
-use Rattle.gv_top.specs.Top.{FailsToWrite, HasFaultLine, IsOr, IsStatusOf, IsTold}
+use Rattle.gv_top.specs.Answers.{memory_line, read_fault_line}
+use Rattle.gv_top.specs.Top.{IsStatusOf, IsTold}
+use Rattle.gv_top.specs.Inner.{IsOr}
 use Rattle.gv_top.specs.Verdicts.{number_of, line_of}
 use Rattle.gv_top.specs.Words.{built, command_of, serve_of, serving}
 use Rattle.gv_top.proofs.Built.{NamedAreInRange}
-use Rattle.gv_top.proofs.Tops.{fails, left_as_it_was, no_memory_line, read_line, status_or}
+use Rattle.gv_top.proofs.Tops.{HasFailed, fails, left_as_it_was, no_memory_line, read_line, status_or}
 
 -- ---- words that name it
 
@@ -209,10 +211,11 @@ not_listener n end w old new e0 e1 (inr q) (inl p) h5 h10 = λ z. q.4 (ap (λ x.
 not_listener n end w old new e0 e1 o (inr p) h5 h10 = absurd (h5 p.0)
 
 -- the lines of faults, where the call had left err as it was
-pub fault_lines : (n : ℕ) (w : Verdict) (err0 silent err1 : Option (List ℕ)) (e0 e1 : ℕ) → silent ≡ err0 → IsTold n w silent err1 e0 e1 → HasFaultLine n err0 err1
+pub fault_lines : (n : ℕ) (w : Verdict) (err0 silent err1 : Option (List ℕ)) (e0 e1 : ℕ) → silent ≡ err0 → IsTold n w silent err1 e0 e1 →
+    (n ≡ 4 → err1 ≡ appended err0 read_fault_line) × (n ≡ 7 → err1 ≡ appended err0 memory_line)
 fault_lines n w err0 silent err1 e0 e1 quiet l =
-    let P : Option (List ℕ) → Type 0 = λ x. HasFaultLine n x err1 in
-    subst P quiet (record { read = read_line n w silent err1 e0 e1 l; memory = no_memory_line n w silent err1 e0 e1 l })
+    let P : Option (List ℕ) → Type 0 = λ x. (n ≡ 4 → err1 ≡ appended x read_fault_line) × (n ≡ 7 → err1 ≡ appended x memory_line) in
+    subst P quiet (read_line n w silent err1 e0 e1 l, no_memory_line n w silent err1 e0 e1 l)
 
 -- a verdict that is a write fault is that of the server
 written_off : (end : Served) (w : Verdict) → IsOr (Verdict.Served end) w → number_of w ≡ 5 → end ≡ Served.WriteFault
@@ -220,9 +223,9 @@ written_off end w (inl e) h = write_fault_of end (sym (ap number_of e) ∙ h)
 written_off end w (inr q) h = absurd (let z = sym (ap number_of q.0) ∙ h in omega arith)
 
 pub fails_at_a_line : (n : ℕ) (end : Served) (w : Verdict) (err0 silent err1 : Option (List ℕ)) (w0 begun w1 e0 still e1 : ℕ) → begun ≡ w0 → silent ≡ err0 → still ≡ e0 →
-    (end ≡ Served.WriteFault → HasRisen begun w1) → IsOr (Verdict.Served end) w → IsTold n w silent err1 still e1 → n ≡ 5 → FailsToWrite err0 err1 w0 w1 e0 e1
+    (end ≡ Served.WriteFault → HasRisen begun w1) → IsOr (Verdict.Served end) w → IsTold n w silent err1 still e1 → n ≡ 5 → HasFailed err0 err1 w0 w1 e0 e1
 fails_at_a_line n end w err0 silent err1 w0 begun w1 e0 still e1 out_as_it_was quiet faultless risen o l e =
-    let P : ℕ → Type 0 = λ x. FailsToWrite err0 err1 x w1 e0 e1 in
-    let Q : Option (List ℕ) → Type 0 = λ x. FailsToWrite x err1 begun w1 e0 e1 in
-    let R : ℕ → Type 0 = λ x. FailsToWrite silent err1 begun w1 x e1 in
+    let P : ℕ → Type 0 = λ x. HasFailed err0 err1 x w1 e0 e1 in
+    let Q : Option (List ℕ) → Type 0 = λ x. HasFailed x err1 begun w1 e0 e1 in
+    let R : ℕ → Type 0 = λ x. HasFailed silent err1 begun w1 x e1 in
     subst P out_as_it_was (subst Q quiet (subst R faultless (fails n w silent err1 begun w1 still e1 (λ h. risen (written_off end w o h)) l e)))

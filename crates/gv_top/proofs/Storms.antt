@@ -30,8 +30,8 @@ use Rattle.scenario_reading.specs.Judged.{judged}
 use Rattle.gv_top.specs.Answers.{Answer, answer_of_storm, answer_to_storm, refusal}
 use Rattle.gv_top.specs.Counted.{WasCounted, is_broken_off}
 use Rattle.gv_top.specs.Storm.{storm_run, storm_text}
-use Rattle.gv_top.specs.Top.{Decided, Ended, IsAnswered}
-use Rattle.gv_top.specs.Verdicts.{verdict_on}
+use Rattle.gv_top.specs.Top.{Decided, Ended, IsAnswered, Stream}
+use Rattle.gv_top.specs.Inner.{verdict_on}
 use Rattle.gv_top.proofs.InWorlds.{part_logged}
 use Rattle.gv_top.proofs.Tops.{answered, status_is}
 
@@ -132,8 +132,8 @@ pub text_is_no_storm : (text : TextCommand) (size : ℕ) → Command.Text text �
 text_is_no_storm text size e = cc e
 
 -- what the call leaves of a storm
-pub answers_storm : {n : ℕ} {app : App} {c : Option Command} {after : Meaning} {stands : List LogEntry → Type 0} {in0 in1 out0 out1 err0 err1 : Option (List ℕ)} {r0 r1 w0 w1 e0 e1 : ℕ} (size : ℕ) →
-    Ended n app c after stands in0 in1 out0 out1 err0 err1 r0 r1 w0 w1 e0 e1 → c ≡ Some (Command.Storm size) → (n ≢ 4) × IsAnswered n (answer_to_storm size) out0 out1 err0 err1
+pub answers_storm : {n : ℕ} {app : App} {c : Option Command} {after : Meaning} {stands : List LogEntry → Type 0} {input out err : Stream} (size : ℕ) →
+    Ended n app c after stands input out err → c ≡ Some (Command.Storm size) → (n ≢ 4) × IsAnswered n (answer_to_storm size) out.before out.after err.before err.after
 answers_storm size h named =
     let d = h.came_to.storm size named in
     ((λ e. d.0 (status_is 4 h e (λ z. omega arith))), answered _ h.verdict (answer_to_storm size) _ _ _ _ _ _ d.1 h.told)

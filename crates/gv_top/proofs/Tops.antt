@@ -24,9 +24,9 @@ use Rattle.gv_top.specs.Answers.{Answer, answer_to_storm, memory_line, most_read
 use Rattle.gv_top.specs.Commands.{IsLeftAlone}
 use Rattle.gv_top.specs.Running.{IsBegun, IsUnbegun}
 use Rattle.gv_top.specs.Verdicts.{number_of, line_of}
-use Rattle.gv_top.specs.Checks.{AnswersCheck}
 use Rattle.gv_top.specs.Verifying.{IsAnswerOf, IsCheckAnswer}
-use Rattle.gv_top.specs.Top.{Counts, Fits, Decided, CameTo, Ended, FailsToWrite, IsOr, IsStatusOf, IsTold, IsTried, AnswersConnection, IsAnswered, IsOfConnection, HasFaultLine, HasLawfulLines, RanScenarioSo, RanWith}
+use Rattle.gv_top.specs.Top.{Counts, Fits, Decided, CameTo, Ended, FailsToWrite, IsStatusOf, IsTold, AnswersConnection, IsAnswered, HasLawfulLines, RanScenarioSo, RanWith, Stream}
+use Rattle.gv_top.specs.Inner.{IsOfConnection, IsOr}
 
 -- nothing was appended
 pub left_as_it_was : (old new : Option (List ℕ)) (text : List ℕ) → new ≡ old → AppendsPrefix old new text
@@ -167,11 +167,11 @@ ran_told n v options s after stands out0 out1 (inr p) h = record { begun = by h.
     no (inr e) h5 h7 = h7 e
 
 -- where there is no memory for the line of a verdict, the command came to want of memory
-out_of_memory : (v : Verdict) (app : App) (c : Option Command) (after : Meaning) (stands : List LogEntry → Type 0) (in0 in1 out0 out1 : Option (List ℕ)) (r0 r1 w0 w1 : ℕ) → CameTo v app c after stands in0 in1 out0 out1 r0 r1 w0 w1 →
-    number_of v ≢ 0 → number_of v ≢ 4 → number_of v ≢ 5 → CameTo (Verdict.Ran End.Memory) app c after stands in0 in1 out0 out1 r0 r1 w0 w1
-out_of_memory v app c after stands in0 in1 out0 out1 r0 r1 w0 w1 h n0 n4 n5 =
+out_of_memory : (v : Verdict) (app : App) (c : Option Command) (after : Meaning) (stands : List LogEntry → Type 0) (input out : Stream) → CameTo v app c after stands input out →
+    number_of v ≢ 0 → number_of v ≢ 4 → number_of v ≢ 5 → CameTo (Verdict.Ran End.Memory) app c after stands input out
+out_of_memory v app c after stands input out h n0 n4 n5 =
     record {
-      answer = λ left a told is. prefix_of v a out0 out1 (decided v a out0 out1 (h.answer left a told is));
+      answer = λ left a told is. prefix_of v a out.before out.after (decided v a out.before out.after (h.answer left a told is));
       checked = λ check left is told h4 h5 h7. absurd (h7 refl);
       untold = λ check is h0 h5. h.untold check is n0 n5;
       read_trace = λ check is h4 h7. absurd (h7 refl);
@@ -181,13 +181,18 @@ out_of_memory v app c after stands in0 in1 out0 out1 r0 r1 w0 w1 h n0 n4 n5 =
       unread = λ text is e. absurd (omega arith);
       unprinted = λ is h0 h5. h.unprinted is n0 n5;
       read_whole = λ text is h4 h7. absurd (h7 refl);
-      storm = λ size is. ((λ e. omega arith), prefix_of v (answer_to_storm size) out0 out1 (decided v (answer_to_storm size) out0 out1 (h.storm size is).1));
+      storm = λ size is. ((λ e. omega arith), prefix_of v (answer_to_storm size) out.before out.after (decided v (answer_to_storm size) out.before out.after (h.storm size is).1));
       ran = λ text is left told s j options e.
-          ran_told 7 v options s after stands out0 out1 (inr (n0, inr refl)) (h.ran text is left told s j options e);
+          ran_told 7 v options s after stands out.before out.after (inr (n0, inr refl)) (h.ran text is left told s j options e);
     }
 
+-- a stream that is as it was
+abbrev pub left_alone_stream : Option (List ℕ) → ℕ → Stream
+left_alone_stream bytes faults = record { before = bytes; after = bytes; faults_before = faults; faults_after = faults }
+
 -- memory ran out before anything was done
-pub out_of_memory_at_once : (app : App) (c : Option Command) (after : Meaning) (stands : List LogEntry → Type 0) (input out : Option (List ℕ)) (reads writes : ℕ) → CameTo (Verdict.Ran End.Memory) app c after stands input input out out reads reads writes writes
+pub out_of_memory_at_once : (app : App) (c : Option Command) (after : Meaning) (stands : List LogEntry → Type 0) (input out : Option (List ℕ)) (reads writes : ℕ) →
+    CameTo (Verdict.Ran End.Memory) app c after stands (left_alone_stream input reads) (left_alone_stream out writes)
 out_of_memory_at_once app c after stands input out reads writes =
     record {
       answer = λ left a told is. AppendsPrefix-nothing out a.out;
@@ -205,22 +210,23 @@ out_of_memory_at_once app c after stands input out reads writes =
     }
 
 -- what a command came to, another that is the same came to
-pub came_as : {v : Verdict} {app : App} {c d : Option Command} {after : Meaning} {stands : List LogEntry → Type 0} {in0 in1 out0 out1 : Option (List ℕ)} {r0 r1 w0 w1 : ℕ} → c ≡ d →
-    CameTo v app c after stands in0 in1 out0 out1 r0 r1 w0 w1 → CameTo v app d after stands in0 in1 out0 out1 r0 r1 w0 w1
-came_as {v} {app = app} {after = after} {stands = stands} {in0 = in0} {in1 = in1} {out0 = out0} {out1 = out1} {r0 = r0} {r1 = r1} {w0 = w0} {w1 = w1} e h =
-    let P : Option Command → Type 0 = λ x. CameTo v app x after stands in0 in1 out0 out1 r0 r1 w0 w1 in subst P e h
+pub came_as : {v : Verdict} {app : App} {c d : Option Command} {after : Meaning} {stands : List LogEntry → Type 0} {input out : Stream} → c ≡ d →
+    CameTo v app c after stands input out → CameTo v app d after stands input out
+came_as {v} {app = app} {after = after} {stands = stands} {input = input} {out = out} e h =
+    let P : Option Command → Type 0 = λ x. CameTo v app x after stands input out in subst P e h
 
-came_to : (v w : Verdict) (app : App) (c : Option Command) (after : Meaning) (stands : List LogEntry → Type 0) (in0 in1 out0 out1 : Option (List ℕ)) (r0 r1 w0 w1 : ℕ) → CameTo v app c after stands in0 in1 out0 out1 r0 r1 w0 w1 →
-    IsOr v w → CameTo w app c after stands in0 in1 out0 out1 r0 r1 w0 w1
-came_to v w app c after stands in0 in1 out0 out1 r0 r1 w0 w1 h (inl e) =
-    let P : Verdict → Type 0 = λ x. CameTo x app c after stands in0 in1 out0 out1 r0 r1 w0 w1 in subst P (sym e) h
-came_to v w app c after stands in0 in1 out0 out1 r0 r1 w0 w1 h (inr p) =
-    let P : Verdict → Type 0 = λ x. CameTo x app c after stands in0 in1 out0 out1 r0 r1 w0 w1 in subst P (sym p.0) (out_of_memory v app c after stands in0 in1 out0 out1 r0 r1 w0 w1 h p.1 p.2 p.3)
+came_to : (v w : Verdict) (app : App) (c : Option Command) (after : Meaning) (stands : List LogEntry → Type 0) (input out : Stream) → CameTo v app c after stands input out →
+    IsOr v w → CameTo w app c after stands input out
+came_to v w app c after stands input out h (inl e) =
+    let P : Verdict → Type 0 = λ x. CameTo x app c after stands input out in subst P (sym e) h
+came_to v w app c after stands input out h (inr p) =
+    let P : Verdict → Type 0 = λ x. CameTo x app c after stands input out in subst P (sym p.0) (out_of_memory v app c after stands input out h p.1 p.2 p.3)
 
-pub ended : (n : ℕ) (v w : Verdict) (app : App) (c : Option Command) (after : Meaning) (stands : List LogEntry → Type 0) (in0 in1 out0 out1 err0 err1 : Option (List ℕ)) (r0 r1 w0 w1 e0 e1 : ℕ) →
-    CameTo v app c after stands in0 in1 out0 out1 r0 r1 w0 w1 → IsOr v w → IsTold n w err0 err1 e0 e1 → Ended n app c after stands in0 in1 out0 out1 err0 err1 r0 r1 w0 w1 e0 e1
-ended n v w app c after stands in0 in1 out0 out1 err0 err1 r0 r1 w0 w1 e0 e1 h o l =
-    record { verdict = w; came_to = came_to v w app c after stands in0 in1 out0 out1 r0 r1 w0 w1 h o; told = l }
+pub ended : (n : ℕ) (v w : Verdict) (app : App) (c : Option Command) (after : Meaning) (stands : List LogEntry → Type 0) (input out : Stream) (err0 err1 : Option (List ℕ)) (e0 e1 : ℕ) →
+    CameTo v app c after stands input out → IsOr v w → IsTold n w err0 err1 e0 e1 →
+    Ended n app c after stands input out (record { before = err0; after = err1; faults_before = e0; faults_after = e1 })
+ended n v w app c after stands input out err0 err1 e0 e1 h o l =
+    record { verdict = w; came_to = came_to v w app c after stands input out h o; told = l }
 
 -- ---- the lines of faults
 
@@ -362,21 +368,26 @@ no_memory_line n v old new e0 e1 (inr p) e = let q = p.0 in absurd (omega arith)
 
 -- ---- what an end says
 
-pub is_answered : {n : ℕ} {app : App} {c : Option Command} {after : Meaning} {stands : List LogEntry → Type 0} {in0 in1 out0 out1 err0 err1 : Option (List ℕ)} {r0 r1 w0 w1 e0 e1 : ℕ} →
-    Ended n app c after stands in0 in1 out0 out1 err0 err1 r0 r1 w0 w1 e0 e1 → (left : List ℕ) (a : Answer) → in0 ≡ Some left → IsAnswerOf app c after.answers left a → IsAnswered n a out0 out1 err0 err1
+pub is_answered : {n : ℕ} {app : App} {c : Option Command} {after : Meaning} {stands : List LogEntry → Type 0} {input out err : Stream} →
+    Ended n app c after stands input out err →
+    (left : List ℕ) (a : Answer) → input.before ≡ Some left → IsAnswerOf app c after.answers left a → IsAnswered n a out.before out.after err.before err.after
 is_answered h left a told is = answered _ h.verdict a _ _ _ _ _ _ (h.came_to.answer left a told is) h.told
 
-pub fault_line : {n : ℕ} {app : App} {c : Option Command} {after : Meaning} {stands : List LogEntry → Type 0} {in0 in1 out0 out1 err0 err1 : Option (List ℕ)} {r0 r1 w0 w1 e0 e1 : ℕ} →
-    Ended n app c after stands in0 in1 out0 out1 err0 err1 r0 r1 w0 w1 e0 e1 → HasFaultLine n err0 err1
-fault_line h = record { read = read_line _ h.verdict _ _ _ _ h.told; memory = no_memory_line _ h.verdict _ _ _ _ h.told }
+pub read_fault_told : {n : ℕ} {app : App} {c : Option Command} {after : Meaning} {stands : List LogEntry → Type 0} {input out err : Stream} →
+    Ended n app c after stands input out err → n ≡ 4 → err.after ≡ appended err.before read_fault_line
+read_fault_told h = read_line _ h.verdict _ _ _ _ h.told
+
+pub no_memory_told : {n : ℕ} {app : App} {c : Option Command} {after : Meaning} {stands : List LogEntry → Type 0} {input out err : Stream} →
+    Ended n app c after stands input out err → n ≡ 7 → err.after ≡ appended err.before memory_line
+no_memory_told h = no_memory_line _ h.verdict _ _ _ _ h.told
 
 -- a status that is not 5 is the verdict's
 verdict_of : (n m : ℕ) (v : Verdict) (old new : Option (List ℕ)) (e0 e1 : ℕ) → IsTold n v old new e0 e1 → n ≡ m → m ≢ 5 → number_of v ≡ m
 verdict_of n m v old new e0 e1 (inl p) e h5 = sym p.0 ∙ e
 verdict_of n m v old new e0 e1 (inr p) e h5 = absurd (h5 (sym e ∙ p.0))
 
-pub status_is : {n : ℕ} {app : App} {c : Option Command} {after : Meaning} {stands : List LogEntry → Type 0} {in0 in1 out0 out1 err0 err1 : Option (List ℕ)} {r0 r1 w0 w1 e0 e1 : ℕ} (m : ℕ) →
-    (h : Ended n app c after stands in0 in1 out0 out1 err0 err1 r0 r1 w0 w1 e0 e1) → n ≡ m → m ≢ 5 → number_of h.verdict ≡ m
+pub status_is : {n : ℕ} {app : App} {c : Option Command} {after : Meaning} {stands : List LogEntry → Type 0} {input out err : Stream} (m : ℕ) →
+    (h : Ended n app c after stands input out err) → n ≡ m → m ≢ 5 → number_of h.verdict ≡ m
 status_is m h e h5 = verdict_of _ m h.verdict _ _ _ _ h.told e h5
 
 -- the status is the verdict's, or 5 where it has a line, or 7
@@ -402,37 +413,46 @@ usage_status n v w old new e0 e1 o l e = by e (status_or n v w old new e0 e1 o l
     by (inr e) (inl p) = inr (inr (p ∙ e))
     by e (inr p) = inr p.1
 
+-- the whole line is there, or err failed and a prefix of it is there
+abbrev IsTried : List ℕ → Option (List ℕ) → Option (List ℕ) → ℕ → ℕ → Type 0
+IsTried line old new faults0 faults1 = (new ≡ appended old line) ⊎ (HasRisen faults0 faults1 × AppendsPrefix old new line)
+
 -- the line of a write that failed was tried
 tried : (n : ℕ) (v : Verdict) (old new : Option (List ℕ)) (e0 e1 : ℕ) → number_of v ≡ 5 → IsTold n v old new e0 e1 → IsTried write_fault_line old new e0 e1
 tried n v old new e0 e1 e (inl p) = inl (p.1 ∙ ap (appended old) (line_of_write v e))
 tried n v old new e0 e1 e (inr p) =
     let P : List ℕ → Type 0 = λ l. AppendsPrefix old new l in inr (p.2, subst P (line_of_write v e) p.3)
 
+-- what led to status 5, by what err has and by the counts of faults
+abbrev pub HasFailed : (err0 err1 : Option (List ℕ)) (w0 w1 e0 e1 : ℕ) → Type 0
+HasFailed err0 err1 w0 w1 e0 e1 =
+    (HasRisen w0 w1 × IsTried write_fault_line err0 err1 e0 e1) ⊎ ((v : Verdict) × (number_of v ≢ 0) × HasRisen e0 e1 × AppendsPrefix err0 err1 (line_of v))
+
 pub fails : (n : ℕ) (v : Verdict) (old new : Option (List ℕ)) (w0 w1 e0 e1 : ℕ) → (number_of v ≡ 5 → HasRisen w0 w1) → IsTold n v old new e0 e1 → n ≡ 5 →
-    FailsToWrite old new w0 w1 e0 e1
+    HasFailed old new w0 w1 e0 e1
 fails n v old new w0 w1 e0 e1 f (inl p) e = let is = sym p.0 ∙ e in inl (f is, tried n v old new e0 e1 is (inl p))
 fails n v old new w0 w1 e0 e1 f (inr p) e = inr (v, p.1, p.2, p.3)
 
-pub fails_to_write : {n : ℕ} {app : App} {c : Option Command} {after : Meaning} {stands : List LogEntry → Type 0} {in0 in1 out0 out1 err0 err1 : Option (List ℕ)} {r0 r1 w0 w1 e0 e1 : ℕ} →
-    Ended n app c after stands in0 in1 out0 out1 err0 err1 r0 r1 w0 w1 e0 e1 → n ≡ 5 → FailsToWrite err0 err1 w0 w1 e0 e1
+pub fails_to_write : {n : ℕ} {app : App} {c : Option Command} {after : Meaning} {stands : List LogEntry → Type 0} {input out err : Stream} →
+    Ended n app c after stands input out err → n ≡ 5 → FailsToWrite out err
 fails_to_write h e = fails _ h.verdict _ _ _ _ _ _ h.came_to.writes.failed h.told e
 
 -- `fmt` leaves out as it was
-pub prints_nothing : {n : ℕ} {app : App} {c : Option Command} {after : Meaning} {stands : List LogEntry → Type 0} {in0 in1 out0 out1 err0 err1 : Option (List ℕ)} {r0 r1 w0 w1 e0 e1 : ℕ} →
-    Ended n app c after stands in0 in1 out0 out1 err0 err1 r0 r1 w0 w1 e0 e1 → c ≡ Some (Command.Text TextCommand.Format) → n ≢ 0 → n ≢ 5 → out1 ≡ out0
+pub prints_nothing : {n : ℕ} {app : App} {c : Option Command} {after : Meaning} {stands : List LogEntry → Type 0} {input out err : Stream} →
+    Ended n app c after stands input out err → c ≡ Some (Command.Text TextCommand.Format) → n ≢ 0 → n ≢ 5 → out.after ≡ out.before
 prints_nothing {n} h is h0 h5 =
     let e = status_is n h refl h5 in h.came_to.unprinted is (λ z. h0 (sym e ∙ z)) (λ z. h5 (sym e ∙ z))
 
 -- a check leaves out as it was
-tells_nothing : {n : ℕ} {app : App} {c : Option Command} {after : Meaning} {stands : List LogEntry → Type 0} {in0 in1 out0 out1 err0 err1 : Option (List ℕ)} {r0 r1 w0 w1 e0 e1 : ℕ} (check : TraceCheck) →
-    Ended n app c after stands in0 in1 out0 out1 err0 err1 r0 r1 w0 w1 e0 e1 → c ≡ Some (Command.Verify check) → n ≢ 0 → n ≢ 5 → out1 ≡ out0
+pub tells_nothing : {n : ℕ} {app : App} {c : Option Command} {after : Meaning} {stands : List LogEntry → Type 0} {input out err : Stream} (check : TraceCheck) →
+    Ended n app c after stands input out err → c ≡ Some (Command.Verify check) → n ≢ 0 → n ≢ 5 → out.after ≡ out.before
 tells_nothing {n} check h is h0 h5 =
     let e = status_is n h refl h5 in h.came_to.untold check is (λ z. h0 (sym e ∙ z)) (λ z. h5 (sym e ∙ z))
 
 -- the input of a check was read whole
-reads_trace : {n : ℕ} {app : App} {c : Option Command} {after : Meaning} {stands : List LogEntry → Type 0} {in0 in1 out0 out1 err0 err1 : Option (List ℕ)} {r0 r1 w0 w1 e0 e1 : ℕ} (check : TraceCheck) →
-    Ended n app c after stands in0 in1 out0 out1 err0 err1 r0 r1 w0 w1 e0 e1 → c ≡ Some (Command.Verify check) → n ≢ 4 → n ≢ 5 → n ≢ 7 →
-    (left : List ℕ) → in0 ≡ Some left → in1 ≡ Some (drop most_checked_read left)
+pub reads_trace : {n : ℕ} {app : App} {c : Option Command} {after : Meaning} {stands : List LogEntry → Type 0} {input out err : Stream} (check : TraceCheck) →
+    Ended n app c after stands input out err → c ≡ Some (Command.Verify check) → n ≢ 4 → n ≢ 5 → n ≢ 7 →
+    (left : List ℕ) → input.before ≡ Some left → input.after ≡ Some (drop most_checked_read left)
 reads_trace {n} check h is h4 h5 h7 left told =
     let e = status_is n h refl h5 in h.came_to.read_trace check is (λ z. h4 (sym e ∙ z)) (λ z. h7 (sym e ∙ z)) left told
 
@@ -447,27 +467,18 @@ said_of_check n v a out0 out1 err0 err1 e0 e1 f l h5 =
       err = λ h4 z h7. s.line ∙ ap (appended err0) f.2;
     }
 
-checks_so : {n : ℕ} {app : App} {c : Option Command} {after : Meaning} {stands : List LogEntry → Type 0} {in0 in1 out0 out1 err0 err1 : Option (List ℕ)} {r0 r1 w0 w1 e0 e1 : ℕ} (check : TraceCheck) (left : List ℕ) →
-    Ended n app c after stands in0 in1 out0 out1 err0 err1 r0 r1 w0 w1 e0 e1 → c ≡ Some (Command.Verify check) → in0 ≡ Some left → n ≢ 4 → n ≢ 5 → n ≢ 7 →
-    (a : Answer) × IsCheckAnswer check (take most_checked_read left) a × IsAnswered n a out0 out1 err0 err1
+pub checks_so : {n : ℕ} {app : App} {c : Option Command} {after : Meaning} {stands : List LogEntry → Type 0} {input out err : Stream} (check : TraceCheck) (left : List ℕ) →
+    Ended n app c after stands input out err → c ≡ Some (Command.Verify check) → input.before ≡ Some left → n ≢ 4 → n ≢ 5 → n ≢ 7 →
+    (a : Answer) × IsCheckAnswer check (take most_checked_read left) a × IsAnswered n a out.before out.after err.before err.after
 checks_so {n} check left h is told h4 h5 h7 =
     let e = status_is n h refl h5 in
     let d = h.came_to.checked check left is told (λ z. h4 (sym e ∙ z)) (λ z. h5 (sym e ∙ z)) (λ z. h7 (sym e ∙ z)) in
     (d.0, d.1, said_of_check n h.verdict d.0 _ _ _ _ _ _ d.2 h.told h5)
 
--- what a check leaves
-pub answers_check : {n : ℕ} {app : App} {c : Option Command} {after : Meaning} {stands : List LogEntry → Type 0} {in0 in1 out0 out1 err0 err1 : Option (List ℕ)} {r0 r1 w0 w1 e0 e1 : ℕ} →
-    Ended n app c after stands in0 in1 out0 out1 err0 err1 r0 r1 w0 w1 e0 e1 → AnswersCheck n c in0 in1 out0 out1 err0 err1
-answers_check h = record {
-  answer = λ check left is told h4 h5 h7. checks_so check left h is told h4 h5 h7;
-  unprinted = λ check is h0 h5. tells_nothing check h is h0 h5;
-  read_whole = λ check is h4 h5 h7 left told. reads_trace check h is h4 h5 h7 left told;
-}
-
 -- the text was read whole
-pub reads_whole : {n : ℕ} {app : App} {c : Option Command} {after : Meaning} {stands : List LogEntry → Type 0} {in0 in1 out0 out1 err0 err1 : Option (List ℕ)} {r0 r1 w0 w1 e0 e1 : ℕ} (text : TextCommand) →
-    Ended n app c after stands in0 in1 out0 out1 err0 err1 r0 r1 w0 w1 e0 e1 → c ≡ Some (Command.Text text) → n ≢ 4 → n ≢ 5 → n ≢ 7 →
-    (left : List ℕ) → in0 ≡ Some left → in1 ≡ Some (drop most_read left)
+pub reads_whole : {n : ℕ} {app : App} {c : Option Command} {after : Meaning} {stands : List LogEntry → Type 0} {input out err : Stream} (text : TextCommand) →
+    Ended n app c after stands input out err → c ≡ Some (Command.Text text) → n ≢ 4 → n ≢ 5 → n ≢ 7 →
+    (left : List ℕ) → input.before ≡ Some left → input.after ≡ Some (drop most_read left)
 reads_whole {n} text h is h4 h5 h7 left told =
     let e = status_is n h refl h5 in h.came_to.read_whole text is (λ z. h4 (sym e ∙ z)) (λ z. h7 (sym e ∙ z)) left told
 
@@ -477,14 +488,14 @@ err_unfailed n v old new e0 e1 (inl p) h5 = p.2
 err_unfailed n v old new e0 e1 (inr p) h5 = absurd (h5 p.0)
 
 -- nor does out
-pub unfailed : {n : ℕ} {app : App} {c : Option Command} {after : Meaning} {stands : List LogEntry → Type 0} {in0 in1 out0 out1 err0 err1 : Option (List ℕ)} {r0 r1 w0 w1 e0 e1 : ℕ} →
-    Ended n app c after stands in0 in1 out0 out1 err0 err1 r0 r1 w0 w1 e0 e1 → n ≢ 5 → (w1 ≡ w0) × (e1 ≡ e0)
+pub unfailed : {n : ℕ} {app : App} {c : Option Command} {after : Meaning} {stands : List LogEntry → Type 0} {input out err : Stream} →
+    Ended n app c after stands input out err → n ≢ 5 → (out.faults_after ≡ out.faults_before) × (err.faults_after ≡ err.faults_before)
 unfailed {n} h h5 =
     let e = status_is n h refl h5 in (h.came_to.writes.unfailed (λ z. h5 (sym e ∙ z)), err_unfailed _ h.verdict _ _ _ _ h.told h5)
 
 -- no read fails with a status but 4 and 5
-pub read_unfailed : {n : ℕ} {app : App} {c : Option Command} {after : Meaning} {stands : List LogEntry → Type 0} {in0 in1 out0 out1 err0 err1 : Option (List ℕ)} {r0 r1 w0 w1 e0 e1 : ℕ} →
-    Ended n app c after stands in0 in1 out0 out1 err0 err1 r0 r1 w0 w1 e0 e1 → n ≢ 4 → n ≢ 5 → r1 ≡ r0
+pub read_unfailed : {n : ℕ} {app : App} {c : Option Command} {after : Meaning} {stands : List LogEntry → Type 0} {input out err : Stream} →
+    Ended n app c after stands input out err → n ≢ 4 → n ≢ 5 → input.faults_after ≡ input.faults_before
 read_unfailed {n} h h4 h5 =
     let e = status_is n h refl h5 in h.came_to.reads.unfailed (λ z. h4 (sym e ∙ z))
 
@@ -496,11 +507,11 @@ answers_connection n v w gateway app err0 err1 in0 in1 out0 out1 e0 e1 o l c =
     record { end = c.end; exchanged = c.exchanged; status = subst P c.number (status_or n v w err0 err1 e0 e1 o l) }
 
 -- the run is what is said of it by the status
-pub ran_so : {n : ℕ} {app : App} {c : Option Command} {after : Meaning} {stands : List LogEntry → Type 0} {in0 in1 out0 out1 err0 err1 : Option (List ℕ)} {r0 r1 w0 w1 e0 e1 : ℕ} (text : TextCommand) →
-    Ended n app c after stands in0 in1 out0 out1 err0 err1 r0 r1 w0 w1 e0 e1 → c ≡ Some (Command.Text text) →
-    (left : List ℕ) → in0 ≡ Some left → (s : Scenario) → judged (take most_read left) ≡ Ok s → RanScenarioSo n text s after stands out0 out1
-ran_so {n} {after = after} {stands = stands} {out0 = out0} {out1 = out1} {err0 = err0} {err1 = err1} {e0 = e0} {e1 = e1} text h is left told s j = λ options e.
-    ran_told n h.verdict options s after stands out0 out1 (status_or n h.verdict h.verdict err0 err1 e0 e1 (inl refl) h.told) (h.came_to.ran text is left told s j options e)
+pub ran_so : {n : ℕ} {app : App} {c : Option Command} {after : Meaning} {stands : List LogEntry → Type 0} {input out err : Stream} (text : TextCommand) →
+    Ended n app c after stands input out err → c ≡ Some (Command.Text text) →
+    (left : List ℕ) → input.before ≡ Some left → (s : Scenario) → judged (take most_read left) ≡ Ok s → RanScenarioSo n text s after stands out.before out.after
+ran_so {n} {after = after} {stands = stands} {out = out} {err = err} text h is left told s j = λ options e.
+    ran_told n h.verdict options s after stands out.before out.after (status_or n h.verdict h.verdict err.before err.after err.faults_before err.faults_after (inl refl) h.told) (h.came_to.ran text is left told s j options e)
 
 -- ---- native workers that are left alone
 

@@ -1,5 +1,6 @@
 pub mod Storm
 pub mod Counted
+pub mod Inner
 pub mod Running
 pub mod Answers
 pub mod Commands

@@ -1,5 +1,5 @@
 -- Runs of a scenario in a world, which is begun before and finished after.
-use Rattle.std.specs.Prelude.{◌≡◌, ◌≢◌, ◌⊎◌, ℕ, Bool, true, false, List, [], Option}
+use Rattle.std.specs.Prelude.{◌≡◌, ◌⊎◌, ℕ, Bool, true, false, List, [], Option}
 use Rattle.gv_values.specs.declared.job.Answer.{Answer}
 use Rattle.world_rules.specs.declared.question.LogEntry.{LogEntry}
 use Rattle.world_rules.specs.Legal.{AreLegal, is_answered}
@@ -10,8 +10,7 @@ use Rattle.machine.specs.Run.{Ran, run, script_run}
 use Rattle.machine.specs.TraceLaws.{meets_laws}
 use Rattle.trace_text.specs.LineTexts.{answers_of as answers_told}
 use Rattle.machine_told.specs.Told.{posts_told}
-use Rattle.hub_engine.specs.declared.run.End.{End}
-use Rattle.hub_engine.specs.Ends.{IsPartLogged, RanTo, WroteAhead}
+use Rattle.hub_engine.specs.Ends.{WroteAhead}
 use Rattle.command_words.specs.declared.command.RunOptions.{RunOptions}
 use Rattle.command_words.specs.declared.command.RunWorld.TheVariants.{Script, Native, Held}
 
@@ -44,19 +43,6 @@ pub record IsAhead (waits : Bool) (options : RunOptions) (s : Scenario) (answers
 -- answered nothing
 abbrev pub BeganSo : Bool → RunOptions → Scenario → Meaning → Meaning → Option (List ℕ) → Option (List ℕ) → Option (List ℕ) → Type 0
 BeganSo waits options s before after out0 out1 handed1 = IsAhead waits options s after.answers out0 out1 handed1 ⊎ (after ≡ before)
-
--- What a world is after the scenario ran in it to this end, where `whole` is the run under each list of answers: it had
--- so many workers and runs no longer; it stands for the log of the run, or for the part up to the break.
-pub record RanInWorld (end : End) (whole : List Answer → Ran) (workers : ℕ) (before after : Meaning) (stands : List LogEntry → Type 0) (out0 out1 : Option (List ℕ)) : Type 0 where
-  pub written : RanTo end (whole after.answers) out0 out1
-  pub ahead : WroteAhead whole after.answers out0 out1
-  pub part : IsPartLogged (whole after.answers).log after.answers stands
-  pub log : end ≢ End.WriteFault → end ≢ End.Memory → stands (whole after.answers).log
-  pub legal : AreLegal [] [] (whole after.answers).log
-  pub workers_are : after.workers ≡ workers
-  pub tick : after.tick ≡ before.tick
-  pub reference : after.reference ≡ before.reference
-  pub rests : after.runs ≡ false
 
 -- What native workers are after a whole run: so many were begun, and run no longer; they were posted the jobs of the
 -- job lines, in order, and the turn lines have their answers, each of which is legal; and they stand for the log of the

@@ -1,5 +1,5 @@
 -- What the call leaves behind.
-use Rattle.std.specs.Prelude.{◌≡◌, ◌≢◌, ◌≤◌, ◌⊎◌, ℕ, Bool, true, List, Option, Some, None, Ok, drop, filter, take}
+use Rattle.std.specs.Prelude.{◌≡◌, ◌≢◌, ◌≤◌, ◌⊎◌, ℕ, true, List, Option, Some, None, Ok, drop, filter, take}
 use Rattle.std.specs.List.{list_all, flat_map}
 use Rattle.gv_values.specs.Counts.{HasRisen}
 use Rattle.gv_io.specs.Streams.{appended, AppendsPrefix}
@@ -14,10 +14,8 @@ use Rattle.world.specs.Worlds.{Meaning}
 use Rattle.world_rules.specs.declared.question.LogEntry.{LogEntry}
 use Rattle.trace_text.specs.LineTexts.{text_of}
 use Rattle.trace_text.specs.declared.line.Line.{Line}
-use Rattle.trace_text.specs.declared.line.StopCause.{StopCause}
 use Rattle.machine.specs.Quiet.{is_quiet}
-use Rattle.machine.specs.Run.{Ran, End as RunEnd}
-use Rattle.machine.specs.Status.{err_line, status}
+use Rattle.machine.specs.Run.{Ran}
 use Rattle.machine.specs.TraceLaws.{meets_laws}
 use Rattle.machine_blocks.specs.Blocks.{block_lines, is_block}
 use Rattle.hub_engine.specs.declared.run.End.{End}
@@ -26,13 +24,27 @@ use Rattle.wsgi_connection.specs.Connections.{Exchanged}
 use Rattle.wsgi_connection.specs.declared.connection.ConnectionEnd.{ConnectionEnd}
 use Rattle.gv_top.specs.declared.status.Verdict.{Verdict}
 use Rattle.gv_top.specs.declared.words.Command.{Command}
-use Rattle.gv_top.specs.Running.{BeganSo, IsBegun, IsUnbegun, RanHeld, RanNatively, run_of}
-use Rattle.gv_top.specs.Answers.{Answer, answer_to_storm, memory_line, most_read, no_port, read_fault_line, write_fault_line}
+use Rattle.gv_top.specs.Running.{IsBegun, IsUnbegun, RanHeld, RanNatively, run_of}
+use Rattle.gv_top.specs.Answers.{Answer, answer_to_storm, most_read, no_port, write_fault_line}
 use Rattle.gv_top.specs.Gateways.{answers_by}
 use Rattle.gv_top.specs.Verdicts.{number_of, line_of}
 use Rattle.gv_top.specs.Verifying.{IsAnswerOf, IsCheckAnswer}
 use Rattle.verify_command.specs.Inputs.{most_checked_read}
 use Rattle.verify_command.specs.declared.checking.Unverified.{Unverified}
+
+-- ---- streams
+
+-- a stream before the call and after it: the bytes that are left to read or that were written, where they are told, and
+-- how often it failed
+pub record Stream : Type 0 where
+  pub before : Option (List ℕ)
+  pub after : Option (List ℕ)
+  pub faults_before : ℕ
+  pub faults_after : ℕ
+
+-- what is seen of a stream that was the one and is the other
+abbrev pub seen : {A : Type 0} → (A → Option (List ℕ)) → (A → ℕ) → A → A → Stream
+seen bytes faults old new = record { before = bytes old; after = bytes new; faults_before = faults old; faults_after = faults new }
 
 -- ---- faults
 
@@ -64,12 +76,6 @@ Decided (Verdict.Connection ConnectionEnd.Memory) a old new = AppendsPrefix old 
 Decided (Verdict.Unverified Unverified.Memory) a old new = AppendsPrefix old new a.out
 Decided v a old new = Fits v a old new
 
--- the verdict is the end of the connection that the input and out are, through this gateway and with this application
-pub record IsOfConnection (v : Verdict) (gateway : GatewayKind) (app : App) (in0 in1 out0 out1 : Option (List ℕ)) : Type 0 where
-  pub end : ConnectionEnd
-  pub number : number_of v ≡ number_of (Verdict.Connection end)
-  pub exchanged : Exchanged end (answers_by gateway) app no_port in0 in1 out0 out1
-
 -- the run of the scenario with these options was begun, or it was not; and where nothing failed, its native workers ran
 -- so
 pub record RanWith (n : ℕ) (options : RunOptions) (s : Scenario) (after : Meaning) (stands : List LogEntry → Type 0) (out0 out1 : Option (List ℕ)) : Type 0 where
@@ -87,47 +93,37 @@ abbrev pub RanSo : ℕ → TextCommand → List ℕ → Meaning → (List LogEnt
 RanSo n command bytes after stands out0 out1 =
     (s : Scenario) → judged bytes ≡ Ok s → RanScenarioSo n command s after stands out0 out1
 
--- where the command is a run of the scenario that the bytes spell, native workers ran so
-abbrev pub BeganText : Bool → TextCommand → List ℕ → Meaning → Meaning → Option (List ℕ) → Option (List ℕ) → Option (List ℕ) → Type 0
-BeganText waits command bytes before after out0 out1 handed1 =
-    (options : RunOptions) (s : Scenario) → command ≡ TextCommand.Run options → judged bytes ≡ Ok s → BeganSo waits options s before after out0 out1 handed1
-
--- What a command came to, by the bytes of its input and of out, by the counts of their faults, and by what native
--- workers are after it.
-pub record CameTo (v : Verdict) (app : App) (command : Option Command) (after : Meaning) (stands : List LogEntry → Type 0) (in0 in1 out0 out1 : Option (List ℕ)) (reads0 reads1 writes0 writes1 : ℕ) : Type 0 where
+-- What a command came to, by its input and out, and by what native workers are after it.
+pub record CameTo (v : Verdict) (app : App) (command : Option Command) (after : Meaning) (stands : List LogEntry → Type 0) (input out : Stream) : Type 0 where
   -- where the input is told, the answer is decided
-  pub answer : (left : List ℕ) (a : Answer) → in0 ≡ Some left → IsAnswerOf app command after.answers left a → Decided v a out0 out1
+  pub answer : (left : List ℕ) (a : Answer) → input.before ≡ Some left → IsAnswerOf app command after.answers left a → Decided v a out.before out.after
   -- a check of a trace has an answer
-  pub checked : (check : TraceCheck) (left : List ℕ) → command ≡ Some (Command.Verify check) → in0 ≡ Some left → number_of v ≢ 4 → number_of v ≢ 5 → number_of v ≢ 7 →
-      (a : Answer) × IsCheckAnswer check (take most_checked_read left) a × Fits v a out0 out1
+  pub checked : (check : TraceCheck) (left : List ℕ) → command ≡ Some (Command.Verify check) → input.before ≡ Some left → number_of v ≢ 4 → number_of v ≢ 5 → number_of v ≢ 7 →
+      (a : Answer) × IsCheckAnswer check (take most_checked_read left) a × Fits v a out.before out.after
   -- the words are no command
   pub usage : number_of v ≡ 2 → command ≡ None
   -- a read or a write failed, and none with any other verdict
-  pub reads : Counts (number_of v ≡ 4) reads0 reads1
-  pub writes : Counts (number_of v ≡ 5) writes0 writes1
+  pub reads : Counts (number_of v ≡ 4) input.faults_before input.faults_after
+  pub writes : Counts (number_of v ≡ 5) out.faults_before out.faults_after
   -- a text that could not be read leaves out as it was
-  pub unread : (text : TextCommand) → command ≡ Some (Command.Text text) → number_of v ≡ 4 → out1 ≡ out0
+  pub unread : (text : TextCommand) → command ≡ Some (Command.Text text) → number_of v ≡ 4 → out.after ≡ out.before
   -- so does a text that is not printed
-  pub unprinted : command ≡ Some (Command.Text TextCommand.Format) → number_of v ≢ 0 → number_of v ≢ 5 → out1 ≡ out0
+  pub unprinted : command ≡ Some (Command.Text TextCommand.Format) → number_of v ≢ 0 → number_of v ≢ 5 → out.after ≡ out.before
   -- so does a trace whose lines are not told
-  pub untold : (check : TraceCheck) → command ≡ Some (Command.Verify check) → number_of v ≢ 0 → number_of v ≢ 5 → out1 ≡ out0
+  pub untold : (check : TraceCheck) → command ≡ Some (Command.Verify check) → number_of v ≢ 0 → number_of v ≢ 5 → out.after ≡ out.before
   -- an input that is checked was read to its end, or to one byte past the most
   pub read_trace : (check : TraceCheck) → command ≡ Some (Command.Verify check) → number_of v ≢ 4 → number_of v ≢ 7 →
-      (left : List ℕ) → in0 ≡ Some left → in1 ≡ Some (drop most_checked_read left)
+      (left : List ℕ) → input.before ≡ Some left → input.after ≡ Some (drop most_checked_read left)
   -- any other text was read to its end, or to one byte past the most
   pub read_whole : (text : TextCommand) → command ≡ Some (Command.Text text) → number_of v ≢ 4 → number_of v ≢ 7 →
-      (left : List ℕ) → in0 ≡ Some left → in1 ≡ Some (drop most_read left)
+      (left : List ℕ) → input.before ≡ Some left → input.after ≡ Some (drop most_read left)
   -- a storm reads no input, and is answered whatever that is
-  pub storm : (size : ℕ) → command ≡ Some (Command.Storm size) → (number_of v ≢ 4) × Decided v (answer_to_storm size) out0 out1
+  pub storm : (size : ℕ) → command ≡ Some (Command.Storm size) → (number_of v ≢ 4) × Decided v (answer_to_storm size) out.before out.after
   -- a run was begun, or was not; and native workers were begun and asked as the words want
   pub ran : (text : TextCommand) → command ≡ Some (Command.Text text) →
-      (left : List ℕ) → in0 ≡ Some left → RanSo (number_of v) text (take most_read left) after stands out0 out1
+      (left : List ℕ) → input.before ≡ Some left → RanSo (number_of v) text (take most_read left) after stands out.before out.after
 
 -- ---- its line on err
-
--- the verdict, or want of memory where it has a line for which there is none; the line of a fault takes none
-abbrev pub IsOr : Verdict → Verdict → Type 0
-IsOr v w = (w ≡ v) ⊎ ((w ≡ Verdict.Ran End.Memory) × (number_of v ≢ 0) × (number_of v ≢ 4) × (number_of v ≢ 5) × (number_of v ≢ 10))
 
 -- err has the whole line of the verdict, whose status is answered, and did not fail; or the verdict has a line, err
 -- failed at it and has a prefix of it, and the status is 5
@@ -137,10 +133,10 @@ IsTold n v old new faults0 faults1 =
     ⊎ ((n ≡ 5) × (number_of v ≢ 0) × HasRisen faults0 faults1 × AppendsPrefix old new (line_of v))
 
 -- the verdict of a command, and what of its line came to err
-pub record Ended (n : ℕ) (app : App) (command : Option Command) (after : Meaning) (stands : List LogEntry → Type 0) (in0 in1 out0 out1 err0 err1 : Option (List ℕ)) (reads0 reads1 writes0 writes1 faults0 faults1 : ℕ) : Type 0 where
+pub record Ended (n : ℕ) (app : App) (command : Option Command) (after : Meaning) (stands : List LogEntry → Type 0) (input out err : Stream) : Type 0 where
   pub verdict : Verdict
-  pub came_to : CameTo verdict app command after stands in0 in1 out0 out1 reads0 reads1 writes0 writes1
-  pub told : IsTold n verdict err0 err1 faults0 faults1
+  pub came_to : CameTo verdict app command after stands input out
+  pub told : IsTold n verdict err.before err.after err.faults_before err.faults_after
 
 -- ---- by the status
 
@@ -156,19 +152,6 @@ pub record IsAnswered (n : ℕ) (a : Answer) (out0 out1 err0 err1 : Option (List
   pub status : n ≢ 4 → n ≢ 5 → n ≢ 7 → n ≡ a.status
   pub out : n ≢ 4 → n ≢ 5 → n ≢ 7 → out1 ≡ appended out0 a.out
   pub err : n ≢ 4 → n ≢ 5 → n ≢ 7 → err1 ≡ appended err0 a.err
-
--- the run stopped for a cause, out has the whole text of its lines, and the status and err are those of the cause
-pub record IsWholeRun (n : ℕ) (r : Ran) (out0 out1 err0 err1 : Option (List ℕ)) : Type 0 where
-  pub cause : StopCause
-  pub stops : r.end ≡ RunEnd.Stopped cause
-  pub status : n ≡ status cause
-  pub out : out1 ≡ appended out0 (text_of r.lines)
-  pub err : err1 ≡ appended err0 (err_line cause)
-
--- the whole run is there, but with the statuses 4, 5 and 7; with these out has a beginning of its text
-pub record AnswersRun (n : ℕ) (r : Ran) (out0 out1 err0 err1 : Option (List ℕ)) : Type 0 where
-  pub prefix : AppendsPrefix out0 out1 (text_of r.lines)
-  pub whole : n ≢ 4 → n ≢ 5 → n ≢ 7 → IsWholeRun n r out0 out1 err0 err1
 
 -- out has lines that meet the laws of a trace: whole but with the statuses 4, 5 and 7, and with these a beginning of
 -- their text
@@ -191,18 +174,10 @@ pub record AnswersConnection (n : ℕ) (gateway : GatewayKind) (app : App) (in0 
   pub exchanged : Exchanged end (answers_by gateway) app no_port in0 in1 out0 out1
   pub status : IsStatusOf n (Verdict.Connection end)
 
--- the whole line is there, or err failed and a prefix of it is there
-abbrev pub IsTried : List ℕ → Option (List ℕ) → Option (List ℕ) → ℕ → ℕ → Type 0
-IsTried line old new faults0 faults1 = (new ≡ appended old line) ⊎ (HasRisen faults0 faults1 × AppendsPrefix old new line)
-
--- the line that err has with the statuses of a read that failed and of want of memory
-pub record HasFaultLine (n : ℕ) (err0 err1 : Option (List ℕ)) : Type 0 where
-  pub read : n ≡ 4 → err1 ≡ appended err0 read_fault_line
-  pub memory : n ≡ 7 → err1 ≡ appended err0 memory_line
-
--- what led to status 5: out failed, and its line was tried; or err failed at the line of another status, and has a
--- prefix of it
-abbrev pub FailsToWrite : Option (List ℕ) → Option (List ℕ) → ℕ → ℕ → ℕ → ℕ → Type 0
-FailsToWrite err0 err1 writes0 writes1 faults0 faults1 =
-    (HasRisen writes0 writes1 × IsTried write_fault_line err0 err1 faults0 faults1)
-    ⊎ ((v : Verdict) × (number_of v ≢ 0) × HasRisen faults0 faults1 × AppendsPrefix err0 err1 (line_of v))
+-- what led to status 5: out failed, and err has the line of that, or failed at it and has a prefix of it; or err failed
+-- at the line of another status, and has a prefix of that
+abbrev pub FailsToWrite : Stream → Stream → Type 0
+FailsToWrite out err =
+    (HasRisen out.faults_before out.faults_after
+    × ((err.after ≡ appended err.before write_fault_line) ⊎ (HasRisen err.faults_before err.faults_after × AppendsPrefix err.before err.after write_fault_line)))
+    ⊎ ((v : Verdict) × (number_of v ≢ 0) × HasRisen err.faults_before err.faults_after × AppendsPrefix err.before err.after (line_of v))

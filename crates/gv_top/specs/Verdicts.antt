@@ -1,14 +1,10 @@
 -- The statuses and lines of the ways in which a call ends.
 use Rattle.std.specs.Prelude.{ℕ, List, [], codes}
 use Rattle.trace_text.specs.declared.line.StopCause.{StopCause}
-use Rattle.scenario_reading.specs.Judged.{HasReason}
-use Rattle.scenario_lang.specs.declared.text.ParseRefusal.{ParseRefusal}
-use Rattle.scenario_lang.specs.declared.text.ParseRefusal.TheVariants as parse
 use Rattle.machine.specs.Status.{status, err_line}
 use Rattle.hub_engine.specs.declared.run.End.{End}
 use Rattle.wsgi_connection.specs.declared.connection.ConnectionEnd.{ConnectionEnd}
 use Rattle.serve_command.specs.declared.serving.Served.{Served}
-use Rattle.verify_command.specs.Judged.{IsReasoned}
 use Rattle.gv_top.specs.declared.status.Verdict.{Verdict}
 use Rattle.gv_top.specs.Answers.{line, usage, refusal, read_fault_line, write_fault_line, memory_line, network_fault_line}
 use Rattle.gv_top.specs.Verifying.{unverified}
@@ -64,14 +60,3 @@ line_of (Verdict.Served Served.WriteFault) = write_fault_line
 line_of (Verdict.Served Served.Memory) = memory_line
 line_of Verdict.Verified = []
 line_of (Verdict.Unverified refusal) = (unverified refusal).err
-
--- a refusal has one of the reasons
-abbrev pub IsExplained : Verdict → Type 0
-IsExplained (Verdict.Refused place) = HasReason place
-IsExplained (Verdict.Unverified refusal) = IsReasoned refusal
-IsExplained v = Unit {0}
-
--- the verdict on a text that no scenario was read of
-abbrev pub verdict_on : ParseRefusal → Verdict
-verdict_on (parse.Refused place) = Verdict.Refused place
-verdict_on parse.Memory = Verdict.Ran End.Memory

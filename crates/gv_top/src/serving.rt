@@ -16,7 +16,7 @@ ghost use Rattle.gv_top.specs.Gateways.{answers_by};
 ghost use Rattle.gv_top.specs.Running.{BeganSo};
 ghost use Rattle.gv_top.specs.declared.words.Command.{Command};
 ghost use Rattle.gv_top.specs.Serving.{Serves, limits_of};
-ghost use Rattle.gv_top.specs.Top.{Counts, HandsOn};
+ghost use Rattle.gv_top.specs.Top.{Counts, HandsOn, seen};
 ghost use Rattle.gv_top.specs.Words.{command_of, is_native, reads_input, serve_of};
 
 use crate::gateway::serve_through;
@@ -109,13 +109,11 @@ pub fn gvr<S: Source, K: Sink, E: Sink, W: World, N: Net, A: Application, H: Wai
     requires fresh { IsFresh (N.meaning net.old) }
     ensures answers { serve_of (map string_bytes words.now) ≡ None →
         AnswersCommand result (A.answer_of app.now) (command_of (map string_bytes words.now)) (W.meaning native.new) (W.stands_for native.new)
-        (S.remaining input.old) (S.remaining input.new) (K.written out.old) (K.written out.new) (E.written err.old) (E.written err.new)
-        (S.faults input.old) (S.faults input.new) (K.faults out.old) (K.faults out.new) (E.faults err.old) (E.faults err.new) }
+        (seen S.remaining S.faults input.old input.new) (seen K.written K.faults out.old out.new) (seen E.written E.faults err.old err.new) }
     ensures checks { serve_of (map string_bytes words.now) ≡ None →
-        AnswersCheck result (command_of (map string_bytes words.now)) (S.remaining input.old) (S.remaining input.new)
-        (K.written out.old) (K.written out.new) (E.written err.old) (E.written err.new) }
-    ensures borne_out { IsBorneOut result (E.written err.old) (E.written err.new)
-        (S.faults input.old) (S.faults input.new) (K.faults out.old) (K.faults out.new) (E.faults err.old) (E.faults err.new) }
+        AnswersCheck result (command_of (map string_bytes words.now))
+        (seen S.remaining S.faults input.old input.new) (seen K.written K.faults out.old out.new) (seen E.written E.faults err.old err.new) }
+    ensures borne_out { IsBorneOut result (seen S.remaining S.faults input.old input.new) (seen K.written K.faults out.old out.new) (seen E.written E.faults err.old err.new) }
     // Native workers were asked only after what the run says before was written, and handed on where they may be long in
     // answering; or they are as they were.
     ensures began { (options : AnyOptions) (s : AnyScenario) (left : List ℕ) → command_of (map string_bytes words.now) ≡ Some (Command.Text (TextCommand.Run options)) →

@@ -1,6 +1,7 @@
 //! How a call ends: its status and its line on err.
 ghost use Rattle.std.specs.Prelude.{◌≡◌, List, OnOk, IfOk};
-ghost use Rattle.gv_top.specs.Verdicts.{IsExplained, number_of, line_of, verdict_on};
+ghost use Rattle.gv_top.specs.Verdicts.{number_of, line_of};
+ghost use Rattle.gv_top.specs.Inner.{IsExplained, verdict_on};
 
 use gv_values::{FaultKind, decimal_text, fault_text};
 use hub_engine::End;

@@ -6,7 +6,8 @@ ghost use Rattle.gv_top.specs.Answers.{answer_of_storm, answer_to_storm};
 ghost use Rattle.gv_top.specs.Counted.{WasCounted, is_broken_off};
 ghost use Rattle.gv_top.specs.Storm.{storm_run, storm_text, summary};
 ghost use Rattle.gv_top.specs.Top.{Counts, Decided, HandsOn};
-ghost use Rattle.gv_top.specs.Verdicts.{IsExplained, number_of};
+ghost use Rattle.gv_top.specs.Verdicts.{number_of};
+ghost use Rattle.gv_top.specs.Inner.{IsExplained};
 
 use crate::status::{Verdict, verdict_on};
 use crate::top::send;

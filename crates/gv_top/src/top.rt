@@ -14,8 +14,9 @@ ghost use Rattle.gv_top.specs.Answers.{Answer, answer_to_scenario, answer_to_sto
 ghost use Rattle.gv_top.specs.Commands.{AnswersCommand, IsBorneOut, IsLeftAlone};
 ghost use Rattle.gv_top.specs.Running.{BeganSo};
 ghost use Rattle.gv_top.specs.declared.status.Verdict.{Verdict as AnyVerdict};
-ghost use Rattle.gv_top.specs.Top.{BeganText, CameTo, Counts, Decided, Fits, HandsOn, HasLawfulLines, IsOfConnection, IsOr, IsTold, RanScenarioSo, RanSo};
-ghost use Rattle.gv_top.specs.Verdicts.{IsExplained, line_of, number_of};
+ghost use Rattle.gv_top.specs.Top.{CameTo, Counts, Decided, Fits, HandsOn, HasLawfulLines, IsTold, RanScenarioSo, RanSo, seen};
+ghost use Rattle.gv_top.specs.Inner.{BeganText, IsExplained, IsOfConnection, IsOr};
+ghost use Rattle.gv_top.specs.Verdicts.{line_of, number_of};
 ghost use Rattle.gv_top.specs.Checks.{AnswersCheck};
 ghost use Rattle.gv_top.specs.Verifying.{IsAnswerOf, IsCheckAnswer};
 ghost use Rattle.verify_command.specs.Inputs.{most_checked_read};
@@ -52,8 +53,8 @@ fn decide<S: Source, K: Sink, W: World, A: Application>(
     app: &A,
 ) -> Option<Verdict>
     requires rests { (W.meaning native.old).runs ≡ false }
-    ensures came_to { IfSome result (λ verdict. CameTo verdict (A.answer_of app.now) (command_of (map string_bytes words.now)) (W.meaning native.new) (W.stands_for native.new) (S.remaining input.old) (S.remaining input.new)
-        (K.written out.old) (K.written out.new) (S.faults input.old) (S.faults input.new) (K.faults out.old) (K.faults out.new)) }
+    ensures came_to { IfSome result (λ verdict. CameTo verdict (A.answer_of app.now) (command_of (map string_bytes words.now)) (W.meaning native.new) (W.stands_for native.new)
+        (seen S.remaining S.faults input.old input.new) (seen K.written K.faults out.old out.new)) }
     ensures no_command { IfSome result (λ verdict. command_of (map string_bytes words.now) ≡ None → (number_of verdict ≡ 2) ⊎ (number_of verdict ≡ 7)) }
     ensures lawful { IfSome result (λ verdict. (options : AnyOptions) → command_of (map string_bytes words.now) ≡ Some (Command.Text (TextCommand.Run options)) →
         HasLawfulLines (number_of verdict) (K.written out.old) (K.written out.new)) }
@@ -391,8 +392,8 @@ pub fn tell<E: Sink>(alloc: Global, verdict: Verdict, err: &mut E) -> u8
 /// No fault is hidden: with any status but 5 no write failed, and with any but 4 and 5 no read. 5 hides a read that
 /// failed only where err failed at the line of 4.
 ///
-/// Which of 0, 1, 3, 6, 8 and 9 it is, is said by `answer` of `AnswersCommand`, by one equation: the status is that of the
-/// answer to the words and the input. So each comes exactly where the answer has it, and its line on err with it.
+/// Which of 0, 1, 3, 6, 8 and 9 it is, is said by `AnswersCommand`, command by command, and by `AnswersCheck` for `verify`:
+/// the status is that of what is answered to the words and the input, and its line on err with it.
 pub fn offline<S: Source, K: Sink, E: Sink, W: World, A: Application>(
     alloc: Global,
     words: &[String],
@@ -404,12 +405,11 @@ pub fn offline<S: Source, K: Sink, E: Sink, W: World, A: Application>(
 ) -> Option<u8>
     requires rests { (W.meaning native.old).runs ≡ false }
     ensures answers { IfSome result (λ status. AnswersCommand status (A.answer_of app.now) (command_of (map string_bytes words.now)) (W.meaning native.new) (W.stands_for native.new)
-        (S.remaining input.old) (S.remaining input.new) (K.written out.old) (K.written out.new) (E.written err.old) (E.written err.new)
-        (S.faults input.old) (S.faults input.new) (K.faults out.old) (K.faults out.new) (E.faults err.old) (E.faults err.new)) }
-    ensures checks { IfSome result (λ status. AnswersCheck status (command_of (map string_bytes words.now)) (S.remaining input.old) (S.remaining input.new)
-        (K.written out.old) (K.written out.new) (E.written err.old) (E.written err.new)) }
-    ensures borne_out { IfSome result (λ status. IsBorneOut status (E.written err.old) (E.written err.new)
-        (S.faults input.old) (S.faults input.new) (K.faults out.old) (K.faults out.new) (E.faults err.old) (E.faults err.new)) }
+        (seen S.remaining S.faults input.old input.new) (seen K.written K.faults out.old out.new) (seen E.written E.faults err.old err.new)) }
+    ensures checks { IfSome result (λ status. AnswersCheck status (command_of (map string_bytes words.now))
+        (seen S.remaining S.faults input.old input.new) (seen K.written K.faults out.old out.new) (seen E.written E.faults err.old err.new)) }
+    ensures borne_out { IfSome result (λ status. IsBorneOut status
+        (seen S.remaining S.faults input.old input.new) (seen K.written K.faults out.old out.new) (seen E.written E.faults err.old err.new)) }
     // Native workers were asked only after what the run says before was written, and handed on where they may be long in
     // answering; or they are as they were.
     ensures began { IfSome result (λ status. (options : AnyOptions) (s : AnyScenario) (left : List ℕ) → command_of (map string_bytes words.now) ≡ Some (Command.Text (TextCommand.Run options)) →

@@ -2,7 +2,8 @@
 ghost use Rattle.std.specs.Prelude.{◌≡◌, ◌≢◌, ℕ, List, Some, drop, take};
 ghost use Rattle.gv_top.specs.Answers.{Answer};
 ghost use Rattle.gv_top.specs.Top.{Counts, Decided, Fits, HandsOn};
-ghost use Rattle.gv_top.specs.Verdicts.{IsExplained, number_of};
+ghost use Rattle.gv_top.specs.Verdicts.{number_of};
+ghost use Rattle.gv_top.specs.Inner.{IsExplained};
 ghost use Rattle.gv_top.specs.Verifying.{IsCheckAnswer, verified};
 ghost use Rattle.verify_command.specs.Inputs.{most_checked_read};
 

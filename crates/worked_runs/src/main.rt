@@ -1,8 +1,10 @@
-//! Runs worked rows through the call that the program makes. A row begins with `==== ` and its name; then come the line
-//! of its words, its text, `---- ` and its status, its trace, and, where something is said on standard error, `---- `
-//! and that line. What differs is printed, and at the end how many rows there were.
+//! Runs worked rows through the call that the program makes. A row begins with `==== ` and its name; then come `.... `
+//! and how else it is run, if it is, the line of its words, its text, `---- ` and its status, its trace, and, where
+//! something is said on standard error, `---- ` and that line. What differs is printed, and at the end how many rows
+//! there were.
 #![tactic(auto)]
 
+mod faults;
 mod row;
 
 use crate::row::Row;
@@ -49,6 +51,10 @@ impl Reader {
         let Some(row) = &mut self.row else {
             return Ok(());
         };
+        if let (Part::Words, Some(way)) = (self.part, line.strip_prefix(".... ")) {
+            row.set_way(way);
+            return Ok(());
+        }
         match (self.part, line.strip_prefix("---- ")) {
             (Part::Words, _) => {
                 row.set_words(rt.alloc(), line)?;

@@ -1,4 +1,5 @@
 //! A worked row.
+use crate::faults::{holds_at_each_end, holds_with_faults};
 use gv_io::{MemorySink, MemorySource};
 use gv_top::offline;
 use gv_values::Answer;
@@ -9,10 +10,47 @@ use world::ListWorld;
 use wsgi_core::ShippedApp;
 
 /// How many bytes a run may write.
-const ROOM: usize = 1048576;
+pub(crate) const ROOM: usize = 1048576;
 
 /// How many bytes the input gives at a time.
-const PIECE: usize = 4096;
+pub(crate) const PIECE: usize = 4096;
+
+/// How the streams of a call behave: how many bytes the input has, and how many it gives at a time, which read fails,
+/// and how many bytes out and err take.
+#[derive(Clone, Copy, Debug)]
+pub(crate) struct Streams {
+    pub length: usize,
+    pub piece: usize,
+    pub failing: Option<u64>,
+    pub room: usize,
+    pub err_room: usize,
+}
+
+/// What a call is to say.
+#[derive(Clone, Copy, Debug)]
+pub(crate) struct Wanted<'a> {
+    pub status: Option<u8>,
+    pub out: &'a [u8],
+    pub said: &'a [u8],
+}
+
+/// What a call said.
+#[derive(Drop)]
+pub(crate) struct Said {
+    pub status: Option<u8>,
+    pub out: MemorySink,
+    pub err: MemorySink,
+}
+
+impl Said {
+    /// Whether that is what was wanted.
+    pub(crate) fn is(&self, wanted: &Wanted<'_>) -> bool {
+        wanted.status.is_some()
+            && self.status == wanted.status
+            && self.out.bytes() == wanted.out
+            && self.err.bytes() == wanted.said
+    }
+}
 
 /// A row: its words and text, and what the program is to say.
 #[derive(Drop)]
@@ -25,13 +63,39 @@ pub(crate) struct Row {
     said: Vec<u8>,
     // The answers of the trace, which a world with native workers gives.
     answers: Vec<Answer>,
+    // Whether each line of the trace reads back as one.
+    is_read: bool,
+    // How many lines the whole trace has, where the row has its end alone.
+    lines: Option<usize>,
+    // Whether a line that ends with a caret has a CR there.
+    has_carets: bool,
+    // Whether the row is run with each fault too, and with each beginning of its text.
+    has_faults: bool,
+    has_ends: bool,
 }
 
-/// Adds a line and its LF.
-fn add_line(to: &mut Vec<u8>, line: &str) -> Result<(), AllocError> {
-    to.extend_from_slice(line.as_bytes())?;
+/// Adds a line and its LF; where carets are CRs, one at its end is.
+fn add_line(to: &mut Vec<u8>, line: &str, has_carets: bool) -> Result<(), AllocError> {
+    match line.strip_suffix("^") {
+        Some(before) if has_carets => {
+            to.extend_from_slice(before.as_bytes())?;
+            to.push(b'\r')?;
+        }
+        _ => to.extend_from_slice(line.as_bytes())?,
+    }
     to.push(b'\n')?;
     Ok(())
+}
+
+/// How many lines the bytes have.
+fn line_count(bytes: &[u8]) -> usize {
+    let mut count: usize = 0;
+    for byte in bytes {
+        if *byte == b'\n' {
+            count = count.saturating_add(1);
+        }
+    }
+    count
 }
 
 impl Row {
@@ -45,7 +109,24 @@ impl Row {
             trace: Vec::new(alloc),
             said: Vec::new(alloc),
             answers: Vec::new(alloc),
+            is_read: true,
+            lines: None,
+            has_carets: false,
+            has_faults: false,
+            has_ends: false,
         })
+    }
+
+    /// Takes a line on how the row is run: `faults`, with each fault too; `ends`, with each beginning of its text too;
+    /// `carets`, where a caret at the end of a line is a CR; `lines` and a number, where the row has the end of a trace of
+    /// so many lines alone.
+    pub(crate) fn set_way(&mut self, way: &str) {
+        self.has_faults = self.has_faults || way == "faults";
+        self.has_ends = self.has_ends || way == "ends";
+        self.has_carets = self.has_carets || way == "carets";
+        if let Some(lines) = way.strip_prefix("lines ") {
+            self.lines = lines.parse::<usize>().ok();
+        }
     }
 
     /// Takes the words of this line, which blanks part.
@@ -62,30 +143,76 @@ impl Row {
     }
 
     pub(crate) fn add_text(&mut self, line: &str) -> Result<(), AllocError> {
-        add_line(&mut self.text, line)
+        add_line(&mut self.text, line, self.has_carets)
     }
 
     pub(crate) fn add_said(&mut self, line: &str) -> Result<(), AllocError> {
-        add_line(&mut self.said, line)
+        add_line(&mut self.said, line, false)
     }
 
-    /// Takes a line of the trace, and the answer that it tells.
+    /// Takes a line of the trace, and the answer that it tells. A line that no trace has is noted.
     pub(crate) fn add_trace(&mut self, alloc: Global, line: &str) -> Result<(), AllocError> {
-        add_line(&mut self.trace, line)?;
+        add_line(&mut self.trace, line, self.has_carets)?;
         match read_line(alloc, line.as_bytes()) {
             Ok(Line::Turn { answer, .. }) => Ok(self.answers.push(answer)?),
-            Ok(_) | Err(LineFault::NotALine) => Ok(()),
+            Ok(_) => Ok(()),
+            Err(LineFault::NotALine) => {
+                self.is_read = false;
+                Ok(())
+            }
             Err(LineFault::Memory) => Err(AllocError),
         }
     }
 
-    /// The name of the row, where the call says anything else than the row has, over a world that gives the answers of
-    /// the trace.
-    pub(crate) fn differs(self, alloc: Global) -> Result<Option<String>, AllocError> {
-        let mut input = MemorySource::new(self.text, PIECE, Vec::new(alloc));
-        let mut out = MemorySink::new(alloc, ROOM)?;
-        let mut err = MemorySink::new(alloc, ROOM)?;
-        let mut native = ListWorld::new(alloc, self.answers);
+    /// The bytes of the input.
+    pub(crate) fn text(&self) -> &[u8] {
+        self.text.as_slice()
+    }
+
+    /// What out is to have.
+    pub(crate) fn trace(&self) -> &[u8] {
+        self.trace.as_slice()
+    }
+
+    /// What the row has, where no stream fails.
+    pub(crate) fn wanted(&self) -> Wanted<'_> {
+        Wanted {
+            status: self.status,
+            out: self.trace.as_slice(),
+            said: self.said.as_slice(),
+        }
+    }
+
+    /// Whether what the call says is a trace.
+    fn is_run(&self) -> bool {
+        match self.words.first() {
+            Some(word) => word.as_str() == "run",
+            None => false,
+        }
+    }
+
+    /// Streams with which nothing fails.
+    pub(crate) fn sound_streams(&self) -> Streams {
+        Streams {
+            length: self.text.len(),
+            piece: PIECE,
+            failing: None,
+            room: ROOM,
+            err_room: ROOM,
+        }
+    }
+
+    /// What the call says over such streams, and over a world that gives the answers of the trace.
+    pub(crate) fn call(&self, alloc: Global, streams: &Streams) -> Result<Said, AllocError> {
+        let mut failing = Vec::new(alloc);
+        if let Some(read) = streams.failing {
+            failing.push(read)?;
+        }
+        let text = &self.text.as_slice()[..streams.length.min(self.text.len())];
+        let mut input = MemorySource::new(Vec::from_slice(alloc, text)?, streams.piece, failing);
+        let mut out = MemorySink::new(alloc, streams.room)?;
+        let mut err = MemorySink::new(alloc, streams.err_room)?;
+        let mut native = ListWorld::new(alloc, Vec::from_slice(alloc, self.answers.as_slice())?);
         let status = offline(
             alloc,
             self.words.as_slice(),
@@ -95,10 +222,31 @@ impl Row {
             &mut native,
             &ShippedApp,
         );
-        let holds = self.status.is_some()
-            && self.status == status
-            && out.bytes() == self.trace.as_slice()
-            && err.bytes() == self.said.as_slice();
+        Ok(Said { status, out, err })
+    }
+
+    /// Whether the call says what the row has: its whole trace, or its end, where that is all that the row has of it.
+    fn holds(&self, alloc: Global) -> Result<bool, AllocError> {
+        let said = self.call(alloc, &self.sound_streams())?;
+        Ok(match self.lines {
+            None => said.is(&self.wanted()),
+            Some(lines) => {
+                self.status.is_some()
+                    && said.status == self.status
+                    && line_count(said.out.bytes()) == lines
+                    && said.out.bytes().ends_with(self.trace.as_slice())
+                    && said.err.bytes() == self.said.as_slice()
+            }
+        })
+    }
+
+    /// The name of the row, where the call says anything else than the row has, in any way in which it is run, or where
+    /// its trace has a line that no trace has.
+    pub(crate) fn differs(self, alloc: Global) -> Result<Option<String>, AllocError> {
+        let holds = (self.is_read || !self.is_run())
+            && self.holds(alloc)?
+            && (!self.has_faults || holds_with_faults(alloc, &self)?)
+            && (!self.has_ends || holds_at_each_end(alloc, &self)?);
         Ok(if holds { None } else { Some(self.name) })
     }
 }

@@ -34,7 +34,8 @@ pub returns-in-None-clause-borne_out : goal.returns-in-None-clause-borne_out
 returns-in-None-clause-borne_out g c =
     let t = c.tell.ensures.told in
     record {
-      fault_line = fault_lines _ t.0 _ _ _ _ _ (ap g.E.Sink.written c.in-None.ensures.err_alone) t.2;
+      read_line = (fault_lines _ t.0 _ _ _ _ _ (ap g.E.Sink.written c.in-None.ensures.err_alone) t.2).0;
+      memory_line = (fault_lines _ t.0 _ _ _ _ _ (ap g.E.Sink.written c.in-None.ensures.err_alone) t.2).1;
       read_fault = λ e.
           no_other_status _ _ 4 c.serve-end.result (status_or _ _ t.0 _ _ _ _ t.1 t.2) e (λ z. omega arith) (λ z. omega arith) (λ z. omega arith) (λ z. omega arith);
       read_unfailed = λ h4 h5. ap g.S.Source.faults (c.offline.ensures.input_alone c.in-None.ensures.serve);

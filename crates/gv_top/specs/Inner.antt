@@ -1,0 +1,68 @@
+-- What the functions behind the call say to one another. No clause of a public call cites it.
+use Rattle.std.specs.Prelude.{◌≡◌, ◌≢◌, ◌⊎◌, ℕ, Bool, false, List, [], Option, Ok}
+use Rattle.gv_values.specs.declared.job.Answer.{Answer}
+use Rattle.command_words.specs.declared.command.GatewayKind.{GatewayKind}
+use Rattle.command_words.specs.declared.command.RunOptions.{RunOptions}
+use Rattle.command_words.specs.declared.command.TextCommand.{TextCommand}
+use Rattle.scenario_tree.specs.declared.tree.Scenario.{Scenario}
+use Rattle.scenario_lang.specs.declared.text.ParseRefusal.{ParseRefusal}
+use Rattle.scenario_lang.specs.declared.text.ParseRefusal.TheVariants as parse
+use Rattle.scenario_reading.specs.Judged.{HasReason, judged}
+use Rattle.world.specs.Worlds.{Meaning}
+use Rattle.world_rules.specs.Legal.{AreLegal}
+use Rattle.world_rules.specs.declared.question.LogEntry.{LogEntry}
+use Rattle.machine.specs.Run.{Ran}
+use Rattle.hub_engine.specs.Ends.{IsPartLogged, RanTo, WroteAhead}
+use Rattle.hub_engine.specs.declared.run.End.{End}
+use Rattle.verify_command.specs.Judged.{IsReasoned}
+use Rattle.wsgi_core.specs.Applications.{App}
+use Rattle.wsgi_connection.specs.Connections.{Exchanged}
+use Rattle.wsgi_connection.specs.declared.connection.ConnectionEnd.{ConnectionEnd}
+use Rattle.gv_top.specs.Answers.{no_port}
+use Rattle.gv_top.specs.Gateways.{answers_by}
+use Rattle.gv_top.specs.Running.{BeganSo}
+use Rattle.gv_top.specs.Verdicts.{number_of}
+use Rattle.gv_top.specs.declared.status.Verdict.{Verdict}
+
+-- ---- verdicts
+
+-- a refusal has one of the reasons
+abbrev pub IsExplained : Verdict → Type 0
+IsExplained (Verdict.Refused place) = HasReason place
+IsExplained (Verdict.Unverified refusal) = IsReasoned refusal
+IsExplained v = Unit {0}
+
+-- the verdict on a text that no scenario was read of
+abbrev pub verdict_on : ParseRefusal → Verdict
+verdict_on (parse.Refused place) = Verdict.Refused place
+verdict_on parse.Memory = Verdict.Ran End.Memory
+
+-- the verdict, or want of memory where it has a line for which there is none; the line of a fault takes none
+abbrev pub IsOr : Verdict → Verdict → Type 0
+IsOr v w = (w ≡ v) ⊎ ((w ≡ Verdict.Ran End.Memory) × (number_of v ≢ 0) × (number_of v ≢ 4) × (number_of v ≢ 5) × (number_of v ≢ 10))
+
+-- ---- what was done
+
+-- What a world is after the scenario ran in it to this end, where `whole` is the run under each list of answers: it had
+-- so many workers and runs no longer; it stands for the log of the run, or for the part up to the break.
+pub record RanInWorld (end : End) (whole : List Answer → Ran) (workers : ℕ) (before after : Meaning) (stands : List LogEntry → Type 0) (out0 out1 : Option (List ℕ)) : Type 0 where
+  pub written : RanTo end (whole after.answers) out0 out1
+  pub ahead : WroteAhead whole after.answers out0 out1
+  pub part : IsPartLogged (whole after.answers).log after.answers stands
+  pub log : end ≢ End.WriteFault → end ≢ End.Memory → stands (whole after.answers).log
+  pub legal : AreLegal [] [] (whole after.answers).log
+  pub workers_are : after.workers ≡ workers
+  pub tick : after.tick ≡ before.tick
+  pub reference : after.reference ≡ before.reference
+  pub rests : after.runs ≡ false
+
+-- where the command is a run of the scenario that the bytes spell, native workers ran so
+abbrev pub BeganText : Bool → TextCommand → List ℕ → Meaning → Meaning → Option (List ℕ) → Option (List ℕ) → Option (List ℕ) → Type 0
+BeganText waits command bytes before after out0 out1 handed1 =
+    (options : RunOptions) (s : Scenario) → command ≡ TextCommand.Run options → judged bytes ≡ Ok s → BeganSo waits options s before after out0 out1 handed1
+
+-- the verdict is the end of the connection that the input and out are, through this gateway and with this application
+pub record IsOfConnection (v : Verdict) (gateway : GatewayKind) (app : App) (in0 in1 out0 out1 : Option (List ℕ)) : Type 0 where
+  pub end : ConnectionEnd
+  pub number : number_of v ≡ number_of (Verdict.Connection end)
+  pub exchanged : Exchanged end (answers_by gateway) app no_port in0 in1 out0 out1
