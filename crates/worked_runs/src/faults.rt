@@ -1,10 +1,7 @@
 //! The faults that a row is run with, one after another: out that fails at each byte, each read that fails, err without
 //! room, an input that ends at each byte.
-use crate::row::{Row, Streams, Wanted};
+use crate::row::{Row, SMALL_PIECE, Streams, Wanted};
 use std::alloc::{AllocError, Global};
-
-/// How many bytes the input gives at a time where its reads fail in turn.
-const SMALL_PIECE: usize = 7;
 
 /// The status of a read that failed, and that of a write that did.
 const READ_FAULT: u8 = 4;
@@ -14,14 +11,15 @@ const WRITE_FAULT: u8 = 5;
 /// Whether out, where it has room for a beginning of what the row has there, has that beginning, with the status and the
 /// line of a write that failed; for each beginning.
 fn fails_at_each_byte(alloc: Global, row: &Row) -> Result<bool, AllocError> {
-    for room in 0..row.trace().len() {
+    let trace = row.trace();
+    for room in 0..trace.len() {
         let streams = Streams {
             room,
             ..row.sound_streams()
         };
         let wanted = Wanted {
             status: Some(WRITE_FAULT),
-            out: &row.trace()[..room],
+            out: &trace[..room],
             said: b"gvr: write fault\n",
         };
         if !row.call(alloc, &streams)?.is(&wanted) {
@@ -34,7 +32,7 @@ fn fails_at_each_byte(alloc: Global, row: &Row) -> Result<bool, AllocError> {
 /// Streams whose input comes in small pieces, of which the read of this number fails.
 fn failing_at(row: &Row, read: u64) -> Streams {
     Streams {
-        piece: SMALL_PIECE,
+        has_small_pieces: true,
         failing: Some(read),
         ..row.sound_streams()
     }

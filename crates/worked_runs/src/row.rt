@@ -13,14 +13,17 @@ use wsgi_core::ShippedApp;
 pub(crate) const ROOM: usize = 1048576;
 
 /// How many bytes the input gives at a time.
-pub(crate) const PIECE: usize = 4096;
+const PIECE: usize = 4096;
 
-/// How the streams of a call behave: how many bytes the input has, and how many it gives at a time, which read fails,
+/// How many it gives where its reads fail in turn.
+pub(crate) const SMALL_PIECE: usize = 7;
+
+/// How the streams of a call behave: how many bytes the input has, and whether it gives few at a time, which read fails,
 /// and how many bytes out and err take.
 #[derive(Clone, Copy, Debug)]
 pub(crate) struct Streams {
     pub length: usize,
-    pub piece: usize,
+    pub has_small_pieces: bool,
     pub failing: Option<u64>,
     pub room: usize,
     pub err_room: usize,
@@ -195,7 +198,7 @@ impl Row {
     pub(crate) fn sound_streams(&self) -> Streams {
         Streams {
             length: self.text.len(),
-            piece: PIECE,
+            has_small_pieces: false,
             failing: None,
             room: ROOM,
             err_room: ROOM,
@@ -209,7 +212,12 @@ impl Row {
             failing.push(read)?;
         }
         let text = &self.text.as_slice()[..streams.length.min(self.text.len())];
-        let mut input = MemorySource::new(Vec::from_slice(alloc, text)?, streams.piece, failing);
+        let piece = if streams.has_small_pieces {
+            SMALL_PIECE
+        } else {
+            PIECE
+        };
+        let mut input = MemorySource::new(Vec::from_slice(alloc, text)?, piece, failing);
         let mut out = MemorySink::new(alloc, streams.room)?;
         let mut err = MemorySink::new(alloc, streams.err_room)?;
         let mut native = ListWorld::new(alloc, Vec::from_slice(alloc, self.answers.as_slice())?);
