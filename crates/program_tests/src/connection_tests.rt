@@ -63,7 +63,10 @@ const CONNECTIONS: &[(&[u8], usize, &[u8])] = &[
 /// Whether a connection that sends this, and so many `x` behind it, is answered so in any pieces.
 fn is_answer(alloc: Global, text: &[u8], count: usize, answer: &[u8]) -> Result<bool, AllocError> {
     let input = padded(alloc, text, b'x', count, b"")?;
-    is_answered(alloc, "wsgi", &input, &[1, 19, 4096], answer)
+    Ok(
+        is_answered(alloc, "wsgi", &input, &[1, 19, 4096], answer)?
+            && is_answered(alloc, "wsgi --gateway http", &input, &[4096], answer)?,
+    )
 }
 
 #[test]

@@ -1,18 +1,39 @@
-//! Runs with native workers whose threads never start.
+//! Runs with native workers that the tests make: threads that never start, and answers from a list.
 ghost use Rattle.std.specs.Prelude.{◌≡◌, false};
 
 use crate::calls::{Row, called, holds_over};
 use crate::fault_tests::Way;
 use gv_io::{MemorySink, MemorySource, Sink};
+use gv_values::{Answer, JobOutcome};
 use native_board::Bell;
 use native_pool::{Clock, Ear, NoThreads, OpenGate, ThreadWorld};
 use std::alloc::{AllocError, Global};
 use std::cell::Cell;
 use std::test::Fail;
-use world::World;
+use world::{ListWorld, World};
 
 const TWO_JOBS: &[u8] =
     b"native n 2\ndef main\na <- nspawn n sum 3\nb <- nspawn n echo 4\nx <- get a\nprint x\nend\n";
+
+/// What that text gives where both jobs are done at moment 0 and the first of them is told first.
+const TWO_JOBS_DONE: &[u8] =
+    b"start g0 main\njob j1 g0 sum 3\njob j2 g0 echo 4\npark g0 get j1\nblock jobs\nturn 1 done j1 0 value 6\nwake g0\nprint g0 6\nend g0 value none\nstop value none turns 2 moves 4\n";
+
+/// The call with these words over that text, which gives this.
+fn done_at_once(words: &str) -> Row<'_> {
+    Row {
+        name: "",
+        words,
+        input: TWO_JOBS,
+        piece: 4096,
+        failing: &[],
+        room: 10000,
+        err_room: 1000,
+        status: 0,
+        out: TWO_JOBS_DONE,
+        err: b"",
+    }
+}
 
 /// An ear that hears nothing.
 #[derive(Clone, Copy)]
@@ -47,19 +68,28 @@ impl Clock for Still {
 #[test]
 fn no_threads(rt: HostRuntime) -> Result<(), Fail> {
     let alloc = rt.alloc();
-    let row = Row {
-        name: "",
-        words: "run --native 2",
-        input: TWO_JOBS,
-        piece: 4096,
-        failing: &[],
-        room: 10000,
-        err_room: 1000,
-        status: 0,
-        out: b"start g0 main\njob j1 g0 sum 3\njob j2 g0 echo 4\npark g0 get j1\nblock jobs\nturn 1 done j1 0 value 6\nwake g0\nprint g0 6\nend g0 value none\nstop value none turns 2 moves 4\n",
-        err: b"",
-    };
+    let row = done_at_once("run --native 2");
     let mut native = ThreadWorld::new(alloc, rt, Deaf, Mute, Still, OpenGate, NoThreads::new())?;
+    assert!(rt; holds_over(alloc, &row, &mut native)?);
+    Ok(())
+}
+
+#[test]
+fn held_listed_answers(rt: HostRuntime) -> Result<(), Fail> {
+    let alloc = rt.alloc();
+    let mut answers = Vec::new(alloc);
+    answers.push(Answer::Done {
+        number: 2,
+        outcome: JobOutcome::Int(4),
+        at: 7,
+    })?;
+    answers.push(Answer::Done {
+        number: 1,
+        outcome: JobOutcome::Int(6),
+        at: 9,
+    })?;
+    let row = done_at_once("run --native 1 --order held");
+    let mut native = ListWorld::new(alloc, answers);
     assert!(rt; holds_over(alloc, &row, &mut native)?);
     Ok(())
 }

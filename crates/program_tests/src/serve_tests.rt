@@ -136,3 +136,101 @@ fn a_net_that_does_not_listen_leaves_out_alone(rt: HostRuntime) -> Result<(), Fa
     assert!(rt; is_served(&rt, rt.alloc(), &served, &mut net)?);
     Ok(())
 }
+
+/// Half a request that is never ended; and a whole one, which takes so many bytes write by write and fails at a call.
+fn half_and_whole(
+    alloc: Global,
+    room: &[u32],
+    fails: Option<u64>,
+) -> Result<Vec<ConnScript>, AllocError>
+    ensures { IfOk result (λ scripts. length scripts.items < 2 ^ 32) }
+{
+    let half = sending(alloc, &[b"GET / HT"], &[])?;
+    let mut whole = sending(
+        alloc,
+        &[b"GET / HTTP/1.1\r\nConnection: close\r\n\r\n"],
+        room,
+    )?;
+    whole.fails = fails;
+    Ok(vec![in alloc; half, whole]?)
+}
+
+/// Whether the two are accepted and closed, the first at its idle time and the second at once, and the second is sent
+/// this.
+fn is_sent<H: Wait>(
+    rt: &H,
+    alloc: Global,
+    words: &str,
+    scripts: Vec<ConnScript>,
+    sent: &[u8],
+) -> Result<bool, AllocError>
+    requires { length scripts.items < 2 ^ 32 }
+{
+    let served = Served {
+        words,
+        room: 100,
+        status: 0,
+        out: b"listening 8080\nserved 2\n",
+        err: b"",
+    };
+    let mut net = MemoryNet::new(alloc, 8080, scripts);
+    Ok(
+        is_served(rt, alloc, &served, &mut net)?
+            && net.written(0) == Some(&b""[..])
+            && net.written(1) == Some(sent)
+            && net.closed_at(0) == Some(1000)
+            && net.closed_at(1) == Some(0),
+    )
+}
+
+const TWO_CONNECTIONS: &str = "serve --port 8080 --conns 2 --pool 2 --idle 1000";
+
+#[test]
+fn an_idle_connection_and_a_quick_one(rt: HostRuntime) -> Result<(), Fail> {
+    let alloc = rt.alloc();
+    let scripts = half_and_whole(alloc, &[], None)?;
+    assert!(rt; is_sent(&rt, alloc, TWO_CONNECTIONS, scripts, HELLO_AND_CLOSE)?);
+    let scripts = half_and_whole(alloc, &[], None)?;
+    let words = "serve --port 8080 --conns 2 --pool 2 --idle 1000 --gateway http";
+    assert!(rt; is_sent(&rt, alloc, words, scripts, HELLO_AND_CLOSE)?);
+    Ok(())
+}
+
+/// The rooms 0, 1, 0, 1 and so on of 400 writes.
+fn no_room_and_room_for_one(alloc: Global) -> Result<Vec<u32>, AllocError> {
+    let mut rooms = Vec::new(alloc);
+    for _ in 0..200 {
+        rooms.push(0)?;
+        rooms.push(1)?;
+    }
+    Ok(rooms)
+}
+
+#[test]
+fn the_second_connection_fails_at_each_call(rt: HostRuntime) -> Result<(), Fail> {
+    let alloc = rt.alloc();
+    // Its two calls are a read and a write.
+    for call in 0..2 {
+        let scripts = half_and_whole(alloc, &[], Some(call))?;
+        assert!(rt;
+            is_sent(&rt, alloc, TWO_CONNECTIONS, scripts, b"")?,
+            "{call}"
+        );
+    }
+    let rooms = no_room_and_room_for_one(alloc)?;
+    let scripts = half_and_whole(alloc, &rooms, None)?;
+    assert!(rt; is_sent(&rt, alloc, TWO_CONNECTIONS, scripts, HELLO_AND_CLOSE)?);
+    // Behind the read each byte takes two writes, of which the first finds no room.
+    for taken in 0..HELLO_AND_CLOSE.len() {
+        for write in 1..3 {
+            let call = taken as u64 * 2 + write;
+            let scripts = half_and_whole(alloc, &rooms, Some(call))?;
+            let sent = &HELLO_AND_CLOSE[..taken];
+            assert!(rt;
+                is_sent(&rt, alloc, TWO_CONNECTIONS, scripts, sent)?,
+                "{call}"
+            );
+        }
+    }
+    Ok(())
+}

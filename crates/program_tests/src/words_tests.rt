@@ -18,6 +18,18 @@ const RUNS: &[(&str, u64, u64, RunWorld)] = &[
     ),
     ("run --tick=1000", 1000000, 10000000, RunWorld::Script(1000)),
     ("run --native 16", 1000000, 10000000, RunWorld::Native(16)),
+    (
+        "run --order free --native=16",
+        1000000,
+        10000000,
+        RunWorld::Native(16),
+    ),
+    (
+        "run --native 4 --order=held",
+        1000000,
+        10000000,
+        RunWorld::Held(4),
+    ),
 ];
 
 /// The words of other commands, and the command that they name.
@@ -66,6 +78,10 @@ const NONE: &[&str] = &[
     "run --native 0",
     "run --native 17",
     "run --native=1 --tick=0",
+    "run --order held",
+    "run --native 1 --order any",
+    "run --native 1 --order held --order=held",
+    "run --native 1 --order held --tick 0",
     "run -- --turns 5",
     "run --turns 5 -",
     "run --turns --moves 5",
