@@ -5,6 +5,11 @@
 //! `Request`. A `Frame` runs from one request to the next within a budget of moves. A hub that settles after each move
 //! hands a body one move at a time: there the type says where the body stands, so that an answer can only come to one
 //! that waits for it.
+//!
+//! What an entry keeps of a statement besides its place (the test of a while, the excepts of a try) is shared with the
+//! code: an entry that named the place of its statement could name one of another kind. A frame shares the blocks of
+//! its code, and finds locals, objects and functions by name at each use, so that its contract holds for every code.
+//! An input that comes where it is not looked at may be any.
 #![tactic(auto)]
 
 mod entry;

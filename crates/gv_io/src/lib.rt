@@ -1,5 +1,9 @@
 //! Where bytes come from and go to: the traits `Source` and `Sink`, ends in memory that fail where they are told to,
 //! and ends over a reader or a writer of the standard library.
+//!
+//! A read that fails takes nothing. Whoever writes a stream of their own has to count each call that fails, and no
+//! other. What was handed on is a meaning of its own beside what was written: a sink in memory keeps nothing back, and
+//! the ends over std tell neither.
 #![tactic(auto)]
 
 mod count;

@@ -1,5 +1,8 @@
 //! That the machine keeps its states sound: laws of its definitions, each as the contract of a
 //! function without a body of its own.
+//!
+//! Soundness is said with the kinds of greenlets: items, members of groups and main are never raw. The definitions
+//! alone would let a raw body park, so the law of a move has the premise that a raw body waits for nothing.
 #![tactic(auto)]
 
 ghost use Rattle.machine_soundness.specs.Onward.{LandsOnward};

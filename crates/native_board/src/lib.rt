@@ -4,6 +4,9 @@
 //!
 //! `specs/Rules.antt` has the rule of the board, which holds between any two steps of any threads, and
 //! `specs/Plays.antt` the steps.
+//!
+//! It has no lock: over one, each call would take the handle and might wait, and what the contracts say of the order
+//! of loads would have to be carried by hand.
 #![tactic(auto)]
 
 mod board;

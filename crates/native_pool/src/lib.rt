@@ -1,4 +1,8 @@
 //! Native threads that take the hub's jobs from a board: the worker's loop, what starts it, and the edge to the system.
+//!
+//! `ThreadSpawner` is for the shipped bell and gate. It takes how a task is started on a thread: the caller makes that
+//! box, where its handle may go to another thread. `Desk` and `History` are public, since the contracts of
+//! `ThreadWorld` speak of them.
 #![tactic(auto)]
 
 mod desk;

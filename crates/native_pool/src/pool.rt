@@ -30,6 +30,12 @@ const REST: u64 = 1000;
 /// The world of native threads: jobs are posted to the cells of a board, and each started worker takes those of its
 /// cell. Jobs past the free cells wait in the hub. With no started worker the hub evaluates the oldest job itself when
 /// it is asked.
+///
+/// The moment is the clock's last reading less the one at `begin`. `post` sweeps nothing: what is held stays held, in
+/// its order, and the job waits behind the others. `ask` answers with the first held result, or with the first that a
+/// sweep found, in the order of the cells. Nothing and Elapsed come only after a sweep in that call, with no result
+/// held and no waiting job that could go on, and Elapsed only once the moment asked for has come. `finish` sweeps once
+/// more, tells each started worker to end, and joins each; that a join waits for the end of a thread is the system's.
 #[derive(Drop)]
 pub struct ThreadWorld<H, R, B: Bell + Drop, C: Clock, G: Gate + Drop, S: Spawner<B, G>> {
     rt: H,

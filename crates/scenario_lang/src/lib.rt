@@ -1,4 +1,6 @@
 //! Texts of scenarios: reading and printing them.
+//!
+//! `HasText` asks no length, so a scenario whose texts are all too long is printed too.
 #![tactic(auto)]
 
 mod builder;

@@ -1,4 +1,7 @@
 //! The syntax tree of scenarios: objects, functions, statements and expressions.
+//!
+//! Lists are `Items<T>` and operands `Boxed<T>`, both of the kit's `sqlite_items`: contracts see plain lists and
+//! values, and trees are equal where they say the same.
 #![tactic(auto)]
 
 mod copy;

@@ -1,4 +1,7 @@
 //! Lines of those that wait, each with a number, with a prefix that was told to go.
+//!
+//! A line is two lists, told and rest, and not one with a border: growing is a move from the front of one to the end
+//! of the other.
 #![tactic(auto)]
 
 ghost use Rattle.std.specs.Prelude.{◌≡◌, ◌≢◌, ℕ, ◌+◌, ◌-◌, ◌<◌, ◌≤◌, List, [], ◌∷◌, ◌++◌, length, take, max, IfSome, IfNone, OnOk, OnErr, IsOk, IsTrue, ◌↔◌, Some, None, slice_get};

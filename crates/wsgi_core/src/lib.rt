@@ -1,4 +1,7 @@
 //! What a connection is sent: the HTTP sessions of a server, as a function of all its bytes.
+//!
+//! A reply's names and values are tested by `httparse`'s `is_token` and `is_header_value`, since `http_header`'s names
+//! end at 65535 bytes. A reply keeps its names as they are spelt; a request's are in lower case.
 #![tactic(auto)]
 
 mod answer;

@@ -1,2 +1,0 @@
-mod PendingLemmas
-mod LifeLemmas

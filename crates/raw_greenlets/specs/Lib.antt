@@ -1,3 +1,0 @@
-pub mod Chains
-pub mod Hosts
-pub mod Steps

@@ -1,9 +1,0 @@
-use Rattle.std.proofs.Common.{◌≡◌, ◌<◌, ℕ, get_or, Contains}
-use Rattle.gv_values.specs.declared.value.Whom.{Whom}
-use Rattle.target_waits.specs.Named.{named_by}
-use Rattle.target_waits.proofs.index.Index.enter_all.Given as goal
-
-abbrev pub invariant-loop-place : goal.invariant-loop-place
-invariant-loop-place l =
-    ((target : Whom) (i : ℕ) → Contains (named_by l.initial.self target) i → Contains (named_by l.self target) i)
-    × ((k : ℕ) (target : Whom) → k < l.place → get_or l.pending k target ≡ target → Contains (named_by l.self target) l.item)

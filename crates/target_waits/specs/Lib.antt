@@ -1,4 +1,0 @@
-pub mod Indexed
-pub mod Named
-pub mod WaitParts
-pub mod Waits

@@ -1,4 +1,0 @@
-mod Below
-pub mod Pairs
-pub mod Steps
-pub mod Waiting

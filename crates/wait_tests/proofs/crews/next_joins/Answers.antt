@@ -1,7 +1,0 @@
-use Rattle.std.proofs.Common.{sym, subst, Contains}
-use Rattle.linked_items.proofs.ItemLemmas.{contains_at}
-use Rattle.wait_tests.proofs.crews.next_joins.Goals as goal
-
-pub complete_join-requires-clause-there : goal.complete_join-requires-clause-there
-complete_join-requires-clause-there c =
-    subst (λ x. Contains x.joins c.in-Some.item) (sym c.in-Some.ensures.told) (contains_at c.args.pool.now.joins c.args.pool.now.told_joins c.in-Some.item (c.in-Some.ensures.item.0))
