@@ -13,7 +13,7 @@ use Rattle.body_frames.specs.declared.stack.Made.{Made}
 use Rattle.body_frames.specs.declared.stack.Stack.{Stack}
 use Rattle.body_frames.specs.Places.{Came, came_by, place_of}
 use Rattle.body_frames.specs.Entries.{todo_of}
-use Rattle.body_frames.specs.Standings.{goes_from, made_of, stands}
+use Rattle.body_frames.specs.Standings.{came_of_made, goes_from, made_of, stands}
 
 -- what comes of a step, after which the body stands so
 came_from : Step → Body → Came
@@ -28,19 +28,13 @@ by_move locals (Did.GoesOn how after todo) = refl
 by_move locals (Did.Enters ms silent body todo) = refl
 by_move locals (Did.Asks request x todo) = refl
 
--- what was made of the move
-abbrev pub came_of_made : List (List Statement) → Made → Stack → Came
-came_of_made t (Made.Asks request x) s = Came.Asks request (record { locals = s.locals; todo = todo_of t s.todo; gives = x })
-came_of_made t (Made.Enters ms silent b) s = Came.Enters ms (record { silent = silent; body = block_at b t; locals = s.locals; todo = todo_of t s.todo })
-came_of_made t (Made.Further at) s = Came.Comes (place_of (goes_from t at s))
-
 by_made : (t : List (List Statement)) (made : Made) (s : Stack) → came_from (made_of t 0 stands made s).step (made_of t 0 stands made s).body ≡ came_of_made t made s
 unfolding came_from
 by_made t (Made.Asks request x) s = refl
 by_made t (Made.Enters ms silent b) s = refl
 by_made t (Made.Further at) s = refl
 
-comes_of_move : (t : List (List Statement)) (locals : List Local) (did : Did) (made : Made) (s : Stack) →
+pub comes_of_move : (t : List (List Statement)) (locals : List Local) (did : Did) (made : Made) (s : Stack) →
     ((moves : ℕ) (go : Unwound → Stepped) → after_move moves locals go did ≡ made_of t moves go made s) → came_of_made t made s ≡ came_by locals did
 comes_of_move t locals did made s e =
     sym (by_made t made s) ∙ ap (λ (x : Stepped). came_from x.step x.body) (sym (e 0 stands)) ∙ by_move locals did

@@ -4,6 +4,7 @@ pub mod Catches
 pub mod Coming
 pub mod Few
 pub mod Keeping
+pub mod Leading
 pub mod Leavings
 pub mod Piles
 pub mod PrimitiveMoves

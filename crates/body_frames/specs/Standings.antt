@@ -1,6 +1,7 @@
 -- What the types of the code stand for, where these are the blocks of its code.
-use Rattle.std.specs.Prelude.{ℕ, List}
+use Rattle.std.specs.Prelude.{ℕ, List, None}
 use Rattle.scenario_tree.specs.declared.tree.Statement.{Statement}
+use Rattle.machine.specs.declared.state.Frame.{Frame}
 use Rattle.machine.specs.Bodies.{Body, Step, Stepped}
 use Rattle.machine.specs.Unwinding.{Unwound}
 use Rattle.body_blocks.specs.Trees.{block_at}
@@ -12,7 +13,7 @@ use Rattle.body_frames.specs.declared.stack.Stack.{Stack}
 use Rattle.body_frames.specs.declared.step.Step.{Step as Told}
 use Rattle.body_frames.specs.declared.unwind.Unwound.{Unwound as Left}
 use Rattle.body_frames.specs.Entries.{todo_of}
-use Rattle.body_frames.specs.Places.{Came, Place}
+use Rattle.body_frames.specs.Places.{Came, Place, place_of}
 use Rattle.body_frames.specs.Steps.{step_of}
 use Rattle.body_frames.specs.Unwinding.{unwound_of}
 
@@ -55,3 +56,13 @@ abbrev pub moved_of : Moved → Came
 moved_of (Moved.Comes reached) = Came.Comes (reached_of reached)
 moved_of (Moved.Asks request parked) = Came.Asks request parked
 moved_of (Moved.Enters time entering) = Came.Enters time entering
+
+-- what was made of the move
+abbrev pub came_of_made : List (List Statement) → Made → Stack → Came
+came_of_made t (Made.Asks request x) s = Came.Asks request (record { locals = s.locals; todo = todo_of t s.todo; gives = x })
+came_of_made t (Made.Enters ms silent b) s = Came.Enters ms (record { silent = silent; body = block_at b t; locals = s.locals; todo = todo_of t s.todo })
+came_of_made t (Made.Further at) s = Came.Comes (place_of (goes_from t at s))
+
+-- a body at its next move
+abbrev pub frame_of : List (List Statement) → Stack → Frame
+frame_of t s = record { locals = s.locals; todo = todo_of t s.todo; gives = None }

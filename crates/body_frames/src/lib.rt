@@ -19,6 +19,7 @@ mod moves;
 mod pile;
 mod places;
 mod primitive_moves;
+mod runs;
 mod stack;
 mod step;
 mod unwind;
@@ -30,5 +31,6 @@ pub use machine::arguments::Arguments;
 pub use machine::request::Request;
 pub use places::{
     Entering, Moved, Moving, Parked, Reached, answer_body, begin_body, enter_timeout, move_body,
+    move_on,
 };
 pub use step::{Input, Step};

@@ -1,5 +1,5 @@
 //! Bodies between the steps of their hub, each by where it stands.
-ghost use Rattle.std.specs.Prelude.{◌≡◌, ◌∷◌, [], IfOk};
+ghost use Rattle.std.specs.Prelude.{◌≡◌, ◌<◌, ◌∷◌, [], IfOk};
 ghost use Rattle.machine.specs.declared.state.Leaving.{Leaving};
 ghost use Rattle.machine.specs.declared.state.Todo.{Todo};
 ghost use Rattle.machine.specs.Bodies.{around};
@@ -9,14 +9,16 @@ ghost use Rattle.machine.specs.Ends.{leaving_of};
 ghost use Rattle.machine.specs.Greenlets.{named};
 ghost use Rattle.machine.specs.Unwinding.{unwind};
 ghost use Rattle.body_values.specs.Functions.{IsFunction, function_at};
-ghost use Rattle.body_frames.specs.Few.{HasFewUnwound};
+ghost use Rattle.body_frames.specs.Few.{HasFewBody, HasFewUnwound};
 ghost use Rattle.body_frames.specs.Places.{place_of, came_by};
-ghost use Rattle.body_frames.specs.Standings.{goes_from, reached_of, moved_of};
-ghost use Rattle.body_frames.specs.Steady.{HasMove};
+ghost use Rattle.body_frames.specs.Runs.{MovesOn};
+ghost use Rattle.body_frames.specs.Standings.{body_after, came_of_made, goes_from, reached_of, moved_of};
+ghost use Rattle.body_frames.specs.Steady.{HasMove, IsSteady};
 
 use crate::entry::Entry;
 use crate::moves::make_move;
 use crate::pile::Pile;
+use crate::runs::make_moves;
 use crate::stack::{Begun, Made, Stack, begin_function, go_inside, go_on_with, outcome_of_leaving};
 use crate::unwind::Unwound;
 use body_blocks::Blocks;
@@ -199,10 +201,47 @@ pub fn move_body<L: Look>(
         todo,
         left: Items::new(alloc),
     };
-    match make_move(alloc, code, &blocks, look, &mut stack)? {
+    let made = make_move(alloc, code, &blocks, look, &mut stack)?;
+    Ok(come(blocks, stack, made))
+}
+
+/// Makes moves of the body until one does not stay in the body, one leaves a timeout block, or so many are made: how
+/// many were made before the last, and what came of the last. `AllocError`: memory is wanting.
+pub fn move_on<L: Look>(
+    alloc: Global,
+    code: &Code,
+    look: &L,
+    body: Moving,
+    most: u64,
+) -> Result<(u64, Moved), AllocError>
+    requires some { 0 < most }
+    ensures few { IfOk result (λ on. on.0 < most) }
+    ensures moved { IfOk result (λ on. MovesOn (around code.now (L.answers look.now)) on.0 body (moved_of on.1)) }
+{
+    let Moving {
+        blocks,
+        locals,
+        todo,
+    } = body;
+    let mut stack = Stack {
+        locals,
+        todo,
+        left: Items::new(alloc),
+    };
+    let (before, made) = make_moves(alloc, code, &blocks, look, &mut stack, most)?;
+    Ok((before, come(blocks, stack, made)))
+}
+
+/// What comes of the move that was made.
+fn come(blocks: Rc<Blocks>, stack: Stack, made: Made) -> Moved
+    requires steady { IsSteady (body_after blocks.value made stack) }
+    requires few { HasFewBody (body_after blocks.value made stack) }
+    ensures { moved_of result ≡ came_of_made blocks.value made stack }
+{
+    match made {
         Made::Asks(request, gives) => {
             let Stack { locals, todo, .. } = stack;
-            Ok(Moved::Asks(
+            Moved::Asks(
                 request,
                 Parked {
                     blocks,
@@ -210,11 +249,11 @@ pub fn move_body<L: Look>(
                     todo,
                     gives,
                 },
-            ))
+            )
         }
         Made::Enters(time, silent, body) => {
             let Stack { locals, todo, .. } = stack;
-            Ok(Moved::Enters(
+            Moved::Enters(
                 time,
                 Entering {
                     blocks,
@@ -223,9 +262,9 @@ pub fn move_body<L: Look>(
                     silent,
                     body,
                 },
-            ))
+            )
         }
-        Made::Further(at) => Ok(Moved::Comes(reach(blocks, stack, at))),
+        Made::Further(at) => Moved::Comes(reach(blocks, stack, at)),
     }
 }
 

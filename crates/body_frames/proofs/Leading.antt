@@ -1,0 +1,63 @@
+-- Moves of a body one after another.
+use Rattle.std.proofs.Common.{◌≡◌, refl, ap, subst, sym, ◌∙◌, ℕ, zero, suc, ◌+◌, List, [], arith}
+use Rattle.scenario_tree.specs.declared.tree.Statement.{Statement}
+use Rattle.machine.specs.declared.state.Frame.{Frame}
+use Rattle.machine.specs.declared.state.Local.{Local}
+use Rattle.machine.specs.Bodies.{Stepped, after_move}
+use Rattle.machine.specs.BodyMoves.{body_move}
+use Rattle.machine.specs.Expressions.{Around}
+use Rattle.machine.specs.Unwinding.{Unwound}
+use Rattle.body_frames.specs.declared.stack.Made.{Made}
+use Rattle.body_frames.specs.declared.stack.Stack.{Stack}
+use Rattle.body_frames.specs.declared.unwind.Unwound.{Unwound as Left}
+use Rattle.body_frames.specs.AtMove.{IsAtMove}
+use Rattle.body_frames.specs.Entries.{todo_of}
+use Rattle.body_frames.specs.Few.{HasFewBody, HasFewToDo}
+use Rattle.body_frames.specs.Places.{Came, Place}
+use Rattle.body_frames.specs.Runs.{MovesOn, came_of_move}
+use Rattle.body_frames.specs.Standings.{body_after, came_of_made, frame_of, made_of}
+use Rattle.body_frames.specs.Steady.{IsSteady}
+use Rattle.body_frames.proofs.Coming.{comes_of_move}
+
+-- whatever comes of the one body after some moves comes of the other after so many more
+abbrev pub LeadsTo : (List Local → Around) → ℕ → Frame → Frame → Type 0
+LeadsTo around n a b = (k : ℕ) (came : Came) → MovesOn around k b came → MovesOn around (k + n) a came
+
+pub leads_nowhere : (around : List Local → Around) (a : Frame) → LeadsTo around 0 a a
+leads_nowhere around a = λ k came h. let same : k ≡ k + 0 = omega arith in subst (λ n. MovesOn around n a came) same h
+
+-- ---- one move more
+
+-- this was made of the body's move
+abbrev pub HasMoved : List (List Statement) → (List Local → Around) → Stack → Made → Stack → Type 0
+HasMoved t around old made new = (moves : ℕ) (go : Unwound → Stepped) →
+    after_move moves old.locals go (body_move (todo_of t old.todo) (around old.locals)) ≡ made_of t moves go made new
+
+pub moves_once : (t : List (List Statement)) (around : List Local → Around) (old : Stack) (made : Made) (new : Stack) → HasMoved t around old made new →
+    MovesOn around 0 (frame_of t old) (came_of_made t made new)
+moves_once t around old made new h = comes_of_move t old.locals (body_move (todo_of t old.todo) (around old.locals)) made new h
+
+pub leads_on : (t : List (List Statement)) (around : List Local → Around) (n : ℕ) (a : Frame) (old : Stack) (made : Made) (new : Stack) →
+    LeadsTo around n a (frame_of t old) → HasMoved t around old made new → made ≡ Made.Further Left.Runs → new.left ≡ [] →
+    LeadsTo around (n + 1) a (frame_of t new)
+leads_on t around n a old made new leads h stays told = λ k came rest.
+    let comes : Came.Comes (Place.AtMove [] (frame_of t new)) ≡ came_of_move around (frame_of t old) =
+        ap (λ left. Came.Comes (Place.AtMove left (frame_of t new))) (sym told)
+        ∙ ap (λ (m : Made). came_of_made t m new) (sym stays)
+        ∙ moves_once t around old made new h in
+    let same : suc k + n ≡ k + (n + 1) = omega arith in
+    subst (λ m. MovesOn around m a came) same (leads (suc k) came (frame_of t new, comes, rest))
+
+pub leads_last : (t : List (List Statement)) (around : List Local → Around) (n : ℕ) (a : Frame) (old : Stack) (made : Made) (new : Stack) →
+    LeadsTo around n a (frame_of t old) → HasMoved t around old made new → MovesOn around n a (came_of_made t made new)
+leads_last t around n a old made new leads h =
+    let same : 0 + n ≡ n = omega arith in
+    subst (λ m. MovesOn around m a (came_of_made t made new)) same (leads 0 (came_of_made t made new) (moves_once t around old made new h))
+
+-- ---- where the body stays
+
+pub stays_at_move : (t : List (List Statement)) (made : Made) (s : Stack) → made ≡ Made.Further Left.Runs → IsSteady (body_after t made s) → IsAtMove (todo_of t s.todo)
+stays_at_move t made s stays h = subst (λ (m : Made). IsSteady (body_after t m s)) stays h
+
+pub stays_few : (t : List (List Statement)) (made : Made) (s : Stack) → made ≡ Made.Further Left.Runs → HasFewBody (body_after t made s) → HasFewToDo (todo_of t s.todo)
+stays_few t made s stays h = subst (λ (m : Made). HasFewBody (body_after t m s)) stays h

@@ -1,0 +1,59 @@
+//! Moves of a body one after another.
+ghost use Rattle.std.specs.Prelude.{◌≡◌, ◌<◌, [], IfOk, IsTrue};
+ghost use Rattle.machine.specs.Bodies.{around};
+ghost use Rattle.body_frames.specs.declared.stack.Made.{Made as Came};
+ghost use Rattle.body_frames.specs.declared.unwind.Unwound.{Unwound as Left};
+ghost use Rattle.body_frames.specs.AtMove.{IsAtMove};
+ghost use Rattle.body_frames.specs.Entries.{todo_of};
+ghost use Rattle.body_frames.specs.Few.{HasFewBody, HasFewToDo};
+ghost use Rattle.body_frames.specs.Runs.{MovesOn};
+ghost use Rattle.body_frames.specs.Standings.{body_after, came_of_made, frame_of};
+ghost use Rattle.body_frames.specs.Steady.{IsSteady};
+
+use crate::moves::make_move;
+use crate::stack::{Made, Stack};
+use crate::unwind::Unwound;
+use body_blocks::Blocks;
+use body_values::{Code, Look};
+use std::alloc::{AllocError, Global};
+
+/// Makes moves until one does not stay in the body, one leaves a timeout block, or so many are made: how many were made
+/// before the last, and what came of the last.
+pub fn make_moves<L: Look>(
+    alloc: Global,
+    code: &Code,
+    blocks: &Blocks,
+    look: &L,
+    stack: &mut Stack,
+    most: u64,
+) -> Result<(u64, Made), AllocError>
+    requires told { stack.old.left ≡ [] }
+    requires moves { IsAtMove (todo_of blocks.now stack.old.todo) }
+    requires few { HasFewToDo (todo_of blocks.now stack.old.todo) }
+    requires some { 0 < most }
+    ensures counted { IfOk result (λ on. on.0 < most) }
+    ensures steady { IfOk result (λ on. IsSteady (body_after blocks.now on.1 stack.new)) }
+    ensures few { IfOk result (λ on. HasFewBody (body_after blocks.now on.1 stack.new)) }
+    ensures moved { IfOk result (λ on. MovesOn (around code.now (L.answers look.now)) on.0 (frame_of blocks.now stack.old) (came_of_made blocks.now on.1 stack.new)) }
+{
+    let mut before = 0;
+    'moves: loop {
+        let made = make_move(alloc, code, blocks, look, stack)?;
+        if !goes_on(&made, stack, most - before) {
+            return Ok((before, made));
+        }
+        before += 1;
+    }
+}
+
+/// Whether the body is at its next move, left no timeout block, and has more than one move left.
+fn goes_on(made: &Made, stack: &Stack, left: u64) -> bool
+    ensures stays { IsTrue result → made.now ≡ Came.Further Left.Runs }
+    ensures told { IsTrue result → stack.now.left ≡ [] }
+    ensures some { IsTrue result → 1 < left }
+{
+    match made {
+        Made::Further(Unwound::Runs) => stack.left.is_empty() && 1 < left,
+        _ => false,
+    }
+}
