@@ -1,5 +1,5 @@
 -- Moves of a body one after another.
-use Rattle.std.proofs.Common.{◌≡◌, refl, ap, subst, sym, ◌∙◌, ℕ, zero, suc, ◌+◌, List, [], arith}
+use Rattle.std.proofs.Common.{◌≡◌, refl, ap, subst, sym, ◌∙◌, ℕ, zero, suc, ◌+◌, List, [], None, arith}
 use Rattle.scenario_tree.specs.declared.tree.Statement.{Statement}
 use Rattle.machine.specs.declared.state.Frame.{Frame}
 use Rattle.machine.specs.declared.state.Local.{Local}
@@ -7,6 +7,7 @@ use Rattle.machine.specs.Bodies.{Stepped, after_move}
 use Rattle.machine.specs.BodyMoves.{body_move}
 use Rattle.machine.specs.Expressions.{Around}
 use Rattle.machine.specs.Unwinding.{Unwound}
+use Rattle.body_frames.specs.declared.entry.Entry.{Entry}
 use Rattle.body_frames.specs.declared.stack.Made.{Made}
 use Rattle.body_frames.specs.declared.stack.Stack.{Stack}
 use Rattle.body_frames.specs.declared.unwind.Unwound.{Unwound as Left}
@@ -61,3 +62,13 @@ stays_at_move t made s stays h = subst (λ (m : Made). IsSteady (body_after t m 
 
 pub stays_few : (t : List (List Statement)) (made : Made) (s : Stack) → made ≡ Made.Further Left.Runs → HasFewBody (body_after t made s) → HasFewToDo (todo_of t s.todo)
 stays_few t made s stays h = subst (λ (m : Made). HasFewBody (body_after t m s)) stays h
+
+-- ---- the body by its view
+
+pub moves_on_as : (t u : List (List Statement)) (f : Frame) (locals : List Local) (todo : List Entry) (around : List Local → Around) (n : ℕ) (made : Made) (s : Stack) (came : Came) →
+    u ≡ t → record { locals = locals; todo = todo_of t todo; gives = None } ≡ f → came ≡ came_of_made t made s →
+    MovesOn around n (record { locals = locals; todo = todo_of u todo; gives = None }) (came_of_made u made s) → MovesOn around n f came
+moves_on_as t u f locals todo around n made s came shared view same h =
+    subst (λ (c : Came). MovesOn around n f c) (sym same)
+    (subst (λ (g : Frame). MovesOn around n g (came_of_made t made s)) view
+    (subst (λ (w : List (List Statement)). MovesOn around n (record { locals = locals; todo = todo_of w todo; gives = None }) (came_of_made w made s)) shared h))
