@@ -1,12 +1,14 @@
 -- Moves of a body one after another.
-use Rattle.std.proofs.Common.{◌≡◌, refl, ap, subst, sym, ◌∙◌, ℕ, zero, suc, ◌+◌, List, [], None, arith}
+use Rattle.std.proofs.Common.{◌≡◌, refl, ap, subst, sym, ◌∙◌, ℕ, zero, suc, ◌+◌, ◌<◌, Bool, true, false, List, [], Some, None, arith}
+use Rattle.scenario_tree.specs.declared.tree.Scenario.{Scenario}
 use Rattle.scenario_tree.specs.declared.tree.Statement.{Statement}
 use Rattle.machine.specs.declared.state.Frame.{Frame}
 use Rattle.machine.specs.declared.state.Local.{Local}
-use Rattle.machine.specs.Bodies.{Stepped, after_move}
+use Rattle.machine.specs.Bodies.{around}
 use Rattle.machine.specs.BodyMoves.{body_move}
-use Rattle.machine.specs.Expressions.{Around}
-use Rattle.machine.specs.Unwinding.{Unwound}
+use Rattle.machine.specs.declared.state.Leaving.{Leaving}
+use Rattle.machine.specs.Expressions.{Around, Look}
+use Rattle.machine.specs.Unwinding.{Unwound, unwind}
 use Rattle.body_frames.specs.declared.entry.Entry.{Entry}
 use Rattle.body_frames.specs.declared.stack.Made.{Made}
 use Rattle.body_frames.specs.declared.stack.Stack.{Stack}
@@ -15,10 +17,14 @@ use Rattle.body_frames.specs.AtMove.{IsAtMove}
 use Rattle.body_frames.specs.Entries.{todo_of}
 use Rattle.body_frames.specs.Few.{HasFewBody, HasFewToDo}
 use Rattle.body_frames.specs.Places.{Came, Place}
-use Rattle.body_frames.specs.Runs.{MovesOn, came_of_move}
+use Rattle.body_frames.specs.PrimitiveMoves.{HasMade, RunsAt}
+use Rattle.body_frames.specs.Runs.{HasGoneOn, HasMoved, MovesOn, came_of_move}
 use Rattle.body_frames.specs.Standings.{body_after, came_of_made, frame_of, made_of}
 use Rattle.body_frames.specs.Steady.{IsSteady}
+use Rattle.body_frames.proofs.AtMoves.{moves_as}
 use Rattle.body_frames.proofs.Coming.{comes_of_move}
+use Rattle.body_frames.proofs.Keeping.{move_stays_few}
+use Rattle.body_frames.proofs.PrimitiveMoves.{primitive_made}
 
 -- whatever comes of the one body after some moves comes of the other after so many more
 abbrev pub LeadsTo : (List Local → Around) → ℕ → Frame → Frame → Type 0
@@ -29,11 +35,6 @@ leads_nowhere around a = λ k came h. let same : k ≡ k + 0 = omega arith in su
 
 -- ---- one move more
 
--- this was made of the body's move
-abbrev pub HasMoved : List (List Statement) → (List Local → Around) → Stack → Made → Stack → Type 0
-HasMoved t around old made new = (moves : ℕ) (go : Unwound → Stepped) →
-    after_move moves old.locals go (body_move (todo_of t old.todo) (around old.locals)) ≡ made_of t moves go made new
-
 pub moves_once : (t : List (List Statement)) (around : List Local → Around) (old : Stack) (made : Made) (new : Stack) → HasMoved t around old made new →
     MovesOn around 0 (frame_of t old) (came_of_made t made new)
 moves_once t around old made new h = comes_of_move t old.locals (body_move (todo_of t old.todo) (around old.locals)) made new h
@@ -43,9 +44,9 @@ pub leads_on : (t : List (List Statement)) (around : List Local → Around) (n :
     LeadsTo around (n + 1) a (frame_of t new)
 leads_on t around n a old made new leads h stays told = λ k came rest.
     let comes : Came.Comes (Place.AtMove [] (frame_of t new)) ≡ came_of_move around (frame_of t old) =
-        ap (λ left. Came.Comes (Place.AtMove left (frame_of t new))) (sym told)
-        ∙ ap (λ (m : Made). came_of_made t m new) (sym stays)
-        ∙ moves_once t around old made new h in
+    ap (λ left. Came.Comes (Place.AtMove left (frame_of t new))) (sym told)
+    ∙ ap (λ (m : Made). came_of_made t m new) (sym stays)
+    ∙ moves_once t around old made new h in
     let same : suc k + n ≡ k + (n + 1) = omega arith in
     subst (λ m. MovesOn around m a came) same (leads (suc k) came (frame_of t new, comes, rest))
 
@@ -72,3 +73,36 @@ moves_on_as t u f locals todo around n made s came shared view same h =
     subst (λ (c : Came). MovesOn around n f c) (sym same)
     (subst (λ (g : Frame). MovesOn around n g (came_of_made t made s)) view
     (subst (λ (w : List (List Statement)). MovesOn around n (record { locals = locals; todo = todo_of w todo; gives = None }) (came_of_made w made s)) shared h))
+
+-- ---- one move
+
+pub gone_by : (t : List (List Statement)) (around : List Local → Around) (left : ℕ) (old : Stack) (made : Made) (new : Stack) → HasFewToDo (todo_of t old.todo) →
+    IsSteady (body_after t made new) → HasMoved t around old made new → HasGoneOn t around left old (Some made) new
+gone_by t around left old made new few steady h =
+    (steady, move_stays_few t (todo_of t old.todo) (around old.locals) old.locals made new few h, h)
+
+-- where nothing was done before
+pub gone_any : (t : List (List Statement)) (around : List Local → Around) (left : ℕ) (old mid : Stack) (tried : Bool) (made : Made) (new : Stack) → tried ≡ false →
+    HasMade tried t old mid → HasFewToDo (todo_of t old.todo) → IsSteady (body_after t made new) → HasMoved t around mid made new →
+    HasGoneOn t around left old (Some made) new
+gone_any t around left old mid false made new not h few steady moved =
+    gone_by t around left old made new few steady (subst (λ (s : Stack). HasMoved t around s made new) h moved)
+gone_any t around left old mid true made new not h few steady moved = cc
+
+pub gone_at_once : (t : List (List Statement)) (s : Scenario) (look : Look) (left : ℕ) (old : Stack) (made : Bool) (new : Stack) → HasFewToDo (todo_of t old.todo) →
+    old.left ≡ [] → made ≡ true → HasMade made t old new → RunsAt (todo_of t new.todo) → 1 < left → HasGoneOn t (around s look) left old None new
+gone_at_once t s look left old false new few told h made runs more = cc
+gone_at_once t s look left old true new few told h made runs more =
+    let moved : HasMoved t (around s look) old (Made.Further Left.Runs) new =
+    primitive_made true t old new new Left.Runs s look refl made told (runs new.left new.locals) in (
+      more,
+      made.0 ∙ told,
+      moves_as (Unwound.Runs [] new.locals (todo_of t new.todo)) (todo_of t new.todo) [] Leaving.Normally new.locals (runs [] new.locals),
+      move_stays_few t (todo_of t old.todo) (around s look old.locals) old.locals (Made.Further Left.Runs) new few moved,
+      moved,
+    )
+
+-- a body that stays leads on
+pub leads_at_once : (t : List (List Statement)) (around : List Local → Around) (left n : ℕ) (a : Frame) (old new : Stack) →
+    LeadsTo around n a (frame_of t old) → HasGoneOn t around left old None new → LeadsTo around (n + 1) a (frame_of t new)
+leads_at_once t around left n a old new leads h = leads_on t around n a old (Made.Further Left.Runs) new leads h.4 refl h.1

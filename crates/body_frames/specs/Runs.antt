@@ -1,10 +1,21 @@
 -- Moves of a body one after another, with nothing of the hub between them. This project's own.
-use Rattle.std.specs.Prelude.{ℕ, zero, suc, ◌≡◌, List, []}
+use Rattle.std.specs.Prelude.{ℕ, zero, suc, ◌≡◌, ◌<◌, List, [], Option, Some, None}
+use Rattle.scenario_tree.specs.declared.tree.Statement.{Statement}
 use Rattle.machine.specs.declared.state.Frame.{Frame}
 use Rattle.machine.specs.declared.state.Local.{Local}
+use Rattle.machine.specs.Bodies.{Stepped, after_move}
 use Rattle.machine.specs.BodyMoves.{body_move}
 use Rattle.machine.specs.Expressions.{Around}
+use Rattle.machine.specs.Unwinding.{Unwound}
+use Rattle.body_frames.specs.declared.stack.Made.{Made}
+use Rattle.body_frames.specs.declared.stack.Stack.{Stack}
+use Rattle.body_frames.specs.declared.unwind.Unwound.{Unwound as Left}
+use Rattle.body_frames.specs.AtMove.{IsAtMove}
+use Rattle.body_frames.specs.Entries.{todo_of}
+use Rattle.body_frames.specs.Few.{HasFewBody, HasFewToDo}
 use Rattle.body_frames.specs.Places.{Came, Place, came_by}
+use Rattle.body_frames.specs.Standings.{body_after, made_of}
+use Rattle.body_frames.specs.Steady.{IsSteady}
 
 -- what comes of the body's next move
 abbrev pub came_of_move : (List Local → Around) → Frame → Came
@@ -14,3 +25,14 @@ came_of_move around a = came_by a.locals (body_move a.todo (around a.locals))
 abbrev pub MovesOn : (List Local → Around) → ℕ → Frame → Came → Type 0
 MovesOn around zero a came = came ≡ came_of_move around a
 MovesOn around (suc n) a came = (b : Frame) × (Came.Comes (Place.AtMove [] b) ≡ came_of_move around a) × MovesOn around n b came
+
+-- this was made of the move
+abbrev pub HasMoved : List (List Statement) → (List Local → Around) → Stack → Made → Stack → Type 0
+HasMoved t around old made new = (moves : ℕ) (go : Unwound → Stepped) →
+    after_move moves old.locals go (body_move (todo_of t old.todo) (around old.locals)) ≡ made_of t moves go made new
+
+-- The move was made, of so many that are left. Where nothing is told of it, the body stays, and there are more.
+abbrev pub HasGoneOn : List (List Statement) → (List Local → Around) → ℕ → Stack → Option Made → Stack → Type 0
+HasGoneOn t around left old None new = (1 < left) × (new.left ≡ []) × IsAtMove (todo_of t new.todo) × HasFewToDo (todo_of t new.todo)
+    × HasMoved t around old (Made.Further Left.Runs) new
+HasGoneOn t around left old (Some made) new = IsSteady (body_after t made new) × HasFewBody (body_after t made new) × HasMoved t around old made new

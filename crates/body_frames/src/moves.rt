@@ -10,12 +10,13 @@ ghost use Rattle.body_moves.specs.Chosen.{branch_move, came_of};
 ghost use Rattle.body_frames.specs.AtMove.{IsAtMove};
 ghost use Rattle.body_frames.specs.Entries.{begins, form_of, optional_block, rest, todo_of};
 ghost use Rattle.body_frames.specs.Few.{HasFewBody, HasFewToDo};
+ghost use Rattle.body_frames.specs.Runs.{HasGoneOn, HasMoved};
 ghost use Rattle.body_frames.specs.Standings.{body_after, made_of};
 ghost use Rattle.body_frames.specs.Steady.{IsSteady};
 
 use crate::entry::Entry;
 use crate::primitive_moves::make_primitive_move;
-use crate::stack::{Made, Stack, go_inwards, leave};
+use crate::stack::{Made, Stack, go_inwards, is_at_move, leave};
 use body_blocks::{Blocks, FlatAction};
 use body_moves::{Chosen, Evaluation, choose_command, choose_giving};
 use body_values::{Code, Look, bind};
@@ -38,34 +39,39 @@ pub fn make_move<L: Look>(
     requires few { HasFewToDo (todo_of blocks.now stack.old.todo) }
     ensures steady { IfOk result (λ made. IsSteady (body_after blocks.now made stack.new)) }
     ensures few { IfOk result (λ made. HasFewBody (body_after blocks.now made stack.new)) }
-    ensures made { IfOk result (λ made. (moves : ℕ) (go : Place → Went) →
-        after_move moves stack.old.locals go (body_move (todo_of blocks.now stack.old.todo) (around code.now (L.answers look.now) stack.old.locals))
-        ≡ made_of blocks.now moves go made stack.new) }
+    ensures made { IfOk result (λ made. HasMoved blocks.now (around code.now (L.answers look.now)) stack.old made stack.new) }
 {
-    Ok(do_move(alloc, code, blocks, look, stack)?)
+    match move_once(alloc, code, blocks, look, stack, 1)? {
+        Some(made) => Ok(made),
+        // It was the last.
+        None => unreachable!(),
+    }
 }
 
-/// Makes the move. The caller shows that the calls of the body have few arguments after it, as a law of what a move
-/// does.
-fn do_move<L: Look>(
+/// Makes the move at the head of what is still to do, of so many that are left: none where the body stays at its next
+/// move, has left no timeout block, and more are left; else what came of the move. A move of integers and truth values
+/// makes no result.
+#[inline]
+pub fn move_once<L: Look>(
     alloc: Global,
     code: &Code,
     blocks: &Blocks,
     look: &L,
     stack: &mut Stack,
-) -> Result<Made, AllocError>
+    left: u64,
+) -> Result<Option<Made>, AllocError>
     requires told { stack.old.left ≡ [] }
     requires moves { IsAtMove (todo_of blocks.now stack.old.todo) }
     requires few { HasFewToDo (todo_of blocks.now stack.old.todo) }
-    ensures steady { IfOk result (λ made. IsSteady (body_after blocks.now made stack.new)) }
-    ensures made { IfOk result (λ made. (moves : ℕ) (go : Place → Went) →
-        after_move moves stack.old.locals go (body_move (todo_of blocks.now stack.old.todo) (around code.now (L.answers look.now) stack.old.locals))
-        ≡ made_of blocks.now moves go made stack.new) }
+    ensures { IfOk result (λ gone. HasGoneOn blocks.now (around code.now (L.answers look.now)) left stack.old gone stack.new) }
 {
     if make_primitive_move(blocks, stack)? {
-        return Ok(Made::Further(go_inwards(blocks, stack)?));
+        if 1 < left && is_at_move(blocks, &stack.todo) {
+            return Ok(None);
+        }
+        return Ok(Some(Made::Further(go_inwards(blocks, stack)?)));
     }
-    Ok(make_any_move(alloc, code, blocks, look, stack)?)
+    Ok(Some(make_any_move(alloc, code, blocks, look, stack)?))
 }
 
 /// Makes the move, whatever it is. Its results are large, so that it stays a call.

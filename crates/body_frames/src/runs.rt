@@ -10,7 +10,7 @@ ghost use Rattle.body_frames.specs.Runs.{MovesOn};
 ghost use Rattle.body_frames.specs.Standings.{body_after, came_of_made, frame_of};
 ghost use Rattle.body_frames.specs.Steady.{IsSteady};
 
-use crate::moves::make_move;
+use crate::moves::move_once;
 use crate::stack::{Made, Stack};
 use crate::unwind::Unwound;
 use body_blocks::Blocks;
@@ -38,11 +38,15 @@ pub fn make_moves<L: Look>(
 {
     let mut before = 0;
     'moves: loop {
-        let made = make_move(alloc, code, blocks, look, stack)?;
-        if !goes_on(&made, stack, most - before) {
-            return Ok((before, made));
+        match move_once(alloc, code, blocks, look, stack, most - before)? {
+            None => before += 1,
+            Some(made) => {
+                if !goes_on(&made, stack, most - before) {
+                    return Ok((before, made));
+                }
+                before += 1;
+            }
         }
-        before += 1;
     }
 }
 

@@ -156,7 +156,7 @@ pub fn go_inwards(blocks: &Blocks, stack: &mut Stack) -> Result<Unwound, AllocEr
 
 /// Whether a move is first to do.
 #[tactic(auto, using(crate::proofs::PrimitiveMoves::rest_is_move, crate::proofs::PrimitiveMoves::again_is_move))]
-fn is_at_move(blocks: &Blocks, todo: &Pile<Entry>) -> bool
+pub fn is_at_move(blocks: &Blocks, todo: &Pile<Entry>) -> bool
     ensures { IsTrue result → RunsAt (todo_of blocks.now todo.now) }
 {
     match todo.first() {
