@@ -7,13 +7,12 @@ use Rattle.machine.specs.Bodies.{Body, Step, Stepped, after_move}
 use Rattle.machine.specs.BodyMoves.{Did, body_move}
 use Rattle.machine.specs.Expressions.{Around}
 use Rattle.machine.specs.Unwinding.{Unwound}
-use Rattle.body_blocks.specs.Trees.{block_at}
 use Rattle.body_frames.specs.declared.entry.Entry.{Entry}
 use Rattle.body_frames.specs.declared.stack.Made.{Made}
 use Rattle.body_frames.specs.declared.stack.Stack.{Stack}
 use Rattle.body_frames.specs.Places.{Came, came_by, place_of}
 use Rattle.body_frames.specs.Entries.{todo_of}
-use Rattle.body_frames.specs.Standings.{came_of_made, goes_from, made_of, stands}
+use Rattle.body_frames.specs.Standings.{came_of_made, made_of, stands}
 
 -- what comes of a step, after which the body stands so
 came_from : Step → Body → Came

@@ -1,5 +1,5 @@
 -- Moves of a body one after another.
-use Rattle.std.proofs.Common.{◌≡◌, refl, ap, subst, sym, ◌∙◌, ℕ, zero, suc, ◌+◌, ◌<◌, Bool, true, false, List, [], Some, None, arith}
+use Rattle.std.proofs.Common.{◌≡◌, refl, ap, subst, sym, ◌∙◌, ℕ, suc, ◌+◌, ◌<◌, Bool, true, false, List, [], Some, None, arith}
 use Rattle.scenario_tree.specs.declared.tree.Scenario.{Scenario}
 use Rattle.scenario_tree.specs.declared.tree.Statement.{Statement}
 use Rattle.machine.specs.declared.state.Frame.{Frame}
@@ -8,7 +8,7 @@ use Rattle.machine.specs.Bodies.{around}
 use Rattle.machine.specs.BodyMoves.{body_move}
 use Rattle.machine.specs.declared.state.Leaving.{Leaving}
 use Rattle.machine.specs.Expressions.{Around, Look}
-use Rattle.machine.specs.Unwinding.{Unwound, unwind}
+use Rattle.machine.specs.Unwinding.{Unwound}
 use Rattle.body_frames.specs.declared.entry.Entry.{Entry}
 use Rattle.body_frames.specs.declared.stack.Made.{Made}
 use Rattle.body_frames.specs.declared.stack.Stack.{Stack}
@@ -19,7 +19,7 @@ use Rattle.body_frames.specs.Few.{HasFewBody, HasFewToDo}
 use Rattle.body_frames.specs.Places.{Came, Place}
 use Rattle.body_frames.specs.PrimitiveMoves.{HasMade, RunsAt}
 use Rattle.body_frames.specs.Runs.{HasGoneOn, HasMoved, MovesOn, came_of_move}
-use Rattle.body_frames.specs.Standings.{body_after, came_of_made, frame_of, made_of}
+use Rattle.body_frames.specs.Standings.{body_after, came_of_made, frame_of}
 use Rattle.body_frames.specs.Steady.{IsSteady}
 use Rattle.body_frames.proofs.AtMoves.{moves_as}
 use Rattle.body_frames.proofs.Coming.{comes_of_move}

@@ -1,4 +1,4 @@
-use Rattle.std.proofs.Common.{◌<◌, ◌+◌, ◌-◌, subst, Option, Some, None, arith}
+use Rattle.std.proofs.Common.{◌-◌, subst, Option, Some, None, arith}
 use Rattle.machine.specs.Bodies.{around}
 use Rattle.body_frames.specs.declared.stack.Made.{Made}
 use Rattle.body_frames.specs.Runs.{HasGoneOn}
