@@ -10,9 +10,9 @@ pub mod Keeping
 pub mod Looking
 pub mod Numbering
 pub mod PhaseSets
+pub mod SettledLines
 pub mod Settling
 pub mod Sorting
 pub mod Touching
 pub mod UpToDate
 pub mod Walks
-pub mod WholeLines

@@ -100,9 +100,9 @@ abbrev pub LooksAlong : (Delivery → Bool) → State → List Entry → SeenFou
 LooksAlong test s es old new =
     (done : Delivery → Bool) → ((d : Delivery) → IsTrue (test d) → done d ≡ false) → Finds (Delivers done) s es old → Finds (Delivers (λ d. done d || test d)) s es new
 
--- each item that passes this test has a number, and holds
-abbrev pub HoldWithNumbers : (Delivery → Bool) → State → List Entry → Type 0
-HoldWithNumbers test s es = (q : ℕ) (i : Item) → item_in q es ≡ Some i → IsTrue (test i.delivery) → IsTrue (is_some i.ready) × IsTrue (holds s i)
+-- each item that passes this test has a number exactly where it holds
+abbrev pub AgreesAlong : (Delivery → Bool) → State → List Entry → Type 0
+AgreesAlong test s es = (q : ℕ) (i : Item) → item_in q es ≡ Some i → IsTrue (test i.delivery) → is_some i.ready ≡ holds s i
 
 -- ---- numbers
 

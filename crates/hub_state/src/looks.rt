@@ -7,7 +7,7 @@ ghost use Rattle.machine_settling.specs.Classes.{is_at};
 ghost use Rattle.machine_settling.specs.Fronts.{NumbersStandInFront};
 ghost use Rattle.held_items.specs.Entries.{flat, item_in};
 ghost use Rattle.held_items.specs.Waits.{is_of_ends, waits_in_line, waits_in_none};
-ghost use Rattle.hub_state.specs.Found.{HoldWithNumbers, LooksAlong, LooksAt, at_objects, ends_if, is_always, is_moment, noted_always, touched_now, waits_for_nothing};
+ghost use Rattle.hub_state.specs.Found.{AgreesAlong, LooksAlong, LooksAt, at_objects, ends_if, is_always, is_moment, noted_always, touched_now, waits_for_nothing};
 ghost use Rattle.hub_state.specs.Touched.{IsPast, IsPending};
 ghost use Rattle.hub_state.specs.Waiters.{IsBefore};
 
@@ -71,26 +71,22 @@ fn look_at_ends(hub: &Hub, held: &HeldItems, found: &mut Found) -> Result<(), Al
     Ok(())
 }
 
-/// Whether there is somebody in the line of this kind at the object, all have numbers, and all hold: so it is where the
-/// last of them does. Looks at nobody.
+/// Whether nothing changes in the line of this kind at the object: the last that has a number holds, and the first that has
+/// none doesn't. Goes by how many there are of both, and looks at nobody.
 fn is_settled(hub: &Hub, held: &HeldItems, o: u32, kind: WaitKind) -> bool
-    requires { hub.now.items ≡ flat held.now.entries }
-    ensures { IsTrue result → HoldWithNumbers (waits_in_line kind o) hub.now held.now.entries }
+    requires same { hub.now.items ≡ flat held.now.entries }
+    requires front { NumbersStandInFront hub.now }
+    ensures { IsTrue result → AgreesAlong (waits_in_line kind o) hub.now held.now.entries }
 {
-    let waiting = held.waiting_in(o, kind);
-    if waiting == 0 {
+    let numbered = held.numbered_in(o, kind);
+    if numbered != 0 && !hub.holds_in_line(kind, o, numbered - 1) {
         return false;
     }
-    if held.numbered_in(o, kind) != waiting {
-        return false;
-    }
-    let _ascending = held.len();
-    hub.holds_in_line(kind, o, waiting - 1)
+    numbered == held.waiting_in(o, kind) || !hub.holds_in_line(kind, o, numbered)
 }
 
 /// Looks at those that wait in the line of this kind at the object, from its front: up to the first that has no number
-/// and doesn't hold, since so it is of all behind it. Looks at none where all have numbers and hold. `AllocError`: memory
-/// is wanting.
+/// and doesn't hold, since so it is of all behind it. Looks at none where nothing changes. `AllocError`: memory is wanting.
 fn look_at_line(
     hub: &Hub,
     held: &HeldItems,

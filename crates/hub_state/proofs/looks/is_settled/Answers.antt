@@ -1,12 +1,23 @@
-use Rattle.std.proofs.Common.{◌-◌, ◌∙◌, sym, arith}
-use Rattle.hub_state.proofs.WholeLines.{line_with_numbers}
+use Rattle.std.proofs.Common.{sym, ap, ◌∙◌}
+use Rattle.std.proofs.lemmas.Bool.{not-true}
+use Rattle.hub_state.proofs.SettledLines.{line_by_counts}
 use Rattle.hub_state.proofs.looks.is_settled.Goals as goal
+use Rattle.hub_state.proofs.looks.is_settled.Goals.{else-numbered-ne0-via-then-numbered-ne0+else-not-holds_in_line, else-numbered-ne0-via-else-numbered-ne0}
 
-pub returns : goal.returns
-returns c = λ holds.
-    (let waiting = c.waiting_in-waiting.ensures in
-    let some = c.if-waiting-eq0.false in
-    let numbered = c.numbered_in.ensures in
-    let same = c.if-numbered_in-waiting.false in
-    line_with_numbers c.args.kind c.args.o c.args.held.now.next_since (c.waiting_in-waiting.result - 1) c.args.hub.now c.args.held.now.entries c.len-ascending.ensures.differ c.len-ascending.ensures.ascends c.requires
-    (omega (arith, waiting, some)) (omega (arith, waiting, numbered, same)) (sym c.holds_in_line.ensures ∙ holds))
+pub returns-then-numbered-waiting_in : goal.returns-then-numbered-waiting_in
+returns-then-numbered-waiting_in c = λ all.
+    line_by_counts c.args.kind c.args.o c.numbered_in-numbered.result c.waiting_in.result c.args.hub.now c.args.held.now.entries c.requires.same c.requires.front c.numbered_in-numbered.ensures c.waiting_in.ensures
+    (λ some. elim c.else-numbered-ne0.branch [
+      | else-numbered-ne0-via-then-numbered-ne0+else-not-holds_in_line w ↦ sym w.holds_in_line.ensures ∙ w.if-not-holds_in_line.false
+      | else-numbered-ne0-via-else-numbered-ne0 w ↦ absurd (some w.if-numbered-ne0.false)
+    ])
+    (λ more. absurd (more c.if-numbered-waiting_in.true))
+
+pub returns-else-numbered-waiting_in : goal.returns-else-numbered-waiting_in
+returns-else-numbered-waiting_in c = λ fails.
+    line_by_counts c.args.kind c.args.o c.numbered_in-numbered.result c.waiting_in.result c.args.hub.now c.args.held.now.entries c.requires.same c.requires.front c.numbered_in-numbered.ensures c.waiting_in.ensures
+    (λ some. elim c.else-numbered-ne0.branch [
+      | else-numbered-ne0-via-then-numbered-ne0+else-not-holds_in_line w ↦ sym w.holds_in_line.ensures ∙ w.if-not-holds_in_line.false
+      | else-numbered-ne0-via-else-numbered-ne0 w ↦ absurd (some w.if-numbered-ne0.false)
+    ])
+    (λ more. sym c.holds_in_line-else-numbered-waiting_in.ensures ∙ not-true c.holds_in_line-else-numbered-waiting_in.result fails)

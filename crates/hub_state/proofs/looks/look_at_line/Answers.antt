@@ -10,7 +10,7 @@ use Rattle.held_items.proofs.LineWalks.{line_standing, standing_few}
 use Rattle.held_items.proofs.Ordering.{same_item}
 use Rattle.hub_state.proofs.Alongs.{line_before, line_all, line_none, line_on, line_stopped}
 use Rattle.hub_state.proofs.Walks.{is_there}
-use Rattle.hub_state.proofs.WholeLines.{line_settled}
+use Rattle.hub_state.proofs.SettledLines.{line_settled}
 use Rattle.hub_state.proofs.looks.look_at_line.Goals as goal
 
 pub returns-then-is_settled : goal.returns-then-is_settled
