@@ -7,6 +7,7 @@ pub mod Finding
 pub mod Forgetting
 pub mod Joining
 pub mod Keeping
+pub mod LineBegins
 pub mod Looking
 pub mod Numbering
 pub mod PhaseSets

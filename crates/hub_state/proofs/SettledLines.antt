@@ -3,7 +3,7 @@ use Rattle.std.proofs.Common.{◌≡◌, refl, sym, ap, ◌∙◌, subst, ℕ, z
 use Rattle.std.proofs.lemmas.Bool.{and_from, and_parts, eqb-true, or_cases, or_left, true≢false}
 use Rattle.std.proofs.lemmas.Bool.Decides.{nat_tests}
 use Rattle.std.proofs.lemmas.List.Sums.{sum_by-cons}
-use Rattle.std.specs.Prelude.{◌||◌, ◌==◌, count_by, is_none, is_some}
+use Rattle.std.specs.Prelude.{◌||◌, count_by, is_none, is_some}
 use Rattle.machine.specs.declared.items.Delivery.{Delivery}
 use Rattle.machine.specs.declared.items.Item.{Item}
 use Rattle.machine.specs.declared.items.Waiting.{Waiting}
@@ -131,12 +131,12 @@ fewer p r (j ∷ items) i m e t f =
     by (inr k) a b rest = let here = at_most (p j) (r j) (f j (inl refl)) in let g = rest k in omega (arith, a, b, here, g)
 
 -- those with a number are more than those before one that has one, and no more than those before one that has none
-record StandsSo (kind : WaitKind) (o : ℕ) (es : List Entry) (i : Item) : Type 0 where
-  numbered : is_some i.ready ≡ true → earlier (test_of kind o) i.since (flat es) + 1 ≤ numbered_in_line kind o es
-  waiting : is_some i.ready ≡ false → numbered_in_line kind o es ≤ earlier (test_of kind o) i.since (flat es)
-  some_left : is_some i.ready ≡ false → numbered_in_line kind o es + 1 ≤ waiting_in_line kind o es
+pub record StandsSo (kind : WaitKind) (o : ℕ) (es : List Entry) (i : Item) : Type 0 where
+  pub numbered : is_some i.ready ≡ true → earlier (test_of kind o) i.since (flat es) + 1 ≤ numbered_in_line kind o es
+  pub waiting : is_some i.ready ≡ false → numbered_in_line kind o es ≤ earlier (test_of kind o) i.since (flat es)
+  pub some_left : is_some i.ready ≡ false → numbered_in_line kind o es + 1 ≤ waiting_in_line kind o es
 
-stands_so : (kind : WaitKind) (o : ℕ) (s : State) (es : List Entry) (i : Item) → s.items ≡ flat es → NumbersStandInFront s → In i (flat es) → waits_in_line kind o i.delivery ≡ true → StandsSo kind o es i
+pub stands_so : (kind : WaitKind) (o : ℕ) (s : State) (es : List Entry) (i : Item) → s.items ≡ flat es → NumbersStandInFront s → In i (flat es) → waits_in_line kind o i.delivery ≡ true → StandsSo kind o es i
 stands_so kind o s es i items front m t = record {
   numbered = λ r. fewer before numbered (flat es) i m (ap (λ b. b && waits i) (nat_not_lt i.since)) (and_from (is_some i.ready) (waits i) r t) (λ j k b. of_before r j k (and_parts (nat_lt j.since i.since) (waits j) b));
   waiting = λ r. no_more numbered before (flat es) (λ j k b. of_numbered r j k (and_parts (is_some j.ready) (waits j) b));
@@ -170,6 +170,20 @@ stands_so kind o s es i items front m t = record {
         by true e = e
         by false e = absurd (true≢false (sym (passes i j m k t b.1 (grind (arith, nat_tests)) b.0) ∙ r))
 
+-- no more have a number than there are
+pub numbered_few : (kind : WaitKind) (o : ℕ) (es : List Entry) → numbered_in_line kind o es ≤ waiting_in_line kind o es
+numbered_few kind o es =
+    subst (λ n. numbered_in_line kind o es ≤ n) (sym (length_index (waits_in_line kind o) es))
+    (no_more (λ (j : Item). is_some j.ready && waits_in_line kind o j.delivery) (λ (j : Item). waits_in_line kind o j.delivery) (flat es) (λ j k b. (and_parts (is_some j.ready) (waits_in_line kind o j.delivery) b).1))
+
+-- where the last with a number holds, each that has one does
+pub numbered_holds : (kind : WaitKind) (o numbered : ℕ) (s : State) (es : List Entry) (q : ℕ) (i : Item) → s.items ≡ flat es → NumbersStandInFront s → numbered ≡ numbered_in_line kind o es →
+    ((numbered ≡ 0 → ⊥) → holds_in_line kind (numbered - 1) (slice_get s.objects o) ≡ true) → item_in q es ≡ Some i → waits_in_line kind o i.delivery ≡ true → is_some i.ready ≡ true → holds s i ≡ true
+numbered_holds kind o numbered s es q i items front n last there t r =
+    let few = (stands_so kind o s es i items front (in_flat q i es there) t).numbered r in
+    item_holds_so kind o s i t ∙ ap (λ (is : List Item). holds_in_line kind (earlier (test_of kind o) i.since is) (slice_get s.objects o)) items
+    ∙ holds_before kind o (earlier (test_of kind o) i.since (flat es)) (numbered - 1) s i.delivery t (omega (arith, few, n)) (last (λ u. omega (arith, few, n, u)))
+
 -- ---- a line that is settled
 
 pub line_by_counts : (kind : WaitKind) (o numbered waiting : ℕ) (s : State) (es : List Entry) → s.items ≡ flat es → NumbersStandInFront s → numbered ≡ numbered_in_line kind o es → waiting ≡ waiting_in_line kind o es →
@@ -190,20 +204,18 @@ line_by_counts kind o numbered waiting s es items front n m last first q i there
     fails true e l k = absurd (true≢false (sym (holds_before kind o numbered before s i.delivery t l e) ∙ first (λ u. omega (arith, u, k))))
 
     by : (b : Bool) → is_some i.ready ≡ b → StandsSo kind o es i → is_some i.ready ≡ holds s i
-    by true r so =
-        let few = so.numbered r in
-        r ∙ sym (holds_at ∙ holds_before kind o before (numbered - 1) s i.delivery t (omega (arith, few, n)) (last (λ u. omega (arith, few, n, u))))
+    by true r so = r ∙ sym (numbered_holds kind o numbered s es q i items front n last there t r)
     by false r so =
         let few = so.waiting r in let left = so.some_left r in
         r ∙ sym (holds_at ∙ fails (holds_in_line kind before object) refl (omega (arith, few, n)) (omega (arith, left, n, m)))
 
-loses_none : (r : Option ℕ) (h : Bool) → is_some r ≡ h → (not h && is_some r) ≡ true → ⊥
+pub loses_none : (r : Option ℕ) (h : Bool) → is_some r ≡ h → (not h && is_some r) ≡ true → ⊥
 loses_none None true e t = true≢false (sym e)
 loses_none None false e t = true≢false (sym t)
 loses_none (Some n) true e t = true≢false (sym t)
 loses_none (Some n) false e t = true≢false e
 
-gains_none : (r : Option ℕ) (h : Bool) → is_some r ≡ h → (h && is_none r) ≡ true → ⊥
+pub gains_none : (r : Option ℕ) (h : Bool) → is_some r ≡ h → (h && is_none r) ≡ true → ⊥
 gains_none None true e t = true≢false (sym e)
 gains_none None false e t = true≢false (sym t)
 gains_none (Some n) true e t = true≢false (sym t)

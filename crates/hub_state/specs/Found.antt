@@ -1,8 +1,9 @@
 -- What a settling finds: who loses a number, and who gets one.
-use Rattle.std.specs.Prelude.{◌≡◌, ◌==◌, ℕ, not, ◌&&◌, ◌||◌, Bool, true, false, IsTrue, List, [], ◌∷◌, ◌++◌, Option, Some, None, is_some, is_none, if◌then◌else◌, map}
+use Rattle.std.specs.Prelude.{◌≡◌, ◌==◌, ℕ, not, ◌&&◌, ◌||◌, Bool, true, false, IsTrue, List, [], ◌∷◌, ◌++◌, Option, Some, None, is_some, is_none, if◌then◌else◌, length, map}
 use Rattle.std.specs.List.{Contains, list_any}
 use Rattle.std.specs.List.Sorted.{IsNonDecreasingBy, IsPermutation}
 use Rattle.linked_items.specs.Items.{Differ}
+use Rattle.slot_chains.specs.Chained.{first_of}
 use Rattle.machine.specs.declared.items.Delivery.{Delivery}
 use Rattle.machine.specs.declared.items.Item.{Item}
 use Rattle.machine.specs.Holds.{holds}
@@ -10,7 +11,7 @@ use Rattle.machine.specs.State.{State}
 use Rattle.machine_settling.specs.Classes.{Class, class_of}
 use Rattle.machine_settling.specs.Numbers.{gives_all, loses_number, needs_number, takes_all}
 use Rattle.machine_settling.specs.Steps.{either}
-use Rattle.held_items.specs.Entries.{Entry, SeenItems, item_in}
+use Rattle.held_items.specs.Entries.{Entry, SeenItems, index, item_in}
 use Rattle.held_items.specs.Moments.{slots_in}
 use Rattle.hub_state.specs.Over.{with_held}
 use Rattle.hub_state.specs.Touched.{SeenTouched}
@@ -103,6 +104,24 @@ LooksAlong test s es old new =
 -- each item that passes this test has a number exactly where it holds
 abbrev pub AgreesAlong : (Delivery → Bool) → State → List Entry → Type 0
 AgreesAlong test s es = (q : ℕ) (i : Item) → item_in q es ≡ Some i → IsTrue (test i.delivery) → is_some i.ready ≡ holds s i
+
+-- a walk over the items that pass this test stands here, and has passed by so many, each of which has a number exactly
+-- where it holds
+pub record PassesBy (test : Delivery → Bool) (s : State) (es : List Entry) (at : Option ℕ) (n : ℕ) : Type 0 where
+  pub passed : List ℕ
+  pub left : List ℕ
+  pub is : index test es ≡ passed ++ left
+  pub here : at ≡ first_of left None
+  pub count : n ≡ length passed
+  pub agrees : (q : ℕ) (i : Item) → item_in q es ≡ Some i → Contains passed q → is_some i.ready ≡ holds s i
+
+-- the item in this slot passes the test and has a number; the one that follows it there has none
+pub record IsLastNumbered (test : Delivery → Bool) (es : List Entry) (q : ℕ) : Type 0 where
+  pub item : Item
+  pub there : item_in q es ≡ Some item
+  pub passes : test item.delivery ≡ true
+  pub ready : is_some item.ready ≡ true
+  pub last : (xs ys : List ℕ) (r : ℕ) (i : Item) → index test es ≡ xs ++ q ∷ ys → first_of ys None ≡ Some r → item_in r es ≡ Some i → is_some i.ready ≡ false
 
 -- ---- numbers
 

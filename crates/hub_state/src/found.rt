@@ -3,7 +3,9 @@ ghost use Rattle.std.specs.Prelude.{◌≡◌, OnOk};
 ghost use Rattle.held_items.specs.Moments.{Gathers};
 ghost use Rattle.hub_state.specs.Found.{none_found, noted};
 
+use crate::borders::Borders;
 use held_items::HeldItems;
+use hub_items::WaitKind;
 use machine::items::Item;
 use std::alloc::{AllocError, Global};
 use std::marker::Model;
@@ -15,6 +17,8 @@ pub(crate) struct Found {
     pub(crate) lost: Vec<(u64, u32)>,
     /// Of each when it was made, and its slot.
     pub(crate) gained: Vec<(u64, u32)>,
+    /// Where walks over lines of waits may begin.
+    pub(crate) borders: Borders,
 }
 
 impl Model for Found {
@@ -33,6 +37,7 @@ impl Found {
         Found {
             lost: Vec::new(alloc),
             gained: Vec::new(alloc),
+            borders: Borders::new(alloc),
         }
     }
 
@@ -60,6 +65,24 @@ impl Found {
                     self.gained.push((item.since, slot))?;
                 }
             }
+        }
+        Ok(())
+    }
+
+    /// Notes the item of the slot, which waits in the line of this kind at the object. `AllocError`: memory is wanting.
+    pub(crate) fn note_in_line(
+        &mut self,
+        kind: WaitKind,
+        o: u32,
+        slot: u32,
+        item: &Item,
+        holds: bool,
+    ) -> Result<(), AllocError>
+        ensures { OnOk result (self.new ≡ noted slot item.now holds self.old) }
+    {
+        self.note(slot, item, holds)?;
+        if holds {
+            self.borders.set(kind, o, slot)?;
         }
         Ok(())
     }

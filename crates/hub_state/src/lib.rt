@@ -6,6 +6,7 @@
 
 mod ahead;
 mod begin;
+mod borders;
 mod counts;
 mod due;
 mod effects;

@@ -7,11 +7,12 @@ ghost use Rattle.machine_settling.specs.Classes.{is_at};
 ghost use Rattle.machine_settling.specs.Fronts.{NumbersStandInFront};
 ghost use Rattle.held_items.specs.Entries.{flat, item_in};
 ghost use Rattle.held_items.specs.Waits.{is_of_ends, waits_in_line, waits_in_none};
-ghost use Rattle.hub_state.specs.Found.{AgreesAlong, LooksAlong, LooksAt, at_objects, ends_if, is_always, is_moment, noted_always, touched_now, waits_for_nothing};
+ghost use Rattle.hub_state.specs.Found.{AgreesAlong, IsLastNumbered, LooksAlong, LooksAt, PassesBy, at_objects, ends_if, is_always, is_moment, noted_always, touched_now, waits_for_nothing};
 ghost use Rattle.hub_state.specs.Touched.{IsPast, IsPending};
 ghost use Rattle.hub_state.specs.Waiters.{IsBefore};
 
 use crate::ahead::earlier_ahead;
+use crate::borders::is_in_line;
 use crate::found::Found;
 use crate::hub::Hub;
 use crate::touched::Touched;
@@ -85,8 +86,54 @@ fn is_settled(hub: &Hub, held: &HeldItems, o: u32, kind: WaitKind) -> bool
     numbered == held.waiting_in(o, kind) || !hub.holds_in_line(kind, o, numbered)
 }
 
-/// Looks at those that wait in the line of this kind at the object, from its front: up to the first that has no number
-/// and doesn't hold, since so it is of all behind it. Looks at none where nothing changes. `AllocError`: memory is wanting.
+/// Whether the item of the slot is the last of the line that has a number.
+fn is_last_numbered(held: &HeldItems, o: u32, kind: WaitKind, slot: u32) -> bool
+    ensures { IsTrue result → IsLastNumbered (waits_in_line kind o) held.now.entries slot }
+{
+    if !held.has(slot) {
+        return false;
+    }
+    let item = held.get(slot);
+    if item.ready.is_none() || !is_in_line(&item.delivery, kind, o) {
+        return false;
+    }
+    match held.next_waiting(slot) {
+        Some(next) => held.has(next) && held.get(next).ready.is_none(),
+        None => true,
+    }
+}
+
+/// Where a walk over the line may begin, and how many it passes by: behind the last that has a number, if this one holds
+/// and its slot was guessed; else at the front of the line.
+fn begin_walk(
+    hub: &Hub,
+    held: &HeldItems,
+    o: u32,
+    kind: WaitKind,
+    guess: Option<u32>,
+) -> (Option<u32>, u64)
+    requires same { hub.now.items ≡ flat held.now.entries }
+    requires front { NumbersStandInFront hub.now }
+    ensures { PassesBy (waits_in_line kind o) hub.now held.now.entries result.0 result.1 }
+{
+    let front = held.first_in_line(o, kind);
+    let Some(slot) = guess else {
+        return (front, 0);
+    };
+    let numbered = held.numbered_in(o, kind);
+    if numbered == 0 {
+        return (front, 0);
+    }
+    let _ascending = held.len();
+    if is_last_numbered(held, o, kind, slot) && hub.holds_in_line(kind, o, numbered - 1) {
+        return (held.next_waiting(slot), numbered);
+    }
+    (front, 0)
+}
+
+/// Looks at those that wait in the line of this kind at the object, up to the first that has no number and doesn't hold,
+/// since so it is of all behind it. Passes by those that have numbers, where all of them hold, and looks at none where
+/// nothing changes. `AllocError`: memory is wanting.
 fn look_at_line(
     hub: &Hub,
     held: &HeldItems,
@@ -102,15 +149,16 @@ fn look_at_line(
         return Ok(());
     }
     let _apart = held.len();
-    let mut before = 0;
-    let mut at = held.first_in_line(o, kind);
+    let (first, passed) = begin_walk(hub, held, o, kind, found.borders.guess(kind, o));
+    let mut before = passed;
+    let mut at = first;
     while let Some(slot) = at {
         let item = held.get(slot);
         let holds = hub.holds(item, before);
         if !holds && item.ready.is_none() {
             return Ok(());
         }
-        found.note(slot, item, holds)?;
+        found.note_in_line(kind, o, slot, item, holds)?;
         before += 1;
         at = held.next_waiting(slot);
     }

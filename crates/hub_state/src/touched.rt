@@ -20,7 +20,7 @@ use std::marker::Model;
 /// What was touched since the last settling. Touching takes no memory: what has no place is passed over.
 #[derive(Drop)]
 pub(crate) struct Touched {
-    /// A greenlet has ended or a job has arrived, or somebody began to wait for such an end.
+    /// A greenlet has ended or a job has arrived, or somebody began to wait for an end that has come already.
     ends: bool,
     /// The objects that something was done to, or where somebody came or went.
     objects: NumberSet,

@@ -8,7 +8,8 @@ use Rattle.held_items.specs.Waits.{waits_in_line}
 use Rattle.held_items.proofs.IndexWalks.{along_at, along_smaller}
 use Rattle.held_items.proofs.LineWalks.{line_standing, standing_few}
 use Rattle.held_items.proofs.Ordering.{same_item}
-use Rattle.hub_state.proofs.Alongs.{line_before, line_all, line_none, line_on, line_stopped}
+use Rattle.hub_state.proofs.Alongs.{line_before, line_all, line_on, line_stopped}
+use Rattle.hub_state.proofs.LineBegins.{line_from}
 use Rattle.hub_state.proofs.Walks.{is_there}
 use Rattle.hub_state.proofs.SettledLines.{line_settled}
 use Rattle.hub_state.proofs.looks.look_at_line.Goals as goal
@@ -17,7 +18,7 @@ pub returns-then-is_settled : goal.returns-then-is_settled
 returns-then-is_settled c = line_settled (waits_in_line c.args.kind c.args.o) c.args.hub.now c.args.held.now.entries c.args.found.now (c.is_settled.ensures c.if-is_settled.true)
 
 pub loop-at-init : goal.loop-at-init
-loop-at-init c = line_none (waits_in_line c.args.kind c.args.o) (λ (passed : List Item). 0 ≡ length passed) c.args.hub.now c.args.held.now.entries c.args.found.now _ c.first_in_line-at.ensures refl
+loop-at-init c = line_from (waits_in_line c.args.kind c.args.o) c.args.hub.now c.args.held.now.entries c.args.found.now c.begin_walk-first.result.0 c.begin_walk-first.result.1 c.begin_walk-first.ensures
 
 pub get-item-requires : goal.get-item-requires
 get-item-requires c = is_there _ _ (along_at (waits_in_line c.args.kind c.args.o) c.args.held.now.entries _ c.in-Some.slot c.loop-at.invariant.along c.len-apart.ensures.differ c.in-Some.is).there
@@ -65,12 +66,12 @@ loop-at-preserved c =
     let kind = c.args.kind in
     let o = c.args.o in
     let line = c.loop-at.invariant in
-    line_on (waits_in_line kind o) (λ (passed : List Item). c.loop-at.before ≡ length passed) (λ (passed : List Item). c.loop-at.before + 1 ≡ length passed) c.args.hub.now es c.args.found.now c.loop-at.found c.note.new.self
+    line_on (waits_in_line kind o) (λ (passed : List Item). c.loop-at.before ≡ length passed) (λ (passed : List Item). c.loop-at.before + 1 ≡ length passed) c.args.hub.now es c.args.found.now c.loop-at.found c.note_in_line.new.self
     c.loop-at.at c.next_waiting-at.result q i c.holds-holds.result c.len-apart.ensures.differ line c.in-Some.is c.get-item.ensures
     (λ st same passes. c.holds-holds.ensures (line_before kind o c.loop-at.before c.args.hub.now i passes
     (line.so ∙ sym (line_standing (test_of kind o) c.args.held.now.next_since es c.loop-at.at q line.along st c.len-apart.ensures.ascends)
     ∙ ap (λ (x : Item). earlier (test_of kind o) x.since (flat es)) same ∙ ap (earlier (test_of kind o) i.since) (sym c.requires.same))))
-    (λ passed few passes so. (let long = length_push passed i in omega (arith, long, so))) c.in_ok-note.ensures (c.next_waiting-at.ensures.in_line kind o)
+    (λ passed few passes so. (let long = length_push passed i in omega (arith, long, so))) c.in_ok-note_in_line.ensures (c.next_waiting-at.ensures.in_line kind o)
 
 pub returns : goal.returns
 returns c =
