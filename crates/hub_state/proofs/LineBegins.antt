@@ -1,6 +1,5 @@
 -- A walk over a line that begins behind the last with a number.
-use Rattle.std.proofs.Common.{◌≡◌, refl, sym, ap, ◌∙◌, subst, ℕ, ◌+◌, ◌-◌, ◌<◌, ◌≤◌, Bool, true, false, List, [], ◌∷◌, ◌++◌, length, Option, Some, None, ◌⊎◌, inl, inr, append_assoc, arith, slice_get}
-use Rattle.std.proofs.lemmas.Bool.{and_parts, true≢false}
+use Rattle.std.proofs.Common.{◌≡◌, refl, sym, ap, ◌∙◌, subst, ℕ, ◌+◌, ◌-◌, ◌<◌, ◌≤◌, Bool, true, false, List, [], ◌∷◌, ◌++◌, length, Option, Some, None, inl, inr, append_assoc, arith, slice_get}
 use Rattle.std.proofs.lemmas.List.{length-map}
 use Rattle.std.specs.List.{Contains}
 use Rattle.std.specs.Prelude.{is_some}
@@ -23,9 +22,9 @@ use Rattle.held_items.proofs.IndexLemmas.{index_contains, some}
 use Rattle.held_items.proofs.IndexWalks.{IsAlong, IsStanding, along_at}
 use Rattle.held_items.proofs.LineWalks.{line_standing}
 use Rattle.held_items.proofs.Ordering.{same_item}
-use Rattle.hub_state.specs.Found.{Delivers, Finds, IsLastNumbered, PassesBy, SeenFound}
+use Rattle.hub_state.specs.Found.{Delivers, IsLastNumbered, PassesBy, SeenFound}
 use Rattle.hub_state.specs.Waiters.{holds_in_line}
-use Rattle.hub_state.proofs.Alongs.{AmongTest, AreUnseen, IsOnLine}
+use Rattle.hub_state.proofs.Alongs.{AmongTest, IsOnLine}
 use Rattle.hub_state.proofs.Finding.{found_as, in_flat}
 use Rattle.hub_state.proofs.SettledLines.{gains_none, loses_none, numbered_few, numbered_holds, stands_so}
 

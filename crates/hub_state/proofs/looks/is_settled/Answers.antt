@@ -1,4 +1,4 @@
-use Rattle.std.proofs.Common.{sym, ap, ◌∙◌}
+use Rattle.std.proofs.Common.{sym, ◌∙◌}
 use Rattle.std.proofs.lemmas.Bool.{not-true}
 use Rattle.hub_state.proofs.SettledLines.{line_by_counts}
 use Rattle.hub_state.proofs.looks.is_settled.Goals as goal
