@@ -34,7 +34,7 @@ abbrev pub moment_of : Class → Option ℕ
 moment_of (Class.AtMoment deadline) = Some deadline
 moment_of c = None
 
-deadline_is : (d : Delivery) → deadline_of d ≡ moment_of (class_of d)
+pub deadline_is : (d : Delivery) → deadline_of d ≡ moment_of (class_of d)
 deadline_is (Delivery.Start g None) = refl
 deadline_is (Delivery.Start g (Some deadline)) = refl
 deadline_is (Delivery.Wake g (Waiting.Sleep until)) = refl

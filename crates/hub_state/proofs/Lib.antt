@@ -11,6 +11,7 @@ pub mod LineBegins
 pub mod Looking
 pub mod Numbering
 pub mod PhaseSets
+pub mod Resting
 pub mod SettledLines
 pub mod Settling
 pub mod Sorting

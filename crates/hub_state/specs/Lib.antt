@@ -4,6 +4,7 @@ pub mod Hosts
 pub mod HubParts
 pub mod Over
 pub mod Phases
+pub mod Rest
 pub mod Sights
 pub mod Touched
 pub mod Waiters

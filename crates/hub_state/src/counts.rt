@@ -67,14 +67,6 @@ impl Hub {
         Ok(())
     }
 
-    /// Counts one move more. `AllocError`: its number would pass 64 bits; the hub is given up.
-    pub fn count_move(&mut self) -> Result<(), AllocError>
-        ensures { OnOk result (self.new ≡ record self.old { moves = self.old.moves + 1 }) }
-    {
-        self.moves = self.moves.checked_add(1).ok_or(AllocError)?;
-        Ok(())
-    }
-
     /// How many timeouts were numbered.
     pub fn timeouts(&self) -> u32
         ensures { result ≡ self.now.timeouts }

@@ -21,6 +21,7 @@ mod outcomes;
 mod phases;
 mod questions;
 mod raws;
+mod rest;
 mod seen;
 mod touched;
 
