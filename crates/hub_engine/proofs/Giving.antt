@@ -7,7 +7,6 @@ use Rattle.gv_io.specs.Streams.{appended, Extends}
 use Rattle.gv_io.proofs.StreamLaws.{appended-nothing, appended-appended, Extends-after, Extends-nothing}
 use Rattle.gv_values.specs.declared.job.Answer.{Answer}
 use Rattle.world_rules.specs.declared.question.LogEntry.{LogEntry}
-use Rattle.world_rules.specs.declared.question.PostedJob.{PostedJob}
 use Rattle.world_rules.specs.declared.question.Question.{Question}
 use Rattle.world_rules.specs.Legal.{AreLegal, IsLegal, answers_of, posted, posts_of}
 use Rattle.world.specs.Worlds.{GoesOn, Meaning, Stores}

@@ -14,6 +14,7 @@ pub mod Posting
 pub mod Readily
 pub mod Running
 pub mod Soundly
+pub mod Staying
 pub mod Texts
 pub mod Tying
 pub mod Trying

@@ -48,7 +48,7 @@ use Rattle.hub_engine.proofs.Bodies.{goes_as_placed}
 -- ---- what the body may ask of the hub
 
 -- what the greenlet at this place has ended with
-abbrev ended_at : List Greenlet → ℕ → Option Outcome
+abbrev pub ended_at : List Greenlet → ℕ → Option Outcome
 ended_at gs h = elim (slice_get gs h) [ None ↦ None | Some x ↦ outcome_of_phase x.phase ]
 
 ended-here : (gs : List Greenlet) (g : ℕ) (x : Greenlet) → outcome_of_phase x.phase ≡ None → ended_at (slice_set gs g x) g ≡ None
@@ -63,15 +63,15 @@ ended-other (y ∷ gs) zero (suc h) x n = refl
 ended-other (y ∷ gs) (suc g) zero x n = refl
 ended-other (y ∷ gs) (suc g) (suc h) x n = ended-other gs g h x (λ e. n (ap suc e))
 
-seen-at : (gs : List Greenlet) (g h : ℕ) (x : Greenlet) → outcome_of_phase x.phase ≡ None → ended_at (slice_set gs g x) h ≡ (if h == g then None else ended_at gs h)
-seen-at gs g h x e = by (h == g) refl
+pub seen_at : (gs : List Greenlet) (g h : ℕ) (x : Greenlet) → outcome_of_phase x.phase ≡ None → ended_at (slice_set gs g x) h ≡ (if h == g then None else ended_at gs h)
+seen_at gs g h x e = by (h == g) refl
   where
     by : (b : Bool) → (h == g) ≡ b → ended_at (slice_set gs g x) h ≡ (if b then None else ended_at gs h)
     by true q = let same : h ≡ g = grind (arith, nat_tests, q) in subst (λ (n : ℕ). ended_at (slice_set gs g x) n ≡ None) (sym same) (ended-here gs g x e)
     by false q = ended-other gs g h x (λ z. grind (arith, nat_tests, q, z))
 
 seen : (g : ℕ) (body : Frame) (s : State) (w : Whom) → outcome_of (with_phase g (Phase.Live body) s) w ≡ outcome_seen (record { current = g; state = s }) w
-seen g body s (Whom.Greenlet h) = seen-at s.greenlets g h (phased s.greenlets g (Phase.Live body)) refl
+seen g body s (Whom.Greenlet h) = seen_at s.greenlets g h (phased s.greenlets g (Phase.Live body)) refl
 seen g body s (Whom.Job j) = refl
 
 outcomes-seen : (g : ℕ) (body : Frame) (s : State) → outcome_of (with_phase g (Phase.Live body) s) ≡ outcome_seen (record { current = g; state = s })
@@ -85,36 +85,36 @@ look-same : (g : ℕ) (body : Frame) (s : State) → look_of (record { current =
 look-same g body s = ap (asking_so s g) (sym (outcomes-seen g body s))
 
 -- it does not tell how many moves were made
-look-counted : (g : ℕ) (s : State) → look_of (record { current = g; state = record s { moves = s.moves + 1 } }) ≡ look_of (record { current = g; state = s })
-look-counted g s = ap (asking_so s g) (fun_ext each)
+pub look_counted : (g m : ℕ) (s : State) → look_of (record { current = g; state = record s { moves = m } }) ≡ look_of (record { current = g; state = s })
+look_counted g m s = ap (asking_so s g) (fun_ext each)
   where
-    each : (w : Whom) → outcome_seen (record { current = g; state = record s { moves = s.moves + 1 } }) w ≡ outcome_seen (record { current = g; state = s }) w
+    each : (w : Whom) → outcome_seen (record { current = g; state = record s { moves = m } }) w ≡ outcome_seen (record { current = g; state = s }) w
     each (Whom.Greenlet h) = refl
     each (Whom.Job j) = refl
 
 -- ---- settling
 
--- a wait that holds by outcomes holds where these are the same
-wait-same : (s : State) (gs : List Greenlet) (since : ℕ) (w : Waiting) → outcome_of (record s { greenlets = gs }) ≡ outcome_of s →
-    wait_holds (record s { greenlets = gs }) since w ≡ wait_holds s since w
-wait-same s gs since (Waiting.Join h) e = ap (λ (f : Whom → Option Outcome). is_some (f (Whom.Greenlet h))) e
-wait-same s gs since (Waiting.Get whom) e = ap (λ (f : Whom → Option Outcome). is_some (f whom)) e
-wait-same s gs since (Waiting.Kill hs) e = ap (λ (f : Whom → Option Outcome). list_all (λ h. is_some (f (Whom.Greenlet h))) hs) e
-wait-same s gs since (Waiting.JoinAll hs need) e = ap (λ (f : Whom → Option Outcome). nat_le need (count_by (λ h. is_some (f (Whom.Greenlet h))) hs)) e
-wait-same s gs since (Waiting.MapEnd o hs) e = ap (λ (f : Whom → Option Outcome). list_all (λ h. is_some (f (Whom.Greenlet h))) hs) e
-wait-same s gs since w e = refl
+-- a wait that holds by outcomes holds where these are the same, however many moves were made
+wait-same : (s : State) (gs : List Greenlet) (m since : ℕ) (w : Waiting) → outcome_of (record s { greenlets = gs }) ≡ outcome_of s →
+    wait_holds (record s { greenlets = gs; moves = m }) since w ≡ wait_holds s since w
+wait-same s gs m since (Waiting.Join h) e = ap (λ (f : Whom → Option Outcome). is_some (f (Whom.Greenlet h))) e
+wait-same s gs m since (Waiting.Get whom) e = ap (λ (f : Whom → Option Outcome). is_some (f whom)) e
+wait-same s gs m since (Waiting.Kill hs) e = ap (λ (f : Whom → Option Outcome). list_all (λ h. is_some (f (Whom.Greenlet h))) hs) e
+wait-same s gs m since (Waiting.JoinAll hs need) e = ap (λ (f : Whom → Option Outcome). nat_le need (count_by (λ h. is_some (f (Whom.Greenlet h))) hs)) e
+wait-same s gs m since (Waiting.MapEnd o hs) e = ap (λ (f : Whom → Option Outcome). list_all (λ h. is_some (f (Whom.Greenlet h))) hs) e
+wait-same s gs m since w e = refl
 
-delivery-same : (s : State) (gs : List Greenlet) (since : ℕ) (d : Delivery) → outcome_of (record s { greenlets = gs }) ≡ outcome_of s →
-    delivery_holds (record s { greenlets = gs }) since d ≡ delivery_holds s since d
-delivery-same s gs since (Delivery.Wake g w) e = wait-same s gs since w e
-delivery-same s gs since (Delivery.Link k g kind f) e = ap (λ (o : Whom → Option Outcome). link_holds kind (o (Whom.Greenlet g))) e
-delivery-same s gs since d e = refl
+delivery-same : (s : State) (gs : List Greenlet) (m since : ℕ) (d : Delivery) → outcome_of (record s { greenlets = gs }) ≡ outcome_of s →
+    delivery_holds (record s { greenlets = gs; moves = m }) since d ≡ delivery_holds s since d
+delivery-same s gs m since (Delivery.Wake g w) e = wait-same s gs m since w e
+delivery-same s gs m since (Delivery.Link k g kind f) e = ap (λ (o : Whom → Option Outcome). link_holds kind (o (Whom.Greenlet g))) e
+delivery-same s gs m since d e = refl
 
-holds-same : (s : State) (gs : List Greenlet) → outcome_of (record s { greenlets = gs }) ≡ outcome_of s → holds (record s { greenlets = gs }) ≡ holds s
-holds-same s gs e = fun_ext (λ i. delivery-same s gs i.since i.delivery e)
+pub holds_same : (s : State) (gs : List Greenlet) (m : ℕ) → outcome_of (record s { greenlets = gs }) ≡ outcome_of s → holds (record s { greenlets = gs; moves = m }) ≡ holds s
+holds_same s gs m e = fun_ext (λ i. delivery-same s gs m i.since i.delivery e)
 
 -- the settling, where it is known which items hold
-abbrev settled_by : State → (Item → Bool) → State
+abbrev pub settled_by : State → (Item → Bool) → State
 settled_by s h = record s { items = settled (map h s.items) s.next_ready s.items; next_ready = numbers_after (map h s.items) s.next_ready s.items }
 
 -- the body of a greenlet that is under way changes nothing of what holds
@@ -125,7 +125,7 @@ settle-under-way g body s =
     let u = with_phase g (Phase.Live body) t in
     let same : outcome_of u ≡ outcome_of t =
     ap outcome_of (with_phase_twice g (Phase.Live no_frame) (Phase.Live body) s) ∙ outcomes-seen g body s ∙ sym (outcomes-seen g no_frame s) in
-    ap (settled_by u) (holds-same t u.greenlets same)
+    ap (settled_by u) (holds_same t u.greenlets t.moves same)
 
 pub settles_under_way : (g : ℕ) (before : Frame) (place : Place) (s t u v w : State) (hop : Hop) (at : Stand) → t ≡ with_phase g (Phase.Live no_frame) s → u ≡ settle t →
     goes_to lands g place u ≡ hopped lands hop v → hopped lands hop v ≡ next_at at w → goes_to lands g place (settle (with_phase g (Phase.Live before) s)) ≡ next_at at w
@@ -201,13 +201,13 @@ came-same : (g : ℕ) (body : Frame) (s t : State) (came : Came) → came ≡ ca
     t ≡ record s { moves = s.moves + 1 } → came ≡ came_by body.locals (did_by g (with_phase g (Phase.Live body) s) body)
 came-same g body s t came e f =
     subst (λ (x : State). came ≡ came_by body.locals (body_move body.todo (around x.scenario (look_of (record { current = g; state = x })) body.locals))) f e
-    ∙ ap (λ (l : Look). came_by body.locals (body_move body.todo (around s.scenario l body.locals))) (look-counted g s ∙ look-same g body s)
+    ∙ ap (λ (l : Look). came_by body.locals (body_move body.todo (around s.scenario l body.locals))) (look_counted g (s.moves + 1) s ∙ look-same g body s)
 
 -- the move is by what came of it
-move-came : (g : ℕ) (body : Frame) (s t : State) (came : Came) → is_live (phase_of g (with_phase g (Phase.Live body) s).greenlets) ≡ true →
+pub move_came : (g : ℕ) (body : Frame) (s t : State) (came : Came) → is_live (phase_of g (with_phase g (Phase.Live body) s).greenlets) ≡ true →
     came ≡ came_by body.locals (body_move body.todo (around t.scenario (look_of (record { current = g; state = t })) body.locals)) →
     t ≡ record s { moves = s.moves + 1 } → move g (with_phase g (Phase.Live body) s) ≡ does_came g came (with_phase g (Phase.Live body) t)
-move-came g body s t came h e f =
+move_came g body s t came h e f =
     let u = with_phase g (Phase.Live body) s in
     move-is g u body (body-at s.greenlets g body h)
     ∙ does-as g body.locals (did_by g u body) (record u { moves = u.moves + 1 })
@@ -218,7 +218,7 @@ pub moved : (g : ℕ) (body : Frame) (s t v : State) (came : Came) (at : Stand) 
     came ≡ came_by body.locals (body_move body.todo (around t.scenario (look_of (record { current = g; state = t })) body.locals)) →
     t ≡ record s { moves = s.moves + 1 } → ((before : Frame) → does_came g came (with_phase g (Phase.Live before) t) ≡ next_at at v) →
     move g (with_phase g (Phase.Live body) s) ≡ next_at at v
-moved g body s t v came at h e f d = move-came g body s t came (going_sound g _ h).1.live e f ∙ d body
+moved g body s t v came at h e f d = move_came g body s t came (going_sound g _ h).1.live e f ∙ d body
 
 -- functions are known after the move
 pub moves_declared : (g : ℕ) (body : Frame) (s t : State) (came : Came) → IsReadyToMove g (with_phase g (Phase.Live body) s) →
@@ -227,7 +227,7 @@ pub moves_declared : (g : ℕ) (body : Frame) (s t : State) (came : Came) → Is
 moves_declared g body s t came h e f =
     record {
       before = body;
-      here = subst (λ (x : Next). AreDeclared (state_of x)) (move-came g body s t came (going_sound g _ h).1.live e f) (declared_ready _ (ready_move g _ h));
+      here = subst (λ (x : Next). AreDeclared (state_of x)) (move_came g body s t came (going_sound g _ h).1.live e f) (declared_ready _ (ready_move g _ h));
     }
 
 did-fits : (c : Scenario) (locals : List Local) (did : Did) → fits_did c did ≡ true → fits_came c (came_by locals did) ≡ true

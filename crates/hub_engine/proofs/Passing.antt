@@ -1,5 +1,5 @@
 -- How the moves of a greenlet are given out one after another.
-use Rattle.std.proofs.Common.{◌≡◌, refl, ap, sym, ◌∙◌, subst, ℕ, zero, suc, ◌-◌, ◌<◌, List, [], ◌++◌, append_assoc, map, arith}
+use Rattle.std.proofs.Common.{◌≡◌, refl, ap, sym, ◌∙◌, subst, ℕ, zero, suc, ◌+◌, ◌-◌, ◌<◌, List, [], ◌++◌, append_assoc, map, arith}
 use Rattle.std.proofs.lemmas.List.{append-nil}
 use Rattle.trace_text.specs.declared.line.Line.{Line}
 use Rattle.trace_text.specs.declared.line.StopCause.{StopCause}
@@ -14,6 +14,7 @@ use Rattle.machine.specs.State.{State}
 use Rattle.machine_soundness.proofs.States.{length-phased}
 use Rattle.hub_engine.specs.declared.stand.Came.{Came}
 use Rattle.hub_engine.specs.declared.stand.Stand.{Stand}
+use Rattle.hub_engine.specs.Onward.{MovesTo}
 use Rattle.hub_engine.specs.Outside.{HasGiven, HasGivenPart, Outside}
 use Rattle.hub_engine.specs.Stands.{next_at}
 use Rattle.hub_engine.specs.Written.{AreLike, CameTo}
@@ -121,13 +122,28 @@ pub move_given_up : (u v w : Outside) (p : Passed) (n : ℕ) (at : Stand) (g : �
     HasGiven v w s.lines (map logged s.posts) → HasGivenPart u w p.lines p.posts
 move_given_up u v w p n at g body s h k i o = given_up u w p _ (moves_on u v w p n at g body s h k i o)
 
--- a move was made from where the step under way was given out
-pub moved_on : (u v w : Outside) (p : Passed) (n : ℕ) (at to : Stand) (g : ℕ) (body : Frame) (s t x : State) → 0 < n → at ≡ Stand.Going g body →
+-- where nothing is to be given out, a move is the first of those that are left
+runs_silent : (n g : ℕ) (s : State) → s ≡ silent s → runs (suc n) (Next.Going g s) ≡ runs n (move g s)
+runs_silent n g s e = subst (λ (x : State). runs (suc n) (Next.Going g x) ≡ runs n (move g x)) (sym e) refl
+
+-- and so are moves one after another
+runs_on_to : (m n g : ℕ) (s : State) (next : Next) → m < n → s ≡ silent s → MovesTo g m s next → runs n (Next.Going g s) ≡ runs (n - (m + 1)) next
+runs_on_to m zero g s next l e h = absurd (grind (arith, l))
+runs_on_to zero (suc n) g s next l e h = let left : n ≡ suc n - (0 + 1) = omega arith in runs_silent n g s e ∙ ap (runs n) h ∙ ap (λ k. runs k next) left
+runs_on_to (suc m) (suc n) g s next l e h =
+    let left : n - (m + 1) ≡ suc n - (suc m + 1) = omega arith in
+    runs_silent n g s e ∙ ap (runs n) h.1 ∙ runs_on_to m n g h.0 next (omega (arith, l)) h.2 h.3 ∙ ap (λ k. runs k next) left
+
+-- moves were made from where the step under way was given out
+pub moved_on : (u v w : Outside) (p : Passed) (n m : ℕ) (at to : Stand) (g : ℕ) (body : Frame) (s t x : State) → m < n → at ≡ Stand.Going g body →
     IsPassing u v p (runs n (next_at at s)) → HasGiven v w s.lines (map logged s.posts) → t ≡ silent s →
-    move g (with_phase g (Phase.Live body) t) ≡ next_at to x → IsPassing u w p (runs (n - 1) (next_at to x))
-moved_on u v w p n at to g body s t x h z i o k m =
-    let here : move g (silent (with_phase g (Phase.Live body) s)) ≡ next_at to x = subst (λ (y : State). move g (with_phase g (Phase.Live body) y) ≡ next_at to x) k m in
-    subst (λ (y : Next). IsPassing u w p (runs (n - 1) y)) here (moves_on u v w p n at g body s h z i o)
+    MovesTo g m (with_phase g (Phase.Live body) t) (next_at to x) → IsPassing u w p (runs (n - (m + 1)) (next_at to x))
+moved_on u v w p n m at to g body s t x l z i o k h =
+    let y = silent (with_phase g (Phase.Live body) s) in
+    let some : 0 < n = omega (arith, l) in
+    let here : MovesTo g m y (next_at to x) = subst (λ (r : State). MovesTo g m (with_phase g (Phase.Live body) r) (next_at to x)) k h in
+    let same : runs (n - 1) (move g y) ≡ runs (n - (m + 1)) (next_at to x) = sym (runs_step n g y some) ∙ runs_on_to m n g y (next_at to x) l refl here in
+    subst (IsPassing u w p) same (moves_on u v w p n at g body s some z i o)
 
 -- the lines and posts of the step under way come first
 runs_first : (n : ℕ) (at : Stand) (s : State) → (rest : Passed) × (runs n (next_at at s) ≡ behind s.lines s.posts rest)

@@ -1,5 +1,5 @@
 -- That each step keeps hub and world tied.
-use Rattle.std.proofs.Common.{◌≡◌, refl, ap, sym, ◌∙◌, subst, ℕ, Bool, true, false, List, [], ◌++◌, map, Some, IsSome}
+use Rattle.std.proofs.Common.{◌≡◌, refl, ap, sym, ◌∙◌, subst, ℕ, zero, suc, Bool, true, false, List, [], ◌++◌, map, Some, IsSome}
 use Rattle.std.proofs.lemmas.List.{append-nil}
 use Rattle.std.specs.Prelude.{if◌then◌else◌}
 use Rattle.gv_values.specs.declared.fault.FaultKind.{FaultKind}
@@ -19,13 +19,13 @@ use Rattle.machine.specs.Questions.{any_numbered, block_line, question, take_ans
 use Rattle.machine.specs.Deliveries.{deliver, interrupts}
 use Rattle.machine.specs.Greenlets.{with_phase}
 use Rattle.machine.specs.Landing.{Next, lands, starts}
-use Rattle.machine.specs.Moves.{move}
 use Rattle.machine.specs.Run.{first_state, least_below, logged, silent}
 use Rattle.machine.proofs.Answered.{posts-answered}
 use Rattle.machine_turns.specs.Logs.{KnowsJobs, StandsKnowing, posts_of_step}
 use Rattle.machine_turns.proofs.Knowing.{answers-know, delivers-know, exits-know, may-ask, moves-know, starts-know}
 use Rattle.hub_engine.specs.declared.stand.Came.{Came}
 use Rattle.hub_engine.specs.declared.stand.Stand.{Stand}
+use Rattle.hub_engine.specs.Onward.{MovesTo}
 use Rattle.hub_engine.specs.Outside.{ArePostable, HasDone, HasGiven, Outside}
 use Rattle.hub_engine.specs.Ready.{AreDeclared, IsReadyAt, IsReadyToMove, MayRun}
 use Rattle.hub_engine.specs.Stands.{next_at}
@@ -74,14 +74,19 @@ to_move m at g body s t k h e =
     let own : IsTiedAt m (Next.Going g (with_phase g (Phase.Live body) s)) = subst (λ (x : Stand). IsTiedAt m (next_at x s)) k h in
     ready_going g (with_phase g (Phase.Live body) s) (with_phase g (Phase.Live body) t) own.ready (ap (λ (x : State). with_phase g (Phase.Live body) x) e)
 
-pub tied_moved : (v w : Outside) (at to : Stand) (g : ℕ) (body : Frame) (s t u : State) → IsTiedAt v.means (next_at at s) → HasGiven v w s.lines (map logged s.posts) → t ≡ silent s →
-    move g (with_phase g (Phase.Live body) t) ≡ next_at to u → IsReadyAt (next_at to u) → IsTiedAt w.means (next_at to u)
-tied_moved v w at to g body s t u h d e m r =
+-- moves one after another leave the hub knowing of its jobs
+knows_moved : (posts : List PostedJob) (answers : List Answer) (g n : ℕ) (s : State) (next : Next) → KnowsJobs posts answers s → MovesTo g n s next → StandsKnowing posts answers next
+knows_moved posts answers g zero s next k h = subst (StandsKnowing posts answers) h (moves-know posts answers g s k)
+knows_moved posts answers g (suc n) s next k h = knows_moved posts answers g n h.0 next (subst (StandsKnowing posts answers) h.1 (moves-know posts answers g s k)) h.3
+
+pub tied_moved : (v w : Outside) (at to : Stand) (g n : ℕ) (body : Frame) (s t u : State) → IsTiedAt v.means (next_at at s) → HasGiven v w s.lines (map logged s.posts) → t ≡ silent s →
+    MovesTo g n (with_phase g (Phase.Live body) t) (next_at to u) → IsReadyAt (next_at to u) → IsTiedAt w.means (next_at to u)
+tied_moved v w at to g n body s t u h d e m r =
     let here = knows_phased w.means.posts w.means.answers g body t (knows_given v w s t d.done (knows_standing v.means.posts v.means.answers at s h.knows) e) in
     record {
       ready = r;
       runs = runs_given v w s.posts d.done h.runs;
-      knows = subst (StandsKnowing w.means.posts w.means.answers) m (moves-know w.means.posts w.means.answers g (with_phase g (Phase.Live body) t) here);
+      knows = knows_moved w.means.posts w.means.answers g n (with_phase g (Phase.Live body) t) (next_at to u) here m;
     }
 
 pub tied_at_rest : (v w : Outside) (at : Stand) (s t : State) → at ≡ Stand.Resting → IsTiedAt v.means (next_at at s) → HasGiven v w s.lines (map logged s.posts) → t ≡ silent s → IsTied w.means t

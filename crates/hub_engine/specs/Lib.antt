@@ -2,6 +2,7 @@ pub mod Asking
 pub mod Delivering
 pub mod Ends
 pub mod Making
+pub mod Onward
 pub mod Outside
 pub mod Prepared
 pub mod Ready

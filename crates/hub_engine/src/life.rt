@@ -5,6 +5,7 @@ ghost use Rattle.body_frames.specs.Standings.{reached_of};
 ghost use Rattle.machine.specs.Landing.{Landing, after_end, starts, resumes, answered, lands, lands_once};
 ghost use Rattle.machine.specs.Ends.{outcome_of_leaving, leaving_of, stop_of};
 ghost use Rattle.machine.specs.Greenlets.{frame_of, greenlet};
+ghost use Rattle.machine.specs.Items.{drop_items, is_timeout_of};
 ghost use Rattle.hub_engine.specs.Ready.{AreDeclared};
 ghost use Rattle.hub_engine.specs.Stands.{goes_to, hopped, next_at};
 
@@ -59,6 +60,16 @@ fn go_on_after_end(
     Ok(Hop::At(Stand::Resting))
 }
 
+/// Removes the timeouts of the blocks that the body left; mostly there are none.
+fn drop_left(hub: &mut Hub, g: u32, left: Items<u32>)
+    ensures { hub.new ≡ drop_items (is_timeout_of g left) hub.old }
+{
+    if left.as_slice().is_empty() {
+        return;
+    }
+    hub.drop_timeouts(g, left);
+}
+
 /// Lets the greenlet go on to where its body came.
 pub fn place_greenlet(
     alloc: Global,
@@ -70,11 +81,11 @@ pub fn place_greenlet(
 {
     match reached {
         Reached::Move(left, body) => {
-            hub.drop_timeouts(g, left);
+            drop_left(hub, g, left);
             Ok(Hop::At(Stand::Going(g, body)))
         }
         Reached::End(left, outcome) => {
-            hub.drop_timeouts(g, left);
+            drop_left(hub, g, left);
             Ok(go_on_after_end(alloc, hub, g, outcome)?)
         }
     }

@@ -1,14 +1,13 @@
-//! One move of a greenlet.
-ghost use Rattle.std.specs.Prelude.{◌≡◌, true, Some, OnOk, IfOk};
-ghost use Rattle.body_frames.specs.Places.{came_by};
+//! The moves of a greenlet.
+ghost use Rattle.std.specs.Prelude.{◌≡◌, ◌<◌, ◌≤◌, true, Some, OnOk, IfOk};
+ghost use Rattle.body_frames.specs.Runs.{MovesOn};
 ghost use Rattle.body_frames.specs.Standings.{moved_of};
 ghost use Rattle.machine.specs.declared.state.Frame.{Frame};
 ghost use Rattle.machine.specs.declared.state.Phase.{Phase};
 ghost use Rattle.machine.specs.Bodies.{around};
-ghost use Rattle.machine.specs.BodyMoves.{body_move};
 ghost use Rattle.machine.specs.Greenlets.{with_phase};
 ghost use Rattle.machine.specs.Requests.{follows, performs};
-ghost use Rattle.machine.specs.Moves.{enters, move, timeout_item};
+ghost use Rattle.machine.specs.Moves.{enters, timeout_item};
 ghost use Rattle.machine.specs.Soundness.{Claim, is_unclaimed};
 ghost use Rattle.machine_laws.specs.Reached.{state_of};
 ghost use Rattle.machine_texts.specs.Texts.{fits_request};
@@ -16,23 +15,49 @@ ghost use Rattle.hub_state.specs.Sights.{look_of};
 ghost use Rattle.hub_requests.specs.Performing.{performed_of};
 ghost use Rattle.hub_engine.specs.Asking.{IsDeclaredAfter, does_came, fits_came};
 ghost use Rattle.hub_engine.specs.Making.{MayMove};
+ghost use Rattle.hub_engine.specs.Onward.{IsAtRest, MovesTo};
 ghost use Rattle.hub_engine.specs.Ready.{AreDeclared, IsReadyAt, IsReadyToMove};
 ghost use Rattle.hub_engine.specs.Stands.{next_at};
 
 use crate::life::{answer_greenlet, hop_on, land, place_greenlet};
 use crate::stand::Stand;
-use body_frames::{Entering, Moved, Moving, Parked, Request, enter_timeout, move_body};
+use body_frames::{Entering, Moved, Moving, Parked, Request, enter_timeout, move_on};
 use hub_requests::{Performed, perform};
 use hub_state::{Hub, Seen, Stage};
 use machine::items::Delivery;
 use std::alloc::{AllocError, Global};
 
-/// Makes the next move of the body of the greenlet, which may look at the hub.
-fn step_body(alloc: Global, hub: &Hub, g: u32, body: Moving) -> Result<Moved, AllocError>
-    ensures { IfOk result (λ moved. moved_of moved
-        ≡ came_by body.locals (body_move body.todo (around hub.now.scenario (look_of (record { current = g; state = hub.now })) body.locals))) }
+/// Makes moves of the body of the greenlet, which may look at the hub, at most so many: how many were made before the
+/// last, and what came of the last.
+fn step_body(
+    alloc: Global,
+    hub: &Hub,
+    g: u32,
+    body: Moving,
+    most: u64,
+) -> Result<(u64, Moved), AllocError>
+    requires some { 0 < most }
+    ensures few { IfOk result (λ on. on.0 < most) }
+    ensures moved { IfOk result (λ on. MovesOn (around hub.now.scenario (look_of (record { current = g; state = hub.now }))) on.0 body (moved_of on.1)) }
 {
-    Ok(move_body(alloc, hub.code(), &Seen::new(hub, g), body)?)
+    Ok(move_on(alloc, hub.code(), &Seen::new(hub, g), body, most)?)
+}
+
+/// How many moves the greenlet may make before the hub has to settle, of so many: all, where there is nothing to settle
+/// now.
+fn moves_ahead(hub: &Hub, g: u32, most: u64) -> u64
+    requires { 0 < most }
+    ensures some { 0 < result }
+    ensures few { result ≤ most }
+    ensures rest { 1 < result → IsAtRest g hub.now }
+{
+    if hub.is_done(g) {
+        return 1;
+    }
+    if hub.is_at_rest() {
+        return most;
+    }
+    1
 }
 
 /// Goes on after a request of the greenlet.
@@ -137,19 +162,25 @@ fn go_on_by(alloc: Global, hub: &mut Hub, g: u32, moved: Moved) -> Result<Stand,
     }
 }
 
-/// Lets the greenlet make its next move, from this body.
-#[tactic(auto, using(crate::proofs::Moving::moved, crate::proofs::Soundly::sound_counted, crate::proofs::Readily::ready_moved))]
+/// Lets the greenlet make its next moves, from this body and at most so many: how many it made before the last, and
+/// where the hub stands after that. It makes one after another as long as they stay in the body and nothing is to be
+/// settled.
 pub fn step_greenlet(
     alloc: Global,
     hub: &mut Hub,
     g: u32,
     body: Moving,
-) -> Result<Stand, AllocError>
+    most: u64,
+) -> Result<(u64, Stand), AllocError>
     requires ready { IsReadyToMove g (with_phase g (Phase.Live body) hub.old) }
-    ensures moved { IfOk result (λ at. move g (with_phase g (Phase.Live body) hub.old) ≡ next_at at hub.new) }
-    ensures ready { IfOk result (λ at. IsReadyAt (next_at at hub.new)) }
+    requires some { 0 < most }
+    ensures few { IfOk result (λ went. went.0 < most) }
+    ensures moved { IfOk result (λ went. MovesTo g went.0 (with_phase g (Phase.Live body) hub.old) (next_at went.1 hub.new)) }
+    ensures ready { IfOk result (λ went. IsReadyAt (next_at went.1 hub.new)) }
 {
-    hub.count_move()?;
-    let moved = step_body(alloc, hub, g, body)?;
-    Ok(go_on_by(alloc, hub, g, moved)?)
+    let ahead = moves_ahead(hub, g, most);
+    let (before, moved) = step_body(alloc, hub, g, body, ahead)?;
+    hub.count_moves(before + 1)?;
+    let at = go_on_by(alloc, hub, g, moved)?;
+    Ok((before, at))
 }

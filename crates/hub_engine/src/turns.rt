@@ -30,13 +30,16 @@ use trace_reader::line_fits;
 use trace_text::{Line, StopCause, write_line};
 use world::{Question, World};
 
-/// The texts of the lines, each with LF.
+/// How many bytes a line mostly has at most.
+const LINE_BYTES: usize = 64;
+
+/// The texts of the lines, each with LF. No line takes no memory.
 #[tactic(auto, using(crate::proofs::Texts::text_more, crate::proofs::Texts::fit_more))]
 fn texts(alloc: Global, lines: &[Line]) -> Result<Vec<u8>, AllocError>
     ensures text { IfOk result (λ text. text.items ≡ text_of lines.now) }
     ensures fit { OnOk result (LinesFit lines.now) }
 {
-    let mut text = Vec::new(alloc);
+    let mut text = Vec::with_capacity(alloc, lines.len().saturating_mul(LINE_BYTES))?;
     for line in lines {
         line_fits(line);
         write_line(line, &mut text)?;
@@ -127,8 +130,9 @@ fn run_greenlet<W: World, K: Sink>(
                 if left == 0 {
                     return Ok(Came::ToAnEnd(StopCause::NoMoves));
                 }
-                left -= 1;
-                at = step_greenlet(alloc, hub, g, body)?;
+                let (before, next) = step_greenlet(alloc, hub, g, body, left)?;
+                left -= before + 1;
+                at = next;
             }
         }
     }

@@ -11,7 +11,7 @@ use Rattle.machine.specs.Settle.{settle}
 use Rattle.machine.specs.State.{State}
 use Rattle.machine_settling.specs.Classes.{Class, class_of, is_of}
 use Rattle.machine_settling.specs.Locality.{AgreesOutside}
-use Rattle.machine_settling.specs.Numbers.{loses, losing, needing, needs}
+use Rattle.machine_settling.specs.Numbers.{losing, needing}
 use Rattle.machine_settling.specs.Steps.{nothing}
 use Rattle.machine_settling.proofs.Members.{In}
 use Rattle.machine_settling.proofs.Parts.{at_in, only_touched}

@@ -9,5 +9,5 @@ use Rattle.hub_engine.proofs.life.place_greenlet.Goals as goal
 pub returns-in_ok-go_on_after_end-in-End : goal.returns-in_ok-go_on_after_end-in-End
 returns-in_ok-go_on_after_end-in-End c = λ up.
     ap (λ (r : Reached). goes_to up c.args.g (reached_of r) c.args.hub.now) c.in-End.is
-    ∙ ap (λ (s : State). after_end up c.args.g c.in-End.outcome s) (sym c.drop_timeouts-in-End.ensures)
+    ∙ ap (λ (s : State). after_end up c.args.g c.in-End.outcome s) (sym c.drop_left-in-End.ensures)
     ∙ c.in_ok-go_on_after_end-in-End.ensures up

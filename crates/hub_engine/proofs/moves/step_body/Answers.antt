@@ -1,15 +1,14 @@
-use Rattle.std.proofs.Common.{◌≡◌, subst}
+use Rattle.std.proofs.Common.{subst}
 use Rattle.scenario_tree.specs.declared.tree.Scenario.{Scenario}
 use Rattle.machine.specs.Bodies.{around}
-use Rattle.machine.specs.BodyMoves.{body_move}
-use Rattle.body_frames.specs.Places.{came_by}
+use Rattle.body_frames.specs.Runs.{MovesOn}
 use Rattle.body_frames.specs.Standings.{moved_of}
 use Rattle.hub_state.specs.Sights.{Sight, look_of}
 use Rattle.hub_engine.proofs.moves.step_body.Goals as goal
 
-pub returns : goal.returns
-returns c =
+pub returns-clause-moved : goal.returns-clause-moved
+returns-clause-moved c =
     let body = c.args.body in
-    let moved = c.in_ok-move_body.field-0 in
-    subst (λ (s : Sight). moved_of moved ≡ came_by body.locals (body_move body.todo (around c.args.hub.now.scenario (look_of s) body.locals))) c.new.ensures
-    (subst (λ (x : Scenario). moved_of moved ≡ came_by body.locals (body_move body.todo (around x (look_of c.new.result) body.locals))) c.code.ensures c.in_ok-move_body.ensures)
+    let on = c.in_ok-move_on.field-0 in
+    subst (λ (s : Sight). MovesOn (around c.args.hub.now.scenario (look_of s)) on.0 body (moved_of on.1)) c.new.ensures
+    (subst (λ (x : Scenario). MovesOn (around x (look_of c.new.result)) on.0 body (moved_of on.1)) c.code.ensures c.in_ok-move_on.ensures.moved)

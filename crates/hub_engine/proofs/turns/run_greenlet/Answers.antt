@@ -18,7 +18,7 @@ give_out-requires g c =
 
 pub step_greenlet-requires : goal.step_greenlet-requires
 step_greenlet-requires g c =
-    record { ready = to_move _ c.loop-at.at _ _ c.loop-at.hub c.give_out.new.hub c.in-Going.is c.loop-at.invariant.2 c.in_ok-give_out.ensures.silent }
+    record { some = omega (arith, c.if-left-eq0.false); ready = to_move _ c.loop-at.at _ _ c.loop-at.hub c.give_out.new.hub c.in-Going.is c.loop-at.invariant.2 c.in_ok-give_out.ensures.silent }
 
 pub returns-in_err-give_out-clause-given : goal.returns-in_err-give_out-clause-given
 returns-in_err-give_out-clause-given g c =
@@ -45,8 +45,8 @@ pub returns-then-left-eq0-clause-given : goal.returns-then-left-eq0-clause-given
 returns-then-left-eq0-clause-given g c =
     (out_of_budget _ _ _ _ c.loop-at.left c.loop-at.at _ _ c.loop-at.hub c.if-left-eq0.true c.in-Going.is c.loop-at.invariant.0 c.in_ok-give_out.ensures.given).given
 
-pub returns-in_err-at-in-Going-clause-given : goal.returns-in_err-at-in-Going-clause-given
-returns-in_err-at-in-Going-clause-given g c =
+pub returns-in_err-before-in-Going-clause-given : goal.returns-in_err-before-in-Going-clause-given
+returns-in_err-before-in-Going-clause-given g c =
     let some : 0 < c.loop-at.left = omega (arith, c.if-left-eq0.false) in
     let broken = move_given_up _ _ _ _ c.loop-at.left c.loop-at.at _ _ c.loop-at.hub some c.in-Going.is c.loop-at.invariant.0 c.in_ok-give_out.ensures.given in
     search (rules, broken)
@@ -63,10 +63,10 @@ returns-then-left-eq0-clause-next g c =
 
 pub loop-at-preserved : goal.loop-at-preserved
 loop-at-preserved g c =
-    let some : 0 < c.loop-at.left = omega (arith, c.if-left-eq0.false) in (
-      moved_on _ _ _ _ c.loop-at.left c.loop-at.at _ _ _ c.loop-at.hub c.give_out.new.hub c.step_greenlet.new.hub some c.in-Going.is c.loop-at.invariant.0
-          c.in_ok-give_out.ensures.given c.in_ok-give_out.ensures.silent c.in_ok-at-in-Going.ensures.moved,
+    let went = c.in_ok-before-in-Going in (
+      moved_on _ _ _ _ c.loop-at.left went.before c.loop-at.at _ _ _ c.loop-at.hub c.give_out.new.hub c.step_greenlet.new.hub went.ensures.few c.in-Going.is c.loop-at.invariant.0
+          c.in_ok-give_out.ensures.given c.in_ok-give_out.ensures.silent went.ensures.moved,
       c.in_ok-give_out.ensures.counts.tells ∙ c.loop-at.invariant.1,
-      tied_moved _ _ c.loop-at.at _ _ _ c.loop-at.hub c.give_out.new.hub c.step_greenlet.new.hub c.loop-at.invariant.2 c.in_ok-give_out.ensures.given
-          c.in_ok-give_out.ensures.silent c.in_ok-at-in-Going.ensures.moved c.in_ok-at-in-Going.ensures.ready,
+      tied_moved _ _ c.loop-at.at _ _ went.before _ c.loop-at.hub c.give_out.new.hub c.step_greenlet.new.hub c.loop-at.invariant.2 c.in_ok-give_out.ensures.given
+          c.in_ok-give_out.ensures.silent went.ensures.moved went.ensures.ready,
     )
