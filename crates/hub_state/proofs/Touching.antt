@@ -219,6 +219,12 @@ touched_other test objects n d t u l e h = record { ends = h.ends; made = h.made
             let same : o ≡ n = omega (arith, k, q) in
             absurd (true≢false (sym (rw same at p) ∙ ap test (there objects n l) ∙ e))
 
+-- an object is touched if it passes
+pub touched_if : (test : Option Object → Bool) (objects : List Object) (n : ℕ) (d : Object) (t u v : SeenTouched) (b : Bool) → n < length objects → b ≡ test (Some (get_or objects n d)) →
+    v ≡ with_touched (cond b (Some n) None) u → HasTouched test objects n t u → HasTouched test objects (n + 1) t v
+touched_if test objects n d t u v true l e is h = subst (HasTouched test objects (n + 1) t) (sym is) (touched_more test objects n t u h)
+touched_if test objects n d t u v false l e is h = subst (HasTouched test objects (n + 1) t) (sym is) (touched_other test objects n d t u l (sym e) h)
+
 -- all that pass it are touched
 pub reopens_all : (test : Option Object → Bool) (objects : List Object) (t u : SeenTouched) → test None ≡ false → HasTouched test objects (length objects) t u →
     (c : Class) → IfSome (awaited c) (λ p. p < t.rooms) → IsTrue (the_objects test objects c) → IsTrue (reopened u c)

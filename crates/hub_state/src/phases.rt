@@ -45,14 +45,22 @@ impl Hub {
         }
     }
 
-    /// Lets the greenlet have come so far.
-    pub fn set_stage(&mut self, g: u32, stage: Stage)
-        ensures { self.new ≡ with_phase g (phase_of stage) self.old }
+    /// Lets the greenlet have come so far, and gives how far it had come before.
+    fn swap_stage(&mut self, g: u32, stage: Stage) -> Option<Stage>
+        ensures set { self.new ≡ with_phase g (phase_of stage) self.old }
+        ensures was { option_map phase_of result ≡ phase_of_greenlet g self.old.greenlets }
     {
         let ended = self.is_end(g, &stage);
         self.touched.touch_ends(ended);
         let _ascending = self.held.len();
-        let _before = self.greenlets.swap(g, stage);
+        self.greenlets.swap(g, stage)
+    }
+
+    /// Lets the greenlet have come so far.
+    pub fn set_stage(&mut self, g: u32, stage: Stage)
+        ensures { self.new ≡ with_phase g (phase_of stage) self.old }
+    {
+        let _before = self.swap_stage(g, stage);
     }
 
     /// Takes the body of the greenlet, which is then under way. None only where no body of it waits for
@@ -62,10 +70,7 @@ impl Hub {
         ensures none { IfNone result (frame_of (greenlet g self.old).phase ≡ no_frame) }
         ensures taken { self.new ≡ with_phase g (Phase.Live no_frame) self.old }
     {
-        let ended = self.is_end(g, &Stage::UnderWay);
-        self.touched.touch_ends(ended);
-        let _ascending = self.held.len();
-        match self.greenlets.swap(g, Stage::UnderWay) {
+        match self.swap_stage(g, Stage::UnderWay) {
             Some(Stage::Parked(body)) => Some(body),
             _ => None,
         }
@@ -76,10 +81,7 @@ impl Hub {
         ensures arguments { result ≡ arguments (greenlet g self.old).phase }
         ensures taken { self.new ≡ with_phase g (Phase.Live no_frame) self.old }
     {
-        let ended = self.is_end(g, &Stage::UnderWay);
-        self.touched.touch_ends(ended);
-        let _ascending = self.held.len();
-        match self.greenlets.swap(g, Stage::UnderWay) {
+        match self.swap_stage(g, Stage::UnderWay) {
             Some(Stage::New(arguments)) => arguments,
             _ => Items::new(alloc),
         }

@@ -1,5 +1,5 @@
 //! What was touched since the last settling: it need look at nothing else.
-ghost use Rattle.std.specs.Prelude.{◌≡◌, ◌<◌, ◌≤◌, ◌^◌, IfSome, OnOk, length};
+ghost use Rattle.std.specs.Prelude.{◌≡◌, ◌<◌, ◌≤◌, ◌^◌, Some, None, IfSome, OnOk, if◌then◌else◌, length};
 ghost use Rattle.std.specs.Option.{option_copied};
 ghost use Rattle.linked_items.specs.Items.{Differ};
 ghost use Rattle.machine_settling.specs.Classes.{class_of, class_of_wait};
@@ -240,15 +240,20 @@ fn waits_for_ends(delivery: &Delivery) -> bool
     }
 }
 
+/// The object of this number, if it passes.
+fn object_if(passes: bool, o: u32) -> Option<u32>
+    ensures { result ≡ (if passes then Some o else None) }
+{
+    if passes { Some(o) } else { None }
+}
+
 /// Touches each group and pool with this member.
 pub(crate) fn touch_crews(touched: &mut Touched, objects: &[Object], g: u32)
     requires { length objects.now ≤ 2 ^ 32 }
     ensures { HasTouched (has_member g) objects.now (length objects.now) touched.old touched.new }
 {
     for i in 0..objects.len() {
-        if has_member(&objects[i], g) {
-            touched.touch(Some(i as u32));
-        }
+        touched.touch(object_if(has_member(&objects[i], g), i as u32));
     }
 }
 
@@ -258,8 +263,6 @@ pub(crate) fn touch_offers(touched: &mut Touched, objects: &[Object], since: u64
     ensures { HasTouched (has_offer_by since) objects.now (length objects.now) touched.old touched.new }
 {
     for i in 0..objects.len() {
-        if has_offer_by(&objects[i], since) {
-            touched.touch(Some(i as u32));
-        }
+        touched.touch(object_if(has_offer_by(&objects[i], since), i as u32));
     }
 }
