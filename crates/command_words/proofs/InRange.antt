@@ -6,14 +6,18 @@ use Rattle.std.specs.Str.Parse.{digits_value}
 use Rattle.gv_values.specs.Digits.{is_plain_number}
 use Rattle.command_words.specs.declared.command.Command.{Command}
 use Rattle.command_words.specs.declared.command.Command.TheVariants.{Text, Wsgi, Storm, Verify}
+use Rattle.command_words.specs.declared.command.GatewayKind.{GatewayKind}
+use Rattle.command_words.specs.declared.command.GatewayKind.TheVariants.{Http, Scgi}
 use Rattle.command_words.specs.declared.command.RunWorld.{RunWorld}
 use Rattle.command_words.specs.declared.command.RunWorld.TheVariants.{Script}
 use Rattle.command_words.specs.declared.command.ResultOrder.{ResultOrder}
 use Rattle.command_words.specs.declared.command.ResultOrder.TheVariants as results
+use Rattle.command_words.specs.declared.command.ServeAnswers.{ServeAnswers}
+use Rattle.command_words.specs.declared.command.ServeAnswers.TheVariants.{Application}
 use Rattle.command_words.specs.declared.command.TextCommand.TheVariants.{Format}
 use Rattle.command_words.specs.declared.command.TraceCheck.{TraceCheck}
-use Rattle.command_words.specs.Words.{Look, OptionRow, Word, check, check_by, check_named, command_by, command_of, conns, gateway_by, given, idle, laws_check, moves, native, number_by, number_in, options, order, order_by, pool, port, row_of, run, run_by, run_check, format, wsgi, serve, serve_by, size, storm, storm_by, tick, turns, value_in, verify, verify_by, workers_by, workers_in, world_by, wsgi_by}
-use Rattle.command_words.specs.Ranges.{IsCheckInRange, IsInRange, IsWorldInRange, Takes, takes_usual}
+use Rattle.command_words.specs.Words.{Look, OptionRow, Word, answers_by, check, check_by, check_named, command_by, command_of, conns, gateway_by, given, idle, jobs, jobs_by, jobs_in, laws_check, moves, native, number_by, number_in, options, order, order_by, pool, port, row_of, run, run_by, run_check, format, wsgi, serve, serve_by, size, storm, storm_by, tick, turns, value_in, verify, verify_by, workers_by, workers_in, world_by, wsgi_by}
+use Rattle.command_words.specs.Ranges.{AreAnswersInRange, IsCheckInRange, IsInRange, IsWorldInRange, Takes, takes_usual}
 
 -- ---- what gave a value
 
@@ -92,15 +96,29 @@ run_takes look c e =
     let w = some_given (world_by look) _ c m.gives in
     subst IsInRange (same_some _ _ w.gives) (number_takes turns look t.value refl t.is, number_takes moves look m.value refl m.is, world_takes look w.value w.is)
 
+workers_fit : (g : GatewayKind) (n : ℕ) (a : ServeAnswers) → Takes jobs n → jobs_in g n ≡ Some a → AreAnswersInRange a
+workers_fit Http n a h e = subst AreAnswersInRange (same_some _ _ e) h
+workers_fit Scgi n a h e = absurd (cc e)
+
+answers_take : (look : Look) (a : ServeAnswers) → answers_by look ≡ Some a → AreAnswersInRange a
+answers_take look a e = by (is_some (look jobs.name)) e
+  where
+    by : (j : Bool) → (if j then jobs_by look else option_map (λ g. Application g) (gateway_by look)) ≡ Some a → AreAnswersInRange a
+    by true f =
+        let g = some_given (gateway_by look) (λ g. given (number_by jobs look) (jobs_in g)) a f in
+        let n = some_given (number_by jobs look) (jobs_in g.value) a g.gives in
+        workers_fit g.value n.value a (number_takes jobs look n.value refl n.is) n.gives
+    by false f = let g = some_mapped (gateway_by look) (λ g. Application g) a f in subst AreAnswersInRange g.gives tt
+
 serve_takes : (look : Look) (c : Command) → serve_by look ≡ Some c → IsInRange c
 serve_takes look c e =
     let p = some_given (number_by port look) _ c e in
     let n = some_given (number_by conns look) _ c p.gives in
     let m = some_given (number_by pool look) _ c n.gives in
     let i = some_given (number_by idle look) _ c m.gives in
-    let g = some_given (gateway_by look) _ c i.gives in
-    subst IsInRange (same_some _ _ g.gives)
-    (number_takes port look p.value refl p.is, number_takes conns look n.value refl n.is, number_takes pool look m.value refl m.is, number_takes idle look i.value refl i.is)
+    let a = some_given (answers_by look) _ c i.gives in
+    subst IsInRange (same_some _ _ a.gives)
+    (number_takes port look p.value refl p.is, number_takes conns look n.value refl n.is, number_takes pool look m.value refl m.is, number_takes idle look i.value refl i.is, answers_take look a.value a.is)
 
 wsgi_takes : (look : Look) (c : Command) → wsgi_by look ≡ Some c → IsInRange c
 wsgi_takes look c e = let g = some_mapped (gateway_by look) (λ k. Wsgi k) c e in subst IsInRange g.gives tt

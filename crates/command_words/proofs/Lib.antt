@@ -5,3 +5,4 @@ pub mod Entered
 pub mod Walks
 pub mod Answered
 pub mod InRange
+mod Clapped

@@ -8,6 +8,8 @@ use Rattle.command_words.specs.declared.command.Command.{Command}
 use Rattle.command_words.specs.declared.command.Command.TheVariants.{Text, Wsgi, Serve, Storm, Verify}
 use Rattle.command_words.specs.declared.command.GatewayKind.{GatewayKind}
 use Rattle.command_words.specs.declared.command.GatewayKind.TheVariants.{Http, Scgi}
+use Rattle.command_words.specs.declared.command.ServeAnswers.{ServeAnswers}
+use Rattle.command_words.specs.declared.command.ServeAnswers.TheVariants.{Application, Jobs}
 use Rattle.command_words.specs.declared.command.RunWorld.{RunWorld}
 use Rattle.command_words.specs.declared.command.RunWorld.TheVariants.{Script, Native, Held}
 use Rattle.command_words.specs.declared.command.ResultOrder.{ResultOrder}
@@ -56,6 +58,9 @@ pool = record { name = codes "pool"; least = 1; most = 1024; usual = Some 100 }
 abbrev pub idle : OptionRow
 idle = record { name = codes "idle"; least = 1; most = 3600000; usual = Some 60000 }
 
+abbrev pub jobs : OptionRow
+jobs = record { name = codes "jobs"; least = 1; most = 16; usual = None }
+
 -- the option whose value is a gateway, by its name; `http` stands where it is left out
 abbrev pub gateway : Word
 gateway = codes "gateway"
@@ -82,7 +87,7 @@ abbrev pub wsgi : CommandRow
 wsgi = record { name = codes "wsgi"; options = gateway ∷ [] }
 
 abbrev pub serve : CommandRow
-serve = record { name = codes "serve"; options = port.name ∷ conns.name ∷ pool.name ∷ idle.name ∷ gateway ∷ [] }
+serve = record { name = codes "serve"; options = port.name ∷ conns.name ∷ pool.name ∷ idle.name ∷ gateway ∷ jobs.name ∷ [] }
 
 abbrev pub storm : CommandRow
 storm = record { name = codes "storm"; options = size.name ∷ [] }
@@ -217,14 +222,26 @@ run_by look =
 abbrev pub wsgi_by : Look → Option Command
 wsgi_by look = option_map (λ g. Wsgi g) (gateway_by look)
 
+-- native workers for the jobs of a server, so many, which SCGI does not go with
+abbrev pub jobs_in : GatewayKind → ℕ → Option ServeAnswers
+jobs_in Http n = Some (Jobs n)
+jobs_in Scgi n = None
+
+abbrev pub jobs_by : Look → Option ServeAnswers
+jobs_by look = given (gateway_by look) (λ g. given (number_by jobs look) (jobs_in g))
+
+-- what a server answers with: native workers for jobs where they are asked for, or else its application
+abbrev pub answers_by : Look → Option ServeAnswers
+answers_by look = if is_some (look jobs.name) then jobs_by look else option_map (λ g. Application g) (gateway_by look)
+
 abbrev pub serve_by : Look → Option Command
 serve_by look =
     given (number_by port look) (λ port.
     given (number_by conns look) (λ conns.
     given (number_by pool look) (λ pool.
     given (number_by idle look) (λ idle.
-    given (gateway_by look) (λ gateway.
-    Some (Serve (record { port = port; conns = conns; pool = pool; idle = idle; gateway = gateway })))))))
+    given (answers_by look) (λ answers.
+    Some (Serve (record { port = port; conns = conns; pool = pool; idle = idle; answers = answers })))))))
 
 abbrev pub storm_by : Look → Option Command
 storm_by look = option_map (λ n. Storm n) (number_by size look)

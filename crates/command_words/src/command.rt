@@ -49,6 +49,15 @@ pub enum GatewayKind {
     Scgi,
 }
 
+/// What a server answers its peers with.
+#[derive(Clone, Copy, Debug, PartialEq, Eq)]
+pub enum ServeAnswers {
+    /// The application, through this gateway.
+    Application(GatewayKind),
+    /// Over HTTP, the application that has jobs done by so many native workers.
+    Jobs(u32),
+}
+
 /// The options of a server.
 #[derive(Clone, Copy, Debug, PartialEq, Eq)]
 pub struct ServeOptions {
@@ -60,8 +69,8 @@ pub struct ServeOptions {
     pub pool: u32,
     /// How many milliseconds a connection may be quiet before it is closed.
     pub idle: u64,
-    /// What it speaks with its peers.
-    pub gateway: GatewayKind,
+    /// What it answers its peers with.
+    pub answers: ServeAnswers,
 }
 
 /// What is checked of a trace.

@@ -9,7 +9,8 @@ mod reading;
 mod table;
 
 pub use command::{
-    Command, GatewayKind, ResultOrder, RunOptions, RunWorld, ServeOptions, TextCommand, TraceCheck,
+    Command, GatewayKind, ResultOrder, RunOptions, RunWorld, ServeAnswers, ServeOptions,
+    TextCommand, TraceCheck,
 };
 pub use laws::commands_are_in_range;
 pub use reading::command_of;

@@ -2,16 +2,17 @@
 ghost use Rattle.std.specs.Prelude.{◌≡◌, IfOk, map, string_bytes};
 ghost use Rattle.std.specs.List.{list_any};
 ghost use Rattle.clap.specs.Words.{first_of, found_of, rows_of, subcommand_rows_of};
-ghost use Rattle.command_words.specs.Words.{check_by, check_named, command_by, command_of, gateway_by, gateway_named, laws_check, order_by, order_named, run_by, run_check, serve_by, storm_by, verify_by, workers_by, workers_in, world_by, wsgi_by};
+ghost use Rattle.command_words.specs.Words.{answers_by, check_by, check_named, command_by, command_of, gateway_by, gateway_named, jobs_by, jobs_in, laws_check, order_by, order_named, run_by, run_check, serve_by, storm_by, verify_by, workers_by, workers_in, world_by, wsgi_by};
 ghost use Rattle.command_words.specs.Clap.{by_clap, command_in, is_stray};
 
 use crate::clap_command::program;
 use crate::command::{
-    Command, GatewayKind, ResultOrder, RunOptions, RunWorld, ServeOptions, TextCommand, TraceCheck,
+    Command, GatewayKind, ResultOrder, RunOptions, RunWorld, ServeAnswers, ServeOptions,
+    TextCommand, TraceCheck,
 };
 use crate::numbers::{given, number_by};
 use crate::table::{
-    CHECK, CONNS, GATEWAY, IDLE, MOVES, NATIVE, ORDER, POOL, PORT, SIZE, TICK, TURNS,
+    CHECK, CONNS, GATEWAY, IDLE, JOBS, MOVES, NATIVE, ORDER, POOL, PORT, SIZE, TICK, TURNS,
 };
 use clap::ArgMatches;
 use clap::error::ErrorKind;
@@ -23,7 +24,8 @@ use std::alloc::{AllocError, Global};
 /// `--name=value`; options stand in any order, each at most once. A value is a number in decimal digits without a
 /// leading zero, in the option's range; that of `--gateway` is `http` or `scgi`, that of `--order` is `free` or
 /// `held`, that of `--check` is `run` or `laws`. All other words are no command, and neither are those of a run with a
-/// tick and native workers, or with an order and no native workers, or those of a check of laws with turns or moves.
+/// tick and native workers, or with an order and no native workers, those of a server with workers for jobs and SCGI, or
+/// those of a check of laws with turns or moves.
 ///
 /// # Errors
 ///
@@ -201,6 +203,36 @@ fn wsgi_by(matches: &ArgMatches) -> Option<Command>
     Some(Command::Wsgi(gateway))
 }
 
+/// A server whose jobs so many native workers do, which SCGI does not go with.
+fn jobs_in(gateway: GatewayKind, workers: u32) -> Option<ServeAnswers>
+    ensures { result ≡ jobs_in gateway workers }
+{
+    match gateway {
+        GatewayKind::Http => Some(ServeAnswers::Jobs(workers)),
+        GatewayKind::Scgi => None,
+    }
+}
+
+/// The native workers that a server is asked for.
+fn jobs_by(matches: &ArgMatches) -> Option<ServeAnswers>
+    ensures { result ≡ jobs_by (λ n. first_of n (rows_of (found_of matches.now))) }
+{
+    let gateway = gateway_by(matches)?;
+    let workers = number_by(JOBS, matches)?;
+    jobs_in(gateway, workers as u32)
+}
+
+/// What a server answers with: native workers for jobs where they are asked for, or else its application.
+fn answers_by(matches: &ArgMatches) -> Option<ServeAnswers>
+    ensures { result ≡ answers_by (λ n. first_of n (rows_of (found_of matches.now))) }
+{
+    if given(JOBS.name, matches).is_some() {
+        return jobs_by(matches);
+    }
+    let gateway = gateway_by(matches)?;
+    Some(ServeAnswers::Application(gateway))
+}
+
 fn serve_by(matches: &ArgMatches) -> Option<Command>
     ensures { result ≡ serve_by (λ n. first_of n (rows_of (found_of matches.now))) }
 {
@@ -208,13 +240,13 @@ fn serve_by(matches: &ArgMatches) -> Option<Command>
     let conns = number_by(CONNS, matches)?;
     let pool = number_by(POOL, matches)?;
     let idle = number_by(IDLE, matches)?;
-    let gateway = gateway_by(matches)?;
+    let answers = answers_by(matches)?;
     Some(Command::Serve(ServeOptions {
         port: port as u16,
         conns: conns as u32,
         pool: pool as u32,
         idle,
-        gateway,
+        answers,
     }))
 }
 

@@ -102,6 +102,14 @@ pub const IDLE: NumberOption = NumberOption {
     usual: Some(60000),
 };
 
+/// The native workers that do the jobs of a server.
+pub const JOBS: NumberOption = NumberOption {
+    name: "jobs",
+    least: 1,
+    most: 16,
+    usual: None,
+};
+
 /// The option that names what a server speaks with its peers.
 pub const GATEWAY: &str = "gateway";
 
@@ -126,12 +134,13 @@ const OF_RUN: [CommandOption; 5] = [
 
 const OF_WSGI: [CommandOption; 1] = [CommandOption::Gateway(GATEWAY)];
 
-const OF_SERVE: [CommandOption; 5] = [
+const OF_SERVE: [CommandOption; 6] = [
     CommandOption::Number(PORT),
     CommandOption::Number(CONNS),
     CommandOption::Number(POOL),
     CommandOption::Number(IDLE),
     CommandOption::Gateway(GATEWAY),
+    CommandOption::Number(JOBS),
 ];
 
 const OF_STORM: [CommandOption; 1] = [CommandOption::Number(SIZE)];

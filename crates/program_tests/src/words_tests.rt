@@ -1,7 +1,7 @@
 //! Words, and what they ask for.
 use crate::calls::words_of;
 use command_words::{
-    Command, GatewayKind, RunOptions, RunWorld, ServeOptions, TextCommand, command_of,
+    Command, GatewayKind, RunOptions, RunWorld, ServeAnswers, ServeOptions, TextCommand, command_of,
 };
 use std::alloc::{AllocError, Global};
 use std::test::Fail;
@@ -45,7 +45,7 @@ const OTHERS: &[(&str, Command)] = &[
             conns: 2,
             pool: 100,
             idle: 60000,
-            gateway: GatewayKind::Http,
+            answers: ServeAnswers::Application(GatewayKind::Http),
         }),
     ),
     (
@@ -55,7 +55,7 @@ const OTHERS: &[(&str, Command)] = &[
             conns: 2,
             pool: 100,
             idle: 60000,
-            gateway: GatewayKind::Scgi,
+            answers: ServeAnswers::Application(GatewayKind::Scgi),
         }),
     ),
     (
@@ -65,7 +65,27 @@ const OTHERS: &[(&str, Command)] = &[
             conns: 1000000,
             pool: 1024,
             idle: 3600000,
-            gateway: GatewayKind::Http,
+            answers: ServeAnswers::Application(GatewayKind::Http),
+        }),
+    ),
+    (
+        "serve --port 8080 --conns 2 --idle 1000 --jobs 1",
+        Command::Serve(ServeOptions {
+            port: 8080,
+            conns: 2,
+            pool: 100,
+            idle: 1000,
+            answers: ServeAnswers::Jobs(1),
+        }),
+    ),
+    (
+        "serve --jobs=16 --gateway http --port 0 --conns 1",
+        Command::Serve(ServeOptions {
+            port: 0,
+            conns: 1,
+            pool: 100,
+            idle: 60000,
+            answers: ServeAnswers::Jobs(16),
         }),
     ),
     ("storm --size 19000", Command::Storm(19000)),
@@ -89,6 +109,9 @@ const NONE: &[&str] = &[
     "serve --port 80",
     "serve --conns 1",
     "serve --port 65536 --conns 1",
+    "serve --port 1 --conns 1 --jobs 0",
+    "serve --port 1 --conns 1 --jobs 17",
+    "serve --port 1 --conns 1 --jobs 2 --gateway scgi",
     "wsgi --gateway",
     "wsgi --gateway fcgi",
     "wsgi --gateway=HTTP",
