@@ -1,25 +1,34 @@
 -- Of words that name `serve`, and of what a server came to.
-use Rattle.std.proofs.Common.{◌≡◌, ◌≢◌, ◌⊎◌, inl, inr, refl, ap, sym, ◌∙◌, ℕ, List, Option, Some, None, IsSome, option_and_then, subst, arith}
+use Rattle.std.proofs.Common.{◌≡◌, ◌≢◌, ◌⊎◌, inl, inr, refl, ap, sym, ◌∙◌, ℕ, ◌<◌, ◌≤◌, false, List, Option, Some, None, IsSome, option_and_then, subst, arith}
 use Rattle.gv_values.specs.Counts.{HasRisen}
 use Rattle.gv_io.specs.Streams.{appended}
-use Rattle.command_words.specs.Ranges.{IsInRange as IsCommandInRange}
+use Rattle.command_words.specs.Ranges.{AreAnswersInRange, IsInRange as IsCommandInRange}
 use Rattle.command_words.specs.Words.{Word}
 use Rattle.command_words.specs.Words as words
 use Rattle.command_words.specs.declared.command.Command.{Command as NamedCommand}
 use Rattle.command_words.specs.declared.command.Command.TheVariants as named
+use Rattle.command_words.specs.declared.command.GatewayKind.{GatewayKind}
+use Rattle.command_words.specs.declared.command.ServeAnswers.{ServeAnswers}
 use Rattle.command_words.specs.declared.command.ServeOptions.{ServeOptions}
 use Rattle.wsgi_core.specs.Applications.{App}
-use Rattle.wsgi_core.specs.Gateways.{Gateway}
-use Rattle.stream_net.specs.Nets.{IsFresh, Meaning}
+use Rattle.wsgi_core.specs.Sessions.{answers}
+use Rattle.world.specs.Worlds.{Meaning as World}
+use Rattle.stream_net.specs.Nets.{IsAtRest, IsFresh, Meaning}
 use Rattle.stream_server.specs.declared.limits.Limits.{Limits}
-use Rattle.stream_server.specs.Serving.{IsInRange}
+use Rattle.stream_server.specs.Serving.{IsInRange, Rests}
+use Rattle.wsgi_native.specs.Agreeing.{Agrees}
+use Rattle.wsgi_native.specs.Ends.{IsOutOfJobs}
+use Rattle.wsgi_native.specs.JobApp.{job_app}
+use Rattle.wsgi_native.specs.Tied.{IsInOrder}
 use Rattle.serve_command.specs.declared.serving.Served.{Served}
-use Rattle.serve_command.specs.Served.{IsToldFirst, ServesAt, listening}
-use Rattle.serve_command.proofs.Ends.{memory_unfinished, none_served}
+use Rattle.serve_command.specs.Jobs.{ServesJobsAt}
+use Rattle.serve_command.specs.Served.{ServesAt, listening}
+use Rattle.serve_command.proofs.Ends.{memory_no_jobs, memory_unfinished, none_served, spent_as}
+use Rattle.serve_command.proofs.JobsEnds.{none_served_jobs}
 use Rattle.gv_top.specs.declared.status.Verdict.{Verdict}
 use Rattle.gv_top.specs.declared.words.Command.{Command}
 use Rattle.gv_top.specs.Gateways.{answers_by}
-use Rattle.gv_top.specs.Serving.{Serves, limits_of}
+use Rattle.gv_top.specs.Serving.{Serves, ServesNatively, ServesWith, limits_of}
 use Rattle.gv_top.specs.Answers.{memory_line, read_fault_line}
 use Rattle.gv_top.specs.Top.{IsStatusOf, IsTold}
 use Rattle.gv_top.specs.Inner.{IsOr}
@@ -82,54 +91,108 @@ names_no_server n v w o old new e0 e1 r l h h5 h7 = is_none o (λ named. by (no_
 
 -- ---- how much a server does
 
-limits_fit : (options : ServeOptions) → IsCommandInRange (named.Serve options) → IsInRange (limits_of options)
-limits_fit options h = record {
-  some_place = h.2.0;
-  few_places = h.2.1;
-  some_connection = h.1.0;
-  few_connections = h.1.1;
-  some_time = h.3.0;
-  short_time = h.3.1;
-}
+-- the limits and the answers of a server are in their ranges
+abbrev pub FitsServer : ServeOptions → Type 0
+FitsServer options = IsInRange (limits_of options) × AreAnswersInRange options.answers
 
-pub same_options : (a b : ServeOptions) → Some a ≡ Some b → a ≡ b
+server_fits : (options : ServeOptions) → IsCommandInRange (named.Serve options) → FitsServer options
+server_fits options h = (
+  record {
+    some_place = h.2.0;
+    few_places = h.2.1;
+    some_connection = h.1.0;
+    few_connections = h.1.1;
+    some_time = h.3.0;
+    short_time = h.3.1;
+  },
+  h.4,
+)
+
+same_options : (a b : ServeOptions) → Some a ≡ Some b → a ≡ b
 same_options a b e = cc e
 
-serving_in_range : (options : ServeOptions) (command : NamedCommand) → serving command ≡ Some options → IsCommandInRange command → IsInRange (limits_of options)
-serving_in_range options (named.Serve given) e h =
-    let P : ServeOptions → Type 0 = λ o. IsInRange (limits_of o) in subst P (same_options given options e) (limits_fit given h)
+serving_in_range : (options : ServeOptions) (command : NamedCommand) → serving command ≡ Some options → IsCommandInRange command → FitsServer options
+serving_in_range options (named.Serve given) e h = subst FitsServer (same_options given options e) (server_fits given h)
 serving_in_range options (named.Text text) e h = absurd (cc e)
 serving_in_range options (named.Wsgi gateway) e h = absurd (cc e)
 serving_in_range options (named.Storm n) e h = absurd (cc e)
 serving_in_range options (named.Verify check) e h = absurd (cc e)
 
--- the limits of the server that words ask for are in their ranges
-pub limits_in_range : NamedAreInRange → (w : List Word) (options : ServeOptions) → serve_of w ≡ Some options → IsInRange (limits_of options)
-limits_in_range law w options e = by (words.command_of w) refl e
+-- so are those of the server that words ask for
+pub options_in_range : NamedAreInRange → (w : List Word) (options : ServeOptions) → serve_of w ≡ Some options → FitsServer options
+options_in_range law w options e = by (words.command_of w) refl e
   where
-    by : (o : Option NamedCommand) → words.command_of w ≡ o → option_and_then serving o ≡ Some options → IsInRange (limits_of options)
+    by : (o : Option NamedCommand) → words.command_of w ≡ o → option_and_then serving o ≡ Some options → FitsServer options
     by (Some command) is h = serving_in_range options command h (law w command is)
     by None is h = absurd (cc h)
 
--- what served by these options served by those that the words ask for
-pub served_as : (end : Served) (app : App) (given : ServeOptions) (limits : Limits) (o : Option ServeOptions) (w : Meaning) (out0 out1 : Option (List ℕ)) →
-    o ≡ Some given → limits ≡ limits_of given → ServesAt end given.port (answers_by given.gateway) app limits w out0 out1 →
-    (options : ServeOptions) → o ≡ Some options → ServesAt end options.port (answers_by options.gateway) app (limits_of options) w out0 out1
-served_as end app given limits o w out0 out1 is fit h = λ options e.
-    let P : Limits → Type 0 = λ l. ServesAt end given.port (answers_by given.gateway) app l w out0 out1 in
-    let Q : ServeOptions → Type 0 = λ x. ServesAt end x.port (answers_by x.gateway) app (limits_of x) w out0 out1 in
-    subst Q (same_options given options (sym is ∙ e)) (subst P fit h)
+pub some_server_workers : (answers : ServeAnswers) (workers : ℕ) → answers ≡ ServeAnswers.Jobs workers → AreAnswersInRange answers → 0 < workers
+some_server_workers answers workers e h = let r : (1 ≤ workers) × (workers ≤ 16) = subst AreAnswersInRange e h in omega (arith, r.0)
 
--- what it told was told of the port that the words ask for
-pub told_at : (o : Option ServeOptions) (given : ServeOptions) (w : Meaning) (out0 handed1 : Option (List ℕ)) → o ≡ Some given → IsToldFirst given.port w out0 handed1 →
-    (options : ServeOptions) → o ≡ Some options → IsToldFirst options.port w out0 handed1
-told_at o given w out0 handed1 is h = λ options e.
-    subst (λ (x : ServeOptions). IsToldFirst x.port w out0 handed1) (same_options given options (sym is ∙ e)) h
+pub few_server_workers : (answers : ServeAnswers) (workers : ℕ) → answers ≡ ServeAnswers.Jobs workers → AreAnswersInRange answers → workers ≤ 16
+few_server_workers answers workers e h = let r : (1 ≤ workers) × (workers ≤ 16) = subst AreAnswersInRange e h in r.1
 
--- where memory ran out before it listened, it served nobody
-pub nobody_served : (asked : ℕ) (answers : Gateway) (app : App) (limits : Limits) (w : Meaning) (out0 out1 : Option (List ℕ)) → IsFresh w → out1 ≡ out0 → ServesAt Served.Memory asked answers app limits w out0 out1
-nobody_served asked answers app limits w out0 out1 fresh same =
-    none_served Served.Memory asked answers app limits w out0 out1 0 memory_unfinished fresh.none fresh.none_live (left_as_it_was out0 out1 (listening 0) same) (inl same)
+-- what holds by these options holds by those that the words ask for
+pub by_options : (P : ServeOptions → Type 0) (o : Option ServeOptions) (given : ServeOptions) → o ≡ Some given → P given → (options : ServeOptions) → o ≡ Some options → P options
+by_options P o given is h = λ options e. subst P (same_options given options (sym is ∙ e)) h
+
+-- ---- where memory ran out before it listened
+
+pub nobody_served_natively : (asked : ℕ) (limits : Limits) (w : Meaning) (before after : World) (out0 out1 : Option (List ℕ)) → IsFresh w → after ≡ before → out1 ≡ out0
+    → ServesNatively Served.Memory asked limits w before after out0 out1
+nobody_served_natively asked limits w before after out0 out1 fresh kept same = record {
+  serves = none_served_jobs Served.Memory asked limits w after out0 out1 0 memory_unfinished memory_no_jobs fresh.none fresh.none_live (left_as_it_was out0 out1 (listening 0) same) (inl same);
+  begun = inr (kept, fresh.none);
+}
+
+pub nobody_served : (answers : ServeAnswers) (asked : ℕ) (app : App) (limits : Limits) (w : Meaning) (before after : World) (out0 out1 : Option (List ℕ)) → IsFresh w → after ≡ before → out1 ≡ out0
+    → ServesWith answers Served.Memory asked app limits w before after out0 out1
+nobody_served (ServeAnswers.Application gateway) asked app limits w before after out0 out1 fresh kept same =
+    none_served Rests (λ port. ⊥) Served.Memory asked (answers_by gateway) app limits w out0 out1 0 memory_unfinished memory_no_jobs fresh.none fresh.none_live (left_as_it_was out0 out1 (listening 0) same) (inl same)
+nobody_served (ServeAnswers.Jobs workers) asked app limits w before after out0 out1 fresh kept same = nobody_served_natively asked limits w before after out0 out1 fresh kept same
+
+-- ---- where native workers served
+
+-- it is the same of workers that are finished
+abbrev stopped : World → World
+stopped v = record v { runs = false }
+
+agrees_before : (v : World) (app : App) → Agrees (stopped v) app → Agrees v app
+agrees_before v app a = record { plain = a.plain; done = a.done }
+
+agrees_after : (v : World) (app : App) → Agrees v app → Agrees (stopped v) app
+agrees_after v app a = record { plain = a.plain; done = a.done }
+
+vain_after : (port : ℕ) (limits : Limits) (w : Meaning) (v : World) → IsOutOfJobs port limits w v → IsOutOfJobs port limits w (stopped v)
+vain_after port limits w v h = record { spent = h.spent; client = h.client; live = h.live; free = h.free; going = λ app fits. h.going app (agrees_before v app fits); wants_it = h.wants_it }
+
+vain_before : (port : ℕ) (limits : Limits) (w : Meaning) (v : World) → IsOutOfJobs port limits w (stopped v) → IsOutOfJobs port limits w v
+vain_before port limits w v h = record { spent = h.spent; client = h.client; live = h.live; free = h.free; going = λ app fits. h.going app (agrees_after v app fits); wants_it = h.wants_it }
+
+serves_after : (end : Served) (asked : ℕ) (limits : Limits) (w : Meaning) (v : World) (out0 out1 : Option (List ℕ)) → ServesJobsAt end asked limits w v out0 out1 → ServesJobsAt end asked limits w (stopped v) out0 out1
+unfolding spent_as
+serves_after end asked limits w v out0 out1 h = record {
+  serves = spent_as IsAtRest (λ port. IsOutOfJobs port limits w v) (λ port. IsOutOfJobs port limits w (stopped v)) end asked answers job_app limits w out0 out1 (λ port vain. vain_after port limits w v vain) h.serves;
+  earned = λ app agrees. h.earned app (agrees_before v app agrees);
+  out_of_jobs = λ vain. h.out_of_jobs (vain_before h.serves.port limits w v vain);
+}
+
+pub served_natively : (end : Served) (asked : ℕ) (limits : Limits) (w : Meaning) (before v after : World) (out0 out1 : Option (List ℕ)) → after ≡ record v { runs = false } → IsInOrder v
+    → ServesJobsAt end asked limits w v out0 out1 → ServesNatively end asked limits w before after out0 out1
+served_natively end asked limits w before v after out0 out1 is order h =
+    subst (λ (x : World). ServesNatively end asked limits w before x out0 out1) (sym is) (record { serves = serves_after end asked limits w v out0 out1 h; begun = inl order.done })
+
+-- ---- what these answers serve with
+
+pub served_with_app : (given : ServeAnswers) (gateway : GatewayKind) (end : Served) (asked : ℕ) (app : App) (limits whole : Limits) (w : Meaning) (before after : World) (out0 out1 : Option (List ℕ)) → given ≡ ServeAnswers.Application gateway → limits ≡ whole
+    → ServesAt end asked (answers_by gateway) app limits w out0 out1 → ServesWith given end asked app whole w before after out0 out1
+served_with_app given gateway end asked app limits whole w before after out0 out1 is fit h =
+    subst (λ (a : ServeAnswers). ServesWith a end asked app whole w before after out0 out1) (sym is) (subst (λ (l : Limits). ServesAt end asked (answers_by gateway) app l w out0 out1) fit h)
+
+pub served_with_jobs : (given : ServeAnswers) (workers : ℕ) (end : Served) (asked : ℕ) (app : App) (limits whole : Limits) (w : Meaning) (before after : World) (out0 out1 : Option (List ℕ)) → given ≡ ServeAnswers.Jobs workers → limits ≡ whole
+    → ServesNatively end asked limits w before after out0 out1 → ServesWith given end asked app whole w before after out0 out1
+served_with_jobs given workers end asked app limits whole w before after out0 out1 is fit h =
+    subst (λ (a : ServeAnswers). ServesWith a end asked app whole w before after out0 out1) (sym is) (subst (λ (l : Limits). ServesNatively end asked l w before after out0 out1) fit h)
 
 -- ---- what a server came to, and its line
 
@@ -139,25 +202,26 @@ told_whole n v w old new e0 e1 (inl e) (inl p) h5 h7 = p.1 ∙ ap (λ x. appende
 told_whole n v w old new e0 e1 (inr q) (inl p) h5 h7 = absurd (h7 (p.0 ∙ ap number_of q.0))
 told_whole n v w old new e0 e1 o (inr p) h5 h7 = absurd (h5 p.0)
 
-pub serves_so : (n : ℕ) (app : App) (options : ServeOptions) (end : Served) (w : Verdict) (m : Meaning) (out0 begun out1 err0 silent err1 : Option (List ℕ)) (e0 e1 : ℕ) →
-    begun ≡ out0 → silent ≡ err0 → ServesAt end options.port (answers_by options.gateway) app (limits_of options) m begun out1 → IsOr (Verdict.Served end) w → IsTold n w silent err1 e0 e1 →
-    Serves n app options m out0 out1 err0 err1
-serves_so n app options end w m out0 begun out1 err0 silent err1 e0 e1 same quiet h o l =
-    let P : Option (List ℕ) → Type 0 = λ x. ServesAt end options.port (answers_by options.gateway) app (limits_of options) m x out1 in
+pub serves_so : (n : ℕ) (app : App) (options : ServeOptions) (end : Served) (w : Verdict) (m : Meaning) (before rested after : World) (out0 begun out1 err0 silent err1 : Option (List ℕ)) (e0 e1 : ℕ) →
+    rested ≡ before → begun ≡ out0 → silent ≡ err0 → ServesWith options.answers end options.port app (limits_of options) m rested after begun out1 → IsOr (Verdict.Served end) w → IsTold n w silent err1 e0 e1 →
+    Serves n app options m before after out0 out1 err0 err1
+serves_so n app options end w m before rested after out0 begun out1 err0 silent err1 e0 e1 kept same quiet h o l =
+    let P : Option (List ℕ) → Type 0 = λ x. ServesWith options.answers end options.port app (limits_of options) m before after x out1 in
+    let R : World → Type 0 = λ x. ServesWith options.answers end options.port app (limits_of options) m x after begun out1 in
     let Q : Option (List ℕ) → Type 0 = λ x. err1 ≡ appended x (line_of (Verdict.Served end)) in
     record {
       end = end;
-      serves = subst P same h;
+      serves = subst P same (subst R kept h);
       status = status_or n (Verdict.Served end) w silent err1 e0 e1 o l;
       err = λ h5 h7. subst Q quiet (told_whole n (Verdict.Served end) w silent err1 e0 e1 o l h5 h7);
     }
 
 -- where memory ran out as the words were read
-pub serves_nobody : (n : ℕ) (app : App) (options : ServeOptions) (m : Meaning) (out0 out1 err0 err1 : Option (List ℕ)) →
-    IsFresh m → out1 ≡ out0 → (n ≡ 5) ⊎ (n ≡ 7) → Serves n app options m out0 out1 err0 err1
-serves_nobody n app options m out0 out1 err0 err1 fresh same e = record {
+pub serves_nobody : (n : ℕ) (app : App) (options : ServeOptions) (m : Meaning) (before after : World) (out0 out1 err0 err1 : Option (List ℕ)) →
+    IsFresh m → after ≡ before → out1 ≡ out0 → (n ≡ 5) ⊎ (n ≡ 7) → Serves n app options m before after out0 out1 err0 err1
+serves_nobody n app options m before after out0 out1 err0 err1 fresh kept same e = record {
   end = Served.Memory;
-  serves = nobody_served options.port (answers_by options.gateway) app (limits_of options) m out0 out1 fresh same;
+  serves = nobody_served options.answers options.port app (limits_of options) m before after out0 out1 fresh kept same;
   status = inr ((λ z. absurd (omega (arith, z))), e);
   err = by e;
 }
@@ -171,12 +235,14 @@ serves_nobody n app options m out0 out1 err0 err1 fresh same e = record {
 listener_of : (end : Served) → number_of (Verdict.Served end) ≡ 10 → end ≡ Served.Listener
 listener_of Served.Finished e = absurd (omega arith)
 listener_of Served.Listener e = refl
+listener_of Served.NoJobs e = absurd (omega arith)
 listener_of Served.WriteFault e = absurd (omega arith)
 listener_of Served.Memory e = absurd (omega arith)
 
 write_fault_of : (end : Served) → number_of (Verdict.Served end) ≡ 5 → end ≡ Served.WriteFault
 write_fault_of Served.Finished e = absurd (omega arith)
 write_fault_of Served.Listener e = absurd (omega arith)
+write_fault_of Served.NoJobs e = absurd (omega arith)
 write_fault_of Served.WriteFault e = refl
 write_fault_of Served.Memory e = absurd (omega arith)
 
@@ -186,17 +252,18 @@ is_listener n end (inl p) e = listener_of end (sym p ∙ e)
 is_listener n end (inr (_, inl p)) e = absurd (let q = sym p ∙ e in omega arith)
 is_listener n end (inr (_, inr p)) e = absurd (let q = sym p ∙ e in omega arith)
 
-other_number : (end : Served) (m : ℕ) → m ≢ 0 → m ≢ 5 → m ≢ 7 → m ≢ 10 → number_of (Verdict.Served end) ≡ m → ⊥
-other_number Served.Finished m h0 h5 h7 h10 e = h0 (sym e)
-other_number Served.Listener m h0 h5 h7 h10 e = h10 (sym e)
-other_number Served.WriteFault m h0 h5 h7 h10 e = h5 (sym e)
-other_number Served.Memory m h0 h5 h7 h10 e = h7 (sym e)
+other_number : (end : Served) (m : ℕ) → m ≢ 0 → m ≢ 5 → m ≢ 7 → m ≢ 8 → m ≢ 10 → number_of (Verdict.Served end) ≡ m → ⊥
+other_number Served.Finished m h0 h5 h7 h8 h10 e = h0 (sym e)
+other_number Served.Listener m h0 h5 h7 h8 h10 e = h10 (sym e)
+other_number Served.NoJobs m h0 h5 h7 h8 h10 e = h8 (sym e)
+other_number Served.WriteFault m h0 h5 h7 h8 h10 e = h5 (sym e)
+other_number Served.Memory m h0 h5 h7 h8 h10 e = h7 (sym e)
 
--- a server has the statuses 0, 5, 7 and 10 alone
-pub no_other_status : (P : Type 0) (n m : ℕ) (end : Served) → IsStatusOf n (Verdict.Served end) → n ≡ m → m ≢ 0 → m ≢ 5 → m ≢ 7 → m ≢ 10 → P
-no_other_status P n m end (inl p) e h0 h5 h7 h10 = absurd (other_number end m h0 h5 h7 h10 (sym p ∙ e))
-no_other_status P n m end (inr (_, inl p)) e h0 h5 h7 h10 = absurd (h5 (sym e ∙ p))
-no_other_status P n m end (inr (_, inr p)) e h0 h5 h7 h10 = absurd (h7 (sym e ∙ p))
+-- a server has the statuses 0, 5, 7, 8 and 10 alone
+pub no_other_status : (P : Type 0) (n m : ℕ) (end : Served) → IsStatusOf n (Verdict.Served end) → n ≡ m → m ≢ 0 → m ≢ 5 → m ≢ 7 → m ≢ 8 → m ≢ 10 → P
+no_other_status P n m end (inl p) e h0 h5 h7 h8 h10 = absurd (other_number end m h0 h5 h7 h8 h10 (sym p ∙ e))
+no_other_status P n m end (inr (_, inl p)) e h0 h5 h7 h8 h10 = absurd (h5 (sym e ∙ p))
+no_other_status P n m end (inr (_, inr p)) e h0 h5 h7 h8 h10 = absurd (h7 (sym e ∙ p))
 
 -- a status that is not 5 is not that of a server that failed to write
 pub not_write_fault : (n : ℕ) (end : Served) (w : Verdict) (old new : Option (List ℕ)) (e0 e1 : ℕ) → IsOr (Verdict.Served end) w → IsTold n w old new e0 e1 → n ≢ 5 → end ≢ Served.WriteFault

@@ -1,11 +1,16 @@
--- What `serve` leaves behind.
-use Rattle.std.specs.Prelude.{◌≡◌, ◌≢◌, ℕ, List, Option}
+-- What the command `serve` leaves behind, by the words of a call.
+use Rattle.std.specs.Prelude.{◌≡◌, ◌≢◌, ◌⊎◌, ℕ, true, List, [], Option}
 use Rattle.gv_io.specs.Streams.{appended}
+use Rattle.command_words.specs.declared.command.ServeAnswers.{ServeAnswers}
+use Rattle.command_words.specs.declared.command.ServeAnswers.TheVariants.{Application, Jobs}
 use Rattle.command_words.specs.declared.command.ServeOptions.{ServeOptions}
 use Rattle.wsgi_core.specs.Applications.{App}
 use Rattle.stream_net.specs.Nets.{Meaning}
 use Rattle.stream_server.specs.declared.limits.Limits.{Limits}
+use Rattle.world.specs.Worlds.{Meaning as World}
+use Rattle.world_rules.specs.Legal.{is_answered, is_posted}
 use Rattle.serve_command.specs.declared.serving.Served.{Served}
+use Rattle.serve_command.specs.Jobs.{ServesJobsAt}
 use Rattle.serve_command.specs.Served.{ServesAt}
 use Rattle.gv_top.specs.declared.status.Verdict.{Verdict}
 use Rattle.gv_top.specs.Gateways.{answers_by}
@@ -16,9 +21,25 @@ use Rattle.gv_top.specs.Verdicts.{line_of}
 abbrev pub limits_of : ServeOptions → Limits
 limits_of options = record { pool = options.pool; conns = options.conns; idle = options.idle }
 
--- the server came to an end at which net and out are so, and the status and the line on err are those of its end
-pub record Serves (n : ℕ) (app : App) (options : ServeOptions) (w : Meaning) (out0 out1 err0 err1 : Option (List ℕ)) : Type 0 where
+-- each job that native workers answered was posted
+abbrev pub HasPostedAll : World → Type 0
+HasPostedAll w = (number : ℕ) → is_answered number w.answers ≡ true → is_posted number w.posts ≡ true
+
+-- It served with native workers for its jobs, each of which was posted before it was answered. Or they were not begun:
+-- they are as they were, and nobody was accepted.
+pub record ServesNatively (end : Served) (asked : ℕ) (limits : Limits) (w : Meaning) (before after : World) (out0 out1 : Option (List ℕ)) : Type 0 where
+  pub serves : ServesJobsAt end asked limits w after out0 out1
+  pub begun : HasPostedAll after ⊎ ((after ≡ before) × (w.connections ≡ []))
+
+-- it served so: with this application through this gateway, or with native workers for jobs
+abbrev pub ServesWith : ServeAnswers → Served → ℕ → App → Limits → Meaning → World → World → Option (List ℕ) → Option (List ℕ) → Type 0
+ServesWith (Application gateway) end asked app limits w before after out0 out1 = ServesAt end asked (answers_by gateway) app limits w out0 out1
+ServesWith (Jobs workers) end asked app limits w before after out0 out1 = ServesNatively end asked limits w before after out0 out1
+
+-- The server came to an end at which net and out are so, and the status and the line on err are those of its end. What
+-- native workers were before it and are after it is said where it has jobs.
+pub record Serves (n : ℕ) (app : App) (options : ServeOptions) (w : Meaning) (before after : World) (out0 out1 err0 err1 : Option (List ℕ)) : Type 0 where
   pub end : Served
-  pub serves : ServesAt end options.port (answers_by options.gateway) app (limits_of options) w out0 out1
+  pub serves : ServesWith options.answers end options.port app (limits_of options) w before after out0 out1
   pub status : IsStatusOf n (Verdict.Served end)
   pub err : n ≢ 5 → n ≢ 7 → err1 ≡ appended err0 (line_of (Verdict.Served end))

@@ -6,6 +6,8 @@ use Rattle.command_words.specs.declared.command.Command.{Command as NamedCommand
 use Rattle.command_words.specs.declared.command.Command.TheVariants as named
 use Rattle.command_words.specs.declared.command.RunWorld.{RunWorld}
 use Rattle.command_words.specs.declared.command.RunWorld.TheVariants.{Script, Native, Held}
+use Rattle.command_words.specs.declared.command.ServeAnswers.{ServeAnswers}
+use Rattle.command_words.specs.declared.command.ServeAnswers.TheVariants.{Application, Jobs}
 use Rattle.command_words.specs.declared.command.ServeOptions.{ServeOptions}
 use Rattle.command_words.specs.declared.command.TextCommand.{TextCommand}
 use Rattle.command_words.specs.declared.command.TextCommand.TheVariants.{Run, Format}
@@ -51,6 +53,15 @@ is_native (Some (Wsgi gateway)) = false
 is_native (Some (Storm n)) = false
 is_native (Some (Verify check)) = false
 is_native None = false
+
+-- such a server has its jobs done by native workers
+abbrev pub are_native : ServeAnswers → Bool
+are_native (Application gateway) = false
+are_native (Jobs workers) = true
+
+abbrev pub is_native_server : Option ServeOptions → Bool
+is_native_server (Some options) = are_native options.answers
+is_native_server None = false
 
 -- ---- the input
 

@@ -1,9 +1,11 @@
 //! The call that the program makes, over a net too.
-ghost use Rattle.std.specs.Prelude.{◌≡◌, ◌≢◌, ◌≤◌, ℕ, false, List, Some, None, map, string_bytes, take, IsSome};
+ghost use Rattle.std.specs.Prelude.{◌≡◌, ◌≢◌, ◌≤◌, ◌<◌, ℕ, false, List, Some, None, map, string_bytes, take, IsSome};
 ghost use Rattle.gv_values.specs.Counts.{HasRisen};
 ghost use Rattle.command_words.specs.declared.command.ServeOptions.{ServeOptions as AnyServer};
 ghost use Rattle.stream_net.specs.Nets.{IsFresh};
-ghost use Rattle.serve_command.specs.Served.{IsToldFirst, ServesAt};
+ghost use Rattle.stream_server.specs.Serving.{IsInRange};
+ghost use Rattle.command_words.specs.Ranges.{AreAnswersInRange};
+ghost use Rattle.serve_command.specs.Served.{IsToldFirst};
 ghost use Rattle.gv_top.specs.Checks.{AnswersCheck};
 ghost use Rattle.gv_top.specs.Commands.{AnswersCommand, IsBorneOut, IsLeftAlone};
 ghost use Rattle.command_words.specs.declared.command.RunOptions.{RunOptions as AnyOptions};
@@ -12,20 +14,19 @@ ghost use Rattle.scenario_grammar.specs.Spells.{Spells};
 ghost use Rattle.scenario_rules.specs.Rules.{IsWellFormed};
 ghost use Rattle.scenario_tree.specs.declared.tree.Scenario.{Scenario as AnyScenario};
 ghost use Rattle.gv_top.specs.Answers.{most_read};
-ghost use Rattle.gv_top.specs.Gateways.{answers_by};
 ghost use Rattle.gv_top.specs.Running.{BeganSo};
 ghost use Rattle.gv_top.specs.declared.words.Command.{Command};
-ghost use Rattle.gv_top.specs.Serving.{Serves, limits_of};
+ghost use Rattle.gv_top.specs.Serving.{Serves, ServesNatively, ServesWith, limits_of};
 ghost use Rattle.gv_top.specs.Top.{Counts, HandsOn, seen};
-ghost use Rattle.gv_top.specs.Words.{command_of, is_native, reads_input, serve_of};
+ghost use Rattle.gv_top.specs.Words.{are_native, command_of, is_native, is_native_server, reads_input, serve_of};
 
 use crate::gateway::serve_through;
 use crate::status::Verdict;
 use crate::top::{offline, tell};
 use crate::words::server_options;
-use command_words::{ServeOptions, command_of, commands_are_in_range};
+use command_words::{ServeAnswers, ServeOptions, command_of, commands_are_in_range};
 use gv_io::{Sink, Source};
-use serve_command::Served;
+use serve_command::{Served, serve_jobs_command};
 use std::alloc::Global;
 use std::sync::Wait;
 use stream_net::Net;
@@ -44,19 +45,88 @@ fn limits_of(options: ServeOptions) -> Limits
     }
 }
 
+/// Serves with so many native workers for the jobs that requests ask for. They are begun before it, and finished after
+/// it.
+fn serve_natively<K: Sink, N: Net, W: World, H: Wait>(
+    rt: &H,
+    alloc: Global,
+    workers: u32,
+    port: u16,
+    limits: Limits,
+    out: &mut K,
+    net: &mut N,
+    native: &mut W,
+) -> Served
+    requires rests { (W.meaning native.old).runs ≡ false }
+    requires fresh { IsFresh (N.meaning net.old) }
+    requires in_range { IsInRange limits }
+    requires some { 0 < workers }
+    requires few { workers ≤ 16 }
+    ensures serves { ServesNatively result port limits (N.meaning net.new) (W.meaning native.old) (W.meaning native.new) (K.written out.old) (K.written out.new) }
+    ensures told { IsToldFirst port (N.meaning net.new) (K.written out.old) (K.handed out.new) }
+    ensures handed { K.handed out.old ≡ K.written out.old → result ≢ Served.WriteFault → result ≢ Served.Memory → K.handed out.new ≡ K.written out.new }
+    ensures rests { (W.meaning native.new).runs ≡ false }
+    ensures listens { Counts (result ≡ Served.Listener) (N.meaning net.old).faults (N.meaning net.new).faults }
+    ensures writes { Counts (result ≡ Served.WriteFault) (K.faults out.old) (K.faults out.new) }
+{
+    let Ok(()) = native.begin(workers) else {
+        return Served::Memory;
+    };
+    let end = serve_jobs_command(rt, alloc, port, limits, out, net, native);
+    native.finish();
+    end
+}
+
+/// Serves as the options say.
+fn serve_as<K: Sink, N: Net, W: World, A: Application, H: Wait>(
+    rt: &H,
+    alloc: Global,
+    options: ServeOptions,
+    out: &mut K,
+    net: &mut N,
+    native: &mut W,
+    app: &A,
+) -> Served
+    requires rests { (W.meaning native.old).runs ≡ false }
+    requires fresh { IsFresh (N.meaning net.old) }
+    requires in_range { IsInRange (limits_of options) }
+    requires answers_in_range { AreAnswersInRange options.answers }
+    ensures serves { ServesWith options.answers result options.port (A.answer_of app.now) (limits_of options) (N.meaning net.new) (W.meaning native.old) (W.meaning native.new) (K.written out.old) (K.written out.new) }
+    ensures told { IsToldFirst options.port (N.meaning net.new) (K.written out.old) (K.handed out.new) }
+    ensures handed { K.handed out.old ≡ K.written out.old → result ≢ Served.WriteFault → result ≢ Served.Memory → K.handed out.new ≡ K.written out.new }
+    ensures untouched { are_native options.answers ≡ false → native.new ≡ native.old }
+    ensures rests { (W.meaning native.new).runs ≡ false }
+    ensures listens { Counts (result ≡ Served.Listener) (N.meaning net.old).faults (N.meaning net.new).faults }
+    ensures writes { Counts (result ≡ Served.WriteFault) (K.faults out.old) (K.faults out.new) }
+{
+    let limits = limits_of(options);
+    match options.answers {
+        ServeAnswers::Application(gateway) => {
+            serve_through(rt, alloc, gateway, options.port, limits, out, net, app)
+        }
+        ServeAnswers::Jobs(workers) => {
+            serve_natively(rt, alloc, workers, options.port, limits, out, net, native)
+        }
+    }
+}
+
 /// Serves as the words say, which name `serve`.
-fn serve<K: Sink, N: Net, A: Application, H: Wait>(
+fn serve<K: Sink, N: Net, W: World, A: Application, H: Wait>(
     rt: &H,
     alloc: Global,
     words: &[String],
     out: &mut K,
     net: &mut N,
+    native: &mut W,
     app: &A,
 ) -> Served
+    requires rests { (W.meaning native.old).runs ≡ false }
     requires fresh { IsFresh (N.meaning net.old) }
     requires named { IsSome (serve_of (map string_bytes words.now)) }
     ensures serves { (options : AnyServer) → serve_of (map string_bytes words.now) ≡ Some options →
-        ServesAt result options.port (answers_by options.gateway) (A.answer_of app.now) (limits_of options) (N.meaning net.new) (K.written out.old) (K.written out.new) }
+        ServesWith options.answers result options.port (A.answer_of app.now) (limits_of options) (N.meaning net.new) (W.meaning native.old) (W.meaning native.new) (K.written out.old) (K.written out.new) }
+    ensures untouched { is_native_server (serve_of (map string_bytes words.now)) ≡ false → native.new ≡ native.old }
+    ensures rests { (W.meaning native.new).runs ≡ false }
     ensures told { (options : AnyServer) → serve_of (map string_bytes words.now) ≡ Some options →
         IsToldFirst options.port (N.meaning net.new) (K.written out.old) (K.handed out.new) }
     ensures handed { K.handed out.old ≡ K.written out.old → result ≢ Served.WriteFault → result ≢ Served.Memory → K.handed out.new ≡ K.written out.new }
@@ -68,16 +138,7 @@ fn serve<K: Sink, N: Net, A: Application, H: Wait>(
         return Served::Memory;
     };
     match server_options(command) {
-        Some(options) => serve_through(
-            rt,
-            alloc,
-            options.gateway,
-            options.port,
-            limits_of(options),
-            out,
-            net,
-            app,
-        ),
+        Some(options) => serve_as(rt, alloc, options, out, net, native, app),
         None => unreachable!(),
     }
 }
@@ -86,14 +147,17 @@ fn serve<K: Sink, N: Net, A: Application, H: Wait>(
 ///
 /// `serve` listens at 127.0.0.1, writes `listening PORT` to out before it accepts the first connection, answers as many
 /// connections as the words say, each as a session of its own with the application (PEP 3333), of HTTP (RFC 9112) or,
-/// with `--gateway scgi`, of SCGI (N. Schemenauer, 2008), and writes `served COUNT`. It may wait without end.
+/// with `--gateway scgi`, of SCGI (N. Schemenauer, 2008), and writes `served COUNT`. It may wait without end. With
+/// `--jobs` the application is left aside: the world `native` is begun with so many workers before it and finished after
+/// it, and a request for `/job/KIND/INTEGER` is answered what its job comes to, while the other connections go on.
 ///
 /// The statuses are those of `offline`, and besides:
 ///
 /// - 0: `serve` came to its end: as many connections as the words say were accepted and closed.
+/// - 8: with `--jobs`, one more job was asked for than have numbers.
 /// - 10: the net could not listen, or its listener failed.
 ///
-/// After 7 and 10 the connections that are open stay open.
+/// After 7, 8 and 10 the connections that are open stay open.
 pub fn gvr<S: Source, K: Sink, E: Sink, W: World, N: Net, A: Application, H: Wait>(
     rt: &H,
     alloc: Global,
@@ -122,17 +186,18 @@ pub fn gvr<S: Source, K: Sink, E: Sink, W: World, N: Net, A: Application, H: Wai
     // All that was written is handed on, where all was before, but with the statuses 5 and 7; the line of status 7 too.
     ensures handed { HandsOn result (K.written out.old) (K.handed out.old) (K.written out.new) (K.handed out.new) }
     ensures err_handed { result ≢ 5 → E.handed err.old ≡ E.written err.old → E.handed err.new ≡ E.written err.new }
-    ensures untouched { is_native (command_of (map string_bytes words.now)) ≡ false → native.new ≡ native.old }
-    ensures left_alone { IsLeftAlone result (S.remaining input.old) native.old native.new }
+    // Native workers are used by a run and by a server that the words ask them for, and by nothing else.
+    ensures untouched { is_native (command_of (map string_bytes words.now)) ≡ false → is_native_server (serve_of (map string_bytes words.now)) ≡ false → native.new ≡ native.old }
+    ensures left_alone { is_native_server (serve_of (map string_bytes words.now)) ≡ false → IsLeftAlone result (S.remaining input.old) native.old native.new }
     ensures native_rests { (W.meaning native.new).runs ≡ false }
     // A storm reads no input; neither does `serve`, nor do words that are no command.
     ensures untouched_input { reads_input (command_of (map string_bytes words.now)) ≡ false → input.new ≡ input.old }
     ensures usage_only { result ≡ 2 → (command_of (map string_bytes words.now) ≡ None) × (serve_of (map string_bytes words.now) ≡ None) }
     // `serve` serves: the net was asked for the port of the words, out has its lines, each connection was a session of
-    // its own with the application at the port of the first line, and each closed one was closed for a cause. It reads
-    // no input.
+    // its own with the application at the port of the first line, and each closed one was closed for a cause; so it is
+    // where native workers answer the requests for jobs, in whichever order. It reads no input.
     ensures served { (options : AnyServer) → serve_of (map string_bytes words.now) ≡ Some options →
-        Serves result (A.answer_of app.now) options (N.meaning net.new) (K.written out.old) (K.written out.new) (E.written err.old) (E.written err.new) }
+        Serves result (A.answer_of app.now) options (N.meaning net.new) (W.meaning native.old) (W.meaning native.new) (K.written out.old) (K.written out.new) (E.written err.old) (E.written err.new) }
     ensures told { (options : AnyServer) → serve_of (map string_bytes words.now) ≡ Some options →
         IsToldFirst options.port (N.meaning net.new) (K.written out.old) (K.handed out.new) }
     ensures network_fault { result ≡ 10 → IsSome (serve_of (map string_bytes words.now)) × HasRisen (N.meaning net.old).faults (N.meaning net.new).faults }
@@ -146,7 +211,7 @@ pub fn gvr<S: Source, K: Sink, E: Sink, W: World, N: Net, A: Application, H: Wai
     match offline(alloc, words, input, out, err, native, app) {
         Some(status) => status,
         None => {
-            let end = serve(rt, alloc, words, out, net, app);
+            let end = serve(rt, alloc, words, out, net, native, app);
             tell(alloc, Verdict::Served(end), err)
         }
     }

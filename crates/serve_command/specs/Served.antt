@@ -4,10 +4,10 @@ use Rattle.std.specs.List.{All}
 use Rattle.gv_io.specs.Streams.{appended, AppendsPrefix}
 use Rattle.wsgi_core.specs.Applications.{App}
 use Rattle.wsgi_core.specs.Gateways.{Gateway, said_by}
-use Rattle.stream_net.specs.Nets.{Meaning, listens_at}
+use Rattle.stream_net.specs.Nets.{Connection, Meaning, listens_at}
 use Rattle.stream_server.specs.declared.limits.Limits.{Limits}
 use Rattle.stream_server.specs.Served.{Cause}
-use Rattle.stream_server.specs.Serving.{BeginsSo, EachTold, IsAllServed, IsClosedWell, RestBut, Rests, WaitsToRead}
+use Rattle.stream_server.specs.Serving.{AllBut, BeginsSo, EachTold, IsAllServed, IsClosedWell, Rests, WaitsToRead}
 use Rattle.serve_command.specs.Lines.{number_line}
 use Rattle.serve_command.specs.declared.serving.Served.{Served}
 
@@ -19,27 +19,28 @@ abbrev pub served : ℕ → List ℕ
 served conns = number_line (codes "served") conns
 
 -- The net was asked for this port and served each connection by itself at the one that it took, through this gateway
--- and with this application, and out has the lines.
-pub record ServesAt (end : Served) (asked : ℕ) (answers : Gateway) (app : App) (limits : Limits) (w : Meaning) (out0 out1 : Option (List ℕ)) : Type 0 where
+-- and with this application, and out has the lines. `rests` says of a connection that it may be left, and `is_spent` of
+-- the port that the server had no job left.
+pub record ServesSo (rests : Connection → Type 0) (is_spent : ℕ → Type 0) (end : Served) (asked : ℕ) (answers : Gateway) (app : App) (limits : Limits) (w : Meaning) (out0 out1 : Option (List ℕ)) : Type 0 where
   -- the port that the net took; or nobody was accepted, and out is as it was
   pub port : ℕ
   pub listens : ((out1 ≡ out0) × (w.connections ≡ [])) ⊎ (w.listens ≡ listens_at asked port)
   -- out has the two lines, or a beginning of them; both where all were served
   pub begins : AppendsPrefix out0 out1 (listening port ++ served limits.conns)
   pub both : end ≡ Served.Finished → out1 ≡ appended out0 (listening port ++ served limits.conns)
-  -- where the net failed or memory ran out, out has the first line, or is as it was
-  pub first : (end ≡ Served.Listener) ⊎ (end ≡ Served.Memory) → (out1 ≡ out0) ⊎ (out1 ≡ appended out0 (listening port))
+  -- where the net failed, no job was left or memory ran out, out has the first line, or is as it was
+  pub first : (end ≡ Served.Listener) ⊎ (end ≡ Served.NoJobs) ⊎ (end ≡ Served.Memory) → (out1 ≡ out0) ⊎ (out1 ≡ appended out0 (listening port))
   -- the port was told before the first connection was accepted
   pub told : 0 < length w.connections → (rest : List ℕ) × (out1 ≡ appended out0 (listening port ++ rest))
   -- what was written to a connection begins what is said to what was read from it, and is all of it where it was closed
   -- well
   pub own : EachTold w.connections (λ c bytes sent. BeginsSo (said_by answers app port bytes c.ended).bytes sent)
   pub whole : EachTold w.connections (λ c bytes sent. IsClosedWell c → sent ≡ (said_by answers app port bytes c.ended).bytes)
-  -- an open one was left to wait for bytes only after all that was due had been written; all that are open wait, by
-  -- a read or by a write, but for one where memory ran out
+  -- an open one was left to wait for bytes only after all that was due had been written; all rest, but for one where
+  -- memory ran out or no job was left
   pub answered : EachTold w.connections (λ c bytes sent. WaitsToRead c → sent ≡ (said_by answers app port bytes c.ended).bytes)
-  pub resting : end ≢ Served.Memory → All Rests w.connections
-  pub rest_but : RestBut w.connections
+  pub resting : end ≢ Served.NoJobs → end ≢ Served.Memory → All rests w.connections
+  pub rest_but : AllBut rests w.connections
   -- each closed one was closed for a cause; no more were open than there are places, nor accepted than asked for
   pub cause : EachTold w.connections (λ c bytes sent. c.closed ≡ true → Cause (said_by answers app port bytes c.ended) sent limits.idle c)
   pub most : w.most ≤ limits.pool
@@ -47,6 +48,12 @@ pub record ServesAt (end : Served) (asked : ℕ) (answers : Gateway) (app : App)
   -- as many as asked for were accepted, and all are closed; where a line could not be written, that or nobody was
   pub all : end ≡ Served.Finished → IsAllServed w limits.conns
   pub at_line : end ≡ Served.WriteFault → (w.connections ≡ []) ⊎ IsAllServed w limits.conns
+  pub no_jobs : end ≡ Served.NoJobs → is_spent port
+
+-- So it served with an application that gives each reply at once: all that are open wait, by a read or by a write, and
+-- it asks for no jobs.
+abbrev pub ServesAt : Served → ℕ → Gateway → App → Limits → Meaning → Option (List ℕ) → Option (List ℕ) → Type 0
+ServesAt = ServesSo Rests (λ port. ⊥)
 
 -- The line that tells the port was handed on before the first connection was accepted. It is said of the end alone, and
 -- shows the order too: had a connection come first, a write or a flush that fails would keep the line back.

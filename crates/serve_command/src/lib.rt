@@ -1,8 +1,10 @@
 //! The command `serve` over any net and any sink.
 #![tactic(auto)]
 
+mod jobs;
 mod lines;
 mod serving;
 
+pub use jobs::serve_jobs_command;
 pub use lines::push_number_line;
 pub use serving::{Served, serve_command};

@@ -20,6 +20,8 @@ pub enum Served {
     Finished,
     /// The net failed: it didn't listen, or its listener failed.
     Listener,
+    /// One more job is asked for than have numbers.
+    NoJobs,
     /// A line could not be written.
     WriteFault,
     /// Memory ran out.
@@ -27,11 +29,12 @@ pub enum Served {
 }
 
 /// The end of a line that isn't out.
-fn unwritten(refusal: Unwritten) -> Served
+pub fn unwritten(refusal: Unwritten) -> Served
     ensures fault { result ≡ Served.WriteFault → refusal ≡ Unwritten.Fault }
     ensures memory { result ≢ Served.WriteFault → refusal ≡ Unwritten.Memory }
     ensures unfinished { result ≡ Served.Finished → ⊥ }
     ensures not_listener { result ≡ Served.Listener → ⊥ }
+    ensures not_jobs { result ≡ Served.NoJobs → ⊥ }
 {
     match refusal {
         Unwritten::Fault => Served::WriteFault,

@@ -1,24 +1,30 @@
-use Rattle.std.proofs.Common.{ap, map, option_and_then, refl, string_bytes, subst, sym, ◌∙◌}
-use Rattle.stream_server.specs.Serving.{IsInRange}
-use Rattle.stream_server.specs.declared.limits.Limits.{Limits}
-use Rattle.gv_top.specs.Words.{serving}
+use Rattle.std.proofs.Common.{ap, map, option_and_then, refl, string_bytes, sym, ◌∙◌}
+use Rattle.command_words.specs.declared.command.ServeOptions.{ServeOptions}
+use Rattle.gv_top.specs.Serving.{ServesWith, limits_of}
+use Rattle.gv_top.specs.Words.{is_native_server, serving}
 use Rattle.serve_command.proofs.Ends.{none_told}
-use Rattle.gv_top.proofs.Servings.{limits_in_range, nobody_served, served_as, told_at}
+use Rattle.serve_command.specs.Served.{IsToldFirst}
+use Rattle.gv_top.proofs.Servings.{by_options, nobody_served, options_in_range}
 use Rattle.gv_top.proofs.serving.serve.Goals as goal
 
 pub returns-in_default-clause-serves : goal.returns-in_default-clause-serves
-returns-in_default-clause-serves g c = λ options e. nobody_served _ _ _ _ _ _ _ c.requires.fresh refl
+returns-in_default-clause-serves g c = λ options e. nobody_served options.answers _ _ _ _ _ _ _ _ c.requires.fresh refl refl
 
-pub serve_through-requires-clause-in_range : goal.serve_through-requires-clause-in_range
-serve_through-requires-clause-in_range g c =
+pub serve_as-requires-clause-in_range : goal.serve_as-requires-clause-in_range
+serve_as-requires-clause-in_range g c =
     let named = ap (option_and_then serving) (sym c.in-Ok.ensures) ∙ sym c.server_options.ensures ∙ c.in-Some.is in
-    let P : Limits → Type 0 = λ l. IsInRange l in
-    subst P (sym c.limits_of.ensures) (limits_in_range (λ w command is. c.commands_are_in_range.ensures w command is) (map string_bytes c.args.words.now) c.in-Some.options named)
+    (options_in_range (λ w command is. c.commands_are_in_range.ensures w command is) (map string_bytes c.args.words.now) c.in-Some.options named).0
+
+pub serve_as-requires-clause-answers_in_range : goal.serve_as-requires-clause-answers_in_range
+serve_as-requires-clause-answers_in_range g c =
+    let named = ap (option_and_then serving) (sym c.in-Ok.ensures) ∙ sym c.server_options.ensures ∙ c.in-Some.is in
+    (options_in_range (λ w command is. c.commands_are_in_range.ensures w command is) (map string_bytes c.args.words.now) c.in-Some.options named).1
 
 pub returns-clause-serves : goal.returns-clause-serves
 returns-clause-serves g c =
     let named = ap (option_and_then serving) (sym c.in-Ok.ensures) ∙ sym c.server_options.ensures ∙ c.in-Some.is in
-    served_as _ _ c.in-Some.options _ _ _ _ _ named c.limits_of.ensures c.serve_through.ensures.serves
+    by_options (λ (o : ServeOptions). ServesWith o.answers c.serve_as.result o.port (g.A.Application.answer_of c.args.app.now) (limits_of o) (g.N.Net.meaning c.serve_as.new.net) (g.W.World.meaning c.args.native.now) (g.W.World.meaning c.serve_as.new.native) (g.K.Sink.written c.args.out.now) (g.K.Sink.written c.serve_as.new.out))
+    _ c.in-Some.options named c.serve_as.ensures.serves
 
 pub returns-in_default-clause-told : goal.returns-in_default-clause-told
 returns-in_default-clause-told g c = λ options e. none_told _ (g.N.Net.meaning c.args.net.now) _ _ c.requires.fresh.none
@@ -26,4 +32,9 @@ returns-in_default-clause-told g c = λ options e. none_told _ (g.N.Net.meaning 
 pub returns-clause-told : goal.returns-clause-told
 returns-clause-told g c =
     let named = ap (option_and_then serving) (sym c.in-Ok.ensures) ∙ sym c.server_options.ensures ∙ c.in-Some.is in
-    told_at _ c.in-Some.options (g.N.Net.meaning c.serve_through.new.net) _ _ named c.serve_through.ensures.told
+    by_options (λ (o : ServeOptions). IsToldFirst o.port (g.N.Net.meaning c.serve_as.new.net) (g.K.Sink.written c.args.out.now) (g.K.Sink.handed c.serve_as.new.out)) _ c.in-Some.options named c.serve_as.ensures.told
+
+pub returns-clause-untouched : goal.returns-clause-untouched
+returns-clause-untouched g c = λ h.
+    let named = ap (option_and_then serving) (sym c.in-Ok.ensures) ∙ sym c.server_options.ensures ∙ c.in-Some.is in
+    c.serve_as.ensures.untouched (ap is_native_server (sym named) ∙ h)

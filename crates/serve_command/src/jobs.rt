@@ -1,0 +1,66 @@
+//! The same, where native workers answer the requests for jobs.
+ghost use Rattle.std.specs.Prelude.{◌≡◌, ◌≢◌, ◌≤◌, true, []};
+ghost use Rattle.gv_values.specs.Counts.{HasRisen};
+ghost use Rattle.stream_net.specs.Nets.{IsFresh};
+ghost use Rattle.stream_server.specs.Serving.{IsInRange};
+ghost use Rattle.serve_command.specs.Served.{IsToldFirst};
+ghost use Rattle.serve_command.specs.Jobs.{ServesJobsAt};
+ghost use Rattle.wsgi_native.specs.Tied.{IsInOrder};
+
+use crate::lines::write_line;
+use crate::serving::{Served, unwritten};
+use gv_io::Sink;
+use std::alloc::Global;
+use std::sync::Wait;
+use stream_net::Net;
+use stream_server::Limits;
+use world::World;
+use wsgi_native::{JobsEnd, serve_jobs};
+
+/// Does as `serve_command` does over HTTP, but that the requests for `/job/KIND/INTEGER` are answered by jobs of the
+/// world, as `wsgi_native::serve_jobs` says, and all others as the shipped application answers them.
+///
+/// After every end but `Finished` the connections that are open stay open. The world still runs.
+pub fn serve_jobs_command<K: Sink, N: Net, W: World, H: Wait>(
+    rt: &H,
+    alloc: Global,
+    port: u16,
+    limits: Limits,
+    out: &mut K,
+    net: &mut N,
+    world: &mut W,
+) -> Served
+    requires fresh { IsFresh (N.meaning net.old) }
+    requires in_range { IsInRange limits }
+    requires runs { (W.meaning world.old).runs ≡ true }
+    requires no_posts { (W.meaning world.old).posts ≡ [] }
+    requires no_answers { (W.meaning world.old).answers ≡ [] }
+    ensures serves { ServesJobsAt result port limits (N.meaning net.new) (W.meaning world.new) (K.written out.old) (K.written out.new) }
+    ensures told { IsToldFirst port (N.meaning net.new) (K.written out.old) (K.handed out.new) }
+    ensures handed { K.handed out.old ≡ K.written out.old → result ≢ Served.WriteFault → result ≢ Served.Memory → K.handed out.new ≡ K.written out.new }
+    ensures listener { result ≡ Served.Listener → HasRisen (N.meaning net.old).faults (N.meaning net.new).faults }
+    ensures write_fault { result ≡ Served.WriteFault → HasRisen (K.faults out.old) (K.faults out.new) }
+    ensures net_unfailed { result ≢ Served.Listener → (N.meaning net.new).faults ≡ (N.meaning net.old).faults }
+    ensures out_unfailed { result ≢ Served.WriteFault → K.faults out.new ≡ K.faults out.old }
+    ensures net_never_falls { (N.meaning net.old).faults ≤ (N.meaning net.new).faults }
+    ensures out_never_falls { K.faults out.old ≤ K.faults out.new }
+    // The world still runs, and each job that it answered was posted for a request.
+    ensures in_order { IsInOrder (W.meaning world.new) }
+{
+    let Ok(port) = net.listen(port) else {
+        return Served::Listener;
+    };
+    if let Err(refusal) = write_line(alloc, b"listening", u64::from(port), out) {
+        return unwritten(refusal);
+    }
+    match serve_jobs(rt, alloc, net, world, port, limits) {
+        JobsEnd::Finished => {}
+        JobsEnd::Listener => return Served::Listener,
+        JobsEnd::NoJobs => return Served::NoJobs,
+        JobsEnd::Memory => return Served::Memory,
+    }
+    match write_line(alloc, b"served", u64::from(limits.conns), out) {
+        Ok(()) => Served::Finished,
+        Err(refusal) => unwritten(refusal),
+    }
+}
