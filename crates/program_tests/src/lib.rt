@@ -8,6 +8,8 @@ mod connection_tests;
 #[cfg(test)]
 mod fault_tests;
 #[cfg(test)]
+mod job_tests;
+#[cfg(test)]
 mod limit_tests;
 #[cfg(test)]
 mod native_tests;

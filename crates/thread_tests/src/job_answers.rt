@@ -1,7 +1,9 @@
-//! Many connections over loopback, each with a job of its own that native threads do, while one reads nothing.
-ghost use Rattle.std.specs.Prelude.{IsSome};
+//! `serve --jobs` over loopback: many connections, each with a job of its own that native threads do, while one reads
+//! nothing.
 ghost use Rattle.stream_net.specs.Nets.{IsFresh};
 
+use gv_io::{MemorySink, MemorySource};
+use gv_top::gvr;
 use mio_net::MioNet;
 use native_board::Bell;
 use native_pool::{
@@ -15,12 +17,13 @@ use std::sync::Wait;
 use std::test::Fail;
 use std::{io, thread};
 use stream_net::Net;
-use stream_server::Limits;
-use world::World;
-use wsgi_native::{JobsEnd, serve_jobs};
+use wsgi_core::ShippedApp;
 
 /// How many clients ask and read.
 const CLIENTS: u32 = 64;
+
+/// How often a client that nobody hears tries again.
+const TRIES: u32 = 10000000;
 
 /// What a client of this number asks for: the first by far the longest.
 fn request(alloc: Global, number: u32) -> Result<String, AllocError> {
@@ -43,9 +46,21 @@ fn answer(alloc: Global, number: u32) -> Result<String, AllocError> {
     format!(in alloc; "\r\n\r\nvalue {number}\n")
 }
 
+/// Connects, once somebody listens at the port.
+fn connect(rt: &HostRuntime, port: u16) -> io::Result<TcpStream> {
+    let address = SocketAddr::from((Ipv4Addr::LOCALHOST, port));
+    for _ in 0..TRIES {
+        if let Ok(stream) = TcpStream::connect(rt, address) {
+            return Ok(stream);
+        }
+        thread::yield_now();
+    }
+    TcpStream::connect(rt, address)
+}
+
 /// Whether a client that asks for a job is sent what this came to.
 fn is_answered(rt: &HostRuntime, port: u16, number: u32) -> io::Result<bool> {
-    let mut stream = TcpStream::connect(rt, SocketAddr::from((Ipv4Addr::LOCALHOST, port)))?;
+    let mut stream = connect(rt, port)?;
     let request = request(rt.alloc(), number)?;
     stream.write_all(request.as_bytes())?;
     let mut bytes = Vec::new(rt.alloc());
@@ -56,13 +71,20 @@ fn is_answered(rt: &HostRuntime, port: u16, number: u32) -> io::Result<bool> {
 
 /// Asks for a job, and reads nothing.
 fn ask_alone(rt: &HostRuntime, port: u16) -> io::Result<TcpStream> {
-    let mut stream = TcpStream::connect(rt, SocketAddr::from((Ipv4Addr::LOCALHOST, port)))?;
+    let mut stream = connect(rt, port)?;
     stream.write_all(b"GET /job/echo/7 HTTP/1.1\r\n\r\n")?;
     Ok(stream)
 }
 
-/// Serves the clients by a world of these parts, with four workers.
-fn serve_over<
+/// What a call left.
+#[derive(Drop)]
+struct Left {
+    status: u8,
+    out: MemorySink,
+}
+
+/// Calls with these words over this net and a world of these parts.
+fn call_over<
     H: Wait + Copy + Drop,
     R: Ear + Drop,
     B: Bell + Drop,
@@ -73,62 +95,81 @@ fn serve_over<
 >(
     alloc: Global,
     rt: H,
+    line: &str,
     net: &mut N,
     ear: R,
     bell: B,
     clock: C,
     gate: G,
     spawner: S,
-    port: u16,
-) -> Result<JobsEnd, AllocError>
-    requires listens { IsSome (N.meaning net.old).listens }
-    requires fresh { IsFresh (N.meaning net.old) }
+) -> Result<Left, AllocError>
+    requires { IsFresh (N.meaning net.old) }
 {
-    let mut world = ThreadWorld::new(alloc, rt, ear, bell, clock, gate, spawner)?;
-    world.begin(4)?;
-    let limits = Limits {
-        pool: 100,
-        conns: CLIENTS + 1,
-        idle: 500,
-    };
-    let end = serve_jobs(&rt, alloc, net, &mut world, port, limits);
-    world.finish();
-    Ok(end)
+    let mut native = ThreadWorld::new(alloc, rt, ear, bell, clock, gate, spawner)?;
+    let mut words = Vec::new(alloc);
+    for word in line.split_whitespace() {
+        words.push(String::from_str(alloc, word)?)?;
+    }
+    let mut input = MemorySource::new(Vec::new(alloc), 1, Vec::new(alloc));
+    let mut out = MemorySink::new(alloc, 100)?;
+    let mut err = MemorySink::new(alloc, 100)?;
+    let status = gvr(
+        &rt,
+        alloc,
+        words.as_slice(),
+        &mut input,
+        &mut out,
+        &mut err,
+        &mut native,
+        net,
+        &ShippedApp,
+    );
+    Ok(Left { status, out })
+}
+
+/// A port at which nobody listens.
+fn free_port(rt: HostRuntime) -> Result<u16, Fail> {
+    let mut net = MioNet::new(rt, rt.alloc())?;
+    match net.listen(0) {
+        Ok(port) => Ok(port),
+        Err(_) => Err("it doesn't listen".into()),
+    }
 }
 
 #[test]
 fn each_of_64_clients_is_sent_what_its_own_job_came_to(rt: HostRuntime) -> Result<(), Fail> {
-    let mut net = MioNet::new(rt, rt.alloc())?;
-    let Ok(port) = net.listen(0) else {
-        return Err("it doesn't listen".into());
-    };
-    let silent = ask_alone(&rt, port)?;
-    let mut clients = Vec::new(rt.alloc());
+    let alloc = rt.alloc();
+    let port = free_port(rt)?;
+    let silent = thread::spawn(&rt, move || ask_alone(&rt, port))?;
+    let mut clients = Vec::new(alloc);
     for number in 0..CLIENTS {
         clients.push(thread::spawn(&rt, move || is_answered(&rt, port, number))?)?;
     }
-    let (ear, bell) = PollEar::new(&rt, rt.alloc())?;
+    let (ear, bell) = PollEar::new(&rt, alloc)?;
     let clock = SteadyClock::new(rt)?;
     let start = Box::new(
-        rt.alloc(),
+        alloc,
         move |task: WorkerTask<WakerBell, OpenGate>| spawn_worker(&rt, task),
     )?;
     let spawner = ThreadSpawner::new(rt, start);
-    let end = serve_over(
-        rt.alloc(),
+    let mut net = MioNet::new(rt, alloc)?;
+    let line = format!(in alloc; "serve --port {port} --conns 65 --idle 500 --jobs 4")?;
+    let left = call_over(
+        alloc,
         rt,
+        line.as_str(),
         &mut net,
         ear,
         bell,
         clock,
         OpenGate,
         spawner,
-        port,
     )?;
-    assert!(rt; end == JobsEnd::Finished);
+    assert_eq!(rt; left.status, 0);
+    assert!(rt; left.out.bytes().ends_with(b"served 65\n"));
     for client in clients {
         assert!(rt; client.join(&rt)?);
     }
-    drop(silent);
+    drop(silent.join(&rt)?);
     Ok(())
 }
