@@ -1,5 +1,5 @@
 -- The ends of the command whose requests for jobs native workers answer.
-use Rattle.std.proofs.Common.{◌≡◌, ◌≢◌, ◌⊎◌, inl, inr, ℕ, ◌≤◌, true, false, List, [], ◌++◌, length, Option, ap, arith}
+use Rattle.std.proofs.Common.{◌≡◌, ◌≢◌, ◌⊎◌, inl, inr, ℕ, ◌≤◌, true, false, List, [], length, Option, ap, arith}
 use Rattle.std.specs.List.{All}
 use Rattle.gv_io.specs.Streams.{appended, AppendsPrefix}
 use Rattle.wsgi_core.specs.Applications.{App}

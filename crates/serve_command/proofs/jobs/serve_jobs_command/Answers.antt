@@ -1,9 +1,6 @@
-use Rattle.std.proofs.Common.{◌≡◌, ◌≢◌, ℕ, Result, Err, ap, inl, inr, refl, subst, ◌∙◌}
+use Rattle.std.proofs.Common.{ℕ, ap, inl, inr, refl, subst, ◌∙◌}
 use Rattle.gv_io.specs.Streams.{appended, AppendsPrefix}
 use Rattle.gv_io.proofs.StreamLaws.{AppendsPrefix-nothing, Extends-nothing}
-use Rattle.stream_net.specs.Nets.{Connection}
-use Rattle.stream_net.specs.declared.net.Quiet.TheVariants.{Awake}
-use Rattle.serve_command.specs.declared.lines.Unwritten.{Unwritten}
 use Rattle.serve_command.specs.declared.serving.Served.{Served}
 use Rattle.serve_command.specs.Served.{listening, served}
 use Rattle.serve_command.proofs.Ends.{is_memory, listener_no_jobs, listener_no_line, listener_unfinished, memory_no_jobs, memory_no_line, memory_unfinished, no_jobs_no_line, no_jobs_unfinished, no_other_end, none_told, told_first}
