@@ -1,7 +1,37 @@
--- A law of sessions, which a function of src/laws.rt proves.
-use Rattle.std.specs.Prelude.{◌≡◌, ℕ, Bool, true, false, List, ◌++◌}
+-- Laws of sessions, which functions of src/laws.rt prove.
+use Rattle.std.specs.Prelude.{◌≡◌, ℕ, Bool, true, false, List, [], ◌∷◌, ◌++◌}
+use Rattle.wsgi_core.specs.declared.session.Session.{Session}
 use Rattle.wsgi_core.specs.Applications.{App}
 use Rattle.wsgi_core.specs.Sessions.{session}
+use Rattle.wsgi_core.specs.Standings.{IsFed, IsTaken}
+use Rattle.wsgi_core.specs.Steps.{IsAt, StandsAt}
+
+-- ---- feeds and takes
+
+-- what is done to a session: it is fed a piece, or bytes are taken from it
+pub data Call : Type 0 where
+  Feed : List ℕ → Call
+  Take : List ℕ → Call
+
+-- the pieces joined
+abbrev pub fed_by : List Call → List ℕ
+fed_by [] = []
+fed_by (Call.Feed piece ∷ calls) = piece ++ fed_by calls
+fed_by (Call.Take bytes ∷ calls) = fed_by calls
+
+-- the bytes that were taken, joined
+abbrev pub taken_by : List Call → List ℕ
+taken_by [] = []
+taken_by (Call.Feed piece ∷ calls) = taken_by calls
+taken_by (Call.Take bytes ∷ calls) = bytes ++ taken_by calls
+
+-- by these calls, in order, the old session became the new one: each is what the clauses of `feed` and `took` say
+abbrev pub Becomes : App → List Call → Session → Session → Type 0
+Becomes app [] old new = new ≡ old
+Becomes app (Call.Feed piece ∷ calls) old new = (s : Session) × IsFed StandsAt IsAt app piece old s × Becomes app calls s new
+Becomes app (Call.Take bytes ∷ calls) old new = (s : Session) × IsTaken IsAt bytes old s × Becomes app calls s new
+
+-- ---- more bytes
 
 -- Whatever bytes follow, what was sent begins what is sent. A session that closed stays closed, and one that closed
 -- before its input ended says nothing more.
