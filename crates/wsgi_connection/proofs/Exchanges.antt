@@ -1,7 +1,8 @@
 -- A connection, piece by piece, and the whole of it.
 use Rattle.std.proofs.Common.{◌≡◌, ◌≢◌, ℕ, zero, suc, ◌+◌, ◌-◌, ◌<◌, ◌≤◌, Bool, true, false, ◌||◌, List, [], ◌∷◌, ◌++◌, length, take, min, ◌⊎◌, inl, inr, length-take-le, take-take, nat_le, Option, Some, None, IfSome, Result, Ok, Err, OnOk, OnErr, is_err, refl, sym, ap, ◌∙◌, subst, arith, append-nil, length-append, unwrap_or}
+use Rattle.std.proofs.lemmas.Grind.{common_steps}
 use Rattle.std.proofs.lemmas.List.{append_cancel_left, take-append-le, take_all}
-use Rattle.gv_io.specs.Streams.{appended, prepended, AppendsPrefix}
+use Rattle.gv_io.specs.Streams.{appended, prepended, AppendsPrefix, Extends}
 use Rattle.gv_io.proofs.StreamLaws.{appended-nothing, appended-appended, prepended-prepended, prepended-nothing, AppendsPrefix-after, AppendsPrefix-longer, AppendsPrefix-all}
 use Rattle.wsgi_core.specs.Answers.{Sent, nothing}
 use Rattle.wsgi_core.specs.Applications.{App}
@@ -12,7 +13,7 @@ use Rattle.wsgi_core.specs.declared.session.SessionPhase.{SessionPhase}
 use Rattle.wsgi_connection.specs.declared.connection.ConnectionEnd.{ConnectionEnd}
 use Rattle.wsgi_connection.specs.declared.connection.Turn.{Turn}
 use Rattle.wsgi_connection.specs.declared.connection.ConnectionEnd.TheVariants.{Closed, TooLong, ReadFault, WriteFault, Memory}
-use Rattle.wsgi_connection.specs.Connections.{most_bytes, whole_session, Exchanged, IsServed, IsWhole, SentFor}
+use Rattle.wsgi_connection.specs.Connections.{most_bytes, most_piece, whole_session, Exchanged, HandedAhead, IsServed, IsWhole, SentAhead, SentFor}
 use Rattle.wsgi_connection.specs.Pieces.{Breaks, Goes, IsAtRest, said}
 
 -- ---- results
@@ -62,6 +63,9 @@ looked_at_piece came room buf behind fits = by (le_or_gt came room)
         let least : min came room ≡ room = omega arith in
         rw least (take-take room came buf many ∙ sym (take-append-le room buf behind (omega arith)))
 
+pub short_piece : (looked : ℕ) (bytes : List ℕ) → looked ≤ most_piece → length (take looked bytes) ≤ most_piece
+short_piece looked bytes few = let short : length (take looked bytes) ≤ looked = grind (arith, common_steps) in omega (arith, short, few)
+
 -- what is looked at grows by the piece
 pub looked_at_more : (read buf behind : List ℕ) (count came looked : ℕ) → length read ≡ count → came ≤ length buf → looked ≡ min came (most_bytes - count)
     → take most_bytes (read ++ take came buf) ≡ take most_bytes read ++ take looked (buf ++ behind)
@@ -105,6 +109,52 @@ is_serving false e = refl
 pub appends_nothing : (old new : Option (List ℕ)) (text : List ℕ) → text ≡ [] → AppendsPrefix old new text → new ≡ old
 appends_nothing old new text e p = p.is ∙ ap (appended old) (take_nil p.count text e) ∙ appended-nothing old
 
+-- a prefix of a text was appended, so what was there is there still
+pub extends_by : (old new : Option (List ℕ)) (text : List ℕ) → AppendsPrefix old new text → Extends old new
+extends_by old new text p = record { more = take p.count text; is = p.is }
+
+-- the bytes that were read, with those of one more read
+pub read_on : (read chunk : List ℕ) (in0 in1 in2 : Option (List ℕ)) → in0 ≡ prepended read in1 → in1 ≡ prepended chunk in2 → in0 ≡ prepended (read ++ chunk) in2
+read_on read chunk in0 in1 in2 e f = e ∙ ap (prepended read) f ∙ prepended-prepended in2 read chunk
+
+-- ---- what stood there before the last read
+
+-- all of it
+all_ahead : (gw : Gateway) (app : App) (port : ℕ) (bytes : List ℕ) (out0 now : Option (List ℕ)) → now ≡ appended out0 (said gw app port bytes) → SentAhead gw app port bytes out0 now
+all_ahead gw app port bytes out0 now e = record {
+  before = bytes;
+  last = [];
+  is = sym (append-nil bytes);
+  short = omega arith;
+  stands = record { more = []; is = e ∙ sym (appended-nothing (appended out0 (said gw app port bytes))) };
+}
+
+-- all but what is due for the piece
+piece_ahead : (gw : Gateway) (app : App) (port : ℕ) (bytes before piece : List ℕ) (out0 mid now : Option (List ℕ)) → bytes ≡ before ++ piece → length piece ≤ most_piece
+    → mid ≡ appended out0 (said gw app port before) → Extends mid now → SentAhead gw app port bytes out0 now
+piece_ahead gw app port bytes before piece out0 mid now is short e more =
+    let P : Option (List ℕ) → Type 0 = λ o. Extends o now in
+    record { before = before; last = piece; is = is; short = short; stands = subst P e more }
+
+-- a read that took these bytes came after all that is due for those before it was handed on
+pub handed_before : {T : Type 0} (gw : Gateway) (at : Standing T) (app : App) (port count : ℕ) (chunk : List ℕ) (in0 in1 in2 out0 out1 handed1 handed2 : Option (List ℕ)) (s : T) → Goes gw at app port count in0 in1 out0 out1 s
+    → in1 ≡ prepended chunk in2 → length chunk ≤ most_piece → handed1 ≡ out1 → Extends handed1 handed2 → HandedAhead gw app port in0 in2 out0 handed2
+handed_before gw at app port count chunk in0 in1 in2 out0 out1 handed1 handed2 s h e short handed more =
+    let room = most_bytes - length h.read in
+    let fits : length (take room chunk) ≤ length chunk = grind (arith, common_steps) in
+    record {
+      read = h.read ++ chunk;
+      is_read = read_on h.read chunk in0 in1 in2 h.is_read e;
+      ahead = piece_ahead gw app port (take most_bytes (h.read ++ chunk)) (take most_bytes h.read) (take room chunk) out0 handed1 handed2 (take-two most_bytes h.read chunk) (omega (arith, fits, short))
+          (handed ∙ h.served.sent) more;
+    }
+
+-- where no more is read, all was
+pub handed_all : {T : Type 0} (gw : Gateway) (at : Standing T) (app : App) (port count : ℕ) (in0 in1 out0 out1 handed1 : Option (List ℕ)) (s : T) → Goes gw at app port count in0 in1 out0 out1 s → handed1 ≡ out1
+    → HandedAhead gw app port in0 in1 out0 handed1
+handed_all gw at app port count in0 in1 out0 out1 handed1 s h handed =
+    record { read = h.read; is_read = h.is_read; ahead = all_ahead gw app port (take most_bytes h.read) out0 handed1 (handed ∙ h.served.sent) }
+
 -- ---- a turn
 
 -- a read that failed took nothing
@@ -118,6 +168,7 @@ read_failed gw at app port count in0 in1 in2 out0 out1 s h few e =
       is_read = h.is_read ∙ ap (prepended h.read) (sym e);
       within = omega (arith, short);
       sent = (short, subst P (take_all most_bytes h.read short) h.served);
+      ahead = all_ahead gw app port (take most_bytes h.read) out0 out1 h.served.sent;
     }
 
 -- at the end of the input all is out
@@ -130,6 +181,7 @@ input_ended gw at app port count came buf in0 in1 in2 out0 out1 out2 s end h few
       is_read = h.is_read ∙ ap (prepended h.read) unchanged;
       within = omega (arith, h.is_long);
       sent = by kind;
+      ahead = all_ahead gw app port (take most_bytes h.read) out0 out2 sent;
     }
   where
     unchanged : in1 ≡ in2
@@ -154,20 +206,17 @@ input_ended gw at app port count came buf in0 in1 in2 out0 out1 out2 s end h few
     })
     by (inr w) = subst P (sym w) (AppendsPrefix-all out0 out2 (said gw app port (take most_bytes h.read)) sent)
 
--- the bytes that were read, with those of one more read
-pub read_on : (read chunk : List ℕ) (in0 in1 in2 : Option (List ℕ)) → in0 ≡ prepended read in1 → in1 ≡ prepended chunk in2 → in0 ≡ prepended (read ++ chunk) in2
-read_on read chunk in0 in1 in2 e f = e ∙ ap (prepended read) f ∙ prepended-prepended in2 read chunk
-
 -- the piece was not answered whole
 pub piece_cut : {T : Type 0} (gw : Gateway) (at : Standing T) (app : App) (port count came : ℕ) (buf piece : List ℕ) (in0 in1 in2 out0 out1 out2 : Option (List ℕ)) (s : T) (end : ConnectionEnd)
     → (h : Goes gw at app port count in0 in1 out0 out1 s) → came ≤ length buf → in1 ≡ prepended (take came buf) in2 → count + came ≤ most_bytes + 1
-    → take most_bytes (h.read ++ take came buf) ≡ take most_bytes h.read ++ piece → Breaks end gw at app piece s out1 out2 → Exchanged end gw app port in0 in2 out0 out2
-piece_cut gw at app port count came buf piece in0 in1 in2 out0 out1 out2 s end h long e fits more broke =
+    → take most_bytes (h.read ++ take came buf) ≡ take most_bytes h.read ++ piece → length piece ≤ most_piece → Extends out1 out2 → Breaks end gw at app piece s out1 out2 → Exchanged end gw app port in0 in2 out0 out2
+piece_cut gw at app port count came buf piece in0 in1 in2 out0 out1 out2 s end h long e fits more small on broke =
     record {
       read = h.read ++ take came buf;
       is_read = read_on h.read (take came buf) in0 in1 in2 h.is_read e;
       within = omega (arith, length-append h.read (take came buf), length-take-le came buf long, h.is_long, fits);
       sent = by end broke;
+      ahead = piece_ahead gw app port (take most_bytes (h.read ++ take came buf)) (take most_bytes h.read) piece out0 out1 out2 more small h.served.sent on;
     }
   where
     P : List ℕ → Type 0
@@ -200,10 +249,10 @@ piece_answered gw at app port count came buf piece in0 in1 in2 out0 out1 out2 s 
 -- the piece was answered, and the session closes
 pub piece_last : {T : Type 0} (gw : Gateway) (at : Standing T) (app : App) (port count came : ℕ) (buf piece : List ℕ) (in0 in1 in2 out0 out1 out2 : Option (List ℕ)) (s : T)
     → (h : Goes gw at app port count in0 in1 out0 out1 s) → came ≤ length buf → in1 ≡ prepended (take came buf) in2 → count + came ≤ most_bytes + 1
-    → take most_bytes (h.read ++ take came buf) ≡ take most_bytes h.read ++ piece
+    → take most_bytes (h.read ++ take came buf) ≡ take most_bytes h.read ++ piece → length piece ≤ most_piece → Extends out1 out2
     → out2 ≡ appended out0 (said gw app port (take most_bytes h.read ++ piece)) → (said_by gw app port (take most_bytes h.read ++ piece) false).closes ≡ true
     → Exchanged Closed gw app port in0 in2 out0 out2
-piece_last gw at app port count came buf piece in0 in1 in2 out0 out1 out2 s h long e fits more sent closes =
+piece_last gw at app port count came buf piece in0 in1 in2 out0 out1 out2 s h long e fits more small on sent closes =
     let P : List ℕ → Type 0 = λ z. out2 ≡ appended out0 (said gw app port z) in
     let Q : List ℕ → Type 0 = λ z. (said_by gw app port z false).closes ≡ true in
     record {
@@ -217,6 +266,7 @@ piece_last gw at app port count came buf piece in0 in1 in2 out0 out1 out2 s h lo
         end = λ t. absurd (cc);
         within = λ t. absurd (cc);
       };
+      ahead = piece_ahead gw app port (take most_bytes (h.read ++ take came buf)) (take most_bytes h.read) piece out0 out1 out2 more small h.served.sent on;
     }
 
 -- ---- the whole
@@ -331,7 +381,7 @@ begins gw at app port s in0 out0 e h =
 pub too_long : {T : Type 0} (gw : Gateway) (at : Standing T) (app : App) (port count : ℕ) (in0 in1 out0 out1 : Option (List ℕ)) (s : T) → Goes gw at app port count in0 in1 out0 out1 s
     → most_bytes < count → count ≤ most_bytes + 1 → Exchanged TooLong gw app port in0 in1 out0 out1
 too_long gw at app port count in0 in1 out0 out1 s h many few =
-    record { read = h.read; is_read = h.is_read; within = omega (arith, h.is_long, few); sent = (omega (arith, h.is_long, many, few), h.served) }
+    record { read = h.read; is_read = h.is_read; within = omega (arith, h.is_long, few); sent = (omega (arith, h.is_long, many, few), h.served); ahead = all_ahead gw app port (take most_bytes h.read) out0 out1 h.served.sent }
 
 -- ---- what was handed on
 

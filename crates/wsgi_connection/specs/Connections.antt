@@ -1,6 +1,6 @@
 -- What a connection is sent whose bytes a source gives.
-use Rattle.std.specs.Prelude.{◌≡◌, ℕ, ◌+◌, ◌≤◌, Bool, true, false, List, [], length, take, nat_le, Option, IfSome}
-use Rattle.gv_io.specs.Streams.{appended, prepended, AppendsPrefix}
+use Rattle.std.specs.Prelude.{◌≡◌, ℕ, ◌+◌, ◌≤◌, Bool, true, false, List, [], ◌++◌, length, take, nat_le, Option, IfSome}
+use Rattle.gv_io.specs.Streams.{appended, prepended, AppendsPrefix, Extends}
 use Rattle.wsgi_core.specs.Answers.{Sent}
 use Rattle.wsgi_core.specs.Applications.{App}
 use Rattle.wsgi_core.specs.Gateways.{Gateway, said_by}
@@ -10,6 +10,10 @@ use Rattle.wsgi_connection.specs.declared.connection.ConnectionEnd.TheVariants.{
 -- the most bytes of a connection that are looked at
 abbrev pub most_bytes : ℕ
 most_bytes = 16777216
+
+-- the most bytes that one read gives
+abbrev pub most_piece : ℕ
+most_piece = 4096
 
 -- ---- by the bytes that were read
 
@@ -27,7 +31,17 @@ pub record IsClosed (answers : Gateway) (app : App) (port : ℕ) (read : List �
   pub end : ended ≡ true → IfSome in1 (λ left. left ≡ [])
   pub within : ended ≡ true → length read ≤ most_bytes
 
--- what was sent for the bytes that were read; past the most bytes nothing is looked at
+-- what is sent for these bytes, but for those of the last read, stands in out or was handed on
+pub record SentAhead (answers : Gateway) (app : App) (port : ℕ) (bytes : List ℕ) (out0 now : Option (List ℕ)) : Type 0 where
+  pub before : List ℕ
+  pub last : List ℕ
+  pub is : bytes ≡ before ++ last
+  pub short : length last ≤ most_piece
+  pub stands : Extends (appended out0 (said_by answers app port before false).bytes) now
+
+-- What was sent for the bytes that were read; past the most bytes nothing is looked at. It is said of the end alone, and
+-- with `SentAhead` shows what stood in between: what is due is still to be written, and any write may be the one that
+-- fails. So the answers to more bytes than one read gives are never due.
 abbrev pub SentFor : ConnectionEnd → Gateway → App → ℕ → List ℕ → Option (List ℕ) → Option (List ℕ) → Option (List ℕ) → Type 0
 SentFor Closed answers app port read in1 out0 out1 = IsClosed answers app port read in1 out0 out1
 SentFor TooLong answers app port read in1 out0 out1 = (length read ≡ most_bytes + 1) × IsServed answers app port (take most_bytes read) out0 out1
@@ -41,6 +55,14 @@ pub record Exchanged (end : ConnectionEnd) (answers : Gateway) (app : App) (port
   pub is_read : in0 ≡ prepended read in1
   pub within : length read ≤ most_bytes + 1
   pub sent : SentFor end answers app port read in1 out0 out1
+  pub ahead : SentAhead answers app port (take most_bytes read) out0 out1
+
+-- Before the last read all that was due for the bytes before it was handed on. This too shows what stood in between, as
+-- any flush may be the one that fails.
+pub record HandedAhead (answers : Gateway) (app : App) (port : ℕ) (in0 in1 out0 handed1 : Option (List ℕ)) : Type 0 where
+  pub read : List ℕ
+  pub is_read : in0 ≡ prepended read in1
+  pub ahead : SentAhead answers app port (take most_bytes read) out0 handed1
 
 -- ---- by all the bytes that were left
 

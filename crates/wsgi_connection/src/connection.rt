@@ -1,9 +1,9 @@
 //! A connection, answered piece by piece.
 ghost use Rattle.std.specs.Prelude.{◌≡◌, ◌≢◌, ◌⊎◌, ◌≤◌, ◌++◌, ℕ, List, Option, Some, IfErr, OnErr, OnOk, false};
 ghost use Rattle.gv_values.specs.Counts.{HasRisen};
-ghost use Rattle.gv_io.specs.Streams.{appended, AppendsPrefix};
+ghost use Rattle.gv_io.specs.Streams.{appended, AppendsPrefix, Extends};
 ghost use Rattle.wsgi_core.specs.Applications.{App};
-ghost use Rattle.wsgi_connection.specs.Connections.{Exchanged, IsWhole, most_bytes, whole_session};
+ghost use Rattle.wsgi_connection.specs.Connections.{Exchanged, HandedAhead, IsWhole, most_bytes, whole_session};
 ghost use Rattle.wsgi_connection.specs.Pieces.{Breaks, Counts, Goes, IsAtRest, Leaves, said};
 
 use gv_io::{Failed, Sink, Source};
@@ -41,13 +41,14 @@ pub enum Turn {
 }
 
 /// Writes out what is pending, and takes it from the session.
-#[tactic(auto, using(gv_io::proofs::StreamLaws::writes))]
+#[tactic(auto, using(gv_io::proofs::StreamLaws::writes, gv_io::proofs::StreamLaws::hands))]
 fn send<T: Talk, K: Sink>(session: &mut T, out: &mut K) -> Result<(), Failed>
     ensures sent { OnOk result (K.written out.new ≡ appended (K.written out.old) (T.due session.old)) }
     ensures prefix { AppendsPrefix (K.written out.old) (K.written out.new) (T.due session.old) }
     ensures taken { OnOk result ((app : App) (port : ℕ) (fed taken : List ℕ) → T.is_at app port fed false taken session.old
         → T.is_at app port fed false (taken ++ T.due session.old) session.new) }
     ensures handed { OnOk result (K.handed out.new ≡ K.written out.new) }
+    ensures never_taken_back { Extends (K.handed out.old) (K.handed out.new) }
     ensures never_falls { K.faults out.old ≤ K.faults out.new }
     ensures failed { OnErr result (HasRisen (K.faults out.old) (K.faults out.new)) }
     ensures unfailed { OnOk result (K.faults out.new ≡ K.faults out.old) }
@@ -73,7 +74,9 @@ fn answer_piece<T: Talk, K: Sink, A: Application>(
         → K.written out.old ≡ appended out0 (said T.answers (A.answer_of app.now) port fed)
         → K.written out.new ≡ appended out0 (said T.answers (A.answer_of app.now) port (fed ++ piece.now))) }
     ensures broke { IfErr result (λ end. Breaks end T.answers T.is_at (A.answer_of app.now) piece.now session.old (K.written out.old) (K.written out.new)) }
+    ensures written { Extends (K.written out.old) (K.written out.new) }
     ensures handed { OnOk result (K.handed out.new ≡ K.written out.new) }
+    ensures never_taken_back { Extends (K.handed out.old) (K.handed out.new) }
     ensures never_falls { K.faults out.old ≤ K.faults out.new }
     ensures failed { IfErr result (λ end. end ≡ ConnectionEnd.WriteFault → HasRisen (K.faults out.old) (K.faults out.new)) }
     ensures unfailed { OnOk result (K.faults out.new ≡ K.faults out.old) }
@@ -95,6 +98,7 @@ fn end_input<T: Talk, K: Sink>(session: &mut T, out: &mut K) -> ConnectionEnd
     ensures ended { (result ≡ ConnectionEnd.Closed) ⊎ (result ≡ ConnectionEnd.WriteFault) }
     ensures nothing { (app : App) (port : ℕ) (fed : List ℕ) → IsAtRest T.answers T.is_at app port fed session.old → K.written out.new ≡ K.written out.old }
     ensures handed { result ≡ ConnectionEnd.Closed → K.handed out.new ≡ K.written out.new }
+    ensures never_taken_back { Extends (K.handed out.old) (K.handed out.new) }
     ensures never_falls { K.faults out.old ≤ K.faults out.new }
     ensures failed { result ≡ ConnectionEnd.WriteFault → HasRisen (K.faults out.old) (K.faults out.new) }
     ensures unfailed { result ≢ ConnectionEnd.WriteFault → K.faults out.new ≡ K.faults out.old }
@@ -119,6 +123,10 @@ fn exchange<T: Talk, S: Source, K: Sink, A: Application>(
         → Goes T.answers T.is_at (A.answer_of app.now) port count in0 (S.remaining input.old) out0 (K.written out.old) session.old
         → Leaves result T.answers T.is_at (A.answer_of app.now) port count in0 (S.remaining input.new) out0 (K.written out.new) session.new }
     ensures handed { K.handed out.old ≡ K.written out.old → result ≢ Turn.Ended ConnectionEnd.WriteFault → result ≢ Turn.Ended ConnectionEnd.Memory → K.handed out.new ≡ K.written out.new }
+    ensures handed_ahead { (port : ℕ) (in0 out0 : Option (List ℕ))
+        → Goes T.answers T.is_at (A.answer_of app.now) port count in0 (S.remaining input.old) out0 (K.written out.old) session.old
+        → K.handed out.old ≡ K.written out.old
+        → HandedAhead T.answers (A.answer_of app.now) port in0 (S.remaining input.new) out0 (K.handed out.new) }
     ensures counts { Counts result count }
     ensures input_never_falls { S.faults input.old ≤ S.faults input.new }
     ensures out_never_falls { K.faults out.old ≤ K.faults out.new }
@@ -162,6 +170,8 @@ pub fn answer_connection<T: Talk + Drop, S: Source, K: Sink, A: Application>(
         IsWhole result (whole_session T.answers (A.answer_of app.now) port left) (K.written out.old) (K.written out.new) }
     // All that was written is handed on where all was before, also where a read failed.
     ensures handed { K.handed out.old ≡ K.written out.old → result ≢ ConnectionEnd.WriteFault → result ≢ ConnectionEnd.Memory → K.handed out.new ≡ K.written out.new }
+    // What is due for all that was read was handed on before the last read.
+    ensures handed_ahead { K.handed out.old ≡ K.written out.old → HandedAhead T.answers (A.answer_of app.now) port (S.remaining input.old) (S.remaining input.new) (K.written out.old) (K.handed out.new) }
     ensures read_fault { result ≡ ConnectionEnd.ReadFault → HasRisen (S.faults input.old) (S.faults input.new) }
     ensures write_fault { result ≡ ConnectionEnd.WriteFault → HasRisen (K.faults out.old) (K.faults out.new) }
     ensures unfailed_reads { result ≢ ConnectionEnd.ReadFault → S.faults input.new ≡ S.faults input.old }

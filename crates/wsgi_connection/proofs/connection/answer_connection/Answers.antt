@@ -1,6 +1,6 @@
 use Rattle.std.proofs.Common.{◌<◌, ◌∙◌, refl, arith}
 use Rattle.wsgi_connection.specs.Connections.{most_bytes}
-use Rattle.wsgi_connection.proofs.Exchanges.{begins, same_end, too_long, whole_of}
+use Rattle.wsgi_connection.proofs.Exchanges.{begins, handed_all, same_end, too_long, whole_of}
 use Rattle.wsgi_connection.proofs.connection.answer_connection.Goals as goal
 
 pub loop-count-init : goal.loop-count-init
@@ -39,3 +39,14 @@ returns-in-Ended-clause-handed g c = λ e w m.
 
 pub returns-clause-handed : goal.returns-clause-handed
 returns-clause-handed g c = λ e w m. c.loop-count.invariant.handed e
+
+pub returns-in-Ended-clause-handed_ahead : goal.returns-in-Ended-clause-handed_ahead
+returns-in-Ended-clause-handed_ahead g c = λ e. c.in-Ended.ensures.handed_ahead c.args.port _ _ c.loop-count.invariant.goes (c.loop-count.invariant.handed e)
+
+pub returns-clause-handed_ahead : goal.returns-clause-handed_ahead
+returns-clause-handed_ahead g c = λ e. handed_all _ _ _ c.args.port c.loop-count.count _ _ _ _ _ c.loop-count.session c.loop-count.invariant.goes (c.loop-count.invariant.handed e)
+
+pub returns-clause-exchanged : goal.returns-clause-exchanged
+returns-clause-exchanged g c =
+    let many : most_bytes < c.loop-count.count = omega (arith, c.loop-count-test.false) in
+    too_long _ _ _ c.args.port c.loop-count.count _ _ _ _ c.loop-count.session c.loop-count.invariant.goes many c.loop-count.invariant.most
