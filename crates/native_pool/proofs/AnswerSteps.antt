@@ -24,7 +24,17 @@ balances_as d p q a b e f s = subst (λ (r : List PostedJob). Balances d r b) (s
 hands_after : (d m e : DeskView) (f : Finished) → Rests d m → Hands m e f → Hands d e f
 hands_after d m e f r (inl h) = inl (h.0 ∙ r.held, later_trans d.waiting m.waiting e.waiting r.order h.1)
 hands_after d m e f r (inr (inl h)) =
-    inr (inl (sym r.held ∙ h.0, h.1, h.2, rests_trans d m h.1 r h.3, h.4, h.5, h.6, h.7, later_trans d.waiting m.waiting e.waiting r.order h.8))
+    inr (inl (record {
+      none_held = sym r.held ∙ h.none_held;
+      at = h.at;
+      rests = rests_trans d m h.at r h.rests;
+      after = h.after;
+      swept = h.swept;
+      seen = h.seen;
+      sweeps = h.sweeps;
+      found = h.found;
+      order = later_trans d.waiting m.waiting e.waiting r.order h.order;
+    }))
 hands_after d m e f r (inr (inr h)) =
     let idle = ap (list_any (λ (b : Bool). b)) (sym r.same.started) ∙ h.0 in inr (inr (idle, h.1, h.2, sym (r.idle idle) ∙ h.3, h.4))
 

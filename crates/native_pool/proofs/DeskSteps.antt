@@ -160,7 +160,17 @@ hands_held d e f hub started held waiting = (inl (held, later_same d.waiting e.w
 
 pub hands_swept : (d m e : DeskView) (f : Finished) → d.held ≡ [] → Refills d m → e.hub ≡ m.hub → e.started ≡ m.started → f ∷ e.held ≡ m.held → e.waiting ≡ m.waiting → Hands d e f × SameCells d e
 hands_swept d m e f none r hub started held waiting = (
-  inr (inl (none, d, r.after, rests_refl d, r.swept, sym (ap (λ h. h.sweeps) hub ∙ r.sweeps), sym (ap (λ h. h.seen) hub ∙ r.seen), held ∙ r.held, later_trans d.waiting m.waiting e.waiting r.order (later_same m.waiting e.waiting waiting))),
+  inr (inl (record {
+    none_held = none;
+    at = d;
+    rests = rests_refl d;
+    after = r.after;
+    swept = r.swept;
+    seen = ap (λ h. h.seen) hub ∙ r.seen;
+    sweeps = ap (λ h. h.sweeps) hub ∙ r.sweeps;
+    found = held ∙ r.held;
+    order = later_trans d.waiting m.waiting e.waiting r.order (later_same m.waiting e.waiting waiting);
+  })),
   same_trans d m e r.same (same_from m e hub started),
 )
 

@@ -142,12 +142,20 @@ pub record KeepsResults (d e : DeskView) : Type 0 where
 abbrev pub HandsHeld : DeskView → DeskView → Finished → Type 0
 HandsHeld d e f = (f ∷ e.held ≡ d.held) × IsLater d.waiting e.waiting
 
--- none was held, and the result is the first of those that a sweep found in the cells of this desk, in their order;
--- the others are held
-abbrev pub HandsSwept : DeskView → DeskView → Finished → Type 0
-HandsSwept d e f =
-    (d.held ≡ []) × (m : DeskView) × (after : HubView) × Rests d m × Sweeps m.hub after × (after.sweeps ≡ e.hub.sweeps) × (after.seen ≡ e.hub.seen)
-    × (f ∷ e.held ≡ finished m.hub.cells after.seen) × IsLater d.waiting e.waiting
+-- none was held, and the board was swept: the result is the first of those that the sweep found, and the others are held
+pub record HandsSwept (d e : DeskView) (f : Finished) : Type 0 where
+  pub none_held : d.held ≡ []
+  -- the desk at the sweep, on which nothing was handed on before, and the board as it was known after it
+  pub at : DeskView
+  pub rests : Rests d at
+  pub after : HubView
+  pub swept : Sweeps at.hub after
+  -- the sweep was the last
+  pub seen : e.hub.seen ≡ after.seen
+  pub sweeps : e.hub.sweeps ≡ after.sweeps
+  -- in the order of the cells
+  pub found : f ∷ e.held ≡ finished at.hub.cells after.seen
+  pub order : IsLater d.waiting e.waiting
 
 -- no worker was started, and the hub evaluated the oldest job
 abbrev pub EvaluatesHere : DeskView → DeskView → Finished → Type 0
