@@ -1,9 +1,11 @@
 -- From the run of a storm, whose lines are counted, to what the call answers.
-use Rattle.std.proofs.Common.{◌≡◌, ◌≢◌, ℕ, false, List, [], Option, Some, Ok, Err, Result, refl, ap, sym, subst, ◌∙◌, unwrap_or, arith}
+use Rattle.std.proofs.Common.{◌≡◌, ◌≢◌, ℕ, ◌+◌, ◌≤◌, false, List, [], ◌∷◌, ◌++◌, length, take, Option, Some, Ok, Err, Result, refl, ap, sym, subst, ◌∙◌, unwrap_or, arith, length-append}
+use Rattle.std.proofs.lemmas.Grind.{common_steps}
 use Rattle.gv_io.specs.Streams.{appended}
 use Rattle.gv_io.proofs.StreamLaws.{AppendsPrefix-nothing, appended-nothing, appended-told}
 use Rattle.line_counter.specs.Lines.{lines_of}
-use Rattle.trace_text.specs.LineTexts.{text_of}
+use Rattle.trace_text.specs.LineTexts.{line_text, text_of}
+use Rattle.trace_text.specs.declared.line.Line.{Line}
 use Rattle.trace_text.specs.declared.line.StopCause.{StopCause}
 use Rattle.scenario_tree.specs.declared.tree.Scenario.{Scenario}
 use Rattle.scenario_grammar.specs.declared.place.Place.{Place}
@@ -23,16 +25,20 @@ use Rattle.wsgi_core.specs.Applications.{App}
 use Rattle.hub_engine.specs.declared.run.End.{End}
 use Rattle.hub_engine.specs.declared.run.Ran.{Ran as Came}
 use Rattle.hub_engine.specs.Ends.{CountsOf, HasLogged, HasNumbers, HasNumbersAt, RanTo, end_of_run}
+use Rattle.hub_engine.specs.Outside.{WritesPart}
 use Rattle.hub_engine.specs.Prepared.{Prepared}
+use Rattle.trace_check.proofs.Lines.{text_of_append}
+use Rattle.trace_check.proofs.Placing.{feeds_append, feeds_lines, few_feeds}
 use Rattle.gv_top.specs.declared.status.Verdict.{Verdict}
 use Rattle.gv_top.specs.declared.words.Command.{Command}
 use Rattle.scenario_reading.specs.Judged.{judged}
-use Rattle.gv_top.specs.Answers.{Answer, answer_of_storm, answer_to_storm, refusal}
+use Rattle.gv_top.specs.Answers.{Answer, IsStormAnswer, answer_of_storm}
 use Rattle.gv_top.specs.Counted.{WasCounted, is_broken_off}
-use Rattle.gv_top.specs.Storm.{storm_run, storm_text}
+use Rattle.gv_top.specs.Storm.{IsStorm, storm_run, storm_text}
 use Rattle.gv_top.specs.Top.{Decided, Ended, IsAnswered, Stream}
 use Rattle.gv_top.specs.Inner.{verdict_on}
 use Rattle.gv_top.proofs.InWorlds.{part_logged}
+use Rattle.gv_top.proofs.ReadTexts.{spelt_is_judged}
 use Rattle.gv_top.proofs.Tops.{answered, status_is}
 
 -- ---- the run
@@ -69,15 +75,35 @@ stops_for : (end : End) (e : RunEnd) → Some end ≡ end_of_run e → (cause : 
 stops_for end (RunEnd.Stopped cause) h = (cause, refl)
 stops_for end RunEnd.Asking h = absurd (cc h)
 
+-- there are no more lines than bytes
+few_lines : (lines : List Line) → length lines ≤ length (text_of lines)
+few_lines [] = omega arith
+few_lines (l ∷ lines) = omega (arith, length-append (line_text l) (10 ∷ text_of lines), few_lines lines)
+
+-- the text of lines that were written, each one that there is, has as many line feeds as there are lines
+whole_lines : (text : List ℕ) (lines : List Line) → text ≡ text_of lines → WritesPart (Some []) (Some text) lines → lines_of text ≡ length lines
+whole_lines text lines all part =
+    let first = text_of part.tried in
+    let later = text_of part.later in
+    let whole : text ≡ first ++ later = all ∙ ap text_of part.is ∙ text_of_append part.tried part.later in
+    let front : text ≡ take part.text.count first = all_appended text (take part.text.count first) part.text.is in
+    let short : length (take part.text.count first) ≤ length first = grind (arith, common_steps) in
+    let long : length text ≡ length first + length later = ap length whole ∙ length-append first later in
+    let same : length text ≡ length (take part.text.count first) = ap length front in
+    let none : length part.later ≡ 0 = omega (arith, few_lines part.later) in
+    let feeds : lines_of text ≡ lines_of first + lines_of later = ap lines_of whole ∙ feeds_append first later in
+    let count : length lines ≡ length part.tried + length part.later = ap length part.is ∙ length-append part.tried part.later in
+    omega (arith, feeds, count, none, feeds_lines part.tried part.fit, few_feeds later, few_lines part.later)
+
 -- the run was counted, and it is the whole
 counted_whole : (came : Came) (lines : ℕ) (text : List ℕ) (whole r : Ran) → IsBeginningOf whole r → is_broken_off came.end ≡ false → lines ≡ lines_of text
-    → RanTo came.end r (Some []) (Some text) → HasNumbers came r.state → WasCounted came lines whole
-counted_whole came lines text whole r b e l h n =
+    → RanTo came.end r (Some []) (Some text) → WritesPart (Some []) (Some text) r.lines → HasNumbers came r.state → WasCounted came lines whole
+counted_whole came lines text whole r b e l h part n =
     let all = whole_at came.end r (Some []) (Some text) e h in
     let stop = stops_for came.end r.end all.1 in
     let P : Ran → Type 0 = λ x. WasCounted came lines x in
     subst P (b.stopped stop.0 stop.1)
-    (record { end = all.1; numbers = numbers_at came.end came r.state e n; lines_are = l ∙ ap lines_of (all_appended text (text_of r.lines) all.0) })
+    (record { end = all.1; numbers = numbers_at came.end came r.state e n; lines_are = l ∙ whole_lines text r.lines (all_appended text (text_of r.lines) all.0) part })
 
 -- a run in a script world is the run under its rule
 is_script_run : FollowersRunScripts → (end : End) (c : Scenario) (turns moves tick : ℕ) (before begun : Meaning) (w : ScriptWorld) → before.tick ≡ tick → Begins before begun 1
@@ -94,37 +120,38 @@ pub was_counted : FollowersRunScripts → (came : Came) (lines : ℕ) (s : Scena
     → RanTo came.end (run engine.scenario engine.turns engine.moves w.answers.items) (Some none) (Some text)
     → HasNumbers came (run engine.scenario engine.turns engine.moves w.answers.items).state
     → HasLogged came.end (run engine.scenario engine.turns engine.moves w.answers.items).log w.answers.items (script_log w)
+    → WritesPart (Some none) (Some text) (run engine.scenario engine.turns engine.moves w.answers.items).lines
     → WasCounted came lines (storm_run s)
 unfolding storm_run
-was_counted law came lines s engine before begun w none text is same b g empty e l written numbers logged =
+was_counted law came lines s engine before begun w none text is same b g empty e l written numbers logged tried =
     let O : List ℕ → Type 0 = λ x. RanTo came.end (run engine.scenario engine.turns engine.moves w.answers.items) (Some x) (Some text) in
+    let T : List ℕ → Type 0 = λ x. WritesPart (Some x) (Some text) (run engine.scenario engine.turns engine.moves w.answers.items).lines in
     let P : Prepared → Type 0 = λ x. WasCounted came lines (script_run x.scenario x.turns x.moves 0) in
     subst P is (counted_whole came lines text (script_run engine.scenario engine.turns engine.moves 0) (run engine.scenario engine.turns engine.moves w.answers.items)
-    (is_script_run law came.end engine.scenario engine.turns engine.moves 0 before begun w same b g logged) e l (subst O empty written) numbers)
+    (is_script_run law came.end engine.scenario engine.turns engine.moves 0 before begun w same b g logged) e l (subst O empty written) (subst T empty tried) numbers)
 
--- ---- its text
+-- ---- its scenario
 
-abbrev storm_by : ℕ → Result Scenario Place → Answer
-storm_by n r = elim r as (λ x. Answer) [ Ok s ↦ answer_of_storm n (storm_run s) | Err place ↦ refusal place ]
+-- the scenario that was read of the text is the storm's
+same_storm : (n : ℕ) (r : Result Scenario Place) (s : Scenario) (bytes : List ℕ) → bytes ≡ storm_text n → judged bytes ≡ r → IsStorm n s → r ≡ Ok s
+same_storm n r s bytes is e storm = sym e ∙ ap judged is ∙ spelt_is_judged s (storm_text n) storm.0 storm.1
 
-answered_as : (n : ℕ) (r : Result Scenario Place) (bytes : List ℕ) → bytes ≡ storm_text n → judged bytes ≡ r → answer_to_storm n ≡ storm_by n r
-unfolding answer_to_storm
-answered_as n r bytes is e = ap (λ b. storm_by n (judged b)) (sym is) ∙ ap (storm_by n) e
+pub storm_decided : (n : ℕ) (t : Scenario) (bytes : List ℕ) (v : Verdict) (old new : Option (List ℕ)) → bytes ≡ storm_text n → judged bytes ≡ Ok t
+    → Decided v (answer_of_storm n (storm_run t)) old new → (a : Answer) → IsStormAnswer n a → Decided v a old new
+storm_decided n t bytes v old new is e h a of =
+    let same : t ≡ of.0 = cc (same_storm n (Ok t) of.0 bytes is e of.1) in
+    let P : Answer → Type 0 = λ x. Decided v x old new in
+    let Q : Scenario → Type 0 = λ s. Decided v (answer_of_storm n (storm_run s)) old new in
+    subst P (sym of.2) (subst Q same h)
 
-pub storm_decided : (n : ℕ) (s : Scenario) (bytes : List ℕ) (v : Verdict) (old new : Option (List ℕ)) → bytes ≡ storm_text n → judged bytes ≡ Ok s
-    → Decided v (answer_of_storm n (storm_run s)) old new → Decided v (answer_to_storm n) old new
-storm_decided n s bytes v old new is e h = let P : Answer → Type 0 = λ a. Decided v a old new in subst P (sym (answered_as n (Ok s) bytes is e)) h
-
--- a text that is refused, or for which memory ran out
-pub storm_refused : (n : ℕ) (bytes : List ℕ) (e : ParseRefusal) (v : Verdict) (old : Option (List ℕ)) → bytes ≡ storm_text n → v ≡ verdict_on e → Parses (judged bytes) (Err e)
-    → Decided v (answer_to_storm n) old old
-storm_refused n bytes e v old is same h = let P : Verdict → Type 0 = λ x. Decided x (answer_to_storm n) old old in subst P (sym same) (by e h)
+-- its text is not refused, but memory may run out for it
+pub storm_unread : (n : ℕ) (bytes : List ℕ) (e : ParseRefusal) (v : Verdict) (old : Option (List ℕ)) → bytes ≡ storm_text n → v ≡ verdict_on e → Parses (judged bytes) (Err e)
+    → (a : Answer) → IsStormAnswer n a → Decided v a old old
+storm_unread n bytes e v old is same h a of = let P : Verdict → Type 0 = λ x. Decided x a old old in subst P (sym same) (by e h)
   where
-    by : (e : ParseRefusal) → Parses (judged bytes) (Err e) → Decided (verdict_on e) (answer_to_storm n) old old
-    by (parse.Refused p) h =
-        let P : Answer → Type 0 = λ a. Decided (Verdict.Refused p) a old old in
-        subst P (sym (answered_as n (Err p) bytes is h)) (sym (appended-nothing old), refl, refl)
-    by parse.Memory h = AppendsPrefix-nothing old (answer_to_storm n).out
+    by : (e : ParseRefusal) → Parses (judged bytes) (Err e) → Decided (verdict_on e) a old old
+    by (parse.Refused p) h = let z : Err p ≡ Ok of.0 = same_storm n (Err p) of.0 bytes is h of.1 in absurd (let no : ⊥ = cc z in no)
+    by parse.Memory h = AppendsPrefix-nothing old a.out
 
 -- ---- the call
 
@@ -133,7 +160,8 @@ text_is_no_storm text size e = cc e
 
 -- what the call leaves of a storm
 pub answers_storm : {n : ℕ} {app : App} {c : Option Command} {after : Meaning} {stands : List LogEntry → Type 0} {input out err : Stream} (size : ℕ) →
-    Ended n app c after stands input out err → c ≡ Some (Command.Storm size) → (n ≢ 4) × IsAnswered n (answer_to_storm size) out.before out.after err.before err.after
+    Ended n app c after stands input out err → c ≡ Some (Command.Storm size)
+    → (n ≢ 4) × ((s : Scenario) → IsStorm size s → IsAnswered n (answer_of_storm size (storm_run s)) out.before out.after err.before err.after)
 answers_storm size h named =
     let d = h.came_to.storm size named in
-    ((λ e. d.0 (status_is 4 h e (λ z. omega arith))), answered _ h.verdict (answer_to_storm size) _ _ _ _ _ _ d.1 h.told)
+    ((λ e. d.0 (status_is 4 h e (λ z. omega arith))), λ s is. let a = answer_of_storm size (storm_run s) in answered _ h.verdict a _ _ _ _ _ _ (d.1 a (s, is, refl)) h.told)

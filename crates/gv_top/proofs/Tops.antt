@@ -20,7 +20,7 @@ use Rattle.scenario_tree.specs.declared.tree.Scenario.{Scenario}
 use Rattle.scenario_reading.specs.Judged.{judged}
 use Rattle.verify_command.specs.Inputs.{most_checked_read}
 use Rattle.verify_command.specs.declared.checking.Unverified.{Unverified}
-use Rattle.gv_top.specs.Answers.{Answer, answer_to_storm, memory_line, most_read, read_fault_line, write_fault_line}
+use Rattle.gv_top.specs.Answers.{Answer, memory_line, most_read, read_fault_line, write_fault_line}
 use Rattle.gv_top.specs.Commands.{IsLeftAlone}
 use Rattle.gv_top.specs.Running.{IsBegun, IsUnbegun}
 use Rattle.gv_top.specs.Verdicts.{number_of, line_of}
@@ -182,7 +182,7 @@ out_of_memory v app c after stands input out h n0 n4 n5 =
       unread = λ text is e. absurd (omega arith);
       unprinted = λ is h0 h5. h.unprinted is n0 n5;
       read_whole = λ text is h4 h7. absurd (h7 refl);
-      storm = λ size is. ((λ e. omega arith), prefix_of v (answer_to_storm size) out.before out.after (decided v (answer_to_storm size) out.before out.after (h.storm size is).1));
+      storm = λ size is. ((λ e. omega arith), λ a of. prefix_of v a out.before out.after (decided v a out.before out.after ((h.storm size is).1 a of)));
       ran = λ text is left told s j options e.
           ran_told 7 v options s after stands out.before out.after (inr (n0, inr refl)) (h.ran text is left told s j options e);
     }
@@ -206,7 +206,7 @@ out_of_memory_at_once app c after stands input out reads writes =
       unread = λ text is e. refl;
       unprinted = λ is h0 h5. refl;
       read_whole = λ text is h4 h7. absurd (h7 refl);
-      storm = λ size is. ((λ e. omega arith), AppendsPrefix-nothing out (answer_to_storm size).out);
+      storm = λ size is. ((λ e. omega arith), λ a of. AppendsPrefix-nothing out a.out);
       ran = λ text is left told s j options e. record { begun = inr (refl, inr (inr refl)); native = λ workers w h4 h5 h7. absurd (h7 refl); held = λ workers w h4 h5 h7. absurd (h7 refl) };
     }
 

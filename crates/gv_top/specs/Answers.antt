@@ -1,5 +1,5 @@
 -- What the call answers: its status, what it writes to out, and its line on err.
-use Rattle.std.specs.Prelude.{ℕ, if◌then◌else◌, List, [], ◌++◌, Option, Some, None, Ok, Err, codes, take, Result}
+use Rattle.std.specs.Prelude.{◌≡◌, ℕ, if◌then◌else◌, List, [], ◌++◌, Option, Some, None, Ok, Err, codes, take, Result}
 use Rattle.trace_text.specs.LineTexts.{text_of}
 use Rattle.gv_values.specs.ValueTexts.{decimal}
 use Rattle.gv_values.specs.declared.job.Answer.{Answer as Given}
@@ -13,7 +13,7 @@ use Rattle.wsgi_core.specs.Applications.{App}
 use Rattle.wsgi_connection.specs.Connections.{whole_session}
 use Rattle.gv_top.specs.Gateways.{answers_by}
 use Rattle.gv_top.specs.Running.{run_of}
-use Rattle.gv_top.specs.Storm.{storm_run, storm_text, summary}
+use Rattle.gv_top.specs.Storm.{IsStorm, storm_run, summary}
 use Rattle.command_words.specs.declared.command.TextCommand.{TextCommand}
 use Rattle.command_words.specs.declared.command.TextCommand.TheVariants.{Run, Format}
 use Rattle.machine.specs.Run.{Ran, End}
@@ -73,9 +73,9 @@ answer_to_text command given bytes = elim (judged bytes) [ Ok s ↦ answer_to_sc
 abbrev pub answer_of_storm : ℕ → Ran → Answer
 answer_of_storm n r = record { status = status_of r.end; out = summary n r; err = err_of r.end }
 
--- what `storm` answers: its text is read, checked and run
-unfoldable pub answer_to_storm : ℕ → Answer
-answer_to_storm n = elim (judged (storm_text n)) [ Ok s ↦ answer_of_storm n (storm_run s) | Err place ↦ refusal place ]
+-- what `storm` answers: the scenario of its text is run
+abbrev pub IsStormAnswer : ℕ → Answer → Type 0
+IsStormAnswer n a = (s : Scenario) × IsStorm n s × (a ≡ answer_of_storm n (storm_run s))
 
 -- what `wsgi` answers where a session sent this: one that did not close met the limit of the connection
 abbrev pub answer_of_session : Sent → Answer

@@ -14,9 +14,10 @@ use Rattle.world.specs.Worlds.{Meaning}
 use Rattle.world_rules.specs.declared.question.LogEntry.{LogEntry}
 use Rattle.wsgi_core.specs.Applications.{App}
 use Rattle.gv_top.specs.declared.words.Command.{Command}
-use Rattle.gv_top.specs.Answers.{answer_of_run, answer_to_storm, formatted, memory_line, most_read, read_fault_line, refusal}
+use Rattle.gv_top.specs.Answers.{answer_of_run, answer_of_storm, formatted, memory_line, most_read, read_fault_line, refusal}
 use Rattle.gv_top.specs.Refusals.{IsRefusedAt}
 use Rattle.gv_top.specs.Running.{IsBegun, IsUnbegun, RanHeld, RanNatively, run_of}
+use Rattle.gv_top.specs.Storm.{IsStorm, storm_run}
 use Rattle.machine.specs.Run.{End}
 use Rattle.gv_top.specs.Top.{AnswersConnection, BlocksAtQuiet, Ended, FailsToWrite, HasLawfulLines, IsAnswered, Stream}
 
@@ -62,9 +63,10 @@ pub record AnswersCommand (status : ℕ) (app : App) (command : Option Command) 
   -- A connection is answered: out has what the session of the application sends for the bytes that were read, that of
   -- HTTP or that of SCGI.
   pub connection : (gateway : GatewayKind) → command ≡ Some (Command.Wsgi gateway) → AnswersConnection status gateway app input.before input.after out.before out.after
-  -- A storm is run: out has its summary, and the status and the line on err are those of its end. Its text is read and
-  -- checked as any other.
-  pub storm : (size : ℕ) → command ≡ Some (Command.Storm size) → (status ≢ 4) × IsAnswered status (answer_to_storm size) out.before out.after err.before err.after
+  -- A storm is run: out has the summary of the run of its scenario, and the status and the line on err are those of the
+  -- run's end. The text of each size spells a well-formed scenario (`storms_are_spelt`).
+  pub storm : (size : ℕ) → command ≡ Some (Command.Storm size) →
+      (status ≢ 4) × ((s : Scenario) → IsStorm size s → IsAnswered status (answer_of_storm size (storm_run s)) out.before out.after err.before err.after)
   -- It ended with a verdict, which the streams bear out, and whose line was tried on err.
   pub ended : Ended status app command after stands input out err
   -- A text that could not be read leaves out as it was; so does `fmt` with every status but 0 and 5.

@@ -1,7 +1,5 @@
 -- The numbers of a run whose lines were counted.
-use Rattle.std.specs.Prelude.{◌≡◌, ℕ, Bool, true, false, Some}
-use Rattle.line_counter.specs.Lines.{lines_of}
-use Rattle.trace_text.specs.LineTexts.{text_of}
+use Rattle.std.specs.Prelude.{◌≡◌, ℕ, Bool, true, false, length, Some}
 use Rattle.machine.specs.Run.{Ran}
 use Rattle.hub_engine.specs.declared.run.End.{End}
 use Rattle.hub_engine.specs.declared.run.Ran.{Ran as Came}
@@ -17,4 +15,4 @@ is_broken_off end = false
 pub record WasCounted (came : Came) (lines : ℕ) (r : Ran) : Type 0 where
   pub end : Some came.end ≡ end_of_run r.end
   pub numbers : CountsOf came r.state
-  pub lines_are : lines ≡ lines_of (text_of r.lines)
+  pub lines_are : lines ≡ length r.lines

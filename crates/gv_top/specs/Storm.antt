@@ -1,9 +1,9 @@
--- The storm of many greenlets: its text, its run, and the summary of that.
+-- The storm of many greenlets: its text, its scenario, its run, and the summary of that.
 use Rattle.std.specs.Prelude.{ℕ, List, ◌++◌, length, codes}
 use Rattle.gv_values.specs.ValueTexts.{decimal}
-use Rattle.line_counter.specs.Lines.{lines_of}
-use Rattle.trace_text.specs.LineTexts.{text_of}
 use Rattle.scenario_tree.specs.declared.tree.Scenario.{Scenario}
+use Rattle.scenario_grammar.specs.Spells.{Spells}
+use Rattle.scenario_rules.specs.Rules.{IsWellFormed}
 use Rattle.machine.specs.Run.{Ran, script_run}
 use Rattle.serve_command.specs.Lines.{number_line}
 
@@ -18,6 +18,10 @@ storm_tail = codes "\ngspawn g w i\nlet i + i 1\nend\nsleep 0\nrelease s\ngjoin 
 unfoldable pub storm_text : ℕ → List ℕ
 storm_text n = storm_head ++ decimal n ++ storm_tail
 
+-- the scenario of the storm of n greenlets: its text spells it, and it is well formed
+abbrev pub IsStorm : ℕ → Scenario → Type 0
+IsStorm n s = Spells s (storm_text n) × IsWellFormed s
+
 -- the run of a storm: within 10000000 turns and 100000000 moves, under the rule of a script without a tick
 unfoldable pub storm_run : Scenario → Ran
 storm_run s = script_run s 10000000 100000000 0
@@ -31,4 +35,4 @@ summary n r =
     ++ number_line (codes "turns") r.state.turns
     ++ number_line (codes "moves") r.state.moves
     ++ number_line (codes "moment") r.state.moment
-    ++ number_line (codes "lines") (lines_of (text_of r.lines))
+    ++ number_line (codes "lines") (length r.lines)

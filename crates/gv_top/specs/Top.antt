@@ -25,7 +25,7 @@ use Rattle.wsgi_connection.specs.declared.connection.ConnectionEnd.{ConnectionEn
 use Rattle.gv_top.specs.declared.status.Verdict.{Verdict}
 use Rattle.gv_top.specs.declared.words.Command.{Command}
 use Rattle.gv_top.specs.Running.{IsBegun, IsUnbegun, RanHeld, RanNatively, run_of}
-use Rattle.gv_top.specs.Answers.{Answer, answer_to_storm, most_read, no_port, write_fault_line}
+use Rattle.gv_top.specs.Answers.{Answer, IsStormAnswer, most_read, no_port, write_fault_line}
 use Rattle.gv_top.specs.Gateways.{answers_by}
 use Rattle.gv_top.specs.Verdicts.{number_of, line_of}
 use Rattle.gv_top.specs.Verifying.{IsAnswerOf, IsCheckAnswer}
@@ -118,7 +118,7 @@ pub record CameTo (v : Verdict) (app : App) (command : Option Command) (after : 
   pub read_whole : (text : TextCommand) → command ≡ Some (Command.Text text) → number_of v ≢ 4 → number_of v ≢ 7 →
       (left : List ℕ) → input.before ≡ Some left → input.after ≡ Some (drop most_read left)
   -- a storm reads no input, and is answered whatever that is
-  pub storm : (size : ℕ) → command ≡ Some (Command.Storm size) → (number_of v ≢ 4) × Decided v (answer_to_storm size) out.before out.after
+  pub storm : (size : ℕ) → command ≡ Some (Command.Storm size) → (number_of v ≢ 4) × ((a : Answer) → IsStormAnswer size a → Decided v a out.before out.after)
   -- a run was begun, or was not; and native workers were begun and asked as the words want
   pub ran : (text : TextCommand) → command ≡ Some (Command.Text text) →
       (left : List ℕ) → input.before ≡ Some left → RanSo (number_of v) text (take most_read left) after stands out.before out.after

@@ -11,7 +11,7 @@ use Rattle.verify_command.specs.Judged.{IsSaidOf, Verification}
 use Rattle.verify_command.specs.declared.checking.Unverified.{Unverified}
 use Rattle.wsgi_core.specs.Applications.{App}
 use Rattle.wsgi_connection.specs.Connections.{whole_session}
-use Rattle.gv_top.specs.Answers.{Answer, answer_of_session, answer_to_storm, answer_to_text, line, memory_line, most_read, no_port, place_text, refusal, usage}
+use Rattle.gv_top.specs.Answers.{Answer, IsStormAnswer, answer_of_session, answer_to_text, line, memory_line, most_read, no_port, place_text, refusal, usage}
 use Rattle.gv_top.specs.Gateways.{answers_by}
 use Rattle.gv_top.specs.declared.words.Command.{Command}
 use Rattle.gv_top.specs.declared.words.Command.TheVariants.{Text, Wsgi, Storm, Verify}
@@ -69,5 +69,5 @@ abbrev pub IsAnswerOf : App → Option Command → List Given → List ℕ → A
 IsAnswerOf app None given left a = a ≡ usage
 IsAnswerOf app (Some (Text command)) given left a = a ≡ answer_to_text command given (take most_read left)
 IsAnswerOf app (Some (Wsgi gateway)) given left a = a ≡ answer_of_session (whole_session (answers_by gateway) app no_port left)
-IsAnswerOf app (Some (Storm n)) given left a = a ≡ answer_to_storm n
+IsAnswerOf app (Some (Storm n)) given left a = IsStormAnswer n a
 IsAnswerOf app (Some (Verify check)) given left a = IsCheckAnswer check (take most_checked_read left) a

@@ -2,7 +2,7 @@
 ghost use Rattle.std.specs.Prelude.{◌≡◌, ◌≢◌, IfOk, IfSome};
 ghost use Rattle.machine.specs.Run.{Ran as AnyRan};
 ghost use Rattle.gv_top.specs.declared.status.Verdict.{Verdict as AnyVerdict};
-ghost use Rattle.gv_top.specs.Answers.{answer_of_storm, answer_to_storm};
+ghost use Rattle.gv_top.specs.Answers.{Answer, IsStormAnswer, answer_of_storm};
 ghost use Rattle.gv_top.specs.Counted.{WasCounted, is_broken_off};
 ghost use Rattle.gv_top.specs.Storm.{storm_run, storm_text, summary};
 ghost use Rattle.gv_top.specs.Top.{Counts, Decided, HandsOn};
@@ -123,7 +123,7 @@ fn sum_up<K: Sink>(alloc: Global, size: u32, checked: Checked, out: &mut K) -> E
 
 /// Runs the storm of so many greenlets, and writes its summary to out.
 pub fn answer_storm<K: Sink>(alloc: Global, size: u32, out: &mut K) -> Verdict
-    ensures answer { Decided result (answer_to_storm size) (K.written out.old) (K.written out.new) }
+    ensures answer { (a : Answer) → IsStormAnswer size a → Decided result a (K.written out.old) (K.written out.new) }
     ensures command { number_of result ≢ 2 }
     ensures read { number_of result ≢ 4 }
     ensures no_net { number_of result ≢ 10 }

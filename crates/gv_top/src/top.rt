@@ -10,7 +10,7 @@ ghost use Rattle.command_words.specs.Ranges.{IsInRange};
 ghost use Rattle.scenario_grammar.specs.Spells.{Spells};
 ghost use Rattle.scenario_rules.specs.Rules.{IsWellFormed};
 ghost use Rattle.scenario_tree.specs.declared.tree.Scenario.{Scenario as AnyScenario};
-ghost use Rattle.gv_top.specs.Answers.{Answer, answer_to_scenario, answer_to_storm, answer_to_text, formatted, memory_line, most_read, network_fault_line, read_fault_line, refusal, write_fault_line};
+ghost use Rattle.gv_top.specs.Answers.{Answer, IsStormAnswer, answer_to_scenario, answer_to_text, formatted, memory_line, most_read, network_fault_line, read_fault_line, refusal, write_fault_line};
 ghost use Rattle.gv_top.specs.Commands.{AnswersCommand, IsBorneOut, IsLeftAlone};
 ghost use Rattle.gv_top.specs.Running.{BeganSo};
 ghost use Rattle.gv_top.specs.declared.status.Verdict.{Verdict as AnyVerdict};
@@ -122,7 +122,7 @@ fn answer_command<S: Source, K: Sink, W: World, A: Application>(
     ensures rests { (W.meaning native.new).runs ≡ false }
     ensures connection { (gateway : AnyGateway) → command ≡ Some (Command.Wsgi gateway) →
         IsOfConnection result gateway (A.answer_of app.now) (S.remaining input.old) (S.remaining input.new) (K.written out.old) (K.written out.new) }
-    ensures storm { (size : ℕ) → command ≡ Some (Command.Storm size) → (number_of result ≢ 4) × Decided result (answer_to_storm size) (K.written out.old) (K.written out.new) }
+    ensures storm { (size : ℕ) → command ≡ Some (Command.Storm size) → (number_of result ≢ 4) × ((a : Answer) → IsStormAnswer size a → Decided result a (K.written out.old) (K.written out.new)) }
     ensures untouched_input { reads_input command ≡ false → input.new ≡ input.old }
     ensures reads { Counts (number_of result ≡ 4) (S.faults input.old) (S.faults input.new) }
     ensures hands { HandsOn (number_of result) (K.written out.old) (K.handed out.old) (K.written out.new) (K.handed out.new) }
