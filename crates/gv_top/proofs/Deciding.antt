@@ -5,7 +5,7 @@ use Rattle.gv_values.specs.declared.job.Answer.{Answer as Given}
 use Rattle.trace_text.specs.LineTexts.{text_of}
 use Rattle.trace_text.specs.declared.line.StopCause.{StopCause}
 use Rattle.scenario_tree.specs.declared.tree.Scenario.{Scenario}
-use Rattle.gv_io.specs.Streams.{prepended, AppendsPrefix}
+use Rattle.gv_io.specs.Streams.{appended, prepended, AppendsPrefix}
 use Rattle.gv_io.proofs.StreamLaws.{appended-nothing, AppendsPrefix-all, AppendsPrefix-nothing, prepended-nothing}
 use Rattle.machine.specs.Run.{Ran, End as RunEnd}
 use Rattle.machine.specs.Status.{status, err_line}
@@ -20,11 +20,16 @@ use Rattle.scenario_lang.specs.Lines.{Parses}
 use Rattle.command_words.specs.declared.command.GatewayKind.{GatewayKind}
 use Rattle.command_words.specs.declared.command.TextCommand.{TextCommand}
 use Rattle.gv_top.proofs.ReadTexts.{answer_by}
-use Rattle.gv_top.specs.Answers.{Answer, answer_to_scenario, answer_to_text, answer_of_run, err_of, status_of, usage}
+use Rattle.gv_top.specs.Answers.{Answer, answer_to_scenario, answer_to_text, answer_of_run, err_of, no_port, status_of, usage}
 use Rattle.scenario_reading.specs.Judged.{IsRefusedWithReason, judged}
+use Rattle.gv_top.specs.Gateways.{answers_by}
 use Rattle.gv_top.specs.Verdicts.{number_of, line_of}
 use Rattle.gv_top.specs.Inner.{IsExplained, IsOfConnection, verdict_on}
+use Rattle.wsgi_core.specs.Answers.{Sent, nothing}
 use Rattle.wsgi_core.specs.Applications.{App}
+use Rattle.wsgi_core.proofs.ProgressLaws.{answers-nothing}
+use Rattle.scgi_core.proofs.CallLaws.{answers-nothing as scgi-nothing}
+use Rattle.wsgi_connection.specs.Connections.{SentAhead, most_bytes}
 use Rattle.wsgi_connection.specs.declared.connection.ConnectionEnd.{ConnectionEnd}
 use Rattle.gv_top.specs.Top.{Decided}
 use Rattle.gv_top.specs.Verifying.{IsAnswerOf}
@@ -151,13 +156,27 @@ no_command c d P e f = absurd (none_is_some d (sym e ∙ f))
     none_is_some : (d : Command) → None ≡ Some d → ⊥
     none_is_some d h = cc
 
+-- nothing is sent for no bytes
+silent : (gateway : GatewayKind) (app : App) (port : ℕ) → answers_by gateway app port [] ≡ nothing
+silent GatewayKind.Http app port = answers-nothing app port
+silent GatewayKind.Scgi app port = scgi-nothing app port
+
 -- where memory ran out at once, nothing was exchanged
 pub nothing_exchanged : (gateway : GatewayKind) (app : App) (input out : Option (List ℕ)) → IsOfConnection (Verdict.Ran End.Memory) gateway app input input out out
 nothing_exchanged gateway app input out =
     record {
       end = ConnectionEnd.Memory;
       number = refl;
-      exchanged = record { read = []; is_read = sym (prepended-nothing input); within = omega arith; sent = AppendsPrefix-nothing out _ };
+      exchanged = record { read = []; is_read = sym (prepended-nothing input); within = omega arith; sent = AppendsPrefix-nothing out _; ahead = ahead };
+    }
+  where
+    ahead : SentAhead (answers_by gateway) app no_port (take most_bytes []) out out
+    ahead = record {
+      before = [];
+      last = [];
+      is = refl;
+      short = omega arith;
+      stands = record { more = []; is = sym (appended-nothing _ ∙ ap (λ (t : Sent). appended out t.bytes) (silent gateway app no_port) ∙ appended-nothing out) };
     }
 
 -- ---- what was read
