@@ -1,18 +1,12 @@
 -- What a page is answered.
-use Rattle.std.specs.Prelude.{◌≡◌, ◌≢◌, ◌==◌, ℕ, false, List, [], Some}
-use Rattle.std.specs.List.{slice_split}
+use Rattle.std.specs.Prelude.{◌≡◌, ◌≢◌, ℕ, false, List, [], Some}
 use Rattle.std.specs.Option.{IsSome}
-use Rattle.std.specs.Str.{IsUtf8}
 use Rattle.command_words.specs.Words.{Word}
 use Rattle.wsgi_core.specs.Shipped.{shipped}
 use Rattle.gv_top.specs.Answers.{Answer}
 use Rattle.gv_top.specs.Top.{IsAnswered}
 use Rattle.gv_top.specs.Verifying.{IsAnswerOf}
 use Rattle.gv_top.specs.Words.{command_of, is_native, serve_of}
-
--- the words of the bytes, which LFs part; bytes that are no UTF-8 have any
-abbrev pub AreWords : List ℕ → List Word → Type 0
-AreWords bytes words = IsUtf8 bytes → words ≡ slice_split (λ b. b == 10) bytes
 
 -- What stands in out and err with a status: where the words ask for no native workers, what the program answers to
 -- these words and this text, over streams that begin empty. With 256, which no program has, the words name a server.

@@ -2,7 +2,7 @@ use Rattle.std.proofs.Common.{◌≡◌, ◌==◌, ◌++◌, length, map, string
 use denote.Text.{Utf8}
 use denote.Shadow.{shadow}
 use Rattle.std.specs.List.{slice_split}
-use Rattle.gvr_page.proofs.words_in.Given as goal
+use Rattle.page_answer.proofs.words_in.Given as goal
 
 abbrev pub invariant-loop-word : goal.invariant-loop-word
 invariant-loop-word l = shadow (Utf8 l.left) × (map string_bytes l.all.items ++ slice_split (λ b. b == 10) l.left ≡ slice_split (λ b. b == 10) l.bytes)

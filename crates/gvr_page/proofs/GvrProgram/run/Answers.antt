@@ -1,7 +1,7 @@
 use Rattle.std.proofs.Common.{arith, [], Some, ap, ◌∙◌}
 use Rattle.gv_top.proofs.Tops.{is_answered}
 use Rattle.gvr_page.proofs.Told.{told, unasked}
-use Rattle.gvr_page.proofs.run.Goals as goal
+use Rattle.gvr_page.proofs.GvrProgram.run.Goals as goal
 
 pub returns-in-Some : goal.returns-in-Some
 returns-in-Some c = record {
