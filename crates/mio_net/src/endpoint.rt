@@ -7,7 +7,7 @@ ghost use Rattle.stream_net.specs.Reads.{after_read};
 ghost use Rattle.stream_net.specs.Waits.{named, woken, woken_if};
 ghost use Rattle.stream_net.specs.Writes.{after_write};
 
-use crate::sockets::{read_stream, write_stream};
+use crate::sockets::{Told, read_stream, write_stream};
 use mio::net::TcpStream;
 use stream_net::{Account, ReadEnd, Ready, WriteEnd};
 
@@ -18,9 +18,23 @@ pub struct Endpoint {
     pub account: Account,
     /// Its stream.
     pub stream: Option<TcpStream>,
+    /// Whether the last read took all that was there, and no wait has named the connection since.
+    pub is_drained: bool,
+    /// Whether a wait told of the end of its input, or of a fault.
+    pub ends: bool,
 }
 
-/// Reads what came.
+/// Whether a read brought less than it had room for.
+fn is_short(end: ReadEnd, room: usize) -> bool {
+    match end {
+        ReadEnd::Got(count) => count < room,
+        ReadEnd::WouldBlock => true,
+        ReadEnd::End | ReadEnd::Failed => false,
+    }
+}
+
+/// Reads what came. A read that brings less than it has room for has taken all that was there (epoll(7)), and what comes
+/// later is told of by a wait: the system isn't asked before. An end that was told of is told of once, so it is asked for.
 #[tactic(auto, unfolding(gv_io::specs::Streams::appended))]
 pub fn read_endpoint(endpoint: &mut Endpoint, moment: u64, buf: &mut [u8]) -> ReadEnd
     requires { 0 < length buf.old }
@@ -31,7 +45,12 @@ pub fn read_endpoint(endpoint: &mut Endpoint, moment: u64, buf: &mut [u8]) -> Re
     ensures some { (n : ℕ) → result ≡ ReadEnd.Got n → 0 < n }
     ensures fits { (n : ℕ) → result ≡ ReadEnd.Got n → n ≤ length buf.new }
 {
-    let end = read_stream(&endpoint.stream, buf);
+    let end = if endpoint.is_drained {
+        ReadEnd::WouldBlock
+    } else {
+        read_stream(&endpoint.stream, buf)
+    };
+    endpoint.is_drained = !endpoint.ends && is_short(end, buf.len());
     endpoint.account.note_read(end, moment);
     end
 }
@@ -67,30 +86,32 @@ pub fn hold_endpoint(endpoint: &mut Endpoint, held: bool)
     endpoint.account.note_hold(held);
 }
 
-/// Notes that a wait named it.
-fn note_named(endpoint: &mut Endpoint)
+/// Notes that a wait named it, and whether its input ends.
+fn note_named(endpoint: &mut Endpoint, ends: bool)
     ensures { endpoint_meaning endpoint.new ≡ woken_if endpoint.old.account.closed (endpoint_meaning endpoint.old) }
 {
     endpoint.account.note_named();
+    endpoint.is_drained = false;
+    endpoint.ends |= ends;
 }
 
 /// Notes that a wait named the connection, if there is one of the number.
-fn name_at(endpoints: &mut [Endpoint], conn: u32)
+fn name_at(endpoints: &mut [Endpoint], conn: u32, ends: bool)
     ensures { map endpoint_meaning endpoints.new ≡ woken conn (map endpoint_meaning endpoints.old) }
 {
     if (conn as usize) < endpoints.len() {
-        note_named(&mut endpoints[conn as usize]);
+        note_named(&mut endpoints[conn as usize], ends);
     }
 }
 
-/// Notes what a wait named.
-pub fn name_endpoint(endpoints: &mut [Endpoint], ready: Ready)
-    ensures { map endpoint_meaning endpoints.new ≡ named ready (map endpoint_meaning endpoints.old) }
+/// Notes what a wait told.
+pub fn name_endpoint(endpoints: &mut [Endpoint], told: Told)
+    ensures { map endpoint_meaning endpoints.new ≡ named told.ready (map endpoint_meaning endpoints.old) }
 {
-    match ready {
+    match told.ready {
         Ready::Incoming => {}
         Ready::Elapsed => {}
-        Ready::Readable(conn) => name_at(endpoints, conn),
-        Ready::Writable(conn) => name_at(endpoints, conn),
+        Ready::Readable(conn) => name_at(endpoints, conn, told.ends),
+        Ready::Writable(conn) => name_at(endpoints, conn, told.ends),
     }
 }

@@ -7,7 +7,7 @@ use crate::endpoint::{
     Endpoint, close_endpoint, hold_endpoint, name_endpoint, read_endpoint, write_endpoint,
 };
 use crate::linger::Lingering;
-use crate::sockets::{LISTENER, Taken, next_stream, poll_into};
+use crate::sockets::{LISTENER, Taken, Told, next_stream, poll_into};
 use gv_io::{Failed, one_more};
 use mio::net::TcpListener;
 use mio::{Events, Interest, Poll};
@@ -44,7 +44,7 @@ pub struct MioNet<R> {
     poll: Option<Poll>,
     events: Events<Global>,
     // What was told and wasn't yet named, the last first.
-    queue: Vec<Ready>,
+    queue: Vec<Told>,
     listener: Option<TcpListener>,
     // Whether somebody may wait: the listener was told of since nobody was found.
     arrived: bool,
@@ -84,11 +84,11 @@ fn earlier(a: Option<u64>, b: Option<u64>) -> Option<u64> {
 }
 
 /// The next that was told and isn't a connection that lingers.
-fn next_told(queue: &mut Vec<Ready>, lingering: &mut Lingering) -> Option<Ready> {
+fn next_told(queue: &mut Vec<Told>, lingering: &mut Lingering) -> Option<Told> {
     for _ in 0..EVENTS {
-        let ready = queue.pop()?;
-        if !lingering.takes(ready) {
-            return Some(ready);
+        let told = queue.pop()?;
+        if !lingering.takes(told.ready) {
+            return Some(told);
         }
     }
     None
@@ -229,13 +229,13 @@ impl<R: std::net::Net + Clock + Drop> Net for MioNet<R> {
             }
         }
         match next_told(&mut self.queue, &mut self.lingering) {
-            Some(ready) => {
-                if let Ready::Elapsed = ready {
+            Some(told) => {
+                if let Ready::Elapsed = told.ready {
                     return Ok(Ready::Incoming);
                 }
-                self.arrived = self.arrived | is_incoming(ready);
-                name_endpoint(&mut self.endpoints, ready);
-                Ok(ready)
+                self.arrived = self.arrived | is_incoming(told.ready);
+                name_endpoint(&mut self.endpoints, told);
+                Ok(told.ready)
             }
             None => match until {
                 Some(limit) if limit <= self.moment => Ok(Ready::Elapsed),
@@ -263,6 +263,8 @@ impl<R: std::net::Net + Clock + Drop> Net for MioNet<R> {
                 self.endpoints.push_reserved(Endpoint {
                     account: Account::new(self.moment),
                     stream: Some(stream),
+                    is_drained: false,
+                    ends: false,
                 });
                 self.live += 1;
                 self.most = self.most.max(self.live);

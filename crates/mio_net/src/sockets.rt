@@ -15,6 +15,15 @@ const TRIES: usize = 16;
 /// The token of the listener.
 pub const LISTENER: Token = Token(usize::MAX);
 
+/// What an event told.
+#[derive(Clone, Copy)]
+pub struct Told {
+    /// What it is to those that wait.
+    pub ready: Ready,
+    /// Whether the input of the connection ends, or it failed.
+    pub ends: bool,
+}
+
 /// What an acceptance gave.
 #[derive(Drop)]
 pub enum Taken {
@@ -131,25 +140,26 @@ pub fn next_stream(poll: &Option<Poll>, listener: &Option<TcpListener>, token: u
     take_stream(poll, listener, token)
 }
 
-/// What an event tells.
-fn told(token: usize, readable: bool) -> Ready {
-    match u32::try_from(token) {
+/// What an event tells that has this token.
+fn told_by(token: usize, is_readable: bool, ends: bool) -> Told {
+    let ready = match u32::try_from(token) {
         Ok(conn) => {
-            if readable {
+            if is_readable || ends {
                 Ready::Readable(conn)
             } else {
                 Ready::Writable(conn)
             }
         }
         Err(_) => Ready::Incoming,
-    }
+    };
+    Told { ready, ends }
 }
 
 /// Polls, and puts what was told into the queue, which is empty and has room for it, so that the first is taken first.
 pub fn poll_into(
     poll: &mut Poll,
     events: &mut Events<Global>,
-    queue: &mut Vec<Ready>,
+    queue: &mut Vec<Told>,
     timeout: Option<Duration>,
 ) -> Result<(), Failed> {
     if let Err(error) = poll.poll(events, timeout) {
@@ -159,8 +169,9 @@ pub fn poll_into(
         };
     }
     for event in events.iter() {
-        let readable = event.is_readable() || event.is_read_closed() || event.is_error();
-        if queue.push(told(event.token().0, readable)).is_err() {
+        let ends = event.is_read_closed() || event.is_error();
+        let told = told_by(event.token().0, event.is_readable(), ends);
+        if queue.push(told).is_err() {
             return Err(Failed);
         }
     }

@@ -1,4 +1,4 @@
-use Rattle.std.proofs.Common.{◌≡◌, ◌<◌, ◌+◌, ◌++◌, ◌∷◌, [], ◌∙◌, ap, List, length, map, Some, None, arith}
+use Rattle.std.proofs.Common.{◌≡◌, ◌<◌, ◌+◌, ◌++◌, ◌∷◌, [], ◌∙◌, ap, List, length, map, Some, None, false, arith}
 use Rattle.std.proofs.lemmas.List.{length-append}
 use Rattle.stream_net.specs.Nets.{live_count}
 use Rattle.mio_net.specs.declared.endpoint.Endpoint.{Endpoint}
@@ -9,7 +9,7 @@ use Rattle.mio_net.proofs.mio_sockets.MioNetNet.accept.Goals as goal
 pub returns-in-Stream-clause-accepts : goal.returns-in-Stream-clause-accepts
 returns-in-Stream-clause-accepts g c =
     let n = c.args.self.now in
-    let p : Endpoint = record { account = c.new.result; stream = Some c.in-Stream.stream } in
+    let p : Endpoint = record { account = c.new.result; stream = Some c.in-Stream.stream; is_drained = false; ends = false } in
     let new = c.new.ensures in
     let grows : c.push_reserved.new.self.items ≡ n.endpoints.items ++ p ∷ [] = c.push_reserved.ensures.items ∙ ap (λ (xs : List Endpoint). xs ++ p ∷ []) c.reserve.ensures.items in
     let ln = c.len-number.ensures in let rl = c.reserve.ensures.len in let ok = n.endpoints.ok in
@@ -20,7 +20,7 @@ returns-in-Stream-clause-accepts g c =
 pub invariant_of-self-in-Stream : goal.invariant_of-self-in-Stream
 invariant_of-self-in-Stream g c =
     let n = c.args.self.now in
-    let p : Endpoint = record { account = c.new.result; stream = Some c.in-Stream.stream } in
+    let p : Endpoint = record { account = c.new.result; stream = Some c.in-Stream.stream; is_drained = false; ends = false } in
     let new = c.new.ensures in
     let grows : c.push_reserved.new.self.items ≡ n.endpoints.items ++ p ∷ [] = c.push_reserved.ensures.items ∙ ap (λ (xs : List Endpoint). xs ++ p ∷ []) c.reserve.ensures.items in
     let live : live_count (map endpoint_meaning c.push_reserved.new.self.items) ≡ live_count (map endpoint_meaning n.endpoints.items) + 1 =
