@@ -1,10 +1,14 @@
 #!/usr/bin/env python3
-"""Makes the page's WebAssembly module of the proved static library gvr_page: make_module.py MODULE.wasm
+"""Makes the page's WebAssembly module of the static library gvr_page, which is proved: make_module.py [--proved] MODULE.wasm
+
+What gvr_page stands on is taken as it lies in out/ of those crates. The proof is kept, in out/checked, and so is the
+module, under the checksum of the code that it is made from; neither is made again where all is the same. With --proved,
+as after `rt ci`, a module that is kept is taken without asking for the proof.
 
 The kit's back ends for wasm64 refuse what takes memory from a Global. So the LLVM module that the kit makes of the
 library for x86-64 is taken where the kit hands it to its clang; it is given the data layout and the triple of wasm64,
 and is compiled by the same clang, with the flags that the kit has for that target. The kit's linker links it with
-heap.c. A module stands beside others under the checksum of what it is made from, and is not made again."""
+heap.c."""
 import hashlib
 import os
 import pathlib
@@ -21,6 +25,7 @@ KIT = pathlib.Path(os.path.realpath(shutil.which("rt") or sys.exit("make_module:
 CLANG = KIT / "toolchain/bin/clang"
 NAME = "gvr_page"
 CRATE = TOP / "crates" / NAME
+CHECKED = CRATE / "out/checked"
 TRIPLE = "wasm64-unknown-unknown"
 LAYOUT = "e-m:e-p:64:64-p10:8:8-p20:8:8-i64:64-i128:128-n32:64-S128-ni:1:10:20"
 # As the kit calls clang for this target.
@@ -94,23 +99,46 @@ echo | exec "{CLANG}" -x c -c - -o "$out"
     return room / "tools"
 
 
-def take_module(room, uses):
-    """The LLVM module that the kit makes of the library. It makes one of a proved crate alone."""
-    to = room / "page.bc"
-    words = [KIT / "bin/rattle", "build", "--crate-name", NAME, "src/lib.rt"]
+def words_of(uses):
+    """What a check and a build of the crate have in common."""
+    words = ["--crate-name", NAME, "src/lib.rt"]
     for it in ["core", "std", *uses[NAME]]:
         place = TOP / f"crates/{it}/out/rlib/{it}.rlib" if it in uses else KIT / f"rlibs/{it}.rlib"
         words += ["--extern", f"{it}={place}"]
     words += ["-L", f"dependency={KIT}/rlibs"]
     for it in below(NAME, uses, []):
         words += ["-L", f"dependency={TOP}/crates/{it}/out/rlib"]
-    words += ["--antt-project", KIT / "rattle/logic/antt-project.json", "--logic-built", KIT / "logic_built"]
-    words += ["--incremental", "out/incremental", "--jobs", "1", "--links", f"{NAME}=", "--crate-type", "staticlib"]
-    words += ["--toolchain", wrapped_clang(room, to), "--backend", "llvm", "-o", room / "library.a"]
+    return [*words, "--antt-project", KIT / "rattle/logic/antt-project.json", "--links", f"{NAME}=", "--crate-type", "staticlib"]
+
+
+def rattle(*words):
+    """What the kit's compiler says to this, and whether all went well."""
     given = {"cwd": CRATE, "stdout": subprocess.PIPE, "stderr": subprocess.STDOUT, "text": True}
-    ran = subprocess.run([str(it) for it in words], check=False, **given)
-    if ran.returncode or not to.exists():
-        stop(f"the kit built no library of {NAME}: {(ran.stdout.splitlines() or [''])[-1]}")
+    ran = subprocess.run([str(it) for it in (KIT / "bin/rattle", *words)], check=False, **given)
+    return ran.returncode == 0, ran.stdout
+
+
+def is_proved(uses):
+    """Whether what was proved is the crate as it stands, over the libraries as they stand."""
+    return CHECKED.is_dir() and rattle("check", *words_of(uses), "--crate-checked", CHECKED)[0]
+
+
+def prove(uses):
+    """Has the crate proved; all that the proof says goes to a file."""
+    is_well, said = rattle("check", *words_of(uses), "--logic-built", KIT / "logic_built", "--jobs", "1", "-o", CHECKED)
+    (CRATE / "out/page_log").write_text(said)
+    if not is_well:
+        lines = "\n".join(said.splitlines()[-5:])
+        stop(f"gvr_page is not proved; what the kit says stands in crates/gvr_page/out/page_log and ends with\n{lines}")
+
+
+def take_module(room, uses):
+    """The LLVM module that the kit makes of the library. It makes one of a proved crate alone."""
+    to = room / "page.bc"
+    made = ["--toolchain", wrapped_clang(room, to), "--backend", "llvm", "-o", room / "library.a"]
+    is_well, said = rattle("build", *words_of(uses), "--crate-checked", CHECKED, *made)
+    if not is_well or not to.exists():
+        stop(f"the kit built no library of {NAME}: {(said.splitlines() or [''])[-1]}")
     return to
 
 
@@ -151,12 +179,16 @@ def main():
     kept = CRATE / "out/modules"
     kept.mkdir(parents=True, exist_ok=True)
     module = kept / f"{checksum(uses)}.wasm"
-    if not module.exists():
+    is_made = module.exists()
+    if not (is_made and "--proved" in sys.argv[1:]) and not is_proved(uses):
+        print("make_module: proves gvr_page, which takes some minutes", file=sys.stderr)
+        prove(uses)
+    if not is_made:
         for old in kept.glob("*.wasm"):
             old.unlink()
         make(module, uses)
         print(f"make_module: {module.stat().st_size} bytes after {time.time() - began:.0f} s", file=sys.stderr)
-    shutil.copyfile(module, sys.argv[1])
+    shutil.copyfile(module, sys.argv[-1])
 
 
 main()
