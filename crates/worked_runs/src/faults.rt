@@ -1,6 +1,6 @@
 //! The faults that a row is run with, one after another: out that fails at each byte, each read that fails, err without
 //! room, an input that ends at each byte.
-use crate::row::{Row, SMALL_PIECE, Streams, Wanted};
+use crate::row::{Row, SMALL_PIECE, Said, Streams, Wanted};
 use std::alloc::{AllocError, Global};
 
 /// The status of a read that failed, and that of a write that did.
@@ -38,17 +38,31 @@ fn failing_at(row: &Row, read: u64) -> Streams {
     }
 }
 
-/// Whether each read that fails, with the one that finds the end, leaves out as it was, with the status and the line of a
-/// read that failed; and one that never comes changes nothing.
-fn fails_at_each_read(alloc: Global, row: &Row) -> Result<bool, AllocError> {
-    let reads = row.text().len().div_ceil(SMALL_PIECE) as u64;
+/// Whether out has this beginning of what the row has there, with the status and the line of a read that failed.
+fn is_read_fault(row: &Row, said: &Said, out: &[u8]) -> bool {
     let wanted = Wanted {
         status: Some(READ_FAULT),
-        out: b"",
+        out,
         said: b"gvr: read fault\n",
     };
+    row.trace().starts_with(out) && said.is(&wanted)
+}
+
+/// Whether a read that failed is told, and out is as it was. A connection has a beginning of what it is sent, and may be
+/// closed before that read.
+fn is_failed_read(row: &Row, said: &Said) -> bool {
+    if row.is_connection() {
+        return is_read_fault(row, said, said.out.bytes()) || said.is(&row.wanted());
+    }
+    is_read_fault(row, said, b"")
+}
+
+/// Whether each read that fails, with the one that finds the end, is told; and one that never comes changes nothing.
+fn fails_at_each_read(alloc: Global, row: &Row) -> Result<bool, AllocError> {
+    let reads = row.text().len().div_ceil(SMALL_PIECE) as u64;
     for read in 0..=reads {
-        if !row.call(alloc, &failing_at(row, read))?.is(&wanted) {
+        let said = row.call(alloc, &failing_at(row, read))?;
+        if !is_failed_read(row, &said) {
             return Ok(false);
         }
     }

@@ -186,12 +186,17 @@ impl Row {
         }
     }
 
-    /// Whether what the call says is a trace.
-    fn is_run(&self) -> bool {
+    /// Whether this is the command.
+    fn is_command(&self, name: &str) -> bool {
         match self.words.first() {
-            Some(word) => word.as_str() == "run",
+            Some(word) => word.as_str() == name,
             None => false,
         }
+    }
+
+    /// Whether what the call says answers a connection.
+    pub(crate) fn is_connection(&self) -> bool {
+        self.is_command("wsgi")
     }
 
     /// Streams with which nothing fails.
@@ -251,7 +256,7 @@ impl Row {
     /// The name of the row, where the call says anything else than the row has, in any way in which it is run, or where
     /// its trace has a line that no trace has.
     pub(crate) fn differs(self, alloc: Global) -> Result<Option<String>, AllocError> {
-        let holds = (self.is_read || !self.is_run())
+        let holds = (self.is_read || !self.is_command("run"))
             && self.holds(alloc)?
             && (!self.has_faults || holds_with_faults(alloc, &self)?)
             && (!self.has_ends || holds_at_each_end(alloc, &self)?);
