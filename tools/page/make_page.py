@@ -23,16 +23,19 @@ def examples():
     return [it for it in groups if it["examples"]]
 
 
+def shown(text):
+    """A text as EXPLAIN has it between backticks: a bar ends a line. One in quotes is an expression of Python, and no text."""
+    text = " ".join(text.split())
+    return None if text.startswith('"') else text.replace("|", "\n") + "\n"
+
+
 def entry(text):
-    """An entry of EXPLAIN in parts: paragraphs, and blocks by the first word of their fence."""
-    parts = []
-    for at, part in enumerate(re.split(r"^```(.*\n(?:.*\n)*?)```$", text, flags=re.M)):
-        if at % 2:
-            kind, _, block = part.partition("\n")
-            parts += [[kind.split()[0], block]] if kind.split()[0] in ("refused", "mended") else []
-        else:
-            parts += [["text", " ".join(it.split())] for it in part.split("\n\n") if it.strip()]
-    return [it for it in parts if not it[1].startswith("`gvr: line ")]
+    """An entry of EXPLAIN in parts: paragraphs, and of a reason its text and the mended one, where they are texts."""
+    told = re.match(r"\nLine \d+ of `([^`]*)`\.(.*)Mended:\s`([^`]*)`\.\s*$", text, re.S)
+    texts = [(kind, shown(it)) for kind, it in zip(("refused", "mended"), told.group(1, 3))] if told else []
+    prose = told[2] if told and None not in dict(texts).values() else re.sub(r"^```.*\n(?:.*\n)*?```$", "", text, flags=re.M)
+    parts = [["text", " ".join(it.split())] for it in prose.split("\n\n") if it.strip()]
+    return [it for it in parts if not it[1].startswith("`gvr: ")] + [[kind, it] for kind, it in texts if it]
 
 
 def explain():
