@@ -40,7 +40,10 @@ fn runs(rt: &HostRuntime) -> io::Result<bool> {
     };
     let ran = engine.run(alloc, &mut world, &mut trace);
     let is_out = trace.flush().is_ok();
-    println!(rt; "{} questions, {} bytes, moment {}", world.questions, trace.bytes, ran.moment)?;
+    println!(rt;
+        "{} questions, {} bytes, moment {}",
+        world.questions, trace.bytes, ran.moment
+    )?;
     Ok(is_out && ran.end == End::MainValue)
 }
 
