@@ -22,13 +22,6 @@ const BUDGETS: Budgets = Budgets {
 /// Reads, checks and runs the scenario; whether its main ended with a value.
 fn runs(rt: &HostRuntime) -> io::Result<bool> {
     let alloc = rt.alloc();
-    let Ok(text) = read_limited(alloc, &mut StdSource::new(rt.reader()), MOST_BYTES) else {
-        return Ok(false);
-    };
-    let Ok(scenario) = read_scenario(alloc, text.as_slice()) else {
-        return Ok(false);
-    };
-    let engine = Engine::new(alloc, scenario, BUDGETS)?;
     let mut world = AskedWorld {
         world: ScriptWorld::new(alloc, 1),
         questions: 0,
@@ -38,7 +31,13 @@ fn runs(rt: &HostRuntime) -> io::Result<bool> {
         sink: StdSink::new(alloc, rt.stdout().lock(), 4096)?,
         bytes: 0,
     };
-    let ran = engine.run(alloc, &mut world, &mut trace);
+    let Ok(text) = read_limited(alloc, &mut StdSource::new(rt.reader()), MOST_BYTES) else {
+        return Ok(false);
+    };
+    let Ok(scenario) = read_scenario(alloc, text.as_slice()) else {
+        return Ok(false);
+    };
+    let ran = Engine::new(alloc, scenario, BUDGETS)?.run(alloc, &mut world, &mut trace);
     let is_out = trace.flush().is_ok();
     println!(rt;
         "{} questions, {} bytes, moment {}",
