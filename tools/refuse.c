@@ -7,7 +7,8 @@
    their kin, where a file, a pipe or a socket is meant); `wait` (epoll_wait, poll); `accept` (accept, accept4).
    HOW says which of them are refused: `one`, the call of number N, from 1; `on`, that and each later one; `second`,
    each second one. A refused request for memory gives none; `second` interrupts a call (EINTR), the others fail it
-   (EIO). With REFUSE_BYTES=1 each call of these moves one byte.
+   (EIO). With REFUSE_BYTES=1 each call of these moves one byte, but on a socket, where a short call says that no more
+   is there (epoll(7)).
    FILE has 24 bytes, three numbers: how many calls were counted, how many were refused, and the descriptor of the
    first that was. */
 #define _GNU_SOURCE
@@ -70,18 +71,20 @@ static int refuses(enum calls calls, int fd) {
   return refused;
 }
 
-/* Whether bytes are moved there; what wakes a thread is neither a file nor a pipe nor a socket. */
-static int moves(int fd) {
+/* What kind of file it is: none for what wakes a thread, which is neither a file nor a pipe nor a socket. */
+static mode_t kind(int fd) {
   struct stat found;
-  return !fstat(fd, &found) && (found.st_mode & S_IFMT);
+  return fstat(fd, &found) ? 0 : found.st_mode & S_IFMT;
 }
 
-static int refuses_move(enum calls calls, int fd) { return calls == refused_calls && moves(fd) && refuses(calls, fd); }
+static int refuses_move(enum calls calls, int fd) { return calls == refused_calls && kind(fd) && refuses(calls, fd); }
+
+static int moves_a_byte(enum calls calls, int fd) {
+  return in_bytes && calls == refused_calls && kind(fd) && kind(fd) != S_IFSOCK;
+}
 
 /* How many of the bytes are moved. */
-static size_t few(enum calls calls, int fd, size_t count) {
-  return in_bytes && calls == refused_calls && count > 1 && moves(fd) ? 1 : count;
-}
+static size_t few(enum calls calls, int fd, size_t count) { return count && moves_a_byte(calls, fd) ? 1 : count; }
 
 void *malloc(size_t size) { return refuses(MEMORY, -1) ? NULL : __libc_malloc(size); }
 
@@ -114,7 +117,7 @@ ssize_t __write(int fd, const void *bytes, size_t count) { return write(fd, byte
 /* Where bytes are moved one at a time, the first that is there. */
 static ssize_t moved(enum calls calls, long number, int fd, const struct iovec *parts, int count) {
   if (refuses_move(calls, fd)) return -1;
-  if (!in_bytes || calls != refused_calls || !moves(fd)) return syscall(number, fd, parts, count);
+  if (!moves_a_byte(calls, fd)) return syscall(number, fd, parts, count);
   for (int i = 0; i < count; i++)
     if (parts[i].iov_len) return syscall(number, fd, &(struct iovec){parts[i].iov_base, 1}, 1);
   return 0;
@@ -126,13 +129,13 @@ ssize_t writev(int fd, const struct iovec *parts, int count) { return moved(WRIT
 
 ssize_t recvfrom(int fd, void *restrict bytes, size_t count, int flags, struct sockaddr *restrict from,
                  socklen_t *restrict length) {
-  return refuses_move(READ, fd) ? -1 : syscall(SYS_recvfrom, fd, bytes, few(READ, fd, count), flags, from, length);
+  return refuses_move(READ, fd) ? -1 : syscall(SYS_recvfrom, fd, bytes, count, flags, from, length);
 }
 
 ssize_t recv(int fd, void *bytes, size_t count, int flags) { return recvfrom(fd, bytes, count, flags, NULL, NULL); }
 
 ssize_t sendto(int fd, const void *bytes, size_t count, int flags, const struct sockaddr *to, socklen_t length) {
-  return refuses_move(WRITE, fd) ? -1 : syscall(SYS_sendto, fd, bytes, few(WRITE, fd, count), flags, to, length);
+  return refuses_move(WRITE, fd) ? -1 : syscall(SYS_sendto, fd, bytes, count, flags, to, length);
 }
 
 ssize_t send(int fd, const void *bytes, size_t count, int flags) { return sendto(fd, bytes, count, flags, NULL, 0); }

@@ -56,7 +56,7 @@ def worked_row(name, words=None):
 
 def idle_connection():
     """Two connections, of which the first is idle until its time is over."""
-    words = "serve --port 0 --conns 2 --pool 2 --idle 200".split()
+    words = "serve --port 0 --conns 2 --pool 2 --idle 1000".split()
     out = b"listening PORT\nserved 2\n"
     return Row(f"idle connection: {' '.join(words)}", words, out=out, sent=[it for _, it in CONNECTIONS])
 
@@ -169,7 +169,7 @@ class Program:
         if not last:
             raise SystemExit(f"{row.name}: no call of {refusal.calls} was counted: is the program linked with glibc?")
         each = [dataclasses.replace(refusal, at=at) for at in range(1, last + 1, step)]
-        with concurrent.futures.ThreadPoolExecutor(os.cpu_count()) as pool:
+        with concurrent.futures.ThreadPoolExecutor(4 * os.cpu_count()) as pool:
             return zip(each, pool.map(lambda it: self.run(row, it), each))
 
 
