@@ -13,7 +13,7 @@ _gvr() {
   case ${COMP_WORDS[1]} in
     run) options="--turns --moves --tick --native --order" ;;
     wsgi) options="--gateway" ;;
-    serve) options="--port --conns --pool --idle --gateway" ;;
+    serve) options="--port --conns --pool --idle --jobs --gateway" ;;
     storm) options="--size" ;;
     verify) options="--check --turns --moves" ;;
     try) COMPREPLY=($(compgen -f -- "$word")); return ;;
