@@ -29,7 +29,7 @@ use Rattle.wsgi_core.specs.Answers.{Sent, nothing}
 use Rattle.wsgi_core.specs.Applications.{App}
 use Rattle.wsgi_core.proofs.ProgressLaws.{answers-nothing}
 use Rattle.scgi_core.proofs.CallLaws.{answers-nothing as scgi-nothing}
-use Rattle.wsgi_connection.specs.Connections.{SentAhead, most_bytes}
+use Rattle.wsgi_connection.specs.Connections.{HandedAhead, SentAhead, most_bytes}
 use Rattle.wsgi_connection.specs.declared.connection.ConnectionEnd.{ConnectionEnd}
 use Rattle.gv_top.specs.Top.{Decided}
 use Rattle.gv_top.specs.Verifying.{IsAnswerOf}
@@ -161,23 +161,27 @@ silent : (gateway : GatewayKind) (app : App) (port : ℕ) → answers_by gateway
 silent GatewayKind.Http app port = answers-nothing app port
 silent GatewayKind.Scgi app port = scgi-nothing app port
 
+ahead_of_nothing : (gateway : GatewayKind) (app : App) (out : Option (List ℕ)) → SentAhead (answers_by gateway) app no_port (take most_bytes []) out out
+ahead_of_nothing gateway app out = record {
+  before = [];
+  last = [];
+  is = refl;
+  short = omega arith;
+  stands = record { more = []; is = sym (appended-nothing _ ∙ ap (λ (t : Sent). appended out t.bytes) (silent gateway app no_port) ∙ appended-nothing out) };
+}
+
 -- where memory ran out at once, nothing was exchanged
 pub nothing_exchanged : (gateway : GatewayKind) (app : App) (input out : Option (List ℕ)) → IsOfConnection (Verdict.Ran End.Memory) gateway app input input out out
 nothing_exchanged gateway app input out =
     record {
       end = ConnectionEnd.Memory;
       number = refl;
-      exchanged = record { read = []; is_read = sym (prepended-nothing input); within = omega arith; sent = AppendsPrefix-nothing out _; ahead = ahead };
+      exchanged = record { read = []; is_read = sym (prepended-nothing input); within = omega arith; sent = AppendsPrefix-nothing out _; ahead = ahead_of_nothing gateway app out };
     }
-  where
-    ahead : SentAhead (answers_by gateway) app no_port (take most_bytes []) out out
-    ahead = record {
-      before = [];
-      last = [];
-      is = refl;
-      short = omega arith;
-      stands = record { more = []; is = sym (appended-nothing _ ∙ ap (λ (t : Sent). appended out t.bytes) (silent gateway app no_port) ∙ appended-nothing out) };
-    }
+
+pub nothing_handed_ahead : (gateway : GatewayKind) (app : App) (input out handed : Option (List ℕ)) → handed ≡ out → HandedAhead (answers_by gateway) app no_port input input out handed
+nothing_handed_ahead gateway app input out handed same =
+    record { read = []; is_read = sym (prepended-nothing input); ahead = subst (SentAhead (answers_by gateway) app no_port (take most_bytes []) out) (sym same) (ahead_of_nothing gateway app out) }
 
 -- ---- what was read
 

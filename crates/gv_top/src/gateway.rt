@@ -3,7 +3,7 @@ ghost use Rattle.std.specs.Prelude.{◌≡◌, ◌≢◌, ℕ, List, Some};
 ghost use Rattle.stream_net.specs.Nets.{IsFresh};
 ghost use Rattle.stream_server.specs.Serving.{IsInRange};
 ghost use Rattle.serve_command.specs.Served.{IsToldFirst, ServesAt};
-ghost use Rattle.wsgi_connection.specs.Connections.{Exchanged, IsWhole, whole_session};
+ghost use Rattle.wsgi_connection.specs.Connections.{Exchanged, HandedAhead, IsWhole, whole_session};
 ghost use Rattle.gv_top.specs.Answers.{no_port};
 ghost use Rattle.gv_top.specs.Gateways.{answers_by};
 ghost use Rattle.gv_top.specs.Top.{Counts};
@@ -34,6 +34,8 @@ pub fn answer_through<S: Source, K: Sink, A: Application>(
     ensures whole { (left : List ℕ) → S.remaining input.old ≡ Some left →
         IsWhole result (whole_session (answers_by gateway) (A.answer_of app.now) no_port left) (K.written out.old) (K.written out.new) }
     ensures handed { K.handed out.old ≡ K.written out.old → result ≢ ConnectionEnd.WriteFault → result ≢ ConnectionEnd.Memory → K.handed out.new ≡ K.written out.new }
+    ensures handed_ahead { K.handed out.old ≡ K.written out.old →
+        HandedAhead (answers_by gateway) (A.answer_of app.now) no_port (S.remaining input.old) (S.remaining input.new) (K.written out.old) (K.handed out.new) }
     ensures reads { Counts (result ≡ ConnectionEnd.ReadFault) (S.faults input.old) (S.faults input.new) }
     ensures writes { Counts (result ≡ ConnectionEnd.WriteFault) (K.faults out.old) (K.faults out.new) }
 {

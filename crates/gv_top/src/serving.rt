@@ -2,18 +2,21 @@
 ghost use Rattle.std.specs.Prelude.{◌≡◌, ◌≢◌, ◌≤◌, ◌<◌, ℕ, false, List, Some, None, map, string_bytes, take, IsSome};
 ghost use Rattle.gv_values.specs.Counts.{HasRisen};
 ghost use Rattle.command_words.specs.declared.command.ServeOptions.{ServeOptions as AnyServer};
+ghost use Rattle.wsgi_connection.specs.Connections.{HandedAhead};
 ghost use Rattle.stream_net.specs.Nets.{IsFresh};
 ghost use Rattle.stream_server.specs.Serving.{IsInRange};
 ghost use Rattle.command_words.specs.Ranges.{AreAnswersInRange};
 ghost use Rattle.serve_command.specs.Served.{IsToldFirst};
 ghost use Rattle.gv_top.specs.Checks.{AnswersCheck};
 ghost use Rattle.gv_top.specs.Commands.{AnswersCommand, IsBorneOut, IsLeftAlone};
+ghost use Rattle.command_words.specs.declared.command.GatewayKind.{GatewayKind as AnyGateway};
 ghost use Rattle.command_words.specs.declared.command.RunOptions.{RunOptions as AnyOptions};
 ghost use Rattle.command_words.specs.declared.command.TextCommand.{TextCommand};
 ghost use Rattle.scenario_grammar.specs.Spells.{Spells};
 ghost use Rattle.scenario_rules.specs.Rules.{IsWellFormed};
 ghost use Rattle.scenario_tree.specs.declared.tree.Scenario.{Scenario as AnyScenario};
-ghost use Rattle.gv_top.specs.Answers.{most_read};
+ghost use Rattle.gv_top.specs.Answers.{most_read, no_port};
+ghost use Rattle.gv_top.specs.Gateways.{answers_by};
 ghost use Rattle.gv_top.specs.Running.{BeganSo};
 ghost use Rattle.gv_top.specs.declared.words.Command.{Command};
 ghost use Rattle.gv_top.specs.Serving.{Serves, ServesNatively, ServesWith, limits_of};
@@ -186,6 +189,9 @@ pub fn gvr<S: Source, K: Sink, E: Sink, W: World, N: Net, A: Application, H: Wai
     // All that was written is handed on, where all was before, but with the statuses 5 and 7; the line of status 7 too.
     ensures handed { HandsOn result (K.written out.old) (K.handed out.old) (K.written out.new) (K.handed out.new) }
     ensures err_handed { result ≢ 5 → E.handed err.old ≡ E.written err.old → E.handed err.new ≡ E.written err.new }
+    // A peer that waits is answered: what is due for all bytes of a connection but those of the last read was handed on.
+    ensures handed_ahead { (gateway : AnyGateway) → command_of (map string_bytes words.now) ≡ Some (Command.Wsgi gateway) → K.handed out.old ≡ K.written out.old →
+        HandedAhead (answers_by gateway) (A.answer_of app.now) no_port (S.remaining input.old) (S.remaining input.new) (K.written out.old) (K.handed out.new) }
     // Native workers are used by a run and by a server that the words ask them for, and by nothing else.
     ensures untouched { is_native (command_of (map string_bytes words.now)) ≡ false → is_native_server (serve_of (map string_bytes words.now)) ≡ false → native.new ≡ native.old }
     ensures left_alone { is_native_server (serve_of (map string_bytes words.now)) ≡ false → IsLeftAlone result (S.remaining input.old) native.old native.new }

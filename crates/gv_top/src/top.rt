@@ -10,7 +10,8 @@ ghost use Rattle.command_words.specs.Ranges.{IsInRange};
 ghost use Rattle.scenario_grammar.specs.Spells.{Spells};
 ghost use Rattle.scenario_rules.specs.Rules.{IsWellFormed};
 ghost use Rattle.scenario_tree.specs.declared.tree.Scenario.{Scenario as AnyScenario};
-ghost use Rattle.gv_top.specs.Answers.{Answer, IsStormAnswer, answer_to_scenario, answer_to_text, formatted, memory_line, most_read, network_fault_line, read_fault_line, refusal, write_fault_line};
+ghost use Rattle.gv_top.specs.Answers.{Answer, IsStormAnswer, answer_to_scenario, answer_to_text, formatted, memory_line, most_read, network_fault_line, no_port, read_fault_line, refusal, write_fault_line};
+ghost use Rattle.gv_top.specs.Gateways.{answers_by};
 ghost use Rattle.gv_top.specs.Commands.{AnswersCommand, IsBorneOut, IsLeftAlone};
 ghost use Rattle.gv_top.specs.Running.{BeganSo};
 ghost use Rattle.gv_top.specs.declared.status.Verdict.{Verdict as AnyVerdict};
@@ -20,6 +21,7 @@ ghost use Rattle.gv_top.specs.Verdicts.{line_of, number_of};
 ghost use Rattle.gv_top.specs.Checks.{AnswersCheck};
 ghost use Rattle.gv_top.specs.Verifying.{IsAnswerOf, IsCheckAnswer};
 ghost use Rattle.verify_command.specs.Inputs.{most_checked_read};
+ghost use Rattle.wsgi_connection.specs.Connections.{HandedAhead};
 ghost use Rattle.gv_top.specs.Words.{command_of, is_native, is_native_text, reads_input, serve_of};
 
 use crate::gateway::answer_through;
@@ -66,6 +68,8 @@ fn decide<S: Source, K: Sink, W: World, A: Application>(
     ensures rests { (W.meaning native.new).runs ≡ false }
     ensures connection { IfSome result (λ verdict. (gateway : AnyGateway) → command_of (map string_bytes words.now) ≡ Some (Command.Wsgi gateway) →
         IsOfConnection verdict gateway (A.answer_of app.now) (S.remaining input.old) (S.remaining input.new) (K.written out.old) (K.written out.new)) }
+    ensures handed_ahead { IfSome result (λ verdict. (gateway : AnyGateway) → command_of (map string_bytes words.now) ≡ Some (Command.Wsgi gateway) → K.handed out.old ≡ K.written out.old →
+        HandedAhead (answers_by gateway) (A.answer_of app.now) no_port (S.remaining input.old) (S.remaining input.new) (K.written out.old) (K.handed out.new)) }
     ensures untouched_input { reads_input (command_of (map string_bytes words.now)) ≡ false → input.new ≡ input.old }
     ensures explained { IfSome result IsExplained }
     ensures serve { IfNone result (IsSome (serve_of (map string_bytes words.now))) }
@@ -122,6 +126,8 @@ fn answer_command<S: Source, K: Sink, W: World, A: Application>(
     ensures rests { (W.meaning native.new).runs ≡ false }
     ensures connection { (gateway : AnyGateway) → command ≡ Some (Command.Wsgi gateway) →
         IsOfConnection result gateway (A.answer_of app.now) (S.remaining input.old) (S.remaining input.new) (K.written out.old) (K.written out.new) }
+    ensures handed_ahead { (gateway : AnyGateway) → command ≡ Some (Command.Wsgi gateway) → K.handed out.old ≡ K.written out.old →
+        HandedAhead (answers_by gateway) (A.answer_of app.now) no_port (S.remaining input.old) (S.remaining input.new) (K.written out.old) (K.handed out.new) }
     ensures storm { (size : ℕ) → command ≡ Some (Command.Storm size) → (number_of result ≢ 4) × ((a : Answer) → IsStormAnswer size a → Decided result a (K.written out.old) (K.written out.new)) }
     ensures untouched_input { reads_input command ≡ false → input.new ≡ input.old }
     ensures reads { Counts (number_of result ≡ 4) (S.faults input.old) (S.faults input.new) }
@@ -418,6 +424,9 @@ pub fn offline<S: Source, K: Sink, E: Sink, W: World, A: Application>(
     // All that was written is handed on, where all was before.
     ensures handed { IfSome result (λ status. HandsOn status (K.written out.old) (K.handed out.old) (K.written out.new) (K.handed out.new)) }
     ensures err_handed { IfSome result (λ status. status ≢ 5 → E.handed err.old ≡ E.written err.old → E.handed err.new ≡ E.written err.new) }
+    // A peer that waits is answered: what is due for all bytes of a connection but those of the last read was handed on.
+    ensures handed_ahead { IfSome result (λ status. (gateway : AnyGateway) → command_of (map string_bytes words.now) ≡ Some (Command.Wsgi gateway) → K.handed out.old ≡ K.written out.old →
+        HandedAhead (answers_by gateway) (A.answer_of app.now) no_port (S.remaining input.old) (S.remaining input.new) (K.written out.old) (K.handed out.new)) }
     ensures untouched { is_native (command_of (map string_bytes words.now)) ≡ false → native.new ≡ native.old }
     ensures left_alone { IfSome result (λ status. IsLeftAlone status (S.remaining input.old) native.old native.new) }
     ensures native_rests { (W.meaning native.new).runs ≡ false }

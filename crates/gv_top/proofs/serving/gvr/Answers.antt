@@ -95,6 +95,9 @@ returns-in-None-clause-told g c = λ options e.
 pub returns-in-None-clause-began : goal.returns-in-None-clause-began
 returns-in-None-clause-began g c = λ options s left named told text well. none_named _ _ c.in-None.ensures.serve (names_one (map string_bytes c.args.words.now) _ named)
 
+pub returns-in-None-clause-handed_ahead : goal.returns-in-None-clause-handed_ahead
+returns-in-None-clause-handed_ahead g c = λ gateway named e. none_named _ _ c.in-None.ensures.serve (names_one (map string_bytes c.args.words.now) _ named)
+
 pub returns-in-None-clause-handed : goal.returns-in-None-clause-handed
 returns-in-None-clause-handed g c =
     let t = c.tell.ensures.told in

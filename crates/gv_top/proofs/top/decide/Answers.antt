@@ -1,6 +1,6 @@
 use Rattle.std.proofs.Common.{ap, map, option_and_then, refl, string_bytes, sym, ◌∙◌}
 use Rattle.gv_top.specs.Words.{built, is_native, reads_input, serving}
-use Rattle.gv_top.proofs.Deciding.{nothing_exchanged}
+use Rattle.gv_top.proofs.Deciding.{nothing_exchanged, nothing_handed_ahead}
 use Rattle.gv_top.proofs.Handing.{none_began}
 use Rattle.gv_top.proofs.Built.{in_range}
 use Rattle.gv_top.proofs.Servings.{is_some, none_named}
@@ -12,6 +12,9 @@ returns-in_default-clause-came_to g c = out_of_memory_at_once _ _ _ _ _ _ _ _
 
 pub returns-in_default-clause-connection : goal.returns-in_default-clause-connection
 returns-in_default-clause-connection g c = λ gateway named. nothing_exchanged gateway _ _ _
+
+pub returns-in_default-clause-handed_ahead : goal.returns-in_default-clause-handed_ahead
+returns-in_default-clause-handed_ahead g c = λ gateway named e. nothing_handed_ahead gateway _ _ _ _ e
 
 pub returns-in_default-clause-lawful : goal.returns-in_default-clause-lawful
 returns-in_default-clause-lawful g c = λ options e. nothing_lawful _ _
@@ -56,6 +59,9 @@ returns-in-None-clause-untouched g c = λ h. c.answer_command.ensures.untouched 
 
 pub returns-in-None-clause-connection : goal.returns-in-None-clause-connection
 returns-in-None-clause-connection g c = λ gateway named. c.answer_command.ensures.connection gateway (c.without_a_net-command.ensures ∙ ap (option_and_then built) c.in-Ok.ensures ∙ named)
+
+pub returns-in-None-clause-handed_ahead : goal.returns-in-None-clause-handed_ahead
+returns-in-None-clause-handed_ahead g c = λ gateway named. c.answer_command.ensures.handed_ahead gateway (c.without_a_net-command.ensures ∙ ap (option_and_then built) c.in-Ok.ensures ∙ named)
 
 pub returns-in-None-clause-not_serve : goal.returns-in-None-clause-not_serve
 returns-in-None-clause-not_serve g c = λ named. none_named _ _ named (ap (option_and_then serving) (sym c.in-Ok.ensures) ∙ sym c.server_options.ensures ∙ c.in-None.is)
