@@ -1,6 +1,6 @@
 -- The places of the table of those who wait.
 use Rattle.std.proofs.Common.{◌≡◌, ℕ, ◌+◌, ◌*◌, ◌<◌, ◌==◌, ◌&&◌, Bool, true, false, Option, Some, None, refl, sym, ap, ◌∙◌, arith}
-use Rattle.std.specs.Prelude.{is_none}
+use Rattle.std.specs.Prelude.{is_none, option_map}
 use Rattle.std.proofs.lemmas.Bool.Decides.{nat_tests}
 use Rattle.machine.specs.declared.items.Delivery.{Delivery}
 use Rattle.machine.specs.declared.items.Waiting.{Waiting}
@@ -9,8 +9,9 @@ use Rattle.hub_items.specs.declared.waits.WaitKind.{WaitKind}
 use Rattle.hub_items.specs.Lines.{is_line, line_of, line_of_delivery}
 use Rattle.hub_items.specs.WaitKinds.{same_kind}
 use Rattle.hub_items.proofs.WaitKinds.{wakes_line}
+use Rattle.held_items.specs.declared.waits.Target.{Target}
 use Rattle.held_items.specs.Indexed.{has_key, is_key}
-use Rattle.held_items.specs.Waits.{is_of_ends, line_column, object_place, wait_column, wait_place, waits_for_ends, waits_in_line, waits_in_none, waits_key}
+use Rattle.held_items.specs.Waits.{ends_key, is_for, line_column, object_place, same_target, target_of, target_of_class, target_place, wait_place, waits_for, waits_in_line, waits_in_none, waits_key}
 use Rattle.held_items.proofs.EntryLemmas.{is_other}
 use Rattle.held_items.proofs.Owning.{grid}
 
@@ -34,10 +35,7 @@ same_column WaitKind.TakeOffer WaitKind.TakeOffer = refl
 same_column a b = refl
 
 one_place : (o p a b : ℕ) → a < 8 → b < 8 → (object_place o a == object_place p b) ≡ ((a == b) && (o == p))
-one_place o p a b s t = one (o * 8 + a) (p * 8 + b) ∙ grid o p a b s t
-  where
-    one : (m n : ℕ) → (m + 1 == n + 1) ≡ (m == n)
-    one m n = grind (arith, nat_tests)
+one_place o p a b s t = grid o p a b s t
 
 line_place : (kind other : WaitKind) (o p : ℕ) → (object_place o (line_column kind) == object_place p (line_column other)) ≡ (same_kind kind other && o == p)
 line_place kind other o p =
@@ -49,16 +47,12 @@ line_place kind other o p =
 off_place : (kind : WaitKind) (o p : ℕ) → (object_place o (line_column kind) == object_place p 7) ≡ false
 off_place kind o p = let s = small kind in is_other (object_place o (line_column kind)) (object_place p 7) (λ e. omega (arith, s, e))
 
--- and who waits for ends
-off_ends : (o a : ℕ) → (object_place o a == 0) ≡ false
-off_ends o a = is_other (object_place o a) 0 (λ e. omega (arith, e))
-
 line_wait : (kind : WaitKind) (o : ℕ) (w : Waiting) → is_key (object_place o (line_column kind)) (wait_place (line_of w) (class_of_wait w)) ≡ is_line kind o (line_of w)
 line_wait kind o (Waiting.Sleep until) = refl
-line_wait kind o (Waiting.Join g) = off_ends o (line_column kind)
-line_wait kind o (Waiting.Get whom) = off_ends o (line_column kind)
-line_wait kind o (Waiting.Kill gs) = off_ends o (line_column kind)
-line_wait kind o (Waiting.JoinAll gs need) = off_ends o (line_column kind)
+line_wait kind o (Waiting.Join g) = refl
+line_wait kind o (Waiting.Get whom) = refl
+line_wait kind o (Waiting.Kill gs) = refl
+line_wait kind o (Waiting.JoinAll gs need) = refl
 line_wait kind o (Waiting.Event p sets) = off_place kind o p
 line_wait kind o (Waiting.ResultGet p) = off_place kind o p
 line_wait kind o (Waiting.ResultWait p) = off_place kind o p
@@ -70,7 +64,7 @@ line_wait kind o (Waiting.Peek p) = off_place kind o p
 line_wait kind o (Waiting.Tasks p) = off_place kind o p
 line_wait kind o (Waiting.Place p f vs) = line_place kind WaitKind.Place o p
 line_wait kind o (Waiting.MapPlace p f xs made) = line_place kind WaitKind.Place o p
-line_wait kind o (Waiting.MapEnd p made) = off_ends o (line_column kind)
+line_wait kind o (Waiting.MapEnd p made) = refl
 line_wait kind o (Waiting.Members p) = off_place kind o p
 line_wait kind o (Waiting.Slot p job takes) = line_place kind WaitKind.Slot o p
 line_wait kind o (Waiting.Offered p) = off_place kind o p
@@ -86,7 +80,7 @@ line_key kind o d = by d ∙ sym (wakes_line kind o d)
     by (Delivery.Late g deadline n) = refl
     by (Delivery.Timeout g n deadline) = refl
     by (Delivery.Kill g f) = refl
-    by (Delivery.Link k g link f) = off_ends o (line_column kind)
+    by (Delivery.Link k g link f) = refl
 
 pub none_key : (o : ℕ) (d : Delivery) → has_key waits_key (object_place o 7) d ≡ waits_in_none o d
 none_key o d = by (line_of_delivery d) (class_of d)
@@ -101,7 +95,7 @@ none_key o d = by (line_of_delivery d) (class_of d)
     by : (line : Option (WaitKind × ℕ)) (c : Class) → is_key (object_place o 7) (wait_place line c) ≡ (is_at o c && is_none line)
     by line Class.Always = refl
     by line (Class.AtMoment deadline) = refl
-    by line (Class.OfEnds targets need) = off_ends o 7
+    by line (Class.OfEnds targets need) = refl
     by None (Class.AtObject p) = both (o == p) refl
       where
         both : (b : Bool) → (o == p) ≡ b → (object_place o 7 == object_place p 7) ≡ (b && true)
@@ -109,11 +103,17 @@ none_key o d = by (line_of_delivery d) (class_of d)
         both false e = one_place o p 7 7 (omega arith) (omega arith) ∙ e
     by (Some line) (Class.AtObject p) = last line.0 p ∙ sym (no_and (o == p))
 
-pub ends_key : (d : Delivery) → has_key waits_key 0 d ≡ waits_for_ends d
-ends_key d = by (line_of_delivery d) (class_of d)
+same_place : (a b : Target) → (target_place a == target_place b) ≡ same_target a b
+same_place Target.Several Target.Several = refl
+same_place (Target.One m) (Target.One n) = grind (arith, nat_tests)
+same_place Target.Several (Target.One n) = is_other 0 (n + 1) (λ e. omega (arith, e))
+same_place (Target.One m) Target.Several = is_other (m + 1) 0 (λ e. omega (arith, e))
+
+pub target_key : (target : Target) (d : Delivery) → has_key ends_key (target_place target) d ≡ waits_for target d
+target_key target d = by (class_of d)
   where
-    by : (line : Option (WaitKind × ℕ)) (c : Class) → is_key 0 (wait_place line c) ≡ is_of_ends c
-    by line Class.Always = refl
-    by line (Class.AtMoment deadline) = refl
-    by line (Class.OfEnds targets need) = refl
-    by line (Class.AtObject p) = is_other 0 (object_place p (wait_column line)) (λ e. omega (arith, e))
+    by : (c : Class) → is_key (target_place target) (option_map target_place (target_of_class c)) ≡ is_for target c
+    by Class.Always = refl
+    by (Class.AtMoment deadline) = refl
+    by (Class.OfEnds targets need) = same_place target (target_of targets)
+    by (Class.AtObject p) = refl

@@ -16,3 +16,4 @@ mod tallies;
 mod waits;
 
 pub use held::HeldItems;
+pub use waits::{Target, target_of};

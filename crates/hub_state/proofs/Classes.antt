@@ -13,7 +13,8 @@ use Rattle.machine_settling.specs.Links.{fits_end}
 use Rattle.machine_settling.specs.Locality.{HoldsAs}
 use Rattle.machine_settling.proofs.Readings.{holds-as}
 use Rattle.hub_items.proofs.LineCounts.{none_ahead}
-use Rattle.held_items.specs.Waits.{is_of_ends}
+use Rattle.held_items.specs.Waits.{is_for, is_of_ends}
+use Rattle.held_items.specs.declared.waits.Target.{Target}
 use Rattle.hub_state.specs.Found.{is_always, is_moment}
 use Rattle.hub_state.specs.Waiters.{IsBefore}
 
@@ -53,16 +54,16 @@ due_holds s i deadline e = subst (λ c. HoldsAs s i c) e (holds-as s i (fits_off
 
 -- ---- who waits before it
 
-off_objects : (c : Class) → is_of_ends c ≡ true → is_off_objects c ≡ true
-off_objects (Class.OfEnds targets need) e = refl
-off_objects Class.Always e = refl
-off_objects (Class.AtMoment deadline) e = refl
-off_objects (Class.AtObject o) e = absurd (cc e)
+off_objects : (target : Target) (c : Class) → is_for target c ≡ true → is_off_objects c ≡ true
+off_objects target (Class.OfEnds targets need) e = refl
+off_objects target Class.Always e = refl
+off_objects target (Class.AtMoment deadline) e = refl
+off_objects target (Class.AtObject o) e = absurd (cc e)
 
 -- before one that waits for ends nobody waits
-pub ends_before : (s : State) (since : ℕ) (d : Delivery) → is_of_ends (class_of d) ≡ true → IsBefore 0 s since d
-ends_before s since (Delivery.Wake g w) e = none_ahead (length s.objects) (λ test. earlier test since s.items) w (off_objects (class_of_wait w) e)
-ends_before s since d e = tt
+pub ends_before : (target : Target) (s : State) (since : ℕ) (d : Delivery) → is_for target (class_of d) ≡ true → IsBefore 0 s since d
+ends_before target s since (Delivery.Wake g w) e = none_ahead (length s.objects) (λ test. earlier test since s.items) w (off_objects target (class_of_wait w) e)
+ends_before target s since d e = tt
 
 -- nobody waits before what is no wait
 pub none_before : (s : State) (since : ℕ) (d : Delivery) → ((g : ℕ) (w : Waiting) → d ≡ Delivery.Wake g w → ⊥) → IsBefore 0 s since d

@@ -101,7 +101,7 @@ all_columns o d = by (line_of_delivery d) (class_of d)
     by : (line : Option (WaitKind × ℕ)) (c : Class) → is_before o 8 (wait_place line c) ≡ is_at o c
     by line Class.Always = refl
     by line (Class.AtMoment deadline) = refl
-    by line (Class.OfEnds targets need) = let off : nat_le (object_place o 0) 0 ≡ false = grind (arith, nat_tests) in rw off refl
+    by line (Class.OfEnds targets need) = refl
     by line (Class.AtObject p) = row p (wait_column line) (few_columns line)
 
 -- ---- one look after another

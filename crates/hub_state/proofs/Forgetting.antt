@@ -1,6 +1,6 @@
 -- A moment is reached, whether it is a later one or not.
 use Rattle.std.proofs.Common.{◌≡◌, refl, ap, sym, ◌∙◌, subst, ℕ, ◌<◌, ◌≤◌, ◌&&◌, Bool, true, false, cond, not, List, [], ◌∷◌, ◌++◌, length, map, ◌⊎◌, inl, inr, Option, Some, None, arith}
-use Rattle.std.specs.Prelude.{◌||◌, IfSome, IsTrue, is_some}
+use Rattle.std.specs.Prelude.{◌||◌, IsTrue, is_some}
 use Rattle.std.specs.List.{AllByRecursion}
 use Rattle.std.proofs.lemmas.Bool.{and_cases, and_parts, lt-leb, ltb-false, ltb-true, true≢false}
 use Rattle.std.proofs.lemmas.List.{append_assoc, map-append}
@@ -33,7 +33,7 @@ use Rattle.held_items.specs.Entries.{Entry, SeenItems, flat, item_in, slots_of, 
 use Rattle.held_items.specs.Held.{unnumbered}
 use Rattle.held_items.proofs.Dropping.{behind}
 use Rattle.hub_state.specs.Forgotten.{all_forgotten, came, forgotten, is_after, is_early, reached}
-use Rattle.hub_state.specs.Touched.{HasCome, HasMark, IsKept, IsMade, IsPast, IsPending, IsUpToDate, SeenTouched, awaited, reopened}
+use Rattle.hub_state.specs.Touched.{HasCome, HasMark, HasPlaces, IsKept, IsMade, IsPast, IsPending, IsUpToDate, SeenTouched, reopened}
 use Rattle.hub_state.specs.Over.{over, with_held}
 use Rattle.hub_state.proofs.Keeping.{hub_moved}
 use Rattle.hub_state.proofs.Touching.{come_later, grows_same, kept_after, kept_beside}
@@ -244,7 +244,7 @@ pub hub_later : (moment : ℕ) (held : SeenItems) (t : SeenTouched) (s : State) 
 hub_later moment held t s a l h =
     hub_moved held t t s (record s { moment = moment }) (grows_same t) refl (kept_after (Step.Reaches moment) t t s a tt (grows_same t) covers (λ i k. k) l h.current.rooms h.current) h
   where
-    covers : (c : Class) → IfSome (awaited c) (λ o. o < t.rooms) → IsTrue (the_moments s.moment moment c) → IsTrue (reopened t c)
+    covers : (c : Class) → HasPlaces t c → IsTrue (the_moments s.moment moment c) → IsTrue (reopened t c)
     covers Class.Always m e = refl
     covers (Class.AtMoment deadline) m e = refl
     covers (Class.OfEnds targets need) m e = absurd (true≢false (sym e))
@@ -312,7 +312,7 @@ kept_reached moment t s a h = record {
   agrees = All-from_recursion (Agrees (reopened t) (holds (reached moment s))) (reached moment s).items (each_map (Agrees (reopened t) (holds (reached moment s))) (forgotten moment) s.items (λ i k. agrees i k (is_early moment i) refl));
   front = fronts_others (forgotten moment) s (All-from_recursion (λ i. IsStill i (forgotten moment i)) s.items (every s.items (λ i. still i (is_early moment i) refl))) h.front;
   past = All-from_recursion (IsPast moment) (reached moment s).items (each_map (IsPast moment) (forgotten moment) s.items (λ i k. past i (is_early moment i) refl));
-  marked = All-from_recursion (HasMark t.rooms) (reached moment s).items (each_map (HasMark t.rooms) (forgotten moment) s.items (λ i k. marked i (is_early moment i) (at_in (HasMark t.rooms) s.items i h.marked k)));
+  marked = All-from_recursion (HasMark t) (reached moment s).items (each_map (HasMark t) (forgotten moment) s.items (λ i k. marked i (is_early moment i) (at_in (HasMark t) s.items i h.marked k)));
   rooms = h.rooms;
 }
   where
@@ -346,7 +346,7 @@ kept_reached moment t s a h = record {
         by (inl u) n = absurd (true≢false (sym n ∙ u))
         by (inr u) n = not_after_come moment (class_of i.delivery) u
 
-    marked : (i : Item) (b : Bool) → HasMark t.rooms i → HasMark t.rooms (cond b (record i { ready = None }) i)
+    marked : (i : Item) (b : Bool) → HasMark t i → HasMark t (cond b (record i { ready = None }) i)
     marked i true m = m
     marked i false m = m
 

@@ -1,9 +1,9 @@
 -- Looks, one after another.
 use Rattle.std.proofs.Common.{◌≡◌, refl, sym, ap, ◌∙◌, ℕ, Bool, true, false, List, [], ◌∷◌, ◌++◌, arith}
-use Rattle.std.proofs.lemmas.Bool.{ne_eqb, or_left, or_right, true≢false}
+use Rattle.std.proofs.lemmas.Bool.{eqb-true, ne_eqb, or_left, or_right, true≢false}
 use Rattle.std.proofs.lemmas.Bool.Decides.{nat_tests}
 use Rattle.std.specs.List.{list_any}
-use Rattle.std.specs.Prelude.{◌==◌, ◌||◌, IsTrue}
+use Rattle.std.specs.Prelude.{◌==◌, ◌&&◌, ◌||◌, IsTrue}
 use Rattle.linked_items.specs.Items.{Lacks}
 use Rattle.machine.specs.declared.items.Item.{Item}
 use Rattle.machine.specs.Holds.{holds}
@@ -12,9 +12,10 @@ use Rattle.machine_settling.specs.Classes.{Class, class_of, is_at}
 use Rattle.machine_settling.specs.Numbers.{loses_number, needs_number}
 use Rattle.machine_settling.specs.Steps.{either, nothing}
 use Rattle.held_items.specs.Entries.{Entry}
-use Rattle.held_items.specs.Waits.{is_of_ends}
-use Rattle.hub_state.specs.Found.{AreFound, HasFound, IsOf, LooksAt, SeenFound, at_objects, ends_if, is_always, is_moment, none_found, touched_now}
-use Rattle.hub_state.specs.Touched.{SeenTouched, reopened}
+use Rattle.held_items.specs.Waits.{is_for, same_target, target_of}
+use Rattle.held_items.specs.declared.waits.Target.{Target}
+use Rattle.hub_state.specs.Found.{AreFound, HasFound, IsOf, LooksAt, SeenFound, at_objects, for_one_of, for_several, is_always, is_moment, is_one_of, none_found, touched_now}
+use Rattle.hub_state.specs.Touched.{SeenTouched, is_touched, reopened}
 use Rattle.hub_state.proofs.Classes.{is_place}
 use Rattle.hub_state.proofs.Finding.{finds_as}
 
@@ -61,11 +62,14 @@ any_more o [] p = one (o == p)
     one false = refl
 any_more o (r ∷ front) p = or_three (o == r) (list_any (λ x. o == x) front) (o == p) ∙ ap (λ b. (o == r) || b) (any_more o front p)
 
-pub objects_more : (front : List ℕ) (p : ℕ) (c : Class) → (at_objects front c || is_at p c) ≡ at_objects (front ++ p ∷ []) c
-objects_more front p (Class.AtObject o) = ap (λ b. list_any (λ r. o == r) front || b) (turned p o) ∙ any_more o front p
+any_turned : (o : ℕ) (front : List ℕ) (p : ℕ) → (list_any (λ r. o == r) front || (p == o)) ≡ list_any (λ r. o == r) (front ++ p ∷ [])
+any_turned o front p = ap (λ b. list_any (λ r. o == r) front || b) (turned p o) ∙ any_more o front p
   where
     turned : (m n : ℕ) → (m == n) ≡ (n == m)
     turned m n = grind (arith, nat_tests)
+
+pub objects_more : (front : List ℕ) (p : ℕ) (c : Class) → (at_objects front c || is_at p c) ≡ at_objects (front ++ p ∷ []) c
+objects_more front p (Class.AtObject o) = any_turned o front p
 objects_more front p Class.Always = refl
 objects_more front p (Class.AtMoment deadline) = refl
 objects_more front p (Class.OfEnds targets need) = refl
@@ -83,41 +87,81 @@ no_objects Class.Always = refl
 no_objects (Class.AtMoment deadline) = refl
 no_objects (Class.OfEnds targets need) = refl
 
--- ---- ends, where they were touched
+-- ---- one greenlet or job after another
 
-ends_touched : (c : Class) → is_of_ends c ≡ ends_if true c
-ends_touched Class.Always = refl
-ends_touched (Class.AtMoment deadline) = refl
-ends_touched (Class.OfEnds targets need) = refl
-ends_touched (Class.AtObject o) = refl
+pub ends_more : (front : List ℕ) (n : ℕ) (c : Class) → (for_one_of front c || is_for (Target.One n) c) ≡ for_one_of (front ++ n ∷ []) c
+ends_more front n (Class.OfEnds targets need) = by (target_of targets)
+  where
+    by : (target : Target) → (is_one_of front target || same_target (Target.One n) target) ≡ is_one_of (front ++ n ∷ []) target
+    by (Target.One m) = any_turned m front n
+    by Target.Several = refl
+ends_more front n Class.Always = refl
+ends_more front n (Class.AtMoment deadline) = refl
+ends_more front n (Class.AtObject o) = refl
 
-ends_untouched : (c : Class) → nothing c ≡ ends_if false c
-ends_untouched Class.Always = refl
-ends_untouched (Class.AtMoment deadline) = refl
-ends_untouched (Class.OfEnds targets need) = refl
-ends_untouched (Class.AtObject o) = refl
+pub ends_apart : (front : List ℕ) (n : ℕ) → Lacks n front → (c : Class) → IsTrue (is_for (Target.One n) c) → for_one_of front c ≡ false
+ends_apart front n l (Class.OfEnds targets need) t = by (target_of targets) t
+  where
+    by : (target : Target) → same_target (Target.One n) target ≡ true → is_one_of front target ≡ false
+    by (Target.One m) e = ap (λ k. list_any (λ r. k == r) front) (sym (eqb-true n m e)) ∙ lacks_any n front l
+    by Target.Several e = refl
+ends_apart front n l Class.Always t = refl
+ends_apart front n l (Class.AtMoment deadline) t = refl
+ends_apart front n l (Class.AtObject o) t = refl
 
-pub ends_passed_by : (touched : Bool) (s : State) (es : List Entry) (x : SeenFound) → touched ≡ false → LooksAt (ends_if touched) s es x x
-ends_passed_by true s es x t = absurd (cc t)
-ends_passed_by false s es x t = looks_as nothing (ends_if false) s es x x ends_untouched (looks_none s es x)
+pub no_ends : (c : Class) → nothing c ≡ for_one_of [] c
+no_ends (Class.OfEnds targets need) = by (target_of targets)
+  where
+    by : (target : Target) → false ≡ is_one_of [] target
+    by (Target.One n) = refl
+    by Target.Several = refl
+no_ends Class.Always = refl
+no_ends (Class.AtMoment deadline) = refl
+no_ends (Class.AtObject o) = refl
 
-pub ends_looked_at : (touched : Bool) (s : State) (es : List Entry) (x y : SeenFound) → touched ≡ true → LooksAt is_of_ends s es x y → LooksAt (ends_if touched) s es x y
-ends_looked_at false s es x y t f = absurd (cc t)
-ends_looked_at true s es x y t f = looks_as is_of_ends (ends_if true) s es x y ends_touched f
+-- ---- several ends, where they were touched
+
+and_nothing : (b : Bool) → (b && false) ≡ false
+and_nothing true = refl
+and_nothing false = refl
+
+and_true : (b : Bool) → b ≡ (b && true)
+and_true true = refl
+and_true false = refl
+
+pub several_passed_by : (touched : Bool) (s : State) (es : List Entry) (x : SeenFound) → touched ≡ false → LooksAt (for_several touched) s es x x
+several_passed_by true s es x t = absurd (cc t)
+several_passed_by false s es x t = looks_as nothing (for_several false) s es x x (λ c. sym (and_nothing (is_for Target.Several c))) (looks_none s es x)
+
+pub several_looked_at : (touched : Bool) (s : State) (es : List Entry) (x y : SeenFound) → touched ≡ true → LooksAt (is_for Target.Several) s es x y → LooksAt (for_several touched) s es x y
+several_looked_at false s es x y t f = absurd (cc t)
+several_looked_at true s es x y t f = looks_as (is_for Target.Several) (for_several true) s es x y (λ c. and_true (is_for Target.Several c)) f
 
 -- ---- all that a settling looks at
 
-ends_apart : (ends : Bool) (c : Class) → IsTrue (ends_if ends c) → is_always c ≡ false
-ends_apart ends (Class.OfEnds targets need) t = refl
-ends_apart ends Class.Always t = absurd (true≢false (sym t))
-ends_apart ends (Class.AtMoment deadline) t = refl
-ends_apart ends (Class.AtObject o) t = refl
+-- who waits for ends waits for something
+several_apart : (several : Bool) (c : Class) → IsTrue (for_several several c) → is_always c ≡ false
+several_apart several (Class.OfEnds targets need) t = refl
+several_apart several Class.Always t = absurd (true≢false (sym t))
+several_apart several (Class.AtMoment deadline) t = refl
+several_apart several (Class.AtObject o) t = refl
 
-objects_apart_all : (ends : Bool) (objects : List ℕ) (c : Class) → IsTrue (at_objects objects c) → either is_always (ends_if ends) c ≡ false
-objects_apart_all ends objects (Class.AtObject o) t = refl
-objects_apart_all ends objects Class.Always t = absurd (true≢false (sym t))
-objects_apart_all ends objects (Class.AtMoment deadline) t = absurd (true≢false (sym t))
-objects_apart_all ends objects (Class.OfEnds targets need) t = absurd (true≢false (sym t))
+-- who waits for one doesn't wait for several
+ones_apart : (several : Bool) (ends : List ℕ) (c : Class) → IsTrue (for_one_of ends c) → either is_always (for_several several) c ≡ false
+ones_apart several ends (Class.OfEnds targets need) t = by (target_of targets) t
+  where
+    by : (target : Target) → is_one_of ends target ≡ true → (false || (same_target Target.Several target && several)) ≡ false
+    by (Target.One n) e = refl
+    by Target.Several e = absurd (true≢false (sym e))
+ones_apart several ends Class.Always t = absurd (true≢false (sym t))
+ones_apart several ends (Class.AtMoment deadline) t = refl
+ones_apart several ends (Class.AtObject o) t = refl
+
+objects_apart_all : (several : Bool) (ends objects : List ℕ) (c : Class) → IsTrue (at_objects objects c) → either (either is_always (for_several several)) (for_one_of ends) c ≡ false
+objects_apart_all several ends objects (Class.AtObject o) t = refl
+objects_apart_all several ends objects Class.Always t = absurd (true≢false (sym t))
+objects_apart_all several ends objects (Class.AtMoment deadline) t = absurd (true≢false (sym t))
+objects_apart_all several ends objects (Class.OfEnds targets need) t = absurd (true≢false (sym t))
 
 moments_apart : (t : SeenTouched) (c : Class) → IsTrue (is_moment c) → touched_now t c ≡ false
 moments_apart t (Class.AtMoment deadline) u = refl
@@ -128,14 +172,22 @@ moments_apart t (Class.AtObject o) u = absurd (true≢false (sym u))
 all_reopened : (t : SeenTouched) (c : Class) → (touched_now t c || is_moment c) ≡ reopened t c
 all_reopened t Class.Always = refl
 all_reopened t (Class.AtMoment deadline) = refl
-all_reopened t (Class.OfEnds targets need) = by t.ends
+all_reopened t (Class.OfEnds targets need) = by (target_of targets)
   where
-    by : (b : Bool) → (((false || b) || false) || false) ≡ b
-    by true = refl
-    by false = refl
+    one : (b : Bool) → (((false || b) || false) || false) ≡ b
+    one true = refl
+    one false = refl
+
+    several : (b : Bool) → ((((false || b) || false) || false) || false) ≡ b
+    several true = refl
+    several false = refl
+
+    by : (target : Target) → ((((false || (same_target Target.Several target && t.several)) || is_one_of t.ends target) || false) || false) ≡ is_touched t target
+    by (Target.One n) = one (list_any (λ m. n == m) t.ends)
+    by Target.Several = several t.several
 all_reopened t (Class.AtObject o) = by (list_any (λ p. o == p) t.objects)
   where
-    by : (b : Bool) → ((false || b) || false) ≡ b
+    by : (b : Bool) → ((((false || false) || false) || b) || false) ≡ b
     by true = refl
     by false = refl
 
@@ -152,7 +204,17 @@ looks_all t s es x y f g =
     found_same (either nothing (reopened t)) (reopened t) s es y (λ c. refl)
     (looks_both (touched_now t) is_moment (reopened t) s es none_found x y (all_reopened t) (moments_apart t) f g nothing (λ c u. refl) (none_has s es))
 
-pub looks_touched : (t : SeenTouched) (s : State) (es : List Entry) (x y z w : SeenFound) → LooksAt is_always s es x y → LooksAt (ends_if t.ends) s es y z → LooksAt (at_objects t.objects) s es z w → LooksAt (touched_now t) s es x w
-looks_touched t s es x y z w f g h =
-    looks_both (either is_always (ends_if t.ends)) (at_objects t.objects) (touched_now t) s es x z w (λ c. refl) (objects_apart_all t.ends t.objects)
-    (looks_both is_always (ends_if t.ends) (either is_always (ends_if t.ends)) s es x y z (λ c. refl) (ends_apart t.ends) f g) h
+-- what each of the looks at what was touched found, one after another
+pub record LooksInTurn (t : SeenTouched) (s : State) (es : List Entry) (x0 x1 x2 x3 x4 : SeenFound) : Type 0 where
+  pub always : LooksAt is_always s es x0 x1
+  pub several : LooksAt (for_several t.several) s es x1 x2
+  pub ends : LooksAt (for_one_of t.ends) s es x2 x3
+  pub objects : LooksAt (at_objects t.objects) s es x3 x4
+
+pub looks_touched : (t : SeenTouched) (s : State) (es : List Entry) (x0 x1 x2 x3 x4 : SeenFound) → LooksInTurn t s es x0 x1 x2 x3 x4 → LooksAt (touched_now t) s es x0 x4
+looks_touched t s es x0 x1 x2 x3 x4 l =
+    let a = either is_always (for_several t.several) in
+    let b = either a (for_one_of t.ends) in
+    let two = looks_both is_always (for_several t.several) a s es x0 x1 x2 (λ c. refl) (several_apart t.several) l.always l.several in
+    let three = looks_both a (for_one_of t.ends) b s es x0 x2 x3 (λ c. refl) (ones_apart t.several t.ends) two l.ends in
+    looks_both b (at_objects t.objects) (touched_now t) s es x0 x3 x4 (λ c. refl) (objects_apart_all t.several t.ends t.objects) three l.objects

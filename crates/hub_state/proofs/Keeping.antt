@@ -1,5 +1,5 @@
 -- What keeps the invariant of the hub through each of its calls, by the fields that the call changes.
-use Rattle.std.proofs.Common.{◌≡◌, refl, sym, ap, subst, ◌∙◌, ℕ, ◌+◌, ◌-◌, ◌<◌, ◌==◌, Bool, true, false, not, List, [], ◌∷◌, ◌++◌, length, map, slice_set, Option, Some, arith}
+use Rattle.std.proofs.Common.{◌≡◌, refl, sym, ap, subst, ◌∙◌, ℕ, ◌+◌, ◌-◌, ◌==◌, Bool, true, false, not, List, [], ◌∷◌, ◌++◌, length, map, slice_set, Option, Some, arith}
 use Rattle.std.specs.Prelude.{◌||◌, Result, Ok, Err, OnOk, OnErr, IfSome, is_some, option_and_then}
 use Rattle.std.proofs.lemmas.List.{length-map, length-set, map-append}
 use Rattle.linked_items.specs.Items.{Lacks}
@@ -40,9 +40,9 @@ use Rattle.held_items.specs.Held.{added, taken, without_all}
 use Rattle.held_items.specs.Lined.{new_item}
 use Rattle.held_items.proofs.EntryLemmas.{is_other, is_same}
 use Rattle.hub_state.specs.Over.{over, with_held}
-use Rattle.hub_state.specs.Touched.{HasTouched, IsKept, IsPending, IsUpToDate, SeenTouched, awaited, left_by, reopened, untouched, with_ends, with_touched}
+use Rattle.hub_state.specs.Touched.{HasPlaces, HasTouched, IsKept, IsPending, IsUpToDate, SeenTouched, awaited, left_by, reopened, untouched, with_end, with_touched}
 use Rattle.hub_state.proofs.Finding.{in_flat}
-use Rattle.hub_state.proofs.Touching.{Grows, grows_all, grows_ends, grows_on, grows_same, grows_touched, kept_added, kept_beside, kept_grown, pending_fewer, pending_more}
+use Rattle.hub_state.proofs.Touching.{Grows, grows_all, grows_end, grows_on, grows_same, grows_touched, kept_added, kept_beside, kept_grown, pending_fewer, pending_more}
 use Rattle.hub_state.proofs.UpToDate.{ascending, kept_arrived, kept_changed, kept_comes, kept_dropped, kept_left, kept_made, kept_parented, kept_posted, kept_settled, kept_taken, kept_withdrawn, pending_settled}
 use Rattle.hub_state.proofs.Walks.{flat_kept}
 
@@ -126,7 +126,7 @@ hub_roomier held now t u s e g h =
 
 -- an item is added, which doesn't hold where its class is not touched
 pub hub_added : (q : ℕ) (d : Delivery) (held now : SeenItems) (t w : SeenTouched) (s : State) → AscendTo 0 held.next_since (flat held.entries) → is_unclaimed (claim_of d) (flat held.entries) ≡ true → DeliversShort d →
-    now ≡ added q d held → Grows t w → (reopened w (class_of d) ≡ false → delivery_holds (with_held held s) held.next_since d ≡ false) → IfSome (awaited (class_of d)) (λ o. o < w.rooms) → In q w.made →
+    now ≡ added q d held → Grows t w → (reopened w (class_of d) ≡ false → delivery_holds (with_held held s) held.next_since d ≡ false) → HasPlaces w (class_of d) → In q w.made →
     IsKept held t (with_held held s) → IsKept now w (with_held now s)
 hub_added q d held now t w s a free short e g fails mark made h = subst (λ n. IsKept n w (with_held n s)) (sym e) there
   where
@@ -196,12 +196,12 @@ hub_withdrawn since held t u s objects a m e h =
     (hub_moved held t u s (record s { objects = map (without_offer since) s.objects }) (grows_all (has_offer_by since) s.objects (length s.objects) t u m) (length-map s.objects (without_offer since)) (kept_withdrawn since t u s a m h.current)
     h)
 
-pub hub_comes : (g : ℕ) (phase : Phase) (b : Bool) (held : SeenItems) (t u : SeenTouched) (s : State) (greenlets : List Greenlet) → IsAscending s → b ≡ (is_done s g || is_some (outcome_of_phase phase)) → u ≡ with_ends b t →
+pub hub_comes : (g : ℕ) (phase : Phase) (b : Bool) (held : SeenItems) (t u : SeenTouched) (s : State) (greenlets : List Greenlet) → IsAscending s → b ≡ (is_done s g || is_some (outcome_of_phase phase)) → u ≡ with_end b g t →
     greenlets ≡ (with_phase g phase s).greenlets → IsKept held t s → IsKept held u (record s { greenlets = greenlets })
 hub_comes g phase b held t u s greenlets a ended touched e h =
     subst (λ v. IsKept held v (record s { greenlets = greenlets })) (sym touched)
-    (subst (λ gs. IsKept held (with_ends b t) (record s { greenlets = gs })) (sym e)
-    (hub_moved held t (with_ends b t) s (with_phase g phase s) (grows_ends b t) refl (kept_comes g phase b t s a ended h.current) h))
+    (subst (λ gs. IsKept held (with_end b g t) (record s { greenlets = gs })) (sym e)
+    (hub_moved held t (with_end b g t) s (with_phase g phase s) (grows_end b g t) refl (kept_comes g phase b t s a ended h.current) h))
 
 pub hub_parented : (child parent : ℕ) (held : SeenItems) (t : SeenTouched) (s : State) (greenlets : List Greenlet) → IsAscending s → greenlets ≡ (after (Step.Parents child parent) s).greenlets → IsKept held t s →
     IsKept held t (record s { greenlets = greenlets })
@@ -234,12 +234,12 @@ hub_unposted held t u s objects jobs lines posts g e f h =
     (let k = hub_grown held t u s g h in record { sound = k.sound; current = kept_beside s.next_ready s.next_since lines posts u s k.current; pending = k.pending; few = k.few }))
 
 pub hub_arrived : (j : ℕ) (outcome : JobOutcome) (job : JobState) (pool : ℕ) (held : SeenItems) (t v u : SeenTouched) (s : State) (objects : List Object) (jobs : List JobState) → IsAscending s → job_at j s.jobs ≡ Some job →
-    pool ≡ job.pool → v ≡ with_ends true t → u ≡ with_touched (Some pool) v → objects ≡ slice_set s.objects pool (with_slot_freed (object_at pool s)) → jobs ≡ slice_set s.jobs (j - 1) (record job { outcome = Some outcome }) →
+    pool ≡ job.pool → v ≡ with_end true j t → u ≡ with_touched (Some pool) v → objects ≡ slice_set s.objects pool (with_slot_freed (object_at pool s)) → jobs ≡ slice_set s.jobs (j - 1) (record job { outcome = Some outcome }) →
     IsKept held t s → IsKept held u (record s { objects = objects; jobs = jobs })
 hub_arrived j outcome job pool held t v u s objects jobs a there at_pool ends touched e f h =
-    let w = with_touched (Some job.pool) (with_ends true t) in
-    let g = grows_on t (with_ends true t) w (grows_ends true t) (grows_touched (Some job.pool) (with_ends true t)) in
-    let all : u ≡ w = touched ∙ ap (with_touched (Some pool)) ends ∙ ap (λ o. with_touched (Some o) (with_ends true t)) at_pool in
+    let w = with_touched (Some job.pool) (with_end true j t) in
+    let g = grows_on t (with_end true j t) w (grows_end true j t) (grows_touched (Some job.pool) (with_end true j t)) in
+    let all : u ≡ w = touched ∙ ap (with_touched (Some pool)) ends ∙ ap (λ o. with_touched (Some o) (with_end true j t)) at_pool in
     let freed : objects ≡ (arrives j outcome (Some job) s).objects = e ∙ ap (λ o. slice_set s.objects o (with_slot_freed (object_at o s))) at_pool in
     subst (λ x. IsKept held x (record s { objects = objects; jobs = jobs })) (sym all)
     (subst (λ xs. IsKept held w (record s { objects = xs; jobs = jobs })) (sym freed)

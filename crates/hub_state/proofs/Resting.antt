@@ -18,8 +18,10 @@ use Rattle.machine_settling.proofs.Parts.{at_in, only_touched}
 use Rattle.machine_settling.proofs.Settles.{settle-rest}
 use Rattle.held_items.specs.Entries.{Entry, SeenItems, flat}
 use Rattle.held_items.specs.Lined.{is_unnumbered}
+use Rattle.held_items.specs.Waits.{target_of}
+use Rattle.held_items.specs.declared.waits.Target.{Target}
 use Rattle.hub_state.specs.Rest.{has_come}
-use Rattle.hub_state.specs.Touched.{HasCome, IsKept, IsMade, IsPast, SeenTouched, reopened}
+use Rattle.hub_state.specs.Touched.{HasCome, IsKept, IsMade, IsPast, SeenTouched, is_touched, reopened}
 use Rattle.hub_state.proofs.Classes.{due_holds}
 use Rattle.hub_state.proofs.Coming.{deadline_is, moment_of}
 use Rattle.hub_state.proofs.Finding.{map_in}
@@ -64,12 +66,16 @@ none_of_nothing [] = refl
 none_of_nothing (i ∷ items) = none_of_nothing items
 
 -- each item has a number exactly where it holds
-agrees_all : (held : SeenItems) (t : SeenTouched) (s : State) → s.items ≡ flat held.entries → IsKept held t s → t.ends ≡ false → t.objects ≡ [] → t.made ≡ [] →
+agrees_all : (held : SeenItems) (t : SeenTouched) (s : State) → s.items ≡ flat held.entries → IsKept held t s → t.several ≡ false → t.ends ≡ [] → t.objects ≡ [] → t.made ≡ [] →
     has_come s.moment (least_deadline (filter is_unnumbered (flat held.entries))) ≡ false → AgreesOutside nothing s
-agrees_all held t s items k ends objects made none = each_of (λ i. nothing (class_of i.delivery) ≡ false → is_numbered i ≡ holds s i) s.items (λ i h e. each i h (class_of i.delivery) refl)
+agrees_all held t s items k several ends objects made none = each_of (λ i. nothing (class_of i.delivery) ≡ false → is_numbered i ≡ holds s i) s.items (λ i h e. each i h (class_of i.delivery) refl)
   where
     apart : (i : Item) → In i s.items → reopened t (class_of i.delivery) ≡ false → is_numbered i ≡ holds s i
     apart i h e = at_in (λ j. reopened t (class_of j.delivery) ≡ false → is_numbered j ≡ holds s j) s.items i k.current.agrees h e
+
+    off : (target : Target) → is_touched t target ≡ false
+    off Target.Several = several
+    off (Target.One n) = ap (list_any (λ m. n == m)) ends
 
     free : (i : Item) → In i s.items → class_of i.delivery ≡ Class.Always → (r : Option ℕ) → i.ready ≡ r → is_some r ≡ true
     free i h c (Some n) e = refl
@@ -91,12 +97,12 @@ agrees_all held t s items k ends objects made none = each_of (λ i. nothing (cla
     each : (i : Item) → In i s.items → (c : Class) → class_of i.delivery ≡ c → is_numbered i ≡ holds s i
     each i h Class.Always c = free i h c i.ready refl ∙ sym (holds_always s i.since i.delivery c)
     each i h (Class.AtMoment deadline) c = timed i h deadline c i.ready refl
-    each i h (Class.OfEnds targets need) c = apart i h (ap (reopened t) c ∙ ends)
+    each i h (Class.OfEnds targets need) c = apart i h (ap (reopened t) c ∙ off (target_of targets))
     each i h (Class.AtObject o) c = apart i h (ap (reopened t) c ∙ ap (λ ps. list_any (λ p. o == p) ps) objects)
 
 -- so a settling changes nothing
-pub settled_at_rest : (held : SeenItems) (t : SeenTouched) (s : State) → s.items ≡ flat held.entries → IsKept held t s → t.ends ≡ false → t.objects ≡ [] → t.made ≡ [] →
+pub settled_at_rest : (held : SeenItems) (t : SeenTouched) (s : State) → s.items ≡ flat held.entries → IsKept held t s → t.several ≡ false → t.ends ≡ [] → t.objects ≡ [] → t.made ≡ [] →
     has_come s.moment (least_deadline (filter is_unnumbered (flat held.entries))) ≡ false → settle s ≡ s
-settled_at_rest held t s items k ends objects made none =
-    let only = only_touched nothing s (agrees_all held t s items k ends objects made none) in
+settled_at_rest held t s items k several ends objects made none =
+    let only = only_touched nothing s (agrees_all held t s items k several ends objects made none) in
     settle-rest s (only.needs_is ∙ ap (needing (holds s)) (none_of_nothing s.items)) (only.loses_is ∙ ap (losing (holds s)) (none_of_nothing s.items))

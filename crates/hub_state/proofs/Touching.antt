@@ -14,7 +14,7 @@ use Rattle.machine.specs.State.{State}
 use Rattle.machine.specs.Holds.{delivery_holds, holds}
 use Rattle.machine.specs.Items.{add_item}
 use Rattle.machine.specs.Questions.{is_numbered}
-use Rattle.machine_settling.specs.Classes.{Class, class_of, is_at}
+use Rattle.machine_settling.specs.Classes.{Class, class_of, is_among as is_target, is_at, is_whom}
 use Rattle.machine_settling.specs.Numbers.{IsAscending}
 use Rattle.machine_settling.specs.Steps.{IsOf, Step, after, either, nothing, the_ends, the_objects, touches}
 use Rattle.machine_settling.proofs.Agreements.{Agrees, adds-nothing, agreement-weakens, agrees-after, in_last, since_below}
@@ -23,8 +23,9 @@ use Rattle.machine_settling.proofs.Members.{In, contains_of_in, in_of_Contains}
 use Rattle.machine_settling.proofs.Parts.{all_by, at_in}
 use Rattle.number_set.specs.Sets.{inserted, is_among}
 use Rattle.held_items.specs.Entries.{Entry}
-use Rattle.held_items.specs.Waits.{is_of_ends}
-use Rattle.hub_state.specs.Touched.{HasCome, HasMark, HasTouched, IsMade, IsPast, IsPending, IsRoomier, IsUpToDate, SeenTouched, awaited, reopened, with_ends, with_made, with_touched, with_waited}
+use Rattle.held_items.specs.Waits.{number_of, target_of, target_of_class}
+use Rattle.held_items.specs.declared.waits.Target.{Target}
+use Rattle.hub_state.specs.Touched.{HasCome, HasMark, HasPlaces, HasTarget, HasTouched, IsMade, IsPast, IsPending, IsRoomier, IsUpToDate, SeenTouched, awaited, is_touched, reopened, with_end, with_made, with_target, with_touched, with_waited}
 
 -- ---- numbers that were put in
 
@@ -78,22 +79,52 @@ in_listed o (k ∷ ks) h = by (or_cases (o == k) (list_any (λ p. o == p) ks) h)
 pub record Grows (t u : SeenTouched) : Type 0 where
   pub classes : (c : Class) → IsTrue (reopened t c) → IsTrue (reopened u c)
   pub made : (q : ℕ) → In q t.made → In q u.made
+  pub targets : t.targets ≤ u.targets
   pub rooms : t.rooms ≤ u.rooms
 
 pub grows_same : (t : SeenTouched) → Grows t t
-grows_same t = record { classes = λ c h. h; made = λ q h. h; rooms = omega arith }
+grows_same t = record { classes = λ c h. h; made = λ q h. h; targets = omega arith; rooms = omega arith }
 
 pub grows_on : (t u v : SeenTouched) → Grows t u → Grows u v → Grows t v
-grows_on t u v g h = record { classes = λ c k. h.classes c (g.classes c k); made = λ q k. h.made q (g.made q k); rooms = let a = g.rooms in let b = h.rooms in omega (arith, a, b) }
+grows_on t u v g h = record {
+  classes = λ c k. h.classes c (g.classes c k);
+  made = λ q k. h.made q (g.made q k);
+  targets = let a = g.targets in let b = h.targets in omega (arith, a, b);
+  rooms = let a = g.rooms in let b = h.rooms in omega (arith, a, b);
+}
 
-pub grows_ends : (b : Bool) (t : SeenTouched) → Grows t (with_ends b t)
-grows_ends b t = record { classes = by; made = λ q h. h; rooms = omega arith }
+-- other targets are touched, and nothing else
+grows_by : (several : Bool) (ends : List ℕ) (t : SeenTouched) → ((target : Target) → is_touched t target ≡ true → is_touched (record t { several = several; ends = ends }) target ≡ true) → Grows t (record t { several = several; ends = ends })
+grows_by several ends t f = record { classes = by; made = λ q h. h; targets = omega arith; rooms = omega arith }
   where
-    by : (c : Class) → IsTrue (reopened t c) → IsTrue (reopened (with_ends b t) c)
+    by : (c : Class) → IsTrue (reopened t c) → IsTrue (reopened (record t { several = several; ends = ends }) c)
     by Class.Always h = h
     by (Class.AtMoment deadline) h = h
-    by (Class.OfEnds targets need) h = or_left t.ends b h
+    by (Class.OfEnds targets need) h = f (target_of targets) h
     by (Class.AtObject o) h = h
+
+pub grows_target : (target : Option Target) (t : SeenTouched) → Grows t (with_target target t)
+grows_target None t = grows_same t
+grows_target (Some Target.Several) t = grows_by true t.ends t several
+  where
+    several : (target : Target) → is_touched t target ≡ true → is_touched (record t { several = true }) target ≡ true
+    several Target.Several h = refl
+    several (Target.One n) h = h
+grows_target (Some (Target.One n)) t = by (nat_lt n t.targets)
+  where
+    more : (target : Target) → is_touched t target ≡ true → is_touched (record t { ends = inserted n t.ends }) target ≡ true
+    more Target.Several h = h
+    more (Target.One m) h = listed m (inserted n t.ends) (in_still m n t.ends (in_listed m t.ends h))
+
+    by : (b : Bool) → Grows t (cond b (record t { ends = inserted n t.ends }) t)
+    by true = grows_by t.several (inserted n t.ends) t more
+    by false = grows_same t
+
+pub grows_end : (ended : Bool) (n : ℕ) (t : SeenTouched) → Grows t (with_end ended n t)
+grows_end false n t = grows_same t
+grows_end true n t =
+    let u = with_target (Some Target.Several) t in
+    grows_on t u (with_target (Some (Target.One n)) u) (grows_target (Some Target.Several) t) (grows_target (Some (Target.One n)) u)
 
 pub grows_touched : (object : Option ℕ) (t : SeenTouched) → Grows t (with_touched object t)
 grows_touched None t = grows_same t
@@ -106,11 +137,11 @@ grows_touched (Some o) t = by (nat_lt o t.rooms)
     more (Class.AtObject p) h = listed p (inserted o t.objects) (in_still p o t.objects (in_listed p t.objects h))
 
     by : (b : Bool) → Grows t (cond b (record t { objects = inserted o t.objects }) t)
-    by true = record { classes = more; made = λ q h. h; rooms = omega arith }
+    by true = record { classes = more; made = λ q h. h; targets = omega arith; rooms = omega arith }
     by false = grows_same t
 
 pub grows_waited : (holds : Bool) (c : Class) (t : SeenTouched) → Grows t (with_waited holds c t)
-grows_waited true c t = let u = with_ends (is_of_ends c) t in grows_on t u (with_touched (awaited c) u) (grows_ends (is_of_ends c) t) (grows_touched (awaited c) u)
+grows_waited true c t = let u = with_target (target_of_class c) t in grows_on t u (with_touched (awaited c) u) (grows_target (target_of_class c) t) (grows_touched (awaited c) u)
 grows_waited false c t = grows_same t
 
 -- what is touched now is said by an equation
@@ -121,7 +152,7 @@ pub grows_made : (q : ℕ) (t : SeenTouched) → Grows t (with_made q t)
 grows_made q t = by (nat_lt q t.slots)
   where
     by : (b : Bool) → Grows t (cond b (record t { made = inserted q t.made }) t)
-    by true = record { classes = λ c h. h; made = λ p h. in_still p q t.made h; rooms = omega arith }
+    by true = record { classes = λ c h. h; made = λ p h. in_still p q t.made h; targets = omega arith; rooms = omega arith }
     by false = grows_same t
 
 -- what has a place is touched
@@ -144,22 +175,52 @@ reopens_awaited Class.Always t o m e = absurd (true≢false (sym e))
 reopens_awaited (Class.AtMoment deadline) t o m e = absurd (true≢false (sym e))
 reopens_awaited (Class.OfEnds targets need) t o m e = absurd (true≢false (sym e))
 
--- and the ends, where the class is one of these
-pub reopens_ends : (x b : Bool) (whom : Whom) (t : SeenTouched) → (x ≡ true → b ≡ true) → (c : Class) → cond x (the_ends whom) nothing c ≡ true → IsTrue (reopened (with_ends b t) c)
-reopens_ends false b whom t f c e = absurd (true≢false (sym e))
-reopens_ends true b whom t f Class.Always e = refl
-reopens_ends true b whom t f (Class.AtMoment deadline) e = refl
-reopens_ends true b whom t f (Class.OfEnds targets need) e = or_right t.ends b (f refl)
-reopens_ends true b whom t f (Class.AtObject o) e = absurd (true≢false (sym e))
+-- so is a target
+target_touched : (target : Target) (t : SeenTouched) → HasTarget t.targets (Some target) → is_touched (with_target (Some target) t) target ≡ true
+target_touched Target.Several t m = refl
+target_touched (Target.One n) t m = let yes = lt-ltb n t.targets m in rw yes (listed n (inserted n t.ends) (in_inserted n t.ends))
+
+same_number : (a b : Whom) → is_whom a b ≡ true → number_of a ≡ number_of b
+same_number (Whom.Greenlet m) (Whom.Greenlet n) e = eqb-true m n e
+same_number (Whom.Job m) (Whom.Job n) e = eqb-true m n e
+same_number (Whom.Greenlet m) (Whom.Job n) e = absurd (true≢false (sym e))
+same_number (Whom.Job m) (Whom.Greenlet n) e = absurd (true≢false (sym e))
+
+-- where one of the targets ends, those who wait for them are touched
+end_touched : (whom : Whom) (t : SeenTouched) (targets : List Whom) → HasTarget t.targets (Some (target_of targets)) → is_target whom targets ≡ true → is_touched (with_end true (number_of whom) t) (target_of targets) ≡ true
+end_touched whom t [] m e = absurd (true≢false (sym e))
+end_touched whom t (w ∷ []) m e = by (or_cases (is_whom whom w) false e)
+  where
+    by : (is_whom whom w ≡ true) ⊎ (false ≡ true) → is_touched (with_end true (number_of whom) t) (Target.One (number_of w)) ≡ true
+    by (inl q) =
+        let same = same_number whom w q in
+        subst (λ n. is_touched (with_end true n t) (Target.One (number_of w)) ≡ true) (sym same) (target_touched (Target.One (number_of w)) (with_target (Some Target.Several) t) m)
+    by (inr q) = absurd (true≢false (sym q))
+end_touched whom t (w ∷ v ∷ rest) m e = by (nat_lt (number_of whom) t.targets)
+  where
+    u : SeenTouched
+    u = with_target (Some Target.Several) t
+
+    by : (b : Bool) → is_touched (cond b (record u { ends = inserted (number_of whom) u.ends }) u) Target.Several ≡ true
+    by true = refl
+    by false = refl
+
+pub reopens_end : (x b : Bool) (whom : Whom) (t : SeenTouched) → (x ≡ true → b ≡ true) → (c : Class) → HasPlaces t c → cond x (the_ends whom) nothing c ≡ true → IsTrue (reopened (with_end b (number_of whom) t) c)
+reopens_end false b whom t f c m e = absurd (true≢false (sym e))
+reopens_end true false whom t f c m e = absurd (true≢false (sym (f refl)))
+reopens_end true true whom t f Class.Always m e = refl
+reopens_end true true whom t f (Class.AtMoment deadline) m e = refl
+reopens_end true true whom t f (Class.OfEnds targets need) m e = end_touched whom t targets m.1 e
+reopens_end true true whom t f (Class.AtObject o) m e = absurd (true≢false (sym e))
 
 -- and the class of an item that is made, where it holds
-reopens_waited : (c : Class) (t : SeenTouched) → IfSome (awaited c) (λ o. o < t.rooms) → IsTrue (reopened (with_waited true c t) c)
+reopens_waited : (c : Class) (t : SeenTouched) → HasPlaces t c → IsTrue (reopened (with_waited true c t) c)
 reopens_waited Class.Always t m = refl
 reopens_waited (Class.AtMoment deadline) t m = refl
-reopens_waited (Class.OfEnds targets need) t m = or_right t.ends true refl
-reopens_waited (Class.AtObject o) t m = reopens_at o (with_ends false t) (Class.AtObject o) m (eq-eqb o o refl)
+reopens_waited (Class.OfEnds targets need) t m = target_touched (target_of targets) t m.1
+reopens_waited (Class.AtObject o) t m = reopens_at o t (Class.AtObject o) m.0 (eq-eqb o o refl)
 
-pub waited_fails : (holds : Bool) (c : Class) (t w : SeenTouched) → IfSome (awaited c) (λ o. o < t.rooms) → Grows (with_waited holds c t) w → reopened w c ≡ false → holds ≡ false
+pub waited_fails : (holds : Bool) (c : Class) (t w : SeenTouched) → HasPlaces t c → Grows (with_waited holds c t) w → reopened w c ≡ false → holds ≡ false
 waited_fails true c t w m g e = absurd (true≢false (sym (g.classes c (reopens_waited c t m)) ∙ e))
 waited_fails false c t w m g e = refl
 
@@ -170,7 +231,7 @@ in_made q t l = let yes = lt-ltb q t.slots l in rw yes (in_inserted q t.made)
 -- ---- the objects that pass a test
 
 pub touched_none : (test : Option Object → Bool) (objects : List Object) (t : SeenTouched) → HasTouched test objects 0 t t
-touched_none test objects t = record { ends = refl; made = refl; rooms = refl; still = λ o h. h; each = λ o l. absurd (omega (arith, l)) }
+touched_none test objects t = record { several = refl; ends = refl; made = refl; targets = refl; rooms = refl; still = λ o h. h; each = λ o l. absurd (omega (arith, l)) }
 
 pub touched_more : (test : Option Object → Bool) (objects : List Object) (n : ℕ) (t u : SeenTouched) → HasTouched test objects n t u → HasTouched test objects (n + 1) t (with_touched (Some n) u)
 touched_more test objects n t u h = by (cases_lt n u.rooms)
@@ -198,12 +259,12 @@ touched_more test objects n t u h = by (cases_lt n u.rooms)
     old k o l m e = h.each o (let r = h.rooms in omega (arith, k, m, r)) m e
 
     by : (n < u.rooms) ⊎ (u.rooms ≤ n) → HasTouched test objects (n + 1) t (with_touched (Some n) u)
-    by (inl l) = subst (HasTouched test objects (n + 1) t) (sym (here l)) (record { ends = h.ends; made = h.made; rooms = h.rooms; still = λ o k. more o (h.still o k); each = new })
-    by (inr l) = subst (HasTouched test objects (n + 1) t) (sym (past l)) (record { ends = h.ends; made = h.made; rooms = h.rooms; still = h.still; each = old l })
+    by (inl l) = subst (HasTouched test objects (n + 1) t) (sym (here l)) (record { several = h.several; ends = h.ends; made = h.made; targets = h.targets; rooms = h.rooms; still = λ o k. more o (h.still o k); each = new })
+    by (inr l) = subst (HasTouched test objects (n + 1) t) (sym (past l)) (record { several = h.several; ends = h.ends; made = h.made; targets = h.targets; rooms = h.rooms; still = h.still; each = old l })
 
 pub touched_other : (test : Option Object → Bool) (objects : List Object) (n : ℕ) (d : Object) (t u : SeenTouched) → n < length objects → test (Some (get_or objects n d)) ≡ false → HasTouched test objects n t u →
     HasTouched test objects (n + 1) t u
-touched_other test objects n d t u l e h = record { ends = h.ends; made = h.made; rooms = h.rooms; still = h.still; each = each }
+touched_other test objects n d t u l e h = record { several = h.several; ends = h.ends; made = h.made; targets = h.targets; rooms = h.rooms; still = h.still; each = each }
   where
     there : (xs : List Object) (k : ℕ) → k < length xs → slice_get xs k ≡ Some (get_or xs k d)
     there [] k m = absurd (omega (arith, m))
@@ -227,7 +288,7 @@ touched_if test objects n d t u v false l e is h = subst (HasTouched test object
 
 -- all that pass it are touched
 pub reopens_all : (test : Option Object → Bool) (objects : List Object) (t u : SeenTouched) → test None ≡ false → HasTouched test objects (length objects) t u →
-    (c : Class) → IfSome (awaited c) (λ p. p < t.rooms) → IsTrue (the_objects test objects c) → IsTrue (reopened u c)
+    (c : Class) → HasPlaces t c → IsTrue (the_objects test objects c) → IsTrue (reopened u c)
 reopens_all test objects t u none h Class.Always m e = refl
 reopens_all test objects t u none h (Class.AtMoment deadline) m e = refl
 reopens_all test objects t u none h (Class.OfEnds targets need) m e = absurd (true≢false (sym e))
@@ -239,25 +300,29 @@ reopens_all test objects t u none h (Class.AtObject o) m e = by (cases_lt o (len
     past (x ∷ xs) (suc k) l = past xs k (omega (arith, l))
 
     by : (o < length objects) ⊎ (length objects ≤ o) → IsTrue (reopened u (Class.AtObject o))
-    by (inl l) = h.each o l m e
+    by (inl l) = h.each o l m.0 e
     by (inr l) = absurd (true≢false (sym e ∙ ap test (past objects o l) ∙ none))
 
+same_touched : (t u : SeenTouched) → u.several ≡ t.several → u.ends ≡ t.ends → (target : Target) → is_touched t target ≡ true → is_touched u target ≡ true
+same_touched t u several ends Target.Several k = several ∙ k
+same_touched t u several ends (Target.One n) k = ap (list_any (λ m. n == m)) ends ∙ k
+
 pub grows_all : (test : Option Object → Bool) (objects : List Object) (n : ℕ) (t u : SeenTouched) → HasTouched test objects n t u → Grows t u
-grows_all test objects n t u h = record { classes = by; made = λ q k. subst (In q) (sym h.made) k; rooms = let r = h.rooms in omega (arith, r) }
+grows_all test objects n t u h = record { classes = by; made = λ q k. subst (In q) (sym h.made) k; targets = let n = h.targets in omega (arith, n); rooms = let r = h.rooms in omega (arith, r) }
   where
     by : (c : Class) → IsTrue (reopened t c) → IsTrue (reopened u c)
     by Class.Always k = refl
     by (Class.AtMoment deadline) k = refl
-    by (Class.OfEnds targets need) k = h.ends ∙ k
+    by (Class.OfEnds targets need) k = same_touched t u h.several h.ends (target_of targets) k
     by (Class.AtObject o) k = h.still o k
 
 pub grows_roomier : (t u : SeenTouched) → IsRoomier t u → Grows t u
-grows_roomier t u h = record { classes = by; made = λ q k. subst (In q) (sym h.made) k; rooms = h.rooms }
+grows_roomier t u h = record { classes = by; made = λ q k. subst (In q) (sym h.made) k; targets = h.targets; rooms = h.rooms }
   where
     by : (c : Class) → IsTrue (reopened t c) → IsTrue (reopened u c)
     by Class.Always k = refl
     by (Class.AtMoment deadline) k = refl
-    by (Class.OfEnds targets need) k = h.ends ∙ k
+    by (Class.OfEnds targets need) k = same_touched t u h.several h.ends (target_of targets) k
     by (Class.AtObject o) k = subst (λ ks. list_any (λ p. o == p) ks ≡ true) (sym h.objects) k
 
 -- ---- the state
@@ -268,9 +333,18 @@ come_later m n Class.Always l h = tt
 come_later m n (Class.OfEnds targets need) l h = tt
 come_later m n (Class.AtObject o) l h = tt
 
-pub marked_more : (m n : ℕ) (object : Option ℕ) → m ≤ n → IfSome object (λ o. o < m) → IfSome object (λ o. o < n)
+marked_more : (m n : ℕ) (object : Option ℕ) → m ≤ n → IfSome object (λ o. o < m) → IfSome object (λ o. o < n)
 marked_more m n None l h = tt
 marked_more m n (Some o) l h = omega (arith, l, h)
+
+target_more : (m n : ℕ) (target : Option Target) → m ≤ n → HasTarget m target → HasTarget n target
+target_more m n None l h = tt
+target_more m n (Some Target.Several) l h = tt
+target_more m n (Some (Target.One k)) l h = omega (arith, l, h)
+
+-- what has places where fewer have them
+pub places_more : (t u : SeenTouched) (c : Class) → t.rooms ≤ u.rooms → t.targets ≤ u.targets → HasPlaces t c → HasPlaces u c
+places_more t u c rooms targets h = (marked_more t.rooms u.rooms (awaited c) rooms h.0, target_more t.targets u.targets (target_of_class c) targets h.1)
 
 -- what all items have that are there
 pub each_of : {X : Type 0} (P : X → Type 0) (xs : List X) → ((x : X) → In x xs → P x) → All P xs
@@ -286,7 +360,7 @@ kept_grown t u s g h = record {
   agrees = agreement-weakens (reopened t) (reopened u) s g.classes h.agrees;
   front = h.front;
   past = h.past;
-  marked = each_of (HasMark u.rooms) s.items (λ i k. marked_more t.rooms u.rooms (awaited (class_of i.delivery)) g.rooms (at_in (HasMark t.rooms) s.items i h.marked k));
+  marked = each_of (HasMark u) s.items (λ i k. places_more t u (class_of i.delivery) g.rooms g.targets (at_in (HasMark t) s.items i h.marked k));
   rooms = let r = h.rooms in let l = g.rooms in omega (arith, r, l);
 }
 
@@ -299,18 +373,18 @@ kept_beside m n lines posts t s h = record { agrees = h.agrees; front = h.front;
 
 -- a step that adds no item, where each class of some item is touched that the step touches
 pub kept_after : (step : Step) (t u : SeenTouched) (s : State) → IsAscending s → IsOf step s → Grows t u →
-    ((c : Class) → IfSome (awaited c) (λ o. o < t.rooms) → IsTrue (touches step s c) → IsTrue (reopened u c)) → ((i : Item) → In i (after step s).items → In i s.items) →
+    ((c : Class) → HasPlaces t c → IsTrue (touches step s c) → IsTrue (reopened u c)) → ((i : Item) → In i (after step s).items → In i s.items) →
     s.moment ≤ (after step s).moment → length (after step s).objects ≤ u.rooms → IsUpToDate t s → IsUpToDate u (after step s)
 kept_after step t u s a m g covers within later rooms h = record {
   agrees = each_of (Agrees (reopened u) (holds (after step s))) (after step s).items agrees;
   front = fronts_stepped step s a h.front;
   past = each_of (IsPast (after step s).moment) (after step s).items (λ i k n. come_later s.moment (after step s).moment (class_of i.delivery) later (at_in (IsPast s.moment) s.items i h.past (within i k) n));
-  marked = each_of (HasMark u.rooms) (after step s).items (λ i k. marked_more t.rooms u.rooms (awaited (class_of i.delivery)) g.rooms (mark i k));
+  marked = each_of (HasMark u) (after step s).items (λ i k. places_more t u (class_of i.delivery) g.rooms g.targets (mark i k));
   rooms = rooms;
 }
   where
-    mark : (i : Item) → In i (after step s).items → HasMark t.rooms i
-    mark i k = at_in (HasMark t.rooms) s.items i h.marked (within i k)
+    mark : (i : Item) → In i (after step s).items → HasMark t i
+    mark i k = at_in (HasMark t) s.items i h.marked (within i k)
 
     agrees : (i : Item) → In i (after step s).items → reopened u (class_of i.delivery) ≡ false → is_numbered i ≡ holds (after step s) i
     agrees i k e =
@@ -322,14 +396,14 @@ kept_after step t u s a m g covers within later rooms h = record {
         by (inl r) = g.classes (class_of i.delivery) r
         by (inr r) = covers (class_of i.delivery) (mark i k) r
 
--- an item is added whose object has a place, and which doesn't hold where its class is not touched
+-- an item is added, where what it waits for has a place, and which doesn't hold where its class is not touched
 pub kept_added : (d : Delivery) (t u : SeenTouched) (s : State) → IsAscending s → Grows t u → (reopened u (class_of d) ≡ false → delivery_holds s s.next_since d ≡ false) →
-    IfSome (awaited (class_of d)) (λ o. o < u.rooms) → IsUpToDate t s → IsUpToDate u (add_item d s)
+    HasPlaces u (class_of d) → IsUpToDate t s → IsUpToDate u (add_item d s)
 kept_added d t u s a g fails mark h = record {
   agrees = each_of (Agrees (reopened u) (holds (add_item d s))) (add_item d s).items (λ i k. agrees i (in_last s.items new i k));
   front = fronts_stepped (Step.Adds d) s a h.front;
   past = each_of (IsPast s.moment) (add_item d s).items (λ i k. past i (in_last s.items new i k));
-  marked = each_of (HasMark u.rooms) (add_item d s).items (λ i k. marked i (in_last s.items new i k));
+  marked = each_of (HasMark u) (add_item d s).items (λ i k. marked i (in_last s.items new i k));
   rooms = let r = h.rooms in let l = g.rooms in omega (arith, r, l);
 }
   where
@@ -348,9 +422,9 @@ kept_added d t u s a g fails mark h = record {
     past i (inl k) = at_in (IsPast s.moment) s.items i h.past k
     past i (inr e) = λ n. absurd (true≢false (sym n ∙ ap is_numbered (sym e)))
 
-    marked : (i : Item) → In i s.items ⊎ (new ≡ i) → HasMark u.rooms i
-    marked i (inl k) = marked_more t.rooms u.rooms (awaited (class_of i.delivery)) g.rooms (at_in (HasMark t.rooms) s.items i h.marked k)
-    marked i (inr e) = subst (HasMark u.rooms) e mark
+    marked : (i : Item) → In i s.items ⊎ (new ≡ i) → HasMark u i
+    marked i (inl k) = places_more t u (class_of i.delivery) g.rooms g.targets (at_in (HasMark t) s.items i h.marked k)
+    marked i (inr e) = subst (HasMark u) e mark
 
 -- ---- what waits for nothing
 

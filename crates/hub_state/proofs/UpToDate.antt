@@ -1,10 +1,10 @@
 -- Each step of the hub keeps it up to date.
-use Rattle.std.proofs.Common.{◌≡◌, refl, sym, ◌∙◌, ap, subst, ℕ, suc, ◌+◌, ◌<◌, ◌≤◌, Bool, true, false, List, [], ◌∷◌, length, map, ◌⊎◌, inl, inr, arith}
+use Rattle.std.proofs.Common.{◌≡◌, refl, sym, ◌∙◌, ap, subst, ℕ, suc, ◌+◌, ◌≤◌, Bool, true, false, List, [], ◌∷◌, length, map, ◌⊎◌, inl, inr, arith}
 use Rattle.std.proofs.lemmas.Bool.{and_from, and_parts, eq-eqb, eqb-false, eqb-true, ne_eqb, not-true, le-leb, leb-true, or_cases, true≢false}
 use Rattle.std.proofs.lemmas.List.{length-map, length-set}
 use Rattle.std.proofs.lemmas.List.Elements.{All-from_recursion, recursion_from_All}
 use Rattle.std.specs.List.{AllByRecursion, list_any}
-use Rattle.std.specs.Prelude.{◌==◌, ◌||◌, not, cond, filter, IfSome, IsTrue, Option, Some, None, is_some, nat_le, negsuc, pos, slice_get}
+use Rattle.std.specs.Prelude.{◌==◌, ◌||◌, not, cond, filter, IsTrue, Option, Some, None, is_some, nat_le, negsuc, pos, slice_get}
 use Rattle.gv_values.specs.declared.job.Job.{Job}
 use Rattle.gv_values.specs.declared.job.JobOutcome.{JobOutcome}
 use Rattle.gv_values.specs.declared.value.Value.{Value}
@@ -37,8 +37,8 @@ use Rattle.hub_items.specs.Sound.{AscendTo}
 use Rattle.hub_items.specs.declared.gone.Gone.{Gone}
 use Rattle.held_items.specs.Entries.{Entry, flat}
 use Rattle.hub_state.specs.Found.{is_always}
-use Rattle.hub_state.specs.Touched.{HasCome, HasMark, HasTouched, IsMade, IsPast, IsPending, IsUpToDate, SeenTouched, awaited, left_by, reopened, untouched, waited_at, with_ends, with_touched}
-use Rattle.hub_state.proofs.Touching.{each_of, grows_all, grows_ends, grows_on, grows_same, grows_touched, kept_after, reopens_all, reopens_at, reopens_awaited, reopens_ends}
+use Rattle.hub_state.specs.Touched.{HasCome, HasMark, HasPlaces, HasTouched, IsMade, IsPast, IsPending, IsUpToDate, SeenTouched, awaited, left_by, reopened, untouched, waited_at, with_end, with_touched}
+use Rattle.hub_state.proofs.Touching.{each_of, grows_all, grows_end, grows_on, grows_same, grows_touched, kept_after, places_more, reopens_all, reopens_at, reopens_awaited, reopens_end}
 
 -- the items of the hub stand in order
 pub ascending : (low next : ℕ) (items : List Item) → AscendTo low next items → ascend low next items ≡ true
@@ -51,7 +51,7 @@ pub kept_changed : (o : ℕ) (x : Object) (t : SeenTouched) (s : State) → IsAs
 kept_changed o x t s a h =
     let g = grows_touched (Some o) t in
     let long = length-set s.objects o x in
-    kept_after (Step.Changes o x) t (with_touched (Some o) t) s a tt g (reopens_at o t) (λ i k. k) (omega arith) (let r = h.rooms in let m = g.rooms in omega (arith, long, r, m)) h
+    kept_after (Step.Changes o x) t (with_touched (Some o) t) s a tt g (λ c p. reopens_at o t c p.0) (λ i k. k) (omega arith) (let r = h.rooms in let m = g.rooms in omega (arith, long, r, m)) h
 
 pub kept_left : (g : ℕ) (t u : SeenTouched) (s : State) → IsAscending s → HasTouched (has_member g) s.objects (length s.objects) t u → IsUpToDate t s →
     IsUpToDate u (record s { objects = map (without_member g) s.objects })
@@ -70,10 +70,11 @@ kept_withdrawn since t u s a m h =
 -- ---- greenlets and jobs
 
 pub kept_comes : (g : ℕ) (phase : Phase) (b : Bool) (t : SeenTouched) (s : State) → IsAscending s → b ≡ (is_done s g || is_some (outcome_of_phase phase)) → IsUpToDate t s →
-    IsUpToDate (with_ends b t) (with_phase g phase s)
+    IsUpToDate (with_end b g t) (with_phase g phase s)
 kept_comes g phase b t s a e h =
-    kept_after (Step.Comes g phase) t (with_ends b t) s a tt (grows_ends b t) (λ c m. reopens_ends (is_done s g || is_some (outcome_of_phase phase)) b (Whom.Greenlet g) t (λ k. e ∙ k) c) (λ i k. k) (omega arith)
-    h.rooms h
+    let m = grows_end b g t in
+    kept_after (Step.Comes g phase) t (with_end b g t) s a tt m (λ c p. reopens_end (is_done s g || is_some (outcome_of_phase phase)) b (Whom.Greenlet g) t (λ k. e ∙ k) c p) (λ i k. k) (omega arith)
+    (let r = h.rooms in let n = m.rooms in omega (arith, r, n)) h
 
 pub kept_parented : (child parent : ℕ) (t : SeenTouched) (s : State) → IsAscending s → IsUpToDate t s → IsUpToDate t (after (Step.Parents child parent) s)
 kept_parented child parent t s a h =
@@ -87,13 +88,13 @@ pub kept_posted : (g o : ℕ) (job : Job) (takes : ℕ) (t : SeenTouched) (s : S
 kept_posted g o job takes t s a h =
     let m = grows_touched (Some o) t in
     let long : length (posted g o job takes s).objects ≡ length s.objects = length-set s.objects o _ in
-    kept_after (Step.Posts g o job takes) t (with_touched (Some o) t) s a tt m (reopens_at o t) (λ i k. k) (omega arith) (let r = h.rooms in let n = m.rooms in omega (arith, long, r, n)) h
+    kept_after (Step.Posts g o job takes) t (with_touched (Some o) t) s a tt m (λ c p. reopens_at o t c p.0) (λ i k. k) (omega arith) (let r = h.rooms in let n = m.rooms in omega (arith, long, r, n)) h
 
 pub kept_arrived : (j : ℕ) (outcome : JobOutcome) (job : JobState) (t : SeenTouched) (s : State) → IsAscending s → job_at j s.jobs ≡ Some job → IsUpToDate t s →
-    IsUpToDate (with_touched (Some job.pool) (with_ends true t)) (arrives j outcome (Some job) s)
+    IsUpToDate (with_touched (Some job.pool) (with_end true j t)) (arrives j outcome (Some job) s)
 kept_arrived j outcome job t s a e h =
-    let u = with_ends true t in
-    let g = grows_on t u (with_touched (Some job.pool) u) (grows_ends true t) (grows_touched (Some job.pool) u) in
+    let u = with_end true j t in
+    let g = grows_on t u (with_touched (Some job.pool) u) (grows_end true j t) (grows_touched (Some job.pool) u) in
     let long : length (arrives j outcome (Some job) s).objects ≡ length s.objects = length-set s.objects job.pool _ in
     subst (λ found. IsUpToDate (with_touched (Some job.pool) u) (arrives j outcome found s)) e
     (kept_after (Step.Arrives j outcome) t (with_touched (Some job.pool) u) s a tt g (λ c m k. covers c m (subst (λ found. IsTrue (arrival j found c)) e k))
@@ -102,12 +103,12 @@ kept_arrived j outcome job t s a e h =
     (subst (λ found. length (arrives j outcome found s).objects ≤ (with_touched (Some job.pool) u).rooms) (sym e) (let r = h.rooms in let n = g.rooms in omega (arith, long, r, n)))
     h)
   where
-    covers : (c : Class) → IfSome (awaited c) (λ o. o < t.rooms) → IsTrue (arrival j (Some job) c) → IsTrue (reopened (with_touched (Some job.pool) (with_ends true t)) c)
+    covers : (c : Class) → HasPlaces t c → IsTrue (arrival j (Some job) c) → IsTrue (reopened (with_touched (Some job.pool) (with_end true j t)) c)
     covers c m k = by (or_cases (the_ends (Whom.Job j) c) (is_at job.pool c) k)
       where
-        by : (the_ends (Whom.Job j) c ≡ true) ⊎ (is_at job.pool c ≡ true) → IsTrue (reopened (with_touched (Some job.pool) (with_ends true t)) c)
-        by (inl q) = (grows_touched (Some job.pool) (with_ends true t)).classes c (reopens_ends true true (Whom.Job j) t (λ p. p) c q)
-        by (inr q) = reopens_at job.pool (with_ends true t) c m q
+        by : (the_ends (Whom.Job j) c ≡ true) ⊎ (is_at job.pool c ≡ true) → IsTrue (reopened (with_touched (Some job.pool) (with_end true j t)) c)
+        by (inl q) = (grows_touched (Some job.pool) (with_end true j t)).classes c (reopens_end true true (Whom.Job j) t (λ p. p) c m q)
+        by (inr q) = let v = with_end true j t in let n = grows_end true j t in reopens_at job.pool v c (places_more t v c n.rooms n.targets m).0 q
 
 -- ---- items that go
 
@@ -121,14 +122,14 @@ kept_taken i t s a k h =
     get_of_in (y ∷ items) x (inl e) = (0, ap Some e)
     get_of_in (y ∷ items) x (inr m) = let r = get_of_in items x m in (suc r.0, r.1)
 
-    covers : (c : Class) → IfSome (awaited c) (λ o. o < t.rooms) → IsTrue (the_objects_of (i ∷ []) c) → IsTrue (reopened (with_touched (awaited (class_of i.delivery)) t) c)
+    covers : (c : Class) → HasPlaces t c → IsTrue (the_objects_of (i ∷ []) c) → IsTrue (reopened (with_touched (awaited (class_of i.delivery)) t) c)
     covers Class.Always m e = refl
     covers (Class.AtMoment deadline) m e = refl
     covers (Class.OfEnds targets need) m e = absurd (true≢false (sym e))
     covers (Class.AtObject o) m e = by (or_cases (is_at o (class_of i.delivery)) false e)
       where
         by : (is_at o (class_of i.delivery) ≡ true) ⊎ (false ≡ true) → IsTrue (reopened (with_touched (awaited (class_of i.delivery)) t) (Class.AtObject o))
-        by (inl q) = reopens_awaited (class_of i.delivery) t o (at_in (HasMark t.rooms) s.items i h.marked k) q
+        by (inl q) = reopens_awaited (class_of i.delivery) t o (at_in (HasMark t) s.items i h.marked k).0 q
         by (inr q) = absurd (true≢false (sym q))
 
 -- an item that passes the test
@@ -228,7 +229,7 @@ kept_dropped gone t s a single h =
     going : Item → Bool
     going i = gone_of gone i.delivery
 
-    covers : (c : Class) → IfSome (awaited c) (λ o. o < t.rooms) → IsTrue (the_objects_of (filter going s.items) c) → IsTrue (reopened (with_touched (left_by gone s.items) t) c)
+    covers : (c : Class) → HasPlaces t c → IsTrue (the_objects_of (filter going s.items) c) → IsTrue (reopened (with_touched (left_by gone s.items) t) c)
     covers Class.Always m e = refl
     covers (Class.AtMoment deadline) m e = refl
     covers (Class.OfEnds targets need) m e = absurd (true≢false (sym e))
@@ -238,7 +239,7 @@ kept_dropped gone t s a single h =
         let w = wake_left gone f.item.delivery o s.items (kept_passes going s.items f.item f.among) f.passes in
         let left : left_by gone s.items ≡ awaited (class_of f.item.delivery) =
         w.left ∙ ap waited_at (wake_found w.greenlet w.wait f.item s.items single k w.is) ∙ ap (λ (d : Delivery). awaited (class_of d)) (sym w.is) in
-        subst (λ object. IsTrue (reopened (with_touched object t) (Class.AtObject o))) (sym left) (reopens_awaited (class_of f.item.delivery) t o (at_in (HasMark t.rooms) s.items f.item h.marked k) f.passes)
+        subst (λ object. IsTrue (reopened (with_touched object t) (Class.AtObject o))) (sym left) (reopens_awaited (class_of f.item.delivery) t o (at_in (HasMark t) s.items f.item h.marked k).0 f.passes)
 
 -- ---- a settling
 
@@ -266,17 +267,17 @@ holds_always s since (Delivery.Timeout g n deadline) e = absurd (cc)
 holds_always s since (Delivery.Kill g f) e = refl
 holds_always s since (Delivery.Link k g kind f) e = absurd (cc)
 
-marked_settled : (rooms : ℕ) (hs : List Bool) (n : ℕ) (items : List Item) → AllByRecursion (HasMark rooms) items → AllByRecursion (HasMark rooms) (settled hs n items)
-marked_settled rooms [] n items a = a
-marked_settled rooms (h ∷ hs) n [] a = a
-marked_settled rooms (h ∷ hs) n (i ∷ items) a = (a.0, marked_settled rooms hs (number_after h i.ready n) items a.1)
+marked_settled : (t : SeenTouched) (hs : List Bool) (n : ℕ) (items : List Item) → AllByRecursion (HasMark t) items → AllByRecursion (HasMark t) (settled hs n items)
+marked_settled t [] n items a = a
+marked_settled t (h ∷ hs) n [] a = a
+marked_settled t (h ∷ hs) n (i ∷ items) a = (a.0, marked_settled t hs (number_after h i.ready n) items a.1)
 
 pub kept_settled : (t : SeenTouched) (s : State) → IsUpToDate t s → IsUpToDate (untouched t) (settle s)
 kept_settled t s h = record {
   agrees = agreement-weakens nothing (reopened (untouched t)) (settle s) (λ c e. absurd (true≢false (sym e))) (agrees-settle s);
   front = fronts_settled s;
   past = each_of (IsPast s.moment) (settle s).items (λ i k n. come_numbered (settle s) i.since i.delivery (sym (at_in (Agrees nothing (holds (settle s))) (settle s).items i (agrees-settle s) k refl) ∙ n));
-  marked = All-from_recursion (HasMark t.rooms) (settle s).items (marked_settled t.rooms (map (holds s) s.items) s.next_ready s.items (recursion_from_All (HasMark t.rooms) s.items h.marked));
+  marked = All-from_recursion (HasMark t) (settle s).items (marked_settled t (map (holds s) s.items) s.next_ready s.items (recursion_from_All (HasMark t) s.items h.marked));
   rooms = h.rooms;
 }
 

@@ -13,6 +13,8 @@ use Rattle.machine_settling.specs.Numbers.{gives_all, loses_number, needs_number
 use Rattle.machine_settling.specs.Steps.{either}
 use Rattle.held_items.specs.Entries.{Entry, SeenItems, index, item_in}
 use Rattle.held_items.specs.Moments.{slots_in}
+use Rattle.held_items.specs.Waits.{is_for, target_of}
+use Rattle.held_items.specs.declared.waits.Target.{Target}
 use Rattle.hub_state.specs.Over.{with_held}
 use Rattle.hub_state.specs.Touched.{SeenTouched}
 
@@ -145,10 +147,19 @@ pub record Numbers (old new : SeenFound) (before after : SeenItems) : Type 0 whe
 
 -- ---- the classes that are touched
 
--- some ends, where they were touched
-abbrev pub ends_if : Bool → Class → Bool
-ends_if touched (Class.OfEnds targets need) = touched
-ends_if touched c = false
+-- several ends, where those who wait so are touched
+abbrev pub for_several : Bool → Class → Bool
+for_several touched c = is_for Target.Several c && touched
+
+-- the target is one of these greenlets and jobs
+abbrev pub is_one_of : List ℕ → Target → Bool
+is_one_of ends (Target.One n) = list_any (λ m. n == m) ends
+is_one_of ends Target.Several = false
+
+-- one of these greenlets and jobs alone
+abbrev pub for_one_of : List ℕ → Class → Bool
+for_one_of ends (Class.OfEnds targets need) = is_one_of ends (target_of targets)
+for_one_of ends c = false
 
 -- one of these objects
 abbrev pub at_objects : List ℕ → Class → Bool
@@ -157,4 +168,4 @@ at_objects objects c = false
 
 -- all that was touched: what waits for nothing, ends and objects
 abbrev pub touched_now : SeenTouched → Class → Bool
-touched_now t = either (either is_always (ends_if t.ends)) (at_objects t.objects)
+touched_now t = either (either (either is_always (for_several t.several)) (for_one_of t.ends)) (at_objects t.objects)

@@ -12,7 +12,7 @@ ghost use Rattle.held_items.specs.Held.{added};
 ghost use Rattle.hub_state.specs.Touched.{IsRoomier};
 
 use crate::hub::Hub;
-use crate::touched::{Touched, object_left, object_of};
+use crate::touched::{Touched, object_left};
 use held_items::HeldItems;
 use hub_items::Gone;
 use machine::items::{Delivery, Waiting};
@@ -62,7 +62,7 @@ impl Hub {
     {
         // One that doesn't hold changes nothing for the others that wait for the same: they need no look.
         let holds = self.would_hold(&delivery);
-        self.touched.reserve_for(object_of(&delivery))?;
+        self.touched.reserve_awaited(&delivery)?;
         self.touched.touch_awaited(&delivery, holds);
         let _ascending = self.held.len();
         let slot = add_with_place(&mut self.held, &mut self.touched, delivery)?;

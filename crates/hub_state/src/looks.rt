@@ -6,8 +6,8 @@ ghost use Rattle.machine.specs.State.{State as Shown};
 ghost use Rattle.machine_settling.specs.Classes.{is_at};
 ghost use Rattle.machine_settling.specs.Fronts.{NumbersStandInFront};
 ghost use Rattle.held_items.specs.Entries.{flat, item_in};
-ghost use Rattle.held_items.specs.Waits.{is_of_ends, waits_in_line, waits_in_none};
-ghost use Rattle.hub_state.specs.Found.{AgreesAlong, IsLastNumbered, LooksAlong, LooksAt, PassesBy, at_objects, ends_if, is_always, is_moment, noted_always, touched_now, waits_for_nothing};
+ghost use Rattle.held_items.specs.Waits.{is_for, waits_in_line, waits_in_none};
+ghost use Rattle.hub_state.specs.Found.{AgreesAlong, IsLastNumbered, LooksAlong, LooksAt, PassesBy, at_objects, for_one_of, for_several, is_always, is_moment, noted_always, touched_now, waits_for_nothing};
 ghost use Rattle.hub_state.specs.Touched.{IsPast, IsPending};
 ghost use Rattle.hub_state.specs.Waiters.{IsBefore};
 
@@ -16,7 +16,7 @@ use crate::borders::is_in_line;
 use crate::found::Found;
 use crate::hub::Hub;
 use crate::touched::Touched;
-use held_items::HeldItems;
+use held_items::{HeldItems, Target};
 use hub_items::WaitKind;
 use machine::items::{Delivery, Item};
 use std::alloc::AllocError;
@@ -57,17 +57,56 @@ fn look_at_made(held: &HeldItems, made: &[u32], found: &mut Found) -> Result<(),
     Ok(())
 }
 
-/// Looks at those that wait for ends. `AllocError`: memory is wanting.
-fn look_at_ends(hub: &Hub, held: &HeldItems, found: &mut Found) -> Result<(), AllocError>
+/// Looks at those that wait for this target. `AllocError`: memory is wanting.
+fn look_at_target(
+    hub: &Hub,
+    held: &HeldItems,
+    target: Target,
+    found: &mut Found,
+) -> Result<(), AllocError>
     requires { hub.now.items ≡ flat held.now.entries }
-    ensures { OnOk result (LooksAt is_of_ends hub.now held.now.entries found.old found.new) }
+    ensures { OnOk result (LooksAt (is_for target) hub.now held.now.entries found.old found.new) }
 {
     let _apart = held.len();
-    let mut at = held.first_for_ends();
+    let mut at = held.first_for(target);
     while let Some(slot) = at {
         let item = held.get(slot);
         found.note(slot, item, hub.holds(item, 0))?;
-        at = held.next_waiting(slot);
+        at = held.next_for(slot);
+    }
+    Ok(())
+}
+
+/// Looks at those that wait for several ends, where they are touched. `AllocError`: memory is wanting.
+fn look_at_several(
+    hub: &Hub,
+    held: &HeldItems,
+    touched: bool,
+    found: &mut Found,
+) -> Result<(), AllocError>
+    requires { hub.now.items ≡ flat held.now.entries }
+    ensures { OnOk result (LooksAt (for_several touched) hub.now held.now.entries found.old found.new) }
+{
+    if !touched {
+        return Ok(());
+    }
+    look_at_target(hub, held, Target::Several, found)?;
+    Ok(())
+}
+
+/// Looks at those that wait for one of these greenlets and jobs alone. `AllocError`: memory is wanting.
+fn look_at_ends(
+    hub: &Hub,
+    held: &HeldItems,
+    ends: &[u32],
+    found: &mut Found,
+) -> Result<(), AllocError>
+    requires same { hub.now.items ≡ flat held.now.entries }
+    requires apart { Differ ends.now }
+    ensures { OnOk result (LooksAt (for_one_of ends.now) hub.now held.now.entries found.old found.new) }
+{
+    for number in ends {
+        look_at_target(hub, held, Target::One(*number), found)?;
     }
     Ok(())
 }
@@ -238,23 +277,6 @@ pub(crate) fn look_at_due(
     Ok(())
 }
 
-/// Looks at those that wait for ends, where some were touched. `AllocError`: memory is wanting.
-fn look_at_touched_ends(
-    hub: &Hub,
-    held: &HeldItems,
-    touched: bool,
-    found: &mut Found,
-) -> Result<(), AllocError>
-    requires { hub.now.items ≡ flat held.now.entries }
-    ensures { OnOk result (LooksAt (ends_if touched) hub.now held.now.entries found.old found.new) }
-{
-    if !touched {
-        return Ok(());
-    }
-    look_at_ends(hub, held, found)?;
-    Ok(())
-}
-
 /// Looks at all that was touched: what was made, ends and objects. `AllocError`: memory is wanting.
 pub(crate) fn look_at_touched(
     hub: &Hub,
@@ -268,7 +290,8 @@ pub(crate) fn look_at_touched(
     ensures { OnOk result (LooksAt (touched_now touched.now) hub.now held.now.entries found.old found.new) }
 {
     look_at_made(held, touched.made(), found)?;
-    look_at_touched_ends(hub, held, touched.ends(), found)?;
+    look_at_several(hub, held, touched.several(), found)?;
+    look_at_ends(hub, held, touched.ends(), found)?;
     look_at_objects(hub, held, touched.objects(), found)?;
     Ok(())
 }

@@ -51,7 +51,7 @@ impl Hub {
         ensures was { option_map phase_of result ≡ phase_of_greenlet g self.old.greenlets }
     {
         let ended = self.is_end(g, &stage);
-        self.touched.touch_ends(ended);
+        self.touched.touch_end(ended, g);
         let _ascending = self.held.len();
         self.greenlets.swap(g, stage)
     }

@@ -74,7 +74,7 @@ impl Hub {
         };
         let pool = job.pool();
         let _ascending = self.held.len();
-        self.touched.touch_ends(true);
+        self.touched.touch_end(true, j);
         self.touched.touch(Some(pool));
         self.objects.change(pool, Change::SlotFreed)?;
         arrive_in(&mut self.jobs, j, outcome);

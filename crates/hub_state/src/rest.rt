@@ -22,10 +22,10 @@ impl Hub {
     pub fn is_at_rest(&self) -> bool
         ensures { IsTrue result → settle self.now ≡ self.now }
     {
-        if self.touched.ends() || !self.touched.objects().is_empty() {
+        if self.touched.several() || !self.touched.ends().is_empty() {
             return false;
         }
-        if !self.touched.made().is_empty() {
+        if !self.touched.objects().is_empty() || !self.touched.made().is_empty() {
             return false;
         }
         !has_come(self.held.least_deadline(), self.moment)

@@ -5,10 +5,10 @@ ghost use Rattle.linked_items.specs.Items.{Differ};
 ghost use Rattle.machine_settling.specs.Classes.{class_of, class_of_wait};
 ghost use Rattle.machine_settling.specs.Steps.{has_member, has_offer_by};
 ghost use Rattle.held_items.specs.Entries.{flat};
-ghost use Rattle.held_items.specs.Waits.{is_of_ends};
-ghost use Rattle.hub_state.specs.Touched.{HasTouched, IsRoomier, awaited, left_by, none_touched, untouched, waited_at, with_ends, with_made, with_touched, with_waited};
+ghost use Rattle.held_items.specs.Waits.{target_of_class};
+ghost use Rattle.hub_state.specs.Touched.{HasPlaces, HasTarget, HasTouched, IsRoomier, awaited, left_by, none_touched, untouched, waited_at, with_end, with_made, with_target, with_touched, with_waited};
 
-use held_items::HeldItems;
+use held_items::{HeldItems, Target, target_of};
 use hub_items::Gone;
 use hub_objects::{has_member, has_offer_by};
 use machine::items::{Delivery, Waiting};
@@ -20,8 +20,10 @@ use std::marker::Model;
 /// What was touched since the last settling. Touching takes no memory: what has no place is passed over.
 #[derive(Drop)]
 pub(crate) struct Touched {
-    /// A greenlet has ended or a job has arrived, or somebody began to wait for an end that has come already.
-    ends: bool,
+    /// A greenlet has ended or a job has arrived, or somebody began to wait for several ends that have come already.
+    several: bool,
+    /// The numbers of the greenlets and jobs that this is so of, and that somebody waits for alone.
+    ends: NumberSet,
     /// The objects that something was done to, or where somebody came or went.
     objects: NumberSet,
     /// The slots of the items that were made.
@@ -33,7 +35,7 @@ impl Model for Touched {
 
     ghost Value = { SeenTouched };
 
-    ghost view = { λ t. record { ends = t.ends; objects = t.objects.list; made = t.made.list; rooms = t.objects.room; slots = t.made.room } };
+    ghost view = { λ t. record { several = t.several; ends = t.ends.list; objects = t.objects.list; made = t.made.list; targets = t.ends.room; rooms = t.objects.room; slots = t.made.room } };
 }
 
 impl Touched {
@@ -42,7 +44,8 @@ impl Touched {
         ensures { result ≡ none_touched }
     {
         Touched {
-            ends: false,
+            several: false,
+            ends: NumberSet::new(alloc),
             objects: NumberSet::new(alloc),
             made: NumberSet::new(alloc),
         }
@@ -67,6 +70,29 @@ impl Touched {
         }
     }
 
+    /// Makes a place for this target. `AllocError`: memory is wanting; what was touched stays.
+    fn reserve_target(&mut self, target: Option<Target>) -> Result<(), AllocError>
+        ensures same { IsRoomier self.old self.new }
+        ensures room { OnOk result (HasTarget self.new.targets target) }
+    {
+        match target {
+            Some(Target::One(number)) => self.ends.reserve(number as usize + 1),
+            Some(Target::Several) => Ok(()),
+            None => Ok(()),
+        }
+    }
+
+    /// Makes a place for what an item that delivers this waits for. `AllocError`: memory is wanting; what was touched
+    /// stays.
+    pub(crate) fn reserve_awaited(&mut self, delivery: &Delivery) -> Result<(), AllocError>
+        ensures same { IsRoomier self.old self.new }
+        ensures room { OnOk result (HasPlaces self.new (class_of delivery.now)) }
+    {
+        self.reserve_for(object_of(delivery))?;
+        self.reserve_target(target_of(delivery))?;
+        Ok(())
+    }
+
     /// Makes a place for the item in this slot. `AllocError`: memory is wanting; what was touched stays.
     pub(crate) fn reserve_slot(&mut self, slot: u32) -> Result<(), AllocError>
         ensures same { IsRoomier self.old self.new }
@@ -86,11 +112,29 @@ impl Touched {
         }
     }
 
-    /// Touches the ends, if there was one.
-    pub(crate) fn touch_ends(&mut self, ended: bool)
-        ensures { self.new ≡ with_ends ended self.old }
+    /// Touches those who wait for this target, if it has a place.
+    fn touch_target(&mut self, target: Option<Target>)
+        ensures { self.new ≡ with_target target self.old }
     {
-        self.ends = self.ends || ended;
+        match target {
+            Some(Target::One(number)) => {
+                if (number as usize) < self.ends.room() {
+                    self.ends.insert(number);
+                }
+            }
+            Some(Target::Several) => self.several = true,
+            None => {}
+        }
+    }
+
+    /// Touches those who wait for the greenlet or job of this number, alone or among several, if it has ended.
+    pub(crate) fn touch_end(&mut self, ended: bool, number: u32)
+        ensures { self.new ≡ with_end ended number self.old }
+    {
+        if ended {
+            self.touch_target(Some(Target::Several));
+            self.touch_target(Some(Target::One(number)));
+        }
     }
 
     /// Touches what an item that delivers this waits for, where it holds.
@@ -98,7 +142,7 @@ impl Touched {
         ensures { self.new ≡ with_waited holds (class_of delivery.now) self.old }
     {
         if holds {
-            self.touch_ends(waits_for_ends(delivery));
+            self.touch_target(target_of(delivery));
             self.touch(object_of(delivery));
         }
     }
@@ -112,11 +156,19 @@ impl Touched {
         }
     }
 
-    /// Whether an end was touched.
-    pub(crate) fn ends(&self) -> bool
-        ensures { result ≡ self.now.ends }
+    /// Whether those who wait for several ends are touched.
+    pub(crate) fn several(&self) -> bool
+        ensures { result ≡ self.now.several }
     {
-        self.ends
+        self.several
+    }
+
+    /// The numbers of the greenlets and jobs that were touched for those who wait for one alone, each once.
+    pub(crate) fn ends(&self) -> &[u32]
+        ensures list { result.now ≡ self.now.ends }
+        ensures differ { Differ self.now.ends }
+    {
+        self.ends.as_slice()
     }
 
     /// The objects that were touched, each once.
@@ -139,7 +191,8 @@ impl Touched {
     pub(crate) fn clear(&mut self)
         ensures { self.new ≡ untouched self.old }
     {
-        self.ends = false;
+        self.several = false;
+        self.ends.clear();
         self.objects.clear();
         self.made.clear();
     }
@@ -171,20 +224,6 @@ fn object_of_wait(waiting: &Waiting) -> Option<u32>
         Waiting::Slot(o, _, _) => Some(*o),
         Waiting::Offered(o) => Some(*o),
         Waiting::TakeOffer(o) => Some(*o),
-    }
-}
-
-/// Whether the wait is for the ends of greenlets or jobs.
-fn is_for_ends(waiting: &Waiting) -> bool
-    ensures { result ≡ is_of_ends (class_of_wait waiting.now) }
-{
-    match waiting {
-        Waiting::Join(_) => true,
-        Waiting::Get(_) => true,
-        Waiting::Kill(_) => true,
-        Waiting::JoinAll(_, _) => true,
-        Waiting::MapEnd(_, _) => true,
-        _ => false,
     }
 }
 
@@ -222,21 +261,6 @@ pub(crate) fn object_of(delivery: &Delivery) -> Option<u32>
         Delivery::Timeout(_, _, _) => None,
         Delivery::Kill(_, _) => None,
         Delivery::Link(_, _, _, _) => None,
-    }
-}
-
-/// Whether the item that delivers this waits for ends.
-fn waits_for_ends(delivery: &Delivery) -> bool
-    ensures { result ≡ is_of_ends (class_of delivery.now) }
-{
-    match delivery {
-        Delivery::Start(_, None) => false,
-        Delivery::Start(_, Some(_)) => false,
-        Delivery::Wake(_, waiting) => is_for_ends(waiting),
-        Delivery::Late(_, _, _) => false,
-        Delivery::Timeout(_, _, _) => false,
-        Delivery::Kill(_, _) => false,
-        Delivery::Link(_, _, _, _) => true,
     }
 }
 

@@ -1,5 +1,5 @@
-use gv_values::{FaultKind, LinkKind, Outcome, Value};
-use held_items::HeldItems;
+use gv_values::{FaultKind, LinkKind, Outcome, Value, Whom};
+use held_items::{HeldItems, Target, target_of};
 use hub_items::{Gone, WaitKind};
 use machine::items::{Delivery, Waiting};
 use scenario_tree::Items;
@@ -117,7 +117,7 @@ fn numbers_come_and_go(rt: HostRuntime) {
     drop(held);
 }
 
-/// Items that wait for objects 3 and 7, there in a line or in none, and for ends, and one that waits for neither.
+/// Items that wait for objects 3 and 7, there in a line or in none, and three that wait for none.
 fn fill_waits(held: &mut HeldItems) -> Result<(), AllocError> {
     held.add(Delivery::Wake(3, Waiting::Sleep(50)))?;
     held.add(Delivery::Wake(1, Waiting::Lock(7)))?;
@@ -165,7 +165,6 @@ fn waits_are_found(rt: HostRuntime) {
     assert!(rt; waiting_from(&held, held.first_in_line(3, WaitKind::Take)) == 7);
     assert!(rt; waiting_from(&held, held.first_of_others(7)) == 4);
     assert!(rt; waiting_from(&held, held.first_of_others(3)) == 3);
-    assert!(rt; waiting_from(&held, held.first_for_ends()) == 25);
     assert!(rt;
         held.first_in_line(7, WaitKind::Acquire) == None
             && held.first_in_line(8, WaitKind::Lock) == None
@@ -173,10 +172,80 @@ fn waits_are_found(rt: HostRuntime) {
     );
     leave_wait(&mut held, 5);
     leave_wait(&mut held, 1);
-    held.drop_items(&Gone::LinkNumbered(1));
     assert!(rt; waiting_from(&held, held.first_in_line(7, WaitKind::Lock)) == 6);
     assert!(rt; held.first_of_others(7) == None);
-    assert!(rt; waiting_from(&held, held.first_for_ends()) == 2);
+    drop(held);
+}
+
+/// These greenlets. `AllocError`: memory is wanting.
+fn greenlets(alloc: Global, numbers: &[u32]) -> Result<Items<u32>, AllocError> {
+    let mut items = Items::new(alloc);
+    for number in numbers {
+        items.push(*number)?;
+    }
+    Ok(items)
+}
+
+/// Items that wait for the ends of one greenlet or job, of several, and of none, and one that waits for no end.
+fn fill_ends(alloc: Global, held: &mut HeldItems) -> Result<(), AllocError> {
+    held.add(Delivery::Wake(1, Waiting::Sleep(50)))?;
+    held.add(Delivery::Wake(2, Waiting::Join(9)))?;
+    held.add(Delivery::Wake(3, Waiting::Get(Whom::Job(5))))?;
+    let both = greenlets(alloc, &[9, 5])?;
+    held.add(Delivery::Wake(4, Waiting::JoinAll(both, 1)))?;
+    held.add(Delivery::Link(1, 5, LinkKind::Any, 0))?;
+    let one = greenlets(alloc, &[9])?;
+    held.add(Delivery::Wake(6, Waiting::Kill(one)))?;
+    let none = greenlets(alloc, &[])?;
+    held.add(Delivery::Wake(7, Waiting::MapEnd(3, none)))?;
+    Ok(())
+}
+
+/// The sinces of those that wait for this target, from the oldest on, one digit for each; those that say that they wait
+/// for another are passed by.
+fn waiting_for(held: &HeldItems, target: Target) -> u64 {
+    let mut all = 0u64;
+    let mut at = held.first_for(target);
+    for _ in 0..9 {
+        match at {
+            None => return all,
+            Some(slot) => {
+                if held.has(slot) && is_for(held, slot, target) {
+                    all = all.wrapping_mul(10).wrapping_add(held.get(slot).since);
+                }
+                at = held.next_for(slot);
+            }
+        }
+    }
+    all
+}
+
+/// Whether the item of the slot says that it waits for this target.
+fn is_for(held: &HeldItems, slot: u32, target: Target) -> bool {
+    if !held.has(slot) {
+        return false;
+    }
+    match (target_of(&held.get(slot).delivery), target) {
+        (Some(Target::Several), Target::Several) => true,
+        (Some(Target::One(m)), Target::One(n)) => m == n,
+        _ => false,
+    }
+}
+
+#[test]
+fn waits_for_ends_are_found(rt: HostRuntime) {
+    let mut held = HeldItems::new(rt.alloc());
+    assert!(rt; fill_ends(rt.alloc(), &mut held).is_ok());
+    assert!(rt; waiting_for(&held, Target::One(9)) == 15);
+    assert!(rt; waiting_for(&held, Target::One(5)) == 24);
+    assert!(rt; waiting_for(&held, Target::Several) == 36);
+    assert!(rt; held.first_for(Target::One(0)) == None && held.first_for(Target::One(10)) == None);
+    leave_wait(&mut held, 2);
+    leave_wait(&mut held, 4);
+    held.drop_items(&Gone::LinkNumbered(1));
+    assert!(rt; waiting_for(&held, Target::One(9)) == 5);
+    assert!(rt; waiting_for(&held, Target::One(5)) == 2);
+    assert!(rt; waiting_for(&held, Target::Several) == 6);
     drop(held);
 }
 

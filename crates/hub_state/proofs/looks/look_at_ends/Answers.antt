@@ -1,31 +1,24 @@
-use Rattle.std.proofs.Common.{List}
-use Rattle.std.specs.Prelude.{⊤}
-use Rattle.machine.specs.declared.items.Item.{Item}
-use Rattle.held_items.specs.Waits.{is_of_ends, waits_for_ends}
-use Rattle.held_items.proofs.IndexWalks.{along_at, along_smaller}
-use Rattle.hub_state.proofs.Classes.{ends_before}
-use Rattle.hub_state.proofs.Looking.{looking_all, looking_none, looking_on}
-use Rattle.hub_state.proofs.Walks.{is_there}
+use Rattle.std.proofs.Common.{◌++◌, List, [], ◌∷◌, ℕ, get_or, sym, subst, take}
+use Rattle.std.proofs.lemmas.List.{take_all, take_more}
+use Rattle.machine_settling.specs.Steps.{nothing}
+use Rattle.held_items.specs.Waits.{is_for}
+use Rattle.held_items.specs.declared.waits.Target.{Target}
+use Rattle.hub_state.specs.Found.{LooksAt, for_one_of}
+use Rattle.hub_state.proofs.Joining.{looks_as, looks_both, looks_none, no_ends, ends_apart, ends_more}
+use Rattle.hub_state.proofs.Looking.{not_before}
 use Rattle.hub_state.proofs.looks.look_at_ends.Goals as goal
 
-pub loop-at-init : goal.loop-at-init
-loop-at-init c = looking_none is_of_ends (λ (passed : List Item). ⊤) c.args.hub.now c.args.held.now.entries c.args.found.now _ c.first_for_ends-at.ensures tt
+pub loop-number-init : goal.loop-number-init
+loop-number-init c = looks_as nothing (for_one_of []) c.args.hub.now c.args.held.now.entries c.args.found.now c.args.found.now no_ends (looks_none c.args.hub.now c.args.held.now.entries c.args.found.now)
 
-pub get-item-requires : goal.get-item-requires
-get-item-requires c = is_there _ _ (along_at waits_for_ends c.args.held.now.entries _ c.in-Some.slot c.loop-at.invariant.along c.len-apart.ensures.differ c.in-Some.is).there
-
-pub loop-at-smaller : goal.loop-at-smaller
-loop-at-smaller c =
-    let es = c.args.held.now.entries in
-    let along = c.loop-at.invariant.along in
-    along_smaller waits_for_ends es c.loop-at.at c.next_waiting-at.result c.in-Some.slot along (along_at waits_for_ends es _ c.in-Some.slot along c.len-apart.ensures.differ c.in-Some.is) c.len-apart.ensures.differ c.next_waiting-at.ensures.for_ends
-
-pub loop-at-preserved : goal.loop-at-preserved
-loop-at-preserved c =
-    looking_on is_of_ends (λ (passed : List Item). ⊤) (λ (passed : List Item). ⊤) c.args.hub.now c.args.held.now.entries c.args.found.now c.loop-at.found c.note.new.self _ c.next_waiting-at.result c.in-Some.slot c.get-item.result.now c.holds.result
-    c.len-apart.ensures.differ c.loop-at.invariant c.in-Some.is c.get-item.ensures
-    (λ st same passes. c.holds.ensures (ends_before c.args.hub.now c.get-item.result.now.since c.get-item.result.now.delivery passes))
-    (λ passed few passes so. tt) c.in_ok-note.ensures c.next_waiting-at.ensures.for_ends
+pub loop-number-preserved : goal.loop-number-preserved
+loop-number-preserved c =
+    let k = c.loop-number.number-index in
+    let os = c.args.ends.now in
+    let o = get_or os k 0 in
+    subst (λ (qs : List ℕ). LooksAt (for_one_of qs) c.args.hub.now c.args.held.now.entries c.args.found.now c.look_at_target.new.found) (sym (take_more os k 0 c.loop-number-test.true))
+    (looks_both (for_one_of (take k os)) (is_for (Target.One o)) (for_one_of (take k os ++ o ∷ [])) c.args.hub.now c.args.held.now.entries c.args.found.now c.loop-number.found c.look_at_target.new.found
+    (ends_more (take k os) o) (ends_apart (take k os) o (not_before os k 0 c.loop-number-test.true c.requires.apart)) c.loop-number.invariant c.in_ok-look_at_target.ensures)
 
 pub returns : goal.returns
-returns c = looking_all is_of_ends (λ (passed : List Item). ⊤) c.args.hub.now c.args.held.now.entries c.args.found.now c.loop-at.found _ c.len-apart.ensures.differ c.loop-at.invariant c.in_default.is
+returns c = subst (λ (qs : List ℕ). LooksAt (for_one_of qs) c.args.hub.now c.args.held.now.entries c.args.found.now c.loop-number.found) (take_all c.loop-number.number-index c.args.ends.now c.loop-number-test.false) c.loop-number.invariant

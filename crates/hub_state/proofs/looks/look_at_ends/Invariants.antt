@@ -1,13 +1,6 @@
-use Rattle.std.specs.Prelude.{List, ⊤}
-use Rattle.machine.specs.declared.items.Item.{Item}
-use Rattle.held_items.specs.Entries.{index}
-use Rattle.held_items.specs.Waits.{is_of_ends, waits_for_ends}
-use Rattle.held_items.proofs.Dropping.{behind}
-use Rattle.hub_state.proofs.Looking.{IsLooking}
+use Rattle.std.proofs.Common.{take}
+use Rattle.hub_state.specs.Found.{LooksAt, for_one_of}
 use Rattle.hub_state.proofs.looks.look_at_ends.Given as goal
 
-abbrev pub invariant-loop-at : goal.invariant-loop-at
-invariant-loop-at l = IsLooking is_of_ends (λ (passed : List Item). ⊤) l.hub l.held.entries l.fn.found l.found l.at
-
-abbrev pub decreases-loop-at : goal.decreases-loop-at
-decreases-loop-at l = behind l.at (index waits_for_ends l.held.entries)
+abbrev pub invariant-loop-number : goal.invariant-loop-number
+invariant-loop-number l = LooksAt (for_one_of (take l.number-index l.ends)) l.hub l.held.entries l.fn.found l.found

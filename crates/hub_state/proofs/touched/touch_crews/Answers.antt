@@ -1,4 +1,4 @@
-use Rattle.std.proofs.Common.{◌≡◌, ◌∙◌, ap, sym, subst, ℕ, length, Some, arith}
+use Rattle.std.proofs.Common.{◌≡◌, ◌∙◌, ap, subst, ℕ, length, Some, arith}
 use Rattle.machine.specs.declared.state.Object.{Object}
 use Rattle.machine_settling.specs.Steps.{has_member}
 use Rattle.hub_state.specs.Touched.{HasTouched, with_touched}

@@ -1,9 +1,9 @@
 use Rattle.std.proofs.Common.{◌∙◌}
 use Rattle.held_items.specs.Entries.{index}
 use Rattle.held_items.specs.Indexed.{has_key}
-use Rattle.held_items.specs.Waits.{line_column, object_place, waits_for_ends, waits_in_line, waits_in_none, waits_key}
+use Rattle.held_items.specs.Waits.{line_column, object_place, waits_in_line, waits_in_none, waits_key}
 use Rattle.held_items.proofs.Indexing.{index_alike}
-use Rattle.held_items.proofs.WaitPlaces.{ends_key, line_key, none_key}
+use Rattle.held_items.proofs.WaitPlaces.{line_key, none_key}
 use Rattle.held_items.proofs.indexes.Indexes.next_waiting.Goals as goal
 
 pub returns-clause-in_line : goal.returns-clause-in_line
@@ -15,6 +15,3 @@ pub returns-clause-in_none : goal.returns-clause-in_none
 returns-clause-in_none c = λ es o xs ys a e.
     let place = object_place o 7 in
     c.after.ensures (λ k. index (has_key waits_key k) es) place xs ys a.waits (index_alike (has_key waits_key place) (waits_in_none o) es (none_key o) ∙ e)
-
-pub returns-clause-for_ends : goal.returns-clause-for_ends
-returns-clause-for_ends c = λ es xs ys a e. c.after.ensures (λ k. index (has_key waits_key k) es) 0 xs ys a.waits (index_alike (has_key waits_key 0) waits_for_ends es ends_key ∙ e)

@@ -1,8 +1,0 @@
-use Rattle.hub_state.proofs.Joining.{ends_looked_at, ends_passed_by}
-use Rattle.hub_state.proofs.looks.look_at_touched_ends.Goals as goal
-
-pub returns-then-not-touched : goal.returns-then-not-touched
-returns-then-not-touched c = ends_passed_by c.args.touched c.args.hub.now c.args.held.now.entries c.args.found.now c.if-not-touched.true
-
-pub returns : goal.returns
-returns c = ends_looked_at c.args.touched c.args.hub.now c.args.held.now.entries c.args.found.now c.look_at_ends.new.found c.if-not-touched.false c.in_ok-look_at_ends.ensures
