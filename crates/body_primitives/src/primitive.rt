@@ -1,5 +1,6 @@
 //! The evaluation.
-ghost use Rattle.std.specs.Prelude.{◌≡◌, IfOk, IfSome, pos};
+ghost use Rattle.std.specs.Prelude.{◌≡◌, IfOk, IfSome, pos, unwrap_or};
+ghost use Rattle.std.specs.Option.{option_copied};
 ghost use Rattle.gv_values.specs.declared.value.Outcome.{Outcome as Outcomes};
 ghost use Rattle.gv_values.specs.declared.value.Value.TheVariants as value;
 ghost use Rattle.gv_values.specs.Arithmetic.{arith_of};
@@ -9,7 +10,7 @@ ghost use Rattle.body_primitives.specs.Primitives.{Agrees, IsBound, Means, Means
 use body_values::bind;
 use gv_values::{Arith, Name, Value, arithmetic};
 use machine::state::Local;
-use scenario_tree::{Binary, Expression, Items, Unary};
+use scenario_tree::{Binary, Boxed, Expression, Items, Unary};
 use std::alloc::AllocError;
 
 /// What an expression of integers and truth values gives.
@@ -30,6 +31,33 @@ pub fn bind_primitive(
 ) -> Result<bool, AllocError>
     ensures { IfOk result (λ bound. IsBound bound name.now expression.now locals.old locals.new) }
 {
+    if let Some(n) = plain_integer(locals.as_slice(), expression) {
+        bind(name, Value::Int(n), locals)?;
+        return Ok(true);
+    }
+    Ok(bind_evaluated(name, expression, locals)?)
+}
+
+/// The truth value of the expression, where it is one of integers and truth values.
+#[inline(always)]
+pub fn primitive_truth(locals: &[Local], expression: &Expression) -> Option<bool>
+    ensures { IfSome result (λ b. Means expression.now locals.now (value.Bool b)) }
+{
+    match plain_truth(locals, expression) {
+        Some(b) => Some(b),
+        None => evaluated_truth(locals, expression),
+    }
+}
+
+/// Binds what the expression gives, whatever its form.
+#[inline(never)]
+fn bind_evaluated(
+    name: &Name,
+    expression: &Expression,
+    locals: &mut Items<Local>,
+) -> Result<bool, AllocError>
+    ensures { IfOk result (λ bound. IsBound bound name.now expression.now locals.old locals.new) }
+{
     match evaluate(locals.as_slice(), expression) {
         Primitive::Int(n) => {
             bind(name, Value::Int(n), locals)?;
@@ -43,14 +71,98 @@ pub fn bind_primitive(
     }
 }
 
-/// The truth value of the expression, where it is one of integers and truth values.
-pub fn primitive_truth(locals: &[Local], expression: &Expression) -> Option<bool>
+/// The truth value that the expression gives, whatever its form.
+#[inline(never)]
+fn evaluated_truth(locals: &[Local], expression: &Expression) -> Option<bool>
     ensures { IfSome result (λ b. Means expression.now locals.now (value.Bool b)) }
 {
     match evaluate(locals, expression) {
         Primitive::Bool(b) => Some(b),
         Primitive::Int(_) => None,
         Primitive::Other => None,
+    }
+}
+
+/// The truth value of a comparison of two plain integers.
+#[inline(always)]
+fn plain_truth(locals: &[Local], expression: &Expression) -> Option<bool>
+    ensures { IfSome result (λ b. Means expression.now locals.now (value.Bool b)) }
+{
+    match expression {
+        Expression::Binary(operator, a, b) => {
+            let Some((x, y)) = two_plain(locals, a, b) else {
+                return None;
+            };
+            compare(*operator, x, y)
+        }
+        _ => None,
+    }
+}
+
+/// The integer that an operation on two plain integers gives.
+#[inline(always)]
+fn plain_integer(locals: &[Local], expression: &Expression) -> Option<i64>
+    ensures { IfSome result (λ n. Means expression.now locals.now (value.Int n)) }
+{
+    match expression {
+        Expression::Binary(operator, a, b) => {
+            let Some((x, y)) = two_plain(locals, a, b) else {
+                return None;
+            };
+            compute(*operator, x, y)
+        }
+        _ => None,
+    }
+}
+
+/// The operands, where both are plain integers.
+#[inline(always)]
+fn two_plain(locals: &[Local], a: &Boxed<Expression>, b: &Boxed<Expression>) -> Option<(i64, i64)>
+    ensures { IfSome result (λ n. Means a.now locals.now (value.Int n.0) × Means b.now locals.now (value.Int n.1)) }
+{
+    let x = plain(locals, a.get())?;
+    let y = plain(locals, b.get())?;
+    Some((x, y))
+}
+
+/// The integer that is written there, or that the local has.
+#[inline(always)]
+#[tactic(auto, using(crate::proofs::Primitives::of_found))]
+fn plain(locals: &[Local], expression: &Expression) -> Option<i64>
+    ensures { IfSome result (λ n. Means expression.now locals.now (value.Int n)) }
+{
+    match expression {
+        Expression::Int(n) => Some(*n),
+        Expression::Local(name) => match find(name, locals) {
+            Some(Value::Int(n)) => Some(*n),
+            _ => None,
+        },
+        _ => None,
+    }
+}
+
+fn compare(operator: Binary, x: i64, y: i64) -> Option<bool>
+    ensures { IfSome result (λ b. Outcomes.Value (value.Bool b) ≡ binary operator (value.Int x) (value.Int y)) }
+{
+    match operator {
+        Binary::Equal => Some(x == y),
+        Binary::NotEqual => Some(x != y),
+        Binary::Less => Some(x < y),
+        Binary::AtMost => Some(x <= y),
+        _ => None,
+    }
+}
+
+fn compute(operator: Binary, x: i64, y: i64) -> Option<i64>
+    ensures { IfSome result (λ z. Outcomes.Value (value.Int z) ≡ binary operator (value.Int x) (value.Int y)) }
+{
+    match operator {
+        Binary::Arithmetic(operation) => match operation {
+            Arith::Add => x.checked_add(y),
+            Arith::Sub => x.checked_sub(y),
+            _ => arithmetic::arith(operation, x, y).ok(),
+        },
+        _ => None,
     }
 }
 
@@ -89,12 +201,40 @@ fn evaluate(locals: &[Local], expression: &Expression) -> Primitive
 fn of_local(name: &Name, locals: &[Local]) -> Primitive
     ensures { Agrees result (Outcomes.Value (value_of_local name.now locals.now)) }
 {
+    match find(name, locals) {
+        Some(value) => of_value(value),
+        None => Primitive::Other,
+    }
+}
+
+/// The value of the local, where it has one. A short name is compared with no call.
+#[inline(always)]
+fn find<'a>(name: &Name, locals: &'a [Local]) -> Option<&'a Value>
+    ensures { unwrap_or (option_copied result) value.Nothing ≡ value_of_local name.now locals.now }
+{
+    if name.bytes().len() < 4 {
+        return search(name, locals);
+    }
+    search_long(name, locals)
+}
+
+#[inline(never)]
+fn search_long<'a>(name: &Name, locals: &'a [Local]) -> Option<&'a Value>
+    ensures { unwrap_or (option_copied result) value.Nothing ≡ value_of_local name.now locals.now }
+{
+    search(name, locals)
+}
+
+#[inline(always)]
+fn search<'a>(name: &Name, locals: &'a [Local]) -> Option<&'a Value>
+    ensures { unwrap_or (option_copied result) value.Nothing ≡ value_of_local name.now locals.now }
+{
     for local in locals {
         if name.bytes() == local.name.bytes() {
-            return of_value(&local.value);
+            return Some(&local.value);
         }
     }
-    Primitive::Other
+    None
 }
 
 fn of_value(value: &Value) -> Primitive

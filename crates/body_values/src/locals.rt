@@ -23,7 +23,8 @@ pub fn name_eq(a: &Name, b: &Name) -> bool
     same_bytes(a.bytes(), b.bytes())
 }
 
-/// The name takes the value.
+/// The name takes the value. A value whose kind is known is a few stores.
+#[inline(always)]
 pub fn bind(name: &Name, value: Value, locals: &mut Items<Local>) -> Result<(), AllocError>
     ensures { OnOk result (locals.new ≡ bind name.now value locals.old) }
 {
