@@ -1,15 +1,14 @@
 //! A list that is read and grown at its front, at a cost that does not depend on its length.
-ghost use Rattle.std.specs.Prelude.{◌≡◌, [], ◌∷◌, OnOk, MatchOption, drop};
+ghost use Rattle.std.specs.Prelude.{◌≡◌, [], ◌∷◌, ◌++◌, OnOk, MatchOption, drop};
 ghost use Rattle.std.specs.Option.{option_copied};
 
-use scenario_tree::Items;
 use std::alloc::{AllocError, Global};
 use std::marker::Model;
 
 /// The entries, of which the last one stands at the front. It is seen as the list of them, from the front.
 #[derive(Drop)]
 pub struct Pile<T> {
-    items: Items<T>,
+    items: Vec<T>,
 }
 
 impl<T> Model for Pile<T> {
@@ -20,7 +19,7 @@ impl<T> Model for Pile<T> {
 
     ghost coded = { coded_list T.code };
 
-    ghost view = { λ p. reverse p.items };
+    ghost view = { λ p. reverse p.items.items };
 }
 
 impl<T: Drop> Pile<T> {
@@ -29,7 +28,7 @@ impl<T: Drop> Pile<T> {
         ensures { result ≡ [] }
     {
         Pile {
-            items: Items::new(alloc),
+            items: Vec::new(alloc),
         }
     }
 
@@ -46,7 +45,7 @@ impl<T: Drop> Pile<T> {
     pub fn pop(&mut self) -> Option<T>
         ensures { MatchOption result ((self.old ≡ []) × (self.new ≡ [])) (λ first. self.old ≡ first ∷ self.new) }
     {
-        self.items.pop()
+        pop_last(&mut self.items)
     }
 
     /// Lets the first entry go.
@@ -54,18 +53,35 @@ impl<T: Drop> Pile<T> {
     pub fn drop_first(&mut self)
         ensures { self.new ≡ drop 1 self.old }
     {
-        match self.items.pop() {
+        match pop_last(&mut self.items) {
             Some(_) => {}
             None => {}
         }
     }
 
-    /// Puts the entry before the others.
+    /// Puts the entry before the others. At an entry whose kind is known it is a few stores.
+    #[inline(always)]
     #[tactic(auto, using(crate::proofs::Piles::put_first))]
     pub fn push(&mut self, first: T) -> Result<(), AllocError>
         ensures { OnOk result (self.new ≡ first ∷ self.old) }
     {
-        self.items.push(first)?;
+        push_last(&mut self.items, first)?;
         Ok(())
     }
+}
+
+fn pop_last<T>(items: &mut Vec<T>) -> Option<T>
+    ensures { MatchOption result ((items.old.items ≡ []) × (items.new.items ≡ [])) (λ last. items.old.items ≡ items.new.items ++ last ∷ []) }
+{
+    items.pop()
+}
+
+/// Room is made first, so that where there is some the item is stored and nothing else is done.
+#[inline(always)]
+fn push_last<T: Drop>(items: &mut Vec<T>, item: T) -> Result<(), AllocError>
+    ensures { OnOk result (items.new.items ≡ items.old.items ++ item ∷ []) }
+{
+    items.reserve(1)?;
+    items.push_reserved(item);
+    Ok(())
 }

@@ -73,13 +73,13 @@ fn act(
         FlatAction::If(test, yes, no) => match primitive_truth(stack.locals.as_slice(), test) {
             Some(true) => {
                 advance(&mut stack.todo, block, next)?;
-                stack.todo.push(Entry::Rest { block: *yes, at: 0 })?;
+                put_rest(&mut stack.todo, *yes, 0)?;
                 Ok(true)
             }
             Some(false) => match *no {
                 Some(no) => {
                     advance(&mut stack.todo, block, next)?;
-                    stack.todo.push(Entry::Rest { block: no, at: 0 })?;
+                    put_rest(&mut stack.todo, no, 0)?;
                     Ok(true)
                 }
                 None => Ok(false),
@@ -118,7 +118,7 @@ fn advance(todo: &mut Pile<Entry>, block: usize, next: usize) -> Result<(), Allo
     ensures { OnOk result (todo.new ≡ Listed.Rest block next ∷ drop 1 todo.old) }
 {
     todo.drop_first();
-    todo.push(Entry::Rest { block, at: next })?;
+    put_rest(todo, block, next)?;
     Ok(())
 }
 
@@ -134,8 +134,17 @@ fn pass(
 {
     todo.drop_first();
     if begins(blocks, block, next) {
-        todo.push(Entry::Rest { block, at: next })?;
+        put_rest(todo, block, next)?;
         return Ok(());
     }
+    Ok(())
+}
+
+/// Puts the rest of the block from this place on before the others. It stays a call, so that its callers hold no entry.
+#[inline(never)]
+fn put_rest(todo: &mut Pile<Entry>, block: usize, at: usize) -> Result<(), AllocError>
+    ensures { OnOk result (todo.new ≡ Listed.Rest block at ∷ todo.old) }
+{
+    todo.push(Entry::Rest { block, at })?;
     Ok(())
 }
