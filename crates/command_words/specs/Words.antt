@@ -20,8 +20,6 @@ use Rattle.command_words.specs.declared.command.TraceCheck.{TraceCheck}
 abbrev pub Word : Type 0
 Word = List ℕ
 
--- ---- the table
-
 -- an option whose value is a number: its name, the least and the most number that it takes, and the one that stands
 -- where it is left out; none where it has to be given
 pub record OptionRow : Type 0 where
@@ -98,8 +96,6 @@ verify = record { name = codes "verify"; options = check ∷ turns.name ∷ move
 abbrev pub commands : List CommandRow
 commands = run ∷ format ∷ wsgi ∷ serve ∷ storm ∷ verify ∷ []
 
--- ---- options
-
 -- the options that were given, each as its name and its value
 abbrev pub Said : Type 0
 Said = List (Word × Word)
@@ -149,8 +145,6 @@ options names (word ∷ words) None said = elim (option_word word) [
 options names (word ∷ words) (Some name) said =
     if begins_with_dash word then None else option_and_then (options names words None) (says names name word said)
 
--- ---- numbers
-
 -- the number from `least` to `most` that the word spells, in decimal digits without a leading zero
 abbrev pub number_in : ℕ → ℕ → Word → Option ℕ
 number_in least most word =
@@ -171,8 +165,6 @@ number_by option look = elim (look option.name) [
   | None ↦ option.usual
 ]
 
--- ---- gateways
-
 -- the gateway of this name
 abbrev pub gateway_named : Word → Option GatewayKind
 gateway_named word = if bytes_eq word (codes "http") then Some Http else if bytes_eq word (codes "scgi") then Some Scgi else None
@@ -181,8 +173,6 @@ gateway_named word = if bytes_eq word (codes "http") then Some Http else if byte
 abbrev pub gateway_by : Look → Option GatewayKind
 gateway_by look = elim (look gateway) [ Some word ↦ gateway_named word | None ↦ Some Http ]
 
--- ---- orders
-
 -- the order of this name
 abbrev pub order_named : Word → Option ResultOrder
 order_named word = if bytes_eq word (codes "free") then Some results.Free else if bytes_eq word (codes "held") then Some results.Held else None
@@ -190,8 +180,6 @@ order_named word = if bytes_eq word (codes "free") then Some results.Free else i
 -- the order that is asked for: the one that is named, or else `free`; none where there is no such order
 abbrev pub order_by : Look → Option ResultOrder
 order_by look = elim (look order) [ Some word ↦ order_named word | None ↦ Some results.Free ]
-
--- ---- commands
 
 -- what comes of the value, where there is one
 abbrev pub given : {A B : Type 0} → Option A → (A → Option B) → Option B

@@ -1,5 +1,4 @@
--- Ends of greenlets: what is kept of one, and which links it calls (gevent API reference: `Greenlet.value`,
--- `Greenlet.link`, `link_value`, `link_exception`).
+-- What is kept of an end, and which links it calls (gevent API reference: `Greenlet.value`, `link`, `link_exception`).
 use Rattle.std.specs.Prelude.{Bool, true, false}
 use Rattle.gv_values.specs.declared.fault.FaultKind.{FaultKind}
 use Rattle.gv_values.specs.declared.value.Value.{Value}

@@ -84,8 +84,6 @@ abbrev pub body_by : Framing → List ℕ → Cut (List ℕ)
 body_by (Sized n) bytes = exactly n bytes
 body_by Chunked bytes = rest_of_chunks [] bytes
 
--- ---- what is left of a body
-
 -- a body before its first byte
 abbrev pub awaited_by : Framing → Awaited
 awaited_by (Sized n) = Counted n

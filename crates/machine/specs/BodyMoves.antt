@@ -39,8 +39,6 @@ abbrev pub at_once : Bool → Wait
 at_once true = Wait.Now
 at_once false = Wait.Block
 
--- ---- operands, from left to right
-
 -- the request with its operands, or the fault of the first operand that has one
 abbrev pub Asked : Type 0
 Asked = Result Request FaultKind
@@ -91,8 +89,6 @@ object x a = object_number x a.scenario.objects
 abbrev pub function : Name → Around → ℕ
 function x a = function_number x a.scenario.functions
 
--- ---- what a statement that gives a value asks
-
 -- the kind of a link whose function is called
 abbrev pub link_kind : LinkEnd → LinkKind
 link_kind LinkEnd.Any = LinkKind.Any
@@ -123,8 +119,6 @@ giving_request (Giving.Raw f e) a = if_any (meaning_if e a) (Request.Raw (functi
 giving_request (Giving.Switch e d) a = two (meaning e a) (meaning d a) Request.Switch
 giving_request (Giving.Throw e d) a = one_or_two (meaning e a) (meaning_if d a) Request.Throw
 giving_request (Giving.ChannelGet x) a = Ok (Request.ChannelGet (object x a))
-
--- ---- one move
 
 -- the body after a test
 abbrev pub tested : Outcome → List Local → (Bool → List Todo) → Did

@@ -23,8 +23,7 @@ abbrev pub leaving_of : Outcome → Leaving
 leaving_of (Outcome.Value v) = Leaving.Normally
 leaving_of (Outcome.Fault f) = Leaving.Raising f
 
--- the greenlet ends: it keeps its outcome, its items but its links go, the links that do not fit are dropped, and it
--- leaves its group
+-- the greenlet ends: it keeps its outcome; its items but the links that fit go, and it leaves its group
 abbrev pub ended : ℕ → Outcome → State → State
 ended g o s =
     let t = drop_items (goes_at_end g o) (with_phase g (Phase.Done o) (say (Line.End g o) s)) in

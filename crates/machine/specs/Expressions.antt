@@ -1,6 +1,5 @@
--- What an expression means, where the locals and what may be asked of the hub are known. The language is this project's
--- own; `ready`, `successful`, `value` and `exception` are those of gevent API reference, `gevent.Greenlet`, and the
--- queries those of its classes of locks, queues and pools.
+-- What an expression means, by the locals and what the hub says. `ready`, `successful`, `value` and `exception` are
+-- those of gevent API reference, `gevent.Greenlet`, the queries those of its locks, queues and pools.
 use Rattle.std.specs.Prelude.{ℕ, ◌+◌, Bool, true, false, not, List, [], ◌∷◌, ◌++◌, Option, Some, None, Result, Ok, Err, ℤ, pos, negsuc, int_lt, int_le, if◌then◌else◌, slice_get, bytes_eq, length, nat_lt}
 use Rattle.scenario_tree.specs.declared.tree.Expression.{Expression}
 use Rattle.scenario_tree.specs.declared.tree.Expression.TheBlock.{laid-Expression}
@@ -21,8 +20,6 @@ use Rattle.gv_values.specs.Values.{value_eq, value_of_scalar, scalar_of_value}
 use Rattle.gv_values.specs.Arithmetic.{arith_of}
 use Rattle.machine.specs.declared.state.Local.{Local}
 use Rattle.machine.specs.State.{Name}
-
--- ---- names
 
 -- the same bytes
 abbrev pub name_eq : Name → Name → Bool
@@ -48,19 +45,14 @@ abbrev pub function_number : Name → List Function → ℕ
 function_number x [] = 0
 function_number x (f ∷ fs) = if name_eq x f.name then 0 else function_number x fs + 1
 
--- ---- what may be asked of the hub
-
--- what an expression may ask of the hub: the current greenlet, what a greenlet or job ended with, an event's flag or
--- whether something was put into a result, a semaphore's counter or the number of a queue's items or of members, and a
--- queue's unfinished tasks
+-- what an expression may ask of the hub: the current greenlet, what a greenlet or job ended with, whether an event or a
+-- result is set, the counter, items or members of an object, and a queue's unfinished tasks
 pub record Look : Type 0 where
   pub current : ℕ
   pub outcome : Whom → Option Outcome
   pub is_set : ℕ → Bool
   pub size : ℕ → ℕ
   pub unfinished : ℕ → ℕ
-
--- ---- operands
 
 -- an operand of another kind
 abbrev pub type_error : Outcome
@@ -160,8 +152,6 @@ query Query.Counter look n = Value.Int (pos (look.size n))
 query Query.QueueSize look n = Value.Int (pos (look.size n))
 query Query.Unfinished look n = Value.Int (pos (look.unfinished n))
 query Query.Members look n = Value.Int (pos (look.size n))
-
--- ---- the meaning
 
 -- what stands round an expression: the scenario, the hub and the locals
 pub record Around : Type 0 where

@@ -1,5 +1,4 @@
--- How a greenlet goes on, and where what it ends with lands. greenlet documentation, parents, switching and exceptions,
--- for raw greenlets.
+-- How a greenlet goes on, and where what it ends with lands (greenlet documentation, parents, switching, exceptions).
 use Rattle.std.specs.Prelude.{ℕ, zero, suc, ◌==◌, List, [], ◌∷◌, length, None, if◌then◌else◌}
 use Rattle.gv_values.specs.declared.value.Value.{Value}
 use Rattle.gv_values.specs.declared.value.Outcome.{Outcome}
@@ -22,8 +21,6 @@ pub data Next : Type 0 where
   Going : ℕ → State → Next
   Resting : State → Next
   Over : StopCause → State → Next
-
--- ---- going on
 
 -- what takes an input that lands at a greenlet
 abbrev pub Landing : Type 0
@@ -55,8 +52,6 @@ given frame (Outcome.Fault f) = frame.locals
 -- a statement is answered with a value or a fault
 abbrev pub resumes : Landing → ℕ → Frame → Outcome → State → Next
 resumes up g frame o s = goes_on up g (unwind frame.todo [] (leaving_of o) (given frame o)) s
-
--- ---- landing
 
 -- the input lands at the greenlet, once; what goes up is handed to `up`
 abbrev pub lands_once : Landing → Landing

@@ -18,8 +18,6 @@ use Rattle.machine.specs.Items.{add_item}
 use Rattle.machine.specs.Greenlets.{greenlet, with_phase, frame_of}
 use Rattle.machine.specs.Requests.{performs, follows}
 
--- ---- one move of a greenlet
-
 -- an event that is set, or a result into which something was put
 abbrev pub is_set_object : Option Object → Bool
 is_set_object (Some (Object.Event flag sets)) = flag

@@ -1,5 +1,4 @@
--- Objects by themselves: what a wait that completes takes from one or puts into it, and what a request reads or
--- changes. gevent API reference for the class of the same meaning.
+-- What a wait that completes, or a request, does to an object (gevent API reference, the class of the same meaning).
 use Rattle.std.specs.Prelude.{ℕ, zero, suc, ◌+◌, ◌-◌, ◌==◌, Bool, true, false, not, List, [], ◌∷◌, length, Option, Some, None, if◌then◌else◌, slice_get, slice_set, nat_lt, unwrap_or, ℤ, ◌++◌, filter, take, drop, int_lt}
 use Rattle.scenario_tree.specs.declared.tree.QueueKind.{QueueKind}
 use Rattle.gv_values.specs.declared.value.Value.{Value}
@@ -7,8 +6,6 @@ use Rattle.machine.specs.declared.state.Object.{Object}
 use Rattle.scenario_tree.specs.declared.tree.Declaration.{Declaration}
 use Rattle.machine.specs.State.{State, Name}
 use Rattle.machine.specs.Holds.{is_offer_of}
-
--- ---- objects
 
 -- an event that is set once more, or cleared
 abbrev pub with_flag : Bool → Object → Object
@@ -47,8 +44,6 @@ with_shut immediate object = object
 abbrev pub members_of : Object → List ℕ
 members_of (Object.Crew size members) = members
 members_of object = []
-
--- ---- end
 
 -- a group or pool without this member
 abbrev pub without_member : ℕ → Object → Object
@@ -100,8 +95,6 @@ next_value kind vs = unwrap_or (slice_get vs (next_place kind vs)) Value.Nothing
 -- the items without the one that is next
 abbrev pub without_next : QueueKind → List Value → List Value
 without_next kind vs = take (next_place kind vs) vs ++ drop (next_place kind vs + 1) vs
-
--- ---- what a completion does to the object
 
 -- a semaphore with one unit less
 abbrev pub with_unit_taken : Object → Object
@@ -167,8 +160,6 @@ offer_of object = Value.Nothing
 abbrev pub without_offer : ℕ → Object → Object
 without_offer since (Object.Channel offers) = Object.Channel (filter (λ offer. not (is_offer_of since offer)) offers)
 without_offer since object = object
-
--- ---- the effect of an answer
 
 -- a native pool with one outstanding job less
 abbrev pub with_slot_freed : Object → Object

@@ -17,8 +17,6 @@ use Rattle.machine.specs.declared.items.Item.{Item}
 use Rattle.machine.specs.declared.state.JobState.{JobState}
 use Rattle.machine.specs.Holds.{job_at}
 
--- ---- deadlines
-
 -- the moment at which the item holds, where it is one that waits for a moment
 abbrev pub deadline_of : Delivery → Option ℕ
 deadline_of (Delivery.Start g deadline) = deadline
@@ -39,8 +37,6 @@ lesser (Some a) (Some b) = Some (min a b)
 abbrev pub least_deadline : List Item → Option ℕ
 least_deadline [] = None
 least_deadline (i ∷ items) = lesser (deadline_of i.delivery) (least_deadline items)
-
--- ---- the question
 
 -- the item has a ready number
 abbrev pub is_numbered : Item → Bool
@@ -74,8 +70,6 @@ block_line s = if any_numbered s.items then s else say (Line.Block (blocked (lea
     blocked : Option ℕ → Blocked
     blocked (Some t) = Blocked.Until t
     blocked None = if any_outstanding s.jobs then Blocked.Jobs else Blocked.Nothing
-
--- ---- the effect of an answer
 
 -- the job, if there is one of this number, has come to this, and its slot is free
 abbrev pub arrives : ℕ → JobOutcome → Option JobState → State → State

@@ -1,5 +1,4 @@
--- A state is quiet where nothing waits on what is there, said without ranks: as though each waiter were the first of
--- its kind. This project's own.
+-- A state is quiet where nothing waits on what is there, each waiter taken as the first of its kind. The project's own.
 use Rattle.std.specs.Prelude.{ℕ, Bool, not, List, slice_get}
 use Rattle.std.specs.List.{list_any}
 use Rattle.machine.specs.declared.items.Delivery.{Delivery}

@@ -109,8 +109,7 @@ is_kill d = false
 abbrev pub kills_standing : State → ℕ
 kills_standing s = count_by (λ i. is_kill i.delivery) s.items
 
--- a kill is sent to one greenlet: nothing to one that is Done; one that is New ends at once, unrun; for another an item
--- is made
+-- a kill is sent to one greenlet: one that is Done gets none; one that is New ends at once; another gets an item
 abbrev pub sends : FaultKind → ℕ → State → Sending
 sends f g s = elim (greenlet g s).phase [
   | Phase.Done o ↦ Sending.Sent s

@@ -21,10 +21,7 @@ use Rattle.machine.specs.Moves.{move}
 use Rattle.machine.specs.Deliveries.{deliver, interrupts}
 use Rattle.machine.specs.Questions.{question, block_line, take_answer}
 
--- ---- what is given out
-
--- what a part of the run gave out, and what came; the lines and posts of a state are those of the step under way, which
--- are not yet given out
+-- what a part of the run gave out, and what came; the state has the lines and posts of the step under way
 pub record Passed : Type 0 where
   pub lines : List Line
   pub posts : List Post
@@ -49,8 +46,6 @@ said s p = record { lines = s.lines ++ p.lines; posts = s.posts ++ p.posts; next
 -- the second part follows the first
 abbrev pub followed_by : Passed → Passed → Passed
 followed_by p q = record { lines = p.lines ++ q.lines; posts = p.posts ++ q.posts; next = q.next }
-
--- ---- a turn
 
 -- the greenlet that is under way moves until it parks or ends, at most n moves
 abbrev pub runs : ℕ → Next → Passed
@@ -101,8 +96,6 @@ turn budget s = deliveries (length s.items) budget s.next_ready (record s { turn
 abbrev pub loop_exit : ℕ → State → Passed
 loop_exit budget s = runs_on budget s (interrupts 0 FaultKind.LoopExit s)
 
--- ---- where answers come from
-
 -- answers that are listed, or the rule of a script
 pub data Source : Type 0 where
   -- these answers, in order
@@ -118,8 +111,6 @@ due_jobs moment posts = map (λ post. due_job post.number post.job (due_at momen
 abbrev pub with_posts : ℕ → List Post → Source → Source
 with_posts moment posts (Source.Given answers) = Source.Given answers
 with_posts moment posts (Source.Scripted tick jobs) = Source.Scripted tick (jobs ++ due_jobs moment posts)
-
--- ---- a run
 
 -- how a run ends: it stops, or a question finds the list of answers used up
 pub data End : Type 0 where
@@ -210,8 +201,6 @@ run_turns zero budget source s = stopped StopCause.NoTurns s
 run_turns (suc n) budget source s =
     let p = turn budget s in
     given_out p (after_turn (run_turns n budget) budget (with_posts s.moment p.posts source) p.next)
-
--- ---- the beginning
 
 -- the object as it is declared
 abbrev pub object_of : Declared → Object

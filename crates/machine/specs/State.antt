@@ -1,5 +1,4 @@
--- The state of the machine: moment, counts, objects, jobs, greenlets and the one list of items. Its parts are types of
--- the code. This project's own.
+-- The state of the machine: moment, counts, objects, jobs, greenlets and the one list of items. This project's own.
 use Rattle.std.specs.Prelude.{ℕ, List, [], ◌∷◌, ◌++◌}
 use Rattle.scenario_tree.specs.declared.tree.Scenario.{Scenario}
 use Rattle.trace_text.specs.declared.line.Line.{Line}

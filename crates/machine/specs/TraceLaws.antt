@@ -112,8 +112,7 @@ abbrev pub gives_outcome : JobOutcome → Option Line → Bool
 gives_outcome o (Some (Line.Job i g job)) = outcome_eq o (eval job)
 gives_outcome o line = false
 
--- of each job that is done there is exactly one earlier job line and no other done line, and its outcome is that of the
--- job
+-- of each job that is done there is one earlier job line, no other done line, and the outcome is that of the job
 abbrev pub jobs_done_once : List Line → Line → Bool
 jobs_done_once before (Line.Turn k (Answer.Done j o at)) =
     (count_by (is_job_line j) before == 1) && not (list_any (is_done_line j) before) && gives_outcome o (find (is_job_line j) before)

@@ -1,6 +1,5 @@
--- How a block is left: outwards through except, finally and timeout blocks, to the next statement or out of the body.
--- Python's rules of `try`, and gevent API reference, `gevent.Timeout`, for a timeout block and a silent one
--- (`Timeout(seconds, False)`).
+-- How a block is left: outwards through except, finally and timeout blocks, to the next statement or out of the body
+-- (Python's rules of `try`; gevent API reference, `gevent.Timeout`, and the silent `Timeout(seconds, False)`).
 use Rattle.std.specs.Prelude.{ℕ, ◌==◌, Bool, true, List, [], ◌∷◌, ◌++◌, Option, Some, None, if◌then◌else◌}
 use Rattle.scenario_tree.specs.declared.tree.Statement.{Statement}
 use Rattle.scenario_tree.specs.declared.tree.Except.{Except, out-Except}

@@ -41,8 +41,6 @@ nothing = Outcome.Value Value.Nothing
 abbrev pub raises : FaultKind → State → Performed
 raises f s = Performed.Answers (Outcome.Fault f) s
 
--- ---- what a completion does to the object
-
 -- what was put into the result
 abbrev pub result_of : Object → Outcome
 result_of (Object.Result (Some o)) = o
@@ -52,8 +50,6 @@ result_of object = nothing
 abbrev pub value_or_none : Outcome → Outcome
 value_or_none (Outcome.Value v) = Outcome.Value v
 value_or_none (Outcome.Fault f) = nothing
-
--- ---- waits on greenlets
 
 -- the Done ones, in order
 abbrev pub done_ones : State → List ℕ → Outcome
@@ -68,8 +64,6 @@ gathered (Outcome.Value v ∷ os) vs = gathered os (v ∷ vs)
 -- what the greenlet ended with
 abbrev pub outcome_of_greenlet : State → ℕ → Outcome
 outcome_of_greenlet s g = unwrap_or (outcome_of s (Whom.Greenlet g)) nothing
-
--- ---- parking
 
 -- a `get` or `rget` draws the number of the Timeout that it raises
 abbrev pub draws : Waiting → Bool
@@ -117,8 +111,6 @@ waits g word w Wait.Now s = let t = drawn w s in Performed.Answers (late_outcome
 abbrev pub offered : ℕ → ℕ → Value → State → State
 offered g o v s = with_object o (with_offer v s.next_since (object_at o s)) (parked g (Awaited.ChannelPut (name_of_object o s)) (Waiting.Offered o) None s)
 
--- ---- members, and maps
-
 -- a member of the group or pool, with its start item
 abbrev pub add_member : ℕ → ℕ → List Value → State → State
 add_member o f args s =
@@ -157,8 +149,6 @@ made_member o f args s =
     if has_greenlet_left s then Performed.Answers (Outcome.Value (Value.Greenlet (length s.greenlets))) (add_member o f args s)
     else Performed.Stops StopCause.NoGreenlets s
 
--- ---- completion
-
 -- the job is posted: its line, its slot, and what is given to native threads
 abbrev pub posted : ℕ → ℕ → Job → ℕ → State → State
 posted g o job takes s =
@@ -180,8 +170,7 @@ takes_item o before object s =
 abbrev pub peeks_item : ℕ → Object → State → Performed
 peeks_item before object s = if is_left before object then Performed.Answers (Outcome.Value (item_of object)) s else raises FaultKind.ShutDown s
 
--- the condition of the wait with this since holds, and it completes: the unit, item, offer, place or slot is taken here
--- and never before
+-- the condition of the wait holds, and it completes: the unit, item, offer, place or slot is taken here, never before
 abbrev pub completes : ℕ → ℕ → Waiting → State → Performed
 completes g since (Waiting.Sleep until) s = Performed.Answers nothing s
 completes g since (Waiting.Join h) s = Performed.Answers nothing s

@@ -75,8 +75,7 @@ declaration_lines d = line d.line (phrase.Declaration d.name d.object)
 abbrev pub function_lines : Function → Written TreeLine
 function_lines f = line f.line (phrase.Function f.is_raw f.name f.parameters) ⊕ block_within most_levels f.body ⊕ mark phrase.End
 
--- The line `profile 2` where the tree is of profile 2. A tree of profile 1 has no such line, and one of another profile
--- has no text.
+-- The line `profile 2` of a tree of profile 2. A tree of profile 1 has none, and one of another profile has no text.
 abbrev pub profile_lines : ℕ → Written TreeLine
 profile_lines profile = if profile == 1 then Some [] else only_if (profile == 2) (mark phrase.Profile)
 

@@ -20,8 +20,7 @@ use Rattle.scenario_grammar.specs.Reasons.{text_number}
 pub data Open : Type 0 where
   Body Then Otherwise Loop Trying Catching Ending Timing : Open
 
--- what stands before a line: the profile, whether a line that carries something does, the open blocks, the innermost
--- first, whether a function has begun, and whether `main` has
+-- what stands before a line: profile, if a line, the open blocks from the innermost, if a function, if `main`
 pub record Standing : Type 0 where
   pub profile : ℕ
   pub any_line : Bool

@@ -20,8 +20,6 @@ use Rattle.scenario_rules.specs.declared.mention.Wanted.{Wanted}
 use Rattle.scenario_rules.specs.declared.mention.Wanted.TheVariants as wanted
 use Rattle.scenario_rules.specs.Mentions.{mentions}
 
--- ---- objects and functions
-
 abbrev pub function_as : Function → Declared
 function_as f = if f.is_raw then declared.RawBody else declared.Function (length f.parameters)
 
@@ -51,8 +49,6 @@ named_objects s = map named_declaration s.objects
 abbrev pub named_functions : Scenario → List Named
 named_functions s = map named_function s.functions
 
--- ---- lists of names
-
 abbrev pub is_among : Name → List Named → Bool
 is_among x names = list_any (λ (n : Named). pointwise nat_eq x n.name) names
 
@@ -73,8 +69,6 @@ new_after before (n ∷ ns) = (if is_among n.name before then [] else n ∷ []) 
 abbrev pub different : List Named → List Named
 different = new_after []
 
--- ---- the names of a function's own
-
 abbrev pub parameters : Function → List Named
 parameters f = map (λ x. record { line = f.line; name = x }) f.parameters
 
@@ -92,8 +86,6 @@ given_names f = flat_map given_by (mentions f)
 -- a local name: some line of the function gives it a value
 abbrev pub is_local : Function → Name → Bool
 is_local f x = is_among x (given_names f)
-
--- ---- kinds of objects
 
 -- the object is of the kind that is wanted
 abbrev pub is_kind : Wanted → Object → Bool

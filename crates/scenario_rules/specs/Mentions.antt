@@ -26,8 +26,6 @@ use Rattle.scenario_rules.specs.declared.mention.Says.TheVariants as says
 use Rattle.scenario_rules.specs.declared.mention.Wanted.{Wanted}
 use Rattle.scenario_rules.specs.declared.mention.Wanted.TheVariants as wanted
 
--- ---- expressions
-
 -- what is asked of which objects
 abbrev pub asked_of : Query → Wanted
 asked_of query.IsSet = wanted.EventOrResult
@@ -57,8 +55,6 @@ all_say es = flat_map expression_says es
 abbrev pub perhaps_says : Option Expression → List Says
 perhaps_says None = []
 perhaps_says (Some e) = expression_says e
-
--- ---- statements of one line
 
 abbrev pub hub : List Says
 hub = says.AsksHub ∷ []
@@ -125,8 +121,6 @@ abbrev pub target_says : Option Name → List Says
 target_says None = []
 target_says (Some x) = says.Gives x ∷ []
 
--- ---- blocks
-
 -- what a part of a body says, where so many timeout blocks more may be opened
 abbrev pub Part : Type 0
 Part = ℕ → List Mention
@@ -183,8 +177,6 @@ block_mentions left ss = flat_map (λ s. statement_mentions s left) ss
 -- the excepts of a try
 abbrev pub handler_mentions : ℕ → List Except → List Mention
 handler_mentions left es = flat_map (λ e. except_mentions e left) es
-
--- ---- functions
 
 abbrev pub most_timeouts : ℕ
 most_timeouts = 8

@@ -19,8 +19,6 @@ use Rattle.scenario_rules.specs.declared.mention.Says.TheVariants as says
 use Rattle.scenario_rules.specs.Declarations.{declared_as, named_objects, named_functions, repeated, different, parameters, given_names, is_local, is_kind}
 use Rattle.scenario_rules.specs.Mentions.{mentions}
 
--- ---- what a word may break
-
 abbrev pub is_declared : Scenario → Name → Bool
 is_declared s x = is_some (declared_as s x)
 
@@ -56,8 +54,6 @@ is_hub_in_raw_body s f _ = false
 abbrev pub is_too_deep : Scenario → Function → Says → Bool
 is_too_deep s f says.NestsTooDeep = true
 is_too_deep s f _ = false
-
--- ---- the lines that break a rule
 
 -- the line is refused for this reason, where it is so
 abbrev pub refused : RuleReason → ℕ → Bool → List Place
@@ -98,16 +94,13 @@ function_refusals s f =
     ++ refused_names rule.TooMany (past most_local_names (different (given_names f)))
     ++ flat_map (word_refusals s f) (mentions f)
 
--- ---- the whole
-
 abbrev pub most_objects : ℕ
 most_objects = 256
 
 abbrev pub most_functions : ℕ
 most_functions = 256
 
--- every line that breaks a rule, with the reason: there are more objects or functions than there may be, two of them
--- have one name, or a function breaks a rule
+-- the lines that break a rule: too many objects or functions, two of one name, or one in a function
 abbrev pub refusals : Scenario → List Place
 refusals s =
     refused_names rule.TooMany (past most_objects (named_objects s))

@@ -6,8 +6,7 @@ use Rattle.stream_net.specs.declared.net.ReadEnd.{ReadEnd}
 use Rattle.stream_net.specs.declared.net.ReadEnd.TheVariants.{Got, End, WouldBlock, Failed}
 use Rattle.stream_net.specs.Nets.{Awake, ByRead, Connection, Meaning, Changes, connection_at}
 
--- a connection after a read that answered so and filled the buffer with these bytes, at this moment, where its faults
--- are so many
+-- a connection after a read that answered so and gave these bytes, at this moment, with so many faults
 abbrev pub after_read : ReadEnd → List ℕ → ℕ → ℕ → Connection → Connection
 after_read (Got n) bytes moment faults c = record c { read = appended c.read (take n bytes); last = moment; quiet = Awake; faults = faults }
 after_read End bytes moment faults c = record c { ended = true; quiet = Awake; faults = faults }

@@ -1,5 +1,4 @@
--- The lines that there are: their numbers fit their types, their names are names, and their lists have at most 64
--- scalars.
+-- The lines that there are: numbers fit their types, names are names, and lists have at most 64 scalars.
 use Rattle.std.specs.Prelude.{ℕ, ◌^◌, ◌<◌, ◌≤◌, IsTrue, ℤ, pos, negsuc, List, [], ◌∷◌, length, Option, Some, None}
 use Rattle.gv_values.specs.declared.fault.FaultKind.{FaultKind}
 use Rattle.gv_values.specs.declared.scalar.Scalar.{Scalar}

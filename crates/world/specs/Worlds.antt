@@ -5,9 +5,8 @@ use Rattle.gv_values.specs.declared.job.Answer.{Answer}
 use Rattle.world_rules.specs.declared.question.PostedJob.{PostedJob}
 use Rattle.world_rules.specs.Legal.{posted, moment_of}
 
--- the jobs posted since the world began, in order; the answers since then; its moment; its number of workers; what its
--- rule rests on, a tick and a list of answers; whether it runs; and the name of the reference through which it works,
--- or 0 where it works through none
+-- the jobs posted since the world began, in order; the answers since then; its moment and workers; what its rule rests
+-- on, a tick and a list of answers; whether it runs; and the name of the reference that it works through, or 0
 pub record Meaning : Type 0 where
   pub posts : List PostedJob
   pub answers : List Answer

@@ -54,8 +54,7 @@ Answers posts before (Question.Wait (Some until)) (Answer.Elapsed at) = until �
 Answers posts before Question.Poll (Answer.Nothing at) = Unit {0}
 Answers posts before question answer = ⊥
 
--- a legal answer to the question, after these posts and answers: its moment is not before the last one, and below 2 ^
--- 62
+-- a legal answer after these posts and answers: its moment is not before the last one, and is below 2 ^ 62
 abbrev pub IsLegal : List PostedJob → List Answer → Question → Answer → Type 0
 IsLegal posts before question answer =
     Answers posts before question answer × (last_moment_of before ≤ moment_of answer) × (moment_of answer < 2 ^ 62)

@@ -15,15 +15,12 @@ most_bytes = 16777216
 abbrev pub most_piece : ℕ
 most_piece = 4096
 
--- ---- by the bytes that were read
-
 -- out has what the session sends for the bytes, and it goes on
 pub record IsServed (answers : Gateway) (app : App) (port : ℕ) (bytes : List ℕ) (out0 out1 : Option (List ℕ)) : Type 0 where
   pub sent : out1 ≡ appended out0 (said_by answers app port bytes false).bytes
   pub serves : (said_by answers app port bytes false).closes ≡ false
 
--- out has what the session sends for the bytes that were read, and it is closing; where the input had ended, nothing of
--- it is left
+-- out has what the session sends for the bytes that were read, and it closes; an input that ended has nothing left
 pub record IsClosed (answers : Gateway) (app : App) (port : ℕ) (read : List ℕ) (in1 out0 out1 : Option (List ℕ)) : Type 0 where
   pub ended : Bool
   pub sent : out1 ≡ appended out0 (said_by answers app port (take most_bytes read) ended).bytes
@@ -64,10 +61,7 @@ pub record HandedAhead (answers : Gateway) (app : App) (port : ℕ) (in0 in1 out
   pub is_read : in0 ≡ prepended read in1
   pub ahead : SentAhead answers app port (take most_bytes read) out0 handed1
 
--- ---- by all the bytes that were left
-
--- what is sent for all that was left of an input; the session does not hear of its end where there is more than is
--- looked at
+-- what is sent for all that was left of an input; the end is not told where there is more than is looked at
 abbrev pub whole_session : Gateway → App → ℕ → List ℕ → Sent
 whole_session answers app port left = said_by answers app port (take most_bytes left) (nat_le (length left) most_bytes)
 
