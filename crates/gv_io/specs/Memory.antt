@@ -1,7 +1,7 @@
 -- What a source and a sink in memory do.
 use Rattle.std.specs.Prelude.{ℕ, ◌+◌, Bool, List, ◌++◌, length, take, drop, min, nat_lt, nat_eq, if◌then◌else◌}
 use Rattle.std.specs.List.{list_any}
-use Rattle.gv_values.specs.Counts.{one_more}
+use Rattle.gv_values.specs.OneMore.{one_more}
 
 -- a source in memory
 pub record SourceState : Type 0 where

@@ -1,5 +1,5 @@
 ghost use Rattle.std.specs.Prelude.{◌≡◌};
-ghost use Rattle.gv_values.specs.Counts.{one_more};
+ghost use Rattle.gv_values.specs.OneMore.{one_more};
 
 /// The count after one more; it stands still at its last value.
 pub fn one_more(count: u64) -> u64

@@ -10,7 +10,7 @@ use Rattle.trace_text.specs.LineTexts.{answers_of as answers_told, line_text, te
 use Rattle.scenario_tree.specs.declared.tree.Scenario.{Scenario}
 use Rattle.world_rules.specs.declared.question.LogEntry.{LogEntry}
 use Rattle.world_rules.specs.Legal.{AreLegal, answers_of, is_answered, posts_of}
-use Rattle.world_rules.specs.Script.{Follows, start}
+use Rattle.world_rules.specs.Rules.{Follows, start}
 use Rattle.world.specs.declared.script.ScriptWorld.{ScriptWorld}
 use Rattle.world.specs.Holding.{Leads}
 use Rattle.world.specs.LegalLogs.{HasLegalLog}

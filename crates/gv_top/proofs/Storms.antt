@@ -16,7 +16,7 @@ use Rattle.world.specs.Worlds.{Begins, GoesOn, Meaning}
 use Rattle.world.specs.Kept.{rule_state, script_log, script_meaning}
 use Rattle.world.specs.declared.script.ScriptWorld.{ScriptWorld}
 use Rattle.world_rules.specs.declared.question.LogEntry.{LogEntry}
-use Rattle.world_rules.specs.Script.{Follows, start}
+use Rattle.world_rules.specs.Rules.{Follows, start}
 use Rattle.machine.specs.Run.{End as RunEnd, Ran, run, script_run}
 use Rattle.machine.specs.State.{State}
 use Rattle.machine_scripts.specs.Scripts.{FollowersRunScripts, IsBeginningOf}

@@ -16,10 +16,3 @@ argument_of (Job.Sum z) = z
 argument_of (Job.Collatz z) = z
 argument_of (Job.Fail z) = z
 argument_of (Job.Echo z) = z
-
--- the job of this kind and integer
-abbrev pub job_of : JobKind → ℤ → Job
-job_of JobKind.Sum z = Job.Sum z
-job_of JobKind.Collatz z = Job.Collatz z
-job_of JobKind.Fail z = Job.Fail z
-job_of JobKind.Echo z = Job.Echo z

@@ -9,3 +9,5 @@ pub mod Fronts
 pub mod Ends
 pub mod Counts
 pub mod JobParts
+pub mod Jobs
+pub mod OneMore

@@ -46,15 +46,14 @@ use Rattle.machine.specs.Ends.{ended, leaving_of, outcome_of_leaving, stop_of}
 use Rattle.machine.specs.Hosts.{host_of, is_above}
 use Rattle.gv_values.specs.Ends.{kept}
 use Rattle.machine.specs.Requests.{Sending, acquires, any_greenlet, done, fault_operand, finishes, follows, has_start, int_operand, is_link, is_new, kills, kills_standing, link_stands, links, list_operand, makes, on_host, performs, plain_greenlet, plain_greenlet_list, put_result, raw_greenlet, releases, sends, sends_all, sets_parent, start_of, starts_at, typed, whom_operand}
-use Rattle.gv_values.specs.JobParts.{job_of}
-use Rattle.machine.specs.Objects.{after_release, at_bound, members_of, sets_of, takes_value}
+use Rattle.gv_values.specs.Jobs.{job_of}
+use Rattle.machine.specs.Objects.{after_release, at_bound, members_of, sets_of, takes_value, is_left, is_shut, item_of, name_of_object, object_at, with_item, with_item_taken, with_object}
 use Rattle.machine.specs.Moves.{does, look, move, timeout_item}
 use Rattle.machine.specs.Quiet.{blocked_states}
 use Rattle.machine.specs.Unwinding.{Unwound, unwind}
 use Rattle.machine.specs.Run.{GoingOn, Passed, Source, after_answer, after_delivery, after_exit, after_question, after_start, after_turn, asks, blocked_at, deliveries, delivers_one, first_state, least_below, loop_exit, run_from, run_turns, runs, silent, turn, with_posts}
 use Rattle.machine.specs.Settle.{settle}
 use Rattle.machine.specs.Waits.{Performed, add_member, comes, completes, drawn, draws, gathered, late_outcome, made_member, map_ends, map_goes_on, maps, nothing, offered, outcome_of_greenlet, parked, peeks_item, puts_item, raises, takes_item, until_of, waits}
-use Rattle.machine.specs.Objects.{is_left, is_shut, item_of, name_of_object, object_at, with_item, with_item_taken, with_object}
 use Rattle.machine_blocks.specs.Blocks.{block_lines, is_block}
 
 -- the block lines of the step under way are these

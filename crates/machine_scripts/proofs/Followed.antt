@@ -6,7 +6,8 @@ use Rattle.world_rules.specs.declared.question.DueJob.{DueJob}
 use Rattle.world_rules.specs.declared.question.LogEntry.{LogEntry}
 use Rattle.world_rules.specs.declared.question.Question.{Question}
 use Rattle.world_rules.specs.Legal.{answers_of}
-use Rattle.world_rules.specs.Script.{Follows, Gives, RuleState, after_answer as ruled_after_answer, after_post, scripted, start, without}
+use Rattle.world_rules.specs.Script.{scripted, without}
+use Rattle.world_rules.specs.Rules.{Follows, Gives, RuleState, after_answer as ruled_after_answer, after_post, start}
 use Rattle.scenario_tree.specs.declared.tree.Scenario.{Scenario}
 use Rattle.trace_text.specs.declared.line.Line.{Line}
 use Rattle.machine.specs.declared.state.Post.{Post}

@@ -38,10 +38,9 @@ use Rattle.machine.specs.Greenlets.{with_phase, add_greenlet, has_greenlet_left,
 use Rattle.machine.specs.Ends.{ended, stop_of, outcome_of_leaving}
 use Rattle.machine.specs.Hosts.{host_of, is_above}
 use Rattle.machine.specs.Waits.{Performed, raises, parked, drawn, draws, waits, add_member, map_ends, maps, map_goes_on, made_member, gathered, outcome_of_greenlet, posted, completes, comes, nothing, puts_item, takes_item, peeks_item, offered}
-use Rattle.machine.specs.Objects.{with_object, object_at, name_of_object, is_shut, is_left, item_of, with_item, with_item_taken}
+use Rattle.machine.specs.Objects.{with_object, object_at, name_of_object, is_shut, is_left, item_of, with_item, with_item_taken, at_bound, after_release, takes_value, members_of, sets_of}
 use Rattle.machine.specs.Requests.{typed, done, makes, starts_at, greenlet_value, start_of, is_new, has_start, Sending, sends, sends_all, kills, kills_standing, link_stands, links, is_link, put_result, releases, acquires, finishes, int_operand, list_operand, whom_operand, any_greenlet, on_host, sets_parent, raw_greenlet, plain_greenlet, plain_greenlet_list, fault_operand, performs, follows}
-use Rattle.gv_values.specs.JobParts.{job_of}
-use Rattle.machine.specs.Objects.{at_bound, after_release, takes_value, members_of, sets_of}
+use Rattle.gv_values.specs.Jobs.{job_of}
 use Rattle.machine.specs.Moves.{timeout_item, does, move, look}
 use Rattle.machine.specs.Deliveries.{waiting_of, without_wait, interrupts, late, calls, called, delivers, since_of_wake, without_offer_by}
 

@@ -11,7 +11,8 @@ use Rattle.native_board.specs.declared.views.HubView.{HubView}
 use Rattle.native_board.specs.Rules.{hub_cell}
 use Rattle.native_board.specs.Passes.{is_sent}
 use Rattle.world.specs.Worlds.{Meaning}
-use Rattle.gv_values.specs.Counts.{HasRisen, one_more}
+use Rattle.gv_values.specs.Counts.{HasRisen}
+use Rattle.gv_values.specs.OneMore.{one_more}
 use Rattle.native_pool.specs.Desks.{DeskView, Balances}
 
 -- posts, answers, moment and number of workers; the clock's last reading, and that at which it began; how often its

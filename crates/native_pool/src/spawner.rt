@@ -1,7 +1,8 @@
 //! What starts the workers.
 ghost use Rattle.std.specs.Prelude.{◌≡◌, ◌<◌, ◌≤◌, ◌^◌, ℕ, IfOk, IfErr, OnErr, IsErr};
 ghost use Rattle.native_board.specs.Boards.{worker_view};
-ghost use Rattle.gv_values.specs.Counts.{HasRisen, one_more};
+ghost use Rattle.gv_values.specs.Counts.{HasRisen};
+ghost use Rattle.gv_values.specs.OneMore.{one_more};
 
 use crate::edge::{OpenGate, WakerBell};
 use crate::task::{Gate, WorkerTask};

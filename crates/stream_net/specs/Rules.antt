@@ -2,7 +2,7 @@
 use Rattle.std.specs.Prelude.{◌≡◌, ℕ, ◌+◌, ◌-◌, ◌^◌, min, Bool, true, false, List, [], ◌∷◌, ◌++◌, length, slice_get, slice_index_or, slice_set, Option, Some, None, Result, Ok, Err}
 use Rattle.std.specs.List.{remove}
 use Rattle.gv_io.specs.declared.source.Failed.{Failed}
-use Rattle.gv_values.specs.Counts.{one_more}
+use Rattle.gv_values.specs.OneMore.{one_more}
 use Rattle.stream_net.specs.declared.line.Line.{Line}
 use Rattle.stream_net.specs.declared.net.ReadEnd.{ReadEnd}
 use Rattle.stream_net.specs.declared.net.ReadEnd.TheVariants as R

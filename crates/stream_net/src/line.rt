@@ -1,6 +1,7 @@
 //! A connection that goes by its script.
 ghost use Rattle.std.specs.Prelude.{◌≡◌, ◌≢◌, ◌↔◌, ℕ, ◌+◌, ◌<◌, ◌≤◌, ◌++◌, Some, List, length, take, drop, Bool, true, false, None, IfSome, IfNone};
-ghost use Rattle.gv_values.specs.Counts.{HasRisen, one_more as count_after};
+ghost use Rattle.gv_values.specs.Counts.{HasRisen};
+ghost use Rattle.gv_values.specs.OneMore.{one_more as count_after};
 ghost use Rattle.stream_net.specs.Accounts.{read_after};
 ghost use Rattle.stream_net.specs.Lines.{bytes_at, has_bytes, is_failing, is_past, is_readable, is_writable, line_meaning, next_byte, read_of, until_end};
 ghost use Rattle.stream_net.specs.MemoryNets.{IsWithin};

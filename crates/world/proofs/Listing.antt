@@ -3,7 +3,8 @@ use Rattle.std.proofs.Common.{◌≡◌, ℕ, List, [], ◌∷◌, refl, sym, su
 use Rattle.gv_values.specs.declared.job.Answer.{Answer}
 use Rattle.world_rules.specs.declared.question.Question.{Question}
 use Rattle.world_rules.specs.Legal.{IsLegal}
-use Rattle.world_rules.specs.Script.{RuleState, scripted, Gives}
+use Rattle.world_rules.specs.Script.{scripted}
+use Rattle.world_rules.specs.Rules.{RuleState, Gives}
 
 -- the first answer, where that is legal
 pub gives_first : (tick : ℕ) (s : RuleState) (listed rest : List Answer) (question : Question) (first : Answer) → listed ≡ first ∷ rest → IsLegal s.posts s.answers question first → Gives tick s listed question first rest

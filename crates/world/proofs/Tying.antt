@@ -13,7 +13,7 @@ use Rattle.world_rules.specs.declared.question.PostedJob.{PostedJob}
 use Rattle.world_rules.specs.declared.question.Question.{Question}
 use Rattle.world_rules.specs.Jobs.{eval}
 use Rattle.world_rules.specs.Legal.{IsLegal, IsOutcomeOf, is_answered, is_done_of, is_posted, outstanding, posted}
-use Rattle.world_rules.specs.Script.{RuleState, after_post, start}
+use Rattle.world_rules.specs.Rules.{RuleState, after_post, start}
 use Rattle.world.specs.Worlds.{Begins, Meaning, Posts}
 use Rattle.world.specs.declared.script.ScriptWorld.{ScriptWorld}
 use Rattle.world.specs.Holding.{IsTied, Leads, Places, Takes}

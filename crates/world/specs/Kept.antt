@@ -4,7 +4,7 @@ use Rattle.std.specs.HashMap.{get}
 use Rattle.gv_values.specs.declared.job.Answer.{Answer}
 use Rattle.world_rules.specs.declared.question.DueJob.{DueJob}
 use Rattle.world_rules.specs.declared.question.LogEntry.{LogEntry}
-use Rattle.world_rules.specs.Script.{RuleState, start, Follows}
+use Rattle.world_rules.specs.Rules.{RuleState, start, Follows}
 use Rattle.world.specs.declared.script.ScriptWorld.{ScriptWorld}
 use Rattle.world.specs.Outstanding.{still_due}
 use Rattle.world.specs.Worlds.{Meaning}

@@ -5,7 +5,7 @@ use Rattle.world_rules.specs.declared.question.Question.{Question}
 use Rattle.world_rules.specs.Legal.{IsLegal, posts_of, answers_of}
 use Rattle.world.specs.Logged.{rule_log_is}
 use Rattle.world_rules.specs.declared.question.LogEntry.{LogEntry}
-use Rattle.world_rules.specs.Script.{start, Follows}
+use Rattle.world_rules.specs.Rules.{start, Follows}
 use Rattle.world.specs.declared.list.ListWorld.{ListWorld}
 use Rattle.world.specs.Worlds.{Meaning}
 use Rattle.world.specs.Kept.{script_meaning, rule_state}

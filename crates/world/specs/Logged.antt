@@ -3,7 +3,7 @@ use Rattle.std.proofs.Common.{◌≡◌, ℕ, List, [], ◌∷◌, ◌++◌, sym
 use Rattle.gv_values.specs.declared.job.Answer.{Answer}
 use Rattle.world_rules.specs.declared.question.LogEntry.{LogEntry}
 use Rattle.world_rules.specs.Legal.{posted, posts_of, answers_of}
-use Rattle.world_rules.specs.Script.{RuleState, start, Follows}
+use Rattle.world_rules.specs.Rules.{RuleState, start, Follows}
 use Rattle.world.specs.declared.script.ScriptWorld.{ScriptWorld}
 use Rattle.world.specs.Kept.{script_meaning, script_log, rule_state}
 

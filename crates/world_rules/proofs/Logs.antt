@@ -5,7 +5,7 @@ use Rattle.gv_values.specs.declared.job.Answer.{Answer}
 use Rattle.world_rules.specs.declared.question.Question.{Question}
 use Rattle.world_rules.specs.declared.question.LogEntry.{LogEntry}
 use Rattle.world_rules.specs.Legal.{posted, posts_of, answers_of}
-use Rattle.world_rules.specs.Script.{RuleState, after_post, after_answer, Gives, Follows}
+use Rattle.world_rules.specs.Rules.{RuleState, after_post, after_answer, Gives, Follows}
 
 pub posts_of-post : (log : List LogEntry) (number : ℕ) (job : Job) (takes : ℕ) → posts_of (log ++ LogEntry.Post number job takes ∷ []) ≡ posts_of log ++ posted number job ∷ []
 posts_of-post [] number job takes = refl

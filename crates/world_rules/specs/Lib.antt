@@ -1,3 +1,4 @@
 pub mod Jobs
 pub mod Legal
 pub mod Script
+pub mod Rules

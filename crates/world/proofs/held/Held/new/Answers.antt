@@ -3,7 +3,7 @@ use Rattle.std.specs.Prelude.{nat_eq, ℕ, List, [], Option}
 use Rattle.std.specs.Map.{lookup}
 use Rattle.gv_values.specs.declared.job.JobOutcome.{JobOutcome}
 use Rattle.std.specs.HashMap.{get}
-use Rattle.world_rules.specs.Script.{RuleState}
+use Rattle.world_rules.specs.Rules.{RuleState}
 use Rattle.world.specs.Kept.{script_meaning}
 use Rattle.world.proofs.Tying.{tied_anew}
 use Rattle.world.proofs.held.Held.new.Goals as goal

@@ -3,7 +3,8 @@ use Rattle.std.specs.Prelude.{nat_eq}
 use Rattle.std.specs.HashMap.{get}
 use Rattle.world_rules.specs.declared.question.LogEntry.{LogEntry}
 use Rattle.world_rules.specs.Legal.{IsLegal}
-use Rattle.world_rules.specs.Script.{RuleState, after_answer, scripted, start, Follows}
+use Rattle.world_rules.specs.Script.{scripted}
+use Rattle.world_rules.specs.Rules.{RuleState, after_answer, start, Follows}
 use Rattle.world_rules.proofs.Logs.{Follows-asked}
 use Rattle.world.specs.Kept.{due_jobs, rule_state, script_meaning}
 use Rattle.world.specs.Worlds.{Stores}

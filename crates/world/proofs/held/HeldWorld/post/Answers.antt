@@ -2,7 +2,7 @@ use Rattle.std.proofs.Common.{refl, sym, ap, subst, ℕ, [], ◌∷◌, ◌++◌
 use Rattle.std.specs.Prelude.{nat_eq}
 use Rattle.std.specs.HashMap.{get}
 use Rattle.world_rules.specs.declared.question.LogEntry.{LogEntry}
-use Rattle.world_rules.specs.Script.{RuleState, start, Follows}
+use Rattle.world_rules.specs.Rules.{RuleState, start, Follows}
 use Rattle.world_rules.proofs.Logs.{Follows-post}
 use Rattle.world.specs.Kept.{rule_state}
 use Rattle.world.proofs.Tying.{tied_after_post}

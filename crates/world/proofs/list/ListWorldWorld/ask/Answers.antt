@@ -1,7 +1,7 @@
 use Rattle.std.proofs.Common.{◌≡◌, ℕ, [], ◌∷◌, ◌++◌, List, drop, refl, sym, ap, subst, ◌∙◌}
 use Rattle.gv_values.specs.declared.job.Answer.{Answer}
 use Rattle.world_rules.specs.declared.question.LogEntry.{LogEntry}
-use Rattle.world_rules.specs.Script.{RuleState, start, Follows, Gives}
+use Rattle.world_rules.specs.Rules.{RuleState, start, Follows, Gives}
 use Rattle.world_rules.proofs.Logs.{Follows-asked}
 use Rattle.world.specs.Kept.{rule_state}
 use Rattle.world.proofs.Listing.{gives_first, gives_script}

@@ -1,5 +1,5 @@
 use Rattle.std.proofs.Common.{refl, sym, ap, ◌∙◌}
-use Rattle.world_rules.specs.Script.{RuleState, start}
+use Rattle.world_rules.specs.Rules.{RuleState, start}
 use Rattle.world.proofs.list.ListWorldWorld.begin.Goals as goal
 
 pub returns-clause-begins : goal.returns-clause-begins

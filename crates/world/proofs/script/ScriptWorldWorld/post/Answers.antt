@@ -1,6 +1,6 @@
 use Rattle.std.proofs.Common.{ℕ, [], ◌∷◌, ◌++◌, refl, sym, ap, subst, arith}
 use Rattle.world_rules.specs.declared.question.LogEntry.{LogEntry}
-use Rattle.world_rules.specs.Script.{RuleState, start, Follows}
+use Rattle.world_rules.specs.Rules.{RuleState, start, Follows}
 use Rattle.world_rules.proofs.Logs.{Follows-post}
 use Rattle.world.specs.Kept.{rule_state}
 use Rattle.world.proofs.script.ScriptWorldWorld.post.Goals as goal
