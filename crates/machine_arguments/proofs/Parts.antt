@@ -17,7 +17,8 @@ use Rattle.scenario_tree.specs.Limits.{most_parameters}
 use Rattle.scenario_rules.specs.declared.mention.Mention.{Mention}
 use Rattle.scenario_rules.specs.declared.mention.Says.{Says}
 use Rattle.scenario_rules.specs.declared.mention.Says.TheVariants as says
-use Rattle.scenario_rules.specs.Mentions.{action_mentions, all_say, block_mentions, except_mentions, expression_says, giving_says, handler_mentions, on, statement_mentions, target_says, timeout_says}
+use Rattle.scenario_rules.specs.Mentions.{all_say, block_mentions, expression_says, giving_says, on, statement_mentions, target_says, timeout_says}
+use Rattle.scenario_rules.specs.Layers.{action_mentions, except_mentions, handler_mentions}
 use Rattle.scenario_rules.proofs.Layers as words
 use Rattle.body_values.specs.Few.{HasFew, HasFewExcepts, gives_few, has_few, has_few_action, has_few_except}
 use Rattle.body_values.proofs.Few.{action-few, except-few, has_few_form, statement-out}

@@ -24,7 +24,8 @@ use Rattle.scenario_rules.specs.declared.mention.Mention.{Mention}
 use Rattle.scenario_rules.specs.declared.mention.Says.{Says}
 use Rattle.scenario_rules.specs.declared.mention.Says.TheVariants as says
 use Rattle.scenario_rules.specs.declared.mention.Wanted.TheVariants as wanted
-use Rattle.scenario_rules.specs.Mentions.{Part, action_mentions, action_says, block_mentions, command_says, each_part, except_mentions, except_says, expression_says, giving_says, handler_mentions, most_timeouts, on, statement_mentions, statement_says, target_says, timeout_says}
+use Rattle.scenario_rules.specs.Mentions.{Part, action_says, block_mentions, command_says, each_part, except_says, expression_says, giving_says, most_timeouts, on, statement_mentions, statement_says, target_says, timeout_says}
+use Rattle.scenario_rules.specs.Layers.{action_mentions, except_mentions, handler_mentions}
 use Rattle.scenario_rules.proofs.Layers.{except_out, in_block, in_handlers}
 use Rattle.machine.specs.declared.state.Leaving.{Leaving}
 use Rattle.machine.specs.declared.state.Local.{Local}

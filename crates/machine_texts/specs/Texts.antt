@@ -13,7 +13,8 @@ use Rattle.scenario_rules.specs.declared.mention.Wanted.TheVariants as wanted
 use Rattle.scenario_rules.specs.Declarations.{is_kind}
 use Rattle.scenario_tree.specs.declared.tree.Object.{Object as Declared}
 use Rattle.machine_texts.specs.Kinds.{declared_kinds, kinds}
-use Rattle.scenario_rules.specs.Mentions.{block_mentions, handler_mentions, most_timeouts}
+use Rattle.scenario_rules.specs.Mentions.{block_mentions, most_timeouts}
+use Rattle.scenario_rules.specs.Layers.{handler_mentions}
 use Rattle.machine.specs.declared.items.Delivery.{Delivery}
 use Rattle.machine.specs.declared.items.Item.{Item}
 use Rattle.gv_values.specs.declared.link.LinkKind.{LinkKind}

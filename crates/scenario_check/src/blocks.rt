@@ -1,7 +1,8 @@
 //! Blocks, and the whole of a function.
 ghost use Rattle.std.specs.Prelude.{◌≡◌, [], ◌∷◌, ◌++◌, OnOk, IfOk, map};
 ghost use Rattle.scenario_tree.specs.declared.tree.Except.{out-Except};
-ghost use Rattle.scenario_rules.specs.Mentions.{action_mentions, block_mentions, except_mentions, giving_says, target_says, handler_mentions, mentions, most_timeouts, on, statement_mentions, timeout_says};
+ghost use Rattle.scenario_rules.specs.Mentions.{block_mentions, giving_says, target_says, mentions, most_timeouts, on, statement_mentions, timeout_says};
+ghost use Rattle.scenario_rules.specs.Layers.{action_mentions, except_mentions, handler_mentions};
 ghost use Rattle.scenario_rules.specs.declared.mention.Says.{Says as Word};
 
 use crate::commands::say_command;

@@ -10,7 +10,8 @@ use Rattle.scenario_grammar.specs.Building.{Building}
 use Rattle.scenario_grammar.specs.Layout.{Line, lines, is_end, is_text_byte, is_ended, most_bytes}
 use Rattle.scenario_grammar.specs.Parsed.{nothing_yet, standing, read_line, read_lines, scenario, finished, reading}
 use Rattle.scenario_grammar.specs.Places.{line_at, last_line, place_in_bytes}
-use Rattle.scenario_grammar.specs.Reasons.{is_text_reason, text_number}
+use Rattle.scenario_grammar.specs.Reasons.{text_number}
+use Rattle.scenario_grammar.specs.ReasonNumbers.{is_text_reason}
 
 -- the number of each is one of them
 by_text : (r : TextReason) → is_text_reason (text_number r) ≡ true

@@ -12,3 +12,5 @@ pub mod Reading
 pub mod Reasons
 pub mod Spells
 pub mod Tokens
+pub mod Spelt
+pub mod ReasonNumbers

@@ -1,5 +1,5 @@
 -- Why a text or a scenario is refused: the numbers that a refusal shows, and their texts.
-use Rattle.std.specs.Prelude.{ℕ, ◌-◌, Bool, ◌&&◌, ◌||◌, ◌==◌, nat_le, List, [], ◌∷◌, codes, slice_index_or}
+use Rattle.std.specs.Prelude.{ℕ, ◌-◌, List, [], ◌∷◌, codes, slice_index_or}
 use Rattle.scenario_grammar.specs.declared.reason.TextReason.{TextReason}
 use Rattle.scenario_grammar.specs.declared.reason.TextReason.TheVariants as text
 use Rattle.scenario_grammar.specs.declared.reason.RuleReason.{RuleReason}
@@ -32,14 +32,6 @@ rule_number rule.WrongCount = 18
 rule_number rule.HubInRawBody = 19
 rule_number rule.TimeoutsTooDeep = 20
 rule_number rule.TooMany = 22
-
--- the numbers of the first kind: 1 to 14 and 21
-abbrev pub is_text_reason : ℕ → Bool
-is_text_reason r = nat_le 1 r && nat_le r 14 || r == 21
-
--- the numbers of the second kind: 15 to 20 and 22
-abbrev pub is_rule_reason : ℕ → Bool
-is_rule_reason r = nat_le 15 r && nat_le r 20 || r == 22
 
 -- what a refusal says, from number 1 on
 abbrev pub texts : List (List ℕ)

@@ -31,8 +31,3 @@ pub record Spells (s : Scenario) (bytes : List ℕ) : Type 0 where
   pub text : IsText bytes
   pub tree_lines : IsSomeAnd (scenario_lines s) (AreTreeLines s.profile (lines bytes))
   pub has_main : IsTrue (list_any is_main s.functions)
-
--- Some bytes are a text of the tree. Then its printed form is one too, but for the numbers of the lines, where it is no
--- longer than a text may be.
-abbrev pub HasSpelling : Scenario → Type 0
-HasSpelling s = (bytes : List ℕ) × Spells s bytes

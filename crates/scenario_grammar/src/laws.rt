@@ -7,8 +7,9 @@ ghost use Rattle.scenario_grammar.specs.Layout.{most_bytes};
 ghost use Rattle.scenario_grammar.specs.Parsed.{reading};
 ghost use Rattle.scenario_grammar.specs.Places.{place};
 ghost use Rattle.scenario_grammar.specs.Printed.{printed};
-ghost use Rattle.scenario_grammar.specs.Reasons.{is_text_reason};
-ghost use Rattle.scenario_grammar.specs.Spells.{HasSpelling, Spells};
+ghost use Rattle.scenario_grammar.specs.ReasonNumbers.{is_text_reason};
+ghost use Rattle.scenario_grammar.specs.Spells.{Spells};
+ghost use Rattle.scenario_grammar.specs.Spelt.{HasSpelling};
 
 /// A text that a tree spells is read as that tree.
 pub fn spelt_texts_are_read()

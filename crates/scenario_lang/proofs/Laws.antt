@@ -7,7 +7,8 @@ use Rattle.scenario_grammar.specs.Layout.{most_bytes}
 use Rattle.scenario_grammar.specs.Parsed.{reading}
 use Rattle.scenario_grammar.specs.Places.{place}
 use Rattle.scenario_grammar.specs.Printed.{printed}
-use Rattle.scenario_grammar.specs.Spells.{HasSpelling, Spells}
+use Rattle.scenario_grammar.specs.Spells.{Spells}
+use Rattle.scenario_grammar.specs.Spelt.{HasSpelling}
 use Rattle.scenario_lang.specs.declared.text.ParseRefusal.{ParseRefusal}
 use Rattle.scenario_lang.specs.declared.text.ParseRefusal.TheVariants as parse
 use Rattle.scenario_lang.specs.Lines.{IsRefused, IsSpelt, Parses}

@@ -6,7 +6,8 @@ use Rattle.scenario_grammar.specs.Bare.{bare}
 use Rattle.scenario_grammar.specs.Layout.{most_bytes}
 use Rattle.scenario_grammar.specs.Parsed.{reading}
 use Rattle.scenario_grammar.specs.Printed.{printed}
-use Rattle.scenario_grammar.specs.Spells.{HasSpelling, is_main}
+use Rattle.scenario_grammar.specs.Spells.{is_main}
+use Rattle.scenario_grammar.specs.Spelt.{HasSpelling}
 use Rattle.scenario_print.specs.Texts.{HasText}
 
 -- some function of the scenario is its main

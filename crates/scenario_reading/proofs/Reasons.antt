@@ -3,7 +3,7 @@ use Rattle.std.proofs.Common.{◌≡◌, ℕ, true, List, Some, Result, Ok, Err,
 use Rattle.scenario_tree.specs.declared.tree.Scenario.{Scenario}
 use Rattle.scenario_grammar.specs.declared.place.Place.{Place}
 use Rattle.scenario_grammar.specs.Parsed.{reading}
-use Rattle.scenario_grammar.specs.Reasons.{is_rule_reason, is_text_reason}
+use Rattle.scenario_grammar.specs.ReasonNumbers.{is_rule_reason, is_text_reason}
 use Rattle.scenario_lang.specs.declared.text.ParseRefusal.{ParseRefusal}
 use Rattle.scenario_lang.specs.declared.text.ParseRefusal.TheVariants as parse
 use Rattle.scenario_grammar.specs.Spells.{Spells}

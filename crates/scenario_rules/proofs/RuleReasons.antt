@@ -8,7 +8,8 @@ use Rattle.scenario_tree.specs.declared.tree.Scenario.{Scenario}
 use Rattle.scenario_grammar.specs.declared.place.Place.{Place}
 use Rattle.scenario_grammar.specs.declared.reason.RuleReason.{RuleReason}
 use Rattle.scenario_grammar.specs.declared.reason.RuleReason.TheVariants as rule
-use Rattle.scenario_grammar.specs.Reasons.{is_rule_reason, rule_number}
+use Rattle.scenario_grammar.specs.Reasons.{rule_number}
+use Rattle.scenario_grammar.specs.ReasonNumbers.{is_rule_reason}
 use Rattle.scenario_rules.specs.declared.mention.Mention.{Mention}
 use Rattle.scenario_rules.specs.declared.mention.Named.{Named}
 use Rattle.scenario_rules.specs.Declarations.{different, given_names, named_functions, named_objects, parameters, repeated}

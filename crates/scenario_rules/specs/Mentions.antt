@@ -3,11 +3,9 @@
 use Rattle.std.specs.Prelude.{ℕ, zero, suc, ◌-◌, List, [], ◌∷◌, ◌++◌, map, length, Option, Some, None}
 use Rattle.std.specs.List.{flat_map}
 use Rattle.gv_values.specs.declared.name.Name.{Name}
-use Rattle.scenario_tree.specs.declared.tree.Action.{Action}
 use Rattle.scenario_tree.specs.declared.tree.Action.TheOpen.{Action-F, Except-F, Statement-F}
 use Rattle.scenario_tree.specs.declared.tree.Command.{Command}
 use Rattle.scenario_tree.specs.declared.tree.Command.TheVariants as command
-use Rattle.scenario_tree.specs.declared.tree.Except.{Except}
 use Rattle.scenario_tree.specs.declared.tree.Expression.{Expression}
 use Rattle.scenario_tree.specs.declared.tree.Expression.TheBlock.{laid-Expression}
 use Rattle.scenario_tree.specs.declared.tree.Expression.TheFolds.{family, steps}
@@ -17,7 +15,7 @@ use Rattle.scenario_tree.specs.declared.tree.Giving.{Giving}
 use Rattle.scenario_tree.specs.declared.tree.Giving.TheVariants as giving
 use Rattle.scenario_tree.specs.declared.tree.Query.{Query}
 use Rattle.scenario_tree.specs.declared.tree.Query.TheVariants as query
-use Rattle.scenario_tree.specs.declared.tree.Action.TheBlock.{laid-Action, laid-Except, laid-Statement}
+use Rattle.scenario_tree.specs.declared.tree.Action.TheBlock.{laid-Statement}
 use Rattle.scenario_tree.specs.declared.tree.Action.TheFolds.{family as statement_family, steps as statement_steps}
 use Rattle.scenario_tree.specs.declared.tree.Statement.{Statement}
 use Rattle.scenario_rules.specs.declared.mention.Mention.{Mention}
@@ -162,21 +160,9 @@ statement_says x left = x.action x.line left
 unfoldable pub statement_mentions : Statement → Part
 statement_mentions = laid-Statement (statement_family (ℕ → Part) Part Part) (statement_steps (ℕ → Part) Part Part action_says except_says statement_says)
 
--- the same of what stands on the line of a statement
-unfoldable pub action_mentions : Action → ℕ → Part
-action_mentions = laid-Action (statement_family (ℕ → Part) Part Part) (statement_steps (ℕ → Part) Part Part action_says except_says statement_says)
-
--- the same of an except
-unfoldable pub except_mentions : Except → Part
-except_mentions = laid-Except (statement_family (ℕ → Part) Part Part) (statement_steps (ℕ → Part) Part Part action_says except_says statement_says)
-
 -- the statements of a block
 abbrev pub block_mentions : ℕ → List Statement → List Mention
 block_mentions left ss = flat_map (λ s. statement_mentions s left) ss
-
--- the excepts of a try
-abbrev pub handler_mentions : ℕ → List Except → List Mention
-handler_mentions left es = flat_map (λ e. except_mentions e left) es
 
 abbrev pub most_timeouts : ℕ
 most_timeouts = 8

@@ -2,7 +2,7 @@
 ghost use Rattle.std.specs.Prelude.{◌≡◌, true, Some, None};
 ghost use Rattle.scenario_tree.specs.declared.tree.Scenario.{Scenario};
 ghost use Rattle.scenario_grammar.specs.declared.place.Place.{Place};
-ghost use Rattle.scenario_grammar.specs.Reasons.{is_rule_reason};
+ghost use Rattle.scenario_grammar.specs.ReasonNumbers.{is_rule_reason};
 ghost use Rattle.scenario_rules.specs.Rules.{IsWellFormed, place_of};
 
 /// A scenario is refused for a reason of the rules.

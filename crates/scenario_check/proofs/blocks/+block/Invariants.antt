@@ -1,5 +1,6 @@
 use Rattle.std.proofs.Common.{◌≡◌, ◌++◌, drop}
-use Rattle.scenario_rules.specs.Mentions.{block_mentions, handler_mentions}
+use Rattle.scenario_rules.specs.Mentions.{block_mentions}
+use Rattle.scenario_rules.specs.Layers.{handler_mentions}
 use Rattle.scenario_check.proofs.blocks.+block.Given as goal
 
 abbrev pub invariant-say_block-loop-statement : goal.invariant-say_block-loop-statement
