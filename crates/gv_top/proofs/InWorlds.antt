@@ -19,7 +19,8 @@ use Rattle.world.specs.Logged.{script_log_is}
 use Rattle.world.specs.Worlds.{Begins, GoesOn, Meaning}
 use Rattle.machine.specs.Run.{End as RunEnd, Ran, Source, run, run_from, script_run}
 use Rattle.machine_scripts.specs.Scripts.{FollowersRunScripts, IsBeginningOf}
-use Rattle.machine_told.specs.Told.{AnswersAreTold, PostsAreTold, posts_told}
+use Rattle.machine_told.specs.Told.{posts_told}
+use Rattle.machine_told.specs.Laws.{AnswersAreTold, PostsAreTold}
 use Rattle.hub_engine.specs.declared.run.End.{End}
 use Rattle.hub_engine.specs.Prepared.{Prepared}
 use Rattle.hub_engine.specs.Ends.{HasLogged, IsPartLogged, RanTo, WroteAhead, end_of_run}
@@ -31,7 +32,7 @@ use Rattle.scenario_reading.specs.Judged.{judged}
 use Rattle.gv_top.specs.Answers.{most_read}
 use Rattle.gv_top.specs.declared.words.Command.{Command}
 use Rattle.gv_top.specs.Top.{BlocksAtQuiet, Counts, HasLawfulLines, RanScenarioSo, RanSo, RanWith}
-use Rattle.machine_blocks.specs.Blocks.{BlocksAreTold}
+use Rattle.machine_blocks.specs.Laws.{BlocksAreTold}
 use Rattle.machine_laws.specs.Laws.{BlocksQuietly}
 use Rattle.scenario_rules.specs.Rules.{IsWellFormed}
 use Rattle.gv_top.specs.Verdicts.{number_of}

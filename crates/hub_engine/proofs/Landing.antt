@@ -6,7 +6,7 @@ use Rattle.gv_values.specs.declared.fault.FaultKind.{FaultKind}
 use Rattle.trace_text.specs.declared.line.Line.{Line}
 use Rattle.machine.specs.declared.state.Greenlet.{Greenlet}
 use Rattle.machine.specs.declared.state.Phase.{Phase}
-use Rattle.machine.specs.Holds.{phase_of}
+use Rattle.machine.specs.Soundness.{phase_of}
 use Rattle.machine.specs.Landing.{Landing, after_end, land, lands_once, resumes, starts}
 use Rattle.machine.specs.Greenlets.{frame_of, greenlet, nobody}
 use Rattle.gv_values.specs.Ends.{kept}

@@ -19,14 +19,14 @@ use Rattle.machine.specs.declared.state.Phase.{Phase}
 use Rattle.machine.specs.Bodies.{around}
 use Rattle.machine.specs.Expressions.{Look}
 use Rattle.machine.specs.BodyMoves.{Did, body_move}
-use Rattle.machine.specs.Holds.{delivery_holds, holds, link_holds, outcome_of, outcome_of_phase, phase_of, wait_holds}
+use Rattle.machine.specs.Holds.{delivery_holds, holds, link_holds, outcome_of, outcome_of_phase, wait_holds}
+use Rattle.machine.specs.Soundness.{phase_of, is_live}
 use Rattle.machine.specs.Landing.{Next, goes_on, lands}
 use Rattle.machine.specs.Greenlets.{frame_of, greenlet, no_frame, nobody, with_phase}
 use Rattle.machine.specs.Moves.{does, enters, look, move, timeout_item}
-use Rattle.machine.specs.Requests.{follows}
+use Rattle.machine.specs.Requests.{follows, performs}
 use Rattle.machine.specs.Unwinding.{unwind}
 use Rattle.machine.specs.Settle.{numbers_after, settle, settled}
-use Rattle.machine.specs.Soundness.{is_live}
 use Rattle.machine.specs.State.{State}
 use Rattle.body_frames.specs.Places.{Came, Place, came_by, place_of}
 use Rattle.hub_state.specs.Sights.{look_of, outcome_seen}
@@ -38,7 +38,6 @@ use Rattle.machine_reached.specs.Meant.{fits_did}
 use Rattle.machine_soundness.specs.Going.{next_did}
 use Rattle.scenario_tree.specs.declared.tree.Scenario.{Scenario}
 use Rattle.machine.specs.declared.request.Request.{Request}
-use Rattle.machine.specs.Requests.{performs}
 use Rattle.hub_engine.specs.Stands.{goes_to, hopped, next_at}
 use Rattle.hub_engine.specs.declared.stand.Hop.{Hop}
 use Rattle.hub_engine.specs.declared.stand.Stand.{Stand}

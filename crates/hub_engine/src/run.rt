@@ -3,7 +3,8 @@ ghost use Rattle.std.specs.Prelude.{◌≡◌, ◌≢◌, ◌≤◌, true, [], I
 ghost use Rattle.std.specs.List.{list_all};
 ghost use Rattle.gv_values.specs.Counts.{HasRisen};
 ghost use Rattle.scenario_rules.specs.Rules.{IsWellFormed};
-ghost use Rattle.machine.specs.Quiet.{blocked_states, is_quiet};
+ghost use Rattle.machine.specs.Quiet.{is_quiet};
+ghost use Rattle.machine.specs.Blocked.{blocked_states};
 ghost use Rattle.machine.specs.Run.{Source, first_state, run};
 ghost use Rattle.machine.specs.TraceLaws.{meets_laws};
 ghost use Rattle.machine_texts.specs.Texts.{HasMain};

@@ -9,13 +9,12 @@ use Rattle.machine.specs.declared.items.Delivery.{Delivery}
 use Rattle.machine.specs.declared.items.Item.{Item}
 use Rattle.machine.specs.declared.state.Greenlet.{Greenlet}
 use Rattle.machine.specs.declared.state.Phase.{Phase}
-use Rattle.machine.specs.Holds.{phase_of}
+use Rattle.machine.specs.Soundness.{phase_of, is_unclaimed}
 use Rattle.machine.specs.Items.{add_item}
 use Rattle.machine.specs.Ends.{ended}
 use Rattle.machine.specs.Greenlets.{nobody}
 use Rattle.gv_values.specs.Ends.{kept}
 use Rattle.machine.specs.Requests.{Sending, kills_standing, sends, sends_all}
-use Rattle.machine.specs.Soundness.{is_unclaimed}
 use Rattle.machine.specs.State.{State, say}
 use Rattle.machine_soundness.proofs.Lists.{all-of}
 use Rattle.hub_requests.specs.Far.{far_of}

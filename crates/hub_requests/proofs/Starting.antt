@@ -4,7 +4,7 @@ use Rattle.std.specs.Prelude.{if◌then◌else◌}
 use Rattle.machine.specs.declared.items.Delivery.{Delivery}
 use Rattle.machine.specs.declared.state.Greenlet.{Greenlet}
 use Rattle.machine.specs.declared.state.Phase.{Phase}
-use Rattle.machine.specs.Holds.{phase_of}
+use Rattle.machine.specs.Soundness.{phase_of}
 use Rattle.machine.specs.Greenlets.{nobody}
 use Rattle.machine.specs.Items.{add_item}
 use Rattle.machine.specs.Requests.{has_start, is_new, start_of, starts_at}

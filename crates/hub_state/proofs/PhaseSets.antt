@@ -3,7 +3,7 @@ use Rattle.std.proofs.Common.{◌≡◌, refl, ap, ℕ, zero, suc, ◌<◌, ◌�
 use Rattle.machine.specs.declared.state.Greenlet.{Greenlet}
 use Rattle.machine.specs.declared.state.Phase.{Phase}
 use Rattle.machine.specs.Greenlets.{nobody}
-use Rattle.machine.specs.Holds.{phase_of}
+use Rattle.machine.specs.Soundness.{phase_of}
 
 pub phase_set : (gs : List Greenlet) (g : ℕ) (d : Greenlet) (p : Phase) → g < length gs →
     slice_set gs g (record (slice_index_or gs g d) { phase = p }) ≡ slice_set gs g (record (unwrap_or (slice_get gs g) nobody) { phase = p })

@@ -2,7 +2,8 @@
 ghost use Rattle.std.specs.Prelude.{◌≡◌, ◌<◌, ◌≤◌, [], ◌∷◌, ◌++◌, false, length, slice_get, slice_set, unwrap_or, option_map, nat_lt, OnOk, OnErr, IfOk};
 ghost use Rattle.std.specs.Option.{option_copied};
 ghost use Rattle.machine.specs.declared.state.Phase.{Phase};
-ghost use Rattle.machine.specs.Holds.{outcome_of_phase, phase_of as phase_of_greenlet};
+ghost use Rattle.machine.specs.Holds.{outcome_of_phase};
+ghost use Rattle.machine.specs.Soundness.{phase_of as phase_of_greenlet};
 ghost use Rattle.machine.specs.Greenlets.{nobody};
 ghost use Rattle.hub_state.specs.Phases.{phase_of, shown};
 

@@ -2,7 +2,8 @@
 ghost use Rattle.std.specs.Prelude.{◌≡◌, ◌<◌, ◌||◌, length, option_map, is_some, OnOk, IfOk, IfSome, IfNone};
 ghost use Rattle.std.specs.Option.{option_copied};
 ghost use Rattle.machine.specs.declared.state.Phase.{Phase};
-ghost use Rattle.machine.specs.Holds.{is_done, outcome_of_phase, phase_of as phase_of_greenlet};
+ghost use Rattle.machine.specs.Holds.{is_done, outcome_of_phase};
+ghost use Rattle.machine.specs.Soundness.{phase_of as phase_of_greenlet};
 ghost use Rattle.machine.specs.Greenlets.{no_frame, greenlet, with_phase, frame_of, add_greenlet, has_greenlet_left};
 ghost use Rattle.machine.specs.Deliveries.{arguments};
 ghost use Rattle.hub_state.specs.Phases.{phase_of};

@@ -9,8 +9,7 @@ use Rattle.scenario_tree.specs.declared.tree.Scenario.{Scenario}
 use Rattle.machine.specs.State.{State}
 use Rattle.machine.specs.Landing.{Next, starts, lands}
 use Rattle.machine.specs.Questions.{question, block_line, take_answer}
-use Rattle.machine.specs.ReplayLaws.{GoOnFrom}
-use Rattle.machine.specs.Run.{Source, GoingOn, run_turns, after_turn, after_question, after_exit, asks, loop_exit, turn, after_start, run, runs, first_state, silent}
+use Rattle.machine.specs.Run.{GoOnFrom, Source, GoingOn, run_turns, after_turn, after_question, after_exit, asks, loop_exit, turn, after_start, run, runs, first_state, silent}
 
 -- what goes on under more answers goes on from what goes on under these
 abbrev Lengthens : List Answer → GoingOn → Type 0

@@ -16,7 +16,6 @@ use Rattle.gv_values.specs.declared.job.JobOutcome.{JobOutcome}
 use Rattle.machine.specs.declared.state.JobState.{JobState}
 use Rattle.machine.specs.declared.state.Object.{Object}
 use Rattle.machine.specs.declared.state.Offer.{Offer}
-use Rattle.machine.specs.declared.state.Greenlet.{Greenlet}
 use Rattle.machine.specs.declared.state.Phase.{Phase}
 use Rattle.machine.specs.State.{State}
 
@@ -26,10 +25,6 @@ use Rattle.machine.specs.State.{State}
 abbrev pub outcome_of_phase : Phase → Option Outcome
 outcome_of_phase (Phase.Done o) = Some o
 outcome_of_phase _ = None
-
--- how far the greenlet has come
-abbrev pub phase_of : ℕ → List Greenlet → Option Phase
-phase_of g gs = elim (slice_get gs g) [ None ↦ None | Some x ↦ Some x.phase ]
 
 -- what a job came to, as an outcome
 abbrev pub outcome_of_job : JobOutcome → Outcome

@@ -1,12 +1,10 @@
 -- A state is quiet where nothing waits on what is there, each waiter taken as the first of its kind. The project's own.
-use Rattle.std.specs.Prelude.{ℕ, Bool, not, List, slice_get}
+use Rattle.std.specs.Prelude.{ℕ, Bool, not, slice_get}
 use Rattle.std.specs.List.{list_any}
 use Rattle.machine.specs.declared.items.Delivery.{Delivery}
 use Rattle.machine.specs.declared.items.Waiting.{Waiting}
 use Rattle.machine.specs.State.{State}
 use Rattle.machine.specs.Holds.{wait_holds, delivery_holds, has_unit, is_free, has_room, has_item, has_place, has_slot, has_offer}
-use Rattle.machine.specs.Run.{Source, run_from}
-use Rattle.scenario_tree.specs.declared.tree.Scenario.{Scenario}
 
 -- the wait with this since holds as though no other waited before it
 abbrev pub could_go_on : State → ℕ → Waiting → Bool
@@ -30,7 +28,3 @@ is_restless s since d = delivery_holds s since d
 -- no item could be delivered
 abbrev pub is_quiet : State → Bool
 is_quiet s = not (list_any (λ i. is_restless s i.since i.delivery) s.items)
-
--- the states at the block lines of the run
-abbrev pub blocked_states : Source → ℕ → ℕ → Scenario → List State
-blocked_states source turns moves c = (run_from source turns moves c).blocked

@@ -3,17 +3,11 @@ use Rattle.std.specs.Prelude.{◌≡◌, ℕ, List, ◌++◌}
 use Rattle.gv_values.specs.declared.job.Answer.{Answer}
 use Rattle.world_rules.specs.Legal.{answers_of}
 use Rattle.scenario_tree.specs.declared.tree.Scenario.{Scenario}
-use Rattle.trace_text.specs.declared.line.Line.{Line}
-use Rattle.machine.specs.Run.{run, script_run}
+use Rattle.machine.specs.Run.{run, script_run, GoOnFrom}
 
 -- each run under the rule of a script is the run under the answers that the rule gave
 abbrev pub ScriptsReplay : Type 0
 ScriptsReplay = (c : Scenario) (turns moves tick : ℕ) → run c turns moves (answers_of (script_run c turns moves tick).log) ≡ script_run c turns moves tick
-
--- the lines begin with the others
-pub record GoOnFrom (lines front : List Line) : Type 0 where
-  pub rest : List Line
-  pub is : lines ≡ front ++ rest
 
 -- more answers only lengthen the lines
 abbrev pub AnswersLengthen : Type 0

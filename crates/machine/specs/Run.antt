@@ -1,5 +1,5 @@
 -- Turns, and the whole run under given answers or under the rule of a script. This project's own.
-use Rattle.std.specs.Prelude.{ℕ, zero, suc, ◌+◌, ◌-◌, false, List, [], ◌∷◌, ◌++◌, map, length, Option, Some, None, if◌then◌else◌, nat_lt, codes}
+use Rattle.std.specs.Prelude.{ℕ, zero, suc, ◌+◌, ◌-◌, false, List, [], ◌∷◌, ◌++◌, map, length, Option, Some, None, if◌then◌else◌, nat_lt, codes, ◌≡◌}
 use Rattle.gv_values.specs.declared.fault.FaultKind.{FaultKind}
 use Rattle.gv_values.specs.declared.job.Answer.{Answer}
 use Rattle.world_rules.specs.declared.question.DueJob.{DueJob}
@@ -255,3 +255,8 @@ run c turns moves answers = run_from (Source.Given answers) turns moves c
 -- the run under the rule of a script with this tick
 abbrev pub script_run : Scenario → ℕ → ℕ → ℕ → Ran
 script_run c turns moves tick = run_from (Source.Scripted tick []) turns moves c
+
+-- the lines begin with the others
+pub record GoOnFrom (lines front : List Line) : Type 0 where
+  pub rest : List Line
+  pub is : lines ≡ front ++ rest

@@ -1,12 +1,12 @@
 -- What is so of the items in every state that a run reaches: they stand in order of making, no two say the same, and
 -- each speaks of a greenlet, a timeout or a link that there is. This project's own.
-use Rattle.std.specs.Prelude.{ℕ, ◌+◌, ◌==◌, Bool, true, false, not, ◌&&◌, List, [], ◌∷◌, Option, Some, None, nat_le}
+use Rattle.std.specs.Prelude.{ℕ, ◌+◌, ◌==◌, Bool, true, false, not, ◌&&◌, List, [], ◌∷◌, Option, Some, None, nat_le, slice_get}
 use Rattle.std.specs.List.{list_all}
 use Rattle.machine.specs.declared.items.Delivery.{Delivery}
 use Rattle.machine.specs.declared.items.Item.{Item}
 use Rattle.machine.specs.declared.state.Phase.{Phase}
 use Rattle.machine.specs.State.{State}
-use Rattle.machine.specs.Holds.{phase_of}
+use Rattle.machine.specs.declared.state.Greenlet.{Greenlet}
 
 -- the sinces ascend, from this one on, and stay below the next
 abbrev pub ascend : ℕ → ℕ → List Item → Bool
@@ -58,6 +58,10 @@ is_unstarted phase = false
 abbrev pub is_live : Option Phase → Bool
 is_live (Some (Phase.Live frame)) = true
 is_live phase = false
+
+-- how far the greenlet has come
+abbrev pub phase_of : ℕ → List Greenlet → Option Phase
+phase_of g gs = elim (slice_get gs g) [ None ↦ None | Some x ↦ Some x.phase ]
 
 -- a start is of a greenlet that is New, a Wake, Late, Timeout or Kill of one that is live; timeouts and links have
 -- numbers that were drawn

@@ -49,7 +49,7 @@ use Rattle.machine.specs.Requests.{Sending, acquires, any_greenlet, done, fault_
 use Rattle.gv_values.specs.Jobs.{job_of}
 use Rattle.machine.specs.Objects.{after_release, at_bound, members_of, sets_of, takes_value, is_left, is_shut, item_of, name_of_object, object_at, with_item, with_item_taken, with_object}
 use Rattle.machine.specs.Moves.{does, look, move, timeout_item}
-use Rattle.machine.specs.Quiet.{blocked_states}
+use Rattle.machine.specs.Blocked.{blocked_states}
 use Rattle.machine.specs.Unwinding.{Unwound, unwind}
 use Rattle.machine.specs.Run.{GoingOn, Passed, Source, after_answer, after_delivery, after_exit, after_question, after_start, after_turn, asks, blocked_at, deliveries, delivers_one, first_state, least_below, loop_exit, run_from, run_turns, runs, silent, turn, with_posts}
 use Rattle.machine.specs.Settle.{settle}

@@ -27,13 +27,13 @@ use Rattle.machine.specs.declared.items.Waiting.{Waiting}
 use Rattle.machine.specs.declared.state.JobState.{JobState}
 use Rattle.machine.specs.declared.state.Post.{Post}
 use Rattle.machine.specs.State.{State, say}
-use Rattle.machine.specs.Holds.{earlier, is_take, newcomer_completes, phase_of}
+use Rattle.machine.specs.Holds.{earlier, is_take, newcomer_completes}
+use Rattle.machine.specs.Soundness.{phase_of, is_live}
 use Rattle.machine.specs.TraceLaws.{gives_outcome, is_job_line, is_of, is_park, is_some_number, outcome_eq}
 use Rattle.machine.specs.Greenlets.{add_greenlet, has_greenlet_left}
 use Rattle.machine.specs.Items.{add_item}
 use Rattle.machine.specs.Hosts.{host_of}
 use Rattle.machine.specs.Requests.{on_host, typed}
-use Rattle.machine.specs.Soundness.{is_live}
 use Rattle.machine.specs.Objects.{with_slot_taken, is_left, is_shut, item_of, name_of_object, object_at, with_item, with_item_taken, with_member, with_object, with_offer, with_offer_taken, with_owner, with_unit_taken}
 use Rattle.machine.specs.Waits.{Performed, add_member, comes, completes, drawn, draws, gathered, made_member, map_ends, map_goes_on, maps, nothing, offered, outcome_of_greenlet, parked, peeks_item, posted, puts_item, raises, takes_item, until_of, waits}
 use Rattle.machine_soundness.specs.Going.{has_no_wait, is_plain, IsKept}

@@ -15,18 +15,17 @@ use Rattle.machine.specs.declared.state.Greenlet.{Greenlet}
 use Rattle.machine.specs.declared.state.Object.{Object}
 use Rattle.machine.specs.declared.state.Phase.{Phase}
 use Rattle.machine.specs.State.{State, say}
-use Rattle.machine.specs.Holds.{holds, phase_of}
+use Rattle.machine.specs.Holds.{holds}
+use Rattle.machine.specs.Soundness.{phase_of, Claim, claim_of, is_live, same_claim}
 use Rattle.machine.specs.Expressions.{function_number}
 use Rattle.machine.specs.TraceLaws.{is_of, is_some_number, is_end_of, is_park, throws_at_parked}
 use Rattle.machine.specs.Landing.{Next}
 use Rattle.machine.specs.Greenlets.{add_greenlet, greenlet, nobody, with_phase}
 use Rattle.machine.specs.Items.{add_item, drop_items, goes_at_end}
 use Rattle.machine.specs.Ends.{ended}
-use Rattle.machine.specs.Objects.{without_member}
+use Rattle.machine.specs.Objects.{without_member, object_at, with_object}
 use Rattle.machine.specs.Requests.{is_kill, kills_standing}
 use Rattle.machine.specs.Settle.{settle}
-use Rattle.machine.specs.Soundness.{Claim, claim_of, is_live, same_claim}
-use Rattle.machine.specs.Objects.{object_at, with_object}
 use Rattle.machine_soundness.specs.Going.{has_no_wait, is_plain, IsKept}
 use Rattle.machine_soundness.specs.Laws.{is_wake_of}
 use Rattle.machine.proofs.Halves.{left, right}

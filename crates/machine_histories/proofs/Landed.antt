@@ -16,7 +16,7 @@ use Rattle.machine.specs.declared.state.Leaving.{Leaving}
 use Rattle.machine.specs.declared.state.Phase.{Phase}
 use Rattle.machine.specs.declared.state.Todo.{Todo}
 use Rattle.machine.specs.State.{State, say}
-use Rattle.machine.specs.Holds.{phase_of}
+use Rattle.machine.specs.Soundness.{phase_of, Claim, is_live, is_unclaimed, is_unstarted}
 use Rattle.machine.specs.TraceLaws.{throws_at_parked}
 use Rattle.machine.specs.Landing.{Next, Landing, after_end, answered, given, goes_on, land, lands, resumes, starts}
 use Rattle.machine.specs.Items.{drop_items, is_timeout_of}
@@ -25,7 +25,6 @@ use Rattle.machine.specs.Greenlets.{frame_of, function_of, greenlet, named, with
 use Rattle.machine.specs.Hosts.{host_of, host_within}
 use Rattle.gv_values.specs.Ends.{kept}
 use Rattle.machine.specs.Unwinding.{Unwound, unwind}
-use Rattle.machine.specs.Soundness.{Claim, is_live, is_unclaimed, is_unstarted}
 use Rattle.machine_soundness.specs.Going.{has_no_wait, is_plain, IsGoing, IsKept}
 use Rattle.machine_soundness.specs.Laws.{is_wake_of}
 use Rattle.machine.proofs.Halves.{left}

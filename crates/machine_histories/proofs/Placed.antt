@@ -17,11 +17,10 @@ use Rattle.machine.specs.declared.state.Leaving.{Leaving}
 use Rattle.machine.specs.declared.state.Local.{Local}
 use Rattle.machine.specs.declared.state.Phase.{Phase}
 use Rattle.machine.specs.declared.state.Todo.{Todo}
-use Rattle.machine.specs.Holds.{phase_of}
+use Rattle.machine.specs.Soundness.{phase_of, is_unstarted}
 use Rattle.machine.specs.Items.{is_timeout_of}
 use Rattle.machine.specs.Greenlets.{no_function}
 use Rattle.machine.specs.Unwinding.{Unwound, unwind}
-use Rattle.machine.specs.Soundness.{is_unstarted}
 use Rattle.machine_soundness.proofs.Greenlets.{at, phase-other}
 use Rattle.machine.proofs.Halves.{left, right}
 use Rattle.machine_soundness.proofs.Lists.{all-filter, all-get, all-imply, equal, unequal}

@@ -17,11 +17,11 @@ use Rattle.machine.specs.declared.state.Phase.{Phase}
 use Rattle.machine.specs.State.{State}
 use Rattle.machine.specs.Questions.{is_numbered}
 use Rattle.machine.specs.Deliveries.{without, without_item}
-use Rattle.machine.specs.Holds.{holds, delivery_holds, wait_holds, link_holds, earlier, wakes, outcome_of, outcome_of_phase, phase_of, is_done, has_set_since, has_result, has_unit, is_free, has_room, has_item, all_finished, has_place, is_deserted, has_slot, is_acquire, is_lock, is_put, is_take, is_place, is_slot, is_taken, has_offer, is_take_offer}
+use Rattle.machine.specs.Holds.{holds, delivery_holds, wait_holds, link_holds, earlier, wakes, outcome_of, outcome_of_phase, is_done, has_set_since, has_result, has_unit, is_free, has_room, has_item, all_finished, has_place, is_deserted, has_slot, is_acquire, is_lock, is_put, is_take, is_place, is_slot, is_taken, has_offer, is_take_offer}
+use Rattle.machine.specs.Soundness.{phase_of, ascend}
 use Rattle.machine.specs.Items.{drop_items, is_timeout_of}
 use Rattle.machine.specs.Greenlets.{greenlet, with_phase}
 use Rattle.machine.specs.Settle.{settle, settled, settled_ready, number_after}
-use Rattle.machine.specs.Soundness.{ascend}
 use Rattle.machine.proofs.Halves.{right}
 use Rattle.machine_soundness.proofs.Lists.{all-imply, all-filter, equal, unequal}
 use Rattle.machine_soundness.proofs.Greenlets.{phase-other}

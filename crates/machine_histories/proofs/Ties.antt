@@ -18,12 +18,11 @@ use Rattle.machine.specs.declared.state.Greenlet.{Greenlet}
 use Rattle.machine.specs.declared.state.JobState.{JobState}
 use Rattle.machine.specs.declared.state.Phase.{Phase}
 use Rattle.machine.specs.State.{State, say}
-use Rattle.machine.specs.Holds.{phase_of}
+use Rattle.machine.specs.Soundness.{phase_of, Claim, claim_of, is_live, is_unclaimed, same_claim}
 use Rattle.machine.specs.TraceLaws.{is_of, is_some_number, greenlet_of, is_end_of, is_link_line, is_job_line, is_done_line, is_park, last_moment_of, gives_outcome, none_ended, ends_once, throws_at_parked, links_after_end, moments_rise, jobs_done_once}
 use Rattle.machine.specs.Items.{add_item, drop_items, is_wait_of}
 use Rattle.machine.specs.Greenlets.{greenlet, with_phase}
 use Rattle.machine.specs.Settle.{settle}
-use Rattle.machine.specs.Soundness.{Claim, claim_of, is_live, is_unclaimed, same_claim}
 use Rattle.machine_soundness.specs.Going.{has_no_wait}
 use Rattle.machine_soundness.specs.Laws.{is_wake_of}
 use Rattle.machine.proofs.Halves.{left, right}

@@ -31,22 +31,20 @@ use Rattle.machine.specs.declared.state.Phase.{Phase}
 use Rattle.machine.specs.declared.state.Todo.{Todo}
 use Rattle.machine.specs.State.{State, say}
 use Rattle.machine.specs.Questions.{arrives, is_numbered, job_done, take_answer}
-use Rattle.machine.specs.Objects.{with_slot_freed}
+use Rattle.machine.specs.Objects.{with_slot_freed, with_flag, name_of_object, object_at, with_object, without_offer}
 use Rattle.machine.specs.Deliveries.{arguments, called, calls, deliver, delivers, interrupts, late, since_of_wake, waiting_of, without, without_item, without_offer_by, without_wait}
-use Rattle.machine.specs.Holds.{delivery_holds, holds, job_at, link_holds, outcome_of, phase_of, wakes}
+use Rattle.machine.specs.Holds.{delivery_holds, holds, job_at, link_holds, outcome_of, wakes}
+use Rattle.machine.specs.Soundness.{phase_of, Claim, are_single, ascend, claim_of, is_live, is_meant, is_unclaimed, is_unstarted, same_claim}
 use Rattle.machine.specs.TraceLaws.{gives_outcome, is_done_line, is_job_line, is_link_line, is_some_number, jobs_done_once, last_moment_of, throws_at_parked}
 use Rattle.machine.specs.Greenlets.{add_greenlet, function_of, greenlet, has_greenlet_left, named, nobody}
 use Rattle.machine.specs.Landing.{answered, lands, Next, starts}
 use Rattle.machine.specs.Items.{is_wait_of}
 use Rattle.machine.specs.Requests.{is_kill}
-use Rattle.machine.specs.Objects.{with_flag}
 use Rattle.machine.specs.Unwinding.{unwind}
 use Rattle.machine.specs.Run.{first_state}
 use Rattle.machine.specs.Settle.{settle}
-use Rattle.machine.specs.Soundness.{Claim, are_single, ascend, claim_of, is_live, is_meant, is_unclaimed, is_unstarted, same_claim}
 use Rattle.machine.proofs.Changes.{slice_get-set_other}
 use Rattle.machine.specs.Waits.{completes, late_outcome}
-use Rattle.machine.specs.Objects.{name_of_object, object_at, with_object, without_offer}
 use Rattle.machine_soundness.specs.Going.{has_no_wait, is_plain, IsKept}
 use Rattle.machine_soundness.specs.Laws.{is_wake_of}
 use Rattle.machine.proofs.Halves.{left, right}

@@ -19,14 +19,14 @@ use Rattle.machine.specs.declared.state.JobState.{JobState}
 use Rattle.machine.specs.declared.state.Object.{Object}
 use Rattle.machine.specs.State.{State, say}
 use Rattle.machine.specs.Questions.{any_numbered, arrives, block_line, is_numbered, job_done, question, take_answer}
-use Rattle.machine.specs.Objects.{with_slot_freed}
+use Rattle.machine.specs.Objects.{with_slot_freed, object_at}
 use Rattle.machine.specs.Holds.{delivery_holds, earlier, has_item, has_offer, has_place, has_room, has_slot, has_unit, holds, is_acquire, is_free, is_lock, is_place, is_put, is_slot, is_take, is_take_offer, job_at, wait_holds, wakes}
 use Rattle.machine.specs.Landing.{Next, lands, starts}
-use Rattle.machine.specs.Quiet.{blocked_states, could_go_on, is_quiet, is_restless}
+use Rattle.machine.specs.Quiet.{could_go_on, is_quiet, is_restless}
+use Rattle.machine.specs.Blocked.{blocked_states}
 use Rattle.machine.specs.Run.{GoingOn, Source, after_exit, after_question, after_start, after_turn, asks, blocked_at, first_state, loop_exit, run_turns, runs, silent, turn, with_posts}
 use Rattle.machine.specs.Settle.{settle}
 use Rattle.machine.specs.Soundness.{ascend}
-use Rattle.machine.specs.Objects.{object_at}
 use Rattle.machine_soundness.specs.Going.{IsKept}
 use Rattle.machine_soundness.specs.Laws.{is_wake_of}
 use Rattle.machine_soundness.proofs.Deliveries.{take_answer-kept}

@@ -5,7 +5,8 @@ use Rattle.world_rules.specs.Legal.{AreLegal}
 use Rattle.scenario_tree.specs.declared.tree.Scenario.{Scenario}
 use Rattle.scenario_rules.specs.Rules.{IsWellFormed}
 use Rattle.machine.specs.TraceLaws.{meets_laws}
-use Rattle.machine.specs.Quiet.{blocked_states, is_quiet}
+use Rattle.machine.specs.Quiet.{is_quiet}
+use Rattle.machine.specs.Blocked.{blocked_states}
 use Rattle.machine.specs.Run.{Source, run_from, script_run}
 
 -- the lines of a run under legal answers meet the laws

@@ -19,18 +19,16 @@ use Rattle.gv_values.specs.declared.fault.FaultKind.{FaultKind}
 use Rattle.world_rules.specs.Legal.{moment_of}
 use Rattle.machine.specs.Questions.{block_line}
 use Rattle.machine.specs.Deliveries.{deliver, interrupts}
-use Rattle.machine.specs.Holds.{phase_of}
+use Rattle.machine.specs.Soundness.{phase_of, Claim, are_single, claim_eq, claim_of, is_live, is_meant, is_unclaimed, is_unstarted, same_claim}
 use Rattle.machine.specs.Landing.{Next, lands, starts}
 use Rattle.machine.specs.Greenlets.{frame_of, greenlet}
 use Rattle.machine.specs.Requests.{is_kill}
 use Rattle.machine.specs.Moves.{move, look}
 use Rattle.machine.specs.Run.{first_state, silent}
-use Rattle.machine.specs.Soundness.{Claim, are_single, claim_eq, claim_of, is_live, is_meant, is_unclaimed, is_unstarted, same_claim}
-use Rattle.machine_soundness.specs.Going.{IsKept}
+use Rattle.machine_soundness.specs.Going.{IsKept, is_meant_did, next_did}
 use Rattle.machine.proofs.Halves.{left, right}
 use Rattle.machine_soundness.proofs.States.{meants, singles}
 use Rattle.machine.specs.BodyMoves.{Did}
-use Rattle.machine_soundness.specs.Going.{is_meant_did, next_did}
 use Rattle.machine_soundness.proofs.Greenlets.{live-found}
 use Rattle.machine_reached.proofs.Offered.{offered}
 use Rattle.machine_reached.proofs.Same.{reached-same}

@@ -6,8 +6,7 @@ use Rattle.world_rules.specs.Legal.{answers_of}
 use Rattle.world_rules.specs.Rules.{Follows, RuleState, start}
 use Rattle.scenario_tree.specs.declared.tree.Scenario.{Scenario}
 use Rattle.trace_text.specs.declared.line.StopCause.{StopCause}
-use Rattle.machine.specs.ReplayLaws.{GoOnFrom}
-use Rattle.machine.specs.Run.{End, Ran, run, script_run}
+use Rattle.machine.specs.Run.{GoOnFrom, End, Ran, run, script_run}
 
 -- as far as it goes it is the other: its lines are the first of the other's, and where it stopped it is the other
 pub record IsBeginningOf (whole r : Ran) : Type 0 where

@@ -6,7 +6,7 @@ use Rattle.std.proofs.lemmas.Map.Steps.{length-le_from_distinct_below}
 use Rattle.std.specs.List.{AllByRecursion, IsDistinct, list_any}
 use Rattle.std.specs.Prelude.{◌==◌, slice_get, slice_set, Some}
 use Rattle.machine.specs.declared.state.Greenlet.{Greenlet}
-use Rattle.machine.specs.Holds.{phase_of}
+use Rattle.machine.specs.Soundness.{phase_of}
 use Rattle.machine.specs.Hosts.{host_within, is_above}
 use Rattle.machine_soundness.proofs.Lists.{equal, unequal}
 use Rattle.machine_soundness.specs.Going.{is_plain}

@@ -27,19 +27,17 @@ use Rattle.machine.specs.declared.state.Object.{Object}
 use Rattle.machine.specs.declared.state.Phase.{Phase}
 use Rattle.machine.specs.State.{State, say}
 use Rattle.machine.specs.Questions.{take_answer, job_done, arrives}
-use Rattle.machine.specs.Objects.{with_slot_freed}
+use Rattle.machine.specs.Objects.{with_slot_freed, with_flag, object_at, name_of_object, without_offer}
 use Rattle.machine.specs.Deliveries.{waiting_of, without_wait, without, without_item, arguments, interrupts, since_of_wake, without_offer_by, late, calls, called, delivers, deliver}
-use Rattle.machine.specs.Holds.{phase_of, job_at}
+use Rattle.machine.specs.Holds.{job_at}
+use Rattle.machine.specs.Soundness.{phase_of, Claim, ascend, are_single, claim_of, is_live, is_meant, is_unclaimed, same_claim}
 use Rattle.machine.specs.Landing.{Next, answered, resumes, lands, starts}
 use Rattle.machine.specs.Greenlets.{add_greenlet, has_greenlet_left, greenlet, frame_of}
 use Rattle.machine.specs.Items.{drop_items, is_wait_of, is_timeout_of}
 use Rattle.machine.specs.Ends.{leaving_of, outcome_of_leaving}
-use Rattle.machine.specs.Objects.{with_flag}
 use Rattle.machine.specs.Run.{first_state, object_of}
 use Rattle.machine.specs.Settle.{settle}
-use Rattle.machine.specs.Soundness.{Claim, ascend, are_single, claim_of, is_live, is_meant, is_unclaimed, same_claim}
 use Rattle.machine.specs.Waits.{completes, late_outcome}
-use Rattle.machine.specs.Objects.{object_at, name_of_object, without_offer}
 use Rattle.machine.proofs.Soundness.{ascend-lower}
 use Rattle.machine_soundness.specs.Going.{is_plain, is_for_plain, has_plain_members, has_no_wait, IsKept, IsSoundAt}
 use Rattle.machine.proofs.Halves.{left, right}

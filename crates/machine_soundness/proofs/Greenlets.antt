@@ -3,10 +3,9 @@ use Rattle.std.proofs.Common.{◌≡◌, refl, ap, ◌∙◌, ℕ, zero, suc, �
 use Rattle.std.specs.Prelude.{not, slice_get, slice_set, unwrap_or, Option, Some, None}
 use Rattle.machine.specs.declared.state.Greenlet.{Greenlet}
 use Rattle.machine.specs.declared.state.Phase.{Phase}
-use Rattle.machine.specs.Holds.{phase_of}
+use Rattle.machine.specs.Soundness.{phase_of, is_live, is_unstarted}
 use Rattle.machine.specs.Greenlets.{nobody}
 use Rattle.machine.specs.Hosts.{host_within}
-use Rattle.machine.specs.Soundness.{is_live, is_unstarted}
 use Rattle.machine_soundness.specs.Going.{is_plain}
 use Rattle.machine_soundness.proofs.Lists.{get-append}
 

@@ -9,14 +9,13 @@ use Rattle.machine.specs.declared.state.Frame.{Frame}
 use Rattle.machine.specs.declared.state.Phase.{Phase}
 use Rattle.machine.specs.Unwinding.{Unwound, unwind}
 use Rattle.machine.specs.State.{State, say}
-use Rattle.machine.specs.Holds.{phase_of}
+use Rattle.machine.specs.Soundness.{phase_of, Claim, claim_of, is_live, is_unclaimed, same_claim}
 use Rattle.machine.specs.Landing.{Next, Landing, after_end, goes_on, starts, resumes, given, land, lands, answered}
 use Rattle.machine.specs.Items.{drop_items, is_timeout_of, is_wait_of}
 use Rattle.machine.specs.Greenlets.{with_phase, greenlet, function_of, frame_of}
 use Rattle.machine.specs.Ends.{ended, stop_of, leaving_of, outcome_of_leaving}
 use Rattle.machine.specs.Hosts.{host_within, host_of}
 use Rattle.gv_values.specs.Ends.{kept}
-use Rattle.machine.specs.Soundness.{Claim, claim_of, is_live, is_unclaimed, same_claim}
 use Rattle.machine_soundness.specs.Going.{is_plain, is_for_plain, has_no_wait, IsKept, IsGoing, IsSoundAt}
 use Rattle.machine_soundness.proofs.Lists.{all-imply, all-filter, equal}
 use Rattle.machine_soundness.proofs.Greenlets.{at, plain-found, plain-raw, raw-found, live-here, live-phase, host-plain, host-more}

@@ -7,14 +7,14 @@ use Rattle.machine.specs.declared.state.Greenlet.{Greenlet}
 use Rattle.machine.specs.declared.state.Phase.{Phase}
 use Rattle.machine.specs.Unwinding.{Unwound}
 use Rattle.machine.specs.State.{State, say}
-use Rattle.machine.specs.Holds.{is_done, phase_of, outcome_of_phase}
+use Rattle.machine.specs.Holds.{is_done, outcome_of_phase}
+use Rattle.machine.specs.Soundness.{phase_of, is_live}
 use Rattle.gv_values.specs.Ends.{kept}
 use Rattle.machine.specs.Landing.{Next, Landing, after_end, goes_on, starts, resumes, land, lands}
 use Rattle.machine.specs.Items.{drop_items, is_timeout_of}
 use Rattle.machine.specs.Greenlets.{greenlet, function_of}
 use Rattle.machine.specs.Ends.{ended, stop_of, outcome_of_leaving}
 use Rattle.machine.specs.Hosts.{host_of}
-use Rattle.machine.specs.Soundness.{is_live}
 use Rattle.machine_soundness.specs.Going.{is_plain}
 use Rattle.machine_soundness.specs.Onward.{GoesOnward}
 use Rattle.machine_soundness.proofs.Greenlets.{at, plain-raw, plain-set, raw-set, parent-set, live-phase, phase-other, live-found}

@@ -21,7 +21,8 @@ use Rattle.machine.specs.declared.state.Object.{Object}
 use Rattle.machine.specs.declared.state.Phase.{Phase}
 use Rattle.machine.specs.declared.state.Todo.{Todo}
 use Rattle.machine.specs.State.{State, say}
-use Rattle.machine.specs.Holds.{phase_of, outcome_of}
+use Rattle.machine.specs.Holds.{outcome_of}
+use Rattle.machine.specs.Soundness.{phase_of, Claim, claim_of, is_live, is_meant, is_unclaimed, is_unstarted, same_claim}
 use Rattle.machine.specs.BodyMoves.{Did}
 use Rattle.machine.specs.declared.request.Request.{Request}
 use Rattle.machine.specs.Unwinding.{unwind}
@@ -35,7 +36,6 @@ use Rattle.machine.specs.Requests.{Sending, performs, follows, sends, sends_all,
 use Rattle.gv_values.specs.Jobs.{job_of}
 use Rattle.machine.specs.Moves.{does, move, enters, timeout_item}
 use Rattle.machine.specs.Objects.{at_bound, after_release, takes_value, members_of, sets_of, with_object, object_at, name_of_object}
-use Rattle.machine.specs.Soundness.{Claim, claim_of, is_live, is_meant, is_unclaimed, is_unstarted, same_claim}
 use Rattle.machine.specs.Waits.{Performed, comes, raises, nothing, maps}
 use Rattle.machine_soundness.specs.Going.{AreNotRaw, is_plain, is_meant_request, is_meant_did, is_meant_move, next_did, IsKept, IsGoing, IsSoundAt}
 use Rattle.machine.proofs.Halves.{left, right}

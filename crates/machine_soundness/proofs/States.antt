@@ -12,15 +12,14 @@ use Rattle.machine.specs.declared.state.Greenlet.{Greenlet}
 use Rattle.machine.specs.declared.state.Object.{Object}
 use Rattle.machine.specs.declared.state.Phase.{Phase}
 use Rattle.machine.specs.State.{State, say}
-use Rattle.machine.specs.Holds.{holds, phase_of}
+use Rattle.machine.specs.Holds.{holds}
+use Rattle.machine.specs.Soundness.{phase_of, Claim, ascend, are_single, claim_of, is_live, is_meant, is_sound, is_unclaimed, is_unstarted, same_claim}
 use Rattle.machine.specs.Items.{add_item, drop_items, goes_at_end, is_wait_of}
 use Rattle.machine.specs.Greenlets.{with_phase, greenlet, add_greenlet}
 use Rattle.machine.specs.Ends.{ended}
-use Rattle.machine.specs.Objects.{without_member}
+use Rattle.machine.specs.Objects.{without_member, with_object}
 use Rattle.machine.specs.Hosts.{host_within, host_of}
 use Rattle.machine.specs.Settle.{settle}
-use Rattle.machine.specs.Soundness.{Claim, ascend, are_single, claim_of, is_live, is_meant, is_sound, is_unclaimed, is_unstarted, same_claim}
-use Rattle.machine.specs.Objects.{with_object}
 use Rattle.machine.proofs.Soundness.{list_all-settled, sound-settle, sound-drop_items, sound-add_item}
 use Rattle.machine_soundness.specs.Going.{is_plain, is_for_plain, has_plain_members, has_no_wait, IsKept, IsGoing}
 use Rattle.machine.proofs.Halves.{left, right}

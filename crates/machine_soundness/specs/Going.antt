@@ -8,7 +8,7 @@ use Rattle.machine.specs.declared.items.Item.{Item}
 use Rattle.machine.specs.declared.state.Greenlet.{Greenlet}
 use Rattle.machine.specs.declared.state.Object.{Object}
 use Rattle.machine.specs.State.{State}
-use Rattle.machine.specs.Holds.{phase_of}
+use Rattle.machine.specs.Soundness.{phase_of, is_live, is_sound}
 use Rattle.machine.specs.BodyMoves.{Did, body_move}
 use Rattle.machine.specs.declared.request.Request.{Request}
 use Rattle.machine.specs.Landing.{Next}
@@ -16,7 +16,6 @@ use Rattle.machine.specs.Items.{is_wait_of}
 use Rattle.machine.specs.Hosts.{host_of}
 use Rattle.machine.specs.Greenlets.{greenlet, frame_of, nobody}
 use Rattle.machine.specs.Moves.{look}
-use Rattle.machine.specs.Soundness.{is_live, is_sound}
 
 -- there is such a greenlet, and it is not raw
 abbrev pub is_plain : List Greenlet → ℕ → Bool

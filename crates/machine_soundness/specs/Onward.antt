@@ -2,10 +2,10 @@
 use Rattle.std.specs.Prelude.{◌≡◌, ℕ, true}
 use Rattle.gv_values.specs.declared.value.Outcome.{Outcome}
 use Rattle.machine.specs.State.{State}
-use Rattle.machine.specs.Holds.{is_done, phase_of}
+use Rattle.machine.specs.Holds.{is_done}
+use Rattle.machine.specs.Soundness.{phase_of, is_live}
 use Rattle.machine.specs.Landing.{Next, lands}
 use Rattle.machine.specs.Hosts.{host_of}
-use Rattle.machine.specs.Soundness.{is_live}
 use Rattle.machine_soundness.specs.Going.{is_plain}
 
 -- a greenlet goes on, or the run is over, or the host has ended

@@ -25,7 +25,7 @@ use Rattle.machine.specs.declared.state.Phase.{Phase}
 use Rattle.machine.specs.declared.state.Todo.{Todo}
 use Rattle.machine.specs.Expressions.{function_number, object_number}
 use Rattle.machine.specs.declared.request.Request.{Request}
-use Rattle.machine.specs.Holds.{phase_of}
+use Rattle.machine.specs.Soundness.{phase_of}
 use Rattle.machine.specs.Greenlets.{no_function}
 
 -- the function of this number is the body of a raw greenlet
