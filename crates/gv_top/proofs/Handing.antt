@@ -9,7 +9,7 @@ use Rattle.scenario_grammar.specs.declared.place.Place.{Place}
 use Rattle.world.specs.Worlds.{Meaning}
 use Rattle.machine.specs.Run.{Ran, run, script_run}
 use Rattle.hub_engine.specs.declared.run.End.{End}
-use Rattle.hub_engine.specs.Ends.{WroteAhead}
+use Rattle.hub_engine.specs.Ahead.{WroteAhead}
 use Rattle.hub_engine.specs.Prepared.{Prepared}
 use Rattle.wsgi_connection.specs.declared.connection.ConnectionEnd.{ConnectionEnd}
 use Rattle.stream_net.specs.Nets.{Meaning as Net}

@@ -23,7 +23,8 @@ use Rattle.machine_told.specs.Told.{posts_told}
 use Rattle.machine_told.specs.Laws.{AnswersAreTold, PostsAreTold}
 use Rattle.hub_engine.specs.declared.run.End.{End}
 use Rattle.hub_engine.specs.Prepared.{Prepared}
-use Rattle.hub_engine.specs.Ends.{HasLogged, IsPartLogged, RanTo, WroteAhead, end_of_run}
+use Rattle.hub_engine.specs.Ends.{HasLogged, IsPartLogged, RanTo, end_of_run}
+use Rattle.hub_engine.specs.Ahead.{WroteAhead}
 use Rattle.gv_top.proofs.Deciding.{prefix_of_trace}
 use Rattle.gv_top.proofs.Tops.{unchanged_lawful}
 use Rattle.gv_top.specs.Running.{IsBegun, IsUnbegun, RanHeld, RanNatively, run_of}

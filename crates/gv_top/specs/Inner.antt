@@ -12,7 +12,8 @@ use Rattle.world.specs.Worlds.{Meaning}
 use Rattle.world_rules.specs.Legal.{AreLegal}
 use Rattle.world_rules.specs.declared.question.LogEntry.{LogEntry}
 use Rattle.machine.specs.Run.{Ran}
-use Rattle.hub_engine.specs.Ends.{IsPartLogged, RanTo, WroteAhead}
+use Rattle.hub_engine.specs.Ends.{IsPartLogged, RanTo}
+use Rattle.hub_engine.specs.Ahead.{WroteAhead}
 use Rattle.hub_engine.specs.declared.run.End.{End}
 use Rattle.verify_command.specs.Judged.{IsReasoned}
 use Rattle.wsgi_core.specs.Applications.{App}

@@ -10,7 +10,7 @@ use Rattle.machine.specs.Run.{Ran, run, script_run}
 use Rattle.machine.specs.TraceLaws.{meets_laws}
 use Rattle.trace_text.specs.LineTexts.{answers_of as answers_told}
 use Rattle.machine_told.specs.Told.{posts_told}
-use Rattle.hub_engine.specs.Ends.{WroteAhead}
+use Rattle.hub_engine.specs.Ahead.{WroteAhead}
 use Rattle.command_words.specs.declared.command.RunOptions.{RunOptions}
 use Rattle.command_words.specs.declared.command.RunWorld.TheVariants.{Script, Native, Held}
 

@@ -15,7 +15,8 @@ use Rattle.std.specs.Prelude.{Result, Ok, Err}
 use Rattle.hub_engine.specs.declared.broken.Broken.{Broken}
 use Rattle.hub_engine.specs.declared.run.End.{End}
 use Rattle.hub_engine.specs.declared.run.Ran.{Ran}
-use Rattle.hub_engine.specs.Ends.{CountsOf, HasLogged, HasNumbersAt, IsPartLogged, RanTo, WroteAhead, end_of, end_of_run}
+use Rattle.hub_engine.specs.Ends.{CountsOf, HasLogged, HasNumbersAt, IsPartLogged, RanTo, end_of, end_of_run}
+use Rattle.hub_engine.specs.Ahead.{WroteAhead}
 use Rattle.hub_engine.specs.Outside.{Outside, WritesPart}
 use Rattle.hub_engine.specs.Written.{HasBroken, HasEnded, Runs, RunsTo, ended_as, finished, preceded}
 use Rattle.hub_engine.proofs.Giving.{answers_of_append}

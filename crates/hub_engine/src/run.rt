@@ -11,7 +11,8 @@ ghost use Rattle.machine_texts.specs.Texts.{HasMain};
 ghost use Rattle.world.specs.Worlds.{GoesOn};
 ghost use Rattle.world_rules.specs.Legal.{AreLegal};
 ghost use Rattle.hub_objects.specs.Counted.{AreCounted};
-ghost use Rattle.hub_engine.specs.Ends.{HasLogged, HasNumbers, RanTo, WroteAhead};
+ghost use Rattle.hub_engine.specs.Ends.{HasLogged, HasNumbers, RanTo};
+ghost use Rattle.hub_engine.specs.Ahead.{WroteAhead};
 ghost use Rattle.hub_engine.specs.Outside.{WritesPart};
 ghost use Rattle.hub_engine.specs.declared.run.End.TheVariants as ends;
 

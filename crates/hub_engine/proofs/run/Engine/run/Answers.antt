@@ -3,7 +3,8 @@ use Rattle.scenario_rules.specs.Rules.{IsWellFormed}
 use Rattle.machine.specs.Run.{Source, run}
 use Rattle.hub_engine.specs.declared.run.End.{End}
 use Rattle.hub_engine.specs.declared.run.Ran.{Ran}
-use Rattle.hub_engine.specs.Ends.{CountsOf, HasLogged, HasNumbersAt, RanTo, WroteAhead}
+use Rattle.hub_engine.specs.Ends.{CountsOf, HasLogged, HasNumbersAt, RanTo}
+use Rattle.hub_engine.specs.Ahead.{WroteAhead}
 use Rattle.hub_engine.specs.Outside.{outside, out_of}
 use Rattle.hub_engine.specs.Prepared.{Prepared}
 use Rattle.hub_engine.specs.Written.{RunsTo}
