@@ -14,8 +14,7 @@ use Rattle.scenario_rules.specs.Rules.{IsWellFormed, place_of}
 use Rattle.scenario_check.proofs.FirstPlace.{well_formed}
 use Rattle.scenario_reading.specs.Judged.{judged}
 use Rattle.machine.specs.Run.{run}
-use Rattle.trace_check.specs.Judged.{IsJudged}
-use Rattle.trace_check.specs.LawTraces.{IsJudgedLawful}
+use Rattle.trace_check.specs.Answers.{IsJudged, IsJudgedLawful}
 use Rattle.trace_check.specs.Parts.{parted}
 use Rattle.trace_check.specs.declared.lawful.LawlessTrace.{LawlessTrace}
 use Rattle.trace_check.specs.declared.refusal.Cause.{Cause}

@@ -10,7 +10,7 @@ use Rattle.std.proofs.Math.Seq.{take-add}
 use Rattle.std.proofs.lemmas.Slice.Eq.{bytes_eq-Decides}
 use Rattle.gv_values.specs.ValueTexts.{Text}
 use Rattle.trace_check.specs.Parts.{is_marked, last_mark, mark, parted, parted_from}
-use Rattle.trace_check.specs.Traces.{is_feed}
+use Rattle.trace_check.specs.Reads.{is_feed}
 
 -- the parts behind these bytes
 abbrev pub onto : Text → Option (Text × Text) → Option (Text × Text)

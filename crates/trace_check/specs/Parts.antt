@@ -1,6 +1,6 @@
 -- A text of two parts: what stands before the first line of four equals signs, and what stands behind that line. This
 -- project's own.
-use Rattle.std.specs.Prelude.{ℕ, ◌==◌, Bool, true, ◌&&◌, ◌||◌, [], ◌∷◌, Option, Some, None, option_map, if◌then◌else◌, codes, drop, take}
+use Rattle.std.specs.Prelude.{◌==◌, Bool, true, ◌&&◌, ◌||◌, [], ◌∷◌, Option, Some, None, option_map, if◌then◌else◌, codes, drop, take}
 use Rattle.std.specs.Str.{bytes_eq}
 use Rattle.gv_values.specs.ValueTexts.{Text}
 
@@ -24,7 +24,3 @@ parted_from first (b ∷ rest) =
 
 abbrev pub parted : Text → Option (Text × Text)
 parted text = parted_from true text
-
--- the parts, where such a line stands at this place
-abbrev pub parts_at : Text → ℕ → Text × Text
-parts_at text place = (take place text, drop 5 (drop place text))

@@ -1,7 +1,8 @@
 //! The two parts of an input: the text of a scenario, and a trace.
 ghost use Rattle.std.specs.Prelude.{◌≡◌, ◌≤◌, ◌+◌, length, option_map, take, IfSome};
 ghost use Rattle.std.specs.Str.{bytes_eq};
-ghost use Rattle.trace_check.specs.Parts.{is_marked, last_mark, mark, parted, parts_at};
+ghost use Rattle.trace_check.specs.Parts.{is_marked, last_mark, mark, parted};
+ghost use Rattle.trace_check.specs.Places.{parts_at};
 
 use crate::reading::{after, line_end};
 

@@ -11,11 +11,10 @@ use Rattle.scenario_lang.specs.declared.text.ParseRefusal.{ParseRefusal}
 use Rattle.scenario_lang.specs.declared.text.ParseRefusal.TheVariants as parse
 use Rattle.scenario_lang.specs.Lines.{Parses}
 use Rattle.machine.specs.Run.{run}
-use Rattle.trace_check.specs.Judged.{IsJudged, IsSameAnswer}
-use Rattle.trace_check.specs.LawTraces.{IsJudgedLawful, IsSameLawful}
+use Rattle.trace_check.specs.Answers.{IsJudged, IsSameAnswer, IsJudgedLawful, IsSameLawful}
 use Rattle.trace_check.specs.declared.lawful.LawlessTrace.{LawlessTrace}
 use Rattle.trace_check.specs.declared.refusal.TraceRefusal.{TraceRefusal}
-use Rattle.trace_check.specs.Parts.{parts_at}
+use Rattle.trace_check.specs.Places.{parts_at}
 use Rattle.scenario_grammar.specs.Places.{line_at}
 use Rattle.scenario_reading.specs.Judged.{IsRefusedWithReason, judged}
 use Rattle.verify_command.specs.Inputs.{end_line, most_checked}

@@ -8,8 +8,7 @@ use Rattle.scenario_lang.specs.declared.text.ParseRefusal.{ParseRefusal}
 use Rattle.scenario_lang.specs.declared.text.ParseRefusal.TheVariants as parse
 use Rattle.scenario_reading.specs.Judged.{HasReason, judged}
 use Rattle.machine.specs.Run.{run}
-use Rattle.trace_check.specs.Judged.{IsJudged}
-use Rattle.trace_check.specs.LawTraces.{IsJudgedLawful}
+use Rattle.trace_check.specs.Answers.{IsJudged, IsJudgedLawful}
 use Rattle.trace_check.specs.Parts.{parted}
 use Rattle.trace_check.specs.declared.lawful.LawlessTrace.{LawlessTrace}
 use Rattle.trace_check.specs.declared.refusal.Cause.{Cause}

@@ -1,0 +1,41 @@
+-- Lines of a trace that were counted, one after another.
+use Rattle.std.specs.Prelude.{◌≡◌, ℕ, List, [], ◌∷◌, ◌++◌, Some, length, Result, Ok, Err}
+use Rattle.gv_values.specs.ValueTexts.{Text}
+use Rattle.trace_text.specs.declared.line.Line.{Line}
+use Rattle.trace_text.specs.LineTexts.{text_of}
+use Rattle.trace_reader.specs.Ranges.{LinesFit}
+use Rattle.trace_check.specs.Kept.{StandsFor}
+use Rattle.trace_check.specs.LawTraces.{broken_law}
+use Rattle.trace_check.specs.Traces.{BeginsWithLine, BeginsWithNone}
+use Rattle.trace_check.specs.Reads.{BeginsAt}
+use Rattle.trace_check.specs.declared.laws.LawRefusal.{LawRefusal}
+use Rattle.trace_check.specs.declared.laws.Laws.{Laws}
+use Rattle.trace_check.specs.declared.lawful.Fault.{Fault}
+use Rattle.trace_check.specs.declared.lawful.LawlessTrace.{LawlessTrace}
+
+-- the fault that a refusal is
+abbrev pub fault_of : LawRefusal → Fault
+fault_of (LawRefusal.Broken law) = Fault.Broken law
+fault_of LawRefusal.Memory = Fault.Memory
+
+-- what is answered where this line was not counted
+abbrev pub lawless : Fault → ℕ → LawlessTrace
+lawless Fault.NotALine line = LawlessTrace.NotALine line
+lawless (Fault.Broken law) line = LawlessTrace.Broken line law
+lawless Fault.Memory line = LawlessTrace.Memory
+
+-- The line that the text begins with was counted after these, and the next one stands at this place; or it breaks this
+-- law; or the text begins with none.
+abbrev pub IsCountedFirst : Text → List Line → Laws → Result ℕ Fault → Type 0
+IsCountedFirst text lines laws (Ok next) = (line : Line) × BeginsAt text line next × StandsFor laws (lines ++ line ∷ [])
+IsCountedFirst text lines laws (Err Fault.NotALine) = BeginsWithNone text
+IsCountedFirst text lines laws (Err (Fault.Broken law)) = (line : Line) × BeginsWithLine text line × (broken_law (lines ++ line ∷ []) ≡ Some law)
+IsCountedFirst text lines laws (Err Fault.Memory) = Unit {0}
+
+-- so many lines were read off the front of a text, and what is kept of them is this
+pub record HasCounted (text rest : Text) (count : ℕ) (laws : Laws) : Type 0 where
+  pub lines : List Line
+  pub fit : LinesFit lines
+  pub is : text ≡ text_of lines ++ rest
+  pub count_is : count ≡ length lines
+  pub stands : StandsFor laws lines
