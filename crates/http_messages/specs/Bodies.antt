@@ -84,11 +84,6 @@ abbrev pub body_by : Framing → List ℕ → Cut (List ℕ)
 body_by (Sized n) bytes = exactly n bytes
 body_by Chunked bytes = rest_of_chunks [] bytes
 
--- a body before its first byte
-abbrev pub awaited_by : Framing → Awaited
-awaited_by (Sized n) = Counted n
-awaited_by Chunked = InChunks []
-
 -- the rest of a body, in the middle of a chunk that has so many bytes
 abbrev pub rest_of_chunk : List ℕ → ℕ → List ℕ → Cut (List ℕ)
 rest_of_chunk body size bytes = and_then (chunk_data size bytes) (λ piece rest. rest_of_chunks (body ++ piece) rest)

@@ -1,7 +1,8 @@
 //! Bodies.
 ghost use Rattle.std.specs.Prelude.{◌≡◌, ◌<◌, ◌≤◌, ℕ, length, option_map, IfOk};
 ghost use Rattle.httparse.specs.Grammar.{chunk_size};
-ghost use Rattle.http_messages.specs.Bodies.{awaited_by, chunk_line};
+ghost use Rattle.http_messages.specs.Bodies.{chunk_line};
+ghost use Rattle.http_messages.specs.Awaited.{awaited_by};
 ghost use Rattle.http_messages.specs.Readings.{FindsBody, StepsBody};
 
 use crate::found::{BodyFound, BodyStep};

@@ -3,7 +3,8 @@ ghost use Rattle.std.specs.Prelude.{◌≡◌, ◌≤◌, ◌++◌, [], ℕ, Lis
 ghost use Rattle.wsgi_core.specs.Applications.{App};
 ghost use Rattle.wsgi_core.specs.Standings.{IsAllSaid, IsBegun, IsCutBy, IsCutSaid, IsFed, IsTaken, IsTakenCut, IsToldTheEnd, StaysCut, StaysEnded};
 ghost use Rattle.wsgi_core.specs.Steps.{phase_by};
-ghost use Rattle.scgi_core.specs.Sessions.{scgi, scgi_answers};
+ghost use Rattle.scgi_core.specs.Sessions.{scgi_answers};
+ghost use Rattle.scgi_core.specs.Connections.{scgi};
 ghost use Rattle.scgi_core.specs.Steps.{IsAt, Stands, Stopped, pending_of};
 
 use crate::answer::{push_answer, refusal_text};

@@ -13,7 +13,8 @@ use Rattle.wsgi_core.specs.declared.session.SessionPhase.{SessionPhase}
 use Rattle.wsgi_connection.specs.declared.connection.ConnectionEnd.{ConnectionEnd}
 use Rattle.wsgi_connection.specs.declared.connection.Turn.{Turn}
 use Rattle.wsgi_connection.specs.declared.connection.ConnectionEnd.TheVariants.{Closed, TooLong, ReadFault, WriteFault, Memory}
-use Rattle.wsgi_connection.specs.Connections.{most_bytes, most_piece, whole_session, Exchanged, HandedAhead, IsServed, IsWhole, SentAhead, SentFor}
+use Rattle.wsgi_connection.specs.Connections.{most_bytes, most_piece, whole_session, Exchanged, HandedAhead, IsServed, SentAhead, SentFor}
+use Rattle.wsgi_connection.specs.Wholes.{IsWhole}
 use Rattle.wsgi_connection.specs.Pieces.{Breaks, Goes, IsAtRest, said}
 
 -- ---- results

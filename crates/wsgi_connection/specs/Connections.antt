@@ -64,11 +64,3 @@ pub record HandedAhead (answers : Gateway) (app : App) (port : ℕ) (in0 in1 out
 -- what is sent for all that was left of an input; the end is not told where there is more than is looked at
 abbrev pub whole_session : Gateway → App → ℕ → List ℕ → Sent
 whole_session answers app port left = said_by answers app port (take most_bytes left) (nat_le (length left) most_bytes)
-
--- out has all of it, and it closes or was too long; or out has a prefix
-abbrev pub IsWhole : ConnectionEnd → Sent → Option (List ℕ) → Option (List ℕ) → Type 0
-IsWhole Closed s out0 out1 = (out1 ≡ appended out0 s.bytes) × (s.closes ≡ true)
-IsWhole TooLong s out0 out1 = (out1 ≡ appended out0 s.bytes) × (s.closes ≡ false)
-IsWhole ReadFault s out0 out1 = AppendsPrefix out0 out1 s.bytes
-IsWhole WriteFault s out0 out1 = AppendsPrefix out0 out1 s.bytes
-IsWhole Memory s out0 out1 = AppendsPrefix out0 out1 s.bytes

@@ -1,2 +1,3 @@
 pub mod Connections
 pub mod Pieces
+pub mod Wholes

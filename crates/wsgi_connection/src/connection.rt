@@ -3,7 +3,8 @@ ghost use Rattle.std.specs.Prelude.{◌≡◌, ◌≢◌, ◌⊎◌, ◌≤◌, 
 ghost use Rattle.gv_values.specs.Counts.{HasRisen};
 ghost use Rattle.gv_io.specs.Streams.{appended, AppendsPrefix, Extends};
 ghost use Rattle.wsgi_core.specs.Applications.{App};
-ghost use Rattle.wsgi_connection.specs.Connections.{Exchanged, HandedAhead, IsWhole, most_bytes, whole_session};
+ghost use Rattle.wsgi_connection.specs.Connections.{Exchanged, HandedAhead, most_bytes, whole_session};
+ghost use Rattle.wsgi_connection.specs.Wholes.{IsWhole};
 ghost use Rattle.wsgi_connection.specs.Pieces.{Breaks, Counts, Goes, IsAtRest, Leaves, said};
 
 use gv_io::{Failed, Sink, Source};

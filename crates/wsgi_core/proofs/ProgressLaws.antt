@@ -6,7 +6,8 @@ use Rattle.http_messages.specs.declared.refusal.Refusal.{Refusal}
 use Rattle.http_messages.specs.declared.request.Request.{Request}
 use Rattle.http_messages.specs.declared.request.Awaited.{Awaited}
 use Rattle.http_messages.specs.Cuts.{Cut, waits, refused, whole}
-use Rattle.http_messages.specs.Bodies.{awaited_by, body_left}
+use Rattle.http_messages.specs.Bodies.{body_left}
+use Rattle.http_messages.specs.Awaited.{awaited_by}
 use Rattle.http_messages.specs.Readings.{ReadsAlike}
 use Rattle.http_messages.specs.Requests.{request_at}
 use Rattle.wsgi_core.specs.declared.session.SessionStage.{SessionStage}
