@@ -57,5 +57,9 @@ abbrev pub or_empty : Option (List ℕ) → List ℕ
 or_empty None = []
 or_empty (Some path) = path
 
+-- the path of a request, by its environ
+abbrev pub path_of : List Pair → List ℕ
+path_of environ = or_empty (pair_value (codes "PATH_INFO") environ)
+
 unfoldable pub shipped : App
-shipped environ body = reply_at (route_of (or_empty (pair_value (codes "PATH_INFO") environ))) environ body
+shipped environ body = reply_at (route_of (path_of environ)) environ body

@@ -23,5 +23,5 @@ pub use http_messages::{Bytes, Environ, Headers};
 pub use laws::{sessions_join_their_pieces, sessions_never_take_back};
 pub use reply::{Application, Pieces, Reply};
 pub use session::{Session, SessionPhase, SessionStage};
-pub use shipped::{Route, ShippedApp};
+pub use shipped::{Route, ShippedApp, path_of, whole_reply};
 pub use talk::Talk;

@@ -1,7 +1,6 @@
 //! The application that comes with the server.
 ghost use Rattle.std.specs.Prelude.{◌≡◌, ◌++◌, [], ◌∷◌, IfOk, OnOk, codes, false, true};
-ghost use Rattle.wsgi_core.specs.Shipped.{content_type, environ_text, or_empty, pair_text, reply_at, route_of, shipped, whole_reply};
-ghost use Rattle.http_messages.specs.Environs.{pair_value};
+ghost use Rattle.wsgi_core.specs.Shipped.{content_type, environ_text, pair_text, path_of, reply_at, route_of, shipped, whole_reply};
 
 use crate::reply::{Application, Pieces, Reply};
 use http_messages::{Bytes, Environ, Headers, Sequence};
@@ -41,9 +40,9 @@ impl Application for ShippedApp {
     }
 }
 
-/// The path; empty where there is none.
-fn path_of(environ: &Environ) -> &[u8]
-    ensures { result.now ≡ or_empty (pair_value (codes "PATH_INFO") environ.now) }
+/// The path of a request; empty where there is none.
+pub fn path_of(environ: &Environ) -> &[u8]
+    ensures { result.now ≡ path_of environ.now }
 {
     match environ.get(b"PATH_INFO") {
         Some(path) => path,
@@ -118,7 +117,12 @@ fn one_piece(alloc: Global, body: &[u8]) -> Result<Pieces, AllocError>
 }
 
 /// A reply of one piece, with its type and its length.
-fn whole_reply(alloc: Global, status: &[u8], kind: &[u8], body: &[u8]) -> Result<Reply, AllocError>
+pub fn whole_reply(
+    alloc: Global,
+    status: &[u8],
+    kind: &[u8],
+    body: &[u8],
+) -> Result<Reply, AllocError>
     ensures { IfOk result (λ reply. reply ≡ whole_reply status.now kind.now body.now) }
 {
     let status = copied(alloc, status)?;
