@@ -15,9 +15,10 @@ use Rattle.wsgi_core.specs.Sessions.{answers}
 use Rattle.world.specs.Worlds.{Meaning as World}
 use Rattle.stream_net.specs.Nets.{IsAtRest, IsFresh, Meaning}
 use Rattle.stream_server.specs.declared.limits.Limits.{Limits}
-use Rattle.stream_server.specs.Serving.{IsInRange, Rests}
+use Rattle.stream_server.specs.Ranges.{IsInRange}
+use Rattle.stream_server.specs.Serving.{Rests}
 use Rattle.wsgi_native.specs.Agreeing.{Agrees}
-use Rattle.wsgi_native.specs.Ends.{IsOutOfJobs}
+use Rattle.wsgi_native.specs.Ends.{IsAtJob, IsOutOfJobs}
 use Rattle.wsgi_native.specs.JobApp.{job_app}
 use Rattle.wsgi_native.specs.Tied.{IsInOrder}
 use Rattle.serve_command.specs.declared.serving.Served.{Served}
@@ -138,9 +139,9 @@ by_options P o given is h = λ options e. subst P (same_options given options (s
 
 -- ---- where memory ran out before it listened
 
-pub nobody_served_natively : (asked : ℕ) (limits : Limits) (w : Meaning) (before after : World) (out0 out1 : Option (List ℕ)) → IsFresh w → after ≡ before → out1 ≡ out0
-    → ServesNatively Served.Memory asked limits w before after out0 out1
-nobody_served_natively asked limits w before after out0 out1 fresh kept same = record {
+pub nobody_served_natively : (workers asked : ℕ) (limits : Limits) (w : Meaning) (before after : World) (out0 out1 : Option (List ℕ)) → IsFresh w → after ≡ before → out1 ≡ out0
+    → ServesNatively workers Served.Memory asked limits w before after out0 out1
+nobody_served_natively workers asked limits w before after out0 out1 fresh kept same = record {
   serves = none_served_jobs Served.Memory asked limits w after out0 out1 0 memory_unfinished memory_no_jobs fresh.none fresh.none_live (left_as_it_was out0 out1 (listening 0) same) (inl same);
   begun = inr (kept, fresh.none);
 }
@@ -149,7 +150,7 @@ pub nobody_served : (answers : ServeAnswers) (asked : ℕ) (app : App) (limits :
     → ServesWith answers Served.Memory asked app limits w before after out0 out1
 nobody_served (ServeAnswers.Application gateway) asked app limits w before after out0 out1 fresh kept same =
     none_served Rests (λ port. ⊥) Served.Memory asked (answers_by gateway) app limits w out0 out1 0 memory_unfinished memory_no_jobs fresh.none fresh.none_live (left_as_it_was out0 out1 (listening 0) same) (inl same)
-nobody_served (ServeAnswers.Jobs workers) asked app limits w before after out0 out1 fresh kept same = nobody_served_natively asked limits w before after out0 out1 fresh kept same
+nobody_served (ServeAnswers.Jobs workers) asked app limits w before after out0 out1 fresh kept same = nobody_served_natively workers asked limits w before after out0 out1 fresh kept same
 
 -- ---- where native workers served
 
@@ -163,24 +164,30 @@ agrees_before v app a = record { plain = a.plain; done = a.done }
 agrees_after : (v : World) (app : App) → Agrees v app → Agrees (stopped v) app
 agrees_after v app a = record { plain = a.plain; done = a.done }
 
-vain_after : (port : ℕ) (limits : Limits) (w : Meaning) (v : World) → IsOutOfJobs port limits w v → IsOutOfJobs port limits w (stopped v)
-vain_after port limits w v h = record { spent = h.spent; client = h.client; live = h.live; free = h.free; going = λ app fits. h.going app (agrees_before v app fits); wants_it = h.wants_it }
+at_job_after : (port : ℕ) (v : World) (bytes out : List ℕ) → IsAtJob port v bytes out → IsAtJob port (stopped v) bytes out
+at_job_after port v bytes out h = record { request = h.request; body = h.body; rest = h.rest; job = h.job; asks = h.asks; next = λ app more fits. h.next app more (agrees_before v app fits) }
 
-vain_before : (port : ℕ) (limits : Limits) (w : Meaning) (v : World) → IsOutOfJobs port limits w (stopped v) → IsOutOfJobs port limits w v
-vain_before port limits w v h = record { spent = h.spent; client = h.client; live = h.live; free = h.free; going = λ app fits. h.going app (agrees_after v app fits); wants_it = h.wants_it }
+at_job_before : (port : ℕ) (v : World) (bytes out : List ℕ) → IsAtJob port (stopped v) bytes out → IsAtJob port v bytes out
+at_job_before port v bytes out h = record { request = h.request; body = h.body; rest = h.rest; job = h.job; asks = h.asks; next = λ app more fits. h.next app more (agrees_after v app fits) }
+
+vain_after : (port : ℕ) (w : Meaning) (v : World) → IsOutOfJobs port w v → IsOutOfJobs port w (stopped v)
+vain_after port w v h = record { spent = h.spent; conn = h.conn; accepted = h.accepted; not_at_rest = h.not_at_rest; asks = λ bytes out reads writes. at_job_after port v bytes out (h.asks bytes out reads writes) }
+
+vain_before : (port : ℕ) (w : Meaning) (v : World) → IsOutOfJobs port w (stopped v) → IsOutOfJobs port w v
+vain_before port w v h = record { spent = h.spent; conn = h.conn; accepted = h.accepted; not_at_rest = h.not_at_rest; asks = λ bytes out reads writes. at_job_before port v bytes out (h.asks bytes out reads writes) }
 
 serves_after : (end : Served) (asked : ℕ) (limits : Limits) (w : Meaning) (v : World) (out0 out1 : Option (List ℕ)) → ServesJobsAt end asked limits w v out0 out1 → ServesJobsAt end asked limits w (stopped v) out0 out1
 unfolding spent_as
 serves_after end asked limits w v out0 out1 h = record {
-  serves = spent_as IsAtRest (λ port. IsOutOfJobs port limits w v) (λ port. IsOutOfJobs port limits w (stopped v)) end asked answers job_app limits w out0 out1 (λ port vain. vain_after port limits w v vain) h.serves;
+  serves = spent_as IsAtRest (λ port. IsOutOfJobs port w v) (λ port. IsOutOfJobs port w (stopped v)) end asked answers job_app limits w out0 out1 (λ port vain. vain_after port w v vain) h.serves;
   earned = λ app agrees. h.earned app (agrees_before v app agrees);
-  out_of_jobs = λ vain. h.out_of_jobs (vain_before h.serves.port limits w v vain);
+  out_of_jobs = λ vain. h.out_of_jobs (vain_before h.serves.port w v vain);
 }
 
-pub served_natively : (end : Served) (asked : ℕ) (limits : Limits) (w : Meaning) (before v after : World) (out0 out1 : Option (List ℕ)) → after ≡ record v { runs = false } → IsInOrder v
-    → ServesJobsAt end asked limits w v out0 out1 → ServesNatively end asked limits w before after out0 out1
-served_natively end asked limits w before v after out0 out1 is order h =
-    subst (λ (x : World). ServesNatively end asked limits w before x out0 out1) (sym is) (record { serves = serves_after end asked limits w v out0 out1 h; begun = inl order.done })
+pub served_natively : (workers : ℕ) (end : Served) (asked : ℕ) (limits : Limits) (w : Meaning) (before v after : World) (out0 out1 : Option (List ℕ)) → after ≡ record v { runs = false } → IsInOrder v → v.workers ≡ workers
+    → ServesJobsAt end asked limits w v out0 out1 → ServesNatively workers end asked limits w before after out0 out1
+served_natively workers end asked limits w before v after out0 out1 is order same h =
+    subst (λ (x : World). ServesNatively workers end asked limits w before x out0 out1) (sym is) (record { serves = serves_after end asked limits w v out0 out1 h; begun = inl (record { workers_are = same; posted = order.done }) })
 
 -- ---- what these answers serve with
 
@@ -190,9 +197,9 @@ served_with_app given gateway end asked app limits whole w before after out0 out
     subst (λ (a : ServeAnswers). ServesWith a end asked app whole w before after out0 out1) (sym is) (subst (λ (l : Limits). ServesAt end asked (answers_by gateway) app l w out0 out1) fit h)
 
 pub served_with_jobs : (given : ServeAnswers) (workers : ℕ) (end : Served) (asked : ℕ) (app : App) (limits whole : Limits) (w : Meaning) (before after : World) (out0 out1 : Option (List ℕ)) → given ≡ ServeAnswers.Jobs workers → limits ≡ whole
-    → ServesNatively end asked limits w before after out0 out1 → ServesWith given end asked app whole w before after out0 out1
+    → ServesNatively workers end asked limits w before after out0 out1 → ServesWith given end asked app whole w before after out0 out1
 served_with_jobs given workers end asked app limits whole w before after out0 out1 is fit h =
-    subst (λ (a : ServeAnswers). ServesWith a end asked app whole w before after out0 out1) (sym is) (subst (λ (l : Limits). ServesNatively end asked l w before after out0 out1) fit h)
+    subst (λ (a : ServeAnswers). ServesWith a end asked app whole w before after out0 out1) (sym is) (subst (λ (l : Limits). ServesNatively workers end asked l w before after out0 out1) fit h)
 
 -- ---- what a server came to, and its line
 

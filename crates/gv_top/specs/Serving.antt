@@ -21,20 +21,21 @@ use Rattle.gv_top.specs.Verdicts.{line_of}
 abbrev pub limits_of : ServeOptions → Limits
 limits_of options = record { pool = options.pool; conns = options.conns; idle = options.idle }
 
--- each job that native workers answered was posted
-abbrev pub HasPostedAll : World → Type 0
-HasPostedAll w = (number : ℕ) → is_answered number w.answers ≡ true → is_posted number w.posts ≡ true
+-- so many native workers were begun, and each job that they answered was posted
+pub record HaveWorked (workers : ℕ) (w : World) : Type 0 where
+  pub workers_are : w.workers ≡ workers
+  pub posted : (number : ℕ) → is_answered number w.answers ≡ true → is_posted number w.posts ≡ true
 
--- It served with native workers for its jobs, each of which was posted before it was answered. Or they were not begun:
--- they are as they were, and nobody was accepted.
-pub record ServesNatively (end : Served) (asked : ℕ) (limits : Limits) (w : Meaning) (before after : World) (out0 out1 : Option (List ℕ)) : Type 0 where
+-- It served with so many native workers for its jobs, each of which was posted before it was answered. Or they were not
+-- begun: they are as they were, and nobody was accepted.
+pub record ServesNatively (workers : ℕ) (end : Served) (asked : ℕ) (limits : Limits) (w : Meaning) (before after : World) (out0 out1 : Option (List ℕ)) : Type 0 where
   pub serves : ServesJobsAt end asked limits w after out0 out1
-  pub begun : HasPostedAll after ⊎ ((after ≡ before) × (w.connections ≡ []))
+  pub begun : HaveWorked workers after ⊎ ((after ≡ before) × (w.connections ≡ []))
 
 -- it served so: with this application through this gateway, or with native workers for jobs
 abbrev pub ServesWith : ServeAnswers → Served → ℕ → App → Limits → Meaning → World → World → Option (List ℕ) → Option (List ℕ) → Type 0
 ServesWith (Application gateway) end asked app limits w before after out0 out1 = ServesAt end asked (answers_by gateway) app limits w out0 out1
-ServesWith (Jobs workers) end asked app limits w before after out0 out1 = ServesNatively end asked limits w before after out0 out1
+ServesWith (Jobs workers) end asked app limits w before after out0 out1 = ServesNatively workers end asked limits w before after out0 out1
 
 -- The server came to an end at which net and out are so, and the status and the line on err are those of its end. What
 -- native workers were before it and are after it is said where it has jobs.

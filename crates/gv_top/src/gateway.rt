@@ -1,7 +1,7 @@
 //! What the program says through the gateway that its words name.
 ghost use Rattle.std.specs.Prelude.{◌≡◌, ◌≢◌, ℕ, List, Some};
 ghost use Rattle.stream_net.specs.Nets.{IsFresh};
-ghost use Rattle.stream_server.specs.Serving.{IsInRange};
+ghost use Rattle.stream_server.specs.Ranges.{IsInRange};
 ghost use Rattle.serve_command.specs.Served.{IsToldFirst, ServesAt};
 ghost use Rattle.wsgi_connection.specs.Connections.{Exchanged, HandedAhead, whole_session};
 ghost use Rattle.wsgi_connection.specs.Wholes.{IsWhole};

@@ -4,7 +4,7 @@ ghost use Rattle.gv_values.specs.Counts.{HasRisen};
 ghost use Rattle.command_words.specs.declared.command.ServeOptions.{ServeOptions as AnyServer};
 ghost use Rattle.wsgi_connection.specs.Connections.{HandedAhead};
 ghost use Rattle.stream_net.specs.Nets.{IsFresh};
-ghost use Rattle.stream_server.specs.Serving.{IsInRange};
+ghost use Rattle.stream_server.specs.Ranges.{IsInRange};
 ghost use Rattle.command_words.specs.Ranges.{AreAnswersInRange};
 ghost use Rattle.serve_command.specs.Served.{IsToldFirst};
 ghost use Rattle.gv_top.specs.Checks.{AnswersCheck};
@@ -65,7 +65,7 @@ fn serve_natively<K: Sink, N: Net, W: World, H: Wait>(
     requires in_range { IsInRange limits }
     requires some { 0 < workers }
     requires few { workers ≤ 16 }
-    ensures serves { ServesNatively result port limits (N.meaning net.new) (W.meaning native.old) (W.meaning native.new) (K.written out.old) (K.written out.new) }
+    ensures serves { ServesNatively workers result port limits (N.meaning net.new) (W.meaning native.old) (W.meaning native.new) (K.written out.old) (K.written out.new) }
     ensures told { IsToldFirst port (N.meaning net.new) (K.written out.old) (K.handed out.new) }
     ensures handed { K.handed out.old ≡ K.written out.old → result ≢ Served.WriteFault → result ≢ Served.Memory → K.handed out.new ≡ K.written out.new }
     ensures rests { (W.meaning native.new).runs ≡ false }

@@ -1,17 +1,16 @@
 -- The command's ends, one by one.
-use Rattle.std.proofs.Common.{◌≡◌, ◌≢◌, ◌⊎◌, inl, inr, ℕ, ◌≤◌, true, false, List, [], ◌++◌, length, Option, Result, Err, refl, ap, sym, ◌∙◌, subst, arith, take}
+use Rattle.std.proofs.Common.{◌≡◌, ◌≢◌, ◌⊎◌, inl, inr, ℕ, ◌≤◌, true, false, List, [], length, Option, refl, ap, sym, ◌∙◌, subst, arith, take}
 use Rattle.std.specs.List.{All}
 use Rattle.std.proofs.lemmas.List.Elements.{All-nil, All-weaker}
 use Rattle.gv_io.specs.Streams.{appended, AppendsPrefix, Extends}
-use Rattle.gv_io.proofs.StreamLaws.{appended-appended, AppendsPrefix-after, AppendsPrefix-all, AppendsPrefix-longer}
+use Rattle.gv_io.proofs.StreamLaws.{appended-appended, AppendsPrefix-after, AppendsPrefix-longer}
 use Rattle.wsgi_core.specs.Applications.{App}
 use Rattle.wsgi_core.specs.Gateways.{Gateway, said_by}
 use Rattle.stream_net.specs.Nets.{Connection, Meaning, listens_at}
 use Rattle.stream_server.specs.declared.limits.Limits.{Limits}
-use Rattle.stream_server.specs.Served.{Cause}
-use Rattle.stream_server.specs.Serving.{AllBut, BeginsSo, EachTold, IsAllServed, IsClosedWell, WaitsToRead}
-use Rattle.serve_command.specs.declared.lines.Unwritten.{Unwritten}
+use Rattle.stream_server.specs.Serving.{AllBut, BeginsSo, Cause, EachTold, IsAllServed, IsClosedWell, WaitsToRead}
 use Rattle.serve_command.specs.declared.serving.Served.{Served}
+use Rattle.serve_command.specs.Endings.{Stays}
 use Rattle.serve_command.specs.Served.{IsToldFirst, ServesSo, listening, served}
 
 -- nothing is said of no connections
@@ -25,48 +24,21 @@ nobody_rests P cs none = record { one = 0; others = λ k other within. absurd (l
 pub closed_rest : (P : Connection → Type 0) (cs : List Connection) → All (λ c. c.closed ≡ true) cs → All (λ c. c.closed ≡ false → P c) cs
 closed_rest P cs closed = All-weaker (λ (c : Connection). c.closed ≡ true) (λ (c : Connection). c.closed ≡ false → P c) (λ c is still. absurd (cc)) cs closed
 
-pub listener_unfinished : Served.Listener ≡ Served.Finished → ⊥
-listener_unfinished e = absurd (cc)
-
 pub memory_unfinished : Served.Memory ≡ Served.Finished → ⊥
 memory_unfinished e = absurd (cc)
 
-pub listener_no_line : Served.Listener ≡ Served.WriteFault → ⊥
-listener_no_line e = absurd (cc)
-
-pub memory_no_line : Served.Memory ≡ Served.WriteFault → ⊥
-memory_no_line e = absurd (cc)
-
-pub no_jobs_unfinished : Served.NoJobs ≡ Served.Finished → ⊥
-no_jobs_unfinished e = absurd (cc)
-
-pub no_jobs_no_line : Served.NoJobs ≡ Served.WriteFault → ⊥
-no_jobs_no_line e = absurd (cc)
-
-pub listener_no_jobs : Served.Listener ≡ Served.NoJobs → ⊥
-listener_no_jobs e = absurd (cc)
-
 pub memory_no_jobs : Served.Memory ≡ Served.NoJobs → ⊥
 memory_no_jobs e = absurd (cc)
-
-pub finished_no_jobs : Served.Finished ≡ Served.NoJobs → ⊥
-finished_no_jobs e = absurd (cc)
-
-pub finished_no_line : Served.Finished ≡ Served.WriteFault → ⊥
-finished_no_line e = absurd (cc)
 
 pub at_no_line : (end : Served) → (end ≡ Served.Listener) ⊎ (end ≡ Served.NoJobs) ⊎ (end ≡ Served.Memory) → end ≢ Served.WriteFault
 at_no_line end (inl e) f = absurd (cc)
 at_no_line end (inr (inl e)) f = absurd (cc)
 at_no_line end (inr (inr e)) f = absurd (cc)
 
-pub finished_at_line : (end : Served) → end ≡ Served.Finished → (end ≡ Served.Listener) ⊎ (end ≡ Served.NoJobs) ⊎ (end ≡ Served.Memory) → ⊥
-finished_at_line end e (inl f) = absurd (cc)
-finished_at_line end e (inr (inl f)) = absurd (cc)
-finished_at_line end e (inr (inr f)) = absurd (cc)
-
-pub is_memory : (refusal : Unwritten) → refusal ≡ Unwritten.Memory → ◌≡◌ {A = Result (Unit {0}) Unwritten} (Err refusal) (Err Unwritten.Memory)
-is_memory refusal e = ap (λ (x : Unwritten). Err x) e
+pub at_unfinished : (end : Served) → (end ≡ Served.Listener) ⊎ (end ≡ Served.NoJobs) ⊎ (end ≡ Served.Memory) → end ≢ Served.Finished
+at_unfinished end (inl e) f = absurd (cc)
+at_unfinished end (inr (inl e)) f = absurd (cc)
+at_unfinished end (inr (inr e)) f = absurd (cc)
 
 -- ---- what was handed on
 
@@ -82,14 +54,6 @@ told_first asked port w out0 out1 handed1 handed2 told all kept listens some = (
   kept.more,
   kept.is ∙ ap (λ o. appended o kept.more) (all ∙ told) ∙ appended-appended out0 (listening port) kept.more,
 )
-
--- an end at a line that isn't out is that of a write or of want of memory
-pub no_other_end : (end : Served) (P : Type 0) → (end ≡ Served.Finished → ⊥) → (end ≡ Served.Listener → ⊥) → (end ≡ Served.NoJobs → ⊥) → end ≢ Served.WriteFault → end ≢ Served.Memory → P
-no_other_end Served.Finished P f l j w m = absurd (f refl)
-no_other_end Served.Listener P f l j w m = absurd (l refl)
-no_other_end Served.NoJobs P f l j w m = absurd (j refl)
-no_other_end Served.WriteFault P f l j w m = absurd (w refl)
-no_other_end Served.Memory P f l j w m = absurd (m refl)
 
 -- ---- the ends
 
@@ -148,59 +112,67 @@ spent_as rests was_spent is_spent end asked answers app limits w out0 out1 follo
   no_jobs = λ e. follows h.port (h.no_jobs e);
 }
 
--- ---- where somebody was accepted
+-- ---- ends that stay
 
-module _ (rests : Connection → Type 0) (is_spent : ℕ → Type 0) (asked : ℕ) (answers : Gateway) (app : App) (limits : Limits) (w : Meaning) (out0 out1 : Option (List ℕ)) (port : ℕ) (told : out1 ≡ appended out0 (listening port))
+pub was_finished : (before after : Served) → Stays before after → after ≡ Served.Finished → before ≡ Served.Finished
+was_finished before after (inl same) e = sym same ∙ e
+was_finished before after (inr h) e = h.0
+
+pub was_at_line : (before after : Served) → Stays before after → before ≢ Served.WriteFault → after ≡ Served.WriteFault → before ≡ Served.Finished
+was_at_line before after (inl same) other e = absurd (other (sym same ∙ e))
+was_at_line before after (inr h) other e = h.0
+
+pub had_no_jobs : (before after : Served) → Stays before after → after ≡ Served.NoJobs → before ≡ Served.NoJobs
+had_no_jobs before after (inl same) e = sym same ∙ e
+had_no_jobs before after (inr (finished, inl line)) e = absurd (cc)
+had_no_jobs before after (inr (finished, inr memory)) e = absurd (cc)
+
+pub still_spent : (before after : Served) → Stays before after → (before ≡ Served.NoJobs) ⊎ (before ≡ Served.Memory) → (after ≡ Served.NoJobs) ⊎ (after ≡ Served.Memory)
+still_spent before after (inl same) (inl e) = inl (same ∙ e)
+still_spent before after (inl same) (inr e) = inr (same ∙ e)
+still_spent before after (inr h) (inl e) = absurd (let f = h.0 in cc)
+still_spent before after (inr h) (inr e) = absurd (let f = h.0 in cc)
+
+-- R holds where the listener failed and where the server finished, so it holds but where no job was left or memory ran out
+pub rests_after : (R : Type 0) (before after : Served) → Stays before after → before ≢ Served.WriteFault → (before ≡ Served.Listener → R) → (before ≡ Served.Finished → R) → after ≢ Served.NoJobs → after ≢ Served.Memory → R
+rests_after R before after (inl same) other listener finished no_jobs memory = by before same other listener finished
+  where
+    by : (end : Served) → after ≡ end → end ≢ Served.WriteFault → (end ≡ Served.Listener → R) → (end ≡ Served.Finished → R) → R
+    by Served.Finished e o l f = f refl
+    by Served.Listener e o l f = l refl
+    by Served.NoJobs e o l f = absurd (no_jobs e)
+    by Served.WriteFault e o l f = absurd (o refl)
+    by Served.Memory e o l f = absurd (memory e)
+rests_after R before after (inr h) other listener finished no_jobs memory = finished h.0
+
+-- ---- where the first line was told
+
+module _ (rests : Connection → Type 0) (is_spent : ℕ → Type 0) (asked : ℕ) (answers : Gateway) (app : App) (limits : Limits) (w : Meaning) (out0 out1 out2 : Option (List ℕ)) (port : ℕ) (before end : Served) (told : out1 ≡ appended out0 (listening port))
     (own : EachTold w.connections (λ c bytes sent. BeginsSo (said_by answers app port bytes c.ended).bytes sent))
     (whole : EachTold w.connections (λ c bytes sent. IsClosedWell c → sent ≡ (said_by answers app port bytes c.ended).bytes))
     (answered : EachTold w.connections (λ c bytes sent. WaitsToRead c → sent ≡ (said_by answers app port bytes c.ended).bytes)) (rest_but : AllBut rests w.connections)
     (cause : EachTold w.connections (λ c bytes sent. c.closed ≡ true → Cause (said_by answers app port bytes c.ended) sent limits.idle c))
-    (most : w.most ≤ limits.pool) (within : length w.connections ≤ limits.conns) (listens : w.listens ≡ listens_at asked port) where
-  -- out has the first line, and a beginning of the second
-  unfoldable pub some_served : (end : Served) (out2 : Option (List ℕ)) → (end ≡ Served.Finished → ⊥) → (end ≢ Served.WriteFault → out2 ≡ out1) → (end ≢ Served.NoJobs → end ≢ Served.Memory → All rests w.connections)
-      → (end ≡ Served.WriteFault → (w.connections ≡ []) ⊎ IsAllServed w limits.conns) → (end ≡ Served.NoJobs → is_spent port) → AppendsPrefix out1 out2 (served limits.conns)
-      → ServesSo rests is_spent end asked answers app limits w out0 out2
-  some_served end out2 unfinished untold resting at_line spent more = record {
+    (most : w.most ≤ limits.pool) (within : length w.connections ≤ limits.conns) (listens : w.listens ≡ listens_at asked port)
+    (stays : Stays before end) (no_line : before ≢ Served.WriteFault) (more : AppendsPrefix out1 out2 (served limits.conns)) (last : end ≡ Served.Finished → out2 ≡ appended out1 (served limits.conns))
+    (silent : end ≢ Served.Finished → end ≢ Served.WriteFault → out2 ≡ out1) where
+  unfoldable pub serves_so : (before ≡ Served.Finished → IsAllServed w limits.conns) → (All (λ c. c.closed ≡ true) w.connections → All rests w.connections) → (before ≡ Served.Listener → All rests w.connections)
+      → (before ≡ Served.NoJobs → is_spent port) → ServesSo rests is_spent end asked answers app limits w out0 out2
+  serves_so finished closed resting spent = record {
     port = port;
     listens = inr listens;
     begins = AppendsPrefix-after out0 out1 out2 (listening port) (served limits.conns) told more;
-    both = λ e. absurd (unfinished e);
-    first = λ e. inr (untold (at_no_line end e) ∙ told);
+    both = λ e. last e ∙ ap (λ (o : Option (List ℕ)). appended o (served limits.conns)) told ∙ appended-appended out0 (listening port) (served limits.conns);
+    first = λ e. inr (silent (at_unfinished end e) (at_no_line end e) ∙ told);
     told = λ _. (take more.count (served limits.conns), more.is ∙ ap (λ (o : Option (List ℕ)). appended o (take more.count (served limits.conns))) told ∙ appended-appended out0 (listening port) (take more.count (served limits.conns)));
     own = own;
     whole = whole;
     answered = answered;
-    resting = resting;
+    resting = rests_after (All rests w.connections) before end stays no_line resting (λ e. closed (finished e).closed);
     rest_but = rest_but;
     cause = cause;
     most = most;
     within = within;
-    all = λ e. absurd (unfinished e);
-    at_line = at_line;
-    no_jobs = spent;
+    all = λ e. finished (was_finished before end stays e);
+    at_line = λ e. inr (finished (was_at_line before end stays no_line e));
+    no_jobs = λ e. spent (had_no_jobs before end stays e);
   }
-
-  -- and both
-  unfoldable pub all_served : (out2 : Option (List ℕ)) → out2 ≡ appended out1 (served limits.conns) → IsAllServed w limits.conns → All rests w.connections → ServesSo rests is_spent Served.Finished asked answers app limits w out0 out2
-  all_served out2 last all resting =
-      let both : out2 ≡ appended out0 (listening port ++ served limits.conns) =
-      last ∙ ap (λ (o : Option (List ℕ)). appended o (served limits.conns)) told ∙ appended-appended out0 (listening port) (served limits.conns) in
-      record {
-        port = port;
-        listens = inr listens;
-        begins = AppendsPrefix-all out0 out2 (listening port ++ served limits.conns) both;
-        both = λ _. both;
-        first = λ e. absurd (finished_at_line Served.Finished refl e);
-        told = λ _. (served limits.conns, both);
-        own = own;
-        whole = whole;
-        answered = answered;
-        resting = λ _ _. resting;
-        rest_but = rest_but;
-        cause = cause;
-        most = most;
-        within = within;
-        all = λ _. all;
-        at_line = λ e. absurd (finished_no_line e);
-        no_jobs = λ e. absurd (finished_no_jobs e);
-      }

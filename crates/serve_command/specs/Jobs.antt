@@ -17,8 +17,8 @@ use Rattle.serve_command.specs.declared.serving.Served.{Served}
 pub record ServesJobsAt (end : Served) (asked : ℕ) (limits : Limits) (w : Meaning) (workers : World) (out0 out1 : Option (List ℕ)) : Type 0 where
   -- an open connection may be left while it is held for a job; no job is left where the last number was posted, and the
   -- request of a live connection asks for one more
-  pub serves : ServesSo IsAtRest (λ port. IsOutOfJobs port limits w workers) end asked answers job_app limits w out0 out1
+  pub serves : ServesSo IsAtRest (λ port. IsOutOfJobs port w workers) end asked answers job_app limits w out0 out1
   -- so it is for each application that agrees with that one but for the requests for jobs that the workers never did
   pub earned : (app : App) → Agrees workers app → EachTold w.connections (λ c bytes sent. BeginsSo (said_by answers app serves.port bytes c.ended).bytes sent)
   -- where no job is left it ends so, or memory ran out
-  pub out_of_jobs : IsOutOfJobs serves.port limits w workers → (end ≡ Served.NoJobs) ⊎ (end ≡ Served.Memory)
+  pub out_of_jobs : IsOutOfJobs serves.port w workers → (end ≡ Served.NoJobs) ⊎ (end ≡ Served.Memory)

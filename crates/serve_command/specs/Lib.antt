@@ -1,3 +1,4 @@
+pub mod Endings
 pub mod Jobs
 pub mod Lines
 pub mod Served

@@ -6,8 +6,7 @@ use Rattle.wsgi_core.specs.Applications.{App}
 use Rattle.wsgi_core.specs.Gateways.{Gateway, said_by}
 use Rattle.stream_net.specs.Nets.{Connection, Meaning, listens_at}
 use Rattle.stream_server.specs.declared.limits.Limits.{Limits}
-use Rattle.stream_server.specs.Served.{Cause}
-use Rattle.stream_server.specs.Serving.{AllBut, BeginsSo, EachTold, IsAllServed, IsClosedWell, Rests, WaitsToRead}
+use Rattle.stream_server.specs.Serving.{AllBut, BeginsSo, Cause, EachTold, IsAllServed, IsClosedWell, Rests, WaitsToRead}
 use Rattle.serve_command.specs.Lines.{number_line}
 use Rattle.serve_command.specs.declared.serving.Served.{Served}
 

@@ -1,14 +1,14 @@
 //! The same, where native workers answer the requests for jobs.
-ghost use Rattle.std.specs.Prelude.{◌≡◌, ◌≢◌, ◌≤◌, true, []};
+ghost use Rattle.std.specs.Prelude.{◌≡◌, ◌≢◌, ◌⊎◌, ◌≤◌, true, []};
 ghost use Rattle.gv_values.specs.Counts.{HasRisen};
 ghost use Rattle.stream_net.specs.Nets.{IsFresh};
-ghost use Rattle.stream_server.specs.Serving.{IsInRange};
+ghost use Rattle.stream_server.specs.Ranges.{IsInRange};
 ghost use Rattle.serve_command.specs.Served.{IsToldFirst};
 ghost use Rattle.serve_command.specs.Jobs.{ServesJobsAt};
 ghost use Rattle.wsgi_native.specs.Tied.{IsInOrder};
 
-use crate::lines::write_line;
-use crate::serving::{Served, unwritten};
+use crate::serving::Served;
+use crate::telling::{open_port, tell_end};
 use gv_io::Sink;
 use std::alloc::Global;
 use std::sync::Wait;
@@ -16,6 +16,23 @@ use stream_net::Net;
 use stream_server::Limits;
 use world::World;
 use wsgi_native::{JobsEnd, serve_jobs};
+
+/// The end of a server with jobs.
+fn served_end(end: JobsEnd) -> Served
+    ensures finished { result ≡ Served.Finished → end ≡ JobsEnd.Finished }
+    ensures listener { result ≡ Served.Listener → end ≡ JobsEnd.Listener }
+    ensures other { result ≢ Served.Listener → end ≢ JobsEnd.Listener }
+    ensures no_line { result ≢ Served.WriteFault }
+    ensures no_jobs { result ≡ Served.NoJobs → end ≡ JobsEnd.NoJobs }
+    ensures spent { (end ≡ JobsEnd.NoJobs) ⊎ (end ≡ JobsEnd.Memory) → (result ≡ Served.NoJobs) ⊎ (result ≡ Served.Memory) }
+{
+    match end {
+        JobsEnd::Finished => Served::Finished,
+        JobsEnd::Listener => Served::Listener,
+        JobsEnd::NoJobs => Served::NoJobs,
+        JobsEnd::Memory => Served::Memory,
+    }
+}
 
 /// Does as `serve_command` does over HTTP, but that the requests for `/job/KIND/INTEGER` are answered by jobs of the
 /// world, as `wsgi_native::serve_jobs` says, and all others as the shipped application answers them.
@@ -44,23 +61,14 @@ pub fn serve_jobs_command<K: Sink, N: Net, W: World, H: Wait>(
     ensures out_unfailed { result ≢ Served.WriteFault → K.faults out.new ≡ K.faults out.old }
     ensures net_never_falls { (N.meaning net.old).faults ≤ (N.meaning net.new).faults }
     ensures out_never_falls { K.faults out.old ≤ K.faults out.new }
-    // The world still runs, and each job that it answered was posted for a request.
+    // The world still runs, with as many workers, and each job that it answered was posted for a request.
     ensures in_order { IsInOrder (W.meaning world.new) }
+    ensures workers { (W.meaning world.new).workers ≡ (W.meaning world.old).workers }
 {
-    let Ok(port) = net.listen(port) else {
-        return Served::Listener;
+    let port = match open_port(alloc, port, out, net) {
+        Ok(port) => port,
+        Err(end) => return end,
     };
-    if let Err(refusal) = write_line(alloc, b"listening", u64::from(port), out) {
-        return unwritten(refusal);
-    }
-    match serve_jobs(rt, alloc, net, world, port, limits) {
-        JobsEnd::Finished => {}
-        JobsEnd::Listener => return Served::Listener,
-        JobsEnd::NoJobs => return Served::NoJobs,
-        JobsEnd::Memory => return Served::Memory,
-    }
-    match write_line(alloc, b"served", u64::from(limits.conns), out) {
-        Ok(()) => Served::Finished,
-        Err(refusal) => unwritten(refusal),
-    }
+    let end = served_end(serve_jobs(rt, alloc, net, world, port, limits));
+    tell_end(alloc, end, limits.conns, out)
 }

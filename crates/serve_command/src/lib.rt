@@ -4,6 +4,7 @@
 mod jobs;
 mod lines;
 mod serving;
+mod telling;
 
 pub use jobs::serve_jobs_command;
 pub use lines::push_number_line;

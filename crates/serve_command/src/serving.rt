@@ -2,10 +2,10 @@
 ghost use Rattle.std.specs.Prelude.{◌≡◌, ◌≢◌, ◌≤◌, ℕ};
 ghost use Rattle.gv_values.specs.Counts.{HasRisen};
 ghost use Rattle.stream_net.specs.Nets.{IsFresh};
-ghost use Rattle.stream_server.specs.Serving.{IsInRange};
+ghost use Rattle.stream_server.specs.Ranges.{IsInRange};
 ghost use Rattle.serve_command.specs.Served.{IsToldFirst, ServesAt};
 
-use crate::lines::{Unwritten, write_line};
+use crate::telling::{open_port, tell_end};
 use gv_io::Sink;
 use std::alloc::Global;
 use std::sync::Wait;
@@ -28,17 +28,18 @@ pub enum Served {
     Memory,
 }
 
-/// The end of a line that isn't out.
-pub fn unwritten(refusal: Unwritten) -> Served
-    ensures fault { result ≡ Served.WriteFault → refusal ≡ Unwritten.Fault }
-    ensures memory { result ≢ Served.WriteFault → refusal ≡ Unwritten.Memory }
-    ensures unfinished { result ≡ Served.Finished → ⊥ }
-    ensures not_listener { result ≡ Served.Listener → ⊥ }
-    ensures not_jobs { result ≡ Served.NoJobs → ⊥ }
+/// The end of a server that gives each reply at once.
+fn served_end(end: ServeEnd) -> Served
+    ensures finished { result ≡ Served.Finished → end ≡ ServeEnd.Finished }
+    ensures listener { result ≡ Served.Listener → end ≡ ServeEnd.Listener }
+    ensures other { result ≢ Served.Listener → end ≢ ServeEnd.Listener }
+    ensures no_line { result ≢ Served.WriteFault }
+    ensures no_jobs { result ≢ Served.NoJobs }
 {
-    match refusal {
-        Unwritten::Fault => Served::WriteFault,
-        Unwritten::Memory => Served::Memory,
+    match end {
+        ServeEnd::Finished => Served::Finished,
+        ServeEnd::Listener => Served::Listener,
+        ServeEnd::Memory => Served::Memory,
     }
 }
 
@@ -69,19 +70,10 @@ pub fn serve_command<T: Talk + Drop, K: Sink, N: Net, A: Application, H: Wait>(
     ensures net_never_falls { (N.meaning net.old).faults ≤ (N.meaning net.new).faults }
     ensures out_never_falls { K.faults out.old ≤ K.faults out.new }
 {
-    let Ok(port) = net.listen(port) else {
-        return Served::Listener;
+    let port = match open_port(alloc, port, out, net) {
+        Ok(port) => port,
+        Err(end) => return end,
     };
-    if let Err(refusal) = write_line(alloc, b"listening", u64::from(port), out) {
-        return unwritten(refusal);
-    }
-    match serve_with::<T, N, A, H>(rt, alloc, net, app, port, limits) {
-        ServeEnd::Finished => {}
-        ServeEnd::Listener => return Served::Listener,
-        ServeEnd::Memory => return Served::Memory,
-    }
-    match write_line(alloc, b"served", u64::from(limits.conns), out) {
-        Ok(()) => Served::Finished,
-        Err(refusal) => unwritten(refusal),
-    }
+    let end = served_end(serve_with::<T, N, A, H>(rt, alloc, net, app, port, limits));
+    tell_end(alloc, end, limits.conns, out)
 }

@@ -1,6 +1,6 @@
 //! The server whose requests for jobs a world answers, over connections and answers that go by a script.
 ghost use Rattle.std.specs.Prelude.{◌≤◌};
-ghost use Rattle.stream_server.specs.Serving.{IsInRange};
+ghost use Rattle.stream_server.specs.Ranges.{IsInRange};
 
 use gv_values::{Answer, FaultKind, JobOutcome};
 use http_messages::Sequence;

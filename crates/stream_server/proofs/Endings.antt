@@ -5,13 +5,14 @@ use Rattle.stream_net.specs.Nets.{Connection, IsAtRest, Meaning, connection_at}
 use Rattle.stream_net.specs.declared.net.Quiet.{Quiet}
 use Rattle.stream_net.specs.declared.net.Quiet.TheVariants.{Awake, ByRead, ByWrite}
 use Rattle.stream_server.specs.declared.limits.Limits.{Limits}
-use Rattle.stream_server.specs.Served.{IsServed, RestsBy, Cause, Closing, Ended, Failing, Idle}
+use Rattle.stream_server.specs.Speeches.{IsServed}
+use Rattle.stream_server.specs.Serving.{AllBut, BeginsSo, Cause, Closing, EachTold, Ended, Failing, Idle, IsClosedWell, Rests, RestsBy, WaitsToRead}
 use Rattle.stream_server.specs.Protocols.{Side}
-use Rattle.stream_server.specs.Serving.{AllBut, BeginsSo, EachTold, IsClosedWell, IsLeft, IsStill, RestBut, Rests, WaitsToRead}
+use Rattle.stream_server.specs.Keeping.{IsLeft, IsStill}
 use Rattle.stream_net.proofs.Lists.{all_from, at_all}
 use Rattle.stream_server.proofs.Turns.{still_rests, still_waits}
 
-told_is : (o : Option (List ℕ)) (bytes all : List ℕ) → o ≡ Some bytes → IfSome o (λ b. b ≡ all) → bytes ≡ all
+pub told_is : (o : Option (List ℕ)) (bytes all : List ℕ) → o ≡ Some bytes → IfSome o (λ b. b ≡ all) → bytes ≡ all
 told_is o bytes all e h = subst (λ (x : Option (List ℕ)). IfSome x (λ b. b ≡ all)) e h
 
 module _ {T : Type 0} (S : Side T) (limits : Limits) (m : Meaning) (h : IsLeft S limits m) where
@@ -61,7 +62,7 @@ module _ {T : Type 0} (S : Side T) (limits : Limits) (m : Meaning) (h : IsLeft S
 pub all_wait : {T : Type 0} (S : Side T) → ((t : T) → S.holds t ≡ false) → (cs : List Connection) → All (IsStill S) cs → All Rests cs
 all_wait S none cs still = all_from Rests cs (λ j in'. still_waits S none (connection_at cs j) (at_all (IsStill S) cs still j in'))
 
-pub but_wait : {T : Type 0} (S : Side T) → ((t : T) → S.holds t ≡ false) → (cs : List Connection) → AllBut (IsStill S) cs → RestBut cs
+pub but_wait : {T : Type 0} (S : Side T) → ((t : T) → S.holds t ≡ false) → (cs : List Connection) → AllBut (IsStill S) cs → AllBut Rests cs
 but_wait S none cs still = record { one = still.one; others = λ j other in'. still_waits S none (connection_at cs j) (still.others j other in') }
 
 -- what is still is at rest

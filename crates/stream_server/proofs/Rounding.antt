@@ -15,7 +15,7 @@ use Rattle.stream_server.specs.declared.rounds.Fault.{Fault}
 use Rattle.stream_server.specs.Protocols.{IsLawful, Protocol, side_of}
 use Rattle.stream_server.specs.Running.{IsRunning, IsRunningBut, IsUnderWay, LeftBy, WasRunning}
 use Rattle.stream_server.specs.Services.{AreBeside, IsHeldFrom, IsReleased}
-use Rattle.stream_server.specs.Serving.{HasAccepted, IsServing, IsServingBut, IsStill, Keeps}
+use Rattle.stream_server.specs.Keeping.{HasAccepted, IsServing, IsServingBut, IsStill, Keeps}
 use Rattle.stream_server.specs.Steps.{Free, IsCalm, IsCut, IsGoing, IsOpen, IsOver, IsResting, OnlyAt}
 use Rattle.stream_server.specs.Tables.{AreAdmitted, AreAdmittedBut, IsListed, Relists, SeenTable, client_count, with_members}
 use Rattle.stream_server.proofs.Members.{admitted_still, listed_again, none_admitted, one_admitted, released, taken_out}

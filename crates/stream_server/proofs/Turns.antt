@@ -14,10 +14,11 @@ use Rattle.stream_net.specs.declared.net.Ready.{Ready}
 use Rattle.stream_net.specs.declared.net.Ready.TheVariants.{Incoming, Readable, Writable, Elapsed}
 use Rattle.stream_server.specs.declared.client.Client.{Client}
 use Rattle.stream_server.specs.declared.limits.Limits.{Limits}
-use Rattle.stream_server.specs.Served.{BeginsSaid, IsServed, IsTimely, RestsBy, Cause, Closing, Ended, Failing, Idle}
+use Rattle.stream_server.specs.Speeches.{BeginsSaid, IsServed, IsTimely}
+use Rattle.stream_server.specs.Serving.{Cause, Closing, Ended, Failing, Idle, Rests, RestsBy}
 use Rattle.stream_server.specs.Protocols.{IsLawful, Side}
 use Rattle.stream_server.specs.Steps.{AtARead, AtAWrite, Closes, Fails, Free, HasEnded, Held, IsCalm, IsCut, IsDone, IsGoing, IsOpen, IsOver, IsResting, OnlyAt}
-use Rattle.stream_server.specs.Serving.{IsHeldAt, IsKept, IsLeft, IsServing, IsServingBut, IsStill, IsWoken, Keeps, Listing, Rests}
+use Rattle.stream_server.specs.Keeping.{IsHeldAt, IsKept, IsLeft, IsServing, IsServingBut, IsStill, IsWoken, Keeps, Listing}
 use Rattle.stream_net.proofs.Lists.{none_open, everywhere, all_from, at_all, at_other, at_same, set_over, live_kept, live_closed, live_more_one}
 use Rattle.stream_server.proofs.Stepping.{changed_at, still_live, timely_after}
 

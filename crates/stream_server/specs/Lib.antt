@@ -1,9 +1,11 @@
 pub mod Answering
+pub mod Keeping
 pub mod Protocols
+pub mod Ranges
 pub mod Running
-pub mod Served
 pub mod Services
 pub mod Serving
+pub mod Speeches
 pub mod Steps
 pub mod TableParts
 pub mod Tables

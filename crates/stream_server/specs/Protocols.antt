@@ -2,7 +2,7 @@
 use Rattle.std.specs.Prelude.{◌≡◌, ℕ, Bool, false, List, ◌++◌}
 use Rattle.wsgi_core.specs.Applications.{App}
 use Rattle.wsgi_core.specs.Standings.{Standing}
-use Rattle.stream_server.specs.Served.{Speech}
+use Rattle.stream_server.specs.Speeches.{Speech}
 
 -- the talk was fed these bytes, was told of their end or not, and those were taken from it
 abbrev pub TalkState : Type 0 → Type 1

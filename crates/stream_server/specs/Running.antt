@@ -1,12 +1,12 @@
 -- A server between two events, by its service and its table. `fits` is what the service knows of the application for
 -- which it answers, and `ties` what ties it to its clients, of whom the last number is given.
-use Rattle.std.specs.Prelude.{◌≡◌, ℕ, false, length}
+use Rattle.std.specs.Prelude.{◌≡◌, ℕ, false, [], length}
 use Rattle.stream_net.specs.Nets.{IsLive, Meaning, connection_at}
 use Rattle.wsgi_core.specs.Applications.{App}
 use Rattle.stream_server.specs.declared.client.Client.{Client}
 use Rattle.stream_server.specs.declared.limits.Limits.{Limits}
 use Rattle.stream_server.specs.Protocols.{Protocol, side_of}
-use Rattle.stream_server.specs.Serving.{IsLeft, IsServing, IsServingBut, IsWoken}
+use Rattle.stream_server.specs.Keeping.{IsLeft, IsServing, IsServingBut, IsWoken}
 use Rattle.stream_server.specs.Steps.{IsGoing}
 use Rattle.stream_server.specs.Tables.{AreAdmitted, AreAdmittedBut, IsListed, SeenTable, client_count}
 
@@ -35,7 +35,8 @@ LeftBy P fits port limits m = (app : App) → fits app → IsLeft (side_of P app
 abbrev pub IsUnderWay : {T : Type 0} → Protocol T → (App → Type 0) → ℕ → ℕ → Meaning → Client T → Type 0
 IsUnderWay P fits port idle m g = (app : App) → fits app → IsGoing (side_of P app port) idle (connection_at m.connections g.conn) g
 
--- the service has no more of something, and a live connection that isn't held asks for that
+-- the service has no more of something, and a live connection that isn't held, to which all that was due is written,
+-- asks for that
 pub record AsksInVain {T : Type 0} (P : Protocol T) (fits : App → Type 0) (wants : T → Type 0) (is_spent : Type 0) (port idle : ℕ) (m : Meaning) : Type 0 where
   pub spent : is_spent
   pub client : Client T
@@ -43,3 +44,4 @@ pub record AsksInVain {T : Type 0} (P : Protocol T) (fits : App → Type 0) (wan
   pub free : P.holds client.talk ≡ false
   pub going : IsUnderWay P fits port idle m client
   pub wants_it : wants client.talk
+  pub none_due : P.due client.talk ≡ []

@@ -1,100 +1,10 @@
--- A server between two events.
-use Rattle.std.specs.Prelude.{◌≡◌, ◌≢◌, ◌⊎◌, ℕ, ◌+◌, ◌<◌, ◌≤◌, true, false, List, ◌++◌, length, Option, Some, None, IsSome}
+-- What is said of a server that ended: what each connection was sent, and why it was closed.
+use Rattle.std.specs.Prelude.{◌≡◌, ◌≢◌, ℕ, ◌+◌, ◌<◌, ◌≤◌, true, false, List, ◌++◌, length, Some}
 use Rattle.std.specs.List.{All}
-use Rattle.stream_net.specs.Nets.{Connection, Meaning, connection_at, live_count}
+use Rattle.wsgi_core.specs.Answers.{Sent}
+use Rattle.stream_net.specs.Nets.{Connection, Meaning, connection_at}
+use Rattle.stream_net.specs.declared.net.Quiet.{Quiet}
 use Rattle.stream_net.specs.declared.net.Quiet.TheVariants.{Awake, ByRead, ByWrite}
-use Rattle.stream_net.specs.Waits.{Passes, woken}
-use Rattle.stream_server.specs.declared.client.Client.{Client}
-use Rattle.stream_server.specs.declared.limits.Limits.{Limits}
-use Rattle.stream_server.specs.Served.{IsServed}
-use Rattle.stream_server.specs.Protocols.{Side}
-use Rattle.stream_server.specs.Steps.{IsCalm, IsOpen}
-
--- what is listed under a number
-abbrev pub Listing : Type 0 → Type 1
-Listing T = ℕ → Option (Client T) → Type 0
-
--- what the server keeps of a connection against what the net means by it: it keeps nothing of a closed one, and an
--- open one rests or is held
-abbrev pub IsKept : {T : Type 0} → Side T → ℕ → List Connection → ℕ → Option (Client T) → Type 0
-IsKept S idle cs k None = k < length cs → (connection_at cs k).closed ≡ true
-IsKept S idle cs k (Some g) = (k < length cs) × IsOpen S idle (connection_at cs k) g × IsCalm S idle (connection_at cs k) g
-
--- it is closed, or waits by a read or by a write
-abbrev pub Rests : Connection → Type 0
-Rests c = c.closed ≡ false → c.quiet ≢ Awake
-
--- it is held, as the side holds some
-pub record IsHeldAt {T : Type 0} (S : Side T) (c : Connection) : Type 0 where
-  pub held : c.held ≡ true
-  pub talk : T
-  pub holds : S.holds talk ≡ true
-
--- it is closed, or waits by a read or by a write, or is held
-abbrev pub IsStill : {T : Type 0} → Side T → Connection → Type 0
-IsStill S c = c.closed ≡ false → (c.quiet ≢ Awake) ⊎ IsHeldAt S c
-
--- P holds of all connections, but for one at most
-pub record AllBut (P : Connection → Type 0) (cs : List Connection) : Type 0 where
-  pub one : ℕ
-  pub others : (k : ℕ) → k ≢ one → k < length cs → P (connection_at cs k)
-
--- all connections rest, but for one at most
-abbrev pub RestBut : List Connection → Type 0
-RestBut cs = AllBut Rests cs
-
--- all connections rest or are held, and each open one has its client
-pub record IsServing {T : Type 0} (S : Side T) (limits : Limits) (m : Meaning) (listed : Listing T) (count room : ℕ) : Type 0 where
-  pub served : All (IsServed S.said limits.idle) m.connections
-  pub resting : All (IsStill S) m.connections
-  pub kept : (k : ℕ) (slot : Option (Client T)) → listed k slot → IsKept S limits.idle m.connections k slot
-  pub live : live_count m.connections ≡ count
-  pub few : count ≤ limits.pool
-  pub most : m.most ≤ limits.pool
-  pub listens : IsSome m.listens
-  pub room_is : room ≡ limits.pool
-  pub within : length m.connections ≤ limits.conns
-
--- the same but for one connection, whose client isn't listed
-pub record IsServingBut {T : Type 0} (S : Side T) (limits : Limits) (m : Meaning) (listed : Listing T) (count room k : ℕ) : Type 0 where
-  pub served : (j : ℕ) → j ≢ k → j < length m.connections → IsServed S.said limits.idle (connection_at m.connections j)
-  pub resting : (j : ℕ) → j ≢ k → j < length m.connections → IsStill S (connection_at m.connections j)
-  pub kept : (j : ℕ) (slot : Option (Client T)) → j ≢ k → listed j slot → IsKept S limits.idle m.connections j slot
-  pub only : (slot : Option (Client T)) → listed k slot → slot ≡ None
-  pub live : live_count m.connections ≡ count + 1
-  pub few : count + 1 ≤ limits.pool
-  pub most : m.most ≤ limits.pool
-  pub listens : IsSome m.listens
-  pub room_is : room ≡ limits.pool
-  pub within : length m.connections ≤ limits.conns
-
--- what holds of all connections whenever the server ends
-pub record IsLeft {T : Type 0} (S : Side T) (limits : Limits) (m : Meaning) : Type 0 where
-  pub served : All (IsServed S.said limits.idle) m.connections
-  pub rest : AllBut (IsStill S) m.connections
-  pub most : m.most ≤ limits.pool
-  pub within : length m.connections ≤ limits.conns
-
--- what a call leaves as it was where nothing is accepted
-pub record Keeps (v w : Meaning) : Type 0 where
-  pub accepted : length w.connections ≡ length v.connections
-  pub listens : w.listens ≡ v.listens
-  pub faults : w.faults ≡ v.faults
-  pub blocked : w.blocked ≡ v.blocked
-
--- all connections rested or were held before a wait that named this one
-pub record IsWoken {T : Type 0} (S : Side T) (limits : Limits) (m : Meaning) (listed : Listing T) (count room k : ℕ) : Type 0 where
-  pub before : Meaning
-  pub serving : IsServing S limits before listed count room
-  pub passes : Passes before m
-  pub named : m.connections ≡ woken k before.connections
-
--- why no more is accepted: all were, or no place is free, or nobody is there
-pub record HasAccepted (accepted conns count room : ℕ) (m : Meaning) : Type 0 where
-  pub number : accepted ≡ length m.connections
-  pub why : (conns ≤ accepted) ⊎ ((room ≤ count) ⊎ (m.blocked ≡ true))
-
--- ---- what is said of a server that ended
 
 -- P holds of each connection whose bytes are told, by what was read and what was written
 abbrev pub EachTold : List Connection → (Connection → List ℕ → List ℕ → Type 0) → Type 0
@@ -122,11 +32,28 @@ pub record IsAllServed (m : Meaning) (conns : ℕ) : Type 0 where
   pub all : length m.connections ≡ conns
   pub closed : All (λ c. c.closed ≡ true) m.connections
 
--- each number is within its range
-pub record IsInRange (limits : Limits) : Type 0 where
-  pub some_place : 1 ≤ limits.pool
-  pub few_places : limits.pool ≤ 1024
-  pub some_connection : 1 ≤ limits.conns
-  pub few_connections : limits.conns ≤ 1000000
-  pub some_time : 1 ≤ limits.idle
-  pub short_time : limits.idle ≤ 3600000
+-- it is closed, or waits by a read or by a write
+abbrev pub Rests : Connection → Type 0
+Rests c = c.closed ≡ false → c.quiet ≢ Awake
+
+-- P holds of all connections, but for one at most
+pub record AllBut (P : Connection → Type 0) (cs : List Connection) : Type 0 where
+  pub one : ℕ
+  pub others : (k : ℕ) → k ≢ one → k < length cs → P (connection_at cs k)
+
+-- a connection rests by a write, or by a read, and then P holds
+abbrev pub RestsBy : Quiet → Type 0 → Type 0
+RestsBy Awake P = ⊥
+RestsBy ByRead P = P
+RestsBy ByWrite P = Unit {0}
+
+-- why a connection to which these bytes were written was closed
+pub data Cause (sent : Sent) (taken : List ℕ) (idle : ℕ) (c : Connection) : Type 0 where
+  -- the talk closes, and all was written
+  Closing : sent.closes ≡ true → taken ≡ sent.bytes → Cause sent taken idle c
+  -- its input ended, and all was written
+  Ended : c.ended ≡ true → taken ≡ sent.bytes → Cause sent taken idle c
+  -- a read or a write of it failed
+  Failing : 0 < c.faults → Cause sent taken idle c
+  -- no byte went over it for so long, and it rests: by a write, or by a read after all was written
+  Idle : c.last + idle ≤ c.closed_at → RestsBy c.quiet (taken ≡ sent.bytes) → Cause sent taken idle c

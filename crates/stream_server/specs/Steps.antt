@@ -2,7 +2,7 @@
 use Rattle.std.specs.Prelude.{◌≡◌, ℕ, ◌<◌, true, false, List, [], IfSome, slice_set}
 use Rattle.stream_net.specs.Nets.{Connection, Meaning, GoesOn, connection_at}
 use Rattle.stream_net.specs.declared.net.Quiet.TheVariants.{Awake, ByRead, ByWrite}
-use Rattle.stream_server.specs.Served.{Speech, BeginsSaid, IsTimely}
+use Rattle.stream_server.specs.Speeches.{BeginsSaid, IsTimely, Speech}
 use Rattle.stream_server.specs.Protocols.{Side}
 use Rattle.stream_server.specs.declared.client.Client.{Client}
 use Rattle.stream_server.specs.declared.exchange.Step.{Step}

@@ -3,8 +3,8 @@ ghost use Rattle.std.specs.Prelude.{◌≡◌, ◌≢◌, ◌≤◌, Some, None,
 ghost use Rattle.std.specs.List.{All};
 ghost use Rattle.gv_values.specs.Counts.{HasRisen};
 ghost use Rattle.stream_net.specs.Nets.{IsFresh};
-ghost use Rattle.stream_server.specs.Served.{Cause};
-ghost use Rattle.stream_server.specs.Serving.{BeginsSo, EachTold, IsAllServed, IsClosedWell, IsInRange, RestBut, Rests, WaitsToRead};
+ghost use Rattle.stream_server.specs.Serving.{AllBut, BeginsSo, Cause, EachTold, IsAllServed, IsClosedWell, Rests, WaitsToRead};
+ghost use Rattle.stream_server.specs.Ranges.{IsInRange};
 ghost use Rattle.wsgi_core.specs.Gateways.{said_by};
 ghost use Rattle.wsgi_core.specs.Sessions.{session};
 
@@ -43,6 +43,8 @@ impl<'a, T: Talk + Drop, A: Application> Service<T, ()> for Answering<'a, A> {
     ghost wants = { λ talk. Unit {0} };
 
     ghost spent = { λ service world. ⊥ };
+
+    ghost workers = { λ world. 0 };
 
     fn begin(&self, port: u16) -> T {
         T::begin(self.alloc, port)
@@ -156,7 +158,7 @@ pub fn serve_with<T: Talk + Drop, N: Net, A: Application, H: Wait>(
     ensures within { length (N.meaning net.new).connections ≤ limits.conns }
     ensures finished { result ≡ ServeEnd.Finished → IsAllServed (N.meaning net.new) limits.conns }
     // At any end all open connections but one wait, by a read or by a write; where the listener failed, all do.
-    ensures rest_but { RestBut (N.meaning net.new).connections }
+    ensures rest_but { AllBut Rests (N.meaning net.new).connections }
     ensures resting { result ≡ ServeEnd.Listener → All Rests (N.meaning net.new).connections }
     ensures listener { result ≡ ServeEnd.Listener → HasRisen (N.meaning net.old).faults (N.meaning net.new).faults }
     ensures unfailed { result ≢ ServeEnd.Listener → (N.meaning net.new).faults ≡ (N.meaning net.old).faults }
@@ -200,7 +202,7 @@ pub fn serve<N: Net, A: Application, H: Wait>(
     ensures within { length (N.meaning net.new).connections ≤ limits.conns }
     ensures finished { result ≡ ServeEnd.Finished → IsAllServed (N.meaning net.new) limits.conns }
     // At any end all open connections but one wait, by a read or by a write; where the listener failed, all do.
-    ensures rest_but { RestBut (N.meaning net.new).connections }
+    ensures rest_but { AllBut Rests (N.meaning net.new).connections }
     ensures resting { result ≡ ServeEnd.Listener → All Rests (N.meaning net.new).connections }
     ensures listener { result ≡ ServeEnd.Listener → HasRisen (N.meaning net.old).faults (N.meaning net.new).faults }
     ensures unfailed { result ≢ ServeEnd.Listener → (N.meaning net.new).faults ≡ (N.meaning net.old).faults }

@@ -134,6 +134,7 @@ fn advance<T: Drop, W, V: Service<T, W>, N: Net>(
     ensures leaves { (w : W) (app : App) (port : ℕ) → V.fits service.now w app → IsGoing (side_of V.protocol app port) idle (connection_at (N.meaning net.old).connections client.old.conn) client.old
         → Leaves result (side_of V.protocol app port) idle (connection_at (N.meaning net.new).connections client.old.conn) client.new }
     ensures wants { result ≡ Step.Asks → V.wants client.new.talk }
+    ensures none { result ≡ Step.Asks → V.protocol.due client.new.talk ≡ [] }
 {
     if !service.pending(&client.talk).is_empty() {
         return send::<T, W, V, N>(net, service, client, idle);
@@ -162,6 +163,7 @@ pub fn proceed<T: Drop, W, V: Service<T, W>, N: Net, H: Wait>(
     ensures leaves { (w : W) (app : App) (port : ℕ) → V.fits service.now w app → IsGoing (side_of V.protocol app port) idle (connection_at (N.meaning net.old).connections client.old.conn) client.old
         → Leaves result (side_of V.protocol app port) idle (connection_at (N.meaning net.new).connections client.old.conn) client.new }
     ensures wants { result ≡ Step.Asks → V.wants client.new.talk }
+    ensures none { result ≡ Step.Asks → V.protocol.due client.new.talk ≡ [] }
 {
     for _ in rt.forever() {
         match advance::<T, W, V, N>(net, service, client, idle) {

@@ -1,11 +1,13 @@
 //! The server's loop.
-ghost use Rattle.std.specs.Prelude.{◌≡◌, ◌≢◌, ◌⊎◌, ℕ, ◌+◌, ◌<◌, ◌≤◌, Some, None, Ok, Err, true, false, List, Option, length, IsSome, OnOk, OnErr, IfOk};
+ghost use Rattle.std.specs.Prelude.{◌≡◌, ◌≢◌, ◌⊎◌, ℕ, ◌+◌, ◌<◌, ◌≤◌, Some, None, Ok, Err, true, false, List, [], Option, length, IsSome, OnOk, OnErr, IfOk};
 ghost use Rattle.std.specs.List.{All};
 ghost use Rattle.gv_values.specs.Counts.{HasRisen};
 ghost use Rattle.stream_net.specs.Nets.{IsFresh, IsLive};
 ghost use Rattle.stream_server.specs.Protocols.{side_of};
 ghost use Rattle.stream_server.specs.Running.{AsksInVain, IsRunning, IsRunningBut, IsUnderWay, LeftBy, WasRunning};
-ghost use Rattle.stream_server.specs.Serving.{HasAccepted, IsAllServed, IsInRange, IsStill, Keeps};
+ghost use Rattle.stream_server.specs.Keeping.{HasAccepted, IsStill, Keeps};
+ghost use Rattle.stream_server.specs.Serving.{IsAllServed};
+ghost use Rattle.stream_server.specs.Ranges.{IsInRange};
 ghost use Rattle.stream_server.specs.Tables.{SeenTable, client_count};
 ghost use Rattle.wsgi_core.specs.Applications.{App};
 
@@ -64,12 +66,14 @@ fn hold_client<T: Drop, W, V: Service<T, W>, N: Net>(
     requires live { IsLive (N.meaning net.old) client.conn }
     requires going { IsUnderWay V.protocol (V.fits service.old world.old) port limits.idle (N.meaning net.old) client }
     requires wants { V.wants client.talk }
+    requires none { V.protocol.due client.talk ≡ [] }
     requires free { V.protocol.holds client.talk ≡ false }
     requires but { IsRunningBut V.protocol (V.fits service.old world.old) (V.tied_but service.old world.old) port limits (N.meaning net.old) table.old client.conn }
     ensures running { OnOk result (IsRunning V.protocol (V.fits service.new world.new) (V.tied service.new world.new) port limits (N.meaning net.new) table.new) }
     ensures left { OnErr result (LeftBy V.protocol (V.fits service.new world.new) port limits (N.meaning net.new)) }
     ensures sound { V.sound service.new world.new }
     ensures knows { (app : App) → V.fits service.new world.new app → V.fits service.old world.old app }
+    ensures workers { V.workers world.new ≡ V.workers world.old }
     ensures in_vain { result ≡ Err Fault.Spent → AsksInVain V.protocol (V.fits service.new world.new) V.wants (V.spent service.new world.new) port limits.idle (N.meaning net.new) }
     ensures keeps { Keeps (N.meaning net.old) (N.meaning net.new) }
     ensures no_listener { result ≢ Err Fault.Listener }
@@ -108,6 +112,7 @@ fn serve_client<T: Drop, W, V: Service<T, W>, N: Net, H: Wait>(
     ensures left { OnErr result (LeftBy V.protocol (V.fits service.new world.new) port limits (N.meaning net.new)) }
     ensures sound { V.sound service.new world.new }
     ensures knows { (app : App) → V.fits service.new world.new app → V.fits service.old world.old app }
+    ensures workers { V.workers world.new ≡ V.workers world.old }
     ensures in_vain { result ≡ Err Fault.Spent → AsksInVain V.protocol (V.fits service.new world.new) V.wants (V.spent service.new world.new) port limits.idle (N.meaning net.new) }
     ensures keeps { Keeps (N.meaning net.old) (N.meaning net.new) }
     ensures no_listener { result ≢ Err Fault.Listener }
@@ -148,6 +153,7 @@ fn accept_client<T: Drop, W, V: Service<T, W>, N: Net, H: Wait>(
     ensures left { OnErr result (LeftBy V.protocol (V.fits service.new world.new) port limits (N.meaning net.new)) }
     ensures sound { V.sound service.new world.new }
     ensures knows { (app : App) → V.fits service.new world.new app → V.fits service.old world.old app }
+    ensures workers { V.workers world.new ≡ V.workers world.old }
     ensures in_vain { result ≡ Err Fault.Spent → AsksInVain V.protocol (V.fits service.new world.new) V.wants (V.spent service.new world.new) port limits.idle (N.meaning net.new) }
     ensures came { IfOk result (λ came. came ≡ true → length (N.meaning net.new).connections ≡ length (N.meaning net.old).connections + 1) }
     ensures none { IfOk result (λ came. came ≡ false → length (N.meaning net.new).connections ≡ length (N.meaning net.old).connections) }
@@ -203,6 +209,7 @@ fn accept_clients<T: Drop, W, V: Service<T, W>, N: Net, H: Wait>(
     ensures left { OnErr result (LeftBy V.protocol (V.fits service.new world.new) port limits (N.meaning net.new)) }
     ensures sound { V.sound service.new world.new }
     ensures knows { (app : App) → V.fits service.new world.new app → V.fits service.old world.old app }
+    ensures workers { V.workers world.new ≡ V.workers world.old }
     ensures in_vain { result ≡ Err Fault.Spent → AsksInVain V.protocol (V.fits service.new world.new) V.wants (V.spent service.new world.new) port limits.idle (N.meaning net.new) }
     ensures accepted { IfOk result (λ accepted. HasAccepted accepted limits.conns (length table.new.members) table.new.limit (N.meaning net.new)) }
     ensures listens { (N.meaning net.new).listens ≡ (N.meaning net.old).listens }
@@ -239,6 +246,7 @@ fn poll_service<T: Drop, W, V: Service<T, W>, N: Net, H: Wait>(
     ensures left { OnErr result (LeftBy V.protocol (V.fits service.new world.new) port limits (N.meaning net.new)) }
     ensures sound { V.sound service.new world.new }
     ensures knows { (app : App) → V.fits service.new world.new app → V.fits service.old world.old app }
+    ensures workers { V.workers world.new ≡ V.workers world.old }
     ensures in_vain { result ≡ Err Fault.Spent → AsksInVain V.protocol (V.fits service.new world.new) V.wants (V.spent service.new world.new) port limits.idle (N.meaning net.new) }
     ensures keeps { Keeps (N.meaning net.old) (N.meaning net.new) }
     ensures no_listener { result ≢ Err Fault.Listener }
@@ -271,6 +279,7 @@ fn wake_client<T: Drop, W, V: Service<T, W>, N: Net, H: Wait>(
     ensures left { OnErr result (LeftBy V.protocol (V.fits service.new world.new) port limits (N.meaning net.new)) }
     ensures sound { V.sound service.new world.new }
     ensures knows { (app : App) → V.fits service.new world.new app → V.fits service.old world.old app }
+    ensures workers { V.workers world.new ≡ V.workers world.old }
     ensures in_vain { result ≡ Err Fault.Spent → AsksInVain V.protocol (V.fits service.new world.new) V.wants (V.spent service.new world.new) port limits.idle (N.meaning net.new) }
     ensures keeps { Keeps (N.meaning net.old) (N.meaning net.new) }
     ensures no_listener { result ≢ Err Fault.Listener }
@@ -319,6 +328,7 @@ fn wait_next<T: Drop, W, V: Service<T, W>, N: Net, H: Wait>(
     ensures left { OnErr result (LeftBy V.protocol (V.fits service.new world.new) port limits (N.meaning net.new)) }
     ensures sound { V.sound service.new world.new }
     ensures knows { (app : App) → V.fits service.new world.new app → V.fits service.old world.old app }
+    ensures workers { V.workers world.new ≡ V.workers world.old }
     ensures in_vain { result ≡ Err Fault.Spent → AsksInVain V.protocol (V.fits service.new world.new) V.wants (V.spent service.new world.new) port limits.idle (N.meaning net.new) }
     ensures accepted { length (N.meaning net.new).connections ≡ length (N.meaning net.old).connections }
     ensures listens { (N.meaning net.new).listens ≡ (N.meaning net.old).listens }
@@ -383,6 +393,7 @@ fn turn<T: Drop, W, V: Service<T, W>, N: Net, H: Wait>(
     ensures left { LeftBy V.protocol (V.fits service.new world.new) port limits (N.meaning net.new) }
     ensures sound { V.sound service.new world.new }
     ensures knows { (app : App) → V.fits service.new world.new app → V.fits service.old world.old app }
+    ensures workers { V.workers world.new ≡ V.workers world.old }
     ensures in_vain { result ≡ Err Fault.Spent → AsksInVain V.protocol (V.fits service.new world.new) V.wants (V.spent service.new world.new) port limits.idle (N.meaning net.new) }
     ensures accepted { (count : ℕ) → result ≡ Ok (Round.GoesOn count) → count ≡ length (N.meaning net.new).connections }
     ensures listens { (N.meaning net.new).listens ≡ (N.meaning net.old).listens }
@@ -445,6 +456,7 @@ pub fn serve_on<T: Drop, W, V: Service<T, W>, N: Net, H: Wait>(
     ensures never_falls { (N.meaning net.old).faults ≤ (N.meaning net.new).faults }
     ensures sound { V.sound service.new world.new }
     ensures knows { (app : App) → V.fits service.new world.new app → V.fits service.old world.old app }
+    ensures workers { V.workers world.new ≡ V.workers world.old }
     ensures in_vain { result ≡ ServiceEnd.Spent → AsksInVain V.protocol (V.fits service.new world.new) V.wants (V.spent service.new world.new) port limits.idle (N.meaning net.new) }
 {
     let Ok(mut table) = ClientTable::new(alloc, limits.pool) else {

@@ -72,6 +72,9 @@ pub trait Service<T, W> {
     /// There is no more of that.
     ghost spent: { Self → W → Type 0 };
 
+    /// How many workers `W` has.
+    ghost workers: { W → ℕ };
+
     /// A talk with a new connection to a server at this port.
     fn begin(&self, port: u16) -> T
         ensures begun { IsBegun protocol.at port result }
@@ -121,7 +124,8 @@ pub trait Service<T, W> {
             → client.old.conn < accepted → Relists table now client.new.conn (Some client.new) → tied self.new world.new now accepted) }
         ensures fits { (app : App) → fits self.new world.new app → fits self.old world.old app }
         ensures spent { result ≡ Err Refusal.Spent → spent self.new world.new }
-        ensures sound { sound self.new world.new };
+        ensures sound { sound self.new world.new }
+        ensures workers { workers world.new ≡ workers world.old };
 
     /// Asks `W` whether a reply has come, gives it to the client that is held for it, and takes that out of the table. Its
     /// deadline is this one, but not before the one that it had.
@@ -131,7 +135,8 @@ pub trait Service<T, W> {
         ensures tied { (accepted : ℕ) → tied self.old world.old table.old accepted
             → TiesAfter result (tied self.new world.new table.new accepted) (λ conn. tied_but self.new world.new table.new accepted conn) }
         ensures fits { (app : App) → fits self.new world.new app → fits self.old world.old app }
-        ensures sound { sound self.new world.new };
+        ensures sound { sound self.new world.new }
+        ensures workers { workers world.new ≡ workers world.old };
 
     /// Whether the connection of this talk is held.
     fn is_held(&self, talk: &T) -> bool

@@ -7,8 +7,8 @@ use Rattle.gv_io.proofs.StreamLaws.{appended-nothing, appended-appended, prepend
 use Rattle.wsgi_core.specs.Answers.{Sent, nothing}
 use Rattle.wsgi_core.specs.Applications.{App}
 use Rattle.wsgi_core.specs.Steps.{phase_by}
-use Rattle.wsgi_core.specs.Gateways.{Gateway, IsBefore, said_by}
-use Rattle.wsgi_core.specs.Standings.{Standing}
+use Rattle.wsgi_core.specs.Gateways.{Gateway, said_by}
+use Rattle.wsgi_core.specs.Standings.{IsBefore, Standing}
 use Rattle.wsgi_core.specs.declared.session.SessionPhase.{SessionPhase}
 use Rattle.wsgi_connection.specs.declared.connection.ConnectionEnd.{ConnectionEnd}
 use Rattle.wsgi_connection.specs.declared.connection.Turn.{Turn}

@@ -12,7 +12,8 @@ use Rattle.wsgi_core.specs.declared.answer.Stated.{Stated}
 use Rattle.wsgi_core.specs.declared.answer.Stated.TheVariants.{Nothing, Length, Wrong}
 use Rattle.std.specs.Str.Parse.{digits_value}
 use Rattle.http_messages.specs.Requests.{is_length, values}
-use Rattle.wsgi_core.specs.Answers.{length_of, stated_by, stated_next, is_faulty, server_error, sent_for, answer}
+use Rattle.wsgi_core.specs.Answers.{length_of, stated_by, is_faulty, server_error, sent_for, answer}
+use Rattle.wsgi_core.specs.Stating.{stated_next}
 
 concat-append : (xs : List (List ℕ)) (p : List ℕ) → concat (xs ++ p ∷ []) ≡ concat xs ++ p
 concat-append [] p = append-nil p

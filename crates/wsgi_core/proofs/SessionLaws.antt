@@ -1,7 +1,7 @@
 -- Sessions: what was sent stays sent, whatever bytes follow, and a session is its first request and the rest.
 use Rattle.std.specs.Prelude.{◌||◌}
 use Rattle.wsgi_core.specs.Laws.{NeverTakesBack}
-use Rattle.wsgi_core.specs.Gateways.{IsBefore}
+use Rattle.wsgi_core.specs.Standings.{IsBefore}
 use Rattle.std.proofs.lemmas.Bool.{or_left, or_right}
 use Rattle.std.proofs.Common.{◌≡◌, ℕ, zero, suc, ◌+◌, ◌<◌, ◌≤◌, Bool, true, false, cond, List, [], ◌++◌, length, refl, sym, ap, ◌∙◌, subst, arith, append_assoc, append-nil, length-append}
 use Rattle.http_messages.specs.Cuts.{Cut, waits, refused, whole}

@@ -101,15 +101,6 @@ stated_by (value ∷ other ∷ values) = Wrong
 abbrev pub stated : List Pair → Stated
 stated headers = stated_by (values (codes "Content-Length") headers)
 
--- what is stated by one more value, and after one more header
-abbrev pub stated_next : Stated → List ℕ → Stated
-stated_next Nothing value = length_of value
-stated_next (Length n) value = Wrong
-stated_next Wrong value = Wrong
-
-abbrev pub stated_after : Stated → Pair → Stated
-stated_after s p = if str_eq_ignore_ascii_case p.0 (codes "Content-Length") then stated_next s p.1 else s
-
 -- the length may stand beside a status that has a body, or not
 abbrev pub is_wrong : Bool → Stated → Bool
 is_wrong no_content Nothing = false

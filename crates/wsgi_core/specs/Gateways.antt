@@ -1,5 +1,5 @@
 -- What any gateway sends, as a function of all that a connection gives.
-use Rattle.std.specs.Prelude.{◌≡◌, ℕ, Bool, true, ◌||◌, List, ◌++◌}
+use Rattle.std.specs.Prelude.{ℕ, Bool, ◌||◌, List}
 use Rattle.wsgi_core.specs.Applications.{App}
 use Rattle.wsgi_core.specs.Answers.{Sent}
 
@@ -11,9 +11,3 @@ Gateway = App → ℕ → List ℕ → Sent
 abbrev pub said_by : Gateway → App → ℕ → List ℕ → Bool → Sent
 said_by answers app port bytes ended =
     record { bytes = (answers app port bytes).bytes; closes = (answers app port bytes).closes || ended }
-
--- b goes on where a stops, and is a where a closes
-pub record IsBefore (a b : Sent) : Type 0 where
-  pub tail : List ℕ
-  pub longer : b.bytes ≡ a.bytes ++ tail
-  pub done : a.closes ≡ true → b ≡ a

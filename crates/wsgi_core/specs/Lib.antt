@@ -7,4 +7,5 @@ pub mod Sessions
 pub mod Shipped
 pub mod Stages
 pub mod Standings
+pub mod Stating
 pub mod Steps

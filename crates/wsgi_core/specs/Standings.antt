@@ -1,6 +1,7 @@
 -- What is known of one side of a connection between two calls, and what a call makes of it. `old` and `new` are it
 -- before and after the call; what is said holds whatever was done to it before.
 use Rattle.std.specs.Prelude.{◌≡◌, ℕ, Bool, true, false, List, [], ◌++◌}
+use Rattle.wsgi_core.specs.Answers.{Sent}
 use Rattle.wsgi_core.specs.Applications.{App}
 use Rattle.wsgi_core.specs.Gateways.{Gateway}
 
@@ -69,3 +70,9 @@ abbrev pub IsCutSaid : {T : Type 0} → Gateway → CutStanding T → List ℕ �
 IsCutSaid answers cut due t =
     (app : App) (port : ℕ) (fed taken : List ℕ) → cut app port fed taken t
     → (tail : List ℕ) × ((answers app port fed).bytes ≡ taken ++ due ++ tail)
+
+-- b goes on where a stops, and is a where a closes
+pub record IsBefore (a b : Sent) : Type 0 where
+  pub tail : List ℕ
+  pub longer : b.bytes ≡ a.bytes ++ tail
+  pub done : a.closes ≡ true → b ≡ a

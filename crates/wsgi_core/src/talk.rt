@@ -2,9 +2,9 @@
 ghost use Rattle.std.specs.Prelude.{◌≡◌, ◌≤◌, ◌++◌, ℕ, List, [], Bool, length, take, drop, OnOk, OnErr};
 ghost use Rattle.wsgi_core.specs.Answers.{nothing};
 ghost use Rattle.wsgi_core.specs.Applications.{App};
-ghost use Rattle.wsgi_core.specs.Gateways.{Gateway, IsBefore, said_by};
+ghost use Rattle.wsgi_core.specs.Gateways.{Gateway, said_by};
 ghost use Rattle.wsgi_core.specs.Sessions.{answers};
-ghost use Rattle.wsgi_core.specs.Standings.{IsBegun, IsCutBy, IsFed, IsTaken, IsTakenCut, IsToldTheEnd, StaysCut, StaysEnded};
+ghost use Rattle.wsgi_core.specs.Standings.{IsBefore, IsBegun, IsCutBy, IsFed, IsTaken, IsTakenCut, IsToldTheEnd, StaysCut, StaysEnded};
 ghost use Rattle.wsgi_core.specs.Steps.{IsAt, Stopped, pending_of, phase_by, said_bytes, stopped_bytes};
 
 use crate::reply::Application;

@@ -16,7 +16,7 @@ use Rattle.world.specs.Worlds.{Meaning, Posts, Stores}
 use Rattle.world.proofs.Sound.{contains_posted, or_false}
 use Rattle.wsgi_core.specs.declared.reply.Reply.{Reply}
 use Rattle.wsgi_core.specs.Steps.{IsReplyTo}
-use Rattle.stream_server.specs.Serving.{Listing}
+use Rattle.stream_server.specs.Keeping.{Listing}
 use Rattle.stream_server.specs.declared.client.Client.{Client}
 use Rattle.wsgi_native.specs.Asking.{WantsJob}
 use Rattle.wsgi_core.specs.Applications.{App}

@@ -1,14 +1,29 @@
--- What is said of a server with jobs that ended.
-use Rattle.std.specs.Prelude.{◌≡◌, ℕ, true}
+-- Where a server has no job left for a request.
+use Rattle.std.specs.Prelude.{◌≡◌, ℕ, ◌<◌, true, false, List, ◌++◌, length, Some}
+use Rattle.gv_values.specs.declared.job.Job.{Job}
+use Rattle.http_messages.specs.declared.request.Request.{Request}
 use Rattle.world_rules.specs.Legal.{is_posted}
-use Rattle.stream_net.specs.Nets.{Meaning}
-use Rattle.stream_server.specs.Running.{AsksInVain}
-use Rattle.stream_server.specs.declared.limits.Limits.{Limits}
+use Rattle.stream_net.specs.Nets.{IsAtRest, Meaning, connection_at}
 use Rattle.world.specs.Worlds.{Meaning as World}
+use Rattle.wsgi_core.specs.Answers.{◌⨾◌, answer}
+use Rattle.wsgi_core.specs.Applications.{App}
+use Rattle.wsgi_core.specs.Sessions.{answers}
 use Rattle.wsgi_native.specs.Agreeing.{Agrees}
-use Rattle.wsgi_native.specs.Asking.{AsksForJob}
-use Rattle.wsgi_native.specs.Talks.{job_protocol}
+use Rattle.wsgi_native.specs.JobApp.{job_asked}
 
--- the job of the last number was posted, and the request of a live connection that isn't held asks for one more
-abbrev pub IsOutOfJobs : ℕ → Limits → Meaning → World → Type 0
-IsOutOfJobs port limits m w = AsksInVain job_protocol (Agrees w) AsksForJob (is_posted 4294967295 w.posts ≡ true) port limits.idle m
+-- behind what was written comes the answer to a request for a job, whatever comes behind what was read
+pub record IsAtJob (port : ℕ) (w : World) (bytes out : List ℕ) : Type 0 where
+  pub request : Request
+  pub body : List ℕ
+  pub rest : List ℕ
+  pub job : Job
+  pub asks : job_asked request.environ ≡ Some job
+  pub next : (app : App) (more : List ℕ) → Agrees w app → answers app port (bytes ++ more) ≡ record { bytes = out; closes = false } ⨾ answer request (app request.environ body) ⨾ answers app port (rest ++ more)
+
+-- the job of the last number was posted, and the next that is due on a connection which isn't at rest is one more
+pub record IsOutOfJobs (port : ℕ) (m : Meaning) (w : World) : Type 0 where
+  pub spent : is_posted 4294967295 w.posts ≡ true
+  pub conn : ℕ
+  pub accepted : conn < length m.connections
+  pub not_at_rest : IsAtRest (connection_at m.connections conn) → ⊥
+  pub asks : (bytes out : List ℕ) → (connection_at m.connections conn).read ≡ Some bytes → (connection_at m.connections conn).written ≡ Some out → IsAtJob port w bytes out

@@ -9,7 +9,7 @@ use Rattle.world.specs.Worlds.{Meaning}
 use Rattle.wsgi_core.specs.Applications.{App}
 use Rattle.wsgi_core.specs.Steps.{asked_of, begun_bytes, said_bytes}
 use Rattle.stream_server.specs.Protocols.{IsLawful, side_of}
-use Rattle.stream_server.specs.Serving.{Listing}
+use Rattle.stream_server.specs.Keeping.{Listing}
 use Rattle.stream_server.specs.declared.client.Client.{Client}
 use Rattle.wsgi_native.specs.Agreeing.{Agrees, IsPlain}
 use Rattle.wsgi_native.specs.JobApp.{job_app, reply_by}

@@ -4,7 +4,7 @@ use Rattle.gv_values.specs.declared.job.Job.{Job}
 use Rattle.world_rules.specs.declared.question.PostedJob.{PostedJob}
 use Rattle.world_rules.specs.Legal.{is_answered, is_posted, posted}
 use Rattle.world.specs.Worlds.{Meaning}
-use Rattle.stream_server.specs.Serving.{Listing}
+use Rattle.stream_server.specs.Keeping.{Listing}
 use Rattle.stream_server.specs.declared.client.Client.{Client}
 use Rattle.wsgi_native.specs.Asking.{WantsJob}
 use Rattle.wsgi_native.specs.Talks.{held_number}

@@ -99,6 +99,8 @@ impl<W: World> Service<JobTalk, W> for Jobs {
 
     ghost spent = { λ jobs world. is_posted 4294967295 (W.meaning world).posts ≡ true };
 
+    ghost workers = { λ world. (W.meaning world).workers };
+
     fn begin(&self, port: u16) -> JobTalk {
         JobTalk {
             session: Session::new(self.alloc, port),

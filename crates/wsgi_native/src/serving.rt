@@ -3,8 +3,8 @@ ghost use Rattle.std.specs.Prelude.{◌≡◌, ◌≢◌, ◌⊎◌, ◌≤◌, 
 ghost use Rattle.std.specs.List.{All};
 ghost use Rattle.gv_values.specs.Counts.{HasRisen};
 ghost use Rattle.stream_net.specs.Nets.{IsAtRest, IsFresh};
-ghost use Rattle.stream_server.specs.Served.{Cause};
-ghost use Rattle.stream_server.specs.Serving.{AllBut, BeginsSo, EachTold, IsAllServed, IsClosedWell, IsInRange, WaitsToRead};
+ghost use Rattle.stream_server.specs.Serving.{AllBut, BeginsSo, Cause, EachTold, IsAllServed, IsClosedWell, WaitsToRead};
+ghost use Rattle.stream_server.specs.Ranges.{IsInRange};
 ghost use Rattle.wsgi_core.specs.Applications.{App};
 ghost use Rattle.wsgi_core.specs.Sessions.{session};
 ghost use Rattle.wsgi_native.specs.Agreeing.{Agrees};
@@ -94,10 +94,11 @@ pub fn serve_jobs<N: Net, W: World, H: Wait>(
     ensures never_falls { (N.meaning net.old).faults ≤ (N.meaning net.new).faults }
     // `NoJobs` comes exactly where the last job that has a number was posted and the request of a live connection asks
     // for one more, but that memory may run out at that.
-    ensures no_jobs { result ≡ JobsEnd.NoJobs → IsOutOfJobs port limits (N.meaning net.new) (W.meaning world.new) }
-    ensures out_of_jobs { IsOutOfJobs port limits (N.meaning net.new) (W.meaning world.new) → (result ≡ JobsEnd.NoJobs) ⊎ (result ≡ JobsEnd.Memory) }
-    // The world still runs, and each job that it answered was posted for a request.
+    ensures no_jobs { result ≡ JobsEnd.NoJobs → IsOutOfJobs port (N.meaning net.new) (W.meaning world.new) }
+    ensures out_of_jobs { IsOutOfJobs port (N.meaning net.new) (W.meaning world.new) → (result ≡ JobsEnd.NoJobs) ⊎ (result ≡ JobsEnd.Memory) }
+    // The world still runs, with as many workers, and each job that it answered was posted for a request.
     ensures in_order { IsInOrder (W.meaning world.new) }
+    ensures workers { (W.meaning world.new).workers ≡ (W.meaning world.old).workers }
 {
     let mut jobs = Jobs::new(alloc);
     let end = serve_on::<JobTalk, W, Jobs, N, H>(rt, alloc, net, &mut jobs, world, port, limits);

@@ -1,6 +1,6 @@
 use Rattle.std.proofs.Common.{subst, sym}
 use Rattle.stream_server.specs.declared.limits.Limits.{Limits}
-use Rattle.stream_server.specs.Serving.{IsInRange}
+use Rattle.stream_server.specs.Ranges.{IsInRange}
 use Rattle.gv_top.proofs.Servings.{few_server_workers, served_with_app, served_with_jobs, some_server_workers}
 use Rattle.gv_top.proofs.serving.serve_as.Goals as goal
 

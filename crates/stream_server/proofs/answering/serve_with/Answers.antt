@@ -2,7 +2,7 @@ use Rattle.std.proofs.Common.{refl, subst}
 use Rattle.wsgi_core.specs.Applications.{App}
 use Rattle.stream_server.specs.Answering.{answering}
 use Rattle.stream_server.specs.Protocols.{side_of}
-use Rattle.stream_server.specs.Serving.{IsLeft}
+use Rattle.stream_server.specs.Keeping.{IsLeft}
 use Rattle.stream_server.proofs.Endings.{all_wait, answered_of, but_wait, cause_of, own_of, whole_of}
 use Rattle.stream_server.proofs.answering.serve_with.Goals as goal
 

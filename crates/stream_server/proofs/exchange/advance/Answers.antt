@@ -4,6 +4,11 @@ use Rattle.stream_server.specs.Protocols.{side_of}
 use Rattle.stream_server.proofs.Stepping.{none_left, reply_cut, same_going, was_given}
 use Rattle.stream_server.proofs.exchange.advance.Goals as goal
 
+pub returns-in-Asks-clause-none : goal.returns-in-Asks-clause-none
+returns-in-Asks-clause-none g c = λ _.
+    let P : g.row.T.Denot → Type 0 = λ t. g.V.Service.protocol.due t ≡ [] in
+    subst P (sym (c.in-Asks.ensures.asks refl).0) (none_left _ _ _ c.is_empty.ensures c.if-not-is_empty.false c.pending.ensures)
+
 pub listen_on-requires-clause-none : goal.listen_on-requires-clause-none
 listen_on-requires-clause-none g c =
     let P : g.row.T.Denot → Type 0 = λ t. g.V.Service.protocol.due t ≡ [] in

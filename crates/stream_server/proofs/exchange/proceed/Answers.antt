@@ -47,4 +47,5 @@ returns-in_default g c =
           leaves_more (g.N.Net.meaning c.loop.net) (g.N.Net.meaning c.advance.new.net) c.args.client.now.conn c.loop.client.conn was.same
           (λ d. IsGoing S c.args.idle d c.loop.client) (λ d. Leaves c.advance.result S c.args.idle d c.advance.new.client) (c.advance.ensures.leaves w app port fits) (was.leaves w app port fits h);
       wants = c.advance.ensures.wants;
+      none = c.advance.ensures.none;
     }

@@ -1,6 +1,6 @@
 use Rattle.std.proofs.Common.{◌<◌, ◌≤◌}
 use Rattle.stream_server.specs.Running.{IsRunning}
-use Rattle.stream_server.specs.Serving.{Keeps}
+use Rattle.stream_server.specs.Keeping.{Keeps}
 use Rattle.stream_server.specs.Tables.{client_count}
 use Rattle.stream_server.proofs.rounds.close_idle.Given as goal
 

@@ -37,4 +37,5 @@ returns-in-Err-Spent-clause-in_vain g c = λ _. record {
   free = c.requires.free;
   going = λ app fits. c.requires.going app (c.hold.ensures.fits app fits);
   wants_it = c.requires.wants;
+  none_due = c.requires.none;
 }

@@ -22,6 +22,9 @@ hold_client-requires-clause-going g c =
 pub hold_client-requires-clause-wants : goal.hold_client-requires-clause-wants
 hold_client-requires-clause-wants g c = c.in-Asks.ensures.wants refl
 
+pub hold_client-requires-clause-none : goal.hold_client-requires-clause-none
+hold_client-requires-clause-none g c = c.in-Asks.ensures.none refl
+
 pub hold_client-requires-clause-free : goal.hold_client-requires-clause-free
 hold_client-requires-clause-free g c = c.in-Asks.ensures.holds ∙ c.requires.free
 

@@ -12,6 +12,7 @@ loop-init g c = record {
   running = running_first g.V.Service.protocol g.met.V.Service.lawful c.args.port c.args.limits (g.V.Service.fits c.args.service.now c.args.world.now) (g.V.Service.tied c.args.service.now c.args.world.now) (g.N.Net.meaning c.args.net.now) c.in-Ok.table c.requires.fresh c.requires.listens c.in-Ok.ensures.count c.in-Ok.ensures.limit c.in-Ok.ensures.members c.in-Ok.ensures.nobody c.requires.tied;
   sound = c.requires.sound;
   knows = λ app fits. fits;
+  workers = refl;
   accepted = sym (ap length c.requires.fresh.none);
   listens = refl;
   faults = refl;

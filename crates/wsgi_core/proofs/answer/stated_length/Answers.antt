@@ -1,7 +1,7 @@
 use Rattle.std.proofs.Common.{◌≡◌, ◌<◌, ◌∙◌, ap, arith, List, length, get_or, codes}
 use Rattle.http_messages.specs.Environs.{Pair}
 use Rattle.wsgi_core.specs.declared.answer.Stated.{Stated}
-use Rattle.wsgi_core.specs.Answers.{stated_after}
+use Rattle.wsgi_core.specs.Stating.{stated_after}
 use Rattle.wsgi_core.proofs.AnswerLaws.{stated_more}
 use Rattle.wsgi_core.proofs.answer.stated_length.Goals as goal
 

@@ -9,7 +9,7 @@ use Rattle.wsgi_native.specs.Talks.{job_protocol}
 use Rattle.wsgi_native.specs.Tied.{IsTied}
 use Rattle.wsgi_native.specs.Laws.{job_agrees}
 use Rattle.wsgi_native.proofs.Tying.{first_order, tied_none}
-use Rattle.wsgi_native.proofs.Vain.{ends_in_vain}
+use Rattle.wsgi_native.proofs.Vain.{ends_in_vain, out_of_jobs}
 use Rattle.wsgi_native.proofs.serving.serve_jobs.Goals as goal
 
 pub serve_on-end-requires-clause-tied : goal.serve_on-end-requires-clause-tied
@@ -47,7 +47,10 @@ returns-clause-rest_but g c = but_rest (side_of job_protocol job_app c.args.port
 pub returns-clause-resting : goal.returns-clause-resting
 returns-clause-resting g c = λ e. all_rest (side_of job_protocol job_app c.args.port) (g.N.Net.meaning c.serve_on-end.new.net).connections (c.serve_on-end.ensures.resting (c.end_of.ensures.listener e))
 
+pub returns-clause-no_jobs : goal.returns-clause-no_jobs
+returns-clause-no_jobs g c = λ e. out_of_jobs c.args.port c.args.limits.idle (g.N.Net.meaning c.serve_on-end.new.net) (g.W.World.meaning c.serve_on-end.new.world) (c.serve_on-end.ensures.in_vain (c.end_of.ensures.no_jobs e))
+
 pub returns-clause-out_of_jobs : goal.returns-clause-out_of_jobs
 returns-clause-out_of_jobs g c =
-    ends_in_vain c.args.port c.args.limits (g.N.Net.meaning c.serve_on-end.new.net) (g.W.World.meaning c.serve_on-end.new.world) c.end_of.result (λ e. c.serve_on-end.ensures.finished (c.end_of.ensures.finished e))
+    ends_in_vain c.args.port c.args.limits.conns (g.N.Net.meaning c.serve_on-end.new.net) (g.W.World.meaning c.serve_on-end.new.world) c.end_of.result (λ e. c.serve_on-end.ensures.finished (c.end_of.ensures.finished e))
     (λ e. all_rest (side_of job_protocol job_app c.args.port) (g.N.Net.meaning c.serve_on-end.new.net).connections (c.serve_on-end.ensures.resting (c.end_of.ensures.listener e)))

@@ -1,4 +1,4 @@
-use Rattle.std.proofs.Common.{◌+◌, arith, refl, sym, subst}
+use Rattle.std.proofs.Common.{◌+◌, ap, arith, refl, sym, subst}
 use Rattle.std.specs.Prelude.{Some, nat_eq}
 use Rattle.std.specs.HashMap.{get}
 use Rattle.world.specs.Worlds.{Meaning as World}
@@ -46,3 +46,9 @@ returns-clause-tied g c = λ table now accepted tied within relists.
     tied_posted (g.W.World.meaning c.args.world.now) (g.W.World.meaning c.post.new.self) c.args.self.now.posted (get nat_eq c.args.self.now.waiting) (get nat_eq c.insert.new.self) (IsListed table) (IsListed now) accepted was.conn c.wanted_job-job.result client tied within
     (at_ok c.post.result c.if-is_err-2.ensures.value c.post.ensures.posted) (at_ok c.insert.result c.if-is_err.ensures.value c.insert.ensures.updates).0 refl
     (wants_same was.talk client.talk c.wanted_job-job.result refl c.wanted_job-job.ensures) relists.only relists.others
+
+pub returns-then-is_err-2-clause-workers : goal.returns-then-is_err-2-clause-workers
+returns-then-is_err-2-clause-workers g c = ap (λ (w : World). w.workers) (at_err c.post.result c.if-is_err-2.ensures.value c.post.ensures.refused)
+
+pub returns-clause-workers : goal.returns-clause-workers
+returns-clause-workers g c = (at_ok c.post.result c.if-is_err-2.ensures.value c.post.ensures.posted).rest.workers

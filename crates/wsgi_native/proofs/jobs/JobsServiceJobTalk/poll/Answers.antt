@@ -1,4 +1,4 @@
-use Rattle.std.proofs.Common.{refl, sym, subst, ◌∙◌}
+use Rattle.std.proofs.Common.{ap, refl, sym, subst, ◌∙◌}
 use Rattle.std.specs.Prelude.{Option, Some, None, nat_eq}
 use Rattle.std.specs.HashMap.{get}
 use Rattle.gv_values.specs.declared.job.Answer.{Answer}
@@ -69,3 +69,12 @@ returns-in-Nothing-clause-tied g c = λ accepted tied.
 
 pub returns-in-Nothing-clause-fits : goal.returns-in-Nothing-clause-fits
 returns-in-Nothing-clause-fits g c = agreed_earlier (g.W.World.meaning c.args.world.now) (g.W.World.meaning c.ask.new.self) c.in-Ok.answer c.in-Ok.ensures.stored
+
+pub returns-in_default-clause-workers : goal.returns-in_default-clause-workers
+returns-in_default-clause-workers g c = ap (λ (w : World). w.workers) c.in_default.ensures.refused
+
+pub returns-in-Some-remove-clause-workers : goal.returns-in-Some-remove-clause-workers
+returns-in-Some-remove-clause-workers g c = c.in-Ok.ensures.stored.rest.workers
+
+pub returns-in-Nothing-clause-workers : goal.returns-in-Nothing-clause-workers
+returns-in-Nothing-clause-workers g c = c.in-Ok.ensures.stored.rest.workers
