@@ -12,8 +12,8 @@ mod memory_sink;
 mod memory_source;
 mod sink;
 mod source;
-mod std_sink;
-mod std_source;
+mod std_sink_edge;
+mod std_source_edge;
 
 pub use count::one_more;
 pub use limited::{ReadRefusal, read_limited};
@@ -21,5 +21,5 @@ pub use memory_sink::MemorySink;
 pub use memory_source::MemorySource;
 pub use sink::Sink;
 pub use source::{Failed, Source};
-pub use std_sink::StdSink;
-pub use std_source::StdSource;
+pub use std_sink_edge::StdSink;
+pub use std_source_edge::StdSource;

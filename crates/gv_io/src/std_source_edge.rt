@@ -1,3 +1,7 @@
+//! The edge to a reader of the standard library.
+//!
+//! Trusted: which bytes come, and when they end. The clauses say only how the count of faults goes, so a body that
+//! answered the end at once would meet them too.
 ghost use Rattle.std.specs.Prelude.{◌≤◌, IfSome, length};
 
 use crate::count::one_more;

@@ -1,3 +1,7 @@
+//! The edge to a writer of the standard library.
+//!
+//! Trusted: which bytes the writer gets, and when. The clauses say only how the count of faults goes, so a body that
+//! dropped all bytes would meet them too.
 ghost use Rattle.std.specs.Prelude.{◌≡◌, ◌≤◌, OnOk, OnErr};
 ghost use Rattle.gv_values.specs.Counts.{HasRisen};
 
