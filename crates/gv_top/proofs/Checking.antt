@@ -1,6 +1,6 @@
 -- From what a check of a trace says to its verdict.
-use Rattle.std.proofs.Common.{◌≡◌, ◌≢◌, ℕ, List, [], Option, Result, Ok, Err, refl, ap, sym, subst, ◌∙◌}
-use Rattle.gv_io.specs.Streams.{appended, AppendsPrefix}
+use Rattle.std.proofs.Common.{◌≡◌, ◌≢◌, ℕ, List, [], Option, Ok, Err, refl, ap, sym, subst, ◌∙◌}
+use Rattle.gv_io.specs.Streams.{appended}
 use Rattle.gv_io.proofs.StreamLaws.{appended-nothing, AppendsPrefix-nothing}
 use Rattle.command_words.specs.declared.command.TextCommand.{TextCommand}
 use Rattle.command_words.specs.declared.command.TraceCheck.{TraceCheck}

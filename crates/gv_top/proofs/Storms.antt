@@ -2,7 +2,7 @@
 use Rattle.std.proofs.Common.{◌≡◌, ◌≢◌, ℕ, ◌+◌, ◌≤◌, false, List, [], ◌∷◌, ◌++◌, length, take, Option, Some, Ok, Err, Result, refl, ap, sym, subst, ◌∙◌, unwrap_or, arith, length-append}
 use Rattle.std.proofs.lemmas.Grind.{common_steps}
 use Rattle.gv_io.specs.Streams.{appended}
-use Rattle.gv_io.proofs.StreamLaws.{AppendsPrefix-nothing, appended-nothing, appended-told}
+use Rattle.gv_io.proofs.StreamLaws.{AppendsPrefix-nothing, appended-told}
 use Rattle.line_counter.specs.Lines.{lines_of}
 use Rattle.trace_text.specs.LineTexts.{line_text, text_of}
 use Rattle.trace_text.specs.declared.line.Line.{Line}

@@ -1,5 +1,5 @@
 -- What the call answers: its status, what it writes to out, and its line on err.
-use Rattle.std.specs.Prelude.{◌≡◌, ℕ, if◌then◌else◌, List, [], ◌++◌, Option, Some, None, Ok, Err, codes, take, Result}
+use Rattle.std.specs.Prelude.{◌≡◌, ℕ, if◌then◌else◌, List, [], ◌++◌, Some, Ok, Err, codes}
 use Rattle.trace_text.specs.LineTexts.{text_of}
 use Rattle.gv_values.specs.ValueTexts.{decimal}
 use Rattle.gv_values.specs.declared.job.Answer.{Answer as Given}
@@ -9,9 +9,6 @@ use Rattle.scenario_grammar.specs.Printed.{printed}
 use Rattle.scenario_grammar.specs.Reasons.{reason_text}
 use Rattle.scenario_reading.specs.Judged.{judged}
 use Rattle.wsgi_core.specs.Answers.{Sent}
-use Rattle.wsgi_core.specs.Applications.{App}
-use Rattle.wsgi_connection.specs.Connections.{whole_session}
-use Rattle.gv_top.specs.Gateways.{answers_by}
 use Rattle.gv_top.specs.Running.{run_of}
 use Rattle.gv_top.specs.Storm.{IsStorm, storm_run, summary}
 use Rattle.command_words.specs.declared.command.TextCommand.{TextCommand}
