@@ -8,7 +8,7 @@ use Rattle.stream_net.specs.declared.script.ConnScript.{ConnScript}
 use Rattle.stream_net.specs.MemoryNets.{has_arrived}
 use Rattle.stream_net.specs.News.{AreSilent, IsToldFirst, arrives_next, comes_later, coming, has_caller, has_come, moved, told_after}
 use Rattle.stream_net.specs.Rules.{Tells, Voice, Later}
-use Rattle.stream_net.specs.declared.line.Line.{Line}
+use Rattle.stream_net.specs.declared.memory_endpoint.MemoryEndpoint.{MemoryEndpoint}
 use Rattle.stream_net.specs.declared.net.Ready.{Ready}
 use Rattle.stream_net.proofs.MemoryLemmas.{any_item}
 
@@ -83,18 +83,18 @@ nobody_came waiting moment count (Some first) e all h = absurd (cc)
 
 -- ---- what a wait tells
 
-module _ (ws : List ConnScript) (told : Option ℕ) (ls : List Line) (moment : ℕ) (until : Option ℕ) where
-  pub tells_voice : (ws' : List ConnScript) (ls' : List Line) (b : Bool) (ready : Ready) → ws' ≡ ws → ls' ≡ ls → b ≡ has_caller ws' told moment → b ≡ false → IsToldFirst ls' moment ready
+module _ (ws : List ConnScript) (told : Option ℕ) (ls : List MemoryEndpoint) (moment : ℕ) (until : Option ℕ) where
+  pub tells_voice : (ws' : List ConnScript) (ls' : List MemoryEndpoint) (b : Bool) (ready : Ready) → ws' ≡ ws → ls' ≡ ls → b ≡ has_caller ws' told moment → b ≡ false → IsToldFirst ls' moment ready
       → Tells ws told ls moment until (Some ready) moment
   tells_voice ws' ls' b ready e f is quiet h =
-      Voice (ap (λ (xs : List ConnScript). has_caller xs told moment) (sym e) ∙ (sym is ∙ quiet)) ready (subst (λ (xs : List Line). IsToldFirst xs moment ready) f h) refl refl
+      Voice (ap (λ (xs : List ConnScript). has_caller xs told moment) (sym e) ∙ (sym is ∙ quiet)) ready (subst (λ (xs : List MemoryEndpoint). IsToldFirst xs moment ready) f h) refl refl
 
-  pub tells_later : (ws' : List ConnScript) (ls' : List Line) (ws'' : List ConnScript) (ls'' : List Line) (b : Bool) (caller line : Option (ℕ × ℕ)) (next : Option (ℕ × Ready)) (answer : Option Ready) (now : ℕ)
+  pub tells_later : (ws' : List ConnScript) (ls' : List MemoryEndpoint) (ws'' : List ConnScript) (ls'' : List MemoryEndpoint) (b : Bool) (caller endpoint : Option (ℕ × ℕ)) (next : Option (ℕ × Ready)) (answer : Option Ready) (now : ℕ)
       → ws' ≡ ws → ls' ≡ ls → ws'' ≡ ws → ls'' ≡ ls → b ≡ has_caller ws' told moment → b ≡ false → AreSilent ls' (length ls') moment
-      → IsEarliest (comes_later moment) ws'' (length ws'') caller → IsEarliest (arrives_next moment) ls'' (length ls'') line
-      → next ≡ coming caller line → answer ≡ told_after next until → now ≡ moved next until moment
+      → IsEarliest (comes_later moment) ws'' (length ws'') caller → IsEarliest (arrives_next moment) ls'' (length ls'') endpoint
+      → next ≡ coming caller endpoint → answer ≡ told_after next until → now ≡ moved next until moment
       → Tells ws told ls moment until answer now
-  tells_later ws' ls' ws'' ls'' b caller line next answer now e f e' f' is quiet silent callers lines n a m =
-      Later (ap (λ (xs : List ConnScript). has_caller xs told moment) (sym e) ∙ (sym is ∙ quiet)) (subst (λ (xs : List Line). AreSilent xs (length xs) moment) f silent) caller line
-      (subst (λ (xs : List ConnScript). IsEarliest (comes_later moment) xs (length xs) caller) e' callers) (subst (λ (xs : List Line). IsEarliest (arrives_next moment) xs (length xs) line) f' lines)
+  tells_later ws' ls' ws'' ls'' b caller endpoint next answer now e f e' f' is quiet silent callers endpoints n a m =
+      Later (ap (λ (xs : List ConnScript). has_caller xs told moment) (sym e) ∙ (sym is ∙ quiet)) (subst (λ (xs : List MemoryEndpoint). AreSilent xs (length xs) moment) f silent) caller endpoint
+      (subst (λ (xs : List ConnScript). IsEarliest (comes_later moment) xs (length xs) caller) e' callers) (subst (λ (xs : List MemoryEndpoint). IsEarliest (arrives_next moment) xs (length xs) endpoint) f' endpoints)
       (a ∙ ap (λ (o : Option (ℕ × Ready)). told_after o until) n) (m ∙ ap (λ (o : Option (ℕ × Ready)). moved o until moment) n)

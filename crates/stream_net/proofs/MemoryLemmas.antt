@@ -1,15 +1,15 @@
--- A net in memory, one line at a time.
+-- A net in memory, one connection at a time.
 use Rattle.std.proofs.Common.{◌≡◌, ◌≢◌, ℕ, zero, suc, ◌+◌, ◌-◌, ◌<◌, ◌≤◌, Bool, false, List, [], ◌∷◌, ◌++◌, length, take, drop, map, get_or, set, Option, Some, option_map, slice_get, refl, sym, ap, ◌∙◌, subst, arith, slice_set, append_assoc, take-add, min, length-drop, length-take-le}
 use Rattle.gv_values.specs.Counts.{HasRisen}
 use Rattle.std.proofs.lemmas.List.{length-map, get_or-map, take_all, take-append-le}
 use Rattle.std.proofs.lemmas.Option.{slice_get-get_or}
 use Rattle.stream_net.specs.declared.account.Account.{Account}
-use Rattle.stream_net.specs.declared.line.Line.{Line}
+use Rattle.stream_net.specs.declared.memory_endpoint.MemoryEndpoint.{MemoryEndpoint}
 use Rattle.stream_net.specs.declared.net.ReadEnd.{ReadEnd}
 use Rattle.stream_net.specs.declared.net.WriteEnd.{WriteEnd}
 use Rattle.stream_net.specs.declared.script.Piece.{Piece}
 use Rattle.stream_net.specs.Accounts.{account_meaning, read_after}
-use Rattle.stream_net.specs.Lines.{joined, bytes_at, is_failing, read_of, line_meaning, no_piece}
+use Rattle.stream_net.specs.MemoryEndpoints.{joined, bytes_at, is_failing, read_of, scripted_meaning, no_piece}
 use Rattle.stream_net.specs.MemoryNets.{meaning_by}
 use Rattle.stream_net.specs.Nets.{Connection, Changes, Ports, IsNotReady, connection_at, nobody}
 use Rattle.stream_net.specs.Reads.{Reads, after_read}
@@ -25,27 +25,27 @@ map_set f [] k y = refl
 map_set f (x ∷ xs) zero y = refl
 map_set f (x ∷ xs) (suc k) y = ap (λ (zs : List _). f x ∷ zs) (map_set f xs k y)
 
-pub line_at : (lines : List Line) (k : ℕ) (l : Line) → k < length lines → l ≡ get_or lines k l → connection_at (map line_meaning lines) k ≡ line_meaning l
-line_at lines k l within is = get_or-map line_meaning lines k l nobody within ∙ ap line_meaning (sym is)
+pub endpoint_at : (endpoints : List MemoryEndpoint) (k : ℕ) (l : MemoryEndpoint) → k < length endpoints → l ≡ get_or endpoints k l → connection_at (map scripted_meaning endpoints) k ≡ scripted_meaning l
+endpoint_at endpoints k l within is = get_or-map scripted_meaning endpoints k l nobody within ∙ ap scripted_meaning (sym is)
 
-module _ (lines : List Line) (k : ℕ) (old new : Line) (most moment : ℕ) (listens : Option Ports) (faults : ℕ) (blocked : Bool)
-    (within : k < length (map line_meaning lines)) (is : old ≡ get_or lines k old) where
-  in_lines : k < length lines
-  in_lines = subst (λ (n : ℕ). k < n) (length-map lines line_meaning) within
+module _ (endpoints : List MemoryEndpoint) (k : ℕ) (old new : MemoryEndpoint) (most moment : ℕ) (listens : Option Ports) (faults : ℕ) (blocked : Bool)
+    (within : k < length (map scripted_meaning endpoints)) (is : old ≡ get_or endpoints k old) where
+  in_endpoints : k < length endpoints
+  in_endpoints = subst (λ (n : ℕ). k < n) (length-map endpoints scripted_meaning) within
 
-  pub one_changed : (change : Connection → Connection) → line_meaning new ≡ change (line_meaning old)
-      → Changes (meaning_by lines most moment listens faults blocked) (meaning_by (slice_set lines k new) most moment listens faults blocked) k change
+  pub one_changed : (change : Connection → Connection) → scripted_meaning new ≡ change (scripted_meaning old)
+      → Changes (meaning_by endpoints most moment listens faults blocked) (meaning_by (slice_set endpoints k new) most moment listens faults blocked) k change
   one_changed change e = record {
-    connections = map_set line_meaning lines k new ∙ ap (λ (c : Connection). set (map line_meaning lines) k c) (e ∙ ap change (sym (line_at lines k old in_lines is)));
+    connections = map_set scripted_meaning endpoints k new ∙ ap (λ (c : Connection). set (map scripted_meaning endpoints) k c) (e ∙ ap change (sym (endpoint_at endpoints k old in_endpoints is)));
     rest = record { most = refl; moment = omega arith; listens = refl; faults = refl; blocked = refl };
   }
 
-  at_old : connection_at (map line_meaning lines) k ≡ line_meaning old
-  at_old = line_at lines k old in_lines is
+  at_old : connection_at (map scripted_meaning endpoints) k ≡ scripted_meaning old
+  at_old = endpoint_at endpoints k old in_endpoints is
 
-  pub one_read : (end : ReadEnd) (bytes : List ℕ) → line_meaning new ≡ after_read end bytes moment new.account.faults (line_meaning old) → old.account.faults ≤ new.account.faults
+  pub one_read : (end : ReadEnd) (bytes : List ℕ) → scripted_meaning new ≡ after_read end bytes moment new.account.faults (scripted_meaning old) → old.account.faults ≤ new.account.faults
       → (end ≡ ReadEnd.Failed → HasRisen old.account.faults new.account.faults) → (end ≢ ReadEnd.Failed → new.account.faults ≡ old.account.faults)
-      → Reads (meaning_by lines most moment listens faults blocked) (meaning_by (slice_set lines k new) most moment listens faults blocked) k end bytes
+      → Reads (meaning_by endpoints most moment listens faults blocked) (meaning_by (slice_set endpoints k new) most moment listens faults blocked) k end bytes
   one_read end bytes e rises failed unfailed = record {
     faults = new.account.faults;
     changes = one_changed (after_read end bytes moment new.account.faults) e;
@@ -54,9 +54,9 @@ module _ (lines : List Line) (k : ℕ) (old new : Line) (most moment : ℕ) (lis
     unfailed = λ f. unfailed f ∙ ap (λ (c : Connection). c.faults) (sym at_old);
   }
 
-  pub one_written : (end : WriteEnd) (bytes : List ℕ) → line_meaning new ≡ after_write end bytes moment new.account.faults (line_meaning old) → old.account.faults ≤ new.account.faults
+  pub one_written : (end : WriteEnd) (bytes : List ℕ) → scripted_meaning new ≡ after_write end bytes moment new.account.faults (scripted_meaning old) → old.account.faults ≤ new.account.faults
       → (end ≡ WriteEnd.Failed → HasRisen old.account.faults new.account.faults) → (end ≢ WriteEnd.Failed → new.account.faults ≡ old.account.faults)
-      → Writes (meaning_by lines most moment listens faults blocked) (meaning_by (slice_set lines k new) most moment listens faults blocked) k end bytes
+      → Writes (meaning_by endpoints most moment listens faults blocked) (meaning_by (slice_set endpoints k new) most moment listens faults blocked) k end bytes
   one_written end bytes e rises failed unfailed = record {
     faults = new.account.faults;
     changes = one_changed (after_write end bytes moment new.account.faults) e;
@@ -66,16 +66,16 @@ module _ (lines : List Line) (k : ℕ) (old new : Line) (most moment : ℕ) (lis
   }
 
 -- a read or write that failed: the call was counted, and nothing else is changed but what is kept
-pub failed_write : (l m : Line) (a : Account) (calls moment : ℕ) (bytes : List ℕ) → m ≡ record l { calls = calls }
+pub failed_write : (l m : MemoryEndpoint) (a : Account) (calls moment : ℕ) (bytes : List ℕ) → m ≡ record l { calls = calls }
     → ((read written : Option (List ℕ)) (bytes : List ℕ) → account_meaning a read (written_after WriteEnd.Failed bytes written) ≡ after_write WriteEnd.Failed bytes moment a.faults (account_meaning m.account read written))
-    → line_meaning (record m { account = a }) ≡ after_write WriteEnd.Failed bytes moment a.faults (line_meaning l)
-failed_write l m a calls moment bytes e h = h (Some (read_of m.script.pieces m.place m.offset)) (Some m.written.items) bytes ∙ ap (λ (x : Line). after_write WriteEnd.Failed bytes moment a.faults (line_meaning x)) e
+    → scripted_meaning (record m { account = a }) ≡ after_write WriteEnd.Failed bytes moment a.faults (scripted_meaning l)
+failed_write l m a calls moment bytes e h = h (Some (read_of m.script.pieces m.place m.offset)) (Some m.written.items) bytes ∙ ap (λ (x : MemoryEndpoint). after_write WriteEnd.Failed bytes moment a.faults (scripted_meaning x)) e
 
-pub told_one : (lines : List Line) (k : ℕ) (old new : Line) → k < length lines → line_meaning new ≡ woken_if (get_or lines k old).account.closed (line_meaning (get_or lines k old))
-    → map line_meaning (slice_set lines k new) ≡ woken k (map line_meaning lines)
-told_one lines k old new within e =
-    let at : connection_at (map line_meaning lines) k ≡ line_meaning (get_or lines k old) = get_or-map line_meaning lines k old nobody within in
-    map_set line_meaning lines k new ∙ ap (λ (c : Connection). set (map line_meaning lines) k c) (e ∙ ap (λ (c : Connection). woken_if c.closed c) (sym at))
+pub told_one : (endpoints : List MemoryEndpoint) (k : ℕ) (old new : MemoryEndpoint) → k < length endpoints → scripted_meaning new ≡ woken_if (get_or endpoints k old).account.closed (scripted_meaning (get_or endpoints k old))
+    → map scripted_meaning (slice_set endpoints k new) ≡ woken k (map scripted_meaning endpoints)
+told_one endpoints k old new within e =
+    let at : connection_at (map scripted_meaning endpoints) k ≡ scripted_meaning (get_or endpoints k old) = get_or-map scripted_meaning endpoints k old nobody within in
+    map_set scripted_meaning endpoints k new ∙ ap (λ (c : Connection). set (map scripted_meaning endpoints) k c) (e ∙ ap (λ (c : Connection). woken_if c.closed c) (sym at))
 
 -- bytes of a piece were given
 pub given_more : (pieces : List Piece) (place offset count : ℕ) (before given behind : List ℕ) → read_of pieces place offset ≡ before → given ≡ take count (drop offset (bytes_at pieces place)) → length given ≡ count
@@ -88,7 +88,7 @@ given_more pieces place offset count before given behind was is long =
     ∙ ap (λ (z : List ℕ). before ++ z) (sym (take-append-le count given behind (omega (arith, long)) ∙ take_all count given (omega (arith, long))))
 
 -- what was changed through a slice of all
-pub took : (old new : List Line) (n : ℕ) → n ≡ length old → length new ≡ length old → take n (new ++ drop (length new) old) ≡ new
+pub took : (old new : List MemoryEndpoint) (n : ℕ) → n ≡ length old → length new ≡ length old → take n (new ++ drop (length new) old) ≡ new
 took old new n e f = take-append-le n new (drop (length new) old) (omega (arith, e, f)) ∙ take_all n new (omega (arith, e, f))
 
 pub in_time : (ready : Ready) (until : Option ℕ) (moment : ℕ) → ready ≢ Elapsed → IsInTime ready until moment
@@ -115,39 +115,39 @@ given_from pieces qs rs place offset count room p bytes given before behind was 
     let long : length given ≡ count = ap (λ (xs : List ℕ). length xs) cut ∙ length-take-le count (drop offset bytes) fits in
     given_more pieces place offset count before given behind was (cut ∙ ap (λ (xs : List ℕ). take count (drop offset xs)) all) long
 
-pub failed_read : (l m : Line) (a : Account) (calls moment : ℕ) (bytes : List ℕ) → m ≡ record l { calls = calls }
+pub failed_read : (l m : MemoryEndpoint) (a : Account) (calls moment : ℕ) (bytes : List ℕ) → m ≡ record l { calls = calls }
     → ((read written : Option (List ℕ)) (bytes : List ℕ) → account_meaning a (read_after ReadEnd.Failed bytes read) written ≡ after_read ReadEnd.Failed bytes moment a.faults (account_meaning m.account read written))
-    → line_meaning (record m { account = a }) ≡ after_read ReadEnd.Failed bytes moment a.faults (line_meaning l)
-failed_read l m a calls moment bytes e h = h (Some (read_of m.script.pieces m.place m.offset)) (Some m.written.items) bytes ∙ ap (λ (x : Line). after_read ReadEnd.Failed bytes moment a.faults (line_meaning x)) e
+    → scripted_meaning (record m { account = a }) ≡ after_read ReadEnd.Failed bytes moment a.faults (scripted_meaning l)
+failed_read l m a calls moment bytes e h = h (Some (read_of m.script.pieces m.place m.offset)) (Some m.written.items) bytes ∙ ap (λ (x : MemoryEndpoint). after_read ReadEnd.Failed bytes moment a.faults (scripted_meaning x)) e
 
--- one line is another now
-pub rewritten_at : (lines : List Line) (k : ℕ) (d new : Line) (Becomes : Line → Line → Type 0) → k < length lines → Becomes (get_or lines k d) new → Rewrites lines (slice_set lines k new) k Becomes
-rewritten_at lines k d new Becomes within h = record { line = new; lines = refl; becomes = λ e. subst (λ (l : Line). Becomes l new) (any_item lines k d e within) h }
+-- one connection is another now
+pub rewritten_at : (endpoints : List MemoryEndpoint) (k : ℕ) (d new : MemoryEndpoint) (Becomes : MemoryEndpoint → MemoryEndpoint → Type 0) → k < length endpoints → Becomes (get_or endpoints k d) new → Rewrites endpoints (slice_set endpoints k new) k Becomes
+rewritten_at endpoints k d new Becomes within h = record { endpoint = new; endpoints = refl; becomes = λ e. subst (λ (l : MemoryEndpoint). Becomes l new) (any_item endpoints k d e within) h }
 
-pub rewritten : (lines : List Line) (k : ℕ) (old new : Line) (Becomes : Line → Line → Type 0) → k < length (map line_meaning lines) → old ≡ get_or lines k old → Becomes old new → Rewrites lines (slice_set lines k new) k Becomes
-rewritten lines k old new Becomes within is h =
-    rewritten_at lines k old new Becomes (subst (λ (n : ℕ). k < n) (length-map lines line_meaning) within) (subst (λ (l : Line). Becomes l new) is h)
+pub rewritten : (endpoints : List MemoryEndpoint) (k : ℕ) (old new : MemoryEndpoint) (Becomes : MemoryEndpoint → MemoryEndpoint → Type 0) → k < length (map scripted_meaning endpoints) → old ≡ get_or endpoints k old → Becomes old new → Rewrites endpoints (slice_set endpoints k new) k Becomes
+rewritten endpoints k old new Becomes within is h =
+    rewritten_at endpoints k old new Becomes (subst (λ (n : ℕ). k < n) (length-map endpoints scripted_meaning) within) (subst (λ (l : MemoryEndpoint). Becomes l new) is h)
 
--- what holds of the line holds of it whatever stands for none
-pub at_line : (P : Line → Type 0) (lines : List Line) (k : ℕ) (old : Line) → k < length (map line_meaning lines) → old ≡ get_or lines k old → P old → (d : Line) → P (get_or lines k d)
-at_line P lines k old within is h d =
-    subst P (is ∙ any_item lines k old d (subst (λ (n : ℕ). k < n) (length-map lines line_meaning) within)) h
+-- what holds of the connection holds of it whatever stands for none
+pub at_endpoint : (P : MemoryEndpoint → Type 0) (endpoints : List MemoryEndpoint) (k : ℕ) (old : MemoryEndpoint) → k < length (map scripted_meaning endpoints) → old ≡ get_or endpoints k old → P old → (d : MemoryEndpoint) → P (get_or endpoints k d)
+at_endpoint P endpoints k old within is h d =
+    subst P (is ∙ any_item endpoints k old d (subst (λ (n : ℕ). k < n) (length-map endpoints scripted_meaning) within)) h
 
--- a test that fails at a line tells that it is not ready
-pub is_not_ready : (test : Line → Bool) (lines : List Line) (k : ℕ) (l : Line) → k < length (map line_meaning lines) → l ≡ get_or lines k l → test l ≡ false → IsNotReady (option_map test (slice_get lines k))
-is_not_ready test lines k l within is fails =
-    let inside : k < length lines = subst (λ (n : ℕ). k < n) (length-map lines line_meaning) within in
-    subst (λ (o : Option Line). IsNotReady (option_map test o)) (sym (slice_get-get_or lines k l inside ∙ ap Some (sym is))) fails
+-- a test that fails at a connection tells that it is not ready
+pub is_not_ready : (test : MemoryEndpoint → Bool) (endpoints : List MemoryEndpoint) (k : ℕ) (l : MemoryEndpoint) → k < length (map scripted_meaning endpoints) → l ≡ get_or endpoints k l → test l ≡ false → IsNotReady (option_map test (slice_get endpoints k))
+is_not_ready test endpoints k l within is fails =
+    let inside : k < length endpoints = subst (λ (n : ℕ). k < n) (length-map endpoints scripted_meaning) within in
+    subst (λ (o : Option MemoryEndpoint). IsNotReady (option_map test o)) (sym (slice_get-get_or endpoints k l inside ∙ ap Some (sym is))) fails
 
 -- a read or a write that was counted before it was made
-pub counted_read : (end : ReadEnd) (l m : Line) (calls moment : ℕ) → m ≡ record l { calls = calls } → is_failing l ≡ false → EndsRead end false m moment → EndsRead end (is_failing l) l moment
-counted_read (ReadEnd.Got n) l m calls moment e fails h = let g = subst (λ (x : Line). EndsRead (ReadEnd.Got n) false x moment) e h in (fails, g.1)
-counted_read ReadEnd.End l m calls moment e fails h = let g = subst (λ (x : Line). EndsRead ReadEnd.End false x moment) e h in (fails, g.1, g.2)
-counted_read ReadEnd.WouldBlock l m calls moment e fails h = let g = subst (λ (x : Line). EndsRead ReadEnd.WouldBlock false x moment) e h in (fails, g.1, g.2)
-counted_read ReadEnd.Failed l m calls moment e fails h = let g = subst (λ (x : Line). EndsRead ReadEnd.Failed false x moment) e h in absurd (cc)
+pub counted_read : (end : ReadEnd) (l m : MemoryEndpoint) (calls moment : ℕ) → m ≡ record l { calls = calls } → is_failing l ≡ false → EndsRead end false m moment → EndsRead end (is_failing l) l moment
+counted_read (ReadEnd.Got n) l m calls moment e fails h = let g = subst (λ (x : MemoryEndpoint). EndsRead (ReadEnd.Got n) false x moment) e h in (fails, g.1)
+counted_read ReadEnd.End l m calls moment e fails h = let g = subst (λ (x : MemoryEndpoint). EndsRead ReadEnd.End false x moment) e h in (fails, g.1, g.2)
+counted_read ReadEnd.WouldBlock l m calls moment e fails h = let g = subst (λ (x : MemoryEndpoint). EndsRead ReadEnd.WouldBlock false x moment) e h in (fails, g.1, g.2)
+counted_read ReadEnd.Failed l m calls moment e fails h = let g = subst (λ (x : MemoryEndpoint). EndsRead ReadEnd.Failed false x moment) e h in absurd (cc)
 
-pub counted_write : (end : WriteEnd) (l m : Line) (calls count : ℕ) → m ≡ record l { calls = calls } → is_failing l ≡ false → EndsWrite end false m count → EndsWrite end (is_failing l) l count
-counted_write (WriteEnd.Took n) l m calls count e fails h = let g = subst (λ (x : Line). EndsWrite (WriteEnd.Took n) false x count) e h in (fails, g.1)
-counted_write WriteEnd.WouldBlock l m calls count e fails h = let g = subst (λ (x : Line). EndsWrite WriteEnd.WouldBlock false x count) e h in (fails, g.1)
-counted_write WriteEnd.Failed l m calls count e fails h = let g = subst (λ (x : Line). EndsWrite WriteEnd.Failed false x count) e h in absurd (cc)
-counted_write WriteEnd.Memory l m calls count e fails h = let g = subst (λ (x : Line). EndsWrite WriteEnd.Memory false x count) e h in (fails, g.1)
+pub counted_write : (end : WriteEnd) (l m : MemoryEndpoint) (calls count : ℕ) → m ≡ record l { calls = calls } → is_failing l ≡ false → EndsWrite end false m count → EndsWrite end (is_failing l) l count
+counted_write (WriteEnd.Took n) l m calls count e fails h = let g = subst (λ (x : MemoryEndpoint). EndsWrite (WriteEnd.Took n) false x count) e h in (fails, g.1)
+counted_write WriteEnd.WouldBlock l m calls count e fails h = let g = subst (λ (x : MemoryEndpoint). EndsWrite WriteEnd.WouldBlock false x count) e h in (fails, g.1)
+counted_write WriteEnd.Failed l m calls count e fails h = let g = subst (λ (x : MemoryEndpoint). EndsWrite WriteEnd.Failed false x count) e h in absurd (cc)
+counted_write WriteEnd.Memory l m calls count e fails h = let g = subst (λ (x : MemoryEndpoint). EndsWrite WriteEnd.Memory false x count) e h in (fails, g.1)

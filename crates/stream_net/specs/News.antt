@@ -1,12 +1,12 @@
 -- What there is to tell of those that wait and of the connections.
 use Rattle.std.specs.Prelude.{◌≡◌, ℕ, ◌<◌, nat_lt, nat_le, max, min, if◌then◌else◌, Bool, false, not, ◌&&◌, ◌||◌, List, length, slice_index_or, Option, Some, None, option_map}
 use Rattle.std.specs.List.{find, list_any}
-use Rattle.stream_net.specs.declared.line.Line.{Line}
+use Rattle.stream_net.specs.declared.memory_endpoint.MemoryEndpoint.{MemoryEndpoint}
 use Rattle.stream_net.specs.declared.net.Ready.{Ready}
 use Rattle.stream_net.specs.declared.net.Ready.TheVariants.{Incoming, Readable, Writable, Elapsed}
 use Rattle.stream_net.specs.declared.script.ConnScript.{ConnScript}
 use Rattle.stream_net.specs.declared.script.Piece.{Piece}
-use Rattle.stream_net.specs.Lines.{is_past, until_end}
+use Rattle.stream_net.specs.MemoryEndpoints.{is_past, until_end}
 
 -- what comes at this moment was told already
 abbrev pub was_told : Option ℕ → ℕ → Bool
@@ -29,23 +29,23 @@ abbrev pub has_piece : List Piece → Option ℕ → ℕ → Bool
 has_piece pieces told moment = list_any (λ p. is_news told moment p.at) pieces
 
 -- bytes or the end came to the connection and weren't told; none come behind the end
-abbrev pub has_news : Line → ℕ → Bool
+abbrev pub has_news : MemoryEndpoint → ℕ → Bool
 has_news l moment = has_piece l.script.pieces l.told (until_end l.script.ends moment) || end_is_news l.script.ends l.told moment
 
 -- what an open connection of this number has to tell: that it takes bytes again, before what came to it
-abbrev pub told_of : Line → ℕ → ℕ → Option Ready
+abbrev pub told_of : MemoryEndpoint → ℕ → ℕ → Option Ready
 told_of l k moment = if l.account.closed then None else if l.waits then Some (Writable k) else if has_news l moment then Some (Readable k) else None
 
 -- the connections below this number have nothing to tell
-abbrev pub AreSilent : List Line → ℕ → ℕ → Type 0
-AreSilent lines count moment = (j : ℕ) (d : Line) → j < count → told_of (slice_index_or lines j d) j moment ≡ None
+abbrev pub AreSilent : List MemoryEndpoint → ℕ → ℕ → Type 0
+AreSilent endpoints count moment = (j : ℕ) (d : MemoryEndpoint) → j < count → told_of (slice_index_or endpoints j d) j moment ≡ None
 
 -- this is told by the first connection that has something to tell
-pub record IsToldFirst (lines : List Line) (moment : ℕ) (ready : Ready) : Type 0 where
+pub record IsToldFirst (endpoints : List MemoryEndpoint) (moment : ℕ) (ready : Ready) : Type 0 where
   pub number : ℕ
-  pub within : number < length lines
-  pub tells : (d : Line) → told_of (slice_index_or lines number d) number moment ≡ Some ready
-  pub silent : AreSilent lines number moment
+  pub within : number < length endpoints
+  pub tells : (d : MemoryEndpoint) → told_of (slice_index_or endpoints number d) number moment ≡ Some ready
+  pub silent : AreSilent endpoints number moment
 
 -- ---- what comes later
 
@@ -67,15 +67,15 @@ abbrev pub piece_after : List Piece → ℕ → Option ℕ
 piece_after pieces moment = option_map (λ p. p.at) (find (λ p. nat_lt moment p.at) pieces)
 
 -- the moment at which bytes or the end come next to an open connection
-abbrev pub arrives_next : ℕ → Line → Option ℕ
+abbrev pub arrives_next : ℕ → MemoryEndpoint → Option ℕ
 arrives_next moment l = if l.account.closed then None else if is_past l.script.ends moment then None else before_end (piece_after l.script.pieces moment) l.script.ends
 
 -- what comes next, of the earliest who waits and the earliest connection: who waits goes first
 abbrev pub coming : Option (ℕ × ℕ) → Option (ℕ × ℕ) → Option (ℕ × Ready)
 coming None None = None
 coming (Some caller) None = Some (caller.0, Incoming)
-coming None (Some line) = Some (line.0, Readable line.1)
-coming (Some caller) (Some line) = if nat_le caller.0 line.0 then Some (caller.0, Incoming) else Some (line.0, Readable line.1)
+coming None (Some endpoint) = Some (endpoint.0, Readable endpoint.1)
+coming (Some caller) (Some endpoint) = if nat_le caller.0 endpoint.0 then Some (caller.0, Incoming) else Some (endpoint.0, Readable endpoint.1)
 
 -- a wait ends at the earlier of that and the moment asked for, and fails where there is neither
 abbrev pub moved : Option (ℕ × Ready) → Option ℕ → ℕ → ℕ

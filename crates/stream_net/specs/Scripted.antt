@@ -5,10 +5,10 @@ use Rattle.stream_net.specs.MemoryNets.{meaning_by, readiness_by}
 use Rattle.stream_net.specs.Nets.{Connection, Meaning, Readiness}
 
 abbrev pub meaning_of : MemoryNet → Meaning
-meaning_of n = meaning_by n.lines.items n.most n.moment n.listens n.faults n.blocked
+meaning_of n = meaning_by n.endpoints.items n.most n.moment n.listens n.faults n.blocked
 
 abbrev pub readiness_of : MemoryNet → Readiness
-readiness_of n = readiness_by n.waiting.items n.lines.items n.moment
+readiness_of n = readiness_by n.waiting.items n.endpoints.items n.moment
 
 -- who waits, who of them was told of, the port and the moment are as before
 pub record Stays (old new : MemoryNet) : Type 0 where
