@@ -11,8 +11,9 @@ ghost use Rattle.native_pool.specs.Desks.{Balances, SameCells, Rests, Settles, G
 ghost use Rattle.native_pool.specs.Pools.{told_cell, numbers_from, joined_each, RefusedWhereRisen};
 ghost use Rattle.native_pool.specs.Views.{desk_view, start_cell};
 
+use crate::clock::Clock;
 use crate::desk::{Desk, MOST_CELLS};
-use crate::edge::{Clock, Ear};
+use crate::ear::Ear;
 use crate::history::History;
 use crate::spawner::Spawner;
 use crate::task::{Gate, WorkerTask};
