@@ -7,7 +7,7 @@ ghost use Rattle.stream_net.specs.Reads.{after_read};
 ghost use Rattle.stream_net.specs.Waits.{named, woken, woken_if};
 ghost use Rattle.stream_net.specs.Writes.{after_write};
 
-use crate::sockets::{Told, read_stream, write_stream};
+use crate::sockets_edge::{Told, read_stream, write_stream};
 use mio::net::TcpStream;
 use stream_net::{Account, ReadEnd, Ready, WriteEnd};
 

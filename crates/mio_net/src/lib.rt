@@ -2,9 +2,9 @@
 #![tactic(auto)]
 
 mod endpoint;
-mod linger;
-mod mio_sockets;
-mod sockets;
+mod linger_edge;
+mod mio_sockets_edge;
+mod sockets_edge;
 
 pub use endpoint::Endpoint;
-pub use mio_sockets::MioNet;
+pub use mio_sockets_edge::MioNet;

@@ -1,4 +1,7 @@
-//! What is asked of the system.
+//! The edge to the system's sockets: what is asked of them.
+//!
+//! Trusted: which bytes come and go, who is accepted, and what a poll tells. The clauses say only how many bytes an
+//! answer counts.
 ghost use Rattle.std.specs.Prelude.{◌≡◌, ◌≢◌, ◌<◌, ◌≤◌, ℕ, length};
 
 use gv_io::Failed;

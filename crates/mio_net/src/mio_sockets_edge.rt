@@ -1,4 +1,7 @@
-//! The net over the system.
+//! The edge to the system's listener, poll and clock: the net over them.
+//!
+//! Trusted: what is ready, who is accepted, and that a moment is the time that has passed. The clauses say what each
+//! call keeps and counts of the connections, and nothing of which bytes come or go.
 ghost use Rattle.std.specs.Prelude.{◌≡◌, ◌<◌, ◌≤◌, ◌^◌, length, map, false, IfOk};
 ghost use Rattle.mio_net.specs.Endpoints.{endpoint_meaning};
 ghost use Rattle.stream_net.specs.Nets.{live_count};
@@ -6,8 +9,8 @@ ghost use Rattle.stream_net.specs.Nets.{live_count};
 use crate::endpoint::{
     Endpoint, close_endpoint, hold_endpoint, name_endpoint, read_endpoint, write_endpoint,
 };
-use crate::linger::Lingering;
-use crate::sockets::{LISTENER, Taken, Told, next_stream, poll_into};
+use crate::linger_edge::Lingering;
+use crate::sockets_edge::{LISTENER, Taken, Told, next_stream, poll_into};
 use gv_io::{Failed, one_more};
 use mio::net::TcpListener;
 use mio::{Events, Interest, Poll};
@@ -22,7 +25,7 @@ use stream_net::{Accepted, Account, Net, Ports, ReadEnd, Ready, WriteEnd};
 const EVENTS: usize = 256;
 
 /// The most connections, so that each has a number.
-const MOST: usize = 4294967295;
+const MOST_CONNECTIONS: usize = 4294967295;
 
 /// How often the last closed connections are waited for.
 const LAST_WAITS: usize = 65536;
@@ -246,7 +249,7 @@ impl<R: std::net::Net + Clock + Drop> Net for MioNet<R> {
 
     fn accept(&mut self) -> Accepted {
         self.blocked = false;
-        if self.endpoints.len() >= MOST {
+        if self.endpoints.len() >= MOST_CONNECTIONS {
             return Accepted::Memory;
         }
         if !self.arrived {

@@ -2,7 +2,7 @@ use Rattle.std.proofs.Common.{◌<◌, ap, ◌∙◌, sym, length, slice_set, ar
 use Rattle.std.proofs.lemmas.List.{length-set}
 use Rattle.stream_net.specs.Nets.{Connection}
 use Rattle.mio_net.proofs.EndpointLemmas.{one_written, kept_count, write_closed}
-use Rattle.mio_net.proofs.mio_sockets.MioNetNet.write.Goals as goal
+use Rattle.mio_net.proofs.mio_sockets_edge.MioNetNet.write.Goals as goal
 
 pub invariant_of-self : goal.invariant_of-self
 invariant_of-self g c =

@@ -2,7 +2,7 @@ use Rattle.std.proofs.Common.{◌<◌, ap, ◌∙◌, sym, length, slice_set, ar
 use Rattle.std.proofs.lemmas.List.{length-set}
 use Rattle.stream_net.specs.Nets.{Connection}
 use Rattle.mio_net.proofs.EndpointLemmas.{one_changed, kept_count}
-use Rattle.mio_net.proofs.mio_sockets.MioNetNet.hold.Goals as goal
+use Rattle.mio_net.proofs.mio_sockets_edge.MioNetNet.hold.Goals as goal
 
 pub returns : goal.returns
 returns g c =

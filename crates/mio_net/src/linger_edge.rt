@@ -1,4 +1,6 @@
-//! Connections that were closed and whose peers may still send.
+//! The edge to the streams of connections that were closed and whose peers may still send.
+//!
+//! Trusted as a whole: no clause says what is read and dropped here, nor when a stream is let go.
 //!
 //! Where bytes that nobody read lie in a socket as it is let go, or come later, the system resets the connection, and
 //! the peer may lose what it was sent last. So the writing side is ended first, and what still comes is read and
@@ -14,10 +16,10 @@ use stream_net::Ready;
 const LONGEST: u64 = 1000;
 
 /// How many bytes of a connection are dropped at most.
-const MOST_BYTES: usize = 1 << 20;
+const MOST_DROPPED: usize = 1 << 20;
 
 /// How many connections linger at most; one more lets the first go.
-const MOST: usize = 256;
+const MOST_LINGERING: usize = 256;
 
 /// How many bytes are read at a time.
 const PIECE: usize = 16384;
@@ -69,7 +71,7 @@ impl Lingering {
     /// None yet.
     pub fn new(alloc: Global) -> Result<Lingering, AllocError> {
         Ok(Lingering {
-            lingerers: Vec::with_capacity(alloc, MOST)?,
+            lingerers: Vec::with_capacity(alloc, MOST_LINGERING)?,
             piece: vec![in alloc; 0u8; PIECE]?,
         })
     }
@@ -83,11 +85,11 @@ impl Lingering {
         if stream.shutdown(Shutdown::Write).is_err() {
             return;
         }
-        let mut left = MOST_BYTES;
+        let mut left = MOST_DROPPED;
         if !drain(&stream, &mut left, &mut self.piece) {
             return;
         }
-        if self.lingerers.len() >= MOST {
+        if self.lingerers.len() >= MOST_LINGERING {
             let _ = self.let_first_go();
         }
         // Room was made for as many as linger.
@@ -138,7 +140,7 @@ impl Lingering {
 
     /// Lets those go whose time has come at this moment.
     pub fn let_go(&mut self, moment: u64) {
-        for _ in 0..MOST {
+        for _ in 0..MOST_LINGERING {
             match self.earliest() {
                 Some(until) if until <= moment => {
                     let _ = self.let_first_go();

@@ -2,7 +2,7 @@ use Rattle.std.proofs.Common.{◌≡◌, ◌<◌, ap, ◌∙◌, sym, length, sl
 use Rattle.std.proofs.lemmas.List.{length-set}
 use Rattle.stream_net.specs.Nets.{Connection}
 use Rattle.mio_net.proofs.EndpointLemmas.{one_changed, closed_count, at_old as old_at}
-use Rattle.mio_net.proofs.mio_sockets.MioNetNet.close.Goals as goal
+use Rattle.mio_net.proofs.mio_sockets_edge.MioNetNet.close.Goals as goal
 
 pub returns : goal.returns
 returns g c =
