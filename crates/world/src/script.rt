@@ -31,7 +31,8 @@ impl ScriptWorld {
     ghost use Rattle.std.specs.Prelude.{◌≡◌, ◌≤◌, ◌↔◌, IsTrue, List, [], true, false, OnOk, OnErr};
     ghost use Rattle.gv_values.specs.declared.job.Answer.{Answer};
     ghost use Rattle.world_rules.specs.Legal.{is_posted, IsLegal, MayAsk};
-    ghost use Rattle.world_rules.specs.Script.{start, after_post, after_answer, scripted};
+    ghost use Rattle.world_rules.specs.Rules.{start, after_post, after_answer};
+    ghost use Rattle.world_rules.specs.Script.{scripted};
     ghost use Rattle.world.specs.Kept.{script_meaning, due_jobs, rule_state, SameSetting, SameScript};
     ghost use Rattle.world.specs.LegalLogs.{HasLegalLog};
     ghost use Rattle.world.specs.Upshots.{said};
