@@ -2,9 +2,9 @@
 //! `gv_top::gvr` does everything.
 #![tactic(auto)]
 
-mod fallback;
+mod fallback_edge;
 
-use crate::fallback::{DeafEar, MuteBell, ProgramClock};
+use crate::fallback_edge::{DeafEar, MuteBell, ProgramClock};
 use gv_io::{StdSink, StdSource};
 use gv_top::gvr;
 use mio_net::MioNet;

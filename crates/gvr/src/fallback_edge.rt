@@ -1,4 +1,6 @@
 //! What stands in for parts that the system refuses.
+//!
+//! Trusted: no clause says what the ear and the bell do.
 
 use native_board::Bell;
 use native_pool::{Clock, Ear, SteadyClock};
