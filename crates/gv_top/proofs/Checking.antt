@@ -9,10 +9,12 @@ use Rattle.verify_command.specs.declared.checking.Unverified.{Unverified}
 use Rattle.gv_top.specs.Answers.{Answer}
 use Rattle.gv_top.specs.Top.{Decided, Fits}
 use Rattle.gv_top.specs.Verdicts.{number_of}
-use Rattle.gv_top.specs.Verifying.{IsAnswerWhere, IsCheckAnswer, unverified, verified}
+use Rattle.gv_top.specs.Verifying.{IsCheckAnswer, unverified, verified}
+use Rattle.gv_top.specs.Inner.{IsAnswerWhere}
 use Rattle.gv_top.specs.declared.status.Verdict.{Verdict}
 use Rattle.gv_top.specs.declared.words.Command.{Command}
 use Rattle.gv_top.proofs.Deciding.{decided_as}
+use Rattle.gv_top.proofs.Said.{answer_is_said, said_is_answer}
 
 -- ---- what is said is one thing
 
@@ -30,8 +32,7 @@ abbrev IsOnly : TraceCheck → List ℕ → Verification → Type 0
 IsOnly check bytes w = (right : Verification) → IsSaidOf check bytes right → IsSame right w
 
 answer_where : (check : TraceCheck) (bytes : List ℕ) (w : Verification) (a : Answer) → IsOnly check bytes w → IsTold w → IsCheckAnswer check bytes a → IsAnswerWhere w a
-unfolding IsCheckAnswer
-answer_where check bytes w a only told h = answers_where h.0 w a (only h.0 h.1) told h.2
+answer_where check bytes w a only told h = let s = answer_is_said check bytes a h in answers_where s.0 w a (only s.0 s.1) told s.2
 
 -- ---- the trace was verified
 
@@ -41,8 +42,7 @@ verified_decided check bytes lines v a old new only d h = decided_as v a (verifi
 
 pub verified_fits : (check : TraceCheck) (bytes : List ℕ) (lines : ℕ) (v : Verdict) (old new : Option (List ℕ)) → IsSaid (IsSaidOf check bytes) (Ok lines)
     → Fits v (verified lines) old new → (a : Answer) × IsCheckAnswer check bytes a × Fits v a old new
-unfolding IsCheckAnswer
-verified_fits check bytes lines v old new said fits = (verified lines, (Ok lines, said (ok_is_told lines), refl), fits)
+verified_fits check bytes lines v old new said fits = (verified lines, said_is_answer check bytes (Ok lines) (verified lines) (said (ok_is_told lines)) refl, fits)
 
 -- ---- it was not
 
@@ -72,8 +72,8 @@ HasRefusal check bytes refusal old = (a : Answer) × IsCheckAnswer check bytes a
 
 refusal_answers : (check : TraceCheck) (bytes : List ℕ) (refusal : Unverified) (old : Option (List ℕ)) → (unverified refusal).out ≡ [] → IsSaidOf check bytes (Err refusal)
     → IsAnswerWhere (Err refusal) (unverified refusal) → HasRefusal check bytes refusal old
-unfolding IsCheckAnswer
-refusal_answers check bytes refusal old none said is = (unverified refusal, (Err refusal, said, is), refusal_fits refusal (unverified refusal) old none refl)
+refusal_answers check bytes refusal old none said is =
+    (unverified refusal, said_is_answer check bytes (Err refusal) (unverified refusal) said is, refusal_fits refusal (unverified refusal) old none refl)
 
 pub unverified_fits : (check : TraceCheck) (bytes : List ℕ) (refusal : Unverified) (old : Option (List ℕ)) → IsSaid (IsSaidOf check bytes) (Err refusal)
     → number_of (Verdict.Unverified refusal) ≢ 7 → HasRefusal check bytes refusal old

@@ -19,12 +19,12 @@ use Rattle.scenario_lang.specs.declared.text.ParseRefusal.TheVariants as parse
 use Rattle.scenario_lang.specs.Lines.{Parses}
 use Rattle.command_words.specs.declared.command.GatewayKind.{GatewayKind}
 use Rattle.command_words.specs.declared.command.TextCommand.{TextCommand}
-use Rattle.gv_top.proofs.ReadTexts.{answer_by}
-use Rattle.gv_top.specs.Answers.{Answer, answer_to_scenario, answer_to_text, answer_of_run, err_of, no_port, status_of, usage}
+use Rattle.gv_top.proofs.ReadTexts.{answer_by, text_answer}
+use Rattle.gv_top.specs.Answers.{Answer, answer_to_scenario, answer_of_run, err_of, most_read, no_port, status_of, usage}
+use Rattle.gv_top.specs.Inner.{answer_to_text, IsExplained, IsOfConnection, verdict_on}
 use Rattle.scenario_reading.specs.Judged.{IsRefusedWithReason, judged}
 use Rattle.gv_top.specs.Gateways.{answers_by}
 use Rattle.gv_top.specs.Verdicts.{number_of, line_of}
-use Rattle.gv_top.specs.Inner.{IsExplained, IsOfConnection, verdict_on}
 use Rattle.wsgi_core.specs.Answers.{Sent, nothing}
 use Rattle.wsgi_core.specs.Applications.{App}
 use Rattle.wsgi_core.proofs.ProgressLaws.{answers-nothing}
@@ -145,6 +145,12 @@ answer_as app c d given left a e h = let P : Option Command → Type 0 = λ x. I
 -- what is decided of an answer is decided of one that is the same
 pub decided_as : (v : Verdict) (a b : Answer) (old new : Option (List ℕ)) → a ≡ b → Decided v b old new → Decided v a old new
 decided_as v a b old new e h = let P : Answer → Type 0 = λ x. Decided v x old new in subst P (sym e) h
+
+-- what is decided of the answer that the function gives to a text is decided of each of its answers
+pub text_decided : (app : App) (c : Option Command) (command : TextCommand) (given : List Given) (left : List ℕ) (a : Answer) (v : Verdict) (old new : Option (List ℕ)) → c ≡ Some (Command.Text command)
+    → Decided v (answer_to_text command given (take most_read left)) old new → IsAnswerOf app c given left a → Decided v a old new
+text_decided app c command given left a v old new e d h =
+    decided_as v a (answer_to_text command given (take most_read left)) old new (text_answer command given (take most_read left) a (answer_as app c (Some (Command.Text command)) given left a e h)) d
 
 pub usage_decided : (app : App) (c : Option Command) (given : List Given) (left : List ℕ) (a : Answer) (old : Option (List ℕ)) → c ≡ None → IsAnswerOf app c given left a → Decided Verdict.Usage a old old
 usage_decided app c given left a old e h = decided_as Verdict.Usage a usage old old (answer_as app c None given left a e h) (sym (appended-nothing old), refl, refl)

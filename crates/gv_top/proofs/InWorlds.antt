@@ -27,12 +27,12 @@ use Rattle.hub_engine.specs.Ends.{HasLogged, IsPartLogged, RanTo, end_of_run}
 use Rattle.hub_engine.specs.Ahead.{WroteAhead}
 use Rattle.gv_top.proofs.Deciding.{prefix_of_trace}
 use Rattle.gv_top.proofs.Tops.{unchanged_lawful}
-use Rattle.gv_top.specs.Running.{IsBegun, IsUnbegun, RanHeld, RanNatively, run_of}
-use Rattle.gv_top.specs.Inner.{RanInWorld, verdict_on}
+use Rattle.gv_top.specs.Running.{IsBegun, IsUnbegun, RanHeld, RanNatively, run_of, RanWith}
+use Rattle.gv_top.specs.Inner.{RanInWorld, verdict_on, RanScenarioSo, RanSo}
 use Rattle.scenario_reading.specs.Judged.{judged}
 use Rattle.gv_top.specs.Answers.{most_read}
 use Rattle.gv_top.specs.declared.words.Command.{Command}
-use Rattle.gv_top.specs.Top.{BlocksAtQuiet, Counts, HasLawfulLines, RanScenarioSo, RanSo, RanWith}
+use Rattle.gv_top.specs.Top.{BlocksAtQuiet, Counts, HasLawfulLines}
 use Rattle.machine_blocks.specs.Laws.{BlocksAreTold}
 use Rattle.machine_laws.specs.Laws.{BlocksQuietly}
 use Rattle.scenario_rules.specs.Rules.{IsWellFormed}

@@ -9,3 +9,4 @@ pub mod Storms
 pub mod StormTexts
 pub mod Handing
 pub mod ChecksTold
+pub mod Said

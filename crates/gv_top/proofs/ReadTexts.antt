@@ -6,12 +6,13 @@ use Rattle.scenario_grammar.specs.declared.place.Place.{Place}
 use Rattle.scenario_grammar.specs.Parsed.{reading}
 use Rattle.scenario_grammar.specs.Spells.{Spells}
 use Rattle.scenario_grammar.proofs.Complete.{complete}
-use Rattle.scenario_grammar.proofs.Placed.{refused_there}
+use Rattle.scenario_grammar.proofs.Placed.{accepted, refused_there}
 use Rattle.scenario_grammar.proofs.Sound.{sound}
 use Rattle.scenario_rules.specs.Rules.{IsWellFormed, place_of}
 use Rattle.scenario_check.proofs.FirstPlace.{well_formed, not_well_formed}
 use Rattle.machine.specs.Run.{Ran, End}
-use Rattle.gv_top.specs.Refusals.{IsRefusedAt}
+use Rattle.gv_top.specs.Answers.{IsRefusedAt, IsTextAnswer, Answer, answer_to_scenario, answer_of_run, most_read, refusal, status_of}
+use Rattle.gv_top.specs.Inner.{answer_to_text}
 use Rattle.world.specs.Worlds.{Meaning}
 use Rattle.world_rules.specs.declared.question.LogEntry.{LogEntry}
 use Rattle.command_words.specs.declared.command.RunOptions.{RunOptions}
@@ -19,7 +20,6 @@ use Rattle.gv_top.specs.Commands.{Headline}
 use Rattle.gv_top.specs.Running.{run_of}
 use Rattle.gv_top.specs.Top.{BlocksAtQuiet, Ended, IsAnswered, Stream}
 use Rattle.gv_top.proofs.Tops.{is_answered, ran_so}
-use Rattle.gv_top.specs.Answers.{Answer, answer_to_scenario, answer_to_text, answer_of_run, most_read, refusal, status_of}
 use Rattle.scenario_reading.specs.Judged.{checked, judged}
 use Rattle.gv_top.specs.Verifying.{IsAnswerOf}
 use Rattle.gv_top.specs.declared.words.Command.{Command}
@@ -51,15 +51,59 @@ no_place s w = by (place_of s) refl
 pub spelt_is_judged : (s : Scenario) (bytes : List ℕ) → Spells s bytes → IsWellFormed s → judged bytes ≡ Ok s
 spelt_is_judged s bytes t w = judged_read bytes s None (complete s bytes t) (no_place s w)
 
--- ---- what is answered to it
+-- ---- a scenario that is judged is spelt
 
-abbrev pub answer_by : TextCommand → List Given → Result Scenario Place → Answer
-answer_by command given r = elim r as (λ x. Answer) [ Ok s ↦ answer_to_scenario command given s | Err place ↦ refusal place ]
+refused_is_not_read : (s : Scenario) (p : Place) → ◌≡◌ {A = Result Scenario Place} (Err p) (Ok s) → ⊥
+refused_is_not_read s p e = cc e
 
--- a text of a well-formed scenario is answered as that scenario
-pub answered_as : (command : TextCommand) (given : List Given) (s : Scenario) (bytes : List ℕ) → Spells s bytes → IsWellFormed s → answer_to_text command given bytes ≡ answer_to_scenario command given s
-unfolding answer_to_text
-answered_as command given s bytes t w = ap (answer_by command given) (spelt_is_judged s bytes t w)
+same_scenario : (s t : Scenario) → ◌≡◌ {A = Result Scenario Place} (Ok s) (Ok t) → s ≡ t
+same_scenario s t e = cc e
+
+same_place : (p q : Place) → ◌≡◌ {A = Result Scenario Place} (Err p) (Err q) → p ≡ q
+same_place p q e = cc e
+
+placed_once : (p q : Place) → Some p ≡ Some q → p ≡ q
+placed_once p q e = cc e
+
+nowhere_is_no_place : (p : Place) → None ≡ Some p → ⊥
+nowhere_is_no_place p e = cc e
+
+-- the bytes spell this scenario, which is well formed
+abbrev pub IsSpelt : List ℕ → Scenario → Type 0
+IsSpelt bytes s = Spells s bytes × IsWellFormed s
+
+pub judged_is_spelt : (bytes : List ℕ) (s : Scenario) → judged bytes ≡ Ok s → IsSpelt bytes s
+judged_is_spelt bytes s j = read (reading bytes) refl
+  where
+    placed_as : (t : Scenario) (o : Option Place) → reading bytes ≡ Ok t → place_of t ≡ o → IsSpelt bytes s
+    placed_as t None e placed =
+        subst (IsSpelt bytes) (same_scenario t s (sym (judged_read bytes t None e placed) ∙ j)) (sound t bytes e, well_formed t placed)
+    placed_as t (Some p) e placed = absurd (refused_is_not_read s p (sym (judged_read bytes t (Some p) e placed) ∙ j))
+
+    read : (r : Result Scenario Place) → reading bytes ≡ r → IsSpelt bytes s
+    read (Ok t) e = placed_as t (place_of t) e refl
+    read (Err p) e = absurd (refused_is_not_read s p (sym (judged_unread bytes p e) ∙ j))
+
+pub refusal_is_placed : (bytes : List ℕ) (p : Place) → judged bytes ≡ Err p → IsRefusedAt bytes p
+refusal_is_placed bytes p j = read (reading bytes) refl
+  where
+    placed_as : (t : Scenario) (o : Option Place) → reading bytes ≡ Ok t → place_of t ≡ o → IsRefusedAt bytes p
+    placed_as t None e placed = absurd (refused_is_not_read t p (sym j ∙ judged_read bytes t None e placed))
+    placed_as t (Some q) e placed =
+        subst (IsRefusedAt bytes) (same_place q p (sym (judged_read bytes t (Some q) e placed) ∙ j)) (inr (t, sound t bytes e, placed))
+
+    read : (r : Result Scenario Place) → reading bytes ≡ r → IsRefusedAt bytes p
+    read (Ok t) e = placed_as t (place_of t) e refl
+    read (Err q) e = subst (IsRefusedAt bytes) (same_place q p (sym (judged_unread bytes q e) ∙ j)) (inl (refused_there bytes q e))
+
+pub placed_is_refused : (bytes : List ℕ) (p : Place) → IsRefusedAt bytes p → judged bytes ≡ Err p
+placed_is_refused bytes p (inr h) = judged_read bytes h.0 (Some p) (complete h.0 bytes h.1) h.2
+placed_is_refused bytes p (inl h) = read (reading bytes) refl
+  where
+    read : (r : Result Scenario Place) → reading bytes ≡ r → judged bytes ≡ Err p
+    read (Ok t) e = absurd (nowhere_is_no_place p (sym (accepted bytes t e) ∙ h))
+    read (Err q) e =
+        let refused : Place → Result Scenario Place = λ x. Err x in judged_unread bytes q e ∙ ap refused (placed_once q p (sym (refused_there bytes q e) ∙ h))
 
 -- bytes that are no text of a well-formed scenario are refused at their place
 record Refused (bytes : List ℕ) (p : Place) : Type 0 where
@@ -74,11 +118,6 @@ refuses bytes (Ok s) e none = by (place_of s) refl
     by None placed = absurd (none s (sound s bytes e) (well_formed s placed))
     by (Some p) placed = (p, record { at = inr (s, sound s bytes e, placed); judged_so = judged_read bytes s (Some p) e placed })
 
-pub refuses_the_rest : (command : TextCommand) (given : List Given) (bytes : List ℕ) → ((s : Scenario) → Spells s bytes → IsWellFormed s → ⊥)
-    → (p : Place) × IsRefusedAt bytes p × (answer_to_text command given bytes ≡ refusal p)
-unfolding answer_to_text
-refuses_the_rest command given bytes none = let r = refuses bytes (reading bytes) refl none in (r.0, r.1.at, ap (answer_by command given) r.1.judged_so)
-
 -- no scenario is read of them
 pub none_judged : (bytes : List ℕ) → ((s : Scenario) → Spells s bytes → IsWellFormed s → ⊥) → (s : Scenario) → judged bytes ≡ Ok s → ⊥
 none_judged bytes none s e = let r = refuses bytes (reading bytes) refl none in no r.0 (sym r.1.judged_so ∙ e)
@@ -86,14 +125,48 @@ none_judged bytes none s e = let r = refuses bytes (reading bytes) refl none in 
     no : (p : Place) → ◌≡◌ {A = Result Scenario Place} (Err p) (Ok s) → ⊥
     no p z = cc z
 
+-- ---- the answer to a text, as a function of it
+
+abbrev pub answer_by : TextCommand → List Given → Result Scenario Place → Answer
+answer_by command given r = elim r as (λ x. Answer) [ Ok s ↦ answer_to_scenario command given s | Err place ↦ refusal place ]
+
+-- the function gives an answer of the text
+pub text_is_answered : (command : TextCommand) (given : List Given) (bytes : List ℕ) → IsTextAnswer command given bytes (answer_to_text command given bytes)
+unfolding IsTextAnswer answer_to_text
+text_is_answered command given bytes = by (judged bytes) refl
+  where
+    by : (r : Result Scenario Place) → judged bytes ≡ r → IsTextAnswer command given bytes (answer_to_text command given bytes)
+    by (Ok s) j = let spelt = judged_is_spelt bytes s j in inl (s, spelt.0, spelt.1, ap (answer_by command given) j)
+    by (Err p) j = inr (p, refusal_is_placed bytes p j, ap (answer_by command given) j)
+
+-- and no text has another
+pub text_answer : (command : TextCommand) (given : List Given) (bytes : List ℕ) (a : Answer) → IsTextAnswer command given bytes a → a ≡ answer_to_text command given bytes
+unfolding IsTextAnswer answer_to_text
+text_answer command given bytes a (inl h) = h.3 ∙ sym (ap (answer_by command given) (spelt_is_judged h.0 bytes h.1 h.2))
+text_answer command given bytes a (inr h) = h.2 ∙ sym (ap (answer_by command given) (placed_is_refused bytes h.0 h.1))
+
+pub one_text_answer : (command : TextCommand) (given : List Given) (bytes : List ℕ) (a b : Answer) → IsTextAnswer command given bytes a → IsTextAnswer command given bytes b → a ≡ b
+one_text_answer command given bytes a b h k = text_answer command given bytes a h ∙ sym (text_answer command given bytes b k)
+
 -- ---- what is left behind
+
+-- a text of a well-formed scenario is answered as that scenario
+pub spelt_is_answered : (command : TextCommand) (given : List Given) (s : Scenario) (bytes : List ℕ) → Spells s bytes → IsWellFormed s → IsTextAnswer command given bytes (answer_to_scenario command given s)
+unfolding IsTextAnswer
+spelt_is_answered command given s bytes t w = inl (s, t, w, refl)
 
 -- what is said of the answer to the command is said of this answer
 pub answered_so : (n : ℕ) (app : App) (c : Option Command) (command : TextCommand) (given : List Given) (a : Answer) (left : List ℕ) (out0 out1 err0 err1 : Option (List ℕ)) →
-    c ≡ Some (Command.Text command) → answer_to_text command given (take most_read left) ≡ a →
+    c ≡ Some (Command.Text command) → IsTextAnswer command given (take most_read left) a →
     ((b : Answer) → IsAnswerOf app c given left b → IsAnswered n b out0 out1 err0 err1) → IsAnswered n a out0 out1 err0 err1
 answered_so n app c command given a left out0 out1 err0 err1 e is h =
-    let P : Option Command → Type 0 = λ d. IsAnswerOf app d given left a in h a (subst P (sym e) (sym is))
+    let P : Option Command → Type 0 = λ d. IsAnswerOf app d given left a in h a (subst P (sym e) is)
+
+-- any other text is refused at its place
+pub refuses_the_rest : (command : TextCommand) (given : List Given) (bytes : List ℕ) → ((s : Scenario) → Spells s bytes → IsWellFormed s → ⊥)
+    → (p : Place) × IsRefusedAt bytes p × IsTextAnswer command given bytes (refusal p)
+unfolding IsTextAnswer
+refuses_the_rest command given bytes none = let r = refuses bytes (reading bytes) refl none in (r.0, r.1.at, inr (r.0, r.1.at, refl))
 
 -- ---- the claim
 
@@ -110,13 +183,10 @@ headline {n} {app = app} {c = c} {after = after} {stands = stands} {out = out} {
     let r = run_of options given s in
     let answer : IsAnswered n (answer_of_run r) out.before out.after err.before err.after =
     answered_so n app c (TextCommand.Run options) given (answer_of_run r) left out.before out.after err.before err.after runs
-    (answered_as (TextCommand.Run options) given s (take most_read left) text well) (λ b of. is_answered h left b told of) in
-    let ran = ran_so (TextCommand.Run options) h runs left told s (spelt_is_judged s (take most_read left) text well) options refl in
+    (spelt_is_answered (TextCommand.Run options) given s (take most_read left) text well) (λ b of. is_answered h left b told of) in
     record {
       trace = answer;
       stops = stops n r out.before out.after err.before err.after answer;
-      begun = ran.begun;
+      ran = ran_so options s left h runs told text well;
       quiet = quiet;
-      native = ran.native;
-      held = ran.held;
     }

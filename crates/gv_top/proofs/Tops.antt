@@ -1,5 +1,5 @@
 -- From a verdict and its line to what the call answers.
-use Rattle.std.proofs.Common.{◌≡◌, ◌≢◌, ◌⊎◌, inl, inr, refl, ap, sym, subst, ◌∙◌, ℕ, List, [], Option, Some, Ok, drop, take, arith}
+use Rattle.std.proofs.Common.{◌≡◌, ◌≢◌, ◌⊎◌, inl, inr, refl, ap, sym, subst, ◌∙◌, ℕ, List, [], Option, Some, drop, take, arith}
 use Rattle.gv_values.specs.Counts.{HasRisen}
 use Rattle.gv_io.specs.Streams.{appended, AppendsPrefix}
 use Rattle.gv_io.proofs.StreamLaws.{appended-nothing, AppendsPrefix-all, AppendsPrefix-nothing}
@@ -17,15 +17,16 @@ use Rattle.command_words.specs.declared.command.TextCommand.{TextCommand}
 use Rattle.command_words.specs.declared.command.TraceCheck.{TraceCheck}
 use Rattle.trace_text.specs.LineTexts.{text_of}
 use Rattle.scenario_tree.specs.declared.tree.Scenario.{Scenario}
-use Rattle.scenario_reading.specs.Judged.{judged}
+use Rattle.scenario_grammar.specs.Spells.{Spells}
+use Rattle.scenario_rules.specs.Rules.{IsWellFormed}
 use Rattle.verify_command.specs.Inputs.{most_checked_read}
 use Rattle.verify_command.specs.declared.checking.Unverified.{Unverified}
 use Rattle.gv_top.specs.Answers.{Answer, memory_line, most_read, read_fault_line, write_fault_line}
 use Rattle.gv_top.specs.Commands.{IsLeftAlone}
-use Rattle.gv_top.specs.Running.{IsBegun, IsUnbegun}
+use Rattle.gv_top.specs.Running.{IsBegun, IsUnbegun, RanWith}
 use Rattle.gv_top.specs.Verdicts.{number_of, line_of}
 use Rattle.gv_top.specs.Verifying.{IsAnswerOf, IsCheckAnswer}
-use Rattle.gv_top.specs.Top.{Counts, Fits, Decided, CameTo, Ended, FailsToWrite, IsStatusOf, IsTold, AnswersConnection, IsAnswered, HasLawfulLines, RanScenarioSo, RanWith, Stream}
+use Rattle.gv_top.specs.Top.{Counts, Fits, Decided, CameTo, Ended, FailsToWrite, IsStatusOf, IsTold, AnswersConnection, IsAnswered, HasLawfulLines, Stream}
 use Rattle.gv_top.specs.Inner.{IsOfConnection, IsOr}
 
 -- nothing was appended
@@ -183,8 +184,7 @@ out_of_memory v app c after stands input out h n0 n4 n5 =
       unprinted = λ is h0 h5. h.unprinted is n0 n5;
       read_whole = λ text is h4 h7. absurd (h7 refl);
       storm = λ size is. ((λ e. omega arith), λ a of. prefix_of v a out.before out.after (decided v a out.before out.after ((h.storm size is).1 a of)));
-      ran = λ text is left told s j options e.
-          ran_told 7 v options s after stands out.before out.after (inr (n0, inr refl)) (h.ran text is left told s j options e);
+      ran = λ options s left is told text well. ran_told 7 v options s after stands out.before out.after (inr (n0, inr refl)) (h.ran options s left is told text well);
     }
 
 -- a stream that is as it was
@@ -207,7 +207,7 @@ out_of_memory_at_once app c after stands input out reads writes =
       unprinted = λ is h0 h5. refl;
       read_whole = λ text is h4 h7. absurd (h7 refl);
       storm = λ size is. ((λ e. omega arith), λ a of. AppendsPrefix-nothing out a.out);
-      ran = λ text is left told s j options e. record { begun = inr (refl, inr (inr refl)); native = λ workers w h4 h5 h7. absurd (h7 refl); held = λ workers w h4 h5 h7. absurd (h7 refl) };
+      ran = λ options s left is told text well. record { begun = inr (refl, inr (inr refl)); native = λ workers w h4 h5 h7. absurd (h7 refl); held = λ workers w h4 h5 h7. absurd (h7 refl) };
     }
 
 -- what a command came to, another that is the same came to
@@ -512,11 +512,12 @@ answers_connection n v w gateway app err0 err1 in0 in1 out0 out1 e0 e1 o l c =
     record { end = c.end; exchanged = c.exchanged; status = subst P c.number (status_or n v w err0 err1 e0 e1 o l) }
 
 -- the run is what is said of it by the status
-pub ran_so : {n : ℕ} {app : App} {c : Option Command} {after : Meaning} {stands : List LogEntry → Type 0} {input out err : Stream} (text : TextCommand) →
-    Ended n app c after stands input out err → c ≡ Some (Command.Text text) →
-    (left : List ℕ) → input.before ≡ Some left → (s : Scenario) → judged (take most_read left) ≡ Ok s → RanScenarioSo n text s after stands out.before out.after
-ran_so {n} {after = after} {stands = stands} {out = out} {err = err} text h is left told s j = λ options e.
-    ran_told n h.verdict options s after stands out.before out.after (status_or n h.verdict h.verdict err.before err.after err.faults_before err.faults_after (inl refl) h.told) (h.came_to.ran text is left told s j options e)
+pub ran_so : {n : ℕ} {app : App} {c : Option Command} {after : Meaning} {stands : List LogEntry → Type 0} {input out err : Stream} (options : RunOptions) (s : Scenario) (left : List ℕ) →
+    Ended n app c after stands input out err → c ≡ Some (Command.Text (TextCommand.Run options)) → input.before ≡ Some left → Spells s (take most_read left) → IsWellFormed s →
+    RanWith n options s after stands out.before out.after
+ran_so {n} {after = after} {stands = stands} {out = out} {err = err} options s left h is told text well =
+    ran_told n h.verdict options s after stands out.before out.after (status_or n h.verdict h.verdict err.before err.after err.faults_before err.faults_after (inl refl) h.told)
+    (h.came_to.ran options s left is told text well)
 
 -- ---- native workers that are left alone
 

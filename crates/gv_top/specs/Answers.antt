@@ -1,5 +1,5 @@
 -- What the call answers: its status, what it writes to out, and its line on err.
-use Rattle.std.specs.Prelude.{◌≡◌, ℕ, if◌then◌else◌, List, [], ◌++◌, Some, Ok, Err, codes}
+use Rattle.std.specs.Prelude.{◌≡◌, ℕ, if◌then◌else◌, List, [], ◌++◌, Some, codes, ◌⊎◌}
 use Rattle.trace_text.specs.LineTexts.{text_of}
 use Rattle.gv_values.specs.ValueTexts.{decimal}
 use Rattle.gv_values.specs.declared.job.Answer.{Answer as Given}
@@ -7,7 +7,6 @@ use Rattle.scenario_tree.specs.declared.tree.Scenario.{Scenario}
 use Rattle.scenario_grammar.specs.declared.place.Place.{Place}
 use Rattle.scenario_grammar.specs.Printed.{printed}
 use Rattle.scenario_grammar.specs.Reasons.{reason_text}
-use Rattle.scenario_reading.specs.Judged.{judged}
 use Rattle.wsgi_core.specs.Answers.{Sent}
 use Rattle.gv_top.specs.Running.{run_of}
 use Rattle.gv_top.specs.Storm.{IsStorm, storm_run, summary}
@@ -15,12 +14,13 @@ use Rattle.command_words.specs.declared.command.TextCommand.{TextCommand}
 use Rattle.command_words.specs.declared.command.TextCommand.TheVariants.{Run, Format}
 use Rattle.machine.specs.Run.{Ran, End}
 use Rattle.machine.specs.Status.{status, err_line, line_of}
+use Rattle.scenario_grammar.specs.Places.{place}
+use Rattle.scenario_grammar.specs.Spells.{Spells}
+use Rattle.scenario_rules.specs.Rules.{IsWellFormed, place_of}
 
 -- a line on err
 abbrev pub line : List ℕ → List ℕ
 line text = line_of (Some text)
-
--- ---- the end of a run
 
 -- a run that is answered to its end never asks in vain; one that asks was broken off
 abbrev pub status_of : End → ℕ
@@ -31,16 +31,18 @@ abbrev pub err_of : End → List ℕ
 err_of (End.Stopped cause) = err_line cause
 err_of End.Asking = []
 
--- ---- the call
-
 pub record Answer : Type 0 where
   pub status : ℕ
   pub out : List ℕ
   pub err : List ℕ
 
+-- a line on err alone
+abbrev pub on_err : ℕ → List ℕ → Answer
+on_err status text = record { status = status; out = []; err = line text }
+
 -- the words name no command
 abbrev pub usage : Answer
-usage = record { status = 2; out = []; err = line (codes "usage: gvr run, fmt, wsgi, serve, storm or verify") }
+usage = on_err 2 (codes "usage: gvr run, fmt, wsgi, serve, storm or verify")
 
 -- a line of the input, with a reason by its number and its text
 abbrev pub place_text : ℕ → ℕ → List ℕ → List ℕ
@@ -48,7 +50,7 @@ place_text line reason text = codes "line " ++ decimal line ++ codes ": reason "
 
 -- the text is refused at this place
 abbrev pub refusal : Place → Answer
-refusal place = record { status = 3; out = []; err = line (place_text place.line place.reason (reason_text place.reason)) }
+refusal place = on_err 3 (place_text place.line place.reason (reason_text place.reason))
 
 -- the printed form of the scenario
 abbrev pub formatted : Scenario → Answer
@@ -62,9 +64,14 @@ abbrev pub answer_to_scenario : TextCommand → List Given → Scenario → Answ
 answer_to_scenario (Run options) given s = answer_of_run (run_of options given s)
 answer_to_scenario Format given s = formatted s
 
--- what is answered to a text
-unfoldable pub answer_to_text : TextCommand → List Given → List ℕ → Answer
-answer_to_text command given bytes = elim (judged bytes) [ Ok s ↦ answer_to_scenario command given s | Err place ↦ refusal place ]
+-- The bytes are refused at this place: by the grammar, or since the scenario that they spell breaks a rule there.
+abbrev pub IsRefusedAt : List ℕ → Place → Type 0
+IsRefusedAt bytes p = (place bytes ≡ Some p) ⊎ ((s : Scenario) × Spells s bytes × (place_of s ≡ Some p))
+
+-- what is answered to a text: a well-formed scenario is run or printed, and any other bytes are refused at their place
+unfoldable pub IsTextAnswer : TextCommand → List Given → List ℕ → Answer → Type 0
+IsTextAnswer command given bytes a =
+    ((s : Scenario) × Spells s bytes × IsWellFormed s × (a ≡ answer_to_scenario command given s)) ⊎ ((p : Place) × IsRefusedAt bytes p × (a ≡ refusal p))
 
 -- what is answered to this run as the storm of n greenlets: the summary, and the status and the line of its end
 abbrev pub answer_of_storm : ℕ → Ran → Answer

@@ -4,7 +4,6 @@ use Rattle.gv_values.specs.Counts.{HasRisen}
 use Rattle.gv_io.specs.Streams.{appended}
 use Rattle.command_words.specs.declared.command.GatewayKind.{GatewayKind}
 use Rattle.command_words.specs.declared.command.RunOptions.{RunOptions}
-use Rattle.command_words.specs.declared.command.RunWorld.{RunWorld}
 use Rattle.command_words.specs.declared.command.TextCommand.{TextCommand}
 use Rattle.scenario_tree.specs.declared.tree.Scenario.{Scenario}
 use Rattle.scenario_grammar.specs.declared.place.Place.{Place}
@@ -14,9 +13,8 @@ use Rattle.world.specs.Worlds.{Meaning}
 use Rattle.world_rules.specs.declared.question.LogEntry.{LogEntry}
 use Rattle.wsgi_core.specs.Applications.{App}
 use Rattle.gv_top.specs.declared.words.Command.{Command}
-use Rattle.gv_top.specs.Answers.{answer_of_run, answer_of_storm, formatted, memory_line, most_read, read_fault_line, refusal}
-use Rattle.gv_top.specs.Refusals.{IsRefusedAt}
-use Rattle.gv_top.specs.Running.{IsBegun, IsUnbegun, RanHeld, RanNatively, run_of}
+use Rattle.gv_top.specs.Answers.{answer_of_run, answer_of_storm, formatted, memory_line, most_read, read_fault_line, refusal, IsRefusedAt}
+use Rattle.gv_top.specs.Running.{RanWith, run_of}
 use Rattle.gv_top.specs.Storm.{IsStorm, storm_run}
 use Rattle.machine.specs.Run.{End}
 use Rattle.gv_top.specs.Top.{AnswersConnection, BlocksAtQuiet, Ended, FailsToWrite, HasLawfulLines, IsAnswered, Stream}
@@ -29,19 +27,10 @@ pub record Headline (status : ℕ) (options : RunOptions) (s : Scenario) (after 
   pub trace : IsAnswered status (answer_of_run (run_of options after.answers s)) out.before out.after err.before err.after
   -- With every other status it stopped for a cause.
   pub stops : status ≢ 4 → status ≢ 5 → status ≢ 7 → (run_of options after.answers s).end ≢ End.Asking
-  -- Its lines meet the laws of a trace, and with native workers what it says before a question stood in out when that
-  -- was answered. Or no run was begun, and out is as it was, with the status 4, 5 or 7.
-  pub begun : IsBegun options s after.answers out.before out.after ⊎ IsUnbegun status out.before out.after
+  -- Its lines meet the laws of a trace, and native workers, where the words ask for them, did its jobs.
+  pub ran : RanWith status options s after stands out.before out.after
   -- At each of its block lines nothing that waits could go on.
   pub quiet : BlocksAtQuiet (run_of options after.answers s)
-  -- Native workers were begun in the number that the words ask for, posted the jobs of the job lines and asked for the
-  -- answers of the turn lines, each of them legal; and they run no longer.
-  pub native : (workers : ℕ) → options.world ≡ RunWorld.Native workers → status ≢ 4 → status ≢ 5 → status ≢ 7 →
-      RanNatively workers (run_of options after.answers s) after stands
-  -- With held order it is the run of a script, whatever they answer: they answered, legally, that each job is done of
-  -- which a turn line says so.
-  pub held : (workers : ℕ) → options.world ≡ RunWorld.Held workers → status ≢ 4 → status ≢ 5 → status ≢ 7 →
-      RanHeld workers (run_of options after.answers s) after stands
 
 -- What words that name no server leave: the status, by the command that they name, if any; by what native workers are
 -- after it, and for which logs they stand; and by the input, out and err.
@@ -60,8 +49,7 @@ pub record AnswersCommand (status : ℕ) (app : App) (command : Option Command) 
   pub refused : (text : TextCommand) (left : List ℕ) → command ≡ Some (Command.Text text) →
       input.before ≡ Some left → ((s : Scenario) → Spells s (take most_read left) → IsWellFormed s → ⊥) →
       (p : Place) × IsRefusedAt (take most_read left) p × IsAnswered status (refusal p) out.before out.after err.before err.after
-  -- A connection is answered: out has what the session of the application sends for the bytes that were read, that of
-  -- HTTP or that of SCGI.
+  -- A connection is answered: out has what the session of HTTP or of SCGI sends for the bytes that were read.
   pub connection : (gateway : GatewayKind) → command ≡ Some (Command.Wsgi gateway) → AnswersConnection status gateway app input.before input.after out.before out.after
   -- A storm is run: out has the summary of the run of its scenario, and the status and the line on err are those of the
   -- run's end. The text of each size spells a well-formed scenario (`storms_are_spelt`).

@@ -1,6 +1,6 @@
 -- What the functions behind the call say to one another. No clause of a public call cites it.
-use Rattle.std.specs.Prelude.{◌≡◌, ◌≢◌, ◌⊎◌, ℕ, Bool, false, List, [], Option, Ok}
-use Rattle.gv_values.specs.declared.job.Answer.{Answer}
+use Rattle.std.specs.Prelude.{◌≡◌, ◌≢◌, ◌⊎◌, ℕ, Bool, false, List, [], Option, Ok, Err}
+use Rattle.gv_values.specs.declared.job.Answer.{Answer as Given}
 use Rattle.command_words.specs.declared.command.GatewayKind.{GatewayKind}
 use Rattle.command_words.specs.declared.command.RunOptions.{RunOptions}
 use Rattle.command_words.specs.declared.command.TextCommand.{TextCommand}
@@ -15,15 +15,17 @@ use Rattle.machine.specs.Run.{Ran}
 use Rattle.hub_engine.specs.Ends.{IsPartLogged, RanTo}
 use Rattle.hub_engine.specs.Ahead.{WroteAhead}
 use Rattle.hub_engine.specs.declared.run.End.{End}
-use Rattle.verify_command.specs.Judged.{IsReasoned}
+use Rattle.verify_command.specs.Judged.{IsReasoned, Verification}
 use Rattle.wsgi_core.specs.Applications.{App}
 use Rattle.wsgi_connection.specs.Connections.{Exchanged}
 use Rattle.wsgi_connection.specs.declared.connection.ConnectionEnd.{ConnectionEnd}
-use Rattle.gv_top.specs.Answers.{no_port}
+use Rattle.gv_top.specs.Answers.{no_port, Answer, answer_to_scenario, refusal}
 use Rattle.gv_top.specs.Gateways.{answers_by}
-use Rattle.gv_top.specs.Running.{BeganSo}
+use Rattle.gv_top.specs.Running.{BeganSo, RanWith}
 use Rattle.gv_top.specs.Verdicts.{number_of}
 use Rattle.gv_top.specs.declared.status.Verdict.{Verdict}
+use Rattle.verify_command.specs.declared.checking.Unverified.{Unverified}
+use Rattle.gv_top.specs.Verifying.{unverified, verified}
 
 -- ---- verdicts
 
@@ -46,7 +48,7 @@ IsOr v w = (w ≡ v) ⊎ ((w ≡ Verdict.Ran End.Memory) × (number_of v ≢ 0) 
 
 -- What a world is after the scenario ran in it to this end, where `whole` is the run under each list of answers: it had
 -- so many workers and runs no longer; it stands for the log of the run, or for the part up to the break.
-pub record RanInWorld (end : End) (whole : List Answer → Ran) (workers : ℕ) (before after : Meaning) (stands : List LogEntry → Type 0) (out0 out1 : Option (List ℕ)) : Type 0 where
+pub record RanInWorld (end : End) (whole : List Given → Ran) (workers : ℕ) (before after : Meaning) (stands : List LogEntry → Type 0) (out0 out1 : Option (List ℕ)) : Type 0 where
   pub written : RanTo end (whole after.answers) out0 out1
   pub ahead : WroteAhead whole after.answers out0 out1
   pub part : IsPartLogged (whole after.answers).log after.answers stands
@@ -67,3 +69,23 @@ pub record IsOfConnection (v : Verdict) (gateway : GatewayKind) (app : App) (in0
   pub end : ConnectionEnd
   pub number : number_of v ≡ number_of (Verdict.Connection end)
   pub exchanged : Exchanged end (answers_by gateway) app no_port in0 in1 out0 out1
+
+-- what is answered to a text
+unfoldable pub answer_to_text : TextCommand → List Given → List ℕ → Answer
+answer_to_text command given bytes = elim (judged bytes) [ Ok s ↦ answer_to_scenario command given s | Err place ↦ refusal place ]
+
+-- where the command is a run of the scenario, it ran so
+abbrev pub RanScenarioSo : ℕ → TextCommand → Scenario → Meaning → (List LogEntry → Type 0) → Option (List ℕ) → Option (List ℕ) → Type 0
+RanScenarioSo n command s after stands out0 out1 =
+    (options : RunOptions) → command ≡ TextCommand.Run options → RanWith n options s after stands out0 out1
+
+-- so where it is one of the scenario that the bytes spell
+abbrev pub RanSo : ℕ → TextCommand → List ℕ → Meaning → (List LogEntry → Type 0) → Option (List ℕ) → Option (List ℕ) → Type 0
+RanSo n command bytes after stands out0 out1 =
+    (s : Scenario) → judged bytes ≡ Ok s → RanScenarioSo n command s after stands out0 out1
+
+-- what is answered where a check says this; want of memory is no answer
+abbrev pub IsAnswerWhere : Verification → Answer → Type 0
+IsAnswerWhere (Ok lines) a = a ≡ verified lines
+IsAnswerWhere (Err Unverified.Memory) a = ⊥
+IsAnswerWhere (Err refusal) a = a ≡ unverified refusal

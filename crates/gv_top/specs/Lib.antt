@@ -5,10 +5,10 @@ pub mod Running
 pub mod Answers
 pub mod Commands
 pub mod Gateways
-pub mod Refusals
 pub mod Serving
 pub mod Top
 pub mod Verdicts
 pub mod Verifying
 pub mod Checks
 pub mod Words
+pub mod Outcomes

@@ -1,5 +1,5 @@
 -- Runs of a scenario in a world, which is begun before and finished after.
-use Rattle.std.specs.Prelude.{◌≡◌, ◌⊎◌, ℕ, Bool, true, false, List, [], Option}
+use Rattle.std.specs.Prelude.{◌≡◌, ◌≢◌, ◌⊎◌, ℕ, Bool, true, false, List, [], Option}
 use Rattle.gv_values.specs.declared.job.Answer.{Answer}
 use Rattle.world_rules.specs.declared.question.LogEntry.{LogEntry}
 use Rattle.world_rules.specs.Legal.{AreLegal, is_answered}
@@ -39,8 +39,7 @@ pub record IsAhead (waits : Bool) (options : RunOptions) (s : Scenario) (answers
   pub written : (workers : ℕ) → options.world ≡ Native workers → WroteAhead (λ given. run_of options given s) answers out0 out1
   pub handed : (workers : ℕ) → options.world ≡ Native workers → waits ≡ true → WroteAhead (λ given. run_of options given s) answers out0 handed1
 
--- the run was begun so; or it was not, and native workers are as they were: nothing was posted to them, and they
--- answered nothing
+-- the run was begun so; or native workers are as they were: nothing was posted to them, and they answered nothing
 abbrev pub BeganSo : Bool → RunOptions → Scenario → Meaning → Meaning → Option (List ℕ) → Option (List ℕ) → Option (List ℕ) → Type 0
 BeganSo waits options s before after out0 out1 handed1 = IsAhead waits options s after.answers out0 out1 handed1 ⊎ (after ≡ before)
 
@@ -64,3 +63,11 @@ pub record RanHeld (workers : ℕ) (r : Ran) (after : Meaning) (stands : List Lo
   pub posts : posts_told r.lines ≡ after.posts
   pub done : (number : ℕ) → is_answered number (answers_told r.lines) ≡ true → is_answered number after.answers ≡ true
   pub logged : ∥ HasLegalLog after stands ∥₁
+
+-- What holds of the run of a scenario with these options, by the status.
+pub record RanWith (n : ℕ) (options : RunOptions) (s : Scenario) (after : Meaning) (stands : List LogEntry → Type 0) (out0 out1 : Option (List ℕ)) : Type 0 where
+  -- It was begun so; or no run was begun, and out is as it was, with the status 4, 5 or 7.
+  pub begun : IsBegun options s after.answers out0 out1 ⊎ IsUnbegun n out0 out1
+  -- With every other status native workers, if the words ask for them, ran so, or in the order of a script.
+  pub native : (workers : ℕ) → options.world ≡ Native workers → n ≢ 4 → n ≢ 5 → n ≢ 7 → RanNatively workers (run_of options after.answers s) after stands
+  pub held : (workers : ℕ) → options.world ≡ Held workers → n ≢ 4 → n ≢ 5 → n ≢ 7 → RanHeld workers (run_of options after.answers s) after stands

@@ -26,8 +26,7 @@ IsStorm n s = Spells s (storm_text n) × IsWellFormed s
 unfoldable pub storm_run : Scenario → Ran
 storm_run s = script_run s 10000000 100000000 0
 
--- The summary of a run as the storm of n greenlets: how many greenlets it made, how many turns and moves it began, its
--- last moment, and how many lines its trace has.
+-- The summary of a run as the storm of n greenlets, with the numbers of its last state, and how many lines it has.
 abbrev pub summary : ℕ → Ran → List ℕ
 summary n r =
     number_line (codes "storm") n

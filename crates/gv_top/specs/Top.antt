@@ -1,15 +1,15 @@
 -- What the call leaves behind.
-use Rattle.std.specs.Prelude.{◌≡◌, ◌≢◌, ◌≤◌, ◌⊎◌, ℕ, true, List, Option, Some, None, Ok, drop, filter, take}
+use Rattle.std.specs.Prelude.{◌≡◌, ◌≢◌, ◌≤◌, ◌⊎◌, ℕ, true, List, Option, Some, None, drop, filter, take}
 use Rattle.std.specs.List.{list_all, flat_map}
 use Rattle.gv_values.specs.Counts.{HasRisen}
 use Rattle.gv_io.specs.Streams.{appended, AppendsPrefix}
 use Rattle.command_words.specs.declared.command.GatewayKind.{GatewayKind}
 use Rattle.command_words.specs.declared.command.RunOptions.{RunOptions}
-use Rattle.command_words.specs.declared.command.RunWorld.{RunWorld}
 use Rattle.command_words.specs.declared.command.TextCommand.{TextCommand}
 use Rattle.command_words.specs.declared.command.TraceCheck.{TraceCheck}
 use Rattle.scenario_tree.specs.declared.tree.Scenario.{Scenario}
-use Rattle.scenario_reading.specs.Judged.{judged}
+use Rattle.scenario_grammar.specs.Spells.{Spells}
+use Rattle.scenario_rules.specs.Rules.{IsWellFormed}
 use Rattle.world.specs.Worlds.{Meaning}
 use Rattle.world_rules.specs.declared.question.LogEntry.{LogEntry}
 use Rattle.trace_text.specs.LineTexts.{text_of}
@@ -24,18 +24,15 @@ use Rattle.wsgi_connection.specs.Connections.{Exchanged}
 use Rattle.wsgi_connection.specs.declared.connection.ConnectionEnd.{ConnectionEnd}
 use Rattle.gv_top.specs.declared.status.Verdict.{Verdict}
 use Rattle.gv_top.specs.declared.words.Command.{Command}
-use Rattle.gv_top.specs.Running.{IsBegun, IsUnbegun, RanHeld, RanNatively, run_of}
 use Rattle.gv_top.specs.Answers.{Answer, IsStormAnswer, most_read, no_port, write_fault_line}
 use Rattle.gv_top.specs.Gateways.{answers_by}
 use Rattle.gv_top.specs.Verdicts.{number_of, line_of}
 use Rattle.gv_top.specs.Verifying.{IsAnswerOf, IsCheckAnswer}
 use Rattle.verify_command.specs.Inputs.{most_checked_read}
 use Rattle.verify_command.specs.declared.checking.Unverified.{Unverified}
+use Rattle.gv_top.specs.Running.{RanWith}
 
--- ---- streams
-
--- a stream before the call and after it: the bytes that are left to read or that were written, where they are told, and
--- how often it failed
+-- a stream before the call and after it: its bytes, left to read or written, where they are told; how often it failed
 pub record Stream : Type 0 where
   pub before : Option (List ℕ)
   pub after : Option (List ℕ)
@@ -45,8 +42,6 @@ pub record Stream : Type 0 where
 -- what is seen of a stream that was the one and is the other
 abbrev pub seen : {A : Type 0} → (A → Option (List ℕ)) → (A → ℕ) → A → A → Stream
 seen bytes faults old new = record { before = bytes old; after = bytes new; faults_before = faults old; faults_after = faults new }
-
--- ---- faults
 
 -- the count of a stream's faults never falls: it rose where the stream failed so, and is as it was where it did not
 pub record Counts (fails : Type 0) (old new : ℕ) : Type 0 where
@@ -58,14 +53,11 @@ pub record Counts (fails : Type 0) (old new : ℕ) : Type 0 where
 abbrev pub HandsOn : ℕ → Option (List ℕ) → Option (List ℕ) → Option (List ℕ) → Option (List ℕ) → Type 0
 HandsOn n written0 handed0 written1 handed1 = n ≢ 5 → n ≢ 7 → handed0 ≡ written0 → handed1 ≡ written1
 
--- ---- a verdict
-
 -- the verdict is the answer's, and out has its whole text
 abbrev pub Fits : Verdict → Answer → Option (List ℕ) → Option (List ℕ) → Type 0
 Fits v a old new = (new ≡ appended old a.out) × (number_of v ≡ a.status) × (line_of v ≡ a.err)
 
--- the verdict fits; or a fault or want of memory cut the text of the answer short; a text that could not be read leaves
--- out as it was
+-- the verdict fits; or a fault or want of memory cut the text of the answer short, or the input could not be read
 abbrev pub Decided : Verdict → Answer → Option (List ℕ) → Option (List ℕ) → Type 0
 Decided Verdict.ReadFault a old new = new ≡ old
 Decided (Verdict.Ran End.WriteFault) a old new = AppendsPrefix old new a.out
@@ -75,23 +67,6 @@ Decided (Verdict.Connection ConnectionEnd.WriteFault) a old new = AppendsPrefix 
 Decided (Verdict.Connection ConnectionEnd.Memory) a old new = AppendsPrefix old new a.out
 Decided (Verdict.Unverified Unverified.Memory) a old new = AppendsPrefix old new a.out
 Decided v a old new = Fits v a old new
-
--- the run of the scenario with these options was begun, or it was not; and where nothing failed, its native workers ran
--- so
-pub record RanWith (n : ℕ) (options : RunOptions) (s : Scenario) (after : Meaning) (stands : List LogEntry → Type 0) (out0 out1 : Option (List ℕ)) : Type 0 where
-  pub begun : IsBegun options s after.answers out0 out1 ⊎ IsUnbegun n out0 out1
-  pub native : (workers : ℕ) → options.world ≡ RunWorld.Native workers → n ≢ 4 → n ≢ 5 → n ≢ 7 → RanNatively workers (run_of options after.answers s) after stands
-  pub held : (workers : ℕ) → options.world ≡ RunWorld.Held workers → n ≢ 4 → n ≢ 5 → n ≢ 7 → RanHeld workers (run_of options after.answers s) after stands
-
--- where the command is a run of the scenario, it ran so
-abbrev pub RanScenarioSo : ℕ → TextCommand → Scenario → Meaning → (List LogEntry → Type 0) → Option (List ℕ) → Option (List ℕ) → Type 0
-RanScenarioSo n command s after stands out0 out1 =
-    (options : RunOptions) → command ≡ TextCommand.Run options → RanWith n options s after stands out0 out1
-
--- so where it is one of the scenario that the bytes spell
-abbrev pub RanSo : ℕ → TextCommand → List ℕ → Meaning → (List LogEntry → Type 0) → Option (List ℕ) → Option (List ℕ) → Type 0
-RanSo n command bytes after stands out0 out1 =
-    (s : Scenario) → judged bytes ≡ Ok s → RanScenarioSo n command s after stands out0 out1
 
 -- What a command came to, by its input and out, and by what native workers are after it.
 pub record CameTo (v : Verdict) (app : App) (command : Option Command) (after : Meaning) (stands : List LogEntry → Type 0) (input out : Stream) : Type 0 where
@@ -120,13 +95,10 @@ pub record CameTo (v : Verdict) (app : App) (command : Option Command) (after : 
   -- a storm reads no input, and is answered whatever that is
   pub storm : (size : ℕ) → command ≡ Some (Command.Storm size) → (number_of v ≢ 4) × ((a : Answer) → IsStormAnswer size a → Decided v a out.before out.after)
   -- a run was begun, or was not; and native workers were begun and asked as the words want
-  pub ran : (text : TextCommand) → command ≡ Some (Command.Text text) →
-      (left : List ℕ) → input.before ≡ Some left → RanSo (number_of v) text (take most_read left) after stands out.before out.after
+  pub ran : (options : RunOptions) (s : Scenario) (left : List ℕ) → command ≡ Some (Command.Text (TextCommand.Run options)) →
+      input.before ≡ Some left → Spells s (take most_read left) → IsWellFormed s → RanWith (number_of v) options s after stands out.before out.after
 
--- ---- its line on err
-
--- err has the whole line of the verdict, whose status is answered, and did not fail; or the verdict has a line, err
--- failed at it and has a prefix of it, and the status is 5
+-- err has the line of the verdict, whose status is answered; or it failed at that line, and the status is 5
 abbrev pub IsTold : ℕ → Verdict → Option (List ℕ) → Option (List ℕ) → ℕ → ℕ → Type 0
 IsTold n v old new faults0 faults1 =
     ((n ≡ number_of v) × (new ≡ appended old (line_of v)) × (faults1 ≡ faults0))
@@ -138,44 +110,36 @@ pub record Ended (n : ℕ) (app : App) (command : Option Command) (after : Meani
   pub came_to : CameTo verdict app command after stands input out
   pub told : IsTold n verdict err.before err.after err.faults_before err.faults_after
 
--- ---- by the status
-
--- the status is the verdict's; or the verdict has a line on err, and the status is 5 if that failed, and 7 if memory
--- for it ran out
+-- the status is the verdict's; or, at the line of the verdict, 5 if err failed, and 7 if memory ran out
 abbrev pub IsStatusOf : ℕ → Verdict → Type 0
 IsStatusOf n v = (n ≡ number_of v) ⊎ ((number_of v ≢ 0) × ((n ≡ 5) ⊎ (n ≡ 7)))
 
--- what the call leaves where the input is told: out has a prefix of the answer's text, and with a status
--- that tells no fault and no want of memory the status, out and err are the answer's
+-- the status, out and err are the answer's; but with the statuses 4, 5 and 7 out has a beginning of its text
 pub record IsAnswered (n : ℕ) (a : Answer) (out0 out1 err0 err1 : Option (List ℕ)) : Type 0 where
   pub prefix : AppendsPrefix out0 out1 a.out
   pub status : n ≢ 4 → n ≢ 5 → n ≢ 7 → n ≡ a.status
   pub out : n ≢ 4 → n ≢ 5 → n ≢ 7 → out1 ≡ appended out0 a.out
   pub err : n ≢ 4 → n ≢ 5 → n ≢ 7 → err1 ≡ appended err0 a.err
 
--- out has lines that meet the laws of a trace: whole but with the statuses 4, 5 and 7, and with these a beginning of
--- their text
+-- out has lines that meet the laws of a trace; but with the statuses 4, 5 and 7 it has a beginning of their text
 pub record HasLawfulLines (n : ℕ) (out0 out1 : Option (List ℕ)) : Type 0 where
   pub lines : List Line
   pub lawful : meets_laws lines ≡ true
   pub prefix : AppendsPrefix out0 out1 (text_of lines)
   pub whole : n ≢ 4 → n ≢ 5 → n ≢ 7 → out1 ≡ appended out0 (text_of lines)
 
--- the run's block lines are those that are said at its blocked states, and at each of these nothing that waits could go
--- on
+-- the block lines are those of the blocked states, and at each of these nothing that waits could go on
 pub record BlocksAtQuiet (r : Ran) : Type 0 where
   pub told : filter is_block r.lines ≡ flat_map block_lines r.blocked
   pub quiet : list_all is_quiet r.blocked ≡ true
 
--- the input and out are a connection that was answered by the application through this gateway, and the status is that
--- of its end
+-- the application answered the connection that input and out are, and the status is that of its end
 pub record AnswersConnection (n : ℕ) (gateway : GatewayKind) (app : App) (in0 in1 out0 out1 : Option (List ℕ)) : Type 0 where
   pub end : ConnectionEnd
   pub exchanged : Exchanged end (answers_by gateway) app no_port in0 in1 out0 out1
   pub status : IsStatusOf n (Verdict.Connection end)
 
--- what led to status 5: out failed, and err has the line of that, or failed at it and has a prefix of it; or err failed
--- at the line of another status, and has a prefix of that
+-- what led to status 5: out failed, and err has the line of that or failed at it; or err failed at another line
 abbrev pub FailsToWrite : Stream → Stream → Type 0
 FailsToWrite out err =
     (HasRisen out.faults_before out.faults_after

@@ -1,4 +1,4 @@
--- The statuses and lines of the ways in which a call ends.
+-- How a call ends.
 use Rattle.std.specs.Prelude.{ℕ, List, [], codes}
 use Rattle.trace_text.specs.declared.line.StopCause.{StopCause}
 use Rattle.machine.specs.Status.{status, err_line}
@@ -9,56 +9,36 @@ use Rattle.gv_top.specs.declared.status.Verdict.{Verdict}
 use Rattle.gv_top.specs.Answers.{line, usage, refusal, read_fault_line, write_fault_line, memory_line, network_fault_line}
 use Rattle.gv_top.specs.Verifying.{unverified}
 
+-- the status and the line on err of each way in which a call ends
+abbrev pub ending : Verdict → ℕ × List ℕ
+ending Verdict.Usage = (2, usage.err)
+ending Verdict.ReadFault = (4, read_fault_line)
+ending (Verdict.Refused place) = (3, (refusal place).err)
+ending Verdict.Formatted = (0, [])
+ending (Verdict.Ran End.MainValue) = (0, [])
+ending (Verdict.Ran (End.MainFault f)) = (status (StopCause.Fault f), err_line (StopCause.Fault f))
+ending (Verdict.Ran End.NoTurns) = (status StopCause.NoTurns, err_line StopCause.NoTurns)
+ending (Verdict.Ran End.NoMoves) = (status StopCause.NoMoves, err_line StopCause.NoMoves)
+ending (Verdict.Ran End.NoGreenlets) = (status StopCause.NoGreenlets, err_line StopCause.NoGreenlets)
+ending (Verdict.Ran End.NoLinks) = (status StopCause.NoLinks, err_line StopCause.NoLinks)
+ending (Verdict.Ran End.NoKills) = (status StopCause.NoKills, err_line StopCause.NoKills)
+ending (Verdict.Ran End.WriteFault) = (5, write_fault_line)
+ending (Verdict.Ran End.Memory) = (7, memory_line)
+ending (Verdict.Connection ConnectionEnd.Closed) = (0, [])
+ending (Verdict.Connection ConnectionEnd.TooLong) = (8, line (codes "limit of the connection"))
+ending (Verdict.Connection ConnectionEnd.ReadFault) = (4, read_fault_line)
+ending (Verdict.Connection ConnectionEnd.WriteFault) = (5, write_fault_line)
+ending (Verdict.Connection ConnectionEnd.Memory) = (7, memory_line)
+ending (Verdict.Served Served.Finished) = (0, [])
+ending (Verdict.Served Served.Listener) = (10, network_fault_line)
+ending (Verdict.Served Served.NoJobs) = (8, line (codes "limit of jobs"))
+ending (Verdict.Served Served.WriteFault) = (5, write_fault_line)
+ending (Verdict.Served Served.Memory) = (7, memory_line)
+ending Verdict.Verified = (0, [])
+ending (Verdict.Unverified refusal) = ((unverified refusal).status, (unverified refusal).err)
+
 abbrev pub number_of : Verdict → ℕ
-number_of Verdict.Usage = 2
-number_of Verdict.ReadFault = 4
-number_of (Verdict.Refused place) = 3
-number_of Verdict.Formatted = 0
-number_of (Verdict.Ran End.MainValue) = 0
-number_of (Verdict.Ran (End.MainFault f)) = status (StopCause.Fault f)
-number_of (Verdict.Ran End.NoTurns) = status StopCause.NoTurns
-number_of (Verdict.Ran End.NoMoves) = status StopCause.NoMoves
-number_of (Verdict.Ran End.NoGreenlets) = status StopCause.NoGreenlets
-number_of (Verdict.Ran End.NoLinks) = status StopCause.NoLinks
-number_of (Verdict.Ran End.NoKills) = status StopCause.NoKills
-number_of (Verdict.Ran End.WriteFault) = 5
-number_of (Verdict.Ran End.Memory) = 7
-number_of (Verdict.Connection ConnectionEnd.Closed) = 0
-number_of (Verdict.Connection ConnectionEnd.TooLong) = 8
-number_of (Verdict.Connection ConnectionEnd.ReadFault) = 4
-number_of (Verdict.Connection ConnectionEnd.WriteFault) = 5
-number_of (Verdict.Connection ConnectionEnd.Memory) = 7
-number_of (Verdict.Served Served.Finished) = 0
-number_of (Verdict.Served Served.Listener) = 10
-number_of (Verdict.Served Served.NoJobs) = 8
-number_of (Verdict.Served Served.WriteFault) = 5
-number_of (Verdict.Served Served.Memory) = 7
-number_of Verdict.Verified = 0
-number_of (Verdict.Unverified refusal) = (unverified refusal).status
+number_of v = (ending v).0
 
 abbrev pub line_of : Verdict → List ℕ
-line_of Verdict.Usage = usage.err
-line_of Verdict.ReadFault = read_fault_line
-line_of (Verdict.Refused place) = (refusal place).err
-line_of Verdict.Formatted = []
-line_of (Verdict.Ran End.MainValue) = []
-line_of (Verdict.Ran (End.MainFault f)) = err_line (StopCause.Fault f)
-line_of (Verdict.Ran End.NoTurns) = err_line StopCause.NoTurns
-line_of (Verdict.Ran End.NoMoves) = err_line StopCause.NoMoves
-line_of (Verdict.Ran End.NoGreenlets) = err_line StopCause.NoGreenlets
-line_of (Verdict.Ran End.NoLinks) = err_line StopCause.NoLinks
-line_of (Verdict.Ran End.NoKills) = err_line StopCause.NoKills
-line_of (Verdict.Ran End.WriteFault) = write_fault_line
-line_of (Verdict.Ran End.Memory) = memory_line
-line_of (Verdict.Connection ConnectionEnd.Closed) = []
-line_of (Verdict.Connection ConnectionEnd.TooLong) = line (codes "limit of the connection")
-line_of (Verdict.Connection ConnectionEnd.ReadFault) = read_fault_line
-line_of (Verdict.Connection ConnectionEnd.WriteFault) = write_fault_line
-line_of (Verdict.Connection ConnectionEnd.Memory) = memory_line
-line_of (Verdict.Served Served.Finished) = []
-line_of (Verdict.Served Served.Listener) = network_fault_line
-line_of (Verdict.Served Served.NoJobs) = line (codes "limit of jobs")
-line_of (Verdict.Served Served.WriteFault) = write_fault_line
-line_of (Verdict.Served Served.Memory) = memory_line
-line_of Verdict.Verified = []
-line_of (Verdict.Unverified refusal) = (unverified refusal).err
+line_of v = (ending v).1

@@ -35,8 +35,6 @@ serving command = None
 abbrev pub serve_of : List Word → Option ServeOptions
 serve_of w = option_and_then serving (words.command_of w)
 
--- ---- native workers
-
 abbrev pub is_native_world : RunWorld → Bool
 is_native_world (Script tick) = false
 is_native_world (Native workers) = true
@@ -49,10 +47,7 @@ is_native_text Format = false
 
 abbrev pub is_native : Option Command → Bool
 is_native (Some (Text command)) = is_native_text command
-is_native (Some (Wsgi gateway)) = false
-is_native (Some (Storm n)) = false
-is_native (Some (Verify check)) = false
-is_native None = false
+is_native command = false
 
 -- such a server has its jobs done by native workers
 abbrev pub are_native : ServeAnswers → Bool
@@ -63,12 +58,8 @@ abbrev pub is_native_server : Option ServeOptions → Bool
 is_native_server (Some options) = are_native options.answers
 is_native_server None = false
 
--- ---- the input
-
 -- the command reads its input
 abbrev pub reads_input : Option Command → Bool
-reads_input (Some (Text command)) = true
-reads_input (Some (Wsgi gateway)) = true
-reads_input (Some (Storm n)) = false
-reads_input (Some (Verify check)) = true
 reads_input None = false
+reads_input (Some (Storm n)) = false
+reads_input command = true

@@ -129,7 +129,7 @@ pub fn verdict_on(refusal: ParseRefusal) -> Verdict
 ghost use Rattle.machine.specs.Status.{err_line};
 ghost use Rattle.trace_text.specs.declared.line.StopCause.{StopCause};
 ghost use Rattle.gv_top.specs.Answers.{line, place_text, refusal};
-ghost use Rattle.gv_top.specs.Verifying.{lawless, trace_line, unverified, wrong};
+ghost use Rattle.gv_top.specs.Verifying.{trace_text, unverified};
 ghost use Rattle.scenario_reading.specs.Judged.{HasReason};
 ghost use Rattle.verify_command.specs.Judged.{IsReasoned};
 
@@ -208,7 +208,7 @@ fn unverified_line(alloc: Global, refusal: Unverified) -> Result<Vec<u8>, AllocE
 }
 
 fn trace_line(alloc: Global, number: u64, text: &[u8]) -> Result<Vec<u8>, AllocError>
-    ensures { IfOk result (λ made. made.items ≡ trace_line number text.now) }
+    ensures { IfOk result (λ made. made.items ≡ line (trace_text number text.now)) }
 {
     let mut made = Vec::new(alloc);
     made.extend_from_slice(b"trace line ")?;
@@ -219,7 +219,7 @@ fn trace_line(alloc: Global, number: u64, text: &[u8]) -> Result<Vec<u8>, AllocE
 }
 
 fn cause_line(alloc: Global, number: u64, cause: Cause) -> Result<Vec<u8>, AllocError>
-    ensures { IfOk result (λ made. made.items ≡ (wrong number cause).err) }
+    ensures { IfOk result (λ made. made.items ≡ (unverified (Unverified.Wrong number cause)).err) }
 {
     let mut text = Vec::new(alloc);
     text.extend_from_slice(b"cause ")?;
@@ -230,7 +230,7 @@ fn cause_line(alloc: Global, number: u64, cause: Cause) -> Result<Vec<u8>, Alloc
 }
 
 fn law_line(alloc: Global, number: u64, law: u8) -> Result<Vec<u8>, AllocError>
-    ensures { IfOk result (λ made. made.items ≡ (lawless number law).err) }
+    ensures { IfOk result (λ made. made.items ≡ (unverified (Unverified.Lawless number law)).err) }
 {
     let mut text = Vec::new(alloc);
     text.extend_from_slice(b"law ")?;

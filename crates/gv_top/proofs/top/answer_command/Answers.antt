@@ -1,6 +1,7 @@
-use Rattle.std.proofs.Common.{refl}
+use Rattle.std.proofs.Common.{◌≡◌, ◌∙◌, Some, ap, refl}
+use Rattle.gv_top.specs.declared.words.Command.{Command}
 use Rattle.gv_top.proofs.Checking.{check_is_no_storm, check_is_no_text, text_is_no_check}
-use Rattle.gv_top.proofs.Deciding.{no_command, usage_decided}
+use Rattle.gv_top.proofs.Deciding.{no_command, text_decided, usage_decided}
 use Rattle.gv_top.proofs.Tops.{connection_reads, connection_writes, left_alone}
 use Rattle.gv_top.proofs.Handing.{command_began, connection_hands, none_began}
 use Rattle.gv_top.proofs.InWorlds.{text_ran}
@@ -9,6 +10,12 @@ use Rattle.gv_top.proofs.top.answer_command.Goals as goal
 
 pub returns-in-None-clause-answer : goal.returns-in-None-clause-answer
 returns-in-None-clause-answer g c = λ left a told of. usage_decided _ _ _ left a _ c.in-None.is of
+
+pub returns-in-Some-Text-clause-answer : goal.returns-in-Some-Text-clause-answer
+returns-in-Some-Text-clause-answer g c = λ left a told of.
+    let inner : c.in-Some-Text.field-0 ≡ Command.Text c.in-Some-Text.command = (rw c.in-Some-Text.is at c.in-Some-Text.field-0-is) in
+    let named : c.args.command ≡ Some (Command.Text c.in-Some-Text.command) = c.in-Some-Text.is ∙ ap (λ (x : Command). Some x) inner in
+    text_decided _ _ c.in-Some-Text.command _ left a _ _ _ named (c.answer_input.ensures.answer left told) of
 
 pub returns-in-None-clause-read_whole : goal.returns-in-None-clause-read_whole
 returns-in-None-clause-read_whole g c = λ text runs left told h4 h7. no_command _ _ _ c.in-None.is runs

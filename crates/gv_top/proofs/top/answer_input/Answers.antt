@@ -8,8 +8,7 @@ use Rattle.scenario_grammar.specs.Spells.{Spells}
 use Rattle.scenario_rules.specs.Rules.{IsWellFormed}
 use Rattle.scenario_tree.specs.declared.tree.Scenario.{Scenario}
 use Rattle.gv_top.specs.Answers.{most_read}
-use Rattle.gv_top.specs.Top.{RanSo}
-use Rattle.gv_top.specs.Inner.{BeganText}
+use Rattle.gv_top.specs.Inner.{RanSo, BeganText}
 use Rattle.gv_top.specs.Verdicts.{number_of}
 use Rattle.gv_top.proofs.top.answer_input.Goals as goal
 

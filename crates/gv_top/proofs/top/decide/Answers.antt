@@ -2,6 +2,8 @@ use Rattle.std.proofs.Common.{ap, map, option_and_then, refl, string_bytes, sym,
 use Rattle.gv_top.specs.Words.{built, is_native, reads_input, serving}
 use Rattle.gv_top.proofs.Deciding.{nothing_exchanged, nothing_handed_ahead}
 use Rattle.gv_top.proofs.Handing.{none_began}
+use Rattle.gv_top.proofs.ReadTexts.{spelt_is_judged}
+use Rattle.command_words.specs.declared.command.TextCommand.{TextCommand}
 use Rattle.gv_top.proofs.Built.{in_range}
 use Rattle.gv_top.proofs.Servings.{is_some, none_named}
 use Rattle.gv_top.proofs.Tops.{came_as, left_alone, nothing_lawful, out_of_memory_at_once}
@@ -45,7 +47,7 @@ returns-in-None-clause-came_to g c =
       unprinted = d.unprinted;
       read_whole = λ text is h4 h7 left told. d.read_whole text is left told h4 h7;
       storm = d.storm;
-      ran = d.ran;
+      ran = λ options s left is told text well. d.ran (TextCommand.Run options) is left told s (spelt_is_judged s _ text well) options refl;
     })
 
 pub returns-in-None-clause-no_command : goal.returns-in-None-clause-no_command

@@ -1,7 +1,7 @@
 use Rattle.std.proofs.Common.{refl, arith}
 use Rattle.command_words.specs.declared.command.TextCommand.{TextCommand}
 use Rattle.gv_top.proofs.ChecksTold.{answers_check}
-use Rattle.gv_top.proofs.ReadTexts.{answered_as, answered_so, headline, refuses_the_rest, spelt_is_judged}
+use Rattle.gv_top.proofs.ReadTexts.{answered_so, headline, refuses_the_rest, spelt_is_answered, spelt_is_judged}
 use Rattle.gv_top.proofs.Tops.{answers_connection, ended, fails_to_write, is_answered, lawful_told, left_alone_told, no_memory_told, prints_nothing, read_fault_told, read_unfailed, reads_whole, status_is, unfailed, usage_status}
 use Rattle.gv_top.proofs.Handing.{told_hands}
 use Rattle.gv_top.proofs.InWorlds.{quiet_blocks}
@@ -17,7 +17,7 @@ returns-in-Some-clause-answers g c =
       run = λ options s left runs told text well. headline options s left h runs told text well (quiet_blocks c.blocks_are_told.ensures c.blocks_are_quiet.ensures options _ s well);
       lawful = λ options runs. lawful_told _ c.in-Some.verdict t.0 _ _ _ _ _ _ t.1 t.2 (c.in-Some.ensures.lawful options runs);
       formatted = λ s left formats told text well.
-          answered_so _ _ _ TextCommand.Format _ _ left _ _ _ _ formats (answered_as TextCommand.Format _ s _ text well) (λ b of. is_answered h left b told of);
+          answered_so _ _ _ TextCommand.Format _ _ left _ _ _ _ formats (spelt_is_answered TextCommand.Format _ s _ text well) (λ b of. is_answered h left b told of);
       refused = λ command left wanted told none.
           let r = refuses_the_rest command _ _ none in
           (r.0, r.1, answered_so _ _ _ command _ _ left _ _ _ _ wanted r.2 (λ b of. is_answered h left b told of));
