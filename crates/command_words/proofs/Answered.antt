@@ -14,7 +14,7 @@ use Rattle.clap.specs.Kinds.{Kinds, or_else}
 use Rattle.clap.specs.declared.error.kind.ErrorKind.{ErrorKind}
 use Rattle.clap.specs.declared.error.kind.ErrorKind.TheVariants as kind
 use Rattle.clap.specs.Faults.{turn_fault, check_fault, default_fault, defaults_fault, entered_fault, level_fault, settle_fault, walk_fault}
-use Rattle.command_words.specs.declared.command.Command.{Command}
+use Rattle.command_words.specs.declared.command.NamedCommand.{NamedCommand}
 use Rattle.command_words.specs.Words.{Word, Said, CommandRow, run, format, wsgi, serve, storm, verify, begins_with_dash, command_by, command_of, is_among, option_word, options, row_of, says, value_in}
 use Rattle.command_words.specs.Clap.{by_clap, command_in, is_stray, program}
 use Rattle.command_words.proofs.Rules.{opt, row}
@@ -86,10 +86,10 @@ module _ (nm : Word) (names words : List Word) where
   rows_are : rows_after rules [] words ≡ (settled rules end).rows
   rows_are = same_rows (settled rules end).rows names
 
-  abbrev of_rows : List Row → Option Command
+  abbrev of_rows : List Row → Option NamedCommand
   of_rows r = command_by nm (λ n. first_of n r)
 
-  abbrev of_said : Said → Option Command
+  abbrev of_said : Said → Option NamedCommand
   of_said said = command_by nm (value_in said)
 
   if_some : (b : Bool) (r : List Row) → (if b then of_rows r else None) ≡ option_and_then of_rows (if b then Some r else None)
@@ -113,7 +113,7 @@ module _ (nm : Word) (names words : List Word) where
 abbrev whole : App
 whole = built program
 
-abbrev at_top : Walk → Kinds → Option Command
+abbrev at_top : Walk → Kinds → Option NamedCommand
 at_top w f =
     if is_empty (or_else f (or_else (entered_fault whole w.stopped) (or_else (settle_fault whole.top.rules whole.top.args_override_self w.held)
     (or_else (defaults_fault (settled whole.top.rules w.held).rows whole.top.rules) (check_fault whole.top (finished whole.top.rules w.held) (is_some (entered whole w.stopped)))))))
@@ -133,7 +133,7 @@ entered_at nm words w f =
     (ap₂ (λ k v. or_else k (walk_fault whole.top (names_of whole) v words)) f w ∙ stopped_fault whole.top (names_of whole) (walk_from nothing_held) (nm, []) words)
 
 -- what `clap` makes of the words of the command of this row
-abbrev of_row : CommandRow → List Word → Option Command
+abbrev of_row : CommandRow → List Word → Option NamedCommand
 of_row r words =
     if is_empty (or_else (level_fault (shape r.name r.options) [] nothing_held words false []) [])
     then command_by r.name (λ n. first_of n (rows_after (map opt r.options) [] words)) else None

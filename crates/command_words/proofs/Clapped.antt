@@ -7,7 +7,7 @@ use Rattle.clap.specs.declared.error.Error.{Error}
 use Rattle.clap.specs.declared.error.kind.ErrorKind.{ErrorKind}
 use Rattle.clap.specs.Simple.{is_simple}
 use Rattle.clap.specs.Walk.{Row, Text, is_empty}
-use Rattle.command_words.specs.declared.command.Command.{Command}
+use Rattle.command_words.specs.declared.command.NamedCommand.{NamedCommand}
 use Rattle.command_words.specs.Clap.{command_in, program}
 
 pub program_simple : is_simple program ≡ true
@@ -21,7 +21,7 @@ pub some_kind : (kinds : Kinds) (e : Error) → (kind_of e ≡ ErrorKind.OutOfMe
 some_kind kinds e other (inl memory) none = other memory
 some_kind kinds e other (inr among) none = subst (λ (ks : Kinds). IsAmong (kind_of e) ks) none among
 
-pub found_is : (kinds : Kinds) (sub : Option (Text × List Row)) (r : Option Command) → kinds ≡ [] → r ≡ command_in sub → r ≡ (if is_empty kinds then command_in sub else None)
+pub found_is : (kinds : Kinds) (sub : Option (Text × List Row)) (r : Option NamedCommand) → kinds ≡ [] → r ≡ command_in sub → r ≡ (if is_empty kinds then command_in sub else None)
 found_is [] sub r e f = f
 found_is (k ∷ ks) sub r e f = absurd (cc)
 

@@ -4,7 +4,7 @@ use Rattle.clap.specs.Walk.{Row, Rule, Text, first_of, is_empty}
 use Rattle.clap.specs.Simple.{App, Shape, new_app, new_rule, subcommand_of, with_rule, with_subcommand}
 use Rattle.clap.specs.Faults.{fault_of}
 use Rattle.clap.specs.declared.builder.action.ArgAction.TheVariants.{Set}
-use Rattle.command_words.specs.declared.command.Command.{Command}
+use Rattle.command_words.specs.declared.command.NamedCommand.{NamedCommand}
 use Rattle.command_words.specs.declared.table.CommandOption.{CommandOption}
 use Rattle.command_words.specs.declared.table.CommandOption.TheVariants.{Number, Gateway, Order, Check}
 use Rattle.command_words.specs.declared.table.CommandRow.{CommandRow as DeclaredCommandRow}
@@ -56,11 +56,11 @@ abbrev pub program : App
 program = with_commands top commands
 
 -- the command of what a parse entered
-abbrev pub command_in : Option (Text × List Row) → Option Command
+abbrev pub command_in : Option (Text × List Row) → Option NamedCommand
 command_in = option_and_then (λ p. command_by p.0 (λ name. first_of name p.1))
 
 -- the command that `clap` finds in the words
-abbrev pub by_clap : List Text → Option Command
+abbrev pub by_clap : List Text → Option NamedCommand
 by_clap words = if is_empty (fault_of program words) then command_in (subcommand_of program words) else None
 
 -- the word begins with `-` and is no `--name`: `--`, `-`, or a short option

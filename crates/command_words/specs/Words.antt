@@ -4,8 +4,8 @@ use Rattle.std.specs.List.{list_any, before_first, after_first}
 use Rattle.std.specs.Str.{bytes_eq}
 use Rattle.std.specs.Str.Parse.{digits_value}
 use Rattle.gv_values.specs.Digits.{is_plain_number}
-use Rattle.command_words.specs.declared.command.Command.{Command}
-use Rattle.command_words.specs.declared.command.Command.TheVariants.{Text, Wsgi, Serve, Storm, Verify}
+use Rattle.command_words.specs.declared.command.NamedCommand.{NamedCommand}
+use Rattle.command_words.specs.declared.command.NamedCommand.TheVariants.{Text, Wsgi, Serve, Storm, Verify}
 use Rattle.command_words.specs.declared.command.GatewayKind.{GatewayKind}
 use Rattle.command_words.specs.declared.command.GatewayKind.TheVariants.{Http, Scgi}
 use Rattle.command_words.specs.declared.command.ServeAnswers.{ServeAnswers}
@@ -152,14 +152,14 @@ number_in least most word =
     then Some (digits_value 10 word) else None
 
 -- the value of each option that was given, by its name
-abbrev pub Look : Type 0
-Look = Word → Option Word
+abbrev pub LookUp : Type 0
+LookUp = Word → Option Word
 
-abbrev pub value_in : Said → Look
+abbrev pub value_in : Said → LookUp
 value_in said name = option_map (λ (p : Word × Word). p.1) (find (λ (p : Word × Word). bytes_eq p.0 name) said)
 
 -- the number of an option: the one that it was given, or else its usual one; none where there is no such number
-abbrev pub number_by : OptionRow → Look → Option ℕ
+abbrev pub number_by : OptionRow → LookUp → Option ℕ
 number_by option look = elim (look option.name) [
   | Some word ↦ number_in option.least option.most word
   | None ↦ option.usual
@@ -170,7 +170,7 @@ abbrev pub gateway_named : Word → Option GatewayKind
 gateway_named word = if bytes_eq word (codes "http") then Some Http else if bytes_eq word (codes "scgi") then Some Scgi else None
 
 -- the gateway that is asked for: the one that is named, or else `http`; none where there is no such gateway
-abbrev pub gateway_by : Look → Option GatewayKind
+abbrev pub gateway_by : LookUp → Option GatewayKind
 gateway_by look = elim (look gateway) [ Some word ↦ gateway_named word | None ↦ Some Http ]
 
 -- the order of this name
@@ -178,7 +178,7 @@ abbrev pub order_named : Word → Option ResultOrder
 order_named word = if bytes_eq word (codes "free") then Some results.Free else if bytes_eq word (codes "held") then Some results.Held else None
 
 -- the order that is asked for: the one that is named, or else `free`; none where there is no such order
-abbrev pub order_by : Look → Option ResultOrder
+abbrev pub order_by : LookUp → Option ResultOrder
 order_by look = elim (look order) [ Some word ↦ order_named word | None ↦ Some results.Free ]
 
 -- what comes of the value, where there is one
@@ -191,23 +191,23 @@ workers_in results.Free n = Native n
 workers_in results.Held n = Held n
 
 -- the native workers of a run, which no tick goes with
-abbrev pub workers_by : Look → Option RunWorld
+abbrev pub workers_by : LookUp → Option RunWorld
 workers_by look = if is_some (look tick.name) then None else given (order_by look) (λ o. option_map (workers_in o) (number_by native look))
 
 -- the world of a run: native workers; or a script, which no order goes with
-abbrev pub world_by : Look → Option RunWorld
+abbrev pub world_by : LookUp → Option RunWorld
 world_by look =
     if is_some (look native.name) then workers_by look
     else (if is_some (look order) then None else option_map (λ n. Script n) (number_by tick look))
 
-abbrev pub run_by : Look → Option Command
+abbrev pub run_by : LookUp → Option NamedCommand
 run_by look =
     given (number_by turns look) (λ turns.
     given (number_by moves look) (λ moves.
     given (world_by look) (λ world.
     Some (Text (Run (record { turns = turns; moves = moves; world = world }))))))
 
-abbrev pub wsgi_by : Look → Option Command
+abbrev pub wsgi_by : LookUp → Option NamedCommand
 wsgi_by look = option_map (λ g. Wsgi g) (gateway_by look)
 
 -- native workers for the jobs of a server, so many, which SCGI does not go with
@@ -215,49 +215,49 @@ abbrev pub jobs_in : GatewayKind → ℕ → Option ServeAnswers
 jobs_in Http n = Some (Jobs n)
 jobs_in Scgi n = None
 
-abbrev pub jobs_by : Look → Option ServeAnswers
+abbrev pub jobs_by : LookUp → Option ServeAnswers
 jobs_by look = given (gateway_by look) (λ g. given (number_by jobs look) (jobs_in g))
 
 -- what a server answers with: native workers for jobs where they are asked for, or else its application
-abbrev pub answers_by : Look → Option ServeAnswers
-answers_by look = if is_some (look jobs.name) then jobs_by look else option_map (λ g. Application g) (gateway_by look)
+abbrev pub server_answers_by : LookUp → Option ServeAnswers
+server_answers_by look = if is_some (look jobs.name) then jobs_by look else option_map (λ g. Application g) (gateway_by look)
 
-abbrev pub serve_by : Look → Option Command
+abbrev pub serve_by : LookUp → Option NamedCommand
 serve_by look =
     given (number_by port look) (λ port.
     given (number_by conns look) (λ conns.
     given (number_by pool look) (λ pool.
     given (number_by idle look) (λ idle.
-    given (answers_by look) (λ answers.
+    given (server_answers_by look) (λ answers.
     Some (Serve (record { port = port; conns = conns; pool = pool; idle = idle; answers = answers })))))))
 
-abbrev pub storm_by : Look → Option Command
+abbrev pub storm_by : LookUp → Option NamedCommand
 storm_by look = option_map (λ n. Storm n) (number_by size look)
 
 -- the check of a run within the turns and moves that are asked for
-abbrev pub run_check : Look → Option TraceCheck
+abbrev pub run_check : LookUp → Option TraceCheck
 run_check look =
     given (number_by turns look) (λ turns.
     given (number_by moves look) (λ moves.
     Some (TraceCheck.Run turns moves)))
 
 -- the check of the laws, which takes neither turns nor moves
-abbrev pub laws_check : Look → Option TraceCheck
+abbrev pub laws_check : LookUp → Option TraceCheck
 laws_check look = if is_some (look turns.name) then None else if is_some (look moves.name) then None else Some TraceCheck.Laws
 
 -- the check of this name
-abbrev pub check_named : Word → Look → Option TraceCheck
+abbrev pub check_named : Word → LookUp → Option TraceCheck
 check_named word look = if bytes_eq word (codes "run") then run_check look else if bytes_eq word (codes "laws") then laws_check look else None
 
 -- the check that is asked for: the one that is named, or else that of a run; none where there is no such check
-abbrev pub check_by : Look → Option TraceCheck
+abbrev pub check_by : LookUp → Option TraceCheck
 check_by look = elim (look check) [ Some word ↦ check_named word look | None ↦ run_check look ]
 
-abbrev pub verify_by : Look → Option Command
+abbrev pub verify_by : LookUp → Option NamedCommand
 verify_by look = option_map (λ c. Verify c) (check_by look)
 
 -- the command of this name, by the values of its options
-abbrev pub command_by : Word → Look → Option Command
+abbrev pub command_by : Word → LookUp → Option NamedCommand
 command_by name look =
     if bytes_eq name run.name then run_by look
     else if bytes_eq name format.name then Some (Text Format)
@@ -271,7 +271,7 @@ abbrev pub row_of : Word → Option CommandRow
 row_of name = find (λ (row : CommandRow). bytes_eq name row.name) commands
 
 -- the command that the words name, if they name one: its name comes first, and then its options
-abbrev pub command_of : List Word → Option Command
+abbrev pub command_of : List Word → Option NamedCommand
 command_of [] = None
 command_of (name ∷ words) =
     given (row_of name) (λ row.

@@ -84,7 +84,7 @@ pub enum TraceCheck {
 
 /// What the program is asked to do.
 #[derive(Clone, Copy, Debug, PartialEq, Eq)]
-pub enum Command {
+pub enum NamedCommand {
     /// Do this with the scenario that the input spells.
     Text(TextCommand),
     /// Answer the connection whose bytes the input gives, and which speaks this.

@@ -2,9 +2,9 @@
 ghost use Rattle.std.specs.Prelude.{◌≡◌, List, ℕ, Some};
 ghost use Rattle.command_words.specs.Words.{command_of};
 ghost use Rattle.command_words.specs.Ranges.{IsInRange};
-ghost use Rattle.command_words.specs.declared.command.Command.{Command};
+ghost use Rattle.command_words.specs.declared.command.NamedCommand.{NamedCommand};
 
 /// The numbers of a command that words name are those that its options take.
 pub fn commands_are_in_range()
-    ensures { (words : List (List ℕ)) (command : Command) → command_of words ≡ Some command → IsInRange command }
+    ensures { (words : List (List ℕ)) (command : NamedCommand) → command_of words ≡ Some command → IsInRange command }
 {}

@@ -2,12 +2,12 @@
 ghost use Rattle.std.specs.Prelude.{◌≡◌, IfOk, map, string_bytes};
 ghost use Rattle.std.specs.List.{list_any};
 ghost use Rattle.clap.specs.Words.{first_of, found_of, rows_of, subcommand_rows_of};
-ghost use Rattle.command_words.specs.Words.{answers_by, check_by, check_named, command_by, command_of, gateway_by, gateway_named, jobs_by, jobs_in, laws_check, order_by, order_named, run_by, run_check, serve_by, storm_by, verify_by, workers_by, workers_in, world_by, wsgi_by};
+ghost use Rattle.command_words.specs.Words.{server_answers_by, check_by, check_named, command_by, command_of, gateway_by, gateway_named, jobs_by, jobs_in, laws_check, order_by, order_named, run_by, run_check, serve_by, storm_by, verify_by, workers_by, workers_in, world_by, wsgi_by};
 ghost use Rattle.command_words.specs.Clap.{by_clap, command_in, is_stray};
 
 use crate::clap_command::program;
 use crate::command::{
-    Command, GatewayKind, ResultOrder, RunOptions, RunWorld, ServeAnswers, ServeOptions,
+    GatewayKind, NamedCommand, ResultOrder, RunOptions, RunWorld, ServeAnswers, ServeOptions,
     TextCommand, TraceCheck,
 };
 use crate::numbers::{given, number_by};
@@ -30,7 +30,7 @@ use std::alloc::{AllocError, Global};
 /// # Errors
 ///
 /// `AllocError` where memory ran out.
-pub fn command_of(alloc: Global, words: &[String]) -> Result<Option<Command>, AllocError>
+pub fn command_of(alloc: Global, words: &[String]) -> Result<Option<NamedCommand>, AllocError>
     ensures { IfOk result (λ r. r ≡ command_of (map string_bytes words.now)) }
 {
     if has_stray(words) {
@@ -64,7 +64,7 @@ fn is_stray_text(word: &[u8]) -> bool
 }
 
 /// The command that `clap` finds in the words.
-fn by_clap(alloc: Global, words: &[String]) -> Result<Option<Command>, AllocError>
+fn by_clap(alloc: Global, words: &[String]) -> Result<Option<NamedCommand>, AllocError>
     ensures { IfOk result (λ r. r ≡ by_clap (map string_bytes words.now)) }
 {
     let command = program(alloc)?;
@@ -81,7 +81,7 @@ fn by_clap(alloc: Global, words: &[String]) -> Result<Option<Command>, AllocErro
 }
 
 /// The command of what a parse entered.
-fn command_in(matches: &ArgMatches) -> Option<Command>
+fn command_in(matches: &ArgMatches) -> Option<NamedCommand>
     ensures { result ≡ command_in (subcommand_rows_of matches.now) }
 {
     match matches.subcommand() {
@@ -91,12 +91,12 @@ fn command_in(matches: &ArgMatches) -> Option<Command>
 }
 
 /// The command of this name with these options.
-fn command_by(name: &str, matches: &ArgMatches) -> Option<Command>
+fn command_by(name: &str, matches: &ArgMatches) -> Option<NamedCommand>
     ensures { result ≡ command_by name.now (λ n. first_of n (rows_of (found_of matches.now))) }
 {
     match name {
         "run" => run_by(matches),
-        "fmt" => Some(Command::Text(TextCommand::Format)),
+        "fmt" => Some(NamedCommand::Text(TextCommand::Format)),
         "wsgi" => wsgi_by(matches),
         "serve" => serve_by(matches),
         "storm" => storm_by(matches),
@@ -162,13 +162,13 @@ fn order_by(matches: &ArgMatches) -> Option<ResultOrder>
     }
 }
 
-fn run_by(matches: &ArgMatches) -> Option<Command>
+fn run_by(matches: &ArgMatches) -> Option<NamedCommand>
     ensures { result ≡ run_by (λ n. first_of n (rows_of (found_of matches.now))) }
 {
     let turns = number_by(TURNS, matches)?;
     let moves = number_by(MOVES, matches)?;
     let world = world_by(matches)?;
-    Some(Command::Text(TextCommand::Run(RunOptions {
+    Some(NamedCommand::Text(TextCommand::Run(RunOptions {
         turns,
         moves,
         world,
@@ -196,11 +196,11 @@ fn gateway_by(matches: &ArgMatches) -> Option<GatewayKind>
     }
 }
 
-fn wsgi_by(matches: &ArgMatches) -> Option<Command>
+fn wsgi_by(matches: &ArgMatches) -> Option<NamedCommand>
     ensures { result ≡ wsgi_by (λ n. first_of n (rows_of (found_of matches.now))) }
 {
     let gateway = gateway_by(matches)?;
-    Some(Command::Wsgi(gateway))
+    Some(NamedCommand::Wsgi(gateway))
 }
 
 /// A server whose jobs so many native workers do, which SCGI does not go with.
@@ -223,8 +223,8 @@ fn jobs_by(matches: &ArgMatches) -> Option<ServeAnswers>
 }
 
 /// What a server answers with: native workers for jobs where they are asked for, or else its application.
-fn answers_by(matches: &ArgMatches) -> Option<ServeAnswers>
-    ensures { result ≡ answers_by (λ n. first_of n (rows_of (found_of matches.now))) }
+fn server_answers_by(matches: &ArgMatches) -> Option<ServeAnswers>
+    ensures { result ≡ server_answers_by (λ n. first_of n (rows_of (found_of matches.now))) }
 {
     if given(JOBS.name, matches).is_some() {
         return jobs_by(matches);
@@ -233,15 +233,15 @@ fn answers_by(matches: &ArgMatches) -> Option<ServeAnswers>
     Some(ServeAnswers::Application(gateway))
 }
 
-fn serve_by(matches: &ArgMatches) -> Option<Command>
+fn serve_by(matches: &ArgMatches) -> Option<NamedCommand>
     ensures { result ≡ serve_by (λ n. first_of n (rows_of (found_of matches.now))) }
 {
     let port = number_by(PORT, matches)?;
     let conns = number_by(CONNS, matches)?;
     let pool = number_by(POOL, matches)?;
     let idle = number_by(IDLE, matches)?;
-    let answers = answers_by(matches)?;
-    Some(Command::Serve(ServeOptions {
+    let answers = server_answers_by(matches)?;
+    Some(NamedCommand::Serve(ServeOptions {
         port: port as u16,
         conns: conns as u32,
         pool: pool as u32,
@@ -250,11 +250,11 @@ fn serve_by(matches: &ArgMatches) -> Option<Command>
     }))
 }
 
-fn storm_by(matches: &ArgMatches) -> Option<Command>
+fn storm_by(matches: &ArgMatches) -> Option<NamedCommand>
     ensures { result ≡ storm_by (λ n. first_of n (rows_of (found_of matches.now))) }
 {
     let size = number_by(SIZE, matches)?;
-    Some(Command::Storm(size as u32))
+    Some(NamedCommand::Storm(size as u32))
 }
 
 /// The check of a run within the turns and moves that are asked for.
@@ -300,9 +300,9 @@ fn check_by(matches: &ArgMatches) -> Option<TraceCheck>
     }
 }
 
-fn verify_by(matches: &ArgMatches) -> Option<Command>
+fn verify_by(matches: &ArgMatches) -> Option<NamedCommand>
     ensures { result ≡ verify_by (λ n. first_of n (rows_of (found_of matches.now))) }
 {
     let check = check_by(matches)?;
-    Some(Command::Verify(check))
+    Some(NamedCommand::Verify(check))
 }

@@ -3,7 +3,7 @@ use Rattle.std.proofs.Common.{◌≡◌, ℕ, zero, suc, ◌+◌, ◌-◌, ◌<�
 use Rattle.std.proofs.lemmas.Bool.{cases_lt}
 use Rattle.std.specs.List.{remove}
 use Rattle.std.proofs.lemmas.Option.{slice_get_within, slice_get-get_or}
-use Rattle.linked_items.specs.Items.{without, Lacks, Differ}
+use Rattle.linked_items.specs.Items.{without_number, Lacks, Differ}
 use Rattle.linked_items.proofs.ItemLemmas.{without_length, test_keeps, test_drops, without_absent}
 use Rattle.waiters.specs.Waits.{SeenWaits, waits, told_without}
 use Rattle.waiters.specs.OneSide.{IsAmongFirst}
@@ -44,7 +44,7 @@ above_found m g [] k h at = absurd (cc)
 above_found m g (x ∷ ms) zero h at = let same : x ≡ g = cc in subst (λ y. m < y) same h.0
 above_found m g (x ∷ ms) (suc k) h at = above_found m g ms k h.1 at
 
-pub removed_is : (ms : List ℕ) (k g : ℕ) → IsRising ms → slice_get ms k ≡ Some g → remove ms k ≡ without g ms
+pub removed_is : (ms : List ℕ) (k g : ℕ) → IsRising ms → slice_get ms k ≡ Some g → remove ms k ≡ without_number g ms
 removed_is [] k g r at = absurd (cc)
 removed_is (m ∷ ms) zero g r at =
     let same : m ≡ g = cc in
@@ -53,19 +53,19 @@ removed_is (m ∷ ms) (suc k) g r at =
     let lt = above_found m g ms k r.0 at in
     rw (test_keeps m g (λ e. omega arith)) (ap (λ l. m ∷ l) (removed_is ms k g r.1 at))
 
-above_without : (m g : ℕ) (ms : List ℕ) → AreAbove m ms → AreAbove m (without g ms)
+above_without : (m g : ℕ) (ms : List ℕ) → AreAbove m ms → AreAbove m (without_number g ms)
 above_without m g [] h = tt
 above_without m g (x ∷ ms) h = by (not (x == g)) (above_without m g ms h.1)
   where
-    by : (b : Bool) → AreAbove m (without g ms) → AreAbove m (cond b (x ∷ without g ms) (without g ms))
+    by : (b : Bool) → AreAbove m (without_number g ms) → AreAbove m (cond b (x ∷ without_number g ms) (without_number g ms))
     by true more = (h.0, more)
     by false more = more
 
-pub rising_without : (g : ℕ) (ms : List ℕ) → IsRising ms → IsRising (without g ms)
+pub rising_without : (g : ℕ) (ms : List ℕ) → IsRising ms → IsRising (without_number g ms)
 rising_without g [] r = tt
 rising_without g (m ∷ ms) r = by (not (m == g)) (rising_without g ms r.1)
   where
-    by : (b : Bool) → IsRising (without g ms) → IsRising (cond b (m ∷ without g ms) (without g ms))
+    by : (b : Bool) → IsRising (without_number g ms) → IsRising (cond b (m ∷ without_number g ms) (without_number g ms))
     by true more = (above_without m g ms r.0, more)
     by false more = more
 
@@ -100,7 +100,7 @@ place_left_open None ms told' told waiting left fits less within = within
 place_left_open (Some size) ms told' told waiting left fits less within = omega arith
 
 -- a member leaves
-pub place_freed : (size : Option ℕ) (ms : List ℕ) (g told waiting : ℕ) → told ≤ free_places waiting size ms → told ≤ free_places waiting size (without g ms)
+pub place_freed : (size : Option ℕ) (ms : List ℕ) (g told waiting : ℕ) → told ≤ free_places waiting size ms → told ≤ free_places waiting size (without_number g ms)
 place_freed None ms g told waiting fits = fits
 place_freed (Some size) ms g told waiting fits = let n = without_le g ms in omega arith
 
@@ -110,7 +110,7 @@ place_admitted None ms g told waiting within more = within
 place_admitted (Some size) ms g told waiting within more = let n = length-append ms (g ∷ []) in omega arith
 
 module _ (c : Inside) (is : IsCrew c) (w : SeenWaits) (item : ℕ) where
-  module _ (now : w ≡ waits (without item c.places.items) (told_without item c.places.told c.places.items) (c.places.spare + 1)) (there : Contains c.places.items item) (differ : Differ c.places.items) where
+  module _ (now : w ≡ waits (without_number item c.places.items) (told_without item c.places.told c.places.items) (c.places.spare + 1)) (there : Contains c.places.items item) (differ : Differ c.places.items) where
     pub place_left_sound : IsCrew (record c { places = w })
     place_left_sound =
         let fewer = without_length item c.places.items differ there in
@@ -138,7 +138,7 @@ module _ (c : Inside) (is : IsCrew c) (w : SeenWaits) (item : ℕ) where
         let room : c.limit - (length w.items + length c.joins.items) ≡ c.limit - (length c.places.items + length c.joins.items) + 1 = omega arith in
         λ i. record (seen_crew c) { places = (now i).items; told_places = (now i).told; room = room i }
 
-  module _ (now : w ≡ waits (without item c.joins.items) (told_without item c.joins.told c.joins.items) (c.joins.spare + 1)) (there : Contains c.joins.items item) (differ : Differ c.joins.items) where
+  module _ (now : w ≡ waits (without_number item c.joins.items) (told_without item c.joins.told c.joins.items) (c.joins.spare + 1)) (there : Contains c.joins.items item) (differ : Differ c.joins.items) where
     pub join_left_sound : IsCrew (record c { joins = w })
     join_left_sound =
         let fewer = without_length item c.joins.items differ there in
@@ -157,7 +157,7 @@ module _ (c : Inside) (is : IsCrew c) (w : SeenWaits) (item : ℕ) where
         λ i. record (seen_crew c) { joins = (now i).items; told_joins = (now i).told; room = room i }
 
 -- one that waits for a place goes, and is a member
-module _ (c : Inside) (is : IsCrew c) (w : SeenWaits) (item g : ℕ) (now : w ≡ waits (without item c.places.items) (told_without item c.places.told c.places.items) (c.places.spare + 1)) (there : Contains c.places.items item) (differ : Differ c.places.items) (within : c.places.told ≤ length c.places.items) (among : IsAmongFirst (free_places (length c.places.items) c.size c.members.items) c.places.items item) where
+module _ (c : Inside) (is : IsCrew c) (w : SeenWaits) (item g : ℕ) (now : w ≡ waits (without_number item c.places.items) (told_without item c.places.told c.places.items) (c.places.spare + 1)) (there : Contains c.places.items item) (differ : Differ c.places.items) (within : c.places.told ≤ length c.places.items) (among : IsAmongFirst (free_places (length c.places.items) c.size c.members.items) c.places.items item) where
   pub completed_open : w.told ≤ free_places (length w.items) c.size (c.members.items ++ g ∷ [])
   completed_open =
       let count = ap (λ v. length v.items) now in

@@ -1,6 +1,6 @@
 -- What contracts see of a group or pool.
 use Rattle.std.specs.Prelude.{◌≡◌, ℕ, ◌+◌, ◌-◌, ◌<◌, ◌≤◌, List, [], ◌∷◌, ◌++◌, length, Option, Some, None}
-use Rattle.linked_items.specs.Items.{without, Differ}
+use Rattle.linked_items.specs.Items.{without_number, Differ}
 use Rattle.waiters.specs.Waits.{told_without}
 use Rattle.waiters.specs.declared.parking.Side.{Side}
 use Rattle.waiters.specs.OneSide.{IsAmongFirst}
@@ -92,11 +92,11 @@ pub record KeepsCrew (old new : SeenCrew) : Type 0 where
 
 -- one that waits for a place leaves
 abbrev pub place_gone : ℕ → SeenCrew → SeenCrew
-place_gone item c = record c { places = without item c.places; told_places = told_without item c.told_places c.places; room = c.room + 1 }
+place_gone item c = record c { places = without_number item c.places; told_places = told_without item c.told_places c.places; room = c.room + 1 }
 
 -- one that waits for the last member leaves
 abbrev pub join_gone : ℕ → SeenCrew → SeenCrew
-join_gone item c = record c { joins = without item c.joins; told_joins = told_without item c.told_joins c.joins; room = c.room + 1 }
+join_gone item c = record c { joins = without_number item c.joins; told_joins = told_without item c.told_joins c.joins; room = c.room + 1 }
 
 -- a member enters, behind all others
 abbrev pub with_member_in : ℕ → SeenCrew → SeenCrew

@@ -3,7 +3,7 @@
 
 ghost use Rattle.std.specs.Prelude.{◌≡◌, ◌≢◌, ℕ, ◌+◌, ◌-◌, ◌<◌, ◌≤◌, ◌^◌, List, [], ◌∷◌, ◌++◌, length, min, Option, Some, None, OnOk, OnErr, IfOk, IfSome, IfNone, IsTrue, ◌↔◌, ◌⊎◌, slice_get};
 ghost use Rattle.std.specs.List.{Contains};
-ghost use Rattle.linked_items.specs.Items.{without};
+ghost use Rattle.linked_items.specs.Items.{without_number};
 ghost use Rattle.waiters.specs.OneSide.{IsAmongFirst};
 ghost use Rattle.groups_pools.specs.Seen.{SeenCrew, free_places, open_places, HasPlace, AreBelow, IsRising, IsSound, place_gone, join_gone, with_member_in};
 
@@ -136,7 +136,7 @@ impl Crew {
     /// gives all in one piece of memory.
     pub fn member_ended(&mut self, g: u32)
         requires { Contains self.old.members g }
-        ensures { self.new ≡ record self.old { members = without g self.old.members } }
+        ensures { self.new ≡ record self.old { members = without_number g self.old.members } }
     {
         let at = place_of(&self.members, g);
         self.members.remove(at);

@@ -8,11 +8,11 @@ use Rattle.verify_command.specs.Judged.{IsSaid, IsSaidOf, IsSame, Verification}
 use Rattle.verify_command.specs.declared.checking.Unverified.{Unverified}
 use Rattle.gv_top.specs.Answers.{Answer}
 use Rattle.gv_top.specs.Top.{Decided, Fits}
-use Rattle.gv_top.specs.Verdicts.{number_of}
+use Rattle.gv_top.specs.Verdicts.{verdict_status}
 use Rattle.gv_top.specs.Verifying.{IsCheckAnswer, unverified, verified}
 use Rattle.gv_top.specs.Inner.{IsAnswerWhere}
 use Rattle.gv_top.specs.declared.status.Verdict.{Verdict}
-use Rattle.gv_top.specs.declared.words.Command.{Command}
+use Rattle.gv_top.specs.declared.words.OfflineCommand.{OfflineCommand}
 use Rattle.gv_top.proofs.Deciding.{decided_as}
 use Rattle.gv_top.proofs.Said.{answer_is_said, said_is_answer}
 
@@ -76,7 +76,7 @@ refusal_answers check bytes refusal old none said is =
     (unverified refusal, said_is_answer check bytes (Err refusal) (unverified refusal) said is, refusal_fits refusal (unverified refusal) old none refl)
 
 pub unverified_fits : (check : TraceCheck) (bytes : List ℕ) (refusal : Unverified) (old : Option (List ℕ)) → IsSaid (IsSaidOf check bytes) (Err refusal)
-    → number_of (Verdict.Unverified refusal) ≢ 7 → HasRefusal check bytes refusal old
+    → verdict_status (Verdict.Unverified refusal) ≢ 7 → HasRefusal check bytes refusal old
 unverified_fits check bytes (Unverified.Overlong n) old said h7 = refusal_answers check bytes (Unverified.Overlong n) old refl (said (λ e. cc e)) refl
 unverified_fits check bytes (Unverified.Unmarked n) old said h7 = refusal_answers check bytes (Unverified.Unmarked n) old refl (said (λ e. cc e)) refl
 unverified_fits check bytes (Unverified.Refused place) old said h7 = refusal_answers check bytes (Unverified.Refused place) old refl (said (λ e. cc e)) refl
@@ -87,19 +87,19 @@ unverified_fits check bytes Unverified.Memory old said h7 = absurd (h7 refl)
 -- ---- the command
 
 -- what is said of this check is said of the same one
-pub check_as : (given check : TraceCheck) (P : TraceCheck → Type 0) → Command.Verify check ≡ Command.Verify given → P given → P check
+pub check_as : (given check : TraceCheck) (P : TraceCheck → Type 0) → OfflineCommand.Verify check ≡ OfflineCommand.Verify given → P given → P check
 check_as given check P e h = subst P (same given check e) h
   where
-    same : (a b : TraceCheck) → Command.Verify b ≡ Command.Verify a → a ≡ b
+    same : (a b : TraceCheck) → OfflineCommand.Verify b ≡ OfflineCommand.Verify a → a ≡ b
     same a b z = cc z
 
 -- ---- a check of a trace is no other command
 
-pub text_is_no_check : (text : TextCommand) (check : TraceCheck) → Command.Text text ≡ Command.Verify check → ⊥
+pub text_is_no_check : (text : TextCommand) (check : TraceCheck) → OfflineCommand.Text text ≡ OfflineCommand.Verify check → ⊥
 text_is_no_check text check e = cc e
 
-pub check_is_no_text : (check : TraceCheck) (text : TextCommand) → Command.Verify check ≡ Command.Text text → ⊥
+pub check_is_no_text : (check : TraceCheck) (text : TextCommand) → OfflineCommand.Verify check ≡ OfflineCommand.Text text → ⊥
 check_is_no_text check text e = cc e
 
-pub check_is_no_storm : (check : TraceCheck) (size : ℕ) → Command.Verify check ≡ Command.Storm size → ⊥
+pub check_is_no_storm : (check : TraceCheck) (size : ℕ) → OfflineCommand.Verify check ≡ OfflineCommand.Storm size → ⊥
 check_is_no_storm check size e = cc e

@@ -4,7 +4,7 @@ use Rattle.command_words.specs.declared.command.TraceCheck.{TraceCheck}
 use Rattle.verify_command.specs.Inputs.{most_checked_read}
 use Rattle.verify_command.specs.Judged.{Verification}
 use Rattle.verify_command.specs.declared.checking.Unverified.{Unverified}
-use Rattle.world.specs.Worlds.{Meaning}
+use Rattle.world.specs.Worlds.{WorldMeaning}
 use Rattle.world_rules.specs.declared.question.LogEntry.{LogEntry}
 use Rattle.wsgi_core.specs.Applications.{App}
 use Rattle.gv_top.specs.Answers.{Answer}
@@ -13,7 +13,7 @@ use Rattle.gv_top.specs.Outcomes.{Fails, Passes, Refuses}
 use Rattle.gv_top.specs.Top.{Ended, Stream}
 use Rattle.gv_top.specs.Verifying.{IsAnswerOf, IsCheckAnswer, unverified, verified}
 use Rattle.gv_top.specs.Inner.{IsAnswerWhere}
-use Rattle.gv_top.specs.declared.words.Command.{Command}
+use Rattle.gv_top.specs.declared.words.OfflineCommand.{OfflineCommand}
 use Rattle.gv_top.proofs.Said.{Tells, answer_is_said, told}
 use Rattle.gv_top.proofs.Tops.{checks_so, is_answered, reads_trace, tells_nothing}
 
@@ -67,12 +67,12 @@ unfolding IsCheckAnswer
 unverified_answer check bytes why h = inr (why, h, refl)
 
 -- an answer of this check is one of the command that wants it
-wanted_answer : (app : App) (c : Option Command) (after : Meaning) (check : TraceCheck) (left : List ℕ) (a : Answer) → c ≡ Some (Command.Verify check) →
+wanted_answer : (app : App) (c : Option OfflineCommand) (after : WorldMeaning) (check : TraceCheck) (left : List ℕ) (a : Answer) → c ≡ Some (OfflineCommand.Verify check) →
     IsCheckAnswer check (take most_checked_read left) a → IsAnswerOf app c after.answers left a
-wanted_answer app c after check left a is h = subst (λ (d : Option Command). IsAnswerOf app d after.answers left a) (sym is) h
+wanted_answer app c after check left a is h = subst (λ (d : Option OfflineCommand). IsAnswerOf app d after.answers left a) (sym is) h
 
-leaves_check : {n : ℕ} {app : App} {c : Option Command} {after : Meaning} {stands : List LogEntry → Type 0} {input out err : Stream} (check : TraceCheck) (left : List ℕ) →
-    Ended n app c after stands input out err → c ≡ Some (Command.Verify check) → input.before ≡ Some left → n ≢ 4 → n ≢ 5 → n ≢ 7 → LeavesCheck n check (take most_checked_read left) out err
+leaves_check : {n : ℕ} {app : App} {c : Option OfflineCommand} {after : WorldMeaning} {stands : List LogEntry → Type 0} {input out err : Stream} (check : TraceCheck) (left : List ℕ) →
+    Ended n app c after stands input out err → c ≡ Some (OfflineCommand.Verify check) → input.before ≡ Some left → n ≢ 4 → n ≢ 5 → n ≢ 7 → LeavesCheck n check (take most_checked_read left) out err
 leaves_check {n} {app = app} {c = c} {after = after} {out = out} {err = err} check left h is told h4 h5 h7 =
     let bytes = take most_checked_read left in
     let given = checks_so check left h is told h4 h5 h7 in
@@ -87,7 +87,7 @@ leaves_check {n} {app = app} {c = c} {after = after} {out = out} {err = err} che
       one_of = no_other n check bytes one;
     }
 
-pub answers_check : {n : ℕ} {app : App} {c : Option Command} {after : Meaning} {stands : List LogEntry → Type 0} {input out err : Stream} →
+pub answers_check : {n : ℕ} {app : App} {c : Option OfflineCommand} {after : WorldMeaning} {stands : List LogEntry → Type 0} {input out err : Stream} →
     Ended n app c after stands input out err → AnswersCheck n c input out err
 answers_check h = record {
   answer = λ check left is told h4 h5 h7. leaves_check check left h is told h4 h5 h7;

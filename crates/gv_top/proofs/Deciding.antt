@@ -9,9 +9,9 @@ use Rattle.gv_io.specs.Streams.{appended, prepended, AppendsPrefix}
 use Rattle.gv_io.proofs.StreamLaws.{appended-nothing, AppendsPrefix-all, AppendsPrefix-nothing, prepended-nothing}
 use Rattle.machine.specs.Run.{Ran, End as RunEnd}
 use Rattle.machine.specs.Status.{status, err_line}
-use Rattle.hub_engine.specs.declared.run.End.{End}
+use Rattle.hub_engine.specs.declared.run.EngineEnd.{EngineEnd}
 use Rattle.hub_engine.specs.Ends.{RanTo, end_of, end_of_run}
-use Rattle.gv_top.specs.declared.words.Command.{Command}
+use Rattle.gv_top.specs.declared.words.OfflineCommand.{OfflineCommand}
 use Rattle.gv_top.specs.declared.status.Verdict.{Verdict}
 use Rattle.scenario_grammar.specs.declared.place.Place.{Place}
 use Rattle.scenario_lang.specs.declared.text.ParseRefusal.{ParseRefusal}
@@ -22,14 +22,15 @@ use Rattle.command_words.specs.declared.command.TextCommand.{TextCommand}
 use Rattle.gv_top.proofs.ReadTexts.{answer_by, text_answer}
 use Rattle.gv_top.specs.Answers.{Answer, answer_to_scenario, answer_of_run, err_of, most_read, no_port, status_of, usage}
 use Rattle.gv_top.specs.Inner.{answer_to_text, IsExplained, IsOfConnection, verdict_on}
-use Rattle.scenario_reading.specs.Judged.{IsRefusedWithReason, judged}
+use Rattle.scenario_reading.specs.Judged.{IsRefusedWithReason, judged_text}
 use Rattle.gv_top.specs.Gateways.{answers_by}
-use Rattle.gv_top.specs.Verdicts.{number_of, line_of}
-use Rattle.wsgi_core.specs.Answers.{Sent, nothing}
+use Rattle.gv_top.specs.Verdicts.{verdict_status, verdict_line}
+use Rattle.wsgi_core.specs.Answers.{Sent, nothing_sent}
 use Rattle.wsgi_core.specs.Applications.{App}
 use Rattle.wsgi_core.proofs.ProgressLaws.{answers-nothing}
 use Rattle.scgi_core.proofs.CallLaws.{answers-nothing as scgi-nothing}
-use Rattle.wsgi_connection.specs.Connections.{HandedAhead, SentAhead, most_bytes}
+use Rattle.wsgi_connection.specs.declared.connection.TheConstants.{MOST_CONNECTION}
+use Rattle.wsgi_connection.specs.Connections.{HandedAhead, SentAhead}
 use Rattle.wsgi_connection.specs.declared.connection.ConnectionEnd.{ConnectionEnd}
 use Rattle.gv_top.specs.Top.{Decided}
 use Rattle.gv_top.specs.Verifying.{IsAnswerOf}
@@ -37,20 +38,20 @@ use Rattle.gv_top.specs.Verifying.{IsAnswerOf}
 -- ---- the run
 
 -- out has a prefix of the trace, whatever the end
-pub prefix_of_trace : (end : End) (r : Ran) (old new : Option (List ℕ)) → RanTo end r old new → AppendsPrefix old new (text_of r.lines)
-prefix_of_trace End.WriteFault r old new h = h
-prefix_of_trace End.Memory r old new h = h
-prefix_of_trace End.MainValue r old new h = AppendsPrefix-all old new (text_of r.lines) h.0
-prefix_of_trace (End.MainFault f) r old new h = AppendsPrefix-all old new (text_of r.lines) h.0
-prefix_of_trace End.NoTurns r old new h = AppendsPrefix-all old new (text_of r.lines) h.0
-prefix_of_trace End.NoMoves r old new h = AppendsPrefix-all old new (text_of r.lines) h.0
-prefix_of_trace End.NoGreenlets r old new h = AppendsPrefix-all old new (text_of r.lines) h.0
-prefix_of_trace End.NoLinks r old new h = AppendsPrefix-all old new (text_of r.lines) h.0
-prefix_of_trace End.NoKills r old new h = AppendsPrefix-all old new (text_of r.lines) h.0
+pub prefix_of_trace : (end : EngineEnd) (r : Ran) (old new : Option (List ℕ)) → RanTo end r old new → AppendsPrefix old new (text_of r.lines)
+prefix_of_trace EngineEnd.WriteFault r old new h = h
+prefix_of_trace EngineEnd.Memory r old new h = h
+prefix_of_trace EngineEnd.MainValue r old new h = AppendsPrefix-all old new (text_of r.lines) h.0
+prefix_of_trace (EngineEnd.MainFault f) r old new h = AppendsPrefix-all old new (text_of r.lines) h.0
+prefix_of_trace EngineEnd.NoTurns r old new h = AppendsPrefix-all old new (text_of r.lines) h.0
+prefix_of_trace EngineEnd.NoMoves r old new h = AppendsPrefix-all old new (text_of r.lines) h.0
+prefix_of_trace EngineEnd.NoGreenlets r old new h = AppendsPrefix-all old new (text_of r.lines) h.0
+prefix_of_trace EngineEnd.NoLinks r old new h = AppendsPrefix-all old new (text_of r.lines) h.0
+prefix_of_trace EngineEnd.NoKills r old new h = AppendsPrefix-all old new (text_of r.lines) h.0
 
 -- ---- the verdict of a run
 
-status_of_end : (cause : StopCause) → number_of (Verdict.Ran (end_of cause)) ≡ status cause
+status_of_end : (cause : StopCause) → verdict_status (Verdict.Ran (end_of cause)) ≡ status cause
 status_of_end (StopCause.Value v) = refl
 status_of_end (StopCause.Fault f) = refl
 status_of_end StopCause.NoTurns = refl
@@ -59,7 +60,7 @@ status_of_end StopCause.NoGreenlets = refl
 status_of_end StopCause.NoLinks = refl
 status_of_end StopCause.NoKills = refl
 
-line_of_end : (cause : StopCause) → line_of (Verdict.Ran (end_of cause)) ≡ err_line cause
+line_of_end : (cause : StopCause) → verdict_line (Verdict.Ran (end_of cause)) ≡ err_line cause
 line_of_end (StopCause.Value v) = refl
 line_of_end (StopCause.Fault f) = refl
 line_of_end StopCause.NoTurns = refl
@@ -68,59 +69,59 @@ line_of_end StopCause.NoGreenlets = refl
 line_of_end StopCause.NoLinks = refl
 line_of_end StopCause.NoKills = refl
 
-same_end : (end : End) (cause : StopCause) → Some end ≡ Some (end_of cause) → end ≡ end_of cause
-same_end end cause e = ap (λ (o : Option End). unwrap_or o end) e
+same_end : (end : EngineEnd) (cause : StopCause) → Some end ≡ Some (end_of cause) → end ≡ end_of cause
+same_end end cause e = ap (λ (o : Option EngineEnd). unwrap_or o end) e
 
-none_is_none : (end : End) → Some end ≡ None → ⊥
+none_is_none : (end : EngineEnd) → Some end ≡ None → ⊥
 none_is_none end e = cc
 
-number_is : (end : End) (e : RunEnd) → Some end ≡ end_of_run e → number_of (Verdict.Ran end) ≡ status_of e
-number_is end (RunEnd.Stopped cause) h = ap (λ (x : End). number_of (Verdict.Ran x)) (same_end end cause h) ∙ status_of_end cause
+number_is : (end : EngineEnd) (e : RunEnd) → Some end ≡ end_of_run e → verdict_status (Verdict.Ran end) ≡ status_of e
+number_is end (RunEnd.Stopped cause) h = ap (λ (x : EngineEnd). verdict_status (Verdict.Ran x)) (same_end end cause h) ∙ status_of_end cause
 number_is end RunEnd.Asking h = absurd (none_is_none end h)
 
-line_is : (end : End) (e : RunEnd) → Some end ≡ end_of_run e → line_of (Verdict.Ran end) ≡ err_of e
-line_is end (RunEnd.Stopped cause) h = ap (λ (x : End). line_of (Verdict.Ran x)) (same_end end cause h) ∙ line_of_end cause
+line_is : (end : EngineEnd) (e : RunEnd) → Some end ≡ end_of_run e → verdict_line (Verdict.Ran end) ≡ err_of e
+line_is end (RunEnd.Stopped cause) h = ap (λ (x : EngineEnd). verdict_line (Verdict.Ran x)) (same_end end cause h) ∙ line_of_end cause
 line_is end RunEnd.Asking h = absurd (none_is_none end h)
 
 -- the verdict of a run is the answer of that run
-pub run_decided : (end : End) (r : Ran) (old new : Option (List ℕ)) → RanTo end r old new → Decided (Verdict.Ran end) (answer_of_run r) old new
-run_decided End.WriteFault r old new h = h
-run_decided End.Memory r old new h = h
-run_decided End.MainValue r old new h = (h.0, number_is _ r.end h.1, line_is _ r.end h.1)
-run_decided (End.MainFault f) r old new h = (h.0, number_is _ r.end h.1, line_is _ r.end h.1)
-run_decided End.NoTurns r old new h = (h.0, number_is _ r.end h.1, line_is _ r.end h.1)
-run_decided End.NoMoves r old new h = (h.0, number_is _ r.end h.1, line_is _ r.end h.1)
-run_decided End.NoGreenlets r old new h = (h.0, number_is _ r.end h.1, line_is _ r.end h.1)
-run_decided End.NoLinks r old new h = (h.0, number_is _ r.end h.1, line_is _ r.end h.1)
-run_decided End.NoKills r old new h = (h.0, number_is _ r.end h.1, line_is _ r.end h.1)
+pub run_decided : (end : EngineEnd) (r : Ran) (old new : Option (List ℕ)) → RanTo end r old new → Decided (Verdict.Ran end) (answer_of_run r) old new
+run_decided EngineEnd.WriteFault r old new h = h
+run_decided EngineEnd.Memory r old new h = h
+run_decided EngineEnd.MainValue r old new h = (h.0, number_is _ r.end h.1, line_is _ r.end h.1)
+run_decided (EngineEnd.MainFault f) r old new h = (h.0, number_is _ r.end h.1, line_is _ r.end h.1)
+run_decided EngineEnd.NoTurns r old new h = (h.0, number_is _ r.end h.1, line_is _ r.end h.1)
+run_decided EngineEnd.NoMoves r old new h = (h.0, number_is _ r.end h.1, line_is _ r.end h.1)
+run_decided EngineEnd.NoGreenlets r old new h = (h.0, number_is _ r.end h.1, line_is _ r.end h.1)
+run_decided EngineEnd.NoLinks r old new h = (h.0, number_is _ r.end h.1, line_is _ r.end h.1)
+run_decided EngineEnd.NoKills r old new h = (h.0, number_is _ r.end h.1, line_is _ r.end h.1)
 
 -- ---- the verdict on a text
 
-refused_decided : (command : TextCommand) (given : List Given) (bytes : List ℕ) (p : Place) (old : Option (List ℕ)) → judged bytes ≡ Err p
+refused_decided : (command : TextCommand) (given : List Given) (bytes : List ℕ) (p : Place) (old : Option (List ℕ)) → judged_text bytes ≡ Err p
     → Decided (Verdict.Refused p) (answer_to_text command given bytes) old old
 unfolding answer_to_text
 refused_decided command given bytes p old e =
     let P : Answer → Type 0 = λ a. Decided (Verdict.Refused p) a old old in subst P (sym (ap (answer_by command given) e)) (sym (appended-nothing old), refl, refl)
 
 -- the text was judged so, and its scenario decided
-pub judged_decided : (command : TextCommand) (given : List Given) (bytes : List ℕ) (s : Scenario) (v : Verdict) (old new : Option (List ℕ)) → judged bytes ≡ Ok s
+pub judged_decided : (command : TextCommand) (given : List Given) (bytes : List ℕ) (s : Scenario) (v : Verdict) (old new : Option (List ℕ)) → judged_text bytes ≡ Ok s
     → Decided v (answer_to_scenario command given s) old new → Decided v (answer_to_text command given bytes) old new
 unfolding answer_to_text
 judged_decided command given bytes s v old new e h = let P : Answer → Type 0 = λ a. Decided v a old new in subst P (sym (ap (answer_by command given) e)) h
 
-pub refusal_decided : (command : TextCommand) (given : List Given) (bytes : List ℕ) (e : ParseRefusal) (v : Verdict) (old : Option (List ℕ)) → v ≡ verdict_on e → Parses (judged bytes) (Err e)
+pub refusal_decided : (command : TextCommand) (given : List Given) (bytes : List ℕ) (e : ParseRefusal) (v : Verdict) (old : Option (List ℕ)) → v ≡ verdict_on e → Parses (judged_text bytes) (Err e)
     → Decided v (answer_to_text command given bytes) old old
 refusal_decided command given bytes e v old is h = let P : Verdict → Type 0 = λ v. Decided v (answer_to_text command given bytes) old old in subst P (sym is) (by e h)
   where
-    by : (e : ParseRefusal) → Parses (judged bytes) (Err e) → Decided (verdict_on e) (answer_to_text command given bytes) old old
+    by : (e : ParseRefusal) → Parses (judged_text bytes) (Err e) → Decided (verdict_on e) (answer_to_text command given bytes) old old
     by (parse.Refused p) h = refused_decided command given bytes p old h
     by parse.Memory h = AppendsPrefix-nothing old (answer_to_text command given bytes).out
 
 -- such a verdict is of no command and of no fault
-pub refusal_number : (e : ParseRefusal) (v : Verdict) (n : ℕ) → v ≡ verdict_on e → number_of v ≡ n → n ≢ 3 → n ≢ 7 → ⊥
-refusal_number e v n is h h3 h7 = by e (sym (ap number_of is) ∙ h)
+pub refusal_number : (e : ParseRefusal) (v : Verdict) (n : ℕ) → v ≡ verdict_on e → verdict_status v ≡ n → n ≢ 3 → n ≢ 7 → ⊥
+refusal_number e v n is h h3 h7 = by e (sym (ap verdict_status is) ∙ h)
   where
-    by : (e : ParseRefusal) → number_of (verdict_on e) ≡ n → ⊥
+    by : (e : ParseRefusal) → verdict_status (verdict_on e) ≡ n → ⊥
     by (parse.Refused p) h = h3 (sym h)
     by parse.Memory h = h7 (sym h)
 
@@ -139,35 +140,35 @@ decided_of_this command wanted given s v old new is h = let Q : TextCommand → 
 -- ---- the verdict of a command
 
 -- the answer to this command is the answer to one that is the same
-pub answer_as : (app : App) (c d : Option Command) (given : List Given) (left : List ℕ) (a : Answer) → c ≡ d → IsAnswerOf app c given left a → IsAnswerOf app d given left a
-answer_as app c d given left a e h = let P : Option Command → Type 0 = λ x. IsAnswerOf app x given left a in subst P e h
+pub answer_as : (app : App) (c d : Option OfflineCommand) (given : List Given) (left : List ℕ) (a : Answer) → c ≡ d → IsAnswerOf app c given left a → IsAnswerOf app d given left a
+answer_as app c d given left a e h = let P : Option OfflineCommand → Type 0 = λ x. IsAnswerOf app x given left a in subst P e h
 
 -- what is decided of an answer is decided of one that is the same
 pub decided_as : (v : Verdict) (a b : Answer) (old new : Option (List ℕ)) → a ≡ b → Decided v b old new → Decided v a old new
 decided_as v a b old new e h = let P : Answer → Type 0 = λ x. Decided v x old new in subst P (sym e) h
 
 -- what is decided of the answer that the function gives to a text is decided of each of its answers
-pub text_decided : (app : App) (c : Option Command) (command : TextCommand) (given : List Given) (left : List ℕ) (a : Answer) (v : Verdict) (old new : Option (List ℕ)) → c ≡ Some (Command.Text command)
+pub text_decided : (app : App) (c : Option OfflineCommand) (command : TextCommand) (given : List Given) (left : List ℕ) (a : Answer) (v : Verdict) (old new : Option (List ℕ)) → c ≡ Some (OfflineCommand.Text command)
     → Decided v (answer_to_text command given (take most_read left)) old new → IsAnswerOf app c given left a → Decided v a old new
 text_decided app c command given left a v old new e d h =
-    decided_as v a (answer_to_text command given (take most_read left)) old new (text_answer command given (take most_read left) a (answer_as app c (Some (Command.Text command)) given left a e h)) d
+    decided_as v a (answer_to_text command given (take most_read left)) old new (text_answer command given (take most_read left) a (answer_as app c (Some (OfflineCommand.Text command)) given left a e h)) d
 
-pub usage_decided : (app : App) (c : Option Command) (given : List Given) (left : List ℕ) (a : Answer) (old : Option (List ℕ)) → c ≡ None → IsAnswerOf app c given left a → Decided Verdict.Usage a old old
+pub usage_decided : (app : App) (c : Option OfflineCommand) (given : List Given) (left : List ℕ) (a : Answer) (old : Option (List ℕ)) → c ≡ None → IsAnswerOf app c given left a → Decided Verdict.Usage a old old
 usage_decided app c given left a old e h = decided_as Verdict.Usage a usage old old (answer_as app c None given left a e h) (sym (appended-nothing old), refl, refl)
 
 -- another command than this one is named
-pub no_command : (c : Option Command) (d : Command) (P : Type 0) → c ≡ None → c ≡ Some d → P
+pub no_command : (c : Option OfflineCommand) (d : OfflineCommand) (P : Type 0) → c ≡ None → c ≡ Some d → P
 no_command c d P e f = absurd (none_is_some d (sym e ∙ f))
   where
-    none_is_some : (d : Command) → None ≡ Some d → ⊥
+    none_is_some : (d : OfflineCommand) → None ≡ Some d → ⊥
     none_is_some d h = cc
 
 -- nothing is sent for no bytes
-silent : (gateway : GatewayKind) (app : App) (port : ℕ) → answers_by gateway app port [] ≡ nothing
+silent : (gateway : GatewayKind) (app : App) (port : ℕ) → answers_by gateway app port [] ≡ nothing_sent
 silent GatewayKind.Http app port = answers-nothing app port
 silent GatewayKind.Scgi app port = scgi-nothing app port
 
-ahead_of_nothing : (gateway : GatewayKind) (app : App) (out : Option (List ℕ)) → SentAhead (answers_by gateway) app no_port (take most_bytes []) out out
+ahead_of_nothing : (gateway : GatewayKind) (app : App) (out : Option (List ℕ)) → SentAhead (answers_by gateway) app no_port (take MOST_CONNECTION []) out out
 ahead_of_nothing gateway app out = record {
   before = [];
   last = [];
@@ -177,7 +178,7 @@ ahead_of_nothing gateway app out = record {
 }
 
 -- where memory ran out at once, nothing was exchanged
-pub nothing_exchanged : (gateway : GatewayKind) (app : App) (input out : Option (List ℕ)) → IsOfConnection (Verdict.Ran End.Memory) gateway app input input out out
+pub nothing_exchanged : (gateway : GatewayKind) (app : App) (input out : Option (List ℕ)) → IsOfConnection (Verdict.Ran EngineEnd.Memory) gateway app input input out out
 nothing_exchanged gateway app input out =
     record {
       end = ConnectionEnd.Memory;
@@ -187,7 +188,7 @@ nothing_exchanged gateway app input out =
 
 pub nothing_handed_ahead : (gateway : GatewayKind) (app : App) (input out handed : Option (List ℕ)) → handed ≡ out → HandedAhead (answers_by gateway) app no_port input input out handed
 nothing_handed_ahead gateway app input out handed same =
-    record { read = []; is_read = sym (prepended-nothing input); ahead = subst (SentAhead (answers_by gateway) app no_port (take most_bytes []) out) (sym same) (ahead_of_nothing gateway app out) }
+    record { read = []; is_read = sym (prepended-nothing input); ahead = subst (SentAhead (answers_by gateway) app no_port (take MOST_CONNECTION []) out) (sym same) (ahead_of_nothing gateway app out) }
 
 -- ---- what was read
 

@@ -6,53 +6,53 @@ use Rattle.gv_io.proofs.StreamLaws.{appended-appended}
 use Rattle.trace_text.specs.LineTexts.{text_of}
 use Rattle.scenario_tree.specs.declared.tree.Scenario.{Scenario}
 use Rattle.scenario_grammar.specs.declared.place.Place.{Place}
-use Rattle.world.specs.Worlds.{Meaning}
+use Rattle.world.specs.Worlds.{WorldMeaning}
 use Rattle.machine.specs.Run.{Ran, run, script_run}
-use Rattle.hub_engine.specs.declared.run.End.{End}
+use Rattle.hub_engine.specs.declared.run.EngineEnd.{EngineEnd}
 use Rattle.hub_engine.specs.Ahead.{WroteAhead}
 use Rattle.hub_engine.specs.Prepared.{Prepared}
 use Rattle.wsgi_connection.specs.declared.connection.ConnectionEnd.{ConnectionEnd}
-use Rattle.stream_net.specs.Nets.{Meaning as Net}
+use Rattle.stream_net.specs.Nets.{NetMeaning as Net}
 use Rattle.serve_command.specs.declared.serving.Served.{Served}
 use Rattle.serve_command.specs.Served.{IsToldFirst}
 use Rattle.command_words.specs.declared.command.RunOptions.{RunOptions}
 use Rattle.command_words.specs.declared.command.RunWorld.{RunWorld}
 use Rattle.command_words.specs.declared.command.TextCommand.{TextCommand}
 use Rattle.gv_top.specs.declared.status.Verdict.{Verdict}
-use Rattle.gv_top.specs.declared.words.Command.{Command}
-use Rattle.scenario_reading.specs.Judged.{judged}
+use Rattle.gv_top.specs.declared.words.OfflineCommand.{OfflineCommand}
+use Rattle.scenario_reading.specs.Judged.{judged_text}
 use Rattle.gv_top.specs.Counted.{is_broken_off}
 use Rattle.gv_top.specs.Running.{BeganSo}
 use Rattle.gv_top.specs.Top.{HandsOn, IsTold}
 use Rattle.gv_top.specs.Inner.{BeganText, IsOr}
-use Rattle.gv_top.specs.Verdicts.{number_of}
+use Rattle.gv_top.specs.Verdicts.{verdict_status}
 
 -- ---- what was handed on
 
 -- a run that was broken off has one of two statuses
-pub broken_kept : (end : End) (P : Type 0) → is_broken_off end ≡ true → number_of (Verdict.Ran end) ≢ 5 → number_of (Verdict.Ran end) ≢ 7 → P
-broken_kept End.WriteFault P e h5 h7 = absurd (h5 refl)
-broken_kept End.Memory P e h5 h7 = absurd (h7 refl)
-broken_kept End.MainValue P e h5 h7 = absurd (cc e)
-broken_kept (End.MainFault f) P e h5 h7 = absurd (cc e)
-broken_kept End.NoTurns P e h5 h7 = absurd (cc e)
-broken_kept End.NoMoves P e h5 h7 = absurd (cc e)
-broken_kept End.NoGreenlets P e h5 h7 = absurd (cc e)
-broken_kept End.NoLinks P e h5 h7 = absurd (cc e)
-broken_kept End.NoKills P e h5 h7 = absurd (cc e)
+pub broken_kept : (end : EngineEnd) (P : Type 0) → is_broken_off end ≡ true → verdict_status (Verdict.Ran end) ≢ 5 → verdict_status (Verdict.Ran end) ≢ 7 → P
+broken_kept EngineEnd.WriteFault P e h5 h7 = absurd (h5 refl)
+broken_kept EngineEnd.Memory P e h5 h7 = absurd (h7 refl)
+broken_kept EngineEnd.MainValue P e h5 h7 = absurd (cc e)
+broken_kept (EngineEnd.MainFault f) P e h5 h7 = absurd (cc e)
+broken_kept EngineEnd.NoTurns P e h5 h7 = absurd (cc e)
+broken_kept EngineEnd.NoMoves P e h5 h7 = absurd (cc e)
+broken_kept EngineEnd.NoGreenlets P e h5 h7 = absurd (cc e)
+broken_kept EngineEnd.NoLinks P e h5 h7 = absurd (cc e)
+broken_kept EngineEnd.NoKills P e h5 h7 = absurd (cc e)
 
-pub connection_hands : (end : ConnectionEnd) (w0 h0 w1 h1 : Option (List ℕ)) → (h0 ≡ w0 → end ≢ ConnectionEnd.WriteFault → end ≢ ConnectionEnd.Memory → h1 ≡ w1) → HandsOn (number_of (Verdict.Connection end)) w0 h0 w1 h1
-connection_hands end w0 h0 w1 h1 f h5 h7 e = f e (λ z. h5 (ap (λ x. number_of (Verdict.Connection x)) z)) (λ z. h7 (ap (λ x. number_of (Verdict.Connection x)) z))
+pub connection_hands : (end : ConnectionEnd) (w0 h0 w1 h1 : Option (List ℕ)) → (h0 ≡ w0 → end ≢ ConnectionEnd.WriteFault → end ≢ ConnectionEnd.Memory → h1 ≡ w1) → HandsOn (verdict_status (Verdict.Connection end)) w0 h0 w1 h1
+connection_hands end w0 h0 w1 h1 f h5 h7 e = f e (λ z. h5 (ap (λ x. verdict_status (Verdict.Connection x)) z)) (λ z. h7 (ap (λ x. verdict_status (Verdict.Connection x)) z))
 
 -- the status that is answered is the verdict's, or 5 or 7
-pub told_hands : (n : ℕ) (v w : Verdict) (err0 err1 out0 h0 out1 h1 : Option (List ℕ)) (e0 e1 : ℕ) → IsOr v w → IsTold n w err0 err1 e0 e1 → HandsOn (number_of v) out0 h0 out1 h1 → HandsOn n out0 h0 out1 h1
+pub told_hands : (n : ℕ) (v w : Verdict) (err0 err1 out0 h0 out1 h1 : Option (List ℕ)) (e0 e1 : ℕ) → IsOr v w → IsTold n w err0 err1 e0 e1 → HandsOn (verdict_status v) out0 h0 out1 h1 → HandsOn n out0 h0 out1 h1
 told_hands n v w err0 err1 out0 h0 out1 h1 e0 e1 o (inr t) h h5 h7 = absurd (h5 t.0)
 told_hands n v w err0 err1 out0 h0 out1 h1 e0 e1 (inl same) (inl t) h h5 h7 =
-    let e : number_of v ≡ n = ap number_of (sym same) ∙ sym t.0 in h (λ z. h5 (sym e ∙ z)) (λ z. h7 (sym e ∙ z))
-told_hands n v w err0 err1 out0 h0 out1 h1 e0 e1 (inr m) (inl t) h h5 h7 = absurd (h7 (t.0 ∙ ap number_of m.0))
+    let e : verdict_status v ≡ n = ap verdict_status (sym same) ∙ sym t.0 in h (λ z. h5 (sym e ∙ z)) (λ z. h7 (sym e ∙ z))
+told_hands n v w err0 err1 out0 h0 out1 h1 e0 e1 (inr m) (inl t) h h5 h7 = absurd (h7 (t.0 ∙ ap verdict_status m.0))
 
-pub serving_hands : (end : Served) (w0 h0 w1 h1 : Option (List ℕ)) → (h0 ≡ w0 → end ≢ Served.WriteFault → end ≢ Served.Memory → h1 ≡ w1) → HandsOn (number_of (Verdict.Served end)) w0 h0 w1 h1
-serving_hands end w0 h0 w1 h1 f h5 h7 e = f e (λ z. h5 (ap (λ x. number_of (Verdict.Served x)) z)) (λ z. h7 (ap (λ x. number_of (Verdict.Served x)) z))
+pub serving_hands : (end : Served) (w0 h0 w1 h1 : Option (List ℕ)) → (h0 ≡ w0 → end ≢ Served.WriteFault → end ≢ Served.Memory → h1 ≡ w1) → HandsOn (verdict_status (Verdict.Served end)) w0 h0 w1 h1
+serving_hands end w0 h0 w1 h1 f h5 h7 e = f e (λ z. h5 (ap (λ x. verdict_status (Verdict.Served x)) z)) (λ z. h7 (ap (λ x. verdict_status (Verdict.Served x)) z))
 
 -- ---- what was handed on ahead of a question
 
@@ -67,7 +67,7 @@ ahead_later whole ran after out0 h1 h2 same ahead kept before last e =
 -- ---- whether native workers were begun
 
 -- the engine that is prepared with these options has asked them as the options say
-pub began_natively : (waits : Bool) (options : RunOptions) (workers : ℕ) (s : Scenario) (before after : Meaning) (engine : Prepared) (out0 out1 handed1 : Option (List ℕ)) →
+pub began_natively : (waits : Bool) (options : RunOptions) (workers : ℕ) (s : Scenario) (before after : WorldMeaning) (engine : Prepared) (out0 out1 handed1 : Option (List ℕ)) →
     engine ≡ record { scenario = s; turns = options.turns; moves = options.moves } → options.world ≡ RunWorld.Native workers →
     (WroteAhead (run engine.scenario engine.turns engine.moves) after.answers out0 out1 × (waits ≡ true → WroteAhead (run engine.scenario engine.turns engine.moves) after.answers out0 handed1)) ⊎ (after ≡ before)
     → BeganSo waits options s before after out0 out1 handed1
@@ -86,7 +86,7 @@ began_natively waits options workers s before after engine out0 out1 handed1 is 
 began_natively waits options workers s before after engine out0 out1 handed1 is natively (inr u) = inr u
 
 -- with held order there is nothing to say of them
-pub began_held : (waits : Bool) (options : RunOptions) (workers : ℕ) (s : Scenario) (before after : Meaning) (out0 out1 handed1 : Option (List ℕ)) → options.world ≡ RunWorld.Held workers → BeganSo waits options s before after out0 out1 handed1
+pub began_held : (waits : Bool) (options : RunOptions) (workers : ℕ) (s : Scenario) (before after : WorldMeaning) (out0 out1 handed1 : Option (List ℕ)) → options.world ≡ RunWorld.Held workers → BeganSo waits options s before after out0 out1 handed1
 began_held waits options workers s before after out0 out1 handed1 held =
     inl (record { written = λ others natively. absurd (other_world others (sym held ∙ natively)); handed = λ others natively. absurd (other_world others (sym held ∙ natively)) })
   where
@@ -94,7 +94,7 @@ began_held waits options workers s before after out0 out1 handed1 held =
     other_world others z = cc z
 
 -- so has the command that asks for this run
-pub scenario_began : (waits : Bool) (command : TextCommand) (options : RunOptions) (s : Scenario) (before after : Meaning) (out0 out1 handed1 : Option (List ℕ)) → command ≡ TextCommand.Run options
+pub scenario_began : (waits : Bool) (command : TextCommand) (options : RunOptions) (s : Scenario) (before after : WorldMeaning) (out0 out1 handed1 : Option (List ℕ)) → command ≡ TextCommand.Run options
     → BeganSo waits options s before after out0 out1 handed1 → (wanted : RunOptions) → command ≡ TextCommand.Run wanted → BeganSo waits wanted s before after out0 out1 handed1
 scenario_began waits command options s before after out0 out1 handed1 is h wanted e =
     subst (λ (o : RunOptions). BeganSo waits o s before after out0 out1 handed1) (same_options options wanted (sym is ∙ e)) h
@@ -102,7 +102,7 @@ scenario_began waits command options s before after out0 out1 handed1 is h wante
     same_options : (a b : RunOptions) → TextCommand.Run a ≡ TextCommand.Run b → a ≡ b
     same_options a b e = cc e
 
-pub text_began : (waits : Bool) (command : TextCommand) (bytes : List ℕ) (s : Scenario) (before after : Meaning) (out0 out1 handed1 : Option (List ℕ)) → judged bytes ≡ Ok s
+pub text_began : (waits : Bool) (command : TextCommand) (bytes : List ℕ) (s : Scenario) (before after : WorldMeaning) (out0 out1 handed1 : Option (List ℕ)) → judged_text bytes ≡ Ok s
     → ((options : RunOptions) → command ≡ TextCommand.Run options → BeganSo waits options s before after out0 out1 handed1) → BeganText waits command bytes before after out0 out1 handed1
 text_began waits command bytes s before after out0 out1 handed1 j h = λ options t e k.
     subst (λ (x : Scenario). BeganSo waits options x before after out0 out1 handed1) (same s t (sym j ∙ k)) (h options e)
@@ -111,16 +111,16 @@ text_began waits command bytes s before after out0 out1 handed1 j h = λ options
     same a b z = cc z
 
 -- native workers are as they were
-pub none_began : (waits : Bool) (command : TextCommand) (bytes : List ℕ) (before : Meaning) (out0 out1 handed1 : Option (List ℕ)) → BeganText waits command bytes before before out0 out1 handed1
+pub none_began : (waits : Bool) (command : TextCommand) (bytes : List ℕ) (before : WorldMeaning) (out0 out1 handed1 : Option (List ℕ)) → BeganText waits command bytes before before out0 out1 handed1
 none_began waits command bytes before out0 out1 handed1 = λ options s e k. inr refl
 
 -- the command is this one
-pub command_began : (waits : Bool) (given text : TextCommand) (bytes : List ℕ) (before after : Meaning) (out0 out1 handed1 : Option (List ℕ)) → Command.Text text ≡ Command.Text given
+pub command_began : (waits : Bool) (given text : TextCommand) (bytes : List ℕ) (before after : WorldMeaning) (out0 out1 handed1 : Option (List ℕ)) → OfflineCommand.Text text ≡ OfflineCommand.Text given
     → BeganText waits given bytes before after out0 out1 handed1 → BeganText waits text bytes before after out0 out1 handed1
 command_began waits given text bytes before after out0 out1 handed1 is h =
     subst (λ (t : TextCommand). BeganText waits t bytes before after out0 out1 handed1) (same given text (sym is)) h
   where
-    same : (a b : TextCommand) → Command.Text a ≡ Command.Text b → a ≡ b
+    same : (a b : TextCommand) → OfflineCommand.Text a ≡ OfflineCommand.Text b → a ≡ b
     same a b z = cc z
 
 -- ---- where nothing was done before

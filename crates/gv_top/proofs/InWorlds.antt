@@ -6,7 +6,7 @@ use Rattle.gv_io.specs.Streams.{appended, AppendsPrefix}
 use Rattle.gv_io.proofs.StreamLaws.{AppendsPrefix-longer}
 use Rattle.trace_text.specs.declared.line.Line.{Line}
 use Rattle.trace_text.specs.declared.line.StopCause.{StopCause}
-use Rattle.trace_text.specs.LineTexts.{answers_of as answers_told, line_text, text_of}
+use Rattle.trace_text.specs.LineTexts.{answers_told, line_text, text_of}
 use Rattle.scenario_tree.specs.declared.tree.Scenario.{Scenario}
 use Rattle.world_rules.specs.declared.question.LogEntry.{LogEntry}
 use Rattle.world_rules.specs.Legal.{AreLegal, answers_of, is_answered, posts_of}
@@ -16,12 +16,12 @@ use Rattle.world.specs.Holding.{Leads}
 use Rattle.world.specs.LegalLogs.{HasLegalLog}
 use Rattle.world.specs.Kept.{rule_state, script_log, script_meaning}
 use Rattle.world.specs.Logged.{script_log_is}
-use Rattle.world.specs.Worlds.{Begins, GoesOn, Meaning}
+use Rattle.world.specs.Worlds.{Begins, WorldGoesOn, WorldMeaning}
 use Rattle.machine.specs.Run.{End as RunEnd, Ran, Source, run, run_from, script_run}
 use Rattle.machine_scripts.specs.Scripts.{FollowersRunScripts, IsBeginningOf}
 use Rattle.machine_told.specs.Told.{posts_told}
 use Rattle.machine_told.specs.Laws.{AnswersAreTold, PostsAreTold}
-use Rattle.hub_engine.specs.declared.run.End.{End}
+use Rattle.hub_engine.specs.declared.run.EngineEnd.{EngineEnd}
 use Rattle.hub_engine.specs.Prepared.{Prepared}
 use Rattle.hub_engine.specs.Ends.{HasLogged, IsPartLogged, RanTo, end_of_run}
 use Rattle.hub_engine.specs.Ahead.{WroteAhead}
@@ -29,14 +29,14 @@ use Rattle.gv_top.proofs.Deciding.{prefix_of_trace}
 use Rattle.gv_top.proofs.Tops.{unchanged_lawful}
 use Rattle.gv_top.specs.Running.{IsBegun, IsUnbegun, RanHeld, RanNatively, run_of, RanWith}
 use Rattle.gv_top.specs.Inner.{RanInWorld, verdict_on, RanScenarioSo, RanSo}
-use Rattle.scenario_reading.specs.Judged.{judged}
+use Rattle.scenario_reading.specs.Judged.{judged_text}
 use Rattle.gv_top.specs.Answers.{most_read}
-use Rattle.gv_top.specs.declared.words.Command.{Command}
+use Rattle.gv_top.specs.declared.words.OfflineCommand.{OfflineCommand}
 use Rattle.gv_top.specs.Top.{BlocksAtQuiet, Counts, HasLawfulLines}
 use Rattle.machine_blocks.specs.Laws.{BlocksAreTold}
-use Rattle.machine_laws.specs.Laws.{BlocksQuietly}
+use Rattle.machine_trace_laws.specs.Laws.{BlocksQuietly}
 use Rattle.scenario_rules.specs.Rules.{IsWellFormed}
-use Rattle.gv_top.specs.Verdicts.{number_of}
+use Rattle.gv_top.specs.Verdicts.{verdict_status}
 use Rattle.gv_top.specs.declared.status.Verdict.{Verdict}
 use Rattle.command_words.specs.declared.command.RunOptions.{RunOptions}
 use Rattle.command_words.specs.declared.command.RunWorld.{RunWorld}
@@ -53,44 +53,44 @@ use Rattle.machine.specs.TraceLaws.{meets_laws}
 part_of_all : (log : List LogEntry) (answers : List Answer) (stands : List LogEntry → Type 0) → stands log × (answers_of log ≡ answers) → IsPartLogged log answers stands
 part_of_all log answers stands h = record { part = log; later = []; is = sym (append-nil log); all = h.1; stood = h.0 }
 
-pub part_logged : (end : End) (log : List LogEntry) (answers : List Answer) (stands : List LogEntry → Type 0) → HasLogged end log answers stands → IsPartLogged log answers stands
-part_logged End.WriteFault log answers stands h = h
-part_logged End.Memory log answers stands h = h
-part_logged End.MainValue log answers stands h = part_of_all log answers stands h
-part_logged (End.MainFault f) log answers stands h = part_of_all log answers stands h
-part_logged End.NoTurns log answers stands h = part_of_all log answers stands h
-part_logged End.NoMoves log answers stands h = part_of_all log answers stands h
-part_logged End.NoGreenlets log answers stands h = part_of_all log answers stands h
-part_logged End.NoLinks log answers stands h = part_of_all log answers stands h
-part_logged End.NoKills log answers stands h = part_of_all log answers stands h
+pub part_logged : (end : EngineEnd) (log : List LogEntry) (answers : List Answer) (stands : List LogEntry → Type 0) → HasLogged end log answers stands → IsPartLogged log answers stands
+part_logged EngineEnd.WriteFault log answers stands h = h
+part_logged EngineEnd.Memory log answers stands h = h
+part_logged EngineEnd.MainValue log answers stands h = part_of_all log answers stands h
+part_logged (EngineEnd.MainFault f) log answers stands h = part_of_all log answers stands h
+part_logged EngineEnd.NoTurns log answers stands h = part_of_all log answers stands h
+part_logged EngineEnd.NoMoves log answers stands h = part_of_all log answers stands h
+part_logged EngineEnd.NoGreenlets log answers stands h = part_of_all log answers stands h
+part_logged EngineEnd.NoLinks log answers stands h = part_of_all log answers stands h
+part_logged EngineEnd.NoKills log answers stands h = part_of_all log answers stands h
 
-all_logged : (end : End) (log : List LogEntry) (answers : List Answer) (stands : List LogEntry → Type 0) → HasLogged end log answers stands → end ≢ End.WriteFault → end ≢ End.Memory → stands log
-all_logged End.WriteFault log answers stands h w m = absurd (w refl)
-all_logged End.Memory log answers stands h w m = absurd (m refl)
-all_logged End.MainValue log answers stands h w m = h.0
-all_logged (End.MainFault f) log answers stands h w m = h.0
-all_logged End.NoTurns log answers stands h w m = h.0
-all_logged End.NoMoves log answers stands h w m = h.0
-all_logged End.NoGreenlets log answers stands h w m = h.0
-all_logged End.NoLinks log answers stands h w m = h.0
-all_logged End.NoKills log answers stands h w m = h.0
+all_logged : (end : EngineEnd) (log : List LogEntry) (answers : List Answer) (stands : List LogEntry → Type 0) → HasLogged end log answers stands → end ≢ EngineEnd.WriteFault → end ≢ EngineEnd.Memory → stands log
+all_logged EngineEnd.WriteFault log answers stands h w m = absurd (w refl)
+all_logged EngineEnd.Memory log answers stands h w m = absurd (m refl)
+all_logged EngineEnd.MainValue log answers stands h w m = h.0
+all_logged (EngineEnd.MainFault f) log answers stands h w m = h.0
+all_logged EngineEnd.NoTurns log answers stands h w m = h.0
+all_logged EngineEnd.NoMoves log answers stands h w m = h.0
+all_logged EngineEnd.NoGreenlets log answers stands h w m = h.0
+all_logged EngineEnd.NoLinks log answers stands h w m = h.0
+all_logged EngineEnd.NoKills log answers stands h w m = h.0
 
 -- ---- a run in a world
 
 -- what is said of the end once out has handed on what was written
-handed_on : (end handed : End) (r : Ran) (out0 out1 : Option (List ℕ)) → RanTo end r out0 out1 → (handed ≡ end) ⊎ (handed ≡ End.WriteFault) → RanTo handed r out0 out1
-handed_on end handed r out0 out1 h (inl e) = let P : End → Type 0 = λ x. RanTo x r out0 out1 in subst P (sym e) h
-handed_on end handed r out0 out1 h (inr e) = let P : End → Type 0 = λ x. RanTo x r out0 out1 in subst P (sym e) (prefix_of_trace end r out0 out1 h)
+handed_on : (end handed : EngineEnd) (r : Ran) (out0 out1 : Option (List ℕ)) → RanTo end r out0 out1 → (handed ≡ end) ⊎ (handed ≡ EngineEnd.WriteFault) → RanTo handed r out0 out1
+handed_on end handed r out0 out1 h (inl e) = let P : EngineEnd → Type 0 = λ x. RanTo x r out0 out1 in subst P (sym e) h
+handed_on end handed r out0 out1 h (inr e) = let P : EngineEnd → Type 0 = λ x. RanTo x r out0 out1 in subst P (sym e) (prefix_of_trace end r out0 out1 h)
 
 -- an end that is no write fault was handed on
-was_handed : (end handed : End) → (handed ≡ end) ⊎ (handed ≡ End.WriteFault) → handed ≢ End.WriteFault → handed ≡ end
+was_handed : (end handed : EngineEnd) → (handed ≡ end) ⊎ (handed ≡ EngineEnd.WriteFault) → handed ≢ EngineEnd.WriteFault → handed ≡ end
 was_handed end handed (inl e) w = e
 was_handed end handed (inr e) w = absurd (w e)
 
 -- the count of faults over the run and over handing on
-pub counts_handed : (end handed : End) (old ran new : ℕ) → (end ≡ End.WriteFault → HasRisen old ran) → (end ≢ End.WriteFault → ran ≡ old) → old ≤ ran →
-    (handed ≡ end) ⊎ (handed ≡ End.WriteFault) → (handed ≡ End.WriteFault → (end ≡ End.WriteFault) ⊎ HasRisen ran new) → (handed ≢ End.WriteFault → new ≡ ran) → ran ≤ new →
-    Counts (handed ≡ End.WriteFault) old new
+pub counts_handed : (end handed : EngineEnd) (old ran new : ℕ) → (end ≡ EngineEnd.WriteFault → HasRisen old ran) → (end ≢ EngineEnd.WriteFault → ran ≡ old) → old ≤ ran →
+    (handed ≡ end) ⊎ (handed ≡ EngineEnd.WriteFault) → (handed ≡ EngineEnd.WriteFault → (end ≡ EngineEnd.WriteFault) ⊎ HasRisen ran new) → (handed ≢ EngineEnd.WriteFault → new ≡ ran) → ran ≤ new →
+    Counts (handed ≡ EngineEnd.WriteFault) old new
 counts_handed end handed old ran new failed unfailed rises how handed_failed handed_unfailed later = record {
   failed = λ e. by (handed_failed e);
   unfailed = λ w. handed_unfailed w ∙ unfailed (λ z. w (was_handed end handed how w ∙ z));
@@ -105,17 +105,17 @@ counts_handed end handed old ran new failed unfailed rises how handed_failed han
     later_risen (inl h) = inl (omega (arith, h, rises))
     later_risen (inr h) = inr h
 
-    by : (end ≡ End.WriteFault) ⊎ HasRisen ran new → HasRisen old new
+    by : (end ≡ EngineEnd.WriteFault) ⊎ HasRisen ran new → HasRisen old new
     by (inl e) = risen (failed e)
     by (inr h) = later_risen h
 
-pub ran_in_world : (end handed : End) (whole : List Answer → Ran) (workers : ℕ) (before begun ran after : Meaning) (stood stands : List LogEntry → Type 0) (out0 out1 out2 : Option (List ℕ))
-    → Begins before begun workers → GoesOn begun ran → after ≡ record ran { runs = false } → ((log : List LogEntry) → stood log ↔ stands log)
+pub ran_in_world : (end handed : EngineEnd) (whole : List Answer → Ran) (workers : ℕ) (before begun ran after : WorldMeaning) (stood stands : List LogEntry → Type 0) (out0 out1 out2 : Option (List ℕ))
+    → Begins before begun workers → WorldGoesOn begun ran → after ≡ record ran { runs = false } → ((log : List LogEntry) → stood log ↔ stands log)
     → RanTo end (whole ran.answers) out0 out1 → WroteAhead whole ran.answers out0 out1 → HasLogged end (whole ran.answers).log ran.answers stood → AreLegal [] [] (whole ran.answers).log
-    → out2 ≡ out1 → (handed ≡ end) ⊎ (handed ≡ End.WriteFault)
+    → out2 ≡ out1 → (handed ≡ end) ⊎ (handed ≡ EngineEnd.WriteFault)
     → RanInWorld handed whole workers before after stands out0 out2
 ran_in_world end handed whole workers before begun ran after stood stands out0 out1 out2 b g f l written ahead logged legal same how =
-    let same_answers : after.answers ≡ ran.answers = ap (λ (m : Meaning). m.answers) f in
+    let same_answers : after.answers ≡ ran.answers = ap (λ (m : WorldMeaning). m.answers) f in
     let P : List Answer → Type 0 = λ answers. RanTo handed (whole answers) out0 out2 in
     let Q : List Answer → Type 0 = λ answers. WroteAhead whole answers out0 out2 in
     let R : List Answer → Type 0 = λ answers. IsPartLogged (whole answers).log answers stands in
@@ -131,10 +131,10 @@ ran_in_world end handed whole workers before begun ran after stood stands out0 o
       log = λ w m. subst T (sym same_answers) ((l (whole ran.answers).log).0
           (let e = was_handed end handed how w in all_logged end (whole ran.answers).log ran.answers stood logged (λ z. w (e ∙ z)) (λ z. m (e ∙ z))));
       legal = subst S (sym same_answers) legal;
-      workers_are = ap (λ (m : Meaning). m.workers) f ∙ g.workers ∙ b.workers_are;
-      tick = ap (λ (m : Meaning). m.tick) f ∙ g.tick ∙ b.tick;
-      reference = ap (λ (m : Meaning). m.reference) f ∙ g.reference ∙ b.reference;
-      rests = ap (λ (m : Meaning). m.runs) f;
+      workers_are = ap (λ (m : WorldMeaning). m.workers) f ∙ g.workers ∙ b.workers_are;
+      tick = ap (λ (m : WorldMeaning). m.tick) f ∙ g.tick ∙ b.tick;
+      reference = ap (λ (m : WorldMeaning). m.reference) f ∙ g.reference ∙ b.reference;
+      rests = ap (λ (m : WorldMeaning). m.runs) f;
     }
 
 -- ---- under the rule of a script
@@ -143,7 +143,7 @@ text_append : (xs ys : List Line) → text_of (xs ++ ys) ≡ text_of xs ++ text_
 text_append [] ys = refl
 text_append (x ∷ xs) ys = ap (λ t. line_text x ++ 10 ∷ t) (text_append xs ys) ∙ sym (append_assoc (line_text x) (10 ∷ text_of xs) (text_of ys))
 
-stops_for : (end : End) (e : RunEnd) → Some end ≡ end_of_run e → (cause : StopCause) × (e ≡ RunEnd.Stopped cause)
+stops_for : (end : EngineEnd) (e : RunEnd) → Some end ≡ end_of_run e → (cause : StopCause) × (e ≡ RunEnd.Stopped cause)
 stops_for end (RunEnd.Stopped cause) h = (cause, refl)
 stops_for end RunEnd.Asking h = absurd (cc h)
 
@@ -153,26 +153,26 @@ longer whole r out0 out1 b h =
     let P : List ℕ → Type 0 = λ t. AppendsPrefix out0 out1 t in
     subst P (sym (ap text_of b.lines.is ∙ text_append r.lines b.lines.rest)) (AppendsPrefix-longer out0 out1 (text_of r.lines) (text_of b.lines.rest) h)
 
-stopped_whole : (end : End) (whole r : Ran) (out0 out1 : Option (List ℕ)) → IsBeginningOf whole r → (out1 ≡ appended out0 (text_of r.lines)) × (Some end ≡ end_of_run r.end)
+stopped_whole : (end : EngineEnd) (whole r : Ran) (out0 out1 : Option (List ℕ)) → IsBeginningOf whole r → (out1 ≡ appended out0 (text_of r.lines)) × (Some end ≡ end_of_run r.end)
     → (out1 ≡ appended out0 (text_of whole.lines)) × (Some end ≡ end_of_run whole.end)
 stopped_whole end whole r out0 out1 b h =
     let stop = stops_for end r.end h.1 in
     let P : Ran → Type 0 = λ x. (out1 ≡ appended out0 (text_of x.lines)) × (Some end ≡ end_of_run x.end) in
     subst P (b.stopped stop.0 stop.1) h
 
-ran_to_whole : (end : End) (whole r : Ran) (out0 out1 : Option (List ℕ)) → IsBeginningOf whole r → RanTo end r out0 out1 → RanTo end whole out0 out1
-ran_to_whole End.WriteFault whole r out0 out1 b h = longer whole r out0 out1 b h
-ran_to_whole End.Memory whole r out0 out1 b h = longer whole r out0 out1 b h
-ran_to_whole End.MainValue whole r out0 out1 b h = stopped_whole End.MainValue whole r out0 out1 b h
-ran_to_whole (End.MainFault f) whole r out0 out1 b h = stopped_whole (End.MainFault f) whole r out0 out1 b h
-ran_to_whole End.NoTurns whole r out0 out1 b h = stopped_whole End.NoTurns whole r out0 out1 b h
-ran_to_whole End.NoMoves whole r out0 out1 b h = stopped_whole End.NoMoves whole r out0 out1 b h
-ran_to_whole End.NoGreenlets whole r out0 out1 b h = stopped_whole End.NoGreenlets whole r out0 out1 b h
-ran_to_whole End.NoLinks whole r out0 out1 b h = stopped_whole End.NoLinks whole r out0 out1 b h
-ran_to_whole End.NoKills whole r out0 out1 b h = stopped_whole End.NoKills whole r out0 out1 b h
+ran_to_whole : (end : EngineEnd) (whole r : Ran) (out0 out1 : Option (List ℕ)) → IsBeginningOf whole r → RanTo end r out0 out1 → RanTo end whole out0 out1
+ran_to_whole EngineEnd.WriteFault whole r out0 out1 b h = longer whole r out0 out1 b h
+ran_to_whole EngineEnd.Memory whole r out0 out1 b h = longer whole r out0 out1 b h
+ran_to_whole EngineEnd.MainValue whole r out0 out1 b h = stopped_whole EngineEnd.MainValue whole r out0 out1 b h
+ran_to_whole (EngineEnd.MainFault f) whole r out0 out1 b h = stopped_whole (EngineEnd.MainFault f) whole r out0 out1 b h
+ran_to_whole EngineEnd.NoTurns whole r out0 out1 b h = stopped_whole EngineEnd.NoTurns whole r out0 out1 b h
+ran_to_whole EngineEnd.NoMoves whole r out0 out1 b h = stopped_whole EngineEnd.NoMoves whole r out0 out1 b h
+ran_to_whole EngineEnd.NoGreenlets whole r out0 out1 b h = stopped_whole EngineEnd.NoGreenlets whole r out0 out1 b h
+ran_to_whole EngineEnd.NoLinks whole r out0 out1 b h = stopped_whole EngineEnd.NoLinks whole r out0 out1 b h
+ran_to_whole EngineEnd.NoKills whole r out0 out1 b h = stopped_whole EngineEnd.NoKills whole r out0 out1 b h
 
 -- what the world answered are answers under the rule of its script
-script_begins : FollowersRunScripts → (end : End) (c : Scenario) (turns moves workers tick k : ℕ) (before : Meaning) (w : ScriptWorld) (out0 out1 : Option (List ℕ)) → before.tick ≡ tick
+script_begins : FollowersRunScripts → (end : EngineEnd) (c : Scenario) (turns moves workers tick k : ℕ) (before : WorldMeaning) (w : ScriptWorld) (out0 out1 : Option (List ℕ)) → before.tick ≡ tick
     → RanInWorld end (run c turns moves) workers before (record (script_meaning w) { reference = k }) (script_log w) out0 out1
     → IsBeginningOf (script_run c turns moves tick) (run c turns moves w.answers.items)
 script_begins law end c turns moves workers tick k before w out0 out1 same h =
@@ -180,34 +180,34 @@ script_begins law end c turns moves workers tick k before w out0 out1 same h =
     law c turns moves tick w.answers.items h.part.part h.part.later (rule_state w []) h.part.is h.part.all (subst F (h.tick ∙ same) h.part.stood)
 
 -- a run in a world that keeps a script is the run under its rule, whatever reference it works through
-pub script_ran : FollowersRunScripts → (end : End) (c : Scenario) (turns moves workers tick k : ℕ) (before : Meaning) (w : ScriptWorld) (out0 out1 : Option (List ℕ)) → before.tick ≡ tick
+pub script_ran : FollowersRunScripts → (end : EngineEnd) (c : Scenario) (turns moves workers tick k : ℕ) (before : WorldMeaning) (w : ScriptWorld) (out0 out1 : Option (List ℕ)) → before.tick ≡ tick
     → RanInWorld end (run c turns moves) workers before (record (script_meaning w) { reference = k }) (script_log w) out0 out1 → RanTo end (script_run c turns moves tick) out0 out1
 script_ran law end c turns moves workers tick k before w out0 out1 same h =
     ran_to_whole end (script_run c turns moves tick) (run c turns moves w.answers.items) out0 out1 (script_begins law end c turns moves workers tick k before w out0 out1 same h) h.written
 
 -- where it came to its end, it is the whole run
-same_whole : (end : End) (whole r : Ran) (out0 out1 : Option (List ℕ)) → IsBeginningOf whole r → RanTo end r out0 out1 → end ≢ End.WriteFault → end ≢ End.Memory → r ≡ whole
+same_whole : (end : EngineEnd) (whole r : Ran) (out0 out1 : Option (List ℕ)) → IsBeginningOf whole r → RanTo end r out0 out1 → end ≢ EngineEnd.WriteFault → end ≢ EngineEnd.Memory → r ≡ whole
 same_whole end whole r out0 out1 b h w m = by end h w m
   where
-    stopped : (e : End) → Some e ≡ end_of_run r.end → r ≡ whole
+    stopped : (e : EngineEnd) → Some e ≡ end_of_run r.end → r ≡ whole
     stopped e is = let stop = stops_for e r.end is in b.stopped stop.0 stop.1
 
-    by : (e : End) → RanTo e r out0 out1 → e ≢ End.WriteFault → e ≢ End.Memory → r ≡ whole
-    by End.WriteFault h w m = absurd (w refl)
-    by End.Memory h w m = absurd (m refl)
-    by End.MainValue h w m = stopped End.MainValue h.1
-    by (End.MainFault f) h w m = stopped (End.MainFault f) h.1
-    by End.NoTurns h w m = stopped End.NoTurns h.1
-    by End.NoMoves h w m = stopped End.NoMoves h.1
-    by End.NoGreenlets h w m = stopped End.NoGreenlets h.1
-    by End.NoLinks h w m = stopped End.NoLinks h.1
-    by End.NoKills h w m = stopped End.NoKills h.1
+    by : (e : EngineEnd) → RanTo e r out0 out1 → e ≢ EngineEnd.WriteFault → e ≢ EngineEnd.Memory → r ≡ whole
+    by EngineEnd.WriteFault h w m = absurd (w refl)
+    by EngineEnd.Memory h w m = absurd (m refl)
+    by EngineEnd.MainValue h w m = stopped EngineEnd.MainValue h.1
+    by (EngineEnd.MainFault f) h w m = stopped (EngineEnd.MainFault f) h.1
+    by EngineEnd.NoTurns h w m = stopped EngineEnd.NoTurns h.1
+    by EngineEnd.NoMoves h w m = stopped EngineEnd.NoMoves h.1
+    by EngineEnd.NoGreenlets h w m = stopped EngineEnd.NoGreenlets h.1
+    by EngineEnd.NoLinks h w m = stopped EngineEnd.NoLinks h.1
+    by EngineEnd.NoKills h w m = stopped EngineEnd.NoKills h.1
 
 -- ---- with native workers
 
-pub ran_natively : PostsAreTold → AnswersAreTold → (end : End) (c : Scenario) (turns moves workers : ℕ) (before after : Meaning) (stands : List LogEntry → Type 0) (out0 out1 : Option (List ℕ))
+pub ran_natively : PostsAreTold → AnswersAreTold → (end : EngineEnd) (c : Scenario) (turns moves workers : ℕ) (before after : WorldMeaning) (stands : List LogEntry → Type 0) (out0 out1 : Option (List ℕ))
     → ((log : List LogEntry) → stands log → (posts_of log ≡ after.posts) × (answers_of log ≡ after.answers))
-    → RanInWorld end (run c turns moves) workers before after stands out0 out1 → end ≢ End.WriteFault → end ≢ End.Memory
+    → RanInWorld end (run c turns moves) workers before after stands out0 out1 → end ≢ EngineEnd.WriteFault → end ≢ EngineEnd.Memory
     → RanNatively workers (run c turns moves after.answers) after stands
 ran_natively posts answers end c turns moves workers before after stands out0 out1 law h w m =
     let log = h.log w m in
@@ -223,9 +223,9 @@ ran_natively posts answers end c turns moves workers before after stands out0 ou
 
 -- ---- with native workers whose results are told in the order of a script
 
-pub ran_held : FollowersRunScripts → PostsAreTold → AnswersAreTold → (end : End) (c : Scenario) (turns moves workers k : ℕ) (before inner : Meaning) (stands : List LogEntry → Type 0) (w : ScriptWorld) (out0 out1 : Option (List ℕ)) → before.tick ≡ 0 → 0 < workers
+pub ran_held : FollowersRunScripts → PostsAreTold → AnswersAreTold → (end : EngineEnd) (c : Scenario) (turns moves workers k : ℕ) (before inner : WorldMeaning) (stands : List LogEntry → Type 0) (w : ScriptWorld) (out0 out1 : Option (List ℕ)) → before.tick ≡ 0 → 0 < workers
     → RanInWorld end (run c turns moves) workers before (record (script_meaning w) { reference = k }) (script_log w) out0 out1 → Leads inner (script_meaning w) → (0 < w.workers → ∥ HasLegalLog inner stands ∥₁)
-    → end ≢ End.WriteFault → end ≢ End.Memory → RanHeld workers (script_run c turns moves 0) inner stands
+    → end ≢ EngineEnd.WriteFault → end ≢ EngineEnd.Memory → RanHeld workers (script_run c turns moves 0) inner stands
 ran_held law posts answers end c turns moves workers k before inner stands w out0 out1 same some_ h l logged wf m =
     let r = run c turns moves w.answers.items in
     let whole = script_run c turns moves 0 in
@@ -243,30 +243,30 @@ ran_held law posts answers end c turns moves workers k before inner stands w out
 -- ---- lines that meet the laws
 
 -- what out has of a run whose lines meet the laws
-lines_lawful : (end : End) (r : Ran) (out0 out1 : Option (List ℕ)) → RanTo end r out0 out1 → meets_laws r.lines ≡ true → HasLawfulLines (number_of (Verdict.Ran end)) out0 out1
+lines_lawful : (end : EngineEnd) (r : Ran) (out0 out1 : Option (List ℕ)) → RanTo end r out0 out1 → meets_laws r.lines ≡ true → HasLawfulLines (verdict_status (Verdict.Ran end)) out0 out1
 lines_lawful end r out0 out1 h lawful = record { lines = r.lines; lawful = lawful; prefix = prefix_of_trace end r out0 out1 h; whole = λ h4 h5 h7. whole end h h5 h7 }
   where
-    whole : (end : End) → RanTo end r out0 out1 → number_of (Verdict.Ran end) ≢ 5 → number_of (Verdict.Ran end) ≢ 7 → out1 ≡ appended out0 (text_of r.lines)
-    whole End.WriteFault h h5 h7 = absurd (h5 refl)
-    whole End.Memory h h5 h7 = absurd (h7 refl)
-    whole End.MainValue h h5 h7 = h.0
-    whole (End.MainFault f) h h5 h7 = h.0
-    whole End.NoTurns h h5 h7 = h.0
-    whole End.NoMoves h h5 h7 = h.0
-    whole End.NoGreenlets h h5 h7 = h.0
-    whole End.NoLinks h h5 h7 = h.0
-    whole End.NoKills h h5 h7 = h.0
+    whole : (end : EngineEnd) → RanTo end r out0 out1 → verdict_status (Verdict.Ran end) ≢ 5 → verdict_status (Verdict.Ran end) ≢ 7 → out1 ≡ appended out0 (text_of r.lines)
+    whole EngineEnd.WriteFault h h5 h7 = absurd (h5 refl)
+    whole EngineEnd.Memory h h5 h7 = absurd (h7 refl)
+    whole EngineEnd.MainValue h h5 h7 = h.0
+    whole (EngineEnd.MainFault f) h h5 h7 = h.0
+    whole EngineEnd.NoTurns h h5 h7 = h.0
+    whole EngineEnd.NoMoves h h5 h7 = h.0
+    whole EngineEnd.NoGreenlets h h5 h7 = h.0
+    whole EngineEnd.NoLinks h h5 h7 = h.0
+    whole EngineEnd.NoKills h h5 h7 = h.0
 
 -- what out has of a run whose lines meet the laws, or of one that was not begun
-pub run_lawful : (end : End) (options : RunOptions) (answers : List Answer) (s : Scenario) (out0 out1 : Option (List ℕ)) → RanTo end (run_of options answers s) out0 out1
-    → IsBegun options s answers out0 out1 ⊎ IsUnbegun (number_of (Verdict.Ran end)) out0 out1 → HasLawfulLines (number_of (Verdict.Ran end)) out0 out1
+pub run_lawful : (end : EngineEnd) (options : RunOptions) (answers : List Answer) (s : Scenario) (out0 out1 : Option (List ℕ)) → RanTo end (run_of options answers s) out0 out1
+    → IsBegun options s answers out0 out1 ⊎ IsUnbegun (verdict_status (Verdict.Ran end)) out0 out1 → HasLawfulLines (verdict_status (Verdict.Ran end)) out0 out1
 run_lawful end options answers s out0 out1 h (inl begun) = lines_lawful end (run_of options answers s) out0 out1 h begun.lawful
-run_lawful end options answers s out0 out1 h (inr unbegun) = unchanged_lawful (number_of (Verdict.Ran end)) out0 out1 unbegun.0
+run_lawful end options answers s out0 out1 h (inr unbegun) = unchanged_lawful (verdict_status (Verdict.Ran end)) out0 out1 unbegun.0
 
 -- ---- under the command
 
 -- where no run was begun, no native workers ran
-pub none_ran : (n : ℕ) (options : RunOptions) (s : Scenario) (after : Meaning) (stands : List LogEntry → Type 0) (out0 out1 : Option (List ℕ)) → IsUnbegun n out0 out1
+pub none_ran : (n : ℕ) (options : RunOptions) (s : Scenario) (after : WorldMeaning) (stands : List LogEntry → Type 0) (out0 out1 : Option (List ℕ)) → IsUnbegun n out0 out1
     → RanWith n options s after stands out0 out1
 none_ran n options s after stands out0 out1 u = record { begun = inr u; native = λ workers w h4 h5 h7. absurd (by u.1 h4 h5 h7); held = λ workers w h4 h5 h7. absurd (by u.1 h4 h5 h7) }
   where
@@ -276,17 +276,17 @@ none_ran n options s after stands out0 out1 u = record { begun = inr u; native =
     by (inr (inr e)) h4 h5 h7 = h7 e
 
 -- what a run of these options came to is what the command that asks for it came to
-pub scenario_ran : (command : TextCommand) (options : RunOptions) (end : End) (s : Scenario) (after : Meaning) (stands : List LogEntry → Type 0) (out0 out1 : Option (List ℕ)) → command ≡ TextCommand.Run options
-    → IsBegun options s after.answers out0 out1 ⊎ IsUnbegun (number_of (Verdict.Ran end)) out0 out1
-    → ((workers : ℕ) → options.world ≡ RunWorld.Native workers → end ≢ End.WriteFault → end ≢ End.Memory → RanNatively workers (run_of options after.answers s) after stands)
-    → ((workers : ℕ) → options.world ≡ RunWorld.Held workers → end ≢ End.WriteFault → end ≢ End.Memory → RanHeld workers (run_of options after.answers s) after stands)
-    → RanScenarioSo (number_of (Verdict.Ran end)) command s after stands out0 out1
+pub scenario_ran : (command : TextCommand) (options : RunOptions) (end : EngineEnd) (s : Scenario) (after : WorldMeaning) (stands : List LogEntry → Type 0) (out0 out1 : Option (List ℕ)) → command ≡ TextCommand.Run options
+    → IsBegun options s after.answers out0 out1 ⊎ IsUnbegun (verdict_status (Verdict.Ran end)) out0 out1
+    → ((workers : ℕ) → options.world ≡ RunWorld.Native workers → end ≢ EngineEnd.WriteFault → end ≢ EngineEnd.Memory → RanNatively workers (run_of options after.answers s) after stands)
+    → ((workers : ℕ) → options.world ≡ RunWorld.Held workers → end ≢ EngineEnd.WriteFault → end ≢ EngineEnd.Memory → RanHeld workers (run_of options after.answers s) after stands)
+    → RanScenarioSo (verdict_status (Verdict.Ran end)) command s after stands out0 out1
 scenario_ran command options end s after stands out0 out1 is begun h k = λ wanted e.
-    let P : RunOptions → Type 0 = λ o. RanWith (number_of (Verdict.Ran end)) o s after stands out0 out1 in
+    let P : RunOptions → Type 0 = λ o. RanWith (verdict_status (Verdict.Ran end)) o s after stands out0 out1 in
     subst P (same_options options wanted (sym is ∙ e)) (record {
       begun = begun;
-      native = λ workers v h4 h5 h7. h workers v (λ z. h5 (ap (λ x. number_of (Verdict.Ran x)) z)) (λ z. h7 (ap (λ x. number_of (Verdict.Ran x)) z));
-      held = λ workers v h4 h5 h7. k workers v (λ z. h5 (ap (λ x. number_of (Verdict.Ran x)) z)) (λ z. h7 (ap (λ x. number_of (Verdict.Ran x)) z));
+      native = λ workers v h4 h5 h7. h workers v (λ z. h5 (ap (λ x. verdict_status (Verdict.Ran x)) z)) (λ z. h7 (ap (λ x. verdict_status (Verdict.Ran x)) z));
+      held = λ workers v h4 h5 h7. k workers v (λ z. h5 (ap (λ x. verdict_status (Verdict.Ran x)) z)) (λ z. h7 (ap (λ x. verdict_status (Verdict.Ran x)) z));
     })
   where
     same_options : (a b : RunOptions) → TextCommand.Run a ≡ TextCommand.Run b → a ≡ b
@@ -303,16 +303,16 @@ format_runs_nothing command options P is e = absurd (no (sym is ∙ e))
 other_judged : (p : Place) (s : Scenario) → ◌≡◌ {A = Result Scenario Place} (Err p) (Ok s) → ⊥
 other_judged p s z = cc z
 
-pub refused_runs_nothing : (e : ParseRefusal) (v : Verdict) (command : TextCommand) (bytes : List ℕ) (after : Meaning) (stands : List LogEntry → Type 0) (out : Option (List ℕ)) → v ≡ verdict_on e → Parses (judged bytes) (Err e)
-    → RanSo (number_of v) command bytes after stands out out
-refused_runs_nothing e v command bytes after stands out is h = λ s j options c. none_ran (number_of v) options s after stands out out (refl, inr (inr (ap number_of is ∙ by e h s j)))
+pub refused_runs_nothing : (e : ParseRefusal) (v : Verdict) (command : TextCommand) (bytes : List ℕ) (after : WorldMeaning) (stands : List LogEntry → Type 0) (out : Option (List ℕ)) → v ≡ verdict_on e → Parses (judged_text bytes) (Err e)
+    → RanSo (verdict_status v) command bytes after stands out out
+refused_runs_nothing e v command bytes after stands out is h = λ s j options c. none_ran (verdict_status v) options s after stands out out (refl, inr (inr (ap verdict_status is ∙ by e h s j)))
   where
-    by : (e : ParseRefusal) → Parses (judged bytes) (Err e) → (s : Scenario) → judged bytes ≡ Ok s → number_of (verdict_on e) ≡ 7
+    by : (e : ParseRefusal) → Parses (judged_text bytes) (Err e) → (s : Scenario) → judged_text bytes ≡ Ok s → verdict_status (verdict_on e) ≡ 7
     by (parse.Refused p) h s j = absurd (other_judged p s (sym h ∙ j))
     by parse.Memory h s j = refl
 
 -- one whose text was judged so ran that scenario
-pub judged_ran : (n : ℕ) (command : TextCommand) (bytes : List ℕ) (s : Scenario) (after : Meaning) (stands : List LogEntry → Type 0) (out0 out1 : Option (List ℕ)) → judged bytes ≡ Ok s
+pub judged_ran : (n : ℕ) (command : TextCommand) (bytes : List ℕ) (s : Scenario) (after : WorldMeaning) (stands : List LogEntry → Type 0) (out0 out1 : Option (List ℕ)) → judged_text bytes ≡ Ok s
     → RanScenarioSo n command s after stands out0 out1 → RanSo n command bytes after stands out0 out1
 judged_ran n command bytes s after stands out0 out1 j h = λ t k.
     let P : Scenario → Type 0 = λ x. RanScenarioSo n command x after stands out0 out1 in subst P (same s t (sym j ∙ k)) h
@@ -321,13 +321,13 @@ judged_ran n command bytes s after stands out0 out1 j h = λ t k.
     same a b z = cc z
 
 -- so did one that is the same
-pub text_ran : (given text : TextCommand) (n : ℕ) (input out0 out1 : Option (List ℕ)) (after : Meaning) (stands : List LogEntry → Type 0) → Command.Text text ≡ Command.Text given
+pub text_ran : (given text : TextCommand) (n : ℕ) (input out0 out1 : Option (List ℕ)) (after : WorldMeaning) (stands : List LogEntry → Type 0) → OfflineCommand.Text text ≡ OfflineCommand.Text given
     → ((left : List ℕ) → input ≡ Some left → RanSo n given (take most_read left) after stands out0 out1)
     → (left : List ℕ) → input ≡ Some left → RanSo n text (take most_read left) after stands out0 out1
 text_ran given text n input out0 out1 after stands is h left told =
     let P : TextCommand → Type 0 = λ t. RanSo n t (take most_read left) after stands out0 out1 in subst P (same given text (sym is)) (h left told)
   where
-    same : (a b : TextCommand) → Command.Text a ≡ Command.Text b → a ≡ b
+    same : (a b : TextCommand) → OfflineCommand.Text a ≡ OfflineCommand.Text b → a ≡ b
     same a b z = cc z
 
 -- ---- blocked states
@@ -351,7 +351,7 @@ quiet_blocks told quiet options given s well = by options.world
 -- ---- the run of the options
 
 -- the engine that is prepared with these options under the rule of a script has run as they say
-pub ran_by_script : (end : End) (options : RunOptions) (tick : ℕ) (answers : List Answer) (s : Scenario) (engine : Prepared) (out0 out1 : Option (List ℕ)) →
+pub ran_by_script : (end : EngineEnd) (options : RunOptions) (tick : ℕ) (answers : List Answer) (s : Scenario) (engine : Prepared) (out0 out1 : Option (List ℕ)) →
     engine ≡ record { scenario = s; turns = options.turns; moves = options.moves } → options.world ≡ RunWorld.Script tick →
     RanTo end (script_run engine.scenario engine.turns engine.moves tick) out0 out1 → RanTo end (run_of options answers s) out0 out1
 ran_by_script end options tick answers s engine out0 out1 is by_script h =
@@ -364,7 +364,7 @@ ran_by_script end options tick answers s engine out0 out1 is by_script h =
     subst Q (sym by_script) (subst P is h)
 
 -- so has one with native workers
-pub ran_by_workers : (end : End) (options : RunOptions) (workers : ℕ) (answers : List Answer) (s : Scenario) (engine : Prepared) (out0 out1 : Option (List ℕ)) →
+pub ran_by_workers : (end : EngineEnd) (options : RunOptions) (workers : ℕ) (answers : List Answer) (s : Scenario) (engine : Prepared) (out0 out1 : Option (List ℕ)) →
     engine ≡ record { scenario = s; turns = options.turns; moves = options.moves } → options.world ≡ RunWorld.Native workers →
     RanTo end (run engine.scenario engine.turns engine.moves answers) out0 out1 → RanTo end (run_of options answers s) out0 out1
 ran_by_workers end options workers answers s engine out0 out1 is natively h =
@@ -418,7 +418,7 @@ begun_by_workers n options workers answers s engine out0 out1 is natively (inr u
 -- ---- with held order
 
 -- the engine that is prepared with these options has run as they say
-pub ran_by_held : (end : End) (options : RunOptions) (workers : ℕ) (answers : List Answer) (s : Scenario) (engine : Prepared) (out0 out1 : Option (List ℕ)) →
+pub ran_by_held : (end : EngineEnd) (options : RunOptions) (workers : ℕ) (answers : List Answer) (s : Scenario) (engine : Prepared) (out0 out1 : Option (List ℕ)) →
     engine ≡ record { scenario = s; turns = options.turns; moves = options.moves } → options.world ≡ RunWorld.Held workers →
     RanTo end (script_run engine.scenario engine.turns engine.moves 0) out0 out1 → RanTo end (run_of options answers s) out0 out1
 ran_by_held end options workers answers s engine out0 out1 is held h =
@@ -448,7 +448,7 @@ begun_by_held n options workers answers s engine out0 out1 is held h =
     other_world others z = cc z
 
 -- what its native workers are is what the options ask for
-pub held_so : (options : RunOptions) (workers others : ℕ) (answers : List Answer) (s : Scenario) (engine : Prepared) (after : Meaning) (stands : List LogEntry → Type 0) →
+pub held_so : (options : RunOptions) (workers others : ℕ) (answers : List Answer) (s : Scenario) (engine : Prepared) (after : WorldMeaning) (stands : List LogEntry → Type 0) →
     engine ≡ record { scenario = s; turns = options.turns; moves = options.moves } → options.world ≡ RunWorld.Held workers → options.world ≡ RunWorld.Held others →
     RanHeld workers (script_run engine.scenario engine.turns engine.moves 0) after stands → RanHeld others (run_of options answers s) after stands
 held_so options workers others answers s engine after stands is held asked h =

@@ -6,7 +6,7 @@ use Rattle.scenario_tree.specs.declared.tree.Scenario.{Scenario}
 use Rattle.scenario_grammar.specs.declared.place.Place.{Place}
 use Rattle.scenario_grammar.specs.Places.{line_at, place}
 use Rattle.scenario_check.proofs.FirstPlace.{well_formed}
-use Rattle.scenario_reading.specs.Judged.{judged}
+use Rattle.scenario_reading.specs.Judged.{judged_text}
 use Rattle.machine.specs.Run.{run}
 use Rattle.trace_check.specs.Answers.{IsJudged, IsJudgedLawful}
 use Rattle.trace_check.specs.Parts.{parted}
@@ -49,7 +49,7 @@ told_of_laws bytes (Err (LawlessTrace.Broken line law)) within h = (within, h)
 told_of_laws bytes (Err LawlessTrace.Memory) within h = tt
 
 told_of_scenario : (turns moves : ℕ) (bytes text trace : List ℕ) (r : Result Scenario Place) (v : Verification) → length bytes ≤ most_checked → parted bytes ≡ Some (text, trace) →
-    judged text ≡ r → IsSaidOfScenario r turns moves trace v → Tells (TraceCheck.Run turns moves) bytes v
+    judged_text text ≡ r → IsSaidOfScenario r turns moves trace v → Tells (TraceCheck.Run turns moves) bytes v
 told_of_scenario turns moves bytes text trace (Ok s) v within parts j h =
     let spelt = judged_is_spelt text s j in
     tells_as (TraceCheck.Run turns moves) bytes v (said_of_run h.0) h.2
@@ -61,7 +61,7 @@ told_of_parts : (turns moves : ℕ) (bytes : List ℕ) (o : Option (List ℕ × 
     IsSaidOfParts o bytes turns moves v → Tells (TraceCheck.Run turns moves) bytes v
 told_of_parts turns moves bytes None v within parts h =
     tells_as (TraceCheck.Run turns moves) bytes v (Err (Unverified.Unmarked (end_line bytes))) h (within, parts, refl)
-told_of_parts turns moves bytes (Some p) v within parts h = told_of_scenario turns moves bytes p.0 p.1 (judged p.0) v within parts refl h
+told_of_parts turns moves bytes (Some p) v within parts h = told_of_scenario turns moves bytes p.0 p.1 (judged_text p.0) v within parts refl h
 
 told_if : (long : Bool) (check : TraceCheck) (bytes : List ℕ) (v : Verification) → nat_lt most_checked (length bytes) ≡ long → IsSaidIf long check bytes v → Tells check bytes v
 told_if true (TraceCheck.Run turns moves) bytes v e h =

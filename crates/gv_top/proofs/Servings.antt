@@ -5,15 +5,15 @@ use Rattle.gv_io.specs.Streams.{appended}
 use Rattle.command_words.specs.Ranges.{AreAnswersInRange, IsInRange as IsCommandInRange}
 use Rattle.command_words.specs.Words.{Word}
 use Rattle.command_words.specs.Words as words
-use Rattle.command_words.specs.declared.command.Command.{Command as NamedCommand}
-use Rattle.command_words.specs.declared.command.Command.TheVariants as named
+use Rattle.command_words.specs.declared.command.NamedCommand.{NamedCommand}
+use Rattle.command_words.specs.declared.command.NamedCommand.TheVariants as named
 use Rattle.command_words.specs.declared.command.GatewayKind.{GatewayKind}
 use Rattle.command_words.specs.declared.command.ServeAnswers.{ServeAnswers}
 use Rattle.command_words.specs.declared.command.ServeOptions.{ServeOptions}
 use Rattle.wsgi_core.specs.Applications.{App}
 use Rattle.wsgi_core.specs.Sessions.{answers}
-use Rattle.world.specs.Worlds.{Meaning as World}
-use Rattle.stream_net.specs.Nets.{IsAtRest, IsFresh, Meaning}
+use Rattle.world.specs.Worlds.{WorldMeaning as World}
+use Rattle.stream_net.specs.Nets.{IsAtRest, IsFresh, NetMeaning}
 use Rattle.stream_server.specs.declared.limits.Limits.{Limits}
 use Rattle.stream_server.specs.Ranges.{IsInRange}
 use Rattle.stream_server.specs.Serving.{Rests}
@@ -27,21 +27,21 @@ use Rattle.serve_command.specs.Served.{ServesAt, listening}
 use Rattle.serve_command.proofs.Ends.{memory_no_jobs, memory_unfinished, none_served, spent_as}
 use Rattle.serve_command.proofs.JobsEnds.{none_served_jobs}
 use Rattle.gv_top.specs.declared.status.Verdict.{Verdict}
-use Rattle.gv_top.specs.declared.words.Command.{Command}
+use Rattle.gv_top.specs.declared.words.OfflineCommand.{OfflineCommand}
 use Rattle.gv_top.specs.Gateways.{answers_by}
 use Rattle.gv_top.specs.Serving.{Serves, ServesNatively, ServesWith, limits_of}
 use Rattle.gv_top.specs.Answers.{memory_line, read_fault_line}
 use Rattle.gv_top.specs.Top.{IsStatusOf, IsTold}
 use Rattle.gv_top.specs.Inner.{IsOr}
-use Rattle.gv_top.specs.Verdicts.{number_of, line_of}
-use Rattle.gv_top.specs.Words.{built, command_of, serve_of, serving}
+use Rattle.gv_top.specs.Verdicts.{verdict_status, verdict_line}
+use Rattle.gv_top.specs.Words.{built, offline_command_of, serve_of, serving}
 use Rattle.gv_top.proofs.Built.{NamedAreInRange}
 use Rattle.gv_top.proofs.Tops.{HasFailed, fails, left_as_it_was, no_memory_line, read_line, status_or}
 
 -- ---- words that name it
 
 -- words that name a command without a net name no server
-serves_none : (o : Option NamedCommand) (command : Command) → option_and_then built o ≡ Some command → option_and_then serving o ≡ None
+serves_none : (o : Option NamedCommand) (command : OfflineCommand) → option_and_then built o ≡ Some command → option_and_then serving o ≡ None
 serves_none (Some (named.Text text)) command e = refl
 serves_none (Some (named.Wsgi gateway)) command e = refl
 serves_none (Some (named.Storm n)) command e = refl
@@ -49,7 +49,7 @@ serves_none (Some (named.Verify check)) command e = refl
 serves_none (Some (named.Serve options)) command e = absurd (cc e)
 serves_none None command e = absurd (cc e)
 
-pub names_one : (w : List Word) (command : Command) → command_of w ≡ Some command → serve_of w ≡ None
+pub names_one : (w : List Word) (command : OfflineCommand) → offline_command_of w ≡ Some command → serve_of w ≡ None
 names_one w command e = serves_none (words.command_of w) command e
 
 pub is_some : (o : Option ServeOptions) (options : ServeOptions) → o ≡ Some options → IsSome o
@@ -66,14 +66,14 @@ is_none (Some options) h = absurd (h refl)
 -- ---- the status of an end
 
 -- want of memory is told by its own status, or by that of its line
-pub no_memory_status : (n : ℕ) (v w : Verdict) (old new : Option (List ℕ)) (e0 e1 : ℕ) → IsOr v w → IsTold n w old new e0 e1 → number_of v ≡ 7 → (n ≡ 5) ⊎ (n ≡ 7)
+pub no_memory_status : (n : ℕ) (v w : Verdict) (old new : Option (List ℕ)) (e0 e1 : ℕ) → IsOr v w → IsTold n w old new e0 e1 → verdict_status v ≡ 7 → (n ≡ 5) ⊎ (n ≡ 7)
 no_memory_status n v w old new e0 e1 o l e = by (status_or n v w old new e0 e1 o l)
   where
     by : IsStatusOf n v → (n ≡ 5) ⊎ (n ≡ 7)
     by (inl p) = inr (p ∙ e)
     by (inr p) = p.1
 
-pub no_network_fault : (n : ℕ) (v w : Verdict) (old new : Option (List ℕ)) (e0 e1 : ℕ) → IsOr v w → IsTold n w old new e0 e1 → number_of v ≢ 10 → n ≢ 10
+pub no_network_fault : (n : ℕ) (v w : Verdict) (old new : Option (List ℕ)) (e0 e1 : ℕ) → IsOr v w → IsTold n w old new e0 e1 → verdict_status v ≢ 10 → n ≢ 10
 no_network_fault n v w old new e0 e1 o l h = by (status_or n v w old new e0 e1 o l)
   where
     by : IsStatusOf n v → n ≢ 10
@@ -83,7 +83,7 @@ no_network_fault n v w old new e0 e1 o l h = by (status_or n v w old new e0 e1 o
 
 -- where words that name `serve` lead to want of memory, any other status is of words that don't
 pub names_no_server : (n : ℕ) (v w : Verdict) (o : Option ServeOptions) (old new : Option (List ℕ)) (e0 e1 : ℕ) → IsOr v w → IsTold n w old new e0 e1 →
-    (IsSome o → number_of v ≡ 7) → n ≢ 5 → n ≢ 7 → o ≡ None
+    (IsSome o → verdict_status v ≡ 7) → n ≢ 5 → n ≢ 7 → o ≡ None
 names_no_server n v w o old new e0 e1 r l h h5 h7 = is_none o (λ named. by (no_memory_status n v w old new e0 e1 r l (h named)))
   where
     by : (n ≡ 5) ⊎ (n ≡ 7) → ⊥
@@ -139,14 +139,14 @@ by_options P o given is h = λ options e. subst P (same_options given options (s
 
 -- ---- where memory ran out before it listened
 
-pub nobody_served_natively : (workers asked : ℕ) (limits : Limits) (w : Meaning) (before after : World) (out0 out1 : Option (List ℕ)) → IsFresh w → after ≡ before → out1 ≡ out0
+pub nobody_served_natively : (workers asked : ℕ) (limits : Limits) (w : NetMeaning) (before after : World) (out0 out1 : Option (List ℕ)) → IsFresh w → after ≡ before → out1 ≡ out0
     → ServesNatively workers Served.Memory asked limits w before after out0 out1
 nobody_served_natively workers asked limits w before after out0 out1 fresh kept same = record {
   serves = none_served_jobs Served.Memory asked limits w after out0 out1 0 memory_unfinished memory_no_jobs fresh.none fresh.none_live (left_as_it_was out0 out1 (listening 0) same) (inl same);
   begun = inr (kept, fresh.none);
 }
 
-pub nobody_served : (answers : ServeAnswers) (asked : ℕ) (app : App) (limits : Limits) (w : Meaning) (before after : World) (out0 out1 : Option (List ℕ)) → IsFresh w → after ≡ before → out1 ≡ out0
+pub nobody_served : (answers : ServeAnswers) (asked : ℕ) (app : App) (limits : Limits) (w : NetMeaning) (before after : World) (out0 out1 : Option (List ℕ)) → IsFresh w → after ≡ before → out1 ≡ out0
     → ServesWith answers Served.Memory asked app limits w before after out0 out1
 nobody_served (ServeAnswers.Application gateway) asked app limits w before after out0 out1 fresh kept same =
     none_served Rests (λ port. ⊥) Served.Memory asked (answers_by gateway) app limits w out0 out1 0 memory_unfinished memory_no_jobs fresh.none fresh.none_live (left_as_it_was out0 out1 (listening 0) same) (inl same)
@@ -170,13 +170,13 @@ at_job_after port v bytes out h = record { request = h.request; body = h.body; r
 at_job_before : (port : ℕ) (v : World) (bytes out : List ℕ) → IsAtJob port (stopped v) bytes out → IsAtJob port v bytes out
 at_job_before port v bytes out h = record { request = h.request; body = h.body; rest = h.rest; job = h.job; asks = h.asks; next = λ app more fits. h.next app more (agrees_after v app fits) }
 
-vain_after : (port : ℕ) (w : Meaning) (v : World) → IsOutOfJobs port w v → IsOutOfJobs port w (stopped v)
+vain_after : (port : ℕ) (w : NetMeaning) (v : World) → IsOutOfJobs port w v → IsOutOfJobs port w (stopped v)
 vain_after port w v h = record { spent = h.spent; conn = h.conn; accepted = h.accepted; not_at_rest = h.not_at_rest; asks = λ bytes out reads writes. at_job_after port v bytes out (h.asks bytes out reads writes) }
 
-vain_before : (port : ℕ) (w : Meaning) (v : World) → IsOutOfJobs port w (stopped v) → IsOutOfJobs port w v
+vain_before : (port : ℕ) (w : NetMeaning) (v : World) → IsOutOfJobs port w (stopped v) → IsOutOfJobs port w v
 vain_before port w v h = record { spent = h.spent; conn = h.conn; accepted = h.accepted; not_at_rest = h.not_at_rest; asks = λ bytes out reads writes. at_job_before port v bytes out (h.asks bytes out reads writes) }
 
-serves_after : (end : Served) (asked : ℕ) (limits : Limits) (w : Meaning) (v : World) (out0 out1 : Option (List ℕ)) → ServesJobsAt end asked limits w v out0 out1 → ServesJobsAt end asked limits w (stopped v) out0 out1
+serves_after : (end : Served) (asked : ℕ) (limits : Limits) (w : NetMeaning) (v : World) (out0 out1 : Option (List ℕ)) → ServesJobsAt end asked limits w v out0 out1 → ServesJobsAt end asked limits w (stopped v) out0 out1
 unfolding spent_as
 serves_after end asked limits w v out0 out1 h = record {
   serves = spent_as IsAtRest (λ port. IsOutOfJobs port w v) (λ port. IsOutOfJobs port w (stopped v)) end asked answers job_app limits w out0 out1 (λ port vain. vain_after port w v vain) h.serves;
@@ -184,19 +184,19 @@ serves_after end asked limits w v out0 out1 h = record {
   out_of_jobs = λ vain. h.out_of_jobs (vain_before h.serves.port w v vain);
 }
 
-pub served_natively : (workers : ℕ) (end : Served) (asked : ℕ) (limits : Limits) (w : Meaning) (before v after : World) (out0 out1 : Option (List ℕ)) → after ≡ record v { runs = false } → IsInOrder v → v.workers ≡ workers
+pub served_natively : (workers : ℕ) (end : Served) (asked : ℕ) (limits : Limits) (w : NetMeaning) (before v after : World) (out0 out1 : Option (List ℕ)) → after ≡ record v { runs = false } → IsInOrder v → v.workers ≡ workers
     → ServesJobsAt end asked limits w v out0 out1 → ServesNatively workers end asked limits w before after out0 out1
 served_natively workers end asked limits w before v after out0 out1 is order same h =
     subst (λ (x : World). ServesNatively workers end asked limits w before x out0 out1) (sym is) (record { serves = serves_after end asked limits w v out0 out1 h; begun = inl (record { workers_are = same; posted = order.done }) })
 
 -- ---- what these answers serve with
 
-pub served_with_app : (given : ServeAnswers) (gateway : GatewayKind) (end : Served) (asked : ℕ) (app : App) (limits whole : Limits) (w : Meaning) (before after : World) (out0 out1 : Option (List ℕ)) → given ≡ ServeAnswers.Application gateway → limits ≡ whole
+pub served_with_app : (given : ServeAnswers) (gateway : GatewayKind) (end : Served) (asked : ℕ) (app : App) (limits whole : Limits) (w : NetMeaning) (before after : World) (out0 out1 : Option (List ℕ)) → given ≡ ServeAnswers.Application gateway → limits ≡ whole
     → ServesAt end asked (answers_by gateway) app limits w out0 out1 → ServesWith given end asked app whole w before after out0 out1
 served_with_app given gateway end asked app limits whole w before after out0 out1 is fit h =
     subst (λ (a : ServeAnswers). ServesWith a end asked app whole w before after out0 out1) (sym is) (subst (λ (l : Limits). ServesAt end asked (answers_by gateway) app l w out0 out1) fit h)
 
-pub served_with_jobs : (given : ServeAnswers) (workers : ℕ) (end : Served) (asked : ℕ) (app : App) (limits whole : Limits) (w : Meaning) (before after : World) (out0 out1 : Option (List ℕ)) → given ≡ ServeAnswers.Jobs workers → limits ≡ whole
+pub served_with_jobs : (given : ServeAnswers) (workers : ℕ) (end : Served) (asked : ℕ) (app : App) (limits whole : Limits) (w : NetMeaning) (before after : World) (out0 out1 : Option (List ℕ)) → given ≡ ServeAnswers.Jobs workers → limits ≡ whole
     → ServesNatively workers end asked limits w before after out0 out1 → ServesWith given end asked app whole w before after out0 out1
 served_with_jobs given workers end asked app limits whole w before after out0 out1 is fit h =
     subst (λ (a : ServeAnswers). ServesWith a end asked app whole w before after out0 out1) (sym is) (subst (λ (l : Limits). ServesNatively workers end asked l w before after out0 out1) fit h)
@@ -204,18 +204,18 @@ served_with_jobs given workers end asked app limits whole w before after out0 ou
 -- ---- what a server came to, and its line
 
 -- the line of the verdict is there, with a status that tells no line that failed and no want of memory
-told_whole : (n : ℕ) (v w : Verdict) (old new : Option (List ℕ)) (e0 e1 : ℕ) → IsOr v w → IsTold n w old new e0 e1 → n ≢ 5 → n ≢ 7 → new ≡ appended old (line_of v)
-told_whole n v w old new e0 e1 (inl e) (inl p) h5 h7 = p.1 ∙ ap (λ x. appended old (line_of x)) e
-told_whole n v w old new e0 e1 (inr q) (inl p) h5 h7 = absurd (h7 (p.0 ∙ ap number_of q.0))
+told_whole : (n : ℕ) (v w : Verdict) (old new : Option (List ℕ)) (e0 e1 : ℕ) → IsOr v w → IsTold n w old new e0 e1 → n ≢ 5 → n ≢ 7 → new ≡ appended old (verdict_line v)
+told_whole n v w old new e0 e1 (inl e) (inl p) h5 h7 = p.1 ∙ ap (λ x. appended old (verdict_line x)) e
+told_whole n v w old new e0 e1 (inr q) (inl p) h5 h7 = absurd (h7 (p.0 ∙ ap verdict_status q.0))
 told_whole n v w old new e0 e1 o (inr p) h5 h7 = absurd (h5 p.0)
 
-pub serves_so : (n : ℕ) (app : App) (options : ServeOptions) (end : Served) (w : Verdict) (m : Meaning) (before rested after : World) (out0 begun out1 err0 silent err1 : Option (List ℕ)) (e0 e1 : ℕ) →
+pub serves_so : (n : ℕ) (app : App) (options : ServeOptions) (end : Served) (w : Verdict) (m : NetMeaning) (before rested after : World) (out0 begun out1 err0 silent err1 : Option (List ℕ)) (e0 e1 : ℕ) →
     rested ≡ before → begun ≡ out0 → silent ≡ err0 → ServesWith options.answers end options.port app (limits_of options) m rested after begun out1 → IsOr (Verdict.Served end) w → IsTold n w silent err1 e0 e1 →
     Serves n app options m before after out0 out1 err0 err1
 serves_so n app options end w m before rested after out0 begun out1 err0 silent err1 e0 e1 kept same quiet h o l =
     let P : Option (List ℕ) → Type 0 = λ x. ServesWith options.answers end options.port app (limits_of options) m before after x out1 in
     let R : World → Type 0 = λ x. ServesWith options.answers end options.port app (limits_of options) m x after begun out1 in
-    let Q : Option (List ℕ) → Type 0 = λ x. err1 ≡ appended x (line_of (Verdict.Served end)) in
+    let Q : Option (List ℕ) → Type 0 = λ x. err1 ≡ appended x (verdict_line (Verdict.Served end)) in
     record {
       end = end;
       serves = subst P same (subst R kept h);
@@ -224,7 +224,7 @@ serves_so n app options end w m before rested after out0 begun out1 err0 silent 
     }
 
 -- where memory ran out as the words were read
-pub serves_nobody : (n : ℕ) (app : App) (options : ServeOptions) (m : Meaning) (before after : World) (out0 out1 err0 err1 : Option (List ℕ)) →
+pub serves_nobody : (n : ℕ) (app : App) (options : ServeOptions) (m : NetMeaning) (before after : World) (out0 out1 err0 err1 : Option (List ℕ)) →
     IsFresh m → after ≡ before → out1 ≡ out0 → (n ≡ 5) ⊎ (n ≡ 7) → Serves n app options m before after out0 out1 err0 err1
 serves_nobody n app options m before after out0 out1 err0 err1 fresh kept same e = record {
   end = Served.Memory;
@@ -233,20 +233,20 @@ serves_nobody n app options m before after out0 out1 err0 err1 fresh kept same e
   err = by e;
 }
   where
-    by : (n ≡ 5) ⊎ (n ≡ 7) → n ≢ 5 → n ≢ 7 → err1 ≡ appended err0 (line_of (Verdict.Served Served.Memory))
+    by : (n ≡ 5) ⊎ (n ≡ 7) → n ≢ 5 → n ≢ 7 → err1 ≡ appended err0 (verdict_line (Verdict.Served Served.Memory))
     by (inl e) h5 h7 = absurd (h5 e)
     by (inr e) h5 h7 = absurd (h7 e)
 
 -- ---- its status
 
-listener_of : (end : Served) → number_of (Verdict.Served end) ≡ 10 → end ≡ Served.Listener
+listener_of : (end : Served) → verdict_status (Verdict.Served end) ≡ 10 → end ≡ Served.Listener
 listener_of Served.Finished e = absurd (omega arith)
 listener_of Served.Listener e = refl
 listener_of Served.NoJobs e = absurd (omega arith)
 listener_of Served.WriteFault e = absurd (omega arith)
 listener_of Served.Memory e = absurd (omega arith)
 
-write_fault_of : (end : Served) → number_of (Verdict.Served end) ≡ 5 → end ≡ Served.WriteFault
+write_fault_of : (end : Served) → verdict_status (Verdict.Served end) ≡ 5 → end ≡ Served.WriteFault
 write_fault_of Served.Finished e = absurd (omega arith)
 write_fault_of Served.Listener e = absurd (omega arith)
 write_fault_of Served.NoJobs e = absurd (omega arith)
@@ -259,7 +259,7 @@ is_listener n end (inl p) e = listener_of end (sym p ∙ e)
 is_listener n end (inr (_, inl p)) e = absurd (let q = sym p ∙ e in omega arith)
 is_listener n end (inr (_, inr p)) e = absurd (let q = sym p ∙ e in omega arith)
 
-other_number : (end : Served) (m : ℕ) → m ≢ 0 → m ≢ 5 → m ≢ 7 → m ≢ 8 → m ≢ 10 → number_of (Verdict.Served end) ≡ m → ⊥
+other_number : (end : Served) (m : ℕ) → m ≢ 0 → m ≢ 5 → m ≢ 7 → m ≢ 8 → m ≢ 10 → verdict_status (Verdict.Served end) ≡ m → ⊥
 other_number Served.Finished m h0 h5 h7 h8 h10 e = h0 (sym e)
 other_number Served.Listener m h0 h5 h7 h8 h10 e = h10 (sym e)
 other_number Served.NoJobs m h0 h5 h7 h8 h10 e = h8 (sym e)
@@ -274,14 +274,14 @@ no_other_status P n m end (inr (_, inr p)) e h0 h5 h7 h8 h10 = absurd (h7 (sym e
 
 -- a status that is not 5 is not that of a server that failed to write
 pub not_write_fault : (n : ℕ) (end : Served) (w : Verdict) (old new : Option (List ℕ)) (e0 e1 : ℕ) → IsOr (Verdict.Served end) w → IsTold n w old new e0 e1 → n ≢ 5 → end ≢ Served.WriteFault
-not_write_fault n end w old new e0 e1 (inl e) (inl p) h5 = λ z. h5 (p.0 ∙ ap number_of e ∙ ap (λ x. number_of (Verdict.Served x)) z)
-not_write_fault n end w old new e0 e1 (inr q) (inl p) h5 = λ z. q.3 (ap (λ x. number_of (Verdict.Served x)) z)
+not_write_fault n end w old new e0 e1 (inl e) (inl p) h5 = λ z. h5 (p.0 ∙ ap verdict_status e ∙ ap (λ x. verdict_status (Verdict.Served x)) z)
+not_write_fault n end w old new e0 e1 (inr q) (inl p) h5 = λ z. q.3 (ap (λ x. verdict_status (Verdict.Served x)) z)
 not_write_fault n end w old new e0 e1 o (inr p) h5 = absurd (h5 p.0)
 
 -- one that is neither 5 nor 10 is not that of one whose listener failed
 pub not_listener : (n : ℕ) (end : Served) (w : Verdict) (old new : Option (List ℕ)) (e0 e1 : ℕ) → IsOr (Verdict.Served end) w → IsTold n w old new e0 e1 → n ≢ 5 → n ≢ 10 → end ≢ Served.Listener
-not_listener n end w old new e0 e1 (inl e) (inl p) h5 h10 = λ z. h10 (p.0 ∙ ap number_of e ∙ ap (λ x. number_of (Verdict.Served x)) z)
-not_listener n end w old new e0 e1 (inr q) (inl p) h5 h10 = λ z. q.4 (ap (λ x. number_of (Verdict.Served x)) z)
+not_listener n end w old new e0 e1 (inl e) (inl p) h5 h10 = λ z. h10 (p.0 ∙ ap verdict_status e ∙ ap (λ x. verdict_status (Verdict.Served x)) z)
+not_listener n end w old new e0 e1 (inr q) (inl p) h5 h10 = λ z. q.4 (ap (λ x. verdict_status (Verdict.Served x)) z)
 not_listener n end w old new e0 e1 o (inr p) h5 h10 = absurd (h5 p.0)
 
 -- the lines of faults, where the call had left err as it was
@@ -292,9 +292,9 @@ fault_lines n w err0 silent err1 e0 e1 quiet l =
     subst P quiet (read_line n w silent err1 e0 e1 l, no_memory_line n w silent err1 e0 e1 l)
 
 -- a verdict that is a write fault is that of the server
-written_off : (end : Served) (w : Verdict) → IsOr (Verdict.Served end) w → number_of w ≡ 5 → end ≡ Served.WriteFault
-written_off end w (inl e) h = write_fault_of end (sym (ap number_of e) ∙ h)
-written_off end w (inr q) h = absurd (let z = sym (ap number_of q.0) ∙ h in omega arith)
+written_off : (end : Served) (w : Verdict) → IsOr (Verdict.Served end) w → verdict_status w ≡ 5 → end ≡ Served.WriteFault
+written_off end w (inl e) h = write_fault_of end (sym (ap verdict_status e) ∙ h)
+written_off end w (inr q) h = absurd (let z = sym (ap verdict_status q.0) ∙ h in omega arith)
 
 pub fails_at_a_line : (n : ℕ) (end : Served) (w : Verdict) (err0 silent err1 : Option (List ℕ)) (w0 begun w1 e0 still e1 : ℕ) → begun ≡ w0 → silent ≡ err0 → still ≡ e0 →
     (end ≡ Served.WriteFault → HasRisen begun w1) → IsOr (Verdict.Served end) w → IsTold n w silent err1 still e1 → n ≡ 5 → HasFailed err0 err1 w0 w1 e0 e1

@@ -12,7 +12,7 @@ use Rattle.scenario_grammar.specs.declared.place.Place.{Place}
 use Rattle.scenario_lang.specs.declared.text.ParseRefusal.{ParseRefusal}
 use Rattle.scenario_lang.specs.declared.text.ParseRefusal.TheVariants as parse
 use Rattle.scenario_lang.specs.Lines.{Parses}
-use Rattle.world.specs.Worlds.{Begins, GoesOn, Meaning}
+use Rattle.world.specs.Worlds.{Begins, WorldGoesOn, WorldMeaning}
 use Rattle.world.specs.Kept.{rule_state, script_log, script_meaning}
 use Rattle.world.specs.declared.script.ScriptWorld.{ScriptWorld}
 use Rattle.world_rules.specs.declared.question.LogEntry.{LogEntry}
@@ -22,7 +22,7 @@ use Rattle.machine.specs.State.{State}
 use Rattle.machine_scripts.specs.Scripts.{FollowersRunScripts, IsBeginningOf}
 use Rattle.command_words.specs.declared.command.TextCommand.{TextCommand}
 use Rattle.wsgi_core.specs.Applications.{App}
-use Rattle.hub_engine.specs.declared.run.End.{End}
+use Rattle.hub_engine.specs.declared.run.EngineEnd.{EngineEnd}
 use Rattle.hub_engine.specs.declared.run.Ran.{Ran as Came}
 use Rattle.hub_engine.specs.Ends.{CountsOf, HasLogged, HasNumbers, HasNumbersAt, RanTo, end_of_run}
 use Rattle.hub_engine.specs.Outside.{WritesPart}
@@ -30,8 +30,8 @@ use Rattle.hub_engine.specs.Prepared.{Prepared}
 use Rattle.trace_check.proofs.Lines.{text_of_append}
 use Rattle.trace_check.proofs.Placing.{feeds_append, feeds_lines, few_feeds}
 use Rattle.gv_top.specs.declared.status.Verdict.{Verdict}
-use Rattle.gv_top.specs.declared.words.Command.{Command}
-use Rattle.scenario_reading.specs.Judged.{judged}
+use Rattle.gv_top.specs.declared.words.OfflineCommand.{OfflineCommand}
+use Rattle.scenario_reading.specs.Judged.{judged_text}
 use Rattle.gv_top.specs.Answers.{Answer, IsStormAnswer, answer_of_storm}
 use Rattle.gv_top.specs.Counted.{WasCounted, is_broken_off}
 use Rattle.gv_top.specs.Storm.{IsStorm, storm_run, storm_text}
@@ -44,34 +44,34 @@ use Rattle.gv_top.proofs.Tops.{answered, status_is}
 -- ---- the run
 
 -- an end that is no break has the numbers of the last state
-numbers_at : (end : End) (came : Came) (s : State) → is_broken_off end ≡ false → HasNumbersAt end came s → CountsOf came s
-numbers_at End.WriteFault came s e h = absurd (cc e)
-numbers_at End.Memory came s e h = absurd (cc e)
-numbers_at End.MainValue came s e h = h
-numbers_at (End.MainFault f) came s e h = h
-numbers_at End.NoTurns came s e h = h
-numbers_at End.NoMoves came s e h = h
-numbers_at End.NoGreenlets came s e h = h
-numbers_at End.NoLinks came s e h = h
-numbers_at End.NoKills came s e h = h
+numbers_at : (end : EngineEnd) (came : Came) (s : State) → is_broken_off end ≡ false → HasNumbersAt end came s → CountsOf came s
+numbers_at EngineEnd.WriteFault came s e h = absurd (cc e)
+numbers_at EngineEnd.Memory came s e h = absurd (cc e)
+numbers_at EngineEnd.MainValue came s e h = h
+numbers_at (EngineEnd.MainFault f) came s e h = h
+numbers_at EngineEnd.NoTurns came s e h = h
+numbers_at EngineEnd.NoMoves came s e h = h
+numbers_at EngineEnd.NoGreenlets came s e h = h
+numbers_at EngineEnd.NoLinks came s e h = h
+numbers_at EngineEnd.NoKills came s e h = h
 
 -- with such an end the sink has the whole trace
-whole_at : (end : End) (r : Ran) (old new : Option (List ℕ)) → is_broken_off end ≡ false → RanTo end r old new → (new ≡ appended old (text_of r.lines)) × (Some end ≡ end_of_run r.end)
-whole_at End.WriteFault r old new e h = absurd (cc e)
-whole_at End.Memory r old new e h = absurd (cc e)
-whole_at End.MainValue r old new e h = h
-whole_at (End.MainFault f) r old new e h = h
-whole_at End.NoTurns r old new e h = h
-whole_at End.NoMoves r old new e h = h
-whole_at End.NoGreenlets r old new e h = h
-whole_at End.NoLinks r old new e h = h
-whole_at End.NoKills r old new e h = h
+whole_at : (end : EngineEnd) (r : Ran) (old new : Option (List ℕ)) → is_broken_off end ≡ false → RanTo end r old new → (new ≡ appended old (text_of r.lines)) × (Some end ≡ end_of_run r.end)
+whole_at EngineEnd.WriteFault r old new e h = absurd (cc e)
+whole_at EngineEnd.Memory r old new e h = absurd (cc e)
+whole_at EngineEnd.MainValue r old new e h = h
+whole_at (EngineEnd.MainFault f) r old new e h = h
+whole_at EngineEnd.NoTurns r old new e h = h
+whole_at EngineEnd.NoMoves r old new e h = h
+whole_at EngineEnd.NoGreenlets r old new e h = h
+whole_at EngineEnd.NoLinks r old new e h = h
+whole_at EngineEnd.NoKills r old new e h = h
 
 -- what was appended to no bytes is all that there is
 all_appended : (new text : List ℕ) → Some new ≡ appended (Some []) text → new ≡ text
 all_appended new text e = ap (λ (o : Option (List ℕ)). unwrap_or o new) (e ∙ appended-told [] text)
 
-stops_for : (end : End) (e : RunEnd) → Some end ≡ end_of_run e → (cause : StopCause) × (e ≡ RunEnd.Stopped cause)
+stops_for : (end : EngineEnd) (e : RunEnd) → Some end ≡ end_of_run e → (cause : StopCause) × (e ≡ RunEnd.Stopped cause)
 stops_for end (RunEnd.Stopped cause) h = (cause, refl)
 stops_for end RunEnd.Asking h = absurd (cc h)
 
@@ -106,16 +106,16 @@ counted_whole came lines text whole r b e l h part n =
     (record { end = all.1; numbers = numbers_at came.end came r.state e n; lines_are = l ∙ whole_lines text r.lines (all_appended text (text_of r.lines) all.0) part })
 
 -- a run in a script world is the run under its rule
-is_script_run : FollowersRunScripts → (end : End) (c : Scenario) (turns moves tick : ℕ) (before begun : Meaning) (w : ScriptWorld) → before.tick ≡ tick → Begins before begun 1
-    → GoesOn begun (script_meaning w) → HasLogged end (run c turns moves w.answers.items).log w.answers.items (script_log w)
+is_script_run : FollowersRunScripts → (end : EngineEnd) (c : Scenario) (turns moves tick : ℕ) (before begun : WorldMeaning) (w : ScriptWorld) → before.tick ≡ tick → Begins before begun 1
+    → WorldGoesOn begun (script_meaning w) → HasLogged end (run c turns moves w.answers.items).log w.answers.items (script_log w)
     → IsBeginningOf (script_run c turns moves tick) (run c turns moves w.answers.items)
 is_script_run law end c turns moves tick before begun w same b g logged =
     let part = part_logged end (run c turns moves w.answers.items).log w.answers.items (script_log w) logged in
     let F : ℕ → Type 0 = λ k. Follows k (start []) part.part (rule_state w []) in
     law c turns moves tick w.answers.items part.part part.later (rule_state w []) part.is part.all (subst F (g.tick ∙ b.tick ∙ same) part.stood)
 
-pub was_counted : FollowersRunScripts → (came : Came) (lines : ℕ) (s : Scenario) (engine : Prepared) (before begun : Meaning) (w : ScriptWorld) (none text : List ℕ)
-    → engine ≡ record { scenario = s; turns = 10000000; moves = 100000000 } → before.tick ≡ 0 → Begins before begun 1 → GoesOn begun (script_meaning w) → none ≡ []
+pub was_counted : FollowersRunScripts → (came : Came) (lines : ℕ) (s : Scenario) (engine : Prepared) (before begun : WorldMeaning) (w : ScriptWorld) (none text : List ℕ)
+    → engine ≡ record { scenario = s; turns = 10000000; moves = 100000000 } → before.tick ≡ 0 → Begins before begun 1 → WorldGoesOn begun (script_meaning w) → none ≡ []
     → is_broken_off came.end ≡ false → lines ≡ lines_of text
     → RanTo came.end (run engine.scenario engine.turns engine.moves w.answers.items) (Some none) (Some text)
     → HasNumbers came (run engine.scenario engine.turns engine.moves w.answers.items).state
@@ -133,10 +133,10 @@ was_counted law came lines s engine before begun w none text is same b g empty e
 -- ---- its scenario
 
 -- the scenario that was read of the text is the storm's
-same_storm : (n : ℕ) (r : Result Scenario Place) (s : Scenario) (bytes : List ℕ) → bytes ≡ storm_text n → judged bytes ≡ r → IsStorm n s → r ≡ Ok s
-same_storm n r s bytes is e storm = sym e ∙ ap judged is ∙ spelt_is_judged s (storm_text n) storm.0 storm.1
+same_storm : (n : ℕ) (r : Result Scenario Place) (s : Scenario) (bytes : List ℕ) → bytes ≡ storm_text n → judged_text bytes ≡ r → IsStorm n s → r ≡ Ok s
+same_storm n r s bytes is e storm = sym e ∙ ap judged_text is ∙ spelt_is_judged s (storm_text n) storm.0 storm.1
 
-pub storm_decided : (n : ℕ) (t : Scenario) (bytes : List ℕ) (v : Verdict) (old new : Option (List ℕ)) → bytes ≡ storm_text n → judged bytes ≡ Ok t
+pub storm_decided : (n : ℕ) (t : Scenario) (bytes : List ℕ) (v : Verdict) (old new : Option (List ℕ)) → bytes ≡ storm_text n → judged_text bytes ≡ Ok t
     → Decided v (answer_of_storm n (storm_run t)) old new → (a : Answer) → IsStormAnswer n a → Decided v a old new
 storm_decided n t bytes v old new is e h a of =
     let same : t ≡ of.0 = cc (same_storm n (Ok t) of.0 bytes is e of.1) in
@@ -145,22 +145,22 @@ storm_decided n t bytes v old new is e h a of =
     subst P (sym of.2) (subst Q same h)
 
 -- its text is not refused, but memory may run out for it
-pub storm_unread : (n : ℕ) (bytes : List ℕ) (e : ParseRefusal) (v : Verdict) (old : Option (List ℕ)) → bytes ≡ storm_text n → v ≡ verdict_on e → Parses (judged bytes) (Err e)
+pub storm_unread : (n : ℕ) (bytes : List ℕ) (e : ParseRefusal) (v : Verdict) (old : Option (List ℕ)) → bytes ≡ storm_text n → v ≡ verdict_on e → Parses (judged_text bytes) (Err e)
     → (a : Answer) → IsStormAnswer n a → Decided v a old old
 storm_unread n bytes e v old is same h a of = let P : Verdict → Type 0 = λ x. Decided x a old old in subst P (sym same) (by e h)
   where
-    by : (e : ParseRefusal) → Parses (judged bytes) (Err e) → Decided (verdict_on e) a old old
+    by : (e : ParseRefusal) → Parses (judged_text bytes) (Err e) → Decided (verdict_on e) a old old
     by (parse.Refused p) h = let z : Err p ≡ Ok of.0 = same_storm n (Err p) of.0 bytes is h of.1 in absurd (let no : ⊥ = cc z in no)
     by parse.Memory h = AppendsPrefix-nothing old a.out
 
 -- ---- the call
 
-pub text_is_no_storm : (text : TextCommand) (size : ℕ) → Command.Text text ≡ Command.Storm size → ⊥
+pub text_is_no_storm : (text : TextCommand) (size : ℕ) → OfflineCommand.Text text ≡ OfflineCommand.Storm size → ⊥
 text_is_no_storm text size e = cc e
 
 -- what the call leaves of a storm
-pub answers_storm : {n : ℕ} {app : App} {c : Option Command} {after : Meaning} {stands : List LogEntry → Type 0} {input out err : Stream} (size : ℕ) →
-    Ended n app c after stands input out err → c ≡ Some (Command.Storm size)
+pub answers_storm : {n : ℕ} {app : App} {c : Option OfflineCommand} {after : WorldMeaning} {stands : List LogEntry → Type 0} {input out err : Stream} (size : ℕ) →
+    Ended n app c after stands input out err → c ≡ Some (OfflineCommand.Storm size)
     → (n ≢ 4) × ((s : Scenario) → IsStorm size s → IsAnswered n (answer_of_storm size (storm_run s)) out.before out.after err.before err.after)
 answers_storm size h named =
     let d = h.came_to.storm size named in

@@ -3,14 +3,14 @@ use Rattle.std.proofs.Common.{◌≡◌, ◌≢◌, ◌⊎◌, inl, inr, refl, a
 use Rattle.gv_values.specs.Counts.{HasRisen}
 use Rattle.gv_io.specs.Streams.{appended, AppendsPrefix}
 use Rattle.gv_io.proofs.StreamLaws.{appended-nothing, AppendsPrefix-all, AppendsPrefix-nothing}
-use Rattle.world.specs.Worlds.{Meaning}
+use Rattle.world.specs.Worlds.{WorldMeaning}
 use Rattle.world_rules.specs.declared.question.LogEntry.{LogEntry}
-use Rattle.hub_engine.specs.declared.run.End.{End}
+use Rattle.hub_engine.specs.declared.run.EngineEnd.{EngineEnd}
 use Rattle.wsgi_core.specs.Applications.{App}
 use Rattle.wsgi_connection.specs.declared.connection.ConnectionEnd.{ConnectionEnd}
 use Rattle.serve_command.specs.declared.serving.Served.{Served}
 use Rattle.gv_top.specs.declared.status.Verdict.{Verdict}
-use Rattle.gv_top.specs.declared.words.Command.{Command}
+use Rattle.gv_top.specs.declared.words.OfflineCommand.{OfflineCommand}
 use Rattle.command_words.specs.declared.command.GatewayKind.{GatewayKind}
 use Rattle.command_words.specs.declared.command.RunOptions.{RunOptions}
 use Rattle.command_words.specs.declared.command.TextCommand.{TextCommand}
@@ -24,7 +24,7 @@ use Rattle.verify_command.specs.declared.checking.Unverified.{Unverified}
 use Rattle.gv_top.specs.Answers.{Answer, memory_line, most_read, read_fault_line, write_fault_line}
 use Rattle.gv_top.specs.Commands.{IsLeftAlone}
 use Rattle.gv_top.specs.Running.{IsBegun, IsUnbegun, RanWith}
-use Rattle.gv_top.specs.Verdicts.{number_of, line_of}
+use Rattle.gv_top.specs.Verdicts.{verdict_status, verdict_line}
 use Rattle.gv_top.specs.Verifying.{IsAnswerOf, IsCheckAnswer}
 use Rattle.gv_top.specs.Top.{Counts, Fits, Decided, CameTo, Ended, FailsToWrite, IsStatusOf, IsTold, AnswersConnection, IsAnswered, HasLawfulLines, Stream}
 use Rattle.gv_top.specs.Inner.{IsOfConnection, IsOr}
@@ -43,36 +43,36 @@ uncounted fails old new never e = record { failed = λ f. absurd (never f); unfa
 counted_as : (fails told : Type 0) (old new : ℕ) → (told → fails) → (fails → told) → Counts fails old new → Counts told old new
 counted_as fails told old new f g h = record { failed = λ t. h.failed (f t); unfailed = λ never. h.unfailed (λ x. never (g x)); never_falls = h.never_falls }
 
-pub run_counts : (end : End) (old new : ℕ) → Counts (end ≡ End.WriteFault) old new → Counts (number_of (Verdict.Ran end) ≡ 5) old new
-run_counts end old new h = counted_as (end ≡ End.WriteFault) (number_of (Verdict.Ran end) ≡ 5) old new (by end) (λ e. ap (λ (x : End). number_of (Verdict.Ran x)) e) h
+pub run_counts : (end : EngineEnd) (old new : ℕ) → Counts (end ≡ EngineEnd.WriteFault) old new → Counts (verdict_status (Verdict.Ran end) ≡ 5) old new
+run_counts end old new h = counted_as (end ≡ EngineEnd.WriteFault) (verdict_status (Verdict.Ran end) ≡ 5) old new (by end) (λ e. ap (λ (x : EngineEnd). verdict_status (Verdict.Ran x)) e) h
   where
-    by : (end : End) → number_of (Verdict.Ran end) ≡ 5 → end ≡ End.WriteFault
-    by End.MainValue e = absurd (omega arith)
-    by (End.MainFault f) e = absurd (omega arith)
-    by End.NoTurns e = absurd (omega arith)
-    by End.NoMoves e = absurd (omega arith)
-    by End.NoGreenlets e = absurd (omega arith)
-    by End.NoLinks e = absurd (omega arith)
-    by End.NoKills e = absurd (omega arith)
-    by End.WriteFault e = refl
-    by End.Memory e = absurd (omega arith)
+    by : (end : EngineEnd) → verdict_status (Verdict.Ran end) ≡ 5 → end ≡ EngineEnd.WriteFault
+    by EngineEnd.MainValue e = absurd (omega arith)
+    by (EngineEnd.MainFault f) e = absurd (omega arith)
+    by EngineEnd.NoTurns e = absurd (omega arith)
+    by EngineEnd.NoMoves e = absurd (omega arith)
+    by EngineEnd.NoGreenlets e = absurd (omega arith)
+    by EngineEnd.NoLinks e = absurd (omega arith)
+    by EngineEnd.NoKills e = absurd (omega arith)
+    by EngineEnd.WriteFault e = refl
+    by EngineEnd.Memory e = absurd (omega arith)
 
-pub connection_writes : (end : ConnectionEnd) (old new : ℕ) → Counts (end ≡ ConnectionEnd.WriteFault) old new → Counts (number_of (Verdict.Connection end) ≡ 5) old new
+pub connection_writes : (end : ConnectionEnd) (old new : ℕ) → Counts (end ≡ ConnectionEnd.WriteFault) old new → Counts (verdict_status (Verdict.Connection end) ≡ 5) old new
 connection_writes end old new h =
-    counted_as (end ≡ ConnectionEnd.WriteFault) (number_of (Verdict.Connection end) ≡ 5) old new (by end) (λ e. ap (λ (x : ConnectionEnd). number_of (Verdict.Connection x)) e) h
+    counted_as (end ≡ ConnectionEnd.WriteFault) (verdict_status (Verdict.Connection end) ≡ 5) old new (by end) (λ e. ap (λ (x : ConnectionEnd). verdict_status (Verdict.Connection x)) e) h
   where
-    by : (end : ConnectionEnd) → number_of (Verdict.Connection end) ≡ 5 → end ≡ ConnectionEnd.WriteFault
+    by : (end : ConnectionEnd) → verdict_status (Verdict.Connection end) ≡ 5 → end ≡ ConnectionEnd.WriteFault
     by ConnectionEnd.Closed e = absurd (omega arith)
     by ConnectionEnd.TooLong e = absurd (omega arith)
     by ConnectionEnd.ReadFault e = absurd (omega arith)
     by ConnectionEnd.WriteFault e = refl
     by ConnectionEnd.Memory e = absurd (omega arith)
 
-pub connection_reads : (end : ConnectionEnd) (old new : ℕ) → Counts (end ≡ ConnectionEnd.ReadFault) old new → Counts (number_of (Verdict.Connection end) ≡ 4) old new
+pub connection_reads : (end : ConnectionEnd) (old new : ℕ) → Counts (end ≡ ConnectionEnd.ReadFault) old new → Counts (verdict_status (Verdict.Connection end) ≡ 4) old new
 connection_reads end old new h =
-    counted_as (end ≡ ConnectionEnd.ReadFault) (number_of (Verdict.Connection end) ≡ 4) old new (by end) (λ e. ap (λ (x : ConnectionEnd). number_of (Verdict.Connection x)) e) h
+    counted_as (end ≡ ConnectionEnd.ReadFault) (verdict_status (Verdict.Connection end) ≡ 4) old new (by end) (λ e. ap (λ (x : ConnectionEnd). verdict_status (Verdict.Connection x)) e) h
   where
-    by : (end : ConnectionEnd) → number_of (Verdict.Connection end) ≡ 4 → end ≡ ConnectionEnd.ReadFault
+    by : (end : ConnectionEnd) → verdict_status (Verdict.Connection end) ≡ 4 → end ≡ ConnectionEnd.ReadFault
     by ConnectionEnd.Closed e = absurd (omega arith)
     by ConnectionEnd.TooLong e = absurd (omega arith)
     by ConnectionEnd.ReadFault e = refl
@@ -84,22 +84,22 @@ connection_reads end old new h =
 -- out has a prefix, and the status is one of a fault or of want of memory
 record Broke (v : Verdict) (a : Answer) (old new : Option (List ℕ)) : Type 0 where
   prefix : AppendsPrefix old new a.out
-  number : (number_of v ≡ 4) ⊎ ((number_of v ≡ 5) ⊎ (number_of v ≡ 7))
+  number : (verdict_status v ≡ 4) ⊎ ((verdict_status v ≡ 5) ⊎ (verdict_status v ≡ 7))
 
 decided : (v : Verdict) (a : Answer) (old new : Option (List ℕ)) → Decided v a old new → Fits v a old new ⊎ Broke v a old new
 decided Verdict.Usage a old new d = inl d
 decided Verdict.ReadFault a old new d = inr (record { prefix = left_as_it_was old new a.out d; number = inl refl })
 decided (Verdict.Refused place) a old new d = inl d
 decided Verdict.Formatted a old new d = inl d
-decided (Verdict.Ran End.MainValue) a old new d = inl d
-decided (Verdict.Ran (End.MainFault f)) a old new d = inl d
-decided (Verdict.Ran End.NoTurns) a old new d = inl d
-decided (Verdict.Ran End.NoMoves) a old new d = inl d
-decided (Verdict.Ran End.NoGreenlets) a old new d = inl d
-decided (Verdict.Ran End.NoLinks) a old new d = inl d
-decided (Verdict.Ran End.NoKills) a old new d = inl d
-decided (Verdict.Ran End.WriteFault) a old new d = inr (record { prefix = d; number = inr (inl refl) })
-decided (Verdict.Ran End.Memory) a old new d = inr (record { prefix = d; number = inr (inr refl) })
+decided (Verdict.Ran EngineEnd.MainValue) a old new d = inl d
+decided (Verdict.Ran (EngineEnd.MainFault f)) a old new d = inl d
+decided (Verdict.Ran EngineEnd.NoTurns) a old new d = inl d
+decided (Verdict.Ran EngineEnd.NoMoves) a old new d = inl d
+decided (Verdict.Ran EngineEnd.NoGreenlets) a old new d = inl d
+decided (Verdict.Ran EngineEnd.NoLinks) a old new d = inl d
+decided (Verdict.Ran EngineEnd.NoKills) a old new d = inl d
+decided (Verdict.Ran EngineEnd.WriteFault) a old new d = inr (record { prefix = d; number = inr (inl refl) })
+decided (Verdict.Ran EngineEnd.Memory) a old new d = inr (record { prefix = d; number = inr (inr refl) })
 decided (Verdict.Connection ConnectionEnd.Closed) a old new d = inl d
 decided (Verdict.Connection ConnectionEnd.TooLong) a old new d = inl d
 decided (Verdict.Connection ConnectionEnd.ReadFault) a old new d = inr (record { prefix = d; number = inl refl })
@@ -123,19 +123,19 @@ prefix_of v a old new (inl f) = AppendsPrefix-all old new a.out f.0
 prefix_of v a old new (inr b) = b.prefix
 
 whole_of : (n : ℕ) (v : Verdict) (a : Answer) (old new : Option (List ℕ)) → Fits v a old new ⊎ Broke v a old new →
-    n ≡ number_of v → n ≢ 4 → n ≢ 5 → n ≢ 7 → Fits v a old new
+    n ≡ verdict_status v → n ≢ 4 → n ≢ 5 → n ≢ 7 → Fits v a old new
 whole_of n v a old new (inl f) e h4 h5 h7 = f
 whole_of n v a old new (inr b) e h4 h5 h7 = by b.number
   where
-    by : (number_of v ≡ 4) ⊎ ((number_of v ≡ 5) ⊎ (number_of v ≡ 7)) → Fits v a old new
+    by : (verdict_status v ≡ 4) ⊎ ((verdict_status v ≡ 5) ⊎ (verdict_status v ≡ 7)) → Fits v a old new
     by (inl q) = absurd (h4 (e ∙ q))
     by (inr (inl q)) = absurd (h5 (e ∙ q))
     by (inr (inr q)) = absurd (h7 (e ∙ q))
 
 -- the verdict's line is there
 record Said (n : ℕ) (v : Verdict) (old new : Option (List ℕ)) : Type 0 where
-  number : n ≡ number_of v
-  line : new ≡ appended old (line_of v)
+  number : n ≡ verdict_status v
+  line : new ≡ appended old (verdict_line v)
 
 said : (n : ℕ) (v : Verdict) (old new : Option (List ℕ)) (e0 e1 : ℕ) → IsTold n v old new e0 e1 → n ≢ 5 → Said n v old new
 said n v old new e0 e1 (inl p) h5 = record { number = p.0; line = p.1 }
@@ -155,12 +155,12 @@ answered n v a out0 out1 err0 err1 e0 e1 d l =
 -- ---- the verdict that is told
 
 -- what is said of a run by its verdict is said by the status that is answered
-ran_told : (n : ℕ) (v : Verdict) (options : RunOptions) (s : Scenario) (after : Meaning) (stands : List LogEntry → Type 0) (out0 out1 : Option (List ℕ)) → IsStatusOf n v → RanWith (number_of v) options s after stands out0 out1
+ran_told : (n : ℕ) (v : Verdict) (options : RunOptions) (s : Scenario) (after : WorldMeaning) (stands : List LogEntry → Type 0) (out0 out1 : Option (List ℕ)) → IsStatusOf n v → RanWith (verdict_status v) options s after stands out0 out1
     → RanWith n options s after stands out0 out1
 ran_told n v options s after stands out0 out1 (inl e) h = let P : ℕ → Type 0 = λ m. RanWith m options s after stands out0 out1 in subst P (sym e) h
 ran_told n v options s after stands out0 out1 (inr p) h = record { begun = by h.begun; native = λ workers w h4 h5 h7. absurd (no p.1 h5 h7); held = λ workers w h4 h5 h7. absurd (no p.1 h5 h7) }
   where
-    by : IsBegun options s after.answers out0 out1 ⊎ IsUnbegun (number_of v) out0 out1 → IsBegun options s after.answers out0 out1 ⊎ IsUnbegun n out0 out1
+    by : IsBegun options s after.answers out0 out1 ⊎ IsUnbegun (verdict_status v) out0 out1 → IsBegun options s after.answers out0 out1 ⊎ IsUnbegun n out0 out1
     by (inl b) = inl b
     by (inr u) = inr (u.0, inr p.1)
 
@@ -169,8 +169,8 @@ ran_told n v options s after stands out0 out1 (inr p) h = record { begun = by h.
     no (inr e) h5 h7 = h7 e
 
 -- where there is no memory for the line of a verdict, the command came to want of memory
-out_of_memory : (v : Verdict) (app : App) (c : Option Command) (after : Meaning) (stands : List LogEntry → Type 0) (input out : Stream) → CameTo v app c after stands input out →
-    number_of v ≢ 0 → number_of v ≢ 4 → number_of v ≢ 5 → CameTo (Verdict.Ran End.Memory) app c after stands input out
+out_of_memory : (v : Verdict) (app : App) (c : Option OfflineCommand) (after : WorldMeaning) (stands : List LogEntry → Type 0) (input out : Stream) → CameTo v app c after stands input out →
+    verdict_status v ≢ 0 → verdict_status v ≢ 4 → verdict_status v ≢ 5 → CameTo (Verdict.Ran EngineEnd.Memory) app c after stands input out
 out_of_memory v app c after stands input out h n0 n4 n5 =
     record {
       answer = λ left a told is. prefix_of v a out.before out.after (decided v a out.before out.after (h.answer left a told is));
@@ -192,8 +192,8 @@ abbrev pub left_alone_stream : Option (List ℕ) → ℕ → Stream
 left_alone_stream bytes faults = record { before = bytes; after = bytes; faults_before = faults; faults_after = faults }
 
 -- memory ran out before anything was done
-pub out_of_memory_at_once : (app : App) (c : Option Command) (after : Meaning) (stands : List LogEntry → Type 0) (input out : Option (List ℕ)) (reads writes : ℕ) →
-    CameTo (Verdict.Ran End.Memory) app c after stands (left_alone_stream input reads) (left_alone_stream out writes)
+pub out_of_memory_at_once : (app : App) (c : Option OfflineCommand) (after : WorldMeaning) (stands : List LogEntry → Type 0) (input out : Option (List ℕ)) (reads writes : ℕ) →
+    CameTo (Verdict.Ran EngineEnd.Memory) app c after stands (left_alone_stream input reads) (left_alone_stream out writes)
 out_of_memory_at_once app c after stands input out reads writes =
     record {
       answer = λ left a told is. AppendsPrefix-nothing out a.out;
@@ -211,19 +211,19 @@ out_of_memory_at_once app c after stands input out reads writes =
     }
 
 -- what a command came to, another that is the same came to
-pub came_as : {v : Verdict} {app : App} {c d : Option Command} {after : Meaning} {stands : List LogEntry → Type 0} {input out : Stream} → c ≡ d →
+pub came_as : {v : Verdict} {app : App} {c d : Option OfflineCommand} {after : WorldMeaning} {stands : List LogEntry → Type 0} {input out : Stream} → c ≡ d →
     CameTo v app c after stands input out → CameTo v app d after stands input out
 came_as {v} {app = app} {after = after} {stands = stands} {input = input} {out = out} e h =
-    let P : Option Command → Type 0 = λ x. CameTo v app x after stands input out in subst P e h
+    let P : Option OfflineCommand → Type 0 = λ x. CameTo v app x after stands input out in subst P e h
 
-came_to : (v w : Verdict) (app : App) (c : Option Command) (after : Meaning) (stands : List LogEntry → Type 0) (input out : Stream) → CameTo v app c after stands input out →
+came_to : (v w : Verdict) (app : App) (c : Option OfflineCommand) (after : WorldMeaning) (stands : List LogEntry → Type 0) (input out : Stream) → CameTo v app c after stands input out →
     IsOr v w → CameTo w app c after stands input out
 came_to v w app c after stands input out h (inl e) =
     let P : Verdict → Type 0 = λ x. CameTo x app c after stands input out in subst P (sym e) h
 came_to v w app c after stands input out h (inr p) =
     let P : Verdict → Type 0 = λ x. CameTo x app c after stands input out in subst P (sym p.0) (out_of_memory v app c after stands input out h p.1 p.2 p.3)
 
-pub ended : (n : ℕ) (v w : Verdict) (app : App) (c : Option Command) (after : Meaning) (stands : List LogEntry → Type 0) (input out : Stream) (err0 err1 : Option (List ℕ)) (e0 e1 : ℕ) →
+pub ended : (n : ℕ) (v w : Verdict) (app : App) (c : Option OfflineCommand) (after : WorldMeaning) (stands : List LogEntry → Type 0) (input out : Stream) (err0 err1 : Option (List ℕ)) (e0 e1 : ℕ) →
     CameTo v app c after stands input out → IsOr v w → IsTold n w err0 err1 e0 e1 →
     Ended n app c after stands input out (record { before = err0; after = err1; faults_before = e0; faults_after = e1 })
 ended n v w app c after stands input out err0 err1 e0 e1 h o l =
@@ -231,20 +231,20 @@ ended n v w app c after stands input out err0 err1 e0 e1 h o l =
 
 -- ---- the lines of faults
 
-line_of_read : (v : Verdict) → number_of v ≡ 4 → line_of v ≡ read_fault_line
+line_of_read : (v : Verdict) → verdict_status v ≡ 4 → verdict_line v ≡ read_fault_line
 line_of_read Verdict.Usage e = absurd (omega arith)
 line_of_read Verdict.ReadFault e = refl
 line_of_read (Verdict.Refused place) e = absurd (omega arith)
 line_of_read Verdict.Formatted e = absurd (omega arith)
-line_of_read (Verdict.Ran End.MainValue) e = absurd (omega arith)
-line_of_read (Verdict.Ran (End.MainFault f)) e = absurd (omega arith)
-line_of_read (Verdict.Ran End.NoTurns) e = absurd (omega arith)
-line_of_read (Verdict.Ran End.NoMoves) e = absurd (omega arith)
-line_of_read (Verdict.Ran End.NoGreenlets) e = absurd (omega arith)
-line_of_read (Verdict.Ran End.NoLinks) e = absurd (omega arith)
-line_of_read (Verdict.Ran End.NoKills) e = absurd (omega arith)
-line_of_read (Verdict.Ran End.WriteFault) e = absurd (omega arith)
-line_of_read (Verdict.Ran End.Memory) e = absurd (omega arith)
+line_of_read (Verdict.Ran EngineEnd.MainValue) e = absurd (omega arith)
+line_of_read (Verdict.Ran (EngineEnd.MainFault f)) e = absurd (omega arith)
+line_of_read (Verdict.Ran EngineEnd.NoTurns) e = absurd (omega arith)
+line_of_read (Verdict.Ran EngineEnd.NoMoves) e = absurd (omega arith)
+line_of_read (Verdict.Ran EngineEnd.NoGreenlets) e = absurd (omega arith)
+line_of_read (Verdict.Ran EngineEnd.NoLinks) e = absurd (omega arith)
+line_of_read (Verdict.Ran EngineEnd.NoKills) e = absurd (omega arith)
+line_of_read (Verdict.Ran EngineEnd.WriteFault) e = absurd (omega arith)
+line_of_read (Verdict.Ran EngineEnd.Memory) e = absurd (omega arith)
 line_of_read (Verdict.Connection ConnectionEnd.Closed) e = absurd (omega arith)
 line_of_read (Verdict.Connection ConnectionEnd.TooLong) e = absurd (omega arith)
 line_of_read (Verdict.Connection ConnectionEnd.ReadFault) e = refl
@@ -263,20 +263,20 @@ line_of_read (Verdict.Unverified (Unverified.Wrong line cause)) e = absurd (omeg
 line_of_read (Verdict.Unverified (Unverified.Lawless line law)) e = absurd (omega arith)
 line_of_read (Verdict.Unverified Unverified.Memory) e = absurd (omega arith)
 
-line_of_memory : (v : Verdict) → number_of v ≡ 7 → line_of v ≡ memory_line
+line_of_memory : (v : Verdict) → verdict_status v ≡ 7 → verdict_line v ≡ memory_line
 line_of_memory Verdict.Usage e = absurd (omega arith)
 line_of_memory Verdict.ReadFault e = absurd (omega arith)
 line_of_memory (Verdict.Refused place) e = absurd (omega arith)
 line_of_memory Verdict.Formatted e = absurd (omega arith)
-line_of_memory (Verdict.Ran End.MainValue) e = absurd (omega arith)
-line_of_memory (Verdict.Ran (End.MainFault f)) e = absurd (omega arith)
-line_of_memory (Verdict.Ran End.NoTurns) e = absurd (omega arith)
-line_of_memory (Verdict.Ran End.NoMoves) e = absurd (omega arith)
-line_of_memory (Verdict.Ran End.NoGreenlets) e = absurd (omega arith)
-line_of_memory (Verdict.Ran End.NoLinks) e = absurd (omega arith)
-line_of_memory (Verdict.Ran End.NoKills) e = absurd (omega arith)
-line_of_memory (Verdict.Ran End.WriteFault) e = absurd (omega arith)
-line_of_memory (Verdict.Ran End.Memory) e = refl
+line_of_memory (Verdict.Ran EngineEnd.MainValue) e = absurd (omega arith)
+line_of_memory (Verdict.Ran (EngineEnd.MainFault f)) e = absurd (omega arith)
+line_of_memory (Verdict.Ran EngineEnd.NoTurns) e = absurd (omega arith)
+line_of_memory (Verdict.Ran EngineEnd.NoMoves) e = absurd (omega arith)
+line_of_memory (Verdict.Ran EngineEnd.NoGreenlets) e = absurd (omega arith)
+line_of_memory (Verdict.Ran EngineEnd.NoLinks) e = absurd (omega arith)
+line_of_memory (Verdict.Ran EngineEnd.NoKills) e = absurd (omega arith)
+line_of_memory (Verdict.Ran EngineEnd.WriteFault) e = absurd (omega arith)
+line_of_memory (Verdict.Ran EngineEnd.Memory) e = refl
 line_of_memory (Verdict.Connection ConnectionEnd.Closed) e = absurd (omega arith)
 line_of_memory (Verdict.Connection ConnectionEnd.TooLong) e = absurd (omega arith)
 line_of_memory (Verdict.Connection ConnectionEnd.ReadFault) e = absurd (omega arith)
@@ -295,20 +295,20 @@ line_of_memory (Verdict.Unverified (Unverified.Wrong line cause)) e = absurd (om
 line_of_memory (Verdict.Unverified (Unverified.Lawless line law)) e = absurd (omega arith)
 line_of_memory (Verdict.Unverified Unverified.Memory) e = refl
 
-pub line_of_write : (v : Verdict) → number_of v ≡ 5 → line_of v ≡ write_fault_line
+pub line_of_write : (v : Verdict) → verdict_status v ≡ 5 → verdict_line v ≡ write_fault_line
 line_of_write Verdict.Usage e = absurd (omega arith)
 line_of_write Verdict.ReadFault e = absurd (omega arith)
 line_of_write (Verdict.Refused place) e = absurd (omega arith)
 line_of_write Verdict.Formatted e = absurd (omega arith)
-line_of_write (Verdict.Ran End.MainValue) e = absurd (omega arith)
-line_of_write (Verdict.Ran (End.MainFault f)) e = absurd (omega arith)
-line_of_write (Verdict.Ran End.NoTurns) e = absurd (omega arith)
-line_of_write (Verdict.Ran End.NoMoves) e = absurd (omega arith)
-line_of_write (Verdict.Ran End.NoGreenlets) e = absurd (omega arith)
-line_of_write (Verdict.Ran End.NoLinks) e = absurd (omega arith)
-line_of_write (Verdict.Ran End.NoKills) e = absurd (omega arith)
-line_of_write (Verdict.Ran End.WriteFault) e = refl
-line_of_write (Verdict.Ran End.Memory) e = absurd (omega arith)
+line_of_write (Verdict.Ran EngineEnd.MainValue) e = absurd (omega arith)
+line_of_write (Verdict.Ran (EngineEnd.MainFault f)) e = absurd (omega arith)
+line_of_write (Verdict.Ran EngineEnd.NoTurns) e = absurd (omega arith)
+line_of_write (Verdict.Ran EngineEnd.NoMoves) e = absurd (omega arith)
+line_of_write (Verdict.Ran EngineEnd.NoGreenlets) e = absurd (omega arith)
+line_of_write (Verdict.Ran EngineEnd.NoLinks) e = absurd (omega arith)
+line_of_write (Verdict.Ran EngineEnd.NoKills) e = absurd (omega arith)
+line_of_write (Verdict.Ran EngineEnd.WriteFault) e = refl
+line_of_write (Verdict.Ran EngineEnd.Memory) e = absurd (omega arith)
 line_of_write (Verdict.Connection ConnectionEnd.Closed) e = absurd (omega arith)
 line_of_write (Verdict.Connection ConnectionEnd.TooLong) e = absurd (omega arith)
 line_of_write (Verdict.Connection ConnectionEnd.ReadFault) e = absurd (omega arith)
@@ -327,20 +327,20 @@ line_of_write (Verdict.Unverified (Unverified.Wrong line cause)) e = absurd (ome
 line_of_write (Verdict.Unverified (Unverified.Lawless line law)) e = absurd (omega arith)
 line_of_write (Verdict.Unverified Unverified.Memory) e = absurd (omega arith)
 
-no_line : (v : Verdict) → number_of v ≡ 0 → line_of v ≡ []
+no_line : (v : Verdict) → verdict_status v ≡ 0 → verdict_line v ≡ []
 no_line Verdict.Usage e = absurd (omega arith)
 no_line Verdict.ReadFault e = absurd (omega arith)
 no_line (Verdict.Refused place) e = absurd (omega arith)
 no_line Verdict.Formatted e = refl
-no_line (Verdict.Ran End.MainValue) e = refl
-no_line (Verdict.Ran (End.MainFault f)) e = absurd (omega arith)
-no_line (Verdict.Ran End.NoTurns) e = absurd (omega arith)
-no_line (Verdict.Ran End.NoMoves) e = absurd (omega arith)
-no_line (Verdict.Ran End.NoGreenlets) e = absurd (omega arith)
-no_line (Verdict.Ran End.NoLinks) e = absurd (omega arith)
-no_line (Verdict.Ran End.NoKills) e = absurd (omega arith)
-no_line (Verdict.Ran End.WriteFault) e = absurd (omega arith)
-no_line (Verdict.Ran End.Memory) e = absurd (omega arith)
+no_line (Verdict.Ran EngineEnd.MainValue) e = refl
+no_line (Verdict.Ran (EngineEnd.MainFault f)) e = absurd (omega arith)
+no_line (Verdict.Ran EngineEnd.NoTurns) e = absurd (omega arith)
+no_line (Verdict.Ran EngineEnd.NoMoves) e = absurd (omega arith)
+no_line (Verdict.Ran EngineEnd.NoGreenlets) e = absurd (omega arith)
+no_line (Verdict.Ran EngineEnd.NoLinks) e = absurd (omega arith)
+no_line (Verdict.Ran EngineEnd.NoKills) e = absurd (omega arith)
+no_line (Verdict.Ran EngineEnd.WriteFault) e = absurd (omega arith)
+no_line (Verdict.Ran EngineEnd.Memory) e = absurd (omega arith)
 no_line (Verdict.Connection ConnectionEnd.Closed) e = refl
 no_line (Verdict.Connection ConnectionEnd.TooLong) e = absurd (omega arith)
 no_line (Verdict.Connection ConnectionEnd.ReadFault) e = absurd (omega arith)
@@ -360,7 +360,7 @@ no_line (Verdict.Unverified (Unverified.Lawless line law)) e = absurd (omega ari
 no_line (Verdict.Unverified Unverified.Memory) e = absurd (omega arith)
 
 -- status 0 is told by no line
-pub told_nothing : (v : Verdict) (err : Option (List ℕ)) (faults : ℕ) → number_of v ≡ 0 → (w : Verdict) × IsOr v w × IsTold 0 w err err faults faults
+pub told_nothing : (v : Verdict) (err : Option (List ℕ)) (faults : ℕ) → verdict_status v ≡ 0 → (w : Verdict) × IsOr v w × IsTold 0 w err err faults faults
 told_nothing v err faults h = (v, inl refl, inl (sym h, sym (appended-nothing err) ∙ ap (appended err) (sym (no_line v h)), refl))
 
 pub read_line : (n : ℕ) (v : Verdict) (old new : Option (List ℕ)) (e0 e1 : ℕ) → IsTold n v old new e0 e1 → n ≡ 4 → new ≡ appended old read_fault_line
@@ -373,47 +373,47 @@ no_memory_line n v old new e0 e1 (inr p) e = let q = p.0 in absurd (omega arith)
 
 -- ---- what an end says
 
-pub is_answered : {n : ℕ} {app : App} {c : Option Command} {after : Meaning} {stands : List LogEntry → Type 0} {input out err : Stream} →
+pub is_answered : {n : ℕ} {app : App} {c : Option OfflineCommand} {after : WorldMeaning} {stands : List LogEntry → Type 0} {input out err : Stream} →
     Ended n app c after stands input out err →
     (left : List ℕ) (a : Answer) → input.before ≡ Some left → IsAnswerOf app c after.answers left a → IsAnswered n a out.before out.after err.before err.after
 is_answered h left a told is = answered _ h.verdict a _ _ _ _ _ _ (h.came_to.answer left a told is) h.told
 
-pub read_fault_told : {n : ℕ} {app : App} {c : Option Command} {after : Meaning} {stands : List LogEntry → Type 0} {input out err : Stream} →
+pub read_fault_told : {n : ℕ} {app : App} {c : Option OfflineCommand} {after : WorldMeaning} {stands : List LogEntry → Type 0} {input out err : Stream} →
     Ended n app c after stands input out err → n ≡ 4 → err.after ≡ appended err.before read_fault_line
 read_fault_told h = read_line _ h.verdict _ _ _ _ h.told
 
-pub no_memory_told : {n : ℕ} {app : App} {c : Option Command} {after : Meaning} {stands : List LogEntry → Type 0} {input out err : Stream} →
+pub no_memory_told : {n : ℕ} {app : App} {c : Option OfflineCommand} {after : WorldMeaning} {stands : List LogEntry → Type 0} {input out err : Stream} →
     Ended n app c after stands input out err → n ≡ 7 → err.after ≡ appended err.before memory_line
 no_memory_told h = no_memory_line _ h.verdict _ _ _ _ h.told
 
 -- a status that is not 5 is the verdict's
-verdict_of : (n m : ℕ) (v : Verdict) (old new : Option (List ℕ)) (e0 e1 : ℕ) → IsTold n v old new e0 e1 → n ≡ m → m ≢ 5 → number_of v ≡ m
+verdict_of : (n m : ℕ) (v : Verdict) (old new : Option (List ℕ)) (e0 e1 : ℕ) → IsTold n v old new e0 e1 → n ≡ m → m ≢ 5 → verdict_status v ≡ m
 verdict_of n m v old new e0 e1 (inl p) e h5 = sym p.0 ∙ e
 verdict_of n m v old new e0 e1 (inr p) e h5 = absurd (h5 (sym e ∙ p.0))
 
-pub status_is : {n : ℕ} {app : App} {c : Option Command} {after : Meaning} {stands : List LogEntry → Type 0} {input out err : Stream} (m : ℕ) →
-    (h : Ended n app c after stands input out err) → n ≡ m → m ≢ 5 → number_of h.verdict ≡ m
+pub status_is : {n : ℕ} {app : App} {c : Option OfflineCommand} {after : WorldMeaning} {stands : List LogEntry → Type 0} {input out err : Stream} (m : ℕ) →
+    (h : Ended n app c after stands input out err) → n ≡ m → m ≢ 5 → verdict_status h.verdict ≡ m
 status_is m h e h5 = verdict_of _ m h.verdict _ _ _ _ h.told e h5
 
 -- the status is the verdict's, or 5 where it has a line, or 7
 pub status_or : (n : ℕ) (v w : Verdict) (old new : Option (List ℕ)) (e0 e1 : ℕ) → IsOr v w → IsTold n w old new e0 e1 → IsStatusOf n v
-status_or n v w old new e0 e1 (inl e) (inl p) = inl (p.0 ∙ ap number_of e)
-status_or n v w old new e0 e1 (inl e) (inr p) = inr ((λ z. p.1 (ap number_of e ∙ z)), inl p.0)
-status_or n v w old new e0 e1 (inr q) (inl p) = inr (q.1, inr (p.0 ∙ ap number_of q.0))
+status_or n v w old new e0 e1 (inl e) (inl p) = inl (p.0 ∙ ap verdict_status e)
+status_or n v w old new e0 e1 (inl e) (inr p) = inr ((λ z. p.1 (ap verdict_status e ∙ z)), inl p.0)
+status_or n v w old new e0 e1 (inr q) (inl p) = inr (q.1, inr (p.0 ∙ ap verdict_status q.0))
 status_or n v w old new e0 e1 (inr q) (inr p) = inr (q.1, inl p.0)
 
 -- a status that is neither 5 nor 7 is that of the verdict
-number_was : (n m : ℕ) (v : Verdict) → IsStatusOf n v → n ≡ m → m ≢ 5 → m ≢ 7 → number_of v ≡ m
+number_was : (n m : ℕ) (v : Verdict) → IsStatusOf n v → n ≡ m → m ≢ 5 → m ≢ 7 → verdict_status v ≡ m
 number_was n m v (inl p) e h5 h7 = sym p ∙ e
 number_was n m v (inr (_, inl p)) e h5 h7 = absurd (h5 (sym e ∙ p))
 number_was n m v (inr (_, inr p)) e h5 h7 = absurd (h7 (sym e ∙ p))
 
 -- the words are no command, or memory ran out, and the status is that of this, 5 or 7
-pub usage_status : (n : ℕ) (v w : Verdict) (old new : Option (List ℕ)) (e0 e1 : ℕ) → IsOr v w → IsTold n w old new e0 e1 → (number_of v ≡ 2) ⊎ (number_of v ≡ 7)
+pub usage_status : (n : ℕ) (v w : Verdict) (old new : Option (List ℕ)) (e0 e1 : ℕ) → IsOr v w → IsTold n w old new e0 e1 → (verdict_status v ≡ 2) ⊎ (verdict_status v ≡ 7)
     → (n ≡ 2) ⊎ (n ≡ 5) ⊎ (n ≡ 7)
 usage_status n v w old new e0 e1 o l e = by e (status_or n v w old new e0 e1 o l)
   where
-    by : (number_of v ≡ 2) ⊎ (number_of v ≡ 7) → (n ≡ number_of v) ⊎ ((number_of v ≢ 0) × ((n ≡ 5) ⊎ (n ≡ 7))) → (n ≡ 2) ⊎ (n ≡ 5) ⊎ (n ≡ 7)
+    by : (verdict_status v ≡ 2) ⊎ (verdict_status v ≡ 7) → (n ≡ verdict_status v) ⊎ ((verdict_status v ≢ 0) × ((n ≡ 5) ⊎ (n ≡ 7))) → (n ≡ 2) ⊎ (n ≡ 5) ⊎ (n ≡ 7)
     by (inl e) (inl p) = inl (p ∙ e)
     by (inr e) (inl p) = inr (inr (p ∙ e))
     by e (inr p) = inr p.1
@@ -423,7 +423,7 @@ abbrev IsTried : List ℕ → Option (List ℕ) → Option (List ℕ) → ℕ �
 IsTried line old new faults0 faults1 = (new ≡ appended old line) ⊎ (HasRisen faults0 faults1 × AppendsPrefix old new line)
 
 -- the line of a write that failed was tried
-tried : (n : ℕ) (v : Verdict) (old new : Option (List ℕ)) (e0 e1 : ℕ) → number_of v ≡ 5 → IsTold n v old new e0 e1 → IsTried write_fault_line old new e0 e1
+tried : (n : ℕ) (v : Verdict) (old new : Option (List ℕ)) (e0 e1 : ℕ) → verdict_status v ≡ 5 → IsTold n v old new e0 e1 → IsTried write_fault_line old new e0 e1
 tried n v old new e0 e1 e (inl p) = inl (p.1 ∙ ap (appended old) (line_of_write v e))
 tried n v old new e0 e1 e (inr p) =
     let P : List ℕ → Type 0 = λ l. AppendsPrefix old new l in inr (p.2, subst P (line_of_write v e) p.3)
@@ -431,32 +431,32 @@ tried n v old new e0 e1 e (inr p) =
 -- what led to status 5, by what err has and by the counts of faults
 abbrev pub HasFailed : (err0 err1 : Option (List ℕ)) (w0 w1 e0 e1 : ℕ) → Type 0
 HasFailed err0 err1 w0 w1 e0 e1 =
-    (HasRisen w0 w1 × IsTried write_fault_line err0 err1 e0 e1) ⊎ ((v : Verdict) × (number_of v ≢ 0) × HasRisen e0 e1 × AppendsPrefix err0 err1 (line_of v))
+    (HasRisen w0 w1 × IsTried write_fault_line err0 err1 e0 e1) ⊎ ((v : Verdict) × (verdict_status v ≢ 0) × HasRisen e0 e1 × AppendsPrefix err0 err1 (verdict_line v))
 
-pub fails : (n : ℕ) (v : Verdict) (old new : Option (List ℕ)) (w0 w1 e0 e1 : ℕ) → (number_of v ≡ 5 → HasRisen w0 w1) → IsTold n v old new e0 e1 → n ≡ 5 →
+pub fails : (n : ℕ) (v : Verdict) (old new : Option (List ℕ)) (w0 w1 e0 e1 : ℕ) → (verdict_status v ≡ 5 → HasRisen w0 w1) → IsTold n v old new e0 e1 → n ≡ 5 →
     HasFailed old new w0 w1 e0 e1
 fails n v old new w0 w1 e0 e1 f (inl p) e = let is = sym p.0 ∙ e in inl (f is, tried n v old new e0 e1 is (inl p))
 fails n v old new w0 w1 e0 e1 f (inr p) e = inr (v, p.1, p.2, p.3)
 
-pub fails_to_write : {n : ℕ} {app : App} {c : Option Command} {after : Meaning} {stands : List LogEntry → Type 0} {input out err : Stream} →
+pub fails_to_write : {n : ℕ} {app : App} {c : Option OfflineCommand} {after : WorldMeaning} {stands : List LogEntry → Type 0} {input out err : Stream} →
     Ended n app c after stands input out err → n ≡ 5 → FailsToWrite out err
 fails_to_write h e = fails _ h.verdict _ _ _ _ _ _ h.came_to.writes.failed h.told e
 
 -- `fmt` leaves out as it was
-pub prints_nothing : {n : ℕ} {app : App} {c : Option Command} {after : Meaning} {stands : List LogEntry → Type 0} {input out err : Stream} →
-    Ended n app c after stands input out err → c ≡ Some (Command.Text TextCommand.Format) → n ≢ 0 → n ≢ 5 → out.after ≡ out.before
+pub prints_nothing : {n : ℕ} {app : App} {c : Option OfflineCommand} {after : WorldMeaning} {stands : List LogEntry → Type 0} {input out err : Stream} →
+    Ended n app c after stands input out err → c ≡ Some (OfflineCommand.Text TextCommand.Format) → n ≢ 0 → n ≢ 5 → out.after ≡ out.before
 prints_nothing {n} h is h0 h5 =
     let e = status_is n h refl h5 in h.came_to.unprinted is (λ z. h0 (sym e ∙ z)) (λ z. h5 (sym e ∙ z))
 
 -- a check leaves out as it was
-pub tells_nothing : {n : ℕ} {app : App} {c : Option Command} {after : Meaning} {stands : List LogEntry → Type 0} {input out err : Stream} (check : TraceCheck) →
-    Ended n app c after stands input out err → c ≡ Some (Command.Verify check) → n ≢ 0 → n ≢ 5 → out.after ≡ out.before
+pub tells_nothing : {n : ℕ} {app : App} {c : Option OfflineCommand} {after : WorldMeaning} {stands : List LogEntry → Type 0} {input out err : Stream} (check : TraceCheck) →
+    Ended n app c after stands input out err → c ≡ Some (OfflineCommand.Verify check) → n ≢ 0 → n ≢ 5 → out.after ≡ out.before
 tells_nothing {n} check h is h0 h5 =
     let e = status_is n h refl h5 in h.came_to.untold check is (λ z. h0 (sym e ∙ z)) (λ z. h5 (sym e ∙ z))
 
 -- the input of a check was read whole
-pub reads_trace : {n : ℕ} {app : App} {c : Option Command} {after : Meaning} {stands : List LogEntry → Type 0} {input out err : Stream} (check : TraceCheck) →
-    Ended n app c after stands input out err → c ≡ Some (Command.Verify check) → n ≢ 4 → n ≢ 5 → n ≢ 7 →
+pub reads_trace : {n : ℕ} {app : App} {c : Option OfflineCommand} {after : WorldMeaning} {stands : List LogEntry → Type 0} {input out err : Stream} (check : TraceCheck) →
+    Ended n app c after stands input out err → c ≡ Some (OfflineCommand.Verify check) → n ≢ 4 → n ≢ 5 → n ≢ 7 →
     (left : List ℕ) → input.before ≡ Some left → input.after ≡ Some (drop most_checked_read left)
 reads_trace {n} check h is h4 h5 h7 left told =
     let e = status_is n h refl h5 in h.came_to.read_trace check is (λ z. h4 (sym e ∙ z)) (λ z. h7 (sym e ∙ z)) left told
@@ -472,8 +472,8 @@ said_of_check n v a out0 out1 err0 err1 e0 e1 f l h5 =
       err = λ h4 z h7. s.line ∙ ap (appended err0) f.2;
     }
 
-pub checks_so : {n : ℕ} {app : App} {c : Option Command} {after : Meaning} {stands : List LogEntry → Type 0} {input out err : Stream} (check : TraceCheck) (left : List ℕ) →
-    Ended n app c after stands input out err → c ≡ Some (Command.Verify check) → input.before ≡ Some left → n ≢ 4 → n ≢ 5 → n ≢ 7 →
+pub checks_so : {n : ℕ} {app : App} {c : Option OfflineCommand} {after : WorldMeaning} {stands : List LogEntry → Type 0} {input out err : Stream} (check : TraceCheck) (left : List ℕ) →
+    Ended n app c after stands input out err → c ≡ Some (OfflineCommand.Verify check) → input.before ≡ Some left → n ≢ 4 → n ≢ 5 → n ≢ 7 →
     (a : Answer) × IsCheckAnswer check (take most_checked_read left) a × IsAnswered n a out.before out.after err.before err.after
 checks_so {n} check left h is told h4 h5 h7 =
     let e = status_is n h refl h5 in
@@ -481,8 +481,8 @@ checks_so {n} check left h is told h4 h5 h7 =
     (d.0, d.1, said_of_check n h.verdict d.0 _ _ _ _ _ _ d.2 h.told h5)
 
 -- the text was read whole
-pub reads_whole : {n : ℕ} {app : App} {c : Option Command} {after : Meaning} {stands : List LogEntry → Type 0} {input out err : Stream} (text : TextCommand) →
-    Ended n app c after stands input out err → c ≡ Some (Command.Text text) → n ≢ 4 → n ≢ 5 → n ≢ 7 →
+pub reads_whole : {n : ℕ} {app : App} {c : Option OfflineCommand} {after : WorldMeaning} {stands : List LogEntry → Type 0} {input out err : Stream} (text : TextCommand) →
+    Ended n app c after stands input out err → c ≡ Some (OfflineCommand.Text text) → n ≢ 4 → n ≢ 5 → n ≢ 7 →
     (left : List ℕ) → input.before ≡ Some left → input.after ≡ Some (drop most_read left)
 reads_whole {n} text h is h4 h5 h7 left told =
     let e = status_is n h refl h5 in h.came_to.read_whole text is (λ z. h4 (sym e ∙ z)) (λ z. h7 (sym e ∙ z)) left told
@@ -493,13 +493,13 @@ err_unfailed n v old new e0 e1 (inl p) h5 = p.2
 err_unfailed n v old new e0 e1 (inr p) h5 = absurd (h5 p.0)
 
 -- nor does out
-pub unfailed : {n : ℕ} {app : App} {c : Option Command} {after : Meaning} {stands : List LogEntry → Type 0} {input out err : Stream} →
+pub unfailed : {n : ℕ} {app : App} {c : Option OfflineCommand} {after : WorldMeaning} {stands : List LogEntry → Type 0} {input out err : Stream} →
     Ended n app c after stands input out err → n ≢ 5 → (out.faults_after ≡ out.faults_before) × (err.faults_after ≡ err.faults_before)
 unfailed {n} h h5 =
     let e = status_is n h refl h5 in (h.came_to.writes.unfailed (λ z. h5 (sym e ∙ z)), err_unfailed _ h.verdict _ _ _ _ h.told h5)
 
 -- no read fails with a status but 4 and 5
-pub read_unfailed : {n : ℕ} {app : App} {c : Option Command} {after : Meaning} {stands : List LogEntry → Type 0} {input out err : Stream} →
+pub read_unfailed : {n : ℕ} {app : App} {c : Option OfflineCommand} {after : WorldMeaning} {stands : List LogEntry → Type 0} {input out err : Stream} →
     Ended n app c after stands input out err → n ≢ 4 → n ≢ 5 → input.faults_after ≡ input.faults_before
 read_unfailed {n} h h4 h5 =
     let e = status_is n h refl h5 in h.came_to.reads.unfailed (λ z. h4 (sym e ∙ z))
@@ -512,8 +512,8 @@ answers_connection n v w gateway app err0 err1 in0 in1 out0 out1 e0 e1 o l c =
     record { end = c.end; exchanged = c.exchanged; status = subst P c.number (status_or n v w err0 err1 e0 e1 o l) }
 
 -- the run is what is said of it by the status
-pub ran_so : {n : ℕ} {app : App} {c : Option Command} {after : Meaning} {stands : List LogEntry → Type 0} {input out err : Stream} (options : RunOptions) (s : Scenario) (left : List ℕ) →
-    Ended n app c after stands input out err → c ≡ Some (Command.Text (TextCommand.Run options)) → input.before ≡ Some left → Spells s (take most_read left) → IsWellFormed s →
+pub ran_so : {n : ℕ} {app : App} {c : Option OfflineCommand} {after : WorldMeaning} {stands : List LogEntry → Type 0} {input out err : Stream} (options : RunOptions) (s : Scenario) (left : List ℕ) →
+    Ended n app c after stands input out err → c ≡ Some (OfflineCommand.Text (TextCommand.Run options)) → input.before ≡ Some left → Spells s (take most_read left) → IsWellFormed s →
     RanWith n options s after stands out.before out.after
 ran_so {n} {after = after} {stands = stands} {out = out} {err = err} options s left h is told text well =
     ran_told n h.verdict options s after stands out.before out.after (status_or n h.verdict h.verdict err.before err.after err.faults_before err.faults_after (inl refl) h.told)
@@ -525,7 +525,7 @@ pub left_alone : {W : Type 0} (n : ℕ) (in0 : Option (List ℕ)) (old new : W) 
 left_alone n in0 old new e = record { unread = λ z. e; refused = λ z. e; unspelt = λ left told none. e }
 
 -- what a verdict leaves alone, the status that is answered does
-pub left_alone_told : {W : Type 0} (n : ℕ) (v w : Verdict) (in0 err0 err1 : Option (List ℕ)) (e0 e1 : ℕ) (old new : W) → IsOr v w → IsTold n w err0 err1 e0 e1 → IsLeftAlone (number_of v) in0 old new
+pub left_alone_told : {W : Type 0} (n : ℕ) (v w : Verdict) (in0 err0 err1 : Option (List ℕ)) (e0 e1 : ℕ) (old new : W) → IsOr v w → IsTold n w err0 err1 e0 e1 → IsLeftAlone (verdict_status v) in0 old new
     → IsLeftAlone n in0 old new
 left_alone_told n v w in0 err0 err1 e0 e1 old new o l h =
     let s = status_or n v w err0 err1 e0 e1 o l in
@@ -538,7 +538,7 @@ left_alone_told n v w in0 err0 err1 e0 e1 old new o l h =
 -- ---- lines that meet the laws
 
 -- the lines of a verdict are those of the status that is answered
-pub lawful_told : (n : ℕ) (v w : Verdict) (out0 out1 old new : Option (List ℕ)) (e0 e1 : ℕ) → IsOr v w → IsTold n w old new e0 e1 → HasLawfulLines (number_of v) out0 out1 → HasLawfulLines n out0 out1
+pub lawful_told : (n : ℕ) (v w : Verdict) (out0 out1 old new : Option (List ℕ)) (e0 e1 : ℕ) → IsOr v w → IsTold n w old new e0 e1 → HasLawfulLines (verdict_status v) out0 out1 → HasLawfulLines n out0 out1
 lawful_told n v w out0 out1 old new e0 e1 o l h =
     record { lines = h.lines; lawful = h.lawful; prefix = h.prefix; whole = λ h4 h5 h7. by (status_or n v w old new e0 e1 o l) h4 h5 h7 }
   where
@@ -546,7 +546,7 @@ lawful_told n v w out0 out1 old new e0 e1 o l h =
     broken (inl e) h5 h7 = absurd (h5 e)
     broken (inr e) h5 h7 = absurd (h7 e)
 
-    by : (n ≡ number_of v) ⊎ ((number_of v ≢ 0) × ((n ≡ 5) ⊎ (n ≡ 7))) → n ≢ 4 → n ≢ 5 → n ≢ 7 → out1 ≡ appended out0 (text_of h.lines)
+    by : (n ≡ verdict_status v) ⊎ ((verdict_status v ≢ 0) × ((n ≡ 5) ⊎ (n ≡ 7))) → n ≢ 4 → n ≢ 5 → n ≢ 7 → out1 ≡ appended out0 (text_of h.lines)
     by (inl e) h4 h5 h7 = h.whole (λ z. h4 (e ∙ z)) (λ z. h5 (e ∙ z)) (λ z. h7 (e ∙ z))
     by (inr p) h4 h5 h7 = broken p.1 h5 h7
 

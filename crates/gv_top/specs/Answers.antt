@@ -49,8 +49,8 @@ abbrev pub place_text : ℕ → ℕ → List ℕ → List ℕ
 place_text line reason text = codes "line " ++ decimal line ++ codes ": reason " ++ decimal reason ++ codes ": " ++ text
 
 -- the text is refused at this place
-abbrev pub refusal : Place → Answer
-refusal place = on_err 3 (place_text place.line place.reason (reason_text place.reason))
+abbrev pub refused_answer : Place → Answer
+refused_answer place = on_err 3 (place_text place.line place.reason (reason_text place.reason))
 
 -- the printed form of the scenario
 abbrev pub formatted : Scenario → Answer
@@ -71,7 +71,7 @@ IsRefusedAt bytes p = (place bytes ≡ Some p) ⊎ ((s : Scenario) × Spells s b
 -- what is answered to a text: a well-formed scenario is run or printed, and any other bytes are refused at their place
 unfoldable pub IsTextAnswer : TextCommand → List Given → List ℕ → Answer → Type 0
 IsTextAnswer command given bytes a =
-    ((s : Scenario) × Spells s bytes × IsWellFormed s × (a ≡ answer_to_scenario command given s)) ⊎ ((p : Place) × IsRefusedAt bytes p × (a ≡ refusal p))
+    ((s : Scenario) × Spells s bytes × IsWellFormed s × (a ≡ answer_to_scenario command given s)) ⊎ ((p : Place) × IsRefusedAt bytes p × (a ≡ refused_answer p))
 
 -- what is answered to this run as the storm of n greenlets: the summary, and the status and the line of its end
 abbrev pub answer_of_storm : ℕ → Ran → Answer

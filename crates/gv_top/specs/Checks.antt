@@ -5,7 +5,7 @@ use Rattle.verify_command.specs.Inputs.{most_checked_read}
 use Rattle.verify_command.specs.declared.checking.Unverified.{Unverified}
 use Rattle.gv_top.specs.Top.{IsAnswered, Stream}
 use Rattle.gv_top.specs.Verifying.{unverified, verified}
-use Rattle.gv_top.specs.declared.words.Command.{Command}
+use Rattle.gv_top.specs.declared.words.OfflineCommand.{OfflineCommand}
 use Rattle.gv_top.specs.Outcomes.{Fails, Passes, Refuses}
 
 -- What is left of an input of which these bytes are read, with every status but 4, 5 and 7.
@@ -23,13 +23,13 @@ pub record LeavesCheck (status : ℕ) (check : TraceCheck) (bytes : List ℕ) (o
   pub one_of : (status ≡ 0) ⊎ (status ≡ 9) ⊎ (status ≡ 3)
 
 -- What words that name a check of a trace leave, by the status and by the input, out and err.
-pub record AnswersCheck (status : ℕ) (command : Option Command) (input out err : Stream) : Type 0 where
+pub record AnswersCheck (status : ℕ) (command : Option OfflineCommand) (input out err : Stream) : Type 0 where
   -- The status, out and err are those of what is said of the input, but with the statuses 4, 5 and 7.
-  pub answer : (check : TraceCheck) (left : List ℕ) → command ≡ Some (Command.Verify check) → input.before ≡ Some left → status ≢ 4 → status ≢ 5 → status ≢ 7 →
+  pub answer : (check : TraceCheck) (left : List ℕ) → command ≡ Some (OfflineCommand.Verify check) → input.before ≡ Some left → status ≢ 4 → status ≢ 5 → status ≢ 7 →
       LeavesCheck status check (take most_checked_read left) out err
   -- Out is as it was with every status but 0 and 5.
-  pub unprinted : (check : TraceCheck) → command ≡ Some (Command.Verify check) → status ≢ 0 → status ≢ 5 → out.after ≡ out.before
+  pub unprinted : (check : TraceCheck) → command ≡ Some (OfflineCommand.Verify check) → status ≢ 0 → status ≢ 5 → out.after ≡ out.before
   -- Every status but 4, 5 and 7 comes only where the input was read to its end or to one byte past the most that it may
   -- have.
-  pub read_whole : (check : TraceCheck) → command ≡ Some (Command.Verify check) → status ≢ 4 → status ≢ 5 → status ≢ 7 →
+  pub read_whole : (check : TraceCheck) → command ≡ Some (OfflineCommand.Verify check) → status ≢ 4 → status ≢ 5 → status ≢ 7 →
       (left : List ℕ) → input.before ≡ Some left → input.after ≡ Some (drop most_checked_read left)

@@ -7,22 +7,22 @@ use Rattle.command_words.specs.declared.command.TextCommand.{TextCommand}
 use Rattle.scenario_tree.specs.declared.tree.Scenario.{Scenario}
 use Rattle.scenario_lang.specs.declared.text.ParseRefusal.{ParseRefusal}
 use Rattle.scenario_lang.specs.declared.text.ParseRefusal.TheVariants as parse
-use Rattle.scenario_reading.specs.Judged.{HasReason, judged}
-use Rattle.world.specs.Worlds.{Meaning}
+use Rattle.scenario_reading.specs.Judged.{HasReason, judged_text}
+use Rattle.world.specs.Worlds.{WorldMeaning}
 use Rattle.world_rules.specs.Legal.{AreLegal}
 use Rattle.world_rules.specs.declared.question.LogEntry.{LogEntry}
 use Rattle.machine.specs.Run.{Ran}
 use Rattle.hub_engine.specs.Ends.{IsPartLogged, RanTo}
 use Rattle.hub_engine.specs.Ahead.{WroteAhead}
-use Rattle.hub_engine.specs.declared.run.End.{End}
+use Rattle.hub_engine.specs.declared.run.EngineEnd.{EngineEnd}
 use Rattle.verify_command.specs.Judged.{IsReasoned, Verification}
 use Rattle.wsgi_core.specs.Applications.{App}
 use Rattle.wsgi_connection.specs.Connections.{Exchanged}
 use Rattle.wsgi_connection.specs.declared.connection.ConnectionEnd.{ConnectionEnd}
-use Rattle.gv_top.specs.Answers.{no_port, Answer, answer_to_scenario, refusal}
+use Rattle.gv_top.specs.Answers.{no_port, Answer, answer_to_scenario, refused_answer}
 use Rattle.gv_top.specs.Gateways.{answers_by}
 use Rattle.gv_top.specs.Running.{BeganSo, RanWith}
-use Rattle.gv_top.specs.Verdicts.{number_of}
+use Rattle.gv_top.specs.Verdicts.{verdict_status}
 use Rattle.gv_top.specs.declared.status.Verdict.{Verdict}
 use Rattle.verify_command.specs.declared.checking.Unverified.{Unverified}
 use Rattle.gv_top.specs.Verifying.{unverified, verified}
@@ -32,27 +32,27 @@ use Rattle.gv_top.specs.Verifying.{unverified, verified}
 -- a refusal has one of the reasons
 abbrev pub IsExplained : Verdict → Type 0
 IsExplained (Verdict.Refused place) = HasReason place
-IsExplained (Verdict.Unverified refusal) = IsReasoned refusal
+IsExplained (Verdict.Unverified refused_answer) = IsReasoned refused_answer
 IsExplained v = Unit {0}
 
 -- the verdict on a text that no scenario was read of
 abbrev pub verdict_on : ParseRefusal → Verdict
 verdict_on (parse.Refused place) = Verdict.Refused place
-verdict_on parse.Memory = Verdict.Ran End.Memory
+verdict_on parse.Memory = Verdict.Ran EngineEnd.Memory
 
 -- the verdict, or want of memory where it has a line for which there is none; the line of a fault takes none
 abbrev pub IsOr : Verdict → Verdict → Type 0
-IsOr v w = (w ≡ v) ⊎ ((w ≡ Verdict.Ran End.Memory) × (number_of v ≢ 0) × (number_of v ≢ 4) × (number_of v ≢ 5) × (number_of v ≢ 10))
+IsOr v w = (w ≡ v) ⊎ ((w ≡ Verdict.Ran EngineEnd.Memory) × (verdict_status v ≢ 0) × (verdict_status v ≢ 4) × (verdict_status v ≢ 5) × (verdict_status v ≢ 10))
 
 -- ---- what was done
 
 -- What a world is after the scenario ran in it to this end, where `whole` is the run under each list of answers: it had
 -- so many workers and runs no longer; it stands for the log of the run, or for the part up to the break.
-pub record RanInWorld (end : End) (whole : List Given → Ran) (workers : ℕ) (before after : Meaning) (stands : List LogEntry → Type 0) (out0 out1 : Option (List ℕ)) : Type 0 where
+pub record RanInWorld (end : EngineEnd) (whole : List Given → Ran) (workers : ℕ) (before after : WorldMeaning) (stands : List LogEntry → Type 0) (out0 out1 : Option (List ℕ)) : Type 0 where
   pub written : RanTo end (whole after.answers) out0 out1
   pub ahead : WroteAhead whole after.answers out0 out1
   pub part : IsPartLogged (whole after.answers).log after.answers stands
-  pub log : end ≢ End.WriteFault → end ≢ End.Memory → stands (whole after.answers).log
+  pub log : end ≢ EngineEnd.WriteFault → end ≢ EngineEnd.Memory → stands (whole after.answers).log
   pub legal : AreLegal [] [] (whole after.answers).log
   pub workers_are : after.workers ≡ workers
   pub tick : after.tick ≡ before.tick
@@ -60,29 +60,29 @@ pub record RanInWorld (end : End) (whole : List Given → Ran) (workers : ℕ) (
   pub rests : after.runs ≡ false
 
 -- where the command is a run of the scenario that the bytes spell, native workers ran so
-abbrev pub BeganText : Bool → TextCommand → List ℕ → Meaning → Meaning → Option (List ℕ) → Option (List ℕ) → Option (List ℕ) → Type 0
+abbrev pub BeganText : Bool → TextCommand → List ℕ → WorldMeaning → WorldMeaning → Option (List ℕ) → Option (List ℕ) → Option (List ℕ) → Type 0
 BeganText waits command bytes before after out0 out1 handed1 =
-    (options : RunOptions) (s : Scenario) → command ≡ TextCommand.Run options → judged bytes ≡ Ok s → BeganSo waits options s before after out0 out1 handed1
+    (options : RunOptions) (s : Scenario) → command ≡ TextCommand.Run options → judged_text bytes ≡ Ok s → BeganSo waits options s before after out0 out1 handed1
 
 -- the verdict is the end of the connection that the input and out are, through this gateway and with this application
 pub record IsOfConnection (v : Verdict) (gateway : GatewayKind) (app : App) (in0 in1 out0 out1 : Option (List ℕ)) : Type 0 where
   pub end : ConnectionEnd
-  pub number : number_of v ≡ number_of (Verdict.Connection end)
+  pub number : verdict_status v ≡ verdict_status (Verdict.Connection end)
   pub exchanged : Exchanged end (answers_by gateway) app no_port in0 in1 out0 out1
 
 -- what is answered to a text
 unfoldable pub answer_to_text : TextCommand → List Given → List ℕ → Answer
-answer_to_text command given bytes = elim (judged bytes) [ Ok s ↦ answer_to_scenario command given s | Err place ↦ refusal place ]
+answer_to_text command given bytes = elim (judged_text bytes) [ Ok s ↦ answer_to_scenario command given s | Err place ↦ refused_answer place ]
 
 -- where the command is a run of the scenario, it ran so
-abbrev pub RanScenarioSo : ℕ → TextCommand → Scenario → Meaning → (List LogEntry → Type 0) → Option (List ℕ) → Option (List ℕ) → Type 0
+abbrev pub RanScenarioSo : ℕ → TextCommand → Scenario → WorldMeaning → (List LogEntry → Type 0) → Option (List ℕ) → Option (List ℕ) → Type 0
 RanScenarioSo n command s after stands out0 out1 =
     (options : RunOptions) → command ≡ TextCommand.Run options → RanWith n options s after stands out0 out1
 
 -- so where it is one of the scenario that the bytes spell
-abbrev pub RanSo : ℕ → TextCommand → List ℕ → Meaning → (List LogEntry → Type 0) → Option (List ℕ) → Option (List ℕ) → Type 0
+abbrev pub RanSo : ℕ → TextCommand → List ℕ → WorldMeaning → (List LogEntry → Type 0) → Option (List ℕ) → Option (List ℕ) → Type 0
 RanSo n command bytes after stands out0 out1 =
-    (s : Scenario) → judged bytes ≡ Ok s → RanScenarioSo n command s after stands out0 out1
+    (s : Scenario) → judged_text bytes ≡ Ok s → RanScenarioSo n command s after stands out0 out1
 
 -- what is answered where a check says this; want of memory is no answer
 abbrev pub IsAnswerWhere : Verification → Answer → Type 0

@@ -4,11 +4,11 @@ use Rattle.gv_values.specs.declared.job.Answer.{Answer}
 use Rattle.world_rules.specs.declared.question.LogEntry.{LogEntry}
 use Rattle.world_rules.specs.Legal.{AreLegal, is_answered}
 use Rattle.world.specs.LegalLogs.{HasLegalLog}
-use Rattle.world.specs.Worlds.{Meaning}
+use Rattle.world.specs.Worlds.{WorldMeaning}
 use Rattle.scenario_tree.specs.declared.tree.Scenario.{Scenario}
 use Rattle.machine.specs.Run.{Ran, run, script_run}
 use Rattle.machine.specs.TraceLaws.{meets_laws}
-use Rattle.trace_text.specs.LineTexts.{answers_of as answers_told}
+use Rattle.trace_text.specs.LineTexts.{answers_told}
 use Rattle.machine_told.specs.Told.{posts_told}
 use Rattle.hub_engine.specs.Ahead.{WroteAhead}
 use Rattle.command_words.specs.declared.command.RunOptions.{RunOptions}
@@ -40,13 +40,13 @@ pub record IsAhead (waits : Bool) (options : RunOptions) (s : Scenario) (answers
   pub handed : (workers : ℕ) → options.world ≡ Native workers → waits ≡ true → WroteAhead (λ given. run_of options given s) answers out0 handed1
 
 -- the run was begun so; or native workers are as they were: nothing was posted to them, and they answered nothing
-abbrev pub BeganSo : Bool → RunOptions → Scenario → Meaning → Meaning → Option (List ℕ) → Option (List ℕ) → Option (List ℕ) → Type 0
+abbrev pub BeganSo : Bool → RunOptions → Scenario → WorldMeaning → WorldMeaning → Option (List ℕ) → Option (List ℕ) → Option (List ℕ) → Type 0
 BeganSo waits options s before after out0 out1 handed1 = IsAhead waits options s after.answers out0 out1 handed1 ⊎ (after ≡ before)
 
 -- What native workers are after a whole run: so many were begun, and run no longer; they were posted the jobs of the
 -- job lines, in order, and the turn lines have their answers, each of which is legal; and they stand for the log of the
 -- run.
-pub record RanNatively (workers : ℕ) (r : Ran) (after : Meaning) (stands : List LogEntry → Type 0) : Type 0 where
+pub record RanNatively (workers : ℕ) (r : Ran) (after : WorldMeaning) (stands : List LogEntry → Type 0) : Type 0 where
   pub workers_are : after.workers ≡ workers
   pub rests : after.runs ≡ false
   pub posts : posts_told r.lines ≡ after.posts
@@ -57,7 +57,7 @@ pub record RanNatively (workers : ℕ) (r : Ran) (after : Meaning) (stands : Lis
 -- What native workers are after a whole run whose results were told in the order of a script: so many were begun, and
 -- run no longer; they were posted the jobs of the job lines, in order; they answered that a job is done for each of
 -- which a turn line says so; and they stand for a log of those posts and of their answers, each of which is legal.
-pub record RanHeld (workers : ℕ) (r : Ran) (after : Meaning) (stands : List LogEntry → Type 0) : Type 0 where
+pub record RanHeld (workers : ℕ) (r : Ran) (after : WorldMeaning) (stands : List LogEntry → Type 0) : Type 0 where
   pub workers_are : after.workers ≡ workers
   pub rests : after.runs ≡ false
   pub posts : posts_told r.lines ≡ after.posts
@@ -65,7 +65,7 @@ pub record RanHeld (workers : ℕ) (r : Ran) (after : Meaning) (stands : List Lo
   pub logged : ∥ HasLegalLog after stands ∥₁
 
 -- What holds of the run of a scenario with these options, by the status.
-pub record RanWith (n : ℕ) (options : RunOptions) (s : Scenario) (after : Meaning) (stands : List LogEntry → Type 0) (out0 out1 : Option (List ℕ)) : Type 0 where
+pub record RanWith (n : ℕ) (options : RunOptions) (s : Scenario) (after : WorldMeaning) (stands : List LogEntry → Type 0) (out0 out1 : Option (List ℕ)) : Type 0 where
   -- It was begun so; or no run was begun, and out is as it was, with the status 4, 5 or 7.
   pub begun : IsBegun options s after.answers out0 out1 ⊎ IsUnbegun n out0 out1
   -- With every other status native workers, if the words ask for them, ran so, or in the order of a script.

@@ -5,9 +5,9 @@ use Rattle.command_words.specs.declared.command.ServeAnswers.{ServeAnswers}
 use Rattle.command_words.specs.declared.command.ServeAnswers.TheVariants.{Application, Jobs}
 use Rattle.command_words.specs.declared.command.ServeOptions.{ServeOptions}
 use Rattle.wsgi_core.specs.Applications.{App}
-use Rattle.stream_net.specs.Nets.{Meaning}
+use Rattle.stream_net.specs.Nets.{NetMeaning}
 use Rattle.stream_server.specs.declared.limits.Limits.{Limits}
-use Rattle.world.specs.Worlds.{Meaning as World}
+use Rattle.world.specs.Worlds.{WorldMeaning as World}
 use Rattle.world_rules.specs.Legal.{is_answered, is_posted}
 use Rattle.serve_command.specs.declared.serving.Served.{Served}
 use Rattle.serve_command.specs.Jobs.{ServesJobsAt}
@@ -15,7 +15,7 @@ use Rattle.serve_command.specs.Served.{ServesAt}
 use Rattle.gv_top.specs.declared.status.Verdict.{Verdict}
 use Rattle.gv_top.specs.Gateways.{answers_by}
 use Rattle.gv_top.specs.Top.{IsStatusOf}
-use Rattle.gv_top.specs.Verdicts.{line_of}
+use Rattle.gv_top.specs.Verdicts.{verdict_line}
 
 -- how much a server of these options does
 abbrev pub limits_of : ServeOptions → Limits
@@ -28,19 +28,19 @@ pub record HaveWorked (workers : ℕ) (w : World) : Type 0 where
 
 -- It served with so many native workers for its jobs, each of which was posted before it was answered. Or they were not
 -- begun: they are as they were, and nobody was accepted.
-pub record ServesNatively (workers : ℕ) (end : Served) (asked : ℕ) (limits : Limits) (w : Meaning) (before after : World) (out0 out1 : Option (List ℕ)) : Type 0 where
+pub record ServesNatively (workers : ℕ) (end : Served) (asked : ℕ) (limits : Limits) (w : NetMeaning) (before after : World) (out0 out1 : Option (List ℕ)) : Type 0 where
   pub serves : ServesJobsAt end asked limits w after out0 out1
   pub begun : HaveWorked workers after ⊎ ((after ≡ before) × (w.connections ≡ []))
 
 -- it served so: with this application through this gateway, or with native workers for jobs
-abbrev pub ServesWith : ServeAnswers → Served → ℕ → App → Limits → Meaning → World → World → Option (List ℕ) → Option (List ℕ) → Type 0
+abbrev pub ServesWith : ServeAnswers → Served → ℕ → App → Limits → NetMeaning → World → World → Option (List ℕ) → Option (List ℕ) → Type 0
 ServesWith (Application gateway) end asked app limits w before after out0 out1 = ServesAt end asked (answers_by gateway) app limits w out0 out1
 ServesWith (Jobs workers) end asked app limits w before after out0 out1 = ServesNatively workers end asked limits w before after out0 out1
 
 -- The server came to an end at which net and out are so, and the status and the line on err are those of its end. What
 -- native workers were before it and are after it is said where it has jobs.
-pub record Serves (n : ℕ) (app : App) (options : ServeOptions) (w : Meaning) (before after : World) (out0 out1 err0 err1 : Option (List ℕ)) : Type 0 where
+pub record Serves (n : ℕ) (app : App) (options : ServeOptions) (w : NetMeaning) (before after : World) (out0 out1 err0 err1 : Option (List ℕ)) : Type 0 where
   pub end : Served
   pub serves : ServesWith options.answers end options.port app (limits_of options) w before after out0 out1
   pub status : IsStatusOf n (Verdict.Served end)
-  pub err : n ≢ 5 → n ≢ 7 → err1 ≡ appended err0 (line_of (Verdict.Served end))
+  pub err : n ≢ 5 → n ≢ 7 → err1 ≡ appended err0 (verdict_line (Verdict.Served end))

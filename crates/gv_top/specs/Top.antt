@@ -10,7 +10,7 @@ use Rattle.command_words.specs.declared.command.TraceCheck.{TraceCheck}
 use Rattle.scenario_tree.specs.declared.tree.Scenario.{Scenario}
 use Rattle.scenario_grammar.specs.Spells.{Spells}
 use Rattle.scenario_rules.specs.Rules.{IsWellFormed}
-use Rattle.world.specs.Worlds.{Meaning}
+use Rattle.world.specs.Worlds.{WorldMeaning}
 use Rattle.world_rules.specs.declared.question.LogEntry.{LogEntry}
 use Rattle.trace_text.specs.LineTexts.{text_of}
 use Rattle.trace_text.specs.declared.line.Line.{Line}
@@ -18,15 +18,15 @@ use Rattle.machine.specs.Quiet.{is_quiet}
 use Rattle.machine.specs.Run.{Ran}
 use Rattle.machine.specs.TraceLaws.{meets_laws}
 use Rattle.machine_blocks.specs.Blocks.{block_lines, is_block}
-use Rattle.hub_engine.specs.declared.run.End.{End}
+use Rattle.hub_engine.specs.declared.run.EngineEnd.{EngineEnd}
 use Rattle.wsgi_core.specs.Applications.{App}
 use Rattle.wsgi_connection.specs.Connections.{Exchanged}
 use Rattle.wsgi_connection.specs.declared.connection.ConnectionEnd.{ConnectionEnd}
 use Rattle.gv_top.specs.declared.status.Verdict.{Verdict}
-use Rattle.gv_top.specs.declared.words.Command.{Command}
+use Rattle.gv_top.specs.declared.words.OfflineCommand.{OfflineCommand}
 use Rattle.gv_top.specs.Answers.{Answer, IsStormAnswer, most_read, no_port, write_fault_line}
 use Rattle.gv_top.specs.Gateways.{answers_by}
-use Rattle.gv_top.specs.Verdicts.{number_of, line_of}
+use Rattle.gv_top.specs.Verdicts.{verdict_status, verdict_line}
 use Rattle.gv_top.specs.Verifying.{IsAnswerOf, IsCheckAnswer}
 use Rattle.verify_command.specs.Inputs.{most_checked_read}
 use Rattle.verify_command.specs.declared.checking.Unverified.{Unverified}
@@ -55,13 +55,13 @@ HandsOn n written0 handed0 written1 handed1 = n ≢ 5 → n ≢ 7 → handed0 �
 
 -- the verdict is the answer's, and out has its whole text
 abbrev pub Fits : Verdict → Answer → Option (List ℕ) → Option (List ℕ) → Type 0
-Fits v a old new = (new ≡ appended old a.out) × (number_of v ≡ a.status) × (line_of v ≡ a.err)
+Fits v a old new = (new ≡ appended old a.out) × (verdict_status v ≡ a.status) × (verdict_line v ≡ a.err)
 
 -- the verdict fits; or a fault or want of memory cut the text of the answer short, or the input could not be read
 abbrev pub Decided : Verdict → Answer → Option (List ℕ) → Option (List ℕ) → Type 0
 Decided Verdict.ReadFault a old new = new ≡ old
-Decided (Verdict.Ran End.WriteFault) a old new = AppendsPrefix old new a.out
-Decided (Verdict.Ran End.Memory) a old new = AppendsPrefix old new a.out
+Decided (Verdict.Ran EngineEnd.WriteFault) a old new = AppendsPrefix old new a.out
+Decided (Verdict.Ran EngineEnd.Memory) a old new = AppendsPrefix old new a.out
 Decided (Verdict.Connection ConnectionEnd.ReadFault) a old new = AppendsPrefix old new a.out
 Decided (Verdict.Connection ConnectionEnd.WriteFault) a old new = AppendsPrefix old new a.out
 Decided (Verdict.Connection ConnectionEnd.Memory) a old new = AppendsPrefix old new a.out
@@ -69,50 +69,50 @@ Decided (Verdict.Unverified Unverified.Memory) a old new = AppendsPrefix old new
 Decided v a old new = Fits v a old new
 
 -- What a command came to, by its input and out, and by what native workers are after it.
-pub record CameTo (v : Verdict) (app : App) (command : Option Command) (after : Meaning) (stands : List LogEntry → Type 0) (input out : Stream) : Type 0 where
+pub record CameTo (v : Verdict) (app : App) (command : Option OfflineCommand) (after : WorldMeaning) (stands : List LogEntry → Type 0) (input out : Stream) : Type 0 where
   -- where the input is told, the answer is decided
   pub answer : (left : List ℕ) (a : Answer) → input.before ≡ Some left → IsAnswerOf app command after.answers left a → Decided v a out.before out.after
   -- a check of a trace has an answer
-  pub checked : (check : TraceCheck) (left : List ℕ) → command ≡ Some (Command.Verify check) → input.before ≡ Some left → number_of v ≢ 4 → number_of v ≢ 5 → number_of v ≢ 7 →
+  pub checked : (check : TraceCheck) (left : List ℕ) → command ≡ Some (OfflineCommand.Verify check) → input.before ≡ Some left → verdict_status v ≢ 4 → verdict_status v ≢ 5 → verdict_status v ≢ 7 →
       (a : Answer) × IsCheckAnswer check (take most_checked_read left) a × Fits v a out.before out.after
   -- the words are no command
-  pub usage : number_of v ≡ 2 → command ≡ None
+  pub usage : verdict_status v ≡ 2 → command ≡ None
   -- a read or a write failed, and none with any other verdict
-  pub reads : Counts (number_of v ≡ 4) input.faults_before input.faults_after
-  pub writes : Counts (number_of v ≡ 5) out.faults_before out.faults_after
+  pub reads : Counts (verdict_status v ≡ 4) input.faults_before input.faults_after
+  pub writes : Counts (verdict_status v ≡ 5) out.faults_before out.faults_after
   -- a text that could not be read leaves out as it was
-  pub unread : (text : TextCommand) → command ≡ Some (Command.Text text) → number_of v ≡ 4 → out.after ≡ out.before
+  pub unread : (text : TextCommand) → command ≡ Some (OfflineCommand.Text text) → verdict_status v ≡ 4 → out.after ≡ out.before
   -- so does a text that is not printed
-  pub unprinted : command ≡ Some (Command.Text TextCommand.Format) → number_of v ≢ 0 → number_of v ≢ 5 → out.after ≡ out.before
+  pub unprinted : command ≡ Some (OfflineCommand.Text TextCommand.Format) → verdict_status v ≢ 0 → verdict_status v ≢ 5 → out.after ≡ out.before
   -- so does a trace whose lines are not told
-  pub untold : (check : TraceCheck) → command ≡ Some (Command.Verify check) → number_of v ≢ 0 → number_of v ≢ 5 → out.after ≡ out.before
+  pub untold : (check : TraceCheck) → command ≡ Some (OfflineCommand.Verify check) → verdict_status v ≢ 0 → verdict_status v ≢ 5 → out.after ≡ out.before
   -- an input that is checked was read to its end, or to one byte past the most
-  pub read_trace : (check : TraceCheck) → command ≡ Some (Command.Verify check) → number_of v ≢ 4 → number_of v ≢ 7 →
+  pub read_trace : (check : TraceCheck) → command ≡ Some (OfflineCommand.Verify check) → verdict_status v ≢ 4 → verdict_status v ≢ 7 →
       (left : List ℕ) → input.before ≡ Some left → input.after ≡ Some (drop most_checked_read left)
   -- any other text was read to its end, or to one byte past the most
-  pub read_whole : (text : TextCommand) → command ≡ Some (Command.Text text) → number_of v ≢ 4 → number_of v ≢ 7 →
+  pub read_whole : (text : TextCommand) → command ≡ Some (OfflineCommand.Text text) → verdict_status v ≢ 4 → verdict_status v ≢ 7 →
       (left : List ℕ) → input.before ≡ Some left → input.after ≡ Some (drop most_read left)
   -- a storm reads no input, and is answered whatever that is
-  pub storm : (size : ℕ) → command ≡ Some (Command.Storm size) → (number_of v ≢ 4) × ((a : Answer) → IsStormAnswer size a → Decided v a out.before out.after)
+  pub storm : (size : ℕ) → command ≡ Some (OfflineCommand.Storm size) → (verdict_status v ≢ 4) × ((a : Answer) → IsStormAnswer size a → Decided v a out.before out.after)
   -- a run was begun, or was not; and native workers were begun and asked as the words want
-  pub ran : (options : RunOptions) (s : Scenario) (left : List ℕ) → command ≡ Some (Command.Text (TextCommand.Run options)) →
-      input.before ≡ Some left → Spells s (take most_read left) → IsWellFormed s → RanWith (number_of v) options s after stands out.before out.after
+  pub ran : (options : RunOptions) (s : Scenario) (left : List ℕ) → command ≡ Some (OfflineCommand.Text (TextCommand.Run options)) →
+      input.before ≡ Some left → Spells s (take most_read left) → IsWellFormed s → RanWith (verdict_status v) options s after stands out.before out.after
 
 -- err has the line of the verdict, whose status is answered; or it failed at that line, and the status is 5
 abbrev pub IsTold : ℕ → Verdict → Option (List ℕ) → Option (List ℕ) → ℕ → ℕ → Type 0
 IsTold n v old new faults0 faults1 =
-    ((n ≡ number_of v) × (new ≡ appended old (line_of v)) × (faults1 ≡ faults0))
-    ⊎ ((n ≡ 5) × (number_of v ≢ 0) × HasRisen faults0 faults1 × AppendsPrefix old new (line_of v))
+    ((n ≡ verdict_status v) × (new ≡ appended old (verdict_line v)) × (faults1 ≡ faults0))
+    ⊎ ((n ≡ 5) × (verdict_status v ≢ 0) × HasRisen faults0 faults1 × AppendsPrefix old new (verdict_line v))
 
 -- the verdict of a command, and what of its line came to err
-pub record Ended (n : ℕ) (app : App) (command : Option Command) (after : Meaning) (stands : List LogEntry → Type 0) (input out err : Stream) : Type 0 where
+pub record Ended (n : ℕ) (app : App) (command : Option OfflineCommand) (after : WorldMeaning) (stands : List LogEntry → Type 0) (input out err : Stream) : Type 0 where
   pub verdict : Verdict
   pub came_to : CameTo verdict app command after stands input out
   pub told : IsTold n verdict err.before err.after err.faults_before err.faults_after
 
 -- the status is the verdict's; or, at the line of the verdict, 5 if err failed, and 7 if memory ran out
 abbrev pub IsStatusOf : ℕ → Verdict → Type 0
-IsStatusOf n v = (n ≡ number_of v) ⊎ ((number_of v ≢ 0) × ((n ≡ 5) ⊎ (n ≡ 7)))
+IsStatusOf n v = (n ≡ verdict_status v) ⊎ ((verdict_status v ≢ 0) × ((n ≡ 5) ⊎ (n ≡ 7)))
 
 -- the status, out and err are the answer's; but with the statuses 4, 5 and 7 out has a beginning of its text
 pub record IsAnswered (n : ℕ) (a : Answer) (out0 out1 err0 err1 : Option (List ℕ)) : Type 0 where
@@ -144,4 +144,4 @@ abbrev pub FailsToWrite : Stream → Stream → Type 0
 FailsToWrite out err =
     (HasRisen out.faults_before out.faults_after
     × ((err.after ≡ appended err.before write_fault_line) ⊎ (HasRisen err.faults_before err.faults_after × AppendsPrefix err.before err.after write_fault_line)))
-    ⊎ ((v : Verdict) × (number_of v ≢ 0) × HasRisen err.faults_before err.faults_after × AppendsPrefix err.before err.after (line_of v))
+    ⊎ ((v : Verdict) × (verdict_status v ≢ 0) × HasRisen err.faults_before err.faults_after × AppendsPrefix err.before err.after (verdict_line v))

@@ -4,16 +4,16 @@ use Rattle.gv_values.specs.declared.job.Answer.{Answer as Given}
 use Rattle.gv_values.specs.ValueTexts.{decimal}
 use Rattle.command_words.specs.declared.command.TraceCheck.{TraceCheck}
 use Rattle.serve_command.specs.Lines.{number_line}
-use Rattle.trace_check.specs.Causes.{cause_number, cause_text}
+use Rattle.trace_check.specs.Causes.{cause_number, check_cause_text}
 use Rattle.verify_command.specs.Inputs.{most_checked_read}
 use Rattle.verify_command.specs.declared.checking.Unverified.{Unverified}
 use Rattle.wsgi_core.specs.Applications.{App}
 use Rattle.wsgi_connection.specs.Connections.{whole_session}
-use Rattle.gv_top.specs.Answers.{Answer, IsStormAnswer, IsTextAnswer, answer_of_session, most_read, no_port, place_text, refusal, on_err, usage}
+use Rattle.gv_top.specs.Answers.{Answer, IsStormAnswer, IsTextAnswer, answer_of_session, most_read, no_port, place_text, refused_answer, on_err, usage}
 use Rattle.gv_top.specs.Outcomes.{Fails, Passes, Refuses}
 use Rattle.gv_top.specs.Gateways.{answers_by}
-use Rattle.gv_top.specs.declared.words.Command.{Command}
-use Rattle.gv_top.specs.declared.words.Command.TheVariants.{Text, Wsgi, Storm, Verify}
+use Rattle.gv_top.specs.declared.words.OfflineCommand.{OfflineCommand}
+use Rattle.gv_top.specs.declared.words.OfflineCommand.TheVariants.{Text, Wsgi, Storm, Verify}
 
 -- the check came out well, and the trace has so many lines
 abbrev pub verified : ℕ → Answer
@@ -28,8 +28,8 @@ trace_text number text = codes "trace line " ++ decimal number ++ codes ": " ++ 
 abbrev pub unverified : Unverified → Answer
 unverified (Unverified.Overlong number) = on_err 3 (place_text number 25 (codes "input longer than 67108864 bytes"))
 unverified (Unverified.Unmarked number) = on_err 3 (place_text number 24 (codes "no line of four equals signs"))
-unverified (Unverified.Refused place) = refusal place
-unverified (Unverified.Wrong number cause) = on_err 9 (trace_text number (codes "cause " ++ decimal (cause_number cause) ++ codes ": " ++ cause_text cause))
+unverified (Unverified.Refused place) = refused_answer place
+unverified (Unverified.Wrong number cause) = on_err 9 (trace_text number (codes "cause " ++ decimal (cause_number cause) ++ codes ": " ++ check_cause_text cause))
 unverified (Unverified.Lawless number law) = on_err 9 (trace_text number (codes "law " ++ decimal law))
 unverified Unverified.Memory = on_err 7 (codes "out of memory")
 
@@ -39,7 +39,7 @@ IsCheckAnswer check bytes a =
     ((lines : ℕ) × Passes check bytes lines × (a ≡ verified lines)) ⊎ ((why : Unverified) × (Fails check bytes why ⊎ Refuses check bytes why) × (a ≡ unverified why))
 
 -- the answer of a command with this application to what is left of an input, where native workers gave these answers
-abbrev pub IsAnswerOf : App → Option Command → List Given → List ℕ → Answer → Type 0
+abbrev pub IsAnswerOf : App → Option OfflineCommand → List Given → List ℕ → Answer → Type 0
 IsAnswerOf app None given left a = a ≡ usage
 IsAnswerOf app (Some (Text command)) given left a = IsTextAnswer command given (take most_read left) a
 IsAnswerOf app (Some (Wsgi gateway)) given left a = a ≡ answer_of_session (whole_session (answers_by gateway) app no_port left)

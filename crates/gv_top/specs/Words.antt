@@ -2,8 +2,8 @@
 use Rattle.std.specs.Prelude.{Bool, true, false, List, Option, Some, None, option_and_then}
 use Rattle.command_words.specs.Words.{Word}
 use Rattle.command_words.specs.Words as words
-use Rattle.command_words.specs.declared.command.Command.{Command as NamedCommand}
-use Rattle.command_words.specs.declared.command.Command.TheVariants as named
+use Rattle.command_words.specs.declared.command.NamedCommand.{NamedCommand}
+use Rattle.command_words.specs.declared.command.NamedCommand.TheVariants as named
 use Rattle.command_words.specs.declared.command.RunWorld.{RunWorld}
 use Rattle.command_words.specs.declared.command.RunWorld.TheVariants.{Script, Native, Held}
 use Rattle.command_words.specs.declared.command.ServeAnswers.{ServeAnswers}
@@ -11,11 +11,11 @@ use Rattle.command_words.specs.declared.command.ServeAnswers.TheVariants.{Applic
 use Rattle.command_words.specs.declared.command.ServeOptions.{ServeOptions}
 use Rattle.command_words.specs.declared.command.TextCommand.{TextCommand}
 use Rattle.command_words.specs.declared.command.TextCommand.TheVariants.{Run, Format}
-use Rattle.gv_top.specs.declared.words.Command.{Command}
-use Rattle.gv_top.specs.declared.words.Command.TheVariants.{Text, Wsgi, Storm, Verify}
+use Rattle.gv_top.specs.declared.words.OfflineCommand.{OfflineCommand}
+use Rattle.gv_top.specs.declared.words.OfflineCommand.TheVariants.{Text, Wsgi, Storm, Verify}
 
 -- the command, if it is built and needs no net
-abbrev pub built : NamedCommand → Option Command
+abbrev pub built : NamedCommand → Option OfflineCommand
 built (named.Text command) = Some (Text command)
 built (named.Wsgi gateway) = Some (Wsgi gateway)
 built (named.Serve options) = None
@@ -23,8 +23,8 @@ built (named.Storm n) = Some (Storm n)
 built (named.Verify check) = Some (Verify check)
 
 -- the command that the words name, if they name one that is built and needs no net
-abbrev pub command_of : List Word → Option Command
-command_of w = option_and_then built (words.command_of w)
+abbrev pub offline_command_of : List Word → Option OfflineCommand
+offline_command_of w = option_and_then built (words.command_of w)
 
 -- the options of the command, if it serves connections of a net
 abbrev pub serving : NamedCommand → Option ServeOptions
@@ -45,7 +45,7 @@ abbrev pub is_native_text : TextCommand → Bool
 is_native_text (Run options) = is_native_world options.world
 is_native_text Format = false
 
-abbrev pub is_native : Option Command → Bool
+abbrev pub is_native : Option OfflineCommand → Bool
 is_native (Some (Text command)) = is_native_text command
 is_native command = false
 
@@ -59,7 +59,7 @@ is_native_server (Some options) = are_native options.answers
 is_native_server None = false
 
 -- the command reads its input
-abbrev pub reads_input : Option Command → Bool
+abbrev pub reads_input : Option OfflineCommand → Bool
 reads_input None = false
 reads_input (Some (Storm n)) = false
 reads_input command = true

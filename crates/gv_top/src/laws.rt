@@ -4,17 +4,17 @@ ghost use Rattle.scenario_tree.specs.declared.tree.Scenario.{Scenario};
 ghost use Rattle.machine.specs.Budgets.{AreBudgets};
 ghost use Rattle.command_words.specs.declared.command.RunOptions.{RunOptions};
 ghost use Rattle.command_words.specs.declared.command.TextCommand.{TextCommand};
-ghost use Rattle.gv_top.specs.declared.words.Command.{Command};
+ghost use Rattle.gv_top.specs.declared.words.OfflineCommand.{OfflineCommand};
 ghost use Rattle.gv_values.specs.declared.job.Answer.{Answer as Given};
 ghost use Rattle.gv_top.specs.Answers.{Answer, IsTextAnswer};
 ghost use Rattle.gv_top.specs.Storm.{IsStorm};
-ghost use Rattle.gv_top.specs.Words.{command_of, serve_of};
+ghost use Rattle.gv_top.specs.Words.{offline_command_of, serve_of};
 
 use command_words::commands_are_in_range;
 
 /// No words name both a server and a command that needs no net.
 pub fn words_name_one()
-    ensures { (words : List (List ℕ)) (command : Command) → command_of words ≡ Some command → serve_of words ≡ None }
+    ensures { (words : List (List ℕ)) (command : OfflineCommand) → offline_command_of words ≡ Some command → serve_of words ≡ None }
 {}
 
 /// Each text has one answer: a text of a well-formed scenario is run or gives its printed form, and any other bytes are
@@ -31,7 +31,7 @@ pub fn storms_are_spelt()
 
 /// The budgets that words name are in their ranges.
 pub fn budgets_are_in_range()
-    ensures { (words : List (List ℕ)) (options : RunOptions) → command_of words ≡ Some (Command.Text (TextCommand.Run options))
+    ensures { (words : List (List ℕ)) (options : RunOptions) → offline_command_of words ≡ Some (OfflineCommand.Text (TextCommand.Run options))
         → AreBudgets options.turns options.moves }
 {
     commands_are_in_range();

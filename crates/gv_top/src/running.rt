@@ -12,16 +12,16 @@ ghost use Rattle.gv_top.specs.declared.status.Verdict.{Verdict};
 ghost use Rattle.gv_top.specs.Running.{BeganSo, IsBegun, IsUnbegun, RanHeld, RanNatively, run_of};
 ghost use Rattle.gv_top.specs.Inner.{RanInWorld};
 ghost use Rattle.gv_top.specs.Top.{Counts, HandsOn};
-ghost use Rattle.gv_top.specs.Verdicts.{number_of};
+ghost use Rattle.gv_top.specs.Verdicts.{verdict_status};
 ghost use Rattle.gv_top.specs.Words.{is_native_world};
 
 use crate::storming::is_broken_off;
 use command_words::{RunOptions, RunWorld};
 use gv_io::Sink;
-use hub_engine::{Budgets, End, Engine};
-use machine_laws::{runs_are_lawful, scripts_run_lawfully};
+use hub_engine::{Budgets, Engine, EngineEnd};
 use machine_scripts::followers_run_scripts;
 use machine_told::posts_and_answers_are_told;
+use machine_trace_laws::{runs_are_lawful, scripts_run_lawfully};
 use scenario_check::Checked;
 use std::alloc::Global;
 use world::{Held, ScriptWorld, World};
@@ -31,13 +31,13 @@ const SCRIPT_WORKERS: u32 = 1;
 
 /// The end of the run, once out has handed on what was written to it.
 #[tactic(auto, using(gv_io::proofs::StreamLaws::hands))]
-fn handed_on<K: Sink>(end: End, out: &mut K) -> End
+fn handed_on<K: Sink>(end: EngineEnd, out: &mut K) -> EngineEnd
     ensures same { K.written out.new ≡ K.written out.old }
-    ensures hands { number_of (Verdict.Ran result) ≢ 5 → number_of (Verdict.Ran result) ≢ 7 → K.handed out.new ≡ K.written out.new }
+    ensures hands { verdict_status (Verdict.Ran result) ≢ 5 → verdict_status (Verdict.Ran result) ≢ 7 → K.handed out.new ≡ K.written out.new }
     ensures never_taken_back { Extends (K.handed out.old) (K.handed out.new) }
-    ensures end { (result ≡ end) ⊎ (result ≡ End.WriteFault) }
-    ensures failed { result ≡ End.WriteFault → (end ≡ End.WriteFault) ⊎ HasRisen (K.faults out.old) (K.faults out.new) }
-    ensures unfailed { result ≢ End.WriteFault → K.faults out.new ≡ K.faults out.old }
+    ensures end { (result ≡ end) ⊎ (result ≡ EngineEnd.WriteFault) }
+    ensures failed { result ≡ EngineEnd.WriteFault → (end ≡ EngineEnd.WriteFault) ⊎ HasRisen (K.faults out.old) (K.faults out.new) }
+    ensures unfailed { result ≢ EngineEnd.WriteFault → K.faults out.new ≡ K.faults out.old }
     ensures never_falls { K.faults out.old ≤ K.faults out.new }
 {
     if is_broken_off(end) {
@@ -45,7 +45,7 @@ fn handed_on<K: Sink>(end: End, out: &mut K) -> End
     }
     match out.flush() {
         Ok(()) => end,
-        Err(_) => End::WriteFault,
+        Err(_) => EngineEnd::WriteFault,
     }
 }
 
@@ -57,15 +57,15 @@ fn run_in_world<K: Sink, W: World>(
     workers: u32,
     world: &mut W,
     out: &mut K,
-) -> Option<End>
+) -> Option<EngineEnd>
     requires rests { (W.meaning world.old).runs ≡ false }
     requires some { 0 < workers }
     requires few { workers ≤ 16 }
     ensures ran { IfSome result (λ end. RanInWorld end (run engine.scenario engine.turns engine.moves) workers
         (W.meaning world.old) (W.meaning world.new) (W.stands_for world.new) (K.written out.old) (K.written out.new)) }
-    ensures counts { IfSome result (λ end. Counts (end ≡ End.WriteFault) (K.faults out.old) (K.faults out.new)) }
+    ensures counts { IfSome result (λ end. Counts (end ≡ EngineEnd.WriteFault) (K.faults out.old) (K.faults out.new)) }
     ensures ahead { IfSome result (λ end. W.waits ≡ true → WroteAhead (run engine.scenario engine.turns engine.moves) (W.meaning world.new).answers (K.written out.old) (K.handed out.new)) }
-    ensures hands { IfSome result (λ end. number_of (Verdict.Ran end) ≢ 5 → number_of (Verdict.Ran end) ≢ 7 → K.handed out.new ≡ K.written out.new) }
+    ensures hands { IfSome result (λ end. verdict_status (Verdict.Ran end) ≢ 5 → verdict_status (Verdict.Ran end) ≢ 7 → K.handed out.new ≡ K.written out.new) }
     ensures kept { IfNone result (W.meaning world.new ≡ W.meaning world.old) }
     ensures unwritten { IfNone result (K.written out.new ≡ K.written out.old) }
     ensures untried { IfNone result (K.faults out.new ≡ K.faults out.old) }
@@ -79,19 +79,19 @@ fn run_in_world<K: Sink, W: World>(
 }
 
 /// Runs the engine under the rule of a script of this tick.
-fn run_script<K: Sink>(alloc: Global, engine: Engine, tick: u64, out: &mut K) -> End
+fn run_script<K: Sink>(alloc: Global, engine: Engine, tick: u64, out: &mut K) -> EngineEnd
     requires well_formed { IsWellFormed engine.scenario }
     ensures written { RanTo result (script_run engine.scenario engine.turns engine.moves tick) (K.written out.old) (K.written out.new) }
     ensures lawful { meets_laws (script_run engine.scenario engine.turns engine.moves tick).lines ≡ true }
-    ensures hands { HandsOn (number_of (Verdict.Ran result)) (K.written out.old) (K.handed out.old) (K.written out.new) (K.handed out.new) }
-    ensures counts { Counts (result ≡ End.WriteFault) (K.faults out.old) (K.faults out.new) }
+    ensures hands { HandsOn (verdict_status (Verdict.Ran result)) (K.written out.old) (K.handed out.old) (K.written out.new) (K.handed out.new) }
+    ensures counts { Counts (result ≡ EngineEnd.WriteFault) (K.faults out.old) (K.faults out.new) }
 {
     followers_run_scripts();
     scripts_run_lawfully();
     let mut world = ScriptWorld::new(alloc, tick);
     match run_in_world(alloc, engine, SCRIPT_WORKERS, &mut world, out) {
         Some(end) => end,
-        None => End::Memory,
+        None => EngineEnd::Memory,
     }
 }
 
@@ -102,29 +102,29 @@ fn run_natively<K: Sink, W: World>(
     workers: u32,
     native: &mut W,
     out: &mut K,
-) -> End
+) -> EngineEnd
     requires rests { (W.meaning native.old).runs ≡ false }
     requires some { 0 < workers }
     requires few { workers ≤ 16 }
     requires well_formed { IsWellFormed engine.scenario }
     ensures begun { ((meets_laws (run engine.scenario engine.turns engine.moves (W.meaning native.new).answers).lines ≡ true)
         × WroteAhead (run engine.scenario engine.turns engine.moves) (W.meaning native.new).answers (K.written out.old) (K.written out.new))
-        ⊎ IsUnbegun (number_of (Verdict.Ran result)) (K.written out.old) (K.written out.new) }
+        ⊎ IsUnbegun (verdict_status (Verdict.Ran result)) (K.written out.old) (K.written out.new) }
     ensures began { (WroteAhead (run engine.scenario engine.turns engine.moves) (W.meaning native.new).answers (K.written out.old) (K.written out.new)
         × (W.waits ≡ true → WroteAhead (run engine.scenario engine.turns engine.moves) (W.meaning native.new).answers (K.written out.old) (K.handed out.new)))
         ⊎ (W.meaning native.new ≡ W.meaning native.old) }
     ensures written { RanTo result (run engine.scenario engine.turns engine.moves (W.meaning native.new).answers) (K.written out.old) (K.written out.new) }
-    ensures native { result ≢ End.WriteFault → result ≢ End.Memory →
+    ensures native { result ≢ EngineEnd.WriteFault → result ≢ EngineEnd.Memory →
         RanNatively workers (run engine.scenario engine.turns engine.moves (W.meaning native.new).answers) (W.meaning native.new) (W.stands_for native.new) }
     ensures rests { (W.meaning native.new).runs ≡ false }
-    ensures hands { HandsOn (number_of (Verdict.Ran result)) (K.written out.old) (K.handed out.old) (K.written out.new) (K.handed out.new) }
-    ensures counts { Counts (result ≡ End.WriteFault) (K.faults out.old) (K.faults out.new) }
+    ensures hands { HandsOn (verdict_status (Verdict.Ran result)) (K.written out.old) (K.handed out.old) (K.written out.new) (K.handed out.new) }
+    ensures counts { Counts (result ≡ EngineEnd.WriteFault) (K.faults out.old) (K.faults out.new) }
 {
     posts_and_answers_are_told();
     runs_are_lawful();
     match run_in_world(alloc, engine, workers, native, out) {
         Some(end) => end,
-        None => End::Memory,
+        None => EngineEnd::Memory,
     }
 }
 
@@ -135,18 +135,18 @@ fn run_held<K: Sink, W: World>(
     workers: u32,
     native: &mut W,
     out: &mut K,
-) -> End
+) -> EngineEnd
     requires rests { (W.meaning native.old).runs ≡ false }
     requires some { 0 < workers }
     requires few { workers ≤ 16 }
     requires well_formed { IsWellFormed engine.scenario }
     ensures written { RanTo result (script_run engine.scenario engine.turns engine.moves 0) (K.written out.old) (K.written out.new) }
     ensures lawful { meets_laws (script_run engine.scenario engine.turns engine.moves 0).lines ≡ true }
-    ensures native { result ≢ End.WriteFault → result ≢ End.Memory →
+    ensures native { result ≢ EngineEnd.WriteFault → result ≢ EngineEnd.Memory →
         RanHeld workers (script_run engine.scenario engine.turns engine.moves 0) (W.meaning native.new) (W.stands_for native.new) }
     ensures rests { (W.meaning native.new).runs ≡ false }
-    ensures hands { HandsOn (number_of (Verdict.Ran result)) (K.written out.old) (K.handed out.old) (K.written out.new) (K.handed out.new) }
-    ensures counts { Counts (result ≡ End.WriteFault) (K.faults out.old) (K.faults out.new) }
+    ensures hands { HandsOn (verdict_status (Verdict.Ran result)) (K.written out.old) (K.handed out.old) (K.written out.new) (K.handed out.new) }
+    ensures counts { Counts (result ≡ EngineEnd.WriteFault) (K.faults out.old) (K.faults out.new) }
 {
     followers_run_scripts();
     scripts_run_lawfully();
@@ -156,7 +156,7 @@ fn run_held<K: Sink, W: World>(
     let _ = held.into_inner();
     match ran {
         Some(end) => end,
-        None => End::Memory,
+        None => EngineEnd::Memory,
     }
 }
 
@@ -167,21 +167,21 @@ pub fn run_scenario<K: Sink, W: World>(
     options: RunOptions,
     native: &mut W,
     out: &mut K,
-) -> End
+) -> EngineEnd
     requires range { IsWorldInRange options.world }
     requires rests { (W.meaning native.old).runs ≡ false }
     ensures written { RanTo result (run_of options (W.meaning native.new).answers checked) (K.written out.old) (K.written out.new) }
-    ensures native { (workers : ℕ) → options.world ≡ RunWorld.Native workers → result ≢ End.WriteFault → result ≢ End.Memory →
+    ensures native { (workers : ℕ) → options.world ≡ RunWorld.Native workers → result ≢ EngineEnd.WriteFault → result ≢ EngineEnd.Memory →
         RanNatively workers (run_of options (W.meaning native.new).answers checked) (W.meaning native.new) (W.stands_for native.new) }
-    ensures held { (workers : ℕ) → options.world ≡ RunWorld.Held workers → result ≢ End.WriteFault → result ≢ End.Memory →
+    ensures held { (workers : ℕ) → options.world ≡ RunWorld.Held workers → result ≢ EngineEnd.WriteFault → result ≢ EngineEnd.Memory →
         RanHeld workers (run_of options (W.meaning native.new).answers checked) (W.meaning native.new) (W.stands_for native.new) }
     ensures begun { IsBegun options checked (W.meaning native.new).answers (K.written out.old) (K.written out.new)
-        ⊎ IsUnbegun (number_of (Verdict.Ran result)) (K.written out.old) (K.written out.new) }
+        ⊎ IsUnbegun (verdict_status (Verdict.Ran result)) (K.written out.old) (K.written out.new) }
     ensures began { BeganSo W.waits options checked (W.meaning native.old) (W.meaning native.new) (K.written out.old) (K.written out.new) (K.handed out.new) }
     ensures untouched { is_native_world options.world ≡ false → native.new ≡ native.old }
     ensures rests { (W.meaning native.new).runs ≡ false }
-    ensures hands { HandsOn (number_of (Verdict.Ran result)) (K.written out.old) (K.handed out.old) (K.written out.new) (K.handed out.new) }
-    ensures counts { Counts (result ≡ End.WriteFault) (K.faults out.old) (K.faults out.new) }
+    ensures hands { HandsOn (verdict_status (Verdict.Ran result)) (K.written out.old) (K.handed out.old) (K.written out.new) (K.handed out.new) }
+    ensures counts { Counts (result ≡ EngineEnd.WriteFault) (K.faults out.old) (K.faults out.new) }
 {
     let budgets = Budgets {
         turns: options.turns,
@@ -189,7 +189,7 @@ pub fn run_scenario<K: Sink, W: World>(
     };
     let _well_formed = checked.scenario();
     let Ok(engine) = Engine::new(alloc, checked, budgets) else {
-        return End::Memory;
+        return EngineEnd::Memory;
     };
     match options.world {
         RunWorld::Script(tick) => run_script(alloc, engine, tick, out),

@@ -18,10 +18,10 @@ ghost use Rattle.scenario_tree.specs.declared.tree.Scenario.{Scenario as AnyScen
 ghost use Rattle.gv_top.specs.Answers.{most_read, no_port};
 ghost use Rattle.gv_top.specs.Gateways.{answers_by};
 ghost use Rattle.gv_top.specs.Running.{BeganSo};
-ghost use Rattle.gv_top.specs.declared.words.Command.{Command};
+ghost use Rattle.gv_top.specs.declared.words.OfflineCommand.{OfflineCommand};
 ghost use Rattle.gv_top.specs.Serving.{Serves, ServesNatively, ServesWith, limits_of};
 ghost use Rattle.gv_top.specs.Top.{Counts, HandsOn, seen};
-ghost use Rattle.gv_top.specs.Words.{are_native, command_of, is_native, is_native_server, reads_input, serve_of};
+ghost use Rattle.gv_top.specs.Words.{are_native, offline_command_of, is_native, is_native_server, reads_input, serve_of};
 
 use crate::gateway::serve_through;
 use crate::status::Verdict;
@@ -175,30 +175,30 @@ pub fn gvr<S: Source, K: Sink, E: Sink, W: World, N: Net, A: Application, H: Wai
     requires rests { (W.meaning native.old).runs ≡ false }
     requires fresh { IsFresh (N.meaning net.old) }
     ensures answers { serve_of (map string_bytes words.now) ≡ None →
-        AnswersCommand result (A.answer_of app.now) (command_of (map string_bytes words.now)) (W.meaning native.new) (W.stands_for native.new)
+        AnswersCommand result (A.answer_of app.now) (offline_command_of (map string_bytes words.now)) (W.meaning native.new) (W.stands_for native.new)
         (seen S.remaining S.faults input.old input.new) (seen K.written K.faults out.old out.new) (seen E.written E.faults err.old err.new) }
     ensures checks { serve_of (map string_bytes words.now) ≡ None →
-        AnswersCheck result (command_of (map string_bytes words.now))
+        AnswersCheck result (offline_command_of (map string_bytes words.now))
         (seen S.remaining S.faults input.old input.new) (seen K.written K.faults out.old out.new) (seen E.written E.faults err.old err.new) }
     ensures borne_out { IsBorneOut result (seen S.remaining S.faults input.old input.new) (seen K.written K.faults out.old out.new) (seen E.written E.faults err.old err.new) }
     // Native workers were asked only after what the run says before was written, and handed on where they may be long in
     // answering; or they are as they were.
-    ensures began { (options : AnyOptions) (s : AnyScenario) (left : List ℕ) → command_of (map string_bytes words.now) ≡ Some (Command.Text (TextCommand.Run options)) →
+    ensures began { (options : AnyOptions) (s : AnyScenario) (left : List ℕ) → offline_command_of (map string_bytes words.now) ≡ Some (OfflineCommand.Text (TextCommand.Run options)) →
         S.remaining input.old ≡ Some left → Spells s (take most_read left) → IsWellFormed s →
         BeganSo W.waits options s (W.meaning native.old) (W.meaning native.new) (K.written out.old) (K.written out.new) (K.handed out.new) }
     // All that was written is handed on, where all was before, but with the statuses 5 and 7; the line of status 7 too.
     ensures handed { HandsOn result (K.written out.old) (K.handed out.old) (K.written out.new) (K.handed out.new) }
     ensures err_handed { result ≢ 5 → E.handed err.old ≡ E.written err.old → E.handed err.new ≡ E.written err.new }
     // A peer that waits is answered: what is due for all bytes of a connection but those of the last read was handed on.
-    ensures handed_ahead { (gateway : AnyGateway) → command_of (map string_bytes words.now) ≡ Some (Command.Wsgi gateway) → K.handed out.old ≡ K.written out.old →
+    ensures handed_ahead { (gateway : AnyGateway) → offline_command_of (map string_bytes words.now) ≡ Some (OfflineCommand.Wsgi gateway) → K.handed out.old ≡ K.written out.old →
         HandedAhead (answers_by gateway) (A.answer_of app.now) no_port (S.remaining input.old) (S.remaining input.new) (K.written out.old) (K.handed out.new) }
     // Native workers are used by a run and by a server that the words ask them for, and by nothing else.
-    ensures untouched { is_native (command_of (map string_bytes words.now)) ≡ false → is_native_server (serve_of (map string_bytes words.now)) ≡ false → native.new ≡ native.old }
+    ensures untouched { is_native (offline_command_of (map string_bytes words.now)) ≡ false → is_native_server (serve_of (map string_bytes words.now)) ≡ false → native.new ≡ native.old }
     ensures left_alone { is_native_server (serve_of (map string_bytes words.now)) ≡ false → IsLeftAlone result (S.remaining input.old) native.old native.new }
     ensures native_rests { (W.meaning native.new).runs ≡ false }
     // A storm reads no input; neither does `serve`, nor do words that are no command.
-    ensures untouched_input { reads_input (command_of (map string_bytes words.now)) ≡ false → input.new ≡ input.old }
-    ensures usage_only { result ≡ 2 → (command_of (map string_bytes words.now) ≡ None) × (serve_of (map string_bytes words.now) ≡ None) }
+    ensures untouched_input { reads_input (offline_command_of (map string_bytes words.now)) ≡ false → input.new ≡ input.old }
+    ensures usage_only { result ≡ 2 → (offline_command_of (map string_bytes words.now) ≡ None) × (serve_of (map string_bytes words.now) ≡ None) }
     // `serve` serves: the net was asked for the port of the words, out has its lines, each connection was a session of
     // its own with the application at the port of the first line, and each closed one was closed for a cause; so it is
     // where native workers answer the requests for jobs, in whichever order. It reads no input.

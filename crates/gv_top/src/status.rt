@@ -1,10 +1,10 @@
 //! How a call ends: its status and its line on err.
 ghost use Rattle.std.specs.Prelude.{◌≡◌, List, OnOk, IfOk};
-ghost use Rattle.gv_top.specs.Verdicts.{number_of, line_of};
+ghost use Rattle.gv_top.specs.Verdicts.{verdict_status, verdict_line};
 ghost use Rattle.gv_top.specs.Inner.{IsExplained, verdict_on};
 
 use gv_values::{FaultKind, decimal_text, fault_text};
-use hub_engine::End;
+use hub_engine::EngineEnd;
 use scenario_grammar::{Place, reason_text};
 use scenario_lang::ParseRefusal;
 use serve_command::Served;
@@ -25,7 +25,7 @@ pub enum Verdict {
     /// The printed form of the scenario is out.
     Formatted,
     /// The run came to this end.
-    Ran(End),
+    Ran(EngineEnd),
     /// The connection came to this end.
     Connection(ConnectionEnd),
     /// The server came to this end.
@@ -39,22 +39,22 @@ pub enum Verdict {
 impl Verdict {
     /// The status that the call answers.
     pub fn number(self) -> u8
-        ensures { result ≡ number_of self }
+        ensures { result ≡ verdict_status self }
     {
         match self {
             Verdict::Usage => 2,
             Verdict::ReadFault => 4,
             Verdict::Refused(_) => 3,
             Verdict::Formatted => 0,
-            Verdict::Ran(End::MainValue) => 0,
-            Verdict::Ran(End::MainFault(_)) => 1,
-            Verdict::Ran(End::NoTurns) => 6,
-            Verdict::Ran(End::NoMoves) => 6,
-            Verdict::Ran(End::NoGreenlets) => 8,
-            Verdict::Ran(End::NoLinks) => 8,
-            Verdict::Ran(End::NoKills) => 8,
-            Verdict::Ran(End::WriteFault) => 5,
-            Verdict::Ran(End::Memory) => 7,
+            Verdict::Ran(EngineEnd::MainValue) => 0,
+            Verdict::Ran(EngineEnd::MainFault(_)) => 1,
+            Verdict::Ran(EngineEnd::NoTurns) => 6,
+            Verdict::Ran(EngineEnd::NoMoves) => 6,
+            Verdict::Ran(EngineEnd::NoGreenlets) => 8,
+            Verdict::Ran(EngineEnd::NoLinks) => 8,
+            Verdict::Ran(EngineEnd::NoKills) => 8,
+            Verdict::Ran(EngineEnd::WriteFault) => 5,
+            Verdict::Ran(EngineEnd::Memory) => 7,
             Verdict::Connection(ConnectionEnd::Closed) => 0,
             Verdict::Connection(ConnectionEnd::TooLong) => 8,
             Verdict::Connection(ConnectionEnd::ReadFault) => 4,
@@ -78,7 +78,7 @@ impl Verdict {
     /// The line on err, and nothing where it has none.
     pub fn line(self, alloc: Global) -> Result<Vec<u8>, AllocError>
         requires { IsExplained self }
-        ensures { IfOk result (λ line. line.items ≡ line_of self) }
+        ensures { IfOk result (λ line. line.items ≡ verdict_line self) }
     {
         match self {
             Verdict::Usage => line_with(
@@ -88,15 +88,15 @@ impl Verdict {
             Verdict::ReadFault => line_with(alloc, b"read fault"),
             Verdict::Refused(place) => refusal_line(alloc, place),
             Verdict::Formatted => Ok(Vec::new(alloc)),
-            Verdict::Ran(End::MainValue) => Ok(Vec::new(alloc)),
-            Verdict::Ran(End::MainFault(kind)) => fault_line(alloc, kind),
-            Verdict::Ran(End::NoTurns) => line_with(alloc, b"budget of turns spent"),
-            Verdict::Ran(End::NoMoves) => line_with(alloc, b"budget of moves spent"),
-            Verdict::Ran(End::NoGreenlets) => line_with(alloc, b"limit of greenlets"),
-            Verdict::Ran(End::NoLinks) => line_with(alloc, b"limit of links"),
-            Verdict::Ran(End::NoKills) => line_with(alloc, b"limit of kills"),
-            Verdict::Ran(End::WriteFault) => line_with(alloc, b"write fault"),
-            Verdict::Ran(End::Memory) => line_with(alloc, b"out of memory"),
+            Verdict::Ran(EngineEnd::MainValue) => Ok(Vec::new(alloc)),
+            Verdict::Ran(EngineEnd::MainFault(kind)) => fault_line(alloc, kind),
+            Verdict::Ran(EngineEnd::NoTurns) => line_with(alloc, b"budget of turns spent"),
+            Verdict::Ran(EngineEnd::NoMoves) => line_with(alloc, b"budget of moves spent"),
+            Verdict::Ran(EngineEnd::NoGreenlets) => line_with(alloc, b"limit of greenlets"),
+            Verdict::Ran(EngineEnd::NoLinks) => line_with(alloc, b"limit of links"),
+            Verdict::Ran(EngineEnd::NoKills) => line_with(alloc, b"limit of kills"),
+            Verdict::Ran(EngineEnd::WriteFault) => line_with(alloc, b"write fault"),
+            Verdict::Ran(EngineEnd::Memory) => line_with(alloc, b"out of memory"),
             Verdict::Connection(ConnectionEnd::Closed) => Ok(Vec::new(alloc)),
             Verdict::Connection(ConnectionEnd::TooLong) => line_with(
                 alloc,
@@ -111,24 +111,24 @@ impl Verdict {
             Verdict::Served(Served::WriteFault) => line_with(alloc, b"write fault"),
             Verdict::Served(Served::Memory) => line_with(alloc, b"out of memory"),
             Verdict::Verified => Ok(Vec::new(alloc)),
-            Verdict::Unverified(refusal) => unverified_line(alloc, refusal),
+            Verdict::Unverified(refused_answer) => unverified_line(alloc, refused_answer),
         }
     }
 }
 
 /// The verdict on a text that no scenario was read of.
-pub fn verdict_on(refusal: ParseRefusal) -> Verdict
-    ensures { result ≡ verdict_on refusal }
+pub fn verdict_on(refused_answer: ParseRefusal) -> Verdict
+    ensures { result ≡ verdict_on refused_answer }
 {
-    match refusal {
+    match refused_answer {
         ParseRefusal::Refused(place) => Verdict::Refused(place),
-        ParseRefusal::Memory => Verdict::Ran(End::Memory),
+        ParseRefusal::Memory => Verdict::Ran(EngineEnd::Memory),
     }
 }
 
 ghost use Rattle.machine.specs.Status.{err_line};
 ghost use Rattle.trace_text.specs.declared.line.StopCause.{StopCause};
-ghost use Rattle.gv_top.specs.Answers.{line, place_text, refusal};
+ghost use Rattle.gv_top.specs.Answers.{line, place_text, refused_answer};
 ghost use Rattle.gv_top.specs.Verifying.{trace_text, unverified};
 ghost use Rattle.scenario_reading.specs.Judged.{HasReason};
 ghost use Rattle.verify_command.specs.Judged.{IsReasoned};
@@ -159,7 +159,7 @@ fn fault_line(alloc: Global, kind: FaultKind) -> Result<Vec<u8>, AllocError>
 
 fn refusal_line(alloc: Global, place: Place) -> Result<Vec<u8>, AllocError>
     requires { HasReason place }
-    ensures { IfOk result (λ made. made.items ≡ (refusal place).err) }
+    ensures { IfOk result (λ made. made.items ≡ (refused_answer place).err) }
 {
     place_line(
         alloc,
@@ -183,11 +183,11 @@ fn place_line(alloc: Global, number: u64, reason: u8, text: &[u8]) -> Result<Vec
 }
 
 /// The line on err of an input that was not verified.
-fn unverified_line(alloc: Global, refusal: Unverified) -> Result<Vec<u8>, AllocError>
-    requires { IsReasoned refusal }
-    ensures { IfOk result (λ made. made.items ≡ (unverified refusal).err) }
+fn unverified_line(alloc: Global, refused_answer: Unverified) -> Result<Vec<u8>, AllocError>
+    requires { IsReasoned refused_answer }
+    ensures { IfOk result (λ made. made.items ≡ (unverified refused_answer).err) }
 {
-    match refusal {
+    match refused_answer {
         Unverified::Overlong { line } => place_line(
             alloc,
             line,

@@ -6,14 +6,14 @@ ghost use Rattle.gv_top.specs.Answers.{Answer, IsStormAnswer, answer_of_storm};
 ghost use Rattle.gv_top.specs.Counted.{WasCounted, is_broken_off};
 ghost use Rattle.gv_top.specs.Storm.{storm_run, storm_text, summary};
 ghost use Rattle.gv_top.specs.Top.{Counts, Decided, HandsOn};
-ghost use Rattle.gv_top.specs.Verdicts.{number_of};
+ghost use Rattle.gv_top.specs.Verdicts.{verdict_status};
 ghost use Rattle.gv_top.specs.Inner.{IsExplained};
 
 use crate::status::{Verdict, verdict_on};
 use crate::top::send;
 use gv_io::Sink;
 use gv_values::decimal_text;
-use hub_engine::{Budgets, End, Engine, Ran};
+use hub_engine::{Budgets, Engine, EngineEnd, Ran};
 use line_counter::LineCounter;
 use machine_scripts::followers_run_scripts;
 use scenario_check::Checked;
@@ -72,10 +72,10 @@ fn summary_text(alloc: Global, size: u32, run: &CountedRun) -> Result<Vec<u8>, A
 }
 
 /// The run was broken off: its trace could not be written, or memory ran out.
-pub(crate) fn is_broken_off(end: End) -> bool
+pub(crate) fn is_broken_off(end: EngineEnd) -> bool
     ensures { result ≡ is_broken_off end }
 {
-    matches!(end, End::WriteFault | End::Memory)
+    matches!(end, EngineEnd::WriteFault | EngineEnd::Memory)
 }
 
 /// Runs the scenario as a storm, and counts the lines of its trace. None: memory ran out, or there were more lines than
@@ -104,35 +104,35 @@ fn count_run(alloc: Global, checked: Checked) -> Option<CountedRun>
 
 /// Runs the scenario as the storm of so many greenlets, and writes its summary to out.
 #[tactic(auto, using(gv_io::proofs::StreamLaws::writes))]
-fn sum_up<K: Sink>(alloc: Global, size: u32, checked: Checked, out: &mut K) -> End
+fn sum_up<K: Sink>(alloc: Global, size: u32, checked: Checked, out: &mut K) -> EngineEnd
     ensures answer { Decided (AnyVerdict.Ran result) (answer_of_storm size (storm_run checked)) (K.written out.old) (K.written out.new) }
-    ensures hands { HandsOn (number_of (AnyVerdict.Ran result)) (K.written out.old) (K.handed out.old) (K.written out.new) (K.handed out.new) }
-    ensures counts { Counts (result ≡ End.WriteFault) (K.faults out.old) (K.faults out.new) }
+    ensures hands { HandsOn (verdict_status (AnyVerdict.Ran result)) (K.written out.old) (K.handed out.old) (K.written out.new) (K.handed out.new) }
+    ensures counts { Counts (result ≡ EngineEnd.WriteFault) (K.faults out.old) (K.faults out.new) }
 {
     let Some(run) = count_run(alloc, checked) else {
-        return End::Memory;
+        return EngineEnd::Memory;
     };
     let Ok(text) = summary_text(alloc, size, &run) else {
-        return End::Memory;
+        return EngineEnd::Memory;
     };
     match send(out, text.as_slice()) {
         Ok(()) => run.ran.end,
-        Err(_) => End::WriteFault,
+        Err(_) => EngineEnd::WriteFault,
     }
 }
 
 /// Runs the storm of so many greenlets, and writes its summary to out.
 pub fn answer_storm<K: Sink>(alloc: Global, size: u32, out: &mut K) -> Verdict
     ensures answer { (a : Answer) → IsStormAnswer size a → Decided result a (K.written out.old) (K.written out.new) }
-    ensures command { number_of result ≢ 2 }
-    ensures read { number_of result ≢ 4 }
-    ensures no_net { number_of result ≢ 10 }
+    ensures command { verdict_status result ≢ 2 }
+    ensures read { verdict_status result ≢ 4 }
+    ensures no_net { verdict_status result ≢ 10 }
     ensures explained { IsExplained result }
-    ensures hands { HandsOn (number_of result) (K.written out.old) (K.handed out.old) (K.written out.new) (K.handed out.new) }
-    ensures writes { Counts (number_of result ≡ 5) (K.faults out.old) (K.faults out.new) }
+    ensures hands { HandsOn (verdict_status result) (K.written out.old) (K.handed out.old) (K.written out.new) (K.handed out.new) }
+    ensures writes { Counts (verdict_status result ≡ 5) (K.faults out.old) (K.faults out.new) }
 {
     let Ok(text) = storm_text(alloc, size) else {
-        return Verdict::Ran(End::Memory);
+        return Verdict::Ran(EngineEnd::Memory);
     };
     match read_scenario(alloc, text.as_slice()) {
         Err(refusal) => verdict_on(refusal),

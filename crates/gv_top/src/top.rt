@@ -4,37 +4,37 @@ ghost use Rattle.gv_values.specs.Counts.{HasRisen};
 ghost use Rattle.gv_io.specs.Streams.{appended, AppendsPrefix};
 ghost use Rattle.command_words.specs.declared.command.GatewayKind.{GatewayKind as AnyGateway};
 ghost use Rattle.command_words.specs.declared.command.RunOptions.{RunOptions as AnyOptions};
-ghost use Rattle.command_words.specs.declared.command.Command.{Command as NamedCommand};
+ghost use Rattle.command_words.specs.declared.command.NamedCommand.{NamedCommand};
 ghost use Rattle.command_words.specs.declared.command.TraceCheck.{TraceCheck as AnyCheck};
 ghost use Rattle.command_words.specs.Ranges.{IsInRange};
 ghost use Rattle.scenario_grammar.specs.Spells.{Spells};
 ghost use Rattle.scenario_rules.specs.Rules.{IsWellFormed};
 ghost use Rattle.scenario_tree.specs.declared.tree.Scenario.{Scenario as AnyScenario};
-ghost use Rattle.gv_top.specs.Answers.{Answer, IsStormAnswer, answer_to_scenario, formatted, memory_line, most_read, network_fault_line, no_port, read_fault_line, refusal, write_fault_line};
+ghost use Rattle.gv_top.specs.Answers.{Answer, IsStormAnswer, answer_to_scenario, formatted, memory_line, most_read, network_fault_line, no_port, read_fault_line, refused_answer, write_fault_line};
 ghost use Rattle.gv_top.specs.Inner.{answer_to_text, BeganText, IsExplained, IsOfConnection, IsOr, RanScenarioSo, RanSo};
 ghost use Rattle.gv_top.specs.Gateways.{answers_by};
 ghost use Rattle.gv_top.specs.Commands.{AnswersCommand, IsBorneOut, IsLeftAlone};
 ghost use Rattle.gv_top.specs.Running.{BeganSo};
 ghost use Rattle.gv_top.specs.declared.status.Verdict.{Verdict as AnyVerdict};
 ghost use Rattle.gv_top.specs.Top.{CameTo, Counts, Decided, Fits, HandsOn, HasLawfulLines, IsTold, seen};
-ghost use Rattle.gv_top.specs.Verdicts.{line_of, number_of};
+ghost use Rattle.gv_top.specs.Verdicts.{verdict_line, verdict_status};
 ghost use Rattle.gv_top.specs.Checks.{AnswersCheck};
 ghost use Rattle.gv_top.specs.Verifying.{IsAnswerOf, IsCheckAnswer};
 ghost use Rattle.verify_command.specs.Inputs.{most_checked_read};
 ghost use Rattle.wsgi_connection.specs.Connections.{HandedAhead};
-ghost use Rattle.gv_top.specs.Words.{command_of, is_native, is_native_text, reads_input, serve_of};
+ghost use Rattle.gv_top.specs.Words.{offline_command_of, is_native, is_native_text, reads_input, serve_of};
 
 use crate::gateway::answer_through;
 use crate::running::run_scenario;
 use crate::status::{Verdict, verdict_on};
 use crate::storming::answer_storm;
 use crate::verifying::answer_check;
-use crate::words::{Command, server_options, without_a_net};
+use crate::words::{OfflineCommand, server_options, without_a_net};
 use command_words::{TextCommand, command_of, commands_are_in_range};
 use gv_io::{Failed, ReadRefusal, Sink, Source, read_limited};
-use hub_engine::End;
+use hub_engine::EngineEnd;
 use machine_blocks::blocks_are_told;
-use machine_laws::blocks_are_quiet;
+use machine_trace_laws::blocks_are_quiet;
 use scenario_check::Checked;
 use scenario_lang::{Scenario, print};
 use scenario_reading::read_scenario;
@@ -43,7 +43,7 @@ use world::World;
 use wsgi_core::Application;
 
 /// The most bytes of a text.
-const MOST_BYTES: usize = 1048576;
+const MOST_TEXT: usize = 1048576;
 
 /// All of the call but its line on err. None: the words name `serve`, and nothing was done.
 fn decide<S: Source, K: Sink, W: World, A: Application>(
@@ -55,35 +55,35 @@ fn decide<S: Source, K: Sink, W: World, A: Application>(
     app: &A,
 ) -> Option<Verdict>
     requires rests { (W.meaning native.old).runs ≡ false }
-    ensures came_to { IfSome result (λ verdict. CameTo verdict (A.answer_of app.now) (command_of (map string_bytes words.now)) (W.meaning native.new) (W.stands_for native.new)
+    ensures came_to { IfSome result (λ verdict. CameTo verdict (A.answer_of app.now) (offline_command_of (map string_bytes words.now)) (W.meaning native.new) (W.stands_for native.new)
         (seen S.remaining S.faults input.old input.new) (seen K.written K.faults out.old out.new)) }
-    ensures no_command { IfSome result (λ verdict. command_of (map string_bytes words.now) ≡ None → (number_of verdict ≡ 2) ⊎ (number_of verdict ≡ 7)) }
-    ensures lawful { IfSome result (λ verdict. (options : AnyOptions) → command_of (map string_bytes words.now) ≡ Some (Command.Text (TextCommand.Run options)) →
-        HasLawfulLines (number_of verdict) (K.written out.old) (K.written out.new)) }
-    ensures hands { IfSome result (λ verdict. HandsOn (number_of verdict) (K.written out.old) (K.handed out.old) (K.written out.new) (K.handed out.new)) }
-    ensures began { IfSome result (λ verdict. (text : TextCommand) → command_of (map string_bytes words.now) ≡ Some (Command.Text text) → (left : List ℕ) → S.remaining input.old ≡ Some left →
+    ensures no_command { IfSome result (λ verdict. offline_command_of (map string_bytes words.now) ≡ None → (verdict_status verdict ≡ 2) ⊎ (verdict_status verdict ≡ 7)) }
+    ensures lawful { IfSome result (λ verdict. (options : AnyOptions) → offline_command_of (map string_bytes words.now) ≡ Some (OfflineCommand.Text (TextCommand.Run options)) →
+        HasLawfulLines (verdict_status verdict) (K.written out.old) (K.written out.new)) }
+    ensures hands { IfSome result (λ verdict. HandsOn (verdict_status verdict) (K.written out.old) (K.handed out.old) (K.written out.new) (K.handed out.new)) }
+    ensures began { IfSome result (λ verdict. (text : TextCommand) → offline_command_of (map string_bytes words.now) ≡ Some (OfflineCommand.Text text) → (left : List ℕ) → S.remaining input.old ≡ Some left →
         BeganText W.waits text (take most_read left) (W.meaning native.old) (W.meaning native.new) (K.written out.old) (K.written out.new) (K.handed out.new)) }
-    ensures untouched { is_native (command_of (map string_bytes words.now)) ≡ false → native.new ≡ native.old }
-    ensures left_alone { IfSome result (λ verdict. IsLeftAlone (number_of verdict) (S.remaining input.old) native.old native.new) }
+    ensures untouched { is_native (offline_command_of (map string_bytes words.now)) ≡ false → native.new ≡ native.old }
+    ensures left_alone { IfSome result (λ verdict. IsLeftAlone (verdict_status verdict) (S.remaining input.old) native.old native.new) }
     ensures rests { (W.meaning native.new).runs ≡ false }
-    ensures connection { IfSome result (λ verdict. (gateway : AnyGateway) → command_of (map string_bytes words.now) ≡ Some (Command.Wsgi gateway) →
+    ensures connection { IfSome result (λ verdict. (gateway : AnyGateway) → offline_command_of (map string_bytes words.now) ≡ Some (OfflineCommand.Wsgi gateway) →
         IsOfConnection verdict gateway (A.answer_of app.now) (S.remaining input.old) (S.remaining input.new) (K.written out.old) (K.written out.new)) }
-    ensures handed_ahead { IfSome result (λ verdict. (gateway : AnyGateway) → command_of (map string_bytes words.now) ≡ Some (Command.Wsgi gateway) → K.handed out.old ≡ K.written out.old →
+    ensures handed_ahead { IfSome result (λ verdict. (gateway : AnyGateway) → offline_command_of (map string_bytes words.now) ≡ Some (OfflineCommand.Wsgi gateway) → K.handed out.old ≡ K.written out.old →
         HandedAhead (answers_by gateway) (A.answer_of app.now) no_port (S.remaining input.old) (S.remaining input.new) (K.written out.old) (K.handed out.new)) }
-    ensures untouched_input { reads_input (command_of (map string_bytes words.now)) ≡ false → input.new ≡ input.old }
+    ensures untouched_input { reads_input (offline_command_of (map string_bytes words.now)) ≡ false → input.new ≡ input.old }
     ensures explained { IfSome result IsExplained }
     ensures serve { IfNone result (IsSome (serve_of (map string_bytes words.now))) }
-    ensures not_serve { IfSome result (λ verdict. IsSome (serve_of (map string_bytes words.now)) → number_of verdict ≡ 7) }
+    ensures not_serve { IfSome result (λ verdict. IsSome (serve_of (map string_bytes words.now)) → verdict_status verdict ≡ 7) }
     ensures input_alone { IsSome (serve_of (map string_bytes words.now)) → input.new ≡ input.old }
     ensures out_alone { IsSome (serve_of (map string_bytes words.now)) → out.new ≡ out.old }
     ensures native_alone { IsSome (serve_of (map string_bytes words.now)) → native.new ≡ native.old }
-    ensures no_net { IfSome result (λ verdict. number_of verdict ≢ 10) }
+    ensures no_net { IfSome result (λ verdict. verdict_status verdict ≢ 10) }
     ensures input_never_falls { S.faults input.old ≤ S.faults input.new }
     ensures out_never_falls { K.faults out.old ≤ K.faults out.new }
 {
     commands_are_in_range();
     let Ok(command) = command_of(alloc, words) else {
-        return Some(Verdict::Ran(End::Memory));
+        return Some(Verdict::Ran(EngineEnd::Memory));
     };
     match server_options(command) {
         Some(_) => None,
@@ -97,56 +97,56 @@ fn decide<S: Source, K: Sink, W: World, A: Application>(
 /// Does what the command wants, or answers that the words named none.
 fn answer_command<S: Source, K: Sink, W: World, A: Application>(
     alloc: Global,
-    command: Option<Command>,
+    command: Option<OfflineCommand>,
     input: &mut S,
     out: &mut K,
     native: &mut W,
     app: &A,
 ) -> Verdict
-    requires range { (text : TextCommand) → command ≡ Some (Command.Text text) → IsInRange (NamedCommand.Text text) }
+    requires range { (text : TextCommand) → command ≡ Some (OfflineCommand.Text text) → IsInRange (NamedCommand.Text text) }
     requires rests { (W.meaning native.old).runs ≡ false }
     ensures answer { (left : List ℕ) (a : Answer) → S.remaining input.old ≡ Some left → IsAnswerOf (A.answer_of app.now) command (W.meaning native.new).answers left a →
         Decided result a (K.written out.old) (K.written out.new) }
-    ensures checked { (check : AnyCheck) (left : List ℕ) → command ≡ Some (Command.Verify check) → S.remaining input.old ≡ Some left →
-        number_of result ≢ 4 → number_of result ≢ 5 → number_of result ≢ 7 →
+    ensures checked { (check : AnyCheck) (left : List ℕ) → command ≡ Some (OfflineCommand.Verify check) → S.remaining input.old ≡ Some left →
+        verdict_status result ≢ 4 → verdict_status result ≢ 5 → verdict_status result ≢ 7 →
         (a : Answer) × IsCheckAnswer check (take most_checked_read left) a × Fits result a (K.written out.old) (K.written out.new) }
-    ensures untold { (check : AnyCheck) → command ≡ Some (Command.Verify check) → number_of result ≢ 0 → number_of result ≢ 5 → K.written out.new ≡ K.written out.old }
-    ensures read_trace { (check : AnyCheck) → command ≡ Some (Command.Verify check) →
-        (left : List ℕ) → S.remaining input.old ≡ Some left → number_of result ≢ 4 → number_of result ≢ 7 → S.remaining input.new ≡ Some (drop most_checked_read left) }
-    ensures usage { number_of result ≡ 2 → command ≡ None }
-    ensures no_net { number_of result ≢ 10 }
-    ensures no_command { command ≡ None → (number_of result ≡ 2) ⊎ (number_of result ≡ 7) }
-    ensures ran { (text : TextCommand) → command ≡ Some (Command.Text text) → (left : List ℕ) → S.remaining input.old ≡ Some left →
-        RanSo (number_of result) text (take most_read left) (W.meaning native.new) (W.stands_for native.new) (K.written out.old) (K.written out.new) }
-    ensures lawful { (options : AnyOptions) → command ≡ Some (Command.Text (TextCommand.Run options)) → HasLawfulLines (number_of result) (K.written out.old) (K.written out.new) }
-    ensures began { (text : TextCommand) → command ≡ Some (Command.Text text) → (left : List ℕ) → S.remaining input.old ≡ Some left →
+    ensures untold { (check : AnyCheck) → command ≡ Some (OfflineCommand.Verify check) → verdict_status result ≢ 0 → verdict_status result ≢ 5 → K.written out.new ≡ K.written out.old }
+    ensures read_trace { (check : AnyCheck) → command ≡ Some (OfflineCommand.Verify check) →
+        (left : List ℕ) → S.remaining input.old ≡ Some left → verdict_status result ≢ 4 → verdict_status result ≢ 7 → S.remaining input.new ≡ Some (drop most_checked_read left) }
+    ensures usage { verdict_status result ≡ 2 → command ≡ None }
+    ensures no_net { verdict_status result ≢ 10 }
+    ensures no_command { command ≡ None → (verdict_status result ≡ 2) ⊎ (verdict_status result ≡ 7) }
+    ensures ran { (text : TextCommand) → command ≡ Some (OfflineCommand.Text text) → (left : List ℕ) → S.remaining input.old ≡ Some left →
+        RanSo (verdict_status result) text (take most_read left) (W.meaning native.new) (W.stands_for native.new) (K.written out.old) (K.written out.new) }
+    ensures lawful { (options : AnyOptions) → command ≡ Some (OfflineCommand.Text (TextCommand.Run options)) → HasLawfulLines (verdict_status result) (K.written out.old) (K.written out.new) }
+    ensures began { (text : TextCommand) → command ≡ Some (OfflineCommand.Text text) → (left : List ℕ) → S.remaining input.old ≡ Some left →
         BeganText W.waits text (take most_read left) (W.meaning native.old) (W.meaning native.new) (K.written out.old) (K.written out.new) (K.handed out.new) }
     ensures untouched { is_native command ≡ false → native.new ≡ native.old }
-    ensures left_alone { IsLeftAlone (number_of result) (S.remaining input.old) native.old native.new }
+    ensures left_alone { IsLeftAlone (verdict_status result) (S.remaining input.old) native.old native.new }
     ensures rests { (W.meaning native.new).runs ≡ false }
-    ensures connection { (gateway : AnyGateway) → command ≡ Some (Command.Wsgi gateway) →
+    ensures connection { (gateway : AnyGateway) → command ≡ Some (OfflineCommand.Wsgi gateway) →
         IsOfConnection result gateway (A.answer_of app.now) (S.remaining input.old) (S.remaining input.new) (K.written out.old) (K.written out.new) }
-    ensures handed_ahead { (gateway : AnyGateway) → command ≡ Some (Command.Wsgi gateway) → K.handed out.old ≡ K.written out.old →
+    ensures handed_ahead { (gateway : AnyGateway) → command ≡ Some (OfflineCommand.Wsgi gateway) → K.handed out.old ≡ K.written out.old →
         HandedAhead (answers_by gateway) (A.answer_of app.now) no_port (S.remaining input.old) (S.remaining input.new) (K.written out.old) (K.handed out.new) }
-    ensures storm { (size : ℕ) → command ≡ Some (Command.Storm size) → (number_of result ≢ 4) × ((a : Answer) → IsStormAnswer size a → Decided result a (K.written out.old) (K.written out.new)) }
+    ensures storm { (size : ℕ) → command ≡ Some (OfflineCommand.Storm size) → (verdict_status result ≢ 4) × ((a : Answer) → IsStormAnswer size a → Decided result a (K.written out.old) (K.written out.new)) }
     ensures untouched_input { reads_input command ≡ false → input.new ≡ input.old }
-    ensures reads { Counts (number_of result ≡ 4) (S.faults input.old) (S.faults input.new) }
-    ensures hands { HandsOn (number_of result) (K.written out.old) (K.handed out.old) (K.written out.new) (K.handed out.new) }
-    ensures writes { Counts (number_of result ≡ 5) (K.faults out.old) (K.faults out.new) }
-    ensures unread { (text : TextCommand) → command ≡ Some (Command.Text text) → number_of result ≡ 4 → K.written out.new ≡ K.written out.old }
-    ensures unprinted { command ≡ Some (Command.Text TextCommand.Format) → number_of result ≢ 0 → number_of result ≢ 5 → K.written out.new ≡ K.written out.old }
+    ensures reads { Counts (verdict_status result ≡ 4) (S.faults input.old) (S.faults input.new) }
+    ensures hands { HandsOn (verdict_status result) (K.written out.old) (K.handed out.old) (K.written out.new) (K.handed out.new) }
+    ensures writes { Counts (verdict_status result ≡ 5) (K.faults out.old) (K.faults out.new) }
+    ensures unread { (text : TextCommand) → command ≡ Some (OfflineCommand.Text text) → verdict_status result ≡ 4 → K.written out.new ≡ K.written out.old }
+    ensures unprinted { command ≡ Some (OfflineCommand.Text TextCommand.Format) → verdict_status result ≢ 0 → verdict_status result ≢ 5 → K.written out.new ≡ K.written out.old }
     ensures explained { IsExplained result }
-    ensures read_whole { (text : TextCommand) → command ≡ Some (Command.Text text) →
-        (left : List ℕ) → S.remaining input.old ≡ Some left → number_of result ≢ 4 → number_of result ≢ 7 → S.remaining input.new ≡ Some (drop most_read left) }
+    ensures read_whole { (text : TextCommand) → command ≡ Some (OfflineCommand.Text text) →
+        (left : List ℕ) → S.remaining input.old ≡ Some left → verdict_status result ≢ 4 → verdict_status result ≢ 7 → S.remaining input.new ≡ Some (drop most_read left) }
 {
     match command {
         None => Verdict::Usage,
-        Some(Command::Text(command)) => answer_input(alloc, command, input, out, native),
-        Some(Command::Wsgi(gateway)) => {
+        Some(OfflineCommand::Text(command)) => answer_input(alloc, command, input, out, native),
+        Some(OfflineCommand::Wsgi(gateway)) => {
             Verdict::Connection(answer_through(alloc, gateway, input, out, app))
         }
-        Some(Command::Storm(size)) => answer_storm(alloc, size, out),
-        Some(Command::Verify(check)) => answer_check(alloc, check, input, out),
+        Some(OfflineCommand::Storm(size)) => answer_storm(alloc, size, out),
+        Some(OfflineCommand::Verify(check)) => answer_check(alloc, check, input, out),
     }
 }
 
@@ -161,29 +161,29 @@ fn answer_input<S: Source, K: Sink, W: World>(
     requires range { IsInRange (NamedCommand.Text command) }
     requires rests { (W.meaning native.old).runs ≡ false }
     ensures ran { (left : List ℕ) → S.remaining input.old ≡ Some left →
-        RanSo (number_of result) command (take most_read left) (W.meaning native.new) (W.stands_for native.new) (K.written out.old) (K.written out.new) }
-    ensures lawful { (options : AnyOptions) → command ≡ TextCommand.Run options → HasLawfulLines (number_of result) (K.written out.old) (K.written out.new) }
+        RanSo (verdict_status result) command (take most_read left) (W.meaning native.new) (W.stands_for native.new) (K.written out.old) (K.written out.new) }
+    ensures lawful { (options : AnyOptions) → command ≡ TextCommand.Run options → HasLawfulLines (verdict_status result) (K.written out.old) (K.written out.new) }
     ensures began { (left : List ℕ) → S.remaining input.old ≡ Some left →
         BeganText W.waits command (take most_read left) (W.meaning native.old) (W.meaning native.new) (K.written out.old) (K.written out.new) (K.handed out.new) }
     ensures untouched { is_native_text command ≡ false → native.new ≡ native.old }
-    ensures left_alone { IsLeftAlone (number_of result) (S.remaining input.old) native.old native.new }
+    ensures left_alone { IsLeftAlone (verdict_status result) (S.remaining input.old) native.old native.new }
     ensures rests { (W.meaning native.new).runs ≡ false }
     ensures answer { (left : List ℕ) → S.remaining input.old ≡ Some left →
         Decided result (answer_to_text command (W.meaning native.new).answers (take most_read left)) (K.written out.old) (K.written out.new) }
-    ensures command { number_of result ≢ 2 }
-    ensures no_net { number_of result ≢ 10 }
-    ensures unread { number_of result ≡ 4 → K.written out.new ≡ K.written out.old }
-    ensures unprinted { command ≡ TextCommand.Format → number_of result ≢ 0 → number_of result ≢ 5 → K.written out.new ≡ K.written out.old }
+    ensures command { verdict_status result ≢ 2 }
+    ensures no_net { verdict_status result ≢ 10 }
+    ensures unread { verdict_status result ≡ 4 → K.written out.new ≡ K.written out.old }
+    ensures unprinted { command ≡ TextCommand.Format → verdict_status result ≢ 0 → verdict_status result ≢ 5 → K.written out.new ≡ K.written out.old }
     ensures explained { IsExplained result }
-    ensures reads { Counts (number_of result ≡ 4) (S.faults input.old) (S.faults input.new) }
-    ensures hands { HandsOn (number_of result) (K.written out.old) (K.handed out.old) (K.written out.new) (K.handed out.new) }
-    ensures writes { Counts (number_of result ≡ 5) (K.faults out.old) (K.faults out.new) }
+    ensures reads { Counts (verdict_status result ≡ 4) (S.faults input.old) (S.faults input.new) }
+    ensures hands { HandsOn (verdict_status result) (K.written out.old) (K.handed out.old) (K.written out.new) (K.handed out.new) }
+    ensures writes { Counts (verdict_status result ≡ 5) (K.faults out.old) (K.faults out.new) }
     ensures read_whole { (left : List ℕ) → S.remaining input.old ≡ Some left →
-        number_of result ≢ 4 → number_of result ≢ 7 → S.remaining input.new ≡ Some (drop most_read left) }
+        verdict_status result ≢ 4 → verdict_status result ≢ 7 → S.remaining input.new ≡ Some (drop most_read left) }
 {
-    match read_limited(alloc, input, MOST_BYTES) {
+    match read_limited(alloc, input, MOST_TEXT) {
         Err(ReadRefusal::Fault) => Verdict::ReadFault,
-        Err(ReadRefusal::Memory) => Verdict::Ran(End::Memory),
+        Err(ReadRefusal::Memory) => Verdict::Ran(EngineEnd::Memory),
         Ok(bytes) => answer_text(alloc, command, bytes.as_slice(), out, native),
     }
 }
@@ -197,24 +197,24 @@ fn answer_text<K: Sink, W: World>(
 ) -> Verdict
     requires range { IsInRange (NamedCommand.Text command) }
     requires rests { (W.meaning native.old).runs ≡ false }
-    ensures ran { RanSo (number_of result) command bytes.now (W.meaning native.new) (W.stands_for native.new) (K.written out.old) (K.written out.new) }
-    ensures lawful { (options : AnyOptions) → command ≡ TextCommand.Run options → HasLawfulLines (number_of result) (K.written out.old) (K.written out.new) }
+    ensures ran { RanSo (verdict_status result) command bytes.now (W.meaning native.new) (W.stands_for native.new) (K.written out.old) (K.written out.new) }
+    ensures lawful { (options : AnyOptions) → command ≡ TextCommand.Run options → HasLawfulLines (verdict_status result) (K.written out.old) (K.written out.new) }
     ensures began { BeganText W.waits command bytes.now (W.meaning native.old) (W.meaning native.new) (K.written out.old) (K.written out.new) (K.handed out.new) }
     ensures untouched { is_native_text command ≡ false → native.new ≡ native.old }
-    ensures refused { number_of result ≡ 3 → native.new ≡ native.old }
+    ensures refused { verdict_status result ≡ 3 → native.new ≡ native.old }
     ensures unspelt { ((s : AnyScenario) → Spells s bytes.now → IsWellFormed s → ⊥) → native.new ≡ native.old }
     ensures rests { (W.meaning native.new).runs ≡ false }
     ensures answer { Decided result (answer_to_text command (W.meaning native.new).answers bytes.now) (K.written out.old) (K.written out.new) }
-    ensures command { number_of result ≢ 2 }
-    ensures no_net { number_of result ≢ 10 }
-    ensures read { number_of result ≢ 4 }
-    ensures unprinted { command ≡ TextCommand.Format → number_of result ≢ 0 → number_of result ≢ 5 → K.written out.new ≡ K.written out.old }
+    ensures command { verdict_status result ≢ 2 }
+    ensures no_net { verdict_status result ≢ 10 }
+    ensures read { verdict_status result ≢ 4 }
+    ensures unprinted { command ≡ TextCommand.Format → verdict_status result ≢ 0 → verdict_status result ≢ 5 → K.written out.new ≡ K.written out.old }
     ensures explained { IsExplained result }
-    ensures hands { HandsOn (number_of result) (K.written out.old) (K.handed out.old) (K.written out.new) (K.handed out.new) }
-    ensures writes { Counts (number_of result ≡ 5) (K.faults out.old) (K.faults out.new) }
+    ensures hands { HandsOn (verdict_status result) (K.written out.old) (K.handed out.old) (K.written out.new) (K.handed out.new) }
+    ensures writes { Counts (verdict_status result ≡ 5) (K.faults out.old) (K.faults out.new) }
 {
     match read_scenario(alloc, bytes) {
-        Err(refusal) => verdict_on(refusal),
+        Err(refused_answer) => verdict_on(refused_answer),
         Ok(checked) => answer_scenario(alloc, command, checked, out, native),
     }
 }
@@ -229,21 +229,21 @@ fn answer_scenario<K: Sink, W: World>(
 ) -> Verdict
     requires range { IsInRange (NamedCommand.Text command) }
     requires rests { (W.meaning native.old).runs ≡ false }
-    ensures ran { RanScenarioSo (number_of result) command checked (W.meaning native.new) (W.stands_for native.new) (K.written out.old) (K.written out.new) }
-    ensures lawful { (options : AnyOptions) → command ≡ TextCommand.Run options → HasLawfulLines (number_of result) (K.written out.old) (K.written out.new) }
+    ensures ran { RanScenarioSo (verdict_status result) command checked (W.meaning native.new) (W.stands_for native.new) (K.written out.old) (K.written out.new) }
+    ensures lawful { (options : AnyOptions) → command ≡ TextCommand.Run options → HasLawfulLines (verdict_status result) (K.written out.old) (K.written out.new) }
     ensures began { (options : AnyOptions) → command ≡ TextCommand.Run options →
         BeganSo W.waits options checked (W.meaning native.old) (W.meaning native.new) (K.written out.old) (K.written out.new) (K.handed out.new) }
     ensures untouched { is_native_text command ≡ false → native.new ≡ native.old }
     ensures rests { (W.meaning native.new).runs ≡ false }
     ensures answer { Decided result (answer_to_scenario command (W.meaning native.new).answers checked) (K.written out.old) (K.written out.new) }
-    ensures command { number_of result ≢ 2 }
-    ensures no_net { number_of result ≢ 10 }
-    ensures unrefused { number_of result ≢ 3 }
-    ensures read { number_of result ≢ 4 }
-    ensures unprinted { command ≡ TextCommand.Format → number_of result ≢ 0 → number_of result ≢ 5 → K.written out.new ≡ K.written out.old }
+    ensures command { verdict_status result ≢ 2 }
+    ensures no_net { verdict_status result ≢ 10 }
+    ensures unrefused { verdict_status result ≢ 3 }
+    ensures read { verdict_status result ≢ 4 }
+    ensures unprinted { command ≡ TextCommand.Format → verdict_status result ≢ 0 → verdict_status result ≢ 5 → K.written out.new ≡ K.written out.old }
     ensures explained { IsExplained result }
-    ensures hands { HandsOn (number_of result) (K.written out.old) (K.handed out.old) (K.written out.new) (K.handed out.new) }
-    ensures writes { Counts (number_of result ≡ 5) (K.faults out.old) (K.faults out.new) }
+    ensures hands { HandsOn (verdict_status result) (K.written out.old) (K.handed out.old) (K.written out.new) (K.handed out.new) }
+    ensures writes { Counts (verdict_status result ≡ 5) (K.faults out.old) (K.faults out.new) }
 {
     match command {
         TextCommand::Run(options) => Verdict::Ran(run_scenario(
@@ -257,22 +257,22 @@ fn answer_scenario<K: Sink, W: World>(
 #[tactic(auto, using(gv_io::proofs::StreamLaws::writes))]
 fn format_scenario<K: Sink>(alloc: Global, scenario: &Scenario, out: &mut K) -> Verdict
     ensures answer { Decided result (formatted scenario.now) (K.written out.old) (K.written out.new) }
-    ensures command { number_of result ≢ 2 }
-    ensures no_net { number_of result ≢ 10 }
-    ensures unrefused { number_of result ≢ 3 }
-    ensures read { number_of result ≢ 4 }
-    ensures unprinted { number_of result ≢ 0 → number_of result ≢ 5 → K.written out.new ≡ K.written out.old }
+    ensures command { verdict_status result ≢ 2 }
+    ensures no_net { verdict_status result ≢ 10 }
+    ensures unrefused { verdict_status result ≢ 3 }
+    ensures read { verdict_status result ≢ 4 }
+    ensures unprinted { verdict_status result ≢ 0 → verdict_status result ≢ 5 → K.written out.new ≡ K.written out.old }
     ensures explained { IsExplained result }
-    ensures hands { HandsOn (number_of result) (K.written out.old) (K.handed out.old) (K.written out.new) (K.handed out.new) }
-    ensures writes { Counts (number_of result ≡ 5) (K.faults out.old) (K.faults out.new) }
+    ensures hands { HandsOn (verdict_status result) (K.written out.old) (K.handed out.old) (K.written out.new) (K.handed out.new) }
+    ensures writes { Counts (verdict_status result ≡ 5) (K.faults out.old) (K.faults out.new) }
 {
     let mut text = Vec::new(alloc);
     let Ok(()) = print(scenario, &mut text) else {
-        return Verdict::Ran(End::Memory);
+        return Verdict::Ran(EngineEnd::Memory);
     };
     match send(out, text.as_slice()) {
         Ok(()) => Verdict::Formatted,
-        Err(_) => Verdict::Ran(End::WriteFault),
+        Err(_) => Verdict::Ran(EngineEnd::WriteFault),
     }
 }
 
@@ -321,8 +321,8 @@ fn write_fault_line() -> &'static [u8]
 
 /// Tries the verdict's line, once.
 fn try_line<E: Sink>(verdict: Verdict, line: &[u8], err: &mut E) -> u8
-    requires line { line.now ≡ line_of verdict }
-    requires has_line { number_of verdict ≢ 0 }
+    requires line { line.now ≡ verdict_line verdict }
+    requires has_line { verdict_status verdict ≢ 0 }
     ensures told { IsTold result verdict (E.written err.old) (E.written err.new) (E.faults err.old) (E.faults err.new) }
     ensures handed { result ≢ 5 → E.handed err.old ≡ E.written err.old → E.handed err.new ≡ E.written err.new }
     ensures never_falls { E.faults err.old ≤ E.faults err.new }
@@ -336,7 +336,7 @@ fn try_line<E: Sink>(verdict: Verdict, line: &[u8], err: &mut E) -> u8
 /// Tells the verdict where there is no memory for its line: a fault has one that takes none, and any other verdict is
 /// want of memory.
 fn tell_without_memory<E: Sink>(verdict: Verdict, err: &mut E) -> u8
-    requires has_line { number_of verdict ≢ 0 }
+    requires has_line { verdict_status verdict ≢ 0 }
     ensures told { (w : AnyVerdict) × IsOr verdict w × IsTold result w (E.written err.old) (E.written err.new) (E.faults err.old) (E.faults err.new) }
     ensures handed { result ≢ 5 → E.handed err.old ≡ E.written err.old → E.handed err.new ≡ E.written err.new }
     ensures never_falls { E.faults err.old ≤ E.faults err.new }
@@ -350,7 +350,7 @@ fn tell_without_memory<E: Sink>(verdict: Verdict, err: &mut E) -> u8
     if verdict.number() == 10 {
         return try_line(verdict, network_fault_line(), err);
     }
-    try_line(Verdict::Ran(End::Memory), memory_line(), err)
+    try_line(Verdict::Ran(EngineEnd::Memory), memory_line(), err)
 }
 
 /// Tells the verdict: its line goes to err, where it has one, and its status is answered. Status 0 has no line, and err
@@ -410,29 +410,29 @@ pub fn offline<S: Source, K: Sink, E: Sink, W: World, A: Application>(
     app: &A,
 ) -> Option<u8>
     requires rests { (W.meaning native.old).runs ≡ false }
-    ensures answers { IfSome result (λ status. AnswersCommand status (A.answer_of app.now) (command_of (map string_bytes words.now)) (W.meaning native.new) (W.stands_for native.new)
+    ensures answers { IfSome result (λ status. AnswersCommand status (A.answer_of app.now) (offline_command_of (map string_bytes words.now)) (W.meaning native.new) (W.stands_for native.new)
         (seen S.remaining S.faults input.old input.new) (seen K.written K.faults out.old out.new) (seen E.written E.faults err.old err.new)) }
-    ensures checks { IfSome result (λ status. AnswersCheck status (command_of (map string_bytes words.now))
+    ensures checks { IfSome result (λ status. AnswersCheck status (offline_command_of (map string_bytes words.now))
         (seen S.remaining S.faults input.old input.new) (seen K.written K.faults out.old out.new) (seen E.written E.faults err.old err.new)) }
     ensures borne_out { IfSome result (λ status. IsBorneOut status
         (seen S.remaining S.faults input.old input.new) (seen K.written K.faults out.old out.new) (seen E.written E.faults err.old err.new)) }
     // Native workers were asked only after what the run says before was written, and handed on where they may be long in
     // answering; or they are as they were.
-    ensures began { IfSome result (λ status. (options : AnyOptions) (s : AnyScenario) (left : List ℕ) → command_of (map string_bytes words.now) ≡ Some (Command.Text (TextCommand.Run options)) →
+    ensures began { IfSome result (λ status. (options : AnyOptions) (s : AnyScenario) (left : List ℕ) → offline_command_of (map string_bytes words.now) ≡ Some (OfflineCommand.Text (TextCommand.Run options)) →
         S.remaining input.old ≡ Some left → Spells s (take most_read left) → IsWellFormed s →
         BeganSo W.waits options s (W.meaning native.old) (W.meaning native.new) (K.written out.old) (K.written out.new) (K.handed out.new)) }
     // All that was written is handed on, where all was before.
     ensures handed { IfSome result (λ status. HandsOn status (K.written out.old) (K.handed out.old) (K.written out.new) (K.handed out.new)) }
     ensures err_handed { IfSome result (λ status. status ≢ 5 → E.handed err.old ≡ E.written err.old → E.handed err.new ≡ E.written err.new) }
     // A peer that waits is answered: what is due for all bytes of a connection but those of the last read was handed on.
-    ensures handed_ahead { IfSome result (λ status. (gateway : AnyGateway) → command_of (map string_bytes words.now) ≡ Some (Command.Wsgi gateway) → K.handed out.old ≡ K.written out.old →
+    ensures handed_ahead { IfSome result (λ status. (gateway : AnyGateway) → offline_command_of (map string_bytes words.now) ≡ Some (OfflineCommand.Wsgi gateway) → K.handed out.old ≡ K.written out.old →
         HandedAhead (answers_by gateway) (A.answer_of app.now) no_port (S.remaining input.old) (S.remaining input.new) (K.written out.old) (K.handed out.new)) }
-    ensures untouched { is_native (command_of (map string_bytes words.now)) ≡ false → native.new ≡ native.old }
+    ensures untouched { is_native (offline_command_of (map string_bytes words.now)) ≡ false → native.new ≡ native.old }
     ensures left_alone { IfSome result (λ status. IsLeftAlone status (S.remaining input.old) native.old native.new) }
     ensures native_rests { (W.meaning native.new).runs ≡ false }
     // A storm reads no input; neither do words that are no command.
-    ensures untouched_input { reads_input (command_of (map string_bytes words.now)) ≡ false → input.new ≡ input.old }
-    ensures usage_only { IfSome result (λ status. status ≡ 2 → (command_of (map string_bytes words.now) ≡ None) × (serve_of (map string_bytes words.now) ≡ None)) }
+    ensures untouched_input { reads_input (offline_command_of (map string_bytes words.now)) ≡ false → input.new ≡ input.old }
+    ensures usage_only { IfSome result (λ status. status ≡ 2 → (offline_command_of (map string_bytes words.now) ≡ None) × (serve_of (map string_bytes words.now) ≡ None)) }
     // None: the words name `serve`, and nothing was done. Where they name it and memory ran out as they were read, the
     // status is that of this, and err alone was touched.
     ensures serve { IfNone result (IsSome (serve_of (map string_bytes words.now))) }

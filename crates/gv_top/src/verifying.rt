@@ -2,7 +2,7 @@
 ghost use Rattle.std.specs.Prelude.{◌≡◌, ◌≢◌, ℕ, List, Some, drop, take};
 ghost use Rattle.gv_top.specs.Answers.{Answer};
 ghost use Rattle.gv_top.specs.Top.{Counts, Decided, Fits, HandsOn};
-ghost use Rattle.gv_top.specs.Verdicts.{number_of};
+ghost use Rattle.gv_top.specs.Verdicts.{verdict_status};
 ghost use Rattle.gv_top.specs.Inner.{IsExplained};
 ghost use Rattle.gv_top.specs.Verifying.{IsCheckAnswer, verified};
 ghost use Rattle.verify_command.specs.Inputs.{most_checked_read};
@@ -11,10 +11,10 @@ use crate::status::Verdict;
 use crate::top::send;
 use command_words::TraceCheck;
 use gv_io::{ReadRefusal, Sink, Source, read_limited};
-use hub_engine::End;
+use hub_engine::EngineEnd;
 use serve_command::push_number_line;
 use std::alloc::Global;
-use verify_command::{MOST_BYTES, verify};
+use verify_command::{MOST_CHECKED, verify};
 
 /// Reads the input and checks this of it. Where it comes out well, the number of its lines is written to out.
 pub fn answer_check<S: Source, K: Sink>(
@@ -25,21 +25,21 @@ pub fn answer_check<S: Source, K: Sink>(
 ) -> Verdict
     ensures answer { (left : List ℕ) (a : Answer) → S.remaining input.old ≡ Some left → IsCheckAnswer check (take most_checked_read left) a →
         Decided result a (K.written out.old) (K.written out.new) }
-    ensures checked { (left : List ℕ) → S.remaining input.old ≡ Some left → number_of result ≢ 4 → number_of result ≢ 5 → number_of result ≢ 7 →
+    ensures checked { (left : List ℕ) → S.remaining input.old ≡ Some left → verdict_status result ≢ 4 → verdict_status result ≢ 5 → verdict_status result ≢ 7 →
         (a : Answer) × IsCheckAnswer check (take most_checked_read left) a × Fits result a (K.written out.old) (K.written out.new) }
-    ensures unprinted { number_of result ≢ 0 → number_of result ≢ 5 → K.written out.new ≡ K.written out.old }
-    ensures command { number_of result ≢ 2 }
-    ensures no_net { number_of result ≢ 10 }
+    ensures unprinted { verdict_status result ≢ 0 → verdict_status result ≢ 5 → K.written out.new ≡ K.written out.old }
+    ensures command { verdict_status result ≢ 2 }
+    ensures no_net { verdict_status result ≢ 10 }
     ensures explained { IsExplained result }
-    ensures hands { HandsOn (number_of result) (K.written out.old) (K.handed out.old) (K.written out.new) (K.handed out.new) }
-    ensures reads { Counts (number_of result ≡ 4) (S.faults input.old) (S.faults input.new) }
-    ensures writes { Counts (number_of result ≡ 5) (K.faults out.old) (K.faults out.new) }
+    ensures hands { HandsOn (verdict_status result) (K.written out.old) (K.handed out.old) (K.written out.new) (K.handed out.new) }
+    ensures reads { Counts (verdict_status result ≡ 4) (S.faults input.old) (S.faults input.new) }
+    ensures writes { Counts (verdict_status result ≡ 5) (K.faults out.old) (K.faults out.new) }
     ensures read_whole { (left : List ℕ) → S.remaining input.old ≡ Some left →
-        number_of result ≢ 4 → number_of result ≢ 7 → S.remaining input.new ≡ Some (drop most_checked_read left) }
+        verdict_status result ≢ 4 → verdict_status result ≢ 7 → S.remaining input.new ≡ Some (drop most_checked_read left) }
 {
-    match read_limited(alloc, input, MOST_BYTES) {
+    match read_limited(alloc, input, MOST_CHECKED) {
         Err(ReadRefusal::Fault) => Verdict::ReadFault,
-        Err(ReadRefusal::Memory) => Verdict::Ran(End::Memory),
+        Err(ReadRefusal::Memory) => Verdict::Ran(EngineEnd::Memory),
         Ok(bytes) => check_bytes(alloc, check, bytes.as_slice(), out),
     }
 }
@@ -47,14 +47,14 @@ pub fn answer_check<S: Source, K: Sink>(
 /// Checks this of the bytes, and writes the number of lines to out where it comes out well.
 fn check_bytes<K: Sink>(alloc: Global, check: TraceCheck, bytes: &[u8], out: &mut K) -> Verdict
     ensures answer { (a : Answer) → IsCheckAnswer check bytes.now a → Decided result a (K.written out.old) (K.written out.new) }
-    ensures checked { number_of result ≢ 5 → number_of result ≢ 7 → (a : Answer) × IsCheckAnswer check bytes.now a × Fits result a (K.written out.old) (K.written out.new) }
-    ensures unprinted { number_of result ≢ 0 → number_of result ≢ 5 → K.written out.new ≡ K.written out.old }
-    ensures command { number_of result ≢ 2 }
-    ensures read { number_of result ≢ 4 }
-    ensures no_net { number_of result ≢ 10 }
+    ensures checked { verdict_status result ≢ 5 → verdict_status result ≢ 7 → (a : Answer) × IsCheckAnswer check bytes.now a × Fits result a (K.written out.old) (K.written out.new) }
+    ensures unprinted { verdict_status result ≢ 0 → verdict_status result ≢ 5 → K.written out.new ≡ K.written out.old }
+    ensures command { verdict_status result ≢ 2 }
+    ensures read { verdict_status result ≢ 4 }
+    ensures no_net { verdict_status result ≢ 10 }
     ensures explained { IsExplained result }
-    ensures hands { HandsOn (number_of result) (K.written out.old) (K.handed out.old) (K.written out.new) (K.handed out.new) }
-    ensures writes { Counts (number_of result ≡ 5) (K.faults out.old) (K.faults out.new) }
+    ensures hands { HandsOn (verdict_status result) (K.written out.old) (K.handed out.old) (K.written out.new) (K.handed out.new) }
+    ensures writes { Counts (verdict_status result ≡ 5) (K.faults out.old) (K.faults out.new) }
 {
     match verify(alloc, check, bytes) {
         Ok(lines) => write_verified(alloc, lines, out),
@@ -66,21 +66,21 @@ fn check_bytes<K: Sink>(alloc: Global, check: TraceCheck, bytes: &[u8], out: &mu
 #[tactic(auto, using(gv_io::proofs::StreamLaws::writes))]
 fn write_verified<K: Sink>(alloc: Global, lines: u64, out: &mut K) -> Verdict
     ensures answer { Decided result (verified lines) (K.written out.old) (K.written out.new) }
-    ensures whole { number_of result ≢ 5 → number_of result ≢ 7 → Fits result (verified lines) (K.written out.old) (K.written out.new) }
-    ensures unprinted { number_of result ≢ 0 → number_of result ≢ 5 → K.written out.new ≡ K.written out.old }
-    ensures command { number_of result ≢ 2 }
-    ensures read { number_of result ≢ 4 }
-    ensures no_net { number_of result ≢ 10 }
+    ensures whole { verdict_status result ≢ 5 → verdict_status result ≢ 7 → Fits result (verified lines) (K.written out.old) (K.written out.new) }
+    ensures unprinted { verdict_status result ≢ 0 → verdict_status result ≢ 5 → K.written out.new ≡ K.written out.old }
+    ensures command { verdict_status result ≢ 2 }
+    ensures read { verdict_status result ≢ 4 }
+    ensures no_net { verdict_status result ≢ 10 }
     ensures explained { IsExplained result }
-    ensures hands { HandsOn (number_of result) (K.written out.old) (K.handed out.old) (K.written out.new) (K.handed out.new) }
-    ensures writes { Counts (number_of result ≡ 5) (K.faults out.old) (K.faults out.new) }
+    ensures hands { HandsOn (verdict_status result) (K.written out.old) (K.handed out.old) (K.written out.new) (K.handed out.new) }
+    ensures writes { Counts (verdict_status result ≡ 5) (K.faults out.old) (K.faults out.new) }
 {
     let mut text = Vec::new(alloc);
     let Ok(()) = push_number_line(b"verified lines", lines, &mut text) else {
-        return Verdict::Ran(End::Memory);
+        return Verdict::Ran(EngineEnd::Memory);
     };
     match send(out, text.as_slice()) {
         Ok(()) => Verdict::Verified,
-        Err(_) => Verdict::Ran(End::WriteFault),
+        Err(_) => Verdict::Ran(EngineEnd::WriteFault),
     }
 }

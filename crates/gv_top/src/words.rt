@@ -2,11 +2,11 @@
 ghost use Rattle.std.specs.Prelude.{◌≡◌, option_and_then};
 ghost use Rattle.gv_top.specs.Words.{built, serving};
 
-use command_words::{Command as NamedCommand, GatewayKind, ServeOptions, TextCommand, TraceCheck};
+use command_words::{GatewayKind, NamedCommand, ServeOptions, TextCommand, TraceCheck};
 
 /// What the program is asked to do without a net.
 #[derive(Clone, Copy, Debug, PartialEq, Eq)]
-pub enum Command {
+pub enum OfflineCommand {
     /// Do this with the scenario that the input spells.
     Text(TextCommand),
     /// Answer the connection whose bytes the input gives, through this gateway.
@@ -18,20 +18,20 @@ pub enum Command {
 }
 
 /// The command, if it is built and needs no net.
-fn built(command: NamedCommand) -> Option<Command>
+fn built(command: NamedCommand) -> Option<OfflineCommand>
     ensures { result ≡ built command }
 {
     match command {
-        NamedCommand::Text(command) => Some(Command::Text(command)),
-        NamedCommand::Wsgi(gateway) => Some(Command::Wsgi(gateway)),
+        NamedCommand::Text(command) => Some(OfflineCommand::Text(command)),
+        NamedCommand::Wsgi(gateway) => Some(OfflineCommand::Wsgi(gateway)),
         NamedCommand::Serve(_) => None,
-        NamedCommand::Storm(size) => Some(Command::Storm(size)),
-        NamedCommand::Verify(check) => Some(Command::Verify(check)),
+        NamedCommand::Storm(size) => Some(OfflineCommand::Storm(size)),
+        NamedCommand::Verify(check) => Some(OfflineCommand::Verify(check)),
     }
 }
 
 /// What words that name this command ask for without a net.
-pub fn without_a_net(command: Option<NamedCommand>) -> Option<Command>
+pub fn without_a_net(command: Option<NamedCommand>) -> Option<OfflineCommand>
     ensures { result ≡ option_and_then built command }
 {
     match command {

@@ -1,4 +1,6 @@
-//! What stands in for parts that the system refuses.
+//! The edge to a system that refuses a poll or a clock: what stands in for these.
+//!
+//! Trusted: that nothing more is needed. No clause says what an ear or a bell does.
 //!
 //! Trusted: no clause says what the ear and the bell do.
 

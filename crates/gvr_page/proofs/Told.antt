@@ -4,7 +4,7 @@ use Rattle.gv_values.specs.declared.job.Answer.{Answer as Given}
 use Rattle.gv_io.specs.Streams.{appended}
 use Rattle.command_words.specs.Words.{Word}
 use Rattle.wsgi_core.specs.Applications.{App}
-use Rattle.gv_top.specs.declared.words.Command.{Command}
+use Rattle.gv_top.specs.declared.words.OfflineCommand.{OfflineCommand}
 use Rattle.gv_top.specs.Answers.{Answer}
 use Rattle.gv_top.specs.Top.{IsAnswered}
 use Rattle.gv_top.specs.Verifying.{IsAnswerOf}
@@ -21,7 +21,7 @@ told n m a out0 out1 err0 err1 is none_out none_err h =
     subst (λ k. IsAnswered k a (Some []) (Some out1) (Some []) (Some err1)) (sym is) from_err
 
 -- native workers gave no answers
-pub unasked : (app : App) (command : Option Command) (given : List Given) (left : List ℕ) (a : Answer) → given ≡ [] → IsAnswerOf app command [] left a → IsAnswerOf app command given left a
+pub unasked : (app : App) (command : Option OfflineCommand) (given : List Given) (left : List ℕ) (a : Answer) → given ≡ [] → IsAnswerOf app command [] left a → IsAnswerOf app command given left a
 unasked app command given left a none h = subst (λ g. IsAnswerOf app command g left a) (sym none) h
 
 -- want of memory, of which nothing is said

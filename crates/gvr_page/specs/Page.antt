@@ -6,11 +6,11 @@ use Rattle.wsgi_core.specs.Shipped.{shipped}
 use Rattle.gv_top.specs.Answers.{Answer}
 use Rattle.gv_top.specs.Top.{IsAnswered}
 use Rattle.gv_top.specs.Verifying.{IsAnswerOf}
-use Rattle.gv_top.specs.Words.{command_of, is_native, serve_of}
+use Rattle.gv_top.specs.Words.{offline_command_of, is_native, serve_of}
 
 -- What stands in out and err with a status: where the words ask for no native workers, what the program answers to
 -- these words and this text, over streams that begin empty. With 256, which no program has, the words name a server.
 pub record IsSaid (status : ℕ) (words : List Word) (text out err : List ℕ) : Type 0 where
-  pub answered : (a : Answer) → status ≢ 256 → is_native (command_of words) ≡ false → IsAnswerOf shipped (command_of words) [] text a →
+  pub answered : (a : Answer) → status ≢ 256 → is_native (offline_command_of words) ≡ false → IsAnswerOf shipped (offline_command_of words) [] text a →
       IsAnswered status a (Some []) (Some out) (Some []) (Some err)
   pub serves : status ≡ 256 → IsSome (serve_of words)

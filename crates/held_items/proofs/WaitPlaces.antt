@@ -6,7 +6,7 @@ use Rattle.machine.specs.declared.items.Delivery.{Delivery}
 use Rattle.machine.specs.declared.items.Waiting.{Waiting}
 use Rattle.machine_settling.specs.Classes.{Class, class_of, class_of_wait, is_at}
 use Rattle.hub_items.specs.declared.waits.WaitKind.{WaitKind}
-use Rattle.hub_items.specs.Lines.{is_line, line_of, line_of_delivery}
+use Rattle.hub_items.specs.Lines.{is_line, waiting_line, line_of_delivery}
 use Rattle.hub_items.specs.WaitKinds.{same_kind}
 use Rattle.hub_items.proofs.WaitKinds.{wakes_line}
 use Rattle.held_items.specs.declared.waits.Target.{Target}
@@ -47,7 +47,7 @@ line_place kind other o p =
 off_place : (kind : WaitKind) (o p : ℕ) → (object_place o (line_column kind) == object_place p 7) ≡ false
 off_place kind o p = let s = small kind in is_other (object_place o (line_column kind)) (object_place p 7) (λ e. omega (arith, s, e))
 
-line_wait : (kind : WaitKind) (o : ℕ) (w : Waiting) → is_key (object_place o (line_column kind)) (wait_place (line_of w) (class_of_wait w)) ≡ is_line kind o (line_of w)
+line_wait : (kind : WaitKind) (o : ℕ) (w : Waiting) → is_key (object_place o (line_column kind)) (wait_place (waiting_line w) (class_of_wait w)) ≡ is_line kind o (waiting_line w)
 line_wait kind o (Waiting.Sleep until) = refl
 line_wait kind o (Waiting.Join g) = refl
 line_wait kind o (Waiting.Get whom) = refl

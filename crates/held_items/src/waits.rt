@@ -5,7 +5,7 @@ ghost use Rattle.gv_values.specs.declared.value.Whom.{Whom as AnyWhom};
 ghost use Rattle.slot_chains.specs.Chained.{first_of};
 ghost use Rattle.machine_settling.specs.Classes.{class_of, class_of_wait};
 ghost use Rattle.hub_items.specs.declared.waits.WaitKind.{WaitKind};
-ghost use Rattle.hub_items.specs.Lines.{line_of};
+ghost use Rattle.hub_items.specs.Lines.{waiting_line};
 ghost use Rattle.held_items.specs.Entries.{index};
 ghost use Rattle.held_items.specs.declared.waits.Target.{Target as AnyTarget};
 ghost use Rattle.held_items.specs.Waits.{ends_key, line_column, number_of, object_place, target_of, target_of_class, target_place, wait_place, waits_for, waits_in_line, waits_in_none, waits_key};
@@ -60,7 +60,7 @@ pub fn in_none(o: u32) -> usize
 
 /// The place of those who wait so, where they wait for an object.
 fn place_of_wait(waiting: &Waiting) -> Option<usize>
-    ensures value { result ≡ wait_place (line_of waiting.now) (class_of_wait waiting.now) }
+    ensures value { result ≡ wait_place (waiting_line waiting.now) (class_of_wait waiting.now) }
     ensures within { IfSome result (λ place. place + 1 < 2 ^ 64) }
 {
     match waiting {

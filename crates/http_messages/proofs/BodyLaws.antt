@@ -9,9 +9,9 @@ use Rattle.http_messages.specs.declared.refusal.Refusal.TheVariants.{BadRequest,
 use Rattle.http_messages.specs.Cuts.{Cut, waits, refused, whole, and_then, within, line_end, empty_line_end}
 use Rattle.http_messages.specs.declared.request.Framing.{Framing}
 use Rattle.http_messages.specs.declared.request.Framing.TheVariants.{Sized, Chunked}
-use Rattle.http_messages.specs.Requests.{most_body}
 use Rattle.http_messages.specs.Bodies.{exactly, size_on, chunk_size_at, chunk_line, chunk_data, trailers, chunks, rest_of_chunks, body_by}
 use Rattle.http_messages.proofs.CutLaws.{Later, and_then-later, within-stable, line_end-finds, empty_line_end-finds, Takes, and_then-takes, takes_at, and_then-same, within-takes}
+use Rattle.http_messages.specs.declared.limits.TheConstants.{MOST_BODY, MOST_CHUNK_LINE, MOST_TRAILERS}
 
 pub exactly_later : (n : ℕ) (bytes more : List ℕ) → Later more (exactly n bytes) (exactly n (bytes ++ more))
 exactly_later n bytes more =
@@ -56,7 +56,7 @@ chunk_data_later n bytes more =
 
 size_on_later : (before : ℕ) (l : Option ChunkLine) (rest more : List ℕ) → Later more (size_on before l rest) (size_on before l (rest ++ more))
 size_on_later before None rest more = refl
-size_on_later before (Some l) rest more = pick (nat_le (before + chunk_size l) most_body) (chunk_size l) rest more
+size_on_later before (Some l) rest more = pick (nat_le (before + chunk_size l) MOST_BODY) (chunk_size l) rest more
   where
     pick : (b : Bool) (n : ℕ) (rest more : List ℕ) → Later more (cond b (whole n rest) (refused TooLarge)) (cond b (whole n (rest ++ more)) (refused TooLarge))
     pick true n rest more = refl
@@ -64,14 +64,14 @@ size_on_later before (Some l) rest more = pick (nat_le (before + chunk_size l) m
 
 pub chunk_size_later : (before : ℕ) (bytes more : List ℕ) → Later more (chunk_size_at before bytes) (chunk_size_at before (bytes ++ more))
 chunk_size_later before bytes more =
-    and_then-later more (within line_end 1024 1024 BadRequest bytes) (within line_end 1024 1024 BadRequest (bytes ++ more)) (λ line rest. size_on before (chunk_line line) rest) (λ line rest. size_on before (chunk_line line) rest)
-    ((within-stable line_end line_end-finds 1024 1024 BadRequest (omega arith)).later bytes more)
+    and_then-later more (within line_end MOST_CHUNK_LINE MOST_CHUNK_LINE BadRequest bytes) (within line_end MOST_CHUNK_LINE MOST_CHUNK_LINE BadRequest (bytes ++ more)) (λ line rest. size_on before (chunk_line line) rest) (λ line rest. size_on before (chunk_line line) rest)
+    ((within-stable line_end line_end-finds MOST_CHUNK_LINE MOST_CHUNK_LINE BadRequest (omega arith)).later bytes more)
     (λ line rest. size_on_later before (chunk_line line) rest more)
 
 pub trailers_later : (body bytes more : List ℕ) → Later more (trailers body bytes) (trailers body (bytes ++ more))
 trailers_later body bytes more =
-    and_then-later more (within (empty_line_end true) 8192 8192 BadRequest bytes) (within (empty_line_end true) 8192 8192 BadRequest (bytes ++ more)) (λ lines rest. whole body rest) (λ lines rest. whole body rest)
-    ((within-stable (empty_line_end true) empty_line_end-finds 8192 8192 BadRequest (omega arith)).later bytes more)
+    and_then-later more (within (empty_line_end true) MOST_TRAILERS MOST_TRAILERS BadRequest bytes) (within (empty_line_end true) MOST_TRAILERS MOST_TRAILERS BadRequest (bytes ++ more)) (λ lines rest. whole body rest) (λ lines rest. whole body rest)
+    ((within-stable (empty_line_end true) empty_line_end-finds MOST_TRAILERS MOST_TRAILERS BadRequest (omega arith)).later bytes more)
     (λ lines rest. refl)
 
 -- what follows a chunk's size
@@ -102,12 +102,12 @@ chunks_later (suc n) body bytes more =
 size_on_takes : (before : ℕ) (l : Option ChunkLine) (rest : List ℕ) → Takes 0 rest (size_on before l rest)
 size_on_takes before None rest = tt
 size_on_takes before (Some l) rest =
-    cond_both (nat_le (before + chunk_size l) most_body) (whole (chunk_size l) rest) (refused TooLarge) (Takes 0 rest) (λ _. omega arith) (λ _. tt)
+    cond_both (nat_le (before + chunk_size l) MOST_BODY) (whole (chunk_size l) rest) (refused TooLarge) (Takes 0 rest) (λ _. omega arith) (λ _. tt)
 
 chunk_size_takes : (before : ℕ) (bytes : List ℕ) → Takes 1 bytes (chunk_size_at before bytes)
 chunk_size_takes before bytes =
-    and_then-takes 1 0 bytes (within line_end 1024 1024 BadRequest bytes) (λ line rest. size_on before (chunk_line line) rest)
-    (within-takes line_end line_end-finds 1024 1024 BadRequest bytes) (λ line rest _. size_on_takes before (chunk_line line) rest)
+    and_then-takes 1 0 bytes (within line_end MOST_CHUNK_LINE MOST_CHUNK_LINE BadRequest bytes) (λ line rest. size_on before (chunk_line line) rest)
+    (within-takes line_end line_end-finds MOST_CHUNK_LINE MOST_CHUNK_LINE BadRequest bytes) (λ line rest _. size_on_takes before (chunk_line line) rest)
 
 pub chunk_data_takes : (n : ℕ) (bytes : List ℕ) → Takes 0 bytes (chunk_data n bytes)
 chunk_data_takes n bytes =
@@ -167,8 +167,8 @@ exactly_takes n bytes =
 
 pub trailers_takes : (body bytes : List ℕ) → Takes 0 bytes (trailers body bytes)
 trailers_takes body bytes =
-    weaker (trailers body bytes) (and_then-takes 1 0 bytes (within (empty_line_end true) 8192 8192 BadRequest bytes) (λ lines rest. whole body rest)
-    (within-takes (empty_line_end true) empty_line_end-finds 8192 8192 BadRequest bytes) (λ lines rest le. omega arith))
+    weaker (trailers body bytes) (and_then-takes 1 0 bytes (within (empty_line_end true) MOST_TRAILERS MOST_TRAILERS BadRequest bytes) (λ lines rest. whole body rest)
+    (within-takes (empty_line_end true) empty_line_end-finds MOST_TRAILERS MOST_TRAILERS BadRequest bytes) (λ lines rest le. omega arith))
   where
     weaker : (c : Cut (List ℕ)) → Takes 1 bytes c → Takes 0 bytes c
     weaker waits t = tt

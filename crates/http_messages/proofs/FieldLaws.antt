@@ -19,6 +19,7 @@ use Rattle.http_messages.specs.declared.environ.KeyClass.{KeyClass}
 use Rattle.http_messages.specs.Environs.{Pair, joint}
 use Rattle.http_messages.specs.Fields.{AreFields, by_name, entry_pairs, joined, texts, with_field}
 use Rattle.http_messages.specs.Requests.{values}
+use Rattle.http_messages.specs.declared.limits.TheConstants.{MOST_FIELDS, MOST_HEAD}
 
 -- ---- the values of a name
 
@@ -124,7 +125,7 @@ names_few (e ∷ m) filled =
     omega (arith, first, rest, sum)
 
 -- so few values never fill a map
-pub never_full : {X : Type 0} (m : Entries X) (name : List ℕ) → IsHeaderMap m → value_count m < 64 → RefusesAppend m name → ⊥
+pub never_full : {X : Type 0} (m : Entries X) (name : List ℕ) → IsHeaderMap m → value_count m < MOST_FIELDS → RefusesAppend m name → ⊥
 never_full m name valid few (inl full) = omega arith
 never_full m name valid few (inr (missing, inl full)) = let names = names_few m valid.filled in omega arith
 never_full m name valid few (inr (missing, inr full)) = omega arith
@@ -173,7 +174,7 @@ span_few head s = let a = taken_part (s.end - s.start) (drop s.start head) in le
 
 -- the spans of a head's fields cover names
 pub names_at : (head : List ℕ) (spans : List HeaderSpan) (fields : List Field) → map (header_bytes head) spans ≡ map name_and_value fields
-    → All IsField fields → length head ≤ 32768 → All (λ (h : HeaderSpan). IsFieldName (span_bytes head h.name)) spans
+    → All IsField fields → length head ≤ MOST_HEAD → All (λ (h : HeaderSpan). IsFieldName (span_bytes head h.name)) spans
 names_at head [] fields e all short k d inside = absurd (omega arith)
 names_at head (s ∷ spans) [] e all short k d inside = absurd (let n = ap length e in omega (arith, n))
 names_at head (s ∷ spans) (f ∷ fields) e all short zero d inside =

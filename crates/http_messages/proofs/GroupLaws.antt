@@ -12,7 +12,7 @@ use Rattle.http_header.specs.HeaderMap.{Entries}
 use Rattle.http_header.specs.Token.{lowercase}
 use Rattle.http_messages.specs.declared.environ.KeyClass.{KeyClass}
 use Rattle.http_messages.specs.declared.environ.KeyClass.TheVariants.{ContentType, ContentLength, Other}
-use Rattle.http_messages.specs.Environs.{Pair, environ_of, field_pairs, is_in, is_kept, is_underscore, joint, key_of, pair_of, pairs_in, request_pairs, with_pair}
+use Rattle.http_messages.specs.Environs.{Pair, environ_of, field_pairs, is_in, is_kept, is_underscore, joint, key_of, pair_of, pairs_of_class, request_pairs, with_pair}
 use Rattle.http_messages.specs.Fields.{by_name, entry_pairs, is_of, joined, with_field}
 use Rattle.http_messages.proofs.KeyLaws.{back, key_in, key_is, strip, lower_is_of, lower_key_of, lower_name, no_underscore, told_by_key}
 
@@ -118,33 +118,33 @@ with_pair_behind (q ∷ before) pairs new lacks =
 
 -- the fields of a class, the first apart
 first_apart : (class : KeyClass) (p : Pair) (pairs : List Pair)
-    → pairs_in class (field_pairs (p ∷ pairs)) ≡ cond (is_of class p.0) ((key_of p.0, p.1) ∷ pairs_in class (field_pairs pairs)) (pairs_in class (field_pairs pairs))
+    → pairs_of_class class (field_pairs (p ∷ pairs)) ≡ cond (is_of class p.0) ((key_of p.0, p.1) ∷ pairs_of_class class (field_pairs pairs)) (pairs_of_class class (field_pairs pairs))
 first_apart class p pairs = at (list_any is_underscore p.0) (is_in class (key_of p.0)) refl
   where
     at : (t u : Bool) → is_in class (key_of p.0) ≡ u
-        → pairs_in class (map pair_of (cond (not t) (p ∷ filter is_kept pairs) (filter is_kept pairs)))
-        ≡ cond (not t && u) ((key_of p.0, p.1) ∷ pairs_in class (field_pairs pairs)) (pairs_in class (field_pairs pairs))
+        → pairs_of_class class (map pair_of (cond (not t) (p ∷ filter is_kept pairs) (filter is_kept pairs)))
+        ≡ cond (not t && u) ((key_of p.0, p.1) ∷ pairs_of_class class (field_pairs pairs)) (pairs_of_class class (field_pairs pairs))
     at true u e = refl
     at false true e = cond-true (is_in class (key_of p.0)) _ _ e
     at false false e = cond-false (is_in class (key_of p.0)) _ _ e
 
 module _ (class : KeyClass) (before : List Pair) (lacks : (name : List ℕ) → is_of class name ≡ true → Lacks before (key_of name)) where
   grouped : (m : Entries (List ℕ)) → Tidy m → (pairs : List Pair)
-      → fold with_pair (before ++ class_pairs class m) (pairs_in class (field_pairs pairs)) ≡ before ++ class_pairs class (fold with_field m pairs)
+      → fold with_pair (before ++ class_pairs class m) (pairs_of_class class (field_pairs pairs)) ≡ before ++ class_pairs class (fold with_field m pairs)
   grouped m tidy [] = refl
   grouped m tidy (p ∷ pairs) =
       ap (fold with_pair (before ++ class_pairs class m)) (first_apart class p pairs) ∙ at (is_of class p.0) refl ∙ grouped (with_field m p) (tidy_more m p tidy) pairs
     where
       rest : List Pair
-      rest = pairs_in class (field_pairs pairs)
+      rest = pairs_of_class class (field_pairs pairs)
 
       at : (t : Bool) → is_of class p.0 ≡ t
           → fold with_pair (before ++ class_pairs class m) (cond t ((key_of p.0, p.1) ∷ rest) rest) ≡ fold with_pair (before ++ class_pairs class (with_field m p)) rest
       at true e = ap (λ (l : List Pair). fold with_pair l rest) (with_pair_behind before (class_pairs class m) (key_of p.0, p.1) (lacks p.0 e) ∙ ap (λ (l : List Pair). before ++ l) (with_one class m tidy p e))
       at false e = ap (λ (l : List Pair). fold with_pair (before ++ l) rest) (sym (without_one class m p e))
 
-  pub class_grouped : (pairs : List Pair) → fold with_pair before (pairs_in class (field_pairs pairs)) ≡ before ++ class_pairs class (by_name pairs)
-  class_grouped pairs = ap (λ (l : List Pair). fold with_pair l (pairs_in class (field_pairs pairs))) (sym (append-nil before)) ∙ grouped [] none pairs
+  pub class_grouped : (pairs : List Pair) → fold with_pair before (pairs_of_class class (field_pairs pairs)) ≡ before ++ class_pairs class (by_name pairs)
+  class_grouped pairs = ap (λ (l : List Pair). fold with_pair l (pairs_of_class class (field_pairs pairs))) (sym (append-nil before)) ∙ grouped [] none pairs
 
 -- ---- the three classes
 
@@ -185,8 +185,8 @@ environ_grouped port method target minor pairs =
     (lacks_both start (class_pairs ContentType m) (key_in Other name) refl
     (class_lacks ContentType (key_in Other name) (λ other e. class_apart ContentType (key_in Other name) other refl e) m))
     (class_lacks ContentLength (key_in Other name) (λ other e. class_apart ContentLength (key_in Other name) other refl e) m))) pairs in
-    sym (fold-append with_pair start (pairs_in ContentType fields ++ pairs_in ContentLength fields) (pairs_in Other fields)
-    ∙ ap (λ (l : List Pair). fold with_pair l (pairs_in Other fields))
-    (fold-append with_pair start (pairs_in ContentType fields) (pairs_in ContentLength fields)
-    ∙ ap (λ (l : List Pair). fold with_pair l (pairs_in ContentLength fields)) type ∙ length)
+    sym (fold-append with_pair start (pairs_of_class ContentType fields ++ pairs_of_class ContentLength fields) (pairs_of_class Other fields)
+    ∙ ap (λ (l : List Pair). fold with_pair l (pairs_of_class Other fields))
+    (fold-append with_pair start (pairs_of_class ContentType fields) (pairs_of_class ContentLength fields)
+    ∙ ap (λ (l : List Pair). fold with_pair l (pairs_of_class ContentLength fields)) type ∙ length)
     ∙ others)

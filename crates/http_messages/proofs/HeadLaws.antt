@@ -13,7 +13,7 @@ use Rattle.std.specs.Str.{bytes_eq, is_utf8}
 use Rattle.httparse.specs.Grammar.{is_token_byte, is_uri_byte, is_value_byte, AllPass, IsToken, is_token, LineEnd, crlf, lf, print_end, print_blank, print_version, Field, print_field, IsField, print_section, RequestHead, print_request, IsRequestHead, ReadsRequest}
 use Rattle.httparse.proofs.GrammarLemmas.{print_request-append, cons-append}
 use Rattle.http_messages.specs.Cuts.{is_lf}
-use Rattle.http_messages.specs.Heads.{line_of, is_space, is_colon, field_of, fields_of, last_of, head_with, head_of_lines, is_field, is_request_head, if_printed, request_head}
+use Rattle.http_messages.specs.Heads.{line_and_end, is_space, is_colon, field_of, fields_of, last_of, head_with, head_of_lines, is_field, is_request_head, if_printed, request_head}
 
 -- ---- the tests and the facts
 
@@ -71,7 +71,7 @@ printed_holds bytes (Some k) h e =
 
 pub request_head-sound : (bytes : List ℕ) (h : RequestHead) → request_head bytes ≡ Some h → ReadsRequest bytes h []
 unfolding request_head
-request_head-sound bytes h e = printed_holds bytes (head_of_lines (map line_of (slice_split is_lf bytes))) h e
+request_head-sound bytes h e = printed_holds bytes (head_of_lines (map line_and_end (slice_split is_lf bytes))) h e
 
 -- ---- what is read it gives
 
@@ -93,7 +93,7 @@ split_line x lf rest h =
     slice_split_at is_lf x 10 rest (All-weaker IsInLine (λ b. is_lf b ≡ false) (λ b i. ne_eqb b 10 i.0) x h) refl
     ∙ ap (λ (l : List ℕ). l ∷ slice_split is_lf rest) (sym (append-nil x))
 
-line_ends : (x : List ℕ) (e : LineEnd) → All IsInLine x → line_of (x ++ cr e) ≡ (x, e)
+line_ends : (x : List ℕ) (e : LineEnd) → All IsInLine x → line_and_end (x ++ cr e) ≡ (x, e)
 line_ends [] crlf h = refl
 line_ends [] lf h = refl
 line_ends (b ∷ []) crlf h = refl
@@ -101,9 +101,9 @@ line_ends (b ∷ []) lf h = ap (λ (t : Bool). cond t ([], crlf) (b ∷ [], lf))
 line_ends (b ∷ c ∷ x) e h = ap (λ (l : List ℕ × LineEnd). (b ∷ l.0, l.1)) (line_ends (c ∷ x) e (All-tail IsInLine b (c ∷ x) h))
 
 lines_after : (x : List ℕ) (e : LineEnd) (rest : List ℕ) → All IsInLine x
-    → map line_of (slice_split is_lf (x ++ (print_end e ++ rest))) ≡ (x, e) ∷ map line_of (slice_split is_lf rest)
+    → map line_and_end (slice_split is_lf (x ++ (print_end e ++ rest))) ≡ (x, e) ∷ map line_and_end (slice_split is_lf rest)
 lines_after x e rest h =
-    ap (map line_of) (split_line x e rest h) ∙ ap (λ (l : List ℕ × LineEnd). l ∷ map line_of (slice_split is_lf rest)) (line_ends x e h)
+    ap (map line_and_end) (split_line x e rest h) ∙ ap (λ (l : List ℕ × LineEnd). l ∷ map line_and_end (slice_split is_lf rest)) (line_ends x e h)
 
 -- bytes of each class stand in a line
 token_in_line : (b : ℕ) → IsTrue (is_token_byte b) → IsInLine b
@@ -136,11 +136,11 @@ content_in_line f h =
     (All-cons IsInLine 58 f.raw (λ e. omega arith, λ e. omega arith) (All-weaker _ IsInLine value_in_line f.raw h.raw))
 
 section_lines : (fs : List Field) (last : LineEnd) → All IsField fs
-    → map line_of (slice_split is_lf (print_section fs last)) ≡ map content fs ++ ([], last) ∷ ([], lf) ∷ []
+    → map line_and_end (slice_split is_lf (print_section fs last)) ≡ map content fs ++ ([], last) ∷ ([], lf) ∷ []
 section_lines [] crlf h = refl
 section_lines [] lf h = refl
 section_lines (f ∷ fs) last h =
-    ap (λ (bytes : List ℕ). map line_of (slice_split is_lf bytes))
+    ap (λ (bytes : List ℕ). map line_and_end (slice_split is_lf bytes))
     (append_assoc (print_field f) (flat_map print_field fs) (print_end last)
     ∙ append_assoc (f.name ++ 58 ∷ f.raw) (print_end f.end) (print_section fs last))
     ∙ lines_after (f.name ++ 58 ∷ f.raw) f.end (print_section fs last) (content_in_line f (All-head IsField f fs h))
@@ -247,9 +247,9 @@ module _ (h : RequestHead) (x : IsRequestHead h) where
   abbrev lines : List (List ℕ × LineEnd)
   lines = map content h.fields ++ ([], h.last) ∷ ([], lf) ∷ []
 
-  printed_lines : h.blank ≡ [] → map line_of (slice_split is_lf (print_request h ++ [])) ≡ (first, h.line_end) ∷ lines
+  printed_lines : h.blank ≡ [] → map line_and_end (slice_split is_lf (print_request h ++ [])) ≡ (first, h.line_end) ∷ lines
   printed_lines none =
-      ap (λ (bytes : List ℕ). map line_of (slice_split is_lf bytes))
+      ap (λ (bytes : List ℕ). map line_and_end (slice_split is_lf bytes))
       (print_request-append h [] ∙ ap (λ (ends : List LineEnd). print_blank ends ++ (h.method ++ 32 ∷ (h.target ++ 32 ∷ (print_version h.minor
       ++ (print_end h.line_end ++ (print_section h.fields h.last ++ [])))))) none ∙ regroup h.method h.target (print_version h.minor) (print_end h.line_end) (print_section h.fields h.last))
       ∙ lines_after first h.line_end (print_section h.fields h.last) first_in_line
@@ -270,7 +270,7 @@ module _ (h : RequestHead) (x : IsRequestHead h) where
       let last = last_back h.fields h.last in
       λ i. Some (record { blank = sym none i; method = h.method; target = h.target; minor = minor_back i; line_end = h.line_end; fields = fields i; last = last i }))
 
-  back : h.blank ≡ [] → if_printed (print_request h ++ []) (head_of_lines (map line_of (slice_split is_lf (print_request h ++ [])))) ≡ Some h
+  back : h.blank ≡ [] → if_printed (print_request h ++ []) (head_of_lines (map line_and_end (slice_split is_lf (print_request h ++ [])))) ≡ Some h
   back none =
       ap (λ (ls : List (List ℕ × LineEnd)). if_printed (print_request h ++ []) (head_of_lines ls)) (printed_lines none)
       ∙ ap (if_printed (print_request h ++ [])) (head_back none)
@@ -280,4 +280,4 @@ module _ (h : RequestHead) (x : IsRequestHead h) where
 pub request_head-full : (bytes : List ℕ) (h : RequestHead) → ReadsRequest bytes h [] → h.blank ≡ [] → request_head bytes ≡ Some h
 unfolding request_head
 request_head-full bytes h x none =
-    ap (λ (bs : List ℕ). if_printed bs (head_of_lines (map line_of (slice_split is_lf bs)))) x.1 ∙ back h x.0 none
+    ap (λ (bs : List ℕ). if_printed bs (head_of_lines (map line_and_end (slice_split is_lf bs)))) x.1 ∙ back h x.0 none

@@ -15,6 +15,7 @@ use Rattle.std.proofs.lemmas.List.{length-map}
 use Rattle.http_messages.specs.Heads.{request_head}
 use Rattle.http_messages.proofs.HeadLaws.{request_head-sound, request_head-full}
 use Rattle.http_messages.specs.Cuts.{empty_line}
+use Rattle.http_messages.specs.declared.limits.TheConstants.{MOST_FIELDS}
 
 length_take_le : {A : Type 0} (n : ℕ) (l : List A) → length (take n l) ≤ length l
 length_take_le zero [] = omega arith
@@ -36,16 +37,16 @@ no_blank head h x none = pick h.blank _ (ap empty_line (x.1 ∙ print_request-ap
 
 -- a head that was read to the end of the bytes is the head that they are
 pub whole_head : (head : List ℕ) (headers : List HeaderSpan) (spans : RequestSpans) → IsRequestWithin head headers spans
-    → IsRequestOf head headers spans → spans.len ≡ length head → length headers ≡ 64 → empty_line head ≡ 0
-    → (h : RequestHead) × (request_head head ≡ Some h) × (length h.fields ≤ 64) × IsRequestAt head headers spans h
+    → IsRequestOf head headers spans → spans.len ≡ length head → length headers ≡ MOST_FIELDS → empty_line head ≡ 0
+    → (h : RequestHead) × (request_head head ≡ Some h) × (length h.fields ≤ MOST_FIELDS) × IsRequestAt head headers spans h
 whole_head head headers spans inside (h, at) end room none =
     let rest : drop spans.len head ≡ [] = ap (λ (n : ℕ). drop n head) end ∙ drop_all head in
     let reads : ReadsRequest head h [] = subst (λ (r : List ℕ). ReadsRequest head h r) rest at.reads in
     let count : length (map (header_bytes head) (take spans.headers headers)) ≡ length (map name_and_value h.fields) = ap length at.fields in
-    let few : length h.fields ≤ 64 = count_fits h.fields count in
+    let few : length h.fields ≤ MOST_FIELDS = count_fits h.fields count in
     (h, request_head-full head h reads (no_blank head h reads none), few, at)
   where
-    count_fits : (fields : List Field) → length (map (header_bytes head) (take spans.headers headers)) ≡ length (map name_and_value fields) → length fields ≤ 64
+    count_fits : (fields : List Field) → length (map (header_bytes head) (take spans.headers headers)) ≡ length (map name_and_value fields) → length fields ≤ MOST_FIELDS
     count_fits fields e = let t = length_take_le spans.headers headers in omega (arith, simp (length-map) at e)
 
     drop_all : (l : List ℕ) → drop (length l) l ≡ []
@@ -54,9 +55,9 @@ whole_head head headers spans inside (h, at) end room none =
 
 -- where the parser finds no head that ends with the bytes, they are none with so few fields
 pub no_head : (head : List ℕ) (headers : List HeaderSpan) (room : ℕ) (r : Result (Status RequestSpans) Error)
-    → FindsRequest head room headers r → room ≡ 64 → ((spans : RequestSpans) → r ≡ Ok (Complete spans) → spans.len ≢ length head)
-    → (h : RequestHead) → request_head head ≡ Some h → 64 < length h.fields
-no_head head headers room r finds limit not_whole h e = elim (cases_lt 64 (length h.fields)) [
+    → FindsRequest head room headers r → room ≡ MOST_FIELDS → ((spans : RequestSpans) → r ≡ Ok (Complete spans) → spans.len ≢ length head)
+    → (h : RequestHead) → request_head head ≡ Some h → MOST_FIELDS < length h.fields
+no_head head headers room r finds limit not_whole h e = elim (cases_lt MOST_FIELDS (length h.fields)) [
   | inl over ↦ over
   | inr fits ↦ absurd (pick r not_whole (finds h [] (request_head-sound head h e) (omega arith)))
 ]

@@ -17,8 +17,9 @@ use Rattle.std.specs.Prelude.{nat_lt, nat_le, not, Err, Option, Some, None}
 use Rattle.httparse.specs.Grammar.{trim_ows, RequestHead}
 use Rattle.httparse.specs.Spans.{name_and_value}
 use Rattle.http_messages.specs.declared.refusal.Refusal.TheVariants.{BadRequest}
-use Rattle.http_messages.specs.Requests.{values, has_member, is_comma, is_allowed_target, framing_of, on_framing, request_of, judged, most_fields}
+use Rattle.http_messages.specs.Requests.{values, has_member, is_comma, is_allowed_target, framing_of, on_framing, request_of, judged}
 use Rattle.http_messages.specs.Cuts.{is_lf, empty_line, drop_empty_lines}
+use Rattle.http_messages.specs.declared.limits.TheConstants.{MOST_FIELDS}
 
 pub values-append : (name : List ℕ) (xs ys : List Pair) → values name (xs ++ ys) ≡ values name xs ++ values name ys
 values-append name xs ys =
@@ -130,12 +131,12 @@ pub request_framed_as : (port : ℕ) (method target : List ℕ) (minor : ℕ) (f
 unfolding request_of
 request_framed_as port method target minor fields e = sym (λ i. cond (not (e i)) (Err BadRequest) (on_framing port method target minor fields (framing_of minor fields)))
 
-pub judged_none : (port : ℕ) (o : Option RequestHead) → ((h : RequestHead) → o ≡ Some h → 64 < length h.fields) → Err BadRequest ≡ judged port o
+pub judged_none : (port : ℕ) (o : Option RequestHead) → ((h : RequestHead) → o ≡ Some h → MOST_FIELDS < length h.fields) → Err BadRequest ≡ judged port o
 unfolding judged
 judged_none port None over = refl
-judged_none port (Some h) over = sym (cond-true (nat_lt most_fields (length h.fields)) (Err BadRequest) _ (lt-ltb _ _ (over h refl)))
+judged_none port (Some h) over = sym (cond-true (nat_lt MOST_FIELDS (length h.fields)) (Err BadRequest) _ (lt-ltb _ _ (over h refl)))
 
-pub judged_some : (port : ℕ) (o : Option RequestHead) (h : RequestHead) → o ≡ Some h → length h.fields ≤ 64
+pub judged_some : (port : ℕ) (o : Option RequestHead) (h : RequestHead) → o ≡ Some h → length h.fields ≤ MOST_FIELDS
     → judged port o ≡ request_of port h.method h.target h.minor (map name_and_value h.fields)
 unfolding judged
-judged_some port o h e few = ap (judged port) e ∙ cond-false (nat_lt most_fields (length h.fields)) (Err BadRequest) _ (le-ltb _ _ few)
+judged_some port o h e few = ap (judged port) e ∙ cond-false (nat_lt MOST_FIELDS (length h.fields)) (Err BadRequest) _ (le-ltb _ _ few)

@@ -1,29 +1,30 @@
 -- Requests and bodies: what was decided stays decided, and what a reading takes.
 use Rattle.std.proofs.Common.{◌≡◌, ℕ, ◌≤◌, true, List, ◌++◌, length, refl, arith}
-use Rattle.std.specs.Prelude.{Result, Ok, Err}
+use Rattle.std.specs.Prelude.{◌+◌, Result, Ok, Err}
 use Rattle.http_messages.specs.declared.refusal.Refusal.{Refusal}
 use Rattle.http_messages.specs.declared.refusal.Refusal.TheVariants.{BadRequest, TooLong}
 use Rattle.http_messages.specs.declared.request.Framing.{Framing}
 use Rattle.http_messages.specs.declared.request.Framing.TheVariants.{Sized, Chunked}
-use Rattle.http_messages.specs.declared.request.Request.{Request}
-use Rattle.http_messages.specs.declared.request.Awaited.{Awaited}
-use Rattle.http_messages.specs.declared.request.Awaited.TheVariants.{Counted, InChunks, InChunk, InTrailers}
+use Rattle.http_messages.specs.declared.request.HttpRequest.{HttpRequest}
+use Rattle.http_messages.specs.declared.request.AwaitedBody.{AwaitedBody}
+use Rattle.http_messages.specs.declared.request.AwaitedBody.TheVariants.{Counted, InChunks, InChunk, InTrailers}
 use Rattle.http_messages.specs.Cuts.{Cut, waits, refused, whole, and_then, or_refused, line_end, empty_line_end, drop_empty_lines}
 use Rattle.http_messages.specs.Heads.{request_head}
 use Rattle.http_messages.specs.Requests.{judged, first_line, head_lines, head_at, request_here, request_at}
 use Rattle.http_messages.specs.Bodies.{body_by, body_left, chunk_data, rest_of_chunks}
-use Rattle.http_messages.specs.Awaited.{awaited_by}
+use Rattle.http_messages.specs.AwaitedBody.{awaited_by}
 use Rattle.http_messages.proofs.CutLaws.{Later, IsStable, and_then-later, or_refused-later, within-stable, line_end-finds, empty_line_end-finds, dropped-later, Takes, and_then-takes, within-takes, drop_empty_lines-le}
 use Rattle.http_messages.proofs.BodyLaws.{exactly_later, rest_of_chunks-later, chunk_data_later, trailers_later, exactly_takes, trailers_takes, rest_of_chunks-takes, chunk_data_takes}
+use Rattle.http_messages.specs.declared.limits.TheConstants.{MOST_FIRST_LINE, MOST_HEAD}
 
-abbrev judge_lines : ℕ → List ℕ → List ℕ → Cut Request
+abbrev judge_lines : ℕ → List ℕ → List ℕ → Cut HttpRequest
 judge_lines port head rest = or_refused (judged port (request_head head)) rest
 
 head_at_later : (bytes more : List ℕ) → Later more (head_at bytes) (head_at (bytes ++ more))
 head_at_later bytes more =
     and_then-later more (first_line bytes) (first_line (bytes ++ more)) (λ _ _. head_lines bytes) (λ _ _. head_lines (bytes ++ more))
-    ((within-stable line_end line_end-finds 8191 8192 TooLong (omega arith)).later bytes more)
-    (λ _ _. (within-stable (empty_line_end true) empty_line_end-finds 32768 32768 BadRequest (omega arith)).later bytes more)
+    ((within-stable line_end line_end-finds MOST_FIRST_LINE (MOST_FIRST_LINE + 1) TooLong (omega arith)).later bytes more)
+    (λ _ _. (within-stable (empty_line_end true) empty_line_end-finds MOST_HEAD MOST_HEAD BadRequest (omega arith)).later bytes more)
 
 request_here_stable : (port : ℕ) → IsStable (request_here port)
 request_here_stable port = record {
@@ -37,7 +38,7 @@ unfolding request_at
 request_at-later port bytes more =
     dropped-later (request_here port) (request_here_stable port) (record { at_end = refl; at_cr = refl }) bytes more
 
-judge_takes : (rest : List ℕ) (r : Result Request Refusal) → Takes 0 rest (or_refused r rest)
+judge_takes : (rest : List ℕ) (r : Result HttpRequest Refusal) → Takes 0 rest (or_refused r rest)
 judge_takes rest (Ok q) = omega arith
 judge_takes rest (Err reason) = tt
 
@@ -46,7 +47,7 @@ within_same b waits d n t = tt
 within_same b (refused reason) d n t = tt
 within_same b (whole a rest) d n t = t
 
-shorter : (d : Cut Request) (short long : List ℕ) → length short ≤ length long → Takes 1 short d → Takes 1 long d
+shorter : (d : Cut HttpRequest) (short long : List ℕ) → length short ≤ length long → Takes 1 short d → Takes 1 long d
 shorter waits short long le t = tt
 shorter (refused reason) short long le t = tt
 shorter (whole q rest) short long le t = omega arith
@@ -54,7 +55,7 @@ shorter (whole q rest) short long le t = omega arith
 request_here_takes : (port : ℕ) (bytes : List ℕ) → Takes 1 bytes (request_here port bytes)
 request_here_takes port bytes =
     and_then-takes 1 0 bytes (head_at bytes) (judge_lines port)
-    (within_same bytes (first_line bytes) (head_lines bytes) 1 (within-takes (empty_line_end true) empty_line_end-finds 32768 32768 BadRequest bytes))
+    (within_same bytes (first_line bytes) (head_lines bytes) 1 (within-takes (empty_line_end true) empty_line_end-finds MOST_HEAD MOST_HEAD BadRequest bytes))
     (λ head rest _. judge_takes rest (judged port (request_head head)))
 
 -- a head has bytes
@@ -65,7 +66,7 @@ request_at-takes port bytes =
 
 -- ---- what is left of a body
 
-pub body_left-later : (awaited : Awaited) (bytes more : List ℕ) → Later more (body_left awaited bytes) (body_left awaited (bytes ++ more))
+pub body_left-later : (awaited : AwaitedBody) (bytes more : List ℕ) → Later more (body_left awaited bytes) (body_left awaited (bytes ++ more))
 body_left-later (Counted n) bytes more = exactly_later n bytes more
 body_left-later (InChunks body) bytes more = rest_of_chunks-later body bytes more
 body_left-later (InChunk body size) bytes more =
@@ -73,7 +74,7 @@ body_left-later (InChunk body size) bytes more =
     (chunk_data_later size bytes more) (λ piece rest. rest_of_chunks-later (body ++ piece) rest more)
 body_left-later (InTrailers body) bytes more = trailers_later body bytes more
 
-pub body_left-takes : (awaited : Awaited) (bytes : List ℕ) → Takes 0 bytes (body_left awaited bytes)
+pub body_left-takes : (awaited : AwaitedBody) (bytes : List ℕ) → Takes 0 bytes (body_left awaited bytes)
 body_left-takes (Counted n) bytes = exactly_takes n bytes
 body_left-takes (InChunks body) bytes = rest_of_chunks-takes body bytes
 body_left-takes (InChunk body size) bytes =

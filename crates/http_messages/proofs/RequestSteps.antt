@@ -3,7 +3,7 @@ use Rattle.std.proofs.Common.{◌≡◌, ℕ, zero, suc, Bool, true, false, ◌&
 use Rattle.std.proofs.lemmas.Bool.{cond-true, cond-false}
 use Rattle.std.specs.Prelude.{◌==◌, Result}
 use Rattle.http_messages.specs.declared.refusal.Refusal.{Refusal}
-use Rattle.http_messages.specs.declared.request.Request.{Request}
+use Rattle.http_messages.specs.declared.request.HttpRequest.{HttpRequest}
 use Rattle.http_messages.specs.Cuts.{Cut, waits, refused, whole, and_then, or_refused, is_lf, empty_line, drop_empty_lines}
 use Rattle.http_messages.specs.Heads.{request_head}
 use Rattle.http_messages.specs.Requests.{judged, head_at, request_here, request_at}
@@ -73,6 +73,6 @@ module _ (port : ℕ) (old mid : List ℕ) (is : mid ≡ drop_empty_lines old) (
   pub request_excluded : (reason : Refusal) → head_at mid ≡ refused reason → request_at port old ≡ refused reason
   request_excluded reason e = at_front ∙ by_head (refused reason) e
 
-  pub request_judged : (n : ℕ) (r : Result Request Refusal) → head_at mid ≡ whole (take n mid) (drop n mid) → r ≡ judged port (request_head (take n mid))
+  pub request_judged : (n : ℕ) (r : Result HttpRequest Refusal) → head_at mid ≡ whole (take n mid) (drop n mid) → r ≡ judged port (request_head (take n mid))
       → request_at port old ≡ or_refused r (drop n mid)
-  request_judged n r e j = at_front ∙ by_head (whole (take n mid) (drop n mid)) e ∙ ap (λ (r : Result Request Refusal). or_refused r (drop n mid)) (sym j)
+  request_judged n r e j = at_front ∙ by_head (whole (take n mid) (drop n mid)) e ∙ ap (λ (r : Result HttpRequest Refusal). or_refused r (drop n mid)) (sym j)

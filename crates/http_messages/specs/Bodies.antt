@@ -4,13 +4,13 @@ use Rattle.std.specs.List.{list_all, take_while, prefix_len}
 use Rattle.std.specs.Str.{bytes_eq}
 use Rattle.std.specs.Char.{is_ascii_hexdigit}
 use Rattle.httparse.specs.Grammar.{is_ows, is_extension_byte, ChunkLine, print_chunk_line, chunk_size}
+use Rattle.http_messages.specs.declared.limits.TheConstants.{MOST_BODY, MOST_CHUNK_LINE, MOST_TRAILERS}
 use Rattle.http_messages.specs.declared.refusal.Refusal.TheVariants.{BadRequest, TooLarge}
 use Rattle.http_messages.specs.Cuts.{Cut, waits, refused, whole, and_then, within, line_end, empty_line_end}
 use Rattle.http_messages.specs.declared.request.Framing.{Framing}
 use Rattle.http_messages.specs.declared.request.Framing.TheVariants.{Sized, Chunked}
-use Rattle.http_messages.specs.declared.request.Awaited.{Awaited}
-use Rattle.http_messages.specs.declared.request.Awaited.TheVariants.{Counted, InChunks, InChunk, InTrailers}
-use Rattle.http_messages.specs.Requests.{most_body}
+use Rattle.http_messages.specs.declared.request.AwaitedBody.{AwaitedBody}
+use Rattle.http_messages.specs.declared.request.AwaitedBody.TheVariants.{Counted, InChunks, InChunk, InTrailers}
 
 -- so many bytes
 abbrev pub exactly : ℕ → List ℕ → Cut (List ℕ)
@@ -51,11 +51,11 @@ chunk_line bytes =
 -- the size on the line, after a body of so many bytes
 abbrev pub size_on : ℕ → Option ChunkLine → List ℕ → Cut ℕ
 size_on before None rest = refused BadRequest
-size_on before (Some l) rest = if nat_le (before + chunk_size l) most_body then whole (chunk_size l) rest else refused TooLarge
+size_on before (Some l) rest = if nat_le (before + chunk_size l) MOST_BODY then whole (chunk_size l) rest else refused TooLarge
 
 abbrev pub chunk_size_at : ℕ → List ℕ → Cut ℕ
 chunk_size_at before bytes =
-    and_then (within line_end 1024 1024 BadRequest bytes) (λ line rest. size_on before (chunk_line line) rest)
+    and_then (within line_end MOST_CHUNK_LINE MOST_CHUNK_LINE BadRequest bytes) (λ line rest. size_on before (chunk_line line) rest)
 
 -- the bytes of a chunk, and CR LF
 abbrev pub chunk_data : ℕ → List ℕ → Cut (List ℕ)
@@ -66,7 +66,7 @@ chunk_data n bytes =
 
 -- the lines after the last chunk are dropped
 abbrev pub trailers : List ℕ → List ℕ → Cut (List ℕ)
-trailers body bytes = and_then (within (empty_line_end true) 8192 8192 BadRequest bytes) (λ lines rest. whole body rest)
+trailers body bytes = and_then (within (empty_line_end true) MOST_TRAILERS MOST_TRAILERS BadRequest bytes) (λ lines rest. whole body rest)
 
 -- the rest of a body that has come so far, in so many chunks at most
 abbrev pub chunks : ℕ → List ℕ → List ℕ → Cut (List ℕ)
@@ -88,7 +88,7 @@ body_by Chunked bytes = rest_of_chunks [] bytes
 abbrev pub rest_of_chunk : List ℕ → ℕ → List ℕ → Cut (List ℕ)
 rest_of_chunk body size bytes = and_then (chunk_data size bytes) (λ piece rest. rest_of_chunks (body ++ piece) rest)
 
-abbrev pub body_left : Awaited → List ℕ → Cut (List ℕ)
+abbrev pub body_left : AwaitedBody → List ℕ → Cut (List ℕ)
 body_left (Counted n) bytes = exactly n bytes
 body_left (InChunks body) bytes = rest_of_chunks body bytes
 body_left (InChunk body size) bytes = rest_of_chunk body size bytes

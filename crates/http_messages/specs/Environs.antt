@@ -56,12 +56,12 @@ is_in ContentType key = bytes_eq key (codes "CONTENT_TYPE")
 is_in ContentLength key = bytes_eq key (codes "CONTENT_LENGTH")
 is_in Other key = not (is_content_key key)
 
-abbrev pub pairs_in : KeyClass → List Pair → List Pair
-pairs_in class pairs = filter (λ p. is_in class p.0) pairs
+abbrev pub pairs_of_class : KeyClass → List Pair → List Pair
+pairs_of_class class pairs = filter (λ p. is_in class p.0) pairs
 
 -- the type first, then the length, then the others
 abbrev pub in_order : List Pair → List Pair
-in_order pairs = pairs_in ContentType pairs ++ pairs_in ContentLength pairs ++ pairs_in Other pairs
+in_order pairs = pairs_of_class ContentType pairs ++ pairs_of_class ContentLength pairs ++ pairs_of_class Other pairs
 
 abbrev pub is_question : ℕ → Bool
 is_question b = b == 63

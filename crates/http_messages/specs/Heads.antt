@@ -6,10 +6,10 @@ use Rattle.httparse.specs.Grammar.{is_token, is_uri_byte, is_value_byte, LineEnd
 use Rattle.http_messages.specs.Cuts.{is_lf}
 
 -- a line without its end: CR before the LF belongs to the end
-abbrev pub line_of : List ℕ → List ℕ × LineEnd
-line_of [] = ([], lf)
-line_of (b ∷ []) = if b == 13 then ([], crlf) else (b ∷ [], lf)
-line_of (b ∷ c ∷ bytes) = (b ∷ (line_of (c ∷ bytes)).0, (line_of (c ∷ bytes)).1)
+abbrev pub line_and_end : List ℕ → List ℕ × LineEnd
+line_and_end [] = ([], lf)
+line_and_end (b ∷ []) = if b == 13 then ([], crlf) else (b ∷ [], lf)
+line_and_end (b ∷ c ∷ bytes) = (b ∷ (line_and_end (c ∷ bytes)).0, (line_and_end (c ∷ bytes)).1)
 
 abbrev pub is_space : ℕ → Bool
 is_space b = b == 32
@@ -63,4 +63,4 @@ if_printed bytes (Some h) = if is_request_head h && bytes_eq (print_request h) b
 
 -- the head of the grammar that these bytes are, wholly and with no empty line before it
 unfoldable pub request_head : List ℕ → Option RequestHead
-request_head bytes = if_printed bytes (head_of_lines (map line_of (slice_split is_lf bytes)))
+request_head bytes = if_printed bytes (head_of_lines (map line_and_end (slice_split is_lf bytes)))

@@ -7,4 +7,4 @@ pub mod Laws
 pub mod Readings
 pub mod Requests
 pub mod Scans
-pub mod Awaited
+pub mod AwaitedBody

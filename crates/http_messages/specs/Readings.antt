@@ -8,7 +8,7 @@ use Rattle.http_messages.specs.declared.found.BodyFound.{BodyFound}
 use Rattle.http_messages.specs.declared.found.BodyFound.TheVariants.{BodyWaits, BodyRefused, BodyWhole}
 use Rattle.http_messages.specs.declared.found.BodyStep.{BodyStep}
 use Rattle.http_messages.specs.declared.found.BodyStep.TheVariants.{Stops, GoesOn}
-use Rattle.http_messages.specs.declared.request.Awaited.{Awaited}
+use Rattle.http_messages.specs.declared.request.AwaitedBody.{AwaitedBody}
 use Rattle.http_messages.specs.Cuts.{Cut, waits, refused, whole}
 use Rattle.http_messages.specs.Bodies.{body_left}
 
@@ -36,12 +36,12 @@ Finds read (Refused reason) old new = read old ≡ refused reason
 Finds read (Whole a) old new = read old ≡ whole a new
 
 -- the same of a body, of which the answer says what is left where more bytes have to come
-abbrev pub FindsBody : Awaited → BodyFound → List ℕ → List ℕ → Type 0
+abbrev pub FindsBody : AwaitedBody → BodyFound → List ℕ → List ℕ → Type 0
 FindsBody awaited (BodyWaits left) old new = (body_left left new ≡ waits) × ReadsAlike (body_left awaited) (body_left left) old new
 FindsBody awaited (BodyRefused reason) old new = body_left awaited old ≡ refused reason
 FindsBody awaited (BodyWhole body) old new = body_left awaited old ≡ whole body new
 
 -- one part of a body was read; where the reading goes on, it took bytes
-abbrev pub StepsBody : Awaited → BodyStep → List ℕ → List ℕ → Type 0
+abbrev pub StepsBody : AwaitedBody → BodyStep → List ℕ → List ℕ → Type 0
 StepsBody awaited (Stops found) old new = FindsBody awaited found old new
 StepsBody awaited (GoesOn left) old new = ReadsAlike (body_left awaited) (body_left left) old new × (length new < length old)

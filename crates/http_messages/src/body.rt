@@ -2,31 +2,25 @@
 ghost use Rattle.std.specs.Prelude.{◌≡◌, ◌<◌, ◌≤◌, ℕ, length, option_map, IfOk};
 ghost use Rattle.httparse.specs.Grammar.{chunk_size};
 ghost use Rattle.http_messages.specs.Bodies.{chunk_line};
-ghost use Rattle.http_messages.specs.Awaited.{awaited_by};
+ghost use Rattle.http_messages.specs.AwaitedBody.{awaited_by};
 ghost use Rattle.http_messages.specs.Readings.{FindsBody, StepsBody};
 
 use crate::found::{BodyFound, BodyStep};
-use crate::judge::MOST_BODY;
+use crate::limits::{MOST_BODY, MOST_CHUNK_LINE, MOST_TRAILERS};
 use crate::queue::ByteQueue;
 use crate::refusal::Refusal;
-use crate::request::{Awaited, Bytes, Framing};
+use crate::request::{AwaitedBody, Bytes, Framing};
 use crate::sequence::Sequence;
 use httparse::{Status, parse_chunk_size};
 use std::alloc::{AllocError, Global};
 
-/// The most bytes that a chunk line may have.
-const CHUNK_LINE_LIMIT: usize = 1024;
-
-/// The most bytes that the lines after the last chunk (RFC 9112, section 7.1.2) may have.
-const TRAILERS_LIMIT: usize = 8192;
-
 /// The body before its first byte.
-pub fn awaited_by(alloc: Global, framing: Framing) -> Awaited
+pub fn awaited_by(alloc: Global, framing: Framing) -> AwaitedBody
     ensures { result ≡ awaited_by framing }
 {
     match framing {
-        Framing::Sized(n) => Awaited::Counted(n),
-        Framing::Chunked => Awaited::InChunks(Sequence::new(alloc)),
+        Framing::Sized(n) => AwaitedBody::Counted(n),
+        Framing::Chunked => AwaitedBody::InChunks(Sequence::new(alloc)),
     }
 }
 
@@ -49,10 +43,10 @@ fn read_chunk_line(line: &[u8]) -> Option<u64>
 
 /// Reads a body of `size` bytes.
 fn read_counted(alloc: Global, size: usize, kept: &mut ByteQueue) -> Result<BodyFound, AllocError>
-    ensures { IfOk result (λ found. FindsBody (Awaited.Counted size) found kept.old kept.new) }
+    ensures { IfOk result (λ found. FindsBody (AwaitedBody.Counted size) found kept.old kept.new) }
 {
     if kept.len() < size {
-        return Ok(BodyFound::BodyWaits(Awaited::Counted(size)));
+        return Ok(BodyFound::BodyWaits(AwaitedBody::Counted(size)));
     }
     let mut body = Sequence::new(alloc);
     body.extend_from_slice(&kept.items()[..size])?;
@@ -62,11 +56,11 @@ fn read_counted(alloc: Global, size: usize, kept: &mut ByteQueue) -> Result<Body
 
 /// Reads the line of the next chunk, after the chunks that came.
 fn read_size(body: Bytes, kept: &mut ByteQueue) -> BodyStep
-    ensures { StepsBody (Awaited.InChunks body) result kept.old kept.new }
+    ensures { StepsBody (AwaitedBody.InChunks body) result kept.old kept.new }
 {
-    let Some(end) = kept.line_end(CHUNK_LINE_LIMIT) else {
-        return if kept.len() < CHUNK_LINE_LIMIT {
-            BodyStep::Stops(BodyFound::BodyWaits(Awaited::InChunks(body)))
+    let Some(end) = kept.line_end(MOST_CHUNK_LINE) else {
+        return if kept.len() < MOST_CHUNK_LINE {
+            BodyStep::Stops(BodyFound::BodyWaits(AwaitedBody::InChunks(body)))
         } else {
             BodyStep::Stops(BodyFound::BodyRefused(Refusal::BadRequest))
         };
@@ -79,18 +73,18 @@ fn read_size(body: Bytes, kept: &mut ByteQueue) -> BodyStep
     }
     kept.skip(end);
     if size == 0 {
-        BodyStep::GoesOn(Awaited::InTrailers(body))
+        BodyStep::GoesOn(AwaitedBody::InTrailers(body))
     } else {
-        BodyStep::GoesOn(Awaited::InChunk(body, size as usize))
+        BodyStep::GoesOn(AwaitedBody::InChunk(body, size as usize))
     }
 }
 
 /// Reads a chunk of `size` bytes with its line end, after the chunks that came.
 fn read_chunk(mut body: Bytes, size: usize, kept: &mut ByteQueue) -> Result<BodyStep, AllocError>
-    ensures { IfOk result (λ step. StepsBody (Awaited.InChunk body size) step kept.old kept.new) }
+    ensures { IfOk result (λ step. StepsBody (AwaitedBody.InChunk body size) step kept.old kept.new) }
 {
     if kept.len() < 2 || kept.len() - 2 < size {
-        return Ok(BodyStep::Stops(BodyFound::BodyWaits(Awaited::InChunk(body, size))));
+        return Ok(BodyStep::Stops(BodyFound::BodyWaits(AwaitedBody::InChunk(body, size))));
     }
     let bytes = kept.items();
     if bytes[size] != b'\r' || bytes[size + 1] != b'\n' {
@@ -98,32 +92,36 @@ fn read_chunk(mut body: Bytes, size: usize, kept: &mut ByteQueue) -> Result<Body
     }
     body.extend_from_slice(&bytes[..size])?;
     kept.skip(size + 2);
-    Ok(BodyStep::GoesOn(Awaited::InChunks(body)))
+    Ok(BodyStep::GoesOn(AwaitedBody::InChunks(body)))
 }
 
 /// Drops the lines after the last chunk.
 fn read_trailers(body: Bytes, kept: &mut ByteQueue) -> BodyFound
-    ensures { FindsBody (Awaited.InTrailers body) result kept.old kept.new }
+    ensures { FindsBody (AwaitedBody.InTrailers body) result kept.old kept.new }
 {
-    match kept.empty_line_end(TRAILERS_LIMIT) {
+    match kept.empty_line_end(MOST_TRAILERS) {
         Some(end) => {
             kept.skip(end);
             BodyFound::BodyWhole(body)
         }
-        None if kept.len() < TRAILERS_LIMIT => BodyFound::BodyWaits(Awaited::InTrailers(body)),
+        None if kept.len() < MOST_TRAILERS => BodyFound::BodyWaits(AwaitedBody::InTrailers(body)),
         None => BodyFound::BodyRefused(Refusal::BadRequest),
     }
 }
 
 /// Reads the next part of what is left of a body.
-fn read_part(alloc: Global, awaited: Awaited, kept: &mut ByteQueue) -> Result<BodyStep, AllocError>
+fn read_part(
+    alloc: Global,
+    awaited: AwaitedBody,
+    kept: &mut ByteQueue,
+) -> Result<BodyStep, AllocError>
     ensures { IfOk result (λ step. StepsBody awaited step kept.old kept.new) }
 {
     match awaited {
-        Awaited::Counted(size) => Ok(BodyStep::Stops(read_counted(alloc, size, kept)?)),
-        Awaited::InChunks(body) => Ok(read_size(body, kept)),
-        Awaited::InChunk(body, size) => read_chunk(body, size, kept),
-        Awaited::InTrailers(body) => Ok(BodyStep::Stops(read_trailers(body, kept))),
+        AwaitedBody::Counted(size) => Ok(BodyStep::Stops(read_counted(alloc, size, kept)?)),
+        AwaitedBody::InChunks(body) => Ok(read_size(body, kept)),
+        AwaitedBody::InChunk(body, size) => read_chunk(body, size, kept),
+        AwaitedBody::InTrailers(body) => Ok(BodyStep::Stops(read_trailers(body, kept))),
     }
 }
 
@@ -131,7 +129,7 @@ fn read_part(alloc: Global, awaited: Awaited, kept: &mut ByteQueue) -> Result<Bo
 /// that it read.
 pub fn read_body(
     alloc: Global,
-    awaited: Awaited,
+    awaited: AwaitedBody,
     kept: &mut ByteQueue,
 ) -> Result<BodyFound, AllocError>
     ensures { IfOk result (λ found. FindsBody awaited found kept.old kept.new) }

@@ -4,6 +4,7 @@ ghost use Rattle.httparse.specs.Spans.{IsHeaderWithin, header_bytes, span_bytes}
 ghost use Rattle.http_header.specs.FieldName.{IsFieldName};
 ghost use Rattle.http_header.specs.HeaderMap.{value_count};
 ghost use Rattle.http_header.specs.Token.{lowercase};
+ghost use Rattle.http_messages.specs.declared.limits.TheConstants.{MOST_FIELDS};
 ghost use Rattle.http_messages.specs.Environs.{Pair};
 ghost use Rattle.http_messages.specs.Fields.{AreFields, fields_at, texts, with_field};
 ghost use Rattle.http_messages.specs.Requests.{values};
@@ -54,7 +55,7 @@ fn add_field<'a>(
 ) -> Result<(), AllocError>
     requires within { IsHeaderWithin (length head.now) header }
     requires named { IsFieldName (span_bytes head.now header.name) }
-    requires few { value_count fields.old < 64 }
+    requires few { value_count fields.old < MOST_FIELDS }
     ensures added { OnOk result (texts fields.new ≡ with_field (texts fields.old) (header_bytes head.now header)) }
     ensures count { OnOk result (value_count fields.new ≡ value_count fields.old + 1) }
 {
@@ -75,7 +76,7 @@ pub fn fields_of<'a>(
 ) -> Result<Fields<'a>, AllocError>
     requires within { All (IsHeaderWithin (length head.now)) headers.now }
     requires named { All (λ h. IsFieldName (span_bytes head.now h.name)) headers.now }
-    requires few { length headers.now ≤ 64 }
+    requires few { length headers.now ≤ MOST_FIELDS }
     ensures { IfOk result (λ fields. AreFields fields (fields_at head.now headers.now)) }
 {
     let mut fields = HeaderMap::empty(alloc);

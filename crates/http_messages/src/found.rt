@@ -1,6 +1,6 @@
 //! What the bytes at the front decide.
 use crate::refusal::Refusal;
-use crate::request::{Awaited, Bytes};
+use crate::request::{AwaitedBody, Bytes};
 
 /// What a search for an end saw.
 #[derive(Clone, Copy, Debug, PartialEq, Eq)]
@@ -28,7 +28,7 @@ pub enum Found<T> {
 #[derive(Drop)]
 pub enum BodyFound {
     /// More bytes have to come; this is left of the body.
-    BodyWaits(Awaited),
+    BodyWaits(AwaitedBody),
     /// It can't come any more.
     BodyRefused(Refusal),
     /// It was there, and its bytes are taken.
@@ -41,5 +41,5 @@ pub enum BodyStep {
     /// The reading stops with this answer.
     Stops(BodyFound),
     /// The part was there; this is left.
-    GoesOn(Awaited),
+    GoesOn(AwaitedBody),
 }

@@ -2,6 +2,7 @@
 ghost use Rattle.std.specs.Prelude.{◌≡◌, ◌<◌, ◌≤◌, ℕ, List, length, drop, Some, IfOk, IfSome, IfNone};
 ghost use Rattle.httparse.specs.Grammar.{RequestHead};
 ghost use Rattle.httparse.specs.Spans.{IsRequestAt, IsRequestWithin};
+ghost use Rattle.http_messages.specs.declared.limits.TheConstants.{MOST_FIELDS, MOST_HEAD};
 ghost use Rattle.http_messages.specs.Cuts.{drop_empty_lines, empty_line};
 ghost use Rattle.http_messages.specs.Heads.{request_head};
 ghost use Rattle.http_messages.specs.Readings.{EndsWithin, Finds, Sees};
@@ -9,19 +10,14 @@ ghost use Rattle.http_messages.specs.Requests.{head_at, request_at};
 
 use crate::found::{Found, Sight};
 use crate::judge::request_of_head;
+use crate::limits::{MOST_FIRST_LINE, MOST_HEAD};
 use crate::queue::ByteQueue;
 use crate::refusal::Refusal;
-use crate::request::Request;
+use crate::request::HttpRequest;
 use crate::scan::empty_line;
 use httparse::Status;
 use httparse::spans::{HeaderSpan, RequestSpans, parse_request};
 use std::alloc::{AllocError, Global};
-
-/// The most bytes that the first line may have, with its end.
-const LINE_LIMIT: usize = 8191;
-
-/// The most bytes that a head may have.
-const HEAD_LIMIT: usize = 32768;
 
 /// The length of the empty lines at the front.
 fn empty_lines_len(bytes: &[u8]) -> usize
@@ -42,31 +38,31 @@ fn empty_lines_len(bytes: &[u8]) -> usize
 /// Where the head at the front ends.
 fn head_end(kept: &mut ByteQueue) -> Sight
     ensures sees { Sees result kept.old (head_at kept.old) }
-    ensures short { EndsWithin 32768 result }
+    ensures short { EndsWithin MOST_HEAD result }
     ensures same { kept.new ≡ kept.old }
 {
-    let Some(_) = kept.line_end(LINE_LIMIT) else {
-        return if kept.len() > LINE_LIMIT {
+    let Some(_) = kept.line_end(MOST_FIRST_LINE) else {
+        return if kept.len() > MOST_FIRST_LINE {
             Sight::Excluded(Refusal::TooLong)
         } else {
             Sight::Unseen
         };
     };
-    match kept.empty_line_end(HEAD_LIMIT) {
+    match kept.empty_line_end(MOST_HEAD) {
         Some(end) => Sight::Ends(end),
-        None if kept.len() >= HEAD_LIMIT => Sight::Excluded(Refusal::BadRequest),
+        None if kept.len() >= MOST_HEAD => Sight::Excluded(Refusal::BadRequest),
         None => Sight::Unseen,
     }
 }
 
-/// The parts of the head that these bytes are, if it is a head of the grammar with at most 64 fields.
+/// The parts of the head that these bytes are, if it is a head of the grammar with at most `MOST_FIELDS` fields.
 pub fn read_head(head: &[u8], headers: &mut [HeaderSpan]) -> Option<RequestSpans>
-    requires room { length headers.old ≡ 64 }
+    requires room { length headers.old ≡ MOST_FIELDS }
     requires begun { empty_line head.now ≡ 0 }
     ensures found { IfSome result (λ spans. (h : RequestHead) × (request_head head.now ≡ Some h)
-        × (length h.fields ≤ 64) × IsRequestAt head.now headers.new spans h) }
+        × (length h.fields ≤ MOST_FIELDS) × IsRequestAt head.now headers.new spans h) }
     ensures within { IfSome result (λ spans. IsRequestWithin head.now headers.new spans) }
-    ensures none { IfNone result ((h : RequestHead) → request_head head.now ≡ Some h → 64 < length h.fields) }
+    ensures none { IfNone result ((h : RequestHead) → request_head head.now ≡ Some h → MOST_FIELDS < length h.fields) }
 {
     match parse_request(head, headers) {
         Ok(Status::Complete(spans)) => {
@@ -87,7 +83,7 @@ pub fn read_request(
     alloc: Global,
     port: u16,
     kept: &mut ByteQueue,
-) -> Result<Found<Request>, AllocError>
+) -> Result<Found<HttpRequest>, AllocError>
     ensures { IfOk result (λ found. Finds (request_at port) found kept.old kept.new) }
 {
     let blank = empty_lines_len(kept.items());

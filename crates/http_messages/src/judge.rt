@@ -4,6 +4,7 @@ ghost use Rattle.std.specs.List.{list_any};
 ghost use Rattle.std.specs.Str.{bytes_eq, str_eq_ignore_ascii_case};
 ghost use Rattle.std.specs.Str.Parse.{digits_value};
 ghost use Rattle.httparse.specs.Grammar.{is_ows, skip_ows, trim_ows};
+ghost use Rattle.http_messages.specs.declared.limits.TheConstants.{MOST_HEAD};
 ghost use Rattle.http_messages.specs.Cuts.{empty_line};
 ghost use Rattle.http_messages.specs.Environs.{Pair};
 ghost use Rattle.http_messages.specs.Fields.{AreFields};
@@ -13,27 +14,19 @@ ghost use Rattle.http_messages.specs.Requests.{announces_body, coded_by, does_pe
 use crate::environ::environ_of;
 use crate::fields::{Fields, Head, fields_of, values};
 use crate::head::read_head;
+use crate::limits::{MOST_BODY, MOST_FIELDS, MOST_LENGTH_DIGITS};
 use crate::refusal::Refusal;
-use crate::request::{Bytes, Framing, Request};
+use crate::request::{Bytes, Framing, HttpRequest};
 use crate::scan::{eq_any_case, find_byte};
 use crate::sequence::Sequence;
 use httparse::spans::EMPTY_HEADER_SPAN;
 use std::alloc::{AllocError, Global};
 
-/// The most fields that a head may have.
-const MOST_FIELDS: usize = 64;
-
-/// The most bytes that a body may have.
-pub const MOST_BODY: usize = 1048576;
-
-/// The most digits of a length.
-const MOST_DIGITS: usize = 19;
-
 /// The number that 1 to 19 digits write (RFC 9110, section 8.6); `None` exactly where the bytes are none.
 pub fn parse_length(digits: &[u8]) -> Option<u64>
     ensures { result ≡ (if is_length digits.now then Some (digits_value 10 digits.now) else None) }
 {
-    if digits.is_empty() || digits.len() > MOST_DIGITS {
+    if digits.is_empty() || digits.len() > MOST_LENGTH_DIGITS {
         return None;
     }
     let mut value: u64 = 0;
@@ -220,7 +213,10 @@ fn framing_of(alloc: Global, head: &Head<'_>) -> Result<Result<Framing, Refusal>
 }
 
 /// The request of the head, whose target is allowed.
-fn framed_request(alloc: Global, head: &Head<'_>) -> Result<Result<Request, Refusal>, AllocError>
+fn framed_request(
+    alloc: Global,
+    head: &Head<'_>,
+) -> Result<Result<HttpRequest, Refusal>, AllocError>
     ensures { IfOk result (λ judged. (pairs : List Pair) → AreFields head.now.fields pairs
         → judged ≡ on_framing head.now.port head.now.method.now head.now.target.now head.now.minor pairs (framing_of head.now.minor pairs)) }
 {
@@ -231,7 +227,7 @@ fn framed_request(alloc: Global, head: &Head<'_>) -> Result<Result<Request, Refu
             let persists = does_persist(alloc, head)?;
             let expected = expects(alloc, &head.fields)?;
             let environ = environ_of(alloc, head)?;
-            Ok(Ok(Request {
+            Ok(Ok(HttpRequest {
                 environ,
                 is_head: is_head(head.method),
                 minor: head.minor,
@@ -244,7 +240,7 @@ fn framed_request(alloc: Global, head: &Head<'_>) -> Result<Result<Request, Refu
 }
 
 /// The request that the head asks for, or the reason to refuse it.
-fn request_of(alloc: Global, head: &Head<'_>) -> Result<Result<Request, Refusal>, AllocError>
+fn request_of(alloc: Global, head: &Head<'_>) -> Result<Result<HttpRequest, Refusal>, AllocError>
     ensures { IfOk result (λ judged. (pairs : List Pair) → AreFields head.now.fields pairs
         → judged ≡ request_of head.now.port head.now.method.now head.now.target.now head.now.minor pairs) }
 {
@@ -260,9 +256,9 @@ pub fn request_of_head(
     alloc: Global,
     port: u16,
     head: &[u8],
-) -> Result<Result<Request, Refusal>, AllocError>
+) -> Result<Result<HttpRequest, Refusal>, AllocError>
     requires begun { empty_line head.now ≡ 0 }
-    requires short { length head.now ≤ 32768 }
+    requires short { length head.now ≤ MOST_HEAD }
     ensures { IfOk result (λ found. found ≡ judged port (request_head head.now)) }
 {
     let mut headers = [EMPTY_HEADER_SPAN; MOST_FIELDS];

@@ -19,7 +19,7 @@ pub enum Framing {
 
 /// What a head asks for.
 #[derive(Drop)]
-pub struct Request {
+pub struct HttpRequest {
     /// What an application is handed.
     pub environ: Environ,
     /// Whether the method is HEAD, whose answer has no body (RFC 9110, section 9.3.2).
@@ -36,7 +36,7 @@ pub struct Request {
 
 /// What is left of a body.
 #[derive(Drop)]
-pub enum Awaited {
+pub enum AwaitedBody {
     /// So many bytes.
     Counted(usize),
     /// Chunks after those that came.

@@ -1,6 +1,6 @@
 //! Requests, read from their bytes.
 use http_messages::{
-    Awaited, BodyFound, ByteQueue, Environ, Found, Framing, Refusal, awaited_by, eq_any_case,
+    AwaitedBody, BodyFound, ByteQueue, Environ, Found, Framing, Refusal, awaited_by, eq_any_case,
     parse_length, read_body, read_request,
 };
 use std::alloc::Global;
@@ -62,7 +62,7 @@ fn framing_with(
 /// Whether the body at the front of the bytes is this.
 fn is_body(
     alloc: Global,
-    awaited: Awaited,
+    awaited: AwaitedBody,
     kept: &mut ByteQueue,
     wanted: &[u8],
 ) -> Result<bool, Fail> {
@@ -94,7 +94,7 @@ fn reads_a_head_and_leaves_what_follows(rt: HostRuntime) -> Result<(), Fail> {
 }
 
 /// What is still awaited of chunks once these bytes have come.
-fn begun_chunks(alloc: Global, kept: &mut ByteQueue, bytes: &[u8]) -> Result<Awaited, Fail> {
+fn begun_chunks(alloc: Global, kept: &mut ByteQueue, bytes: &[u8]) -> Result<AwaitedBody, Fail> {
     kept.append(bytes)?;
     match read_body(alloc, awaited_by(alloc, Framing::Chunked), kept)? {
         BodyFound::BodyWaits(left) => Ok(left),

@@ -16,14 +16,14 @@ use Rattle.machine.specs.Settle.{settle}
 use Rattle.machine.specs.State.{State, say}
 use Rattle.machine.specs.Waits.{late_outcome}
 use Rattle.machine.specs.Items.{is_wait_of}
-use Rattle.machine_laws.specs.Reached.{state_of}
-use Rattle.machine_laws.proofs.Runs.{IsFound, least-found}
+use Rattle.machine_trace_laws.specs.Reached.{state_of_next}
+use Rattle.machine_trace_laws.proofs.Runs.{IsFound, least-found}
 use Rattle.machine_soundness.specs.Going.{IsKept}
 use Rattle.machine_soundness.proofs.Deliveries.{claimed, free-moves, kept-without, no-wait-left, owned}
 use Rattle.machine.proofs.Halves.{left}
 use Rattle.machine_soundness.proofs.Lists.{all-get}
 use Rattle.machine_soundness.proofs.States.{Moves, going, kept-drop}
-use Rattle.machine_texts.specs.Texts.{fits_item, fits_wait, is_function}
+use Rattle.machine_well_formed.specs.Texts.{fits_item, fits_wait, is_function}
 use Rattle.hub_requests.specs.Naming.{IsNamed}
 use Rattle.hub_requests.proofs.Named.{object_there}
 use Rattle.hub_engine.specs.Delivering.{IsDelivered, late_answer}
@@ -147,8 +147,8 @@ taken_declared j s t k h = subst AreDeclared (sym k) (record { each = (declared_
 
 -- after its delivery too each greenlet runs a function that there is
 pub delivered_declared : (mark : ℕ) (j : Item) (s t : State) → least_below mark s.items ≡ Some j → t ≡ without_item j s → IsReady s →
-    AreDeclared (state_of (delivers j.since j.delivery t))
+    AreDeclared (state_of_next (delivers j.since j.delivery t))
 unfolding deliver
 delivered_declared mark j s t e k h =
     let found = least-found mark s.items j e in
-    subst (λ (x : State). AreDeclared (state_of (delivers j.since j.delivery x))) (sym k) (declared_ready (deliver j s) (ready_deliver found.place j s found.there found.numbered h))
+    subst (λ (x : State). AreDeclared (state_of_next (delivers j.since j.delivery x))) (sym k) (declared_ready (deliver j s) (ready_deliver found.place j s found.there found.numbered h))

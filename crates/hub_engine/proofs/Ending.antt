@@ -13,7 +13,7 @@ use Rattle.machine.specs.State.{State}
 use Rattle.scenario_tree.specs.declared.tree.Scenario.{Scenario}
 use Rattle.std.specs.Prelude.{Result, Ok, Err}
 use Rattle.hub_engine.specs.declared.broken.Broken.{Broken}
-use Rattle.hub_engine.specs.declared.run.End.{End}
+use Rattle.hub_engine.specs.declared.run.EngineEnd.{EngineEnd}
 use Rattle.hub_engine.specs.declared.run.Ran.{Ran}
 use Rattle.hub_engine.specs.Ends.{CountsOf, HasLogged, HasNumbersAt, IsPartLogged, RanTo, end_of, end_of_run}
 use Rattle.hub_engine.specs.Ahead.{WroteAhead}
@@ -27,10 +27,10 @@ use Rattle.machine_turns.proofs.Taking.{run-takes}
 
 -- ---- the run is over
 
-answers_are : (v w : Outside) (whole : Runs) (end : End) (s : State) → v.means.answers ≡ [] → (r : HasEnded v w whole end s) → w.means.answers ≡ answers_of r.running.entries
+answers_are : (v w : Outside) (whole : Runs) (end : EngineEnd) (s : State) → v.means.answers ≡ [] → (r : HasEnded v w whole end s) → w.means.answers ≡ answers_of r.running.entries
 answers_are v w whole end s e r = r.running.given.done.answers ∙ ap (λ z. z ++ answers_of r.running.entries) e
 
-whole_is : (v w : Outside) (whole : Runs) (end : End) (s : State) → v.means.answers ≡ [] → (r : HasEnded v w whole end s) →
+whole_is : (v w : Outside) (whole : Runs) (end : EngineEnd) (s : State) → v.means.answers ≡ [] → (r : HasEnded v w whole end s) →
     whole w.means.answers ≡ preceded r.running.lines r.running.entries r.running.blocked (finished r.cause r.last)
 whole_is v w whole end s e r = ap whole (answers_are v w whole end s e r ∙ sym (append-nil (answers_of r.running.entries))) ∙ r.running.is []
 
@@ -44,12 +44,12 @@ ran_so StopCause.NoGreenlets r old new e f = (e, f)
 ran_so StopCause.NoLinks r old new e f = (e, f)
 ran_so StopCause.NoKills r old new e f = (e, f)
 
-ended_written : (v w : Outside) (whole : Runs) (end : End) (s : State) → v.means.answers ≡ [] → HasEnded v w whole end s → RanTo end (whole w.means.answers) v.written w.written
+ended_written : (v w : Outside) (whole : Runs) (end : EngineEnd) (s : State) → v.means.answers ≡ [] → HasEnded v w whole end s → RanTo end (whole w.means.answers) v.written w.written
 ended_written v w whole end s e r =
     let is = whole_is v w whole end s e r in
     let q = whole w.means.answers in
     let lines : q.lines ≡ r.running.lines = ap (λ (x : Whole). x.lines) is ∙ append-nil r.running.lines in
-    subst (λ (x : End). RanTo x q v.written w.written) (sym r.is_end)
+    subst (λ (x : EngineEnd). RanTo x q v.written w.written) (sym r.is_end)
     (ran_so r.cause q v.written w.written (r.running.given.text ∙ ap (λ ls. appended v.written (text_of ls)) (sym lines)) (sym (ap (λ (x : Whole). end_of_run x.end) is)))
 
 logged_so : (c : StopCause) (log : List LogEntry) (answers : List Answer) (stands : List LogEntry → Type 0) → stands log → answers_of log ≡ answers → HasLogged (end_of c) log answers stands
@@ -61,28 +61,28 @@ logged_so StopCause.NoGreenlets log answers stands e f = (e, f)
 logged_so StopCause.NoLinks log answers stands e f = (e, f)
 logged_so StopCause.NoKills log answers stands e f = (e, f)
 
-ended_log : (v w : Outside) (whole : Runs) (end : End) (s : State) → v.means.answers ≡ [] → (r : HasEnded v w whole end s) → (whole w.means.answers).log ≡ r.running.entries
+ended_log : (v w : Outside) (whole : Runs) (end : EngineEnd) (s : State) → v.means.answers ≡ [] → (r : HasEnded v w whole end s) → (whole w.means.answers).log ≡ r.running.entries
 ended_log v w whole end s e r = ap (λ (x : Whole). x.log) (whole_is v w whole end s e r) ∙ append-nil r.running.entries
 
-ended_logged : (v w : Outside) (whole : Runs) (end : End) (s : State) → v.means.answers ≡ [] → v.stands [] → HasEnded v w whole end s →
+ended_logged : (v w : Outside) (whole : Runs) (end : EngineEnd) (s : State) → v.means.answers ≡ [] → v.stands [] → HasEnded v w whole end s →
     HasLogged end (whole w.means.answers).log w.means.answers w.stands
 ended_logged v w whole end s e h r =
     let log = ended_log v w whole end s e r in
-    subst (λ (x : End). HasLogged x (whole w.means.answers).log w.means.answers w.stands) (sym r.is_end)
+    subst (λ (x : EngineEnd). HasLogged x (whole w.means.answers).log w.means.answers w.stands) (sym r.is_end)
     (logged_so r.cause (whole w.means.answers).log w.means.answers w.stands (subst w.stands (sym log) (r.running.given.done.log [] h))
     (ap answers_of log ∙ sym (answers_are v w whole end s e r)))
 
-ended_legal : (v w : Outside) (whole : Runs) (end : End) (s : State) → v.means.posts ≡ [] → v.means.answers ≡ [] → HasEnded v w whole end s → AreLegal [] [] (whole w.means.answers).log
+ended_legal : (v w : Outside) (whole : Runs) (end : EngineEnd) (s : State) → v.means.posts ≡ [] → v.means.answers ≡ [] → HasEnded v w whole end s → AreLegal [] [] (whole w.means.answers).log
 ended_legal v w whole end s f e r =
     subst (AreLegal [] []) (sym (ended_log v w whole end s e r))
     (subst (λ ps. AreLegal ps [] r.running.entries) f (subst (λ z. AreLegal v.means.posts z r.running.entries) e r.running.given.done.legal))
 
-ended_ahead : (v w : Outside) (whole : Runs) (end : End) (s : State) → v.means.answers ≡ [] → HasEnded v w whole end s → WroteAhead whole w.means.answers v.written w.written
+ended_ahead : (v w : Outside) (whole : Runs) (end : EngineEnd) (s : State) → v.means.answers ≡ [] → HasEnded v w whole end s → WroteAhead whole w.means.answers v.written w.written
 ended_ahead v w whole end s e r before last z =
     let own = r.running.ahead before last (sym (answers_are v w whole end s e r) ∙ z) in
     (text_of own.0, r.running.given.text ∙ ap (λ ls. appended v.written (text_of ls)) own.1 ∙ ap (appended v.written) (text_of_append (whole before).lines own.0))
 
-ended_out : (v w : Outside) (whole : Runs) (end : End) (s : State) → v.means.answers ≡ [] → HasEnded v w whole end s → WroteAhead whole w.means.answers v.written w.out
+ended_out : (v w : Outside) (whole : Runs) (end : EngineEnd) (s : State) → v.means.answers ≡ [] → HasEnded v w whole end s → WroteAhead whole w.means.answers v.written w.out
 ended_out v w whole end s e r before last z = r.running.out_ahead before last (sym (answers_are v w whole end s e r) ∙ z)
 
 numbered_so : (c : StopCause) (came : Ran) (s : State) → CountsOf came s → HasNumbersAt (end_of c) came s
@@ -95,12 +95,12 @@ numbered_so StopCause.NoLinks came s h = h
 numbered_so StopCause.NoKills came s h = h
 
 -- the numbers are those of a state like the last
-ended_numbers : (v w : Outside) (whole : Runs) (end : End) (s : State) (came : Ran) → v.means.answers ≡ [] → HasEnded v w whole end s → CountsOf came s →
+ended_numbers : (v w : Outside) (whole : Runs) (end : EngineEnd) (s : State) (came : Ran) → v.means.answers ≡ [] → HasEnded v w whole end s → CountsOf came s →
     HasNumbersAt end came (whole w.means.answers).state
 ended_numbers v w whole end s came e r h =
     let last : (whole w.means.answers).state ≡ r.last = ap (λ (x : Whole). x.state) (whole_is v w whole end s e r) in
     subst (λ (x : State). HasNumbersAt end came x) (sym last)
-    (subst (λ (x : End). HasNumbersAt x came r.last) (sym r.is_end)
+    (subst (λ (x : EngineEnd). HasNumbersAt x came r.last) (sym r.is_end)
     (numbered_so r.cause came r.last (record {
       greenlets = h.greenlets ∙ sym r.like.greenlets;
       turns = h.turns ∙ sym r.like.turns;
@@ -155,13 +155,13 @@ broken_legal v w c turns moves f e b =
 
 -- ---- both
 
-pub ran_written : (v w : Outside) (whole : Runs) (r : Result End Broken) (s : State) → v.means.answers ≡ [] → RunsTo r v w whole s → RanTo (ended_as r) (whole w.means.answers) v.written w.written
+pub ran_written : (v w : Outside) (whole : Runs) (r : Result EngineEnd Broken) (s : State) → v.means.answers ≡ [] → RunsTo r v w whole s → RanTo (ended_as r) (whole w.means.answers) v.written w.written
 ran_written v w whole (Ok end) s e h = ended_written v w whole end s e h
 ran_written v w whole (Err Broken.Memory) s e h = broken_written v w whole e h
 ran_written v w whole (Err Broken.Write) s e h = broken_written v w whole e h
 
 -- which lines were tried
-ended_tried : (v w : Outside) (whole : Runs) (end : End) (s : State) → v.means.answers ≡ [] → HasEnded v w whole end s → WritesPart v.written w.written (whole w.means.answers).lines
+ended_tried : (v w : Outside) (whole : Runs) (end : EngineEnd) (s : State) → v.means.answers ≡ [] → HasEnded v w whole end s → WritesPart v.written w.written (whole w.means.answers).lines
 ended_tried v w whole end s e r =
     subst (WritesPart v.written w.written) (sym (ap (λ (x : Whole). x.lines) (whole_is v w whole end s e r)))
     (tried-whole v.written w.written r.running.lines [] r.running.given.text r.running.given.fit)
@@ -169,30 +169,30 @@ ended_tried v w whole end s e r =
 broken_tried : (v w : Outside) (whole : Runs) → v.means.answers ≡ [] → HasBroken v w whole → WritesPart v.written w.written (whole w.means.answers).lines
 broken_tried v w whole e b = subst (λ z. WritesPart v.written w.written (whole z).lines) (sym (broken_answers v w whole e b)) b.text
 
-pub ran_tried : (v w : Outside) (whole : Runs) (r : Result End Broken) (s : State) → v.means.answers ≡ [] → RunsTo r v w whole s → WritesPart v.written w.written (whole w.means.answers).lines
+pub ran_tried : (v w : Outside) (whole : Runs) (r : Result EngineEnd Broken) (s : State) → v.means.answers ≡ [] → RunsTo r v w whole s → WritesPart v.written w.written (whole w.means.answers).lines
 ran_tried v w whole (Ok end) s e h = ended_tried v w whole end s e h
 ran_tried v w whole (Err b) s e h = broken_tried v w whole e h
 
-pub ran_ahead : (v w : Outside) (whole : Runs) (r : Result End Broken) (s : State) → v.means.answers ≡ [] → RunsTo r v w whole s → WroteAhead whole w.means.answers v.written w.written
+pub ran_ahead : (v w : Outside) (whole : Runs) (r : Result EngineEnd Broken) (s : State) → v.means.answers ≡ [] → RunsTo r v w whole s → WroteAhead whole w.means.answers v.written w.written
 ran_ahead v w whole (Ok end) s e h = ended_ahead v w whole end s e h
 ran_ahead v w whole (Err b) s e h = broken_ahead v w whole e h
 
-pub ran_out : (v w : Outside) (whole : Runs) (r : Result End Broken) (s : State) → v.means.answers ≡ [] → RunsTo r v w whole s → WroteAhead whole w.means.answers v.written w.out
+pub ran_out : (v w : Outside) (whole : Runs) (r : Result EngineEnd Broken) (s : State) → v.means.answers ≡ [] → RunsTo r v w whole s → WroteAhead whole w.means.answers v.written w.out
 ran_out v w whole (Ok end) s e h = ended_out v w whole end s e h
 ran_out v w whole (Err b) s e h = broken_out v w whole e h
 
-pub ran_logged : (v w : Outside) (whole : Runs) (r : Result End Broken) (s : State) → v.means.answers ≡ [] → v.stands [] → RunsTo r v w whole s →
+pub ran_logged : (v w : Outside) (whole : Runs) (r : Result EngineEnd Broken) (s : State) → v.means.answers ≡ [] → v.stands [] → RunsTo r v w whole s →
     HasLogged (ended_as r) (whole w.means.answers).log w.means.answers w.stands
 ran_logged v w whole (Ok end) s e z h = ended_logged v w whole end s e z h
 ran_logged v w whole (Err Broken.Memory) s e z h = broken_logged v w whole e z h
 ran_logged v w whole (Err Broken.Write) s e z h = broken_logged v w whole e z h
 
-pub ran_legal : (v w : Outside) (c : Scenario) (turns moves : ℕ) (r : Result End Broken) (s : State) → v.means.posts ≡ [] → v.means.answers ≡ [] → RunsTo r v w (run c turns moves) s →
+pub ran_legal : (v w : Outside) (c : Scenario) (turns moves : ℕ) (r : Result EngineEnd Broken) (s : State) → v.means.posts ≡ [] → v.means.answers ≡ [] → RunsTo r v w (run c turns moves) s →
     AreLegal [] [] (run c turns moves w.means.answers).log
 ran_legal v w c turns moves (Ok end) s f e h = ended_legal v w (run c turns moves) end s f e h
 ran_legal v w c turns moves (Err b) s f e h = broken_legal v w c turns moves f e h
 
-pub ran_numbers : (v w : Outside) (whole : Runs) (r : Result End Broken) (s : State) (came : Ran) → v.means.answers ≡ [] → RunsTo r v w whole s → CountsOf came s →
+pub ran_numbers : (v w : Outside) (whole : Runs) (r : Result EngineEnd Broken) (s : State) (came : Ran) → v.means.answers ≡ [] → RunsTo r v w whole s → CountsOf came s →
     HasNumbersAt (ended_as r) came (whole w.means.answers).state
 ran_numbers v w whole (Ok end) s came e h k = ended_numbers v w whole end s came e h k
 ran_numbers v w whole (Err Broken.Memory) s came e h k = tt

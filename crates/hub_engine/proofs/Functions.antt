@@ -25,7 +25,7 @@ use Rattle.machine.specs.Unwinding.{Unwound, unwind}
 use Rattle.machine.specs.Waits.{Performed}
 use Rattle.machine.specs.declared.state.Leaving.{Leaving}
 use Rattle.machine.specs.declared.state.Todo.{Todo}
-use Rattle.machine_laws.specs.Reached.{state_of}
+use Rattle.machine_trace_laws.specs.Reached.{state_of_next}
 use Rattle.hub_requests.specs.Performing.{performed_of}
 use Rattle.hub_requests.specs.declared.performed.Performed.{Performed as Came}
 use Rattle.hub_engine.specs.Ready.{AreDeclared}
@@ -74,46 +74,46 @@ alike-phase g p s = record { scenario = refl; functions = phase-functions s.gree
 
 -- what takes an input keeps it so
 abbrev Keeps : Landing → Type 0
-Keeps up = (g : ℕ) (o : Outcome) (s : State) → IsAlike s (state_of (up g o s))
+Keeps up = (g : ℕ) (o : Outcome) (s : State) → IsAlike s (state_of_next (up g o s))
 
 alike-ended : (g : ℕ) (o : Outcome) (s : State) → IsAlike s (ended g o s)
 alike-ended g o s = record { scenario = refl; functions = phase-functions s.greenlets g (Phase.Done o) }
 
-alike-after_end : (up : Landing) → Keeps up → (g : ℕ) (o : Outcome) (s : State) → IsAlike s (state_of (after_end up g o s))
+alike-after_end : (up : Landing) → Keeps up → (g : ℕ) (o : Outcome) (s : State) → IsAlike s (state_of_next (after_end up g o s))
 alike-after_end up keeps g o s = by (greenlet g s).raw (g == 0)
   where
     end : IsAlike s (ended g (kept o) s)
     end = alike-ended g (kept o) s
 
-    by : (raw main : Bool) → IsAlike s (state_of (if raw then up (greenlet g s).parent (kept o) (ended g (kept o) s)
+    by : (raw main : Bool) → IsAlike s (state_of_next (if raw then up (greenlet g s).parent (kept o) (ended g (kept o) s)
         else (if main then Next.Over (stop_of (kept o)) (ended g (kept o) s) else Next.Resting (ended g (kept o) s))))
     by true main = alike-twice s (ended g (kept o) s) _ end (keeps (greenlet g s).parent (kept o) (ended g (kept o) s))
     by false true = end
     by false false = end
 
-alike-goes_on : (up : Landing) → Keeps up → (g : ℕ) (u : Unwound) (s : State) → IsAlike s (state_of (goes_on up g u s))
+alike-goes_on : (up : Landing) → Keeps up → (g : ℕ) (u : Unwound) (s : State) → IsAlike s (state_of_next (goes_on up g u s))
 alike-goes_on up keeps g (Unwound.Runs left locals todo) s =
     record { scenario = refl; functions = phase-functions s.greenlets g (Phase.Live (record { locals = locals; todo = todo; gives = None })) }
 alike-goes_on up keeps g (Unwound.Out left how) s =
     let m = alike-after_end up keeps g (outcome_of_leaving how) (drop_items (is_timeout_of g left) s) in
     record { scenario = m.scenario; functions = m.functions }
 
-alike-starts : (up : Landing) → Keeps up → (g : ℕ) (args : List Value) (s : State) → IsAlike s (state_of (starts up g args s))
+alike-starts : (up : Landing) → Keeps up → (g : ℕ) (args : List Value) (s : State) → IsAlike s (state_of_next (starts up g args s))
 alike-starts up keeps g args s =
     let f = function_of (greenlet g s).function s in
     let m = alike-goes_on up keeps g (unwind (Todo.Statements f.body ∷ []) [] Leaving.Normally (named f.parameters args)) (say (Line.Start g f.name) s) in
     record { scenario = m.scenario; functions = m.functions }
 
-alike-resumes : (up : Landing) → Keeps up → (g : ℕ) (frame : Frame) (o : Outcome) (s : State) → IsAlike s (state_of (resumes up g frame o s))
+alike-resumes : (up : Landing) → Keeps up → (g : ℕ) (frame : Frame) (o : Outcome) (s : State) → IsAlike s (state_of_next (resumes up g frame o s))
 alike-resumes up keeps g frame o s = alike-goes_on up keeps g (unwind frame.todo [] (leaving_of o) (given frame o)) s
 
 alike-said : (line : Line) (s t : State) → IsAlike (say line s) t → IsAlike s t
 alike-said line s t m = record { scenario = m.scenario; functions = m.functions }
 
-alike-lands_once : (up : Landing) → Keeps up → (g : ℕ) (input : Outcome) (s : State) → IsAlike s (state_of (lands_once up g input s))
+alike-lands_once : (up : Landing) → Keeps up → (g : ℕ) (input : Outcome) (s : State) → IsAlike s (state_of_next (lands_once up g input s))
 alike-lands_once up keeps g input s = by (greenlet g s).phase input
   where
-    by : (p : Phase) (o : Outcome) → IsAlike s (state_of (elim p [
+    by : (p : Phase) (o : Outcome) → IsAlike s (state_of_next (elim p [
       | Phase.Done k ↦ up (greenlet g s).parent (kept o) s
       | Phase.Live frame ↦ resumes up g frame o (say (Line.Into g o) s)
       | Phase.New args ↦ elim o [
@@ -145,15 +145,15 @@ put_down g o s = Next.Resting s
 alike-put_down : Keeps put_down
 alike-put_down g o s = record { scenario = refl; functions = refl }
 
-alike-hopped : (hop : Hop) (t : State) → IsAlike t (state_of (hopped put_down hop t))
+alike-hopped : (hop : Hop) (t : State) → IsAlike t (state_of_next (hopped put_down hop t))
 alike-hopped (Hop.At (Stand.Going g body)) t = alike-phase g (Phase.Live body) t
 alike-hopped (Hop.At Stand.Resting) t = record { scenario = refl; functions = refl }
 alike-hopped (Hop.At (Stand.Over cause)) t = record { scenario = refl; functions = refl }
 alike-hopped (Hop.Up g o) t = record { scenario = refl; functions = refl }
 
-hop-declared : (next : Next) (hop : Hop) (s t : State) → IsAlike s (state_of next) → next ≡ hopped put_down hop t → AreDeclared s → AreDeclared t
+hop-declared : (next : Next) (hop : Hop) (s t : State) → IsAlike s (state_of_next next) → next ≡ hopped put_down hop t → AreDeclared s → AreDeclared t
 hop-declared next hop s t a e h =
-    let same : IsAlike s (state_of (hopped put_down hop t)) = subst (λ (x : Next). IsAlike s (state_of x)) e a in
+    let same : IsAlike s (state_of_next (hopped put_down hop t)) = subst (λ (x : Next). IsAlike s (state_of_next x)) e a in
     declared_alike s t (alike-twice s _ t same (alike-back t _ (alike-hopped hop t))) h
 
 pub declared_started : (g : ℕ) (args : List Value) (s t : State) (hop : Hop) → AreDeclared s → ((up : Landing) → starts up g args s ≡ hopped up hop t) → AreDeclared t
@@ -165,7 +165,7 @@ declared_resumed g frame o s t hop h e = hop-declared (resumes put_down g frame 
 pub declared_landed : (g : ℕ) (o : Outcome) (s t : State) (hop : Hop) → AreDeclared s → ((up : Landing) → lands_once up g o s ≡ hopped up hop t) → AreDeclared t
 declared_landed g o s t hop h e = hop-declared (lands_once put_down g o s) hop s t (alike-lands_once put_down alike-put_down g o s) (e put_down) h
 
-alike-goes_to : (g : ℕ) (place : Place) (s : State) → IsAlike s (state_of (goes_to put_down g place s))
+alike-goes_to : (g : ℕ) (place : Place) (s : State) → IsAlike s (state_of_next (goes_to put_down g place s))
 alike-goes_to g (Place.AtMove left body) s = record { scenario = refl; functions = phase-functions s.greenlets g (Phase.Live body) }
 alike-goes_to g (Place.AtEnd left o) s =
     let m = alike-after_end put_down alike-put_down g o (drop_items (is_timeout_of g left) s) in
@@ -229,7 +229,7 @@ state_after (Performed.Parks s) = s
 state_after (Performed.Lands g o s) = s
 state_after (Performed.Stops cause s) = s
 
-alike-follows : (g : ℕ) (p : Performed) → IsAlike (state_after p) (state_of (follows g p))
+alike-follows : (g : ℕ) (p : Performed) → IsAlike (state_after p) (state_of_next (follows g p))
 alike-follows g (Performed.Answers o s) =
     alike-settled s _ (alike-resumes lands alike-lands g (frame_of (greenlet g (settle s)).phase) o (settle s))
 alike-follows g (Performed.Parks s) = record { scenario = refl; functions = refl }
@@ -243,8 +243,8 @@ after-performed (Came.Lands g o) t = refl
 after-performed (Came.Stops cause) t = refl
 
 -- before the hub goes on after a request it is so where it is so after that
-pub declared_followed : (g : ℕ) (p : Performed) (came : Came) (t : State) → AreDeclared (state_of (follows g p)) → p ≡ performed_of came t → AreDeclared t
+pub declared_followed : (g : ℕ) (p : Performed) (came : Came) (t : State) → AreDeclared (state_of_next (follows g p)) → p ≡ performed_of came t → AreDeclared t
 declared_followed g p came t h e =
-    let at : AreDeclared (state_of (follows g (performed_of came t))) = subst (λ (x : Performed). AreDeclared (state_of (follows g x))) e h in
+    let at : AreDeclared (state_of_next (follows g (performed_of came t))) = subst (λ (x : Performed). AreDeclared (state_of_next (follows g x))) e h in
     subst AreDeclared (after-performed came t)
     (declared_alike _ (state_after (performed_of came t)) (alike-back (state_after (performed_of came t)) _ (alike-follows g (performed_of came t))) at)

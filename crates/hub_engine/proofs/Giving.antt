@@ -9,7 +9,7 @@ use Rattle.gv_values.specs.declared.job.Answer.{Answer}
 use Rattle.world_rules.specs.declared.question.LogEntry.{LogEntry}
 use Rattle.world_rules.specs.declared.question.Question.{Question}
 use Rattle.world_rules.specs.Legal.{AreLegal, IsLegal, answers_of, posted, posts_of}
-use Rattle.world.specs.Worlds.{GoesOn, Meaning, Stores}
+use Rattle.world.specs.Worlds.{WorldGoesOn, WorldMeaning, Stores}
 use Rattle.world.proofs.LegalLogs.{legal_append}
 use Rattle.machine.specs.declared.state.Post.{Post}
 use Rattle.machine.specs.Run.{logged}
@@ -41,7 +41,7 @@ answers_of_logged (p ∷ posts) = answers_of_logged posts
 -- ---- what was done with a world
 
 -- nothing of what stays has changed
-pub same_rest : (m : Meaning) → GoesOn m m
+pub same_rest : (m : WorldMeaning) → WorldGoesOn m m
 same_rest m = record { workers = refl; tick = refl; listed = refl; runs = refl; reference = refl }
 
 pub done_nothing : (v : Outside) → HasDone v v []
@@ -133,7 +133,7 @@ given_flushed v w waits written handed lines entries g same more = record {
 }
 
 -- some posts were made, and nothing was written
-pub part_posted : (waits : Bool) (written handed : Option (List ℕ)) (m n : Meaning) (stood stands : List LogEntry → Type 0) (lines : List Line) (posts : List Post) →
+pub part_posted : (waits : Bool) (written handed : Option (List ℕ)) (m n : WorldMeaning) (stood stands : List LogEntry → Type 0) (lines : List Line) (posts : List Post) →
     HasPostedPart (outside waits None None m stood) (outside waits None None n stands) posts → HasGivenPart (outside waits written handed m stood) (outside waits written handed n stands) lines posts
 part_posted waits written handed m n stood stands lines posts h = record {
   text = tried-nothing written lines;

@@ -8,7 +8,7 @@ use Rattle.scenario_grammar.specs.Spells.{is_main}
 use Rattle.scenario_tree.specs.declared.tree.Function.{Function}
 use Rattle.scenario_tree.specs.declared.tree.Scenario.{Scenario}
 use Rattle.machine.specs.Expressions.{function_number}
-use Rattle.machine_texts.specs.Texts.{HasMain}
+use Rattle.machine_well_formed.specs.Texts.{HasMain}
 
 turned : (xs ys : List ℕ) → pointwise nat_eq xs ys ≡ pointwise nat_eq ys xs
 turned [] [] = refl

@@ -33,7 +33,7 @@ use Rattle.hub_state.specs.Sights.{look_of, outcome_seen}
 use Rattle.hub_engine.specs.Asking.{IsDeclaredAfter, does_came, fits_came}
 use Rattle.hub_engine.specs.Ready.{AreDeclared, IsReadyToMove}
 use Rattle.hub_engine.proofs.Readily.{declared_ready, going_fits, going_sound, ready_move}
-use Rattle.machine_laws.specs.Reached.{state_of}
+use Rattle.machine_trace_laws.specs.Reached.{state_of_next}
 use Rattle.machine_reached.specs.Meant.{fits_did}
 use Rattle.machine_soundness.specs.Going.{next_did}
 use Rattle.scenario_tree.specs.declared.tree.Scenario.{Scenario}
@@ -169,9 +169,9 @@ asks_blind g before body request s v at h =
 
 -- where what is asked is done, functions are known
 pub asks_declared : (g : ℕ) (request : Request) (body : Frame) (s : State) → IsDeclaredAfter g (Came.Asks request body) s →
-    AreDeclared (state_of (follows g (performs request g (with_phase g (Phase.Live body) s))))
+    AreDeclared (state_of_next (follows g (performs request g (with_phase g (Phase.Live body) s))))
 asks_declared g request body s m =
-    subst (λ (y : State). AreDeclared (state_of (follows g (performs request g y)))) (with_phase_twice g (Phase.Live m.before) (Phase.Live body) s) m.here
+    subst (λ (y : State). AreDeclared (state_of_next (follows g (performs request g y)))) (with_phase_twice g (Phase.Live m.before) (Phase.Live body) s) m.here
 
 -- ---- the move
 
@@ -226,7 +226,7 @@ pub moves_declared : (g : ℕ) (body : Frame) (s t : State) (came : Came) → Is
 moves_declared g body s t came h e f =
     record {
       before = body;
-      here = subst (λ (x : Next). AreDeclared (state_of x)) (move_came g body s t came (going_sound g _ h).1.live e f) (declared_ready _ (ready_move g _ h));
+      here = subst (λ (x : Next). AreDeclared (state_of_next x)) (move_came g body s t came (going_sound g _ h).1.live e f) (declared_ready _ (ready_move g _ h));
     }
 
 did-fits : (c : Scenario) (locals : List Local) (did : Did) → fits_did c did ≡ true → fits_came c (came_by locals did) ≡ true

@@ -8,7 +8,7 @@ use Rattle.gv_values.specs.declared.job.Job.{Job}
 use Rattle.world_rules.specs.declared.question.LogEntry.{LogEntry}
 use Rattle.world_rules.specs.declared.question.PostedJob.{PostedJob}
 use Rattle.world_rules.specs.Legal.{is_posted, posted}
-use Rattle.world.specs.Worlds.{Meaning, Posts}
+use Rattle.world.specs.Worlds.{WorldMeaning, Posts}
 use Rattle.machine.specs.declared.state.JobState.{JobState}
 use Rattle.machine.specs.declared.state.Post.{Post}
 use Rattle.machine.specs.Run.{logged}
@@ -90,15 +90,15 @@ posted_more u v w posts i d h a m f =
 -- what a world means is the same after a refused call
 pub done_refused : (u v w : Outside) (log : List LogEntry) → w.means ≡ v.means → ((l : List LogEntry) → v.stands l → w.stands l) → HasDone u v log → HasDone u w log
 done_refused u v w log e f d = record {
-  posts = ap (λ (m : Meaning). m.posts) e ∙ d.posts;
-  answers = ap (λ (m : Meaning). m.answers) e ∙ d.answers;
+  posts = ap (λ (m : WorldMeaning). m.posts) e ∙ d.posts;
+  answers = ap (λ (m : WorldMeaning). m.answers) e ∙ d.answers;
   legal = d.legal;
   rest = record {
-    workers = ap (λ (m : Meaning). m.workers) e ∙ d.rest.workers;
-    tick = ap (λ (m : Meaning). m.tick) e ∙ d.rest.tick;
-    listed = ap (λ (m : Meaning). m.listed) e ∙ d.rest.listed;
-    runs = ap (λ (m : Meaning). m.runs) e ∙ d.rest.runs;
-    reference = ap (λ (m : Meaning). m.reference) e ∙ d.rest.reference;
+    workers = ap (λ (m : WorldMeaning). m.workers) e ∙ d.rest.workers;
+    tick = ap (λ (m : WorldMeaning). m.tick) e ∙ d.rest.tick;
+    listed = ap (λ (m : WorldMeaning). m.listed) e ∙ d.rest.listed;
+    runs = ap (λ (m : WorldMeaning). m.runs) e ∙ d.rest.runs;
+    reference = ap (λ (m : WorldMeaning). m.reference) e ∙ d.rest.reference;
   };
   log = λ before h. f (before ++ log) (d.log before h);
 }

@@ -22,11 +22,11 @@ use Rattle.machine.specs.Run.{first_state, least_below, silent}
 use Rattle.machine_soundness.specs.Going.{IsGoing, IsKept, IsSoundAt, next_did}
 use Rattle.machine_soundness.proofs.Deliveries.{begins-soundly, deliver-soundly, interrupts-soundly, take_answer-kept}
 use Rattle.machine_soundness.proofs.Performs.{move-soundly}
-use Rattle.machine_texts.specs.Texts.{HasMain, IsKnown, is_function}
-use Rattle.machine_texts.proofs.WellFormed.{well-formed-fits}
+use Rattle.machine_well_formed.specs.Texts.{HasMain, IsKnown, is_function}
+use Rattle.machine_well_formed.proofs.WellFormed.{well-formed-fits}
 use Rattle.machine_histories.proofs.Goings.{function-known}
-use Rattle.machine_laws.specs.Reached.{Reached, state_of}
-use Rattle.machine_laws.proofs.Runs.{least-found}
+use Rattle.machine_trace_laws.specs.Reached.{Reached, state_of_next}
+use Rattle.machine_trace_laws.proofs.Runs.{least-found}
 use Rattle.machine_reached.specs.Meant.{IsMeantText, fits_did}
 use Rattle.machine_reached.proofs.Bounded.{text-meant}
 use Rattle.hub_engine.specs.Ready.{AreDeclared, IsReady, IsReadyAt, IsReadyToMove, MayRun}
@@ -40,21 +40,21 @@ meant : (c : Scenario) → IsWellFormed c → IsMeantText c
 meant c w = text-meant c (well-formed-fits c w)
 
 -- what the text names is there
-pub known_ready : (next : Next) → IsReadyAt next → IsKnown (state_of next).scenario (state_of next).greenlets (state_of next).items (state_of next).objects
+pub known_ready : (next : Next) → IsReadyAt next → IsKnown (state_of_next next).scenario (state_of_next next).greenlets (state_of_next next).items (state_of_next next).objects
 known_ready next h =
     let m = meant h.scenario h.well_formed in
     m.known next h.reached (subst HasMain (sym (m.same next h.reached)) h.main)
 
-main-here : (next : Next) → IsReadyAt next → HasMain (state_of next).scenario
+main-here : (next : Next) → IsReadyAt next → HasMain (state_of_next next).scenario
 main-here next h = subst HasMain (sym ((meant h.scenario h.well_formed).same next h.reached)) h.main
 
 pub is_function_there : (c : Scenario) (n : ℕ) → is_function c n ≡ true → IsFunction c n
 is_function_there c n e = grind (arith, nat_tests, e)
 
 -- each greenlet runs a function that there is
-pub declared_ready : (next : Next) → IsReadyAt next → AreDeclared (state_of next)
+pub declared_ready : (next : Next) → IsReadyAt next → AreDeclared (state_of_next next)
 declared_ready next h =
-    let s = state_of next in
+    let s = state_of_next next in
     record { each = λ g. is_function_there s.scenario (greenlet g s).function (function-known s.scenario g s.greenlets (main-here next h) (known_ready next h).functions) }
 
 -- ---- a move

@@ -22,7 +22,7 @@ use Rattle.machine.specs.Questions.{block_line, question, take_answer}
 use Rattle.machine.specs.Run.{GoingOn, Passed, Ran, Source, blocked_at, after_exit, after_question, after_start, after_turn, asks, first_state, logged, loop_exit, run, run_turns, runs, silent, stopped, turn}
 use Rattle.machine.specs.State.{State}
 use Rattle.hub_engine.specs.declared.broken.Broken.{Broken}
-use Rattle.hub_engine.specs.declared.run.End.{End as Ended}
+use Rattle.hub_engine.specs.declared.run.EngineEnd.{EngineEnd as Ended}
 use Rattle.hub_engine.specs.declared.stand.Came.{Came}
 use Rattle.hub_engine.specs.declared.stand.Stand.{Stand}
 use Rattle.hub_engine.specs.Ends.{end_of}

@@ -7,7 +7,7 @@ use Rattle.gv_values.specs.declared.job.Answer.{Answer}
 use Rattle.world_rules.specs.declared.question.PostedJob.{PostedJob}
 use Rattle.world_rules.specs.declared.question.Question.{Question}
 use Rattle.world_rules.specs.Legal.{IsLegal, MayAsk}
-use Rattle.world.specs.Worlds.{Meaning, Stores}
+use Rattle.world.specs.Worlds.{WorldMeaning, Stores}
 use Rattle.scenario_tree.specs.declared.tree.Scenario.{Scenario}
 use Rattle.trace_text.specs.declared.line.Line.{Line}
 use Rattle.machine.specs.declared.items.Item.{Item}
@@ -59,16 +59,16 @@ runs_given v w posts d e = d.rest.runs ∙ e
 
 -- ---- what may be posted
 
-pub postable_at : (m : Meaning) (at : Stand) (s : State) → IsTiedAt m (next_at at s) → ArePostable m.posts s.posts
+pub postable_at : (m : WorldMeaning) (at : Stand) (s : State) → IsTiedAt m (next_at at s) → ArePostable m.posts s.posts
 postable_at m at s t = standing_postable m.posts m.answers at s t.knows
 
-pub runs_at : (m : Meaning) (at : Stand) (s : State) → IsTiedAt m (next_at at s) → m.runs ≡ true
+pub runs_at : (m : WorldMeaning) (at : Stand) (s : State) → IsTiedAt m (next_at at s) → m.runs ≡ true
 runs_at m at s t = t.runs
 
 -- ---- a move
 
 -- the step under way was given out, and the greenlet is to move
-pub to_move : (m : Meaning) (at : Stand) (g : ℕ) (body : Frame) (s t : State) → at ≡ Stand.Going g body → IsTiedAt m (next_at at s) → t ≡ silent s →
+pub to_move : (m : WorldMeaning) (at : Stand) (g : ℕ) (body : Frame) (s t : State) → at ≡ Stand.Going g body → IsTiedAt m (next_at at s) → t ≡ silent s →
     IsReadyToMove g (with_phase g (Phase.Live body) t)
 to_move m at g body s t k h e =
     let own : IsTiedAt m (Next.Going g (with_phase g (Phase.Live body) s)) = subst (λ (x : Stand). IsTiedAt m (next_at x s)) k h in
@@ -100,23 +100,23 @@ tied_at_rest v w at s t k h d e =
 
 -- ---- a delivery
 
-pub tied_delivered : (m : Meaning) (mark : ℕ) (s t : State) (at : Stand) → IsSome (least_below mark s.items) → IsTied m s → ((i : Item) → least_below mark s.items ≡ Some i → deliver i s ≡ next_at at t) →
+pub tied_delivered : (m : WorldMeaning) (mark : ℕ) (s t : State) (at : Stand) → IsSome (least_below mark s.items) → IsTied m s → ((i : Item) → least_below mark s.items ≡ Some i → deliver i s ≡ next_at at t) →
     IsReadyAt (next_at at t) → IsTiedAt m (next_at at t)
 tied_delivered m mark s t at w h f r =
     let i = some_item (least_below mark s.items) w in
     record { ready = r; runs = h.runs; knows = subst (StandsKnowing m.posts m.answers) (f i.0 i.1) (delivers-know m.posts m.answers i.0 s h.knows) }
 
-pub tied_turned : (m : Meaning) (n : ℕ) (s t : State) → t ≡ record s { turns = n } → IsTied m s → IsTied m t
+pub tied_turned : (m : WorldMeaning) (n : ℕ) (s t : State) → t ≡ record s { turns = n } → IsTied m s → IsTied m t
 tied_turned m n s t e h = subst (IsTied m) (sym e) (record {
   ready = ready_turned n s h.ready;
   runs = h.runs;
   knows = record { posts_are = h.knows.posts_are; arrived = h.knows.arrived; no_other = h.knows.no_other };
 })
 
-pub tied_after : (came : Came) (m : Meaning) (s : State) → came ≡ Came.ToRest → IsTiedAfter came m s → IsTied m s
+pub tied_after : (came : Came) (m : WorldMeaning) (s : State) → came ≡ Came.ToRest → IsTiedAfter came m s → IsTied m s
 tied_after came m s e h = subst (λ (x : Came). IsTiedAfter x m s) e h
 
-pub none_posted : (m : Meaning) (s : State) → IsTied m s → s.posts ≡ []
+pub none_posted : (m : WorldMeaning) (s : State) → IsTied m s → s.posts ≡ []
 none_posted m s h = ap (λ (x : State). x.posts) h.ready.silent
 
 -- ---- a block line
@@ -134,14 +134,14 @@ question_said true line s = refl
 question_said false line s = refl
 
 -- the block line is to be given out
-pub tied_blocked : (m : Meaning) (s t : State) → IsTied m s → t ≡ block_line s → IsTiedAt m (next_at Stand.Resting t)
+pub tied_blocked : (m : WorldMeaning) (s t : State) → IsTied m s → t ≡ block_line s → IsTiedAt m (next_at Stand.Resting t)
 tied_blocked m s t h e = subst (λ (x : State). IsTiedAt m (Next.Resting x)) (sym e) (record {
   ready = ready_blocked s h.ready;
   runs = h.runs;
   knows = knows_said m.posts m.answers (any_numbered s.items) _ s h.knows;
 })
 
-pub posts_blocked : (m : Meaning) (s : State) → IsTied m s → (block_line s).posts ≡ []
+pub posts_blocked : (m : WorldMeaning) (s : State) → IsTied m s → (block_line s).posts ≡ []
 posts_blocked m s h = posts_said (any_numbered s.items) _ s ∙ none_posted m s h
 
 pub asked_blocked : (q : Question) (s t u : State) → question s ≡ Some q → t ≡ block_line s → u ≡ silent t → question u ≡ Some q
@@ -149,10 +149,10 @@ asked_blocked q s t u e f g = ap question (g ∙ ap silent f) ∙ question_said 
 
 -- ---- LoopExit
 
-pub declared_blocked : (m : Meaning) (s t : State) → IsTied m s → t ≡ block_line s → AreDeclared t
+pub declared_blocked : (m : WorldMeaning) (s t : State) → IsTied m s → t ≡ block_line s → AreDeclared t
 declared_blocked m s t h e = subst AreDeclared (sym e) (declared_ready (Next.Resting (block_line s)) (ready_blocked s h.ready))
 
-pub tied_exit : (m : Meaning) (s t u : State) (at : Stand) → IsTied m s → t ≡ block_line s → interrupts 0 FaultKind.LoopExit t ≡ next_at at u → IsTiedAt m (next_at at u)
+pub tied_exit : (m : WorldMeaning) (s t u : State) (at : Stand) → IsTied m s → t ≡ block_line s → interrupts 0 FaultKind.LoopExit t ≡ next_at at u → IsTiedAt m (next_at at u)
 tied_exit m s t u at h e f =
     let here : interrupts 0 FaultKind.LoopExit (block_line s) ≡ next_at at u = ap (interrupts 0 FaultKind.LoopExit) (sym e) ∙ f in
     record {
@@ -163,18 +163,18 @@ tied_exit m s t u at h e f =
 
 -- ---- an answer
 
-pub may_be_asked : (m : Meaning) (q : Question) (s : State) → IsTied m s → question s ≡ Some q → MayAsk m.posts m.answers q
+pub may_be_asked : (m : WorldMeaning) (q : Question) (s : State) → IsTied m s → question s ≡ Some q → MayAsk m.posts m.answers q
 may_be_asked m q s h e = may-ask m.posts m.answers q s (none_posted m s h) h.knows e
 
 -- an answer posts nothing
-pub posts_answered : (m : Meaning) (a : Answer) (s : State) → IsTied m s → (take_answer a s).posts ≡ []
+pub posts_answered : (m : WorldMeaning) (a : Answer) (s : State) → IsTied m s → (take_answer a s).posts ≡ []
 posts_answered m a s h = posts-answered a s ∙ none_posted m s h
 
-pub posts_taken : (m : Meaning) (a : Answer) (s t : State) → IsTied m s → t ≡ take_answer a s → t.posts ≡ []
+pub posts_taken : (m : WorldMeaning) (a : Answer) (s t : State) → IsTied m s → t ≡ take_answer a s → t.posts ≡ []
 posts_taken m a s t h e = ap (λ (x : State). x.posts) e ∙ posts_answered m a s h
 
 -- the answer is to be given out
-pub tied_answered : (m n : Meaning) (q : Question) (a : Answer) (s t : State) → IsTied m s → IsLegal m.posts m.answers q a → Stores m n a → t ≡ take_answer a s →
+pub tied_answered : (m n : WorldMeaning) (q : Question) (a : Answer) (s t : State) → IsTied m s → IsLegal m.posts m.answers q a → Stores m n a → t ≡ take_answer a s →
     IsTiedAt n (next_at Stand.Resting t)
 tied_answered m n q a s t h legal stored e = subst (λ (x : State). IsTiedAt n (Next.Resting x)) (sym e) (record {
   ready = ready_answered a s h.ready;
@@ -188,7 +188,7 @@ tied_answered m n q a s t h legal stored e = subst (λ (x : State). IsTiedAt n (
 pub declared_started : (c : Scenario) (s : State) → MayRun c → s ≡ first_state c → AreDeclared s
 declared_started c s may e = subst AreDeclared (sym e) (declared_first c may.main)
 
-pub tied_started : (m : Meaning) (c : Scenario) (s t : State) (at : Stand) → MayRun c → m.runs ≡ true → m.posts ≡ [] → m.answers ≡ [] → s ≡ first_state c →
+pub tied_started : (m : WorldMeaning) (c : Scenario) (s t : State) (at : Stand) → MayRun c → m.runs ≡ true → m.posts ≡ [] → m.answers ≡ [] → s ≡ first_state c →
     starts lands 0 [] s ≡ next_at at t → IsTiedAt m (next_at at t)
 tied_started m c s t at may runs posts answers e f =
     let here : starts lands 0 [] (first_state c) ≡ next_at at t = ap (starts lands 0 []) (sym e) ∙ f in

@@ -9,8 +9,8 @@ use Rattle.machine.specs.Moves.{enters}
 use Rattle.machine.specs.Requests.{follows, performs}
 use Rattle.machine.specs.Settle.{settle}
 use Rattle.machine.specs.State.{State}
-use Rattle.machine_laws.specs.Reached.{state_of}
-use Rattle.machine_texts.specs.Texts.{fits_request}
+use Rattle.machine_trace_laws.specs.Reached.{state_of_next}
+use Rattle.machine_well_formed.specs.Texts.{fits_request}
 use Rattle.body_frames.specs.Places.{Came}
 use Rattle.hub_engine.specs.Ready.{AreDeclared}
 use Rattle.hub_engine.specs.Stands.{goes_to}
@@ -29,4 +29,4 @@ fits_came c came = true
 -- where the greenlet had this body before the move, each greenlet runs a function that there is after it
 pub record IsDeclaredAfter (g : ℕ) (came : Came) (s : State) : Type 0 where
   pub before : Frame
-  pub here : AreDeclared (state_of (does_came g came (with_phase g (Phase.Live before) s)))
+  pub here : AreDeclared (state_of_next (does_came g came (with_phase g (Phase.Live before) s)))

@@ -7,7 +7,7 @@ use Rattle.gv_io.specs.Streams.{appended, AppendsPrefix, Extends}
 use Rattle.world_rules.specs.declared.question.LogEntry.{LogEntry}
 use Rattle.world_rules.specs.declared.question.PostedJob.{PostedJob}
 use Rattle.world_rules.specs.Legal.{AreLegal, answers_of, is_posted, posted, posts_of}
-use Rattle.world.specs.Worlds.{GoesOn, Meaning}
+use Rattle.world.specs.Worlds.{WorldGoesOn, WorldMeaning}
 use Rattle.machine.specs.declared.state.Post.{Post}
 use Rattle.machine.specs.Run.{logged}
 use Rattle.hub_engine.specs.declared.broken.Broken.{Broken}
@@ -17,14 +17,14 @@ use Rattle.hub_engine.specs.declared.broken.Broken.{Broken}
 pub record Outside : Type 1 where
   pub written : Option (List ℕ)
   pub out : Option (List ℕ)
-  pub means : Meaning
+  pub means : WorldMeaning
   pub stands : List LogEntry → Type 0
 
 -- what counts as out: what the sink handed on, where the world may wait; else what it was written
 abbrev pub out_of : Bool → Option (List ℕ) → Option (List ℕ) → Option (List ℕ)
 out_of waits written handed = if waits then handed else written
 
-abbrev pub outside : Bool → Option (List ℕ) → Option (List ℕ) → Meaning → (List LogEntry → Type 0) → Outside
+abbrev pub outside : Bool → Option (List ℕ) → Option (List ℕ) → WorldMeaning → (List LogEntry → Type 0) → Outside
 outside waits written handed means stands = record { written = written; out = out_of waits written handed; means = means; stands = stands }
 
 -- each of the posts has a number that was not posted before
@@ -33,11 +33,11 @@ ArePostable before [] = ⊤
 ArePostable before (p ∷ posts) = (is_posted p.number before ≡ false) × ArePostable (before ++ posted p.number p.job ∷ []) posts
 
 -- this was done with a world, and each answer was legal; what its rule rests on is as before
-pub record DoneWith (v w : Meaning) (old new : List LogEntry → Type 0) (entries : List LogEntry) : Type 0 where
+pub record DoneWith (v w : WorldMeaning) (old new : List LogEntry → Type 0) (entries : List LogEntry) : Type 0 where
   pub posts : w.posts ≡ v.posts ++ posts_of entries
   pub answers : w.answers ≡ v.answers ++ answers_of entries
   pub legal : AreLegal v.posts v.answers entries
-  pub rest : GoesOn v w
+  pub rest : WorldGoesOn v w
   pub log : (before : List LogEntry) → old before → new (before ++ entries)
 
 -- the same, of the world outside

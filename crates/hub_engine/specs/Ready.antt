@@ -7,9 +7,9 @@ use Rattle.machine.specs.State.{State}
 use Rattle.machine.specs.Greenlets.{greenlet}
 use Rattle.machine.specs.Landing.{Next}
 use Rattle.machine.specs.Run.{first_state, silent}
-use Rattle.machine_laws.specs.Reached.{Reached}
+use Rattle.machine_trace_laws.specs.Reached.{Reached}
 use Rattle.machine_soundness.specs.Going.{IsSoundAt}
-use Rattle.machine_texts.specs.Texts.{HasMain}
+use Rattle.machine_well_formed.specs.Texts.{HasMain}
 
 -- the hub comes to stand so in a run of a well-formed scenario that has a main
 pub record IsReadyAt (next : Next) : Type 0 where

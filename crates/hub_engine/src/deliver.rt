@@ -8,8 +8,8 @@ ghost use Rattle.machine.specs.Landing.{starts, lands};
 ghost use Rattle.machine.specs.Greenlets.{greenlet};
 ghost use Rattle.machine.specs.Deliveries.{called, calls, deliver, delivers, interrupts, arguments, late, waiting_of, without_wait};
 ghost use Rattle.machine.specs.Run.{least_below};
-ghost use Rattle.machine_laws.specs.Reached.{state_of};
-ghost use Rattle.machine_texts.specs.Texts.{fits_item, fits_link};
+ghost use Rattle.machine_trace_laws.specs.Reached.{state_of_next};
+ghost use Rattle.machine_well_formed.specs.Texts.{fits_item, fits_link};
 ghost use Rattle.hub_items.specs.Short.{DeliversShort, IsShort};
 ghost use Rattle.hub_requests.specs.Making.{MayMake};
 ghost use Rattle.hub_requests.specs.Naming.{IsNamed};
@@ -73,7 +73,7 @@ fn wake_greenlet(
     requires may_make { MayMake g (without_wait g hub.old) }
     requires named { IsNamed hub.old.scenario waiting }
     requires short { IsShort waiting }
-    requires after { AreDeclared (state_of (delivers since (delivery.Wake g waiting) hub.old)) }
+    requires after { AreDeclared (state_of_next (delivers since (delivery.Wake g waiting) hub.old)) }
     ensures { IfOk result (λ at. delivers since (delivery.Wake g waiting) hub.old ≡ next_at at hub.new) }
 {
     hub.say(Line::Resume {
@@ -201,7 +201,7 @@ fn deliver_content(
     requires fits { fits_item hub.old.scenario delivery ≡ true }
     requires short { DeliversShort delivery }
     requires declared { AreDeclared hub.old }
-    requires after { AreDeclared (state_of (delivers since delivery hub.old)) }
+    requires after { AreDeclared (state_of_next (delivers since delivery hub.old)) }
     ensures { IfOk result (λ at. delivers since delivery hub.old ≡ next_at at hub.new) }
 {
     match delivery {

@@ -17,4 +17,4 @@ mod run;
 mod stand;
 mod turns;
 
-pub use run::{Budgets, End, Engine, Ran};
+pub use run::{Budgets, Engine, EngineEnd, Ran};

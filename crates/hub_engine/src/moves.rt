@@ -9,8 +9,8 @@ ghost use Rattle.machine.specs.Greenlets.{with_phase};
 ghost use Rattle.machine.specs.Requests.{follows, performs};
 ghost use Rattle.machine.specs.Moves.{enters, timeout_item};
 ghost use Rattle.machine.specs.Soundness.{Claim, is_unclaimed};
-ghost use Rattle.machine_laws.specs.Reached.{state_of};
-ghost use Rattle.machine_texts.specs.Texts.{fits_request};
+ghost use Rattle.machine_trace_laws.specs.Reached.{state_of_next};
+ghost use Rattle.machine_well_formed.specs.Texts.{fits_request};
 ghost use Rattle.hub_state.specs.Sights.{look_of};
 ghost use Rattle.hub_requests.specs.Performing.{performed_of};
 ghost use Rattle.hub_engine.specs.Asking.{IsDeclaredAfter, does_came, fits_came};
@@ -99,7 +99,7 @@ fn serve_request(
 ) -> Result<Stand, AllocError>
     requires may_move { MayMove g hub.old }
     requires fits { fits_request hub.old.scenario request ≡ true }
-    requires after { AreDeclared (state_of (follows g (performs request g (with_phase g (Phase.Live body) hub.old)))) }
+    requires after { AreDeclared (state_of_next (follows g (performs request g (with_phase g (Phase.Live body) hub.old)))) }
     ensures { IfOk result (λ at. follows g (performs request g (with_phase g (Phase.Live body) hub.old)) ≡ next_at at hub.new) }
 {
     hub.set_stage(g, Stage::Parked(body));

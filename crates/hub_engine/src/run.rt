@@ -7,21 +7,21 @@ ghost use Rattle.machine.specs.Quiet.{is_quiet};
 ghost use Rattle.machine.specs.Blocked.{blocked_states};
 ghost use Rattle.machine.specs.Run.{Source, first_state, run};
 ghost use Rattle.machine.specs.TraceLaws.{meets_laws};
-ghost use Rattle.machine_texts.specs.Texts.{HasMain};
-ghost use Rattle.world.specs.Worlds.{GoesOn};
+ghost use Rattle.machine_well_formed.specs.Texts.{HasMain};
+ghost use Rattle.world.specs.Worlds.{WorldGoesOn};
 ghost use Rattle.world_rules.specs.Legal.{AreLegal};
 ghost use Rattle.hub_objects.specs.Counted.{AreCounted};
 ghost use Rattle.hub_engine.specs.Ends.{HasLogged, HasNumbers, RanTo};
 ghost use Rattle.hub_engine.specs.Ahead.{WroteAhead};
 ghost use Rattle.hub_engine.specs.Outside.{WritesPart};
-ghost use Rattle.hub_engine.specs.declared.run.End.TheVariants as ends;
+ghost use Rattle.hub_engine.specs.declared.run.EngineEnd.TheVariants as ends;
 
 use crate::turns::{ended_as, run};
 use flat_code::compile;
 use gv_io::Sink;
 use gv_values::FaultKind;
 use hub_state::Hub;
-use machine_laws::{blocks_are_quiet, runs_are_lawful};
+use machine_trace_laws::{blocks_are_quiet, runs_are_lawful};
 use scenario_check::Checked;
 use std::alloc::{AllocError, Global};
 use std::marker::Model;
@@ -29,7 +29,7 @@ use world::World;
 
 /// How a run ends.
 #[derive(Clone, Copy, Debug, PartialEq, Eq)]
-pub enum End {
+pub enum EngineEnd {
     /// The main greenlet ended with a value.
     MainValue,
     /// The main greenlet ended by a fault.
@@ -63,7 +63,7 @@ pub struct Budgets {
 #[derive(Clone, Copy, Debug, PartialEq, Eq)]
 pub struct Ran {
     /// How the run ended.
-    pub end: End,
+    pub end: EngineEnd,
     /// How many greenlets were made, with main.
     pub greenlets: u32,
     /// How many turns began.
@@ -121,7 +121,7 @@ impl Engine {
         ensures numbers { HasNumbers result (run self.scenario self.turns self.moves (W.meaning world.new).answers).state }
         ensures log { HasLogged result.end (run self.scenario self.turns self.moves (W.meaning world.new).answers).log (W.meaning world.new).answers (W.stands_for world.new) }
         ensures legal { AreLegal [] [] (run self.scenario self.turns self.moves (W.meaning world.new).answers).log }
-        ensures rule { GoesOn (W.meaning world.old) (W.meaning world.new) }
+        ensures rule { WorldGoesOn (W.meaning world.old) (W.meaning world.new) }
         ensures write_fault { result.end ≡ ends.WriteFault → HasRisen (K.faults sink.old) (K.faults sink.new) }
         ensures unfailed { result.end ≢ ends.WriteFault → K.faults sink.new ≡ K.faults sink.old }
         ensures never_falls { K.faults sink.old ≤ K.faults sink.new }

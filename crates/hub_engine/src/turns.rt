@@ -18,7 +18,7 @@ use crate::broken::Broken;
 use crate::deliver::{deliver_item, throw_into};
 use crate::life::start_body;
 use crate::moves::step_greenlet;
-use crate::run::End;
+use crate::run::EngineEnd;
 use crate::stand::{Came, Stand};
 use gv_io::Sink;
 use gv_values::FaultKind;
@@ -318,7 +318,12 @@ fn round<W: World, K: Sink>(
 
 /// The stop line is given out.
 #[tactic(auto, using(crate::proofs::Trying::tries))]
-fn stop<K: Sink>(alloc: Global, hub: &Hub, sink: &mut K, cause: StopCause) -> Result<End, Broken>
+fn stop<K: Sink>(
+    alloc: Global,
+    hub: &Hub,
+    sink: &mut K,
+    cause: StopCause,
+) -> Result<EngineEnd, Broken>
     ensures written { Writes result (K.written sink.old) (K.written sink.new) (stopped cause hub.now).lines }
     ensures end { IfOk result (λ end. end ≡ end_of cause) }
     ensures out { (waits : Bool) → Extends (out_of waits (K.written sink.old) (K.handed sink.old)) (out_of waits (K.written sink.new) (K.handed sink.new)) }
@@ -343,7 +348,7 @@ fn run_turns<W: World, K: Sink>(
     sink: &mut K,
     turns: u64,
     moves: u64,
-) -> Result<End, Broken>
+) -> Result<EngineEnd, Broken>
     requires tied { IsTied (W.meaning world.old) hub.old }
     ensures ran { RunsTo result (outside W.waits (K.written sink.old) (K.handed sink.old) (W.meaning world.old) (W.stands_for world.old)) (outside W.waits (K.written sink.new) (K.handed sink.new) (W.meaning world.new) (W.stands_for world.new)) (from_turn turns moves hub.old) hub.new }
     ensures counts { Counts result (K.faults sink.old) (K.faults sink.new) }
@@ -367,7 +372,7 @@ pub fn run<W: World, K: Sink>(
     sink: &mut K,
     turns: u64,
     moves: u64,
-) -> Result<End, Broken>
+) -> Result<EngineEnd, Broken>
     requires prepared { IsPrepared hub.old }
     requires runs { (W.meaning world.old).runs ≡ true }
     requires no_posts { (W.meaning world.old).posts ≡ [] }
@@ -383,27 +388,27 @@ pub fn run<W: World, K: Sink>(
 }
 
 /// The end that callers are told of this cause.
-fn end_of(cause: &StopCause) -> End
+fn end_of(cause: &StopCause) -> EngineEnd
     ensures { result ≡ end_of cause.now }
 {
     match cause {
-        StopCause::Value(_) => End::MainValue,
-        StopCause::Fault(kind) => End::MainFault(*kind),
-        StopCause::NoTurns => End::NoTurns,
-        StopCause::NoMoves => End::NoMoves,
-        StopCause::NoGreenlets => End::NoGreenlets,
-        StopCause::NoLinks => End::NoLinks,
-        StopCause::NoKills => End::NoKills,
+        StopCause::Value(_) => EngineEnd::MainValue,
+        StopCause::Fault(kind) => EngineEnd::MainFault(*kind),
+        StopCause::NoTurns => EngineEnd::NoTurns,
+        StopCause::NoMoves => EngineEnd::NoMoves,
+        StopCause::NoGreenlets => EngineEnd::NoGreenlets,
+        StopCause::NoLinks => EngineEnd::NoLinks,
+        StopCause::NoKills => EngineEnd::NoKills,
     }
 }
 
 /// The end that callers are told of, where the run broke off too.
-pub fn ended_as(ran: Result<End, Broken>) -> End
+pub fn ended_as(ran: Result<EngineEnd, Broken>) -> EngineEnd
     ensures { result ≡ ended_as ran }
 {
     match ran {
         Ok(end) => end,
-        Err(Broken::Memory) => End::Memory,
-        Err(Broken::Write) => End::WriteFault,
+        Err(Broken::Memory) => EngineEnd::Memory,
+        Err(Broken::Write) => EngineEnd::WriteFault,
     }
 }

@@ -4,10 +4,10 @@ use Rattle.machine.specs.declared.items.Delivery.{Delivery}
 use Rattle.machine.specs.declared.items.Waiting.{Waiting}
 use Rattle.machine.specs.Holds.{wakes}
 use Rattle.hub_items.specs.declared.waits.WaitKind.{WaitKind}
-use Rattle.hub_items.specs.Lines.{is_line, line_of, line_of_delivery}
+use Rattle.hub_items.specs.Lines.{is_line, waiting_line, line_of_delivery}
 use Rattle.hub_items.specs.WaitKinds.{test_of}
 
-stands : (kind : WaitKind) (o : ℕ) (w : Waiting) → test_of kind o w ≡ is_line kind o (line_of w)
+stands : (kind : WaitKind) (o : ℕ) (w : Waiting) → test_of kind o w ≡ is_line kind o (waiting_line w)
 stands WaitKind.Acquire o (Waiting.Acquire p) = refl
 stands WaitKind.Lock o (Waiting.Lock p) = refl
 stands WaitKind.Put o (Waiting.Put p v) = refl

@@ -6,26 +6,26 @@ use Rattle.hub_items.specs.declared.waits.WaitKind.{WaitKind}
 use Rattle.hub_items.specs.WaitKinds.{test_of, same_kind}
 
 -- the line that the wait stands in: its kind and the number of its object
-abbrev pub line_of : Waiting → Option (WaitKind × ℕ)
-line_of (Waiting.Acquire o) = Some (WaitKind.Acquire, o)
-line_of (Waiting.Lock o) = Some (WaitKind.Lock, o)
-line_of (Waiting.Put o v) = Some (WaitKind.Put, o)
-line_of (Waiting.Take o) = Some (WaitKind.Take, o)
-line_of (Waiting.Place o f vs) = Some (WaitKind.Place, o)
-line_of (Waiting.MapPlace o f xs made) = Some (WaitKind.Place, o)
-line_of (Waiting.Slot o job takes) = Some (WaitKind.Slot, o)
-line_of (Waiting.TakeOffer o) = Some (WaitKind.TakeOffer, o)
-line_of w = None
+abbrev pub waiting_line : Waiting → Option (WaitKind × ℕ)
+waiting_line (Waiting.Acquire o) = Some (WaitKind.Acquire, o)
+waiting_line (Waiting.Lock o) = Some (WaitKind.Lock, o)
+waiting_line (Waiting.Put o v) = Some (WaitKind.Put, o)
+waiting_line (Waiting.Take o) = Some (WaitKind.Take, o)
+waiting_line (Waiting.Place o f vs) = Some (WaitKind.Place, o)
+waiting_line (Waiting.MapPlace o f xs made) = Some (WaitKind.Place, o)
+waiting_line (Waiting.Slot o job takes) = Some (WaitKind.Slot, o)
+waiting_line (Waiting.TakeOffer o) = Some (WaitKind.TakeOffer, o)
+waiting_line w = None
 
 -- the line that the waiter of a Wake stands in
 abbrev pub line_of_delivery : Delivery → Option (WaitKind × ℕ)
-line_of_delivery (Delivery.Wake g w) = line_of w
+line_of_delivery (Delivery.Wake g w) = waiting_line w
 line_of_delivery d = None
 
 -- the line that the wait's condition looks at; who peeks waits behind those who take, and in no line
 abbrev pub line_ahead : Waiting → Option (WaitKind × ℕ)
 line_ahead (Waiting.Peek o) = Some (WaitKind.Take, o)
-line_ahead w = line_of w
+line_ahead w = waiting_line w
 
 -- the line is that of this kind at this object
 abbrev pub is_line : WaitKind → ℕ → Option (WaitKind × ℕ) → Bool

@@ -1,6 +1,6 @@
 //! The lines of those who wait at an object, in order of parking.
 ghost use Rattle.std.specs.Prelude.{◌≡◌};
-ghost use Rattle.hub_items.specs.Lines.{line_ahead, line_of};
+ghost use Rattle.hub_items.specs.Lines.{line_ahead, waiting_line};
 
 use machine::items::Waiting;
 
@@ -24,8 +24,8 @@ pub enum WaitKind {
 }
 
 /// The line that the wait stands in: its kind and its object.
-fn line_of(waiting: &Waiting) -> Option<(WaitKind, u32)>
-    ensures { result ≡ line_of waiting.now }
+fn waiting_line(waiting: &Waiting) -> Option<(WaitKind, u32)>
+    ensures { result ≡ waiting_line waiting.now }
 {
     match waiting {
         Waiting::Acquire(o) => Some((WaitKind::Acquire, *o)),
@@ -46,6 +46,6 @@ pub fn line_ahead(waiting: &Waiting) -> Option<(WaitKind, u32)>
 {
     match waiting {
         Waiting::Peek(o) => Some((WaitKind::Take, *o)),
-        _ => line_of(waiting),
+        _ => waiting_line(waiting),
     }
 }

@@ -69,12 +69,12 @@ impl Posted {
         ensures { self.new ≡ record self.old { outcome = Some outcome } }
     {
         self.job.outcome = Some(outcome);
-        self.came = Some(outcome_of(outcome));
+        self.came = Some(outcome_of_job(outcome));
     }
 }
 
 /// What a job came to, as an outcome.
-fn outcome_of(outcome: JobOutcome) -> Outcome
+fn outcome_of_job(outcome: JobOutcome) -> Outcome
     ensures { result ≡ outcome_of_job outcome }
 {
     match outcome {

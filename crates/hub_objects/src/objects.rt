@@ -17,7 +17,7 @@ use std::alloc::{AllocError, Global};
 use std::marker::Model;
 
 /// The most that is counted of an object.
-const MOST: u64 = (1 << 63) - 1;
+const MOST_COUNTED: u64 = (1 << 63) - 1;
 
 /// What a step does to an object. An object of another kind stays as it is.
 #[derive(Drop)]
@@ -244,7 +244,7 @@ fn add_unit(object: &mut Object) -> Result<(), AllocError>
     ensures counted { IsCounted object.old → IsCounted object.new }
 {
     if let Object::Semaphore(counter, _) = object {
-        if *counter >= MOST {
+        if *counter >= MOST_COUNTED {
             return Err(AllocError);
         }
         *counter += 1;
@@ -289,7 +289,7 @@ fn add_item(object: &mut Object, value: Value) -> Result<(), AllocError>
     ensures counted { IsCounted object.old → IsCounted object.new }
 {
     if let Object::Queue(_, _, items, unfinished, _) = object {
-        if items.len() as u64 >= MOST || *unfinished >= MOST {
+        if items.len() as u64 >= MOST_COUNTED || *unfinished >= MOST_COUNTED {
             return Err(AllocError);
         }
         items.push(value)?;
@@ -335,7 +335,7 @@ fn add_member(object: &mut Object, g: u32) -> Result<(), AllocError>
     ensures counted { IsCounted object.old → IsCounted object.new }
 {
     if let Object::Crew(_, members) = object {
-        if members.len() as u64 >= MOST {
+        if members.len() as u64 >= MOST_COUNTED {
             return Err(AllocError);
         }
         members.push(g)?;

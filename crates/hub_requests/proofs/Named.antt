@@ -8,7 +8,7 @@ use Rattle.machine.specs.declared.state.Object.{Object}
 use Rattle.machine.specs.Requests.{acquires}
 use Rattle.machine.specs.declared.request.Request.{Request}
 use Rattle.machine.proofs.Halves.{left}
-use Rattle.machine_texts.specs.Texts.{fits_request, is_declared, is_function}
+use Rattle.machine_well_formed.specs.Texts.{fits_request, is_declared, is_function}
 use Rattle.scenario_rules.specs.Declarations.{is_kind}
 use Rattle.scenario_rules.specs.declared.mention.Wanted.TheVariants as wanted
 use Rattle.hub_items.specs.Short.{IsShort}

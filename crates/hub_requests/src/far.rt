@@ -1,7 +1,7 @@
 ghost use Rattle.std.specs.Prelude.{◌≡◌, option_map};
 ghost use Rattle.std.specs.Option.{option_copied};
 ghost use Rattle.machine.specs.Soundness.{phase_of};
-ghost use Rattle.hub_state.specs.Phases.{phase_of as phase_of_stage};
+ghost use Rattle.hub_state.specs.Phases.{phase_of_stage};
 ghost use Rattle.hub_requests.specs.Far.{far_of};
 
 use hub_state::{Hub, Stage};

@@ -6,11 +6,11 @@ use Rattle.machine.specs.Greenlets.{no_frame}
 use Rattle.hub_state.specs.declared.greenlets.Stage.{Stage}
 
 -- the phase of the machine; the body of a greenlet that is under way is with the hub's step
-abbrev pub phase_of : Stage → Phase
-phase_of (Stage.New args) = Phase.New args
-phase_of (Stage.Parked frame) = Phase.Live frame
-phase_of Stage.UnderWay = Phase.Live no_frame
-phase_of (Stage.Done o) = Phase.Done o
+abbrev pub phase_of_stage : Stage → Phase
+phase_of_stage (Stage.New args) = Phase.New args
+phase_of_stage (Stage.Parked frame) = Phase.Live frame
+phase_of_stage Stage.UnderWay = Phase.Live no_frame
+phase_of_stage (Stage.Done o) = Phase.Done o
 
 -- a greenlet by its parts
 abbrev pub shown : Bool → ℕ → ℕ → Phase → Shown

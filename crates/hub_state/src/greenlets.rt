@@ -5,7 +5,7 @@ ghost use Rattle.machine.specs.declared.state.Phase.{Phase};
 ghost use Rattle.machine.specs.Holds.{outcome_of_phase};
 ghost use Rattle.machine.specs.Soundness.{phase_of as phase_of_greenlet};
 ghost use Rattle.machine.specs.Greenlets.{nobody};
-ghost use Rattle.hub_state.specs.Phases.{phase_of, shown};
+ghost use Rattle.hub_state.specs.Phases.{phase_of_stage, shown};
 
 use body_frames::Parked;
 use gv_values::{Outcome, Value};
@@ -15,7 +15,7 @@ use std::marker::Model;
 use std::mem;
 
 /// The most greenlets of a run.
-const MOST: usize = 20000;
+const MOST_GREENLETS: usize = 20000;
 
 /// How far a greenlet has come, as the hub keeps it: it has the body of one that is parked, and not of the one that
 /// moves.
@@ -43,14 +43,14 @@ pub struct Greenlet {
 
 impl Model for Greenlet {
     ghost use Rattle.machine.specs.declared.state.Greenlet.{Greenlet as Shown};
-    ghost use Rattle.hub_state.specs.Phases.{phase_of, shown};
+    ghost use Rattle.hub_state.specs.Phases.{phase_of_stage, shown};
     ghost use Rattle.scenario_tree.specs.Trees.{trees};
 
     ghost Value = { Shown };
 
     ghost coded = { Prim.hlevel trees };
 
-    ghost view = { λ g. shown g.raw g.parent g.function (phase_of g.stage) };
+    ghost view = { λ g. shown g.raw g.parent g.function (phase_of_stage g.stage) };
 }
 
 impl Greenlet {
@@ -86,7 +86,7 @@ impl Greenlet {
 
     /// How far it has come.
     pub(crate) fn stage(&self) -> &Stage
-        ensures { phase_of result.now ≡ self.now.phase }
+        ensures { phase_of_stage result.now ≡ self.now.phase }
     {
         &self.stage
     }
@@ -109,8 +109,8 @@ impl Greenlet {
 
     /// Gives it this stage, and answers the one that it had.
     fn swap(&mut self, stage: Stage) -> Stage
-        ensures set { self.new ≡ record self.old { phase = phase_of stage } }
-        ensures was { phase_of result ≡ self.old.phase }
+        ensures set { self.new ≡ record self.old { phase = phase_of_stage stage } }
+        ensures was { phase_of_stage result ≡ self.old.phase }
     {
         mem::replace(&mut self.stage, stage)
     }
@@ -164,7 +164,7 @@ impl Greenlets {
     pub(crate) fn has_room(&self) -> bool
         ensures { result ≡ nat_lt (length self.now) 20000 }
     {
-        self.all.len() < MOST
+        self.all.len() < MOST_GREENLETS
     }
 
     /// One more, the newest. `AllocError`: memory is wanting; nothing has changed.
@@ -193,8 +193,8 @@ impl Greenlets {
 
     /// Gives the greenlet this stage, and answers the one that it had.
     pub(crate) fn swap(&mut self, g: u32, stage: Stage) -> Option<Stage>
-        ensures set { self.new ≡ slice_set self.old g (record (unwrap_or (slice_get self.old g) nobody) { phase = phase_of stage }) }
-        ensures was { option_map phase_of result ≡ phase_of_greenlet g self.old }
+        ensures set { self.new ≡ slice_set self.old g (record (unwrap_or (slice_get self.old g) nobody) { phase = phase_of_stage stage }) }
+        ensures was { option_map phase_of_stage result ≡ phase_of_greenlet g self.old }
     {
         swap_stage(&mut self.all, g, stage)
     }
@@ -215,8 +215,8 @@ fn set_parent_at(greenlets: &mut [Greenlet], g: u32, parent: u32)
 /// Gives the greenlet this stage, and answers the one that it had.
 #[tactic(auto, using(crate::proofs::PhaseSets::phase_set, crate::proofs::PhaseSets::phase_was, crate::proofs::PhaseSets::phase_none, crate::proofs::PhaseSets::phase_out))]
 fn swap_stage(greenlets: &mut [Greenlet], g: u32, stage: Stage) -> Option<Stage>
-    ensures set { greenlets.new ≡ slice_set greenlets.old g (record (unwrap_or (slice_get greenlets.old g) nobody) { phase = phase_of stage }) }
-    ensures was { option_map phase_of result ≡ phase_of_greenlet g greenlets.old }
+    ensures set { greenlets.new ≡ slice_set greenlets.old g (record (unwrap_or (slice_get greenlets.old g) nobody) { phase = phase_of_stage stage }) }
+    ensures was { option_map phase_of_stage result ≡ phase_of_greenlet g greenlets.old }
 {
     if g as usize >= greenlets.len() {
         return None;

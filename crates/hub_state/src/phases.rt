@@ -6,7 +6,7 @@ ghost use Rattle.machine.specs.Holds.{is_done, outcome_of_phase};
 ghost use Rattle.machine.specs.Soundness.{phase_of as phase_of_greenlet};
 ghost use Rattle.machine.specs.Greenlets.{no_frame, greenlet, with_phase, frame_of, add_greenlet, has_greenlet_left};
 ghost use Rattle.machine.specs.Deliveries.{arguments};
-ghost use Rattle.hub_state.specs.Phases.{phase_of};
+ghost use Rattle.hub_state.specs.Phases.{phase_of_stage};
 
 use crate::greenlets::{Greenlet, Stage};
 use crate::hub::Hub;
@@ -28,7 +28,7 @@ impl Hub {
 
     /// How far the greenlet has come.
     pub fn stage(&self, g: u32) -> Option<&Stage>
-        ensures { option_map phase_of (option_copied result) ≡ phase_of_greenlet g self.now.greenlets }
+        ensures { option_map phase_of_stage (option_copied result) ≡ phase_of_greenlet g self.now.greenlets }
     {
         match self.greenlets.get(g) {
             Some(greenlet) => Some(greenlet.stage()),
@@ -38,7 +38,7 @@ impl Hub {
 
     /// Whether the greenlet has ended, or does where it comes so far.
     fn is_end(&self, g: u32, stage: &Stage) -> bool
-        ensures { result ≡ (is_done self.now g || is_some (outcome_of_phase (phase_of stage.now))) }
+        ensures { result ≡ (is_done self.now g || is_some (outcome_of_phase (phase_of_stage stage.now))) }
     {
         match stage {
             Stage::Done(_) => true,
@@ -48,8 +48,8 @@ impl Hub {
 
     /// Lets the greenlet have come so far, and gives how far it had come before.
     fn swap_stage(&mut self, g: u32, stage: Stage) -> Option<Stage>
-        ensures set { self.new ≡ with_phase g (phase_of stage) self.old }
-        ensures was { option_map phase_of result ≡ phase_of_greenlet g self.old.greenlets }
+        ensures set { self.new ≡ with_phase g (phase_of_stage stage) self.old }
+        ensures was { option_map phase_of_stage result ≡ phase_of_greenlet g self.old.greenlets }
     {
         let ended = self.is_end(g, &stage);
         self.touched.touch_end(ended, g);
@@ -59,7 +59,7 @@ impl Hub {
 
     /// Lets the greenlet have come so far.
     pub fn set_stage(&mut self, g: u32, stage: Stage)
-        ensures { self.new ≡ with_phase g (phase_of stage) self.old }
+        ensures { self.new ≡ with_phase g (phase_of_stage stage) self.old }
     {
         let _before = self.swap_stage(g, stage);
     }

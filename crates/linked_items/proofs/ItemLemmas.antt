@@ -4,7 +4,7 @@ use Rattle.std.proofs.lemmas.Bool.Decides.{nat_tests}
 use Rattle.std.proofs.lemmas.Bool.{cases_eq}
 use Rattle.std.proofs.lemmas.Option.{slice_get_within, get_or_from_slice_get}
 use Rattle.std.proofs.lemmas.List.Elements.{filter-append}
-use Rattle.linked_items.specs.Items.{items_of, without, without_entry, Lacks, Differ}
+use Rattle.linked_items.specs.Items.{items_of, without_number, without_entry, Lacks, Differ}
 
 pub test_keeps : (a x : ℕ) → x ≢ a → not (a == x) ≡ true
 test_keeps a x h = grind (arith, nat_tests)
@@ -21,7 +21,7 @@ pub length_items : (xs : List (ℕ × ℕ)) → length (items_of xs) ≡ length 
 length_items [] = refl
 length_items (x ∷ xs) = ap suc (length_items xs)
 
-pub items_without : (x : ℕ) (es : List (ℕ × ℕ)) → items_of (without_entry x es) ≡ without x (items_of es)
+pub items_without : (x : ℕ) (es : List (ℕ × ℕ)) → items_of (without_entry x es) ≡ without_number x (items_of es)
 items_without x [] = refl
 items_without x (e ∷ es) = elim (cases_eq e.0 x) [
   | inl same ↦ rw (test_drops e.0 x same) (items_without x es)
@@ -54,14 +54,14 @@ absent_of_lacks x (y ∷ xs) a p = by_index (absent_of_lacks x xs a.1) p.0 p.1 p
     by_index more zero within found = a.0 (sym found)
     by_index more (suc k) within found = more (k, omega arith, found)
 
-pub lacks_without : (x y : ℕ) (xs : List ℕ) → Lacks x xs → Lacks x (without y xs)
+pub lacks_without : (x y : ℕ) (xs : List ℕ) → Lacks x xs → Lacks x (without_number y xs)
 lacks_without x y [] a = tt
 lacks_without x y (z ∷ xs) a = elim (cases_eq z y) [
   | inl same ↦ rw (test_drops z y same) (lacks_without x y xs a.1)
   | inr differs ↦ rw (test_keeps z y (λ h. differs (sym h))) (a.0, lacks_without x y xs a.1)
 ]
 
-pub without_lacks : (x : ℕ) (xs : List ℕ) → Lacks x (without x xs)
+pub without_lacks : (x : ℕ) (xs : List ℕ) → Lacks x (without_number x xs)
 without_lacks x [] = tt
 without_lacks x (z ∷ xs) = elim (cases_eq z x) [
   | inl same ↦ rw (test_drops z x same) (without_lacks x xs)
@@ -101,7 +101,7 @@ differ_parts (y ∷ xs) ys x a p = by_index (differ_parts xs ys x a.1) p.0 p.1 p
     by_index more zero within found = subst (λ z. Lacks z ys) found (lacks_back y xs ys a.0)
     by_index more (suc k) within found = more (k, omega arith, found)
 
-pub differ_of_without : (x : ℕ) (xs : List ℕ) → Differ xs → Differ (without x xs)
+pub differ_of_without : (x : ℕ) (xs : List ℕ) → Differ xs → Differ (without_number x xs)
 differ_of_without x [] a = tt
 differ_of_without x (y ∷ xs) a = elim (cases_eq y x) [
   | inl same ↦ rw (test_drops y x same) (differ_of_without x xs a.1)
@@ -109,24 +109,24 @@ differ_of_without x (y ∷ xs) a = elim (cases_eq y x) [
 ]
 
 -- a list without an item
-pub without_absent : (x : ℕ) (xs : List ℕ) → Lacks x xs → without x xs ≡ xs
+pub without_absent : (x : ℕ) (xs : List ℕ) → Lacks x xs → without_number x xs ≡ xs
 without_absent x [] l = refl
 without_absent x (y ∷ xs) l = rw (test_keeps y x l.0) (ap (λ r. y ∷ r) (without_absent x xs l.1))
 
-pub without_joined : (x : ℕ) (xs ys : List ℕ) → without x (xs ++ ys) ≡ without x xs ++ without x ys
+pub without_joined : (x : ℕ) (xs ys : List ℕ) → without_number x (xs ++ ys) ≡ without_number x xs ++ without_number x ys
 without_joined x xs ys = filter-append (λ y. not (y == x)) xs ys
 
-pub without_front : (x : ℕ) (xs ys : List ℕ) → Lacks x ys → without x (xs ++ ys) ≡ without x xs ++ ys
-without_front x xs ys l = without_joined x xs ys ∙ ap (λ r. without x xs ++ r) (without_absent x ys l)
+pub without_front : (x : ℕ) (xs ys : List ℕ) → Lacks x ys → without_number x (xs ++ ys) ≡ without_number x xs ++ ys
+without_front x xs ys l = without_joined x xs ys ∙ ap (λ r. without_number x xs ++ r) (without_absent x ys l)
 
-pub without_back : (x : ℕ) (xs ys : List ℕ) → Lacks x xs → without x (xs ++ ys) ≡ xs ++ without x ys
-without_back x xs ys l = without_joined x xs ys ∙ ap (λ r. r ++ without x ys) (without_absent x xs l)
+pub without_back : (x : ℕ) (xs ys : List ℕ) → Lacks x xs → without_number x (xs ++ ys) ≡ xs ++ without_number x ys
+without_back x xs ys l = without_joined x xs ys ∙ ap (λ r. r ++ without_number x ys) (without_absent x xs l)
 
-pub without_length : (x : ℕ) (xs : List ℕ) → Differ xs → Contains xs x → length (without x xs) + 1 ≡ length xs
+pub without_length : (x : ℕ) (xs : List ℕ) → Differ xs → Contains xs x → length (without_number x xs) + 1 ≡ length xs
 without_length x [] d p = absurd (omega (arith, p.1))
 without_length x (y ∷ xs) d p = by_index (without_length x xs d.1) p.0 p.1 p.2
   where
-    by_index : (Contains xs x → length (without x xs) + 1 ≡ length xs) → (k : ℕ) → k < suc (length xs) → get_or (y ∷ xs) k x ≡ x → length (without x (y ∷ xs)) + 1 ≡ length (y ∷ xs)
+    by_index : (Contains xs x → length (without_number x xs) + 1 ≡ length xs) → (k : ℕ) → k < suc (length xs) → get_or (y ∷ xs) k x ≡ x → length (without_number x (y ∷ xs)) + 1 ≡ length (y ∷ xs)
     by_index more zero within found =
         let l : Lacks x xs = subst (λ z. Lacks z xs) found d.0 in
         rw (test_drops y x found) (let e = ap length (without_absent x xs l) in omega arith)

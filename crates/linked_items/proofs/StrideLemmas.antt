@@ -2,21 +2,21 @@
 use Rattle.std.proofs.Common.{◌≡◌, ◌≢◌, ℕ, zero, suc, ◌+◌, ◌*◌, ◌%◌, ◌<◌, ◌≤◌, List, [], ◌∷◌, ◌++◌, length, get_or, sym, ◌∙◌, subst, inl, inr, arith, Contains}
 use Rattle.std.proofs.lemmas.Bool.{cases_eq}
 use Rattle.std.proofs.lemmas.List.Elements.{Contains-append_left, Contains-append_right, Contains-append_cases}
-use Rattle.linked_items.specs.Items.{without}
+use Rattle.linked_items.specs.Items.{without_number}
 use Rattle.linked_items.proofs.ItemLemmas.{test_keeps, test_drops}
 
 -- what stays when another item leaves
-pub contains_without : (x q : ℕ) (xs : List ℕ) → q ≢ x → Contains xs q → Contains (without x xs) q
+pub contains_without : (x q : ℕ) (xs : List ℕ) → q ≢ x → Contains xs q → Contains (without_number x xs) q
 contains_without x q [] apart there = absurd (omega (arith, there.1))
 contains_without x q (y ∷ ys) apart there = by_index (contains_without x q ys apart) there.0 there.1 there.2
   where
-    kept : Contains (without x ys) q → Contains (without x (y ∷ ys)) q
+    kept : Contains (without_number x ys) q → Contains (without_number x (y ∷ ys)) q
     kept more = elim (cases_eq y x) [
       | inl same ↦ rw (test_drops y x same) more
       | inr differs ↦ rw (test_keeps y x (λ h. differs (sym h))) (suc more.0, omega (arith, more.1), more.2)
     ]
 
-    by_index : (Contains ys q → Contains (without x ys) q) → (k : ℕ) → k < suc (length ys) → get_or (y ∷ ys) k q ≡ q → Contains (without x (y ∷ ys)) q
+    by_index : (Contains ys q → Contains (without_number x ys) q) → (k : ℕ) → k < suc (length ys) → get_or (y ∷ ys) k q ≡ q → Contains (without_number x (y ∷ ys)) q
     by_index more zero within found = rw (test_keeps y x (λ h. apart (sym (h ∙ found)))) (zero, omega arith, found)
     by_index more (suc k) within found = kept (more (k, omega arith, found))
 
@@ -59,7 +59,7 @@ strides_differ i j a b e = omega arith
 pub record HasStrides (xs : List ℕ) (i : ℕ) : Type 0 where
   pub there : (j : ℕ) → i ≤ j → j < 1000000 → Contains xs (stride j)
 
-pub strides_next : (xs : List ℕ) (i : ℕ) → i < 1000000 → HasStrides xs i → HasStrides (without (stride i) xs) (i + 1)
+pub strides_next : (xs : List ℕ) (i : ℕ) → i < 1000000 → HasStrides xs i → HasStrides (without_number (stride i) xs) (i + 1)
 strides_next xs i lt is = record {
   there = λ j a b. contains_without (stride i) (stride j) xs (λ e. absurd (omega (arith, strides_differ j i b lt e))) (is.there j (omega arith) b);
 }

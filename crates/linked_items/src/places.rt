@@ -123,7 +123,7 @@ fn make_room(slots: &mut Vec<Slot>, twin: &mut Vec<Slot>, homes: usize, free: us
 }
 
 /// How many items there may be.
-const MOST: usize = 1 << 32;
+const MOST_PLACES: usize = 1 << 32;
 
 /// The place of each of some items.
 #[derive(Drop)]
@@ -249,10 +249,10 @@ impl Places {
         if n <= self.limit - self.len {
             return Ok(());
         }
-        if self.limit > MOST || n > MOST - self.limit {
+        if self.limit > MOST_PLACES || n > MOST_PLACES - self.limit {
             return Err(AllocError);
         }
-        let limit = (self.len + n).max((2 * self.limit).min(MOST));
+        let limit = (self.len + n).max((2 * self.limit).min(MOST_PLACES));
         let homes = 2 * limit;
         // Half as many slots again as there may be items are used up before the table is filled anew.
         let size = homes + limit + limit / 2 + 1;

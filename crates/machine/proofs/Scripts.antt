@@ -5,7 +5,7 @@ use Rattle.world_rules.specs.declared.question.DueJob.{DueJob}
 use Rattle.world_rules.specs.declared.question.LogEntry.{LogEntry}
 use Rattle.world_rules.specs.declared.question.Question.{Question}
 use Rattle.world_rules.specs.Legal.{answers_of}
-use Rattle.world_rules.specs.Script.{scripted, without}
+use Rattle.world_rules.specs.Script.{scripted, without_done}
 use Rattle.scenario_tree.specs.declared.tree.Scenario.{Scenario}
 use Rattle.machine.specs.declared.state.Post.{Post}
 use Rattle.machine.specs.State.{State}
@@ -40,7 +40,7 @@ question-replays tick budget go h None jobs s =
     ap (first_blocked (s ∷ [])) (given_out-replays p (λ source. after_exit go source p.next) (Source.Scripted tick (jobs ++ due_jobs s.moment p.posts)) (exit-replays tick go h _ p.next))
 question-replays tick budget go h (Some q) jobs s =
     let a = scripted tick jobs (silent (block_line s)).moment q in
-    ap (λ r. first_blocked (blocked_at q s) (first_lines (block_line s).lines (asked_first q a (first_lines (take_answer a (silent (block_line s))).lines r)))) (h (without a jobs) _)
+    ap (λ r. first_blocked (blocked_at q s) (first_lines (block_line s).lines (asked_first q a (first_lines (take_answer a (silent (block_line s))).lines r)))) (h (without_done a jobs) _)
 
 turn-replays : (tick budget : ℕ) (go : GoingOn) → Replays tick go → (jobs : List DueJob) (next : Next) →
     after_turn go budget (Source.Given (answers_of (after_turn go budget (Source.Scripted tick jobs) next).log)) next ≡ after_turn go budget (Source.Scripted tick jobs) next

@@ -5,7 +5,7 @@ use Rattle.gv_values.specs.declared.job.Answer.{Answer}
 use Rattle.world_rules.specs.declared.question.DueJob.{DueJob}
 use Rattle.world_rules.specs.declared.question.LogEntry.{LogEntry}
 use Rattle.world_rules.specs.declared.question.Question.{Question}
-use Rattle.world_rules.specs.Script.{due_at, due_job, scripted, without}
+use Rattle.world_rules.specs.Script.{due_at, due_job, scripted, without_done}
 use Rattle.scenario_tree.specs.declared.tree.Object.{Object as Declared}
 use Rattle.scenario_tree.specs.declared.tree.Scenario.{Scenario}
 use Rattle.trace_text.specs.declared.line.Line.{Line}
@@ -178,7 +178,7 @@ asks go q (Source.Given []) s = record { lines = []; log = []; blocked = []; end
 asks go q (Source.Given (a ∷ answers)) s = after_answer go (Source.Given answers) q a s
 asks go q (Source.Scripted tick jobs) s =
     let a = scripted tick jobs s.moment q in
-    after_answer go (Source.Scripted tick (without a jobs)) q a s
+    after_answer go (Source.Scripted tick (without_done a jobs)) q a s
 
 -- the turn asks its question, if it has one, and else throws LoopExit; the block line is given out before
 abbrev pub after_question : GoingOn → ℕ → Option Question → Source → State → Ran

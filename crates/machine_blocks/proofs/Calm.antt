@@ -14,7 +14,7 @@ use Rattle.gv_values.specs.declared.value.Whom.{Whom}
 use Rattle.gv_values.specs.Values.{value_of_scalar}
 use Rattle.world_rules.specs.declared.question.Question.{Question}
 use Rattle.world_rules.specs.Legal.{moment_of}
-use Rattle.world_rules.specs.Script.{scripted, without}
+use Rattle.world_rules.specs.Script.{scripted, without_done}
 use Rattle.scenario_tree.specs.declared.tree.Scenario.{Scenario}
 use Rattle.scenario_tree.specs.declared.tree.Wait.{Wait}
 use Rattle.trace_text.specs.declared.line.Awaited.{Awaited}
@@ -585,7 +585,7 @@ asks-told : (go : GoingOn) → AreTold go → (q : Question) (source : Source) (
 asks-told go f q (Source.Given []) s e = refl
 asks-told go f q (Source.Given (a ∷ answers)) s e = answer-told go f (Source.Given answers) q a s e
 asks-told go f q (Source.Scripted tick jobs) s e =
-    let a = scripted tick jobs s.moment q in answer-told go f (Source.Scripted tick (without a jobs)) q a s e
+    let a = scripted tick jobs s.moment q in answer-told go f (Source.Scripted tick (without_done a jobs)) q a s e
 
 question-told : (go : GoingOn) → AreTold go → (budget : ℕ) (q : Option Question) (source : Source) (s : State) → question s ≡ q → s.lines ≡ [] →
     TellsBlocks (after_question go budget q source s).lines (after_question go budget q source s).blocked

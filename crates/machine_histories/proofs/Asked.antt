@@ -44,8 +44,8 @@ use Rattle.machine_soundness.proofs.Greenlets.{host-plain, plain-more, plain-raw
 use Rattle.machine_soundness.proofs.Landings.{going-free}
 use Rattle.machine_soundness.proofs.Requests.{completes-fine, item-plain, kept-parked, moves-change, moves-member, moves-spawned, offered-fine, own-host, taken-plain}
 use Rattle.machine_soundness.proofs.States.{Moves, going}
-use Rattle.machine_texts.specs.Texts.{HasMain, fits_wait, is_function, is_wanted}
-use Rattle.machine_texts.proofs.KindLemmas.{item-kept, kinds-set, member-kept, offer-kept, offer_taken-kept, owner-kept, slot-kept, taken-kept, unit-kept}
+use Rattle.machine_well_formed.specs.Texts.{HasMain, fits_wait, is_function, is_wanted}
+use Rattle.machine_well_formed.proofs.KindLemmas.{item-kept, kinds-set, member-kept, offer-kept, offer_taken-kept, owner-kept, slot-kept, taken-kept, unit-kept}
 use Rattle.machine_histories.proofs.Histories.{History, IsLawful, Tells, as_posted, tells-line, tells-post, with_line, with_post}
 use Rattle.machine_offers.specs.Offers.{offers_at, offers_of}
 use Rattle.machine_offers.proofs.Offers.{HasNoOffer, fewer-same, free-lateless, free-offerless, is_offering, item-offers, more-offers, offers-offered, offers-set, owner-offers, slot-offers, taken-fewer, taken-offers, unit-offers}

@@ -33,9 +33,9 @@ use Rattle.machine_soundness.proofs.Lists.{all-end, all-get, all-imply, all-filt
 use Rattle.machine_soundness.proofs.Greenlets.{phase-more, phase-other, live-more}
 use Rattle.machine_soundness.proofs.Landings.{going-free}
 use Rattle.machine_soundness.proofs.States.{IsHost, Moves, all-settle, going, plain-phased, moves-say, moves-settle, moves-drop, moves-made, moves-timeout}
-use Rattle.machine_texts.specs.Kinds.{declared_kinds, kinds}
-use Rattle.machine_texts.specs.Texts.{IsFitText, fits_phase, is_among, is_fit_greenlet, is_held, is_raw_function, withins_at, HasMain, IsKnown, fits_item, is_function}
-use Rattle.machine_texts.proofs.KindLemmas.{KeepsKind, kinds-map, kinds-set, left-kept}
+use Rattle.machine_well_formed.specs.Kinds.{declared_kinds, kinds}
+use Rattle.machine_well_formed.specs.Texts.{IsFitText, fits_phase, is_among, is_fit_greenlet, is_held, is_raw_function, withins_at, HasMain, IsKnown, fits_item, is_function}
+use Rattle.machine_well_formed.proofs.KindLemmas.{KeepsKind, kinds-map, kinds-set, left-kept}
 use Rattle.machine_histories.proofs.Histories.{History, IsLawful, Tells, tells-line, with_line}
 use Rattle.machine_histories.proofs.Settled.{count-settled, is_settled, settled-settle}
 use Rattle.machine_offers.specs.Offers.{is_offered_on, offers_at, offers_of}

@@ -39,7 +39,7 @@ use Rattle.machine_offers.specs.Offers.{is_offered_on}
 use Rattle.machine_offers.proofs.Offers.{offers-drop}
 use Rattle.machine_offers.proofs.Anys.{any-kept}
 use Rattle.machine_histories.proofs.Ties.{IsOwn, is_over, free-wakeless, has_wake, lawful-own, live-not-over, ties-drop, ties-live, ties-loose, ties-own, ties-say}
-use Rattle.machine_texts.specs.Texts.{fits_phase, fits_rest, is_fit_greenlet, is_raw_function}
+use Rattle.machine_well_formed.specs.Texts.{fits_phase, fits_rest, is_fit_greenlet, is_raw_function}
 use Rattle.machine_histories.proofs.Placed.{IsPlaced, held-live, placed-frame, placed-start, unstarted-free}
 use Rattle.machine_histories.proofs.Goings.{AreHeld, AreHeldBy, At, Ends, Goes, Hosted, Loose, greenlet-fit, held-ended, lawful-ended, main-ended, parked-all, parked-ended, settled-ended, sides-drop, sides-ended, ties-ended, known-set}
 

@@ -24,8 +24,8 @@ use Rattle.machine.specs.Unwinding.{Unwound, unwind}
 use Rattle.machine_soundness.proofs.Greenlets.{at, phase-other}
 use Rattle.machine.proofs.Halves.{left, right}
 use Rattle.machine_soundness.proofs.Lists.{all-filter, all-get, all-imply, equal, unequal}
-use Rattle.machine_texts.specs.Texts.{IsFitText, fits_block, fits_phase, fits_rest, is_among, is_fit_function, is_fit_greenlet, is_held, is_raw_function, may_say, withins, withins_at}
-use Rattle.machine_texts.proofs.Bodies.{IsFitUnwound, unwind-fit}
+use Rattle.machine_well_formed.specs.Texts.{IsFitText, fits_block, fits_phase, fits_rest, is_among, is_fit_function, is_fit_greenlet, is_held, is_raw_function, may_say, withins, withins_at}
+use Rattle.machine_well_formed.proofs.Bodies.{IsFitUnwound, unwind-fit}
 use Rattle.machine_histories.proofs.Goings.{AreHeld, AreHeldBy, greenlet-fit, held-by, is_held_by}
 use Rattle.machine_histories.proofs.Ties.{phase-here}
 

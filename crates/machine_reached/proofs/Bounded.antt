@@ -35,19 +35,19 @@ use Rattle.machine_reached.proofs.Same.{reached-same}
 use Rattle.machine_reached.specs.Bounds.{IsBounded}
 use Rattle.machine_reached.specs.Offers.{AreOffered}
 use Rattle.machine_reached.specs.Meant.{IsMeantText, KnowsText, fits_did}
-use Rattle.machine_laws.specs.Reached.{Reached, state_of}
-use Rattle.machine_texts.specs.Texts.{IsFitText, fits_phase, fits_rest, fits_todo, is_among, is_fit_greenlet, is_held, is_raw_function, left_in, withins, withins_at}
+use Rattle.machine_trace_laws.specs.Reached.{Reached, state_of_next}
+use Rattle.machine_well_formed.specs.Texts.{IsFitText, fits_phase, fits_rest, fits_todo, is_among, is_fit_greenlet, is_held, is_raw_function, left_in, withins, withins_at}
 use Rattle.machine_histories.proofs.Histories.{History, at_first}
 use Rattle.machine_histories.proofs.Settled.{count-same}
 use Rattle.machine_offers.proofs.Anys.{any-imply}
 use Rattle.machine_histories.proofs.Landed.{cons-distinct, goes-frame}
 use Rattle.machine_histories.proofs.Placed.{any-both, frame-fits}
-use Rattle.machine_texts.proofs.Bodies.{IsFitDid, body_move-fit}
+use Rattle.machine_well_formed.proofs.Bodies.{IsFitDid, body_move-fit}
 use Rattle.machine_histories.proofs.Goings.{AreHeld, At, Sides, Goes}
-use Rattle.machine_laws.proofs.Moved.{move-at, plain-not-raw}
-use Rattle.machine_laws.proofs.Delivered.{begins-at, deliver-at, interrupts-at}
-use Rattle.machine_laws.proofs.Runs.{ends-silent, goes-silent, rests-block_line, rests-silent, rests-turned, settled-block_line}
-use Rattle.machine_laws.proofs.Quieted.{answer-unheard, settled-answered, with_silence}
+use Rattle.machine_trace_laws.proofs.Moved.{move-at, plain-not-raw}
+use Rattle.machine_trace_laws.proofs.Delivered.{begins-at, deliver-at, interrupts-at}
+use Rattle.machine_trace_laws.proofs.Runs.{ends-silent, goes-silent, rests-block_line, rests-silent, rests-turned, settled-block_line}
+use Rattle.machine_trace_laws.proofs.Quieted.{answer-unheard, settled-answered, with_silence}
 
 -- ---- the numbers that items of one kind have
 
@@ -514,10 +514,10 @@ reached-stands c text next (Reached.Answered x s e r) =
 loud : (s : State) → IsBounded (silent s) → IsBounded s
 loud s m = record { items = m.items; kills = m.kills }
 
-pub reached-bounded : (c : Scenario) (next : Next) → IsFitText c → Reached c next → IsBounded (state_of next)
+pub reached-bounded : (c : Scenario) (next : Next) → IsFitText c → Reached c next → IsBounded (state_of_next next)
 reached-bounded c next text r = by next (reached-stands c text next r)
   where
-    by : (next : Next) → StandsSomehow next → IsBounded (state_of next)
+    by : (next : Next) → StandsSomehow next → IsBounded (state_of_next next)
     by (Next.Going g s) a = loud s (bounded (silent s) a.1.1.moves.kept a.1.1.sides a.1.1.held)
     by (Next.Resting s) a = loud s (bounded (silent s) a.1.0.kept a.1.0.sides a.1.0.held)
     by (Next.Over cause s) a = loud s (bounded (silent s) a.1.kept a.1.sides a.1.held)
@@ -527,10 +527,10 @@ reached-bounded c next text r = by next (reached-stands c text next r)
 silent-known : (s : State) → KnowsText (silent s) → KnowsText s
 silent-known s k = k
 
-reached-known : (c : Scenario) (next : Next) → IsFitText c → Reached c next → KnowsText (state_of next)
+reached-known : (c : Scenario) (next : Next) → IsFitText c → Reached c next → KnowsText (state_of_next next)
 reached-known c next text r = by next (reached-stands c text next r)
   where
-    by : (next : Next) → StandsSomehow next → KnowsText (state_of next)
+    by : (next : Next) → StandsSomehow next → KnowsText (state_of_next next)
     by (Next.Going g s) a = silent-known s a.1.1.sides.known
     by (Next.Resting s) a = silent-known s a.1.0.sides.known
     by (Next.Over cause s) a = silent-known s a.1.sides.known
@@ -540,10 +540,10 @@ reached-known c next text r = by next (reached-stands c text next r)
 silent-offered : (s : State) → AreOffered (silent s) → AreOffered s
 silent-offered s m = record { waited = m.waited; apart = m.apart }
 
-pub reached-offered : (c : Scenario) (next : Next) → IsFitText c → Reached c next → AreOffered (state_of next)
+pub reached-offered : (c : Scenario) (next : Next) → IsFitText c → Reached c next → AreOffered (state_of_next next)
 reached-offered c next text r = by next (reached-stands c text next r)
   where
-    by : (next : Next) → StandsSomehow next → AreOffered (state_of next)
+    by : (next : Next) → StandsSomehow next → AreOffered (state_of_next next)
     by (Next.Going g s) a = silent-offered s (offered (silent s) a.1.1.sides.offers)
     by (Next.Resting s) a = silent-offered s (offered (silent s) a.1.0.sides.offers)
     by (Next.Over cause s) a = silent-offered s (offered (silent s) a.1.sides.offers)

@@ -3,20 +3,20 @@ use Rattle.std.proofs.Common.{◌≡◌, refl, ℕ, zero, suc, [], ◌∷◌}
 use Rattle.std.specs.Prelude.{Option, Some, None}
 use Rattle.world_rules.specs.declared.question.Question.{Question}
 use Rattle.world_rules.specs.Legal.{moment_of}
-use Rattle.world_rules.specs.Script.{scripted, without}
+use Rattle.world_rules.specs.Script.{scripted, without_done}
 use Rattle.scenario_tree.specs.declared.tree.Scenario.{Scenario}
 use Rattle.machine.specs.State.{State}
 use Rattle.machine.specs.Questions.{block_line, question, take_answer}
 use Rattle.machine.specs.Landing.{Next, lands, starts}
 use Rattle.machine.specs.Run.{GoingOn, Source, after_exit, after_question, after_start, after_turn, asks, first_state, loop_exit, run_from, run_turns, runs, silent, turn, with_posts}
 use Rattle.machine_reached.specs.Bounds.{IsBounded}
-use Rattle.machine_laws.specs.Reached.{Reached}
-use Rattle.machine_texts.specs.Texts.{IsFitText}
+use Rattle.machine_trace_laws.specs.Reached.{Reached}
+use Rattle.machine_well_formed.specs.Texts.{IsFitText}
 use Rattle.machine_histories.proofs.Histories.{History, at_first}
 use Rattle.machine_reached.proofs.Bounded.{bounded}
-use Rattle.machine_laws.proofs.Delivered.{begins-at}
-use Rattle.machine_laws.proofs.Quieted.{ready-answered, ready-silent, with_silence}
-use Rattle.machine_laws.proofs.Runs.{IsReady, Left, exit-passed, ready-block_line, runs-passed, turn-passed}
+use Rattle.machine_trace_laws.proofs.Delivered.{begins-at}
+use Rattle.machine_trace_laws.proofs.Quieted.{ready-answered, ready-silent, with_silence}
+use Rattle.machine_trace_laws.proofs.Runs.{IsReady, Left, exit-passed, ready-block_line, runs-passed, turn-passed}
 
 abbrev GoesBounded : Scenario → GoingOn → Type 0
 GoesBounded c go = (source : Source) (b : History) (s : State) → s ≡ silent s → IsReady c b s → IsBounded (go source s).state
@@ -34,7 +34,7 @@ asks-bounded c go f q (Source.Given []) b s e m = ready-bounded c b s m
 asks-bounded c go f q (Source.Given (a ∷ answers)) b s e m = f (Source.Given answers) (with_silence (moment_of a) m.rests.story) (silent (take_answer a s)) refl (ready-answered c b a s e m)
 asks-bounded c go f q (Source.Scripted tick jobs) b s e m =
     let a = scripted tick jobs s.moment q in
-    f (Source.Scripted tick (without a jobs)) (with_silence (moment_of a) m.rests.story) (silent (take_answer a s)) refl (ready-answered c b a s e m)
+    f (Source.Scripted tick (without_done a jobs)) (with_silence (moment_of a) m.rests.story) (silent (take_answer a s)) refl (ready-answered c b a s e m)
 
 question-bounded : (c : Scenario) (go : GoingOn) → GoesBounded c go → (budget : ℕ) (q : Option Question) (source : Source) (b : History) (s : State) → s ≡ silent s → IsReady c b s →
     IsBounded (after_question go budget q source s).state

@@ -16,7 +16,7 @@ use Rattle.machine.specs.Holds.{job_at}
 use Rattle.machine.specs.Landing.{Next, lands}
 use Rattle.machine.specs.Run.{first_state, silent}
 use Rattle.machine_turns.proofs.Steps.{Core, Keeps, Stands, delivers-keeps, interrupts-keeps, lands-keeps, move-keeps, starts-keeps}
-use Rattle.machine_laws.specs.Reached.{Reached, state_of}
+use Rattle.machine_trace_laws.specs.Reached.{Reached, state_of_next}
 
 abbrev Same : Scenario → State → Type 0
 Same c s = s.scenario ≡ c
@@ -62,11 +62,11 @@ stands-same c next (Reached.Blocked s e r) = block-same c s (stands-same c (Next
 stands-same c next (Reached.Exited s e r) = interrupts-keeps (Same c) (same-kept c) 0 FaultKind.LoopExit (block_line s) (block-same c s (stands-same c (Next.Resting s) r))
 stands-same c next (Reached.Answered a s e r) = answer-same c a s (stands-same c (Next.Resting s) r)
 
-pub reached-same : (c : Scenario) (next : Next) → Reached c next → (state_of next).scenario ≡ c
+pub reached-same : (c : Scenario) (next : Next) → Reached c next → (state_of_next next).scenario ≡ c
 unfolding Stands
 reached-same c next r = by next (stands-same c next r)
   where
-    by : (n : Next) → Stands (Same c) n → (state_of n).scenario ≡ c
+    by : (n : Next) → Stands (Same c) n → (state_of_next n).scenario ≡ c
     by (Next.Going g s) e = e
     by (Next.Resting s) e = e
     by (Next.Over cause s) e = e

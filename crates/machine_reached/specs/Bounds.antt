@@ -6,7 +6,7 @@ use Rattle.machine.specs.State.{State}
 use Rattle.machine.specs.Landing.{Next}
 use Rattle.machine.specs.Requests.{kills_standing}
 use Rattle.machine.specs.Run.{Source, run_from}
-use Rattle.machine_laws.specs.Reached.{Reached, state_of}
+use Rattle.machine_trace_laws.specs.Reached.{Reached, state_of_next}
 
 -- the items are at most eleven for each greenlet, one for each link that was made and one for each kill that is not
 -- delivered, and of these only so many stand
@@ -16,7 +16,7 @@ pub record IsBounded (s : State) : Type 0 where
 
 -- so it is wherever the hub comes to stand, whatever is answered
 abbrev pub ItemsBounded : Type 0
-ItemsBounded = (c : Scenario) (next : Next) → IsWellFormed c → Reached c next → IsBounded (state_of next)
+ItemsBounded = (c : Scenario) (next : Next) → IsWellFormed c → Reached c next → IsBounded (state_of_next next)
 
 -- and so it is in the last state of a run, whatever its budgets and its answers
 abbrev pub LastBounded : Type 0

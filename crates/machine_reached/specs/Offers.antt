@@ -7,7 +7,7 @@ use Rattle.machine.specs.declared.state.Offer.{Offer}
 use Rattle.machine.specs.State.{State}
 use Rattle.machine.specs.Landing.{Next}
 use Rattle.machine_offers.specs.Offers.{awaits_taking, offers_at}
-use Rattle.machine_laws.specs.Reached.{Reached, state_of}
+use Rattle.machine_trace_laws.specs.Reached.{Reached, state_of_next}
 
 pub record AreOffered (s : State) : Type 0 where
   -- each offer of a channel has the since of a Wake that stands for it on that channel
@@ -17,4 +17,4 @@ pub record AreOffered (s : State) : Type 0 where
 
 -- so it is in every state of a run of a well-formed scenario
 abbrev pub OffersStand : Type 0
-OffersStand = (c : Scenario) → IsWellFormed c → (next : Next) → Reached c next → AreOffered (state_of next)
+OffersStand = (c : Scenario) → IsWellFormed c → (next : Next) → Reached c next → AreOffered (state_of_next next)

@@ -6,8 +6,8 @@ use Rattle.world_rules.specs.declared.question.DueJob.{DueJob}
 use Rattle.world_rules.specs.declared.question.LogEntry.{LogEntry}
 use Rattle.world_rules.specs.declared.question.Question.{Question}
 use Rattle.world_rules.specs.Legal.{answers_of}
-use Rattle.world_rules.specs.Script.{scripted, without}
-use Rattle.world_rules.specs.Rules.{Follows, Gives, RuleState, after_answer as ruled_after_answer, after_post, start}
+use Rattle.world_rules.specs.Script.{scripted, without_done}
+use Rattle.world_rules.specs.Rules.{Follows, Gives, RuleState, rule_after_answer as ruled_after_answer, rule_after_post, start}
 use Rattle.scenario_tree.specs.declared.tree.Scenario.{Scenario}
 use Rattle.trace_text.specs.declared.line.Line.{Line}
 use Rattle.machine.specs.declared.state.Post.{Post}
@@ -55,13 +55,13 @@ record IsFollowed (tick : ℕ) (u : RuleState) (answers : List Answer) (log : Li
 
 after_posts : RuleState → List Post → RuleState
 after_posts u [] = u
-after_posts u (post ∷ posts) = after_posts (after_post u post.number post.job post.takes) posts
+after_posts u (post ∷ posts) = after_posts (rule_after_post u post.number post.job post.takes) posts
 
 posts-ruled : (posts : List Post) (u : RuleState) (jobs : List DueJob) (moment : ℕ) → IsRuledBy u jobs moment → IsRuledBy (after_posts u posts) (jobs ++ due_jobs moment posts) moment
 unfolding after_posts
 posts-ruled [] u jobs moment h = record { listed = h.listed; jobs_are = h.jobs_are ∙ sym (append-nil jobs); moment_is = h.moment_is }
 posts-ruled (post ∷ posts) u jobs moment h =
-    let v = after_post u post.number post.job post.takes in
+    let v = rule_after_post u post.number post.job post.takes in
     let one : List DueJob = due_jobs moment (post ∷ []) in
     let added : v.jobs ≡ jobs ++ one = ap (λ m. u.jobs ++ due_jobs m (post ∷ [])) h.moment_is ∙ ap (λ js. js ++ one) h.jobs_are in
     let rest = posts-ruled posts v (jobs ++ one) moment (record { listed = h.listed; jobs_are = added; moment_is = h.moment_is }) in
@@ -72,13 +72,13 @@ posts-followed : (tick : ℕ) (posts : List Post) (u : RuleState) (answers : Lis
     → IsFollowed tick (after_posts u posts) answers log
 unfolding after_posts
 posts-followed tick [] u answers log f = f
-posts-followed tick (post ∷ posts) u answers log f = by (posts-followed tick posts (after_post u post.number post.job post.takes) answers log) f.part f.is f.all f.follows
+posts-followed tick (post ∷ posts) u answers log f = by (posts-followed tick posts (rule_after_post u post.number post.job post.takes) answers log) f.part f.is f.all f.follows
   where
     Rest : Type 0
-    Rest = IsFollowed tick (after_posts (after_post u post.number post.job post.takes) posts) answers log
+    Rest = IsFollowed tick (after_posts (rule_after_post u post.number post.job post.takes) posts) answers log
 
     Behind : Type 0
-    Behind = IsFollowed tick (after_post u post.number post.job post.takes) answers (map logged posts ++ log)
+    Behind = IsFollowed tick (rule_after_post u post.number post.job post.takes) answers (map logged posts ++ log)
 
     first : (Behind → Rest) → (e : LogEntry) (part : List LogEntry) → logged post ≡ e → map logged posts ++ log ≡ part ++ f.later → answers_of (e ∷ part) ≡ answers
         → Follows tick u (e ∷ part) f.end → Rest
@@ -88,7 +88,7 @@ posts-followed tick (post ∷ posts) u answers log f = by (posts-followed tick p
         go (record { part = part; later = f.later; end = f.end; is = is; all = all'; follows = subst P (sym same) follows })
 
     by : (Behind → Rest) → (part : List LogEntry) → logged post ∷ (map logged posts ++ log) ≡ part ++ f.later → answers_of part ≡ answers → Follows tick u part f.end → Rest
-    by go [] is all follows = record { part = []; later = log; end = after_posts (after_post u post.number post.job post.takes) posts; is = refl; all = all; follows = refl }
+    by go [] is all follows = record { part = []; later = log; end = after_posts (rule_after_post u post.number post.job post.takes) posts; is = refl; all = all; follows = refl }
     by go (e ∷ part) is all follows = first go e part (cc is) (cc is) all follows
 
 -- ---- the run
@@ -129,11 +129,11 @@ answer-ruled tick go h q a answers jobs s u r f = by f.part f.is f.all f.follows
         let first = first_is tick u q a later r.listed g in
         let v = ruled_after_answer u later a in
         let script : scripted tick jobs s.moment q ≡ a = ap₂ (λ js m. scripted tick js m q) (sym r.jobs_are) (sym r.moment_is) ∙ sym first.0 in
-        let P : Answer → Type 0 = λ x. IsBeginningOf (after_answer go (Source.Scripted tick (without x jobs)) q x s) (after_answer go (Source.Given answers) q a s) in
+        let P : Answer → Type 0 = λ x. IsBeginningOf (after_answer go (Source.Scripted tick (without_done x jobs)) q x s) (after_answer go (Source.Given answers) q a s) in
         subst P (sym script)
         (behind (λ x. record (first_lines t.lines x) { log = LogEntry.Asked q a ∷ x.log }) t.lines (λ x. refl) (λ x. refl) _ _
-        (h answers (without a jobs) (silent t) v
-        (record { listed = first.1; jobs_are = ap (without a) r.jobs_are; moment_is = sym (answer-at a s) })
+        (h answers (without_done a jobs) (silent t) v
+        (record { listed = first.1; jobs_are = ap (without_done a) r.jobs_are; moment_is = sym (answer-at a s) })
         (record { part = part; later = f.later; end = f.end; is = is; all = all; follows = follows })))
 
     asked : (e : LogEntry) (part : List LogEntry) → LogEntry.Asked q a ≡ e → Rest.log ≡ part ++ f.later → answers_of (e ∷ part) ≡ a ∷ answers → Follows tick u (e ∷ part) f.end

@@ -15,7 +15,7 @@ use Rattle.world_rules.specs.declared.question.Question.{Question}
 use Rattle.world_rules.specs.Legal.{answers_of, moment_of, posted, posts_of}
 use Rattle.world_rules.specs.declared.question.LogEntry.{LogEntry}
 use Rattle.world_rules.specs.declared.question.PostedJob.{PostedJob}
-use Rattle.world_rules.specs.Script.{scripted, without}
+use Rattle.world_rules.specs.Script.{scripted, without_done}
 use Rattle.scenario_tree.specs.declared.tree.Scenario.{Scenario}
 use Rattle.scenario_tree.specs.declared.tree.Wait.{Wait}
 use Rattle.trace_text.specs.declared.line.Awaited.{Awaited}
@@ -56,7 +56,7 @@ use Rattle.machine.specs.Run.{GoingOn, Passed, Ran, Source, after_answer, after_
 use Rattle.machine.specs.Settle.{settle}
 use Rattle.machine.specs.Waits.{Performed, add_member, comes, completes, drawn, draws, gathered, late_outcome, made_member, map_ends, map_goes_on, maps, nothing, outcome_of_greenlet, parked, peeks_item, puts_item, raises, takes_item, until_of, waits}
 use Rattle.machine.proofs.Scripts.{answers_of-posts}
-use Rattle.trace_text.specs.LineTexts.{answers_of as answers_told}
+use Rattle.trace_text.specs.LineTexts.{answers_told}
 use Rattle.machine_told.specs.Told.{post_told, posts_told}
 
 -- ---- lines of a step
@@ -651,7 +651,7 @@ asks-told : (go : GoingOn) → GoesOnTelling go → (q : Question) (source : Sou
 asks-told go f q (Source.Given []) s e = record { posts_are = refl; answers_are = refl }
 asks-told go f q (Source.Given (a ∷ answers)) s e = answer-told go f (Source.Given answers) q a s e
 asks-told go f q (Source.Scripted tick jobs) s e =
-    let a = scripted tick jobs s.moment q in answer-told go f (Source.Scripted tick (without a jobs)) q a s e
+    let a = scripted tick jobs s.moment q in answer-told go f (Source.Scripted tick (without_done a jobs)) q a s e
 
 -- the block line tells nothing
 block-tells : (s : State) → IsSilent s → TellsPosts (block_line s).lines []

@@ -3,7 +3,7 @@ use Rattle.std.proofs.Common.{◌≡◌, refl, ℕ, zero, suc, List, [], ◌++�
 use Rattle.std.specs.Prelude.{Option, Some, None}
 use Rattle.world_rules.specs.declared.question.DueJob.{DueJob}
 use Rattle.world_rules.specs.declared.question.Question.{Question}
-use Rattle.world_rules.specs.Script.{scripted, without}
+use Rattle.world_rules.specs.Script.{scripted, without_done}
 use Rattle.scenario_tree.specs.declared.tree.Scenario.{Scenario}
 use Rattle.trace_text.specs.declared.line.StopCause.{StopCause}
 use Rattle.machine.specs.State.{State}
@@ -30,7 +30,7 @@ unfolding StopsByRule Stops
 question-stops tick budget go h None jobs s =
     let p = loop_exit budget (block_line s) in exit-stops tick go h (jobs ++ due_jobs s.moment p.posts) p.next
 question-stops tick budget go h (Some q) jobs s =
-    let t = silent (block_line s) in let a = scripted tick jobs t.moment q in h (without a jobs) (silent (take_answer a t))
+    let t = silent (block_line s) in let a = scripted tick jobs t.moment q in h (without_done a jobs) (silent (take_answer a t))
 
 turn-stops : (tick budget : ℕ) (go : GoingOn) → StopsByRule tick go → (jobs : List DueJob) (x : Next) → Stops (after_turn go budget (Source.Scripted tick jobs) x)
 unfolding Stops

@@ -2,7 +2,7 @@
 use Rattle.std.proofs.Common.{◌≡◌, ◌≢◌, ℕ, ◌+◌, ◌<◌, ◌≤◌, max, Bool, true, false, List, [], ◌∷◌, ◌++◌, length, map, get_or, set, Option, refl, sym, ap, ◌∙◌, subst, arith, slice_set}
 use Rattle.gv_values.specs.Counts.{HasRisen}
 use Rattle.std.proofs.lemmas.List.{length-map, get_or-map, map-append}
-use Rattle.stream_net.specs.Nets.{Connection, Changes, connection_at, nobody, live_count, IsNew}
+use Rattle.stream_net.specs.Nets.{Connection, Changes, connection_at, absent_connection, live_count, IsNew}
 use Rattle.stream_net.specs.declared.net.Ports.{Ports}
 use Rattle.stream_net.specs.declared.net.ReadEnd.{ReadEnd}
 use Rattle.stream_net.specs.declared.net.ReadEnd.TheVariants as R
@@ -22,7 +22,7 @@ module _ (endpoints : List Endpoint) (k : ℕ) (old new : Endpoint) (within : k 
   in_endpoints = subst (λ (n : ℕ). k < n) (length-map endpoints endpoint_meaning) within
 
   pub at_old : connection_at (map endpoint_meaning endpoints) k ≡ endpoint_meaning old
-  at_old = get_or-map endpoint_meaning endpoints k old nobody in_endpoints ∙ ap endpoint_meaning (sym is)
+  at_old = get_or-map endpoint_meaning endpoints k old absent_connection in_endpoints ∙ ap endpoint_meaning (sym is)
 
   -- how many are live, where it stays as open as it was
   pub kept_count : new.account.closed ≡ old.account.closed → live_count (map endpoint_meaning (slice_set endpoints k new)) ≡ live_count (map endpoint_meaning endpoints)
@@ -81,7 +81,7 @@ write_closed W.Memory bytes moment faults c = refl
 pub named_one : (endpoints : List Endpoint) (k : ℕ) (old new : Endpoint) → k < length endpoints → endpoint_meaning new ≡ woken_if (get_or endpoints k old).account.closed (endpoint_meaning (get_or endpoints k old))
     → map endpoint_meaning (slice_set endpoints k new) ≡ woken k (map endpoint_meaning endpoints)
 named_one endpoints k old new within e =
-    let at : connection_at (map endpoint_meaning endpoints) k ≡ endpoint_meaning (get_or endpoints k old) = get_or-map endpoint_meaning endpoints k old nobody within in
+    let at : connection_at (map endpoint_meaning endpoints) k ≡ endpoint_meaning (get_or endpoints k old) = get_or-map endpoint_meaning endpoints k old absent_connection within in
     map_set endpoint_meaning endpoints k new ∙ ap (λ (c : Connection). set (map endpoint_meaning endpoints) k c) (e ∙ ap (λ (c : Connection). woken_if c.closed c) (sym at))
 
 pub one_more_live : (endpoints : List Endpoint) (p : Endpoint) → p.account.closed ≡ false → live_count (map endpoint_meaning (endpoints ++ p ∷ [])) ≡ live_count (map endpoint_meaning endpoints) + 1

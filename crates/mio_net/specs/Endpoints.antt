@@ -2,7 +2,7 @@
 use Rattle.std.specs.Prelude.{ℕ, Bool, List, map, Option, None}
 use Rattle.stream_net.specs.Accounts.{account_meaning}
 use Rattle.stream_net.specs.declared.net.Ports.{Ports}
-use Rattle.stream_net.specs.Nets.{Connection, Meaning, Readiness}
+use Rattle.stream_net.specs.Nets.{Connection, NetMeaning, Readiness}
 use Rattle.mio_net.specs.declared.endpoint.Endpoint.{Endpoint}
 
 -- a connection of the system tells no bytes
@@ -10,7 +10,7 @@ abbrev pub endpoint_meaning : Endpoint → Connection
 endpoint_meaning p = account_meaning p.account None None
 
 -- what the fields of a net over the system mean
-abbrev pub meaning_by : List Endpoint → ℕ → ℕ → Option Ports → ℕ → Bool → Meaning
+abbrev pub meaning_by : List Endpoint → ℕ → ℕ → Option Ports → ℕ → Bool → NetMeaning
 meaning_by endpoints most moment listens faults blocked = record {
   connections = map endpoint_meaning endpoints;
   most = most;

@@ -29,7 +29,7 @@ use Rattle.native_board.specs.declared.views.WorkerStage.TheVariants.{Idle, Aske
 use Rattle.native_board.specs.declared.views.WorkerView.{WorkerView}
 use Rattle.native_board.specs.declared.views.View.{View}
 use Rattle.native_board.specs.declared.views.View.TheVariants.{Hub, Worker}
-use Rattle.native_board.specs.Words.{CellWords, cell_words, state_in, signed_in, signal_in, ended_of, value_of, outcome_of}
+use Rattle.native_board.specs.Words.{CellWords, cell_words, state_in, signed_in, signal_in, ended_of, value_of, job_outcome_of}
 use Rattle.gv_values.specs.JobParts.{kind_of, argument_of}
 use Rattle.gv_values.specs.Jobs.{job_of}
 use Rattle.world_rules.specs.Jobs.{eval}
@@ -411,11 +411,11 @@ pub stores_done : (slots id : ℕ) (me : M) (w : WorkerView) (i n : ℕ) (b : Jo
 stores_done slots id me w i n b x is own was reads = subst (λ i. Allows Kept slots id me (4 * i + 1) (λ _. x) (λ _. StoresDone (step slots (4 * i + 1) x 0 none) me x)) own (own_done slots id me w n b x is was reads)
 
 -- an outcome of a job is read again as it was stored
-pub outcome_again : (e : Ended) (v : ℤ) (o : JobOutcome) → IsJobEnd o → e ≡ ended_of o → v ≡ value_of o → outcome_of e v ≡ o
-outcome_again e v (JobOutcome.Int x) ends a b = λ i. outcome_of (a i) (b i)
-outcome_again e v (JobOutcome.Fault FaultKind.ValueError) ends a b = λ i. outcome_of (a i) (b i)
-outcome_again e v (JobOutcome.Fault FaultKind.OverflowError) ends a b = λ i. outcome_of (a i) (b i)
-outcome_again e v (JobOutcome.Fault (FaultKind.Error x)) ends a b = λ i. outcome_of (a i) (b i)
+pub outcome_again : (e : Ended) (v : ℤ) (o : JobOutcome) → IsJobEnd o → e ≡ ended_of o → v ≡ value_of o → job_outcome_of e v ≡ o
+outcome_again e v (JobOutcome.Int x) ends a b = λ i. job_outcome_of (a i) (b i)
+outcome_again e v (JobOutcome.Fault FaultKind.ValueError) ends a b = λ i. job_outcome_of (a i) (b i)
+outcome_again e v (JobOutcome.Fault FaultKind.OverflowError) ends a b = λ i. job_outcome_of (a i) (b i)
+outcome_again e v (JobOutcome.Fault (FaultKind.Error x)) ends a b = λ i. job_outcome_of (a i) (b i)
 outcome_again e v o ends a b = absurd ends
 
 pub loads_next_at : (slots id : ℕ) (me : M) (h : HubView) (i : ℕ) → me.0 ≡ Hub h → i ≡ length h.seen → i < h.made → Allows Kept slots id me (4 * i + 1) (λ n. n) (LoadsNext (step slots (4 * i + 1) 0 0 none) me)

@@ -61,11 +61,11 @@ value_of (JobOutcome.Fault (FaultKind.Error x)) = x
 value_of (JobOutcome.Fault fault) = pos 0
 
 -- the outcome of a job that ended so, with this integer
-abbrev pub outcome_of : Ended → ℤ → JobOutcome
-outcome_of Int x = JobOutcome.Int x
-outcome_of ValueError x = JobOutcome.Fault FaultKind.ValueError
-outcome_of OverflowError x = JobOutcome.Fault FaultKind.OverflowError
-outcome_of Error x = JobOutcome.Fault (FaultKind.Error x)
+abbrev pub job_outcome_of : Ended → ℤ → JobOutcome
+job_outcome_of Int x = JobOutcome.Int x
+job_outcome_of ValueError x = JobOutcome.Fault FaultKind.ValueError
+job_outcome_of OverflowError x = JobOutcome.Fault FaultKind.OverflowError
+job_outcome_of Error x = JobOutcome.Fault (FaultKind.Error x)
 
 -- the words of one cell
 pub record CellWords : Type 0 where

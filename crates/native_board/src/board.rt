@@ -16,7 +16,7 @@ use crate::steps::{
     store_free, store_order, store_posted, store_stop, store_value, swap_high, swap_low,
 };
 use crate::views::{CellState, HubCell, View};
-use crate::words::{CELL_WORDS, STATE, kind_of, outcome_of, state_in};
+use crate::words::{CELL_WORDS, STATE, job_outcome_of, kind_of, state_in};
 use atomic_table::Table;
 use gv_values::{Job, JobOutcome};
 use std::alloc::Global;
@@ -138,7 +138,7 @@ impl Board {
         hub.cells[at] = HubCell::Vacant;
         Some(Finished {
             number,
-            outcome: outcome_of(ended, value),
+            outcome: job_outcome_of(ended, value),
         })
     }
 

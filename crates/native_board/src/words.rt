@@ -1,6 +1,6 @@
 //! How a cell's words are written and read.
 ghost use Rattle.std.specs.Prelude.{◌≡◌, ◌<◌, ◌^◌, ◌/◌};
-ghost use Rattle.native_board.specs.Words.{state_in, number_in, kind_in, signed_in, ended_of, value_of, outcome_of};
+ghost use Rattle.native_board.specs.Words.{state_in, number_in, kind_in, signed_in, ended_of, value_of, job_outcome_of};
 ghost use Rattle.gv_values.specs.JobParts.{kind_of, argument_of};
 ghost use Rattle.native_board.specs.declared.views.CellState.TheVariants.{Done};
 
@@ -146,8 +146,8 @@ pub(crate) fn value_of(outcome: JobOutcome) -> i64
     }
 }
 
-pub(crate) fn outcome_of(ended: Ended, value: i64) -> JobOutcome
-    ensures { result ≡ outcome_of ended value }
+pub(crate) fn job_outcome_of(ended: Ended, value: i64) -> JobOutcome
+    ensures { result ≡ job_outcome_of ended value }
 {
     match ended {
         Ended::Int => JobOutcome::Int(value),

@@ -17,7 +17,7 @@ use Rattle.native_board.specs.declared.views.CellState.TheVariants.{Done}
 use Rattle.native_board.specs.declared.views.HubCell.{HubCell}
 use Rattle.native_board.specs.declared.views.HubCell.TheVariants.{Vacant, Sent}
 use Rattle.native_board.specs.Passes.{swept_cell, finished_at, after_sweep, finished}
-use Rattle.native_pool.specs.Desks.{one_if, occurs, sent_number, done_number, job_at, IsPostedCell, IsResult, KeepsJobs}
+use Rattle.native_pool.specs.Desks.{one_if, occurs, sent_number, done_number, job_posted_as, IsPostedCell, IsResult, KeepsJobs}
 
 same_number : (n : ℕ) → (n == n) ≡ true
 same_number n = grind (arith, nat_tests)
@@ -51,39 +51,39 @@ pub some_is : {X : Type 0} (a b : X) → Some a ≡ Some b → a ≡ b
 some_is a b h = ap (λ o. elim o [ Some x ↦ x | None ↦ a ]) h
 
 -- the job under a number was posted with it
-pub job_contains : (posts : List PostedJob) (n : ℕ) (j : Job) → job_at n posts ≡ Some j → Contains posts (posted n j)
+pub job_contains : (posts : List PostedJob) (n : ℕ) (j : Job) → job_posted_as n posts ≡ Some j → Contains posts (posted n j)
 job_contains [] n j h = absurd (false≢true (ap is_some h))
 job_contains (p ∷ ps) n j h = by_test (job_contains ps n j) (p.number == n) refl
   where
-    by_test : (job_at n ps ≡ Some j → Contains ps (posted n j)) → (b : Bool) → (p.number == n) ≡ b → Contains (p ∷ ps) (posted n j)
+    by_test : (job_posted_as n ps ≡ Some j → Contains ps (posted n j)) → (b : Bool) → (p.number == n) ≡ b → Contains (p ∷ ps) (posted n j)
     by_test rest true e = let number : p.number ≡ n = grind (arith, nat_tests) in
-        let job : p.job ≡ j = some_is p.job j (sym (ap (λ b. cond b (Some p.job) (job_at n ps)) e) ∙ h) in
+        let job : p.job ≡ j = some_is p.job j (sym (ap (λ b. cond b (Some p.job) (job_posted_as n ps)) e) ∙ h) in
         let same : p ≡ posted n j = λ i. record { number = number i; job = job i } in
         subst (λ (q : PostedJob). Contains (p ∷ ps) q) same (0, omega arith, refl)
-    by_test rest false e = let c = rest (sym (ap (λ b. cond b (Some p.job) (job_at n ps)) e) ∙ h) in let l = c.1 in (suc c.0, omega arith, c.2)
+    by_test rest false e = let c = rest (sym (ap (λ b. cond b (Some p.job) (job_posted_as n ps)) e) ∙ h) in let l = c.1 in (suc c.0, omega arith, c.2)
 
-job_kept : (posts : List PostedJob) (q : PostedJob) (n : ℕ) (j : Job) → job_at n posts ≡ Some j → job_at n (posts ++ q ∷ []) ≡ Some j
+job_kept : (posts : List PostedJob) (q : PostedJob) (n : ℕ) (j : Job) → job_posted_as n posts ≡ Some j → job_posted_as n (posts ++ q ∷ []) ≡ Some j
 job_kept [] q n j h = absurd (false≢true (ap is_some h))
 job_kept (p ∷ ps) q n j h = by_test (job_kept ps q n j) (p.number == n) refl
   where
-    by_test : (job_at n ps ≡ Some j → job_at n (ps ++ q ∷ []) ≡ Some j) → (b : Bool) → (p.number == n) ≡ b → job_at n (p ∷ ps ++ q ∷ []) ≡ Some j
-    by_test rest true e = ap (λ b. cond b (Some p.job) (job_at n (ps ++ q ∷ []))) e ∙ (sym (ap (λ b. cond b (Some p.job) (job_at n ps)) e) ∙ h)
-    by_test rest false e = ap (λ b. cond b (Some p.job) (job_at n (ps ++ q ∷ []))) e
-        ∙ rest (sym (ap (λ b. cond b (Some p.job) (job_at n ps)) e) ∙ h)
+    by_test : (job_posted_as n ps ≡ Some j → job_posted_as n (ps ++ q ∷ []) ≡ Some j) → (b : Bool) → (p.number == n) ≡ b → job_posted_as n (p ∷ ps ++ q ∷ []) ≡ Some j
+    by_test rest true e = ap (λ b. cond b (Some p.job) (job_posted_as n (ps ++ q ∷ []))) e ∙ (sym (ap (λ b. cond b (Some p.job) (job_posted_as n ps)) e) ∙ h)
+    by_test rest false e = ap (λ b. cond b (Some p.job) (job_posted_as n (ps ++ q ∷ []))) e
+        ∙ rest (sym (ap (λ b. cond b (Some p.job) (job_posted_as n ps)) e) ∙ h)
 
-job_new : (posts : List PostedJob) (n : ℕ) (j : Job) → is_posted n posts ≡ false → job_at n (posts ++ posted n j ∷ []) ≡ Some j
+job_new : (posts : List PostedJob) (n : ℕ) (j : Job) → is_posted n posts ≡ false → job_posted_as n (posts ++ posted n j ∷ []) ≡ Some j
 job_new [] n j h = ap (λ b. cond b (Some j) None) (same_number n)
 job_new (p ∷ ps) n j h = by_test (job_new ps n j) (p.number == n) refl
   where
-    by_test : (is_posted n ps ≡ false → job_at n (ps ++ posted n j ∷ []) ≡ Some j) → (b : Bool) → (p.number == n) ≡ b → job_at n (p ∷ ps ++ posted n j ∷ []) ≡ Some j
+    by_test : (is_posted n ps ≡ false → job_posted_as n (ps ++ posted n j ∷ []) ≡ Some j) → (b : Bool) → (p.number == n) ≡ b → job_posted_as n (p ∷ ps ++ posted n j ∷ []) ≡ Some j
     by_test rest true e = absurd (false≢true (sym h ∙ ap (λ b. b || is_posted n ps) e))
-    by_test rest false e = ap (λ b. cond b (Some p.job) (job_at n (ps ++ posted n j ∷ []))) e
+    by_test rest false e = ap (λ b. cond b (Some p.job) (job_posted_as n (ps ++ posted n j ∷ []))) e
         ∙ rest (sym (ap (λ b. b || is_posted n ps) e) ∙ h)
 
 result_kept : (posts : List PostedJob) (q : PostedJob) (f : Finished) → IsResult posts f → IsResult (posts ++ q ∷ []) f
-result_kept posts q f h = by_job (job_at f.number posts) refl
+result_kept posts q f h = by_job (job_posted_as f.number posts) refl
   where
-    by_job : (o : Option Job) → job_at f.number posts ≡ o → IsResult (posts ++ q ∷ []) f
+    by_job : (o : Option Job) → job_posted_as f.number posts ≡ o → IsResult (posts ++ q ∷ []) f
     by_job (Some j) e = ap (option_map eval) (job_kept posts q f.number j e ∙ sym e) ∙ h
     by_job None e = absurd (false≢true (ap is_some (sym (ap (option_map eval) e) ∙ h)))
 
@@ -93,9 +93,9 @@ cell_kept posts q x h = tt
 
 -- the result of a posted job is its outcome
 pub result_of : (posts : List PostedJob) (f : Finished) → IsResult posts f → IsOutcomeOf f.number f.outcome posts
-result_of posts f h = by_job (job_at f.number posts) refl
+result_of posts f h = by_job (job_posted_as f.number posts) refl
   where
-    by_job : (o : Option Job) → job_at f.number posts ≡ o → IsOutcomeOf f.number f.outcome posts
+    by_job : (o : Option Job) → job_posted_as f.number posts ≡ o → IsOutcomeOf f.number f.outcome posts
     by_job (Some j) e = (j, job_contains posts f.number j e, sym (some_is (eval j) f.outcome (sym (ap (option_map eval) e) ∙ h)))
     by_job None e = absurd (false≢true (ap is_some (sym (ap (option_map eval) e) ∙ h)))
 
@@ -117,8 +117,8 @@ pub keeps_post : (w : List PostedJob) (cells : List HubCell) (held : List Finish
 keeps_post w cells held posts answers n j new s = record {
   once = λ m. once_at m (n == m) refl;
   each = λ m. let was = s.each m in let a = pushed m w n j in let b = pushed m posts n j in omega arith;
-  waiting_posted = All-push (λ (p : PostedJob). job_at p.number (posts ++ posted n j ∷ []) ≡ Some p.job) w (posted n j)
-      (All-weaker (λ (p : PostedJob). job_at p.number posts ≡ Some p.job) (λ (p : PostedJob). job_at p.number (posts ++ posted n j ∷ []) ≡ Some p.job)
+  waiting_posted = All-push (λ (p : PostedJob). job_posted_as p.number (posts ++ posted n j ∷ []) ≡ Some p.job) w (posted n j)
+      (All-weaker (λ (p : PostedJob). job_posted_as p.number posts ≡ Some p.job) (λ (p : PostedJob). job_posted_as p.number (posts ++ posted n j ∷ []) ≡ Some p.job)
       (λ p h. job_kept posts (posted n j) p.number p.job h) w s.waiting_posted) (job_new posts n j new);
   cells_posted = All-weaker (IsPostedCell posts) (IsPostedCell (posts ++ posted n j ∷ [])) (cell_kept posts (posted n j)) cells s.cells_posted;
   held_posted = All-weaker (IsResult posts) (IsResult (posts ++ posted n j ∷ [])) (result_kept posts (posted n j)) held s.held_posted;
@@ -145,8 +145,8 @@ pub keeps_fill : (w : List PostedJob) (cells : List HubCell) (held : List Finish
 keeps_fill w cells held posts answers i n j free l s = record {
   once = s.once;
   each = λ m. let was = s.each m in let a = sent_set m cells i n j free l in omega arith;
-  waiting_posted = All-tail (λ (p : PostedJob). job_at p.number posts ≡ Some p.job) (posted n j) w s.waiting_posted;
-  cells_posted = All-set (IsPostedCell posts) cells i (Sent n j) (All-head (λ (p : PostedJob). job_at p.number posts ≡ Some p.job) (posted n j) w s.waiting_posted) s.cells_posted;
+  waiting_posted = All-tail (λ (p : PostedJob). job_posted_as p.number posts ≡ Some p.job) (posted n j) w s.waiting_posted;
+  cells_posted = All-set (IsPostedCell posts) cells i (Sent n j) (All-head (λ (p : PostedJob). job_posted_as p.number posts ≡ Some p.job) (posted n j) w s.waiting_posted) s.cells_posted;
   held_posted = s.held_posted;
 }
 
@@ -217,12 +217,12 @@ pub keeps_eval : (w : List PostedJob) (cells : List HubCell) (held : List Finish
     → KeepsJobs (posted n j ∷ w) cells held posts answers
     → IsResult posts (record { number = n; outcome = eval j }) × (is_answered n answers ≡ false) × ((at : ℕ) → KeepsJobs w cells held posts (answers ++ Answer.Done n (eval j) at ∷ []))
 keeps_eval w cells held posts answers n j s = (
-  ap (option_map eval) (All-head (λ (p : PostedJob). job_at p.number posts ≡ Some p.job) (posted n j) w s.waiting_posted),
+  ap (option_map eval) (All-head (λ (p : PostedJob). job_posted_as p.number posts ≡ Some p.job) (posted n j) w s.waiting_posted),
   unanswered n answers (let was = s.each n in let most = s.once n in let one : one_if (n == n) ≡ 1 = ap one_if (same_number n) in omega (arith, was, most, one)),
   λ at. record {
     once = s.once;
     each = λ m. let was = s.each m in let a = answered_more m answers (Answer.Done n (eval j) at) in omega arith;
-    waiting_posted = All-tail (λ (p : PostedJob). job_at p.number posts ≡ Some p.job) (posted n j) w s.waiting_posted;
+    waiting_posted = All-tail (λ (p : PostedJob). job_posted_as p.number posts ≡ Some p.job) (posted n j) w s.waiting_posted;
     cells_posted = s.cells_posted;
     held_posted = s.held_posted;
   },

@@ -11,7 +11,7 @@ use Rattle.std.specs.List.{flat_map}
 use Rattle.std.proofs.lemmas.List.{length-replicate}
 use Rattle.std.proofs.lemmas.List.Elements.{All-nil, All-cons}
 use Rattle.native_board.specs.Passes.{is_sent}
-use Rattle.native_pool.specs.Desks.{DeskView, Balances, KeepsJobs, SameCells, Fills, occurs, sent_number, job_at, IsPostedCell, IsResult}
+use Rattle.native_pool.specs.Desks.{DeskView, Balances, KeepsJobs, SameCells, Fills, occurs, sent_number, job_posted_as, IsPostedCell, IsResult}
 use Rattle.native_pool.specs.Pools.{Pool, IsSound, IsSoundDesk, KeepsStarts, WhileRunning, passed, told_cell, numbers_from}
 use Rattle.native_pool.proofs.JobLemmas.{some_is, keeps_post}
 use Rattle.native_pool.proofs.DeskSteps.{jobs_as}
@@ -84,7 +84,7 @@ keeps_none : (n : ℕ) → KeepsJobs [] (replicate n Vacant) [] [] []
 keeps_none n = record {
   once = λ m. omega arith;
   each = λ m. let none = none_sent m n in omega arith;
-  waiting_posted = All-nil (λ (p : PostedJob). job_at p.number [] ≡ Some p.job);
+  waiting_posted = All-nil (λ (p : PostedJob). job_posted_as p.number [] ≡ Some p.job);
   cells_posted = vacant_posted n;
   held_posted = All-nil (IsResult []);
 }

@@ -55,25 +55,25 @@ done_number (Answer.Done k outcome at) = k ∷ []
 done_number _ = []
 
 -- the job that was posted under a number
-abbrev pub job_at : ℕ → List PostedJob → Option Job
-job_at n [] = None
-job_at n (p ∷ ps) = if p.number == n then Some p.job else job_at n ps
+abbrev pub job_posted_as : ℕ → List PostedJob → Option Job
+job_posted_as n [] = None
+job_posted_as n (p ∷ ps) = if p.number == n then Some p.job else job_posted_as n ps
 
 -- the job that lies in a cell was posted under its number
 abbrev pub IsPostedCell : List PostedJob → HubCell → Type 0
-IsPostedCell posts (Sent k j) = job_at k posts ≡ Some j
+IsPostedCell posts (Sent k j) = job_posted_as k posts ≡ Some j
 IsPostedCell posts _ = Unit {0}
 
 -- the result is the outcome of the job that was posted under its number
 abbrev pub IsResult : List PostedJob → Finished → Type 0
-IsResult posts f = option_map eval (job_at f.number posts) ≡ Some f.outcome
+IsResult posts f = option_map eval (job_posted_as f.number posts) ≡ Some f.outcome
 
 -- Each posted job waits, or lies in a cell, or its result is held, or it was answered: one of these, and once
 pub record KeepsJobs (waiting : List PostedJob) (cells : List HubCell) (held : List Finished) (posts : List PostedJob) (answers : List Answer) : Type 0 where
   pub once : (n : ℕ) → occurs n (map (λ (p : PostedJob). p.number) posts) ≤ 1
   pub each : (n : ℕ) → occurs n (map (λ (p : PostedJob). p.number) waiting) + (occurs n (flat_map sent_number cells) + (occurs n (map (λ (f : Finished). f.number) held) + occurs n (flat_map done_number answers)))
       ≡ occurs n (map (λ (p : PostedJob). p.number) posts)
-  pub waiting_posted : All (λ (p : PostedJob). job_at p.number posts ≡ Some p.job) waiting
+  pub waiting_posted : All (λ (p : PostedJob). job_posted_as p.number posts ≡ Some p.job) waiting
   pub cells_posted : All (IsPostedCell posts) cells
   pub held_posted : All (IsResult posts) held
 

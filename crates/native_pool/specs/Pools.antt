@@ -10,7 +10,7 @@ use Rattle.native_board.specs.declared.views.HubCell.TheVariants.{Stopped}
 use Rattle.native_board.specs.declared.views.HubView.{HubView}
 use Rattle.native_board.specs.Rules.{hub_cell}
 use Rattle.native_board.specs.Passes.{is_sent}
-use Rattle.world.specs.Worlds.{Meaning}
+use Rattle.world.specs.Worlds.{WorldMeaning}
 use Rattle.gv_values.specs.Counts.{HasRisen}
 use Rattle.gv_values.specs.OneMore.{one_more}
 use Rattle.native_pool.specs.Desks.{DeskView, Balances}
@@ -32,7 +32,7 @@ pub record Pool : Type 0 where
   pub ended : Option HubView
 
 -- what it means as a world: its rule rests on nothing
-abbrev pub pool_meaning : Pool → Meaning
+abbrev pub pool_meaning : Pool → WorldMeaning
 pool_meaning p =
     record { posts = p.posts; answers = p.answers; moment = p.moment; workers = p.workers; tick = 0; listed = []; runs = is_some p.desk; reference = 0 }
 

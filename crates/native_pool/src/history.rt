@@ -1,6 +1,6 @@
 //! What was posted to a pool and what it answered.
 ghost use Rattle.std.specs.Prelude.{◌≡◌, ◌<◌, ◌≤◌, ◌^◌, ◌++◌, ◌∷◌, [], OnOk, vec_len, vec_capacity, min};
-ghost use Rattle.world_rules.specs.Legal.{posted, moment_of, last_moment_of};
+ghost use Rattle.world_rules.specs.Legal.{posted, moment_of, last_answered_moment};
 ghost use Rattle.world_rules.specs.Script.{last_moment};
 
 use gv_values::{Answer, Job};
@@ -16,7 +16,7 @@ pub struct History {
     pub(crate) posts: Vec<PostedJob>,
     pub(crate) answers: Vec<Answer>,
     pub(crate) moment: u64,
-    ghost timely: { last_moment_of answers.items ≤ moment },
+    ghost timely: { last_answered_moment answers.items ≤ moment },
     ghost fits: { moment < 2 ^ 62 },
 }
 

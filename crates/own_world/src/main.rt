@@ -6,8 +6,8 @@ mod counting;
 
 use crate::counting::{AskedWorld, CountedSink};
 use gv_io::{Sink, StdSink, StdSource, read_limited};
-use hub_engine::{Budgets, End, Engine};
-use scenario_lang::MOST_BYTES;
+use hub_engine::{Budgets, Engine, EngineEnd};
+use scenario_lang::MOST_TEXT;
 use scenario_reading::read_scenario;
 use std::io;
 use std::process::ExitCode;
@@ -31,7 +31,7 @@ fn runs(rt: &HostRuntime) -> io::Result<bool> {
         sink: StdSink::new(alloc, rt.stdout().lock(), 4096)?,
         bytes: 0,
     };
-    let Ok(text) = read_limited(alloc, &mut StdSource::new(rt.reader()), MOST_BYTES) else {
+    let Ok(text) = read_limited(alloc, &mut StdSource::new(rt.reader()), MOST_TEXT) else {
         return Ok(false);
     };
     let Ok(scenario) = read_scenario(alloc, text.as_slice()) else {
@@ -43,7 +43,7 @@ fn runs(rt: &HostRuntime) -> io::Result<bool> {
         "{} questions, {} bytes, moment {}",
         world.questions, trace.bytes, ran.moment
     )?;
-    Ok(is_out && ran.end == End::MainValue)
+    Ok(is_out && ran.end == EngineEnd::MainValue)
 }
 
 fn main(rt: HostRuntime) -> ExitCode {

@@ -1,7 +1,8 @@
 //! Words, and what they ask for.
 use crate::calls::words_of;
 use command_words::{
-    Command, GatewayKind, RunOptions, RunWorld, ServeAnswers, ServeOptions, TextCommand, command_of,
+    GatewayKind, NamedCommand, RunOptions, RunWorld, ServeAnswers, ServeOptions, TextCommand,
+    command_of,
 };
 use std::alloc::{AllocError, Global};
 use std::test::Fail;
@@ -33,14 +34,14 @@ const RUNS: &[(&str, u64, u64, RunWorld)] = &[
 ];
 
 /// The words of other commands, and the command that they name.
-const OTHERS: &[(&str, Command)] = &[
-    ("fmt", Command::Text(TextCommand::Format)),
-    ("wsgi", Command::Wsgi(GatewayKind::Http)),
-    ("wsgi --gateway=http", Command::Wsgi(GatewayKind::Http)),
-    ("wsgi --gateway scgi", Command::Wsgi(GatewayKind::Scgi)),
+const OTHERS: &[(&str, NamedCommand)] = &[
+    ("fmt", NamedCommand::Text(TextCommand::Format)),
+    ("wsgi", NamedCommand::Wsgi(GatewayKind::Http)),
+    ("wsgi --gateway=http", NamedCommand::Wsgi(GatewayKind::Http)),
+    ("wsgi --gateway scgi", NamedCommand::Wsgi(GatewayKind::Scgi)),
     (
         "serve --conns 2 --port=0",
-        Command::Serve(ServeOptions {
+        NamedCommand::Serve(ServeOptions {
             port: 0,
             conns: 2,
             pool: 100,
@@ -50,7 +51,7 @@ const OTHERS: &[(&str, Command)] = &[
     ),
     (
         "serve --gateway=scgi --conns 2 --port=0",
-        Command::Serve(ServeOptions {
+        NamedCommand::Serve(ServeOptions {
             port: 0,
             conns: 2,
             pool: 100,
@@ -60,7 +61,7 @@ const OTHERS: &[(&str, Command)] = &[
     ),
     (
         "serve --idle 3600000 --pool=1024 --port 65535 --conns=1000000",
-        Command::Serve(ServeOptions {
+        NamedCommand::Serve(ServeOptions {
             port: 65535,
             conns: 1000000,
             pool: 1024,
@@ -70,7 +71,7 @@ const OTHERS: &[(&str, Command)] = &[
     ),
     (
         "serve --port 8080 --conns 2 --idle 1000 --jobs 1",
-        Command::Serve(ServeOptions {
+        NamedCommand::Serve(ServeOptions {
             port: 8080,
             conns: 2,
             pool: 100,
@@ -80,7 +81,7 @@ const OTHERS: &[(&str, Command)] = &[
     ),
     (
         "serve --jobs=16 --gateway http --port 0 --conns 1",
-        Command::Serve(ServeOptions {
+        NamedCommand::Serve(ServeOptions {
             port: 0,
             conns: 1,
             pool: 100,
@@ -88,7 +89,7 @@ const OTHERS: &[(&str, Command)] = &[
             answers: ServeAnswers::Jobs(16),
         }),
     ),
-    ("storm --size 19000", Command::Storm(19000)),
+    ("storm --size 19000", NamedCommand::Storm(19000)),
 ];
 
 /// Words that name no command.
@@ -122,13 +123,13 @@ const NONE: &[&str] = &[
 ];
 
 /// Whether this is the command that the words of a line name.
-fn is_asked(alloc: Global, line: &str, command: Option<Command>) -> Result<bool, AllocError> {
+fn is_asked(alloc: Global, line: &str, command: Option<NamedCommand>) -> Result<bool, AllocError> {
     let words = words_of(alloc, line)?;
     Ok(command_of(alloc, words.as_slice())? == command)
 }
 
-fn run(turns: u64, moves: u64, world: RunWorld) -> Command {
-    Command::Text(TextCommand::Run(RunOptions {
+fn run(turns: u64, moves: u64, world: RunWorld) -> NamedCommand {
+    NamedCommand::Text(TextCommand::Run(RunOptions {
         turns,
         moves,
         world,

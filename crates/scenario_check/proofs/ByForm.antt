@@ -12,7 +12,7 @@ use Rattle.scenario_tree.specs.declared.tree.Expression.TheFolds.{family, steps}
 use Rattle.scenario_tree.specs.declared.tree.Expression.TheOpen.{Expression-F}
 use Rattle.scenario_rules.specs.declared.mention.Says.{Says}
 use Rattle.scenario_rules.specs.declared.mention.Says.TheVariants as says
-use Rattle.scenario_rules.specs.Mentions.{asked_of, expression_says, layer_says, all_say}
+use Rattle.scenario_rules.specs.Mentions.{wanted_by, expression_says, layer_says, all_say}
 
 said_out : (e : Expression) → expression_says e ≡ layer_says (map-Expression Expression (List Says) expression_says (out-Expression e))
 unfolding out-Expression denote.Hole.Carrier.out
@@ -60,5 +60,5 @@ list_says es = one_level (E.List es) (Expression-F.List es) (E.outs-List es) ∙
     flattened [] = Rattle.std.proofs.Common.refl
     flattened (e ∷ es) = ap (λ z. expression_says e ++ z) (flattened es)
 
-pub query_says : (q : Query) (x : List ℕ) → expression_says (E.Query q x) ≡ says.Object (asked_of q) x ∷ []
+pub query_says : (q : Query) (x : List ℕ) → expression_says (E.Query q x) ≡ says.Object (wanted_by q) x ∷ []
 query_says q x = one_level (E.Query q x) (Expression-F.Query q x) (E.outs-Query q x)

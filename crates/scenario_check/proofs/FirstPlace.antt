@@ -4,15 +4,15 @@ use Rattle.std.proofs.lemmas.Bool.{false≢true}
 use Rattle.std.specs.Option.{is_some}
 use Rattle.scenario_tree.specs.declared.tree.Scenario.{Scenario}
 use Rattle.scenario_grammar.specs.declared.place.Place.{Place}
-use Rattle.scenario_rules.specs.Rules.{IsWellFormed, earlier, first_after, place_of, refusals}
+use Rattle.scenario_rules.specs.Rules.{IsWellFormed, earlier_place, first_after, place_of, refusals}
 
 pub first_both : (p : Option Place) (xs ys : List Place) → first_after p (xs ++ ys) ≡ first_after (first_after p xs) ys
 first_both p [] ys = refl
-first_both p (x ∷ xs) ys = first_both (Some (earlier p x)) xs ys
+first_both p (x ∷ xs) ys = first_both (Some (earlier_place p x)) xs ys
 
 never_none : (p : Place) (ps : List Place) → first_after (Some p) ps ≡ None → ⊥
 never_none p [] h = false≢true (sym (ap is_some h))
-never_none p (q ∷ qs) h = never_none (earlier (Some p) q) qs h
+never_none p (q ∷ qs) h = never_none (earlier_place (Some p) q) qs h
 
 -- a scenario without a place is well formed
 pub well_formed : (s : Scenario) → place_of s ≡ None → IsWellFormed s

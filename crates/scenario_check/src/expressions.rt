@@ -1,6 +1,6 @@
 //! What the words of a line say that the rules look at, added to a list.
 ghost use Rattle.std.specs.Prelude.{◌≡◌, [], ◌∷◌, ◌++◌, OnOk};
-ghost use Rattle.scenario_rules.specs.Mentions.{all_say, asked_of, expression_says, on};
+ghost use Rattle.scenario_rules.specs.Mentions.{all_say, wanted_by, expression_says, on};
 
 use gv_values::Name;
 use scenario_rules::{Mention, Says, Wanted};
@@ -14,8 +14,8 @@ pub(crate) fn say(said: &mut Items<Mention>, line: u32, says: Says) -> Result<()
     said.push(Mention { line, says })
 }
 
-fn asked_of(query: Query) -> Wanted
-    ensures { result ≡ asked_of query }
+fn wanted_by(query: Query) -> Wanted
+    ensures { result ≡ wanted_by query }
 {
     match query {
         Query::IsSet => Wanted::EventOrResult,
@@ -42,7 +42,9 @@ pub(crate) fn say_expression(
         | Expression::Current
         | Expression::Fault(_) => Ok(()),
         Expression::Local(name) => say(said, line, Says::Uses(*name)),
-        Expression::Query(query, name) => { say(said, line, Says::Object(asked_of(*query), *name)) }
+        Expression::Query(query, name) => {
+            say(said, line, Says::Object(wanted_by(*query), *name))
+        }
         Expression::Unary(_, a) => Ok(say_boxed(said, line, a)?),
         Expression::Binary(_, a, b) => {
             say_boxed(said, line, a)?;

@@ -1,6 +1,6 @@
 //! Statements of one line that give a value.
 ghost use Rattle.std.specs.Prelude.{◌≡◌, [], ◌∷◌, ◌++◌, OnOk};
-ghost use Rattle.scenario_rules.specs.Mentions.{call, expression_says, giving_says, hub, object, on, perhaps_says};
+ghost use Rattle.scenario_rules.specs.Mentions.{call, expression_says, giving_says, hub, says_object, on, perhaps_says};
 ghost use Rattle.scenario_rules.specs.declared.mention.Says.{Says as Word};
 
 use crate::expressions::{say, say_expression};

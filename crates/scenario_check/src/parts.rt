@@ -1,6 +1,6 @@
 //! The parts that statements of one line have in common.
 ghost use Rattle.std.specs.Prelude.{◌≡◌, [], ◌∷◌, ◌++◌, OnOk};
-ghost use Rattle.scenario_rules.specs.Mentions.{call, expression_says, hub, object, on, perhaps_says, target_says};
+ghost use Rattle.scenario_rules.specs.Mentions.{call, expression_says, hub, says_object, on, perhaps_says, target_says};
 
 use crate::expressions::{say, say_all, say_expression};
 use gv_values::Name;
@@ -86,7 +86,7 @@ pub(crate) fn say_hub_object(
     kind: Wanted,
     name: &Name,
 ) -> Result<(), AllocError>
-    ensures { OnOk result (said.new ≡ said.old ++ on line (hub ++ object kind name.now)) }
+    ensures { OnOk result (said.new ≡ said.old ++ on line (hub ++ says_object kind name.now)) }
 {
     say(said, line, Says::AsksHub)?;
     Ok(say(said, line, Says::Object(kind, *name))?)
@@ -100,7 +100,7 @@ pub(crate) fn say_hub_object_expression(
     name: &Name,
     expression: &Expression,
 ) -> Result<(), AllocError>
-    ensures { OnOk result (said.new ≡ said.old ++ on line (hub ++ object kind name.now ++ expression_says expression.now)) }
+    ensures { OnOk result (said.new ≡ said.old ++ on line (hub ++ says_object kind name.now ++ expression_says expression.now)) }
 {
     say_hub_object(said, line, kind, name)?;
     Ok(say_expression(said, line, expression)?)
@@ -114,7 +114,7 @@ pub(crate) fn say_hub_object_perhaps(
     name: &Name,
     expression: &Option<Expression>,
 ) -> Result<(), AllocError>
-    ensures { OnOk result (said.new ≡ said.old ++ on line (hub ++ object kind name.now ++ perhaps_says expression.now)) }
+    ensures { OnOk result (said.new ≡ said.old ++ on line (hub ++ says_object kind name.now ++ perhaps_says expression.now)) }
 {
     say_hub_object(said, line, kind, name)?;
     Ok(say_perhaps(said, line, expression)?)

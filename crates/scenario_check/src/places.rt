@@ -3,7 +3,7 @@ ghost use Rattle.std.specs.Prelude.{◌≡◌, Some, [], ◌∷◌};
 ghost use Rattle.std.specs.Option.{is_some};
 ghost use Rattle.std.specs.List.{flat_map};
 ghost use Rattle.scenario_rules.specs.declared.mention.Mention.{Mention as AnyMention};
-ghost use Rattle.scenario_rules.specs.Rules.{earlier, first_after, is_before, past, refused_names};
+ghost use Rattle.scenario_rules.specs.Rules.{earlier_place, first_after, is_before, past, refused_names};
 ghost use Rattle.name_table.specs.Tables.{found};
 ghost use Rattle.scenario_check.specs.Words.{placed, word_reason};
 
@@ -18,8 +18,8 @@ fn is_before(p: Place, q: Place) -> bool
     p.line < q.line || p.line == q.line && p.reason < q.reason
 }
 
-fn earlier(first: Option<Place>, place: Place) -> Place
-    ensures { result ≡ earlier first place }
+fn earlier_place(first: Option<Place>, place: Place) -> Place
+    ensures { result ≡ earlier_place first place }
 {
     match first {
         None => place,
@@ -39,7 +39,7 @@ pub(crate) fn noted(first: Option<Place>, line: u32, reason: Option<RuleReason>)
 {
     match reason {
         None => first,
-        Some(reason) => Some(earlier(
+        Some(reason) => Some(earlier_place(
             first,
             Place {
                 line,
@@ -63,7 +63,7 @@ pub(crate) fn noted_names(
             line: named.line,
             reason: reason.number(),
         };
-        least = Some(earlier(least, place));
+        least = Some(earlier_place(least, place));
     }
     least
 }
@@ -74,7 +74,7 @@ pub(crate) fn noted_past(first: Option<Place>, most: usize, names: &[Named]) -> 
 {
     match names.get(most) {
         None => first,
-        Some(named) => Some(earlier(
+        Some(named) => Some(earlier_place(
             first,
             Place {
                 line: named.line,

@@ -3,7 +3,7 @@ use Rattle.std.proofs.Common.{◌≡◌, ℕ, zero, suc, pos, negsuc, Bool, true
 use Rattle.std.specs.List.{list_all}
 use Rattle.scenario_grammar.specs.declared.token.Token.{Token}
 use Rattle.scenario_grammar.specs.declared.token.Token.TheVariants as token
-use Rattle.scenario_grammar.specs.Tokens.{Written, each, only_if, is_free, in_64_bits, name, integer, number}
+use Rattle.scenario_grammar.specs.Tokens.{Written, each, only_if, is_free_name, in_64_bits, name, integer, number}
 use Rattle.scenario_grammar.specs.Reading.{Reader, Reading, ◌<$>◌, name_at, integer_at, number_at, count_at}
 use Rattle.scenario_grammar.proofs.Parts.{is_proper, Sound, Full, Anything, ok_first, ok_second, proper_at, map_sound, then_sound, map_full, then_full}
 use Rattle.scenario_grammar.specs.declared.reason.TextReason.TheVariants as reason
@@ -25,7 +25,7 @@ name_sound (token.Oversized ∷ ts) rest made h e = cc
 name_sound (token.Misspelled ∷ ts) rest made h e = cc
 name_sound (token.Unknown ∷ ts) rest made h e = cc
 name_sound (token.Name n ∷ ts) rest made h e =
-    let free : is_free n ≡ true = and_left (is_free n) (list_all is_proper ts) h in
+    let free : is_free_name n ≡ true = and_left (is_free_name n) (list_all is_proper ts) h in
     let ends = ok_second n made ts rest e in
     record {
       parts = n;
@@ -33,7 +33,7 @@ name_sound (token.Name n ∷ ts) rest made h e =
       front = token.Name n ∷ [];
       written = rw free refl;
       whole = ap (λ z. token.Name n ∷ z) ends;
-      proper = proper_at ts rest ends (and_right (is_free n) (list_all is_proper ts) h);
+      proper = proper_at ts rest ends (and_right (is_free_name n) (list_all is_proper ts) h);
     }
 
 pub kept : {A : Type 0} (b : Bool) (w : Written A) (front : List A) → only_if b w ≡ Some front → (b ≡ true) × (w ≡ Some front)
@@ -43,7 +43,7 @@ kept false w front e = cc
 pub name_full : Full (λ n. n) name Anything name_at
 unfolding name name_at
 name_full n front rest e h =
-    let k = kept (is_free n) (Some (token.Name n ∷ [])) front e in
+    let k = kept (is_free_name n) (Some (token.Name n ∷ [])) front e in
     let same : token.Name n ∷ [] ≡ front = cc in
     rw (sym same) refl
 

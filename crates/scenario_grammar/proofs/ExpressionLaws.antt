@@ -19,7 +19,7 @@ use Rattle.scenario_grammar.specs.declared.keyword.Keyword.{Keyword}
 use Rattle.scenario_grammar.specs.declared.keyword.Keyword.TheVariants as k
 use Rattle.scenario_grammar.specs.declared.token.Token.{Token}
 use Rattle.scenario_grammar.specs.declared.token.Token.TheVariants as token
-use Rattle.scenario_grammar.specs.Tokens.{Written, ◌⊕◌, ◌▹◌, each, fixed, name, integer, number, in_64_bits, is_free}
+use Rattle.scenario_grammar.specs.Tokens.{Written, ◌⊕◌, ◌▹◌, each, fixed, name, integer, number, in_64_bits, is_free_name}
 use Rattle.scenario_grammar.specs.Expressions.{binary_keyword, unary_keyword, query_keyword, fault_tokens, layer_tokens, tokens_within}
 use Rattle.scenario_grammar.specs.Reading.{Reading, ◌<$>◌, name_at, integer_at, number_at, count_at, head_of, headed_at, nested_at}
 use Rattle.scenario_grammar.proofs.Parts.{is_proper, AreProper, Built, Sound, Full, Anything, ok_first, ok_second, proper_at, both, bind_ok, map_sound, then_sound, pure_sound, map_full, then_full}
@@ -200,7 +200,7 @@ single depth t x made ts rest w h r =
     let ends = ok_second x made ts rest r in
     record { parts = x; made_of = ok_first x made ts rest r; front = t ∷ []; written = w; whole = ap (λ z. t ∷ z) ends; proper = proper_at ts rest ends h }
 
-name_layer : (d : ℕ) (m : Name) → is_free m ≡ true → layer_tokens (tokens_within d) (out-Expression (e.Local m)) ≡ Some (token.Name m ∷ [])
+name_layer : (d : ℕ) (m : Name) → is_free_name m ≡ true → layer_tokens (tokens_within d) (out-Expression (e.Local m)) ≡ Some (token.Name m ∷ [])
 unfolding name
 name_layer d m free = ap (layer_tokens (tokens_within d)) (v.outs-Local m) ∙ (rw free refl)
 
@@ -211,7 +211,7 @@ nested_sound zero (t ∷ ts) rest made h r = cc
 nested_sound (suc depth) [] rest made h r = cc
 nested_sound (suc depth) (token.Fixed word ∷ ts) rest made h r = headed_sound depth (nested_sound depth) word (head_of word) (heads word) ts rest made h r
 nested_sound (suc depth) (token.Name n ∷ ts) rest made h r =
-    single depth (token.Name n) (e.Local n) made ts rest (name_layer depth n (and_left (is_free n) (list_all is_proper ts) h)) (and_right (is_free n) (list_all is_proper ts) h) r
+    single depth (token.Name n) (e.Local n) made ts rest (name_layer depth n (and_left (is_free_name n) (list_all is_proper ts) h)) (and_right (is_free_name n) (list_all is_proper ts) h) r
 nested_sound (suc depth) (token.Number z ∷ ts) rest made h r =
     let fits = and_left (in_64_bits z) (list_all is_proper ts) h in
     single depth (token.Number z) (e.Int z) made ts rest (ap (layer_tokens (tokens_within depth)) (v.outs-Int z) ∙ (rw fits refl)) (and_right (in_64_bits z) (list_all is_proper ts) h) r
@@ -230,7 +230,7 @@ int_full depth z front rest w = let same = kept (in_64_bits z) (Some (token.Numb
 
 local_full : (depth : ℕ) (n : Name) (front rest : List Token) → name n ≡ Some front → nested_at (suc depth) (front ++ rest) ≡ Ok (e.Local n, rest)
 unfolding nested_at name
-local_full depth n front rest w = let same = kept (is_free n) (Some (token.Name n ∷ [])) front w in let e : token.Name n ∷ [] ≡ front = cc in rw (sym e) refl
+local_full depth n front rest w = let same = kept (is_free_name n) (Some (token.Name n ∷ [])) front w in let e : token.Name n ∷ [] ≡ front = cc in rw (sym e) refl
 
 fault_full : (depth : ℕ) (kind : FaultKind) (front rest : List Token) → fault_tokens kind ≡ Some front → nested_at (suc depth) (front ++ rest) ≡ Ok (e.Fault kind, rest)
 unfolding nested_at

@@ -20,8 +20,8 @@ use Rattle.scenario_grammar.specs.declared.phrase.Phrase.TheVariants as phrase
 use Rattle.scenario_grammar.specs.declared.token.Token.{Token}
 use Rattle.scenario_grammar.specs.declared.token.Token.TheVariants as token
 use Rattle.scenario_grammar.specs.Expressions.{expression, fault_tokens, layer_tokens, tokens_within, binary_keyword, unary_keyword, query_keyword}
-use Rattle.scenario_grammar.specs.Phrases.{phrase_tokens, command_tokens, giving_tokens, object_tokens, head_tokens, target_tokens, timeout_tokens, ms, within, timed, waits, marked, flag, count_tokens, takes_tokens, size_tokens, link_keyword, job_keyword, queue_keyword, class_keyword}
-use Rattle.scenario_grammar.specs.Tokens.{Written, ◌⊕◌, ◌▹◌, each, perhaps, only_if, fixed, name, integer, number, in_64_bits, is_free}
+use Rattle.scenario_grammar.specs.Phrases.{phrase_tokens, command_tokens, giving_tokens, object_tokens, head_tokens, target_tokens, timeout_tokens, ms, within, timed_tokens, wait_tokens, marked, flag, count_tokens, takes_tokens, size_tokens, link_keyword, job_keyword, queue_keyword, class_keyword}
+use Rattle.scenario_grammar.specs.Tokens.{Written, ◌⊕◌, ◌▹◌, each, perhaps, only_if, fixed, name, integer, number, in_64_bits, is_free_name}
 
 -- it stands for a word of its own
 abbrev pub is_word : Token → Bool
@@ -85,7 +85,7 @@ where_so false w h = no_text
 
 a_name : (n : Name) → InWords (name n)
 unfolding name
-a_name n = where_so (is_free n) (Some (token.Name n ∷ [])) (record { words = refl })
+a_name n = where_so (is_free_name n) (Some (token.Name n ∷ [])) (record { words = refl })
 
 an_integer : (z : ℤ) → InWords (integer z)
 an_integer z = where_so (in_64_bits z) (Some (token.Number z ∷ [])) (record { words = refl })
@@ -134,10 +134,10 @@ an_expression e = within_levels 32 e
 a_time : (n : ℕ) → InWords (within n)
 a_time n = after k.Within (a_number 0 1000000000 n)
 
-a_timed : (t : Option ℕ) → InWords (timed t)
+a_timed : (t : Option ℕ) → InWords (timed_tokens t)
 a_timed t = maybe within a_time t
 
-a_wait : (w : Wait) → InWords (waits w)
+a_wait : (w : Wait) → InWords (wait_tokens w)
 a_wait wait.Block = nothing
 a_wait (wait.Within n) = a_time n
 a_wait wait.Now = word k.Now

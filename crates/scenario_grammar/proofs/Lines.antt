@@ -19,7 +19,7 @@ use Rattle.scenario_grammar.specs.declared.phrase.Phrase.{Phrase}
 use Rattle.scenario_grammar.specs.declared.phrase.Phrase.TheVariants as phrase
 use Rattle.scenario_grammar.specs.Tokens.{Written, ◌⊕◌, ◌▹◌, each, fixed, name, number, perhaps}
 use Rattle.scenario_grammar.specs.Expressions.{expression}
-use Rattle.scenario_grammar.specs.Phrases.{phrase_tokens, giving_tokens, timeout_tokens, ms, timed, waits, marked, with_fault, flag, count_tokens, takes_tokens, size_tokens, job_keyword, queue_keyword, class_keyword}
+use Rattle.scenario_grammar.specs.Phrases.{phrase_tokens, giving_tokens, timeout_tokens, ms, timed_tokens, wait_tokens, marked, with_fault, flag, count_tokens, takes_tokens, size_tokens, job_keyword, queue_keyword, class_keyword}
 use Rattle.scenario_grammar.specs.Reading.{◌<$>◌, pure, name_at, number_at, expression_at, nested_at, all_at, raw_link_at, gives, giving_by, phrase_by}
 use Rattle.scenario_grammar.specs.Places.{role_by, States}
 use Rattle.scenario_grammar.proofs.Parts.{AreProper, Anything, both, bind_ok, map_sound, map_full, pure_sound}
@@ -126,15 +126,15 @@ pub sleep_line : Line {E = ℕ} k.Sleep (λ p. phrase.Command (command.Sleep p))
 unfolding phrase_tokens
 sleep_line = record { same = λ p. refl; reads = ending (made (λ a. phrase.Command (command.Sleep a)) times) }
 
-pub join_line : Line {E = Expression × Option ℕ} k.Join (λ p. phrase.Command (command.Join p.0 p.1)) (λ p. expression p.0 ⊕ timed p.1)
+pub join_line : Line {E = Expression × Option ℕ} k.Join (λ p. phrase.Command (command.Join p.0 p.1)) (λ p. expression p.0 ⊕ timed_tokens p.1)
 unfolding phrase_tokens
 join_line = record { same = λ p. refl; reads = next (made (λ a b. phrase.Command (command.Join a b)) expressions) timed_parts }
 
-pub kill_line : Line {E = (Expression × Option Expression) × Wait} k.Kill (λ p. phrase.Command (command.Kill p.0.0 p.0.1 p.1)) (λ p. expression p.0.0 ⊕ with_fault p.0.1 ⊕ waits p.1)
+pub kill_line : Line {E = (Expression × Option Expression) × Wait} k.Kill (λ p. phrase.Command (command.Kill p.0.0 p.0.1 p.1)) (λ p. expression p.0.0 ⊕ with_fault p.0.1 ⊕ wait_tokens p.1)
 unfolding phrase_tokens
 kill_line = record { same = λ p. refl; reads = joined (next (made (λ a b c. phrase.Command (command.Kill a b c)) expressions) with_parts) wait_parts before_wait }
 
-pub kill_all_line : Line {E = (Expression × Option Expression) × Wait} k.KillAll (λ p. phrase.Command (command.KillAll p.0.0 p.0.1 p.1)) (λ p. expression p.0.0 ⊕ with_fault p.0.1 ⊕ waits p.1)
+pub kill_all_line : Line {E = (Expression × Option Expression) × Wait} k.KillAll (λ p. phrase.Command (command.KillAll p.0.0 p.0.1 p.1)) (λ p. expression p.0.0 ⊕ with_fault p.0.1 ⊕ wait_tokens p.1)
 unfolding phrase_tokens
 kill_all_line = record { same = λ p. refl; reads = joined (next (made (λ a b c. phrase.Command (command.KillAll a b c)) expressions) with_parts) wait_parts before_wait }
 
@@ -162,7 +162,7 @@ pub release_line : Line {E = Name} k.Release (λ p. phrase.Command (command.Rele
 unfolding phrase_tokens
 release_line = record { same = λ p. refl; reads = ending (made (λ a. phrase.Command (command.Release a)) names) }
 
-pub queue_put_line : Line {E = (Name × Expression) × Wait} k.QueuePut (λ p. phrase.Command (command.QueuePut p.0.0 p.0.1 p.1)) (λ p. name p.0.0 ⊕ expression p.0.1 ⊕ waits p.1)
+pub queue_put_line : Line {E = (Name × Expression) × Wait} k.QueuePut (λ p. phrase.Command (command.QueuePut p.0.0 p.0.1 p.1)) (λ p. name p.0.0 ⊕ expression p.0.1 ⊕ wait_tokens p.1)
 unfolding phrase_tokens
 queue_put_line = record { same = λ p. refl; reads = next (next (made (λ a b c. phrase.Command (command.QueuePut a b c)) names) expressions) wait_parts }
 
@@ -170,7 +170,7 @@ pub queue_done_line : Line {E = Name} k.QueueDone (λ p. phrase.Command (command
 unfolding phrase_tokens
 queue_done_line = record { same = λ p. refl; reads = ending (made (λ a. phrase.Command (command.QueueDone a)) names) }
 
-pub group_join_line : Line {E = Name × Option ℕ} k.GroupJoin (λ p. phrase.Command (command.GroupJoin p.0 p.1)) (λ p. name p.0 ⊕ timed p.1)
+pub group_join_line : Line {E = Name × Option ℕ} k.GroupJoin (λ p. phrase.Command (command.GroupJoin p.0 p.1)) (λ p. name p.0 ⊕ timed_tokens p.1)
 unfolding phrase_tokens
 group_join_line = record { same = λ p. refl; reads = next (made (λ a b. phrase.Command (command.GroupJoin a b)) names) timed_parts }
 
@@ -242,10 +242,10 @@ spawn_later_gives = record { same = λ p. refl; reads = next (next (made (λ a b
 pub new_gives : Gives {E = Name × List Expression} k.New (λ p. giving.New p.0 p.1) (λ p. name p.0 ⊕ each expression p.1)
 new_gives = record { same = λ p. refl; reads = next (made (λ a b. giving.New a b) names) arguments }
 
-pub get_gives : Gives {E = Expression × Wait} k.Get (λ p. giving.Get p.0 p.1) (λ p. expression p.0 ⊕ waits p.1)
+pub get_gives : Gives {E = Expression × Wait} k.Get (λ p. giving.Get p.0 p.1) (λ p. expression p.0 ⊕ wait_tokens p.1)
 get_gives = record { same = λ p. refl; reads = next (made (λ a b. giving.Get a b) expressions) wait_parts }
 
-pub join_all_gives : Gives {E = (Expression × Option ℕ) × Option ℕ} k.JoinAll (λ p. giving.JoinAll p.0.0 p.0.1 p.1) (λ p. expression p.0.0 ⊕ count_tokens p.0.1 ⊕ timed p.1)
+pub join_all_gives : Gives {E = (Expression × Option ℕ) × Option ℕ} k.JoinAll (λ p. giving.JoinAll p.0.0 p.0.1 p.1) (λ p. expression p.0.0 ⊕ count_tokens p.0.1 ⊕ timed_tokens p.1)
 join_all_gives = record { same = λ p. refl; reads = joined (next (made (λ a b c. giving.JoinAll a b c) expressions) count_parts) timed_parts before_time }
 
 pub link_gives : Gives {E = Expression × Name} k.Link (λ p. giving.Link link.Any p.0 p.1) (λ p. expression p.0 ⊕ name p.1)
@@ -257,25 +257,25 @@ link_value_gives = record { same = λ p. refl; reads = ending (next (made (λ a 
 pub link_fault_gives : Gives {E = Expression × Name} k.LinkFault (λ p. giving.Link link.Fault p.0 p.1) (λ p. expression p.0 ⊕ name p.1)
 link_fault_gives = record { same = λ p. refl; reads = ending (next (made (λ a b. giving.Link link.Fault a b) expressions) names) }
 
-pub wait_gives : Gives {E = Name × Option ℕ} k.Wait (λ p. giving.WaitEvent p.0 p.1) (λ p. name p.0 ⊕ timed p.1)
+pub wait_gives : Gives {E = Name × Option ℕ} k.Wait (λ p. giving.WaitEvent p.0 p.1) (λ p. name p.0 ⊕ timed_tokens p.1)
 wait_gives = record { same = λ p. refl; reads = next (made (λ a b. giving.WaitEvent a b) names) timed_parts }
 
-pub result_get_gives : Gives {E = Name × Wait} k.ResultGet (λ p. giving.ResultGet p.0 p.1) (λ p. name p.0 ⊕ waits p.1)
+pub result_get_gives : Gives {E = Name × Wait} k.ResultGet (λ p. giving.ResultGet p.0 p.1) (λ p. name p.0 ⊕ wait_tokens p.1)
 result_get_gives = record { same = λ p. refl; reads = next (made (λ a b. giving.ResultGet a b) names) wait_parts }
 
-pub result_wait_gives : Gives {E = Name × Option ℕ} k.ResultWait (λ p. giving.ResultWait p.0 p.1) (λ p. name p.0 ⊕ timed p.1)
+pub result_wait_gives : Gives {E = Name × Option ℕ} k.ResultWait (λ p. giving.ResultWait p.0 p.1) (λ p. name p.0 ⊕ timed_tokens p.1)
 result_wait_gives = record { same = λ p. refl; reads = next (made (λ a b. giving.ResultWait a b) names) timed_parts }
 
-pub acquire_gives : Gives {E = Name × Wait} k.Acquire (λ p. giving.Acquire p.0 p.1) (λ p. name p.0 ⊕ waits p.1)
+pub acquire_gives : Gives {E = Name × Wait} k.Acquire (λ p. giving.Acquire p.0 p.1) (λ p. name p.0 ⊕ wait_tokens p.1)
 acquire_gives = record { same = λ p. refl; reads = next (made (λ a b. giving.Acquire a b) names) wait_parts }
 
-pub queue_get_gives : Gives {E = Name × Wait} k.QueueGet (λ p. giving.QueueGet p.0 p.1) (λ p. name p.0 ⊕ waits p.1)
+pub queue_get_gives : Gives {E = Name × Wait} k.QueueGet (λ p. giving.QueueGet p.0 p.1) (λ p. name p.0 ⊕ wait_tokens p.1)
 queue_get_gives = record { same = λ p. refl; reads = next (made (λ a b. giving.QueueGet a b) names) wait_parts }
 
-pub queue_peek_gives : Gives {E = Name × Wait} k.QueuePeek (λ p. giving.QueuePeek p.0 p.1) (λ p. name p.0 ⊕ waits p.1)
+pub queue_peek_gives : Gives {E = Name × Wait} k.QueuePeek (λ p. giving.QueuePeek p.0 p.1) (λ p. name p.0 ⊕ wait_tokens p.1)
 queue_peek_gives = record { same = λ p. refl; reads = next (made (λ a b. giving.QueuePeek a b) names) wait_parts }
 
-pub queue_join_gives : Gives {E = Name × Option ℕ} k.QueueJoin (λ p. giving.QueueJoin p.0 p.1) (λ p. name p.0 ⊕ timed p.1)
+pub queue_join_gives : Gives {E = Name × Option ℕ} k.QueueJoin (λ p. giving.QueueJoin p.0 p.1) (λ p. name p.0 ⊕ timed_tokens p.1)
 queue_join_gives = record { same = λ p. refl; reads = next (made (λ a b. giving.QueueJoin a b) names) timed_parts }
 
 pub group_spawn_gives : Gives {E = (Name × Name) × List Expression} k.GroupSpawn (λ p. giving.GroupSpawn p.0.0 p.0.1 p.1) (λ p. name p.0.0 ⊕ name p.0.1 ⊕ each expression p.1)

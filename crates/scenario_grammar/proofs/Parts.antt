@@ -3,13 +3,13 @@ use Rattle.std.proofs.Common.{◌≡◌, Bool, true, List, [], ◌++◌, Some, N
 use Rattle.std.specs.List.{list_all}
 use Rattle.scenario_grammar.specs.declared.token.Token.{Token}
 use Rattle.scenario_grammar.specs.declared.token.Token.TheVariants as token
-use Rattle.scenario_grammar.specs.Tokens.{Written, ◌⊕◌, is_free, in_64_bits}
+use Rattle.scenario_grammar.specs.Tokens.{Written, ◌⊕◌, is_free_name, in_64_bits}
 use Rattle.scenario_grammar.specs.Reading.{Reader, ◌>>=◌, ◌<$>◌, ◌<*>◌, pure}
 use Rattle.scenario_grammar.specs.declared.reason.TextReason.{TextReason}
 
 -- what `token_of` answers
 abbrev pub is_proper : Token → Bool
-is_proper (token.Name n) = is_free n
+is_proper (token.Name n) = is_free_name n
 is_proper (token.Number z) = in_64_bits z
 is_proper _ = true
 

@@ -17,7 +17,7 @@ use Rattle.scenario_grammar.specs.declared.phrase.Phrase.TheVariants as phrase
 use Rattle.scenario_grammar.specs.Keywords.{keyword_of, profile_of}
 use Rattle.scenario_grammar.specs.Layout.{Word}
 use Rattle.scenario_grammar.specs.Places.{Role, Profiles, Declares, Defines, States, Opens, Parts, Catches, Finishes, Ends, Standing, role_by, role_of, misplaced}
-use Rattle.scenario_grammar.specs.Tokens.{Written, ◌⊕◌, ◌▹◌, fixed, name, is_free, in_64_bits, is_integer, begins_number, number_token, loose_token, token_of, known_in, token_in}
+use Rattle.scenario_grammar.specs.Tokens.{Written, ◌⊕◌, ◌▹◌, fixed, name, is_free_name, in_64_bits, is_integer, begins_number, number_token, loose_token, token_of, known_in, token_in}
 use Rattle.scenario_grammar.specs.Phrases.{phrase_tokens, giving_tokens, target_tokens}
 use Rattle.scenario_grammar.specs.Reading.{Reading, ◌<$>◌, name_at, number_at, nested_at, giving_by, giving_at, phrase_by, is_given, given_at, unmarked_at, whole, phrase_of}
 use Rattle.scenario_grammar.proofs.Parts.{is_proper, AreProper, bind_ok, ok_first, ok_second, both}
@@ -273,7 +273,7 @@ unfolding phrase_tokens phrase_of name name_at
 given_read n g ts w =
     let parts = both (target_tokens n) (giving_tokens g) ts w in
     let target = both (name n) (fixed k.Arrow) parts.0 parts.2 in
-    let free = kept (is_free n) (Some (token.Name n ∷ [])) target.0 target.2 in
+    let free = kept (is_free_name n) (Some (token.Name n ∷ [])) target.0 target.2 in
     let first : token.Name n ∷ [] ≡ target.0 = cc in
     let arrow : token.Fixed k.Arrow ∷ [] ≡ target.1 = cc in
     let r = l.giving_read g parts.1 parts.3 in
@@ -317,10 +317,10 @@ giving_at_said (token.Unknown ∷ ts) g h e = cc
 given_said : (t : Token) (us : List Token) (p : Phrase) → AreProper (t ∷ token.Fixed k.Arrow ∷ us) → given_at (t ∷ token.Fixed k.Arrow ∷ us) ≡ Ok (p, []) → phrase_tokens p ≡ Some (t ∷ token.Fixed k.Arrow ∷ us)
 unfolding phrase_tokens name name_at
 given_said (token.Name n) us p h e =
-    let free = and_left (is_free n) (list_all is_proper us) h in
+    let free = and_left (is_free_name n) (list_all is_proper us) h in
     let first = bind_ok (giving_at us) (λ x. Ok (phrase.Giving (Some n) x.0, x.1)) (p, []) e in
     let ends = ok_second (phrase.Giving (Some n) first.0.0) p first.0.1 [] first.2 in
-    let said = giving_at_said us first.0.0 (and_right (is_free n) (list_all is_proper us) h) (subst (λ z. giving_at us ≡ Ok (first.0.0, z)) ends first.1) in
+    let said = giving_at_said us first.0.0 (and_right (is_free_name n) (list_all is_proper us) h) (subst (λ z. giving_at us ≡ Ok (first.0.0, z)) ends first.1) in
     ap phrase_tokens (sym (ok_first (phrase.Giving (Some n) first.0.0) p first.0.1 [] first.2)) ∙ (rw (free, said) refl)
 given_said (token.Fixed word) us p h e = cc
 given_said (token.Number z) us p h e = cc

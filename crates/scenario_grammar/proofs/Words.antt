@@ -16,8 +16,8 @@ use Rattle.scenario_grammar.specs.declared.token.Token.{Token}
 use Rattle.scenario_grammar.specs.declared.token.Token.TheVariants as token
 use Rattle.scenario_grammar.specs.Tokens.{Written, ◌⊕◌, ◌▹◌, each, fixed, name, number, perhaps}
 use Rattle.scenario_grammar.specs.Expressions.{expression}
-use Rattle.scenario_grammar.specs.Phrases.{ms, timed, waits, marked, with_fault, flag, count_tokens, takes_tokens, size_tokens, job_keyword, queue_keyword, class_keyword, most_ms}
-use Rattle.scenario_grammar.specs.Reading.{Reader, Reading, ◌<$>◌, ◌<*>◌, name_at, number_at, ms_at, expression_at, wait_at, with_at, timed_at, under_at, count_of_at, takes_at, now_at, silent_at, immediate_at, after_at, word_at, job_of, queue_of, class_of, class_at, binding_at, size_at, to_the_end, all_at}
+use Rattle.scenario_grammar.specs.Phrases.{ms, timed_tokens, wait_tokens, marked, with_fault, flag, count_tokens, takes_tokens, size_tokens, job_keyword, queue_keyword, class_keyword, most_ms}
+use Rattle.scenario_grammar.specs.Reading.{Reader, Reading, ◌<$>◌, ◌<*>◌, name_at, number_at, ms_at, expression_at, wait_at, with_at, timed_at, under_at, count_of_at, takes_at, now_at, silent_at, immediate_at, after_at, word_at, job_kind_of, queue_of, fault_class_of, class_at, binding_at, size_at, to_the_end, all_at}
 use Rattle.scenario_grammar.proofs.Parts.{AreProper, Built, Sound, Full, Anything, ok_first, ok_second, proper_at, both, map_sound, then_sound, map_full, then_full}
 use Rattle.scenario_grammar.proofs.Atoms.{and_left, and_right, kept, name_sound, name_full, number_sound, number_full}
 use Rattle.scenario_grammar.proofs.ExpressionLaws.{nested_sound, nested_full}
@@ -104,14 +104,14 @@ some_is x y e = cc
 abbrev pub BeforeWait : List Token → Type 0
 BeforeWait rest = (rest ≡ []) ⊎ ((ts : List Token) × (rest ≡ token.Fixed k.Within ∷ ts)) ⊎ ((ts : List Token) × (rest ≡ token.Fixed k.Now ∷ ts))
 
-pub timed_parts : Faithful (λ x. x) timed Ends timed_at
+pub timed_parts : Faithful (λ x. x) timed_tokens Ends timed_at
 timed_parts = record { sound = read_so; full = written_so }
   where
-    read_so : Sound (λ x. x) timed timed_at
+    read_so : Sound (λ x. x) timed_tokens timed_at
     read_so (token.Fixed k.Within ∷ ts) rest made h e = behind_word k.Within (λ n. let o : Option ℕ = Some n in o) ts rest made (λ p. refl) times.sound h e
     read_so ts rest made h e = left_out None ts rest made refl h e
 
-    written_so : Full (λ x. x) timed Ends timed_at
+    written_so : Full (λ x. x) timed_tokens Ends timed_at
     written_so None front rest w h = rw (sym (some_is [] front w), h) refl
     written_so (Some n) front rest w h =
         let i = inner k.Within (ms n) front w in
@@ -179,15 +179,15 @@ count_parts = record { sound = read_so; full = written_so }
         let i = inner k.Count (number 0 64 n) front w in
         rw (sym i.2) (map_full (λ x. let o : Option ℕ = Some x in o) (λ x. x) (number 0 64) Anything (number_at 0 64) (number_full 0 64) n i.0 rest i.1 tt)
 
-pub wait_parts : Faithful (λ x. x) waits Ends wait_at
+pub wait_parts : Faithful (λ x. x) wait_tokens Ends wait_at
 wait_parts = record { sound = read_so; full = written_so }
   where
-    read_so : Sound (λ x. x) waits wait_at
+    read_so : Sound (λ x. x) wait_tokens wait_at
     read_so (token.Fixed k.Within ∷ ts) rest made h e = behind_word k.Within (λ a. wait.Within a) ts rest made (λ p. refl) times.sound h e
     read_so (token.Fixed k.Now ∷ ts) rest made h e = taken wait.Now k.Now ts rest made refl h e
     read_so ts rest made h e = left_out wait.Block ts rest made refl h e
 
-    written_so : Full (λ x. x) waits Ends wait_at
+    written_so : Full (λ x. x) wait_tokens Ends wait_at
     written_so wait.Block front rest w h = rw (sym (some_is [] front w), h) refl
     written_so wait.Now front rest w h = rw (sym (some_is (token.Fixed k.Now ∷ []) front w)) refl
     written_so (wait.Within n) front rest w h =
@@ -195,12 +195,12 @@ wait_parts = record { sound = read_so; full = written_so }
         rw (sym i.2) (map_full (λ a. wait.Within a) (λ x. x) ms Anything ms_at times.full n i.0 rest i.1 tt)
 
 -- a wait, a time or the line's end stands behind an optional part
-pub before_wait : (x : Wait) (front rest : List Token) → waits x ≡ Some front → Ends rest → BeforeWait (front ++ rest)
+pub before_wait : (x : Wait) (front rest : List Token) → wait_tokens x ≡ Some front → Ends rest → BeforeWait (front ++ rest)
 before_wait wait.Block front rest w h = inl (ap (λ z. z ++ rest) (sym (some_is [] front w)) ∙ h)
 before_wait wait.Now front rest w h = inr (inr (rest, ap (λ z. z ++ rest) (sym (some_is (token.Fixed k.Now ∷ []) front w))))
 before_wait (wait.Within n) front rest w h = let i = inner k.Within (ms n) front w in inr (inl (i.0 ++ rest, ap (λ z. z ++ rest) (sym i.2)))
 
-pub before_time : (t : Option ℕ) (front rest : List Token) → timed t ≡ Some front → Ends rest → BeforeWait (front ++ rest)
+pub before_time : (t : Option ℕ) (front rest : List Token) → timed_tokens t ≡ Some front → Ends rest → BeforeWait (front ++ rest)
 before_time None front rest w h = inl (ap (λ z. z ++ rest) (sym (some_is [] front w)) ∙ h)
 before_time (Some n) front rest w h = let i = inner k.Within (ms n) front w in inr (inl (i.0 ++ rest, ap (λ z. z ++ rest) (sym i.2)))
 
@@ -311,16 +311,16 @@ word_parts {A = A} meaning keyword back forth = record { sound = read_so; full =
     written_so : Full (λ x. x) (λ x. fixed (keyword x)) Anything (word_at meaning)
     written_so x front rest w h = rw (sym (some_is (token.Fixed (keyword x) ∷ []) front w), back x) refl
 
-pub jobs : Faithful (λ x. x) (λ x. fixed (job_keyword x)) Anything (word_at job_of)
-jobs = word_parts job_of job_keyword back forth
+pub jobs : Faithful (λ x. x) (λ x. fixed (job_keyword x)) Anything (word_at job_kind_of)
+jobs = word_parts job_kind_of job_keyword back forth
   where
-    back : (x : JobKind) → job_of (job_keyword x) ≡ Some x
+    back : (x : JobKind) → job_kind_of (job_keyword x) ≡ Some x
     back job.Sum = refl
     back job.Collatz = refl
     back job.Fail = refl
     back job.Echo = refl
 
-    forth : (word : Keyword) → Means job_keyword word (job_of word)
+    forth : (word : Keyword) → Means job_keyword word (job_kind_of word)
     forth k.Sum = refl
     forth k.Collatz = refl
     forth k.Fail = refl
@@ -344,9 +344,9 @@ queues = word_parts queue_of queue_keyword back forth
     forth _ = tt
 
 pub classes : Faithful (λ x. x) (λ x. fixed (class_keyword x)) Anything class_at
-classes = word_parts class_of class_keyword back forth
+classes = word_parts fault_class_of class_keyword back forth
   where
-    back : (x : Class) → class_of (class_keyword x) ≡ Some x
+    back : (x : Class) → fault_class_of (class_keyword x) ≡ Some x
     back class.Any = refl
     back class.Exception = refl
     back class.GreenletExit = refl
@@ -363,7 +363,7 @@ classes = word_parts class_of class_keyword back forth
     back class.InvalidSwitch = refl
     back class.Error = refl
 
-    forth : (word : Keyword) → Means class_keyword word (class_of word)
+    forth : (word : Keyword) → Means class_keyword word (fault_class_of word)
     forth k.Any = refl
     forth k.AnException = refl
     forth k.GreenletExit = refl

@@ -39,14 +39,14 @@ abbrev pub within : ℕ → Written Token
 within n = k.Within ▹ ms n
 
 -- TIMED, nothing or `within MS`
-abbrev pub timed : Option ℕ → Written Token
-timed = perhaps within
+abbrev pub timed_tokens : Option ℕ → Written Token
+timed_tokens = perhaps within
 
 -- WAIT, nothing, `within MS` or `now`
-abbrev pub waits : Wait → Written Token
-waits wait.Block = Some []
-waits (wait.Within n) = within n
-waits wait.Now = fixed k.Now
+abbrev pub wait_tokens : Wait → Written Token
+wait_tokens wait.Block = Some []
+wait_tokens (wait.Within n) = within n
+wait_tokens wait.Now = fixed k.Now
 
 -- a word and an expression, which may be left out together
 abbrev pub marked : Keyword → Option Expression → Written Token
@@ -69,18 +69,18 @@ command_tokens (command.Return e) = k.Return ▹ expression e
 command_tokens (command.Raise e) = k.Raise ▹ expression e
 command_tokens (command.Start e) = k.Start ▹ expression e
 command_tokens (command.Sleep n) = k.Sleep ▹ ms n
-command_tokens (command.Join e t) = k.Join ▹ expression e ⊕ timed t
-command_tokens (command.Kill e f w) = k.Kill ▹ expression e ⊕ with_fault f ⊕ waits w
-command_tokens (command.KillAll e f w) = k.KillAll ▹ expression e ⊕ with_fault f ⊕ waits w
+command_tokens (command.Join e t) = k.Join ▹ expression e ⊕ timed_tokens t
+command_tokens (command.Kill e f w) = k.Kill ▹ expression e ⊕ with_fault f ⊕ wait_tokens w
+command_tokens (command.KillAll e f w) = k.KillAll ▹ expression e ⊕ with_fault f ⊕ wait_tokens w
 command_tokens (command.Unlink e) = k.Unlink ▹ expression e
 command_tokens (command.Set n) = k.Set ▹ name n
 command_tokens (command.Clear n) = k.Clear ▹ name n
 command_tokens (command.ResultSet n e) = k.ResultSet ▹ name n ⊕ expression e
 command_tokens (command.ResultFail n e) = k.ResultFail ▹ name n ⊕ expression e
 command_tokens (command.Release n) = k.Release ▹ name n
-command_tokens (command.QueuePut n e w) = k.QueuePut ▹ name n ⊕ expression e ⊕ waits w
+command_tokens (command.QueuePut n e w) = k.QueuePut ▹ name n ⊕ expression e ⊕ wait_tokens w
 command_tokens (command.QueueDone n) = k.QueueDone ▹ name n
-command_tokens (command.GroupJoin n t) = k.GroupJoin ▹ name n ⊕ timed t
+command_tokens (command.GroupJoin n t) = k.GroupJoin ▹ name n ⊕ timed_tokens t
 command_tokens (command.GroupKill n f now) = k.GroupKill ▹ name n ⊕ with_fault f ⊕ flag k.Now now
 command_tokens (command.SetParent e f) = k.SetParent ▹ expression e ⊕ expression f
 command_tokens (command.ChannelPut n e) = k.ChannelPut ▹ name n ⊕ expression e
@@ -112,18 +112,18 @@ abbrev pub giving_tokens : Giving → Written Token
 giving_tokens (giving.Spawn n es) = k.Spawn ▹ name n ⊕ each expression es
 giving_tokens (giving.SpawnLater t n es) = k.SpawnLater ▹ ms t ⊕ name n ⊕ each expression es
 giving_tokens (giving.New n es) = k.New ▹ name n ⊕ each expression es
-giving_tokens (giving.Get e w) = k.Get ▹ expression e ⊕ waits w
-giving_tokens (giving.JoinAll e count t) = k.JoinAll ▹ expression e ⊕ count_tokens count ⊕ timed t
+giving_tokens (giving.Get e w) = k.Get ▹ expression e ⊕ wait_tokens w
+giving_tokens (giving.JoinAll e count t) = k.JoinAll ▹ expression e ⊕ count_tokens count ⊕ timed_tokens t
 giving_tokens (giving.Link kind e n) = (link_keyword kind) ▹ expression e ⊕ name n
 giving_tokens (giving.LinkMark e x) = k.RawLink ▹ expression e ⊕ fixed k.Mark ⊕ number 0 1000000 x
 giving_tokens (giving.LinkSet e n) = k.RawLink ▹ expression e ⊕ fixed k.Set ⊕ name n
-giving_tokens (giving.WaitEvent n t) = k.Wait ▹ name n ⊕ timed t
-giving_tokens (giving.ResultGet n w) = k.ResultGet ▹ name n ⊕ waits w
-giving_tokens (giving.ResultWait n t) = k.ResultWait ▹ name n ⊕ timed t
-giving_tokens (giving.Acquire n w) = k.Acquire ▹ name n ⊕ waits w
-giving_tokens (giving.QueueGet n w) = k.QueueGet ▹ name n ⊕ waits w
-giving_tokens (giving.QueuePeek n w) = k.QueuePeek ▹ name n ⊕ waits w
-giving_tokens (giving.QueueJoin n t) = k.QueueJoin ▹ name n ⊕ timed t
+giving_tokens (giving.WaitEvent n t) = k.Wait ▹ name n ⊕ timed_tokens t
+giving_tokens (giving.ResultGet n w) = k.ResultGet ▹ name n ⊕ wait_tokens w
+giving_tokens (giving.ResultWait n t) = k.ResultWait ▹ name n ⊕ timed_tokens t
+giving_tokens (giving.Acquire n w) = k.Acquire ▹ name n ⊕ wait_tokens w
+giving_tokens (giving.QueueGet n w) = k.QueueGet ▹ name n ⊕ wait_tokens w
+giving_tokens (giving.QueuePeek n w) = k.QueuePeek ▹ name n ⊕ wait_tokens w
+giving_tokens (giving.QueueJoin n t) = k.QueueJoin ▹ name n ⊕ timed_tokens t
 giving_tokens (giving.GroupSpawn g n es) = k.GroupSpawn ▹ name g ⊕ name n ⊕ each expression es
 giving_tokens (giving.Map g n e) = k.Map ▹ name g ⊕ name n ⊕ expression e
 giving_tokens (giving.NativeSpawn p kind e t) = k.NativeSpawn ▹ name p ⊕ fixed (job_keyword kind) ⊕ expression e ⊕ takes_tokens t

@@ -243,12 +243,12 @@ word_at meaning (token.Fixed word ∷ ts) = elim (meaning word) [ Some x ↦ Ok 
 word_at meaning (t ∷ ts) = Err reason.UnknownWord
 
 -- the words of jobs
-abbrev pub job_of : Keyword → Option JobKind
-job_of k.Sum = Some job.Sum
-job_of k.Collatz = Some job.Collatz
-job_of k.Fail = Some job.Fail
-job_of k.Echo = Some job.Echo
-job_of _ = None
+abbrev pub job_kind_of : Keyword → Option JobKind
+job_kind_of k.Sum = Some job.Sum
+job_kind_of k.Collatz = Some job.Collatz
+job_kind_of k.Fail = Some job.Fail
+job_kind_of k.Echo = Some job.Echo
+job_kind_of _ = None
 
 -- the words of queues
 abbrev pub queue_of : Keyword → Option QueueKind
@@ -259,27 +259,27 @@ queue_of k.Join = Some queue.Join
 queue_of _ = None
 
 -- the words of what an except catches
-abbrev pub class_of : Keyword → Option Class
-class_of k.Any = Some class.Any
-class_of k.AnException = Some class.Exception
-class_of k.GreenletExit = Some class.GreenletExit
-class_of k.ATimeout = Some class.Timeout
-class_of k.LoopExit = Some class.LoopExit
-class_of k.Empty = Some class.Empty
-class_of k.Full = Some class.Full
-class_of k.ShutDown = Some class.ShutDown
-class_of k.ValueError = Some class.ValueError
-class_of k.RuntimeError = Some class.RuntimeError
-class_of k.TypeError = Some class.TypeError
-class_of k.OverflowError = Some class.OverflowError
-class_of k.ZeroDivisionError = Some class.ZeroDivisionError
-class_of k.InvalidSwitch = Some class.InvalidSwitch
-class_of k.Error = Some class.Error
-class_of _ = None
+abbrev pub fault_class_of : Keyword → Option Class
+fault_class_of k.Any = Some class.Any
+fault_class_of k.AnException = Some class.Exception
+fault_class_of k.GreenletExit = Some class.GreenletExit
+fault_class_of k.ATimeout = Some class.Timeout
+fault_class_of k.LoopExit = Some class.LoopExit
+fault_class_of k.Empty = Some class.Empty
+fault_class_of k.Full = Some class.Full
+fault_class_of k.ShutDown = Some class.ShutDown
+fault_class_of k.ValueError = Some class.ValueError
+fault_class_of k.RuntimeError = Some class.RuntimeError
+fault_class_of k.TypeError = Some class.TypeError
+fault_class_of k.OverflowError = Some class.OverflowError
+fault_class_of k.ZeroDivisionError = Some class.ZeroDivisionError
+fault_class_of k.InvalidSwitch = Some class.InvalidSwitch
+fault_class_of k.Error = Some class.Error
+fault_class_of _ = None
 
 -- CLASS
 abbrev pub class_at : Reader Class
-class_at = word_at class_of
+class_at = word_at fault_class_of
 
 -- a name, or nothing at the line's end
 abbrev pub binding_at : Reader (Option Name)
@@ -318,7 +318,7 @@ giving_by k.QueuePeek = (λ a b. giving.QueuePeek a b) <$> name_at <*> wait_at
 giving_by k.QueueJoin = (λ a b. giving.QueueJoin a b) <$> name_at <*> timed_at
 giving_by k.GroupSpawn = (λ a b c. giving.GroupSpawn a b c) <$> name_at <*> name_at <*> all_at expression_at
 giving_by k.Map = (λ a b c. giving.Map a b c) <$> name_at <*> name_at <*> expression_at
-giving_by k.NativeSpawn = (λ a b c d. giving.NativeSpawn a b c d) <$> name_at <*> word_at job_of <*> expression_at <*> takes_at
+giving_by k.NativeSpawn = (λ a b c d. giving.NativeSpawn a b c d) <$> name_at <*> word_at job_kind_of <*> expression_at <*> takes_at
 giving_by k.Raw = (λ a b. giving.Raw a b) <$> name_at <*> under_at
 giving_by k.Switch = (λ a b. giving.Switch a b) <$> expression_at <*> expression_at
 giving_by k.Throw = (λ a b. giving.Throw a b) <$> expression_at <*> with_at

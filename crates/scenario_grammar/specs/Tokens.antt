@@ -22,8 +22,8 @@ token_word token.Misspelled = []
 token_word token.Unknown = []
 
 -- a name that is no fixed word
-abbrev pub is_free : Word → Bool
-is_free w = is_name w && is_none (keyword_of w)
+abbrev pub is_free_name : Word → Bool
+is_free_name w = is_name w && is_none (keyword_of w)
 
 -- from -(2 ^ 63) to 2 ^ 63 - 1
 abbrev pub in_64_bits : ℤ → Bool
@@ -67,7 +67,7 @@ k ▹ (Some ts) = Some (token.Fixed k ∷ ts)
 
 -- a NAME
 unfoldable pub name : Name → Written Token
-name n = only_if (is_free n) (Some (token.Name n ∷ []))
+name n = only_if (is_free_name n) (Some (token.Name n ∷ []))
 
 -- an integer of 64 bits
 abbrev pub integer : ℤ → Written Token

@@ -21,7 +21,7 @@ use scenario_tree::Scenario as Tree;
 use std::alloc::{AllocError, Global};
 
 /// How many bytes a text has at most.
-pub const MOST_BYTES: usize = 1_048_576;
+pub const MOST_TEXT: usize = 1_048_576;
 
 /// Why a text gives no scenario.
 #[derive(Clone, Copy, Debug, PartialEq, Eq)]
@@ -224,8 +224,8 @@ fn parse_tree(alloc: Global, bytes: &[u8]) -> Result<Tree, ParseRefusal>
 fn read_bytes(alloc: Global, bytes: &[u8]) -> Result<Tree, ParseRefusal>
     ensures { Parses (reading bytes.now) result }
 {
-    if bytes.len() > MOST_BYTES {
-        return Err(refused(line_behind(bytes, MOST_BYTES), TextReason::TooLarge));
+    if bytes.len() > MOST_TEXT {
+        return Err(refused(line_behind(bytes, MOST_TEXT), TextReason::TooLarge));
     }
     read_text(alloc, bytes)
 }

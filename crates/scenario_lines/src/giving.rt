@@ -1,6 +1,6 @@
 //! Reading the rest of a statement that gives a value.
 ghost use Rattle.std.specs.Prelude.{◌≡◌, ◌-◌, length, true};
-ghost use Rattle.scenario_grammar.specs.Reading.{with_at, under_at, job_of, word_at, all_at, expression_at, count_of_at, number_at, takes_at, giving_by};
+ghost use Rattle.scenario_grammar.specs.Reading.{with_at, under_at, job_kind_of, word_at, all_at, expression_at, count_of_at, number_at, takes_at, giving_by};
 ghost use Rattle.scenario_lines.specs.Givings.{ReadsRawTarget, asks_greenlet, asks_object, link_at, makes};
 ghost use Rattle.scenario_lines.specs.Reads.{Reads};
 
@@ -75,7 +75,7 @@ fn takes(cursor: &mut Cursor<'_>) -> Result<Option<u64>, LineRefusal>
 }
 
 fn job(cursor: &mut Cursor<'_>) -> Result<JobKind, LineRefusal>
-    ensures { Reads (word_at job_of cursor.old) result cursor.new }
+    ensures { Reads (word_at job_kind_of cursor.old) result cursor.new }
 {
     match cursor.next() {
         None => Err(LineRefusal::Reason(TextReason::TooShort)),

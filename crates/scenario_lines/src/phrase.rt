@@ -1,6 +1,6 @@
 //! Reading what a line says.
 ghost use Rattle.std.specs.Prelude.{◌≡◌, Ok, Some, if◌then◌else◌};
-ghost use Rattle.scenario_grammar.specs.Reading.{number_at, after_at, all_at, binding_at, class_at, class_of, given_at, giving_at, immediate_at, name_at, now_at, phrase_by, phrase_of, queue_of, silent_at, size_at, unmarked_at, word_at, is_given};
+ghost use Rattle.scenario_grammar.specs.Reading.{number_at, after_at, all_at, binding_at, class_at, fault_class_of, given_at, giving_at, immediate_at, name_at, now_at, phrase_by, phrase_of, queue_of, silent_at, size_at, unmarked_at, word_at, is_given};
 ghost use Rattle.scenario_lines.specs.Reads.{IsBoxed, Reads, ReadsWhole};
 ghost use Rattle.scenario_lines.specs.Kinds.{kind_by};
 ghost use Rattle.scenario_lines.specs.Taken.{some_number_at};
@@ -143,7 +143,7 @@ fn class(cursor: &mut Cursor<'_>) -> Result<Class, LineRefusal>
 }
 
 fn class_by(word: Keyword) -> Option<Class>
-    ensures { result ≡ class_of word }
+    ensures { result ≡ fault_class_of word }
 {
     match word {
         Keyword::Any => Some(Class::Any),

@@ -8,7 +8,7 @@ use Rattle.scenario_grammar.specs.declared.keyword.Keyword.{Keyword}
 use Rattle.scenario_grammar.specs.declared.token.Token.{Token}
 use Rattle.scenario_grammar.specs.declared.token.Token.TheVariants as token
 use Rattle.scenario_grammar.specs.Keywords.{spelling}
-use Rattle.scenario_grammar.specs.Tokens.{Written, ◌⊕◌, ◌▹◌, fixed, name, number, integer, only_if, token_word, is_free, in_64_bits}
+use Rattle.scenario_grammar.specs.Tokens.{Written, ◌⊕◌, ◌▹◌, fixed, name, number, integer, only_if, token_word, is_free_name, in_64_bits}
 use Rattle.scenario_print.specs.Written.{Appended, spaced, Wrote, WroteNumber, Started, AreWords, WroteLine}
 
 pub through : (whole middle front : List ℕ) → BeginsWith whole middle → BeginsWith middle front → BeginsWith whole front
@@ -55,7 +55,7 @@ fixed_word o n r k f = one_word o n r true (token.Fixed k) f
 
 pub name_word : {T E : Type 0} (o n : List ℕ) (r : Result T E) (w : Name) → Appended o n r (32 ∷ w) → Wrote o n r (name w)
 unfolding name
-name_word o n r w f = one_word o n r (is_free w) (token.Name w) f
+name_word o n r w f = one_word o n r (is_free_name w) (token.Name w) f
 
 pub integer_word : {T E : Type 0} (o n : List ℕ) (r : Result T E) (z : ℤ) → Appended o n r (32 ∷ signed_decimal z) → Wrote o n r (integer z)
 integer_word o n r z f = one_word o n r (in_64_bits z) (token.Number z) f
@@ -136,7 +136,7 @@ record Targeted (w : Name) (a : Written Token) (ts : List Token) : Type 0 where
 
 targeted : (w : Name) (a : Written Token) (ts : List Token) → name w ⊕ fixed Keyword.Arrow ⊕ a ≡ Some ts → Targeted w a ts
 unfolding name
-targeted w a ts e = by_test (is_free w) a ts e
+targeted w a ts e = by_test (is_free_name w) a ts e
   where
     by_test : (b : Bool) (a : Written Token) (ts : List Token) → only_if b (Some (token.Name w ∷ [])) ⊕ fixed Keyword.Arrow ⊕ a ≡ Some ts → Targeted w a ts
     by_test true (Some us) ts e = record { rest = us; is_rest = refl; whole = cc }

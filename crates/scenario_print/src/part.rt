@@ -4,7 +4,7 @@
 ghost use Rattle.std.specs.Prelude.{◌≡◌, ℕ};
 ghost use Rattle.scenario_grammar.specs.Tokens.{◌▹◌, perhaps};
 ghost use Rattle.scenario_grammar.specs.Tokens.{number as in_range};
-ghost use Rattle.scenario_grammar.specs.Phrases.{count_tokens, flag, marked, takes_tokens, timed, waits};
+ghost use Rattle.scenario_grammar.specs.Phrases.{count_tokens, flag, marked, takes_tokens, timed_tokens, wait_tokens};
 ghost use Rattle.scenario_print.specs.Written.{Wrote};
 
 use crate::expression::push_expression;
@@ -28,7 +28,7 @@ fn push_numbered(word: Keyword, number: Option<u64>, out: &mut Vec<u8>) -> Resul
 
 /// `within` and the time, where there is one.
 pub(crate) fn push_timed(time: Option<u64>, out: &mut Vec<u8>) -> Result<(), AllocError>
-    ensures { Wrote out.old.items out.new.items result (timed time) }
+    ensures { Wrote out.old.items out.new.items result (timed_tokens time) }
 {
     push_numbered(Keyword::Within, time, out)
 }
@@ -65,7 +65,7 @@ pub(crate) fn push_marked(
 }
 
 pub(crate) fn push_wait(wait: Wait, out: &mut Vec<u8>) -> Result<(), AllocError>
-    ensures { Wrote out.old.items out.new.items result (waits wait) }
+    ensures { Wrote out.old.items out.new.items result (wait_tokens wait) }
 {
     match wait {
         Wait::Block => Ok(()),

@@ -4,7 +4,7 @@
 ghost use Rattle.std.specs.Prelude.{◌≡◌, ℕ};
 ghost use Rattle.gv_values.specs.Fronts.{BeginsWith};
 ghost use Rattle.scenario_grammar.specs.Expressions.{expression};
-ghost use Rattle.scenario_grammar.specs.Phrases.{timed, waits, with_fault};
+ghost use Rattle.scenario_grammar.specs.Phrases.{timed_tokens, wait_tokens, with_fault};
 ghost use Rattle.scenario_grammar.specs.Tokens.{◌⊕◌, name};
 ghost use Rattle.scenario_grammar.specs.Tokens.{number as in_range};
 ghost use Rattle.scenario_print.specs.Written.{Started};
@@ -73,7 +73,7 @@ pub(crate) fn start_name_wait(
     wait: Wait,
     out: &mut Vec<u8>,
 ) -> Result<(), AllocError>
-    ensures { Started out.old.items out.new.items result word (name n.now ⊕ waits wait) }
+    ensures { Started out.old.items out.new.items result word (name n.now ⊕ wait_tokens wait) }
 {
     start_name(word, n, out)?;
     push_wait(wait, out)
@@ -85,7 +85,7 @@ pub(crate) fn start_name_timed(
     time: Option<u64>,
     out: &mut Vec<u8>,
 ) -> Result<(), AllocError>
-    ensures { Started out.old.items out.new.items result word (name n.now ⊕ timed time) }
+    ensures { Started out.old.items out.new.items result word (name n.now ⊕ timed_tokens time) }
 {
     start_name(word, n, out)?;
     push_timed(time, out)
@@ -99,7 +99,7 @@ pub(crate) fn start_kill(
     wait: Wait,
     out: &mut Vec<u8>,
 ) -> Result<(), AllocError>
-    ensures { Started out.old.items out.new.items result word (expression e.now ⊕ with_fault fault.now ⊕ waits wait) }
+    ensures { Started out.old.items out.new.items result word (expression e.now ⊕ with_fault fault.now ⊕ wait_tokens wait) }
 {
     start_expression(word, e, out)?;
     push_marked(Keyword::With, fault, out)?;

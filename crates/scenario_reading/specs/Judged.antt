@@ -12,8 +12,8 @@ abbrev pub checked : Scenario → Result Scenario Place
 checked s = elim (place_of s) [ None ↦ Ok s | Some place ↦ Err place ]
 
 -- the well-formed scenario that the bytes spell, or the place where they are refused
-abbrev pub judged : List ℕ → Result Scenario Place
-judged bytes = elim (reading bytes) [ Ok s ↦ checked s | Err place ↦ Err place ]
+abbrev pub judged_text : List ℕ → Result Scenario Place
+judged_text bytes = elim (reading bytes) [ Ok s ↦ checked s | Err place ↦ Err place ]
 
 -- the place has one of the reasons, which are numbered from 1 to 22
 abbrev pub HasReason : Place → Type 0

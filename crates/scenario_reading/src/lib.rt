@@ -5,7 +5,7 @@ ghost use Rattle.std.specs.Prelude.{◌≡◌, IfErr, Ok as Fine};
 ghost use Rattle.scenario_grammar.specs.Parsed.{reading};
 ghost use Rattle.scenario_grammar.specs.Spells.{Spells};
 ghost use Rattle.scenario_lang.specs.Lines.{IsSpelt, Parses};
-ghost use Rattle.scenario_reading.specs.Judged.{IsRefusedWithReason, judged};
+ghost use Rattle.scenario_reading.specs.Judged.{IsRefusedWithReason, judged_text};
 
 use scenario_check::{Checked, check};
 use scenario_grammar::texts_without_a_place_are_spelt;
@@ -20,7 +20,7 @@ use std::alloc::Global;
 /// `Refused` exactly where they spell none, with the place: that of the grammar, or else the first
 /// line that breaks a rule; `Memory` where memory ran out.
 pub fn read_scenario(alloc: Global, bytes: &[u8]) -> Result<Checked, ParseRefusal>
-    ensures judged { Parses (judged bytes.now) result }
+    ensures judged { Parses (judged_text bytes.now) result }
     ensures spelt { IsSpelt bytes.now result }
     ensures reason { IfErr result IsRefusedWithReason }
 {
@@ -35,7 +35,7 @@ pub fn read_scenario(alloc: Global, bytes: &[u8]) -> Result<Checked, ParseRefusa
 fn check_read(alloc: Global, bytes: &[u8], scenario: Scenario) -> Result<Checked, ParseRefusal>
     requires read { reading bytes.now ≡ Fine scenario }
     requires spelt { Spells scenario bytes.now }
-    ensures judged { Parses (judged bytes.now) result }
+    ensures judged { Parses (judged_text bytes.now) result }
     ensures spelt { IsSpelt bytes.now result }
     ensures reason { IfErr result IsRefusedWithReason }
 {

@@ -14,7 +14,7 @@ use Rattle.scenario_rules.specs.declared.mention.Mention.{Mention}
 use Rattle.scenario_rules.specs.declared.mention.Named.{Named}
 use Rattle.scenario_rules.specs.Declarations.{different, given_names, named_functions, named_objects, parameters, repeated}
 use Rattle.scenario_rules.specs.Mentions.{mentions}
-use Rattle.scenario_rules.specs.Rules.{IsWellFormed, earlier, first_after, function_refusals, is_before, is_hub_in_raw_body, is_too_deep, is_undeclared, is_wrong_count, is_wrong_head, is_wrong_kind, most_functions, most_local_names, most_objects, past, place_of, refusals, refused, refused_names, word_refusals}
+use Rattle.scenario_rules.specs.Rules.{IsWellFormed, earlier_place, first_after, function_refusals, is_before, is_hub_in_raw_body, is_too_deep, is_undeclared, is_wrong_count, is_wrong_head, is_wrong_kind, most_functions, most_local_names, most_objects, past, place_of, refusals, refused, refused_names, word_refusals}
 use Rattle.scenario_tree.specs.Limits.{most_parameters}
 
 -- the place has a reason of the rules
@@ -85,7 +85,7 @@ all_by_rule s =
     (each_by_rule (function_refusals s) (function_by_rule s) s.functions)
 
 -- the earlier of two places is one of them
-earlier_by_rule : (p q : Place) → is_by_rule p ≡ true → is_by_rule q ≡ true → is_by_rule (earlier (Some p) q) ≡ true
+earlier_by_rule : (p q : Place) → is_by_rule p ≡ true → is_by_rule q ≡ true → is_by_rule (earlier_place (Some p) q) ≡ true
 earlier_by_rule p q hp hq = by (is_before q p)
   where
     by : (b : Bool) → is_by_rule (if b then q else p) ≡ true
@@ -105,7 +105,7 @@ first_by_rule : (p : Place) (ps : List Place) → is_by_rule p ≡ true → are_
 first_by_rule p [] hp all = hp
 first_by_rule p (q ∷ ps) hp all =
     let b = both_of (is_by_rule q) (are_by_rule ps) all in
-    first_by_rule (earlier (Some p) q) ps (earlier_by_rule p q hp b.0) b.1
+    first_by_rule (earlier_place (Some p) q) ps (earlier_by_rule p q hp b.0) b.1
 
 pub place_by_rule : (s : Scenario) (p : Place) → place_of s ≡ Some p → is_rule_reason p.reason ≡ true
 unfolding place_of

@@ -25,17 +25,17 @@ use Rattle.scenario_rules.specs.declared.mention.Wanted.{Wanted}
 use Rattle.scenario_rules.specs.declared.mention.Wanted.TheVariants as wanted
 
 -- what is asked of which objects
-abbrev pub asked_of : Query → Wanted
-asked_of query.IsSet = wanted.EventOrResult
-asked_of query.Counter = wanted.Semaphore
-asked_of query.QueueSize = wanted.Queue
-asked_of query.Unfinished = wanted.JoinQueue
-asked_of query.Members = wanted.GroupOrPool
+abbrev pub wanted_by : Query → Wanted
+wanted_by query.IsSet = wanted.EventOrResult
+wanted_by query.Counter = wanted.Semaphore
+wanted_by query.QueueSize = wanted.Queue
+wanted_by query.Unfinished = wanted.JoinQueue
+wanted_by query.Members = wanted.GroupOrPool
 
 -- one level of an expression, by what its operands say
 abbrev pub layer_says : Expression-F (List Says) → List Says
 layer_says (Expression-F.Local x) = says.Uses x ∷ []
-layer_says (Expression-F.Query q x) = says.Object (asked_of q) x ∷ []
+layer_says (Expression-F.Query q x) = says.Object (wanted_by q) x ∷ []
 layer_says (Expression-F.Unary op a) = a
 layer_says (Expression-F.Binary op a b) = a ++ b
 layer_says (Expression-F.And a b) = a ++ b
@@ -58,8 +58,8 @@ abbrev pub hub : List Says
 hub = says.AsksHub ∷ []
 
 -- in their places the names stand for an object of this kind
-abbrev pub object : Wanted → Name → List Says
-object kind x = says.Object kind x ∷ []
+abbrev pub says_object : Wanted → Name → List Says
+says_object kind x = says.Object kind x ∷ []
 
 -- the name of a function and its arguments
 abbrev pub call : Name → List Expression → List Says
@@ -76,18 +76,18 @@ command_says (command.Join e t) = hub ++ expression_says e
 command_says (command.Kill e f w) = hub ++ expression_says e ++ perhaps_says f
 command_says (command.KillAll e f w) = hub ++ expression_says e ++ perhaps_says f
 command_says (command.Unlink e) = hub ++ expression_says e
-command_says (command.Set x) = hub ++ object wanted.Event x
-command_says (command.Clear x) = hub ++ object wanted.Event x
-command_says (command.ResultSet x e) = hub ++ object wanted.Result x ++ expression_says e
-command_says (command.ResultFail x e) = hub ++ object wanted.Result x ++ expression_says e
-command_says (command.Release x) = hub ++ object wanted.SemaphoreOrLock x
-command_says (command.QueuePut x e w) = hub ++ object wanted.Queue x ++ expression_says e
-command_says (command.QueueDone x) = hub ++ object wanted.JoinQueue x
-command_says (command.GroupJoin x t) = hub ++ object wanted.GroupOrPool x
-command_says (command.GroupKill x f now) = hub ++ object wanted.GroupOrPool x ++ perhaps_says f
+command_says (command.Set x) = hub ++ says_object wanted.Event x
+command_says (command.Clear x) = hub ++ says_object wanted.Event x
+command_says (command.ResultSet x e) = hub ++ says_object wanted.Result x ++ expression_says e
+command_says (command.ResultFail x e) = hub ++ says_object wanted.Result x ++ expression_says e
+command_says (command.Release x) = hub ++ says_object wanted.SemaphoreOrLock x
+command_says (command.QueuePut x e w) = hub ++ says_object wanted.Queue x ++ expression_says e
+command_says (command.QueueDone x) = hub ++ says_object wanted.JoinQueue x
+command_says (command.GroupJoin x t) = hub ++ says_object wanted.GroupOrPool x
+command_says (command.GroupKill x f now) = hub ++ says_object wanted.GroupOrPool x ++ perhaps_says f
 command_says (command.SetParent e f) = expression_says e ++ expression_says f
-command_says (command.ChannelPut x e) = hub ++ object wanted.Channel x ++ expression_says e
-command_says (command.QueueShut x immediate) = hub ++ object wanted.Queue x
+command_says (command.ChannelPut x e) = hub ++ says_object wanted.Channel x ++ expression_says e
+command_says (command.QueueShut x immediate) = hub ++ says_object wanted.Queue x
 
 -- the function of a link and of `map` takes one argument
 abbrev pub giving_says : Giving → List Says
@@ -98,21 +98,21 @@ giving_says (giving.Get e w) = hub ++ expression_says e
 giving_says (giving.JoinAll e n t) = hub ++ expression_says e
 giving_says (giving.Link kind e f) = hub ++ expression_says e ++ says.Calls 1 f ∷ []
 giving_says (giving.LinkMark e n) = hub ++ expression_says e
-giving_says (giving.LinkSet e x) = hub ++ expression_says e ++ object wanted.Event x
-giving_says (giving.WaitEvent x t) = hub ++ object wanted.Event x
-giving_says (giving.ResultGet x w) = hub ++ object wanted.Result x
-giving_says (giving.ResultWait x t) = hub ++ object wanted.Result x
-giving_says (giving.Acquire x w) = hub ++ object wanted.SemaphoreOrLock x
-giving_says (giving.QueueGet x w) = hub ++ object wanted.Queue x
-giving_says (giving.QueuePeek x w) = hub ++ object wanted.Queue x
-giving_says (giving.QueueJoin x t) = hub ++ object wanted.JoinQueue x
-giving_says (giving.GroupSpawn x f es) = hub ++ object wanted.GroupOrPool x ++ call f es
-giving_says (giving.Map x f e) = hub ++ object wanted.GroupOrPool x ++ says.Calls 1 f ∷ expression_says e
-giving_says (giving.NativeSpawn x job e t) = hub ++ object wanted.NativePool x ++ expression_says e
+giving_says (giving.LinkSet e x) = hub ++ expression_says e ++ says_object wanted.Event x
+giving_says (giving.WaitEvent x t) = hub ++ says_object wanted.Event x
+giving_says (giving.ResultGet x w) = hub ++ says_object wanted.Result x
+giving_says (giving.ResultWait x t) = hub ++ says_object wanted.Result x
+giving_says (giving.Acquire x w) = hub ++ says_object wanted.SemaphoreOrLock x
+giving_says (giving.QueueGet x w) = hub ++ says_object wanted.Queue x
+giving_says (giving.QueuePeek x w) = hub ++ says_object wanted.Queue x
+giving_says (giving.QueueJoin x t) = hub ++ says_object wanted.JoinQueue x
+giving_says (giving.GroupSpawn x f es) = hub ++ says_object wanted.GroupOrPool x ++ call f es
+giving_says (giving.Map x f e) = hub ++ says_object wanted.GroupOrPool x ++ says.Calls 1 f ∷ expression_says e
+giving_says (giving.NativeSpawn x job e t) = hub ++ says_object wanted.NativePool x ++ expression_says e
 giving_says (giving.Raw f e) = says.Runs f ∷ perhaps_says e
 giving_says (giving.Switch e f) = expression_says e ++ expression_says f
 giving_says (giving.Throw e f) = expression_says e ++ perhaps_says f
-giving_says (giving.ChannelGet x) = hub ++ object wanted.Channel x
+giving_says (giving.ChannelGet x) = hub ++ says_object wanted.Channel x
 
 -- the name before `<-` or after the class of an except
 abbrev pub target_says : Option Name → List Says

@@ -117,14 +117,14 @@ abbrev pub is_before : Place → Place → Bool
 is_before p q = nat_lt p.line q.line || p.line == q.line && nat_lt p.reason q.reason
 
 -- the first of two places
-abbrev pub earlier : Option Place → Place → Place
-earlier None q = q
-earlier (Some p) q = if is_before q p then q else p
+abbrev pub earlier_place : Option Place → Place → Place
+earlier_place None q = q
+earlier_place (Some p) q = if is_before q p then q else p
 
 -- the first of a place and of those in a list
 abbrev pub first_after : Option Place → List Place → Option Place
 first_after p [] = p
-first_after p (q ∷ qs) = first_after (Some (earlier p q)) qs
+first_after p (q ∷ qs) = first_after (Some (earlier_place p q)) qs
 
 -- Where a scenario is refused, if it is: the first line that breaks a rule, and there the least reason.
 unfoldable pub place_of : Scenario → Option Place

@@ -1,6 +1,6 @@
 //! Answers as bytes (RFC 3875, section 6.2.1).
 ghost use Rattle.std.specs.Prelude.{◌≡◌, ◌++◌, OnOk};
-ghost use Rattle.scgi_core.specs.Answers.{answer, refusal, server_error, started};
+ghost use Rattle.scgi_core.specs.Answers.{cgi_answer, cgi_refusal, cgi_server_error, started};
 
 use http_messages::{Headers, Refusal};
 use std::alloc::{AllocError, Global};
@@ -8,7 +8,7 @@ use wsgi_core::{Pieces, Reply, ending_of, is_faulty, push_body, push_headers};
 
 /// The fixed answer of a refusal.
 pub fn refusal_text(reason: Refusal) -> &'static [u8]
-    ensures { result.now ≡ refusal reason }
+    ensures { result.now ≡ cgi_refusal reason }
 {
     match reason {
         Refusal::BadRequest => b"Status: 400 Bad Request\r\nContent-Length: 0\r\n\r\n",
@@ -19,7 +19,7 @@ pub fn refusal_text(reason: Refusal) -> &'static [u8]
 
 /// Appends the answer that replaces a faulty reply.
 fn push_server_error(out: &mut Vec<u8>, is_head: bool) -> Result<(), AllocError>
-    ensures { OnOk result (out.new.items ≡ out.old.items ++ server_error is_head) }
+    ensures { OnOk result (out.new.items ≡ out.old.items ++ cgi_server_error is_head) }
 {
     out.extend_from_slice(
         b"Status: 500 Internal Server Error\r\nContent-Type: text/plain\r\nContent-Length: 21\r\n\r\n",
@@ -62,7 +62,7 @@ pub fn push_answer(
     is_head: bool,
     reply: &Reply,
 ) -> Result<(), AllocError>
-    ensures { OnOk result (out.new.items ≡ out.old.items ++ answer is_head reply.now) }
+    ensures { OnOk result (out.new.items ≡ out.old.items ++ cgi_answer is_head reply.now) }
 {
     if is_faulty(reply) {
         return push_server_error(out, is_head);

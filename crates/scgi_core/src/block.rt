@@ -2,15 +2,13 @@
 ghost use Rattle.std.specs.Prelude.{◌≡◌, ◌≤◌, ◌∷◌, IfOk, OnOk, filter, length as list_length};
 ghost use Rattle.std.specs.List.{list_all, list_any};
 ghost use Rattle.std.specs.Option.{option_copied};
-ghost use Rattle.scgi_core.specs.Pairs.{are_apart, is_named, is_passed_on, length_of, name_is, pairs_in, read_byte, request_of, are_well, judged, judged_block};
+ghost use Rattle.scgi_core.specs.Pairs.{are_apart, is_named, is_passed_on, told_length, name_is, pairs_in, read_byte, scgi_request_of, are_well, judged_pairs, judged_block};
 
+use crate::limits::MOST_PAIRS;
 use crate::request::ScgiRequest;
 use http_messages::{Bytes, Environ, Headers, MOST_BODY, Refusal, Sequence, parse_length};
 use std::alloc::{AllocError, Global};
 use std::mem;
-
-/// The most pairs that a head may have.
-const MOST_PAIRS: usize = 64;
 
 /// Reads pairs from bytes that come one after the other.
 #[derive(Drop)]
@@ -93,8 +91,8 @@ fn are_named(pairs: &[(Bytes, Bytes)]) -> bool
 }
 
 /// The length that the first pair tells: CONTENT_LENGTH comes first, with 1 to 19 digits.
-fn length_of(pairs: &[(Bytes, Bytes)]) -> Option<u64>
-    ensures { result ≡ length_of pairs.now }
+fn told_length(pairs: &[(Bytes, Bytes)]) -> Option<u64>
+    ensures { result ≡ told_length pairs.now }
 {
     match pairs {
         [] => None,
@@ -107,8 +105,8 @@ fn length_of(pairs: &[(Bytes, Bytes)]) -> Option<u64>
     }
 }
 
-/// Whether the pairs are those of a request: at most 64, each with a name of its own, SCGI with `1` and REQUEST_METHOD
-/// among them.
+/// Whether the pairs are those of a request: at most `MOST_PAIRS`, each with a name of its own, SCGI with `1` and
+/// REQUEST_METHOD among them.
 fn are_well(environ: &Environ) -> bool
     ensures { result ≡ are_well environ.now }
 {
@@ -138,11 +136,14 @@ fn passed_on(alloc: Global, pairs: &[(Bytes, Bytes)]) -> Result<Headers, AllocEr
 }
 
 /// The request of these pairs, or why there is none.
-fn request_of(alloc: Global, pairs: Headers) -> Result<Result<ScgiRequest, Refusal>, AllocError>
-    ensures { IfOk result (λ judged. judged ≡ request_of pairs) }
+fn scgi_request_of(
+    alloc: Global,
+    pairs: Headers,
+) -> Result<Result<ScgiRequest, Refusal>, AllocError>
+    ensures { IfOk result (λ found. found ≡ scgi_request_of pairs) }
 {
     let environ = Environ::from_pairs(pairs);
-    let Some(length) = length_of(environ.pairs()) else {
+    let Some(length) = told_length(environ.pairs()) else {
         return Ok(Err(Refusal::BadRequest));
     };
     if !are_well(&environ) {
@@ -168,13 +169,13 @@ pub fn judged_block(
     block: &[u8],
 ) -> Result<Result<ScgiRequest, Refusal>, AllocError>
     requires { n ≤ list_length block.now }
-    ensures { IfOk result (λ judged. judged ≡ judged_block n block.now) }
+    ensures { IfOk result (λ found. found ≡ judged_block n block.now) }
 {
     if &block[n..] != b",".as_slice() {
         return Ok(Err(Refusal::BadRequest));
     }
     match pairs_in(alloc, &block[..n])? {
         None => Ok(Err(Refusal::BadRequest)),
-        Some(pairs) => request_of(alloc, pairs),
+        Some(pairs) => scgi_request_of(alloc, pairs),
     }
 }

@@ -1,7 +1,7 @@
 //! A request, read from the front of the bytes that were kept.
 ghost use Rattle.std.specs.Prelude.{◌≡◌, IfOk};
 ghost use Rattle.http_messages.specs.Readings.{Finds};
-ghost use Rattle.scgi_core.specs.Calls.{request_at};
+ghost use Rattle.scgi_core.specs.Calls.{scgi_request_at};
 ghost use Rattle.scgi_core.specs.Readings.{FindsCall};
 
 use crate::block::judged_block;
@@ -12,7 +12,7 @@ use std::alloc::{AllocError, Global};
 
 /// Reads a head: its length, so many bytes of names and values, and `,`.
 fn read_head(alloc: Global, kept: &mut ByteQueue) -> Result<Found<ScgiRequest>, AllocError>
-    ensures { IfOk result (λ found. Finds request_at found kept.old kept.new) }
+    ensures { IfOk result (λ found. Finds scgi_request_at found kept.old kept.new) }
 {
     match read_length(kept.items()) {
         LengthFound::LengthWaits => Ok(Found::Waits),

@@ -8,6 +8,7 @@ mod block;
 mod head;
 mod laws;
 mod length;
+mod limits;
 mod request;
 mod session;
 mod talk;

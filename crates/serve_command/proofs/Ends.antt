@@ -6,7 +6,7 @@ use Rattle.gv_io.specs.Streams.{appended, AppendsPrefix, Extends}
 use Rattle.gv_io.proofs.StreamLaws.{appended-appended, AppendsPrefix-after, AppendsPrefix-longer}
 use Rattle.wsgi_core.specs.Applications.{App}
 use Rattle.wsgi_core.specs.Gateways.{Gateway, said_by}
-use Rattle.stream_net.specs.Nets.{Connection, Meaning, listens_at}
+use Rattle.stream_net.specs.Nets.{Connection, NetMeaning, listens_at}
 use Rattle.stream_server.specs.declared.limits.Limits.{Limits}
 use Rattle.stream_server.specs.Serving.{AllBut, BeginsSo, Cause, EachTold, IsAllServed, IsClosedWell, WaitsToRead}
 use Rattle.serve_command.specs.declared.serving.Served.{Served}
@@ -42,11 +42,11 @@ at_unfinished end (inr (inr e)) f = absurd (cc)
 
 -- ---- what was handed on
 
-pub none_told : (asked : ℕ) (w : Meaning) (out0 handed1 : Option (List ℕ)) → w.connections ≡ [] → IsToldFirst asked w out0 handed1
+pub none_told : (asked : ℕ) (w : NetMeaning) (out0 handed1 : Option (List ℕ)) → w.connections ≡ [] → IsToldFirst asked w out0 handed1
 none_told asked w out0 handed1 none some = absurd (let e = ap (λ (xs : List Connection). length xs) none in omega (arith, some, e))
 
 -- the first line was handed on, and nothing of it is taken back
-pub told_first : (asked port : ℕ) (w : Meaning) (out0 out1 handed1 handed2 : Option (List ℕ)) → out1 ≡ appended out0 (listening port) → handed1 ≡ out1 → Extends handed1 handed2 → w.listens ≡ listens_at asked port
+pub told_first : (asked port : ℕ) (w : NetMeaning) (out0 out1 handed1 handed2 : Option (List ℕ)) → out1 ≡ appended out0 (listening port) → handed1 ≡ out1 → Extends handed1 handed2 → w.listens ≡ listens_at asked port
     → IsToldFirst asked w out0 handed2
 told_first asked port w out0 out1 handed1 handed2 told all kept listens some = (
   port,
@@ -58,7 +58,7 @@ told_first asked port w out0 out1 handed1 handed2 told all kept listens some = (
 -- ---- the ends
 
 -- nobody was accepted
-unfoldable pub none_served : (rests : Connection → Type 0) (is_spent : ℕ → Type 0) (end : Served) (asked : ℕ) (answers : Gateway) (app : App) (limits : Limits) (w : Meaning) (out0 out1 : Option (List ℕ)) (port : ℕ) → (end ≡ Served.Finished → ⊥) → (end ≡ Served.NoJobs → ⊥) → w.connections ≡ [] → w.most ≡ 0
+unfoldable pub none_served : (rests : Connection → Type 0) (is_spent : ℕ → Type 0) (end : Served) (asked : ℕ) (answers : Gateway) (app : App) (limits : Limits) (w : NetMeaning) (out0 out1 : Option (List ℕ)) (port : ℕ) → (end ≡ Served.Finished → ⊥) → (end ≡ Served.NoJobs → ⊥) → w.connections ≡ [] → w.most ≡ 0
     → AppendsPrefix out0 out1 (listening port) → (out1 ≡ out0) ⊎ ((w.listens ≡ listens_at asked port) × (end ≢ Served.WriteFault → out1 ≡ out0)) → ServesSo rests is_spent end asked answers app limits w out0 out1
 none_served rests is_spent end asked answers app limits w out0 out1 port unfinished unspent none most begins listens = record {
   port = port;
@@ -90,7 +90,7 @@ none_served rests is_spent end asked answers app limits w out0 out1 port unfinis
 
 -- ---- where something else says that no job was left
 
-unfoldable pub spent_as : (rests : Connection → Type 0) (was_spent is_spent : ℕ → Type 0) (end : Served) (asked : ℕ) (answers : Gateway) (app : App) (limits : Limits) (w : Meaning) (out0 out1 : Option (List ℕ))
+unfoldable pub spent_as : (rests : Connection → Type 0) (was_spent is_spent : ℕ → Type 0) (end : Served) (asked : ℕ) (answers : Gateway) (app : App) (limits : Limits) (w : NetMeaning) (out0 out1 : Option (List ℕ))
     → ((port : ℕ) → was_spent port → is_spent port) → ServesSo rests was_spent end asked answers app limits w out0 out1 → ServesSo rests is_spent end asked answers app limits w out0 out1
 spent_as rests was_spent is_spent end asked answers app limits w out0 out1 follows h = record {
   port = h.port;
@@ -147,7 +147,7 @@ rests_after R before after (inr h) other listener finished no_jobs memory = fini
 
 -- ---- where the first line was told
 
-module _ (rests : Connection → Type 0) (is_spent : ℕ → Type 0) (asked : ℕ) (answers : Gateway) (app : App) (limits : Limits) (w : Meaning) (out0 out1 out2 : Option (List ℕ)) (port : ℕ) (before end : Served) (told : out1 ≡ appended out0 (listening port))
+module _ (rests : Connection → Type 0) (is_spent : ℕ → Type 0) (asked : ℕ) (answers : Gateway) (app : App) (limits : Limits) (w : NetMeaning) (out0 out1 out2 : Option (List ℕ)) (port : ℕ) (before end : Served) (told : out1 ≡ appended out0 (listening port))
     (own : EachTold w.connections (λ c bytes sent. BeginsSo (said_by answers app port bytes c.ended).bytes sent))
     (whole : EachTold w.connections (λ c bytes sent. IsClosedWell c → sent ≡ (said_by answers app port bytes c.ended).bytes))
     (answered : EachTold w.connections (λ c bytes sent. WaitsToRead c → sent ≡ (said_by answers app port bytes c.ended).bytes)) (rest_but : AllBut rests w.connections)

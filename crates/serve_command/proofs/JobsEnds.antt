@@ -5,11 +5,11 @@ use Rattle.gv_io.specs.Streams.{appended, AppendsPrefix}
 use Rattle.wsgi_core.specs.Applications.{App}
 use Rattle.wsgi_core.specs.Gateways.{said_by}
 use Rattle.wsgi_core.specs.Sessions.{answers}
-use Rattle.stream_net.specs.Nets.{Connection, IsAtRest, Meaning, listens_at}
+use Rattle.stream_net.specs.Nets.{Connection, IsAtRest, NetMeaning, listens_at}
 use Rattle.stream_net.specs.declared.net.Quiet.TheVariants.{Awake}
 use Rattle.stream_server.specs.declared.limits.Limits.{Limits}
 use Rattle.stream_server.specs.Serving.{AllBut, BeginsSo, Cause, EachTold, IsAllServed, IsClosedWell, WaitsToRead}
-use Rattle.world.specs.Worlds.{Meaning as World}
+use Rattle.world.specs.Worlds.{WorldMeaning as World}
 use Rattle.wsgi_native.specs.Agreeing.{Agrees}
 use Rattle.wsgi_native.specs.Ends.{IsOutOfJobs}
 use Rattle.wsgi_native.specs.JobApp.{job_app}
@@ -24,11 +24,11 @@ closed_at_rest : (cs : List Connection) → All (λ c. c.closed ≡ true) cs →
 closed_at_rest cs closed = closed_rest (λ (c : Connection). c.held ≡ false → c.quiet ≢ Awake) cs closed
 
 -- where nobody was accepted nobody asks for a job
-none_asks : (port : ℕ) (w : Meaning) (workers : World) (P : Type 0) → w.connections ≡ [] → IsOutOfJobs port w workers → P
+none_asks : (port : ℕ) (w : NetMeaning) (workers : World) (P : Type 0) → w.connections ≡ [] → IsOutOfJobs port w workers → P
 none_asks port w workers P none vain = absurd (let e = ap (λ (xs : List Connection). length xs) none in let within = vain.accepted in omega (arith, within, e))
 
 -- nobody was accepted
-pub none_served_jobs : (end : Served) (asked : ℕ) (limits : Limits) (w : Meaning) (workers : World) (out0 out1 : Option (List ℕ)) (port : ℕ) → (end ≡ Served.Finished → ⊥) → (end ≡ Served.NoJobs → ⊥) → w.connections ≡ [] → w.most ≡ 0
+pub none_served_jobs : (end : Served) (asked : ℕ) (limits : Limits) (w : NetMeaning) (workers : World) (out0 out1 : Option (List ℕ)) (port : ℕ) → (end ≡ Served.Finished → ⊥) → (end ≡ Served.NoJobs → ⊥) → w.connections ≡ [] → w.most ≡ 0
     → AppendsPrefix out0 out1 (listening port) → (out1 ≡ out0) ⊎ ((w.listens ≡ listens_at asked port) × (end ≢ Served.WriteFault → out1 ≡ out0)) → ServesJobsAt end asked limits w workers out0 out1
 unfolding none_served
 none_served_jobs end asked limits w workers out0 out1 port unfinished unspent none most begins listens = record {
@@ -37,7 +37,7 @@ none_served_jobs end asked limits w workers out0 out1 port unfinished unspent no
   out_of_jobs = none_asks port w workers ((end ≡ Served.NoJobs) ⊎ (end ≡ Served.Memory)) none;
 }
 
-module _ (asked : ℕ) (limits : Limits) (w : Meaning) (workers : World) (out0 out1 out2 : Option (List ℕ)) (port : ℕ) (before end : Served) (told : out1 ≡ appended out0 (listening port))
+module _ (asked : ℕ) (limits : Limits) (w : NetMeaning) (workers : World) (out0 out1 out2 : Option (List ℕ)) (port : ℕ) (before end : Served) (told : out1 ≡ appended out0 (listening port))
     (own : EachTold w.connections (λ c bytes sent. BeginsSo (said_by answers job_app port bytes c.ended).bytes sent))
     (whole : EachTold w.connections (λ c bytes sent. IsClosedWell c → sent ≡ (said_by answers job_app port bytes c.ended).bytes))
     (answered : EachTold w.connections (λ c bytes sent. WaitsToRead c → sent ≡ (said_by answers job_app port bytes c.ended).bytes)) (rest_but : AllBut IsAtRest w.connections)

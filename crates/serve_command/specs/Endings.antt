@@ -1,12 +1,12 @@
 -- A server before the first connection and after the last.
 use Rattle.std.specs.Prelude.{◌≡◌, ◌≢◌, ◌⊎◌, ℕ, List, Option}
 use Rattle.gv_io.specs.Streams.{AppendsPrefix}
-use Rattle.stream_net.specs.Nets.{Meaning, listens_at}
+use Rattle.stream_net.specs.Nets.{NetMeaning, listens_at}
 use Rattle.serve_command.specs.Served.{listening}
 use Rattle.serve_command.specs.declared.serving.Served.{Served}
 
 -- it came to this end before anybody was accepted: it listens nowhere and told nothing, or a line was not written
-pub record IsUnopened (end : Served) (asked : ℕ) (w : Meaning) (out0 out1 : Option (List ℕ)) : Type 0 where
+pub record IsUnopened (end : Served) (asked : ℕ) (w : NetMeaning) (out0 out1 : Option (List ℕ)) : Type 0 where
   pub port : ℕ
   pub begins : AppendsPrefix out0 out1 (listening port)
   pub listens : (out1 ≡ out0) ⊎ ((w.listens ≡ listens_at asked port) × (end ≢ Served.WriteFault → out1 ≡ out0))

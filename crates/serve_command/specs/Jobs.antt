@@ -1,9 +1,9 @@
 -- What the command `serve` leaves behind where native workers answer the requests for jobs.
 use Rattle.std.specs.Prelude.{◌≡◌, ◌⊎◌, ℕ, List, Option}
-use Rattle.stream_net.specs.Nets.{IsAtRest, Meaning}
+use Rattle.stream_net.specs.Nets.{IsAtRest, NetMeaning}
 use Rattle.stream_server.specs.declared.limits.Limits.{Limits}
 use Rattle.stream_server.specs.Serving.{BeginsSo, EachTold}
-use Rattle.world.specs.Worlds.{Meaning as World}
+use Rattle.world.specs.Worlds.{WorldMeaning as World}
 use Rattle.wsgi_core.specs.Applications.{App}
 use Rattle.wsgi_core.specs.Gateways.{said_by}
 use Rattle.wsgi_core.specs.Sessions.{answers}
@@ -14,7 +14,7 @@ use Rattle.serve_command.specs.Served.{ServesSo}
 use Rattle.serve_command.specs.declared.serving.Served.{Served}
 
 -- It served over HTTP, with the application that answers what a job comes to, while the workers were asked for the jobs.
-pub record ServesJobsAt (end : Served) (asked : ℕ) (limits : Limits) (w : Meaning) (workers : World) (out0 out1 : Option (List ℕ)) : Type 0 where
+pub record ServesJobsAt (end : Served) (asked : ℕ) (limits : Limits) (w : NetMeaning) (workers : World) (out0 out1 : Option (List ℕ)) : Type 0 where
   -- an open connection may be left while it is held for a job; no job is left where the last number was posted, and the
   -- request of a live connection asks for one more
   pub serves : ServesSo IsAtRest (λ port. IsOutOfJobs port w workers) end asked answers job_app limits w out0 out1

@@ -4,7 +4,7 @@ use Rattle.std.specs.List.{All}
 use Rattle.gv_io.specs.Streams.{appended, AppendsPrefix}
 use Rattle.wsgi_core.specs.Applications.{App}
 use Rattle.wsgi_core.specs.Gateways.{Gateway, said_by}
-use Rattle.stream_net.specs.Nets.{Connection, Meaning, listens_at}
+use Rattle.stream_net.specs.Nets.{Connection, NetMeaning, listens_at}
 use Rattle.stream_server.specs.declared.limits.Limits.{Limits}
 use Rattle.stream_server.specs.Serving.{AllBut, BeginsSo, Cause, EachTold, IsAllServed, IsClosedWell, Rests, WaitsToRead}
 use Rattle.serve_command.specs.Lines.{number_line}
@@ -20,7 +20,7 @@ served conns = number_line (codes "served") conns
 -- The net was asked for this port and served each connection by itself at the one that it took, through this gateway
 -- and with this application, and out has the lines. `rests` says of a connection that it may be left, and `is_spent` of
 -- the port that the server had no job left.
-pub record ServesSo (rests : Connection → Type 0) (is_spent : ℕ → Type 0) (end : Served) (asked : ℕ) (answers : Gateway) (app : App) (limits : Limits) (w : Meaning) (out0 out1 : Option (List ℕ)) : Type 0 where
+pub record ServesSo (rests : Connection → Type 0) (is_spent : ℕ → Type 0) (end : Served) (asked : ℕ) (answers : Gateway) (app : App) (limits : Limits) (w : NetMeaning) (out0 out1 : Option (List ℕ)) : Type 0 where
   -- the port that the net took; or nobody was accepted, and out is as it was
   pub port : ℕ
   pub listens : ((out1 ≡ out0) × (w.connections ≡ [])) ⊎ (w.listens ≡ listens_at asked port)
@@ -51,11 +51,11 @@ pub record ServesSo (rests : Connection → Type 0) (is_spent : ℕ → Type 0) 
 
 -- So it served with an application that gives each reply at once: all that are open wait, by a read or by a write, and
 -- it asks for no jobs.
-abbrev pub ServesAt : Served → ℕ → Gateway → App → Limits → Meaning → Option (List ℕ) → Option (List ℕ) → Type 0
+abbrev pub ServesAt : Served → ℕ → Gateway → App → Limits → NetMeaning → Option (List ℕ) → Option (List ℕ) → Type 0
 ServesAt = ServesSo Rests (λ port. ⊥)
 
 -- The line that tells the port was handed on before the first connection was accepted. It is said of the end alone, and
 -- shows the order too: had a connection come first, a write or a flush that fails would keep the line back.
-abbrev pub IsToldFirst : ℕ → Meaning → Option (List ℕ) → Option (List ℕ) → Type 0
+abbrev pub IsToldFirst : ℕ → NetMeaning → Option (List ℕ) → Option (List ℕ) → Type 0
 IsToldFirst asked w out0 handed1 =
     0 < length w.connections → (port : ℕ) × (w.listens ≡ listens_at asked port) × (rest : List ℕ) × (handed1 ≡ appended out0 (listening port ++ rest))

@@ -11,7 +11,7 @@ use Rattle.stream_net.specs.declared.script.Piece.{Piece}
 use Rattle.stream_net.specs.Accounts.{account_meaning, read_after}
 use Rattle.stream_net.specs.MemoryEndpoints.{joined, bytes_at, is_failing, read_of, scripted_meaning, no_piece}
 use Rattle.stream_net.specs.MemoryNets.{meaning_by}
-use Rattle.stream_net.specs.Nets.{Connection, Changes, Ports, IsNotReady, connection_at, nobody}
+use Rattle.stream_net.specs.Nets.{Connection, Changes, Ports, IsNotReady, connection_at, absent_connection}
 use Rattle.stream_net.specs.Reads.{Reads, after_read}
 use Rattle.stream_net.specs.Rules.{EndsRead, EndsWrite, Rewrites}
 use Rattle.stream_net.specs.Writes.{Writes, after_write}
@@ -26,7 +26,7 @@ map_set f (x ∷ xs) zero y = refl
 map_set f (x ∷ xs) (suc k) y = ap (λ (zs : List _). f x ∷ zs) (map_set f xs k y)
 
 pub endpoint_at : (endpoints : List MemoryEndpoint) (k : ℕ) (l : MemoryEndpoint) → k < length endpoints → l ≡ get_or endpoints k l → connection_at (map scripted_meaning endpoints) k ≡ scripted_meaning l
-endpoint_at endpoints k l within is = get_or-map scripted_meaning endpoints k l nobody within ∙ ap scripted_meaning (sym is)
+endpoint_at endpoints k l within is = get_or-map scripted_meaning endpoints k l absent_connection within ∙ ap scripted_meaning (sym is)
 
 module _ (endpoints : List MemoryEndpoint) (k : ℕ) (old new : MemoryEndpoint) (most moment : ℕ) (listens : Option Ports) (faults : ℕ) (blocked : Bool)
     (within : k < length (map scripted_meaning endpoints)) (is : old ≡ get_or endpoints k old) where
@@ -74,7 +74,7 @@ failed_write l m a calls moment bytes e h = h (Some (read_of m.script.pieces m.p
 pub told_one : (endpoints : List MemoryEndpoint) (k : ℕ) (old new : MemoryEndpoint) → k < length endpoints → scripted_meaning new ≡ woken_if (get_or endpoints k old).account.closed (scripted_meaning (get_or endpoints k old))
     → map scripted_meaning (slice_set endpoints k new) ≡ woken k (map scripted_meaning endpoints)
 told_one endpoints k old new within e =
-    let at : connection_at (map scripted_meaning endpoints) k ≡ scripted_meaning (get_or endpoints k old) = get_or-map scripted_meaning endpoints k old nobody within in
+    let at : connection_at (map scripted_meaning endpoints) k ≡ scripted_meaning (get_or endpoints k old) = get_or-map scripted_meaning endpoints k old absent_connection within in
     map_set scripted_meaning endpoints k new ∙ ap (λ (c : Connection). set (map scripted_meaning endpoints) k c) (e ∙ ap (λ (c : Connection). woken_if c.closed c) (sym at))
 
 -- bytes of a piece were given

@@ -3,10 +3,10 @@ use Rattle.std.specs.Prelude.{◌≡◌, ℕ, ◌≤◌, max, Bool, true, false,
 use Rattle.gv_values.specs.Counts.{HasRisen}
 use Rattle.stream_net.specs.declared.net.Accepted.{Accepted}
 use Rattle.stream_net.specs.declared.net.Accepted.TheVariants.{New, WouldBlock, Failed, Memory}
-use Rattle.stream_net.specs.Nets.{Connection, Meaning, IsNew, live_count}
+use Rattle.stream_net.specs.Nets.{Connection, NetMeaning, IsNew, live_count}
 
 -- one more connection, of the next number
-pub record Gains (v w : Meaning) (k : ℕ) : Type 0 where
+pub record Gains (v w : NetMeaning) (k : ℕ) : Type 0 where
   pub number : k ≡ length v.connections
   pub connection : Connection
   pub connections : w.connections ≡ v.connections ++ connection ∷ []
@@ -17,7 +17,7 @@ pub record Gains (v w : Meaning) (k : ℕ) : Type 0 where
   pub faults : v.faults ≤ w.faults
 
 -- nothing was accepted
-pub record GainsNone (v w : Meaning) (blocked : Bool) : Type 0 where
+pub record GainsNone (v w : NetMeaning) (blocked : Bool) : Type 0 where
   pub connections : w.connections ≡ v.connections
   pub most : w.most ≡ v.most
   pub moment : v.moment ≤ w.moment
@@ -25,7 +25,7 @@ pub record GainsNone (v w : Meaning) (blocked : Bool) : Type 0 where
   pub faults : v.faults ≤ w.faults
   pub blocked_is : w.blocked ≡ blocked
 
-abbrev pub Accepts : Meaning → Meaning → Accepted → Type 0
+abbrev pub Accepts : NetMeaning → NetMeaning → Accepted → Type 0
 Accepts v w (New k) = Gains v w k
 Accepts v w WouldBlock = GainsNone v w true
 Accepts v w Failed = GainsNone v w false × HasRisen v.faults w.faults

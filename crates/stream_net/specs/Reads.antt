@@ -4,7 +4,7 @@ use Rattle.gv_values.specs.Counts.{HasRisen}
 use Rattle.gv_io.specs.Streams.{appended}
 use Rattle.stream_net.specs.declared.net.ReadEnd.{ReadEnd}
 use Rattle.stream_net.specs.declared.net.ReadEnd.TheVariants.{Got, End, WouldBlock, Failed}
-use Rattle.stream_net.specs.Nets.{Awake, ByRead, Connection, Meaning, Changes, connection_at}
+use Rattle.stream_net.specs.Nets.{Awake, ByRead, Connection, NetMeaning, Changes, connection_at}
 
 -- a connection after a read that answered so and gave these bytes, at this moment, with so many faults
 abbrev pub after_read : ReadEnd → List ℕ → ℕ → ℕ → Connection → Connection
@@ -14,7 +14,7 @@ after_read WouldBlock bytes moment faults c = record c { quiet = ByRead; faults 
 after_read Failed bytes moment faults c = record c { quiet = Awake; faults = faults }
 
 -- only that connection is changed; its count of faults has risen where the read failed, and else is as it was
-pub record Reads (v w : Meaning) (k : ℕ) (answer : ReadEnd) (bytes : List ℕ) : Type 0 where
+pub record Reads (v w : NetMeaning) (k : ℕ) (answer : ReadEnd) (bytes : List ℕ) : Type 0 where
   pub faults : ℕ
   pub changes : Changes v w k (after_read answer bytes w.moment faults)
   pub never_falls : (connection_at v.connections k).faults ≤ faults

@@ -2,9 +2,9 @@
 use Rattle.std.specs.Prelude.{◌≡◌, ℕ, true}
 use Rattle.stream_net.specs.declared.memory_net.MemoryNet.{MemoryNet}
 use Rattle.stream_net.specs.MemoryNets.{meaning_by, readiness_by}
-use Rattle.stream_net.specs.Nets.{Connection, Meaning, Readiness}
+use Rattle.stream_net.specs.Nets.{Connection, NetMeaning, Readiness}
 
-abbrev pub meaning_of : MemoryNet → Meaning
+abbrev pub meaning_of : MemoryNet → NetMeaning
 meaning_of n = meaning_by n.endpoints.items n.most n.moment n.listens n.faults n.blocked
 
 abbrev pub readiness_of : MemoryNet → Readiness

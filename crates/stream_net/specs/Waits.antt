@@ -5,7 +5,7 @@ use Rattle.gv_values.specs.Counts.{HasRisen}
 use Rattle.gv_io.specs.declared.source.Failed.{Failed}
 use Rattle.stream_net.specs.declared.net.Ready.{Ready}
 use Rattle.stream_net.specs.declared.net.Ready.TheVariants.{Incoming, Readable, Writable, Elapsed}
-use Rattle.stream_net.specs.Nets.{Awake, Connection, Meaning, connection_at, live_count, IsAtRest}
+use Rattle.stream_net.specs.Nets.{Awake, Connection, NetMeaning, connection_at, live_count, IsAtRest}
 
 -- a live connection that was named is awake; a closed one keeps what it was
 abbrev pub woken_if : Bool → Connection → Connection
@@ -36,19 +36,19 @@ IsInTime Elapsed until moment = HasCome until moment
 
 -- when a net may be waited for: each live connection that isn't held is quiet; where one is live the wait has an end;
 -- where none is, nobody was there to be accepted
-pub record MayWait (m : Meaning) (until : Option ℕ) : Type 0 where
+pub record MayWait (m : NetMeaning) (until : Option ℕ) : Type 0 where
   pub quiet : All IsAtRest m.connections
   pub ends : 0 < live_count m.connections → IsSome until
   pub asked : live_count m.connections ≡ 0 → m.blocked ≡ true
 
 -- what a wait leaves as it was
-pub record Passes (v w : Meaning) : Type 0 where
+pub record TimePasses (v w : NetMeaning) : Type 0 where
   pub most : w.most ≡ v.most
   pub moment : v.moment ≤ w.moment
   pub listens : w.listens ≡ v.listens
   pub faults : v.faults ≤ w.faults
   pub asks_again : w.blocked ≡ false
 
-abbrev pub Waits : Meaning → Meaning → Option ℕ → Result Ready Failed → Type 0
-Waits v w until (Ok ready) = Passes v w × (w.connections ≡ named ready v.connections) × IsInTime ready until w.moment
-Waits v w until (Err failed) = Passes v w × (w.connections ≡ v.connections) × HasRisen v.faults w.faults
+abbrev pub Waits : NetMeaning → NetMeaning → Option ℕ → Result Ready Failed → Type 0
+Waits v w until (Ok ready) = TimePasses v w × (w.connections ≡ named ready v.connections) × IsInTime ready until w.moment
+Waits v w until (Err failed) = TimePasses v w × (w.connections ≡ v.connections) × HasRisen v.faults w.faults

@@ -4,7 +4,7 @@ use Rattle.gv_values.specs.Counts.{HasRisen}
 use Rattle.gv_io.specs.Streams.{appended}
 use Rattle.stream_net.specs.declared.net.WriteEnd.{WriteEnd}
 use Rattle.stream_net.specs.declared.net.WriteEnd.TheVariants.{Took, WouldBlock, Failed, Memory}
-use Rattle.stream_net.specs.Nets.{Awake, ByWrite, Connection, Meaning, Changes, connection_at}
+use Rattle.stream_net.specs.Nets.{Awake, ByWrite, Connection, NetMeaning, Changes, connection_at}
 
 -- a connection after a write of these bytes that answered so, at this moment, where its faults are so many
 abbrev pub after_write : WriteEnd → List ℕ → ℕ → ℕ → Connection → Connection
@@ -14,7 +14,7 @@ after_write Failed bytes moment faults c = record c { quiet = Awake; faults = fa
 after_write Memory bytes moment faults c = record c { quiet = Awake; faults = faults }
 
 -- only that connection is changed; its count of faults has risen where the write failed, and else is as it was
-pub record Writes (v w : Meaning) (k : ℕ) (answer : WriteEnd) (bytes : List ℕ) : Type 0 where
+pub record Writes (v w : NetMeaning) (k : ℕ) (answer : WriteEnd) (bytes : List ℕ) : Type 0 where
   pub faults : ℕ
   pub changes : Changes v w k (after_write answer bytes w.moment faults)
   pub never_falls : (connection_at v.connections k).faults ≤ faults

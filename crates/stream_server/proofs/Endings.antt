@@ -1,7 +1,7 @@
 -- What is left of the connections, by their bytes that are told.
 use Rattle.std.proofs.Common.{◌≡◌, ◌≢◌, ℕ, true, false, List, ◌++◌, Option, Some, IfSome, refl, sym, ap, ◌∙◌, subst, arith}
 use Rattle.std.specs.List.{All}
-use Rattle.stream_net.specs.Nets.{Connection, IsAtRest, Meaning, connection_at}
+use Rattle.stream_net.specs.Nets.{Connection, IsAtRest, NetMeaning, connection_at}
 use Rattle.stream_net.specs.declared.net.Quiet.{Quiet}
 use Rattle.stream_net.specs.declared.net.Quiet.TheVariants.{Awake, ByRead, ByWrite}
 use Rattle.stream_server.specs.declared.limits.Limits.{Limits}
@@ -15,7 +15,7 @@ use Rattle.stream_server.proofs.Turns.{still_rests, still_waits}
 pub told_is : (o : Option (List ℕ)) (bytes all : List ℕ) → o ≡ Some bytes → IfSome o (λ b. b ≡ all) → bytes ≡ all
 told_is o bytes all e h = subst (λ (x : Option (List ℕ)). IfSome x (λ b. b ≡ all)) e h
 
-module _ {T : Type 0} (S : Side T) (limits : Limits) (m : Meaning) (h : IsLeft S limits m) where
+module _ {T : Type 0} (S : Side T) (limits : Limits) (m : NetMeaning) (h : IsLeft S limits m) where
   pub own_of : EachTold m.connections (λ c bytes out. BeginsSo (S.said bytes c.ended).bytes out)
   own_of k bytes out in' reads writes =
       let c = connection_at m.connections k in

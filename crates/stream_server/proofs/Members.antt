@@ -2,7 +2,7 @@
 use Rattle.std.proofs.Common.{◌≡◌, ℕ, ◌+◌, ◌-◌, ◌<◌, ◌==◌, Bool, true, false, not, cond, List, [], ◌∷◌, ◌++◌, length, Option, Some, None, refl, sym, ap, ◌∙◌, subst, arith, length-append}
 use Rattle.std.specs.List.{Contains}
 use Rattle.std.proofs.lemmas.List.Elements.{Contains-append_left, Contains-append_right}
-use Rattle.linked_items.specs.Items.{without, Differ}
+use Rattle.linked_items.specs.Items.{without_number, Differ}
 use Rattle.linked_items.proofs.StrideLemmas.{contains_without}
 use Rattle.groups_pools.specs.Seen.{SeenCrew, free_places, AreBelow, IsRising, HasPlace}
 use Rattle.stream_server.specs.declared.client.Client.{Client}
@@ -16,11 +16,11 @@ below_more : (n : ℕ) (ms : List ℕ) → AreBelow n ms → AreBelow (n + 1) (m
 below_more n [] h = (omega arith, tt)
 below_more n (m ∷ ms) h = (let a = h.0 in omega (arith, a), below_more n ms h.1)
 
-below_without : (n g : ℕ) (ms : List ℕ) → AreBelow n ms → AreBelow n (without g ms)
+below_without : (n g : ℕ) (ms : List ℕ) → AreBelow n ms → AreBelow n (without_number g ms)
 below_without n g [] h = tt
 below_without n g (m ∷ ms) h = by (not (m == g)) (below_without n g ms h.1)
   where
-    by : (b : Bool) → AreBelow n (without g ms) → AreBelow n (cond b (m ∷ without g ms) (without g ms))
+    by : (b : Bool) → AreBelow n (without_number g ms) → AreBelow n (cond b (m ∷ without_number g ms) (without_number g ms))
     by true more = (h.0, more)
     by false more = more
 
@@ -97,10 +97,10 @@ module _ {T : Type 0} where
 
   -- it goes
   pub released : (old new : SeenTable T) (next next' k : ℕ) → AreAdmittedBut old next k → ((slot : Option (Client T)) → IsListed old k slot → slot ≡ None) → next' ≡ next
-      → new ≡ with_members (without k old.members) old → length new.members + 1 ≡ length old.members → AreAdmitted new next'
+      → new ≡ with_members (without_number k old.members) old → length new.members + 1 ≡ length old.members → AreAdmitted new next'
   released old new next next' k h only still now fewer = subst (λ (t : SeenTable T). AreAdmitted t next') (sym now) record {
     count = let e = ap (λ (t : SeenTable T). length t.members) now in omega (arith, e, fewer, h.count);
-    each = everywhere k (λ i. (c : Client T) → IsListed old i (Some c) → Contains (without k old.members) i)
+    each = everywhere k (λ i. (c : Client T) → IsListed old i (Some c) → Contains (without_number k old.members) i)
         (λ c row. absurd (never_some c (only (Some c) row)))
         (λ i other c row. contains_without k i old.members other (h.each i c row));
     below = below_without next' k old.members (subst (λ (n : ℕ). AreBelow n old.members) (sym still) h.below);

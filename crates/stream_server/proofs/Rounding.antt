@@ -3,15 +3,15 @@ use Rattle.std.proofs.Common.{◌≡◌, ◌⊎◌, inl, inr, ℕ, ◌+◌, ◌<
 use Rattle.std.specs.List.{All}
 use Rattle.std.proofs.lemmas.Bool.Decides.{nat_tests}
 use Rattle.wsgi_core.specs.Applications.{App}
-use Rattle.linked_items.specs.Items.{without}
+use Rattle.linked_items.specs.Items.{without_number}
 use Rattle.stream_net.specs.Accepts.{Gains, GainsNone}
-use Rattle.stream_net.specs.Nets.{Changes, Connection, IsAtRest, IsFresh, IsLive, Meaning, closed_at, connection_at, held_as}
-use Rattle.stream_net.specs.Waits.{MayWait, Passes, woken}
+use Rattle.stream_net.specs.Nets.{Changes, Connection, IsAtRest, IsFresh, IsLive, NetMeaning, closed_at, connection_at, held_as}
+use Rattle.stream_net.specs.Waits.{MayWait, TimePasses, woken}
 use Rattle.stream_net.specs.declared.net.Ready.{Ready}
 use Rattle.stream_net.proofs.Lists.{all_from, at_all}
 use Rattle.stream_server.specs.declared.client.Client.{Client}
 use Rattle.stream_server.specs.declared.limits.Limits.{Limits}
-use Rattle.stream_server.specs.declared.rounds.Fault.{Fault}
+use Rattle.stream_server.specs.declared.rounds.RoundFault.{RoundFault}
 use Rattle.stream_server.specs.Protocols.{IsLawful, Protocol, side_of}
 use Rattle.stream_server.specs.Running.{IsRunning, IsRunningBut, IsUnderWay, LeftBy, WasRunning}
 use Rattle.stream_server.specs.Services.{AreBeside, IsHeldFrom, IsReleased}
@@ -23,11 +23,11 @@ use Rattle.stream_server.proofs.Stepping.{changed_length, only_length, only_none
 use Rattle.stream_server.proofs.Turns as turns
 
 -- a fault that is handed on
-pub same_fault : {A B : Type 0} (f one : Fault) → ◌≡◌ {A = Result A Fault} (Err f) (Err one) → ◌≡◌ {A = Result B Fault} (Err f) (Err one)
-same_fault f one e = let same : f ≡ one = cc in ap (λ (x : Fault). Err x) same
+pub same_fault : {A B : Type 0} (f one : RoundFault) → ◌≡◌ {A = Result A RoundFault} (Err f) (Err one) → ◌≡◌ {A = Result B RoundFault} (Err f) (Err one)
+same_fault f one e = let same : f ≡ one = cc in ap (λ (x : RoundFault). Err x) same
 
-pub returned_fault : {A B : Type 0} (r : Result A Fault) (v f one : Fault) → r ≡ Err v → v ≡ f → r ≡ Err one → ◌≡◌ {A = Result B Fault} (Err f) (Err one)
-returned_fault r v f one is from e = let same : f ≡ one = cc in ap (λ (x : Fault). Err x) same
+pub returned_fault : {A B : Type 0} (r : Result A RoundFault) (v f one : RoundFault) → r ≡ Err v → v ≡ f → r ≡ Err one → ◌≡◌ {A = Result B RoundFault} (Err f) (Err one)
+returned_fault r v f one is from e = let same : f ≡ one = cc in ap (λ (x : RoundFault). Err x) same
 
 -- whether nobody is listed
 pub none_listed : (b : Bool) (n : ℕ) → b ≡ (n == 0) → b ≡ true → n ≡ 0
@@ -58,43 +58,43 @@ module _ {T : Type 0} where
 module _ {T : Type 0} (P : Protocol T) (law : (app : App) (port : ℕ) → IsLawful (side_of P app port)) (port : ℕ) (limits : Limits) where
   -- ---- the ends
 
-  pub running_left : (F : App → Type 0) (A : SeenTable T → ℕ → Type 0) (m : Meaning) (table : SeenTable T) → IsRunning P F A port limits m table → LeftBy P F port limits m
+  pub running_left : (F : App → Type 0) (A : SeenTable T → ℕ → Type 0) (m : NetMeaning) (table : SeenTable T) → IsRunning P F A port limits m table → LeftBy P F port limits m
   running_left F A m table h app fits = turns.serving_left (side_of P app port) limits (law app port) m (IsListed table) (client_count table) table.limit (h.serving app fits)
 
-  pub running_listens : (F : App → Type 0) (A : SeenTable T → ℕ → Type 0) (m : Meaning) (table : SeenTable T) (one : App) → F one → IsRunning P F A port limits m table → IsSome m.listens
+  pub running_listens : (F : App → Type 0) (A : SeenTable T → ℕ → Type 0) (m : NetMeaning) (table : SeenTable T) (one : App) → F one → IsRunning P F A port limits m table → IsSome m.listens
   running_listens F A m table one fits h = (h.serving one fits).listens
 
-  pub running_rests : (F : App → Type 0) (A : SeenTable T → ℕ → Type 0) (m : Meaning) (table : SeenTable T) (one : App) → F one → IsRunning P F A port limits m table → All (IsStill (side_of P one port)) m.connections
+  pub running_rests : (F : App → Type 0) (A : SeenTable T → ℕ → Type 0) (m : NetMeaning) (table : SeenTable T) (one : App) → F one → IsRunning P F A port limits m table → All (IsStill (side_of P one port)) m.connections
   running_rests F A m table one fits h = (h.serving one fits).resting
 
   -- the net wasn't touched, and the service knows more
-  pub known_left : (E F : App → Type 0) (A : SeenTable T → ℕ → Type 0) (m : Meaning) (table : SeenTable T) → ((app : App) → E app → F app) → IsRunning P F A port limits m table → LeftBy P E port limits m
+  pub known_left : (E F : App → Type 0) (A : SeenTable T → ℕ → Type 0) (m : NetMeaning) (table : SeenTable T) → ((app : App) → E app → F app) → IsRunning P F A port limits m table → LeftBy P E port limits m
   known_left E F A m table knows h app fits = running_left F A m table h app (knows app fits)
 
   -- it ended at a client that goes on
-  pub goes_left : (E F : App → Type 0) (B : SeenTable T → ℕ → ℕ → Type 0) (m : Meaning) (table : SeenTable T) (g : Client T) → ((app : App) → E app → F app) → IsRunningBut P F B port limits m table g.conn
+  pub goes_left : (E F : App → Type 0) (B : SeenTable T → ℕ → ℕ → Type 0) (m : NetMeaning) (table : SeenTable T) (g : Client T) → ((app : App) → E app → F app) → IsRunningBut P F B port limits m table g.conn
       → IsUnderWay P F port limits.idle m g → LeftBy P E port limits m
   goes_left E F B m table g knows h going app fits =
       turns.but_cut (side_of P app port) limits (law app port) m (IsListed table) (client_count table) table.limit g.conn (h.serving app (knows app fits))
       (turns.served_going (side_of P app port) limits (law app port) (connection_at m.connections g.conn) g (going app (knows app fits)))
 
   -- memory ran out in a step
-  pub cut_left : (F : App → Type 0) (B : SeenTable T → ℕ → ℕ → Type 0) (u v : Meaning) (table : SeenTable T) (k : ℕ) → IsRunningBut P F B port limits u table k → IsLive u k → OnlyAt u v k
+  pub cut_left : (F : App → Type 0) (B : SeenTable T → ℕ → ℕ → Type 0) (u v : NetMeaning) (table : SeenTable T) (k : ℕ) → IsRunningBut P F B port limits u table k → IsLive u k → OnlyAt u v k
       → ((app : App) → F app → IsCut (P.said app port) (connection_at v.connections k)) → LeftBy P F port limits v
   cut_left F B u v table k h live only cut app fits =
       turns.client_cut (side_of P app port) limits (law app port) u v (IsListed table) (client_count table) table.limit k (h.serving app fits) live only (cut app fits)
 
   -- ---- a client that isn't listed
 
-  pub but_place : (F : App → Type 0) (B : SeenTable T → ℕ → ℕ → Type 0) (m : Meaning) (table : SeenTable T) (k : ℕ) (one : App) → F one → IsRunningBut P F B port limits m table k → client_count table < table.limit
+  pub but_place : (F : App → Type 0) (B : SeenTable T → ℕ → ℕ → Type 0) (m : NetMeaning) (table : SeenTable T) (k : ℕ) (one : App) → F one → IsRunningBut P F B port limits m table k → client_count table < table.limit
   but_place F B m table k one fits h = let s = h.serving one fits in let few = s.few in let room = s.room_is in omega (arith, few, room)
 
-  pub but_only : (F : App → Type 0) (B : SeenTable T → ℕ → ℕ → Type 0) (m : Meaning) (table : SeenTable T) (k : ℕ) (one : App) → F one → IsRunningBut P F B port limits m table k
+  pub but_only : (F : App → Type 0) (B : SeenTable T → ℕ → ℕ → Type 0) (m : NetMeaning) (table : SeenTable T) (k : ℕ) (one : App) → F one → IsRunningBut P F B port limits m table k
       → (slot : Option (Client T)) → IsListed table k slot → slot ≡ None
   but_only F B m table k one fits h = (h.serving one fits).only
 
   -- what goes over its connection is nothing to the others
-  pub but_more : (F : App → Type 0) (B : SeenTable T → ℕ → ℕ → Type 0) (u v : Meaning) (table : SeenTable T) (k j : ℕ) → IsRunningBut P F B port limits u table k → IsLive u k → OnlyAt u v k → j ≡ k
+  pub but_more : (F : App → Type 0) (B : SeenTable T → ℕ → ℕ → Type 0) (u v : NetMeaning) (table : SeenTable T) (k j : ℕ) → IsRunningBut P F B port limits u table k → IsLive u k → OnlyAt u v k → j ≡ k
       → IsRunningBut P F B port limits v table j
   but_more F B u v table k j h live only same =
       subst (λ (n : ℕ). IsRunningBut P F B port limits v table n) (sym same) record {
@@ -104,7 +104,7 @@ module _ {T : Type 0} (P : Protocol T) (law : (app : App) (port : ℕ) → IsLaw
       }
 
   -- its connection rests
-  pub running_waits : (F : App → Type 0) (A : SeenTable T → ℕ → Type 0) (B : SeenTable T → ℕ → ℕ → Type 0) (u v : Meaning) (table now : SeenTable T) (k : ℕ) (g : Client T) → IsRunningBut P F B port limits u table k → IsLive u k → OnlyAt u v k
+  pub running_waits : (F : App → Type 0) (A : SeenTable T → ℕ → Type 0) (B : SeenTable T → ℕ → ℕ → Type 0) (u v : NetMeaning) (table now : SeenTable T) (k : ℕ) (g : Client T) → IsRunningBut P F B port limits u table k → IsLive u k → OnlyAt u v k
       → ((app : App) → F app → IsOpen (side_of P app port) limits.idle (connection_at v.connections k) g × IsResting (side_of P app port) (connection_at v.connections k) g) → g.conn ≡ k → P.holds g.talk ≡ false
       → ((n : ℕ) → B table n k → AreBeside table now k → A now n) → Relists table now g.conn (Some g) → client_count now ≡ client_count table + 1 → IsRunning P F A port limits v now
   running_waits F A B u v table now k g h live only rests same free again relists count = record {
@@ -115,20 +115,20 @@ module _ {T : Type 0} (P : Protocol T) (law : (app : App) (port : ℕ) → IsLaw
   }
 
   -- its connection is closed
-  pub running_over : (F : App → Type 0) (A : SeenTable T → ℕ → Type 0) (B : SeenTable T → ℕ → ℕ → Type 0) (u v w : Meaning) (table now : SeenTable T) (k : ℕ) (g : Client T) (one : App) → F one → IsRunningBut P F B port limits u table k → IsLive u k
+  pub running_over : (F : App → Type 0) (A : SeenTable T → ℕ → Type 0) (B : SeenTable T → ℕ → ℕ → Type 0) (u v w : NetMeaning) (table now : SeenTable T) (k : ℕ) (g : Client T) (one : App) → F one → IsRunningBut P F B port limits u table k → IsLive u k
       → OnlyAt u v k → ((app : App) → F app → IsOver (side_of P app port) limits.idle (connection_at v.connections k) g) → Changes v w k (closed_at w.moment) → ((n : ℕ) → B table n k → AreBeside table now k → A now n)
-      → now ≡ with_members (without k table.members) table → length now.members + 1 ≡ length table.members → IsRunning P F A port limits w now
+      → now ≡ with_members (without_number k table.members) table → length now.members + 1 ≡ length table.members → IsRunning P F A port limits w now
   running_over F A B u v w table now k g one fits_one h live only over closes again is fewer =
       let long : length w.connections ≡ length u.connections = changed_length v w k (closed_at w.moment) closes ∙ only_length u v k only in
       record {
         serving = λ app fits. subst (λ (t : SeenTable T). IsServing (side_of P app port) limits w (IsListed t) (client_count t) t.limit) (sym is)
             (turns.client_over (side_of P app port) limits (law app port) u v w (IsListed table) (client_count table) table.limit k g (h.serving app fits) live only (over app fits) closes);
-        tied = subst (λ (n : ℕ). A now n) (sym long) (again (length u.connections) h.tied (λ j s other row. list_kept table now (without k table.members) is j s row));
+        tied = subst (λ (n : ℕ). A now n) (sym long) (again (length u.connections) h.tied (λ j s other row. list_kept table now (without_number k table.members) is j s row));
         admitted = released table now (length u.connections) (length w.connections) k h.admitted (h.serving one fits_one).only long is fewer;
       }
 
   -- its connection is held
-  pub running_held : (E F : App → Type 0) (A : SeenTable T → ℕ → Type 0) (B : SeenTable T → ℕ → ℕ → Type 0) (v w : Meaning) (table now : SeenTable T) (g h : Client T) → ((app : App) → E app → F app) → IsRunningBut P F B port limits v table g.conn → IsLive v g.conn
+  pub running_held : (E F : App → Type 0) (A : SeenTable T → ℕ → Type 0) (B : SeenTable T → ℕ → ℕ → Type 0) (v w : NetMeaning) (table now : SeenTable T) (g h : Client T) → ((app : App) → E app → F app) → IsRunningBut P F B port limits v table g.conn → IsLive v g.conn
       → IsUnderWay P F port limits.idle v g → Changes v w g.conn (held_as true) → IsHeldFrom P g h
       → ((t s : SeenTable T) (n : ℕ) → B t n g.conn → g.conn < n → Relists t s h.conn (Some h) → A s n)
       → Relists table now h.conn (Some h) → client_count now ≡ client_count table + 1 → IsRunning P E A port limits w now
@@ -144,7 +144,7 @@ module _ {T : Type 0} (P : Protocol T) (law : (app : App) (port : ℕ) → IsLaw
 
   -- ---- an acceptance
 
-  pub running_new : (F : App → Type 0) (A : SeenTable T → ℕ → Type 0) (B : SeenTable T → ℕ → ℕ → Type 0) (v w : Meaning) (table now : SeenTable T) (k : ℕ) → IsRunning P F A port limits v table → Gains v w k → client_count table < table.limit
+  pub running_new : (F : App → Type 0) (A : SeenTable T → ℕ → Type 0) (B : SeenTable T → ℕ → ℕ → Type 0) (v w : NetMeaning) (table now : SeenTable T) (k : ℕ) → IsRunning P F A port limits v table → Gains v w k → client_count table < table.limit
       → length v.connections < limits.conns → ((n : ℕ) → A table n → ((j : ℕ) (slot : Option (Client T)) → IsListed now j slot → IsListed table j slot) → B now (n + 1) n)
       → now ≡ with_members (table.members ++ k ∷ []) table → IsRunningBut P F B port limits w now k
   running_new F A B v w table now k h gains place more ties is = record {
@@ -156,19 +156,19 @@ module _ {T : Type 0} (P : Protocol T) (law : (app : App) (port : ℕ) → IsLaw
   }
 
   -- there was no memory to admit it
-  pub new_left : (F : App → Type 0) (A : SeenTable T → ℕ → Type 0) (v w : Meaning) (table : SeenTable T) (g : Client T) → IsRunning P F A port limits v table → Gains v w g.conn → client_count table < table.limit → length v.connections < limits.conns
+  pub new_left : (F : App → Type 0) (A : SeenTable T → ℕ → Type 0) (v w : NetMeaning) (table : SeenTable T) (g : Client T) → IsRunning P F A port limits v table → Gains v w g.conn → client_count table < table.limit → length v.connections < limits.conns
       → IsUnderWay P F port limits.idle w g → LeftBy P F port limits w
   new_left F A v w table g h gains place more going app fits =
       turns.new_left (side_of P app port) limits (law app port) v w (IsListed table) (client_count table) table.limit g.conn g (h.serving app fits) gains place more (going app fits)
 
   -- it goes on from the start of its talk
-  pub begun_going : (F : App → Type 0) (v w : Meaning) (k : ℕ) (talk : T) (moment deadline : ℕ) → Gains v w k → ((app : App) → P.at app port [] false [] talk) → P.holds talk ≡ false → moment ≡ w.moment
+  pub begun_going : (F : App → Type 0) (v w : NetMeaning) (k : ℕ) (talk : T) (moment deadline : ℕ) → Gains v w k → ((app : App) → P.at app port [] false [] talk) → P.holds talk ≡ false → moment ≡ w.moment
       → deadline ≡ min (moment + limits.idle) 18446744073709551615 → IsUnderWay P F port limits.idle w record { conn = k; talk = talk; ended = false; deadline = deadline }
   begun_going F v w k talk moment deadline x begins free now last app fits =
       turns.new_going (side_of P app port) limits (law app port) v w k talk moment deadline x (begins app) free now last
 
   -- nobody came, or nothing else changed
-  pub running_same : (F : App → Type 0) (A : SeenTable T → ℕ → Type 0) (v w : Meaning) (table : SeenTable T) (blocked : Bool) → IsRunning P F A port limits v table → GainsNone v w blocked → IsRunning P F A port limits w table
+  pub running_same : (F : App → Type 0) (A : SeenTable T → ℕ → Type 0) (v w : NetMeaning) (table : SeenTable T) (blocked : Bool) → IsRunning P F A port limits v table → GainsNone v w blocked → IsRunning P F A port limits w table
   running_same F A v w table blocked h none =
       let long : length w.connections ≡ length v.connections = ap (λ (cs : List Connection). length cs) none.connections in
       record {
@@ -179,7 +179,7 @@ module _ {T : Type 0} (P : Protocol T) (law : (app : App) (port : ℕ) → IsLaw
 
   -- ---- a wait
 
-  pub running_after : (F : App → Type 0) (A : SeenTable T → ℕ → Type 0) (v w : Meaning) (table : SeenTable T) → IsRunning P F A port limits v table → Passes v w → w.connections ≡ v.connections → IsRunning P F A port limits w table
+  pub running_after : (F : App → Type 0) (A : SeenTable T → ℕ → Type 0) (v w : NetMeaning) (table : SeenTable T) → IsRunning P F A port limits v table → TimePasses v w → w.connections ≡ v.connections → IsRunning P F A port limits w table
   running_after F A v w table h passes same =
       let long : length w.connections ≡ length v.connections = ap (λ (cs : List Connection). length cs) same in
       record {
@@ -188,7 +188,7 @@ module _ {T : Type 0} (P : Protocol T) (law : (app : App) (port : ℕ) → IsLaw
         admitted = admitted_still table (length v.connections) (length w.connections) long h.admitted;
       }
 
-  pub running_woken : (F : App → Type 0) (A : SeenTable T → ℕ → Type 0) (v w : Meaning) (table : SeenTable T) (k : ℕ) → IsRunning P F A port limits v table → Passes v w → w.connections ≡ woken k v.connections → WasRunning P F A port limits w table k
+  pub running_woken : (F : App → Type 0) (A : SeenTable T → ℕ → Type 0) (v w : NetMeaning) (table : SeenTable T) (k : ℕ) → IsRunning P F A port limits v table → TimePasses v w → w.connections ≡ woken k v.connections → WasRunning P F A port limits w table k
   running_woken F A v w table k h passes is =
       let long : length w.connections ≡ length v.connections = ap (λ (cs : List Connection). length cs) is ∙ turns.named_length (Ready.Readable k) v.connections in
       record {
@@ -197,7 +197,7 @@ module _ {T : Type 0} (P : Protocol T) (law : (app : App) (port : ℕ) → IsLaw
         admitted = admitted_still table (length v.connections) (length w.connections) long h.admitted;
       }
 
-  pub may_wait : (F : App → Type 0) (A : SeenTable T → ℕ → Type 0) (m : Meaning) (table : SeenTable T) (until : Option ℕ) (one : App) → F one → IsRunning P F A port limits m table → (0 < client_count table → IsSome until)
+  pub may_wait : (F : App → Type 0) (A : SeenTable T → ℕ → Type 0) (m : NetMeaning) (table : SeenTable T) (until : Option ℕ) (one : App) → F one → IsRunning P F A port limits m table → (0 < client_count table → IsSome until)
       → (client_count table ≡ 0 → m.blocked ≡ true) → MayWait m until
   may_wait F A m table until one fits h ends asked =
       let s = h.serving one fits in
@@ -208,7 +208,7 @@ module _ {T : Type 0} (P : Protocol T) (law : (app : App) (port : ℕ) → IsLaw
       }
 
   -- nobody was found under the name
-  pub running_unknown : (F : App → Type 0) (A : SeenTable T → ℕ → Type 0) (w : Meaning) (table now : SeenTable T) (k : ℕ) → WasRunning P F A port limits w table k → IsListed table k None → now ≡ table → IsRunning P F A port limits w now
+  pub running_unknown : (F : App → Type 0) (A : SeenTable T → ℕ → Type 0) (w : NetMeaning) (table now : SeenTable T) (k : ℕ) → WasRunning P F A port limits w table k → IsListed table k None → now ≡ table → IsRunning P F A port limits w now
   running_unknown F A w table now k h row same = subst (λ (t : SeenTable T). IsRunning P F A port limits w t) (sym same) record {
     serving = λ app fits. turns.unknown_named (side_of P app port) limits (law app port) w (IsListed table) (client_count table) table.limit k (h.woken app fits) row;
     tied = h.tied;
@@ -216,7 +216,7 @@ module _ {T : Type 0} (P : Protocol T) (law : (app : App) (port : ℕ) → IsLaw
   }
 
   -- its client was found, and isn't held
-  pub running_found : (F : App → Type 0) (A : SeenTable T → ℕ → Type 0) (B : SeenTable T → ℕ → ℕ → Type 0) (w : Meaning) (table now : SeenTable T) (k : ℕ) (g : Client T) (one : App) → F one → WasRunning P F A port limits w table k → IsListed table k (Some g) → g.conn ≡ k
+  pub running_found : (F : App → Type 0) (A : SeenTable T → ℕ → Type 0) (B : SeenTable T → ℕ → ℕ → Type 0) (w : NetMeaning) (table now : SeenTable T) (k : ℕ) (g : Client T) (one : App) → F one → WasRunning P F A port limits w table k → IsListed table k (Some g) → g.conn ≡ k
       → P.holds g.talk ≡ false → ((n : ℕ) → A table n → IsListed table k (Some g) → P.holds g.talk ≡ false → AreBeside table now k → B now n k) → Relists table now k None → client_count now + 1 ≡ client_count table
       → IsRunningBut P F B port limits w now g.conn × IsLive w g.conn × IsUnderWay P F port limits.idle w g
   running_found F A B w table now k g one fits_one h row same free ties relists count =
@@ -233,7 +233,7 @@ module _ {T : Type 0} (P : Protocol T) (law : (app : App) (port : ℕ) → IsLaw
         λ app fits. (known app fits).2,
       )
 
-  pub found_place : (F : App → Type 0) (A : SeenTable T → ℕ → Type 0) (w : Meaning) (table now : SeenTable T) (k : ℕ) (one : App) → F one → WasRunning P F A port limits w table k → Relists table now k None → client_count now + 1 ≡ client_count table
+  pub found_place : (F : App → Type 0) (A : SeenTable T → ℕ → Type 0) (w : NetMeaning) (table now : SeenTable T) (k : ℕ) (one : App) → F one → WasRunning P F A port limits w table k → Relists table now k None → client_count now + 1 ≡ client_count table
       → client_count now < now.limit
   found_place F A w table now k one fits h relists count =
       let s = (h.woken one fits).serving in
@@ -243,7 +243,7 @@ module _ {T : Type 0} (P : Protocol T) (law : (app : App) (port : ℕ) → IsLaw
       omega (arith, few, room, limit, count)
 
   -- its client was found, is held, and is listed again
-  pub running_back : (F : App → Type 0) (A : SeenTable T → ℕ → Type 0) (w : Meaning) (table less now : SeenTable T) (k : ℕ) (g : Client T) → WasRunning P F A port limits w table k → IsListed table k (Some g) → g.conn ≡ k → P.holds g.talk ≡ true
+  pub running_back : (F : App → Type 0) (A : SeenTable T → ℕ → Type 0) (w : NetMeaning) (table less now : SeenTable T) (k : ℕ) (g : Client T) → WasRunning P F A port limits w table k → IsListed table k (Some g) → g.conn ≡ k → P.holds g.talk ≡ true
       → ((n : ℕ) → A table n → IsListed table k (Some g) → ((s : Option (Client T)) → IsListed now k s → s ≡ Some g) → AreBeside table now k → A now n)
       → Relists table less k None → client_count less + 1 ≡ client_count table → Relists less now g.conn (Some g) → client_count now ≡ client_count less + 1 → IsRunning P F A port limits w now
   running_back F A w table less now k g h row same held ties relists count again more =
@@ -263,7 +263,7 @@ module _ {T : Type 0} (P : Protocol T) (law : (app : App) (port : ℕ) → IsLaw
   -- ---- a reply that was waited for
 
   -- none has come
-  pub running_polled : (E F : App → Type 0) (A A' : SeenTable T → ℕ → Type 0) (m : Meaning) (table now : SeenTable T) → ((app : App) → E app → F app) → ((n : ℕ) → A table n → A' now n) → now ≡ table → IsRunning P F A port limits m table
+  pub running_polled : (E F : App → Type 0) (A A' : SeenTable T → ℕ → Type 0) (m : NetMeaning) (table now : SeenTable T) → ((app : App) → E app → F app) → ((n : ℕ) → A table n → A' now n) → now ≡ table → IsRunning P F A port limits m table
       → IsRunning P E A' port limits m now
   running_polled E F A A' m table now knows ties same h = record {
     serving = λ app fits. subst (λ (t : SeenTable T). IsServing (side_of P app port) limits m (IsListed t) (client_count t) t.limit) (sym same) (h.serving app (knows app fits));
@@ -272,11 +272,11 @@ module _ {T : Type 0} (P : Protocol T) (law : (app : App) (port : ℕ) → IsLaw
   }
 
   -- the connection of the client to which it was given is live
-  pub held_live : (E F : App → Type 0) (A : SeenTable T → ℕ → Type 0) (m : Meaning) (table now : SeenTable T) (h : Client T) (one : App) → F one → IsRunning P F A port limits m table → IsReleased P E table now h → IsLive m h.conn
+  pub held_live : (E F : App → Type 0) (A : SeenTable T → ℕ → Type 0) (m : NetMeaning) (table now : SeenTable T) (h : Client T) (one : App) → F one → IsRunning P F A port limits m table → IsReleased P E table now h → IsLive m h.conn
   held_live E F A m table now h one fits r is = let was = (r.serving one fits).kept h.conn (Some is.was) is.listed in record { accepted = was.0; still_open = was.1.still_open }
 
   -- it is released
-  pub running_released : (E F : App → Type 0) (A : SeenTable T → ℕ → Type 0) (B : SeenTable T → ℕ → ℕ → Type 0) (v w : Meaning) (table now : SeenTable T) (h : Client T) (one : App) → E one → ((app : App) → E app → F app) → IsRunning P F A port limits v table
+  pub running_released : (E F : App → Type 0) (A : SeenTable T → ℕ → Type 0) (B : SeenTable T → ℕ → ℕ → Type 0) (v w : NetMeaning) (table now : SeenTable T) (h : Client T) (one : App) → E one → ((app : App) → E app → F app) → IsRunning P F A port limits v table
       → IsReleased P E table now h → ((n : ℕ) → A table n → B now n h.conn) → Changes v w h.conn (held_as false)
       → IsRunningBut P E B port limits w now h.conn × IsLive w h.conn × IsUnderWay P E port limits.idle w h
   running_released E F A B v w table now h one fits_one knows r is ties frees =
@@ -299,7 +299,7 @@ module _ {T : Type 0} (P : Protocol T) (law : (app : App) (port : ℕ) → IsLaw
       )
 
   -- nobody is listed and more may be accepted, so nobody was there
-  pub all_asked : (F : App → Type 0) (A : SeenTable T → ℕ → Type 0) (m : Meaning) (table : SeenTable T) (one : App) → F one → IsRunning P F A port limits m table → (accepted : ℕ) → HasAccepted accepted limits.conns (length table.members) table.limit m
+  pub all_asked : (F : App → Type 0) (A : SeenTable T → ℕ → Type 0) (m : NetMeaning) (table : SeenTable T) (one : App) → F one → IsRunning P F A port limits m table → (accepted : ℕ) → HasAccepted accepted limits.conns (length table.members) table.limit m
       → 1 ≤ limits.pool → (accepted ≡ limits.conns → ⊥) → client_count table ≡ 0 → m.blocked ≡ true
   all_asked F A m table one fits h accepted has place more none = by has.why
     where
@@ -317,13 +317,13 @@ module _ {T : Type 0} (P : Protocol T) (law : (app : App) (port : ℕ) → IsLaw
   pub idle_free : (c : Connection) (g : Client T) (moment : ℕ) (one : App) → IsOpen (side_of P one port) limits.idle c g → IsCalm (side_of P one port) limits.idle c g → g.deadline ≤ moment → moment < 18446744073709551615 → c.held ≡ false
   idle_free c g moment one o calm due short = o.held ∙ (turns.due_rests (side_of P one port) limits (law one port) c g moment calm due short).0
 
-  pub idle_keeps : (u v w : Meaning) (k : ℕ) (one : App) → Keeps u v → Changes v w k (closed_at w.moment) → Keeps u w
+  pub idle_keeps : (u v w : NetMeaning) (k : ℕ) (one : App) → Keeps u v → Changes v w k (closed_at w.moment) → Keeps u w
   idle_keeps u v w k one keeps closes = turns.keeps_more (side_of P one port) limits (law one port) u v w k (closed_at w.moment) keeps closes
 
-  pub running_idle : (F : App → Type 0) (A : SeenTable T → ℕ → Type 0) (B : SeenTable T → ℕ → ℕ → Type 0) (v w : Meaning) (table less now : SeenTable T) (moment : ℕ) (g : Client T) (one : App) → F one → IsRunning P F A port limits v table
+  pub running_idle : (F : App → Type 0) (A : SeenTable T → ℕ → Type 0) (B : SeenTable T → ℕ → ℕ → Type 0) (v w : NetMeaning) (table less now : SeenTable T) (moment : ℕ) (g : Client T) (one : App) → F one → IsRunning P F A port limits v table
       → IsListed table g.conn (Some g) → Relists table less g.conn None → client_count less + 1 ≡ client_count table → Changes v w g.conn (closed_at w.moment) → g.deadline ≤ moment → moment < 18446744073709551615 → moment ≤ v.moment
       → ((n : ℕ) → A table n → IsListed table g.conn (Some g) → P.holds g.talk ≡ false → AreBeside table less g.conn → B less n g.conn) → ((n : ℕ) → B less n g.conn → AreBeside less now g.conn → A now n)
-      → now ≡ with_members (without g.conn less.members) less → length now.members + 1 ≡ length less.members → IsRunning P F A port limits w now
+      → now ≡ with_members (without_number g.conn less.members) less → length now.members + 1 ≡ length less.members → IsRunning P F A port limits w now
   running_idle F A B v w table less now moment g one fits_one h row relists count closes due short past out again is fewer =
       let long : length w.connections ≡ length v.connections = changed_length v w g.conn (closed_at w.moment) closes in
       let was = (h.serving one fits_one).kept g.conn (Some g) row in
@@ -333,13 +333,13 @@ module _ {T : Type 0} (P : Protocol T) (law : (app : App) (port : ℕ) → IsLaw
             (turns.idle_closed (side_of P app port) limits (law app port) v w (IsListed table) (IsListed less) (client_count table) (client_count less) table.limit less.limit g.conn moment g (h.serving app fits) row count relists.limit relists.only relists.others
             closes due short past);
         tied = subst (λ (n : ℕ). A now n) (sym long)
-            (again (length v.connections) (out (length v.connections) h.tied row rests.0 relists.others) (λ j s other at_j. list_kept less now (without g.conn less.members) is j s at_j));
+            (again (length v.connections) (out (length v.connections) h.tied row rests.0 relists.others) (λ j s other at_j. list_kept less now (without_number g.conn less.members) is j s at_j));
         admitted = released less now (length v.connections) (length w.connections) g.conn (taken_out table less (length v.connections) g.conn g.conn g h.admitted row relists refl count) relists.only long is fewer;
       }
 
   -- ---- the start and the end
 
-  pub running_first : (F : App → Type 0) (A : SeenTable T → ℕ → Type 0) (m : Meaning) (table : SeenTable T) → IsFresh m → IsSome m.listens → client_count table ≡ 0 → table.limit ≡ limits.pool → table.members ≡ [] → ((k : ℕ) → IsListed table k None)
+  pub running_first : (F : App → Type 0) (A : SeenTable T → ℕ → Type 0) (m : NetMeaning) (table : SeenTable T) → IsFresh m → IsSome m.listens → client_count table ≡ 0 → table.limit ≡ limits.pool → table.members ≡ [] → ((k : ℕ) → IsListed table k None)
       → ((t : SeenTable T) → A t 0) → IsRunning P F A port limits m table
   running_first F A m table fresh listens count limit members nobody tied = record {
     serving = λ app fits. turns.nothing_yet (side_of P app port) limits (law app port) m (IsListed table) (client_count table) table.limit fresh listens count limit (λ k g row. nobody k row.0 row.1);
@@ -347,5 +347,5 @@ module _ {T : Type 0} (P : Protocol T) (law : (app : App) (port : ℕ) → IsLaw
     admitted = none_admitted table (length m.connections) members nobody count;
   }
 
-  pub running_closed : (F : App → Type 0) (A : SeenTable T → ℕ → Type 0) (m : Meaning) (table : SeenTable T) (one : App) → F one → IsRunning P F A port limits m table → client_count table ≡ 0 → All (λ (c : Connection). c.closed ≡ true) m.connections
+  pub running_closed : (F : App → Type 0) (A : SeenTable T → ℕ → Type 0) (m : NetMeaning) (table : SeenTable T) (one : App) → F one → IsRunning P F A port limits m table → client_count table ≡ 0 → All (λ (c : Connection). c.closed ≡ true) m.connections
   running_closed F A m table one fits h none = turns.all_closed (side_of P one port) limits (law one port) m (IsListed table) (client_count table) table.limit (h.serving one fits) none

@@ -4,7 +4,7 @@ use Rattle.std.proofs.lemmas.List.{get_or-set_same, set-get_or, length-set}
 use Rattle.gv_io.specs.Streams.{appended}
 use Rattle.wsgi_core.specs.Steps.{phase_by}
 use Rattle.wsgi_core.specs.declared.session.SessionPhase.{SessionPhase}
-use Rattle.stream_net.specs.Nets.{Connection, Meaning, Changes, GoesOn, IsLive, connection_at, nobody}
+use Rattle.stream_net.specs.Nets.{Connection, NetMeaning, Changes, NetGoesOn, IsLive, connection_at, absent_connection}
 use Rattle.stream_net.specs.declared.net.ReadEnd.TheVariants.{Got, End as AtEnd}
 use Rattle.stream_net.specs.declared.net.WriteEnd.TheVariants.{Took, Memory as NoMemory}
 use Rattle.stream_net.specs.Reads.{after_read, Reads}
@@ -14,12 +14,12 @@ use Rattle.stream_server.specs.Steps.{Closes, HasEnded, IsCut, IsGoing, IsOpen, 
 use Rattle.stream_server.specs.declared.client.Client.{Client}
 
 -- what stands at a place that was changed
-pub changed_at : (v w : Meaning) (k : ℕ) (change : Connection → Connection) → Changes v w k change → k < length v.connections
+pub changed_at : (v w : NetMeaning) (k : ℕ) (change : Connection → Connection) → Changes v w k change → k < length v.connections
     → connection_at w.connections k ≡ change (connection_at v.connections k)
 changed_at v w k change h within =
-    ap (λ (cs : List Connection). connection_at cs k) h.connections ∙ get_or-set_same v.connections k (change (connection_at v.connections k)) nobody within
+    ap (λ (cs : List Connection). connection_at cs k) h.connections ∙ get_or-set_same v.connections k (change (connection_at v.connections k)) absent_connection within
 
-pub changed_length : (v w : Meaning) (k : ℕ) (change : Connection → Connection) → Changes v w k change → length w.connections ≡ length v.connections
+pub changed_length : (v w : NetMeaning) (k : ℕ) (change : Connection → Connection) → Changes v w k change → length w.connections ≡ length v.connections
 changed_length v w k change h =
     ap (λ (cs : List Connection). length cs) h.connections ∙ length-set v.connections k (change (connection_at v.connections k))
 
@@ -39,17 +39,17 @@ set_twice [] k x y = refl
 set_twice (z ∷ xs) zero x y = refl
 set_twice (z ∷ xs) (suc k) x y = ap (λ (zs : List _). z ∷ zs) (set_twice xs k x y)
 
-pub only_none : (v : Meaning) (k : ℕ) → OnlyAt v v k
+pub only_none : (v : NetMeaning) (k : ℕ) → OnlyAt v v k
 only_none v k = record {
-  connections = sym (set-get_or v.connections k nobody);
+  connections = sym (set-get_or v.connections k absent_connection);
   same_closed = refl;
   rest = record { most = refl; moment = omega arith; listens = refl; faults = refl; blocked = refl };
 }
 
-pub goes_on_twice : (u v w : Meaning) → GoesOn u v → GoesOn v w → GoesOn u w
+pub goes_on_twice : (u v w : NetMeaning) → NetGoesOn u v → NetGoesOn v w → NetGoesOn u w
 goes_on_twice u v w h g = record { most = g.most ∙ h.most; moment = omega (arith, h.moment, g.moment); listens = g.listens ∙ h.listens; faults = g.faults ∙ h.faults; blocked = g.blocked ∙ h.blocked }
 
-pub only_twice : (u v w : Meaning) (k : ℕ) → OnlyAt u v k → OnlyAt v w k → OnlyAt u w k
+pub only_twice : (u v w : NetMeaning) (k : ℕ) → OnlyAt u v k → OnlyAt v w k → OnlyAt u w k
 only_twice u v w k h g =
     let d = connection_at w.connections k in
     record {
@@ -58,25 +58,25 @@ only_twice u v w k h g =
       rest = goes_on_twice u v w h.rest g.rest;
     }
 
-pub only_length : (v w : Meaning) (k : ℕ) → OnlyAt v w k → length w.connections ≡ length v.connections
+pub only_length : (v w : NetMeaning) (k : ℕ) → OnlyAt v w k → length w.connections ≡ length v.connections
 only_length v w k h = ap (λ (cs : List Connection). length cs) h.connections ∙ length-set v.connections k (connection_at w.connections k)
 
-pub still_live : (v w : Meaning) (k : ℕ) → OnlyAt v w k → IsLive v k → IsLive w k
+pub still_live : (v w : NetMeaning) (k : ℕ) → OnlyAt v w k → IsLive v k → IsLive w k
 still_live v w k h live = record { accepted = omega (arith, only_length v w k h, live.accepted); still_open = h.same_closed ∙ live.still_open }
 
 -- ---- several steps, where the client keeps its number
 
-pub only_more : (u v w : Meaning) (k j : ℕ) → j ≡ k → OnlyAt u v k → OnlyAt v w j → OnlyAt u w k
+pub only_more : (u v w : NetMeaning) (k j : ℕ) → j ≡ k → OnlyAt u v k → OnlyAt v w j → OnlyAt u w k
 only_more u v w k j same h g = only_twice u v w k h (subst (λ (n : ℕ). OnlyAt v w n) same g)
 
-pub live_more : (v w : Meaning) (k j : ℕ) → j ≡ k → OnlyAt v w j → IsLive v k → IsLive w k
+pub live_more : (v w : NetMeaning) (k j : ℕ) → j ≡ k → OnlyAt v w j → IsLive v k → IsLive w k
 live_more v w k j same g live = still_live v w k (subst (λ (n : ℕ). OnlyAt v w n) same g) live
 
-pub live_same : (v : Meaning) (k j : ℕ) → j ≡ k → IsLive v k → IsLive v j
+pub live_same : (v : NetMeaning) (k j : ℕ) → j ≡ k → IsLive v k → IsLive v j
 live_same v k j same live = subst (λ (n : ℕ). IsLive v n) (sym same) live
 
 -- what a step leaves, by the number at the start
-pub leaves_more : (v w : Meaning) (k j : ℕ) → j ≡ k → (P Q : Connection → Type 0) → (P (connection_at v.connections j) → Q (connection_at w.connections j))
+pub leaves_more : (v w : NetMeaning) (k j : ℕ) → j ≡ k → (P Q : Connection → Type 0) → (P (connection_at v.connections j) → Q (connection_at w.connections j))
     → P (connection_at v.connections k) → Q (connection_at w.connections k)
 leaves_more v w k j same P Q f =
     let F : ℕ → Type 0 = λ n. P (connection_at v.connections n) → Q (connection_at w.connections n) in
@@ -94,7 +94,7 @@ is_closing false e = cc
 
 module _ {T : Type 0} (S : Side T) (idle k : ℕ) where
   -- a piece was read
-  pub was_read : (v w : Meaning) (g : Client T) (t : T) (n moment deadline : ℕ) (bytes piece : List ℕ) → Reads v w k (Got n) bytes
+  pub was_read : (v w : NetMeaning) (g : Client T) (t : T) (n moment deadline : ℕ) (bytes piece : List ℕ) → Reads v w k (Got n) bytes
       → k < length v.connections → IsOpen S idle (connection_at v.connections k) g → g.ended ≡ false
       → moment ≡ w.moment → deadline ≡ min (moment + idle) 18446744073709551615 → piece ≡ take n bytes → S.holds t ≡ S.holds g.talk
       → ((fed taken : List ℕ) → S.at fed false taken g.talk → S.at (fed ++ piece) false taken t)
@@ -123,7 +123,7 @@ module _ {T : Type 0} (S : Side T) (idle k : ℕ) where
       }
 
   -- the end was read
-  pub was_ended : (v w : Meaning) (g : Client T) (t : T) (bytes : List ℕ) → Reads v w k AtEnd bytes
+  pub was_ended : (v w : NetMeaning) (g : Client T) (t : T) (bytes : List ℕ) → Reads v w k AtEnd bytes
       → k < length v.connections → IsOpen S idle (connection_at v.connections k) g → S.holds t ≡ S.holds g.talk
       → ((fed : List ℕ) (ended : Bool) (taken : List ℕ) → S.at fed ended taken g.talk → S.at fed true taken t)
       → IsGoing S idle (connection_at w.connections k) record { conn = g.conn; talk = t; ended = true; deadline = g.deadline }
@@ -147,7 +147,7 @@ module _ {T : Type 0} (S : Side T) (idle k : ℕ) where
       }
 
   -- a piece was read for which memory ran out
-  pub was_cut : (v w : Meaning) (g : Client T) (n : ℕ) (bytes piece pending : List ℕ) → Reads v w k (Got n) bytes
+  pub was_cut : (v w : NetMeaning) (g : Client T) (n : ℕ) (bytes piece pending : List ℕ) → Reads v w k (Got n) bytes
       → k < length v.connections → IsOpen S idle (connection_at v.connections k) g → g.ended ≡ false → piece ≡ take n bytes
       → ((fed taken : List ℕ) → S.at fed false taken g.talk → (tail : List ℕ) × ((S.said (fed ++ piece) false).bytes ≡ taken ++ pending ++ tail))
       → IsCut S.said (connection_at w.connections k)
@@ -220,7 +220,7 @@ module _ {T : Type 0} (S : Side T) (idle k : ℕ) where
   }
 
   -- there was no memory to write
-  pub was_refused : (law : IsLawful S) (v w : Meaning) (g : Client T) (bytes : List ℕ) → Writes v w k NoMemory bytes
+  pub was_refused : (law : IsLawful S) (v w : NetMeaning) (g : Client T) (bytes : List ℕ) → Writes v w k NoMemory bytes
       → k < length v.connections → IsOpen S idle (connection_at v.connections k) g → IsCut S.said (connection_at w.connections k)
   was_refused law v w g bytes r within h =
       let c = connection_at v.connections k in
@@ -240,7 +240,7 @@ module _ {T : Type 0} (S : Side T) (idle k : ℕ) where
       }
 
   -- some of what was pending was written
-  pub was_written : (v w : Meaning) (g : Client T) (t : T) (n moment deadline : ℕ) (bytes pending : List ℕ) → Writes v w k (Took n) bytes
+  pub was_written : (v w : NetMeaning) (g : Client T) (t : T) (n moment deadline : ℕ) (bytes pending : List ℕ) → Writes v w k (Took n) bytes
       → k < length v.connections → IsOpen S idle (connection_at v.connections k) g
       → moment ≡ w.moment → deadline ≡ min (moment + idle) 18446744073709551615 → bytes ≡ pending → S.holds t ≡ S.holds g.talk
       → ((fed : List ℕ) (ended : Bool) (taken : List ℕ) → S.at fed ended taken g.talk → S.at fed ended (taken ++ take n pending) t)

@@ -5,11 +5,11 @@ use Rattle.std.proofs.lemmas.List.{length-set, set-get_or, get_or_append_left}
 use Rattle.std.proofs.lemmas.Bool.{cases_lt}
 use Rattle.std.proofs.lemmas.List.Elements.{All-nil}
 use Rattle.std.proofs.Math.Seq.{get_or-append_seam}
-use Rattle.stream_net.specs.Nets.{Connection, Meaning, Changes, IsAtRest, IsFresh, IsLive, connection_at, nobody, live_count, closed_at, held_as}
+use Rattle.stream_net.specs.Nets.{Connection, NetMeaning, Changes, IsAtRest, IsFresh, IsLive, connection_at, absent_connection, live_count, closed_at, held_as}
 use Rattle.stream_net.specs.declared.net.Quiet.{Quiet}
 use Rattle.stream_net.specs.declared.net.Quiet.TheVariants.{Awake, ByRead, ByWrite}
 use Rattle.stream_net.specs.Accepts.{Gains, GainsNone}
-use Rattle.stream_net.specs.Waits.{Passes, named, woken, woken_if}
+use Rattle.stream_net.specs.Waits.{TimePasses, named, woken, woken_if}
 use Rattle.stream_net.specs.declared.net.Ready.{Ready}
 use Rattle.stream_net.specs.declared.net.Ready.TheVariants.{Incoming, Readable, Writable, Elapsed}
 use Rattle.stream_server.specs.declared.client.Client.{Client}
@@ -32,7 +32,7 @@ never : {A : Type 0} (b : Bool) → b ≡ false → b ≡ true → A
 never b f t = absurd (cc)
 
 -- an acceptance adds one
-pub gains_length : (v w : Meaning) (k : ℕ) → Gains v w k → length w.connections ≡ length v.connections + 1
+pub gains_length : (v w : NetMeaning) (k : ℕ) → Gains v w k → length w.connections ≡ length v.connections + 1
 gains_length v w k x = ap (λ (cs : List Connection). length cs) x.connections ∙ length-append v.connections (x.connection ∷ [])
 
 -- a wait takes no connection away
@@ -127,7 +127,7 @@ module _ {T : Type 0} (S : Side T) (limits : Limits) (law : IsLawful S) where
   -- ---- all but one
 
   -- what goes over that one is nothing to the others
-  pub but_after : (v w : Meaning) (listed : Listing T) (count room k : ℕ) → IsServingBut S limits v listed count room k → k < length v.connections → OnlyAt v w k
+  pub but_after : (v w : NetMeaning) (listed : Listing T) (count room k : ℕ) → IsServingBut S limits v listed count room k → k < length v.connections → OnlyAt v w k
       → IsServingBut S limits w listed count room k
   but_after v w listed count room k h within only = record {
     served = λ j other in'. subst (IsServed S.said limits.idle) (sym (elsewhere j other)) (h.served j other (omega (arith, long, in')));
@@ -153,7 +153,7 @@ module _ {T : Type 0} (S : Side T) (limits : Limits) (law : IsLawful S) where
       kept_at j (Some g) other f = (omega (arith, long, f.0), subst (λ c. IsOpen S limits.idle c g) (sym (elsewhere j other)) f.1, subst (λ c. IsCalm S limits.idle c g) (sym (elsewhere j other)) f.2)
 
   -- its client is listed
-  pub but_listed : (v : Meaning) (listed now : Listing T) (count room k : ℕ) (g : Client T) → IsServingBut S limits v listed count room k → k < length v.connections
+  pub but_listed : (v : NetMeaning) (listed now : Listing T) (count room k : ℕ) (g : Client T) → IsServingBut S limits v listed count room k → k < length v.connections
       → IsOpen S limits.idle (connection_at v.connections k) g → IsCalm S limits.idle (connection_at v.connections k) g
       → ((s : Option (Client T)) → now k s → s ≡ Some g) → ((j : ℕ) (s : Option (Client T)) → j ≢ k → now j s → listed j s)
       → IsServing S limits v now (count + 1) room
@@ -172,7 +172,7 @@ module _ {T : Type 0} (S : Side T) (limits : Limits) (law : IsLawful S) where
   }
 
   -- it is closed
-  pub but_closed : (v w : Meaning) (listed : Listing T) (count room k : ℕ) → IsServingBut S limits v listed count room k → IsLive v k
+  pub but_closed : (v w : NetMeaning) (listed : Listing T) (count room k : ℕ) → IsServingBut S limits v listed count room k → IsLive v k
       → Changes v w k (closed_at w.moment) → IsServed S.said limits.idle (closed_at w.moment (connection_at v.connections k))
       → IsServing S limits w listed count room
   but_closed v w listed count room k h live closes served = record {
@@ -207,7 +207,7 @@ module _ {T : Type 0} (S : Side T) (limits : Limits) (law : IsLawful S) where
       kept_at j (Some g) other f = (omega (arith, long, f.0), subst (λ c. IsOpen S limits.idle c g) (sym (elsewhere j other)) f.1, subst (λ c. IsCalm S limits.idle c g) (sym (elsewhere j other)) f.2)
 
   -- memory ran out at it
-  pub but_cut : (v : Meaning) (listed : Listing T) (count room k : ℕ) → IsServingBut S limits v listed count room k
+  pub but_cut : (v : NetMeaning) (listed : Listing T) (count room k : ℕ) → IsServingBut S limits v listed count room k
       → IsServed S.said limits.idle (connection_at v.connections k) → IsLeft S limits v
   but_cut v listed count room k h served = record {
     served = all_from (IsServed S.said limits.idle) v.connections (everywhere k (λ j. j < length v.connections → IsServed S.said limits.idle (connection_at v.connections j)) (λ _. served) h.served);
@@ -216,7 +216,7 @@ module _ {T : Type 0} (S : Side T) (limits : Limits) (law : IsLawful S) where
     within = h.within;
   }
 
-  pub serving_left : (v : Meaning) (listed : Listing T) (count room : ℕ) → IsServing S limits v listed count room → IsLeft S limits v
+  pub serving_left : (v : NetMeaning) (listed : Listing T) (count room : ℕ) → IsServing S limits v listed count room → IsLeft S limits v
   serving_left v listed count room h = record {
     served = h.served;
     rest = record { one = length v.connections; others = λ j _ in'. at_all (IsStill S) v.connections h.resting j in' };
@@ -226,7 +226,7 @@ module _ {T : Type 0} (S : Side T) (limits : Limits) (law : IsLawful S) where
 
   -- ---- a client that isn't listed
 
-  pub client_waits : (v w : Meaning) (listed now : Listing T) (count total room room' k j : ℕ) (g : Client T) → IsServingBut S limits v listed count room k → IsLive v k → OnlyAt v w k
+  pub client_waits : (v w : NetMeaning) (listed now : Listing T) (count total room room' k j : ℕ) (g : Client T) → IsServingBut S limits v listed count room k → IsLive v k → OnlyAt v w k
       → (IsOpen S limits.idle (connection_at w.connections k) g × IsCalm S limits.idle (connection_at w.connections k) g) → j ≡ k → total ≡ count + 1 → room' ≡ room
       → ((s : Option (Client T)) → now j s → s ≡ Some g) → ((i : ℕ) (s : Option (Client T)) → i ≢ j → now i s → listed i s)
       → IsServing S limits w now total room'
@@ -238,20 +238,20 @@ module _ {T : Type 0} (S : Side T) (limits : Limits) (law : IsLawful S) where
       (subst (λ (n : ℕ). (i : ℕ) (s : Option (Client T)) → i ≢ n → now i s → listed i s) same others) in
       subst (λ (n : ℕ). IsServing S limits w now total n) (sym limit) (subst (λ (n : ℕ). IsServing S limits w now n room) (sym counts) done)
 
-  pub client_over : (u v w : Meaning) (listed : Listing T) (count room k : ℕ) (g : Client T) → IsServingBut S limits u listed count room k → IsLive u k → OnlyAt u v k
+  pub client_over : (u v w : NetMeaning) (listed : Listing T) (count room k : ℕ) (g : Client T) → IsServingBut S limits u listed count room k → IsLive u k → OnlyAt u v k
       → IsOver S limits.idle (connection_at v.connections k) g → Changes v w k (closed_at w.moment)
       → IsServing S limits w listed count room
   client_over u v w listed count room k g h live only over closes =
       but_closed v w listed count room k (but_after u v listed count room k h live.accepted only) (still_live u v k only live) closes (served_over (connection_at v.connections k) g w.moment over)
 
-  pub client_cut : (v w : Meaning) (listed : Listing T) (count room k : ℕ) → IsServingBut S limits v listed count room k → IsLive v k → OnlyAt v w k
+  pub client_cut : (v w : NetMeaning) (listed : Listing T) (count room k : ℕ) → IsServingBut S limits v listed count room k → IsLive v k → OnlyAt v w k
       → IsCut S.said (connection_at w.connections k) → IsLeft S limits w
   client_cut v w listed count room k h live only cut =
       but_cut w listed count room k (but_after v w listed count room k h live.accepted only) (served_cut (connection_at w.connections k) cut)
 
   -- ---- a client is taken out
 
-  pub but_taken : (v : Meaning) (listed now : Listing T) (count left room room' k : ℕ) → IsServing S limits v listed count room → left + 1 ≡ count → room' ≡ room
+  pub but_taken : (v : NetMeaning) (listed now : Listing T) (count left room room' k : ℕ) → IsServing S limits v listed count room → left + 1 ≡ count → room' ≡ room
       → ((s : Option (Client T)) → now k s → s ≡ None) → ((j : ℕ) (s : Option (Client T)) → j ≢ k → now j s → listed j s)
       → IsServingBut S limits v now left room' k
   but_taken v listed now count left room room' k h counts limit only others = record {
@@ -273,7 +273,7 @@ module _ {T : Type 0} (S : Side T) (limits : Limits) (law : IsLawful S) where
   quiet_held c e = e
 
   -- its connection is held for a job
-  pub client_held : (u v w : Meaning) (listed now : Listing T) (count total room room' k : ℕ) (g h : Client T) → IsServingBut S limits u listed count room k → IsLive u k → OnlyAt u v k
+  pub client_held : (u v w : NetMeaning) (listed now : Listing T) (count total room room' k : ℕ) (g h : Client T) → IsServingBut S limits u listed count room k → IsLive u k → OnlyAt u v k
       → IsGoing S limits.idle (connection_at v.connections k) g → Changes v w k (held_as true) → h.ended ≡ g.ended → h.deadline ≡ 18446744073709551615 → S.holds h.talk ≡ true → S.kept h.talk ≡ g.deadline
       → ((fed : List ℕ) (ended : Bool) (taken : List ℕ) → S.at fed ended taken g.talk → S.at fed ended taken h.talk) → total ≡ count + 1 → room' ≡ room
       → ((s : Option (Client T)) → now k s → s ≡ Some h) → ((i : ℕ) (s : Option (Client T)) → i ≢ k → now i s → listed i s)
@@ -311,7 +311,7 @@ module _ {T : Type 0} (S : Side T) (limits : Limits) (law : IsLawful S) where
   kept_timely c g (Held held' e never_ timely) held = timely
 
   -- it is released, and goes on
-  pub client_released : (v w : Meaning) (listed : Listing T) (count room k : ℕ) (g h : Client T) → IsServingBut S limits v listed count room k → IsLive v k
+  pub client_released : (v w : NetMeaning) (listed : Listing T) (count room k : ℕ) (g h : Client T) → IsServingBut S limits v listed count room k → IsLive v k
       → IsOpen S limits.idle (connection_at v.connections k) g → IsCalm S limits.idle (connection_at v.connections k) g → Changes v w k (held_as false)
       → h.ended ≡ g.ended → S.holds g.talk ≡ true → S.kept g.talk ≤ h.deadline → S.holds h.talk ≡ false
       → ((fed : List ℕ) (ended : Bool) (taken : List ℕ) → S.at fed ended taken g.talk → S.at fed ended taken h.talk)
@@ -346,7 +346,7 @@ module _ {T : Type 0} (S : Side T) (limits : Limits) (law : IsLawful S) where
 
   -- ---- a wait
 
-  pub serving_after : (v w : Meaning) (listed : Listing T) (count room : ℕ) → IsServing S limits v listed count room → Passes v w → w.connections ≡ v.connections
+  pub serving_after : (v w : NetMeaning) (listed : Listing T) (count room : ℕ) → IsServing S limits v listed count room → TimePasses v w → w.connections ≡ v.connections
       → IsServing S limits w listed count room
   serving_after v w listed count room h passes same = record {
     served = subst (All (IsServed S.said limits.idle)) (sym same) h.served;
@@ -361,18 +361,18 @@ module _ {T : Type 0} (S : Side T) (limits : Limits) (law : IsLawful S) where
   }
 
   -- nobody was found under the name: it is of no live connection
-  pub unknown_named : (w : Meaning) (listed : Listing T) (count room k : ℕ) → IsWoken S limits w listed count room k → listed k None
+  pub unknown_named : (w : NetMeaning) (listed : Listing T) (count room k : ℕ) → IsWoken S limits w listed count room k → listed k None
       → IsServing S limits w listed count room
   unknown_named w listed count room k r row = serving_after v w listed count room r.serving r.passes (r.named ∙ by (cases_lt k (length v.connections)))
     where
-      v : Meaning
+      v : NetMeaning
       v = r.before
 
       by : (k < length v.connections) ⊎ (length v.connections ≤ k) → woken k v.connections ≡ v.connections
       by (inr past) = set_over v.connections k (woken_if (connection_at v.connections k).closed (connection_at v.connections k)) past
       by (inl in') =
           let closed : (connection_at v.connections k).closed ≡ true = r.serving.kept k None row in' in
-          ap (λ (b : Bool). slice_set v.connections k (woken_if b (connection_at v.connections k))) closed ∙ set-get_or v.connections k nobody
+          ap (λ (b : Bool). slice_set v.connections k (woken_if b (connection_at v.connections k))) closed ∙ set-get_or v.connections k absent_connection
 
   open_woken : (c : Connection) (g : Client T) → IsOpen S limits.idle c g → IsOpen S limits.idle (woken_if c.closed c) g
   open_woken c g h = subst (λ (b : Bool). IsOpen S limits.idle (woken_if b c) g) (sym h.still_open) record {
@@ -388,12 +388,12 @@ module _ {T : Type 0} (S : Side T) (limits : Limits) (law : IsLawful S) where
   }
 
   -- its client was found
-  pub known_named : (w : Meaning) (listed now : Listing T) (count left room room' k : ℕ) (g : Client T) → IsWoken S limits w listed count room k → listed k (Some g)
+  pub known_named : (w : NetMeaning) (listed now : Listing T) (count left room room' k : ℕ) (g : Client T) → IsWoken S limits w listed count room k → listed k (Some g)
       → left + 1 ≡ count → room' ≡ room → ((s : Option (Client T)) → now k s → s ≡ None) → ((j : ℕ) (s : Option (Client T)) → j ≢ k → now j s → listed j s)
       → IsServingBut S limits w now left room' k × IsLive w k × IsGoing S limits.idle (connection_at w.connections k) g × (S.holds g.talk ≡ true → IsCalm S limits.idle (connection_at w.connections k) g)
   known_named w listed now count left room room' k g r row counts limit only others = (all, live, record { is_open = is_open; awake = awake }, calm)
     where
-      v : Meaning
+      v : NetMeaning
       v = r.before
 
       was : IsKept S limits.idle v.connections k (Some g)
@@ -457,7 +457,7 @@ module _ {T : Type 0} (S : Side T) (limits : Limits) (law : IsLawful S) where
 
   -- ---- a new connection
 
-  pub new_but : (v w : Meaning) (listed : Listing T) (count room k : ℕ) → IsServing S limits v listed count room → Gains v w k → count < room → length v.connections < limits.conns
+  pub new_but : (v w : NetMeaning) (listed : Listing T) (count room k : ℕ) → IsServing S limits v listed count room → Gains v w k → count < room → length v.connections < limits.conns
       → IsServingBut S limits w listed count room k
   new_but v w listed count room k h x place more = record {
     served = λ j other in'. subst (IsServed S.said limits.idle) (sym (elsewhere j (before j other in'))) (at_all (IsServed S.said limits.idle) v.connections h.served j (before j other in'));
@@ -486,7 +486,7 @@ module _ {T : Type 0} (S : Side T) (limits : Limits) (law : IsLawful S) where
           by (inr y) = let e : j ≡ length v.connections = omega (arith, y, in', long) in absurd (other (e ∙ sym x.number))
 
       elsewhere : (j : ℕ) → j < length v.connections → connection_at w.connections j ≡ connection_at v.connections j
-      elsewhere j in' = ap (λ (cs : List Connection). connection_at cs j) x.connections ∙ get_or_append_left v.connections (x.connection ∷ []) nobody j in'
+      elsewhere j in' = ap (λ (cs : List Connection). connection_at cs j) x.connections ∙ get_or_append_left v.connections (x.connection ∷ []) absent_connection j in'
 
       kept_at : (j : ℕ) (slot : Option (Client T)) → j ≢ k → IsKept S limits.idle v.connections j slot → IsKept S limits.idle w.connections j slot
       kept_at j None other f = λ in'. ap (λ (d : Connection). d.closed) (elsewhere j (before j other in')) ∙ f (before j other in')
@@ -496,18 +496,18 @@ module _ {T : Type 0} (S : Side T) (limits : Limits) (law : IsLawful S) where
       nobody_at None f = refl
       nobody_at (Some g) f = let y = f.0 in absurd (omega (arith, y, x.number))
 
-  pub new_here : (v w : Meaning) (k : ℕ) → (x : Gains v w k) → connection_at w.connections k ≡ x.connection
+  pub new_here : (v w : NetMeaning) (k : ℕ) → (x : Gains v w k) → connection_at w.connections k ≡ x.connection
   new_here v w k x =
       ap (λ (cs : List Connection). connection_at cs k) x.connections
       ∙ ap (λ (n : ℕ). connection_at (v.connections ++ x.connection ∷ []) n) x.number
-      ∙ get_or-append_seam v.connections x.connection [] nobody
+      ∙ get_or-append_seam v.connections x.connection [] absent_connection
 
-  pub new_live : (v w : Meaning) (k : ℕ) → Gains v w k → IsLive w k
+  pub new_live : (v w : NetMeaning) (k : ℕ) → Gains v w k → IsLive w k
   new_live v w k x =
       let long : length w.connections ≡ length v.connections + 1 = ap (λ (cs : List Connection). length cs) x.connections ∙ length-append v.connections (x.connection ∷ []) in
       record { accepted = omega (arith, long, x.number); still_open = ap (λ (d : Connection). d.closed) (new_here v w k x) ∙ x.is_new.still_open }
 
-  pub new_going : (v w : Meaning) (k : ℕ) (talk : T) (moment deadline : ℕ) → (x : Gains v w k) → S.at [] false [] talk → S.holds talk ≡ false → moment ≡ w.moment → deadline ≡ min (moment + limits.idle) 18446744073709551615
+  pub new_going : (v w : NetMeaning) (k : ℕ) (talk : T) (moment deadline : ℕ) → (x : Gains v w k) → S.at [] false [] talk → S.holds talk ≡ false → moment ≡ w.moment → deadline ≡ min (moment + limits.idle) 18446744073709551615
       → IsGoing S limits.idle (connection_at w.connections k) record { conn = k; talk = talk; ended = false; deadline = deadline }
   new_going v w k talk moment deadline x begins free now last =
       let client : Client T = record { conn = k; talk = talk; ended = false; deadline = deadline } in
@@ -528,17 +528,17 @@ module _ {T : Type 0} (S : Side T) (limits : Limits) (law : IsLawful S) where
       }
 
   -- there was no memory to admit it
-  pub new_left : (v w : Meaning) (listed : Listing T) (count room k : ℕ) (g : Client T) → IsServing S limits v listed count room → Gains v w k → count < room → length v.connections < limits.conns
+  pub new_left : (v w : NetMeaning) (listed : Listing T) (count room k : ℕ) (g : Client T) → IsServing S limits v listed count room → Gains v w k → count < room → length v.connections < limits.conns
       → IsGoing S limits.idle (connection_at w.connections k) g → IsLeft S limits w
   new_left v w listed count room k g h x place more going =
       but_cut w listed count room k (new_but v w listed count room k h x place more) (served_going (connection_at w.connections k) g going)
 
-  pub none_new : (v w : Meaning) (listed : Listing T) (count room : ℕ) (blocked : Bool) → IsServing S limits v listed count room → GainsNone v w blocked
+  pub none_new : (v w : NetMeaning) (listed : Listing T) (count room : ℕ) (blocked : Bool) → IsServing S limits v listed count room → GainsNone v w blocked
       → IsServing S limits w listed count room
   none_new v w listed count room blocked h x =
       serving_kept v w listed count room h x.connections x.most x.listens
     where
-      serving_kept : (v w : Meaning) (listed : Listing T) (count room : ℕ) → IsServing S limits v listed count room → w.connections ≡ v.connections → w.most ≡ v.most → w.listens ≡ v.listens
+      serving_kept : (v w : NetMeaning) (listed : Listing T) (count room : ℕ) → IsServing S limits v listed count room → w.connections ≡ v.connections → w.most ≡ v.most → w.listens ≡ v.listens
           → IsServing S limits w listed count room
       serving_kept v w listed count room h same most listens = record {
         served = subst (All (IsServed S.said limits.idle)) (sym same) h.served;
@@ -559,7 +559,7 @@ module _ {T : Type 0} (S : Side T) (limits : Limits) (law : IsLawful S) where
   due_rests c g moment (Free free rests) has_come short = (free, rests)
   due_rests c g moment (Held held e never_ timely) has_come short = absurd (omega (arith, never_, has_come, short))
 
-  pub idle_closed : (v w : Meaning) (listed now : Listing T) (count left room room' k moment : ℕ) (g : Client T) → IsServing S limits v listed count room → listed k (Some g)
+  pub idle_closed : (v w : NetMeaning) (listed now : Listing T) (count left room room' k moment : ℕ) (g : Client T) → IsServing S limits v listed count room → listed k (Some g)
       → left + 1 ≡ count → room' ≡ room → ((s : Option (Client T)) → now k s → s ≡ None) → ((j : ℕ) (s : Option (Client T)) → j ≢ k → now j s → listed j s)
       → Changes v w k (closed_at w.moment) → g.deadline ≤ moment → moment < 18446744073709551615 → moment ≤ v.moment
       → IsServing S limits w now left room'
@@ -573,10 +573,10 @@ module _ {T : Type 0} (S : Side T) (limits : Limits) (law : IsLawful S) where
 
   -- ---- the end
 
-  pub all_closed : (v : Meaning) (listed : Listing T) (count room : ℕ) → IsServing S limits v listed count room → count ≡ 0 → All (λ (c : Connection). c.closed ≡ true) v.connections
+  pub all_closed : (v : NetMeaning) (listed : Listing T) (count room : ℕ) → IsServing S limits v listed count room → count ≡ 0 → All (λ (c : Connection). c.closed ≡ true) v.connections
   all_closed v listed count room h none = all_from (λ c. c.closed ≡ true) v.connections (λ j in'. none_open v.connections j in' (h.live ∙ none))
 
-  pub nothing_yet : (v : Meaning) (listed : Listing T) (count room : ℕ) → IsFresh v → IsSome v.listens → count ≡ 0 → room ≡ limits.pool → ((k : ℕ) (g : Client T) → listed k (Some g) → ⊥)
+  pub nothing_yet : (v : NetMeaning) (listed : Listing T) (count room : ℕ) → IsFresh v → IsSome v.listens → count ≡ 0 → room ≡ limits.pool → ((k : ℕ) (g : Client T) → listed k (Some g) → ⊥)
       → IsServing S limits v listed count room
   nothing_yet v listed count room fresh listens none limit nobody' = record {
     served = subst (All (IsServed S.said limits.idle)) (sym fresh.none) (All-nil (IsServed S.said limits.idle));
@@ -594,14 +594,14 @@ module _ {T : Type 0} (S : Side T) (limits : Limits) (law : IsLawful S) where
       by k None row = λ in'. absurd (omega (arith, in', ap (λ (cs : List Connection). length cs) fresh.none))
       by k (Some g) row = absurd (nobody' k g row)
 
-  pub known_at : (w : Meaning) (listed now : Listing T) (count left room room' k j : ℕ) (g : Client T) → IsWoken S limits w listed count room k → j ≡ k → listed k (Some g)
+  pub known_at : (w : NetMeaning) (listed now : Listing T) (count left room room' k j : ℕ) (g : Client T) → IsWoken S limits w listed count room k → j ≡ k → listed k (Some g)
       → left + 1 ≡ count → room' ≡ room → ((s : Option (Client T)) → now k s → s ≡ None) → ((i : ℕ) (s : Option (Client T)) → i ≢ k → now i s → listed i s)
       → IsServingBut S limits w now left room' j × IsLive w j × IsGoing S limits.idle (connection_at w.connections j) g × (S.holds g.talk ≡ true → IsCalm S limits.idle (connection_at w.connections j) g)
   known_at w listed now count left room room' k j g r same row counts limit only others =
       subst (λ (n : ℕ). IsServingBut S limits w now left room' n × IsLive w n × IsGoing S limits.idle (connection_at w.connections n) g × (S.holds g.talk ≡ true → IsCalm S limits.idle (connection_at w.connections n) g)) (sym same)
       (known_named w listed now count left room room' k g r row counts limit only others)
 
-  pub keeps_more : (u v w : Meaning) (k : ℕ) (change : Connection → Connection) → Keeps u v → Changes v w k change → Keeps u w
+  pub keeps_more : (u v w : NetMeaning) (k : ℕ) (change : Connection → Connection) → Keeps u v → Changes v w k change → Keeps u w
   keeps_more u v w k change h x = record {
     accepted = ap (λ (cs : List Connection). length cs) x.connections ∙ length-set v.connections k (change (connection_at v.connections k)) ∙ h.accepted;
     listens = x.rest.listens ∙ h.listens;

@@ -2,7 +2,7 @@
 use Rattle.std.specs.Prelude.{◌≡◌, ◌≢◌, ℕ, ◌+◌, ◌<◌, ◌≤◌, true, false, List, ◌++◌, length, Some}
 use Rattle.std.specs.List.{All}
 use Rattle.wsgi_core.specs.Answers.{Sent}
-use Rattle.stream_net.specs.Nets.{Connection, Meaning, connection_at}
+use Rattle.stream_net.specs.Nets.{Connection, NetMeaning, connection_at}
 use Rattle.stream_net.specs.declared.net.Quiet.{Quiet}
 use Rattle.stream_net.specs.declared.net.Quiet.TheVariants.{Awake, ByRead, ByWrite}
 
@@ -28,7 +28,7 @@ pub record WaitsToRead (c : Connection) : Type 0 where
   pub by_read : c.quiet ≡ ByRead
 
 -- so many were accepted, and all are closed
-pub record IsAllServed (m : Meaning) (conns : ℕ) : Type 0 where
+pub record IsAllServed (m : NetMeaning) (conns : ℕ) : Type 0 where
   pub all : length m.connections ≡ conns
   pub closed : All (λ c. c.closed ≡ true) m.connections
 

@@ -1,6 +1,6 @@
 -- A client under way: the server's side of a connection against the net's.
 use Rattle.std.specs.Prelude.{◌≡◌, ℕ, ◌<◌, true, false, List, [], IfSome, slice_set}
-use Rattle.stream_net.specs.Nets.{Connection, Meaning, GoesOn, connection_at}
+use Rattle.stream_net.specs.Nets.{Connection, NetMeaning, NetGoesOn, connection_at}
 use Rattle.stream_net.specs.declared.net.Quiet.TheVariants.{Awake, ByRead, ByWrite}
 use Rattle.stream_server.specs.Speeches.{BeginsSaid, IsTimely, Speech}
 use Rattle.stream_server.specs.Protocols.{Side}
@@ -62,7 +62,7 @@ Leaves Over S idle c g = IsOver S idle c g
 Leaves Memory S idle c g = IsCut S.said c
 
 -- of one connection things were changed, and nothing else; it wasn't closed
-pub record OnlyAt (v w : Meaning) (k : ℕ) : Type 0 where
+pub record OnlyAt (v w : NetMeaning) (k : ℕ) : Type 0 where
   pub connections : w.connections ≡ slice_set v.connections k (connection_at w.connections k)
   pub same_closed : (connection_at w.connections k).closed ≡ (connection_at v.connections k).closed
-  pub rest : GoesOn v w
+  pub rest : NetGoesOn v w

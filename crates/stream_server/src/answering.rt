@@ -11,7 +11,7 @@ ghost use Rattle.wsgi_core.specs.Sessions.{session};
 use crate::client::Client;
 use crate::limits::{Limits, ServeEnd};
 use crate::rounds::{ServiceEnd, serve_on};
-use crate::service::{Polled, Refusal, Replied, Service};
+use crate::service::{HoldRefusal, Polled, Replied, Service};
 use crate::table::ClientTable;
 use std::alloc::{AllocError, Global};
 use std::sync::Wait;
@@ -78,8 +78,8 @@ impl<'a, T: Talk + Drop, A: Application> Service<T, ()> for Answering<'a, A> {
     }
 
     /// No request waits, so this is never called.
-    fn hold(&mut self, world: &mut (), client: &mut Client<T>) -> Result<(), Refusal> {
-        Err(Refusal::Memory)
+    fn hold(&mut self, world: &mut (), client: &mut Client<T>) -> Result<(), HoldRefusal> {
+        Err(HoldRefusal::Memory)
     }
 
     fn poll(&mut self, world: &mut (), table: &mut ClientTable<T>, deadline: u64) -> Polled<T> {

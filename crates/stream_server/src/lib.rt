@@ -13,5 +13,5 @@ pub use answering::{serve, serve_with};
 pub use client::Client;
 pub use limits::{Limits, ServeEnd};
 pub use rounds::{ServiceEnd, serve_on};
-pub use service::{Polled, Refusal, Replied, Service};
+pub use service::{HoldRefusal, Polled, Replied, Service};
 pub use table::ClientTable;

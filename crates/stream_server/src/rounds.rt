@@ -14,7 +14,7 @@ ghost use Rattle.wsgi_core.specs.Applications.{App};
 use crate::client::Client;
 use crate::exchange::{Step, proceed};
 use crate::limits::Limits;
-use crate::service::{Polled, Refusal, Service};
+use crate::service::{HoldRefusal, Polled, Service};
 use crate::table::ClientTable;
 use std::alloc::Global;
 use std::sync::Wait;
@@ -35,7 +35,7 @@ pub enum ServiceEnd {
 
 /// Why the server can't go on.
 #[derive(Clone, Copy)]
-enum Fault {
+enum RoundFault {
     /// The listener failed.
     Listener,
     /// The service has no more of what a request asks for.
@@ -62,7 +62,7 @@ fn hold_client<T: Drop, W, V: Service<T, W>, N: Net>(
     limits: Limits,
     table: &mut ClientTable<T>,
     client: Client<T>,
-) -> Result<(), Fault>
+) -> Result<(), RoundFault>
     requires live { IsLive (N.meaning net.old) client.conn }
     requires going { IsUnderWay V.protocol (V.fits service.old world.old) port limits.idle (N.meaning net.old) client }
     requires wants { V.wants client.talk }
@@ -74,9 +74,9 @@ fn hold_client<T: Drop, W, V: Service<T, W>, N: Net>(
     ensures sound { V.sound service.new world.new }
     ensures knows { (app : App) → V.fits service.new world.new app → V.fits service.old world.old app }
     ensures workers { V.workers world.new ≡ V.workers world.old }
-    ensures in_vain { result ≡ Err Fault.Spent → AsksInVain V.protocol (V.fits service.new world.new) V.wants (V.spent service.new world.new) port limits.idle (N.meaning net.new) }
+    ensures in_vain { result ≡ Err RoundFault.Spent → AsksInVain V.protocol (V.fits service.new world.new) V.wants (V.spent service.new world.new) port limits.idle (N.meaning net.new) }
     ensures keeps { Keeps (N.meaning net.old) (N.meaning net.new) }
-    ensures no_listener { result ≢ Err Fault.Listener }
+    ensures no_listener { result ≢ Err RoundFault.Listener }
 {
     let conn = client.conn;
     let mut client = client;
@@ -86,8 +86,8 @@ fn hold_client<T: Drop, W, V: Service<T, W>, N: Net>(
             table.insert(client);
             Ok(())
         }
-        Err(Refusal::Spent) => Err(Fault::Spent),
-        Err(Refusal::Memory) => Err(Fault::Memory),
+        Err(HoldRefusal::Spent) => Err(RoundFault::Spent),
+        Err(HoldRefusal::Memory) => Err(RoundFault::Memory),
     }
 }
 
@@ -102,7 +102,7 @@ fn serve_client<T: Drop, W, V: Service<T, W>, N: Net, H: Wait>(
     limits: Limits,
     table: &mut ClientTable<T>,
     client: Client<T>,
-) -> Result<(), Fault>
+) -> Result<(), RoundFault>
     requires live { IsLive (N.meaning net.old) client.conn }
     requires going { IsUnderWay V.protocol (V.fits service.old world.old) port limits.idle (N.meaning net.old) client }
     requires free { V.protocol.holds client.talk ≡ false }
@@ -113,9 +113,9 @@ fn serve_client<T: Drop, W, V: Service<T, W>, N: Net, H: Wait>(
     ensures sound { V.sound service.new world.new }
     ensures knows { (app : App) → V.fits service.new world.new app → V.fits service.old world.old app }
     ensures workers { V.workers world.new ≡ V.workers world.old }
-    ensures in_vain { result ≡ Err Fault.Spent → AsksInVain V.protocol (V.fits service.new world.new) V.wants (V.spent service.new world.new) port limits.idle (N.meaning net.new) }
+    ensures in_vain { result ≡ Err RoundFault.Spent → AsksInVain V.protocol (V.fits service.new world.new) V.wants (V.spent service.new world.new) port limits.idle (N.meaning net.new) }
     ensures keeps { Keeps (N.meaning net.old) (N.meaning net.new) }
-    ensures no_listener { result ≢ Err Fault.Listener }
+    ensures no_listener { result ≢ Err RoundFault.Listener }
 {
     let conn = client.conn;
     let mut client = client;
@@ -130,7 +130,7 @@ fn serve_client<T: Drop, W, V: Service<T, W>, N: Net, H: Wait>(
             table.release(conn);
             Ok(())
         }
-        Step::Memory => Err(Fault::Memory),
+        Step::Memory => Err(RoundFault::Memory),
         Step::Goes => unreachable!(),
     }
 }
@@ -144,7 +144,7 @@ fn accept_client<T: Drop, W, V: Service<T, W>, N: Net, H: Wait>(
     port: u16,
     limits: Limits,
     table: &mut ClientTable<T>,
-) -> Result<bool, Fault>
+) -> Result<bool, RoundFault>
     requires running { IsRunning V.protocol (V.fits service.old world.old) (V.tied service.old world.old) port limits (N.meaning net.old) table.old }
     requires place { length table.old.members < table.old.limit }
     requires more { length (N.meaning net.old).connections < limits.conns }
@@ -154,15 +154,15 @@ fn accept_client<T: Drop, W, V: Service<T, W>, N: Net, H: Wait>(
     ensures sound { V.sound service.new world.new }
     ensures knows { (app : App) → V.fits service.new world.new app → V.fits service.old world.old app }
     ensures workers { V.workers world.new ≡ V.workers world.old }
-    ensures in_vain { result ≡ Err Fault.Spent → AsksInVain V.protocol (V.fits service.new world.new) V.wants (V.spent service.new world.new) port limits.idle (N.meaning net.new) }
+    ensures in_vain { result ≡ Err RoundFault.Spent → AsksInVain V.protocol (V.fits service.new world.new) V.wants (V.spent service.new world.new) port limits.idle (N.meaning net.new) }
     ensures came { IfOk result (λ came. came ≡ true → length (N.meaning net.new).connections ≡ length (N.meaning net.old).connections + 1) }
     ensures none { IfOk result (λ came. came ≡ false → length (N.meaning net.new).connections ≡ length (N.meaning net.old).connections) }
     ensures blocked { IfOk result (λ came. came ≡ false → (N.meaning net.new).blocked ≡ true) }
     ensures listens { (N.meaning net.new).listens ≡ (N.meaning net.old).listens }
     ensures never_falls { (N.meaning net.old).faults ≤ (N.meaning net.new).faults }
-    ensures listener { result ≡ Err Fault.Listener → HasRisen (N.meaning net.old).faults (N.meaning net.new).faults }
-    ensures resting { result ≡ Err Fault.Listener → All (IsStill (side_of V.protocol (V.one service.new world.new) port)) (N.meaning net.new).connections }
-    ensures unfailed { result ≢ Err Fault.Listener → (N.meaning net.new).faults ≡ (N.meaning net.old).faults }
+    ensures listener { result ≡ Err RoundFault.Listener → HasRisen (N.meaning net.old).faults (N.meaning net.new).faults }
+    ensures resting { result ≡ Err RoundFault.Listener → All (IsStill (side_of V.protocol (V.one service.new world.new) port)) (N.meaning net.new).connections }
+    ensures unfailed { result ≢ Err RoundFault.Listener → (N.meaning net.new).faults ≡ (N.meaning net.old).faults }
 {
     match net.accept() {
         Accepted::New(conn) => {
@@ -175,7 +175,7 @@ fn accept_client<T: Drop, W, V: Service<T, W>, N: Net, H: Wait>(
                 deadline,
             };
             let Ok(()) = table.admit(conn) else {
-                return Err(Fault::Memory);
+                return Err(RoundFault::Memory);
             };
             match serve_client::<T, W, V, N, H>(
                 rt, net, service, world, port, limits, table, client,
@@ -185,8 +185,8 @@ fn accept_client<T: Drop, W, V: Service<T, W>, N: Net, H: Wait>(
             }
         }
         Accepted::WouldBlock => Ok(false),
-        Accepted::Failed => Err(Fault::Listener),
-        Accepted::Memory => Err(Fault::Memory),
+        Accepted::Failed => Err(RoundFault::Listener),
+        Accepted::Memory => Err(RoundFault::Memory),
     }
 }
 
@@ -201,7 +201,7 @@ fn accept_clients<T: Drop, W, V: Service<T, W>, N: Net, H: Wait>(
     limits: Limits,
     table: &mut ClientTable<T>,
     accepted: u32,
-) -> Result<u32, Fault>
+) -> Result<u32, RoundFault>
     requires running { IsRunning V.protocol (V.fits service.old world.old) (V.tied service.old world.old) port limits (N.meaning net.old) table.old }
     requires accepted { accepted ≡ length (N.meaning net.old).connections }
     requires sound { V.sound service.old world.old }
@@ -210,13 +210,13 @@ fn accept_clients<T: Drop, W, V: Service<T, W>, N: Net, H: Wait>(
     ensures sound { V.sound service.new world.new }
     ensures knows { (app : App) → V.fits service.new world.new app → V.fits service.old world.old app }
     ensures workers { V.workers world.new ≡ V.workers world.old }
-    ensures in_vain { result ≡ Err Fault.Spent → AsksInVain V.protocol (V.fits service.new world.new) V.wants (V.spent service.new world.new) port limits.idle (N.meaning net.new) }
+    ensures in_vain { result ≡ Err RoundFault.Spent → AsksInVain V.protocol (V.fits service.new world.new) V.wants (V.spent service.new world.new) port limits.idle (N.meaning net.new) }
     ensures accepted { IfOk result (λ accepted. HasAccepted accepted limits.conns (length table.new.members) table.new.limit (N.meaning net.new)) }
     ensures listens { (N.meaning net.new).listens ≡ (N.meaning net.old).listens }
     ensures never_falls { (N.meaning net.old).faults ≤ (N.meaning net.new).faults }
-    ensures listener { result ≡ Err Fault.Listener → HasRisen (N.meaning net.old).faults (N.meaning net.new).faults }
-    ensures resting { result ≡ Err Fault.Listener → All (IsStill (side_of V.protocol (V.one service.new world.new) port)) (N.meaning net.new).connections }
-    ensures unfailed { result ≢ Err Fault.Listener → (N.meaning net.new).faults ≡ (N.meaning net.old).faults }
+    ensures listener { result ≡ Err RoundFault.Listener → HasRisen (N.meaning net.old).faults (N.meaning net.new).faults }
+    ensures resting { result ≡ Err RoundFault.Listener → All (IsStill (side_of V.protocol (V.one service.new world.new) port)) (N.meaning net.new).connections }
+    ensures unfailed { result ≢ Err RoundFault.Listener → (N.meaning net.new).faults ≡ (N.meaning net.old).faults }
 {
     let mut count = accepted;
     while count < limits.conns {
@@ -240,16 +240,16 @@ fn poll_service<T: Drop, W, V: Service<T, W>, N: Net, H: Wait>(
     port: u16,
     limits: Limits,
     table: &mut ClientTable<T>,
-) -> Result<(), Fault>
+) -> Result<(), RoundFault>
     requires running { IsRunning V.protocol (V.fits service.old world.old) (V.tied service.old world.old) port limits (N.meaning net.old) table.old }
     ensures running { OnOk result (IsRunning V.protocol (V.fits service.new world.new) (V.tied service.new world.new) port limits (N.meaning net.new) table.new) }
     ensures left { OnErr result (LeftBy V.protocol (V.fits service.new world.new) port limits (N.meaning net.new)) }
     ensures sound { V.sound service.new world.new }
     ensures knows { (app : App) → V.fits service.new world.new app → V.fits service.old world.old app }
     ensures workers { V.workers world.new ≡ V.workers world.old }
-    ensures in_vain { result ≡ Err Fault.Spent → AsksInVain V.protocol (V.fits service.new world.new) V.wants (V.spent service.new world.new) port limits.idle (N.meaning net.new) }
+    ensures in_vain { result ≡ Err RoundFault.Spent → AsksInVain V.protocol (V.fits service.new world.new) V.wants (V.spent service.new world.new) port limits.idle (N.meaning net.new) }
     ensures keeps { Keeps (N.meaning net.old) (N.meaning net.new) }
-    ensures no_listener { result ≢ Err Fault.Listener }
+    ensures no_listener { result ≢ Err RoundFault.Listener }
 {
     let deadline = net.now().saturating_add(limits.idle);
     match service.poll(world, table, deadline) {
@@ -258,7 +258,7 @@ fn poll_service<T: Drop, W, V: Service<T, W>, N: Net, H: Wait>(
             net.hold(client.conn, false);
             serve_client::<T, W, V, N, H>(rt, net, service, world, port, limits, table, client)
         }
-        Polled::Memory => Err(Fault::Memory),
+        Polled::Memory => Err(RoundFault::Memory),
     }
 }
 
@@ -272,7 +272,7 @@ fn wake_client<T: Drop, W, V: Service<T, W>, N: Net, H: Wait>(
     limits: Limits,
     table: &mut ClientTable<T>,
     conn: u32,
-) -> Result<(), Fault>
+) -> Result<(), RoundFault>
     requires woken { WasRunning V.protocol (V.fits service.old world.old) (V.tied service.old world.old) port limits (N.meaning net.old) table.old conn }
     requires sound { V.sound service.old world.old }
     ensures running { OnOk result (IsRunning V.protocol (V.fits service.new world.new) (V.tied service.new world.new) port limits (N.meaning net.new) table.new) }
@@ -280,9 +280,9 @@ fn wake_client<T: Drop, W, V: Service<T, W>, N: Net, H: Wait>(
     ensures sound { V.sound service.new world.new }
     ensures knows { (app : App) → V.fits service.new world.new app → V.fits service.old world.old app }
     ensures workers { V.workers world.new ≡ V.workers world.old }
-    ensures in_vain { result ≡ Err Fault.Spent → AsksInVain V.protocol (V.fits service.new world.new) V.wants (V.spent service.new world.new) port limits.idle (N.meaning net.new) }
+    ensures in_vain { result ≡ Err RoundFault.Spent → AsksInVain V.protocol (V.fits service.new world.new) V.wants (V.spent service.new world.new) port limits.idle (N.meaning net.new) }
     ensures keeps { Keeps (N.meaning net.old) (N.meaning net.new) }
-    ensures no_listener { result ≢ Err Fault.Listener }
+    ensures no_listener { result ≢ Err RoundFault.Listener }
 {
     match table.remove(conn) {
         None => Ok(()),
@@ -320,7 +320,7 @@ fn wait_next<T: Drop, W, V: Service<T, W>, N: Net, H: Wait>(
     port: u16,
     limits: Limits,
     table: &mut ClientTable<T>,
-) -> Result<(), Fault>
+) -> Result<(), RoundFault>
     requires running { IsRunning V.protocol (V.fits service.old world.old) (V.tied service.old world.old) port limits (N.meaning net.old) table.old }
     requires asked { client_count table.old ≡ 0 → (N.meaning net.old).blocked ≡ true }
     requires sound { V.sound service.old world.old }
@@ -329,17 +329,17 @@ fn wait_next<T: Drop, W, V: Service<T, W>, N: Net, H: Wait>(
     ensures sound { V.sound service.new world.new }
     ensures knows { (app : App) → V.fits service.new world.new app → V.fits service.old world.old app }
     ensures workers { V.workers world.new ≡ V.workers world.old }
-    ensures in_vain { result ≡ Err Fault.Spent → AsksInVain V.protocol (V.fits service.new world.new) V.wants (V.spent service.new world.new) port limits.idle (N.meaning net.new) }
+    ensures in_vain { result ≡ Err RoundFault.Spent → AsksInVain V.protocol (V.fits service.new world.new) V.wants (V.spent service.new world.new) port limits.idle (N.meaning net.new) }
     ensures accepted { length (N.meaning net.new).connections ≡ length (N.meaning net.old).connections }
     ensures listens { (N.meaning net.new).listens ≡ (N.meaning net.old).listens }
     ensures never_falls { (N.meaning net.old).faults ≤ (N.meaning net.new).faults }
-    ensures listener { result ≡ Err Fault.Listener → HasRisen (N.meaning net.old).faults (N.meaning net.new).faults }
-    ensures resting { result ≡ Err Fault.Listener → All (IsStill (side_of V.protocol (V.one service.new world.new) port)) (N.meaning net.new).connections }
-    ensures unfailed { result ≢ Err Fault.Listener → (N.meaning net.new).faults ≡ (N.meaning net.old).faults }
+    ensures listener { result ≡ Err RoundFault.Listener → HasRisen (N.meaning net.old).faults (N.meaning net.new).faults }
+    ensures resting { result ≡ Err RoundFault.Listener → All (IsStill (side_of V.protocol (V.one service.new world.new) port)) (N.meaning net.new).connections }
+    ensures unfailed { result ≢ Err RoundFault.Listener → (N.meaning net.new).faults ≡ (N.meaning net.old).faults }
 {
     let until = until::<T, W, V, N>(net, service, table);
     let Ok(ready) = net.next(until) else {
-        return Err(Fault::Listener);
+        return Err(RoundFault::Listener);
     };
     match ready {
         Ready::Incoming => Ok(()),
@@ -384,7 +384,7 @@ fn turn<T: Drop, W, V: Service<T, W>, N: Net, H: Wait>(
     limits: Limits,
     table: &mut ClientTable<T>,
     accepted: u32,
-) -> Result<Round, Fault>
+) -> Result<Round, RoundFault>
     requires running { IsRunning V.protocol (V.fits service.old world.old) (V.tied service.old world.old) port limits (N.meaning net.old) table.old }
     requires accepted { accepted ≡ length (N.meaning net.old).connections }
     requires some_place { 1 ≤ limits.pool }
@@ -394,13 +394,13 @@ fn turn<T: Drop, W, V: Service<T, W>, N: Net, H: Wait>(
     ensures sound { V.sound service.new world.new }
     ensures knows { (app : App) → V.fits service.new world.new app → V.fits service.old world.old app }
     ensures workers { V.workers world.new ≡ V.workers world.old }
-    ensures in_vain { result ≡ Err Fault.Spent → AsksInVain V.protocol (V.fits service.new world.new) V.wants (V.spent service.new world.new) port limits.idle (N.meaning net.new) }
+    ensures in_vain { result ≡ Err RoundFault.Spent → AsksInVain V.protocol (V.fits service.new world.new) V.wants (V.spent service.new world.new) port limits.idle (N.meaning net.new) }
     ensures accepted { (count : ℕ) → result ≡ Ok (Round.GoesOn count) → count ≡ length (N.meaning net.new).connections }
     ensures listens { (N.meaning net.new).listens ≡ (N.meaning net.old).listens }
     ensures never_falls { (N.meaning net.old).faults ≤ (N.meaning net.new).faults }
-    ensures listener { result ≡ Err Fault.Listener → HasRisen (N.meaning net.old).faults (N.meaning net.new).faults }
-    ensures resting { result ≡ Err Fault.Listener → All (IsStill (side_of V.protocol (V.one service.new world.new) port)) (N.meaning net.new).connections }
-    ensures unfailed { result ≢ Err Fault.Listener → (N.meaning net.new).faults ≡ (N.meaning net.old).faults }
+    ensures listener { result ≡ Err RoundFault.Listener → HasRisen (N.meaning net.old).faults (N.meaning net.new).faults }
+    ensures resting { result ≡ Err RoundFault.Listener → All (IsStill (side_of V.protocol (V.one service.new world.new) port)) (N.meaning net.new).connections }
+    ensures unfailed { result ≢ Err RoundFault.Listener → (N.meaning net.new).faults ≡ (N.meaning net.old).faults }
     ensures finished { result ≡ Ok Round.Finished → IsAllServed (N.meaning net.new) limits.conns }
 {
     if !service.is_idle() {
@@ -467,9 +467,9 @@ pub fn serve_on<T: Drop, W, V: Service<T, W>, N: Net, H: Wait>(
         match turn::<T, W, V, N, H>(rt, net, service, world, port, limits, &mut table, accepted) {
             Ok(Round::GoesOn(count)) => accepted = count,
             Ok(Round::Finished) => return ServiceEnd::Finished,
-            Err(Fault::Listener) => return ServiceEnd::Listener,
-            Err(Fault::Spent) => return ServiceEnd::Spent,
-            Err(Fault::Memory) => return ServiceEnd::Memory,
+            Err(RoundFault::Listener) => return ServiceEnd::Listener,
+            Err(RoundFault::Spent) => return ServiceEnd::Spent,
+            Err(RoundFault::Memory) => return ServiceEnd::Memory,
         }
     }
     unreachable!()

@@ -27,7 +27,7 @@ pub enum Replied {
 
 /// Why a connection isn't held for its reply.
 #[derive(Clone, Copy, Debug, PartialEq, Eq)]
-pub enum Refusal {
+pub enum HoldRefusal {
     /// The service has no more of what the request asks for.
     Spent,
     /// Memory ran out.
@@ -116,14 +116,14 @@ pub trait Service<T, W> {
 
     /// Asks `W` for the reply to the request of this client, which is held until it comes: its deadline never comes, and
     /// its talk keeps the one that it had. After an `Err` the client isn't held.
-    fn hold(&mut self, world: &mut W, client: &mut Client<T>) -> Result<(), Refusal>
+    fn hold(&mut self, world: &mut W, client: &mut Client<T>) -> Result<(), HoldRefusal>
         requires wants { wants client.old.talk }
         requires tied { (table : SeenTable T) × (accepted : ℕ) × tied_but self.old world.old table accepted client.old.conn }
         ensures held { OnOk result (IsHeldFrom protocol client.old client.new) }
         ensures tied { OnOk result ((table now : SeenTable T) (accepted : ℕ) → tied_but self.old world.old table accepted client.old.conn
             → client.old.conn < accepted → Relists table now client.new.conn (Some client.new) → tied self.new world.new now accepted) }
         ensures fits { (app : App) → fits self.new world.new app → fits self.old world.old app }
-        ensures spent { result ≡ Err Refusal.Spent → spent self.new world.new }
+        ensures spent { result ≡ Err HoldRefusal.Spent → spent self.new world.new }
         ensures sound { sound self.new world.new }
         ensures workers { workers world.new ≡ workers world.old };
 

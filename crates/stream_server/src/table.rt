@@ -1,7 +1,7 @@
 //! The clients of a server, by their numbers and by their deadlines, and the crew that has a place for each.
 ghost use Rattle.std.specs.Prelude.{◌≡◌, ◌↔◌, ℕ, ◌+◌, ◌<◌, ◌≤◌, ◌==◌, ◌++◌, [], ◌∷◌, length, IfOk, IfNone, IfSome, IsSome, IsTrue, OnErr, OnOk, Some, None};
 ghost use Rattle.std.specs.List.{Contains};
-ghost use Rattle.linked_items.specs.Items.{without};
+ghost use Rattle.linked_items.specs.Items.{without_number};
 ghost use Rattle.groups_pools.specs.Seen.{AreBelow};
 
 use crate::client::Client;
@@ -89,7 +89,7 @@ impl<T: Drop> ClientTable<T> {
     /// Lets a connection go, so that its place is free.
     pub fn release(&mut self, conn: u32)
         requires { Contains self.old.members conn }
-        ensures released { self.new ≡ with_members (without conn self.old.members) self.old }
+        ensures released { self.new ≡ with_members (without_number conn self.old.members) self.old }
         ensures fewer { length self.new.members + 1 ≡ length self.old.members }
     {
         let _members = self.crew.members();

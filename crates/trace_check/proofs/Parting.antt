@@ -9,7 +9,7 @@ use Rattle.std.proofs.lemmas.List.Sums.{fails_before_first}
 use Rattle.std.proofs.Math.Seq.{take-add}
 use Rattle.std.proofs.lemmas.Slice.Eq.{bytes_eq-Decides}
 use Rattle.gv_values.specs.ValueTexts.{Text}
-use Rattle.trace_check.specs.Parts.{is_marked, last_mark, mark, parted, parted_from}
+use Rattle.trace_check.specs.Parts.{is_marked, last_mark, dividing_mark, parted, parted_from}
 use Rattle.trace_check.specs.Reads.{is_feed}
 
 -- the parts behind these bytes
@@ -46,11 +46,11 @@ no_feeds (b ∷ rest) none =
 
 -- a marked text is long enough
 pub mark_within : (text : Text) → is_marked text ≡ true → 4 ≤ length text
-mark_within text h = by (bytes_eq (take 5 text) mark) refl
+mark_within text h = by (bytes_eq (take 5 text) dividing_mark) refl
   where
-    by : (b : Bool) → bytes_eq (take 5 text) mark ≡ b → 4 ≤ length text
+    by : (b : Bool) → bytes_eq (take 5 text) dividing_mark ≡ b → 4 ≤ length text
     by true e =
-        let long : length (take 5 text) ≡ 5 = ap length ((bytes_eq-Decides (take 5 text) mark).0 e) in
+        let long : length (take 5 text) ≡ 5 = ap length ((bytes_eq-Decides (take 5 text) dividing_mark).0 e) in
         omega (arith, long, length-take 5 text)
     by false e =
         let long : length text ≡ 4 = ap length ((bytes_eq-Decides text last_mark).0 (sym (ap (λ b. b || bytes_eq text last_mark) e) ∙ h)) in

@@ -10,27 +10,27 @@ use Rattle.trace_check.specs.Traces.{BeginsWithLine, BeginsWithNone}
 use Rattle.trace_check.specs.Reads.{BeginsAt}
 use Rattle.trace_check.specs.declared.laws.LawRefusal.{LawRefusal}
 use Rattle.trace_check.specs.declared.laws.Laws.{Laws}
-use Rattle.trace_check.specs.declared.lawful.Fault.{Fault}
+use Rattle.trace_check.specs.declared.lawful.Uncounted.{Uncounted}
 use Rattle.trace_check.specs.declared.lawful.LawlessTrace.{LawlessTrace}
 
 -- the fault that a refusal is
-abbrev pub fault_of : LawRefusal → Fault
-fault_of (LawRefusal.Broken law) = Fault.Broken law
-fault_of LawRefusal.Memory = Fault.Memory
+abbrev pub fault_of : LawRefusal → Uncounted
+fault_of (LawRefusal.Broken law) = Uncounted.Broken law
+fault_of LawRefusal.Memory = Uncounted.Memory
 
 -- what is answered where this line was not counted
-abbrev pub lawless : Fault → ℕ → LawlessTrace
-lawless Fault.NotALine line = LawlessTrace.NotALine line
-lawless (Fault.Broken law) line = LawlessTrace.Broken line law
-lawless Fault.Memory line = LawlessTrace.Memory
+abbrev pub lawless_trace : Uncounted → ℕ → LawlessTrace
+lawless_trace Uncounted.NotALine line = LawlessTrace.NotALine line
+lawless_trace (Uncounted.Broken law) line = LawlessTrace.Broken line law
+lawless_trace Uncounted.Memory line = LawlessTrace.Memory
 
 -- The line that the text begins with was counted after these, and the next one stands at this place; or it breaks this
 -- law; or the text begins with none.
-abbrev pub IsCountedFirst : Text → List Line → Laws → Result ℕ Fault → Type 0
+abbrev pub IsCountedFirst : Text → List Line → Laws → Result ℕ Uncounted → Type 0
 IsCountedFirst text lines laws (Ok next) = (line : Line) × BeginsAt text line next × StandsFor laws (lines ++ line ∷ [])
-IsCountedFirst text lines laws (Err Fault.NotALine) = BeginsWithNone text
-IsCountedFirst text lines laws (Err (Fault.Broken law)) = (line : Line) × BeginsWithLine text line × (broken_law (lines ++ line ∷ []) ≡ Some law)
-IsCountedFirst text lines laws (Err Fault.Memory) = Unit {0}
+IsCountedFirst text lines laws (Err Uncounted.NotALine) = BeginsWithNone text
+IsCountedFirst text lines laws (Err (Uncounted.Broken law)) = (line : Line) × BeginsWithLine text line × (broken_law (lines ++ line ∷ []) ≡ Some law)
+IsCountedFirst text lines laws (Err Uncounted.Memory) = Unit {0}
 
 -- so many lines were read off the front of a text, and what is kept of them is this
 pub record HasCounted (text rest : Text) (count : ℕ) (laws : Laws) : Type 0 where

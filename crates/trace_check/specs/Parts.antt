@@ -5,8 +5,8 @@ use Rattle.std.specs.Str.{bytes_eq}
 use Rattle.gv_values.specs.ValueTexts.{Text}
 
 -- the line, with its LF
-abbrev pub mark : Text
-mark = codes "====\n"
+abbrev pub dividing_mark : Text
+dividing_mark = codes "====\n"
 
 -- the line without one, as the last line may be
 abbrev pub last_mark : Text
@@ -14,7 +14,7 @@ last_mark = codes "===="
 
 -- the text begins with the line
 abbrev pub is_marked : Text → Bool
-is_marked text = bytes_eq (take 5 text) mark || bytes_eq text last_mark
+is_marked text = bytes_eq (take 5 text) dividing_mark || bytes_eq text last_mark
 
 -- what stands before the first such line, and what stands behind it; whether a line begins here is told
 abbrev pub parted_from : Bool → Text → Option (Text × Text)

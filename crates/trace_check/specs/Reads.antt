@@ -3,7 +3,7 @@ use Rattle.std.specs.Prelude.{◌≡◌, ◌==◌, ◌≤◌, ℕ, Bool, List, �
 use Rattle.gv_values.specs.declared.job.Answer.{Answer}
 use Rattle.gv_values.specs.ValueTexts.{Text}
 use Rattle.trace_text.specs.declared.line.Line.{Line}
-use Rattle.trace_text.specs.LineTexts.{answers_of, line_text, text_of}
+use Rattle.trace_text.specs.LineTexts.{answers_told, line_text, text_of}
 use Rattle.trace_reader.specs.Ranges.{LineFits, LinesFit}
 use Rattle.trace_check.specs.declared.reading.FirstLine.{FirstLine}
 use Rattle.trace_check.specs.Traces.{BeginsWithNone}
@@ -33,14 +33,14 @@ pub record NamesAnswers (text : Text) (answers : List Answer) : Type 0 where
   pub fit : LinesFit lines
   pub is : text ≡ text_of lines ++ rest
   pub none : BeginsWithNone rest
-  pub answers_are : answers ≡ answers_of lines
+  pub answers_are : answers ≡ answers_told lines
 
 -- lines were read off the front of a text, and name these answers
 pub record HasRead (text rest : Text) (answers : List Answer) : Type 0 where
   pub lines : List Line
   pub fit : LinesFit lines
   pub is : text ≡ text_of lines ++ rest
-  pub answers_are : answers ≡ answers_of lines
+  pub answers_are : answers ≡ answers_told lines
 
 abbrev pub is_feed : ℕ → Bool
 is_feed b = b == 10

@@ -1,7 +1,7 @@
 //! The two parts of an input: the text of a scenario, and a trace.
 ghost use Rattle.std.specs.Prelude.{◌≡◌, ◌≤◌, ◌+◌, length, option_map, take, IfSome};
 ghost use Rattle.std.specs.Str.{bytes_eq};
-ghost use Rattle.trace_check.specs.Parts.{is_marked, last_mark, mark, parted};
+ghost use Rattle.trace_check.specs.Parts.{is_marked, last_mark, dividing_mark, parted};
 ghost use Rattle.trace_check.specs.Places.{parts_at};
 
 use crate::reading::{after, line_end};
@@ -34,7 +34,7 @@ fn is_marked(text: &[u8]) -> bool
 
 /// Whether the text begins with the line and its line feed.
 fn begins_with_mark(text: &[u8]) -> bool
-    ensures { result ≡ bytes_eq (take 5 text.now) mark }
+    ensures { result ≡ bytes_eq (take 5 text.now) dividing_mark }
 {
     matches!(text, [b'=', b'=', b'=', b'=', b'\n', ..])
 }

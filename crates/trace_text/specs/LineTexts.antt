@@ -107,7 +107,7 @@ text_of [] = []
 text_of (line ∷ lines) = line_text line ++ 10 ∷ text_of lines
 
 -- the answers that the turn lines name, in order
-abbrev pub answers_of : List Line → List Answer
-answers_of [] = []
-answers_of (Line.Turn number answer ∷ lines) = answer ∷ answers_of lines
-answers_of (line ∷ lines) = answers_of lines
+abbrev pub answers_told : List Line → List Answer
+answers_told [] = []
+answers_told (Line.Turn number answer ∷ lines) = answer ∷ answers_told lines
+answers_told (line ∷ lines) = answers_told lines

@@ -16,7 +16,7 @@ use Rattle.trace_check.specs.declared.lawful.LawlessTrace.{LawlessTrace}
 use Rattle.trace_check.specs.declared.refusal.TraceRefusal.{TraceRefusal}
 use Rattle.trace_check.specs.Places.{parts_at}
 use Rattle.scenario_grammar.specs.Places.{line_at}
-use Rattle.scenario_reading.specs.Judged.{IsRefusedWithReason, judged}
+use Rattle.scenario_reading.specs.Judged.{IsRefusedWithReason, judged_text}
 use Rattle.verify_command.specs.Inputs.{end_line, most_checked}
 use Rattle.verify_command.specs.Judged.{IsReasoned, IsSaid, IsSaidIf, IsSaidOf, IsSaidOfParts, IsSaidOfScenario, IsSaidOfTrace, IsSame, Verification, said_of_laws, said_of_run, said_of_text}
 use Rattle.verify_command.specs.declared.checking.Unverified.{Unverified}
@@ -73,31 +73,31 @@ only_of_run s turns moves trace r v e only right h =
 -- ---- the text
 
 abbrev pub Says : Result Scenario Place → ℕ → ℕ → List ℕ → Verification → Type 0
-Says judged turns moves trace v = IsSaid (IsSaidOfScenario judged turns moves trace) v
+Says judged_text turns moves trace v = IsSaid (IsSaidOfScenario judged_text turns moves trace) v
 
 -- what is said of a scenario is said of the text that is judged to spell it
-pub said_as : (judged : Result Scenario Place) (s : Scenario) (turns moves : ℕ) (trace : List ℕ) (v : Verification) → judged ≡ Ok s → IsSaidOfScenario (Ok s) turns moves trace v
-    → Says judged turns moves trace v
-said_as judged s turns moves trace v e h = subst (λ j. Says j turns moves trace v) (sym e) (said (IsSaidOfScenario (Ok s) turns moves trace) v h)
+pub said_as : (judged_text : Result Scenario Place) (s : Scenario) (turns moves : ℕ) (trace : List ℕ) (v : Verification) → judged_text ≡ Ok s → IsSaidOfScenario (Ok s) turns moves trace v
+    → Says judged_text turns moves trace v
+said_as judged_text s turns moves trace v e h = subst (λ j. Says j turns moves trace v) (sym e) (said (IsSaidOfScenario (Ok s) turns moves trace) v h)
 
-pub only_as : (judged : Result Scenario Place) (s : Scenario) (turns moves : ℕ) (trace : List ℕ) (v : Verification) → judged ≡ Ok s
+pub only_as : (judged_text : Result Scenario Place) (s : Scenario) (turns moves : ℕ) (trace : List ℕ) (v : Verification) → judged_text ≡ Ok s
     → ((right : Verification) → IsSaidOfScenario (Ok s) turns moves trace right → IsSame right v)
-    → (right : Verification) → IsSaidOfScenario judged turns moves trace right → IsSame right v
-only_as judged s turns moves trace v e only right h = only right (subst (λ j. IsSaidOfScenario j turns moves trace right) e h)
+    → (right : Verification) → IsSaidOfScenario judged_text turns moves trace right → IsSame right v
+only_as judged_text s turns moves trace v e only right h = only right (subst (λ j. IsSaidOfScenario j turns moves trace right) e h)
 
-pub refused_as : (judged : Result Scenario Place) (e : ParseRefusal) (u : Unverified) (turns moves : ℕ) (trace : List ℕ) → u ≡ said_of_text e → Parses judged (Err e)
-    → Says judged turns moves trace (Err u)
-refused_as judged e u turns moves trace is h = subst (λ x. Says judged turns moves trace (Err x)) (sym is) (by e h)
+pub refused_as : (judged_text : Result Scenario Place) (e : ParseRefusal) (u : Unverified) (turns moves : ℕ) (trace : List ℕ) → u ≡ said_of_text e → Parses judged_text (Err e)
+    → Says judged_text turns moves trace (Err u)
+refused_as judged_text e u turns moves trace is h = subst (λ x. Says judged_text turns moves trace (Err x)) (sym is) (by e h)
   where
-    by : (e : ParseRefusal) → Parses judged (Err e) → Says judged turns moves trace (Err (said_of_text e))
+    by : (e : ParseRefusal) → Parses judged_text (Err e) → Says judged_text turns moves trace (Err (said_of_text e))
     by (parse.Refused p) h = subst (λ j. Says j turns moves trace (Err (Unverified.Refused p))) (sym h) (λ g. refl)
     by parse.Memory h = λ g. absurd (g refl)
 
-pub only_refused : (judged : Result Scenario Place) (e : ParseRefusal) (u : Unverified) (turns moves : ℕ) (trace : List ℕ) → u ≡ said_of_text e → Parses judged (Err e)
-    → (right : Verification) → IsSaidOfScenario judged turns moves trace right → IsSame right (Err u)
-only_refused judged e u turns moves trace is h right r = subst (λ x. IsSame right (Err x)) (sym is) (by e h)
+pub only_refused : (judged_text : Result Scenario Place) (e : ParseRefusal) (u : Unverified) (turns moves : ℕ) (trace : List ℕ) → u ≡ said_of_text e → Parses judged_text (Err e)
+    → (right : Verification) → IsSaidOfScenario judged_text turns moves trace right → IsSame right (Err u)
+only_refused judged_text e u turns moves trace is h right r = subst (λ x. IsSame right (Err x)) (sym is) (by e h)
   where
-    by : (e : ParseRefusal) → Parses judged (Err e) → IsSame right (Err (said_of_text e))
+    by : (e : ParseRefusal) → Parses judged_text (Err e) → IsSame right (Err (said_of_text e))
     by (parse.Refused p) h = same right (Err (Unverified.Refused p)) (subst (λ j. IsSaidOfScenario j turns moves trace right) h r)
     by parse.Memory h = same_memory right
 
@@ -128,14 +128,14 @@ parts_are o bytes text trace place marked text_is trace_is =
     subst Q (sym trace_is) (subst P (sym text_is) marked)
 
 pub marked_as : (o : Option (List ℕ × List ℕ)) (bytes text trace : List ℕ) (place turns moves : ℕ) (v : Verification)
-    → o ≡ Some (parts_at bytes place) → text ≡ take place bytes → trace ≡ drop 5 (drop place bytes) → Says (judged text) turns moves trace v
+    → o ≡ Some (parts_at bytes place) → text ≡ take place bytes → trace ≡ drop 5 (drop place bytes) → Says (judged_text text) turns moves trace v
     → IsSaid (IsSaidOfParts o bytes turns moves) v
 marked_as o bytes text trace place turns moves v marked text_is trace_is h =
     subst (λ p. IsSaid (IsSaidOfParts p bytes turns moves) v) (sym (parts_are o bytes text trace place marked text_is trace_is)) h
 
 pub only_marked : (o : Option (List ℕ × List ℕ)) (bytes text trace : List ℕ) (place turns moves : ℕ) (v : Verification)
     → o ≡ Some (parts_at bytes place) → text ≡ take place bytes → trace ≡ drop 5 (drop place bytes)
-    → ((right : Verification) → IsSaidOfScenario (judged text) turns moves trace right → IsSame right v)
+    → ((right : Verification) → IsSaidOfScenario (judged_text text) turns moves trace right → IsSame right v)
     → (right : Verification) → IsSaidOfParts o bytes turns moves right → IsSame right v
 only_marked o bytes text trace place turns moves v marked text_is trace_is only right h =
     only right (subst (λ p. IsSaidOfParts p bytes turns moves right) (parts_are o bytes text trace place marked text_is trace_is) h)

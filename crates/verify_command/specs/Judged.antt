@@ -6,7 +6,7 @@ use Rattle.scenario_grammar.specs.declared.place.Place.{Place}
 use Rattle.scenario_grammar.specs.Places.{line_at}
 use Rattle.scenario_lang.specs.declared.text.ParseRefusal.{ParseRefusal}
 use Rattle.scenario_lang.specs.declared.text.ParseRefusal.TheVariants as parse
-use Rattle.scenario_reading.specs.Judged.{HasReason, judged}
+use Rattle.scenario_reading.specs.Judged.{HasReason, judged_text}
 use Rattle.machine.specs.Run.{run}
 use Rattle.trace_check.specs.Answers.{IsJudged, IsJudgedLawful}
 use Rattle.trace_check.specs.Parts.{parted}
@@ -46,7 +46,7 @@ IsSaidOfScenario (Err place) turns moves trace v = v ≡ Err (Unverified.Refused
 -- the scenario stands before the first line of four equals signs, and the trace behind that line
 abbrev pub IsSaidOfParts : Option (List ℕ × List ℕ) → List ℕ → ℕ → ℕ → Verification → Type 0
 IsSaidOfParts None bytes turns moves v = v ≡ Err (Unverified.Unmarked (end_line bytes))
-IsSaidOfParts (Some p) bytes turns moves v = IsSaidOfScenario (judged p.0) turns moves p.1 v
+IsSaidOfParts (Some p) bytes turns moves v = IsSaidOfScenario (judged_text p.0) turns moves p.1 v
 
 -- the whole input is the trace
 abbrev pub IsSaidOfTrace : List ℕ → Verification → Type 0

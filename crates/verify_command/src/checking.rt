@@ -1,10 +1,10 @@
 //! Whether an input is verified: that its trace is the run of its scenario, or that its lines meet the laws.
 ghost use Rattle.std.specs.Prelude.{◌≡◌, ◌+◌, ◌≤◌, drop, length, IfErr, Ok as Fine, Err as Refuses};
-ghost use Rattle.scenario_reading.specs.Judged.{judged};
+ghost use Rattle.scenario_reading.specs.Judged.{judged_text};
 ghost use Rattle.trace_check.specs.Parts.{parted};
 ghost use Rattle.verify_command.specs.Judged.{IsReasoned, IsSaid, IsSaidOf, IsSaidOfParts, IsSaidOfScenario, IsSaidOfTrace, IsSame, Verification, said_of_laws, said_of_run, said_of_text};
 
-use crate::lines::{MOST_BYTES, end_line, line_at};
+use crate::lines::{MOST_CHECKED, end_line, line_at};
 use command_words::TraceCheck;
 use hub_engine::Budgets;
 use scenario_check::Checked;
@@ -45,15 +45,15 @@ pub enum Unverified {
 ///
 /// `Run`: the input is a scenario, a line of four equals signs and a trace, and the trace is the run of the scenario
 /// within the turns and moves, under the answers that its turn lines name, each of them legal. `Laws`: the whole input is
-/// a trace, whose lines meet the laws. An input of which more than `MOST_BYTES` bytes are here is too long.
+/// a trace, whose lines meet the laws. An input of which more than `MOST_CHECKED` bytes are here is too long.
 pub fn verify(alloc: Global, check: TraceCheck, bytes: &[u8]) -> Result<u64, Unverified>
     ensures said { IsSaid (IsSaidOf check bytes.now) result }
     ensures only { (right : Verification) → IsSaidOf check bytes.now right → IsSame right result }
     ensures reason { IfErr result IsReasoned }
 {
-    if bytes.len() > MOST_BYTES {
+    if bytes.len() > MOST_CHECKED {
         return Err(Unverified::Overlong {
-            line: line_at(bytes, MOST_BYTES),
+            line: line_at(bytes, MOST_CHECKED),
         });
     }
     match check {
@@ -106,8 +106,8 @@ fn verify_text(
     text: &[u8],
     trace: &[u8],
 ) -> Result<u64, Unverified>
-    ensures said { IsSaid (IsSaidOfScenario (judged text.now) budgets.turns budgets.moves trace.now) result }
-    ensures only { (right : Verification) → IsSaidOfScenario (judged text.now) budgets.turns budgets.moves trace.now right → IsSame right result }
+    ensures said { IsSaid (IsSaidOfScenario (judged_text text.now) budgets.turns budgets.moves trace.now) result }
+    ensures only { (right : Verification) → IsSaidOfScenario (judged_text text.now) budgets.turns budgets.moves trace.now right → IsSame right result }
     ensures reason { IfErr result IsReasoned }
 {
     match read_scenario(alloc, text) {

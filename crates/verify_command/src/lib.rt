@@ -5,4 +5,4 @@ mod checking;
 mod lines;
 
 pub use checking::{Unverified, verify};
-pub use lines::MOST_BYTES;
+pub use lines::MOST_CHECKED;

@@ -5,7 +5,7 @@ ghost use Rattle.scenario_grammar.specs.Places.{line_at};
 ghost use Rattle.verify_command.specs.Inputs.{end_line};
 
 /// The most bytes of an input.
-pub const MOST_BYTES: usize = 67108864;
+pub const MOST_CHECKED: usize = 67108864;
 
 /// How many line feeds the text has.
 fn ends(text: &[u8]) -> u64

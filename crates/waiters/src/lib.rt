@@ -3,7 +3,7 @@
 
 ghost use Rattle.std.specs.Prelude.{◌≡◌, ◌≢◌, ℕ, ◌+◌, ◌-◌, ◌<◌, ◌≤◌, List, [], ◌∷◌, ◌++◌, length, take, min, IfSome, IfNone, OnOk, OnErr, IsOk, IsTrue, ◌↔◌, Some, None, slice_get};
 ghost use Rattle.std.specs.List.{Contains};
-ghost use Rattle.linked_items.specs.Items.{without, Differ};
+ghost use Rattle.linked_items.specs.Items.{without_number, Differ};
 ghost use Rattle.waiters.specs.Waits.{waits, told_without};
 
 mod parking;
@@ -98,7 +98,7 @@ impl WaitList {
     #[tactic(auto, using(crate::proofs::WaitLemmas::left_list))]
     pub fn remove(&mut self, item: u32)
         requires { Contains self.old.items item }
-        ensures { self.new ≡ waits (without item self.old.items) (told_without item self.old.told self.old.items) (self.old.spare + 1) }
+        ensures { self.new ≡ waits (without_number item self.old.items) (told_without item self.old.told self.old.items) (self.old.spare + 1) }
     {
         self.line.remove(item);
     }

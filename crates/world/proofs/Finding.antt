@@ -12,7 +12,7 @@ use Rattle.world_rules.specs.declared.question.PostedJob.{PostedJob}
 use Rattle.world_rules.specs.declared.question.DueJob.{DueJob}
 use Rattle.world_rules.specs.Jobs.{eval}
 use Rattle.world_rules.specs.Legal.{posted, is_done_of, is_posted}
-use Rattle.world_rules.specs.Script.{comes_before, sooner, first_due, without}
+use Rattle.world_rules.specs.Script.{comes_before, sooner, first_due, without_done}
 use Rattle.world.specs.Ruled.{IsEndOf}
 use Rattle.world.specs.Outstanding.{still_due, IsNamed, ArePosted, IsFirstOf, Finds}
 use Rattle.world.proofs.Sound.{contains_head, contains_tail, first_in, or_false}
@@ -95,7 +95,7 @@ more_posted f g job posts is are number none =
 -- ---- jobs that are answered
 
 pub due_less : (f g : ℕ → Option DueJob) (posts : List PostedJob) (answer : Answer) → IsNamed f → ((number : ℕ) → g number ≡ cond (is_done_of number answer) None (f number))
-    → still_due g posts ≡ without answer (still_due f posts)
+    → still_due g posts ≡ without_done answer (still_due f posts)
 due_less f g [] answer named is = refl
 due_less f g (p ∷ ps) answer named is = by (is_done_of p.number answer) (f p.number) refl refl (due_less f g ps answer named is)
   where
@@ -103,15 +103,15 @@ due_less f g (p ∷ ps) answer named is = by (is_done_of p.number answer) (f p.n
     taken true = refl
     taken false = refl
 
-    by : (b : Bool) (o : Option DueJob) → is_done_of p.number answer ≡ b → f p.number ≡ o → still_due g ps ≡ without answer (still_due f ps)
-        → cons_option (g p.number) (still_due g ps) ≡ without answer (cons_option o (still_due f ps))
+    by : (b : Bool) (o : Option DueJob) → is_done_of p.number answer ≡ b → f p.number ≡ o → still_due g ps ≡ without_done answer (still_due f ps)
+        → cons_option (g p.number) (still_due g ps) ≡ without_done answer (cons_option o (still_due f ps))
     by b None test found e = λ i. cons_option ((is p.number ∙ (ap (cond (is_done_of p.number answer) None) found ∙ taken (is_done_of p.number answer))) i) (e i)
     by true (Some job) test found e =
-        let rest = without answer (still_due f ps) in
+        let rest = without_done answer (still_due f ps) in
         let named_ : is_done_of job.number answer ≡ true = ap (λ n. is_done_of n answer) (named p.number job found) ∙ test in
         (λ i. cons_option ((is p.number ∙ ap (λ b. cond b None (f p.number)) test) i) (e i)) ∙ ap (λ b. cond (not b) (job ∷ rest) rest) (sym named_)
     by false (Some job) test found e =
-        let rest = without answer (still_due f ps) in
+        let rest = without_done answer (still_due f ps) in
         let named_ : is_done_of job.number answer ≡ false = ap (λ n. is_done_of n answer) (named p.number job found) ∙ test in
         (λ i. cons_option ((is p.number ∙ (ap (λ b. cond b None (f p.number)) test ∙ found)) i) (e i)) ∙ ap (λ b. cond (not b) (job ∷ rest) rest) (sym named_)
 

@@ -8,7 +8,7 @@ use Rattle.world_rules.specs.declared.question.Question.{Question}
 use Rattle.world_rules.specs.Legal.{AreLegal, IsLegal, answers_of, posted, posts_of}
 use Rattle.world_rules.proofs.Logs.{answers_of-asked, answers_of-post, posts_of-asked, posts_of-post}
 use Rattle.world.specs.LegalLogs.{HasLegalLog, TakeNoTime}
-use Rattle.world.specs.Worlds.{Begins, Meaning, Posts, Stores}
+use Rattle.world.specs.Worlds.{Begins, WorldMeaning, Posts, Stores}
 
 pub legal_append : (posts : List PostedJob) (answers : List Answer) (log more : List LogEntry) → AreLegal posts answers log →
     AreLegal (posts ++ posts_of log) (answers ++ answers_of log) more → AreLegal posts answers (log ++ more)
@@ -24,11 +24,11 @@ untimed_append (LogEntry.Post n j d ∷ log) more h k = (h.0, untimed_append log
 untimed_append (LogEntry.Asked q a ∷ log) more h k = untimed_append log more h k
 
 -- of a world that begins
-pub logged_begun : (v w : Meaning) (stands : List LogEntry → Type 0) (workers : ℕ) → Begins v w workers → stands [] → HasLegalLog w stands
+pub logged_begun : (v w : WorldMeaning) (stands : List LogEntry → Type 0) (workers : ℕ) → Begins v w workers → stands [] → HasLegalLog w stands
 logged_begun v w stands workers b h = record { log = []; stood = h; posts = sym b.posts; answers = sym b.answers; legal = tt; untimed = tt }
 
 -- a job more was posted, which takes no time
-pub logged_post : (v w : Meaning) (old new : List LogEntry → Type 0) (number : ℕ) (job : Job) → HasLegalLog v old → Posts v w number job
+pub logged_post : (v w : WorldMeaning) (old new : List LogEntry → Type 0) (number : ℕ) (job : Job) → HasLegalLog v old → Posts v w number job
     → ((log : List LogEntry) → old log → new (log ++ LogEntry.Post number job 0 ∷ [])) → HasLegalLog w new
 logged_post v w old new number job h p grows = record {
   log = h.log ++ LogEntry.Post number job 0 ∷ [];
@@ -40,7 +40,7 @@ logged_post v w old new number job h p grows = record {
 }
 
 -- an answer more was given, which is legal
-pub logged_asked : (v w : Meaning) (old new : List LogEntry → Type 0) (question : Question) (answer : Answer) → HasLegalLog v old → IsLegal v.posts v.answers question answer
+pub logged_asked : (v w : WorldMeaning) (old new : List LogEntry → Type 0) (question : Question) (answer : Answer) → HasLegalLog v old → IsLegal v.posts v.answers question answer
     → Stores v w answer → ((log : List LogEntry) → old log → new (log ++ LogEntry.Asked question answer ∷ [])) → HasLegalLog w new
 logged_asked v w old new question answer h legal stored grows = record {
   log = h.log ++ LogEntry.Asked question answer ∷ [];
@@ -53,7 +53,7 @@ logged_asked v w old new question answer h legal stored grows = record {
 }
 
 -- the world has the posts, the answers and the logs that it had
-pub logged_same : (v w : Meaning) (old new : List LogEntry → Type 0) → HasLegalLog v old → w.posts ≡ v.posts → w.answers ≡ v.answers → ((log : List LogEntry) → old log ↔ new log) → HasLegalLog w new
+pub logged_same : (v w : WorldMeaning) (old new : List LogEntry → Type 0) → HasLegalLog v old → w.posts ≡ v.posts → w.answers ≡ v.answers → ((log : List LogEntry) → old log ↔ new log) → HasLegalLog w new
 logged_same v w old new h posts answers logs = record {
   log = h.log;
   stood = (logs h.log).0 h.stood;

@@ -14,12 +14,12 @@ use Rattle.world_rules.specs.declared.question.Question.{Question}
 use Rattle.world_rules.specs.declared.question.PostedJob.{PostedJob}
 use Rattle.world_rules.specs.declared.question.DueJob.{DueJob}
 use Rattle.world_rules.specs.Jobs.{eval}
-use Rattle.world_rules.specs.Legal.{posted, moment_of, last_moment_of, is_done_of, is_posted, is_answered, outstanding, IsOutcomeOf, Answers, IsLegal, MayAsk}
-use Rattle.world_rules.specs.Script.{last_moment, due_job, comes_before, sooner, first_due, done_by, scripted, without}
+use Rattle.world_rules.specs.Legal.{posted, moment_of, last_answered_moment, is_done_of, is_posted, is_answered, outstanding, IsOutcomeOf, Answers, IsLegal, MayAsk}
+use Rattle.world_rules.specs.Script.{last_moment, due_job, comes_before, sooner, first_due, done_by, scripted, without_done}
 use Rattle.world.specs.Ruled.{posted_of, IsSound, AnswersNow, IsLegalNow}
 use Rattle.world.proofs.Filtered.{map-filter, filter-filter}
 
-pub last_moment_of-push : (answers : List Answer) (answer : Answer) → last_moment_of (answers ++ answer ∷ []) ≡ moment_of answer
+pub last_moment_of-push : (answers : List Answer) (answer : Answer) → last_answered_moment (answers ++ answer ∷ []) ≡ moment_of answer
 last_moment_of-push [] answer = refl
 last_moment_of-push (a ∷ []) answer = refl
 last_moment_of-push (a ∷ b ∷ answers) answer = last_moment_of-push (b ∷ answers) answer
@@ -74,7 +74,7 @@ names_posted posts before question (Answer.Elapsed at) n h none = refl
 names_posted posts before question (Answer.Nothing at) n h none = refl
 
 pub sound_answer : (posts : List PostedJob) (answers : List Answer) (jobs : List DueJob) (moment : ℕ) (question : Question) (answer : Answer) → IsSound posts answers jobs moment
-    → IsLegal posts answers question answer → IsSound posts (answers ++ answer ∷ []) (without answer jobs) (moment_of answer)
+    → IsLegal posts answers question answer → IsSound posts (answers ++ answer ∷ []) (without_done answer jobs) (moment_of answer)
 sound_answer posts answers jobs moment question answer s legal =
     let more = λ (n : ℕ). list_any-append (is_done_of n) answers (answer ∷ []) in record {
       outstanding_are = map-filter posted_of (λ (post : PostedJob). not (is_done_of post.number answer)) jobs

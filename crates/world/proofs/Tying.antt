@@ -13,8 +13,8 @@ use Rattle.world_rules.specs.declared.question.PostedJob.{PostedJob}
 use Rattle.world_rules.specs.declared.question.Question.{Question}
 use Rattle.world_rules.specs.Jobs.{eval}
 use Rattle.world_rules.specs.Legal.{IsLegal, IsOutcomeOf, is_answered, is_done_of, is_posted, outstanding, posted}
-use Rattle.world_rules.specs.Rules.{RuleState, after_post, start}
-use Rattle.world.specs.Worlds.{Begins, Meaning, Posts}
+use Rattle.world_rules.specs.Rules.{RuleState, rule_after_post, start}
+use Rattle.world.specs.Worlds.{Begins, WorldMeaning, Posts}
 use Rattle.world.specs.declared.script.ScriptWorld.{ScriptWorld}
 use Rattle.world.specs.Holding.{IsTied, Leads, Places, Takes}
 use Rattle.world.specs.Kept.{SameScript, SameSetting, rule_state, script_meaning}
@@ -114,7 +114,7 @@ owes_less posts answers number outcome at right waits =
 -- ---- the tie
 
 -- neither runs, and the script was never begun
-pub tied_anew : (inner script : Meaning) (places : Places) → inner.runs ≡ false → script.runs ≡ false → script.workers ≡ 0 → script.posts ≡ [] → script.answers ≡ []
+pub tied_anew : (inner script : WorldMeaning) (places : Places) → inner.runs ≡ false → script.runs ≡ false → script.workers ≡ 0 → script.posts ≡ [] → script.answers ≡ []
     → ((n : ℕ) → places n ≡ None) → IsTied inner script places
 tied_anew inner script places stopped still none posts answers empty = record {
   same_runs = stopped ∙ sym still;
@@ -134,7 +134,7 @@ tied_anew inner script places stopped still none posts answers empty = record {
     nowhere p h = let within = h.1 in omega arith
 
 -- both were begun
-pub tied_begun : (inner script : Meaning) (places : Places) (workers : ℕ) → 0 < workers → inner.runs ≡ true → inner.workers ≡ workers → inner.posts ≡ [] → inner.answers ≡ []
+pub tied_begun : (inner script : WorldMeaning) (places : Places) (workers : ℕ) → 0 < workers → inner.runs ≡ true → inner.workers ≡ workers → inner.posts ≡ [] → inner.answers ≡ []
     → script.runs ≡ true → script.workers ≡ workers → script.posts ≡ [] → script.answers ≡ [] → ((n : ℕ) → places n ≡ None) → IsTied inner script places
 tied_begun inner script places workers some_ runs same posts0 answers0 goes own posts answers empty = record {
   same_runs = runs ∙ sym goes;
@@ -154,7 +154,7 @@ tied_begun inner script places workers some_ runs same posts0 answers0 goes own 
     nowhere p h = let within = h.1 in omega arith
 
 -- a place was made for a job that wasn't posted
-pub tied_placed : (inner script : Meaning) (places more : Places) (number : ℕ) → IsTied inner script places → 0 < script.workers → is_posted number script.posts ≡ false
+pub tied_placed : (inner script : WorldMeaning) (places more : Places) (number : ℕ) → IsTied inner script places → 0 < script.workers → is_posted number script.posts ≡ false
     → ((n : ℕ) → more n ≡ (if number == n then Some None else places n)) → IsTied inner script more
 tied_placed inner script places more number t begun new is = record {
   same_runs = t.same_runs;
@@ -187,7 +187,7 @@ tied_placed inner script places more number t begun new is = record {
     right_by n outcome job false h k = t.right n outcome job h k
 
 -- both were posted a job that has a place
-pub tied_posted : (inner posted_inner script posted_script : Meaning) (places : Places) (number : ℕ) (job : Job) → IsTied inner script places → 0 < script.workers → is_posted number script.posts ≡ false
+pub tied_posted : (inner posted_inner script posted_script : WorldMeaning) (places : Places) (number : ℕ) (job : Job) → IsTied inner script places → 0 < script.workers → is_posted number script.posts ≡ false
     → places number ≡ Some None → Posts inner posted_inner number job → posted_script.posts ≡ script.posts ++ posted number job ∷ [] → posted_script.answers ≡ script.answers
     → posted_script.workers ≡ script.workers → posted_script.runs ≡ script.runs → IsTied posted_inner posted_script places
 tied_posted inner v script w places number job t begun new place p posts answers workers runs = record {
@@ -229,7 +229,7 @@ tied_posted inner v script w places number job t begun new place p posts answers
     right_by n outcome other h (inr k) = let e : number ≡ n = ap (λ (x : PostedJob). x.number) k in absurd (cc (ap places (sym e) ∙ place, h))
 
 -- the other answered that a job is done, and its result lies in its place
-pub tied_took : (inner after script : Meaning) (places filled : Places) → IsTied inner script places → 0 < script.workers → Takes inner after places filled → IsTied after script filled
+pub tied_took : (inner after script : WorldMeaning) (places filled : Places) → IsTied inner script places → 0 < script.workers → Takes inner after places filled → IsTied after script filled
 tied_took inner after script places filled t begun o = record {
   same_runs = o.rest.runs ∙ t.same_runs;
   begun = t.begun;
@@ -282,7 +282,7 @@ tied_took inner after script places filled t begun o = record {
     right_by n outcome job false same h k = t.right n outcome job h k
 
 -- the script answered that a job is done whose result had come, and its place is gone
-pub tied_answered : (inner script after : Meaning) (places fewer : Places) (number : ℕ) (outcome given : JobOutcome) (at : ℕ) → IsTied inner script places → places number ≡ Some (Some outcome)
+pub tied_answered : (inner script after : WorldMeaning) (places fewer : Places) (number : ℕ) (outcome given : JobOutcome) (at : ℕ) → IsTied inner script places → places number ≡ Some (Some outcome)
     → after.posts ≡ script.posts → after.answers ≡ script.answers ++ Answer.Done number given at ∷ [] → after.workers ≡ script.workers → after.runs ≡ script.runs
     → ((n : ℕ) → fewer n ≡ (if number == n then None else places n)) → IsTied inner after fewer
 tied_answered inner script after places fewer number outcome given at t came posts answers workers runs is = record {
@@ -320,7 +320,7 @@ tied_answered inner script after places fewer number outcome given at t came pos
     right_by n o job false h k = t.right n o job h k
 
 -- the script answered that no job is done
-pub tied_silent : (inner script after : Meaning) (places : Places) (answer : Answer) → IsTied inner script places → ((n : ℕ) → is_done_of n answer ≡ false)
+pub tied_silent : (inner script after : WorldMeaning) (places : Places) (answer : Answer) → IsTied inner script places → ((n : ℕ) → is_done_of n answer ≡ false)
     → after.posts ≡ script.posts → after.answers ≡ script.answers ++ answer ∷ [] → after.workers ≡ script.workers → after.runs ≡ script.runs → IsTied inner after places
 tied_silent inner script after places answer t silent posts answers workers runs = record {
   same_runs = t.same_runs ∙ sym runs;
@@ -337,7 +337,7 @@ tied_silent inner script after places answer t silent posts answers workers runs
 }
 
 -- neither runs any longer
-pub tied_finished : (inner script : Meaning) (places : Places) → IsTied inner script places → IsTied (record inner { runs = false }) (record script { runs = false }) places
+pub tied_finished : (inner script : WorldMeaning) (places : Places) → IsTied inner script places → IsTied (record inner { runs = false }) (record script { runs = false }) places
 tied_finished inner script places t = record {
   same_runs = refl;
   begun = λ h. absurd (false≢true h);
@@ -353,7 +353,7 @@ tied_finished inner script places t = record {
 }
 
 -- the script is as before, to those that use it
-tied_same : (inner script after : Meaning) (places : Places) → IsTied inner script places → after.posts ≡ script.posts → after.answers ≡ script.answers → after.workers ≡ script.workers → after.runs ≡ script.runs
+tied_same : (inner script after : WorldMeaning) (places : Places) → IsTied inner script places → after.posts ≡ script.posts → after.answers ≡ script.answers → after.workers ≡ script.workers → after.runs ≡ script.runs
     → IsTied inner after places
 tied_same inner script after places t posts answers workers runs = record {
   same_runs = t.same_runs ∙ sym runs;
@@ -370,7 +370,7 @@ tied_same inner script after places t posts answers workers runs = record {
 }
 
 -- the places are as before
-tied_places : (inner script : Meaning) (places same : Places) → IsTied inner script places → ((n : ℕ) → same n ≡ places n) → IsTied inner script same
+tied_places : (inner script : WorldMeaning) (places same : Places) → IsTied inner script places → ((n : ℕ) → same n ≡ places n) → IsTied inner script same
 tied_places inner script places same t is = record {
   same_runs = t.same_runs;
   begun = t.begun;
@@ -397,39 +397,39 @@ posted_there number (p ∷ ps) h = by (p.number == number) refl h (posted_there 
     by false test h rest = let r = rest h in (r.0, contains_tail p (posted number r.0) ps r.1)
 
 -- a job that waits for the script's answer, and for whose result there is an empty place
-pub owed_to : (inner script : Meaning) (places : Places) (number : ℕ) → IsTied inner script places → script.runs ≡ true → is_posted number script.posts ≡ true → places number ≡ Some None
+pub owed_to : (inner script : WorldMeaning) (places : Places) (number : ℕ) → IsTied inner script places → script.runs ≡ true → is_posted number script.posts ≡ true → places number ≡ Some None
     → 0 < length (outstanding inner.posts inner.answers)
 owed_to inner script places number t runs there empty =
     let job = posted_there number script.posts there in
     owes_some inner.posts inner.answers number job.0 (subst (λ (l : List PostedJob). Contains l (posted number job.0)) (sym (t.same_posts (t.begun runs))) job.1) (t.awaited number empty)
 
 -- each job that the other owes has a place
-pub placed_there : (inner script : Meaning) (places : Places) → IsTied inner script places → script.runs ≡ true
+pub placed_there : (inner script : WorldMeaning) (places : Places) → IsTied inner script places → script.runs ≡ true
     → (n : ℕ) → is_posted n inner.posts ≡ true → is_answered n inner.answers ≡ false → places n ≢ None
 placed_there inner script places t runs n h k = t.placed n (sym (ap (is_posted n) (t.same_posts (t.begun runs))) ∙ h) (t.ahead n k)
 
 -- each result that comes leaves one less
-pub takes_less : (v w : Meaning) (old new : Places) → Takes v w old new → length (outstanding w.posts w.answers) < length (outstanding v.posts v.answers)
+pub takes_less : (v w : WorldMeaning) (old new : Places) → Takes v w old new → length (outstanding w.posts w.answers) < length (outstanding v.posts v.answers)
 takes_less v w old new o =
     subst (λ (z : List PostedJob × List Answer). length (outstanding z.0 z.1) < length (outstanding v.posts v.answers)) (λ i. (sym o.posts i, sym o.answers i))
     (owes_less v.posts v.answers o.number o.outcome o.at o.right o.first)
 
 -- a result came, or the other was as before
-pub tied_after_take : {A E : Type 0} (inner v script : Meaning) (places more : Places) (r : Result A E) → IsTied inner script places → script.runs ≡ true
+pub tied_after_take : {A E : Type 0} (inner v script : WorldMeaning) (places more : Places) (r : Result A E) → IsTied inner script places → script.runs ≡ true
     → OnOk r (Takes inner v places more) → OnErr r (v ≡ inner) → OnErr r ((n : ℕ) → more n ≡ places n) → IsTied v script more
 tied_after_take inner v script places more (Ok x) t runs took kept same = tied_took inner v script places more t (t.begun runs) took
-tied_after_take inner v script places more (Err e) t runs took kept same = subst (λ (m : Meaning). IsTied m script more) (sym kept) (tied_places inner script places more t same)
+tied_after_take inner v script places more (Err e) t runs took kept same = subst (λ (m : WorldMeaning). IsTied m script more) (sym kept) (tied_places inner script places more t same)
 
 -- ---- the answer
 
 -- a result that lies in its place is that of the job that the script names
-pub right_is : (inner script : Meaning) (places : Places) (question : Question) (job : DueJob) (at : ℕ) (outcome : JobOutcome) → IsTied inner script places
+pub right_is : (inner script : WorldMeaning) (places : Places) (question : Question) (job : DueJob) (at : ℕ) (outcome : JobOutcome) → IsTied inner script places
     → IsLegal script.posts script.answers question (Answer.Done job.number (eval job.job) at) → places job.number ≡ Some (Some outcome) → outcome ≡ eval job.job
 right_is inner script places question job at outcome t legal came =
     let own = legal.0.0 in t.right job.number outcome own.0 came own.1 ∙ sym own.2
 
 -- the script stored an answer, and the place of its job is gone
-pub tied_stored : (inner script after : Meaning) (places fewer : Places) (answer : Answer) → IsTied inner script places
+pub tied_stored : (inner script after : WorldMeaning) (places fewer : Places) (answer : Answer) → IsTied inner script places
     → ((number : ℕ) (outcome : JobOutcome) (at : ℕ) → answer ≡ Answer.Done number outcome at → places number ≡ Some (Some outcome))
     → after.posts ≡ script.posts → after.answers ≡ script.answers ++ answer ∷ [] → after.workers ≡ script.workers → after.runs ≡ script.runs
     → ((n : ℕ) → fewer n ≡ (if is_done_of n answer then None else places n)) → IsTied inner after fewer
@@ -443,29 +443,29 @@ tied_stored inner script after places fewer (Answer.Nothing at) t came posts ans
 -- ---- of a script world
 
 -- both were begun
-pub tied_after_begin : (before inner : Meaning) (s : ScriptWorld) (places : Places) (workers : ℕ) → 0 < workers → Begins before inner workers
+pub tied_after_begin : (before inner : WorldMeaning) (s : ScriptWorld) (places : Places) (workers : ℕ) → 0 < workers → Begins before inner workers
     → rule_state s [] ≡ start [] → s.workers ≡ workers → s.running ≡ true → ((n : ℕ) → places n ≡ None) → IsTied inner (script_meaning s) places
 tied_after_begin before inner s places workers some_ b state own runs empty =
     tied_begun inner (script_meaning s) places workers some_ b.runs b.workers_are b.posts b.answers runs own
     (ap (λ (u : RuleState). u.posts) state) (ap (λ (u : RuleState). u.answers) state) empty
 
 -- a place was made for a job, which then both were posted, or neither
-pub tied_after_post : {A E : Type 0} (inner v : Meaning) (s w : ScriptWorld) (places more : Places) (number : ℕ) (job : Job) (takes : ℕ) (r : Result A E) → IsTied inner (script_meaning s) places
+pub tied_after_post : {A E : Type 0} (inner v : WorldMeaning) (s w : ScriptWorld) (places more : Places) (number : ℕ) (job : Job) (takes : ℕ) (r : Result A E) → IsTied inner (script_meaning s) places
     → s.running ≡ true → is_posted number s.posts.items ≡ false → ((n : ℕ) → more n ≡ (if number == n then Some None else places n))
-    → OnOk r ((listed : List Answer) → rule_state w listed ≡ after_post (rule_state s listed) number job takes) → OnOk r (SameSetting s w) → OnErr r (SameScript s w)
+    → OnOk r ((listed : List Answer) → rule_state w listed ≡ rule_after_post (rule_state s listed) number job takes) → OnOk r (SameSetting s w) → OnErr r (SameScript s w)
     → OnOk r (Posts inner v number job) → OnErr r (v ≡ inner) → IsTied v (script_meaning w) more
 tied_after_post inner v s w places more number job takes (Ok x) t runs new is state setting refused p kept =
     tied_posted inner v (script_meaning s) (script_meaning w) more number job (tied_placed inner (script_meaning s) places more number t (t.begun runs) new is) (t.begun runs) new
     (is number ∙ ap (λ (b : Bool). if b then Some None else places number) (same_number number)) p
     (ap (λ (u : RuleState). u.posts) (state [])) (ap (λ (u : RuleState). u.answers) (state [])) setting.workers setting.running
 tied_after_post inner v s w places more number job takes (Err e) t runs new is state setting refused p kept =
-    subst (λ (m : Meaning). IsTied m (script_meaning w) more) (sym kept)
+    subst (λ (m : WorldMeaning). IsTied m (script_meaning w) more) (sym kept)
     (tied_same inner (script_meaning s) (script_meaning w) more (tied_placed inner (script_meaning s) places more number t (t.begun runs) new is)
     refused.posts refused.answers refused.setting.workers refused.setting.running)
 
 -- ---- at the end
 
-pub leads : (inner script : Meaning) (places : Places) → IsTied inner script places → Leads inner script
+pub leads : (inner script : WorldMeaning) (places : Places) → IsTied inner script places → Leads inner script
 leads inner script places t = record {
   same_runs = t.same_runs;
   same_workers = t.same_workers;

@@ -5,7 +5,7 @@ use Rattle.gv_values.specs.declared.job.Job.{Job}
 use Rattle.gv_values.specs.declared.job.JobOutcome.{JobOutcome}
 use Rattle.world_rules.specs.Jobs.{eval}
 use Rattle.world_rules.specs.Legal.{IsOutcomeOf, is_answered, is_posted, posted}
-use Rattle.world.specs.Worlds.{GoesOn, Meaning}
+use Rattle.world.specs.Worlds.{WorldGoesOn, WorldMeaning}
 
 -- for each number a place for its result, if there is one, and the result, if it came
 abbrev pub Places : Type 0
@@ -13,7 +13,7 @@ Places = ℕ → Option (Option JobOutcome)
 
 -- the two were begun together and were posted the same jobs; what the script answered the other answered before; each
 -- job that waits for the script's answer has a place, which has a result where the other answered
-pub record IsTied (inner script : Meaning) (places : Places) : Type 0 where
+pub record IsTied (inner script : WorldMeaning) (places : Places) : Type 0 where
   pub same_runs : inner.runs ≡ script.runs
   pub begun : script.runs ≡ true → 0 < script.workers
   pub same_workers : 0 < script.workers → inner.workers ≡ script.workers
@@ -27,7 +27,7 @@ pub record IsTied (inner script : Meaning) (places : Places) : Type 0 where
   pub right : (number : ℕ) (outcome : JobOutcome) (job : Job) → places number ≡ Some (Some outcome) → Contains script.posts (posted number job) → outcome ≡ eval job
 
 -- a world answered that a job is done, and its result was put into its place
-pub record Takes (v w : Meaning) (old new : Places) : Type 0 where
+pub record Takes (v w : WorldMeaning) (old new : Places) : Type 0 where
   pub number : ℕ
   pub outcome : JobOutcome
   pub at : ℕ
@@ -35,12 +35,12 @@ pub record Takes (v w : Meaning) (old new : Places) : Type 0 where
   pub first : is_answered number v.answers ≡ false
   pub posts : w.posts ≡ v.posts
   pub answers : w.answers ≡ v.answers ++ Answer.Done number outcome at ∷ []
-  pub rest : GoesOn v w
+  pub rest : WorldGoesOn v w
   pub places : (n : ℕ) → new n ≡ (if number == n then Some (Some outcome) else old n)
 
 -- What the world that does the jobs shows of what the script did: it was begun with the same number of workers, was
 -- posted the same jobs, and answered that a job is done for each that the script answered so
-pub record Leads (inner script : Meaning) : Type 0 where
+pub record Leads (inner script : WorldMeaning) : Type 0 where
   pub same_runs : inner.runs ≡ script.runs
   pub same_workers : 0 < script.workers → inner.workers ≡ script.workers
   pub same_posts : 0 < script.workers → inner.posts ≡ script.posts

@@ -7,10 +7,10 @@ use Rattle.world_rules.specs.declared.question.LogEntry.{LogEntry}
 use Rattle.world_rules.specs.Rules.{RuleState, start, Follows}
 use Rattle.world.specs.declared.script.ScriptWorld.{ScriptWorld}
 use Rattle.world.specs.Outstanding.{still_due}
-use Rattle.world.specs.Worlds.{Meaning}
+use Rattle.world.specs.Worlds.{WorldMeaning}
 
 -- the meaning of a script world
-abbrev pub script_meaning : ScriptWorld → Meaning
+abbrev pub script_meaning : ScriptWorld → WorldMeaning
 script_meaning w = record {
   posts = w.posts.items;
   answers = w.answers.items;

@@ -7,11 +7,11 @@ use Rattle.world.specs.Logged.{rule_log_is}
 use Rattle.world_rules.specs.declared.question.LogEntry.{LogEntry}
 use Rattle.world_rules.specs.Rules.{start, Follows}
 use Rattle.world.specs.declared.list.ListWorld.{ListWorld}
-use Rattle.world.specs.Worlds.{Meaning}
+use Rattle.world.specs.Worlds.{WorldMeaning}
 use Rattle.world.specs.Kept.{script_meaning, rule_state}
 
 -- the meaning of a list world, whose rule rests on the list that it held when it began
-abbrev pub list_meaning : ListWorld → Meaning
+abbrev pub list_meaning : ListWorld → WorldMeaning
 list_meaning w = record (script_meaning w.script) { listed = w.begun_with.value.items }
 
 -- the answers that are still on its list

@@ -6,7 +6,7 @@ use Rattle.world_rules.specs.Jobs.{eval}
 use Rattle.world_rules.specs.declared.question.Question.{Question}
 use Rattle.world_rules.specs.declared.question.PostedJob.{PostedJob}
 use Rattle.world_rules.specs.declared.question.DueJob.{DueJob}
-use Rattle.world_rules.specs.Legal.{posted, moment_of, last_moment_of, is_posted, is_answered, outstanding}
+use Rattle.world_rules.specs.Legal.{posted, moment_of, last_answered_moment, is_posted, is_answered, outstanding}
 
 -- the posted job of a job that is due
 abbrev pub posted_of : DueJob → PostedJob
@@ -37,5 +37,5 @@ pub record IsSound (posts : List PostedJob) (answers : List Answer) (jobs : List
   pub outstanding_are : map posted_of jobs ≡ outstanding posts answers
   pub due : All (λ (job : DueJob). job.due < 2 ^ 62) jobs
   pub answered : (number : ℕ) → is_posted number posts ≡ false → is_answered number answers ≡ false
-  pub timely : last_moment_of answers ≡ moment
+  pub timely : last_answered_moment answers ≡ moment
   pub fits : moment < 2 ^ 62

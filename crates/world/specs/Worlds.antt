@@ -7,7 +7,7 @@ use Rattle.world_rules.specs.Legal.{posted, moment_of}
 
 -- the jobs posted since the world began, in order; the answers since then; its moment and workers; what its rule rests
 -- on, a tick and a list of answers; whether it runs; and the name of the reference that it works through, or 0
-pub record Meaning : Type 0 where
+pub record WorldMeaning : Type 0 where
   pub posts : List PostedJob
   pub answers : List Answer
   pub moment : ℕ
@@ -18,7 +18,7 @@ pub record Meaning : Type 0 where
   pub reference : ℕ
 
 -- a world that begins: nothing was posted, asked or answered. Its rule keeps its tick
-pub record Begins (v w : Meaning) (workers : ℕ) : Type 0 where
+pub record Begins (v w : WorldMeaning) (workers : ℕ) : Type 0 where
   pub posts : w.posts ≡ []
   pub answers : w.answers ≡ []
   pub moment : w.moment ≡ 0
@@ -28,7 +28,7 @@ pub record Begins (v w : Meaning) (workers : ℕ) : Type 0 where
   pub reference : w.reference ≡ v.reference
 
 -- what stays the same while a world runs
-pub record GoesOn (v w : Meaning) : Type 0 where
+pub record WorldGoesOn (v w : WorldMeaning) : Type 0 where
   pub workers : w.workers ≡ v.workers
   pub tick : w.tick ≡ v.tick
   pub listed : w.listed ≡ v.listed
@@ -36,17 +36,17 @@ pub record GoesOn (v w : Meaning) : Type 0 where
   pub reference : w.reference ≡ v.reference
 
 -- a job more was posted; the moment doesn't fall
-pub record Posts (v w : Meaning) (number : ℕ) (job : Job) : Type 0 where
+pub record Posts (v w : WorldMeaning) (number : ℕ) (job : Job) : Type 0 where
   pub posts : w.posts ≡ v.posts ++ posted number job ∷ []
   pub answers : w.answers ≡ v.answers
   pub moment : v.moment ≤ w.moment
   pub fits : w.moment < 2 ^ 62
-  pub rest : GoesOn v w
+  pub rest : WorldGoesOn v w
 
 -- an answer more was given and stored, at the moment that it names, which doesn't fall
-pub record Stores (v w : Meaning) (answer : Answer) : Type 0 where
+pub record Stores (v w : WorldMeaning) (answer : Answer) : Type 0 where
   pub posts : w.posts ≡ v.posts
   pub answers : w.answers ≡ v.answers ++ answer ∷ []
   pub at : w.moment ≡ moment_of answer
   pub moment : v.moment ≤ w.moment
-  pub rest : GoesOn v w
+  pub rest : WorldGoesOn v w

@@ -3,7 +3,7 @@ ghost use Rattle.std.specs.Prelude.{◌≡◌, ℕ, ◌<◌, ◌≤◌, ◌↔�
 ghost use Rattle.world_rules.specs.declared.question.LogEntry.{LogEntry};
 ghost use Rattle.world_rules.specs.declared.question.LogEntry.TheVariants as entry;
 ghost use Rattle.world_rules.specs.Legal.{is_posted, posts_of, answers_of, IsLegal, MayAsk};
-ghost use Rattle.world.specs.Worlds.{Meaning, Begins, Posts, Stores};
+ghost use Rattle.world.specs.Worlds.{WorldMeaning, Begins, Posts, Stores};
 
 use gv_values::{Answer, Job};
 use std::alloc::AllocError;
@@ -15,7 +15,7 @@ use world_rules::Question;
 /// entry to each of them, and a refused call leaves the world as it was.
 pub trait World {
     /// What the world means to those that use it.
-    ghost meaning: { Self → Meaning };
+    ghost meaning: { Self → WorldMeaning };
 
     /// Whether the world stands for a log.
     ghost stands_for: { Self → List LogEntry → Type 0 };

@@ -31,7 +31,7 @@ impl ScriptWorld {
     ghost use Rattle.std.specs.Prelude.{◌≡◌, ◌≤◌, ◌↔◌, IsTrue, List, [], true, false, OnOk, OnErr};
     ghost use Rattle.gv_values.specs.declared.job.Answer.{Answer};
     ghost use Rattle.world_rules.specs.Legal.{is_posted, IsLegal, MayAsk};
-    ghost use Rattle.world_rules.specs.Rules.{start, after_post, after_answer};
+    ghost use Rattle.world_rules.specs.Rules.{start, rule_after_post, rule_after_answer};
     ghost use Rattle.world_rules.specs.Script.{scripted};
     ghost use Rattle.world.specs.Kept.{script_meaning, due_jobs, rule_state, SameSetting, SameScript};
     ghost use Rattle.world.specs.LegalLogs.{HasLegalLog};
@@ -79,7 +79,7 @@ impl ScriptWorld {
     /// Adds a job, which is due so long after the moment as it takes.
     pub(crate) fn add(&mut self, number: u32, job: Job, takes: u64) -> Result<(), AllocError>
         requires new { is_posted number self.old.posts.items ≡ false }
-        ensures state { OnOk result ((listed : List Answer) → rule_state self.new listed ≡ after_post (rule_state self.old listed) number job takes) }
+        ensures state { OnOk result ((listed : List Answer) → rule_state self.new listed ≡ rule_after_post (rule_state self.old listed) number job takes) }
         ensures setting { OnOk result (SameSetting self.old self.new) }
         ensures refused { OnErr result (SameScript self.old self.new) }
     {
@@ -102,7 +102,7 @@ impl ScriptWorld {
         requires new { is_posted number self.old.posts.items ≡ false }
         requires runs { (W.meaning other.old).runs ≡ true }
         requires new_there { is_posted number (W.meaning other.old).posts ≡ false }
-        ensures state { OnOk result ((listed : List Answer) → rule_state self.new listed ≡ after_post (rule_state self.old listed) number job takes) }
+        ensures state { OnOk result ((listed : List Answer) → rule_state self.new listed ≡ rule_after_post (rule_state self.old listed) number job takes) }
         ensures setting { OnOk result (SameSetting self.old self.new) }
         ensures refused { OnErr result (SameScript self.old self.new) }
         ensures posted { OnOk result (Posts (W.meaning other.old) (W.meaning other.new) number job) }
@@ -148,7 +148,7 @@ impl ScriptWorld {
     /// Stores a legal answer to the question.
     pub(crate) fn store(&mut self, question: Question, answer: Answer) -> Result<(), AllocError>
         requires { IsLegal self.old.posts.items self.old.answers.items question answer }
-        ensures state { OnOk result ((old later : List Answer) → rule_state self.new later ≡ after_answer (rule_state self.old old) later answer) }
+        ensures state { OnOk result ((old later : List Answer) → rule_state self.new later ≡ rule_after_answer (rule_state self.old old) later answer) }
         ensures moment { OnOk result (self.old.moment ≤ self.new.moment) }
         ensures setting { OnOk result (SameSetting self.old self.new) }
         ensures refused { OnErr result (SameScript self.old self.new) }

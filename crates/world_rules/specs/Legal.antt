@@ -20,10 +20,10 @@ moment_of (Answer.Elapsed at) = at
 moment_of (Answer.Nothing at) = at
 
 -- the moment of the last of these answers, and 0 before the first
-abbrev pub last_moment_of : List Answer → ℕ
-last_moment_of [] = 0
-last_moment_of (answer ∷ []) = moment_of answer
-last_moment_of (answer ∷ answers) = last_moment_of answers
+abbrev pub last_answered_moment : List Answer → ℕ
+last_answered_moment [] = 0
+last_answered_moment (answer ∷ []) = moment_of answer
+last_answered_moment (answer ∷ answers) = last_answered_moment answers
 
 -- the answer says that the job of this number is done
 abbrev pub is_done_of : ℕ → Answer → Bool
@@ -57,7 +57,7 @@ Answers posts before question answer = ⊥
 -- a legal answer after these posts and answers: its moment is not before the last one, and is below 2 ^ 62
 abbrev pub IsLegal : List PostedJob → List Answer → Question → Answer → Type 0
 IsLegal posts before question answer =
-    Answers posts before question answer × (last_moment_of before ≤ moment_of answer) × (moment_of answer < 2 ^ 62)
+    Answers posts before question answer × (last_answered_moment before ≤ moment_of answer) × (moment_of answer < 2 ^ 62)
 
 -- what may be asked: a wait without end where a job is outstanding, another until a moment below 2 ^ 62
 abbrev pub MayAsk : List PostedJob → List Answer → Question → Type 0

@@ -47,5 +47,5 @@ scripted tick jobs moment (Question.Wait None) = done_by last_moment moment (fir
 scripted tick jobs moment (Question.Wait (Some until)) = done_by until moment (first_due jobs) (Answer.Elapsed (max until moment))
 
 -- the jobs that an answer doesn't name
-abbrev pub without : Answer → List DueJob → List DueJob
-without answer jobs = filter (λ job. not (is_done_of job.number answer)) jobs
+abbrev pub without_done : Answer → List DueJob → List DueJob
+without_done answer jobs = filter (λ job. not (is_done_of job.number answer)) jobs

@@ -4,16 +4,17 @@ use Rattle.std.proofs.lemmas.Grind.{common_steps}
 use Rattle.std.proofs.lemmas.List.{append_cancel_left, take-append-le, take_all}
 use Rattle.gv_io.specs.Streams.{appended, prepended, AppendsPrefix, Extends}
 use Rattle.gv_io.proofs.StreamLaws.{appended-nothing, appended-appended, prepended-prepended, prepended-nothing, AppendsPrefix-after, AppendsPrefix-longer, AppendsPrefix-all}
-use Rattle.wsgi_core.specs.Answers.{Sent, nothing}
+use Rattle.wsgi_core.specs.Answers.{Sent, nothing_sent}
 use Rattle.wsgi_core.specs.Applications.{App}
 use Rattle.wsgi_core.specs.Steps.{phase_by}
 use Rattle.wsgi_core.specs.Gateways.{Gateway, said_by}
 use Rattle.wsgi_core.specs.Standings.{IsBefore, Standing}
 use Rattle.wsgi_core.specs.declared.session.SessionPhase.{SessionPhase}
+use Rattle.wsgi_connection.specs.declared.connection.TheConstants.{MOST_CONNECTION, MOST_PIECE}
 use Rattle.wsgi_connection.specs.declared.connection.ConnectionEnd.{ConnectionEnd}
 use Rattle.wsgi_connection.specs.declared.connection.Turn.{Turn}
 use Rattle.wsgi_connection.specs.declared.connection.ConnectionEnd.TheVariants.{Closed, TooLong, ReadFault, WriteFault, Memory}
-use Rattle.wsgi_connection.specs.Connections.{most_bytes, most_piece, whole_session, Exchanged, HandedAhead, IsServed, SentAhead, SentFor}
+use Rattle.wsgi_connection.specs.Connections.{whole_session, Exchanged, HandedAhead, IsServed, SentAhead, SentFor}
 use Rattle.wsgi_connection.specs.Wholes.{IsWhole}
 use Rattle.wsgi_connection.specs.Pieces.{Breaks, Goes, IsAtRest, said}
 
@@ -64,17 +65,17 @@ looked_at_piece came room buf behind fits = by (le_or_gt came room)
         let least : min came room ≡ room = omega arith in
         rw least (take-take room came buf many ∙ sym (take-append-le room buf behind (omega arith)))
 
-pub short_piece : (looked : ℕ) (bytes : List ℕ) → looked ≤ most_piece → length (take looked bytes) ≤ most_piece
+pub short_piece : (looked : ℕ) (bytes : List ℕ) → looked ≤ MOST_PIECE → length (take looked bytes) ≤ MOST_PIECE
 short_piece looked bytes few = let short : length (take looked bytes) ≤ looked = grind (arith, common_steps) in omega (arith, short, few)
 
 -- what is looked at grows by the piece
-pub looked_at_more : (read buf behind : List ℕ) (count came looked : ℕ) → length read ≡ count → came ≤ length buf → looked ≡ min came (most_bytes - count)
-    → take most_bytes (read ++ take came buf) ≡ take most_bytes read ++ take looked (buf ++ behind)
+pub looked_at_more : (read buf behind : List ℕ) (count came looked : ℕ) → length read ≡ count → came ≤ length buf → looked ≡ min came (MOST_CONNECTION - count)
+    → take MOST_CONNECTION (read ++ take came buf) ≡ take MOST_CONNECTION read ++ take looked (buf ++ behind)
 looked_at_more read buf behind count came looked e fits f =
-    take-two most_bytes read (take came buf)
-    ∙ ap (λ (n : ℕ). take most_bytes read ++ take (most_bytes - n) (take came buf)) e
-    ∙ ap (λ (z : List ℕ). take most_bytes read ++ z) (looked_at_piece came (most_bytes - count) buf behind fits)
-    ∙ ap (λ (n : ℕ). take most_bytes read ++ take n (buf ++ behind)) (sym f)
+    take-two MOST_CONNECTION read (take came buf)
+    ∙ ap (λ (n : ℕ). take MOST_CONNECTION read ++ take (MOST_CONNECTION - n) (take came buf)) e
+    ∙ ap (λ (z : List ℕ). take MOST_CONNECTION read ++ z) (looked_at_piece came (MOST_CONNECTION - count) buf behind fits)
+    ∙ ap (λ (n : ℕ). take MOST_CONNECTION read ++ take n (buf ++ behind)) (sym f)
 
 -- ---- what a session sends
 
@@ -131,7 +132,7 @@ all_ahead gw app port bytes out0 now e = record {
 }
 
 -- all but what is due for the piece
-piece_ahead : (gw : Gateway) (app : App) (port : ℕ) (bytes before piece : List ℕ) (out0 mid now : Option (List ℕ)) → bytes ≡ before ++ piece → length piece ≤ most_piece
+piece_ahead : (gw : Gateway) (app : App) (port : ℕ) (bytes before piece : List ℕ) (out0 mid now : Option (List ℕ)) → bytes ≡ before ++ piece → length piece ≤ MOST_PIECE
     → mid ≡ appended out0 (said gw app port before) → Extends mid now → SentAhead gw app port bytes out0 now
 piece_ahead gw app port bytes before piece out0 mid now is short e more =
     let P : Option (List ℕ) → Type 0 = λ o. Extends o now in
@@ -139,14 +140,14 @@ piece_ahead gw app port bytes before piece out0 mid now is short e more =
 
 -- a read that took these bytes came after all that is due for those before it was handed on
 pub handed_before : {T : Type 0} (gw : Gateway) (at : Standing T) (app : App) (port count : ℕ) (chunk : List ℕ) (in0 in1 in2 out0 out1 handed1 handed2 : Option (List ℕ)) (s : T) → Goes gw at app port count in0 in1 out0 out1 s
-    → in1 ≡ prepended chunk in2 → length chunk ≤ most_piece → handed1 ≡ out1 → Extends handed1 handed2 → HandedAhead gw app port in0 in2 out0 handed2
+    → in1 ≡ prepended chunk in2 → length chunk ≤ MOST_PIECE → handed1 ≡ out1 → Extends handed1 handed2 → HandedAhead gw app port in0 in2 out0 handed2
 handed_before gw at app port count chunk in0 in1 in2 out0 out1 handed1 handed2 s h e short handed more =
-    let room = most_bytes - length h.read in
+    let room = MOST_CONNECTION - length h.read in
     let fits : length (take room chunk) ≤ length chunk = grind (arith, common_steps) in
     record {
       read = h.read ++ chunk;
       is_read = read_on h.read chunk in0 in1 in2 h.is_read e;
-      ahead = piece_ahead gw app port (take most_bytes (h.read ++ chunk)) (take most_bytes h.read) (take room chunk) out0 handed1 handed2 (take-two most_bytes h.read chunk) (omega (arith, fits, short))
+      ahead = piece_ahead gw app port (take MOST_CONNECTION (h.read ++ chunk)) (take MOST_CONNECTION h.read) (take room chunk) out0 handed1 handed2 (take-two MOST_CONNECTION h.read chunk) (omega (arith, fits, short))
           (handed ∙ h.served.sent) more;
     }
 
@@ -154,27 +155,27 @@ handed_before gw at app port count chunk in0 in1 in2 out0 out1 handed1 handed2 s
 pub handed_all : {T : Type 0} (gw : Gateway) (at : Standing T) (app : App) (port count : ℕ) (in0 in1 out0 out1 handed1 : Option (List ℕ)) (s : T) → Goes gw at app port count in0 in1 out0 out1 s → handed1 ≡ out1
     → HandedAhead gw app port in0 in1 out0 handed1
 handed_all gw at app port count in0 in1 out0 out1 handed1 s h handed =
-    record { read = h.read; is_read = h.is_read; ahead = all_ahead gw app port (take most_bytes h.read) out0 handed1 (handed ∙ h.served.sent) }
+    record { read = h.read; is_read = h.is_read; ahead = all_ahead gw app port (take MOST_CONNECTION h.read) out0 handed1 (handed ∙ h.served.sent) }
 
 -- ---- a turn
 
 -- a read that failed took nothing
 pub read_failed : {T : Type 0} (gw : Gateway) (at : Standing T) (app : App) (port count : ℕ) (in0 in1 in2 out0 out1 : Option (List ℕ)) (s : T) → Goes gw at app port count in0 in1 out0 out1 s
-    → count ≤ most_bytes → in2 ≡ in1 → Exchanged ReadFault gw app port in0 in2 out0 out1
+    → count ≤ MOST_CONNECTION → in2 ≡ in1 → Exchanged ReadFault gw app port in0 in2 out0 out1
 read_failed gw at app port count in0 in1 in2 out0 out1 s h few e =
-    let short : length h.read ≤ most_bytes = omega (arith, h.is_long) in
+    let short : length h.read ≤ MOST_CONNECTION = omega (arith, h.is_long) in
     let P : List ℕ → Type 0 = λ z. IsServed gw app port z out0 out1 in
     record {
       read = h.read;
       is_read = h.is_read ∙ ap (prepended h.read) (sym e);
       within = omega (arith, short);
-      sent = (short, subst P (take_all most_bytes h.read short) h.served);
-      ahead = all_ahead gw app port (take most_bytes h.read) out0 out1 h.served.sent;
+      sent = (short, subst P (take_all MOST_CONNECTION h.read short) h.served);
+      ahead = all_ahead gw app port (take MOST_CONNECTION h.read) out0 out1 h.served.sent;
     }
 
 -- at the end of the input all is out
 pub input_ended : {T : Type 0} (gw : Gateway) (at : Standing T) (app : App) (port count came : ℕ) (buf : List ℕ) (in0 in1 in2 out0 out1 out2 : Option (List ℕ)) (s : T) (end : ConnectionEnd)
-    → Goes gw at app port count in0 in1 out0 out1 s → count ≤ most_bytes → came ≡ 0 → in1 ≡ prepended (take came buf) in2 → IfSome in1 (λ left. left ≡ [])
+    → Goes gw at app port count in0 in1 out0 out1 s → count ≤ MOST_CONNECTION → came ≡ 0 → in1 ≡ prepended (take came buf) in2 → IfSome in1 (λ left. left ≡ [])
     → out2 ≡ out1 → (end ≡ Closed) ⊎ (end ≡ WriteFault) → Exchanged end gw app port in0 in2 out0 out2
 input_ended gw at app port count came buf in0 in1 in2 out0 out1 out2 s end h few none e last same kind =
     record {
@@ -182,7 +183,7 @@ input_ended gw at app port count came buf in0 in1 in2 out0 out1 out2 s end h few
       is_read = h.is_read ∙ ap (prepended h.read) unchanged;
       within = omega (arith, h.is_long);
       sent = by kind;
-      ahead = all_ahead gw app port (take most_bytes h.read) out0 out2 sent;
+      ahead = all_ahead gw app port (take MOST_CONNECTION h.read) out0 out2 sent;
     }
   where
     unchanged : in1 ≡ in2
@@ -194,30 +195,30 @@ input_ended gw at app port count came buf in0 in1 in2 out0 out1 out2 s end h few
     P : ConnectionEnd → Type 0
     P w = SentFor w gw app port h.read in2 out0 out2
 
-    sent : out2 ≡ appended out0 (said gw app port (take most_bytes h.read))
+    sent : out2 ≡ appended out0 (said gw app port (take MOST_CONNECTION h.read))
     sent = same ∙ h.served.sent
 
     by : (end ≡ Closed) ⊎ (end ≡ WriteFault) → SentFor end gw app port h.read in2 out0 out2
     by (inl c) = subst P (sym c) (record {
       ended = true;
       sent = sent;
-      closes = or_true (gw app port (take most_bytes h.read)).closes;
+      closes = or_true (gw app port (take MOST_CONNECTION h.read)).closes;
       end = λ _. subst Q unchanged last;
       within = λ _. omega (arith, h.is_long);
     })
-    by (inr w) = subst P (sym w) (AppendsPrefix-all out0 out2 (said gw app port (take most_bytes h.read)) sent)
+    by (inr w) = subst P (sym w) (AppendsPrefix-all out0 out2 (said gw app port (take MOST_CONNECTION h.read)) sent)
 
 -- the piece was not answered whole
 pub piece_cut : {T : Type 0} (gw : Gateway) (at : Standing T) (app : App) (port count came : ℕ) (buf piece : List ℕ) (in0 in1 in2 out0 out1 out2 : Option (List ℕ)) (s : T) (end : ConnectionEnd)
-    → (h : Goes gw at app port count in0 in1 out0 out1 s) → came ≤ length buf → in1 ≡ prepended (take came buf) in2 → count + came ≤ most_bytes + 1
-    → take most_bytes (h.read ++ take came buf) ≡ take most_bytes h.read ++ piece → length piece ≤ most_piece → Extends out1 out2 → Breaks end gw at app piece s out1 out2 → Exchanged end gw app port in0 in2 out0 out2
+    → (h : Goes gw at app port count in0 in1 out0 out1 s) → came ≤ length buf → in1 ≡ prepended (take came buf) in2 → count + came ≤ MOST_CONNECTION + 1
+    → take MOST_CONNECTION (h.read ++ take came buf) ≡ take MOST_CONNECTION h.read ++ piece → length piece ≤ MOST_PIECE → Extends out1 out2 → Breaks end gw at app piece s out1 out2 → Exchanged end gw app port in0 in2 out0 out2
 piece_cut gw at app port count came buf piece in0 in1 in2 out0 out1 out2 s end h long e fits more small on broke =
     record {
       read = h.read ++ take came buf;
       is_read = read_on h.read (take came buf) in0 in1 in2 h.is_read e;
       within = omega (arith, length-append h.read (take came buf), length-take-le came buf long, h.is_long, fits);
       sent = by end broke;
-      ahead = piece_ahead gw app port (take most_bytes (h.read ++ take came buf)) (take most_bytes h.read) piece out0 out1 out2 more small h.served.sent on;
+      ahead = piece_ahead gw app port (take MOST_CONNECTION (h.read ++ take came buf)) (take MOST_CONNECTION h.read) piece out0 out1 out2 more small h.served.sent on;
     }
   where
     P : List ℕ → Type 0
@@ -227,14 +228,14 @@ piece_cut gw at app port count came buf piece in0 in1 in2 out0 out1 out2 s end h
     by Closed b = absurd b
     by TooLong b = absurd b
     by ReadFault b = absurd b
-    by WriteFault b = subst P (sym more) (b port (take most_bytes h.read) out0 h.at_rest h.served.sent)
-    by Memory b = subst P (sym more) (b port (take most_bytes h.read) out0 h.at_rest h.served.sent)
+    by WriteFault b = subst P (sym more) (b port (take MOST_CONNECTION h.read) out0 h.at_rest h.served.sent)
+    by Memory b = subst P (sym more) (b port (take MOST_CONNECTION h.read) out0 h.at_rest h.served.sent)
 
 -- the piece was answered, and the session goes on
 pub piece_answered : {T : Type 0} (gw : Gateway) (at : Standing T) (app : App) (port count came : ℕ) (buf piece : List ℕ) (in0 in1 in2 out0 out1 out2 : Option (List ℕ)) (s t : T)
     → (h : Goes gw at app port count in0 in1 out0 out1 s) → came ≤ length buf → in1 ≡ prepended (take came buf) in2
-    → take most_bytes (h.read ++ take came buf) ≡ take most_bytes h.read ++ piece → IsAtRest gw at app port (take most_bytes h.read ++ piece) t
-    → out2 ≡ appended out0 (said gw app port (take most_bytes h.read ++ piece)) → (said_by gw app port (take most_bytes h.read ++ piece) false).closes ≡ false
+    → take MOST_CONNECTION (h.read ++ take came buf) ≡ take MOST_CONNECTION h.read ++ piece → IsAtRest gw at app port (take MOST_CONNECTION h.read ++ piece) t
+    → out2 ≡ appended out0 (said gw app port (take MOST_CONNECTION h.read ++ piece)) → (said_by gw app port (take MOST_CONNECTION h.read ++ piece) false).closes ≡ false
     → Goes gw at app port (count + came) in0 in2 out0 out2 t
 piece_answered gw at app port count came buf piece in0 in1 in2 out0 out1 out2 s t h long e more rest sent serves =
     let R : List ℕ → Type 0 = λ z. IsAtRest gw at app port z t in
@@ -249,9 +250,9 @@ piece_answered gw at app port count came buf piece in0 in1 in2 out0 out1 out2 s 
 
 -- the piece was answered, and the session closes
 pub piece_last : {T : Type 0} (gw : Gateway) (at : Standing T) (app : App) (port count came : ℕ) (buf piece : List ℕ) (in0 in1 in2 out0 out1 out2 : Option (List ℕ)) (s : T)
-    → (h : Goes gw at app port count in0 in1 out0 out1 s) → came ≤ length buf → in1 ≡ prepended (take came buf) in2 → count + came ≤ most_bytes + 1
-    → take most_bytes (h.read ++ take came buf) ≡ take most_bytes h.read ++ piece → length piece ≤ most_piece → Extends out1 out2
-    → out2 ≡ appended out0 (said gw app port (take most_bytes h.read ++ piece)) → (said_by gw app port (take most_bytes h.read ++ piece) false).closes ≡ true
+    → (h : Goes gw at app port count in0 in1 out0 out1 s) → came ≤ length buf → in1 ≡ prepended (take came buf) in2 → count + came ≤ MOST_CONNECTION + 1
+    → take MOST_CONNECTION (h.read ++ take came buf) ≡ take MOST_CONNECTION h.read ++ piece → length piece ≤ MOST_PIECE → Extends out1 out2
+    → out2 ≡ appended out0 (said gw app port (take MOST_CONNECTION h.read ++ piece)) → (said_by gw app port (take MOST_CONNECTION h.read ++ piece) false).closes ≡ true
     → Exchanged Closed gw app port in0 in2 out0 out2
 piece_last gw at app port count came buf piece in0 in1 in2 out0 out1 out2 s h long e fits more small on sent closes =
     let P : List ℕ → Type 0 = λ z. out2 ≡ appended out0 (said gw app port z) in
@@ -267,7 +268,7 @@ piece_last gw at app port count came buf piece in0 in1 in2 out0 out1 out2 s h lo
         end = λ t. absurd (cc);
         within = λ t. absurd (cc);
       };
-      ahead = piece_ahead gw app port (take most_bytes (h.read ++ take came buf)) (take most_bytes h.read) piece out0 out1 out2 more small h.served.sent on;
+      ahead = piece_ahead gw app port (take MOST_CONNECTION (h.read ++ take came buf)) (take MOST_CONNECTION h.read) piece out0 out1 out2 more small h.served.sent on;
     }
 
 -- ---- the whole
@@ -285,8 +286,8 @@ rest_of left read in0 (Some rest) told e =
     record { rest = rest; is = refl; all = ap (λ (o : Option (List ℕ)). unwrap_or o left) (sym told ∙ e) }
 
 -- what is looked at of all that was left begins with what is looked at of what was read
-looked_at : (left read : List ℕ) (in1 : Option (List ℕ)) (r : Rest left read in1) → take most_bytes left ≡ take most_bytes read ++ take (most_bytes - length read) r.rest
-looked_at left read in1 r = ap (take most_bytes) r.all ∙ take-two most_bytes read r.rest
+looked_at : (left read : List ℕ) (in1 : Option (List ℕ)) (r : Rest left read in1) → take MOST_CONNECTION left ≡ take MOST_CONNECTION read ++ take (MOST_CONNECTION - length read) r.rest
+looked_at left read in1 r = ap (take MOST_CONNECTION) r.all ∙ take-two MOST_CONNECTION read r.rest
 
 prefix_of_all : (gw : Gateway) (app : App) (port : ℕ) → ((bytes more : List ℕ) → IsBefore (gw app port bytes) (gw app port (bytes ++ more))) → (fed more all : List ℕ) (out0 out1 : Option (List ℕ)) → all ≡ fed ++ more → AppendsPrefix out0 out1 (said gw app port fed)
     → AppendsPrefix out0 out1 (said gw app port all)
@@ -317,27 +318,27 @@ no_rest : (rest : List ℕ) (in1 : Option (List ℕ)) → in1 ≡ Some rest → 
 no_rest rest in1 e h = let P : Option (List ℕ) → Type 0 = λ o. IfSome o (λ left. left ≡ []) in subst P e h
 
 closed_whole : (gw : Gateway) (app : App) (port : ℕ) → ((bytes more : List ℕ) → IsBefore (gw app port bytes) (gw app port (bytes ++ more))) → (left read : List ℕ) (in1 out0 out1 : Option (List ℕ)) (r : Rest left read in1) (ended : Bool)
-    → out1 ≡ appended out0 (said gw app port (take most_bytes read)) → (said_by gw app port (take most_bytes read) ended).closes ≡ true
-    → (ended ≡ true → IfSome in1 (λ left. left ≡ [])) → (ended ≡ true → length read ≤ most_bytes) → IsWhole Closed (whole_session gw app port left) out0 out1
+    → out1 ≡ appended out0 (said gw app port (take MOST_CONNECTION read)) → (said_by gw app port (take MOST_CONNECTION read) ended).closes ≡ true
+    → (ended ≡ true → IfSome in1 (λ left. left ≡ [])) → (ended ≡ true → length read ≤ MOST_CONNECTION) → IsWhole Closed (whole_session gw app port left) out0 out1
 closed_whole gw app port before left read in1 out0 out1 r true sent closes end within =
     let same : left ≡ read = r.all ∙ ap (λ (z : List ℕ). read ++ z) (no_rest r.rest in1 r.is (end refl)) ∙ append-nil read in
-    let few : length left ≤ most_bytes = omega (arith, ap (λ (z : List ℕ). length z) same, within refl) in
-    let x = (gw app port (take most_bytes left)).closes in
-    (sent ∙ ap (λ z. appended out0 (said gw app port (take most_bytes z))) (sym same), ap (λ b. x || b) (le_true (length left) most_bytes few) ∙ or_true x)
+    let few : length left ≤ MOST_CONNECTION = omega (arith, ap (λ (z : List ℕ). length z) same, within refl) in
+    let x = (gw app port (take MOST_CONNECTION left)).closes in
+    (sent ∙ ap (λ z. appended out0 (said gw app port (take MOST_CONNECTION z))) (sym same), ap (λ b. x || b) (le_true (length left) MOST_CONNECTION few) ∙ or_true x)
 closed_whole gw app port before left read in1 out0 out1 r false sent closes end within =
-    let done : (gw app port (take most_bytes read)).closes ≡ true = sym (or_false _) ∙ closes in
-    let all = closed_all gw app port before (take most_bytes read) (take (most_bytes - length read) r.rest) (take most_bytes left) (looked_at left read in1 r) done in
+    let done : (gw app port (take MOST_CONNECTION read)).closes ≡ true = sym (or_false _) ∙ closes in
+    let all = closed_all gw app port before (take MOST_CONNECTION read) (take (MOST_CONNECTION - length read) r.rest) (take MOST_CONNECTION left) (looked_at left read in1 r) done in
     (sent ∙ ap (λ (s : Sent). appended out0 s.bytes) (sym all), true_or _ _ (ap (λ (s : Sent). s.closes) all ∙ done))
 
-long_whole : (gw : Gateway) (app : App) (port : ℕ) (left read : List ℕ) (in1 out0 out1 : Option (List ℕ)) → Rest left read in1 → length read ≡ most_bytes + 1
-    → IsServed gw app port (take most_bytes read) out0 out1 → IsWhole TooLong (whole_session gw app port left) out0 out1
+long_whole : (gw : Gateway) (app : App) (port : ℕ) (left read : List ℕ) (in1 out0 out1 : Option (List ℕ)) → Rest left read in1 → length read ≡ MOST_CONNECTION + 1
+    → IsServed gw app port (take MOST_CONNECTION read) out0 out1 → IsWhole TooLong (whole_session gw app port left) out0 out1
 long_whole gw app port left read in1 out0 out1 r long s =
-    let same : take most_bytes left ≡ take most_bytes read = ap (take most_bytes) r.all ∙ take-append-le most_bytes read r.rest (omega (arith, long)) in
+    let same : take MOST_CONNECTION left ≡ take MOST_CONNECTION read = ap (take MOST_CONNECTION) r.all ∙ take-append-le MOST_CONNECTION read r.rest (omega (arith, long)) in
     let more : length left ≡ length read + length r.rest = ap (λ (z : List ℕ). length z) r.all ∙ length-append read r.rest in
-    let many : most_bytes < length left = omega (arith, more, long) in
-    let x = (gw app port (take most_bytes left)).closes in (
+    let many : MOST_CONNECTION < length left = omega (arith, more, long) in
+    let x = (gw app port (take MOST_CONNECTION left)).closes in (
       s.sent ∙ ap (λ z. appended out0 (said gw app port z)) (sym same),
-      ap (λ b. x || b) (le_false (length left) most_bytes many) ∙ ap (λ z. (said_by gw app port z false).closes) same ∙ s.serves,
+      ap (λ b. x || b) (le_false (length left) MOST_CONNECTION many) ∙ ap (λ z. (said_by gw app port z false).closes) same ∙ s.serves,
     )
 
 -- by all the bytes that were left
@@ -348,8 +349,8 @@ whole_of end gw app port before left in0 in1 out0 out1 told x = by end x.sent
     r : Rest left x.read in1
     r = rest_of left x.read in0 in1 told x.is_read
 
-    cut : AppendsPrefix out0 out1 (said gw app port (take most_bytes x.read)) → AppendsPrefix out0 out1 (said gw app port (take most_bytes left))
-    cut p = prefix_of_all gw app port before (take most_bytes x.read) (take (most_bytes - length x.read) r.rest) (take most_bytes left) out0 out1 (looked_at left x.read in1 r) p
+    cut : AppendsPrefix out0 out1 (said gw app port (take MOST_CONNECTION x.read)) → AppendsPrefix out0 out1 (said gw app port (take MOST_CONNECTION left))
+    cut p = prefix_of_all gw app port before (take MOST_CONNECTION x.read) (take (MOST_CONNECTION - length x.read) r.rest) (take MOST_CONNECTION left) out0 out1 (looked_at left x.read in1 r) p
 
     P : List ℕ → Type 0
     P z = AppendsPrefix out0 out1 (said gw app port z)
@@ -357,14 +358,14 @@ whole_of end gw app port before left in0 in1 out0 out1 told x = by end x.sent
     by : (w : ConnectionEnd) → SentFor w gw app port x.read in1 out0 out1 → IsWhole w (whole_session gw app port left) out0 out1
     by Closed s = closed_whole gw app port before left x.read in1 out0 out1 r s.ended s.sent s.closes s.end s.within
     by TooLong s = long_whole gw app port left x.read in1 out0 out1 r s.0 s.1
-    by ReadFault s = cut (subst P (sym (take_all most_bytes x.read s.0)) (AppendsPrefix-all out0 out1 (said gw app port x.read) s.1.sent))
+    by ReadFault s = cut (subst P (sym (take_all MOST_CONNECTION x.read s.0)) (AppendsPrefix-all out0 out1 (said gw app port x.read) s.1.sent))
     by WriteFault s = cut s
     by Memory s = cut s
 
 -- ---- the first turn and the last
 
 -- nothing is sent for no bytes
-pub begins : {T : Type 0} (gw : Gateway) (at : Standing T) (app : App) (port : ℕ) (s : T) (in0 out0 : Option (List ℕ)) → gw app port [] ≡ nothing → at app port [] false [] s
+pub begins : {T : Type 0} (gw : Gateway) (at : Standing T) (app : App) (port : ℕ) (s : T) (in0 out0 : Option (List ℕ)) → gw app port [] ≡ nothing_sent → at app port [] false [] s
     → Goes gw at app port 0 in0 in0 out0 out0 s
 begins gw at app port s in0 out0 e h =
     let x = gw app port [] in
@@ -380,9 +381,9 @@ begins gw at app port s in0 out0 e h =
 
 -- one byte more than those that are looked at was read
 pub too_long : {T : Type 0} (gw : Gateway) (at : Standing T) (app : App) (port count : ℕ) (in0 in1 out0 out1 : Option (List ℕ)) (s : T) → Goes gw at app port count in0 in1 out0 out1 s
-    → most_bytes < count → count ≤ most_bytes + 1 → Exchanged TooLong gw app port in0 in1 out0 out1
+    → MOST_CONNECTION < count → count ≤ MOST_CONNECTION + 1 → Exchanged TooLong gw app port in0 in1 out0 out1
 too_long gw at app port count in0 in1 out0 out1 s h many few =
-    record { read = h.read; is_read = h.is_read; within = omega (arith, h.is_long, few); sent = (omega (arith, h.is_long, many, few), h.served); ahead = all_ahead gw app port (take most_bytes h.read) out0 out1 h.served.sent }
+    record { read = h.read; is_read = h.is_read; within = omega (arith, h.is_long, few); sent = (omega (arith, h.is_long, many, few), h.served); ahead = all_ahead gw app port (take MOST_CONNECTION h.read) out0 out1 h.served.sent }
 
 -- ---- what was handed on
 

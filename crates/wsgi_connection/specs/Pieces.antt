@@ -4,11 +4,12 @@ use Rattle.gv_io.specs.Streams.{appended, prepended, AppendsPrefix}
 use Rattle.wsgi_core.specs.Applications.{App}
 use Rattle.wsgi_core.specs.Gateways.{Gateway, said_by}
 use Rattle.wsgi_core.specs.Standings.{Standing}
+use Rattle.wsgi_connection.specs.declared.connection.TheConstants.{MOST_CONNECTION}
 use Rattle.wsgi_connection.specs.declared.connection.ConnectionEnd.{ConnectionEnd}
 use Rattle.wsgi_connection.specs.declared.connection.ConnectionEnd.TheVariants.{WriteFault, Memory}
 use Rattle.wsgi_connection.specs.declared.connection.Turn.{Turn}
 use Rattle.wsgi_connection.specs.declared.connection.Turn.TheVariants.{Answered, Ended}
-use Rattle.wsgi_connection.specs.Connections.{most_bytes, Exchanged, IsServed}
+use Rattle.wsgi_connection.specs.Connections.{Exchanged, IsServed}
 
 -- what is sent for these bytes
 abbrev pub said : Gateway → App → ℕ → List ℕ → List ℕ
@@ -23,12 +24,12 @@ pub record Goes {T : Type 0} (answers : Gateway) (at : Standing T) (app : App) (
   pub read : List ℕ
   pub is_read : in0 ≡ prepended read in1
   pub is_long : length read ≡ count
-  pub at_rest : IsAtRest answers at app port (take most_bytes read) s
-  pub served : IsServed answers app port (take most_bytes read) out0 out1
+  pub at_rest : IsAtRest answers at app port (take MOST_CONNECTION read) s
+  pub served : IsServed answers app port (take MOST_CONNECTION read) out0 out1
 
 -- a turn takes bytes, and one at most past those that are looked at
 abbrev pub Counts : Turn → ℕ → Type 0
-Counts (Answered n) count = (0 < n) × (count + n ≤ most_bytes + 1)
+Counts (Answered n) count = (0 < n) × (count + n ≤ MOST_CONNECTION + 1)
 Counts (Ended end) count = Unit {0}
 
 -- what a turn leaves

@@ -3,7 +3,8 @@ ghost use Rattle.std.specs.Prelude.{◌≡◌, ◌≢◌, ◌⊎◌, ◌≤◌, 
 ghost use Rattle.gv_values.specs.Counts.{HasRisen};
 ghost use Rattle.gv_io.specs.Streams.{appended, AppendsPrefix, Extends};
 ghost use Rattle.wsgi_core.specs.Applications.{App};
-ghost use Rattle.wsgi_connection.specs.Connections.{Exchanged, HandedAhead, most_bytes, whole_session};
+ghost use Rattle.wsgi_connection.specs.declared.connection.TheConstants.{MOST_CONNECTION};
+ghost use Rattle.wsgi_connection.specs.Connections.{Exchanged, HandedAhead, whole_session};
 ghost use Rattle.wsgi_connection.specs.Wholes.{IsWhole};
 ghost use Rattle.wsgi_connection.specs.Pieces.{Breaks, Counts, Goes, IsAtRest, Leaves, said};
 
@@ -12,10 +13,10 @@ use std::alloc::Global;
 use wsgi_core::{Application, SessionPhase, Talk};
 
 /// The most bytes that one read asks for.
-const PIECE: usize = 4096;
+pub const MOST_PIECE: usize = 4096;
 
 /// The most bytes of a connection that are looked at.
-const MOST_BYTES: usize = 16777216;
+pub const MOST_CONNECTION: usize = 16777216;
 
 /// How a connection ended.
 #[derive(Clone, Copy, Debug, PartialEq, Eq)]
@@ -119,7 +120,7 @@ fn exchange<T: Talk, S: Source, K: Sink, A: Application>(
     out: &mut K,
     app: &A,
 ) -> Turn
-    requires { count ≤ most_bytes }
+    requires { count ≤ MOST_CONNECTION }
     ensures leaves { (port : ℕ) (in0 out0 : Option (List ℕ))
         → Goes T.answers T.is_at (A.answer_of app.now) port count in0 (S.remaining input.old) out0 (K.written out.old) session.old
         → Leaves result T.answers T.is_at (A.answer_of app.now) port count in0 (S.remaining input.new) out0 (K.written out.new) session.new }
@@ -136,15 +137,15 @@ fn exchange<T: Talk, S: Source, K: Sink, A: Application>(
     ensures unfailed_reads { result ≢ Turn.Ended ConnectionEnd.ReadFault → S.faults input.new ≡ S.faults input.old }
     ensures unfailed_writes { result ≢ Turn.Ended ConnectionEnd.WriteFault → K.faults out.new ≡ K.faults out.old }
 {
-    let mut buffer = [0; PIECE];
-    let most = (MOST_BYTES - count).min(PIECE - 1) + 1;
+    let mut buffer = [0; MOST_PIECE];
+    let most = (MOST_CONNECTION - count).min(MOST_PIECE - 1) + 1;
     let Ok(came) = input.read(&mut buffer[..most]) else {
         return Turn::Ended(ConnectionEnd::ReadFault);
     };
     if came == 0 {
         return Turn::Ended(end_input(session, out));
     }
-    let looked_at = came.min(MOST_BYTES - count);
+    let looked_at = came.min(MOST_CONNECTION - count);
     match answer_piece(session, &buffer[..looked_at], out, app) {
         Err(end) => Turn::Ended(end),
         Ok(()) => match session.phase() {
@@ -184,7 +185,7 @@ pub fn answer_connection<T: Talk + Drop, S: Source, K: Sink, A: Application>(
     T::is_silent_at_first();
     let mut session = T::begin(alloc, port);
     let mut count = 0;
-    while count <= MOST_BYTES {
+    while count <= MOST_CONNECTION {
         match exchange(&mut session, count, input, out, app) {
             Turn::Answered(came) => count += came,
             Turn::Ended(end) => return end,

@@ -6,7 +6,7 @@ use Rattle.std.specs.List.{concat}
 use Rattle.std.specs.Str.{str_eq_ignore_ascii_case}
 use Rattle.http_messages.specs.Environs.{Pair}
 use Rattle.http_messages.proofs.JudgeLaws.{values_more, values_same}
-use Rattle.http_messages.specs.declared.request.Request.{Request}
+use Rattle.http_messages.specs.declared.request.HttpRequest.{HttpRequest}
 use Rattle.wsgi_core.specs.declared.reply.Reply.{Reply}
 use Rattle.wsgi_core.specs.declared.answer.Stated.{Stated}
 use Rattle.wsgi_core.specs.declared.answer.Stated.TheVariants.{Nothing, Length, Wrong}
@@ -108,10 +108,10 @@ module _ (name : List ℕ) (headers : List Pair) (i : ℕ) (p : Pair) (inside : 
 
 -- ---- which answer it is
 
-pub answer_faulty : (q : Request) (reply : Reply) → is_faulty reply ≡ true → answer q reply ≡ server_error q
+pub answer_faulty : (q : HttpRequest) (reply : Reply) → is_faulty reply ≡ true → answer q reply ≡ server_error q
 unfolding answer
 answer_faulty q reply e = cond-true (is_faulty reply) (server_error q) (sent_for q reply) e
 
-pub answer_sent : (q : Request) (reply : Reply) → is_faulty reply ≡ false → answer q reply ≡ sent_for q reply
+pub answer_sent : (q : HttpRequest) (reply : Reply) → is_faulty reply ≡ false → answer q reply ≡ sent_for q reply
 unfolding answer
 answer_sent q reply e = cond-false (is_faulty reply) (server_error q) (sent_for q reply) e

@@ -3,18 +3,18 @@ use Rattle.std.proofs.lemmas.List.{append_cancel_left, take-append-drop}
 use Rattle.std.specs.Prelude.{Result, Ok, Err, OnErr}
 use Rattle.std.proofs.Common.{◌≡◌, ℕ, ◌<◌, ◌≤◌, Bool, true, false, List, [], ◌++◌, length, take, drop, refl, sym, ap, ◌∙◌, subst, arith, append_assoc, append-nil}
 use Rattle.http_messages.specs.declared.refusal.Refusal.{Refusal}
-use Rattle.http_messages.specs.declared.request.Request.{Request}
-use Rattle.http_messages.specs.declared.request.Awaited.{Awaited}
+use Rattle.http_messages.specs.declared.request.HttpRequest.{HttpRequest}
+use Rattle.http_messages.specs.declared.request.AwaitedBody.{AwaitedBody}
 use Rattle.http_messages.specs.Cuts.{Cut, waits, refused, whole}
 use Rattle.http_messages.specs.Bodies.{body_left}
-use Rattle.http_messages.specs.Awaited.{awaited_by}
+use Rattle.http_messages.specs.AwaitedBody.{awaited_by}
 use Rattle.http_messages.specs.Readings.{ReadsAlike}
 use Rattle.http_messages.specs.Requests.{request_at}
 use Rattle.wsgi_core.specs.declared.session.SessionStage.{SessionStage}
 use Rattle.wsgi_core.specs.declared.session.SessionStage.TheVariants.{AtHead, InBody, Asked}
 use Rattle.wsgi_core.specs.declared.reply.Reply.{Reply}
 use Rattle.wsgi_core.specs.Applications.{App}
-use Rattle.wsgi_core.specs.Answers.{Sent, ◌⨾◌, nothing, refusal, if_continues, answer}
+use Rattle.wsgi_core.specs.Answers.{Sent, ◌⨾◌, nothing_sent, refusal, if_continues, answer}
 use Rattle.wsgi_core.specs.Sessions.{sent_on, answers}
 use Rattle.wsgi_core.specs.Progress.{Progress, sent_from, to_come, GoesOn, IsSettled, IsDue, Stands}
 use Rattle.http_messages.proofs.BodySteps.{later_whole}
@@ -55,42 +55,42 @@ module _ (app : App) (port : ℕ) (kept pending : List ℕ) where
       → GoesOn app (progress_at port AtHead kept pending false) (progress_at port AtHead left pending false)
   head_alike left alike more =
       ap (λ (s : Sent). sent pending false ⨾ s)
-      (head_step (kept ++ more) ∙ ap (λ (c : Cut Request). sent_on c (from_request answers app port)) (alike more) ∙ sym (head_step (left ++ more)))
+      (head_step (kept ++ more) ∙ ap (λ (c : Cut HttpRequest). sent_on c (from_request answers app port)) (alike more) ∙ sym (head_step (left ++ more)))
 
   pub head_waits : request_at port kept ≡ waits → IsSettled app (progress_at port AtHead kept pending false)
   head_waits e =
       ap (λ (s : Sent). sent pending false ⨾ s)
-      (head_step (kept ++ []) ∙ ap (λ (c : Cut Request). sent_on c (from_request answers app port)) (ap (request_at port) (append-nil kept) ∙ e))
+      (head_step (kept ++ []) ∙ ap (λ (c : Cut HttpRequest). sent_on c (from_request answers app port)) (ap (request_at port) (append-nil kept) ∙ e))
       ∙ (let n = append-nil pending in λ i. sent (n i) false)
 
   pub head_refused : (reason : Refusal) (stage : SessionStage) (left : List ℕ) → request_at port kept ≡ refused reason
       → GoesOn app (progress_at port AtHead kept pending false) (progress_at port stage left (pending ++ (refusal reason).bytes) true)
   head_refused reason stage left e more =
       ap (λ (s : Sent). sent pending false ⨾ s)
-      (head_step (kept ++ more) ∙ ap (λ (c : Cut Request). sent_on c (from_request answers app port))
+      (head_step (kept ++ more) ∙ ap (λ (c : Cut HttpRequest). sent_on c (from_request answers app port))
       (later_refused more (request_at port kept) (request_at port (kept ++ more)) reason (request_at-later port kept more) e))
 
-  pub head_whole : (request : Request) (left : List ℕ) → request_at port kept ≡ whole request left
+  pub head_whole : (request : HttpRequest) (left : List ℕ) → request_at port kept ≡ whole request left
       → GoesOn app (progress_at port AtHead kept pending false) (progress_at port (InBody request (awaited_by request.framing)) left (pending ++ (if_continues request).bytes) false)
   unfolding sent_from
   head_whole request left e more =
       ap (λ (s : Sent). sent pending false ⨾ s)
       (head_step (kept ++ more)
-      ∙ ap (λ (c : Cut Request). sent_on c (from_request answers app port))
+      ∙ ap (λ (c : Cut HttpRequest). sent_on c (from_request answers app port))
       (later_whole more (request_at port kept) (request_at port (kept ++ more)) request left (request_at-later port kept more) e)
       ∙ ap (λ (c : Cut (List ℕ)). if_continues request ⨾ from_body answers app port request c) (body_starts request.framing (left ++ more)))
       ∙ sym (then_assoc (sent pending false) (if_continues request) (from_body answers app port request (body_left (awaited_by request.framing) (left ++ more))))
 
-pub head_shorter : (port : ℕ) (kept : List ℕ) (request : Request) (left : List ℕ) → request_at port kept ≡ whole request left → length left < length kept
+pub head_shorter : (port : ℕ) (kept : List ℕ) (request : HttpRequest) (left : List ℕ) → request_at port kept ≡ whole request left → length left < length kept
 head_shorter port kept request left e = let t = takes_at 1 kept (request_at port kept) request left (request_at-takes port kept) e in omega arith
 
-pub body_shorter : (awaited : Awaited) (kept body left : List ℕ) → body_left awaited kept ≡ whole body left → length left ≤ length kept
+pub body_shorter : (awaited : AwaitedBody) (kept body left : List ℕ) → body_left awaited kept ≡ whole body left → length left ≤ length kept
 body_shorter awaited kept body left e = let t = takes_at 0 kept (body_left awaited kept) body left (body_left-takes awaited kept) e in omega arith
 
 -- ---- in a body
 
-module _ (app : App) (port : ℕ) (kept pending : List ℕ) (request : Request) (awaited : Awaited) where
-  pub body_alike : (next : Awaited) (left : List ℕ) → ReadsAlike (body_left awaited) (body_left next) kept left
+module _ (app : App) (port : ℕ) (kept pending : List ℕ) (request : HttpRequest) (awaited : AwaitedBody) where
+  pub body_alike : (next : AwaitedBody) (left : List ℕ) → ReadsAlike (body_left awaited) (body_left next) kept left
       → GoesOn app (progress_at port (InBody request awaited) kept pending false) (progress_at port (InBody request next) left pending false)
   unfolding sent_from
   body_alike next left alike more = ap (λ (c : Cut (List ℕ)). sent pending false ⨾ from_body answers app port request c) (alike more)
@@ -117,7 +117,7 @@ module _ (app : App) (port : ℕ) (kept pending : List ℕ) (request : Request) 
 
 -- ---- at a request that waits
 
-pub asked_answered : (app : App) (port : ℕ) (kept pending : List ℕ) (request : Request) (body : List ℕ) (reply : Reply) → reply ≡ app request.environ body
+pub asked_answered : (app : App) (port : ℕ) (kept pending : List ℕ) (request : HttpRequest) (body : List ℕ) (reply : Reply) → reply ≡ app request.environ body
     → GoesOn app (progress_at port (Asked request body) kept pending false)
     (progress_at port AtHead kept (pending ++ (answer request reply).bytes) (answer request reply).closes)
 unfolding sent_from
@@ -219,6 +219,6 @@ on_err (Ok x) P p = tt
 on_err (Err e) P p = p
 
 -- nothing is sent for no bytes
-pub answers-nothing : (app : App) (port : ℕ) → answers app port [] ≡ nothing
+pub answers-nothing : (app : App) (port : ℕ) → answers app port [] ≡ nothing_sent
 unfolding sent_from
 answers-nothing app port = settled_begun app port [] [] refl

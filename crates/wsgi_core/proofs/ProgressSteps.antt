@@ -2,12 +2,12 @@
 use Rattle.std.specs.Prelude.{Result, Ok, Err, OnErr, OnOk, Option, Some, None, IsSome}
 use Rattle.std.proofs.Common.{◌≡◌, ◌+◌, ℕ, Bool, true, false, List, ◌++◌, refl, sym, ap, ◌∙◌, subst}
 use Rattle.http_messages.specs.declared.refusal.Refusal.{Refusal}
-use Rattle.http_messages.specs.declared.request.Request.{Request}
-use Rattle.http_messages.specs.declared.request.Awaited.{Awaited}
+use Rattle.http_messages.specs.declared.request.HttpRequest.{HttpRequest}
+use Rattle.http_messages.specs.declared.request.AwaitedBody.{AwaitedBody}
 use Rattle.http_messages.specs.Environs.{Pair}
 use Rattle.http_messages.specs.Cuts.{waits, refused, whole}
 use Rattle.http_messages.specs.Bodies.{body_left}
-use Rattle.http_messages.specs.Awaited.{awaited_by}
+use Rattle.http_messages.specs.AwaitedBody.{awaited_by}
 use Rattle.http_messages.specs.Readings.{ReadsAlike}
 use Rattle.http_messages.specs.Requests.{request_at}
 use Rattle.wsgi_core.specs.declared.session.SessionStage.{SessionStage}
@@ -43,11 +43,11 @@ pub quiet_at_head : (closing : Bool) (stage : SessionStage) → stage ≡ AtHead
 quiet_at_head true stage e = refl
 quiet_at_head false stage e = ap asked_at e
 
-pub asked_there : (closing : Bool) (stage : SessionStage) (request : Request) (body : List ℕ) → closing ≡ false → stage ≡ Asked request body
+pub asked_there : (closing : Bool) (stage : SessionStage) (request : HttpRequest) (body : List ℕ) → closing ≡ false → stage ≡ Asked request body
     → asked_if_open closing stage ≡ Some (request.environ, body)
 asked_there closing stage request body e f = λ i. asked_if_open (e i) (f i)
 
-pub reply_there : (app : App) (closing : Bool) (stage : SessionStage) (request : Request) (body : List ℕ) (reply : Reply) → closing ≡ false → stage ≡ Asked request body
+pub reply_there : (app : App) (closing : Bool) (stage : SessionStage) (request : HttpRequest) (body : List ℕ) (reply : Reply) → closing ≡ false → stage ≡ Asked request body
     → IsReplyTo app (asked_if_open closing stage) reply → reply ≡ app request.environ body
 reply_there app closing stage request body reply e f h =
     let P : Option (List Pair × List ℕ) → Type 0 = λ asked. IsReplyTo app asked reply in subst P (asked_there closing stage request body e f) h
@@ -79,7 +79,7 @@ module _ (app : App) (t new : Progress) (is_open : t.closing ≡ false) where
         between app t (progress_at t.port AtHead t.kept t.pending false) (progress_at t.port new.stage new.kept (t.pending ++ (refusal reason).bytes) true) new old_head
         (head_refused app t.port t.kept t.pending reason new.stage new.kept e) (λ i. progress_at (p i) new.stage new.kept (q i) (c i))
 
-    pub at_head-whole : (request : Request) → request_at t.port t.kept ≡ whole request new.kept
+    pub at_head-whole : (request : HttpRequest) → request_at t.port t.kept ≡ whole request new.kept
         → new.port ≡ t.port → new.stage ≡ InBody request (awaited_by request.framing) → new.pending ≡ t.pending ++ (if_continues request).bytes → new.closing ≡ false
         → GoesOn app t new
     at_head-whole request e p s q c =
@@ -87,11 +87,11 @@ module _ (app : App) (t new : Progress) (is_open : t.closing ≡ false) where
         (progress_at t.port (InBody request (awaited_by request.framing)) new.kept (t.pending ++ (if_continues request).bytes) false) new old_head
         (head_whole app t.port t.kept t.pending request new.kept e) (λ i. progress_at (p i) (s i) new.kept (q i) (c i))
 
-  module _ (request : Request) (awaited : Awaited) (in_body : t.stage ≡ InBody request awaited) where
+  module _ (request : HttpRequest) (awaited : AwaitedBody) (in_body : t.stage ≡ InBody request awaited) where
     old_body : t ≡ progress_at t.port (InBody request awaited) t.kept t.pending false
     old_body = λ i. progress_at t.port (in_body i) t.kept t.pending (is_open i)
 
-    pub at_body-waits : (next : Awaited) → ReadsAlike (body_left awaited) (body_left next) t.kept new.kept
+    pub at_body-waits : (next : AwaitedBody) → ReadsAlike (body_left awaited) (body_left next) t.kept new.kept
         → new.port ≡ t.port → new.stage ≡ InBody request next → new.pending ≡ t.pending → new.closing ≡ false → GoesOn app t new
     at_body-waits next alike p s q c =
         between app t (progress_at t.port (InBody request awaited) t.kept t.pending false) (progress_at t.port (InBody request next) new.kept t.pending false) new old_body
@@ -109,7 +109,7 @@ module _ (app : App) (t new : Progress) (is_open : t.closing ≡ false) where
         between app t (progress_at t.port (InBody request awaited) t.kept t.pending false) (progress_at t.port (Asked request body) new.kept t.pending false) new old_body
         (body_whole app t.port t.kept t.pending request awaited body new.kept e) (λ i. progress_at (p i) (s i) new.kept (q i) (c i))
 
-  pub at_asked : (request : Request) (body : List ℕ) (reply : Reply) → t.stage ≡ Asked request body → reply ≡ app request.environ body
+  pub at_asked : (request : HttpRequest) (body : List ℕ) (reply : Reply) → t.stage ≡ Asked request body → reply ≡ app request.environ body
       → new.port ≡ t.port → new.stage ≡ AtHead → new.kept ≡ t.kept → new.pending ≡ t.pending ++ (answer request reply).bytes → new.closing ≡ (answer request reply).closes
       → GoesOn app t new
   at_asked request body reply waits_for e p s k q c =
@@ -124,7 +124,7 @@ settled_head app new s c e =
     let is : new ≡ progress_at new.port AtHead new.kept new.pending false = λ i. progress_at new.port (s i) new.kept new.pending (c i) in
     subst P (sym is) (head_waits app new.port new.kept new.pending e)
 
-pub settled_body : (app : App) (new : Progress) (request : Request) (left : Awaited) → new.stage ≡ InBody request left → new.closing ≡ false
+pub settled_body : (app : App) (new : Progress) (request : HttpRequest) (left : AwaitedBody) → new.stage ≡ InBody request left → new.closing ≡ false
     → body_left left new.kept ≡ waits → IsSettled app new
 settled_body app new request left s c e =
     let P : Progress → Type 0 = λ t. IsSettled app t in

@@ -5,11 +5,11 @@ use Rattle.wsgi_core.specs.Standings.{IsBefore}
 use Rattle.std.proofs.lemmas.Bool.{or_left, or_right}
 use Rattle.std.proofs.Common.{◌≡◌, ℕ, zero, suc, ◌+◌, ◌<◌, ◌≤◌, Bool, true, false, cond, List, [], ◌++◌, length, refl, sym, ap, ◌∙◌, subst, arith, append_assoc, append-nil, length-append}
 use Rattle.http_messages.specs.Cuts.{Cut, waits, refused, whole}
-use Rattle.http_messages.specs.declared.request.Request.{Request}
+use Rattle.http_messages.specs.declared.request.HttpRequest.{HttpRequest}
 use Rattle.http_messages.specs.Requests.{request_at}
 use Rattle.http_messages.specs.Bodies.{body_by}
 use Rattle.wsgi_core.specs.Applications.{App}
-use Rattle.wsgi_core.specs.Answers.{Sent, ◌⨾◌, nothing, refusal, if_continues, answer}
+use Rattle.wsgi_core.specs.Answers.{Sent, ◌⨾◌, nothing_sent, refusal, if_continues, answer}
 use Rattle.wsgi_core.specs.Sessions.{sent_on, requests, answers}
 use Rattle.http_messages.proofs.CutLaws.{Later, takes_at}
 use Rattle.http_messages.proofs.RequestLaws.{request_at-later, request_at-takes}
@@ -20,7 +20,7 @@ use Rattle.http_messages.proofs.BodyLaws.{body_by-later, body_by-takes}
 pub before-self : (a : Sent) → IsBefore a a
 before-self a = record { tail = []; longer = sym (append-nil a.bytes); done = λ _. refl }
 
-pub before-nothing : (b : Sent) → IsBefore nothing b
+pub before-nothing : (b : Sent) → IsBefore nothing_sent b
 before-nothing b = record { tail = b.bytes; longer = refl; done = λ e. absurd (cc) }
 
 pub then-before : (a b c : Sent) → IsBefore b c → IsBefore (a ⨾ b) (a ⨾ c)
@@ -48,14 +48,14 @@ sent_on-same (refused reason) f g h = refl
 sent_on-same (whole a rest) f g h = h a rest refl
 
 -- from the body of a request on
-abbrev pub from_body : (App → ℕ → List ℕ → Sent) → App → ℕ → Request → Cut (List ℕ) → Sent
+abbrev pub from_body : (App → ℕ → List ℕ → Sent) → App → ℕ → HttpRequest → Cut (List ℕ) → Sent
 from_body again app port request body = sent_on body (λ body rest. answer request (app request.environ body) ⨾ again app port rest)
 
-abbrev pub from_request : (App → ℕ → List ℕ → Sent) → App → ℕ → Request → List ℕ → Sent
+abbrev pub from_request : (App → ℕ → List ℕ → Sent) → App → ℕ → HttpRequest → List ℕ → Sent
 from_request again app port request rest = if_continues request ⨾ from_body again app port request (body_by request.framing rest)
 
 requests_before : (n : ℕ) (app : App) (port : ℕ) (bytes more : List ℕ) → IsBefore (requests n app port bytes) (requests n app port (bytes ++ more))
-requests_before zero app port bytes more = before-self nothing
+requests_before zero app port bytes more = before-self nothing_sent
 requests_before (suc n) app port bytes more =
     sent_on-before more (request_at port bytes) (request_at port (bytes ++ more)) (from_request (requests n) app port) (from_request (requests n) app port)
     (request_at-later port bytes more)
@@ -65,7 +65,7 @@ requests_before (suc n) app port bytes more =
     (body_by-later q.framing rest more)
     (λ body rest. then-before (answer q (app q.environ body)) _ _ (requests_before n app port rest more))))
 
-from_request_same : (again other : App → ℕ → List ℕ → Sent) (app : App) (port : ℕ) (q : Request) (rest : List ℕ)
+from_request_same : (again other : App → ℕ → List ℕ → Sent) (app : App) (port : ℕ) (q : HttpRequest) (rest : List ℕ)
     → ((bytes : List ℕ) → length bytes ≤ length rest → again app port bytes ≡ other app port bytes)
     → from_request again app port q rest ≡ from_request other app port q rest
 from_request_same again other app port q rest h =

@@ -9,7 +9,7 @@ use Rattle.httparse.specs.Grammar.{is_token, is_value_byte}
 use Rattle.http_messages.specs.declared.refusal.Refusal.{Refusal}
 use Rattle.http_messages.specs.declared.refusal.Refusal.TheVariants.{BadRequest, TooLarge, TooLong}
 use Rattle.http_messages.specs.Environs.{Pair}
-use Rattle.http_messages.specs.declared.request.Request.{Request}
+use Rattle.http_messages.specs.declared.request.HttpRequest.{HttpRequest}
 use Rattle.http_messages.specs.Requests.{is_length, values}
 use Rattle.wsgi_core.specs.declared.answer.Stated.{Stated}
 use Rattle.wsgi_core.specs.declared.answer.Stated.TheVariants.{Nothing, Length, Wrong}
@@ -28,8 +28,8 @@ infixr 30 ◌⨾◌
 abbrev pub ◌⨾◌ : Sent → Sent → Sent
 a ⨾ b = if a.closes then a else record { bytes = a.bytes ++ b.bytes; closes = b.closes }
 
-abbrev pub nothing : Sent
-nothing = record { bytes = []; closes = false }
+abbrev pub nothing_sent : Sent
+nothing_sent = record { bytes = []; closes = false }
 
 abbrev pub line : List ℕ → List ℕ
 line text = text ++ 13 ∷ 10 ∷ []
@@ -45,7 +45,7 @@ refusal r = record {
   closes = true;
 }
 
-abbrev pub if_continues : Request → Sent
+abbrev pub if_continues : HttpRequest → Sent
 if_continues q = record { bytes = if q.continues then line (codes "HTTP/1.1 100 Continue") ++ line [] else []; closes = false }
 
 abbrev pub is_visible : ℕ → Bool
@@ -119,7 +119,7 @@ is_faulty (Started status headers pieces broken) =
     || is_wrong (has_code (codes "204") status) (stated headers)
     || (broken && list_all is_empty pieces)
 
-abbrev pub server_error : Request → Sent
+abbrev pub server_error : HttpRequest → Sent
 server_error q = record {
   bytes =
       line (codes "HTTP/1.1 500 Internal Server Error") ++ line (codes "Content-Type: text/plain")
@@ -129,8 +129,8 @@ server_error q = record {
 }
 
 -- the status has a body
-abbrev pub has_place : List ℕ → Bool
-has_place status = not (has_code (codes "204") status || has_code (codes "304") status)
+abbrev pub has_body_place : List ℕ → Bool
+has_body_place status = not (has_code (codes "204") status || has_code (codes "304") status)
 
 abbrev pub header_line : Pair → List ℕ
 header_line p = line (p.0 ++ codes ": " ++ p.1)
@@ -146,8 +146,8 @@ ending_by true minor (Length n) = Counted n
 ending_by true minor Nothing = if minor == 1 then InChunks else AtClose
 ending_by true minor Wrong = if minor == 1 then InChunks else AtClose
 
-abbrev pub ending : Request → List ℕ → List Pair → Ending
-ending q status headers = ending_by (has_place status) q.minor (stated headers)
+abbrev pub ending : HttpRequest → List ℕ → List Pair → Ending
+ending q status headers = ending_by (has_body_place status) q.minor (stated headers)
 
 abbrev pub is_in_chunks : Ending → Bool
 is_in_chunks InChunks = true
@@ -157,10 +157,10 @@ abbrev pub is_at_close : Ending → Bool
 is_at_close AtClose = true
 is_at_close e = false
 
-abbrev pub says_close : Request → Ending → Bool
+abbrev pub says_close : HttpRequest → Ending → Bool
 says_close q e = not q.persists || is_at_close e
 
-abbrev pub connection_line : Request → Ending → List ℕ
+abbrev pub connection_line : HttpRequest → Ending → List ℕ
 connection_line q e =
     if says_close q e then line (codes "Connection: close")
     else if q.minor == 0 then line (codes "Connection: keep-alive") else []
@@ -171,7 +171,7 @@ status_line minor status = line (codes "HTTP/1." ++ decimal minor ++ codes " " +
 abbrev pub coding_line : Ending → List ℕ
 coding_line e = if is_in_chunks e then line (codes "Transfer-Encoding: chunked") else []
 
-abbrev pub head_bytes : Request → Ending → List ℕ → List Pair → List ℕ
+abbrev pub head_bytes : HttpRequest → Ending → List ℕ → List Pair → List ℕ
 head_bytes q e status headers =
     status_line q.minor status
     ++ flat_map header_line headers
@@ -189,15 +189,15 @@ abbrev pub falls_short : Ending → List (List ℕ) → Bool
 falls_short (Counted n) pieces = nat_lt (length (concat pieces)) n
 falls_short e pieces = false
 
-abbrev pub sent_by : Request → Ending → List ℕ → List Pair → List (List ℕ) → Bool → Sent
+abbrev pub sent_by : HttpRequest → Ending → List ℕ → List Pair → List (List ℕ) → Bool → Sent
 sent_by q e status headers pieces broken = record {
   bytes = head_bytes q e status headers ++ (if q.is_head then [] else body_bytes e pieces broken);
   closes = says_close q e || broken || (not q.is_head && falls_short e pieces);
 }
 
-abbrev pub sent_for : Request → Reply → Sent
+abbrev pub sent_for : HttpRequest → Reply → Sent
 sent_for q Raised = server_error q
 sent_for q (Started status headers pieces broken) = sent_by q (ending q status headers) status headers pieces broken
 
-unfoldable pub answer : Request → Reply → Sent
+unfoldable pub answer : HttpRequest → Reply → Sent
 answer q reply = if is_faulty reply then server_error q else sent_for q reply

@@ -4,17 +4,17 @@ use Rattle.http_messages.specs.Cuts.{Cut, waits, refused, whole}
 use Rattle.http_messages.specs.Requests.{request_at}
 use Rattle.http_messages.specs.Bodies.{body_by}
 use Rattle.wsgi_core.specs.Applications.{App}
-use Rattle.wsgi_core.specs.Answers.{Sent, ◌⨾◌, nothing, refusal, if_continues, answer}
+use Rattle.wsgi_core.specs.Answers.{Sent, ◌⨾◌, nothing_sent, refusal, if_continues, answer}
 
 -- what is sent for a reading, given what follows where it is whole
 abbrev pub sent_on : {A : Type 0} → Cut A → (A → List ℕ → Sent) → Sent
-sent_on waits goes_on = nothing
+sent_on waits goes_on = nothing_sent
 sent_on (refused reason) goes_on = refusal reason
 sent_on (whole a rest) goes_on = goes_on a rest
 
 -- the first requests, so many at most
 abbrev pub requests : ℕ → App → ℕ → List ℕ → Sent
-requests zero app port bytes = nothing
+requests zero app port bytes = nothing_sent
 requests (suc more) app port bytes =
     sent_on (request_at port bytes) (λ request rest.
     if_continues request ⨾

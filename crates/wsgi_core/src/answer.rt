@@ -1,12 +1,12 @@
 //! Answers as bytes.
 ghost use Rattle.std.specs.Prelude.{◌≡◌, ◌<◌, ◌-◌, ◌++◌, IsTrue, OnOk, IfOk, length as list_length, take};
 ghost use Rattle.std.specs.List.{concat, flat_map, list_all};
-ghost use Rattle.wsgi_core.specs.Answers.{answer, begins_with_code, body_bytes, chunk, coding_line, connection_line, ending, ending_by, falls_short, has_code, has_place, has_visible_ends, head_bytes, header_line, is_empty, is_faulty, is_header, is_hop_by_hop, is_reason, is_reason_byte, is_status, is_visible, is_wrong, length_of, says_close, sent_by, server_error, stated, status_line};
+ghost use Rattle.wsgi_core.specs.Answers.{answer, begins_with_code, body_bytes, chunk, coding_line, connection_line, ending, ending_by, falls_short, has_code, has_body_place, has_visible_ends, head_bytes, header_line, is_empty, is_faulty, is_header, is_hop_by_hop, is_reason, is_reason_byte, is_status, is_visible, is_wrong, length_of, says_close, sent_by, server_error, stated, status_line};
 ghost use Rattle.wsgi_core.specs.Stating.{stated_after};
 
 use crate::reply::{Pieces, Reply};
 use gv_values::digits::are_digits;
-use http_messages::{Bytes, Headers, Request, eq_any_case, parse_length};
+use http_messages::{Bytes, Headers, HttpRequest, eq_any_case, parse_length};
 use httparse::{is_header_value, is_token};
 use std::alloc::{AllocError, Global};
 
@@ -95,8 +95,8 @@ fn has_code(code: &[u8; 3], status: &[u8]) -> bool
 }
 
 /// Whether the status has a body.
-fn has_place(status: &[u8]) -> bool
-    ensures { result ≡ has_place status.now }
+fn has_body_place(status: &[u8]) -> bool
+    ensures { result ≡ has_body_place status.now }
 {
     !(has_code(b"204", status) || has_code(b"304", status))
 }
@@ -216,9 +216,9 @@ pub fn is_faulty(reply: &Reply) -> bool
 
 /// How the end of a reply's body is told (RFC 9112, section 6.3).
 pub fn ending_of(minor: u8, status: &[u8], headers: &Headers) -> Ending
-    ensures { result ≡ ending_by (has_place status.now) minor (stated headers.now) }
+    ensures { result ≡ ending_by (has_body_place status.now) minor (stated headers.now) }
 {
-    if !has_place(status) {
+    if !has_body_place(status) {
         return Ending::NoBody;
     }
     match stated_length(headers) {
@@ -229,14 +229,18 @@ pub fn ending_of(minor: u8, status: &[u8], headers: &Headers) -> Ending
 }
 
 /// Whether the answer says that the connection closes.
-fn says_close(request: &Request, ending: Ending) -> bool
+fn says_close(request: &HttpRequest, ending: Ending) -> bool
     ensures { result ≡ says_close request.now ending }
 {
     !request.persists || ending == Ending::AtClose
 }
 
 /// Appends the line on the connection.
-fn push_connection(out: &mut Vec<u8>, request: &Request, ending: Ending) -> Result<(), AllocError>
+fn push_connection(
+    out: &mut Vec<u8>,
+    request: &HttpRequest,
+    ending: Ending,
+) -> Result<(), AllocError>
     ensures { OnOk result (out.new.items ≡ out.old.items ++ connection_line request.now ending) }
 {
     if says_close(request, ending) {
@@ -285,7 +289,7 @@ fn push_status(alloc: Global, out: &mut Vec<u8>, minor: u8, status: &[u8]) -> Re
 fn push_head(
     alloc: Global,
     out: &mut Vec<u8>,
-    request: &Request,
+    request: &HttpRequest,
     ending: Ending,
     status: &[u8],
     headers: &Headers,
@@ -386,7 +390,7 @@ pub fn push_body(
 }
 
 /// Appends the answer that replaces a faulty reply.
-fn push_server_error(out: &mut Vec<u8>, request: &Request) -> Result<(), AllocError>
+fn push_server_error(out: &mut Vec<u8>, request: &HttpRequest) -> Result<(), AllocError>
     ensures { OnOk result (out.new.items ≡ out.old.items ++ (server_error request.now).bytes) }
 {
     out.extend_from_slice(
@@ -402,7 +406,7 @@ fn push_server_error(out: &mut Vec<u8>, request: &Request) -> Result<(), AllocEr
 fn push_started(
     alloc: Global,
     out: &mut Vec<u8>,
-    request: &Request,
+    request: &HttpRequest,
     status: &[u8],
     headers: &Headers,
     pieces: &Pieces,
@@ -427,7 +431,7 @@ fn push_started(
 pub fn push_answer(
     alloc: Global,
     out: &mut Vec<u8>,
-    request: &Request,
+    request: &HttpRequest,
     reply: &Reply,
 ) -> Result<bool, AllocError>
     ensures sent { OnOk result (out.new.items ≡ out.old.items ++ (answer request.now reply.now).bytes) }

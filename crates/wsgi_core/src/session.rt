@@ -11,8 +11,8 @@ ghost use Rattle.wsgi_core.specs.Progress.{GoesOn, IsDue, IsSettled, Stands};
 use crate::answer::push_answer;
 use crate::reply::{Application, Reply};
 use http_messages::{
-    Awaited, BodyFound, ByteQueue, Bytes, Environ, Found, Refusal, Request, awaited_by, read_body,
-    read_request,
+    AwaitedBody, BodyFound, ByteQueue, Bytes, Environ, Found, HttpRequest, Refusal, awaited_by,
+    read_body, read_request,
 };
 use std::alloc::{AllocError, Global};
 use std::mem;
@@ -32,9 +32,9 @@ pub enum SessionStage {
     /// Before a head.
     AtHead,
     /// Within the body of a request.
-    InBody(Request, Awaited),
+    InBody(HttpRequest, AwaitedBody),
     /// At a request that waits for its reply.
-    Asked(Request, Bytes),
+    Asked(HttpRequest, Bytes),
 }
 
 /// The session of one connection (RFC 9112, section 9).
@@ -67,7 +67,7 @@ fn refusal_text(reason: Refusal) -> &'static [u8]
 }
 
 /// Appends the answer that a client waits for before it sends a body, where it does.
-fn push_continue(pending: &mut ByteQueue, request: &Request) -> Result<(), AllocError>
+fn push_continue(pending: &mut ByteQueue, request: &HttpRequest) -> Result<(), AllocError>
     ensures sent { OnOk result (pending.new ≡ pending.old ++ (if_continues request.now).bytes) }
     ensures err { OnErr result (pending.new ≡ pending.old) }
 {

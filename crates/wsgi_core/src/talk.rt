@@ -1,6 +1,6 @@
 //! What a connection talks to: something that is fed its bytes and says what is sent for them.
 ghost use Rattle.std.specs.Prelude.{◌≡◌, ◌≤◌, ◌++◌, ℕ, List, [], Bool, length, take, drop, OnOk, OnErr};
-ghost use Rattle.wsgi_core.specs.Answers.{nothing};
+ghost use Rattle.wsgi_core.specs.Answers.{nothing_sent};
 ghost use Rattle.wsgi_core.specs.Applications.{App};
 ghost use Rattle.wsgi_core.specs.Gateways.{Gateway, said_by};
 ghost use Rattle.wsgi_core.specs.Sessions.{answers};
@@ -77,7 +77,7 @@ pub trait Talk {
 
     /// Nothing is sent for no bytes. The call does nothing.
     fn is_silent_at_first()
-        ensures { (app : App) (port : ℕ) → answers app port [] ≡ nothing };
+        ensures { (app : App) (port : ℕ) → answers app port [] ≡ nothing_sent };
 }
 
 /// The HTTP session (RFC 9112) as one side of a connection.

@@ -9,7 +9,7 @@ use Rattle.gv_values.specs.declared.job.JobOutcome.{JobOutcome}
 use Rattle.http_messages.specs.Environs.{Pair}
 use Rattle.world_rules.specs.declared.question.PostedJob.{PostedJob}
 use Rattle.world_rules.specs.Legal.{IsOutcomeOf, is_answered, posted}
-use Rattle.world.specs.Worlds.{Meaning as World, Posts, Stores}
+use Rattle.world.specs.Worlds.{WorldMeaning as World, Posts, Stores}
 use Rattle.stream_server.specs.Services.{IsHeldFrom, IsReleased, Polls, TiesAfter}
 use Rattle.stream_server.specs.declared.service.Polled.{Polled}
 use Rattle.stream_server.specs.declared.service.Polled.TheVariants.{Nobody, Released, Memory}

@@ -12,7 +12,7 @@ use Rattle.http_messages.specs.Environs.{Pair}
 use Rattle.world_rules.specs.declared.question.PostedJob.{PostedJob}
 use Rattle.world_rules.specs.Jobs.{eval}
 use Rattle.world_rules.specs.Legal.{IsOutcomeOf, is_answered, is_done_of, is_posted, posted}
-use Rattle.world.specs.Worlds.{Meaning, Posts, Stores}
+use Rattle.world.specs.Worlds.{WorldMeaning, Posts, Stores}
 use Rattle.world.proofs.Sound.{contains_posted, or_false}
 use Rattle.wsgi_core.specs.declared.reply.Reply.{Reply}
 use Rattle.wsgi_core.specs.Steps.{IsReplyTo}
@@ -68,10 +68,10 @@ same_number o a b e f = cc
 
 -- ---- the tie
 
-pub first_order : (w : Meaning) → w.runs ≡ true → w.answers ≡ [] → IsInOrder w
+pub first_order : (w : WorldMeaning) → w.runs ≡ true → w.answers ≡ [] → IsInOrder w
 first_order w runs answers = record { runs = runs; done = λ n h. absurd (false≢true (sym (ap (is_answered n) answers) ∙ h)) }
 
-pub tied_none : (w : Meaning) (waiting : ℕ → Option ℕ) (listed : Listing JobTalk) (accepted : ℕ) → w.runs ≡ true → w.posts ≡ [] → w.answers ≡ [] → ((n : ℕ) → waiting n ≡ None) → IsTied w 0 waiting listed accepted
+pub tied_none : (w : WorldMeaning) (waiting : ℕ → Option ℕ) (listed : Listing JobTalk) (accepted : ℕ) → w.runs ≡ true → w.posts ≡ [] → w.answers ≡ [] → ((n : ℕ) → waiting n ≡ None) → IsTied w 0 waiting listed accepted
 tied_none w waiting listed accepted runs posts answers none = record {
   order = first_order w runs answers;
   fresh = λ n h. ap (is_posted n) posts;
@@ -90,13 +90,13 @@ now_answered n answers outcome at =
 
 -- ---- a job more
 
-pub posted_order : (w v : Meaning) (number : ℕ) (job : Job) → IsInOrder w → Posts w v number job → IsInOrder v
+pub posted_order : (w v : WorldMeaning) (number : ℕ) (job : Job) → IsInOrder w → Posts w v number job → IsInOrder v
 posted_order w v number job o p = record {
   runs = p.rest.runs ∙ o.runs;
   done = λ n h. ap (is_posted n) p.posts ∙ posted_still n number w.posts job true (o.done n (sym (ap (is_answered n) p.answers) ∙ h));
 }
 
-pub tied_posted : (w v : Meaning) (last : ℕ) (waiting more : ℕ → Option ℕ) (listed now : Listing JobTalk) (accepted k : ℕ) (job : Job) (g : Client JobTalk) → IsTiedBut w last waiting listed accepted k → k < accepted
+pub tied_posted : (w v : WorldMeaning) (last : ℕ) (waiting more : ℕ → Option ℕ) (listed now : Listing JobTalk) (accepted k : ℕ) (job : Job) (g : Client JobTalk) → IsTiedBut w last waiting listed accepted k → k < accepted
     → Posts w v (last + 1) job → ((n : ℕ) → more n ≡ (if last + 1 == n then Some k else waiting n)) → held_number g.talk ≡ Some (last + 1) → WantsJob g.talk job
     → ((s : Option (Client JobTalk)) → now k s → s ≡ Some g) → ((j : ℕ) (s : Option (Client JobTalk)) → j ≢ k → now j s → listed j s) → IsTied v (last + 1) more now accepted
 tied_posted w v last waiting more listed now accepted k job g t within p adds number wants here others = record {
@@ -166,7 +166,7 @@ tied_posted w v last waiting more listed now accepted k job g t within p adds nu
 -- ---- an answer
 
 -- each answered job was posted
-pub stored_order : (w v : Meaning) (number : ℕ) (outcome : JobOutcome) (at : ℕ) → IsInOrder w → Stores w v (Answer.Done number outcome at) → IsOutcomeOf number outcome w.posts → IsInOrder v
+pub stored_order : (w v : WorldMeaning) (number : ℕ) (outcome : JobOutcome) (at : ℕ) → IsInOrder w → Stores w v (Answer.Done number outcome at) → IsOutcomeOf number outcome w.posts → IsInOrder v
 stored_order w v number outcome at o s right = record {
   runs = s.rest.runs ∙ o.runs;
   done = λ n h. ap (is_posted n) s.posts ∙ by n (number == n) refl (sym (ap (is_answered n) s.answers) ∙ h);
@@ -180,14 +180,14 @@ stored_order w v number outcome at o s right = record {
     by n false e h = o.done n (answered_then n w.answers (Answer.Done number outcome at) e h)
 
 -- where no job ended, too
-pub silent_order : (w v : Meaning) (answer : Answer) → IsInOrder w → Stores w v answer → ((n : ℕ) → is_done_of n answer ≡ false) → IsInOrder v
+pub silent_order : (w v : WorldMeaning) (answer : Answer) → IsInOrder w → Stores w v answer → ((n : ℕ) → is_done_of n answer ≡ false) → IsInOrder v
 silent_order w v answer o s silent = record {
   runs = s.rest.runs ∙ o.runs;
   done = λ n h. ap (is_posted n) s.posts ∙ o.done n (answered_then n w.answers answer (silent n) (sym (ap (is_answered n) s.answers) ∙ h));
 }
 
 -- no job ended
-pub tied_silent : (w v : Meaning) (last : ℕ) (waiting : ℕ → Option ℕ) (listed : Listing JobTalk) (accepted : ℕ) (answer : Answer) → IsTied w last waiting listed accepted → Stores w v answer → ((n : ℕ) → is_done_of n answer ≡ false)
+pub tied_silent : (w v : WorldMeaning) (last : ℕ) (waiting : ℕ → Option ℕ) (listed : Listing JobTalk) (accepted : ℕ) (answer : Answer) → IsTied w last waiting listed accepted → Stores w v answer → ((n : ℕ) → is_done_of n answer ≡ false)
     → IsTied v last waiting listed accepted
 tied_silent w v last waiting listed accepted answer t s silent = record {
   order = silent_order w v answer t.order s silent;
@@ -203,7 +203,7 @@ tied_silent w v last waiting listed accepted answer t s silent = record {
     same_for n slot h = subst (λ (z : List PostedJob). IsFor z n slot) (sym s.posts) h
 
 -- a job ended, and the client that waits for it is taken out
-pub tied_answered : (w v : Meaning) (last : ℕ) (waiting less : ℕ → Option ℕ) (listed now : Listing JobTalk) (accepted k number : ℕ) (outcome : JobOutcome) (at : ℕ) (g : Client JobTalk)
+pub tied_answered : (w v : WorldMeaning) (last : ℕ) (waiting less : ℕ → Option ℕ) (listed now : Listing JobTalk) (accepted k number : ℕ) (outcome : JobOutcome) (at : ℕ) (g : Client JobTalk)
     → IsTied w last waiting listed accepted → Stores w v (Answer.Done number outcome at) → IsOutcomeOf number outcome w.posts → waiting number ≡ Some k → listed k (Some g) → ((n : ℕ) → less n ≡ (if number == n then None else waiting n))
     → ((j : ℕ) (s : Option (Client JobTalk)) → j ≢ k → now j s → listed j s) → IsTiedBut v last less now accepted k
 tied_answered w v last waiting less listed now accepted k number outcome at g t s right here row takes others = record {
@@ -238,7 +238,7 @@ tied_answered w v last waiting less listed now accepted k number outcome at g t 
         absurd (differ number n f before.1)
 
 -- the reply that tells what the job came to is the one to the request that waits
-pub reply_is : (w : Meaning) (number : ℕ) (outcome : JobOutcome) (g : Client JobTalk) (reply : Reply) → ((n : ℕ) (a b : Job) → Contains w.posts (posted n a) → Contains w.posts (posted n b) → a ≡ b)
+pub reply_is : (w : WorldMeaning) (number : ℕ) (outcome : JobOutcome) (g : Client JobTalk) (reply : Reply) → ((n : ℕ) (a b : Job) → Contains w.posts (posted n a) → Contains w.posts (posted n b) → a ≡ b)
     → Awaits w.posts number g → IsOutcomeOf number outcome w.posts → is_answered number w.answers ≡ true → reply ≡ outcome_reply outcome → (app : App) → Agrees w app → IsReplyTo app (request_of g.talk) reply
 reply_is w number outcome g reply alone h right answered is app fits =
     let same : right.0 ≡ h.job = alone number right.0 h.job right.1 h.there in

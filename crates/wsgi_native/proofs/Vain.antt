@@ -3,16 +3,16 @@ use Rattle.std.proofs.Common.{◌≡◌, ◌⊎◌, inl, inr, ℕ, Bool, true, f
 use Rattle.std.specs.List.{All}
 use Rattle.std.proofs.lemmas.Bool.{false≢true}
 use Rattle.http_messages.specs.Environs.{Pair}
-use Rattle.http_messages.specs.declared.request.Request.{Request}
+use Rattle.http_messages.specs.declared.request.HttpRequest.{HttpRequest}
 use Rattle.world_rules.specs.Legal.{is_posted}
-use Rattle.stream_net.specs.Nets.{Connection, IsAtRest, Meaning, connection_at}
+use Rattle.stream_net.specs.Nets.{Connection, IsAtRest, NetMeaning, connection_at}
 use Rattle.stream_net.proofs.Lists.{at_all}
 use Rattle.stream_server.specs.Protocols.{side_of}
 use Rattle.stream_server.specs.Running.{AsksInVain}
 use Rattle.stream_server.specs.Serving.{IsAllServed}
 use Rattle.stream_server.specs.Steps.{IsGoing}
 use Rattle.stream_server.proofs.Endings.{told_is}
-use Rattle.world.specs.Worlds.{Meaning as World}
+use Rattle.world.specs.Worlds.{WorldMeaning as World}
 use Rattle.wsgi_core.specs.Answers.{◌⨾◌, answer}
 use Rattle.wsgi_core.specs.Applications.{App}
 use Rattle.wsgi_core.specs.Progress.{Stands, sent_from}
@@ -35,7 +35,7 @@ use Rattle.wsgi_native.specs.declared.serving.JobsEnd.TheVariants.{Finished, Lis
 -- an open session at this request, with this body
 record IsAskedAt (closing : Bool) (stage : SessionStage) (asked : List Pair × List ℕ) : Type 0 where
   open_still : closing ≡ false
-  request : Request
+  request : HttpRequest
   body : List ℕ
   stage_is : stage ≡ Asked request body
   asked_is : asked ≡ (request.environ, body)
@@ -47,7 +47,7 @@ is_asked_at false (InBody request awaited) asked e = absurd (cc e)
 is_asked_at false (Asked request body) asked e = record { open_still = refl; request = request; body = body; stage_is = refl; asked_is = cc e }
 
 -- where nothing is pending, its answer comes behind what was taken
-answer_follows : (app : App) (port : ℕ) (bytes out more : List ℕ) (s : Session) (request : Request) (body : List ℕ) → s.port ≡ port → s.closing ≡ false → s.stage ≡ Asked request body → s.pending ≡ []
+answer_follows : (app : App) (port : ℕ) (bytes out more : List ℕ) (s : Session) (request : HttpRequest) (body : List ℕ) → s.port ≡ port → s.closing ≡ false → s.stage ≡ Asked request body → s.pending ≡ []
     → Stands app bytes out (progress_of s) → answers app port (bytes ++ more) ≡ record { bytes = out; closes = false } ⨾ answer request (app request.environ body) ⨾ answers app port (s.kept ++ more)
 unfolding sent_from
 answer_follows app port bytes out more s request body at opened stage none stands =
@@ -56,7 +56,7 @@ answer_follows app port bytes out more s request body at opened stage none stand
 
 -- ---- the ends
 
-pub out_of_jobs : (port idle : ℕ) (m : Meaning) (w : World) → AsksInVain job_protocol (Agrees w) AsksForJob (is_posted 4294967295 w.posts ≡ true) port idle m → IsOutOfJobs port m w
+pub out_of_jobs : (port idle : ℕ) (m : NetMeaning) (w : World) → AsksInVain job_protocol (Agrees w) AsksForJob (is_posted 4294967295 w.posts ≡ true) port idle m → IsOutOfJobs port m w
 out_of_jobs port idle m w h = record {
   spent = h.spent;
   conn = h.client.conn;
@@ -92,7 +92,7 @@ out_of_jobs port idle m w h = record {
 closed_at_rest : (c : Connection) → c.closed ≡ true → IsAtRest c
 closed_at_rest c closed still = absurd (false≢true (sym still ∙ closed))
 
-pub ends_in_vain : (port conns : ℕ) (m : Meaning) (w : World) (r : JobsEnd) → (r ≡ Finished → IsAllServed m conns) → (r ≡ Listener → All IsAtRest m.connections) → IsOutOfJobs port m w
+pub ends_in_vain : (port conns : ℕ) (m : NetMeaning) (w : World) (r : JobsEnd) → (r ≡ Finished → IsAllServed m conns) → (r ≡ Listener → All IsAtRest m.connections) → IsOutOfJobs port m w
     → (r ≡ NoJobs) ⊎ (r ≡ Memory)
 ends_in_vain port conns m w Finished all rest h =
     absurd (h.not_at_rest (closed_at_rest (connection_at m.connections h.conn) (at_all (λ (c : Connection). c.closed ≡ true) m.connections (all refl).closed h.conn h.accepted)))

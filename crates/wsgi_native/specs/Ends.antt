@@ -1,10 +1,10 @@
 -- Where a server has no job left for a request.
 use Rattle.std.specs.Prelude.{◌≡◌, ℕ, ◌<◌, true, false, List, ◌++◌, length, Some}
 use Rattle.gv_values.specs.declared.job.Job.{Job}
-use Rattle.http_messages.specs.declared.request.Request.{Request}
+use Rattle.http_messages.specs.declared.request.HttpRequest.{HttpRequest}
 use Rattle.world_rules.specs.Legal.{is_posted}
-use Rattle.stream_net.specs.Nets.{IsAtRest, Meaning, connection_at}
-use Rattle.world.specs.Worlds.{Meaning as World}
+use Rattle.stream_net.specs.Nets.{IsAtRest, NetMeaning, connection_at}
+use Rattle.world.specs.Worlds.{WorldMeaning as World}
 use Rattle.wsgi_core.specs.Answers.{◌⨾◌, answer}
 use Rattle.wsgi_core.specs.Applications.{App}
 use Rattle.wsgi_core.specs.Sessions.{answers}
@@ -13,7 +13,7 @@ use Rattle.wsgi_native.specs.JobApp.{job_asked}
 
 -- behind what was written comes the answer to a request for a job, whatever comes behind what was read
 pub record IsAtJob (port : ℕ) (w : World) (bytes out : List ℕ) : Type 0 where
-  pub request : Request
+  pub request : HttpRequest
   pub body : List ℕ
   pub rest : List ℕ
   pub job : Job
@@ -21,7 +21,7 @@ pub record IsAtJob (port : ℕ) (w : World) (bytes out : List ℕ) : Type 0 wher
   pub next : (app : App) (more : List ℕ) → Agrees w app → answers app port (bytes ++ more) ≡ record { bytes = out; closes = false } ⨾ answer request (app request.environ body) ⨾ answers app port (rest ++ more)
 
 -- the job of the last number was posted, and the next that is due on a connection which isn't at rest is one more
-pub record IsOutOfJobs (port : ℕ) (m : Meaning) (w : World) : Type 0 where
+pub record IsOutOfJobs (port : ℕ) (m : NetMeaning) (w : World) : Type 0 where
   pub spent : is_posted 4294967295 w.posts ≡ true
   pub conn : ℕ
   pub accepted : conn < length m.connections

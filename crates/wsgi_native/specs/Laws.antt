@@ -5,7 +5,7 @@ use Rattle.std.proofs.Math.Numerals.{lt-add-one}
 use Rattle.std.proofs.lemmas.Bool.{cases_eq, false≢true}
 use Rattle.http_messages.specs.Environs.{Pair}
 use Rattle.gv_values.specs.declared.job.Job.{Job}
-use Rattle.world.specs.Worlds.{Meaning}
+use Rattle.world.specs.Worlds.{WorldMeaning}
 use Rattle.wsgi_core.specs.Applications.{App}
 use Rattle.wsgi_core.specs.Steps.{asked_of, begun_bytes, said_bytes}
 use Rattle.stream_server.specs.Protocols.{IsLawful, side_of}
@@ -34,7 +34,7 @@ pub job_plain : IsPlain job_app
 job_plain environ body e = ap (λ (o : Option Job). reply_by o environ body) e
 
 -- it agrees with itself
-pub job_agrees : (w : Meaning) → Agrees w job_app
+pub job_agrees : (w : WorldMeaning) → Agrees w job_app
 job_agrees w = record {
   plain = job_plain;
   done = λ number job environ body e there answered. ap (λ (o : Option Job). reply_by o environ body) e;
@@ -50,7 +50,7 @@ not_held t n = by t.held
     by (Some h) free e = false≢true (sym free)
 
 -- one that was just accepted waits for none
-pub tied_new : (w : Meaning) (last : ℕ) (waiting : ℕ → Option ℕ) (listed now : Listing JobTalk) (accepted : ℕ) → IsTied w last waiting listed accepted → ((k : ℕ) (s : Option (Client JobTalk)) → now k s → listed k s)
+pub tied_new : (w : WorldMeaning) (last : ℕ) (waiting : ℕ → Option ℕ) (listed now : Listing JobTalk) (accepted : ℕ) → IsTied w last waiting listed accepted → ((k : ℕ) (s : Option (Client JobTalk)) → now k s → listed k s)
     → IsTiedBut w last waiting now (accepted + 1) accepted
 tied_new w last waiting listed now accepted t same = record {
   tied = record {
@@ -66,7 +66,7 @@ tied_new w last waiting listed now accepted t same = record {
 }
 
 -- it is listed, or closed
-pub tied_again : (w : Meaning) (last : ℕ) (waiting : ℕ → Option ℕ) (listed now : Listing JobTalk) (accepted k : ℕ) → IsTiedBut w last waiting listed accepted k
+pub tied_again : (w : WorldMeaning) (last : ℕ) (waiting : ℕ → Option ℕ) (listed now : Listing JobTalk) (accepted k : ℕ) → IsTiedBut w last waiting listed accepted k
     → ((j : ℕ) (s : Option (Client JobTalk)) → j ≢ k → now j s → listed j s) → IsTied w last waiting now accepted
 tied_again w last waiting listed now accepted k t others = record {
   order = t.tied.order;
@@ -79,7 +79,7 @@ tied_again w last waiting listed now accepted k t others = record {
 }
 
 -- one that isn't held is taken out
-pub tied_out : (w : Meaning) (last : ℕ) (waiting : ℕ → Option ℕ) (listed now : Listing JobTalk) (accepted k : ℕ) (g : Client JobTalk) → IsTied w last waiting listed accepted → listed k (Some g) → holds_for g.talk ≡ false
+pub tied_out : (w : WorldMeaning) (last : ℕ) (waiting : ℕ → Option ℕ) (listed now : Listing JobTalk) (accepted k : ℕ) (g : Client JobTalk) → IsTied w last waiting listed accepted → listed k (Some g) → holds_for g.talk ≡ false
     → ((j : ℕ) (s : Option (Client JobTalk)) → j ≢ k → now j s → listed j s) → IsTiedBut w last waiting now accepted k
 tied_out w last waiting listed now accepted k g t row free others = record {
   tied = record {
@@ -98,7 +98,7 @@ tied_out w last waiting listed now accepted k g t row free others = record {
     apart n j e same = let a : Awaits w.posts n g = t.held n k (Some g) (e ∙ ap (λ (i : ℕ). Some i) same) row in not_held g.talk n free a.is_number
 
 -- one that is held is taken out and listed again
-pub tied_back : (w : Meaning) (last : ℕ) (waiting : ℕ → Option ℕ) (listed now : Listing JobTalk) (accepted k : ℕ) (g : Client JobTalk) → IsTied w last waiting listed accepted → listed k (Some g)
+pub tied_back : (w : WorldMeaning) (last : ℕ) (waiting : ℕ → Option ℕ) (listed now : Listing JobTalk) (accepted k : ℕ) (g : Client JobTalk) → IsTied w last waiting listed accepted → listed k (Some g)
     → ((s : Option (Client JobTalk)) → now k s → s ≡ Some g) → ((j : ℕ) (s : Option (Client JobTalk)) → j ≢ k → now j s → listed j s) → IsTied w last waiting now accepted
 tied_back w last waiting listed now accepted k g t row here others = record {
   order = t.order;

@@ -3,7 +3,7 @@ use Rattle.std.specs.Prelude.{◌≡◌, ◌≢◌, ℕ, ◌<◌, ◌≤◌, tru
 use Rattle.gv_values.specs.declared.job.Job.{Job}
 use Rattle.world_rules.specs.declared.question.PostedJob.{PostedJob}
 use Rattle.world_rules.specs.Legal.{is_answered, is_posted, posted}
-use Rattle.world.specs.Worlds.{Meaning}
+use Rattle.world.specs.Worlds.{WorldMeaning}
 use Rattle.stream_server.specs.Keeping.{Listing}
 use Rattle.stream_server.specs.declared.client.Client.{Client}
 use Rattle.wsgi_native.specs.Asking.{WantsJob}
@@ -11,7 +11,7 @@ use Rattle.wsgi_native.specs.Talks.{held_number}
 use Rattle.wsgi_native.specs.declared.job_talk.JobTalk.{JobTalk}
 
 -- the world runs, and each job that it answered was posted
-pub record IsInOrder (w : Meaning) : Type 0 where
+pub record IsInOrder (w : WorldMeaning) : Type 0 where
   pub runs : w.runs ≡ true
   pub done : (number : ℕ) → is_answered number w.answers ≡ true → is_posted number w.posts ≡ true
 
@@ -29,7 +29,7 @@ IsFor posts number (Some g) = Awaits posts number g
 
 -- The world is in order. The jobs 1 to `last` were posted, each once. Each that was not answered has a connection that
 -- waits for it, of those that were accepted, and its client asks for just that job.
-pub record IsTied (w : Meaning) (last : ℕ) (waiting : ℕ → Option ℕ) (listed : Listing JobTalk) (accepted : ℕ) : Type 0 where
+pub record IsTied (w : WorldMeaning) (last : ℕ) (waiting : ℕ → Option ℕ) (listed : Listing JobTalk) (accepted : ℕ) : Type 0 where
   pub order : IsInOrder w
   pub fresh : (number : ℕ) → last < number → is_posted number w.posts ≡ false
   pub numbered : (number : ℕ) → 1 ≤ number → number ≤ last → is_posted number w.posts ≡ true
@@ -39,6 +39,6 @@ pub record IsTied (w : Meaning) (last : ℕ) (waiting : ℕ → Option ℕ) (lis
   pub held : (number k : ℕ) (slot : Option (Client JobTalk)) → waiting number ≡ Some k → listed k slot → IsFor w.posts number slot
 
 -- the same, and this connection waits for none
-pub record IsTiedBut (w : Meaning) (last : ℕ) (waiting : ℕ → Option ℕ) (listed : Listing JobTalk) (accepted one : ℕ) : Type 0 where
+pub record IsTiedBut (w : WorldMeaning) (last : ℕ) (waiting : ℕ → Option ℕ) (listed : Listing JobTalk) (accepted one : ℕ) : Type 0 where
   pub tied : IsTied w last waiting listed accepted
   pub others : (number k : ℕ) → waiting number ≡ Some k → k ≢ one

@@ -19,7 +19,7 @@ use crate::job_talk::{Asked, HeldFor, JobTalk, asked_for, freed};
 use gv_values::{Answer, Job, JobOutcome};
 use std::alloc::{AllocError, Global};
 use std::collections::HashMap;
-use stream_server::{Client, ClientTable, Polled, Refusal, Replied, Service};
+use stream_server::{Client, ClientTable, HoldRefusal, Polled, Replied, Service};
 use world::{Question, World};
 use wsgi_core::{Session, SessionPhase};
 
@@ -146,17 +146,17 @@ impl<W: World> Service<JobTalk, W> for Jobs {
     }
 
     /// Posts the job that the client asks for under the next number.
-    fn hold(&mut self, world: &mut W, client: &mut Client<JobTalk>) -> Result<(), Refusal> {
+    fn hold(&mut self, world: &mut W, client: &mut Client<JobTalk>) -> Result<(), HoldRefusal> {
         if self.posted == u32::MAX {
-            return Err(Refusal::Spent);
+            return Err(HoldRefusal::Spent);
         }
         let job = wanted_job(&client.talk);
         let number = self.posted + 1;
         if self.waiting.insert(number, client.conn).is_err() {
-            return Err(Refusal::Memory);
+            return Err(HoldRefusal::Memory);
         }
         if world.post(number, job, 0).is_err() {
-            return Err(Refusal::Memory);
+            return Err(HoldRefusal::Memory);
         }
         self.posted = number;
         client.talk.held = Some(HeldFor {

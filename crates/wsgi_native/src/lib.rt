@@ -7,7 +7,7 @@ mod job_talk;
 mod jobs;
 mod serving;
 
-pub use job_app::{job_asked, job_at, job_reply};
+pub use job_app::{job_asked, job_on_path, job_reply};
 pub use job_talk::{HeldFor, JobTalk};
 pub use jobs::Jobs;
 pub use serving::{JobsEnd, serve_jobs};

@@ -1,6 +1,6 @@
 use Rattle.machine_reached.proofs.Bounded.{reached-bounded}
 use Rattle.machine_reached.proofs.Last.{run-bounded}
-use Rattle.machine_texts.proofs.WellFormed.{well-formed-fits}
+use Rattle.machine_well_formed.proofs.WellFormed.{well-formed-fits}
 use Rattle.machine_reached.proofs.items_are_bounded.Goals as goal
 
 pub returns-clause-always : goal.returns-clause-always

@@ -1,5 +1,5 @@
 use Rattle.machine_reached.proofs.Bounded.{reached-offered}
-use Rattle.machine_texts.proofs.WellFormed.{well-formed-fits}
+use Rattle.machine_well_formed.proofs.WellFormed.{well-formed-fits}
 use Rattle.machine_reached.proofs.offers_stand.Goals as goal
 
 pub returns : goal.returns

@@ -1,6 +1,6 @@
 use Rattle.std.proofs.Common.{ap}
 use Rattle.machine.specs.Run.{run}
-use Rattle.world.specs.Worlds.{Meaning}
+use Rattle.world.specs.Worlds.{WorldMeaning}
 use Rattle.gv_top.proofs.Handing.{ahead_later}
 use Rattle.gv_top.proofs.InWorlds.{counts_handed, ran_in_world}
 use Rattle.gv_top.proofs.running.run_in_world.Goals as goal
@@ -19,7 +19,7 @@ returns-clause-counts g c =
 
 pub returns-clause-ahead : goal.returns-clause-ahead
 returns-clause-ahead g c = λ waits.
-    ahead_later (run c.args.engine.scenario c.args.engine.turns c.args.engine.moves) _ _ _ _ _ (ap (λ (m : Meaning). m.answers) c.finish.ensures.ended) (c.run-end.ensures.handed waits) c.handed_on.ensures.never_taken_back
+    ahead_later (run c.args.engine.scenario c.args.engine.turns c.args.engine.moves) _ _ _ _ _ (ap (λ (m : WorldMeaning). m.answers) c.finish.ensures.ended) (c.run-end.ensures.handed waits) c.handed_on.ensures.never_taken_back
 
 pub returns-clause-hands : goal.returns-clause-hands
 returns-clause-hands g c = c.handed_on.ensures.hands

@@ -1,5 +1,5 @@
 use Rattle.std.proofs.Common.{◌≡◌, ◌∙◌, Some, ap, refl}
-use Rattle.gv_top.specs.declared.words.Command.{Command}
+use Rattle.gv_top.specs.declared.words.OfflineCommand.{OfflineCommand}
 use Rattle.gv_top.proofs.Checking.{check_is_no_storm, check_is_no_text, text_is_no_check}
 use Rattle.gv_top.proofs.Deciding.{no_command, text_decided, usage_decided}
 use Rattle.gv_top.proofs.Tops.{connection_reads, connection_writes, left_alone}
@@ -13,8 +13,8 @@ returns-in-None-clause-answer g c = λ left a told of. usage_decided _ _ _ left 
 
 pub returns-in-Some-Text-clause-answer : goal.returns-in-Some-Text-clause-answer
 returns-in-Some-Text-clause-answer g c = λ left a told of.
-    let inner : c.in-Some-Text.field-0 ≡ Command.Text c.in-Some-Text.command = (rw c.in-Some-Text.is at c.in-Some-Text.field-0-is) in
-    let named : c.args.command ≡ Some (Command.Text c.in-Some-Text.command) = c.in-Some-Text.is ∙ ap (λ (x : Command). Some x) inner in
+    let inner : c.in-Some-Text.field-0 ≡ OfflineCommand.Text c.in-Some-Text.command = (rw c.in-Some-Text.is at c.in-Some-Text.field-0-is) in
+    let named : c.args.command ≡ Some (OfflineCommand.Text c.in-Some-Text.command) = c.in-Some-Text.is ∙ ap (λ (x : OfflineCommand). Some x) inner in
     text_decided _ _ c.in-Some-Text.command _ left a _ _ _ named (c.answer_input.ensures.answer left told) of
 
 pub returns-in-None-clause-read_whole : goal.returns-in-None-clause-read_whole

@@ -9,7 +9,7 @@ use Rattle.scenario_rules.specs.Rules.{IsWellFormed}
 use Rattle.scenario_tree.specs.declared.tree.Scenario.{Scenario}
 use Rattle.gv_top.specs.Answers.{most_read}
 use Rattle.gv_top.specs.Inner.{RanSo, BeganText}
-use Rattle.gv_top.specs.Verdicts.{number_of}
+use Rattle.gv_top.specs.Verdicts.{verdict_status}
 use Rattle.gv_top.proofs.top.answer_input.Goals as goal
 
 pub returns-in-Err-Fault-clause-answer : goal.returns-in-Err-Fault-clause-answer
@@ -36,7 +36,7 @@ returns-in-Err-Memory-clause-lawful g c = λ options e. nothing_lawful _ _
 pub returns-in-Ok-clause-ran : goal.returns-in-Ok-clause-ran
 returns-in-Ok-clause-ran g c = λ left told.
     let P : List ℕ → Type 0 = λ bytes.
-    RanSo (number_of c.answer_text.result) c.args.command bytes (g.W.World.meaning c.answer_text.new.native) (g.W.World.stands_for c.answer_text.new.native)
+    RanSo (verdict_status c.answer_text.result) c.args.command bytes (g.W.World.meaning c.answer_text.new.native) (g.W.World.stands_for c.answer_text.new.native)
     (g.K.Sink.written c.args.out.now) (g.K.Sink.written c.answer_text.new.out) in
     subst P (c.as_slice.ensures.value ∙ read_first most_read left _ _ told c.in-Ok.ensures.first) c.answer_text.ensures.ran
 

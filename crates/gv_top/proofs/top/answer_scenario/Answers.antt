@@ -1,5 +1,5 @@
 use Rattle.std.proofs.Common.{sym, ap, subst, ◌∙◌}
-use Rattle.command_words.specs.declared.command.Command.TheVariants as named
+use Rattle.command_words.specs.declared.command.NamedCommand.TheVariants as named
 use Rattle.command_words.specs.declared.command.TextCommand.{TextCommand}
 use Rattle.command_words.specs.Ranges.{IsInRange}
 use Rattle.gv_top.specs.declared.status.Verdict.{Verdict}

@@ -3,22 +3,23 @@ use Rattle.std.specs.Prelude.{option_map}
 use Rattle.httparse.specs.Grammar.{chunk_size}
 use Rattle.http_messages.specs.Bodies.{chunk_line, body_left}
 use Rattle.http_messages.specs.Readings.{ReadsAlike}
-use Rattle.http_messages.specs.declared.request.Awaited.TheVariants.{InChunks, InChunk, InTrailers}
+use Rattle.http_messages.specs.declared.request.AwaitedBody.TheVariants.{InChunks, InChunk, InTrailers}
 use Rattle.http_messages.proofs.BodySteps.{size_waits, size_too_long, size_refused, size_too_large, size_last, size_more}
 use Rattle.http_messages.proofs.body.read_size.Goals as goal
+use Rattle.http_messages.specs.declared.limits.TheConstants.{MOST_CHUNK_LINE}
 
 none_of : (o : Option ℕ) → ((n : ℕ) → o ≡ Some n → ⊥) → o ≡ None
 none_of None h = refl
 none_of (Some n) h = absurd (h n refl)
 
-pub returns-then-len-lt-CHUNK_LINE_LIMIT : goal.returns-then-len-lt-CHUNK_LINE_LIMIT
-returns-then-len-lt-CHUNK_LINE_LIMIT c =
+pub returns-then-len-lt-MOST_CHUNK_LINE : goal.returns-then-len-lt-MOST_CHUNK_LINE
+returns-then-len-lt-MOST_CHUNK_LINE c =
     let none = sym c.line_end.ensures.end ∙ none_of c.line_end.result c.in_default.not-Some in
-    let short : length c.args.kept.now < 1024 = omega (arith, ap length c.line_end.ensures.same) in
+    let short : length c.args.kept.now < MOST_CHUNK_LINE = omega (arith, ap length c.line_end.ensures.same) in
     rw c.line_end.ensures.same (size_waits c.args.body c.args.kept.now none short, λ more. refl)
 
-pub returns-else-len-lt-CHUNK_LINE_LIMIT : goal.returns-else-len-lt-CHUNK_LINE_LIMIT
-returns-else-len-lt-CHUNK_LINE_LIMIT c =
+pub returns-else-len-lt-MOST_CHUNK_LINE : goal.returns-else-len-lt-MOST_CHUNK_LINE
+returns-else-len-lt-MOST_CHUNK_LINE c =
     let none = sym c.line_end.ensures.end ∙ none_of c.line_end.result c.in_default.not-Some in
     size_too_long c.args.body c.args.kept.now none (omega (arith, ap length c.line_end.ensures.same))
 

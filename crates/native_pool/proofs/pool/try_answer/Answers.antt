@@ -1,6 +1,6 @@
 use Rattle.std.proofs.Common.{rules, arith, ◌≤◌, ◌++◌, ◌∷◌, List, [], ap, subst, ◌∙◌}
 use Rattle.gv_values.specs.declared.job.Answer.{Answer}
-use Rattle.world_rules.specs.Legal.{last_moment_of}
+use Rattle.world_rules.specs.Legal.{last_answered_moment}
 use Rattle.native_pool.specs.Desks.{Settles}
 use Rattle.native_pool.specs.Views.{desk_view}
 use Rattle.native_pool.proofs.AnswerSteps.{balances_as}
@@ -16,7 +16,7 @@ pub returns-clause-legal : goal.returns-clause-legal
 returns-clause-legal g c =
     let old = c.args.history.now in let new = c.advance.new.self in let due = c.in-Some.ensures.due old.posts.items old.answers.items c.requires.jobs in
     let at = c.in-Some.ensures.at in let fits = new.fits in
-    let timely = subst (λ (l : List Answer). last_moment_of l ≤ new.moment) (ap (λ v. v.items) c.advance.ensures.answers) new.timely in
+    let timely = subst (λ (l : List Answer). last_answered_moment l ≤ new.moment) (ap (λ v. v.items) c.advance.ensures.answers) new.timely in
     (due.0, omega (arith, at, timely), omega (arith, at, fits))
 
 pub returns-clause-jobs : goal.returns-clause-jobs

@@ -1,7 +1,7 @@
 use Rattle.std.proofs.Common.{◌≡◌, ◌++◌, ◌∙◌, sym, ap, List, ℕ}
 use Rattle.wsgi_core.specs.declared.reply.Reply.{Reply}
 use Rattle.wsgi_core.proofs.ProgressSteps.{one_ok}
-use Rattle.scgi_core.specs.Answers.{answer, answer_for, started}
+use Rattle.scgi_core.specs.Answers.{cgi_answer, answer_for, started}
 use Rattle.scgi_core.proofs.AnswerLaws.{answer_faulty, answer_sent}
 use Rattle.scgi_core.proofs.answer.push_answer.Goals as goal
 
@@ -13,7 +13,7 @@ returns-then-is_faulty c =
 pub returns-in-Started : goal.returns-in-Started
 returns-in-Started c =
     let r = c.in-Started in
-    let e : answer c.args.is_head c.args.reply.now ≡ started c.args.is_head c.items.result.now r.headers r.pieces r.raised =
+    let e : cgi_answer c.args.is_head c.args.reply.now ≡ started c.args.is_head c.items.result.now r.headers r.pieces r.raised =
     answer_sent c.args.is_head c.args.reply.now (sym c.if-is_faulty.ensures)
     ∙ ap (λ (x : Reply). answer_for c.args.is_head x) r.is
     ∙ (λ i. started c.args.is_head (sym c.items.ensures i) r.headers r.pieces r.raised) in

@@ -1,7 +1,7 @@
 use Rattle.std.proofs.Common.{arith, sym, subst}
 use Rattle.groups_pools.specs.Seen.{AreBelow}
 use Rattle.stream_server.proofs.Rounding.{begun_going, new_left, running_left, running_listens, running_new, running_rests, running_same, same_fault}
-use Rattle.stream_server.specs.declared.rounds.Fault.{Fault}
+use Rattle.stream_server.specs.declared.rounds.RoundFault.{RoundFault}
 use Rattle.stream_server.proofs.rounds.accept_client.Goals as goal
 
 pub admit-requires-clause-rising : goal.admit-requires-clause-rising
@@ -39,4 +39,4 @@ pub returns-in-Failed-clause-resting : goal.returns-in-Failed-clause-resting
 returns-in-Failed-clause-resting g c = λ _. running_rests g.V.Service.protocol g.met.V.Service.lawful c.args.port c.args.limits (g.V.Service.fits c.args.service.now c.args.world.now) (g.V.Service.tied c.args.service.now c.args.world.now) (g.N.Net.meaning c.accept.new.self) c.args.table.now (g.V.Service.one c.args.service.now c.args.world.now) (g.met.V.Service.fits_one c.args.service.now c.args.world.now) (running_same g.V.Service.protocol g.met.V.Service.lawful c.args.port c.args.limits (g.V.Service.fits c.args.service.now c.args.world.now) (g.V.Service.tied c.args.service.now c.args.world.now) (g.N.Net.meaning c.args.net.now) (g.N.Net.meaning c.accept.new.self) c.args.table.now _ c.requires.running c.in-Failed.ensures.accepts.0)
 
 pub returns-in-Err-clause-in_vain : goal.returns-in-Err-clause-in_vain
-returns-in-Err-clause-in_vain g c = λ e. c.in-Err.ensures.in_vain (same_fault c.in-Err.fault Fault.Spent e)
+returns-in-Err-clause-in_vain g c = λ e. c.in-Err.ensures.in_vain (same_fault c.in-Err.fault RoundFault.Spent e)

@@ -1,5 +1,5 @@
 use Rattle.std.proofs.Common.{◌≡◌, length, ap, Result, Err}
-use Rattle.stream_server.specs.declared.service.Refusal.{Refusal}
+use Rattle.stream_server.specs.declared.service.HoldRefusal.{HoldRefusal}
 use Rattle.stream_net.proofs.Lists.{is_absent}
 use Rattle.stream_server.specs.Tables.{IsListed}
 use Rattle.stream_server.proofs.Rounding.{but_only, but_place, goes_left, running_held}
@@ -26,12 +26,12 @@ returns-in-Err-Spent-clause-left g c = goes_left g.V.Service.protocol g.met.V.Se
 pub returns-clause-left : goal.returns-clause-left
 returns-clause-left g c = goes_left g.V.Service.protocol g.met.V.Service.lawful c.args.port c.args.limits (g.V.Service.fits c.hold.new.self c.hold.new.world) (g.V.Service.fits c.args.service.now c.args.world.now) (g.V.Service.tied_but c.args.service.now c.args.world.now) (g.N.Net.meaning c.args.net.now) c.args.table.now c.args.client c.hold.ensures.fits c.requires.but c.requires.going
 
-is_refusal : (f one : Refusal) → f ≡ one → ◌≡◌ {A = Result (Unit {0}) Refusal} (Err f) (Err one)
-is_refusal f one e = ap (λ (x : Refusal). Err x) e
+is_refusal : (f one : HoldRefusal) → f ≡ one → ◌≡◌ {A = Result (Unit {0}) HoldRefusal} (Err f) (Err one)
+is_refusal f one e = ap (λ (x : HoldRefusal). Err x) e
 
 pub returns-in-Err-Spent-clause-in_vain : goal.returns-in-Err-Spent-clause-in_vain
 returns-in-Err-Spent-clause-in_vain g c = λ _. record {
-  spent = c.in-Err-Spent.ensures.spent (is_refusal c.in-Err-Spent.field-0 Refusal.Spent c.in-Err-Spent.field-0-is);
+  spent = c.in-Err-Spent.ensures.spent (is_refusal c.in-Err-Spent.field-0 HoldRefusal.Spent c.in-Err-Spent.field-0-is);
   client = c.args.client;
   live = c.requires.live;
   free = c.requires.free;

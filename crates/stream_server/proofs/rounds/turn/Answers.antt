@@ -1,7 +1,7 @@
 use Rattle.std.proofs.Common.{arith, sym, ◌∙◌}
 use Rattle.std.proofs.lemmas.Bool.Decides.{nat_tests}
 use Rattle.std.proofs.lemmas.Result.{err_from_is_err_and}
-use Rattle.stream_server.specs.declared.rounds.Fault.{Fault}
+use Rattle.stream_server.specs.declared.rounds.RoundFault.{RoundFault}
 use Rattle.stream_server.specs.Tables.{client_count}
 use Rattle.stream_server.proofs.Rounding.{all_asked, none_listed, returned_fault, running_closed, running_left, some_listed}
 use Rattle.stream_server.proofs.rounds.turn.Goals as goal
@@ -10,17 +10,17 @@ use Rattle.stream_server.proofs.rounds.turn.Goals.{then-accepted-limits+else-is_
 pub returns-in_err-poll_service-clause-in_vain : goal.returns-in_err-poll_service-clause-in_vain
 returns-in_err-poll_service-clause-in_vain g c = λ e.
     let p = err_from_is_err_and c.from_residual.result c.from_residual.ensures.1 in
-    c.in_err-poll_service.ensures.in_vain (returned_fault c.from_residual.result _ _ Fault.Spent p.1 p.2 e)
+    c.in_err-poll_service.ensures.in_vain (returned_fault c.from_residual.result _ _ RoundFault.Spent p.1 p.2 e)
 
 pub returns-in_err-accepted-clause-in_vain : goal.returns-in_err-accepted-clause-in_vain
 returns-in_err-accepted-clause-in_vain g c = λ e.
     let p = err_from_is_err_and c.from_residual-in_err-accepted.result c.from_residual-in_err-accepted.ensures.1 in
-    c.in_err-accepted.ensures.in_vain (returned_fault c.from_residual-in_err-accepted.result _ _ Fault.Spent p.1 p.2 e)
+    c.in_err-accepted.ensures.in_vain (returned_fault c.from_residual-in_err-accepted.result _ _ RoundFault.Spent p.1 p.2 e)
 
 pub returns-in_err-wait_next-clause-in_vain : goal.returns-in_err-wait_next-clause-in_vain
 returns-in_err-wait_next-clause-in_vain g c = λ e.
     let p = err_from_is_err_and c.from_residual-in_err-wait_next.result c.from_residual-in_err-wait_next.ensures.1 in
-    c.in_err-wait_next.ensures.in_vain (returned_fault c.from_residual-in_err-wait_next.result _ _ Fault.Spent p.1 p.2 e)
+    c.in_err-wait_next.ensures.in_vain (returned_fault c.from_residual-in_err-wait_next.result _ _ RoundFault.Spent p.1 p.2 e)
 
 pub returns-then-is_empty-clause-left : goal.returns-then-is_empty-clause-left
 returns-then-is_empty-clause-left g c = running_left g.V.Service.protocol g.met.V.Service.lawful c.args.port c.args.limits (g.V.Service.fits c.accept_clients.new.service c.accept_clients.new.world) (g.V.Service.tied c.accept_clients.new.service c.accept_clients.new.world) (g.N.Net.meaning c.accept_clients.new.net) c.accept_clients.new.table c.in_ok-accepted.ensures.running

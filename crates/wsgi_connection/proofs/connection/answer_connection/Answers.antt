@@ -1,5 +1,5 @@
 use Rattle.std.proofs.Common.{◌<◌, ◌∙◌, refl, arith}
-use Rattle.wsgi_connection.specs.Connections.{most_bytes}
+use Rattle.wsgi_connection.specs.declared.connection.TheConstants.{MOST_CONNECTION}
 use Rattle.wsgi_connection.proofs.Exchanges.{begins, handed_all, same_end, too_long, whole_of}
 use Rattle.wsgi_connection.proofs.connection.answer_connection.Goals as goal
 
@@ -27,7 +27,7 @@ returns-in-Ended-clause-whole g c = λ left told.
 
 pub returns-clause-whole : goal.returns-clause-whole
 returns-clause-whole g c = λ left told.
-    let many : most_bytes < c.loop-count.count = omega (arith, c.loop-count-test.false) in
+    let many : MOST_CONNECTION < c.loop-count.count = omega (arith, c.loop-count-test.false) in
     whole_of _ _ _ c.args.port (c.never_takes_back.ensures _ c.args.port) left _ _ _ _ told (too_long _ _ _ _ c.loop-count.count _ _ _ _ c.loop-count.session c.loop-count.invariant.goes many c.loop-count.invariant.most)
 
 pub returns-in-Ended-clause-exchanged : goal.returns-in-Ended-clause-exchanged
@@ -48,5 +48,5 @@ returns-clause-handed_ahead g c = λ e. handed_all _ _ _ c.args.port c.loop-coun
 
 pub returns-clause-exchanged : goal.returns-clause-exchanged
 returns-clause-exchanged g c =
-    let many : most_bytes < c.loop-count.count = omega (arith, c.loop-count-test.false) in
+    let many : MOST_CONNECTION < c.loop-count.count = omega (arith, c.loop-count-test.false) in
     too_long _ _ _ c.args.port c.loop-count.count _ _ _ _ c.loop-count.session c.loop-count.invariant.goes many c.loop-count.invariant.most

@@ -1,7 +1,7 @@
 use Rattle.std.proofs.Common.{Bool, sym, subst, []}
 use Rattle.scenario_rules.specs.Rules.{IsWellFormed}
 use Rattle.machine.specs.Run.{Source, run}
-use Rattle.hub_engine.specs.declared.run.End.{End}
+use Rattle.hub_engine.specs.declared.run.EngineEnd.{EngineEnd}
 use Rattle.hub_engine.specs.declared.run.Ran.{Ran}
 use Rattle.hub_engine.specs.Ends.{CountsOf, HasLogged, HasNumbersAt, RanTo}
 use Rattle.hub_engine.specs.Ahead.{WroteAhead}
@@ -15,7 +15,7 @@ pub returns-clause-written : goal.returns-clause-written
 returns-clause-written g c =
     let none = g.met.W.World.log_is c.args.world.now [] c.requires.begun in
     let ran = subst (λ (p : Prepared). RunsTo c.run-ran.result (outside g.W.World.waits (g.K.Sink.written c.args.sink.now) (g.K.Sink.handed c.args.sink.now) (g.W.World.meaning c.args.world.now) (g.W.World.stands_for c.args.world.now)) (outside g.W.World.waits (g.K.Sink.written c.run-ran.new.sink) (g.K.Sink.handed c.run-ran.new.sink) (g.W.World.meaning c.run-ran.new.world) (g.W.World.stands_for c.run-ran.new.world)) (run p.scenario p.turns p.moves) c.run-ran.new.hub) c.self.view_is c.run-ran.ensures.ran in
-    subst (λ (e : End). RanTo e (run c.args.self.scenario c.args.self.turns c.args.self.moves (g.W.World.meaning c.run-ran.new.world).answers) (g.K.Sink.written c.args.sink.now) (g.K.Sink.written c.run-ran.new.sink)) (sym c.ended_as.ensures)
+    subst (λ (e : EngineEnd). RanTo e (run c.args.self.scenario c.args.self.turns c.args.self.moves (g.W.World.meaning c.run-ran.new.world).answers) (g.K.Sink.written c.args.sink.now) (g.K.Sink.written c.run-ran.new.sink)) (sym c.ended_as.ensures)
     (ran_written (outside g.W.World.waits (g.K.Sink.written c.args.sink.now) (g.K.Sink.handed c.args.sink.now) (g.W.World.meaning c.args.world.now) (g.W.World.stands_for c.args.world.now)) (outside g.W.World.waits (g.K.Sink.written c.run-ran.new.sink) (g.K.Sink.handed c.run-ran.new.sink) (g.W.World.meaning c.run-ran.new.world) (g.W.World.stands_for c.run-ran.new.world)) (run c.args.self.scenario c.args.self.turns c.args.self.moves) c.run-ran.result c.run-ran.new.hub (sym none.1) ran)
 
 pub returns-clause-tried : goal.returns-clause-tried
@@ -46,14 +46,14 @@ returns-clause-numbers g c =
     let ran = subst (λ (p : Prepared). RunsTo c.run-ran.result (outside g.W.World.waits (g.K.Sink.written c.args.sink.now) (g.K.Sink.handed c.args.sink.now) (g.W.World.meaning c.args.world.now) (g.W.World.stands_for c.args.world.now)) (outside g.W.World.waits (g.K.Sink.written c.run-ran.new.sink) (g.K.Sink.handed c.run-ran.new.sink) (g.W.World.meaning c.run-ran.new.world) (g.W.World.stands_for c.run-ran.new.world)) (run p.scenario p.turns p.moves) c.run-ran.new.hub) c.self.view_is c.run-ran.ensures.ran in
     let came : Ran = record { end = c.ended_as.result; greenlets = c.greenlets_len.result; turns = c.turns.result; moves = c.moves.result; moment = c.moment.result } in
     let counts : CountsOf came c.run-ran.new.hub = record { greenlets = c.greenlets_len.ensures; turns = c.turns.ensures; moves = c.moves.ensures; moment = c.moment.ensures } in
-    subst (λ (e : End). HasNumbersAt e came (run c.args.self.scenario c.args.self.turns c.args.self.moves (g.W.World.meaning c.run-ran.new.world).answers).state) (sym c.ended_as.ensures)
+    subst (λ (e : EngineEnd). HasNumbersAt e came (run c.args.self.scenario c.args.self.turns c.args.self.moves (g.W.World.meaning c.run-ran.new.world).answers).state) (sym c.ended_as.ensures)
     (ran_numbers (outside g.W.World.waits (g.K.Sink.written c.args.sink.now) (g.K.Sink.handed c.args.sink.now) (g.W.World.meaning c.args.world.now) (g.W.World.stands_for c.args.world.now)) (outside g.W.World.waits (g.K.Sink.written c.run-ran.new.sink) (g.K.Sink.handed c.run-ran.new.sink) (g.W.World.meaning c.run-ran.new.world) (g.W.World.stands_for c.run-ran.new.world)) (run c.args.self.scenario c.args.self.turns c.args.self.moves) c.run-ran.result c.run-ran.new.hub came (sym none.1) ran counts)
 
 pub returns-clause-log : goal.returns-clause-log
 returns-clause-log g c =
     let none = g.met.W.World.log_is c.args.world.now [] c.requires.begun in
     let ran = subst (λ (p : Prepared). RunsTo c.run-ran.result (outside g.W.World.waits (g.K.Sink.written c.args.sink.now) (g.K.Sink.handed c.args.sink.now) (g.W.World.meaning c.args.world.now) (g.W.World.stands_for c.args.world.now)) (outside g.W.World.waits (g.K.Sink.written c.run-ran.new.sink) (g.K.Sink.handed c.run-ran.new.sink) (g.W.World.meaning c.run-ran.new.world) (g.W.World.stands_for c.run-ran.new.world)) (run p.scenario p.turns p.moves) c.run-ran.new.hub) c.self.view_is c.run-ran.ensures.ran in
-    subst (λ (e : End). HasLogged e (run c.args.self.scenario c.args.self.turns c.args.self.moves (g.W.World.meaning c.run-ran.new.world).answers).log (g.W.World.meaning c.run-ran.new.world).answers (g.W.World.stands_for c.run-ran.new.world)) (sym c.ended_as.ensures)
+    subst (λ (e : EngineEnd). HasLogged e (run c.args.self.scenario c.args.self.turns c.args.self.moves (g.W.World.meaning c.run-ran.new.world).answers).log (g.W.World.meaning c.run-ran.new.world).answers (g.W.World.stands_for c.run-ran.new.world)) (sym c.ended_as.ensures)
     (ran_logged (outside g.W.World.waits (g.K.Sink.written c.args.sink.now) (g.K.Sink.handed c.args.sink.now) (g.W.World.meaning c.args.world.now) (g.W.World.stands_for c.args.world.now)) (outside g.W.World.waits (g.K.Sink.written c.run-ran.new.sink) (g.K.Sink.handed c.run-ran.new.sink) (g.W.World.meaning c.run-ran.new.world) (g.W.World.stands_for c.run-ran.new.world)) (run c.args.self.scenario c.args.self.turns c.args.self.moves) c.run-ran.result c.run-ran.new.hub (sym none.1) c.requires.begun ran)
 
 pub returns-clause-legal : goal.returns-clause-legal

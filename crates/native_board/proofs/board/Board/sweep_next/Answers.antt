@@ -5,7 +5,7 @@ use mir.Val.{SFits}
 use mir.Syntax.{w64}
 use Rattle.native_board.specs.declared.views.CellState.TheVariants.{Done}
 use Rattle.native_board.specs.declared.views.HubCell.TheVariants.{Vacant, Sent}
-use Rattle.native_board.specs.Words.{outcome_of}
+use Rattle.native_board.specs.Words.{job_outcome_of}
 use Rattle.world_rules.specs.Jobs.{eval}
 use Rattle.native_board.specs.Rules.{hub_cell}
 use Rattle.native_board.specs.Plays.{saw}
@@ -32,7 +32,7 @@ returns-clause-swept c = let s = c.args.hub.now.seat in let h = hub_of s in let 
     let known = c.args.hub.now.known in let cells = c.args.hub.now.cells.items in let inside : c.args.at < length cells = search rules in
     let here : hub_cell h c.args.at ≡ Sent number job = ap (λ l. get_or l c.args.at Vacant) known.same_cells ∙ (sym (get_or_read cells _ _ inside c.index.ensures Vacant) ∙ c.in-Sent.is) in let there : hub_cell h (length h.seen) ≡ Sent number job = ap (hub_cell h) (sym c.requires.next.0) ∙ here in
     let fits : SFits w64 c.load_value-value.result = search rules in
-    let outcome : c.outcome_of.result ≡ eval job = c.outcome_of.ensures ∙ (ap (outcome_of e) (to_z-of_z w64 _ fits)
+    let outcome : c.job_outcome_of.result ≡ eval job = c.job_outcome_of.ensures ∙ (ap (job_outcome_of e) (to_z-of_z w64 _ fits)
     ∙ outcome_again e _ (eval job) (eval_ends job) (c.load_next.ensures.ended _ _ _ here c.in-Done.is) c.load_value-value.ensures.value) in record {
       state = Done e;
       hub = ap (λ v. hub_in v.0) me ∙ (λ k. record h { cells = set h.cells (c.requires.next.0 k) (swept_cell (Done e) (sym there k)); seen = h.seen ++ Done e ∷ [] });

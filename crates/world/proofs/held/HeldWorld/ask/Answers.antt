@@ -4,7 +4,7 @@ use Rattle.std.specs.HashMap.{get}
 use Rattle.world_rules.specs.declared.question.LogEntry.{LogEntry}
 use Rattle.world_rules.specs.Legal.{IsLegal}
 use Rattle.world_rules.specs.Script.{scripted}
-use Rattle.world_rules.specs.Rules.{RuleState, after_answer, start, Follows}
+use Rattle.world_rules.specs.Rules.{RuleState, rule_after_answer, start, Follows}
 use Rattle.world_rules.proofs.Logs.{Follows-asked}
 use Rattle.world.specs.Kept.{due_jobs, rule_state, script_meaning}
 use Rattle.world.specs.Worlds.{Stores}
@@ -37,7 +37,7 @@ returns-clause-stored g c =
 pub returns-clause-log : goal.returns-clause-log
 returns-clause-log g c = λ log h.
     let before = c.args.self.now in let s = before.script in let answer = c.in_ok-answer.answer in
-    let state = c.in_ok-store.ensures.state [] [] ∙ ap (λ (s : ScriptWorld). after_answer (rule_state s []) [] answer) c.in_ok-answer.ensures.script in
+    let state = c.in_ok-store.ensures.state [] [] ∙ ap (λ (s : ScriptWorld). rule_after_answer (rule_state s []) [] answer) c.in_ok-answer.ensures.script in
     let tick = c.in_ok-store.ensures.setting.tick ∙ ap (λ (s : ScriptWorld). s.tick) c.in_ok-answer.ensures.script in
     let gives = c.in_ok-answer.ensures.scripted ∙ ap (λ (t : ℕ). scripted t (due_jobs s) s.moment c.args.question) (sym before.no_tick) in
     subst (λ (z : ℕ × RuleState). Follows z.0 (start []) (log ++ LogEntry.Asked c.args.question answer ∷ []) z.1) (λ i. (sym tick i, sym state i))

@@ -8,7 +8,7 @@ use Rattle.world.proofs.Tying.{tied_after_begin}
 use Rattle.std.proofs.Math.Logic.{∥∥₁_map}
 use Rattle.world.specs.Holding.{IsTied}
 use Rattle.world.specs.Kept.{script_meaning}
-use Rattle.world.specs.Worlds.{Meaning}
+use Rattle.world.specs.Worlds.{WorldMeaning}
 use Rattle.world.proofs.LegalLogs.{logged_begun, logged_same}
 use Rattle.world.proofs.held.HeldWorld.begin.Goals as goal
 
@@ -39,8 +39,8 @@ invariant_of-self-2-clause-logged g c = λ some_.
 pub invariant_of-self : goal.invariant_of-self
 invariant_of-self g c = let h = c.args.self.now in let same = c.in_err-begin.ensures.refused in record {
   no_tick = h.no_tick;
-  tied = subst (λ (m : Meaning). IsTied m (script_meaning h.script) (get nat_eq h.places)) (sym same) h.tied;
+  tied = subst (λ (m : WorldMeaning). IsTied m (script_meaning h.script) (get nat_eq h.places)) (sym same) h.tied;
   logged = λ some_. ∥∥₁_map (h.logged some_) (λ l.
       logged_same (g.W.World.meaning h.inner.now) (g.W.World.meaning c.begin.new.self) (g.W.World.stands_for h.inner.now) (g.W.World.stands_for c.begin.new.self)
-      l (ap (λ (m : Meaning). m.posts) same) (ap (λ (m : Meaning). m.answers) same) c.in_err-begin.ensures.refused_log);
+      l (ap (λ (m : WorldMeaning). m.posts) same) (ap (λ (m : WorldMeaning). m.answers) same) c.in_err-begin.ensures.refused_log);
 }

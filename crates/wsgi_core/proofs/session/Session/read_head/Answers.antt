@@ -1,5 +1,5 @@
 use Rattle.std.proofs.Common.{true, refl, ap, ◌∙◌, ◌++◌, ℕ, List}
-use Rattle.http_messages.specs.declared.request.Awaited.{Awaited}
+use Rattle.http_messages.specs.declared.request.AwaitedBody.{AwaitedBody}
 use Rattle.wsgi_core.specs.declared.session.SessionStage.TheVariants.{InBody}
 use Rattle.wsgi_core.specs.Steps.{progress_of}
 use Rattle.wsgi_core.proofs.ProgressLaws.{progress_at, closed_settled, head_shorter}
@@ -41,7 +41,7 @@ returns-in_ok-push_continue-in-Whole-clause-goes_on c =
     let found = rw c.in-Whole.is at c.in_ok-read_request.ensures in
     λ app. at_head-whole app (progress_of s) (progress_at s.port (InBody c.in-Whole.request c.awaited_by-awaited.result) c.read_request.new.kept c.push_continue.new.pending s.closing)
     c.requires.is_open c.requires.at_head c.in-Whole.request found refl
-    (ap (λ (a : Awaited). InBody c.in-Whole.request a) c.awaited_by-awaited.ensures) c.in_ok-push_continue-in-Whole.ensures.sent c.requires.is_open
+    (ap (λ (a : AwaitedBody). InBody c.in-Whole.request a) c.awaited_by-awaited.ensures) c.in_ok-push_continue-in-Whole.ensures.sent c.requires.is_open
 
 pub returns-in_ok-push_continue-in-Whole-clause-shorter : goal.returns-in_ok-push_continue-in-Whole-clause-shorter
 returns-in_ok-push_continue-in-Whole-clause-shorter c =

@@ -1,5 +1,0 @@
-use Rattle.machine_texts.proofs.WellFormed.{well-formed-fits}
-use Rattle.machine_texts.proofs.well_formed_texts_fit.Goals as goal
-
-pub returns : goal.returns
-returns c = well-formed-fits
