@@ -12,7 +12,7 @@ use Rattle.scenario_tree.specs.declared.tree.Expression.{Expression}
 use Rattle.scenario_tree.specs.declared.tree.Function.{Function}
 use Rattle.scenario_tree.specs.declared.tree.Giving.{Giving}
 use Rattle.scenario_tree.specs.declared.tree.Statement.{Statement, out-Statement}
-use Rattle.scenario_tree.specs.Limits.{most_parameters}
+use Rattle.scenario_tree.specs.declared.limits.TheConstants.{MOST_PARAMETERS}
 use Rattle.gv_values.specs.declared.link.LinkKind.{LinkKind}
 use Rattle.machine.specs.declared.state.Leaving.{Leaving}
 use Rattle.machine.specs.declared.state.Local.{Local}
@@ -121,12 +121,12 @@ if_any-few (Some (Outcome.Value w)) r k = k (Some w)
 if_any-few (Some (Outcome.Fault f)) r k = tt
 
 -- so a request with the values has few where the statement has
-many-few : (es : List Expression) (a : Around) (r : List Value → Request) → length es ≤ most_parameters →
-    ((args : List Value) → length args ≤ most_parameters → AsksFew (r args)) → AsksFewIfAny (many (values es a) r)
+many-few : (es : List Expression) (a : Around) (r : List Value → Request) → length es ≤ MOST_PARAMETERS →
+    ((args : List Value) → length args ≤ MOST_PARAMETERS → AsksFew (r args)) → AsksFewIfAny (many (values es a) r)
 many-few es a r h k = by (values es a) (values-length es a)
   where
     by : (vs : Result (List Value) FaultKind) → HasLength (length es) vs → AsksFewIfAny (many vs r)
-    by (Ok args) e = k args (subst (λ n. n ≤ most_parameters) (sym e) h)
+    by (Ok args) e = k args (subst (λ n. n ≤ MOST_PARAMETERS) (sym e) h)
     by (Err f) e = tt
 
 -- a statement that gives a value asks with as many arguments as it has

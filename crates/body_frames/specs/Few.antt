@@ -1,7 +1,7 @@
 -- That a body under way has few arguments in each call: no more than a function may have parameters. This project's
 -- own.
 use Rattle.std.specs.Prelude.{◌≤◌, List, [], ◌∷◌, length}
-use Rattle.scenario_tree.specs.Limits.{most_parameters}
+use Rattle.scenario_tree.specs.declared.limits.TheConstants.{MOST_PARAMETERS}
 use Rattle.machine.specs.declared.request.Request.{Request}
 use Rattle.machine.specs.declared.state.Todo.{Todo}
 use Rattle.machine.specs.Bodies.{Body, Step}
@@ -29,10 +29,10 @@ HasFewUnwound (Unwound.Out left how) = Unit {0}
 
 -- a request that makes a greenlet gives it few arguments
 abbrev pub AsksFew : Request → Type 0
-AsksFew (Request.Spawn f args) = length args ≤ most_parameters
-AsksFew (Request.SpawnLater ms f args) = length args ≤ most_parameters
-AsksFew (Request.New f args) = length args ≤ most_parameters
-AsksFew (Request.GroupSpawn x f args) = length args ≤ most_parameters
+AsksFew (Request.Spawn f args) = length args ≤ MOST_PARAMETERS
+AsksFew (Request.SpawnLater ms f args) = length args ≤ MOST_PARAMETERS
+AsksFew (Request.New f args) = length args ≤ MOST_PARAMETERS
+AsksFew (Request.GroupSpawn x f args) = length args ≤ MOST_PARAMETERS
 AsksFew request = Unit {0}
 
 -- what a move asks gives few arguments, and so does each call of what is to do after it

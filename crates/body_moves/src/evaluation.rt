@@ -1,6 +1,6 @@
 //! The operands of a statement.
 ghost use Rattle.std.specs.Prelude.{◌≡◌, ◌≤◌, IfOk, length};
-ghost use Rattle.scenario_tree.specs.Limits.{most_parameters};
+ghost use Rattle.scenario_tree.specs.declared.limits.TheConstants.{MOST_PARAMETERS};
 ghost use Rattle.machine.specs.Bodies.{around};
 ghost use Rattle.machine.specs.BodyMoves.{meaning_if, values};
 ghost use Rattle.machine.specs.Expressions.{meaning};
@@ -55,7 +55,7 @@ impl<'a, L: Look> Evaluation<'a, L> {
         &self,
         arguments: &Items<Expression>,
     ) -> Result<Result<Arguments, FaultKind>, AllocError>
-        requires { length arguments.now ≤ most_parameters }
+        requires { length arguments.now ≤ MOST_PARAMETERS }
         ensures { IfOk result (λ given. given ≡ values arguments.now (around self.now.code.now (L.answers self.now.look.now) self.now.locals.now)) }
     {
         match self

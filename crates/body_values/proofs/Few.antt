@@ -13,7 +13,7 @@ use Rattle.scenario_tree.specs.declared.tree.Function.{Function}
 use Rattle.scenario_tree.specs.declared.tree.Giving.{Giving}
 use Rattle.scenario_tree.specs.declared.tree.Scenario.{Scenario}
 use Rattle.scenario_tree.specs.declared.tree.Statement.{Statement, out-Statement}
-use Rattle.scenario_tree.specs.Limits.{most_parameters}
+use Rattle.scenario_tree.specs.declared.limits.TheConstants.{MOST_PARAMETERS}
 use Rattle.machine.specs.Greenlets.{no_function}
 use Rattle.body_values.specs.Few.{HasFew, HasFewArguments, HasFewCalls, HasFewExcepts, HasFewParts, action_few, all_few, except_few, gives_few, has_few, has_few_action, has_few_except, has_few_function, statement_few}
 
@@ -87,7 +87,7 @@ caught-few e es h = sym (except-few e) ∙ (and_parts (has_few_except e) (list_a
 pub others-few : (e : Except) (es : List Except) → HasFewExcepts (e ∷ es) → HasFewExcepts es
 others-few e es h = (and_parts (has_few_except e) (list_all has_few_except es) h).1
 
-few-count : (n : ℕ) → nat_le n most_parameters ≡ true → n ≤ most_parameters
+few-count : (n : ℕ) → nat_le n MOST_PARAMETERS ≡ true → n ≤ MOST_PARAMETERS
 few-count n h = grind (arith, nat_tests)
 
 arguments-few : (g : Giving) → gives_few g ≡ true → HasFewArguments g

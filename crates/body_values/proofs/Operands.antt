@@ -11,6 +11,7 @@ use Rattle.gv_values.specs.Values.{scalar_of_value}
 use Rattle.scenario_tree.specs.declared.tree.Expression.{Expression}
 use Rattle.machine.specs.Expressions.{meaning, meanings, Meaning, Around, scalars, listed, type_error}
 use Rattle.machine.specs.BodyMoves.{values}
+use Rattle.gv_values.specs.declared.limits.TheConstants.{MOST_ELEMENTS}
 
 -- these values before those of the rest
 abbrev pub prepended : List Value → Result (List Value) FaultKind → Result (List Value) FaultKind
@@ -35,13 +36,13 @@ as_many : (vs : List Value) → IfSome (scalars vs) (λ xs. length xs ≡ length
 as_many [] = refl
 as_many (v ∷ vs) = as_many_more v vs (scalar_of_value v) (scalars vs) refl refl (as_many vs)
 
-many_refused : (vs : List Value) (r : Option (List Scalar)) → scalars vs ≡ r → IfSome r (λ xs. length xs ≡ length vs) → 64 < length vs →
+many_refused : (vs : List Value) (r : Option (List Scalar)) → scalars vs ≡ r → IfSome r (λ xs. length xs ≡ length vs) → MOST_ELEMENTS < length vs →
     is_some r ≡ true → Outcome.Fault FaultKind.ValueError ≡ listed (Ok vs)
-many_refused vs (Some xs) e same many some = let full : nat_lt 64 (length xs) ≡ true = grind (arith, same, many) in rw (e, full)
+many_refused vs (Some xs) e same many some = let full : nat_lt MOST_ELEMENTS (length xs) ≡ true = grind (arith, same, many) in rw (e, full)
 many_refused vs None e same many some = cc
 
 -- all were read, and none was a list
-pub listed_many : (vs : List Value) (i : ℕ) → 64 < length vs → length vs ≤ i → is_some (scalars vs) ≡ is_some (scalars (drop i vs)) →
+pub listed_many : (vs : List Value) (i : ℕ) → MOST_ELEMENTS < length vs → length vs ≤ i → is_some (scalars vs) ≡ is_some (scalars (drop i vs)) →
     Outcome.Fault FaultKind.ValueError ≡ listed (Ok vs)
 listed_many vs i many read same =
     many_refused vs (scalars vs) refl (as_many vs) many (same ∙ ap (λ ws. is_some (scalars ws)) (drop_all i vs read))

@@ -11,16 +11,16 @@ use Rattle.scenario_tree.specs.declared.tree.Giving.{Giving}
 use Rattle.scenario_tree.specs.declared.tree.Giving.TheVariants as giving
 use Rattle.scenario_tree.specs.declared.tree.Scenario.{Scenario}
 use Rattle.scenario_tree.specs.declared.tree.Statement.{Statement}
-use Rattle.scenario_tree.specs.Limits.{most_parameters}
+use Rattle.scenario_tree.specs.declared.limits.TheConstants.{MOST_PARAMETERS}
 
 -- ---- statements with all that is inside them
 
 -- a statement that makes a greenlet gives it few arguments
 abbrev pub gives_few : Giving → Bool
-gives_few (giving.Spawn f es) = nat_le (length es) most_parameters
-gives_few (giving.SpawnLater ms f es) = nat_le (length es) most_parameters
-gives_few (giving.New f es) = nat_le (length es) most_parameters
-gives_few (giving.GroupSpawn x f es) = nat_le (length es) most_parameters
+gives_few (giving.Spawn f es) = nat_le (length es) MOST_PARAMETERS
+gives_few (giving.SpawnLater ms f es) = nat_le (length es) MOST_PARAMETERS
+gives_few (giving.New f es) = nat_le (length es) MOST_PARAMETERS
+gives_few (giving.GroupSpawn x f es) = nat_le (length es) MOST_PARAMETERS
 gives_few g = true
 
 -- each of the parts has few
@@ -79,10 +79,10 @@ HasFewCalls c = list_all has_few_function c.functions ≡ true
 
 -- so many arguments a statement gives that makes a greenlet
 abbrev pub HasFewArguments : Giving → Type 0
-HasFewArguments (giving.Spawn f es) = length es ≤ most_parameters
-HasFewArguments (giving.SpawnLater ms f es) = length es ≤ most_parameters
-HasFewArguments (giving.New f es) = length es ≤ most_parameters
-HasFewArguments (giving.GroupSpawn x f es) = length es ≤ most_parameters
+HasFewArguments (giving.Spawn f es) = length es ≤ MOST_PARAMETERS
+HasFewArguments (giving.SpawnLater ms f es) = length es ≤ MOST_PARAMETERS
+HasFewArguments (giving.New f es) = length es ≤ MOST_PARAMETERS
+HasFewArguments (giving.GroupSpawn x f es) = length es ≤ MOST_PARAMETERS
 HasFewArguments g = Unit {0}
 
 -- what stands on the line of a statement gives few arguments, and so does each call of its blocks

@@ -5,10 +5,11 @@ ghost use Rattle.std.specs.Option.{option_copied};
 ghost use Rattle.scenario_tree.specs.declared.tree.Binary.{Binary as Operator};
 ghost use Rattle.machine.specs.Expressions.{unary, binary, query, of_whom, listed, with_value};
 ghost use Rattle.body_values.specs.Operators.{told};
+ghost use Rattle.gv_values.specs.declared.limits.TheConstants.{MOST_ELEMENTS};
 
 use crate::look::Look;
 use gv_values::{
-    Arith, FaultKind, LIST_LIMIT, List, Outcome, PushRefusal, Value, Whom, arithmetic,
+    Arith, FaultKind, List, MOST_ELEMENTS, Outcome, PushRefusal, Value, Whom, arithmetic,
 };
 use scenario_tree::{Binary, Query, Unary};
 use std::alloc::{AllocError, Global};
@@ -206,7 +207,7 @@ pub fn query<L: Look>(look: &L, question: Query, object: u32) -> Value
 pub fn listed(alloc: Global, values: &[Value]) -> Result<Outcome, AllocError>
     ensures { IfOk result (λ o. o ≡ listed (Fine values.now)) }
 {
-    if values.len() > LIST_LIMIT {
+    if values.len() > MOST_ELEMENTS {
         return Ok(Outcome::Fault(refusal_of_many(values)));
     }
     let mut list = List::new(alloc);
@@ -226,7 +227,7 @@ pub fn listed(alloc: Global, values: &[Value]) -> Result<Outcome, AllocError>
 /// Why more values than a list holds are no list: a list among them comes before their number.
 #[tactic(auto, using(crate::proofs::Operands::listed_mixed, crate::proofs::Operands::stays_some))]
 fn refusal_of_many(values: &[Value]) -> FaultKind
-    requires { 64 < length values.now }
+    requires { MOST_ELEMENTS < length values.now }
     ensures { Outcomes.Fault result ≡ listed (Fine values.now) }
 {
     for value in values {

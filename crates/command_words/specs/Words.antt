@@ -16,6 +16,7 @@ use Rattle.command_words.specs.declared.command.ResultOrder.{ResultOrder}
 use Rattle.command_words.specs.declared.command.ResultOrder.TheVariants as results
 use Rattle.command_words.specs.declared.command.TextCommand.TheVariants.{Run, Format}
 use Rattle.command_words.specs.declared.command.TraceCheck.{TraceCheck}
+use Rattle.command_words.specs.declared.table.TheConstants.{TURNS, MOVES, TICK, NATIVE, PORT, CONNS, POOL, IDLE, JOBS, SIZE}
 
 abbrev pub Word : Type 0
 Word = List ℕ
@@ -29,42 +30,42 @@ pub record OptionRow : Type 0 where
   pub usual : Option ℕ
 
 abbrev pub turns : OptionRow
-turns = record { name = codes "turns"; least = 1; most = 10000000; usual = Some 1000000 }
+turns = record { name = codes "turns"; least = TURNS.least; most = TURNS.most; usual = TURNS.usual }
 
 abbrev pub moves : OptionRow
-moves = record { name = codes "moves"; least = 1; most = 100000000; usual = Some 10000000 }
+moves = record { name = codes "moves"; least = MOVES.least; most = MOVES.most; usual = MOVES.usual }
 
 abbrev pub tick : OptionRow
-tick = record { name = codes "tick"; least = 0; most = 1000; usual = Some 0 }
+tick = record { name = codes "tick"; least = TICK.least; most = TICK.most; usual = TICK.usual }
 
 abbrev pub native : OptionRow
-native = record { name = codes "native"; least = 1; most = 16; usual = None }
+native = record { name = codes "native"; least = NATIVE.least; most = NATIVE.most; usual = NATIVE.usual }
 
 -- the option whose value is an order, by its name; `free` stands where it is left out
 abbrev pub order : Word
 order = codes "order"
 
 abbrev pub port : OptionRow
-port = record { name = codes "port"; least = 0; most = 65535; usual = None }
+port = record { name = codes "port"; least = PORT.least; most = PORT.most; usual = PORT.usual }
 
 abbrev pub conns : OptionRow
-conns = record { name = codes "conns"; least = 1; most = 1000000; usual = None }
+conns = record { name = codes "conns"; least = CONNS.least; most = CONNS.most; usual = CONNS.usual }
 
 abbrev pub pool : OptionRow
-pool = record { name = codes "pool"; least = 1; most = 1024; usual = Some 100 }
+pool = record { name = codes "pool"; least = POOL.least; most = POOL.most; usual = POOL.usual }
 
 abbrev pub idle : OptionRow
-idle = record { name = codes "idle"; least = 1; most = 3600000; usual = Some 60000 }
+idle = record { name = codes "idle"; least = IDLE.least; most = IDLE.most; usual = IDLE.usual }
 
 abbrev pub jobs : OptionRow
-jobs = record { name = codes "jobs"; least = 1; most = 16; usual = None }
+jobs = record { name = codes "jobs"; least = JOBS.least; most = JOBS.most; usual = JOBS.usual }
 
 -- the option whose value is a gateway, by its name; `http` stands where it is left out
 abbrev pub gateway : Word
 gateway = codes "gateway"
 
 abbrev pub size : OptionRow
-size = record { name = codes "size"; least = 1; most = 19000; usual = None }
+size = record { name = codes "size"; least = SIZE.least; most = SIZE.most; usual = SIZE.usual }
 
 -- the option whose value is a check, by its name; `run` stands where it is left out
 abbrev pub check : Word

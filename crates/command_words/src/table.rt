@@ -1,4 +1,7 @@
 //! The table of the commands and their options.
+use gv_values::{
+    MOST_CONNECTIONS, MOST_IDLE, MOST_MOVES, MOST_OPEN_CONNECTIONS, MOST_TURNS, MOST_WORKERS,
+};
 
 /// An option whose value is a number.
 #[derive(Clone, Copy, Debug, PartialEq, Eq)]
@@ -39,7 +42,7 @@ pub struct CommandRow {
 pub const TURNS: NumberOption = NumberOption {
     name: "turns",
     least: 1,
-    most: 10000000,
+    most: MOST_TURNS,
     usual: Some(1000000),
 };
 
@@ -47,7 +50,7 @@ pub const TURNS: NumberOption = NumberOption {
 pub const MOVES: NumberOption = NumberOption {
     name: "moves",
     least: 1,
-    most: 100000000,
+    most: MOST_MOVES,
     usual: Some(10000000),
 };
 
@@ -63,7 +66,7 @@ pub const TICK: NumberOption = NumberOption {
 pub const NATIVE: NumberOption = NumberOption {
     name: "native",
     least: 1,
-    most: 16,
+    most: MOST_WORKERS as u64,
     usual: None,
 };
 
@@ -82,7 +85,7 @@ pub const PORT: NumberOption = NumberOption {
 pub const CONNS: NumberOption = NumberOption {
     name: "conns",
     least: 1,
-    most: 1000000,
+    most: MOST_CONNECTIONS,
     usual: None,
 };
 
@@ -90,7 +93,7 @@ pub const CONNS: NumberOption = NumberOption {
 pub const POOL: NumberOption = NumberOption {
     name: "pool",
     least: 1,
-    most: 1024,
+    most: MOST_OPEN_CONNECTIONS,
     usual: Some(100),
 };
 
@@ -98,7 +101,7 @@ pub const POOL: NumberOption = NumberOption {
 pub const IDLE: NumberOption = NumberOption {
     name: "idle",
     least: 1,
-    most: 3600000,
+    most: MOST_IDLE,
     usual: Some(60000),
 };
 
@@ -106,7 +109,7 @@ pub const IDLE: NumberOption = NumberOption {
 pub const JOBS: NumberOption = NumberOption {
     name: "jobs",
     least: 1,
-    most: 16,
+    most: MOST_WORKERS as u64,
     usual: None,
 };
 

@@ -8,6 +8,7 @@
 
 mod count;
 mod limited;
+mod limits;
 mod memory_sink;
 mod memory_source;
 mod sink;
@@ -17,6 +18,7 @@ mod std_source_edge;
 
 pub use count::one_more;
 pub use limited::{ReadRefusal, read_limited};
+pub use limits::MOST_PIECE;
 pub use memory_sink::MemorySink;
 pub use memory_source::MemorySource;
 pub use sink::Sink;

@@ -2,7 +2,9 @@ ghost use Rattle.std.specs.Prelude.{◌≡◌, ◌+◌, ◌<◌, ◌≤◌, [], 
 ghost use Rattle.gv_io.specs.Streams.{prepended};
 ghost use Rattle.gv_values.specs.Counts.{HasRisen};
 ghost use Rattle.gv_io.specs.Limited.{TakesAtMost};
+ghost use Rattle.gv_io.specs.declared.limits.TheConstants.{MOST_PIECE};
 
+use crate::limits::MOST_PIECE;
 use crate::source::Source;
 use std::alloc::{AllocError, Global};
 use thiserror::Error;
@@ -16,9 +18,6 @@ pub enum ReadRefusal {
     #[error("out of memory")]
     Memory,
 }
-
-/// How many bytes one read asks for at most.
-const PIECE: usize = 4096;
 
 /// The bytes that are left, to their end, or the first `limit + 1` of them.
 #[tactic(auto, using(crate::proofs::LimitLaws::limits))]
@@ -39,7 +38,7 @@ pub fn read_limited<S: Source>(
 {
     let mut bytes = Vec::new(alloc);
     while bytes.len() <= limit {
-        let most = (limit - bytes.len()).min(PIECE - 1) + 1;
+        let most = (limit - bytes.len()).min(MOST_PIECE - 1) + 1;
         if read_piece(source, &mut bytes, most)? == 0 {
             return Ok(bytes);
         }
@@ -55,7 +54,7 @@ fn read_piece<S: Source>(
     most: usize,
 ) -> Result<usize, ReadRefusal>
     requires some { 0 < most }
-    requires room { most ≤ 4096 }
+    requires room { most ≤ MOST_PIECE }
     ensures next { OnOk result (prepended bytes.old.items (S.remaining source.old) ≡ prepended bytes.new.items (S.remaining source.new)) }
     ensures count { IfOk result (λ n. vec_len bytes.new ≡ vec_len bytes.old + n) }
     ensures most { IfOk result (λ n. n ≤ most) }
@@ -66,7 +65,7 @@ fn read_piece<S: Source>(
     ensures unfailed_memory { IsErrOf result ReadRefusal.Memory → S.faults source.new ≡ S.faults source.old }
     ensures never_falls { S.faults source.old ≤ S.faults source.new }
 {
-    let mut buffer = [0; PIECE];
+    let mut buffer = [0; MOST_PIECE];
     let Ok(count) = source.read(&mut buffer[..most]) else {
         return Err(ReadRefusal::Fault);
     };

@@ -12,6 +12,7 @@ use Rattle.command_words.specs.declared.command.TextCommand.{TextCommand}
 use Rattle.command_words.specs.declared.command.TextCommand.TheVariants.{Run}
 use Rattle.gv_top.specs.declared.words.OfflineCommand.{OfflineCommand}
 use Rattle.gv_top.specs.Words.{built, offline_command_of}
+use Rattle.gv_values.specs.declared.limits.TheConstants.{MOST_WORKERS}
 
 -- the commands that words name are in their ranges
 abbrev pub NamedAreInRange : Type 0
@@ -42,14 +43,14 @@ are_budgets law w options e =
 
 -- how many native workers a world in range has
 pub some_workers : (world : RunWorld) (workers : ℕ) → world ≡ RunWorld.Native workers → IsWorldInRange world → 0 < workers
-some_workers world workers e h = let r : (1 ≤ workers) × (workers ≤ 16) = subst IsWorldInRange e h in omega (arith, r.0)
+some_workers world workers e h = let r : (1 ≤ workers) × (workers ≤ MOST_WORKERS) = subst IsWorldInRange e h in omega (arith, r.0)
 
-pub few_workers : (world : RunWorld) (workers : ℕ) → world ≡ RunWorld.Native workers → IsWorldInRange world → workers ≤ 16
-few_workers world workers e h = let r : (1 ≤ workers) × (workers ≤ 16) = subst IsWorldInRange e h in r.1
+pub few_workers : (world : RunWorld) (workers : ℕ) → world ≡ RunWorld.Native workers → IsWorldInRange world → workers ≤ MOST_WORKERS
+few_workers world workers e h = let r : (1 ≤ workers) × (workers ≤ MOST_WORKERS) = subst IsWorldInRange e h in r.1
 
 -- the same of those whose results are told in the order of a script
 pub some_held : (world : RunWorld) (workers : ℕ) → world ≡ RunWorld.Held workers → IsWorldInRange world → 0 < workers
-some_held world workers e h = let r : (1 ≤ workers) × (workers ≤ 16) = subst IsWorldInRange e h in omega (arith, r.0)
+some_held world workers e h = let r : (1 ≤ workers) × (workers ≤ MOST_WORKERS) = subst IsWorldInRange e h in omega (arith, r.0)
 
-pub few_held : (world : RunWorld) (workers : ℕ) → world ≡ RunWorld.Held workers → IsWorldInRange world → workers ≤ 16
-few_held world workers e h = let r : (1 ≤ workers) × (workers ≤ 16) = subst IsWorldInRange e h in r.1
+pub few_held : (world : RunWorld) (workers : ℕ) → world ≡ RunWorld.Held workers → IsWorldInRange world → workers ≤ MOST_WORKERS
+few_held world workers e h = let r : (1 ≤ workers) × (workers ≤ MOST_WORKERS) = subst IsWorldInRange e h in r.1

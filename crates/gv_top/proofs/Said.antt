@@ -13,7 +13,8 @@ use Rattle.trace_check.specs.Parts.{parted}
 use Rattle.trace_check.specs.declared.lawful.LawlessTrace.{LawlessTrace}
 use Rattle.trace_check.specs.declared.refusal.Cause.{Cause}
 use Rattle.trace_check.specs.declared.refusal.TraceRefusal.{TraceRefusal}
-use Rattle.verify_command.specs.Inputs.{end_line, most_checked}
+use Rattle.verify_command.specs.Inputs.{end_line}
+use Rattle.verify_command.specs.declared.lines.TheConstants.{MOST_CHECKED}
 use Rattle.verify_command.specs.Judged.{IsSaidIf, IsSaidOf, IsSaidOfParts, IsSaidOfScenario, Verification, said_of_laws, said_of_run}
 use Rattle.verify_command.specs.declared.checking.Unverified.{Unverified}
 use Rattle.gv_top.specs.Answers.{Answer, IsRefusedAt}
@@ -42,13 +43,13 @@ told_of_run turns moves bytes t (Ok lines) h = (t, h)
 told_of_run turns moves bytes t (Err (TraceRefusal.Wrong line cause)) h = (t, h)
 told_of_run turns moves bytes t (Err TraceRefusal.Memory) h = tt
 
-told_of_laws : (bytes : List ℕ) (r : Result ℕ LawlessTrace) → length bytes ≤ most_checked → IsJudgedLawful bytes r → Tells TraceCheck.Laws bytes (said_of_laws r)
+told_of_laws : (bytes : List ℕ) (r : Result ℕ LawlessTrace) → length bytes ≤ MOST_CHECKED → IsJudgedLawful bytes r → Tells TraceCheck.Laws bytes (said_of_laws r)
 told_of_laws bytes (Ok lines) within h = (within, h)
 told_of_laws bytes (Err (LawlessTrace.NotALine line)) within h = (within, h)
 told_of_laws bytes (Err (LawlessTrace.Broken line law)) within h = (within, h)
 told_of_laws bytes (Err LawlessTrace.Memory) within h = tt
 
-told_of_scenario : (turns moves : ℕ) (bytes text trace : List ℕ) (r : Result Scenario Place) (v : Verification) → length bytes ≤ most_checked → parted bytes ≡ Some (text, trace) →
+told_of_scenario : (turns moves : ℕ) (bytes text trace : List ℕ) (r : Result Scenario Place) (v : Verification) → length bytes ≤ MOST_CHECKED → parted bytes ≡ Some (text, trace) →
     judged_text text ≡ r → IsSaidOfScenario r turns moves trace v → Tells (TraceCheck.Run turns moves) bytes v
 told_of_scenario turns moves bytes text trace (Ok s) v within parts j h =
     let spelt = judged_is_spelt text s j in
@@ -57,37 +58,37 @@ told_of_scenario turns moves bytes text trace (Ok s) v within parts j h =
 told_of_scenario turns moves bytes text trace (Err place) v within parts j h =
     tells_as (TraceCheck.Run turns moves) bytes v (Err (Unverified.Refused place)) h (within, ((text, trace), parts, refusal_is_placed text place j))
 
-told_of_parts : (turns moves : ℕ) (bytes : List ℕ) (o : Option (List ℕ × List ℕ)) (v : Verification) → length bytes ≤ most_checked → parted bytes ≡ o →
+told_of_parts : (turns moves : ℕ) (bytes : List ℕ) (o : Option (List ℕ × List ℕ)) (v : Verification) → length bytes ≤ MOST_CHECKED → parted bytes ≡ o →
     IsSaidOfParts o bytes turns moves v → Tells (TraceCheck.Run turns moves) bytes v
 told_of_parts turns moves bytes None v within parts h =
     tells_as (TraceCheck.Run turns moves) bytes v (Err (Unverified.Unmarked (end_line bytes))) h (within, parts, refl)
 told_of_parts turns moves bytes (Some p) v within parts h = told_of_scenario turns moves bytes p.0 p.1 (judged_text p.0) v within parts refl h
 
-told_if : (long : Bool) (check : TraceCheck) (bytes : List ℕ) (v : Verification) → nat_lt most_checked (length bytes) ≡ long → IsSaidIf long check bytes v → Tells check bytes v
+told_if : (long : Bool) (check : TraceCheck) (bytes : List ℕ) (v : Verification) → nat_lt MOST_CHECKED (length bytes) ≡ long → IsSaidIf long check bytes v → Tells check bytes v
 told_if true (TraceCheck.Run turns moves) bytes v e h =
-    tells_as (TraceCheck.Run turns moves) bytes v (Err (Unverified.Overlong (line_at most_checked bytes))) h (ltb-true most_checked (length bytes) e, refl)
-told_if true TraceCheck.Laws bytes v e h = tells_as TraceCheck.Laws bytes v (Err (Unverified.Overlong (line_at most_checked bytes))) h (ltb-true most_checked (length bytes) e, refl)
-told_if false (TraceCheck.Run turns moves) bytes v e h = told_of_parts turns moves bytes (parted bytes) v (ltb-false most_checked (length bytes) e) refl h
-told_if false TraceCheck.Laws bytes v e h = tells_as TraceCheck.Laws bytes v (said_of_laws h.0) h.2 (told_of_laws bytes h.0 (ltb-false most_checked (length bytes) e) h.1)
+    tells_as (TraceCheck.Run turns moves) bytes v (Err (Unverified.Overlong (line_at MOST_CHECKED bytes))) h (ltb-true MOST_CHECKED (length bytes) e, refl)
+told_if true TraceCheck.Laws bytes v e h = tells_as TraceCheck.Laws bytes v (Err (Unverified.Overlong (line_at MOST_CHECKED bytes))) h (ltb-true MOST_CHECKED (length bytes) e, refl)
+told_if false (TraceCheck.Run turns moves) bytes v e h = told_of_parts turns moves bytes (parted bytes) v (ltb-false MOST_CHECKED (length bytes) e) refl h
+told_if false TraceCheck.Laws bytes v e h = tells_as TraceCheck.Laws bytes v (said_of_laws h.0) h.2 (told_of_laws bytes h.0 (ltb-false MOST_CHECKED (length bytes) e) h.1)
 
 pub told : (check : TraceCheck) (bytes : List ℕ) (v : Verification) → IsSaidOf check bytes v → Tells check bytes v
 unfolding IsSaidOf
-told check bytes v h = told_if (nat_lt most_checked (length bytes)) check bytes v refl h
+told check bytes v h = told_if (nat_lt MOST_CHECKED (length bytes)) check bytes v refl h
 
 -- ---- what is told is said
 
 -- of an input that is not too long
-said_short : (check : TraceCheck) (bytes : List ℕ) (v : Verification) → length bytes ≤ most_checked → IsSaidIf false check bytes v → IsSaidOf check bytes v
+said_short : (check : TraceCheck) (bytes : List ℕ) (v : Verification) → length bytes ≤ MOST_CHECKED → IsSaidIf false check bytes v → IsSaidOf check bytes v
 unfolding IsSaidOf
 said_short check bytes v within h =
-    subst (λ (b : Bool). IsSaidIf b check bytes v) (sym (le-ltb most_checked (length bytes) within)) h
+    subst (λ (b : Bool). IsSaidIf b check bytes v) (sym (le-ltb MOST_CHECKED (length bytes) within)) h
 
-said_long : (check : TraceCheck) (bytes : List ℕ) (line : ℕ) → most_checked < length bytes → line ≡ line_at most_checked bytes → IsSaidOf check bytes (Err (Unverified.Overlong line))
+said_long : (check : TraceCheck) (bytes : List ℕ) (line : ℕ) → MOST_CHECKED < length bytes → line ≡ line_at MOST_CHECKED bytes → IsSaidOf check bytes (Err (Unverified.Overlong line))
 unfolding IsSaidOf
 said_long check bytes line over e =
-    subst (λ (b : Bool). IsSaidIf b check bytes (Err (Unverified.Overlong line))) (sym (lt-ltb most_checked (length bytes) over)) (ap (λ n. Err (Unverified.Overlong n)) e)
+    subst (λ (b : Bool). IsSaidIf b check bytes (Err (Unverified.Overlong line))) (sym (lt-ltb MOST_CHECKED (length bytes) over)) (ap (λ n. Err (Unverified.Overlong n)) e)
 
-said_of_parts : (turns moves : ℕ) (bytes : List ℕ) (o : Option (List ℕ × List ℕ)) (v : Verification) → length bytes ≤ most_checked → parted bytes ≡ o →
+said_of_parts : (turns moves : ℕ) (bytes : List ℕ) (o : Option (List ℕ × List ℕ)) (v : Verification) → length bytes ≤ MOST_CHECKED → parted bytes ≡ o →
     IsSaidOfParts o bytes turns moves v → IsSaidOf (TraceCheck.Run turns moves) bytes v
 said_of_parts turns moves bytes o v within e h =
     said_short (TraceCheck.Run turns moves) bytes v within (subst (λ (x : Option (List ℕ × List ℕ)). IsSaidOfParts x bytes turns moves v) (sym e) h)
@@ -97,7 +98,7 @@ said_of_trace turns moves bytes t r h =
     said_of_parts turns moves bytes (Some (t.text, t.trace)) (said_of_run r) t.within t.parts
     (subst (λ (x : Result Scenario Place). IsSaidOfScenario x turns moves t.trace (said_of_run r)) (sym (spelt_is_judged t.scenario t.text t.spells t.well_formed)) (r, h, refl))
 
-said_of_refusal : (turns moves : ℕ) (bytes : List ℕ) (p : List ℕ × List ℕ) (at : Place) → length bytes ≤ most_checked → parted bytes ≡ Some p → IsRefusedAt p.0 at →
+said_of_refusal : (turns moves : ℕ) (bytes : List ℕ) (p : List ℕ × List ℕ) (at : Place) → length bytes ≤ MOST_CHECKED → parted bytes ≡ Some p → IsRefusedAt p.0 at →
     IsSaidOf (TraceCheck.Run turns moves) bytes (Err (Unverified.Refused at))
 said_of_refusal turns moves bytes p at within parts h =
     said_of_parts turns moves bytes (Some p) (Err (Unverified.Refused at)) within parts

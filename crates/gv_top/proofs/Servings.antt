@@ -37,6 +37,7 @@ use Rattle.gv_top.specs.Verdicts.{verdict_status, verdict_line}
 use Rattle.gv_top.specs.Words.{built, offline_command_of, serve_of, serving}
 use Rattle.gv_top.proofs.Built.{NamedAreInRange}
 use Rattle.gv_top.proofs.Tops.{HasFailed, fails, left_as_it_was, no_memory_line, read_line, status_or}
+use Rattle.gv_values.specs.declared.limits.TheConstants.{MOST_WORKERS}
 
 -- ---- words that name it
 
@@ -128,10 +129,10 @@ options_in_range law w options e = by (words.command_of w) refl e
     by None is h = absurd (cc h)
 
 pub some_server_workers : (answers : ServeAnswers) (workers : ℕ) → answers ≡ ServeAnswers.Jobs workers → AreAnswersInRange answers → 0 < workers
-some_server_workers answers workers e h = let r : (1 ≤ workers) × (workers ≤ 16) = subst AreAnswersInRange e h in omega (arith, r.0)
+some_server_workers answers workers e h = let r : (1 ≤ workers) × (workers ≤ MOST_WORKERS) = subst AreAnswersInRange e h in omega (arith, r.0)
 
-pub few_server_workers : (answers : ServeAnswers) (workers : ℕ) → answers ≡ ServeAnswers.Jobs workers → AreAnswersInRange answers → workers ≤ 16
-few_server_workers answers workers e h = let r : (1 ≤ workers) × (workers ≤ 16) = subst AreAnswersInRange e h in r.1
+pub few_server_workers : (answers : ServeAnswers) (workers : ℕ) → answers ≡ ServeAnswers.Jobs workers → AreAnswersInRange answers → workers ≤ MOST_WORKERS
+few_server_workers answers workers e h = let r : (1 ≤ workers) × (workers ≤ MOST_WORKERS) = subst AreAnswersInRange e h in r.1
 
 -- what holds by these options holds by those that the words ask for
 pub by_options : (P : ServeOptions → Type 0) (o : Option ServeOptions) (given : ServeOptions) → o ≡ Some given → P given → (options : ServeOptions) → o ≡ Some options → P options

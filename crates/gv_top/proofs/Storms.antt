@@ -40,6 +40,7 @@ use Rattle.gv_top.specs.Inner.{verdict_on}
 use Rattle.gv_top.proofs.InWorlds.{part_logged}
 use Rattle.gv_top.proofs.ReadTexts.{spelt_is_judged}
 use Rattle.gv_top.proofs.Tops.{answered, status_is}
+use Rattle.gv_values.specs.declared.limits.TheConstants.{MOST_MOVES, MOST_TURNS}
 
 -- ---- the run
 
@@ -115,7 +116,7 @@ is_script_run law end c turns moves tick before begun w same b g logged =
     law c turns moves tick w.answers.items part.part part.later (rule_state w []) part.is part.all (subst F (g.tick ∙ b.tick ∙ same) part.stood)
 
 pub was_counted : FollowersRunScripts → (came : Came) (lines : ℕ) (s : Scenario) (engine : Prepared) (before begun : WorldMeaning) (w : ScriptWorld) (none text : List ℕ)
-    → engine ≡ record { scenario = s; turns = 10000000; moves = 100000000 } → before.tick ≡ 0 → Begins before begun 1 → WorldGoesOn begun (script_meaning w) → none ≡ []
+    → engine ≡ record { scenario = s; turns = MOST_TURNS; moves = MOST_MOVES } → before.tick ≡ 0 → Begins before begun 1 → WorldGoesOn begun (script_meaning w) → none ≡ []
     → is_broken_off came.end ≡ false → lines ≡ lines_of text
     → RanTo came.end (run engine.scenario engine.turns engine.moves w.answers.items) (Some none) (Some text)
     → HasNumbers came (run engine.scenario engine.turns engine.moves w.answers.items).state

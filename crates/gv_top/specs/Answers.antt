@@ -1,5 +1,5 @@
 -- What the call answers: its status, what it writes to out, and its line on err.
-use Rattle.std.specs.Prelude.{◌≡◌, ℕ, if◌then◌else◌, List, [], ◌++◌, Some, codes, ◌⊎◌}
+use Rattle.std.specs.Prelude.{◌≡◌, ℕ, ◌+◌, if◌then◌else◌, List, [], ◌++◌, Some, codes, ◌⊎◌}
 use Rattle.trace_text.specs.LineTexts.{text_of}
 use Rattle.gv_values.specs.ValueTexts.{decimal}
 use Rattle.gv_values.specs.declared.job.Answer.{Answer as Given}
@@ -17,6 +17,7 @@ use Rattle.machine.specs.Status.{status, err_line, line_of}
 use Rattle.scenario_grammar.specs.Places.{place}
 use Rattle.scenario_grammar.specs.Spells.{Spells}
 use Rattle.scenario_rules.specs.Rules.{IsWellFormed, place_of}
+use Rattle.scenario_grammar.specs.declared.limits.TheConstants.{MOST_TEXT}
 
 -- a line on err
 abbrev pub line : List ℕ → List ℕ
@@ -91,7 +92,7 @@ answer_of_session s = record {
 
 -- the most bytes of a text that are read: one more than it may have
 abbrev pub most_read : ℕ
-most_read = 1048577
+most_read = MOST_TEXT + 1
 
 -- the port of a session whose bytes come from the input
 abbrev pub no_port : ℕ

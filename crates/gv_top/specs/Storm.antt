@@ -6,6 +6,7 @@ use Rattle.scenario_grammar.specs.Spells.{Spells}
 use Rattle.scenario_rules.specs.Rules.{IsWellFormed}
 use Rattle.machine.specs.Run.{Ran, script_run}
 use Rattle.serve_command.specs.Lines.{number_line}
+use Rattle.gv_values.specs.declared.limits.TheConstants.{MOST_MOVES, MOST_TURNS}
 
 -- the lines before the number of greenlets, and those after it
 abbrev pub storm_head : List ℕ
@@ -22,9 +23,9 @@ storm_text n = storm_head ++ decimal n ++ storm_tail
 abbrev pub IsStorm : ℕ → Scenario → Type 0
 IsStorm n s = Spells s (storm_text n) × IsWellFormed s
 
--- the run of a storm: within 10000000 turns and 100000000 moves, under the rule of a script without a tick
+-- the run of a storm: within as many turns and moves as a run may be given, under the rule of a script without a tick
 unfoldable pub storm_run : Scenario → Ran
-storm_run s = script_run s 10000000 100000000 0
+storm_run s = script_run s MOST_TURNS MOST_MOVES 0
 
 -- The summary of a run as the storm of n greenlets, with the numbers of its last state, and how many lines it has.
 abbrev pub summary : ℕ → Ran → List ℕ

@@ -2,6 +2,7 @@
 ghost use Rattle.gv_io.specs.Streams.{Extends};
 ghost use Rattle.std.specs.Prelude.{◌≡◌, ◌≢◌, ◌≤◌, ◌<◌, ◌⊎◌, ℕ, List, true, false, IfNone, IfSome};
 ghost use Rattle.gv_values.specs.Counts.{HasRisen};
+ghost use Rattle.gv_values.specs.declared.limits.TheConstants.{MOST_WORKERS};
 ghost use Rattle.machine.specs.Run.{run, script_run};
 ghost use Rattle.machine.specs.TraceLaws.{meets_laws};
 ghost use Rattle.command_words.specs.Ranges.{IsWorldInRange};
@@ -60,7 +61,7 @@ fn run_in_world<K: Sink, W: World>(
 ) -> Option<EngineEnd>
     requires rests { (W.meaning world.old).runs ≡ false }
     requires some { 0 < workers }
-    requires few { workers ≤ 16 }
+    requires few { workers ≤ MOST_WORKERS }
     ensures ran { IfSome result (λ end. RanInWorld end (run engine.scenario engine.turns engine.moves) workers
         (W.meaning world.old) (W.meaning world.new) (W.stands_for world.new) (K.written out.old) (K.written out.new)) }
     ensures counts { IfSome result (λ end. Counts (end ≡ EngineEnd.WriteFault) (K.faults out.old) (K.faults out.new)) }
@@ -105,7 +106,7 @@ fn run_natively<K: Sink, W: World>(
 ) -> EngineEnd
     requires rests { (W.meaning native.old).runs ≡ false }
     requires some { 0 < workers }
-    requires few { workers ≤ 16 }
+    requires few { workers ≤ MOST_WORKERS }
     requires well_formed { IsWellFormed engine.scenario }
     ensures begun { ((meets_laws (run engine.scenario engine.turns engine.moves (W.meaning native.new).answers).lines ≡ true)
         × WroteAhead (run engine.scenario engine.turns engine.moves) (W.meaning native.new).answers (K.written out.old) (K.written out.new))
@@ -138,7 +139,7 @@ fn run_held<K: Sink, W: World>(
 ) -> EngineEnd
     requires rests { (W.meaning native.old).runs ≡ false }
     requires some { 0 < workers }
-    requires few { workers ≤ 16 }
+    requires few { workers ≤ MOST_WORKERS }
     requires well_formed { IsWellFormed engine.scenario }
     ensures written { RanTo result (script_run engine.scenario engine.turns engine.moves 0) (K.written out.old) (K.written out.new) }
     ensures lawful { meets_laws (script_run engine.scenario engine.turns engine.moves 0).lines ≡ true }

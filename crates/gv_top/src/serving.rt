@@ -1,6 +1,7 @@
 //! The call that the program makes, over a net too.
 ghost use Rattle.std.specs.Prelude.{◌≡◌, ◌≢◌, ◌≤◌, ◌<◌, ℕ, false, List, Some, None, map, string_bytes, take, IsSome};
 ghost use Rattle.gv_values.specs.Counts.{HasRisen};
+ghost use Rattle.gv_values.specs.declared.limits.TheConstants.{MOST_WORKERS};
 ghost use Rattle.command_words.specs.declared.command.ServeOptions.{ServeOptions as AnyServer};
 ghost use Rattle.wsgi_connection.specs.Connections.{HandedAhead};
 ghost use Rattle.stream_net.specs.Nets.{IsFresh};
@@ -64,7 +65,7 @@ fn serve_natively<K: Sink, N: Net, W: World, H: Wait>(
     requires fresh { IsFresh (N.meaning net.old) }
     requires in_range { IsInRange limits }
     requires some { 0 < workers }
-    requires few { workers ≤ 16 }
+    requires few { workers ≤ MOST_WORKERS }
     ensures serves { ServesNatively workers result port limits (N.meaning net.new) (W.meaning native.old) (W.meaning native.new) (K.written out.old) (K.written out.new) }
     ensures told { IsToldFirst port (N.meaning net.new) (K.written out.old) (K.handed out.new) }
     ensures handed { K.handed out.old ≡ K.written out.old → result ≢ Served.WriteFault → result ≢ Served.Memory → K.handed out.new ≡ K.written out.new }

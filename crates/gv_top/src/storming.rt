@@ -12,7 +12,7 @@ ghost use Rattle.gv_top.specs.Inner.{IsExplained};
 use crate::status::{Verdict, verdict_on};
 use crate::top::send;
 use gv_io::Sink;
-use gv_values::decimal_text;
+use gv_values::{MOST_MOVES, MOST_TURNS, decimal_text};
 use hub_engine::{Budgets, Engine, EngineEnd, Ran};
 use line_counter::LineCounter;
 use machine_scripts::followers_run_scripts;
@@ -24,8 +24,8 @@ use world::{ScriptWorld, World};
 
 /// The budgets of a storm.
 const BUDGETS: Budgets = Budgets {
-    turns: 10000000,
-    moves: 100000000,
+    turns: MOST_TURNS,
+    moves: MOST_MOVES,
 };
 
 /// The tick of a storm's script, in milliseconds.

@@ -36,14 +36,11 @@ use hub_engine::EngineEnd;
 use machine_blocks::blocks_are_told;
 use machine_trace_laws::blocks_are_quiet;
 use scenario_check::Checked;
-use scenario_lang::{Scenario, print};
+use scenario_lang::{MOST_TEXT, Scenario, print};
 use scenario_reading::read_scenario;
 use std::alloc::Global;
 use world::World;
 use wsgi_core::Application;
-
-/// The most bytes of a text.
-const MOST_TEXT: usize = 1048576;
 
 /// All of the call but its line on err. None: the words name `serve`, and nothing was done.
 fn decide<S: Source, K: Sink, W: World, A: Application>(

@@ -2,13 +2,14 @@ ghost use Rattle.std.specs.Prelude.{◌≡◌, Some, None, if◌then◌else◌, 
 ghost use Rattle.std.specs.List.{list_all};
 ghost use Rattle.gv_values.specs.Names.{is_name, is_name_byte};
 
+use crate::limits::MOST_NAME_BYTES;
 use std::marker::Model;
 
-/// A name of an object, a function or a local: 1 to 24 bytes, the first a lower-case letter, the
-/// others lower-case letters, digits or `_`.
+/// A name of an object, a function or a local: 1 to `MOST_NAME_BYTES` bytes, the first a
+/// lower-case letter, the others lower-case letters, digits or `_`.
 #[derive(Clone, Copy, Debug, PartialEq, Eq)]
 pub struct Name {
-    bytes: [u8; 24],
+    bytes: [u8; MOST_NAME_BYTES],
     count: usize,
 }
 
@@ -36,7 +37,7 @@ impl Name {
         if !is_name_text(bytes) {
             return None;
         }
-        let mut name = [0; 24];
+        let mut name = [0; MOST_NAME_BYTES];
         name[..bytes.len()].copy_from_slice(bytes);
         Some(Name {
             bytes: name,
@@ -59,7 +60,7 @@ fn is_name_text(bytes: &[u8]) -> bool
     match bytes {
         [] => false,
         [first, rest @ ..] => {
-            first.is_ascii_lowercase() && are_name_bytes(rest) && rest.len() < 24
+            first.is_ascii_lowercase() && are_name_bytes(rest) && rest.len() < MOST_NAME_BYTES
         }
     }
 }

@@ -6,7 +6,7 @@ use crate::list::List;
 use crate::scalar::Scalar;
 use std::alloc::{AllocError, Global};
 
-/// What an expression means and a greenlet ends with: a scalar, or a flat list of at most 64.
+/// What an expression means and a greenlet ends with: a scalar, or a flat list of at most `MOST_ELEMENTS`.
 #[derive(Debug, Drop)]
 pub enum Value {
     /// `none`.

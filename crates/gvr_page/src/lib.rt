@@ -6,15 +6,12 @@ ghost use Rattle.command_words.specs.Words.{Word};
 ghost use Rattle.page_answer.specs.Page.{AreWords};
 ghost use Rattle.gvr_page.specs.Page.{IsSaid};
 
-use gv_io::{MemorySink, MemorySource};
+use gv_io::{MOST_PIECE, MemorySink, MemorySource};
 use gv_top::offline;
 use page_answer::{Program, Said, answer};
 use std::alloc::Global;
 use world::ScriptWorld;
 use wsgi_core::ShippedApp;
-
-/// How many bytes of the text are read at a time.
-const PIECE: usize = 4096;
 
 /// The status where the words name a server, which a page has not.
 const NO_SERVER: u32 = 256;
@@ -37,7 +34,7 @@ impl Program for Gvr {
         out: &mut MemorySink,
         err: &mut MemorySink,
     ) -> u32 {
-        let mut input = MemorySource::new(text, PIECE, Vec::new(alloc));
+        let mut input = MemorySource::new(text, MOST_PIECE, Vec::new(alloc));
         let mut native = ScriptWorld::new(alloc, 0);
         match offline(alloc, words, &mut input, out, err, &mut native, &ShippedApp) {
             Some(status) => u32::from(status),

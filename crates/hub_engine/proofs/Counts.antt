@@ -18,6 +18,7 @@ use Rattle.scenario_grammar.specs.Tokens.{Written, ◌⊕◌, ◌▹◌, each, n
 use Rattle.scenario_print.specs.Texts.{HasText, has_words}
 use Rattle.machine.specs.Run.{first_state, object_of}
 use Rattle.hub_objects.specs.Counted.{AreCounted, IsCounted}
+use Rattle.scenario_grammar.specs.declared.limits.TheConstants.{MOST_UNITS}
 
 abbrev AllWords : Written TreeLine → Type 0
 AllWords w = IsSomeAnd w (λ tree_lines. IsTrue (list_all has_words tree_lines))
@@ -41,14 +42,14 @@ behind : (k : Keyword) (w : Written Token) → is_some (k ▹ w) ≡ true → is
 behind k None h = h
 behind k (Some ts) h = refl
 
-few : (x : ℕ) → x ≤ 1000000 → x < 2 ^ 63
+few : (x : ℕ) → x ≤ MOST_UNITS → x < 2 ^ 63
 few x h = omega (arith, h)
 
 sized : (d : Declared) (n : Name) → is_some (object_tokens d n) ≡ true → IsCounted (object_of d)
 sized Declared.Event n h = (omega arith, omega arith)
 sized Declared.Result n h = (omega arith, omega arith)
-sized (Declared.Semaphore x) n h = (few x (in_range (name n) 0 1000000 x (behind _ _ h)), omega arith)
-sized (Declared.BoundedSemaphore x) n h = (few x (in_range (name n) 0 1000000 x (behind _ _ h)), omega arith)
+sized (Declared.Semaphore x) n h = (few x (in_range (name n) 0 MOST_UNITS x (behind _ _ h)), omega arith)
+sized (Declared.BoundedSemaphore x) n h = (few x (in_range (name n) 0 MOST_UNITS x (behind _ _ h)), omega arith)
 sized Declared.Lock n h = (omega arith, omega arith)
 sized (Declared.Queue kind size) n h = (omega arith, omega arith)
 sized Declared.Group n h = (omega arith, omega arith)

@@ -3,12 +3,13 @@ use Rattle.std.specs.Prelude.{◌≤◌, ◌+◌, ⊤, List, [], ◌∷◌, leng
 use Rattle.machine.specs.declared.items.Delivery.{Delivery}
 use Rattle.machine.specs.declared.items.Item.{Item}
 use Rattle.machine.specs.declared.items.Waiting.{Waiting}
+use Rattle.gv_values.specs.declared.limits.TheConstants.{MOST_ELEMENTS}
 
 -- what it ends with fits a list
 abbrev pub IsShort : Waiting → Type 0
-IsShort (Waiting.JoinAll gs need) = length gs ≤ 64
-IsShort (Waiting.MapPlace o f xs made) = length xs + length made ≤ 64
-IsShort (Waiting.MapEnd o made) = length made ≤ 64
+IsShort (Waiting.JoinAll gs need) = length gs ≤ MOST_ELEMENTS
+IsShort (Waiting.MapPlace o f xs made) = length xs + length made ≤ MOST_ELEMENTS
+IsShort (Waiting.MapEnd o made) = length made ≤ MOST_ELEMENTS
 IsShort w = ⊤
 
 -- so does the wait whose completion is delivered

@@ -15,21 +15,22 @@ use Rattle.machine.specs.Items.{add_item, drop_items}
 use Rattle.machine.specs.Requests.{done, int_operand, is_link, link_stands, links, performs, typed}
 use Rattle.machine.specs.State.{State}
 use Rattle.machine.specs.Waits.{Performed, raises}
+use Rattle.machine.specs.declared.limits.TheConstants.{MOST_LINKS}
 
 -- one more may be made, and this is whether it stands
-pub linked : (k : ℕ) (kind : LinkKind) (f n : ℕ) (b : Bool) (s t u : State) → s.links < 100000 → n ≡ s.links + 1 → t ≡ record s { links = s.links + 1 } →
+pub linked : (k : ℕ) (kind : LinkKind) (f n : ℕ) (b : Bool) (s t u : State) → s.links < MOST_LINKS → n ≡ s.links + 1 → t ≡ record s { links = s.links + 1 } →
     b ≡ link_stands kind (outcome_of t (Whom.Greenlet k)) → u ≡ (if b then add_item (Delivery.Link n k kind f) t else t) →
     links k kind f s ≡ Performed.Answers (Outcome.Value (Value.Int (pos n))) u
 linked k kind f n b s t u h e z r v =
-    let few : nat_lt s.links 100000 ≡ true = grind (arith, nat_tests) in
+    let few : nat_lt s.links MOST_LINKS ≡ true = grind (arith, nat_tests) in
     let x = record s { links = s.links + 1 } in
     rw few (ap (λ (m : ℕ). Performed.Answers (Outcome.Value (Value.Int (pos m))) (if link_stands kind (outcome_of x (Whom.Greenlet k)) then add_item (Delivery.Link m k kind f) x else x)) (sym e)
     ∙ ap (λ (y : State). Performed.Answers (Outcome.Value (Value.Int (pos n))) (if link_stands kind (outcome_of y (Whom.Greenlet k)) then add_item (Delivery.Link n k kind f) y else y)) (sym z)
     ∙ ap (λ (c : Bool). Performed.Answers (Outcome.Value (Value.Int (pos n))) (if c then add_item (Delivery.Link n k kind f) t else t)) (sym r)
     ∙ ap (λ (y : State). Performed.Answers (Outcome.Value (Value.Int (pos n))) y) (sym v))
 
-pub too_many : (k : ℕ) (kind : LinkKind) (f : ℕ) (s : State) → 100000 ≤ s.links → links k kind f s ≡ Performed.Stops StopCause.NoLinks s
-too_many k kind f s h = let many : nat_lt s.links 100000 ≡ false = grind (arith, nat_tests) in rw many
+pub too_many : (k : ℕ) (kind : LinkKind) (f : ℕ) (s : State) → MOST_LINKS ≤ s.links → links k kind f s ≡ Performed.Stops StopCause.NoLinks s
+too_many k kind f s h = let many : nat_lt s.links MOST_LINKS ≡ false = grind (arith, nat_tests) in rw many
 
 -- ---- a link that goes
 

@@ -12,17 +12,18 @@ use Rattle.machine.specs.State.{State, Name}
 use Rattle.machine.specs.Waits.{Performed, add_member, maps, parked}
 use Rattle.machine.specs.Objects.{name_of_object}
 use Rattle.hub_requests.proofs.Results.{first-of}
+use Rattle.gv_values.specs.declared.limits.TheConstants.{MOST_ELEMENTS}
 
 grown : {X : Type 0} (xs : List X) (x : X) → length (xs ++ x ∷ []) ≡ length xs + 1
 grown [] x = refl
 grown (y ∷ xs) x = let more = grown xs x in omega (arith, more)
 
 -- one member more, and one element less to come
-pub few_more : (xs : List Scalar) (made later : List ℕ) (member i : ℕ) → later ≡ made ++ member ∷ [] → length xs + length made ≤ 64 + i → length xs + length later ≤ 64 + (i + 1)
+pub few_more : (xs : List Scalar) (made later : List ℕ) (member i : ℕ) → later ≡ made ++ member ∷ [] → length xs + length made ≤ MOST_ELEMENTS + i → length xs + length later ≤ MOST_ELEMENTS + (i + 1)
 few_more xs made later member i e h = let one : length later ≡ length made + 1 = ap length e ∙ grown made member in omega (arith, one, h)
 
 -- the first of them has its member
-pub few_after : (xs rest : List Scalar) (made later : List ℕ) (member : ℕ) → later ≡ made ++ member ∷ [] → length rest + 1 ≡ length xs → length xs + length made ≤ 64 → length rest + length later ≤ 64
+pub few_after : (xs rest : List Scalar) (made later : List ℕ) (member : ℕ) → later ≡ made ++ member ∷ [] → length rest + 1 ≡ length xs → length xs + length made ≤ MOST_ELEMENTS → length rest + length later ≤ MOST_ELEMENTS
 few_after xs rest made later member e k h = let one : length later ≡ length made + 1 = ap length e ∙ grown made member in omega (arith, one, k, h)
 
 abbrev is_free : State → ℕ → Bool

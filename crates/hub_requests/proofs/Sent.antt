@@ -20,18 +20,19 @@ use Rattle.machine_soundness.proofs.Lists.{all-of}
 use Rattle.hub_requests.specs.Far.{far_of}
 use Rattle.hub_requests.specs.Sendings.{sent}
 use Rattle.hub_requests.specs.declared.far.Far.{Far}
+use Rattle.machine.specs.declared.limits.TheConstants.{MOST_KILLS}
 
 -- a kill of a greenlet that has come so far
 abbrev by_far : Far → FaultKind → ℕ → State → Sending
 by_far Far.Done f g s = Sending.Sent s
 by_far Far.New f g s = Sending.Sent (ended g (kept (Outcome.Fault f)) (say (Line.Throw g f) s))
-by_far Far.Live f g s = if nat_lt (kills_standing s) 1000000 then Sending.Sent (add_item (Delivery.Kill g f) s) else Sending.TooMany s
+by_far Far.Live f g s = if nat_lt (kills_standing s) MOST_KILLS then Sending.Sent (add_item (Delivery.Kill g f) s) else Sending.TooMany s
 
 abbrev at_one : Greenlet → FaultKind → ℕ → State → Sending
 at_one x f g s = elim x.phase [
   | Phase.Done o ↦ Sending.Sent s
   | Phase.New args ↦ Sending.Sent (ended g (kept (Outcome.Fault f)) (say (Line.Throw g f) s))
-  | Phase.Live frame ↦ if nat_lt (kills_standing s) 1000000 then Sending.Sent (add_item (Delivery.Kill g f) s) else Sending.TooMany s
+  | Phase.Live frame ↦ if nat_lt (kills_standing s) MOST_KILLS then Sending.Sent (add_item (Delivery.Kill g f) s) else Sending.TooMany s
 ]
 
 by-phase : (x : Greenlet) (p : Phase) (f : FaultKind) (g : ℕ) (s : State) → x.phase ≡ p → at_one x f g s ≡ by_far (far_of (Some p)) f g s
@@ -53,15 +54,15 @@ pub sends_new : (far : Far) (f : FaultKind) (g : ℕ) (s u : State) → far ≡ 
     u ≡ ended g (kept (Outcome.Fault f)) (say (Line.Throw g f) s) → sends f g s ≡ sent true u
 sends_new far f g s u e h m = sends-far far Far.New f g s e h ∙ ap (λ (x : State). Sending.Sent x) (sym m)
 
-pub sends_live : (far : Far) (f : FaultKind) (g : ℕ) (s u : State) → far ≡ far_of (phase_of g s.greenlets) → far ≡ Far.Live → kills_standing s < 1000000 → u ≡ add_item (Delivery.Kill g f) s →
+pub sends_live : (far : Far) (f : FaultKind) (g : ℕ) (s u : State) → far ≡ far_of (phase_of g s.greenlets) → far ≡ Far.Live → kills_standing s < MOST_KILLS → u ≡ add_item (Delivery.Kill g f) s →
     sends f g s ≡ sent true u
 sends_live far f g s u e h k m =
-    let few : nat_lt (kills_standing s) 1000000 ≡ true = grind (arith, nat_tests) in
+    let few : nat_lt (kills_standing s) MOST_KILLS ≡ true = grind (arith, nat_tests) in
     sends-far far Far.Live f g s e h ∙ ap (λ (b : Bool). if b then Sending.Sent (add_item (Delivery.Kill g f) s) else Sending.TooMany s) few ∙ ap (λ (x : State). Sending.Sent x) (sym m)
 
-pub sends_many : (far : Far) (f : FaultKind) (g : ℕ) (s : State) → far ≡ far_of (phase_of g s.greenlets) → far ≡ Far.Live → 1000000 ≤ kills_standing s → sends f g s ≡ sent false s
+pub sends_many : (far : Far) (f : FaultKind) (g : ℕ) (s : State) → far ≡ far_of (phase_of g s.greenlets) → far ≡ Far.Live → MOST_KILLS ≤ kills_standing s → sends f g s ≡ sent false s
 sends_many far f g s e h k =
-    let many : nat_lt (kills_standing s) 1000000 ≡ false = grind (arith, nat_tests) in
+    let many : nat_lt (kills_standing s) MOST_KILLS ≡ false = grind (arith, nat_tests) in
     sends-far far Far.Live f g s e h ∙ ap (λ (b : Bool). if b then Sending.Sent (add_item (Delivery.Kill g f) s) else Sending.TooMany s) many
 
 pub kill_free : (items : List Item) → is_unclaimed None items ≡ true

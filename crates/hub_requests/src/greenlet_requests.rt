@@ -4,6 +4,7 @@ ghost use Rattle.machine.specs.Requests.{performs};
 ghost use Rattle.machine.specs.declared.request.Request.{Request as Asked};
 ghost use Rattle.hub_requests.specs.Making.{MayMake};
 ghost use Rattle.hub_requests.specs.Performing.{performed_of};
+ghost use Rattle.gv_values.specs.declared.limits.TheConstants.{MOST_ELEMENTS};
 
 use crate::kills::kill_greenlets;
 use crate::links::{drop_link, link_to};
@@ -213,7 +214,7 @@ pub fn kill_all(
 
 /// How many of so many greenlets are waited for.
 fn need_of(count: Option<u64>, most: usize) -> u32
-    requires short { most ≤ 64 }
+    requires short { most ≤ MOST_ELEMENTS }
     ensures { result ≡ min (unwrap_or count most) most }
 {
     match count {

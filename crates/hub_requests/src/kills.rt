@@ -18,12 +18,10 @@ use crate::waits::come_to_wait;
 use gv_values::{FaultKind, Outcome, kept_outcome};
 use hub_state::Hub;
 use machine::items::{Delivery, Waiting};
+use machine::limits::MOST_KILLS;
 use scenario_tree::{Items, Wait};
 use std::alloc::{AllocError, Global};
 use trace_text::{Awaited, Line, StopCause};
-
-/// The most kills that may stand.
-const MOST_KILLS: u64 = 1000000;
 
 /// Ends a greenlet that has not started, by the kill.
 fn end_unrun(alloc: Global, hub: &mut Hub, kind: FaultKind, target: u32) -> Result<(), AllocError>

@@ -2,6 +2,7 @@
 ghost use Rattle.std.specs.Prelude.{◌≡◌, ◌<◌, ◌≤◌, ◌++◌, ◌∷◌, [], length, OnOk, IfOk};
 ghost use Rattle.hub_items.specs.Short.{IsShort};
 ghost use Rattle.machine.specs.Waits.{done_ones, draws, drawn, late_outcome};
+ghost use Rattle.gv_values.specs.declared.limits.TheConstants.{MOST_ELEMENTS};
 
 use gv_values::{FaultKind, List, Outcome, PushRefusal, Scalar, Value};
 use hub_state::Hub;
@@ -33,7 +34,7 @@ pub fn draw(hub: &mut Hub, waiting: &Waiting) -> Result<u32, AllocError>
 
 /// Appends a scalar to the list, which has room for it.
 pub fn push_scalar(list: &mut List, scalar: Scalar) -> Result<(), AllocError>
-    requires room { length list.old < 64 }
+    requires room { length list.old < MOST_ELEMENTS }
     ensures { OnOk result (list.new ≡ list.old ++ scalar ∷ []) }
 {
     match list.push(scalar) {
@@ -45,7 +46,7 @@ pub fn push_scalar(list: &mut List, scalar: Scalar) -> Result<(), AllocError>
 
 /// Those of the greenlets that are Done, in order.
 pub fn done_ones(alloc: Global, hub: &Hub, greenlets: &[u32]) -> Result<Outcome, AllocError>
-    requires short { length greenlets.now ≤ 64 }
+    requires short { length greenlets.now ≤ MOST_ELEMENTS }
     ensures { IfOk result (λ outcome. outcome ≡ done_ones hub.now greenlets.now) }
 {
     let mut done = List::new(alloc);

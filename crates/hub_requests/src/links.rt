@@ -12,11 +12,9 @@ use gv_values::{LinkKind, Outcome, Value, link_fits};
 use hub_items::Gone;
 use hub_state::Hub;
 use machine::items::Delivery;
+use machine::limits::MOST_LINKS;
 use std::alloc::AllocError;
 use trace_text::StopCause;
-
-/// The most links of a run.
-const MOST_LINKS: u32 = 100000;
 
 /// Whether a link of this kind stands at the greenlet, or is dropped since that has ended otherwise.
 fn link_stands(hub: &Hub, g: u32, kind: LinkKind) -> bool

@@ -5,6 +5,8 @@ ghost use Rattle.machine.specs.Waits.{made_member, map_ends, maps, map_goes_on, 
 ghost use Rattle.hub_requests.specs.Making.{MayMake};
 ghost use Rattle.hub_requests.specs.Naming.{IsObject};
 ghost use Rattle.hub_requests.specs.Performing.{performed_of};
+ghost use Rattle.machine.specs.declared.limits.TheConstants.{MOST_GREENLETS};
+ghost use Rattle.gv_values.specs.declared.limits.TheConstants.{MOST_ELEMENTS};
 
 use crate::gathering::gather;
 use crate::parking::park;
@@ -27,7 +29,7 @@ fn add_member(
     arguments: Items<Value>,
 ) -> Result<u32, AllocError>
     requires may_make { MayMake g hub.old }
-    requires room { length hub.old.greenlets < 20000 }
+    requires room { length hub.old.greenlets < MOST_GREENLETS }
     ensures added { OnOk result (hub.new ≡ add_member o function arguments hub.old) }
     ensures number { IfOk result (λ n. n ≡ length hub.old.greenlets) }
 {
@@ -65,7 +67,7 @@ fn end_map(
 ) -> Result<Performed, AllocError>
     requires may_make { MayMake g hub.old }
     requires named { IsObject hub.old.scenario o }
-    requires short { length made ≤ 64 }
+    requires short { length made ≤ MOST_ELEMENTS }
     ensures { IfOk result (λ p. map_ends g o made hub.old ≡ performed_of p hub.new) }
 {
     if hub.all_done(made.as_slice()) {
@@ -107,7 +109,7 @@ pub fn map_elements(
 ) -> Result<Performed, AllocError>
     requires may_make { MayMake g hub.old }
     requires named { IsObject hub.old.scenario o }
-    requires short { length elements.now + length made ≤ 64 }
+    requires short { length elements.now + length made ≤ MOST_ELEMENTS }
     ensures { IfOk result (λ p. maps elements.now g o function made hub.old ≡ performed_of p hub.new) }
 {
     let mut made = made;
@@ -158,7 +160,7 @@ pub fn go_on_mapping(
 ) -> Result<Performed, AllocError>
     requires may_make { MayMake g hub.old }
     requires named { IsObject hub.old.scenario o }
-    requires short { length elements + length made ≤ 64 }
+    requires short { length elements + length made ≤ MOST_ELEMENTS }
     ensures { IfOk result (λ p. map_goes_on elements g o function made hub.old ≡ performed_of p hub.new) }
 {
     if elements.len() == 0 {

@@ -2,6 +2,7 @@
 ghost use Rattle.std.specs.Prelude.{◌≡◌, ◌≤◌, Some, IfOk, IfSome, length};
 ghost use Rattle.machine.specs.Requests.{plain_greenlet, plain_greenlets, plain_greenlet_list, fault_operand, whom_operand, any_greenlet, raw_greenlet, int_operand};
 ghost use Rattle.hub_requests.specs.Operands.{plain_scalar};
+ghost use Rattle.gv_values.specs.declared.limits.TheConstants.{MOST_ELEMENTS};
 
 use gv_values::{FaultKind, Scalar, Value, Whom};
 use hub_state::Hub;
@@ -92,7 +93,7 @@ pub fn plain_greenlet_list(
     value: &Value,
 ) -> Result<Option<Items<u32>>, AllocError>
     ensures greenlets { IfOk result (λ greenlets. greenlets ≡ plain_greenlet_list hub.now value.now) }
-    ensures few { IfOk result (λ greenlets. IfSome greenlets (λ gs. length gs ≤ 64)) }
+    ensures few { IfOk result (λ greenlets. IfSome greenlets (λ gs. length gs ≤ MOST_ELEMENTS)) }
 {
     match value {
         Value::List(list) => Ok(plain_greenlets(alloc, hub, list.scalars())?),

@@ -6,16 +6,15 @@ ghost use Rattle.machine.specs.Holds.{outcome_of_phase};
 ghost use Rattle.machine.specs.Soundness.{phase_of as phase_of_greenlet};
 ghost use Rattle.machine.specs.Greenlets.{nobody};
 ghost use Rattle.hub_state.specs.Phases.{phase_of_stage, shown};
+ghost use Rattle.machine.specs.declared.limits.TheConstants.{MOST_GREENLETS};
 
 use body_frames::Parked;
 use gv_values::{Outcome, Value};
+use machine::limits::MOST_GREENLETS;
 use scenario_tree::Items;
 use std::alloc::{AllocError, Global};
 use std::marker::Model;
 use std::mem;
-
-/// The most greenlets of a run.
-const MOST_GREENLETS: usize = 20000;
 
 /// How far a greenlet has come, as the hub keeps it: it has the body of one that is parked, and not of the one that
 /// moves.
@@ -124,6 +123,7 @@ pub struct Greenlets {
 
 impl Model for Greenlets {
     ghost use Rattle.std.specs.Prelude.{◌≤◌, List, length};
+    ghost use Rattle.machine.specs.declared.limits.TheConstants.{MOST_GREENLETS};
     ghost use Rattle.machine.specs.declared.state.Greenlet.{Greenlet as Shown};
     ghost use Rattle.scenario_tree.specs.Trees.{trees};
 
@@ -133,7 +133,7 @@ impl Model for Greenlets {
 
     ghost view = { λ gs. gs.all.items };
 
-    ghost invariant = { λ gs. length gs.all.items ≤ 20000 };
+    ghost invariant = { λ gs. length gs.all.items ≤ MOST_GREENLETS };
 }
 
 impl Greenlets {
@@ -162,14 +162,14 @@ impl Greenlets {
 
     /// Whether one more may be made.
     pub(crate) fn has_room(&self) -> bool
-        ensures { result ≡ nat_lt (length self.now) 20000 }
+        ensures { result ≡ nat_lt (length self.now) MOST_GREENLETS }
     {
         self.all.len() < MOST_GREENLETS
     }
 
     /// One more, the newest. `AllocError`: memory is wanting; nothing has changed.
     pub(crate) fn push(&mut self, greenlet: Greenlet) -> Result<(), AllocError>
-        requires { length self.old < 20000 }
+        requires { length self.old < MOST_GREENLETS }
         ensures ok { OnOk result (self.new ≡ self.old ++ greenlet ∷ []) }
         ensures err { OnErr result (self.new ≡ self.old) }
     {

@@ -7,6 +7,7 @@ ghost use Rattle.machine.specs.Soundness.{phase_of as phase_of_greenlet};
 ghost use Rattle.machine.specs.Greenlets.{no_frame, greenlet, with_phase, frame_of, add_greenlet, has_greenlet_left};
 ghost use Rattle.machine.specs.Deliveries.{arguments};
 ghost use Rattle.hub_state.specs.Phases.{phase_of_stage};
+ghost use Rattle.machine.specs.declared.limits.TheConstants.{MOST_GREENLETS};
 
 use crate::greenlets::{Greenlet, Stage};
 use crate::hub::Hub;
@@ -111,7 +112,7 @@ impl Hub {
         function: u32,
         arguments: Items<Value>,
     ) -> Result<u32, AllocError>
-        requires { length self.old.greenlets < 20000 }
+        requires { length self.old.greenlets < MOST_GREENLETS }
         ensures made { OnOk result (self.new ≡ add_greenlet raw parent function arguments self.old) }
         ensures number { IfOk result (λ g. g ≡ length self.old.greenlets) }
     {

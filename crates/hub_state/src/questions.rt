@@ -10,10 +10,7 @@ use gv_values::{Answer, JobOutcome};
 use hub_objects::{Change, Posted, any_outstanding, arrive_at, job_at};
 use std::alloc::{AllocError, Global};
 use trace_text::{Blocked, Line};
-use world_rules::Question;
-
-/// The greatest moment.
-const LAST_MOMENT: u64 = 4611686018427387903;
+use world_rules::{LAST_MOMENT, Question};
 
 /// The job of this number has come to this.
 fn arrive_in(jobs: &mut Vec<Posted>, j: u32, outcome: JobOutcome)

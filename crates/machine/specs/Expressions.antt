@@ -20,6 +20,7 @@ use Rattle.gv_values.specs.Values.{value_eq, value_of_scalar, scalar_of_value}
 use Rattle.gv_values.specs.Arithmetic.{arith_of}
 use Rattle.machine.specs.declared.state.Local.{Local}
 use Rattle.machine.specs.State.{Name}
+use Rattle.gv_values.specs.declared.limits.TheConstants.{MOST_ELEMENTS}
 
 -- the same bytes
 abbrev pub name_eq : Name → Name → Bool
@@ -80,7 +81,7 @@ truth b = Outcome.Value (Value.Bool b)
 -- the list with one scalar more; a list is no scalar, and a full list takes none
 abbrev pub pushed_to : List Scalar → Option Scalar → Outcome
 pushed_to xs None = type_error
-pushed_to xs (Some x) = if nat_lt (length xs) 64 then Outcome.Value (Value.List (xs ++ x ∷ [])) else Outcome.Fault FaultKind.ValueError
+pushed_to xs (Some x) = if nat_lt (length xs) MOST_ELEMENTS then Outcome.Value (Value.List (xs ++ x ∷ [])) else Outcome.Fault FaultKind.ValueError
 
 -- `push`: the operand is a list, and what is pushed a scalar
 abbrev pub pushed : Value → Value → Outcome
@@ -182,13 +183,13 @@ scalars (v ∷ vs) = with_more (scalar_of_value v) (scalars vs)
     with_more (Some x) (Some xs) = Some (x ∷ xs)
     with_more _ _ = None
 
--- `list`: all elements are evaluated before a list among them is refused, and no list has more than 64
+-- `list`: all elements are evaluated before a list among them is refused, and no list has more than `MOST_ELEMENTS`
 abbrev pub listed : Result (List Value) FaultKind → Outcome
 listed (Err f) = Outcome.Fault f
 listed (Ok vs) = as_list (scalars vs)
   where
     as_list : Option (List Scalar) → Outcome
-    as_list (Some xs) = if nat_lt 64 (length xs) then Outcome.Fault FaultKind.ValueError else Outcome.Value (Value.List xs)
+    as_list (Some xs) = if nat_lt MOST_ELEMENTS (length xs) then Outcome.Fault FaultKind.ValueError else Outcome.Value (Value.List xs)
     as_list None = type_error
 
 -- `and`: the second operand is a truth value too, and is not looked at where the first is false

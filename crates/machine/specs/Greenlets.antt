@@ -8,6 +8,7 @@ use Rattle.machine.specs.State.{State, Name}
 use Rattle.scenario_tree.specs.declared.tree.Function.{Function}
 use Rattle.machine.specs.declared.state.Greenlet.{Greenlet}
 use Rattle.machine.specs.declared.state.Frame.{Frame}
+use Rattle.machine.specs.declared.limits.TheConstants.{MOST_GREENLETS}
 
 -- in place of a greenlet that was never made: one that has ended, so that nothing comes of its handle
 abbrev pub nobody : Greenlet
@@ -31,7 +32,7 @@ function_of f s = unwrap_or (slice_get s.scenario.functions f) no_function
 
 -- one more greenlet may be made
 abbrev pub has_greenlet_left : State → Bool
-has_greenlet_left s = nat_lt (length s.greenlets) 20000
+has_greenlet_left s = nat_lt (length s.greenlets) MOST_GREENLETS
 
 -- the state with one greenlet more, New with these arguments, whose number is the number of those before it
 abbrev pub add_greenlet : Bool → ℕ → ℕ → List Value → State → State

@@ -11,7 +11,7 @@ use Rattle.gv_values.specs.declared.job.Answer.{Answer}
 use Rattle.gv_values.specs.declared.job.JobOutcome.{JobOutcome}
 use Rattle.world_rules.specs.declared.question.Question.{Question}
 use Rattle.world_rules.specs.Legal.{moment_of}
-use Rattle.world_rules.specs.Script.{last_moment}
+use Rattle.world_rules.specs.declared.limits.TheConstants.{LAST_MOMENT}
 use Rattle.trace_text.specs.declared.line.Blocked.{Blocked}
 use Rattle.machine.specs.declared.items.Item.{Item}
 use Rattle.machine.specs.declared.state.JobState.{JobState}
@@ -56,7 +56,7 @@ any_outstanding js = list_any is_outstanding js
 
 -- a wait until the least deadline, or for a job; none where nothing can come
 abbrev pub asks_wait : State → Option ℕ → Option Question
-asks_wait s (Some t) = Some (Question.Wait (Some (min t last_moment)))
+asks_wait s (Some t) = Some (Question.Wait (Some (min t LAST_MOMENT)))
 asks_wait s None = if any_outstanding s.jobs then Some (Question.Wait None) else None
 
 -- Poll where an item has a number; else a wait until the least deadline, or for a job; none where nothing can come

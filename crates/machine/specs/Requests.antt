@@ -30,6 +30,7 @@ use Rattle.machine.specs.Ends.{ended}
 use Rattle.machine.specs.Hosts.{host_of, is_above}
 use Rattle.machine.specs.Waits.{Performed, nothing, raises, comes, maps, offered}
 use Rattle.machine.specs.Objects.{with_object, object_at, name_of_object, with_flag, sets_of, at_bound, after_release, takes_value, with_shut, members_of}
+use Rattle.machine.specs.declared.limits.TheConstants.{MOST_KILLS, MOST_LINKS}
 
 -- ---- kinds of operands
 
@@ -114,7 +115,7 @@ abbrev pub sends : FaultKind → ℕ → State → Sending
 sends f g s = elim (greenlet g s).phase [
   | Phase.Done o ↦ Sending.Sent s
   | Phase.New args ↦ Sending.Sent (ended g (kept (Outcome.Fault f)) (say (Line.Throw g f) s))
-  | Phase.Live frame ↦ if nat_lt (kills_standing s) 1000000 then Sending.Sent (add_item (Delivery.Kill g f) s) else Sending.TooMany s
+  | Phase.Live frame ↦ if nat_lt (kills_standing s) MOST_KILLS then Sending.Sent (add_item (Delivery.Kill g f) s) else Sending.TooMany s
 ]
 
 -- to each in order, as far as the limit allows
@@ -139,7 +140,7 @@ link_stands kind (Some o) = link_fits kind o
 -- the link of the next number stands, or is dropped where its greenlet is Done otherwise
 abbrev pub links : ℕ → LinkKind → ℕ → State → Performed
 links g kind f s =
-    if nat_lt s.links 100000 then
+    if nat_lt s.links MOST_LINKS then
     (let t = record s { links = s.links + 1 } in
     Performed.Answers (Outcome.Value (Value.Int (pos t.links)))
     (if link_stands kind (outcome_of s (Whom.Greenlet g)) then add_item (Delivery.Link t.links g kind f) t else t))

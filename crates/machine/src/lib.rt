@@ -11,5 +11,6 @@
 pub mod arguments;
 pub mod items;
 pub mod laws;
+pub mod limits;
 pub mod request;
 pub mod state;

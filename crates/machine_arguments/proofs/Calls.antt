@@ -24,9 +24,10 @@ use Rattle.scenario_rules.specs.declared.mention.Named.{Named}
 use Rattle.scenario_rules.specs.declared.mention.Says.{Says}
 use Rattle.scenario_rules.specs.declared.mention.Says.TheVariants as says
 use Rattle.scenario_rules.specs.Declarations.{declarations, declared_as, function_as, function_entry, object_entry, parameters}
-use Rattle.scenario_rules.specs.Mentions.{block_mentions, mentions, most_timeouts, on}
+use Rattle.scenario_rules.specs.Mentions.{block_mentions, mentions, on}
+use Rattle.scenario_rules.specs.declared.limits.TheConstants.{MOST_TIMEOUTS}
 use Rattle.scenario_rules.specs.Rules.{IsWellFormed, function_refusals, is_undeclared, is_wrong_count, is_wrong_kind, past, refused, refused_names, word_refusals}
-use Rattle.scenario_tree.specs.Limits.{most_parameters}
+use Rattle.scenario_tree.specs.declared.limits.TheConstants.{MOST_PARAMETERS}
 use Rattle.body_values.specs.Few.{HasFewCalls, has_few_function}
 use Rattle.machine_arguments.proofs.Parts.{AreFew, are_few, every-block, few-right, is_few}
 
@@ -59,7 +60,7 @@ none-past most names h = by (slice_get names most) refl h
 
 -- a function that has no more parameters than it may have
 abbrev declares_few : Declared → Bool
-declares_few (declared.Function count) = nat_le count most_parameters
+declares_few (declared.Function count) = nat_le count MOST_PARAMETERS
 declares_few d = true
 
 abbrev declares_few_if_any : Option Declared → Bool
@@ -85,16 +86,16 @@ objects-few : (ds : List Declaration) → list_all is_few_entry (map object_entr
 objects-few [] = refl
 objects-few (d ∷ ds) = objects-few ds
 
-function-few : (f : Function) → length f.parameters ≤ most_parameters → declares_few (function_as f) ≡ true
+function-few : (f : Function) → length f.parameters ≤ MOST_PARAMETERS → declares_few (function_as f) ≡ true
 function-few f h = by f.is_raw
   where
     by : (b : Bool) → declares_few (if b then declared.RawBody else declared.Function (length f.parameters)) ≡ true
     by true = refl
     by false = grind (arith, nat_tests)
 
-parameters-few : (c : Scenario) (f : Function) → function_refusals c f ≡ [] → length f.parameters ≤ most_parameters
+parameters-few : (c : Scenario) (f : Function) → function_refusals c f ≡ [] → length f.parameters ≤ MOST_PARAMETERS
 parameters-few c f h =
-    rw length-map at (none-past most_parameters (parameters f) (no-names rule.TooMany (past most_parameters (parameters f)) (none-right _ _ (none-left _ _ (none-left _ _ h)))))
+    rw length-map at (none-past MOST_PARAMETERS (parameters f) (no-names rule.TooMany (past MOST_PARAMETERS (parameters f)) (none-right _ _ (none-left _ _ (none-left _ _ h)))))
 
 functions-few : (c : Scenario) (fs : List Function) → flat_map (function_refusals c) fs ≡ [] → list_all is_few_entry (map function_entry fs) ≡ true
 functions-few c [] h = refl
@@ -114,7 +115,7 @@ declared-few c x h =
 call-few : (n : ℕ) (o : Option Declared) → declares_few_if_any o ≡ true → not (is_some o) ≡ false →
     ◌≡◌ {A = Bool} (elim o [ Some (declared.Function count) ↦ false | Some d ↦ true | None ↦ false ]) false →
     ◌≡◌ {A = Bool} (elim o [ Some (declared.Function count) ↦ not (n == count) | Some d ↦ false | None ↦ false ]) false →
-    nat_le n most_parameters ≡ true
+    nat_le n MOST_PARAMETERS ≡ true
 call-few n None h i j k = absurd (cc i)
 call-few n (Some (declared.Function count)) h i j k = grind (arith, nat_tests)
 call-few n (Some d) h i j k = absurd (cc j)
@@ -139,8 +140,8 @@ words-few c f (m ∷ ms) known h =
 
 body-few : (c : Scenario) (f : Function) → ((x : Name) → declares_few_if_any (declared_as c x) ≡ true) → function_refusals c f ≡ [] → has_few_function f ≡ true
 body-few c f known h =
-    every-block f.body most_timeouts
-    (few-right (on f.line (map (λ x. says.Gives x) f.parameters)) (block_mentions most_timeouts f.body)
+    every-block f.body MOST_TIMEOUTS
+    (few-right (on f.line (map (λ x. says.Gives x) f.parameters)) (block_mentions MOST_TIMEOUTS f.body)
     (words-few c f (mentions f) known (none-right _ (flat_map (word_refusals c f) (mentions f)) h)))
 
 bodies-few : (c : Scenario) (fs : List Function) → ((x : Name) → declares_few_if_any (declared_as c x) ≡ true) → flat_map (function_refusals c) fs ≡ [] → list_all has_few_function fs ≡ true

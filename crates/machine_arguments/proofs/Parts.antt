@@ -13,7 +13,7 @@ use Rattle.scenario_tree.specs.declared.tree.Except.{Except, Except-F, out-Excep
 use Rattle.scenario_tree.specs.declared.tree.Expression.{Expression}
 use Rattle.scenario_tree.specs.declared.tree.Giving.{Giving}
 use Rattle.scenario_tree.specs.declared.tree.Statement.{Statement, Statement-F, roll-Statement}
-use Rattle.scenario_tree.specs.Limits.{most_parameters}
+use Rattle.scenario_tree.specs.declared.limits.TheConstants.{MOST_PARAMETERS}
 use Rattle.scenario_rules.specs.declared.mention.Mention.{Mention}
 use Rattle.scenario_rules.specs.declared.mention.Says.{Says}
 use Rattle.scenario_rules.specs.declared.mention.Says.TheVariants as says
@@ -27,7 +27,7 @@ use Rattle.body_values.proofs.Few.{action-few, except-few, has_few_form, stateme
 
 -- a call that has no more arguments than a function may have parameters
 abbrev pub is_few : Says → Bool
-is_few (says.Calls n x) = nat_le n most_parameters
+is_few (says.Calls n x) = nat_le n MOST_PARAMETERS
 is_few word = true
 
 -- so is each call that these lines make
@@ -80,10 +80,10 @@ few : (x : Action) (form : Action-F Action Except Statement) → out-Action x �
 few x form e h = action-few x ∙ ap has_few_form e ∙ h
 
 gives : (g : Giving) (line : ℕ) → AreFew (on line (giving_says g)) → gives_few g ≡ true
-gives (Giving.Spawn f es) line h = (and_parts (nat_le (length es) most_parameters) (are_few (on line (all_say es))) h).0
-gives (Giving.SpawnLater ms f es) line h = (and_parts (nat_le (length es) most_parameters) (are_few (on line (all_say es))) h).0
-gives (Giving.New f es) line h = (and_parts (nat_le (length es) most_parameters) (are_few (on line (all_say es))) h).0
-gives (Giving.GroupSpawn x f es) line h = (and_parts (nat_le (length es) most_parameters) (are_few (on line (all_say es))) h).0
+gives (Giving.Spawn f es) line h = (and_parts (nat_le (length es) MOST_PARAMETERS) (are_few (on line (all_say es))) h).0
+gives (Giving.SpawnLater ms f es) line h = (and_parts (nat_le (length es) MOST_PARAMETERS) (are_few (on line (all_say es))) h).0
+gives (Giving.New f es) line h = (and_parts (nat_le (length es) MOST_PARAMETERS) (are_few (on line (all_say es))) h).0
+gives (Giving.GroupSpawn x f es) line h = (and_parts (nat_le (length es) MOST_PARAMETERS) (are_few (on line (all_say es))) h).0
 gives g line h = refl
 
 without-target : (target : Option Name) (g : Giving) (line : ℕ) → AreFew (on line (target_says target ++ giving_says g)) → AreFew (on line (giving_says g))

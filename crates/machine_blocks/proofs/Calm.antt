@@ -55,6 +55,7 @@ use Rattle.machine.specs.Run.{GoingOn, Passed, Source, after_answer, after_deliv
 use Rattle.machine.specs.Settle.{settle}
 use Rattle.machine.specs.Waits.{Performed, add_member, comes, completes, drawn, draws, gathered, late_outcome, made_member, map_ends, map_goes_on, maps, nothing, offered, outcome_of_greenlet, parked, peeks_item, puts_item, raises, takes_item, until_of, waits}
 use Rattle.machine_blocks.specs.Blocks.{block_lines, is_block}
+use Rattle.machine.specs.declared.limits.TheConstants.{MOST_KILLS, MOST_LINKS}
 
 -- the block lines of the step under way are these
 abbrev IsCalm : List Line → State → Type 0
@@ -244,11 +245,11 @@ sends-calm ls f k s h = by (greenlet k s).phase
     by : (p : Phase) → CalmSending ls (elim p [
       | Phase.Done o ↦ Sending.Sent s
       | Phase.New args ↦ Sending.Sent (ended k (kept (Outcome.Fault f)) (say (Line.Throw k f) s))
-      | Phase.Live frame ↦ if nat_lt (kills_standing s) 1000000 then Sending.Sent (add_item (Delivery.Kill k f) s) else Sending.TooMany s
+      | Phase.Live frame ↦ if nat_lt (kills_standing s) MOST_KILLS then Sending.Sent (add_item (Delivery.Kill k f) s) else Sending.TooMany s
     ])
     by (Phase.Done o) = h
     by (Phase.New args) = ended-calm ls k (kept (Outcome.Fault f)) (say (Line.Throw k f) s) (more-calm ls s.lines (Line.Throw k f) refl h)
-    by (Phase.Live frame) = kill (nat_lt (kills_standing s) 1000000)
+    by (Phase.Live frame) = kill (nat_lt (kills_standing s) MOST_KILLS)
 
 sends_all-calm : (ls : List Line) (f : FaultKind) (ks : List ℕ) (s : State) → IsCalm ls s → CalmSending ls (sends_all f ks s)
 sends_all-calm ls f [] s h = h
@@ -267,7 +268,7 @@ kills-calm ls g word f ks how s h = by (sends_all f ks s) (sends_all-calm ls f k
     by (Sending.Sent t) c = comes-calm ls g word (Waiting.Kill ks) how t c
 
 links-calm : (ls : List Line) (k : ℕ) (kind : LinkKind) (f : ℕ) (s : State) → IsCalm ls s → CalmPerformed ls (links k kind f s)
-links-calm ls k kind f s h = by (nat_lt s.links 100000) (link_stands kind (outcome_of s (Whom.Greenlet k)))
+links-calm ls k kind f s h = by (nat_lt s.links MOST_LINKS) (link_stands kind (outcome_of s (Whom.Greenlet k)))
   where
     by : (b c : Bool) → CalmPerformed ls (if b then
         Performed.Answers (Outcome.Value (Value.Int (pos (s.links + 1)))) (if c then add_item (Delivery.Link (s.links + 1) k kind f) (record s { links = s.links + 1 }) else record s { links = s.links + 1 })

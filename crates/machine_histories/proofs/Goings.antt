@@ -42,6 +42,7 @@ use Rattle.machine_offers.specs.Offers.{is_offered_on, offers_at, offers_of}
 use Rattle.machine_offers.proofs.Offers.{AreKeptOffers, FitsTwins, IsFewer, fewer-same, free-offerless, is_offering, member-offers, offers-add, offers-drop, offers-drop_of, offers-map, offers-set, offers-settle, waits-spared}
 use Rattle.machine_offers.proofs.Anys.{any-all, any-end, any-filter, any-kept}
 use Rattle.machine_histories.proofs.Ties.{Ties, IsOwn, is_over, is_begun, has_wake, any-settle, begun-more, count-other, find-other, free-wakeless, lawful-own, live-begun, live-not-over, over-more, phase-here, ties-add, ties-drop, ties-greenlets, ties-own, ties-say, ties-settle, told-other}
+use Rattle.machine.specs.declared.limits.TheConstants.{MOST_KILLS}
 
 -- ---- what is parked
 
@@ -90,7 +91,7 @@ known-set c gs g x items objects e k w =
 
 -- so many kills stand at most, each body fits, what texts name is there, and each offer has its Wake
 pub record Sides (s : State) : Type 0 where
-  pub kills : kills_standing s ≤ 1000000
+  pub kills : kills_standing s ≤ MOST_KILLS
   pub bodies : IsFitText s.scenario
   pub fit : list_all (is_fit_greenlet s.scenario) s.greenlets ≡ true
   pub known : KnownIf s.scenario s.greenlets s.items s.objects
@@ -183,7 +184,7 @@ count-end p (y ∷ xs) x =
     omega (arith, l, r, rest)
 
 pub sides-settle : (s : State) → Sides s → Sides (settle s)
-sides-settle s m = record { kills = subst (λ n. n ≤ 1000000) (sym (count-settled (λ n d. is_kill d) (map (holds s) s.items) s.next_ready s.items)) m.kills; bodies = m.bodies; fit = m.fit; known = known-settle s m.known; offers = offers-settle s m.offers }
+sides-settle s m = record { kills = subst (λ n. n ≤ MOST_KILLS) (sym (count-settled (λ n d. is_kill d) (map (holds s) s.items) s.next_ready s.items)) m.kills; bodies = m.bodies; fit = m.fit; known = known-settle s m.known; offers = offers-settle s m.offers }
 
 pub sides-drop : (test : Delivery → Bool) (s : State) → AreKeptOffers s.objects (drop_items test s).items s.next_since → Sides s → Sides (drop_items test s)
 sides-drop test s offers m = let less = count-less (λ (i : Item). not (test i.delivery)) (λ (i : Item). is_kill i.delivery) s.items in let k = m.kills in record { kills = omega (arith, less, k); bodies = m.bodies; fit = m.fit; known = known-items s.scenario s.greenlets s.items (drop_items test s).items s.objects (λ p e. all-filter _ p p s.items (λ i k z. z) e) m.known; offers = offers }

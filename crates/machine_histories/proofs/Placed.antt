@@ -8,7 +8,8 @@ use Rattle.scenario_tree.specs.declared.tree.Scenario.{Scenario}
 use Rattle.scenario_rules.specs.declared.mention.Mention.{Mention}
 use Rattle.scenario_rules.specs.declared.mention.Says.{Says}
 use Rattle.scenario_rules.specs.declared.mention.Says.TheVariants as says
-use Rattle.scenario_rules.specs.Mentions.{block_mentions, most_timeouts}
+use Rattle.scenario_rules.specs.Mentions.{block_mentions}
+use Rattle.scenario_rules.specs.declared.limits.TheConstants.{MOST_TIMEOUTS}
 use Rattle.machine.specs.declared.items.Delivery.{Delivery}
 use Rattle.machine.specs.declared.items.Item.{Item}
 use Rattle.machine.specs.declared.state.Frame.{Frame}
@@ -77,9 +78,9 @@ function-fit c f h = by (slice_get c.functions f) refl
     by None e = refl
     by (Some x) e = all-get (is_fit_function c) c.functions f x e h
 
-body-fit : (c : Scenario) (f : Function) (raw : Bool) → (if raw then f.is_raw else true) ≡ true → is_fit_function c f ≡ true → fits_block c (not raw) most_timeouts f.body ≡ true
-body-fit c f true e h = subst (λ b. fits_block c (not b) most_timeouts f.body ≡ true) e h
-body-fit c f false e h = all-imply _ _ (block_mentions most_timeouts f.body) (λ (m : Mention). may-more c (not f.is_raw) m.says) h
+body-fit : (c : Scenario) (f : Function) (raw : Bool) → (if raw then f.is_raw else true) ≡ true → is_fit_function c f ≡ true → fits_block c (not raw) MOST_TIMEOUTS f.body ≡ true
+body-fit c f true e h = subst (λ b. fits_block c (not b) MOST_TIMEOUTS f.body ≡ true) e h
+body-fit c f false e h = all-imply _ _ (block_mentions MOST_TIMEOUTS f.body) (λ (m : Mention). may-more c (not f.is_raw) m.says) h
 
 pub unstarted-free : (g : ℕ) (ns : List ℕ) (gs : List Greenlet) (items : List Item) → is_unstarted (phase_of g gs) ≡ true → AreHeld gs items → AreHeldBy g ns gs items
 unstarted-free g ns gs items u h = held-by g ns gs items (λ n z. absurd (none n (phase_of g gs) u z)) h
@@ -95,9 +96,9 @@ pub placed-start : (c : Scenario) (g : ℕ) (gs : List Greenlet) (items : List I
 placed-start c g gs items locals u text fit h =
     let f = unwrap_or (slice_get c.functions (at gs g).function) no_function in
     let own = left (if (at gs g).raw then is_raw_function c (at gs g).function else true) (fits_phase c (not (at gs g).raw) (at gs g).phase) (greenlet-fit c g gs fit) in
-    let body : fits_block c (not (at gs g).raw) most_timeouts f.body ≡ true = body-fit c f (at gs g).raw own (function-fit c (at gs g).function text) in
+    let body : fits_block c (not (at gs g).raw) MOST_TIMEOUTS f.body ≡ true = body-fit c f (at gs g).raw own (function-fit c (at gs g).function text) in
     placed-of c g (unwind (Todo.Statements f.body ∷ []) [] Leaving.Normally locals) gs items []
-    (unwind-fit c (not (at gs g).raw) [] (Todo.Statements f.body ∷ []) [] Leaving.Normally locals (and_from (fits_block c (not (at gs g).raw) most_timeouts f.body) true body refl) refl)
+    (unwind-fit c (not (at gs g).raw) [] (Todo.Statements f.body ∷ []) [] Leaving.Normally locals (and_from (fits_block c (not (at gs g).raw) MOST_TIMEOUTS f.body) true body refl) refl)
     (unstarted-free g [] gs items u h)
 
 -- ---- a body goes on

@@ -7,12 +7,13 @@ use Rattle.machine.specs.Landing.{Next}
 use Rattle.machine.specs.Requests.{kills_standing}
 use Rattle.machine.specs.Run.{Source, run_from}
 use Rattle.machine_trace_laws.specs.Reached.{Reached, state_of_next}
+use Rattle.machine.specs.declared.limits.TheConstants.{MOST_KILLS}
 
 -- the items are at most eleven for each greenlet, one for each link that was made and one for each kill that is not
 -- delivered, and of these only so many stand
 pub record IsBounded (s : State) : Type 0 where
   pub items : length s.items ≤ 11 * length s.greenlets + s.links + kills_standing s
-  pub kills : kills_standing s ≤ 1000000
+  pub kills : kills_standing s ≤ MOST_KILLS
 
 -- so it is wherever the hub comes to stand, whatever is answered
 abbrev pub ItemsBounded : Type 0

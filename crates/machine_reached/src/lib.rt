@@ -8,7 +8,7 @@ ghost use Rattle.machine_reached.specs.Meant.{TextsAreMeant};
 ghost use Rattle.machine_reached.specs.Offers.{OffersStand};
 
 /// In every state of a run the items are at most eleven for each greenlet, one for each link and one for each kill that
-/// is not delivered, of which at most 1000000 stand; so they are in the last one.
+/// is not delivered, of which at most `MOST_KILLS` stand; so they are in the last one.
 pub fn items_are_bounded()
     ensures always { ItemsBounded }
     ensures last { LastBounded }

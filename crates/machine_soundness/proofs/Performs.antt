@@ -45,6 +45,7 @@ use Rattle.machine_soundness.proofs.Chains.{host-turned, phase-kept}
 use Rattle.machine_soundness.proofs.States.{Moves, moving, meants, kept-settle, kept-greenlets, moves-say, moves-settle, moves-drop, moves-add, moves-object, moves-made, moves-timeout, moves-link, moves-live, moves-ended, plain-phased, host-settle}
 use Rattle.machine_soundness.proofs.Landings.{goes_on-soundly, answered-soundly, lands-soundly}
 use Rattle.machine_soundness.proofs.Requests.{IsFine, comes-fine, maps-fine, typed-fine, on_host-fine, moves-spawned, moves-flag, plain_greenlet-raw, plain_greenlet_list-raw, members-raw, object-plain, offered-fine, moves-shut}
+use Rattle.machine.specs.declared.limits.TheConstants.{MOST_KILLS, MOST_LINKS}
 
 -- ---- kills
 
@@ -71,12 +72,12 @@ sends-fine f k g h s r m = by (greenlet k s).phase refl
     by : (p : Phase) → (greenlet k s).phase ≡ p → IsSent g h (elim p [
       | Phase.Done o ↦ Sending.Sent s
       | Phase.New args ↦ Sending.Sent (ended k (kept (Outcome.Fault f)) (say (Line.Throw k f) s))
-      | Phase.Live frame ↦ if nat_lt (kills_standing s) 1000000 then Sending.Sent (add_item (Delivery.Kill k f) s) else Sending.TooMany s
+      | Phase.Live frame ↦ if nat_lt (kills_standing s) MOST_KILLS then Sending.Sent (add_item (Delivery.Kill k f) s) else Sending.TooMany s
     ])
     by (Phase.Done o) e = m
     by (Phase.New args) e =
         moves-ended k (kept (Outcome.Fault f)) g h (say (Line.Throw k f) s) (not-live s.greenlets k g args e m.live) (not-live s.greenlets k h args e m.host.live) (moves-say _ g h s m)
-    by (Phase.Live frame) e = kill (nat_lt (kills_standing s) 1000000) (live-at s.greenlets k (ap (λ (x : Phase). is_live (Some x)) e))
+    by (Phase.Live frame) e = kill (nat_lt (kills_standing s) MOST_KILLS) (live-at s.greenlets k (ap (λ (x : Phase). is_live (Some x)) e))
 
 -- a kill that is sent makes none raw
 pub sends-raw : (f : FaultKind) (k : ℕ) (s t : State) (ks : List ℕ) → sends f k s ≡ Sending.Sent t → AreNotRaw s.greenlets ks → AreNotRaw t.greenlets ks
@@ -89,7 +90,7 @@ sends-raw f k s t ks e a = by (greenlet k s).phase e
     by : (p : Phase) → ◌≡◌ {A = Sending} (elim p [
       | Phase.Done o ↦ Sending.Sent s
       | Phase.New args ↦ Sending.Sent (ended k (kept (Outcome.Fault f)) (say (Line.Throw k f) s))
-      | Phase.Live frame ↦ if nat_lt (kills_standing s) 1000000 then Sending.Sent (add_item (Delivery.Kill k f) s) else Sending.TooMany s
+      | Phase.Live frame ↦ if nat_lt (kills_standing s) MOST_KILLS then Sending.Sent (add_item (Delivery.Kill k f) s) else Sending.TooMany s
     ]) (Sending.Sent t) → AreNotRaw t.greenlets ks
     by (Phase.Done o) e = let same : s ≡ t = cc e in subst (λ (x : State). AreNotRaw x.greenlets ks) same a
     by (Phase.New args) e =
@@ -97,7 +98,7 @@ sends-raw f k s t ks e a = by (greenlet k s).phase e
         let same : u ≡ t = cc e in
         let here : AreNotRaw u.greenlets ks = all-imply _ _ ks (λ j b. ap not (raw-set s.greenlets k j (record (greenlet k s) { phase = Phase.Done (kept (Outcome.Fault f)) }) refl) ∙ b) a in
         subst (λ (x : State). AreNotRaw x.greenlets ks) same here
-    by (Phase.Live frame) e = kill (nat_lt (kills_standing s) 1000000) e
+    by (Phase.Live frame) e = kill (nat_lt (kills_standing s) MOST_KILLS) e
 
 sends_all-fine : (f : FaultKind) (ks : List ℕ) (g h : ℕ) (s : State) → AreNotRaw s.greenlets ks → Moves g h s → IsSent g h (sends_all f ks s)
 sends_all-fine f [] g h s a m = m
@@ -146,7 +147,7 @@ timeout-unclaimed s h = all-imply _ _ s.items (λ i. none i.delivery) (meants s 
     none (Delivery.Link n k kind x) m = refl
 
 links-fine : (k : ℕ) (kind : LinkKind) (f g h : ℕ) (s : State) → Moves g h s → IsFine g h (links k kind f s)
-links-fine k kind f g h s m = by (nat_lt s.links 100000) (link_stands kind (outcome_of s (Whom.Greenlet k)))
+links-fine k kind f g h s m = by (nat_lt s.links MOST_LINKS) (link_stands kind (outcome_of s (Whom.Greenlet k)))
   where
     by : (b c : Bool) → IsFine g h (if b then
         Performed.Answers (Outcome.Value (Value.Int (pos (s.links + 1)))) (if c then add_item (Delivery.Link (s.links + 1) k kind f) (record s { links = s.links + 1 }) else record s { links = s.links + 1 })

@@ -58,6 +58,7 @@ use Rattle.machine.specs.Waits.{Performed, add_member, comes, completes, drawn, 
 use Rattle.machine.proofs.Scripts.{answers_of-posts}
 use Rattle.trace_text.specs.LineTexts.{answers_told}
 use Rattle.machine_told.specs.Told.{post_told, posts_told}
+use Rattle.machine.specs.declared.limits.TheConstants.{MOST_KILLS, MOST_LINKS}
 
 -- ---- lines of a step
 
@@ -303,11 +304,11 @@ sends-own f k s h = by (greenlet k s).phase
     by : (p : Phase) → OwnSending (elim p [
       | Phase.Done o ↦ Sending.Sent s
       | Phase.New args ↦ Sending.Sent (ended k (kept (Outcome.Fault f)) (say (Line.Throw k f) s))
-      | Phase.Live frame ↦ if nat_lt (kills_standing s) 1000000 then Sending.Sent (add_item (Delivery.Kill k f) s) else Sending.TooMany s
+      | Phase.Live frame ↦ if nat_lt (kills_standing s) MOST_KILLS then Sending.Sent (add_item (Delivery.Kill k f) s) else Sending.TooMany s
     ])
     by (Phase.Done o) = h
     by (Phase.New args) = ended-own k (kept (Outcome.Fault f)) (say (Line.Throw k f) s) (more s.lines (Line.Throw k f) refl h)
-    by (Phase.Live frame) = kill (nat_lt (kills_standing s) 1000000)
+    by (Phase.Live frame) = kill (nat_lt (kills_standing s) MOST_KILLS)
 
 sends_all-own : (f : FaultKind) (ks : List ℕ) (s : State) → Own s → OwnSending (sends_all f ks s)
 sends_all-own f [] s h = h
@@ -326,7 +327,7 @@ kills-own g word f ks how s h = by (sends_all f ks s) (sends_all-own f ks s h)
     by (Sending.Sent t) c = comes-own g word (Waiting.Kill ks) how t c
 
 links-own : (k : ℕ) (kind : LinkKind) (f : ℕ) (s : State) → Own s → OwnPerformed (links k kind f s)
-links-own k kind f s h = by (nat_lt s.links 100000) (link_stands kind (outcome_of s (Whom.Greenlet k)))
+links-own k kind f s h = by (nat_lt s.links MOST_LINKS) (link_stands kind (outcome_of s (Whom.Greenlet k)))
   where
     by : (b c : Bool) → OwnPerformed (if b then
         Performed.Answers (Outcome.Value (Value.Int (pos (s.links + 1)))) (if c then add_item (Delivery.Link (s.links + 1) k kind f) (record s { links = s.links + 1 }) else record s { links = s.links + 1 })

@@ -69,6 +69,7 @@ use Rattle.machine_well_formed.proofs.Bodies.{IsFitDid, IsFitUnwound, body_move-
 use Rattle.machine_histories.proofs.Placed.{frame-fits, placed-of, unstarted-free}
 use Rattle.machine_histories.proofs.Landed.{answered-at, goes-frame, goes-loose, goes_on-at, lands-at}
 use Rattle.machine_histories.proofs.Asked.{IsFineAt, is_offer, comes-at, goes-ends, goes-hosted, goes-spawned, maps-at, offered-at, on_host-at, own-print, typed-at}
+use Rattle.machine.specs.declared.limits.TheConstants.{MOST_KILLS, MOST_LINKS}
 
 -- ---- kills
 
@@ -122,7 +123,7 @@ goes-unrun b f k g h args s e m =
       held = held-ended k o [] t (unstarted-free k [] s.greenlets s.items (ap is_unstarted phase) m.held);
     }
 
-goes-kill : (b : History) (f : FaultKind) (k g h : ℕ) (s : State) → Moves g h (add_item (Delivery.Kill k f) s) → nat_lt (kills_standing s) 1000000 ≡ true → Goes b g h s →
+goes-kill : (b : History) (f : FaultKind) (k g h : ℕ) (s : State) → Moves g h (add_item (Delivery.Kill k f) s) → nat_lt (kills_standing s) MOST_KILLS ≡ true → Goes b g h s →
     Goes b g h (add_item (Delivery.Kill k f) s)
 goes-kill b f k g h s moves low m =
     let all : kills_standing (add_item (Delivery.Kill k f) s) ≡ kills_standing s + 1 = count-end (λ (i : Item). is_kill i.delivery) s.items (record { since = s.next_since; delivery = Delivery.Kill k f; ready = None }) in
@@ -140,7 +141,7 @@ goes-kill b f k g h s moves low m =
 sends-at : (b : History) (f : FaultKind) (k g h : ℕ) (s : State) → (greenlet k s).raw ≡ false → Goes b g h s → IsSentAt b g h (sends f k s)
 sends-at b f k g h s r m = by (greenlet k s).phase refl
   where
-    kill : (c : Bool) → nat_lt (kills_standing s) 1000000 ≡ c → is_live (phase_of k s.greenlets) ≡ true →
+    kill : (c : Bool) → nat_lt (kills_standing s) MOST_KILLS ≡ c → is_live (phase_of k s.greenlets) ≡ true →
         IsSentAt b g h (if c then Sending.Sent (add_item (Delivery.Kill k f) s) else Sending.TooMany s)
     kill true low l =
         goes-kill b f k g h s
@@ -150,11 +151,11 @@ sends-at b f k g h s r m = by (greenlet k s).phase refl
     by : (p : Phase) → (greenlet k s).phase ≡ p → IsSentAt b g h (elim p [
       | Phase.Done o ↦ Sending.Sent s
       | Phase.New args ↦ Sending.Sent (ended k (kept (Outcome.Fault f)) (say (Line.Throw k f) s))
-      | Phase.Live frame ↦ if nat_lt (kills_standing s) 1000000 then Sending.Sent (add_item (Delivery.Kill k f) s) else Sending.TooMany s
+      | Phase.Live frame ↦ if nat_lt (kills_standing s) MOST_KILLS then Sending.Sent (add_item (Delivery.Kill k f) s) else Sending.TooMany s
     ])
     by (Phase.Done o) e = m
     by (Phase.New args) e = goes-unrun b f k g h args s e m
-    by (Phase.Live frame) e = kill (nat_lt (kills_standing s) 1000000) refl (live-at s.greenlets k (ap (λ (x : Phase). is_live (Some x)) e))
+    by (Phase.Live frame) e = kill (nat_lt (kills_standing s) MOST_KILLS) refl (live-at s.greenlets k (ap (λ (x : Phase). is_live (Some x)) e))
 
 sends_all-at : (b : History) (f : FaultKind) (ks : List ℕ) (g h : ℕ) (s : State) → AreNotRaw s.greenlets ks → Goes b g h s → IsSentAt b g h (sends_all f ks s)
 sends_all-at b f [] g h s a m = m
@@ -230,7 +231,7 @@ goes-linked b k kind f g h s z m =
     other j e = turned (s.links + 1) j (next-other j s.links (left (nat_le j s.links) _ (m.ties.links j e)))
 
 links-at : (b : History) (k : ℕ) (kind : LinkKind) (f g h : ℕ) (s : State) → (HasMain s.scenario → fits_link s.scenario kind f ≡ true) → Goes b g h s → IsFineAt b g h (links k kind f s)
-links-at b k kind f g h s z m = by (nat_lt s.links 100000) (link_stands kind (outcome_of s (Whom.Greenlet k)))
+links-at b k kind f g h s z m = by (nat_lt s.links MOST_LINKS) (link_stands kind (outcome_of s (Whom.Greenlet k)))
   where
     by : (d c : Bool) → IsFineAt b g h (if d then
         Performed.Answers (Outcome.Value (Value.Int (pos (s.links + 1)))) (if c then add_item (Delivery.Link (s.links + 1) k kind f) (record s { links = s.links + 1 }) else record s { links = s.links + 1 })

@@ -1,5 +1,5 @@
 -- The answers of a script are legal throughout a run.
-use Rattle.std.proofs.Common.{◌≡◌, refl, ap, ◌∙◌, sym, subst, ℕ, zero, suc, ◌+◌, ◌^◌, ◌≤◌, ◌<◌, Bool, true, false, List, [], ◌∷◌, ◌++◌, length, map, min, cond, append_assoc, arith}
+use Rattle.std.proofs.Common.{◌≡◌, refl, ap, ◌∙◌, sym, subst, ℕ, zero, suc, ◌+◌, ◌≤◌, ◌<◌, Bool, true, false, List, [], ◌∷◌, ◌++◌, length, map, min, cond, append_assoc, arith}
 use Rattle.std.proofs.lemmas.Bool.Decides.{nat_tests}
 use Rattle.std.proofs.lemmas.List.{append-nil}
 use Rattle.std.proofs.lemmas.List.Elements.{All-nil}
@@ -10,7 +10,8 @@ use Rattle.world_rules.specs.declared.question.LogEntry.{LogEntry}
 use Rattle.world_rules.specs.declared.question.PostedJob.{PostedJob}
 use Rattle.world_rules.specs.declared.question.Question.{Question}
 use Rattle.world_rules.specs.Legal.{AreLegal, IsLegal, MayAsk, is_answered, is_posted, last_answered_moment as last_answered, moment_of, outstanding, posted}
-use Rattle.world_rules.specs.Script.{due_at, due_job, last_moment, scripted, without_done}
+use Rattle.world_rules.specs.Script.{due_at, due_job, scripted, without_done}
+use Rattle.world_rules.specs.declared.limits.TheConstants.{LAST_MOMENT}
 use Rattle.world.specs.Ruled.{IsSound}
 use Rattle.world.proofs.Sound.{scripted_legal, sound_answer, sound_post}
 use Rattle.scenario_tree.specs.declared.tree.Scenario.{Scenario}
@@ -49,7 +50,7 @@ counted-fresh n k (q ∷ before) p rest h low =
     unlike : q.number ≡ n → n + suc (length before) ≤ k → (q.number == k) ≡ false
     unlike e l = grind (arith, nat_tests, e, l)
 
-soon : (now takes : ℕ) → due_at now takes < 2 ^ 62
+soon : (now takes : ℕ) → due_at now takes ≤ LAST_MOMENT
 soon now takes = omega arith
 
 posts-sound : (posts : List Post) (before : List PostedJob) (answers : List Answer) (jobs : List DueJob) (moment now : ℕ) → IsSound before answers jobs moment →
@@ -111,7 +112,7 @@ may-ask posts answers s q e h = by (any_numbered s.items) (least_deadline s.item
         let u = h.unanswered j.0 j.1 j.2.there j.2.waits in
         filtered-some (λ (p : PostedJob). not (is_answered p.number answers)) posts (posted (j.0 + 1) j.1.job) u.0 (ap not u.1)
 
-    bound : (t : ℕ) → min t last_moment < 2 ^ 62
+    bound : (t : ℕ) → min t LAST_MOMENT ≤ LAST_MOMENT
     bound t = omega arith
 
     of : (c : Bool) → any_outstanding s.jobs ≡ c → ◌≡◌ {A = Option Question} (if c then Some (Question.Wait None) else None) (Some q) → MayAsk posts answers q
@@ -120,7 +121,7 @@ may-ask posts answers s q e h = by (any_numbered s.items) (least_deadline s.item
 
     by : (c : Bool) (o : Option ℕ) → ◌≡◌ {A = Option Question} (if c then Some Question.Poll else asks_wait s o) (Some q) → MayAsk posts answers q
     by true o e = let same : Question.Poll ≡ q = cc e in subst (MayAsk posts answers) same tt
-    by false (Some t) e = let same : Question.Wait (Some (min t last_moment)) ≡ q = cc e in subst (MayAsk posts answers) same (bound t)
+    by false (Some t) e = let same : Question.Wait (Some (min t LAST_MOMENT)) ≡ q = cc e in subst (MayAsk posts answers) same (bound t)
     by false None e = of (any_outstanding s.jobs) refl e
 
 -- ---- parts of a run
@@ -242,4 +243,4 @@ script-legal c turns moves tick text =
     (sound-left c at_first p.0 part.lines part.posts part.next [] 0 0 p.1 p.2 first))
   where
     first : IsSound [] [] [] 0
-    first = record { outstanding_are = refl; due = All-nil (λ (job : DueJob). job.due < 2 ^ 62); answered = λ n e. refl; timely = refl; fits = omega arith }
+    first = record { outstanding_are = refl; due = All-nil (λ (job : DueJob). job.due ≤ LAST_MOMENT); answered = λ n e. refl; timely = refl; fits = omega arith }

@@ -4,7 +4,7 @@ use Rattle.std.proofs.Math.Nat.{min-le_right}
 use Rattle.std.proofs.lemmas.List.{append-nil, map-append}
 use Rattle.std.proofs.lemmas.List.Folds.{list_any-append}
 use Rattle.std.proofs.lemmas.Bool.Decides.{nat_tests}
-use Rattle.std.specs.Prelude.{◌==◌, ◌||◌, not, slice_get, slice_index_or, slice_set, ◌^◌, Option, Some, None, is_some, is_none, Contains, min, if◌then◌else◌}
+use Rattle.std.specs.Prelude.{◌==◌, ◌||◌, not, slice_get, slice_index_or, slice_set, ◌≤◌, Option, Some, None, is_some, is_none, Contains, min, if◌then◌else◌}
 use Rattle.gv_values.specs.declared.fault.FaultKind.{FaultKind}
 use Rattle.gv_values.specs.declared.job.Answer.{Answer}
 use Rattle.gv_values.specs.declared.job.Job.{Job}
@@ -12,7 +12,7 @@ use Rattle.gv_values.specs.declared.job.JobOutcome.{JobOutcome}
 use Rattle.world_rules.specs.declared.question.PostedJob.{PostedJob}
 use Rattle.world_rules.specs.declared.question.Question.{Question}
 use Rattle.world_rules.specs.Legal.{IsLegal, MayAsk, is_answered, is_done_of, outstanding, posted as posted_job}
-use Rattle.world_rules.specs.Script.{last_moment}
+use Rattle.world_rules.specs.declared.limits.TheConstants.{LAST_MOMENT}
 use Rattle.machine.specs.declared.items.Item.{Item}
 use Rattle.machine.specs.declared.state.JobState.{JobState}
 use Rattle.machine.specs.declared.state.Post.{Post}
@@ -227,8 +227,8 @@ some-outstanding before answers (j ∷ jobs) h e = by j.outcome (is_answered (su
     by (Some o) b e k rest = subst (λ c. 0 < length (if not c then (posted_job (suc before) j.job ∷ outstanding (as_posted (suc before) jobs) answers) else outstanding (as_posted (suc before) jobs) answers)) e (rest k)
 
 -- a moment that is no later than the last
-before-last : (t : ℕ) → min t last_moment < 2 ^ 62
-before-last t = let le = min-le_right t last_moment in omega (arith, le)
+before-last : (t : ℕ) → min t LAST_MOMENT ≤ LAST_MOMENT
+before-last t = min-le_right t LAST_MOMENT
 
 pub may-ask : (posts : List PostedJob) (answers : List Answer) (q : Question) (s : State) → s.posts ≡ [] → KnowsJobs posts answers s → question s ≡ Some q → MayAsk posts answers q
 may-ask posts answers q s none k e = by (any_numbered s.items) (least_deadline s.items) e
@@ -243,7 +243,7 @@ may-ask posts answers q s none k e = by (any_numbered s.items) (least_deadline s
     by : (b : Bool) (d : Option ℕ) → (if b then Some Question.Poll else asks_wait s d) ≡ Some q → MayAsk posts answers q
     by true d e = subst (MayAsk posts answers) (let w : Question.Poll ≡ q = cc e in w) tt
     by false None e = jobs (any_outstanding s.jobs) refl e
-    by false (Some t) e = subst (MayAsk posts answers) (let w : Question.Wait (Some (min t last_moment)) ≡ q = cc e in w) (before-last t)
+    by false (Some t) e = subst (MayAsk posts answers) (let w : Question.Wait (Some (min t LAST_MOMENT)) ≡ q = cc e in w) (before-last t)
 
 -- ---- the beginning
 

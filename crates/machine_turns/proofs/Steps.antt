@@ -43,6 +43,7 @@ use Rattle.machine.specs.Requests.{typed, done, makes, starts_at, greenlet_value
 use Rattle.gv_values.specs.Jobs.{job_of}
 use Rattle.machine.specs.Moves.{timeout_item, does, move, look}
 use Rattle.machine.specs.Deliveries.{waiting_of, without_wait, interrupts, late, calls, called, delivers, since_of_wake, without_offer_by}
+use Rattle.machine.specs.declared.limits.TheConstants.{MOST_KILLS, MOST_LINKS}
 
 -- what no step changes but an item that comes or goes, a settling or a job
 pub record Core : Type 0 where
@@ -295,7 +296,7 @@ Sends P (Sending.TooMany s) = P s
 
 sends-keeps : (P : State → Type 0) (keeps : Keeps P) (f : FaultKind) (g : ℕ) (s : State) → P s → Sends P (sends f g s)
 unfolding Sends
-sends-keeps P keeps f g s u = by (greenlet g s).phase (nat_lt (kills_standing s) 1000000)
+sends-keeps P keeps f g s u = by (greenlet g s).phase (nat_lt (kills_standing s) MOST_KILLS)
   where
     by : (p : Phase) (b : Bool) → Sends P (elim p [
       | Phase.Done o ↦ Sending.Sent s
@@ -327,7 +328,7 @@ kills-keeps P keeps g word f gs how s u = by (sends_all f gs s) (sends_all-keeps
 
 links-keeps : (P : State → Type 0) (keeps : Keeps P) (k : ℕ) (kind : LinkKind) (f : ℕ) (s : State) → P s → Comes P (links k kind f s)
 unfolding Comes
-links-keeps P keeps k kind f s u = by (nat_lt s.links 100000) (link_stands kind (outcome_of s (Whom.Greenlet k)))
+links-keeps P keeps k kind f s u = by (nat_lt s.links MOST_LINKS) (link_stands kind (outcome_of s (Whom.Greenlet k)))
   where
     t : State
     t = record s { links = s.links + 1 }

@@ -24,7 +24,8 @@ use Rattle.scenario_rules.specs.declared.mention.Mention.{Mention}
 use Rattle.scenario_rules.specs.declared.mention.Says.{Says}
 use Rattle.scenario_rules.specs.declared.mention.Says.TheVariants as says
 use Rattle.scenario_rules.specs.declared.mention.Wanted.TheVariants as wanted
-use Rattle.scenario_rules.specs.Mentions.{Part, action_says, block_mentions, command_says, each_part, except_says, expression_says, giving_says, most_timeouts, on, statement_mentions, statement_says, target_says, timeout_says}
+use Rattle.scenario_rules.specs.Mentions.{Part, action_says, block_mentions, command_says, each_part, except_says, expression_says, giving_says, on, statement_mentions, statement_says, target_says, timeout_says}
+use Rattle.scenario_rules.specs.declared.limits.TheConstants.{MOST_TIMEOUTS}
 use Rattle.scenario_rules.specs.Layers.{action_mentions, except_mentions, handler_mentions}
 use Rattle.scenario_rules.proofs.Layers.{except_out, in_block, in_handlers}
 use Rattle.machine.specs.declared.state.Leaving.{Leaving}
@@ -389,7 +390,7 @@ one-left c hub line zero h = let l = line-fits c hub line (says.AsksHub ∷ says
 one-left c hub line (suc n) h = (hub-asked c hub (says.AsksHub ∷ []) refl (line-fits c hub line (says.AsksHub ∷ []) h), grind (arith, nat_tests))
 
 fewer-left : (n : ℕ) (todo : List Todo) (silent : Bool) → left_in todo - 1 ≡ left_in (Todo.Within n silent ∷ todo)
-fewer-left n todo silent = let e : most_timeouts - length (withins todo) - 1 ≡ most_timeouts - suc (length (withins todo)) = omega arith in e
+fewer-left n todo silent = let e : MOST_TIMEOUTS - length (withins todo) - 1 ≡ MOST_TIMEOUTS - suc (length (withins todo)) = omega arith in e
 
 action_move-fit : (hub : Bool) (ns : List ℕ) (x : Action-F Action Except Statement) (line : ℕ) (a : Around) (todo : List Todo) → fits a.scenario hub (form_mentions x line (left_in todo)) ≡ true →
     IsFitTodo a.scenario hub ns [] todo → IsFitDid a.scenario hub ns (action_move x a todo)

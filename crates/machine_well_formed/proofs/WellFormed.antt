@@ -22,9 +22,10 @@ use Rattle.scenario_rules.specs.declared.mention.Says.{Says}
 use Rattle.scenario_rules.specs.declared.mention.Says.TheVariants as says
 use Rattle.scenario_rules.specs.declared.mention.Wanted.{Wanted}
 use Rattle.scenario_rules.specs.Declarations.{declared_as, function_as, function_entry, named_functions, named_objects, object_entry, parameters, repeated, different, given_names, is_kind}
-use Rattle.scenario_rules.specs.Mentions.{block_mentions, mentions, most_timeouts, on}
-use Rattle.scenario_tree.specs.Limits.{most_parameters}
-use Rattle.scenario_rules.specs.Rules.{IsWellFormed, function_refusals, is_hub_in_raw_body, is_too_deep, is_undeclared, is_wrong_count, is_wrong_head, is_wrong_kind, most_functions, most_local_names, most_objects, past, refused, refused_names, word_refusals}
+use Rattle.scenario_rules.specs.Mentions.{block_mentions, mentions, on}
+use Rattle.scenario_rules.specs.declared.limits.TheConstants.{MOST_LOCAL_NAMES, MOST_TIMEOUTS}
+use Rattle.scenario_tree.specs.declared.limits.TheConstants.{MOST_FUNCTIONS, MOST_OBJECTS, MOST_PARAMETERS}
+use Rattle.scenario_rules.specs.Rules.{IsWellFormed, function_refusals, is_hub_in_raw_body, is_too_deep, is_undeclared, is_wrong_count, is_wrong_head, is_wrong_kind, past, refused, refused_names, word_refusals}
 use Rattle.machine.specs.Expressions.{function_number, object_number}
 use Rattle.machine.specs.Greenlets.{no_function}
 use Rattle.machine.proofs.Halves.{right}
@@ -214,15 +215,15 @@ mention-fits c f m h =
 
 function-fits : (c : Scenario) (f : Function) → function_refusals c f ≡ [] → is_fit_function c f ≡ true
 function-fits c f h =
-    let words = none-right (refused_names reason.DeclaredTwice (repeated (parameters f)) ++ refused reason.WrongCount f.line (is_wrong_head f) ++ refused_names reason.TooMany (past most_parameters (parameters f))
-    ++ refused_names reason.TooMany (past most_local_names (different (given_names f)))) (flat_map (word_refusals c f) (mentions f)) h in
+    let words = none-right (refused_names reason.DeclaredTwice (repeated (parameters f)) ++ refused reason.WrongCount f.line (is_wrong_head f) ++ refused_names reason.TooMany (past MOST_PARAMETERS (parameters f))
+    ++ refused_names reason.TooMany (past MOST_LOCAL_NAMES (different (given_names f)))) (flat_map (word_refusals c f) (mentions f)) h in
     let all : fits c (not f.is_raw) (mentions f) ≡ true = none-each (word_refusals c f) (λ (m : Mention). may_say c (not f.is_raw) m.says) (mention-fits c f) (mentions f) words in
     right (fits c (not f.is_raw) (on f.line (map (λ x. says.Gives x) f.parameters))) _
-    (sym (list_all-append (λ (m : Mention). may_say c (not f.is_raw) m.says) (on f.line (map (λ x. says.Gives x) f.parameters)) (block_mentions most_timeouts f.body)) ∙ all)
+    (sym (list_all-append (λ (m : Mention). may_say c (not f.is_raw) m.says) (on f.line (map (λ x. says.Gives x) f.parameters)) (block_mentions MOST_TIMEOUTS f.body)) ∙ all)
 
 pub well-formed-fits : (c : Scenario) → IsWellFormed c → IsFitText c
 unfolding IsWellFormed
 well-formed-fits c h =
     none-each (function_refusals c) (is_fit_function c) (function-fits c) c.functions
-    (none-right (refused_names reason.TooMany (past most_objects (named_objects c)) ++ refused_names reason.TooMany (past most_functions (named_functions c))
+    (none-right (refused_names reason.TooMany (past MOST_OBJECTS (named_objects c)) ++ refused_names reason.TooMany (past MOST_FUNCTIONS (named_functions c))
     ++ refused_names reason.DeclaredTwice (repeated (named_objects c ++ named_functions c))) (flat_map (function_refusals c) c.functions) h)

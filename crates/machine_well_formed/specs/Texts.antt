@@ -13,7 +13,8 @@ use Rattle.scenario_rules.specs.declared.mention.Wanted.TheVariants as wanted
 use Rattle.scenario_rules.specs.Declarations.{is_kind}
 use Rattle.scenario_tree.specs.declared.tree.Object.{Object as Declared}
 use Rattle.machine_well_formed.specs.Kinds.{declared_kinds, kinds}
-use Rattle.scenario_rules.specs.Mentions.{block_mentions, most_timeouts}
+use Rattle.scenario_rules.specs.Mentions.{block_mentions}
+use Rattle.scenario_rules.specs.declared.limits.TheConstants.{MOST_TIMEOUTS}
 use Rattle.scenario_rules.specs.Layers.{handler_mentions}
 use Rattle.machine.specs.declared.items.Delivery.{Delivery}
 use Rattle.machine.specs.declared.items.Item.{Item}
@@ -81,7 +82,7 @@ fits_todo c hub left (Todo.Within n silent) = nat_lt 0 left
 
 -- how many timeout blocks more may be opened inside these
 abbrev pub left_in : List Todo → ℕ
-left_in todo = most_timeouts - length (withins todo)
+left_in todo = MOST_TIMEOUTS - length (withins todo)
 
 abbrev pub fits_rest : Scenario → Bool → List Todo → Bool
 fits_rest c hub [] = true
@@ -161,7 +162,7 @@ is_fit_greenlet c x = (if x.raw then is_raw_function c x.function else true) && 
 
 -- the body of the function; only one that is not raw may ask the hub
 abbrev pub is_fit_function : Scenario → Function → Bool
-is_fit_function c f = fits_block c (not f.is_raw) most_timeouts f.body
+is_fit_function c f = fits_block c (not f.is_raw) MOST_TIMEOUTS f.body
 
 -- each body of the scenario fits
 abbrev pub IsFitText : Scenario → Type 0

@@ -1,5 +1,5 @@
 -- What a pass still knows after a step.
-use Rattle.std.proofs.Common.{◌≡◌, true, ℕ, zero, suc, ◌+◌, ◌++◌, Some, slice_get, ◌*◌, ◌<◌, List, [], ◌∷◌, length, set, sym, refl, ap, ◌∙◌, subst, arith, get_or, get_or-set_other, length-set}
+use Rattle.std.proofs.Common.{◌≡◌, true, ℕ, zero, suc, ◌+◌, ◌++◌, Some, slice_get, ◌*◌, ◌<◌, ◌≤◌, List, [], ◌∷◌, length, set, sym, refl, ap, ◌∙◌, subst, arith, get_or, get_or-set_other, length-set}
 use mathlib.Core.Logic.{dite}
 use native.Mathlib.Decide.{ℕ_discrete}
 use Rattle.std.proofs.lemmas.Grind.{get_or-set_at}
@@ -12,6 +12,7 @@ use Rattle.gv_values.specs.declared.job.Job.{Job}
 use Rattle.native_board.specs.declared.views.HubView.{HubView}
 use Rattle.native_board.specs.Plays.{marked, counted}
 use Rattle.native_board.specs.Passes.{Place, is_settled, hub_in, hub_of, IsMarked, IsSent, IsHub}
+use Rattle.gv_values.specs.declared.limits.TheConstants.{MOST_WORKERS}
 
 pub marked_again : (s t u : Place) (i : ℕ) (x y : HubCell) → IsMarked s t i x → IsMarked t u i y → IsMarked s u i y
 marked_again s t u i x y a b = record {
@@ -42,7 +43,7 @@ hub_again_at s t cells i x g low ok h table me cells_are made_is = let all = h.a
   same_cells = ap (λ v. v.cells) is ∙ (cells_are ∙ ap (λ l. set l i x) h.same_cells);
   all_made = ap (λ v. v.made) is ∙ (made_is ∙ (h.all_made ∙ sym len));
   table = ap (λ z. z.words) table ∙ (h.table ∙ ap (λ n. 4 * n + 1) (sym len));
-  few = subst (λ n. n < 17) (sym len) h.few;
+  few = subst (λ n. n ≤ MOST_WORKERS) (sym len) h.few;
   settled = λ j. settled_set cells i j x (omega arith) ok (h.settled j);
 }
 

@@ -1,5 +1,5 @@
 -- One more cell of a sweep.
-use Rattle.std.proofs.Common.{◌≡◌, ◌≢◌, true, ℕ, zero, suc, ◌+◌, ◌*◌, ◌<◌, List, [], ◌∷◌, ◌++◌, length, get_or, set, sym, refl, ap, ◌∙◌, subst, Option, None, option_to_list, length-append, append_assoc, append-nil}
+use Rattle.std.proofs.Common.{◌≡◌, ◌≢◌, true, ℕ, zero, suc, ◌+◌, ◌*◌, ◌≤◌, List, [], ◌∷◌, ◌++◌, length, get_or, set, sym, refl, ap, ◌∙◌, subst, Option, None, option_to_list, length-append, append_assoc, append-nil}
 use Rattle.std.proofs.lemmas.List.{set-set, get_or_at}
 use mathlib.Core.Logic.{dite}
 use native.Mathlib.Decide.{ℕ_discrete}
@@ -15,6 +15,7 @@ use Rattle.native_board.specs.declared.views.View.TheVariants.{Hub}
 use Rattle.native_board.specs.Rules.{hub_cell}
 use Rattle.native_board.specs.Plays.{marked, saw, taken}
 use Rattle.native_board.specs.Passes.{Place, hub_in, hub_of, is_settled, IsMarked, IsHub, BecomesHub, swept_cell, finished_at, after_sweep, finished, is_sent, SweepsNext, SweepsTo}
+use Rattle.gv_values.specs.declared.limits.TheConstants.{MOST_WORKERS}
 
 pub hub_again : (s t : Place) (g : HubView) (cells xs : List HubCell) → IsHub s cells → t.table_id ≡ s.table_id → t.me ≡ (Hub g, []) → g.made ≡ (hub_of s).made → g.cells ≡ xs → length xs ≡ length cells
     → ((i : ℕ) → is_settled (get_or xs i Vacant) ≡ true) → IsHub t xs
@@ -23,7 +24,7 @@ hub_again s t g cells xs h table me made same len ok = let is : hub_of t ≡ g =
   same_cells = ap (λ v. v.cells) is ∙ same;
   all_made = ap (λ v. v.made) is ∙ (made ∙ (h.all_made ∙ sym len));
   table = ap (λ z. z.words) table ∙ (h.table ∙ ap (λ n. 4 * n + 1) (sym len));
-  few = subst (λ n. n < 17) (sym len) h.few;
+  few = subst (λ n. n ≤ MOST_WORKERS) (sym len) h.few;
   settled = ok;
 }
 

@@ -1,5 +1,5 @@
 -- What a pass knows.
-use Rattle.std.specs.Prelude.{◌≡◌, Bool, true, false, ℕ, ◌+◌, ◌*◌, ◌<◌, ◌++◌, ◌∷◌, List, [], length, slice_index_or, option_to_list, Option, Some, None, slice_set}
+use Rattle.std.specs.Prelude.{◌≡◌, Bool, true, false, ℕ, ◌+◌, ◌*◌, ◌<◌, ◌≤◌, ◌++◌, ◌∷◌, List, [], length, slice_index_or, option_to_list, Option, Some, None, slice_set}
 use Rattle.atomic_table.specs.declared.shared.Seat.{Seat}
 use Rattle.native_board.specs.declared.views.Ended.{Ended}
 use Rattle.native_board.specs.declared.views.CellState.{CellState}
@@ -20,6 +20,7 @@ use Rattle.native_board.specs.Plays.{marked, counted, asked, begun_with}
 use Rattle.native_board.specs.declared.views.WorkerView.{WorkerView}
 use Rattle.native_board.specs.declared.views.View.{View}
 use Rattle.native_board.specs.declared.views.View.TheVariants.{Hub, Worker}
+use Rattle.gv_values.specs.declared.limits.TheConstants.{MOST_WORKERS}
 
 -- the hub's view, or an empty one of another seat
 abbrev pub hub_in : View → HubView
@@ -63,7 +64,7 @@ Place = Seat (Unit {0}) View
 
 -- the seat is the hub's, and knows that cell i is x
 abbrev pub IsHubAt : Place → ℕ → HubCell → Type 0
-IsHubAt s i x = (s.me ≡ (Hub (hub_of s), [])) × (i < (hub_of s).made) × (hub_cell (hub_of s) i ≡ x) × (4 * i + 4 < s.table_id.words) × (i < 17)
+IsHubAt s i x = (s.me ≡ (Hub (hub_of s), [])) × (i < (hub_of s).made) × (hub_cell (hub_of s) i ≡ x) × (4 * i + 4 < s.table_id.words) × (i ≤ MOST_WORKERS)
 
 -- the hub's seat after a step at cell i
 pub record IsMarked (s t : Place) (i : ℕ) (x : HubCell) : Type 0 where
@@ -79,7 +80,7 @@ pub record IsSent (s t : Place) (i k : ℕ) (j : Job) : Type 0 where
 
 -- the seat is that of the worker of cell i, which is so far
 abbrev pub IsWorkerAt : Place → ℕ → WorkerStage → Type 0
-IsWorkerAt s i w = (s.me ≡ (Worker (worker_of s), [])) × ((worker_of s).cell ≡ i) × ((worker_of s).stage ≡ w) × (4 * i + 4 < s.table_id.words) × (i < 17)
+IsWorkerAt s i w = (s.me ≡ (Worker (worker_of s), [])) × ((worker_of s).cell ≡ i) × ((worker_of s).stage ≡ w) × (4 * i + 4 < s.table_id.words) × (i ≤ MOST_WORKERS)
 
 -- the worker's seat after a step
 pub record IsStaged (s t : Place) (w : WorkerStage) : Type 0 where
@@ -128,7 +129,7 @@ pub record IsHub (s : Place) (cells : List HubCell) : Type 0 where
   pub same_cells : (hub_of s).cells ≡ cells
   pub all_made : (hub_of s).made ≡ length cells
   pub table : s.table_id.words ≡ 4 * length cells + 1
-  pub few : length cells < 17
+  pub few : length cells ≤ MOST_WORKERS
   pub settled : (i : ℕ) → is_settled (slice_index_or cells i Vacant) ≡ true
 
 -- the seat is that of the worker of this cell
@@ -136,7 +137,7 @@ pub record IsWorker (s : Place) (i : ℕ) : Type 0 where
   pub knows : s.me ≡ (Worker (worker_of s), [])
   pub own : (worker_of s).cell ≡ i
   pub table : 4 * i + 4 < s.table_id.words
-  pub few : i < 17
+  pub few : i ≤ MOST_WORKERS
 
 -- a cell, once a sweep has read this state in it
 abbrev pub swept_cell : CellState → HubCell → HubCell

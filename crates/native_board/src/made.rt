@@ -1,5 +1,6 @@
 //! A new board, with the tokens of the hub and of each worker.
-ghost use Rattle.std.specs.Prelude.{◌+◌, ◌<◌, length};
+ghost use Rattle.std.specs.Prelude.{◌+◌, ◌<◌, ◌≤◌, length};
+ghost use Rattle.gv_values.specs.declared.limits.TheConstants.{MOST_WORKERS};
 ghost use Rattle.native_board.specs.Made.{AreFresh};
 
 use crate::board::Board;
@@ -20,7 +21,7 @@ pub struct WorkerPasses {
     // A seat at the board, which exists in proofs alone.
     at: Snapshot<Seat<(), View>>,
     ghost fresh: { AreFresh at.value.table_id passes.items next },
-    ghost few: { next + length passes.items < 17 },
+    ghost few: { next + length passes.items ≤ MOST_WORKERS },
 }
 
 /// A new board with the passes that were made with it.
@@ -41,9 +42,9 @@ impl Board {
     ghost use Rattle.native_board.specs.Boards.{board_id, hub_board, hub_view};
     ghost use Rattle.native_board.specs.Given.{passes_board, next_cell, passes_left};
 
-    /// A board of 1 to 16 free cells, with the hub's pass and that of a worker for each cell.
+    /// A board of 1 to `MOST_WORKERS` free cells, with the hub's pass and that of a worker for each cell.
     pub fn new(alloc: Global, cells: u32) -> Result<Made, AllocError>
-        requires { (0 < cells) × (cells ≤ 16) }
+        requires { (0 < cells) × (cells ≤ MOST_WORKERS) }
         ensures hub_board { IfOk result (λ m. hub_board m.hub ≡ board_id m.board) }
         ensures hub_view { IfOk result (λ m. hub_view m.hub ≡ begun cells cells) }
         ensures free { IfOk result (λ m. (i : ℕ) → i < cells → KnowsFree (hub_view m.hub) i) }

@@ -16,13 +16,14 @@ pub struct HubPass {
 
 impl HubPass {
     ghost use Rattle.std.specs.Prelude.{IsTrue, ◌↔◌, ◌≡◌, ◌≤◌, length};
+    ghost use Rattle.gv_values.specs.declared.limits.TheConstants.{MOST_WORKERS};
     ghost use Rattle.native_board.specs.Passes.{KnowsFree};
     ghost use Rattle.native_board.specs.Boards.{hub_view};
 
-    /// The number of cells of its board, at most 16.
+    /// The number of cells of its board, at most `MOST_WORKERS`.
     pub fn cells(&self) -> u32
         ensures all { result ≡ length (hub_view self.now).cells }
-        ensures few { result ≤ 16 }
+        ensures few { result ≤ MOST_WORKERS }
     {
         self.cells.len() as u32
     }

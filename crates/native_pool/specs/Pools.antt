@@ -5,7 +5,7 @@ use Rattle.world_rules.specs.declared.question.PostedJob.{PostedJob}
 use Rattle.world_rules.specs.declared.question.Question.{Question}
 use Rattle.world_rules.specs.declared.question.LogEntry.{LogEntry}
 use Rattle.world_rules.specs.Legal.{posts_of, answers_of}
-use Rattle.world_rules.specs.Script.{last_moment}
+use Rattle.world_rules.specs.declared.limits.TheConstants.{LAST_MOMENT}
 use Rattle.native_board.specs.declared.views.HubCell.TheVariants.{Stopped}
 use Rattle.native_board.specs.declared.views.HubView.{HubView}
 use Rattle.native_board.specs.Rules.{hub_cell}
@@ -46,7 +46,7 @@ passed p = p.reading - p.began
 
 -- its moment is what the clock says
 abbrev pub IsTimely : Pool → Type 0
-IsTimely p = p.moment ≡ min (passed p) last_moment
+IsTimely p = p.moment ≡ min (passed p) LAST_MOMENT
 
 -- an Elapsed comes only where the moment asked for has come by the clock
 abbrev pub HasCome : Pool → Question → Answer → Type 0

@@ -3,6 +3,7 @@
 ghost use Rattle.std.specs.Prelude.{◌≡◌, ℕ, ◌<◌, ◌≤◌, ◌++◌, ◌∷◌, [], true, false, List, length, vec_len, vec_capacity, slice_index_or, IsNone, IfSome, OnOk, OnErr, IsTrue, ◌↔◌, IsFalse};
 ghost use Rattle.std.specs.Arc.{arc_value};
 ghost use Rattle.gv_values.specs.declared.job.Job.{Job};
+ghost use Rattle.gv_values.specs.declared.limits.TheConstants.{MOST_WORKERS};
 ghost use Rattle.world_rules.specs.Jobs.{eval};
 ghost use Rattle.world_rules.specs.Legal.{posted};
 ghost use Rattle.native_board.specs.Boards.{board_id, hub_board, hub_view};
@@ -11,15 +12,12 @@ ghost use Rattle.native_board.specs.declared.views.HubCell.TheVariants.{Stopped}
 ghost use Rattle.native_board.specs.Passes.{KnowsFree, is_sent, Sweeps, finished};
 ghost use Rattle.native_pool.specs.Desks.{CanTake, has_workers, SameCells, Fills, Refills, Settles, Hands, HandsDue};
 
-use gv_values::Job;
+use gv_values::{Job, MOST_WORKERS};
 use native_board::{Board, Finished, HubPass};
 use std::alloc::{AllocError, Global};
 use std::collections::VecDeque;
 use std::sync::Arc;
 use world::{PostedJob, eval};
-
-/// The most cells of a board.
-pub(crate) const MOST_CELLS: u32 = 16;
 
 /// The board with the hub's pass, and what the hub keeps beside it.
 #[derive(Drop)]
@@ -33,9 +31,9 @@ pub struct Desk {
     // The results of the last sweep that were not handed on yet, in the order in which they were read.
     held: Vec<Finished>,
     ghost same_board: { hub_board pass ≡ board_id (arc_value board) },
-    ghost cells: { length (hub_view pass).cells ≤ 16 },
-    ghost few: { vec_len started ≤ 16 },
-    ghost room: { 16 ≤ vec_capacity held },
+    ghost cells: { length (hub_view pass).cells ≤ MOST_WORKERS },
+    ghost few: { vec_len started ≤ MOST_WORKERS },
+    ghost room: { MOST_WORKERS ≤ vec_capacity held },
     ghost used: { (i : ℕ) → is_sent (hub_cell (hub_view pass) i) ≡ true → slice_index_or started.items i false ≡ true },
 }
 
@@ -51,9 +49,9 @@ impl Desk {
         held: Vec<Finished>,
     ) -> Desk
         requires board { hub_board pass ≡ board_id (arc_value board) }
-        requires cells { length (hub_view pass).cells ≤ 16 }
-        requires few { vec_len started ≤ 16 }
-        requires room { 16 ≤ vec_capacity held }
+        requires cells { length (hub_view pass).cells ≤ MOST_WORKERS }
+        requires few { vec_len started ≤ MOST_WORKERS }
+        requires room { MOST_WORKERS ≤ vec_capacity held }
         requires unused { (i : ℕ) → is_sent (hub_cell (hub_view pass) i) ≡ false }
         ensures { desk_view result ≡ record { hub = hub_view pass; started = started.items; waiting = []; held = held.items } }
     {
@@ -104,7 +102,7 @@ impl Desk {
         ensures fills { Fills (desk_view self.old) (desk_view self.new) }
         ensures full { (i : ℕ) → CanTake (desk_view self.new) i → (desk_view self.new).waiting ≡ [] }
     {
-        for cell in 0..MOST_CELLS {
+        for cell in 0..MOST_WORKERS {
             self.fill_cell(cell);
         }
     }
@@ -200,7 +198,7 @@ impl Desk {
     pub(crate) fn is_busy(&self) -> bool
         ensures { IsFalse result → (i : ℕ) → i < vec_len self.now.started → KnowsFree (hub_view self.now.pass) i }
     {
-        for cell in 0..MOST_CELLS {
+        for cell in 0..MOST_WORKERS {
             if (cell as usize) < self.started.len() && !self.pass.is_free(cell) {
                 return true;
             }
@@ -210,7 +208,7 @@ impl Desk {
 
     /// Tells the workers of the free cells to end, and answers what is known of the board then.
     pub(crate) fn stop(self) -> HubPass
-        ensures stopped { (i : ℕ) → i < 16 → KnowsFree (hub_view self.pass) i → hub_cell (hub_view result) i ≡ Stopped }
+        ensures stopped { (i : ℕ) → i < MOST_WORKERS → KnowsFree (hub_view self.pass) i → hub_cell (hub_view result) i ≡ Stopped }
         ensures sweeps { (hub_view result).sweeps ≡ (hub_view self.pass).sweeps }
         ensures posts { (hub_view result).posts ≡ (hub_view self.pass).posts }
     {
@@ -219,7 +217,7 @@ impl Desk {
             mut pass,
             ..
         } = self;
-        for cell in 0..MOST_CELLS {
+        for cell in 0..MOST_WORKERS {
             if pass.is_free(cell) {
                 board.stop(&mut pass, cell);
             }

@@ -1,14 +1,12 @@
 //! What was posted to a pool and what it answered.
-ghost use Rattle.std.specs.Prelude.{◌≡◌, ◌<◌, ◌≤◌, ◌^◌, ◌++◌, ◌∷◌, [], OnOk, vec_len, vec_capacity, min};
+ghost use Rattle.std.specs.Prelude.{◌≡◌, ◌<◌, ◌≤◌, ◌++◌, ◌∷◌, [], OnOk, vec_len, vec_capacity, min};
 ghost use Rattle.world_rules.specs.Legal.{posted, moment_of, last_answered_moment};
-ghost use Rattle.world_rules.specs.Script.{last_moment};
+ghost use Rattle.world_rules.specs.declared.limits.TheConstants.{LAST_MOMENT};
 
 use gv_values::{Answer, Job};
 use std::alloc::{AllocError, Global};
 use world::PostedJob;
-
-/// The greatest moment.
-pub(crate) const LAST_MOMENT: u64 = (1 << 62) - 1;
+use world_rules::LAST_MOMENT;
 
 /// The posts and answers of a pool since it began, and its moment, which is not before the last answer.
 #[derive(Drop)]
@@ -17,7 +15,7 @@ pub struct History {
     pub(crate) answers: Vec<Answer>,
     pub(crate) moment: u64,
     ghost timely: { last_answered_moment answers.items ≤ moment },
-    ghost fits: { moment < 2 ^ 62 },
+    ghost fits: { moment ≤ LAST_MOMENT },
 }
 
 impl History {
@@ -48,7 +46,7 @@ impl History {
         requires { self.old.moment ≤ passed }
         ensures posts { self.new.posts ≡ self.old.posts }
         ensures answers { self.new.answers ≡ self.old.answers }
-        ensures moment { self.new.moment ≡ min passed last_moment }
+        ensures moment { self.new.moment ≡ min passed LAST_MOMENT }
     {
         self.moment = passed.min(LAST_MOMENT);
     }

@@ -1,23 +1,24 @@
 //! The world of native threads.
 ghost use Rattle.std.specs.Prelude.{◌≡◌, ℕ, ◌<◌, ◌≤◌, ◌-◌, ◌++◌, ◌∷◌, [], vec_len, vec_capacity, length, map, min, IfSome, IfOk, IsNone, is_ok};
 ghost use Rattle.std.specs.Arc.{arc_value};
+ghost use Rattle.gv_values.specs.declared.limits.TheConstants.{MOST_WORKERS};
 ghost use Rattle.native_board.specs.declared.views.HubCell.TheVariants.{Stopped};
 ghost use Rattle.native_board.specs.Rules.{hub_cell};
 ghost use Rattle.native_board.specs.Boards.{board_id, hub_view, worker_view};
 ghost use Rattle.native_board.specs.Given.{passes_board, next_cell, passes_left};
 ghost use Rattle.world_rules.specs.Legal.{moment_of, IsLegal};
-ghost use Rattle.world_rules.specs.Script.{last_moment};
+ghost use Rattle.world_rules.specs.declared.limits.TheConstants.{LAST_MOMENT};
 ghost use Rattle.native_pool.specs.Desks.{Balances, SameCells, Rests, Settles, Gives, IsDue};
 ghost use Rattle.native_pool.specs.Pools.{told_cell, numbers_from, joined_each, RefusedWhereRisen};
 ghost use Rattle.native_pool.specs.Views.{desk_view, start_cell};
 
 use crate::clock::Clock;
-use crate::desk::{Desk, MOST_CELLS};
+use crate::desk::Desk;
 use crate::ear::Ear;
 use crate::history::History;
 use crate::spawner::Spawner;
 use crate::task::{Gate, WorkerTask};
-use gv_values::{Answer, Job};
+use gv_values::{Answer, Job, MOST_WORKERS};
 use native_board::{Bell, Board, HubPass, Made, WorkerPasses};
 use std::alloc::{AllocError, Global};
 use std::marker::Model;
@@ -225,7 +226,7 @@ fn try_answer<C: Clock>(
     requires made { (hub_view desk.old.pass).made ≡ length (hub_view desk.old.pass).cells }
     requires jobs { Balances (desk_view desk.old) history.old.posts.items history.old.answers.items }
     requires timely { history.old.moment ≤ C.reading clock.old - began }
-    ensures timely { history.new.moment ≡ min (C.reading clock.new - began) last_moment }
+    ensures timely { history.new.moment ≡ min (C.reading clock.new - began) LAST_MOMENT }
     ensures later { history.old.moment ≤ history.new.moment }
     ensures posts { history.new.posts.items ≡ history.old.posts.items }
     ensures legal { IfSome result (λ answer. IsLegal history.old.posts.items history.old.answers.items question answer) }
@@ -267,7 +268,7 @@ fn await_answer<H: Wait, R: Ear, C: Clock>(
     requires made { (hub_view desk.old.pass).made ≡ length (hub_view desk.old.pass).cells }
     requires jobs { Balances (desk_view desk.old) history.old.posts.items history.old.answers.items }
     requires timely { history.old.moment ≤ C.reading clock.old - began }
-    ensures timely { history.new.moment ≡ min (C.reading clock.new - began) last_moment }
+    ensures timely { history.new.moment ≡ min (C.reading clock.new - began) LAST_MOMENT }
     ensures later { history.old.moment ≤ history.new.moment }
     ensures posts { history.new.posts.items ≡ history.old.posts.items }
     ensures legal { IsLegal history.old.posts.items history.old.answers.items question result }
@@ -329,7 +330,7 @@ impl<
     fn begin(&mut self, workers: u32) -> Result<(), AllocError>
         requires stopped { (pool_meaning self.old).runs ≡ false }
         requires some { 0 < workers }
-        requires few { workers ≤ 16 }
+        requires few { workers ≤ MOST_WORKERS }
         ensures begins { OnOk result (Begins (pool_meaning self.old) (pool_meaning self.new) workers) }
         ensures log { OnOk result (pool_log self.new []) }
         ensures refused { OnErr result (pool_meaning self.new ≡ pool_meaning self.old) }
@@ -346,9 +347,9 @@ impl<
         } = Board::new(self.alloc, workers)?;
         let board = Arc::new(self.alloc, board)?;
         let tasks = tasks(self.alloc, workers, &board, passes, &self.bell, &self.gate)?;
-        let mut started = Vec::with_capacity(self.alloc, MOST_CELLS as usize)?;
-        let mut starts = Vec::with_capacity(self.alloc, MOST_CELLS as usize)?;
-        let held = Vec::with_capacity(self.alloc, MOST_CELLS as usize)?;
+        let mut started = Vec::with_capacity(self.alloc, MOST_WORKERS as usize)?;
+        let mut starts = Vec::with_capacity(self.alloc, MOST_WORKERS as usize)?;
+        let held = Vec::with_capacity(self.alloc, MOST_WORKERS as usize)?;
         start_all(&mut self.spawner, tasks, &mut starts, &mut started);
         self.began = self.clock.now();
         self.history.restart();

@@ -17,8 +17,9 @@ use Rattle.scenario_rules.specs.declared.mention.Wanted.{Wanted}
 use Rattle.scenario_rules.specs.declared.mention.Named.{Named}
 use Rattle.scenario_rules.specs.Declarations.{declared_as, different, given_by, given_names, is_among, is_kind, is_local, parameters, repeated}
 use Rattle.scenario_rules.specs.Mentions.{mentions}
-use Rattle.scenario_rules.specs.Rules.{first_after, function_refusals, is_wrong_head, most_local_names, past, refused, refused_names, word_refusals}
-use Rattle.scenario_tree.specs.Limits.{most_parameters}
+use Rattle.scenario_rules.specs.Rules.{first_after, function_refusals, is_wrong_head, past, refused, refused_names, word_refusals}
+use Rattle.scenario_rules.specs.declared.limits.TheConstants.{MOST_LOCAL_NAMES}
+use Rattle.scenario_tree.specs.declared.limits.TheConstants.{MOST_PARAMETERS}
 use Rattle.scenario_check.specs.Sorting.{pair}
 use Rattle.scenario_check.proofs.FirstPlace.{first_both}
 use Rattle.scenario_check.proofs.Sorting.{among_by}
@@ -108,15 +109,15 @@ words_by s f names locals h k (m ∷ ms) =
 
 pub head_judged : (first p q r : Option Place) (f : Function) (again list : List Named) (reason : Option RuleReason) →
     again ≡ repeated (parameters f) → list ≡ parameters f → reason ≡ (if is_wrong_head f then Some rule.WrongCount else None) →
-    p ≡ first_after first (refused_names rule.DeclaredTwice again) → q ≡ first_after p (placed f.line reason) → r ≡ first_after q (refused_names rule.TooMany (past most_parameters list)) →
-    r ≡ first_after first (refused_names rule.DeclaredTwice (repeated (parameters f)) ++ refused rule.WrongCount f.line (is_wrong_head f) ++ refused_names rule.TooMany (past most_parameters (parameters f)))
+    p ≡ first_after first (refused_names rule.DeclaredTwice again) → q ≡ first_after p (placed f.line reason) → r ≡ first_after q (refused_names rule.TooMany (past MOST_PARAMETERS list)) →
+    r ≡ first_after first (refused_names rule.DeclaredTwice (repeated (parameters f)) ++ refused rule.WrongCount f.line (is_wrong_head f) ++ refused_names rule.TooMany (past MOST_PARAMETERS (parameters f)))
 head_judged first p q r f again list reason a l e h i j =
     let twice = refused_names rule.DeclaredTwice (repeated (parameters f)) in
     let head = refused rule.WrongCount f.line (is_wrong_head f) in
-    let many = refused_names rule.TooMany (past most_parameters (parameters f)) in
+    let many = refused_names rule.TooMany (past MOST_PARAMETERS (parameters f)) in
     let p_is : p ≡ first_after first twice = h ∙ ap (λ ns. first_after first (refused_names rule.DeclaredTwice ns)) a in
     let q_is : q ≡ first_after p head = i ∙ ap (λ x. first_after p (placed f.line x)) e ∙ ap (λ ps. first_after p ps) (refused_if rule.WrongCount f.line (is_wrong_head f)) in
-    j ∙ ap (λ ns. first_after q (refused_names rule.TooMany (past most_parameters ns))) l
+    j ∙ ap (λ ns. first_after q (refused_names rule.TooMany (past MOST_PARAMETERS ns))) l
     ∙ ap (λ z. first_after z many) (q_is ∙ ap (λ z. first_after z head) p_is)
     ∙ sym (first_both first (twice ++ head) many ∙ ap (λ z. first_after z many) (first_both first twice head))
 
@@ -125,24 +126,24 @@ known_among = among_by
 
 pub body_judged : (s : Scenario) (f : Function) (first p q : Option Place) (names : Name → Option Declared) (locals : Name → Option ℕ) (given new : List Named) (said : List Mention) →
     ((x : Name) → names x ≡ declared_as s x) → said ≡ mentions f → given ≡ flat_map given_by said → ((x : Name) → locals x ≡ lookup (pointwise nat_eq x) (map pair given)) → new ≡ different given →
-    p ≡ first_after first (refused_names rule.TooMany (past most_local_names new)) →
+    p ≡ first_after first (refused_names rule.TooMany (past MOST_LOCAL_NAMES new)) →
     q ≡ first_after p (flat_map (λ (m : Mention). placed m.line (word_reason names (λ x. is_some (locals x)) f.is_raw m.says)) said) →
-    q ≡ first_after first (refused_names rule.TooMany (past most_local_names (different (given_names f))) ++ flat_map (word_refusals s f) (mentions f))
+    q ≡ first_after first (refused_names rule.TooMany (past MOST_LOCAL_NAMES (different (given_names f))) ++ flat_map (word_refusals s f) (mentions f))
 body_judged s f first p q names locals given new said h m g k d i j =
     let all : given ≡ given_names f = g ∙ ap (λ ms. flat_map given_by ms) m in
     let local : (x : Name) → is_some (locals x) ≡ is_local f x = λ x. known_among locals given k x ∙ ap (λ ns. is_among x ns) all in
-    let many = refused_names rule.TooMany (past most_local_names (different (given_names f))) in
+    let many = refused_names rule.TooMany (past MOST_LOCAL_NAMES (different (given_names f))) in
     j ∙ ap (λ ps. first_after p ps) (words_by s f names (λ x. is_some (locals x)) h local said)
     ∙ ap (λ ms. first_after p (flat_map (word_refusals s f) ms)) m
-    ∙ ap (λ z. first_after z (flat_map (word_refusals s f) (mentions f))) (i ∙ ap (λ ns. first_after first (refused_names rule.TooMany (past most_local_names ns))) (d ∙ ap different all))
+    ∙ ap (λ z. first_after z (flat_map (word_refusals s f) (mentions f))) (i ∙ ap (λ ns. first_after first (refused_names rule.TooMany (past MOST_LOCAL_NAMES ns))) (d ∙ ap different all))
     ∙ sym (first_both first many (flat_map (word_refusals s f) (mentions f)))
 
 pub function_judged : (s : Scenario) (f : Function) (first p q : Option Place) →
-    p ≡ first_after first (refused_names rule.DeclaredTwice (repeated (parameters f)) ++ refused rule.WrongCount f.line (is_wrong_head f) ++ refused_names rule.TooMany (past most_parameters (parameters f))) →
-    q ≡ first_after p (refused_names rule.TooMany (past most_local_names (different (given_names f))) ++ flat_map (word_refusals s f) (mentions f)) →
+    p ≡ first_after first (refused_names rule.DeclaredTwice (repeated (parameters f)) ++ refused rule.WrongCount f.line (is_wrong_head f) ++ refused_names rule.TooMany (past MOST_PARAMETERS (parameters f))) →
+    q ≡ first_after p (refused_names rule.TooMany (past MOST_LOCAL_NAMES (different (given_names f))) ++ flat_map (word_refusals s f) (mentions f)) →
     q ≡ first_after first (function_refusals s f)
 function_judged s f first p q h i =
-    let head = refused_names rule.DeclaredTwice (repeated (parameters f)) ++ refused rule.WrongCount f.line (is_wrong_head f) ++ refused_names rule.TooMany (past most_parameters (parameters f)) in
-    let many = refused_names rule.TooMany (past most_local_names (different (given_names f))) in
+    let head = refused_names rule.DeclaredTwice (repeated (parameters f)) ++ refused rule.WrongCount f.line (is_wrong_head f) ++ refused_names rule.TooMany (past MOST_PARAMETERS (parameters f)) in
+    let many = refused_names rule.TooMany (past MOST_LOCAL_NAMES (different (given_names f))) in
     let words = flat_map (word_refusals s f) (mentions f) in
     i ∙ ap (λ z. first_after z (many ++ words)) h ∙ sym (first_both first head (many ++ words)) ∙ ap (λ ps. first_after first ps) (sym (append_assoc head many words))

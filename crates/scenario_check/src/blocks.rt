@@ -1,7 +1,8 @@
 //! Blocks, and the whole of a function.
 ghost use Rattle.std.specs.Prelude.{◌≡◌, [], ◌∷◌, ◌++◌, OnOk, IfOk, map};
 ghost use Rattle.scenario_tree.specs.declared.tree.Except.{out-Except};
-ghost use Rattle.scenario_rules.specs.Mentions.{block_mentions, giving_says, target_says, mentions, most_timeouts, on, statement_mentions, timeout_says};
+ghost use Rattle.scenario_rules.specs.Mentions.{block_mentions, giving_says, target_says, mentions, on, statement_mentions, timeout_says};
+ghost use Rattle.scenario_rules.specs.declared.limits.TheConstants.{MOST_TIMEOUTS};
 ghost use Rattle.scenario_rules.specs.Layers.{action_mentions, except_mentions, handler_mentions};
 ghost use Rattle.scenario_rules.specs.declared.mention.Says.{Says as Word};
 
@@ -10,12 +11,9 @@ use crate::expressions::{say, say_expression};
 use crate::givings::say_giving;
 use crate::parts::say_target;
 use gv_values::Name;
-use scenario_rules::{Mention, Says};
+use scenario_rules::{MOST_TIMEOUTS, Mention, Says};
 use scenario_tree::{Action, Except, Function, Giving, Items, Statement};
 use std::alloc::{AllocError, Global};
-
-/// How many timeout blocks may be open at a place.
-const MOST_TIMEOUTS: u32 = 8;
 
 fn say_timeout(said: &mut Items<Mention>, line: u32, left: u32) -> Result<(), AllocError>
     ensures { OnOk result (said.new ≡ said.old ++ on line (timeout_says left)) }

@@ -5,8 +5,9 @@ ghost use Rattle.scenario_tree.specs.declared.tree.Scenario.{Scenario as AnyScen
 ghost use Rattle.scenario_rules.specs.declared.mention.Mention.{Mention as AnyMention};
 ghost use Rattle.scenario_rules.specs.Declarations.{declarations, different, given_by, given_names, named_functions, named_objects, parameters, repeated};
 ghost use Rattle.scenario_rules.specs.Mentions.{mentions};
-ghost use Rattle.scenario_rules.specs.Rules.{first_after, function_refusals, is_wrong_head, most_functions, most_local_names, most_objects, past, place_of, refused, refused_names, word_refusals};
-ghost use Rattle.scenario_tree.specs.Limits.{most_parameters};
+ghost use Rattle.scenario_rules.specs.Rules.{first_after, function_refusals, is_wrong_head, past, place_of, refused, refused_names, word_refusals};
+ghost use Rattle.scenario_rules.specs.declared.limits.TheConstants.{MOST_LOCAL_NAMES};
+ghost use Rattle.scenario_tree.specs.declared.limits.TheConstants.{MOST_FUNCTIONS, MOST_OBJECTS, MOST_PARAMETERS};
 ghost use Rattle.name_table.specs.Tables.{Holds};
 
 use crate::blocks::function_mentions;
@@ -16,17 +17,9 @@ use crate::places::{noted, noted_names, noted_past, noted_words};
 use name_table::Names;
 use scenario_grammar::{Place, RuleReason};
 use scenario_lang::is_main;
-use scenario_rules::{Declared, Mention};
-use scenario_tree::{Function, Items, Scenario};
+use scenario_rules::{Declared, MOST_LOCAL_NAMES, Mention};
+use scenario_tree::{Function, Items, MOST_FUNCTIONS, MOST_OBJECTS, MOST_PARAMETERS, Scenario};
 use std::alloc::{AllocError, Global};
-
-const MOST_OBJECTS: usize = 256;
-
-const MOST_FUNCTIONS: usize = 256;
-
-const MOST_PARAMETERS: usize = 16;
-
-const MOST_LOCAL_NAMES: usize = 64;
 
 fn is_wrong_head(function: &Function) -> bool
     ensures { result ≡ is_wrong_head function.now }
@@ -56,7 +49,7 @@ fn judge_head(
     function: &Function,
 ) -> Result<Option<Place>, AllocError>
     ensures { IfOk result (λ p. p ≡ first_after first (refused_names RuleReason.DeclaredTwice (repeated (parameters function.now))
-        ++ refused RuleReason.WrongCount function.now.line (is_wrong_head function.now) ++ refused_names RuleReason.TooMany (past most_parameters (parameters function.now)))) }
+        ++ refused RuleReason.WrongCount function.now.line (is_wrong_head function.now) ++ refused_names RuleReason.TooMany (past MOST_PARAMETERS (parameters function.now)))) }
 {
     let mut parameters = Items::new(alloc);
     add_names(
@@ -79,7 +72,7 @@ fn judge_body(
     said: &[Mention],
 ) -> Result<Option<Place>, AllocError>
     requires { said.now ≡ mentions function.now }
-    ensures { (s : AnyScenario) → Holds names.now (declarations s) → IfOk result (λ p. p ≡ first_after first (refused_names RuleReason.TooMany (past most_local_names (different (given_names function.now)))
+    ensures { (s : AnyScenario) → Holds names.now (declarations s) → IfOk result (λ p. p ≡ first_after first (refused_names RuleReason.TooMany (past MOST_LOCAL_NAMES (different (given_names function.now)))
         ++ flat_map (word_refusals s function.now) (mentions function.now))) }
 {
     let mut given = Items::new(alloc);
@@ -119,8 +112,8 @@ fn judge_functions(
 
 /// The declarations of objects and functions.
 fn judge_declarations(alloc: Global, scenario: &Scenario) -> Result<Option<Place>, AllocError>
-    ensures { IfOk result (λ p. p ≡ first_after None (refused_names RuleReason.TooMany (past most_objects (named_objects scenario.now))
-        ++ refused_names RuleReason.TooMany (past most_functions (named_functions scenario.now))
+    ensures { IfOk result (λ p. p ≡ first_after None (refused_names RuleReason.TooMany (past MOST_OBJECTS (named_objects scenario.now))
+        ++ refused_names RuleReason.TooMany (past MOST_FUNCTIONS (named_functions scenario.now))
         ++ refused_names RuleReason.DeclaredTwice (repeated (named_objects scenario.now ++ named_functions scenario.now)))) }
 {
     let mut names = Items::new(alloc);

@@ -25,6 +25,7 @@ use Rattle.scenario_grammar.proofs.BlockLaws.{Said}
 use Rattle.scenario_grammar.proofs.PhraseLaws.{role}
 use Rattle.scenario_grammar.specs.declared.reason.TextReason.{TextReason}
 use Rattle.scenario_grammar.specs.declared.reason.TextReason.TheVariants as reason
+use Rattle.scenario_grammar.specs.declared.limits.TheConstants.{MOST_LEVELS}
 
 plus_assoc : {A : Type 0} (x y z : Written A) → (x ⊕ y) ⊕ z ≡ x ⊕ (y ⊕ z)
 plus_assoc None y z = refl
@@ -72,7 +73,7 @@ Stacked (o ∷ p ∷ os) = (kind_of o.opening ≡ Body → ⊥) × Stacked (p �
 
 -- what a tree that is begun keeps, with the tree_lines so far
 pub record Kept (e : ℕ) (b : Building) (rs : List TreeLine) : Type 0 where
-  pub levels : length b.open_blocks + e ≡ 32
+  pub levels : length b.open_blocks + e ≡ MOST_LEVELS
   pub stacked : Stacked b.open_blocks
   pub tree_lines : begun_lines (suc e) b ≡ Some rs
 
@@ -221,13 +222,13 @@ closed_lines profile ds fs e n o ss q qs x same =
     regrouped x o r s m = simp plus_assoc
 
 function_closed : (profile : ℕ) (ds : List Declaration) (fs : List Function) (n : ℕ) (is_raw : Bool) (name : Name) (ps : List Name) (ss : List Statement)
-    → begun_lines 33 (record { profile = profile; objects = ds; functions = fs ++ record { line = n; is_raw = is_raw; name = name; parameters = ps; body = ss } ∷ []; open_blocks = [] })
-    ≡ begun_lines 32 (record { profile = profile; objects = ds; functions = fs; open_blocks = record { line = n; opening = opening.Function is_raw name ps; statements = ss } ∷ [] }) ⊕ mark phrase.End
+    → begun_lines (suc MOST_LEVELS) (record { profile = profile; objects = ds; functions = fs ++ record { line = n; is_raw = is_raw; name = name; parameters = ps; body = ss } ∷ []; open_blocks = [] })
+    ≡ begun_lines MOST_LEVELS (record { profile = profile; objects = ds; functions = fs; open_blocks = record { line = n; opening = opening.Function is_raw name ps; statements = ss } ∷ [] }) ⊕ mark phrase.End
 unfolding open_lines
 function_closed profile ds fs n is_raw name ps ss =
     let f : Function = record { line = n; is_raw = is_raw; name = name; parameters = ps; body = ss } in
     ap (λ w. profile_lines profile ⊕ each declaration_lines ds ⊕ w ⊕ Some []) (each_more function_lines fs f)
-    ∙ regrouped (profile_lines profile ⊕ each declaration_lines ds) (each function_lines fs) (line n (phrase.Function is_raw name ps)) (block_within 32 ss) (mark phrase.End)
+    ∙ regrouped (profile_lines profile ⊕ each declaration_lines ds) (each function_lines fs) (line n (phrase.Function is_raw name ps)) (block_within MOST_LEVELS ss) (mark phrase.End)
   where
     regrouped : (x y l s m : Written TreeLine) → x ⊕ (y ⊕ (l ⊕ s ⊕ m)) ⊕ Some [] ≡ (x ⊕ y ⊕ (Some [] ⊕ l ⊕ s)) ⊕ m
     regrouped x y l s m = simp (plus_none, none_plus, plus_assoc)
@@ -245,10 +246,10 @@ room_by : (b : Bool) (x : Option TextReason) → (let r : Option TextReason = if
 room_by true x h = cc
 room_by false x h = refl
 
-room : (profile : ℕ) (ds : List Declaration) (fs : List Function) (os : List OpenBlock) → misplaced (standing (begun profile ds fs os)) Opens ≡ None → length os < 32
+room : (profile : ℕ) (ds : List Declaration) (fs : List Function) (os : List OpenBlock) → misplaced (standing (begun profile ds fs os)) Opens ≡ None → length os < MOST_LEVELS
 room profile ds fs os h =
     let kinds = map (λ (o : OpenBlock). kind_of o.opening) os in
-    let short = leb-false 32 (length kinds) (room_by (nat_le 32 (length kinds)) (in_a_body reason.LineOutOfPlace kinds) h) in
+    let short = leb-false MOST_LEVELS (length kinds) (room_by (nat_le MOST_LEVELS (length kinds)) (in_a_body reason.LineOutOfPlace kinds) h) in
     omega (arith, short, length-map os (λ (o : OpenBlock). kind_of o.opening))
 
 -- a statement of one line
@@ -459,10 +460,10 @@ function_ends profile ds fs e n m is_raw name ps ss rs k =
     let b = begun profile ds fs (record { line = m; opening = opening.Function is_raw name ps; statements = ss } ∷ []) in
     let kept = subst (λ e. Kept e b rs) top k in
     record {
-      left = 32;
+      left = MOST_LEVELS;
       tree_line = tree_line_of phrase.End;
       said = (refl, tt);
-      kept = record { levels = refl; stacked = tt; tree_lines = tree_line_more (begun_lines 32 b) (begun_lines 33 (step b n phrase.End)) (tree_line_of phrase.End) rs (function_closed profile ds fs m is_raw name ps ss) kept.tree_lines };
+      kept = record { levels = refl; stacked = tt; tree_lines = tree_line_more (begun_lines MOST_LEVELS b) (begun_lines (suc MOST_LEVELS) (step b n phrase.End)) (tree_line_of phrase.End) rs (function_closed profile ds fs m is_raw name ps ss) kept.tree_lines };
     }
 
 ends_here : (profile : ℕ) (ds : List Declaration) (fs : List Function) (e n m : ℕ) (op : Opening) (ss : List Statement) (os : List OpenBlock) (rs : List TreeLine)

@@ -22,6 +22,7 @@ use Rattle.scenario_grammar.specs.Places.{Then, Catching, States, Opens, Parts, 
 use Rattle.scenario_grammar.proofs.Parts.{both}
 use Rattle.scenario_grammar.proofs.PhraseLaws.{role}
 use Rattle.scenario_grammar.specs.declared.reason.TextReason.{TextReason}
+use Rattle.scenario_grammar.specs.declared.limits.TheConstants.{MOST_LEVELS}
 
 -- The lines in turn, each in its place: what they make, none where one is out of place.
 unfoldable pub follow : Building → List (ℕ × Phrase) → Option Building
@@ -138,7 +139,7 @@ pub record Inside (d : ℕ) (P : Opening → Type 0) (b : Building) : Type 0 whe
   pub outer : List OpenBlock
   pub is : b.open_blocks ≡ inner ∷ outer
   pub kind : P inner.opening
-  pub levels : length outer + d ≡ 32
+  pub levels : length outer + d ≡ MOST_LEVELS
 
 abbrev pub Anyway : Opening → Type 0
 Anyway o = Unit {0}
@@ -161,8 +162,8 @@ states_here d P b h = rw h.is refl
 
 opens_here : (d : ℕ) (P : Opening → Type 0) (b : Building) → Inside (suc (suc d)) P b → misplaced (standing b) Opens ≡ None
 opens_here d P b h =
-    let many : length (map (λ (o : OpenBlock). kind_of o.opening) b.open_blocks) < 32 = omega (arith, length-map b.open_blocks (λ (o : OpenBlock). kind_of o.opening), ap length h.is, h.levels) in
-    let room = lt-leb 32 (length (map (λ (o : OpenBlock). kind_of o.opening) b.open_blocks)) many in
+    let many : length (map (λ (o : OpenBlock). kind_of o.opening) b.open_blocks) < MOST_LEVELS = omega (arith, length-map b.open_blocks (λ (o : OpenBlock). kind_of o.opening), ap length h.is, h.levels) in
+    let room = lt-leb MOST_LEVELS (length (map (λ (o : OpenBlock). kind_of o.opening) b.open_blocks)) many in
     rw (room, h.is) refl
 
 ends_here : (d : ℕ) (b : Building) → Inside d IsEnding b → misplaced (standing b) Ends ≡ None

@@ -13,7 +13,8 @@ use Rattle.scenario_grammar.specs.declared.building.Opening.TheVariants as openi
 use Rattle.scenario_grammar.specs.declared.place.Place.{Place}
 use Rattle.scenario_grammar.specs.Blocks.{TreeLine, line, mark, block_within, profile_lines, declaration_lines, function_lines, scenario_lines}
 use Rattle.scenario_grammar.specs.Building.{Building, added, ended, opened, step}
-use Rattle.scenario_grammar.specs.Layout.{Line, lines, is_end, is_spaced, is_ended, is_text_byte, most_bytes, IsText}
+use Rattle.scenario_grammar.specs.Layout.{Line, lines, is_end, is_spaced, is_ended, is_text_byte, IsText}
+use Rattle.scenario_grammar.specs.declared.limits.TheConstants.{MOST_LEVELS, MOST_TEXT}
 use Rattle.scenario_grammar.specs.Parsed.{nothing_yet, standing, read_words, read_line, read_lines, scenario, finished, reading}
 use Rattle.scenario_grammar.specs.Phrases.{phrase_tokens}
 use Rattle.scenario_grammar.specs.Places.{Profiles, Declares, Defines, misplaced, role_of, line_at, last_line, place_in_bytes}
@@ -87,11 +88,11 @@ function_makes : (f : Function) → Makes (function_lines f) AtTop (defined (f �
 function_makes f =
     let head = opening.Function f.is_raw f.name f.parameters in
     let start = phrase.Function f.is_raw f.name f.parameters in
-    then_makes (line f.line start ⊕ block_within 32 f.body) (mark phrase.End) AtTop (Inside 32 IsEnding) (λ b. added f.body (opened f.line head b)) ended
-    (then_makes (line f.line start) (block_within 32 f.body) AtTop (Inside 32 Anyway) (opened f.line head) (added f.body)
-    (line_makes f.line start AtTop defines_here) (block_makes 32 f.body)
+    then_makes (line f.line start ⊕ block_within MOST_LEVELS f.body) (mark phrase.End) AtTop (Inside MOST_LEVELS IsEnding) (λ b. added f.body (opened f.line head b)) ended
+    (then_makes (line f.line start) (block_within MOST_LEVELS f.body) AtTop (Inside MOST_LEVELS Anyway) (opened f.line head) (added f.body)
+    (line_makes f.line start AtTop defines_here) (block_makes MOST_LEVELS f.body)
     (λ b h. record { inner = record { line = f.line; opening = head; statements = [] }; outer = b.open_blocks; is = refl; kind = tt; levels = rw h refl }))
-    (end_makes 32)
+    (end_makes MOST_LEVELS)
     (λ b h. record { inner = record { line = f.line; opening = head; statements = f.body }; outer = b.open_blocks; is = refl; kind = refl; levels = rw h refl })
 
 functions_make : (fs : List Function) → Makes (each function_lines fs) AtTop (defined fs)
@@ -259,9 +260,9 @@ bytes_by false None false p q f a b c = cc
 
 pub none_in_bytes : (bytes : List ℕ) → IsText bytes → place_in_bytes bytes ≡ None
 none_in_bytes bytes t =
-    bytes_by (nat_lt most_bytes (length bytes)) (position (λ b. not (is_text_byte b)) bytes) (is_ended bytes)
-    (record { line = line_at most_bytes bytes; reason = 1 }) (record { line = count_by is_end bytes + 1; reason = 3 }) (λ i. record { line = line_at i bytes; reason = 2 })
-    (le-ltb most_bytes (length bytes) t.short) (position_from-zero (λ b. not (is_text_byte b)) bytes ∙ none_from 0 bytes t.printable) t.ended
+    bytes_by (nat_lt MOST_TEXT (length bytes)) (position (λ b. not (is_text_byte b)) bytes) (is_ended bytes)
+    (record { line = line_at MOST_TEXT bytes; reason = 1 }) (record { line = count_by is_end bytes + 1; reason = 3 }) (λ i. record { line = line_at i bytes; reason = 2 })
+    (le-ltb MOST_TEXT (length bytes) t.short) (position_from-zero (λ b. not (is_text_byte b)) bytes ∙ none_from 0 bytes t.printable) t.ended
 
 ended_by : (m : Bool) (p : Place) (x : Scenario) → m ≡ true → (let r : Result Scenario Place = elim (if m || false then None else Some p) [ Some p ↦ Err p | None ↦ Ok x ] in r) ≡ Ok x
 ended_by true p x e = refl

@@ -25,6 +25,7 @@ use Rattle.scenario_grammar.specs.Reading.{Reading, ◌<$>◌, name_at, integer_
 use Rattle.scenario_grammar.proofs.Parts.{is_proper, AreProper, Built, Sound, Full, Anything, ok_first, ok_second, proper_at, both, bind_ok, map_sound, then_sound, pure_sound, map_full, then_full}
 use Rattle.scenario_grammar.proofs.Atoms.{and_left, and_right, kept, name_sound, name_full, integer_sound, integer_full, number_sound, number_full, count_sound, count_full}
 use Rattle.std.specs.List.{list_all}
+use Rattle.gv_values.specs.declared.limits.TheConstants.{MOST_ELEMENTS}
 
 -- the fixed word of a head
 abbrev Heads : Keyword → Head → Type 0
@@ -129,8 +130,8 @@ closed depth make writes word ts rest made same b = record {
   proper = b.proper;
 }
 
-joined : (w : Expression → Written Token) (xs : List Expression) (n m : ℕ) (f g : List Token) → length xs ≡ n → m ≡ n → number 0 64 m ≡ Some f → each w xs ≡ Some g
-    → (number 0 64 (length xs) ⊕ each w xs) ≡ Some (f ++ g)
+joined : (w : Expression → Written Token) (xs : List Expression) (n m : ℕ) (f g : List Token) → length xs ≡ n → m ≡ n → number 0 MOST_ELEMENTS m ≡ Some f → each w xs ≡ Some g
+    → (number 0 MOST_ELEMENTS (length xs) ⊕ each w xs) ≡ Some (f ++ g)
 joined w xs n m f g l r a b = rw (l, sym r, a, b) refl
 
 headed_sound : (depth : ℕ) → Sound (λ x. x) (tokens_within depth) (nested_at depth) → (word : Keyword) (h : Head) → Heads word h
@@ -178,10 +179,10 @@ headed_sound depth sound word head.NumberedFault w ts rest made h r =
     (λ n. ap (layer_tokens (tokens_within depth)) (v.outs-Fault (fault.Error n)) ∙ ap (λ u. u ▹ integer n) (sym w))
     (map_sound (λ n. e.Fault (fault.Error n)) (λ x. x) integer integer_at integer_sound ts rest made h r)
 headed_sound depth sound word head.List w ts rest made h r =
-    closed depth e.List (λ xs. number 0 64 (length xs) ⊕ each (tokens_within depth) xs) word ts rest made
-    (λ xs. ap (layer_tokens (tokens_within depth)) (v.outs-List xs) ∙ ap (λ u. u ▹ (number 0 64 (length xs) ⊕ each (tokens_within depth) xs)) (sym w))
-    (let n = bind_ok (number_at 0 64 ts) (λ n. (e.List <$> count_at (nested_at depth) n.0) n.1) (made, rest) r in
-    let many = number_sound 0 64 ts n.0.1 n.0.0 h n.1 in
+    closed depth e.List (λ xs. number 0 MOST_ELEMENTS (length xs) ⊕ each (tokens_within depth) xs) word ts rest made
+    (λ xs. ap (layer_tokens (tokens_within depth)) (v.outs-List xs) ∙ ap (λ u. u ▹ (number 0 MOST_ELEMENTS (length xs) ⊕ each (tokens_within depth) xs)) (sym w))
+    (let n = bind_ok (number_at 0 MOST_ELEMENTS ts) (λ n. (e.List <$> count_at (nested_at depth) n.0) n.1) (made, rest) r in
+    let many = number_sound 0 MOST_ELEMENTS ts n.0.1 n.0.0 h n.1 in
     let got = map_sound e.List (λ p. p.0) (λ p. each (tokens_within depth) p.0) (count_at (nested_at depth) n.0.0) (count_sound (tokens_within depth) (nested_at depth) sound n.0.0) n.0.1 rest made many.proper n.2 in
     record {
       parts = got.parts.0;
@@ -282,9 +283,9 @@ layer_full depth full (Expression-F.Int z) front rest w = rw (v.rolls-Int z) (in
 layer_full depth full (Expression-F.Local n) front rest w = rw (v.rolls-Local n) (local_full depth n front rest w)
 layer_full depth full (Expression-F.Fault kind) front rest w = rw (v.rolls-Fault kind) (fault_full depth kind front rest w)
 layer_full depth full (Expression-F.List xs) front rest w =
-    let inner = behind k.List (number 0 64 (length xs) ⊕ each (tokens_within depth) xs) front w in
-    let parts = both (number 0 64 (length xs)) (each (tokens_within depth) xs) inner.0 inner.1 in
-    rw (sym inner.2, sym parts.4, append_assoc parts.0 parts.1 rest, v.rolls-List xs, number_full 0 64 (length xs) parts.0 (parts.1 ++ rest) parts.2 tt)
+    let inner = behind k.List (number 0 MOST_ELEMENTS (length xs) ⊕ each (tokens_within depth) xs) front w in
+    let parts = both (number 0 MOST_ELEMENTS (length xs)) (each (tokens_within depth) xs) inner.0 inner.1 in
+    rw (sym inner.2, sym parts.4, append_assoc parts.0 parts.1 rest, v.rolls-List xs, number_full 0 MOST_ELEMENTS (length xs) parts.0 (parts.1 ++ rest) parts.2 tt)
     (map_full e.List (λ p. p.0) (λ p. each (tokens_within depth) p.0) Anything (count_at (nested_at depth) (length xs))
     (count_full (tokens_within depth) (nested_at depth) full (length xs)) (xs, refl) parts.1 rest parts.3 tt)
 

@@ -22,6 +22,8 @@ use Rattle.scenario_grammar.specs.declared.token.Token.TheVariants as token
 use Rattle.scenario_grammar.specs.Expressions.{expression, fault_tokens, layer_tokens, tokens_within, binary_keyword, unary_keyword, query_keyword}
 use Rattle.scenario_grammar.specs.Phrases.{phrase_tokens, command_tokens, giving_tokens, object_tokens, head_tokens, target_tokens, timeout_tokens, ms, within, timed_tokens, wait_tokens, marked, flag, count_tokens, takes_tokens, size_tokens, link_keyword, job_keyword, queue_keyword, class_keyword}
 use Rattle.scenario_grammar.specs.Tokens.{Written, ◌⊕◌, ◌▹◌, each, perhaps, only_if, fixed, name, integer, number, in_64_bits, is_free_name}
+use Rattle.gv_values.specs.declared.limits.TheConstants.{MOST_ELEMENTS}
+use Rattle.scenario_grammar.specs.declared.limits.TheConstants.{MOST_MARK, MOST_MS, MOST_NESTED, MOST_POOL_PLACES, MOST_QUEUE_PLACES, MOST_SLOTS, MOST_UNITS}
 
 -- it stands for a word of its own
 abbrev pub is_word : Token → Bool
@@ -120,7 +122,7 @@ a_layer operand h (Expression-F.Unary op a) = after (unary_keyword op) (h a)
 a_layer operand h (Expression-F.Binary op a b) = after (binary_keyword op) (plus (h a) (h b))
 a_layer operand h (Expression-F.And a b) = after k.And (plus (h a) (h b))
 a_layer operand h (Expression-F.Or a b) = after k.Or (plus (h a) (h b))
-a_layer operand h (Expression-F.List items) = after k.List (plus (a_number 0 64 (length items)) (all operand h items))
+a_layer operand h (Expression-F.List items) = after k.List (plus (a_number 0 MOST_ELEMENTS (length items)) (all operand h items))
 a_layer operand h (Expression-F.Query asked n) = after (query_keyword asked) (a_name n)
 
 within_levels : (depth : ℕ) (e : Expression) → InWords (tokens_within depth e)
@@ -129,10 +131,10 @@ within_levels zero e = no_text
 within_levels (suc depth) e = a_layer (tokens_within depth) (within_levels depth) (out-Expression e)
 
 an_expression : (e : Expression) → InWords (expression e)
-an_expression e = within_levels 32 e
+an_expression e = within_levels MOST_NESTED e
 
 a_time : (n : ℕ) → InWords (within n)
-a_time n = after k.Within (a_number 0 1000000000 n)
+a_time n = after k.Within (a_number 0 MOST_MS n)
 
 a_timed : (t : Option ℕ) → InWords (timed_tokens t)
 a_timed t = maybe within a_time t
@@ -150,14 +152,14 @@ a_flag w false = nothing
 a_flag w true = word w
 
 a_count : (o : Option ℕ) → InWords (count_tokens o)
-a_count o = maybe (λ n. k.Count ▹ number 0 64 n) (λ n. after k.Count (a_number 0 64 n)) o
+a_count o = maybe (λ n. k.Count ▹ number 0 MOST_ELEMENTS n) (λ n. after k.Count (a_number 0 MOST_ELEMENTS n)) o
 
 a_takes : (o : Option ℕ) → InWords (takes_tokens o)
-a_takes o = maybe (λ n. k.Takes ▹ ms n) (λ n. after k.Takes (a_number 0 1000000000 n)) o
+a_takes o = maybe (λ n. k.Takes ▹ ms n) (λ n. after k.Takes (a_number 0 MOST_MS n)) o
 
 a_size : (o : Option ℕ) → InWords (size_tokens o)
 a_size None = word k.Nothing
-a_size (Some n) = a_number 1 1000000 n
+a_size (Some n) = a_number 1 MOST_QUEUE_PLACES n
 
 arguments : (es : List Expression) → InWords (each expression es)
 arguments es = all expression an_expression es
@@ -168,7 +170,7 @@ a_command (command.Let a b) = after k.Let (plus (a_name a) (an_expression b))
 a_command (command.Return a) = after k.Return (an_expression a)
 a_command (command.Raise a) = after k.Raise (an_expression a)
 a_command (command.Start a) = after k.Start (an_expression a)
-a_command (command.Sleep a) = after k.Sleep (a_number 0 1000000000 a)
+a_command (command.Sleep a) = after k.Sleep (a_number 0 MOST_MS a)
 a_command (command.Join a b) = after k.Join (plus (an_expression a) (a_timed b))
 a_command (command.Kill a b c) = after k.Kill (plus (plus (an_expression a) (a_marked k.With b)) (a_wait c))
 a_command (command.KillAll a b c) = after k.KillAll (plus (plus (an_expression a) (a_marked k.With b)) (a_wait c))
@@ -188,7 +190,7 @@ a_command (command.QueueShut a b) = after k.QueueShut (plus (a_name a) (a_flag k
 
 a_giving : (g : Giving) → InWords (giving_tokens g)
 a_giving (giving.Spawn a b) = after k.Spawn (plus (a_name a) (arguments b))
-a_giving (giving.SpawnLater a b c) = after k.SpawnLater (plus (plus (a_number 0 1000000000 a) (a_name b)) (arguments c))
+a_giving (giving.SpawnLater a b c) = after k.SpawnLater (plus (plus (a_number 0 MOST_MS a) (a_name b)) (arguments c))
 a_giving (giving.New a b) = after k.New (plus (a_name a) (arguments b))
 a_giving (giving.Get a b) = after k.Get (plus (an_expression a) (a_wait b))
 a_giving (giving.JoinAll a b c) = after k.JoinAll (plus (plus (an_expression a) (a_count b)) (a_timed c))
@@ -207,19 +209,19 @@ a_giving (giving.Switch a b) = after k.Switch (plus (an_expression a) (an_expres
 a_giving (giving.Throw a b) = after k.Throw (plus (an_expression a) (a_marked k.With b))
 a_giving (giving.ChannelGet a) = after k.ChannelGet (a_name a)
 a_giving (giving.Link kind a b) = after (link_keyword kind) (plus (an_expression a) (a_name b))
-a_giving (giving.LinkMark a b) = after k.RawLink (plus (plus (an_expression a) (word k.Mark)) (a_number 0 1000000 b))
+a_giving (giving.LinkMark a b) = after k.RawLink (plus (plus (an_expression a) (word k.Mark)) (a_number 0 MOST_MARK b))
 a_giving (giving.LinkSet a b) = after k.RawLink (plus (plus (an_expression a) (word k.Set)) (a_name b))
 
 an_object : (o : Object) (n : Name) → InWords (object_tokens o n)
 an_object object.Event n = after k.Event (a_name n)
 an_object object.Result n = after k.Result (a_name n)
-an_object (object.Semaphore x) n = after k.Sem (plus (a_name n) (a_number 0 1000000 x))
-an_object (object.BoundedSemaphore x) n = after k.BoundedSem (plus (a_name n) (a_number 0 1000000 x))
+an_object (object.Semaphore x) n = after k.Sem (plus (a_name n) (a_number 0 MOST_UNITS x))
+an_object (object.BoundedSemaphore x) n = after k.BoundedSem (plus (a_name n) (a_number 0 MOST_UNITS x))
 an_object object.Lock n = after k.Lock (a_name n)
 an_object (object.Queue kind size) n = after k.Queue (plus (plus (a_name n) (word (queue_keyword kind))) (a_size size))
 an_object object.Group n = after k.Group (a_name n)
-an_object (object.Pool x) n = after k.Pool (plus (a_name n) (a_number 1 10000 x))
-an_object (object.Native x) n = after k.Native (plus (a_name n) (a_number 1 64 x))
+an_object (object.Pool x) n = after k.Pool (plus (a_name n) (a_number 1 MOST_POOL_PLACES x))
+an_object (object.Native x) n = after k.Native (plus (a_name n) (a_number 1 MOST_SLOTS x))
 an_object object.Channel n = after k.Channel (a_name n)
 
 a_head : (is_raw : Bool) (n : Name) (ps : List Name) → InWords (head_tokens is_raw n ps)
@@ -230,7 +232,7 @@ a_head true n (p ∷ q ∷ ps) = no_text
 
 a_timeout : (t : Option ℕ) (silent : Bool) → InWords (timeout_tokens t silent)
 a_timeout None silent = after k.Timeout (plus (word k.Nothing) (a_flag k.Silent silent))
-a_timeout (Some n) silent = after k.Timeout (plus (a_number 0 1000000000 n) (a_flag k.Silent silent))
+a_timeout (Some n) silent = after k.Timeout (plus (a_number 0 MOST_MS n) (a_flag k.Silent silent))
 
 a_target : (n : Name) → InWords (target_tokens n)
 a_target n = plus (a_name n) (word k.Arrow)

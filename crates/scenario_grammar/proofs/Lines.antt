@@ -25,6 +25,7 @@ use Rattle.scenario_grammar.specs.Places.{role_by, States}
 use Rattle.scenario_grammar.proofs.Parts.{AreProper, Anything, both, bind_ok, map_sound, map_full, pure_sound}
 use Rattle.scenario_grammar.proofs.Words.{Faithful, made, joined, next, ending, Ends, inner, names, numbers, times, expressions, timed_parts, takes_parts, under_parts, with_parts, with_at_the_end, count_parts, wait_parts, before_wait, before_time, before_now, now_parts, silent_parts, immediate_parts, one_number, after_tokens, after_parts, size_parts, jobs, queues, classes, binding_parts, all_parts}
 use Rattle.scenario_grammar.specs.declared.reason.TextReason.TheVariants as reason
+use Rattle.scenario_grammar.specs.declared.limits.TheConstants.{MOST_MARK, MOST_POOL_PLACES, MOST_SLOTS, MOST_UNITS}
 
 -- what stands behind the first word of a line, and is read as the whole of it
 pub record Line {E : Type 0} (word : Keyword) (make : E → Phrase) (writes : E → Written Token) : Type 0 where
@@ -58,13 +59,13 @@ pub result_line : Line {E = Name} k.Result (λ p. phrase.Declaration p object.Re
 unfolding phrase_tokens
 result_line = record { same = λ p. refl; reads = ending (made (λ n. phrase.Declaration n object.Result) names) }
 
-pub sem_line : Line {E = Name × ℕ} k.Sem (λ p. phrase.Declaration p.0 (object.Semaphore p.1)) (λ p. name p.0 ⊕ number 0 1000000 p.1)
+pub sem_line : Line {E = Name × ℕ} k.Sem (λ p. phrase.Declaration p.0 (object.Semaphore p.1)) (λ p. name p.0 ⊕ number 0 MOST_UNITS p.1)
 unfolding phrase_tokens
-sem_line = record { same = λ p. refl; reads = ending (next (made (λ n x. phrase.Declaration n (object.Semaphore x)) names) (numbers 0 1000000)) }
+sem_line = record { same = λ p. refl; reads = ending (next (made (λ n x. phrase.Declaration n (object.Semaphore x)) names) (numbers 0 MOST_UNITS)) }
 
-pub bounded_sem_line : Line {E = Name × ℕ} k.BoundedSem (λ p. phrase.Declaration p.0 (object.BoundedSemaphore p.1)) (λ p. name p.0 ⊕ number 0 1000000 p.1)
+pub bounded_sem_line : Line {E = Name × ℕ} k.BoundedSem (λ p. phrase.Declaration p.0 (object.BoundedSemaphore p.1)) (λ p. name p.0 ⊕ number 0 MOST_UNITS p.1)
 unfolding phrase_tokens
-bounded_sem_line = record { same = λ p. refl; reads = ending (next (made (λ n x. phrase.Declaration n (object.BoundedSemaphore x)) names) (numbers 0 1000000)) }
+bounded_sem_line = record { same = λ p. refl; reads = ending (next (made (λ n x. phrase.Declaration n (object.BoundedSemaphore x)) names) (numbers 0 MOST_UNITS)) }
 
 pub lock_line : Line {E = Name} k.Lock (λ p. phrase.Declaration p object.Lock) (λ p. name p)
 unfolding phrase_tokens
@@ -78,13 +79,13 @@ pub group_line : Line {E = Name} k.Group (λ p. phrase.Declaration p object.Grou
 unfolding phrase_tokens
 group_line = record { same = λ p. refl; reads = ending (made (λ n. phrase.Declaration n object.Group) names) }
 
-pub pool_line : Line {E = Name × ℕ} k.Pool (λ p. phrase.Declaration p.0 (object.Pool p.1)) (λ p. name p.0 ⊕ number 1 10000 p.1)
+pub pool_line : Line {E = Name × ℕ} k.Pool (λ p. phrase.Declaration p.0 (object.Pool p.1)) (λ p. name p.0 ⊕ number 1 MOST_POOL_PLACES p.1)
 unfolding phrase_tokens
-pool_line = record { same = λ p. refl; reads = ending (next (made (λ n x. phrase.Declaration n (object.Pool x)) names) (numbers 1 10000)) }
+pool_line = record { same = λ p. refl; reads = ending (next (made (λ n x. phrase.Declaration n (object.Pool x)) names) (numbers 1 MOST_POOL_PLACES)) }
 
-pub native_line : Line {E = Name × ℕ} k.Native (λ p. phrase.Declaration p.0 (object.Native p.1)) (λ p. name p.0 ⊕ number 1 64 p.1)
+pub native_line : Line {E = Name × ℕ} k.Native (λ p. phrase.Declaration p.0 (object.Native p.1)) (λ p. name p.0 ⊕ number 1 MOST_SLOTS p.1)
 unfolding phrase_tokens
-native_line = record { same = λ p. refl; reads = ending (next (made (λ n x. phrase.Declaration n (object.Native x)) names) (numbers 1 64)) }
+native_line = record { same = λ p. refl; reads = ending (next (made (λ n x. phrase.Declaration n (object.Native x)) names) (numbers 1 MOST_SLOTS)) }
 
 pub channel_line : Line {E = Name} k.Channel (λ p. phrase.Declaration p object.Channel) (λ p. name p)
 unfolding phrase_tokens
@@ -301,7 +302,7 @@ channel_get_gives = record { same = λ p. refl; reads = ending (made (λ a. givi
 
 -- `mark` and a number, or `set` and a name, behind the greenlet
 abbrev marked_tokens : Expression → ℕ → Written Token
-marked_tokens x n = expression x ⊕ fixed k.Mark ⊕ number 0 1000000 n
+marked_tokens x n = expression x ⊕ fixed k.Mark ⊕ number 0 MOST_MARK n
 
 abbrev set_tokens : Expression → Name → Written Token
 set_tokens x n = expression x ⊕ fixed k.Set ⊕ name n
@@ -317,9 +318,9 @@ three x z word front e =
 
 pub link_mark_full : (x : Expression) (n : ℕ) (front rest : List Token) → marked_tokens x n ≡ Some front → giving_by k.RawLink (front ++ rest) ≡ Ok (giving.LinkMark x n, rest)
 link_mark_full x n front rest w =
-    let p = three (expression x) (number 0 1000000 n) k.Mark front w in
+    let p = three (expression x) (number 0 MOST_MARK n) k.Mark front w in
     rw (sym p.4, append_assoc p.0 (token.Fixed k.Mark ∷ p.1) rest, expressions.full x p.0 (token.Fixed k.Mark ∷ (p.1 ++ rest)) p.2 tt)
-    (map_full (λ a. giving.LinkMark x a) (λ a. a) (number 0 1000000) Anything (number_at 0 1000000) (numbers 0 1000000).full n p.1 rest p.3 tt)
+    (map_full (λ a. giving.LinkMark x a) (λ a. a) (number 0 MOST_MARK) Anything (number_at 0 MOST_MARK) (numbers 0 MOST_MARK).full n p.1 rest p.3 tt)
 
 pub link_set_full : (x : Expression) (n : Name) (front rest : List Token) → set_tokens x n ≡ Some front → giving_by k.RawLink (front ++ rest) ≡ Ok (giving.LinkSet x n, rest)
 link_set_full x n front rest w =
@@ -335,7 +336,7 @@ pub record GivingSaid (word : Keyword) (ts : List Token) (made : Giving) (rest :
 
 raw_link_said : (x : Expression) (a ts rest : List Token) (made : Giving) → expression x ≡ Some a → AreProper ts → raw_link_at x ts ≡ Ok (made, rest) → GivingSaid k.RawLink (a ++ ts) made rest
 raw_link_said x a (token.Fixed k.Mark ∷ ts) rest made w h e =
-    let b = map_sound (λ a. giving.LinkMark x a) (λ a. a) (number 0 1000000) (number_at 0 1000000) (numbers 0 1000000).sound ts rest made h e in
+    let b = map_sound (λ a. giving.LinkMark x a) (λ a. a) (number 0 MOST_MARK) (number_at 0 MOST_MARK) (numbers 0 MOST_MARK).sound ts rest made h e in
     record {
       front = (a ++ token.Fixed k.Mark ∷ []) ++ b.front;
       written = ap giving_tokens (sym b.made_of) ∙ (rw (w, b.written) refl);

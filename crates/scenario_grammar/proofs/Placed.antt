@@ -26,6 +26,7 @@ use Rattle.scenario_grammar.proofs.Sound.{line_read, nothing_kept}
 use Rattle.scenario_grammar.specs.declared.reason.TextReason.{TextReason}
 use Rattle.scenario_grammar.specs.declared.reason.TextReason.TheVariants as reason
 use Rattle.scenario_grammar.specs.Reasons.{text_number}
+use Rattle.scenario_grammar.specs.declared.limits.TheConstants.{MOST_LEVELS}
 
 -- the standing after a phrase is that of what the phrase makes
 abbrev Follows : Building → ℕ → Phrase → Type 0
@@ -208,7 +209,7 @@ placed : (bytes : List ℕ) → place bytes ≡ refusal (reading bytes)
 unfolding place reading
 placed bytes =
     place_by (place_in_bytes bytes) (place_in_lines bytes) (elim (read_lines nothing_yet (lines bytes)) [ Ok b ↦ finished bytes b | Err p ↦ Err p ])
-    (text_by (judge_lines at_the_start (lines bytes)) (read_lines nothing_yet (lines bytes)) bytes (lines_judged (lines bytes) nothing_yet 32 [] nothing_kept))
+    (text_by (judge_lines at_the_start (lines bytes)) (read_lines nothing_yet (lines bytes)) bytes (lines_judged (lines bytes) nothing_yet MOST_LEVELS [] nothing_kept))
 
 pub refused_there : (bytes : List ℕ) (p : Place) → reading bytes ≡ Err p → place bytes ≡ Some p
 refused_there bytes p e = placed bytes ∙ ap refusal e

@@ -8,7 +8,8 @@ use Rattle.scenario_tree.specs.declared.tree.Scenario.{Scenario}
 use Rattle.scenario_grammar.specs.declared.phrase.Phrase.{Phrase}
 use Rattle.scenario_grammar.specs.Bare.{bare}
 use Rattle.scenario_grammar.specs.Blocks.{TreeLine, scenario_lines}
-use Rattle.scenario_grammar.specs.Layout.{Line, lines, lines_from, with_line, drop_blanks, is_blank, is_end, is_spaced, is_ended, is_text_byte, most_bytes, IsText}
+use Rattle.scenario_grammar.specs.Layout.{Line, lines, lines_from, with_line, drop_blanks, is_blank, is_end, is_spaced, is_ended, is_text_byte, IsText}
+use Rattle.scenario_grammar.specs.declared.limits.TheConstants.{MOST_TEXT}
 use Rattle.scenario_grammar.specs.Parsed.{nothing_yet, reading, read_lines, scenario}
 use Rattle.scenario_grammar.specs.Phrases.{phrase_tokens}
 use Rattle.scenario_grammar.specs.Places.{place_in_bytes}
@@ -248,7 +249,7 @@ reading_so : (bytes : List ℕ) (t : Scenario) → IsText bytes → read_lines n
 unfolding reading
 reading_so bytes t whole read main = reading_by (place_in_bytes bytes) (read_lines nothing_yet (lines bytes)) bytes t (none_in_bytes bytes whole) read main
 
-printed_again : (s : Scenario) (bytes : List ℕ) (rs : List TreeLine) → Spells s bytes → scenario_lines s ≡ Some rs → AreTreeLines s.profile (lines bytes) rs → length (printed s) ≤ most_bytes → PrintedAgain s
+printed_again : (s : Scenario) (bytes : List ℕ) (rs : List TreeLine) → Spells s bytes → scenario_lines s ≡ Some rs → AreTreeLines s.profile (lines bytes) rs → length (printed s) ≤ MOST_TEXT → PrintedAgain s
 unfolding printed lines
 printed_again s bytes rs h tree_lines said short =
     let ls = lines bytes in
@@ -281,7 +282,7 @@ printed_again s bytes rs h tree_lines said short =
 
 -- The printed form of a tree that has a text, where it is no longer than a text may be, is a text of the tree but for
 -- its lines.
-pub printing : (s : Scenario) (bytes : List ℕ) → Spells s bytes → length (printed s) ≤ most_bytes → (t : Scenario) × Spells t (printed s) × (bare s ≡ bare t)
+pub printing : (s : Scenario) (bytes : List ℕ) → Spells s bytes → length (printed s) ≤ MOST_TEXT → (t : Scenario) × Spells t (printed s) × (bare s ≡ bare t)
 printing s bytes h short = by_lines (scenario_lines s) refl h.tree_lines
   where
     by_lines : (r : Option (List TreeLine)) → scenario_lines s ≡ r → IsSomeAnd r (AreTreeLines s.profile (lines bytes)) → (t : Scenario) × Spells t (printed s) × (bare s ≡ bare t)

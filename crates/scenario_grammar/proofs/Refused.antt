@@ -7,7 +7,8 @@ use Rattle.scenario_grammar.specs.declared.place.Place.{Place}
 use Rattle.scenario_grammar.specs.declared.reason.TextReason.{TextReason}
 use Rattle.scenario_grammar.specs.declared.reason.TextReason.TheVariants as text
 use Rattle.scenario_grammar.specs.Building.{Building}
-use Rattle.scenario_grammar.specs.Layout.{Line, lines, is_end, is_text_byte, is_ended, most_bytes}
+use Rattle.scenario_grammar.specs.Layout.{Line, lines, is_end, is_text_byte, is_ended}
+use Rattle.scenario_grammar.specs.declared.limits.TheConstants.{MOST_TEXT}
 use Rattle.scenario_grammar.specs.Parsed.{nothing_yet, standing, read_line, read_lines, scenario, finished, reading}
 use Rattle.scenario_grammar.specs.Places.{line_at, last_line, place_in_bytes}
 use Rattle.scenario_grammar.specs.Reasons.{text_number}
@@ -69,7 +70,7 @@ bytes_by false None false a b c f p e = some_place (record { line = b; reason = 
 
 bytes_so : (bytes : List ℕ) (p : Place) → place_in_bytes bytes ≡ Some p → HasReason p
 bytes_so bytes p e =
-    bytes_by (nat_lt most_bytes (length bytes)) (position (λ b. not (is_text_byte b)) bytes) (is_ended bytes) (line_at most_bytes bytes) (count_by is_end bytes + 1) 0 (λ i. line_at i bytes) p e
+    bytes_by (nat_lt MOST_TEXT (length bytes)) (position (λ b. not (is_text_byte b)) bytes) (is_ended bytes) (line_at MOST_TEXT bytes) (count_by is_end bytes + 1) 0 (λ i. line_at i bytes) p e
 
 text_by : (found : Option Place) (x : Result Building Place) (bytes : List ℕ) (p : Place) → ((q : Place) → found ≡ Some q → HasReason q) → ((q : Place) → x ≡ Err q → HasReason q)
     → (let y : Result Scenario Place = elim found [ Some p ↦ Err p | None ↦ elim x [ Ok b ↦ finished bytes b | Err p ↦ Err p ] ] in y) ≡ Err p → HasReason p

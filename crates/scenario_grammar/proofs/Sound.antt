@@ -11,7 +11,8 @@ use Rattle.scenario_grammar.specs.declared.building.OpenBlock.{OpenBlock}
 use Rattle.scenario_grammar.specs.declared.place.Place.{Place}
 use Rattle.scenario_grammar.specs.Blocks.{TreeLine, profile_lines, declaration_lines, function_lines, scenario_lines}
 use Rattle.scenario_grammar.specs.Building.{Building, step}
-use Rattle.scenario_grammar.specs.Layout.{Line, lines, is_end, is_spaced, is_ended, is_text_byte, most_bytes}
+use Rattle.scenario_grammar.specs.Layout.{Line, lines, is_end, is_spaced, is_ended, is_text_byte}
+use Rattle.scenario_grammar.specs.declared.limits.TheConstants.{MOST_LEVELS, MOST_TEXT}
 use Rattle.scenario_grammar.specs.Parsed.{nothing_yet, standing, read_words, read_line, read_lines, scenario, finished, reading}
 use Rattle.scenario_grammar.specs.Phrases.{phrase_tokens}
 use Rattle.scenario_grammar.specs.Places.{misplaced, role_of, line_at, last_line, place_in_bytes}
@@ -135,16 +136,16 @@ all_printable i (b ∷ bs) e =
     rw (s.0, all_printable (i + 1) bs s.1) refl
 
 record TextBytes (bytes : List ℕ) : Type 0 where
-  short : length bytes ≤ most_bytes
+  short : length bytes ≤ MOST_TEXT
   printable : IsTrue (list_all is_text_byte bytes)
   ended : IsTrue (is_ended bytes)
 
 text_bytes : (bytes : List ℕ) → place_in_bytes bytes ≡ None → TextBytes bytes
 text_bytes bytes e =
-    let w = whole_bytes (nat_lt most_bytes (length bytes)) (position (λ b. not (is_text_byte b)) bytes) (is_ended bytes)
-    (record { line = line_at most_bytes bytes; reason = 1 }) (record { line = count_by is_end bytes + 1; reason = 3 }) (λ i. record { line = line_at i bytes; reason = 2 }) e in
+    let w = whole_bytes (nat_lt MOST_TEXT (length bytes)) (position (λ b. not (is_text_byte b)) bytes) (is_ended bytes)
+    (record { line = line_at MOST_TEXT bytes; reason = 1 }) (record { line = count_by is_end bytes + 1; reason = 3 }) (λ i. record { line = line_at i bytes; reason = 2 }) e in
     record {
-      short = ltb-false most_bytes (length bytes) w.short;
+      short = ltb-false MOST_TEXT (length bytes) w.short;
       printable = all_printable 0 bytes (sym (position_from-zero (λ b. not (is_text_byte b)) bytes) ∙ w.printable);
       ended = w.ended;
     }
@@ -182,7 +183,7 @@ text_read : (bytes : List ℕ) (s : Scenario) → reading bytes ≡ Ok s → Tex
 unfolding reading
 text_read bytes s e = let t = text_read_by (place_in_bytes bytes) (read_lines nothing_yet (lines bytes)) bytes s e in record { building = t.0; begins = t.1; lines = t.2; ends = t.3 }
 
-pub nothing_kept : Kept 32 nothing_yet []
+pub nothing_kept : Kept MOST_LEVELS nothing_yet []
 unfolding open_lines
 nothing_kept = record { levels = refl; stacked = tt; tree_lines = refl }
 
@@ -198,7 +199,7 @@ sound s bytes e =
     let t = text_read bytes s e in
     let whole = text_bytes bytes t.begins in
     let f = finished_by bytes t.building s t.building.open_blocks refl t.ends in
-    let l = lines_read (lines bytes) nothing_yet t.building 32 [] nothing_kept t.lines in
+    let l = lines_read (lines bytes) nothing_yet t.building MOST_LEVELS [] nothing_kept t.lines in
     let tree_lines = closed_lines t.building l.left l.more f.closed l.kept in
     subst (λ s. Spells s bytes) (sym f.made) (record {
       text = record { short = whole.short; printable = whole.printable; ended = whole.ended; spaced = l.spaced };

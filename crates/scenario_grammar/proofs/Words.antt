@@ -16,7 +16,8 @@ use Rattle.scenario_grammar.specs.declared.token.Token.{Token}
 use Rattle.scenario_grammar.specs.declared.token.Token.TheVariants as token
 use Rattle.scenario_grammar.specs.Tokens.{Written, ◌⊕◌, ◌▹◌, each, fixed, name, number, perhaps}
 use Rattle.scenario_grammar.specs.Expressions.{expression}
-use Rattle.scenario_grammar.specs.Phrases.{ms, timed_tokens, wait_tokens, marked, with_fault, flag, count_tokens, takes_tokens, size_tokens, job_keyword, queue_keyword, class_keyword, most_ms}
+use Rattle.scenario_grammar.specs.Phrases.{ms, timed_tokens, wait_tokens, marked, with_fault, flag, count_tokens, takes_tokens, size_tokens, job_keyword, queue_keyword, class_keyword}
+use Rattle.scenario_grammar.specs.declared.limits.TheConstants.{MOST_MS, MOST_NESTED, MOST_QUEUE_PLACES}
 use Rattle.scenario_grammar.specs.Reading.{Reader, Reading, ◌<$>◌, ◌<*>◌, name_at, number_at, ms_at, expression_at, wait_at, with_at, timed_at, under_at, count_of_at, takes_at, now_at, silent_at, immediate_at, after_at, word_at, job_kind_of, queue_of, fault_class_of, class_at, binding_at, size_at, to_the_end, all_at}
 use Rattle.scenario_grammar.proofs.Parts.{AreProper, Built, Sound, Full, Anything, ok_first, ok_second, proper_at, both, map_sound, then_sound, map_full, then_full}
 use Rattle.scenario_grammar.proofs.Atoms.{and_left, and_right, kept, name_sound, name_full, number_sound, number_full}
@@ -24,6 +25,7 @@ use Rattle.scenario_grammar.proofs.ExpressionLaws.{nested_sound, nested_full}
 use Rattle.scenario_grammar.specs.declared.reason.TextReason.{TextReason}
 use Rattle.scenario_grammar.specs.declared.reason.TextReason.TheVariants as reason
 use Rattle.std.proofs.lemmas.Bool.{leb-true}
+use Rattle.gv_values.specs.declared.limits.TheConstants.{MOST_ELEMENTS}
 
 -- What is read was written so, and what was written is read, where what follows is as asked.
 pub record Faithful {E C : Type 0} (make : E → C) (writes : E → Written Token) (Follows : List Token → Type 0) (reader : Reader C) : Type 0 where
@@ -66,10 +68,10 @@ pub numbers : (least greatest : ℕ) → Faithful (λ n. n) (number least greate
 numbers least greatest = record { sound = number_sound least greatest; full = number_full least greatest }
 
 pub times : Faithful (λ n. n) ms Anything ms_at
-times = numbers 0 most_ms
+times = numbers 0 MOST_MS
 
 pub expressions : Faithful (λ x. x) expression Anything expression_at
-expressions = record { sound = nested_sound 32; full = nested_full 32 }
+expressions = record { sound = nested_sound MOST_NESTED; full = nested_full MOST_NESTED }
 
 -- nothing, and all tokens are left
 pub left_out : {C : Type 0} {writes : C → Written Token} (c : C) (ts rest : List Token) (made : C) → writes c ≡ Some [] → AreProper ts
@@ -165,7 +167,7 @@ pub count_parts : Faithful (λ x. x) count_tokens BeforeWait count_of_at
 count_parts = record { sound = read_so; full = written_so }
   where
     read_so : Sound (λ x. x) count_tokens count_of_at
-    read_so (token.Fixed k.Count ∷ ts) rest made h e = behind_word k.Count (λ n. let o : Option ℕ = Some n in o) ts rest made (λ p. refl) (number_sound 0 64) h e
+    read_so (token.Fixed k.Count ∷ ts) rest made h e = behind_word k.Count (λ n. let o : Option ℕ = Some n in o) ts rest made (λ p. refl) (number_sound 0 MOST_ELEMENTS) h e
     read_so ts rest made h e = left_out None ts rest made refl h e
 
     nothing : (rest : List Token) → BeforeWait rest → count_of_at rest ≡ Ok (None, rest)
@@ -176,8 +178,8 @@ count_parts = record { sound = read_so; full = written_so }
     written_so : Full (λ x. x) count_tokens BeforeWait count_of_at
     written_so None front rest w h = rw (sym (some_is [] front w)) (nothing rest h)
     written_so (Some n) front rest w h =
-        let i = inner k.Count (number 0 64 n) front w in
-        rw (sym i.2) (map_full (λ x. let o : Option ℕ = Some x in o) (λ x. x) (number 0 64) Anything (number_at 0 64) (number_full 0 64) n i.0 rest i.1 tt)
+        let i = inner k.Count (number 0 MOST_ELEMENTS n) front w in
+        rw (sym i.2) (map_full (λ x. let o : Option ℕ = Some x in o) (λ x. x) (number 0 MOST_ELEMENTS) Anything (number_at 0 MOST_ELEMENTS) (number_full 0 MOST_ELEMENTS) n i.0 rest i.1 tt)
 
 pub wait_parts : Faithful (λ x. x) wait_tokens Ends wait_at
 wait_parts = record { sound = read_so; full = written_so }
@@ -266,7 +268,7 @@ after_parts = record { sound = read_so; full = written_so }
     written_so : Full (λ x. x) after_tokens Anything after_at
     written_so None front rest w h = rw (sym (some_is (token.Fixed k.Nothing ∷ []) front w)) refl
     written_so (Some n) front rest w h =
-        let same = numbered 0 most_ms n front w in
+        let same = numbered 0 MOST_MS n front w in
         let all = map_full (λ x. let o : Option ℕ = Some x in o) (λ x. x) ms Anything ms_at times.full n front rest w tt in
         subst (λ f. ((λ x. let o : Option ℕ = Some x in o) <$> ms_at) (f ++ rest) ≡ Ok (Some n, rest) → after_at (f ++ rest) ≡ Ok (Some n, rest)) same (λ x. x) all
 
@@ -275,14 +277,14 @@ size_parts = record { sound = read_so; full = written_so }
   where
     read_so : Sound (λ x. x) size_tokens size_at
     read_so (token.Fixed k.Nothing ∷ ts) rest made h e = taken None k.Nothing ts rest made refl h e
-    read_so ts rest made h e = some_part {writes = number 1 1000000} {written = size_tokens} {reader = number_at 1 1000000} (λ n. refl) (number_sound 1 1000000) ts rest made h e
+    read_so ts rest made h e = some_part {writes = number 1 MOST_QUEUE_PLACES} {written = size_tokens} {reader = number_at 1 MOST_QUEUE_PLACES} (λ n. refl) (number_sound 1 MOST_QUEUE_PLACES) ts rest made h e
 
     written_so : Full (λ x. x) size_tokens Anything size_at
     written_so None front rest w h = rw (sym (some_is (token.Fixed k.Nothing ∷ []) front w)) refl
     written_so (Some n) front rest w h =
-        let same = numbered 1 1000000 n front w in
-        let all = map_full (λ x. let o : Option ℕ = Some x in o) (λ x. x) (number 1 1000000) Anything (number_at 1 1000000) (number_full 1 1000000) n front rest w tt in
-        subst (λ f. ((λ x. let o : Option ℕ = Some x in o) <$> number_at 1 1000000) (f ++ rest) ≡ Ok (Some n, rest) → size_at (f ++ rest) ≡ Ok (Some n, rest)) same (λ x. x) all
+        let same = numbered 1 MOST_QUEUE_PLACES n front w in
+        let all = map_full (λ x. let o : Option ℕ = Some x in o) (λ x. x) (number 1 MOST_QUEUE_PLACES) Anything (number_at 1 MOST_QUEUE_PLACES) (number_full 1 MOST_QUEUE_PLACES) n front rest w tt in
+        subst (λ f. ((λ x. let o : Option ℕ = Some x in o) <$> number_at 1 MOST_QUEUE_PLACES) (f ++ rest) ≡ Ok (Some n, rest) → size_at (f ++ rest) ≡ Ok (Some n, rest)) same (λ x. x) all
 
 -- what a fixed word means is written as this word
 abbrev pub Means : {A : Type 0} → (A → Keyword) → Keyword → Option A → Type 0

@@ -9,6 +9,7 @@ use Rattle.scenario_tree.specs.declared.tree.Statement.{Statement}
 use Rattle.scenario_grammar.specs.declared.phrase.Phrase.{Phrase}
 use Rattle.scenario_grammar.specs.declared.phrase.Phrase.TheVariants as phrase
 use Rattle.scenario_grammar.specs.Tokens.{Written, ◌⊕◌, each, perhaps, only_if}
+use Rattle.scenario_grammar.specs.declared.limits.TheConstants.{MOST_LEVELS}
 
 -- A line of a tree: its number where the tree keeps it, and what it says.
 pub record TreeLine : Type 0 where
@@ -63,17 +64,13 @@ unfoldable pub block_within : ℕ → List Statement → Written TreeLine
 block_within zero statements = None
 block_within (suc levels) statements = each (statement_lines (block_within levels)) statements
 
--- levels of blocks, a function's body being the first
-abbrev pub most_levels : ℕ
-most_levels = 32
-
 -- a declaration is one line
 abbrev pub declaration_lines : Declaration → Written TreeLine
 declaration_lines d = line d.line (phrase.Declaration d.name d.object)
 
 -- a function: its head, its body, and `end`
 abbrev pub function_lines : Function → Written TreeLine
-function_lines f = line f.line (phrase.Function f.is_raw f.name f.parameters) ⊕ block_within most_levels f.body ⊕ mark phrase.End
+function_lines f = line f.line (phrase.Function f.is_raw f.name f.parameters) ⊕ block_within MOST_LEVELS f.body ⊕ mark phrase.End
 
 -- The line `profile 2` of a tree of profile 2. A tree of profile 1 has none, and one of another profile has no text.
 abbrev pub profile_lines : ℕ → Written TreeLine

@@ -14,6 +14,8 @@ use Rattle.scenario_grammar.specs.declared.keyword.Keyword.{Keyword}
 use Rattle.scenario_grammar.specs.declared.keyword.Keyword.TheVariants as k
 use Rattle.scenario_grammar.specs.declared.token.Token.{Token}
 use Rattle.scenario_grammar.specs.Tokens.{Written, ◌⊕◌, ◌▹◌, each, fixed, name, integer, number}
+use Rattle.gv_values.specs.declared.limits.TheConstants.{MOST_ELEMENTS}
+use Rattle.scenario_grammar.specs.declared.limits.TheConstants.{MOST_NESTED}
 
 -- the word of an operator of two operands
 abbrev pub binary_keyword : Binary → Keyword
@@ -75,12 +77,8 @@ layer_tokens operand (Expression-F.Unary op a) = (unary_keyword op) ▹ operand 
 layer_tokens operand (Expression-F.Binary op a b) = (binary_keyword op) ▹ operand a ⊕ operand b
 layer_tokens operand (Expression-F.And a b) = k.And ▹ operand a ⊕ operand b
 layer_tokens operand (Expression-F.Or a b) = k.Or ▹ operand a ⊕ operand b
-layer_tokens operand (Expression-F.List items) = k.List ▹ number 0 64 (length items) ⊕ each operand items
+layer_tokens operand (Expression-F.List items) = k.List ▹ number 0 MOST_ELEMENTS (length items) ⊕ each operand items
 layer_tokens operand (Expression-F.Query asked n) = (query_keyword asked) ▹ name n
-
--- levels of an expression, its own being the first
-abbrev pub most_nested : ℕ
-most_nested = 32
 
 -- an expression whose levels are at most depth
 unfoldable pub tokens_within : ℕ → Expression → Written Token
@@ -89,4 +87,4 @@ tokens_within (suc depth) e = layer_tokens (tokens_within depth) (out-Expression
 
 -- an expression that is no operand of another
 abbrev pub expression : Expression → Written Token
-expression = tokens_within most_nested
+expression = tokens_within MOST_NESTED

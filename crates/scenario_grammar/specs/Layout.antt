@@ -1,6 +1,7 @@
 -- The layout of a text: bytes, lines, words.
 use Rattle.std.specs.Prelude.{ℕ, ◌+◌, ◌≤◌, Bool, true, false, ◌&&◌, ◌||◌, not, IsTrue, nat_le, ◌==◌, if◌then◌else◌, List, [], ◌∷◌, length}
 use Rattle.std.specs.List.{list_all, slice_split}
+use Rattle.scenario_grammar.specs.declared.limits.TheConstants.{MOST_TEXT}
 
 -- bytes without a blank
 abbrev pub Word : Type 0
@@ -58,13 +59,9 @@ is_ended (b ∷ c ∷ bs) = is_ended (c ∷ bs)
 abbrev pub is_spaced : Line → Bool
 is_spaced line = list_all (λ word. not (is_empty word)) line.words
 
--- bytes of a text
-abbrev pub most_bytes : ℕ
-most_bytes = 1048576
-
 -- what every text is, whatever its words say
 pub record IsText (bytes : List ℕ) : Type 0 where
-  pub short : length bytes ≤ most_bytes
+  pub short : length bytes ≤ MOST_TEXT
   pub printable : IsTrue (list_all is_text_byte bytes)
   pub ended : IsTrue (is_ended bytes)
   pub spaced : IsTrue (list_all is_spaced (lines bytes))

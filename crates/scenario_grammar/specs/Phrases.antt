@@ -25,14 +25,12 @@ use Rattle.scenario_grammar.specs.declared.keyword.Keyword.TheVariants as k
 use Rattle.scenario_grammar.specs.declared.token.Token.{Token}
 use Rattle.scenario_grammar.specs.Tokens.{Written, ◌⊕◌, ◌▹◌, each, perhaps, fixed, name, number}
 use Rattle.scenario_grammar.specs.Expressions.{expression}
-
--- milliseconds of a statement's time
-abbrev pub most_ms : ℕ
-most_ms = 1000000000
+use Rattle.gv_values.specs.declared.limits.TheConstants.{MOST_ELEMENTS}
+use Rattle.scenario_grammar.specs.declared.limits.TheConstants.{MOST_MARK, MOST_MS, MOST_POOL_PLACES, MOST_QUEUE_PLACES, MOST_SLOTS, MOST_UNITS}
 
 -- MS, a time in milliseconds
 abbrev pub ms : ℕ → Written Token
-ms = number 0 most_ms
+ms = number 0 MOST_MS
 
 -- `within MS`
 abbrev pub within : ℕ → Written Token
@@ -101,7 +99,7 @@ job_keyword job.Echo = k.Echo
 
 -- nothing, or `count N`
 abbrev pub count_tokens : Option ℕ → Written Token
-count_tokens = perhaps (λ n. k.Count ▹ number 0 64 n)
+count_tokens = perhaps (λ n. k.Count ▹ number 0 MOST_ELEMENTS n)
 
 -- nothing, or `takes MS`
 abbrev pub takes_tokens : Option ℕ → Written Token
@@ -115,7 +113,7 @@ giving_tokens (giving.New n es) = k.New ▹ name n ⊕ each expression es
 giving_tokens (giving.Get e w) = k.Get ▹ expression e ⊕ wait_tokens w
 giving_tokens (giving.JoinAll e count t) = k.JoinAll ▹ expression e ⊕ count_tokens count ⊕ timed_tokens t
 giving_tokens (giving.Link kind e n) = (link_keyword kind) ▹ expression e ⊕ name n
-giving_tokens (giving.LinkMark e x) = k.RawLink ▹ expression e ⊕ fixed k.Mark ⊕ number 0 1000000 x
+giving_tokens (giving.LinkMark e x) = k.RawLink ▹ expression e ⊕ fixed k.Mark ⊕ number 0 MOST_MARK x
 giving_tokens (giving.LinkSet e n) = k.RawLink ▹ expression e ⊕ fixed k.Set ⊕ name n
 giving_tokens (giving.WaitEvent n t) = k.Wait ▹ name n ⊕ timed_tokens t
 giving_tokens (giving.ResultGet n w) = k.ResultGet ▹ name n ⊕ wait_tokens w
@@ -169,19 +167,19 @@ queue_keyword queue.Join = k.Join
 -- the size of a queue, or `none`
 abbrev pub size_tokens : Option ℕ → Written Token
 size_tokens None = fixed k.Nothing
-size_tokens (Some n) = number 1 1000000 n
+size_tokens (Some n) = number 1 MOST_QUEUE_PLACES n
 
 -- declarations
 abbrev pub object_tokens : Object → Name → Written Token
 object_tokens object.Event n = k.Event ▹ name n
 object_tokens object.Result n = k.Result ▹ name n
-object_tokens (object.Semaphore x) n = k.Sem ▹ name n ⊕ number 0 1000000 x
-object_tokens (object.BoundedSemaphore x) n = k.BoundedSem ▹ name n ⊕ number 0 1000000 x
+object_tokens (object.Semaphore x) n = k.Sem ▹ name n ⊕ number 0 MOST_UNITS x
+object_tokens (object.BoundedSemaphore x) n = k.BoundedSem ▹ name n ⊕ number 0 MOST_UNITS x
 object_tokens object.Lock n = k.Lock ▹ name n
 object_tokens (object.Queue kind size) n = k.Queue ▹ name n ⊕ fixed (queue_keyword kind) ⊕ size_tokens size
 object_tokens object.Group n = k.Group ▹ name n
-object_tokens (object.Pool x) n = k.Pool ▹ name n ⊕ number 1 10000 x
-object_tokens (object.Native x) n = k.Native ▹ name n ⊕ number 1 64 x
+object_tokens (object.Pool x) n = k.Pool ▹ name n ⊕ number 1 MOST_POOL_PLACES x
+object_tokens (object.Native x) n = k.Native ▹ name n ⊕ number 1 MOST_SLOTS x
 object_tokens object.Channel n = k.Channel ▹ name n
 
 -- `rawdef` has one parameter

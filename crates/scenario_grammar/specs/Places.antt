@@ -10,9 +10,9 @@ use Rattle.scenario_grammar.specs.declared.reason.TextReason.{TextReason}
 use Rattle.scenario_grammar.specs.declared.reason.TextReason.TheVariants as reason
 use Rattle.scenario_grammar.specs.declared.token.Token.{Token}
 use Rattle.scenario_grammar.specs.declared.token.Token.TheVariants as token
-use Rattle.scenario_grammar.specs.Layout.{Line, lines, is_end, is_text_byte, is_spaced, is_ended, most_bytes}
+use Rattle.scenario_grammar.specs.Layout.{Line, lines, is_end, is_text_byte, is_spaced, is_ended}
+use Rattle.scenario_grammar.specs.declared.limits.TheConstants.{MOST_LEVELS, MOST_TEXT}
 use Rattle.scenario_grammar.specs.Tokens.{token_in}
-use Rattle.scenario_grammar.specs.Blocks.{most_levels}
 use Rattle.scenario_grammar.specs.Reading.{phrase_of, gives, is_given, ◌>>=◌}
 use Rattle.scenario_grammar.specs.Reasons.{text_number}
 
@@ -130,7 +130,7 @@ misplaced s Declares = if s.begun then Some reason.LineOutOfPlace else None
 misplaced s Defines = elim s.open_blocks [ [] ↦ None | o ∷ os ↦ Some reason.LineOutOfPlace ]
 misplaced s States = in_a_body reason.LineOutOfPlace s.open_blocks
 misplaced s (Gives why) = in_a_body why s.open_blocks
-misplaced s Opens = if nat_le most_levels (length s.open_blocks) then Some reason.NestedTooDeep else in_a_body reason.LineOutOfPlace s.open_blocks
+misplaced s Opens = if nat_le MOST_LEVELS (length s.open_blocks) then Some reason.NestedTooDeep else in_a_body reason.LineOutOfPlace s.open_blocks
 misplaced s Parts = elim s.open_blocks [ [] ↦ Some reason.BlockWordOutOfPlace | o ∷ os ↦ if is_then o then None else Some reason.BlockWordOutOfPlace ]
 misplaced s Catches = in_a_try s.open_blocks
 misplaced s Finishes = in_a_try s.open_blocks
@@ -196,7 +196,7 @@ place_in_lines bytes = elim (judge_lines at_the_start (lines bytes)) [ Ok s ↦ 
 -- where the bytes as a whole are no text, before any line is judged
 abbrev pub place_in_bytes : List ℕ → Option Place
 place_in_bytes bytes =
-    if nat_lt most_bytes (length bytes) then Some (record { line = line_at most_bytes bytes; reason = text_number reason.TooLarge })
+    if nat_lt MOST_TEXT (length bytes) then Some (record { line = line_at MOST_TEXT bytes; reason = text_number reason.TooLarge })
     else (elim (position (λ b. not (is_text_byte b)) bytes) [
       | Some i ↦ Some (record { line = line_at i bytes; reason = text_number reason.NotPrintable })
       | None ↦ if is_ended bytes then None else Some (record { line = count_by is_end bytes + 1; reason = text_number reason.NotEnded })

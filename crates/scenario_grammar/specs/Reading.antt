@@ -29,10 +29,10 @@ use Rattle.scenario_grammar.specs.declared.head.Head.{Head}
 use Rattle.scenario_grammar.specs.declared.head.Head.TheVariants as head
 use Rattle.scenario_grammar.specs.declared.phrase.Phrase.{Phrase}
 use Rattle.scenario_grammar.specs.declared.phrase.Phrase.TheVariants as phrase
-use Rattle.scenario_grammar.specs.Expressions.{most_nested}
-use Rattle.scenario_grammar.specs.Phrases.{most_ms}
+use Rattle.scenario_grammar.specs.declared.limits.TheConstants.{MOST_MARK, MOST_MS, MOST_NESTED, MOST_POOL_PLACES, MOST_QUEUE_PLACES, MOST_SLOTS, MOST_UNITS}
 use Rattle.scenario_grammar.specs.declared.reason.TextReason.{TextReason}
 use Rattle.scenario_grammar.specs.declared.reason.TextReason.TheVariants as reason
+use Rattle.gv_values.specs.declared.limits.TheConstants.{MOST_ELEMENTS}
 
 -- a part of a line, and the tokens after it
 abbrev pub Reading : Type 0 → Type 0
@@ -102,7 +102,7 @@ all_at part ts = to_the_end part (length ts) ts
 
 -- N and so many operands
 abbrev pub list_at : Reader Expression → Reader Expression
-list_at operand ts = number_at 0 64 ts >>= λ n. (e.List <$> count_at operand n.0) n.1
+list_at operand ts = number_at 0 MOST_ELEMENTS ts >>= λ n. (e.List <$> count_at operand n.0) n.1
 
 -- what a fixed word begins in the place of an expression
 abbrev pub head_of : Keyword → Head
@@ -179,11 +179,11 @@ nested_at (suc depth) (t ∷ ts) = term_at (nested_at depth) t ts
 
 -- an expression that is no operand of another
 abbrev pub expression_at : Reader Expression
-expression_at = nested_at most_nested
+expression_at = nested_at MOST_NESTED
 
 -- MS, a time in milliseconds
 abbrev pub ms_at : Reader ℕ
-ms_at = number_at 0 most_ms
+ms_at = number_at 0 MOST_MS
 
 -- `within` and a time, or nothing
 abbrev pub timed_at : Reader (Option ℕ)
@@ -208,7 +208,7 @@ under_at ts = Ok (None, ts)
 
 -- nothing, or `count N`
 abbrev pub count_of_at : Reader (Option ℕ)
-count_of_at (token.Fixed k.Count ∷ ts) = (Some <$> number_at 0 64) ts
+count_of_at (token.Fixed k.Count ∷ ts) = (Some <$> number_at 0 MOST_ELEMENTS) ts
 count_of_at ts = Ok (None, ts)
 
 -- nothing, or `takes MS`
@@ -289,12 +289,12 @@ binding_at (t ∷ ts) = (Some <$> name_at) (t ∷ ts)
 -- the size of a queue, or `none`
 abbrev pub size_at : Reader (Option ℕ)
 size_at (token.Fixed k.Nothing ∷ ts) = Ok (None, ts)
-size_at ts = (Some <$> number_at 1 1000000) ts
+size_at ts = (Some <$> number_at 1 MOST_QUEUE_PLACES) ts
 
 -- `mark` and a number, or `set` and a name
 abbrev pub raw_link_at : Expression → Reader Giving
 raw_link_at x [] = Err reason.TooShort
-raw_link_at x (token.Fixed k.Mark ∷ ts) = ((λ a. giving.LinkMark x a) <$> number_at 0 1000000) ts
+raw_link_at x (token.Fixed k.Mark ∷ ts) = ((λ a. giving.LinkMark x a) <$> number_at 0 MOST_MARK) ts
 raw_link_at x (token.Fixed k.Set ∷ ts) = ((λ a. giving.LinkSet x a) <$> name_at) ts
 raw_link_at x (t ∷ ts) = Err reason.UnknownWord
 
@@ -363,13 +363,13 @@ abbrev pub phrase_by : Keyword → Reader Phrase
 phrase_by k.Profile = (λ n. phrase.Profile) <$> number_at 2 2
 phrase_by k.Event = (λ n. phrase.Declaration n object.Event) <$> name_at
 phrase_by k.Result = (λ n. phrase.Declaration n object.Result) <$> name_at
-phrase_by k.Sem = (λ n x. phrase.Declaration n (object.Semaphore x)) <$> name_at <*> number_at 0 1000000
-phrase_by k.BoundedSem = (λ n x. phrase.Declaration n (object.BoundedSemaphore x)) <$> name_at <*> number_at 0 1000000
+phrase_by k.Sem = (λ n x. phrase.Declaration n (object.Semaphore x)) <$> name_at <*> number_at 0 MOST_UNITS
+phrase_by k.BoundedSem = (λ n x. phrase.Declaration n (object.BoundedSemaphore x)) <$> name_at <*> number_at 0 MOST_UNITS
 phrase_by k.Lock = (λ n. phrase.Declaration n object.Lock) <$> name_at
 phrase_by k.Queue = (λ n kind size. phrase.Declaration n (object.Queue kind size)) <$> name_at <*> word_at queue_of <*> size_at
 phrase_by k.Group = (λ n. phrase.Declaration n object.Group) <$> name_at
-phrase_by k.Pool = (λ n x. phrase.Declaration n (object.Pool x)) <$> name_at <*> number_at 1 10000
-phrase_by k.Native = (λ n x. phrase.Declaration n (object.Native x)) <$> name_at <*> number_at 1 64
+phrase_by k.Pool = (λ n x. phrase.Declaration n (object.Pool x)) <$> name_at <*> number_at 1 MOST_POOL_PLACES
+phrase_by k.Native = (λ n x. phrase.Declaration n (object.Native x)) <$> name_at <*> number_at 1 MOST_SLOTS
 phrase_by k.Channel = (λ n. phrase.Declaration n object.Channel) <$> name_at
 phrase_by k.Function = (λ a b. phrase.Function false a b) <$> name_at <*> all_at name_at
 phrase_by k.RawFunction = (λ n p. phrase.Function true n (p ∷ [])) <$> name_at <*> name_at

@@ -3,7 +3,7 @@ ghost use Rattle.std.specs.Prelude.{◌≡◌, ◌↔◌, ◌≤◌, ◌⊎◌, 
 ghost use Rattle.scenario_tree.specs.declared.tree.Scenario.{Scenario};
 ghost use Rattle.scenario_grammar.specs.declared.place.Place.{Place};
 ghost use Rattle.scenario_grammar.specs.Bare.{bare};
-ghost use Rattle.scenario_grammar.specs.Layout.{most_bytes};
+ghost use Rattle.scenario_grammar.specs.declared.limits.TheConstants.{MOST_TEXT};
 ghost use Rattle.scenario_grammar.specs.Parsed.{reading};
 ghost use Rattle.scenario_grammar.specs.Places.{place};
 ghost use Rattle.scenario_grammar.specs.Printed.{printed};
@@ -37,7 +37,7 @@ pub fn texts_without_a_place_are_spelt()
 /// The printed form of a tree that has a text, where it is no longer than a text may be, is a text
 /// of the tree but for the numbers of its lines.
 pub fn printed_forms_are_spelt()
-    ensures { (s : Scenario) → HasSpelling s → length (printed s) ≤ most_bytes
+    ensures { (s : Scenario) → HasSpelling s → length (printed s) ≤ MOST_TEXT
         → (t : Scenario) × Spells t (printed s) × (bare s ≡ bare t) }
 {}
 

@@ -5,7 +5,7 @@ ghost use Rattle.scenario_grammar.specs.Reasons.{reason_text, rule_number, text_
 /// Why bytes are no text of a scenario.
 #[derive(Clone, Copy, Debug, PartialEq, Eq)]
 pub enum TextReason {
-    /// The text is longer than 1048576 bytes.
+    /// The text is longer than `MOST_TEXT` bytes.
     TooLarge,
     /// A byte is neither LF nor printable ASCII.
     NotPrintable,
@@ -35,7 +35,7 @@ pub enum TextReason {
     LineOutOfPlace,
     /// No line is a `def` of `main`.
     NoMain,
-    /// Blocks or an expression nest past 32 levels.
+    /// Blocks nest past `MOST_LEVELS` levels, or an expression past `MOST_NESTED`.
     NestedTooDeep,
 }
 
@@ -77,7 +77,7 @@ pub enum RuleReason {
     WrongCount,
     /// A statement that asks the hub stands in a raw body.
     HubInRawBody,
-    /// Timeout blocks nest past 8.
+    /// Timeout blocks nest past `scenario_rules::MOST_TIMEOUTS`.
     TimeoutsTooDeep,
     /// There are more objects, functions, parameters or local names than there may be.
     TooMany,

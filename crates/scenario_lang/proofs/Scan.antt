@@ -8,7 +8,8 @@ use Rattle.std.proofs.lemmas.List.Sums.{sum_by-cons}
 use Rattle.scenario_tree.specs.declared.tree.Scenario.{Scenario}
 use Rattle.scenario_grammar.specs.declared.place.Place.{Place}
 use Rattle.scenario_grammar.specs.Building.{Building}
-use Rattle.scenario_grammar.specs.Layout.{Line, lines, lines_from, with_line, drop_blanks, is_end, is_text_byte, is_ended, is_blank, most_bytes}
+use Rattle.scenario_grammar.specs.Layout.{Line, lines, lines_from, with_line, drop_blanks, is_end, is_text_byte, is_ended, is_blank}
+use Rattle.scenario_grammar.specs.declared.limits.TheConstants.{MOST_TEXT}
 use Rattle.scenario_grammar.specs.Parsed.{finished, read_line, read_lines, read_text, reading, nothing_yet, standing, scenario}
 use Rattle.scenario_grammar.specs.Places.{at_the_end, line_at, last_line, place_in_bytes}
 use Rattle.scenario_grammar.specs.declared.reason.TextReason.{TextReason}
@@ -216,15 +217,15 @@ unfolding lines
 read_all bytes = finished_at bytes (read_lines nothing_yet (lines_from 1 (slice_split is_end bytes)))
 
 -- where the text is not too long, the whole is what the grammar reads
-pub outcome_all : (bytes : List ℕ) → length bytes ≤ most_bytes → reading bytes ≡ outcome 1 (Ok nothing_yet) bytes
+pub outcome_all : (bytes : List ℕ) → length bytes ≤ MOST_TEXT → reading bytes ≡ outcome 1 (Ok nothing_yet) bytes
 unfolding reading
 outcome_all bytes h =
-    let p : place_in_bytes bytes ≡ fault_from 1 bytes = cond-false _ _ _ (le-ltb most_bytes (length bytes) h) ∙ fault_is 1 bytes in
+    let p : place_in_bytes bytes ≡ fault_from 1 bytes = cond-false _ _ _ (le-ltb MOST_TEXT (length bytes) h) ∙ fault_is 1 bytes in
     ap (λ o. choose o (read_text bytes)) p ∙ ap (choose (fault_from 1 bytes)) (read_all bytes)
 
-pub too_long : (bytes : List ℕ) → most_bytes < length bytes → reading bytes ≡ Err (record { line = line_at most_bytes bytes; reason = 1 })
+pub too_long : (bytes : List ℕ) → MOST_TEXT < length bytes → reading bytes ≡ Err (record { line = line_at MOST_TEXT bytes; reason = 1 })
 unfolding reading
-too_long bytes h = ap (λ o. choose o (read_text bytes)) (cond-true _ _ _ (lt-ltb most_bytes (length bytes) h))
+too_long bytes h = ap (λ o. choose o (read_text bytes)) (cond-true _ _ _ (lt-ltb MOST_TEXT (length bytes) h))
 
 pub outcome_unended_all : (n : ℕ) (before : Result Building Place) (bytes : List ℕ) → 0 < length bytes → list_all is_printable bytes ≡ true → outcome n before bytes ≡ Err (record { line = n; reason = text_number reason.NotEnded })
 outcome_unended_all n before [] more h = absurd (omega (arith, more))

@@ -1,13 +1,13 @@
 -- The grammar's rule on the place of a line, by the little of what stands before it that the rule asks for.
 use Rattle.std.proofs.Common.{◌≡◌, Bool, List, [], ◌∷◌, Option, length, nat_le, refl}
-use Rattle.scenario_grammar.specs.Blocks.{most_levels}
+use Rattle.scenario_grammar.specs.declared.limits.TheConstants.{MOST_LEVELS}
 use Rattle.scenario_grammar.specs.Places.{Open, Standing, misplaced}
 use Rattle.scenario_grammar.specs.Places.{Profiles, Declares, Defines, States, Gives, Opens, Parts, Catches, Finishes, Ends, Unknown}
 use Rattle.scenario_grammar.specs.Places as places
 use Rattle.scenario_lang.specs.Roles.{innermost_of, misplaced_by}
 
 of_blocks : (s : Standing) (os : List Open) → s.open_blocks ≡ os → (r : places.Role) →
-    misplaced_by s.any_line s.begun (nat_le most_levels (length s.open_blocks)) (innermost_of s.open_blocks) r ≡ misplaced s r
+    misplaced_by s.any_line s.begun (nat_le MOST_LEVELS (length s.open_blocks)) (innermost_of s.open_blocks) r ≡ misplaced s r
 of_blocks s os e Profiles = refl
 of_blocks s os e Declares = refl
 of_blocks s [] e Defines = rw e refl
@@ -28,6 +28,6 @@ of_blocks s [] e Ends = rw e refl
 of_blocks s (o ∷ os) e Ends = rw e refl
 of_blocks s os e Unknown = refl
 
-pub misplaced_is : (s : Standing) (any begun full : Bool) (o : Option Open) (r : places.Role) → any ≡ s.any_line → begun ≡ s.begun → full ≡ nat_le most_levels (length s.open_blocks)
+pub misplaced_is : (s : Standing) (any begun full : Bool) (o : Option Open) (r : places.Role) → any ≡ s.any_line → begun ≡ s.begun → full ≡ nat_le MOST_LEVELS (length s.open_blocks)
     → o ≡ innermost_of s.open_blocks → misplaced_by any begun full o r ≡ misplaced s r
 misplaced_is s any begun full o r a b f e = rw (a, b, f, e) (of_blocks s s.open_blocks refl r)

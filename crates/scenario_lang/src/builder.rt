@@ -3,7 +3,7 @@ ghost use Rattle.std.specs.Prelude.{◌≡◌, [], ◌∷◌, ◌++◌, IfOk, On
 ghost use Rattle.scenario_grammar.specs.Building.{step, opened, added, changed, closed_by, ended, else_of, except_by, finally_by, caught, at};
 ghost use Rattle.std.specs.List.{list_any};
 ghost use Rattle.std.specs.Option.{option_map};
-ghost use Rattle.scenario_grammar.specs.Blocks.{most_levels};
+ghost use Rattle.scenario_grammar.specs.declared.limits.TheConstants.{MOST_LEVELS};
 ghost use Rattle.scenario_grammar.specs.Parsed.{has_objects, is_begun, nothing_yet, standing};
 ghost use Rattle.scenario_grammar.specs.Places.{misplaced};
 ghost use Rattle.scenario_grammar.specs.Spells.{is_main};
@@ -15,11 +15,9 @@ use crate::kind::{Kind, Standing, block_kind, why_misplaced};
 use crate::role::Role;
 use gv_values::digits::same_bytes;
 use gv_values::{Class, Name};
-use scenario_grammar::{OpenBlock, Opening, Phrase, Place, TextReason};
+use scenario_grammar::{MOST_LEVELS, OpenBlock, Opening, Phrase, Place, TextReason};
 use scenario_tree::{Action, Block, Declaration, Except, Function, Items, Scenario, Statement};
 use std::alloc::{AllocError, Global};
-
-const MOST_LEVELS: usize = 32;
 
 /// The profile, the objects, the functions and the open blocks so far.
 #[derive(Drop)]
@@ -96,7 +94,7 @@ impl Builder {
 
     /// Whether so many blocks are open as may be.
     fn is_full(&self) -> bool
-        ensures { result ≡ nat_le most_levels (length (standing (building self.now)).open_blocks) }
+        ensures { result ≡ nat_le MOST_LEVELS (length (standing (building self.now)).open_blocks) }
     {
         self.blocks.len() >= MOST_LEVELS
     }

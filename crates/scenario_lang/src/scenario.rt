@@ -50,7 +50,7 @@ impl Scenario {
 /// Appends the printed form of the scenario: its one text with two blanks for each open block and
 /// no line that carries nothing. A scenario of profile 2 has `profile 2` as the first line.
 ///
-/// Where the printed form has at most 1048576 bytes, [`parse`](crate::parse) of it gives the tree
+/// Where the printed form has at most `MOST_TEXT` bytes, [`parse`](crate::parse) of it gives the tree
 /// again, but for the numbers of its lines.
 ///
 /// # Errors

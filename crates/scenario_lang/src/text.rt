@@ -1,6 +1,7 @@
 //! Reading a text.
 ghost use Rattle.std.specs.Prelude.{◌≡◌, ◌+◌, ◌-◌, ◌≤◌, ◌<◌, ◌^◌, None, OnOk, count_by, length, max};
-ghost use Rattle.scenario_grammar.specs.Layout.{is_end, most_bytes};
+ghost use Rattle.scenario_grammar.specs.Layout.{is_end};
+ghost use Rattle.scenario_grammar.specs.declared.limits.TheConstants.{MOST_TEXT};
 ghost use Rattle.scenario_grammar.specs.Parsed.{nothing_yet, read_words, reading};
 ghost use Rattle.scenario_grammar.specs.Places.{line_at};
 ghost use Rattle.scenario_grammar.specs.Reasons.{text_number};
@@ -11,7 +12,7 @@ use crate::builder::Builder;
 use crate::role::line_role;
 use crate::scenario::Scenario;
 use scenario_grammar::{
-    Place, TextReason, Token, read_texts_are_spelt, texts_without_a_place_are_spelt,
+    MOST_TEXT, Place, TextReason, Token, read_texts_are_spelt, texts_without_a_place_are_spelt,
 };
 use scenario_lines::{
     Front, LineRefusal, cut_at, first_line, line_tokens, read_phrase, skip_blanks,
@@ -19,9 +20,6 @@ use scenario_lines::{
 use scenario_print::spelt_trees_have_text;
 use scenario_tree::Scenario as Tree;
 use std::alloc::{AllocError, Global};
-
-/// How many bytes a text has at most.
-pub const MOST_TEXT: usize = 1_048_576;
 
 /// Why a text gives no scenario.
 #[derive(Clone, Copy, Debug, PartialEq, Eq)]
@@ -164,7 +162,7 @@ impl Reader {
 }
 
 fn read_text(alloc: Global, bytes: &[u8]) -> Result<Tree, ParseRefusal>
-    requires { length bytes.now ≤ most_bytes }
+    requires { length bytes.now ≤ MOST_TEXT }
     ensures { Parses (outcome 1 (Ok nothing_yet) bytes.now) result }
 {
     let mut reader = Reader::new(alloc);

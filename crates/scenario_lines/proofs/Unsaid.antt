@@ -8,6 +8,7 @@ use Rattle.scenario_grammar.specs.Reading.{◌<$>◌, after_at, count_of_at, imm
 use Rattle.scenario_lines.specs.declared.refusal.LineRefusal.{LineRefusal}
 use Rattle.scenario_lines.specs.Taken.{Lacks, Takes}
 use Rattle.scenario_lines.specs.Reads.{Reads}
+use Rattle.scenario_grammar.specs.declared.limits.TheConstants.{MOST_QUEUE_PLACES}
 
 timeless : (ts : List Token) → Lacks k.Within ts → timed_at ts ≡ Ok (None, ts)
 timeless (token.Fixed k.Within ∷ ts) h = absurd (h ts refl)
@@ -78,12 +79,12 @@ is_immediate old new true h = rw h refl
 is_immediate old new false h = rw (h.0) (orderly old h.1)
 
 -- a number where `none` may stand
-size_here : (ts us : List Token) (r : Result (Option ℕ) LineRefusal) → Lacks k.Nothing ts → Reads ((Some <$> number_at 1 1000000) ts) r us → Reads (size_at ts) r us
+size_here : (ts us : List Token) (r : Result (Option ℕ) LineRefusal) → Lacks k.Nothing ts → Reads ((Some <$> number_at 1 MOST_QUEUE_PLACES) ts) r us → Reads (size_at ts) r us
 size_here (token.Fixed k.Nothing ∷ ts) us r h e = absurd (h ts refl)
 size_here ts us r h e = e
 
-pub size_other : (old new us : List Token) (r : Result (Option ℕ) LineRefusal) → new ≡ old → Lacks k.Nothing old → Reads ((Some <$> number_at 1 1000000) new) r us → Reads (size_at old) r us
-size_other old new us r same h e = size_here old us r h (subst (λ ts. Reads ((Some <$> number_at 1 1000000) ts) r us) same e)
+pub size_other : (old new us : List Token) (r : Result (Option ℕ) LineRefusal) → new ≡ old → Lacks k.Nothing old → Reads ((Some <$> number_at 1 MOST_QUEUE_PLACES) new) r us → Reads (size_at old) r us
+size_other old new us r same h e = size_here old us r h (subst (λ ts. Reads ((Some <$> number_at 1 MOST_QUEUE_PLACES) ts) r us) same e)
 
 after_here : (ts us : List Token) (r : Result (Option ℕ) LineRefusal) → Lacks k.Nothing ts → Reads ((Some <$> ms_at) ts) r us → Reads (after_at ts) r us
 after_here (token.Fixed k.Nothing ∷ ts) us r h e = absurd (h ts refl)

@@ -6,12 +6,9 @@ ghost use Rattle.scenario_lines.specs.Taken.{Takes};
 
 use crate::refusal::LineRefusal;
 use gv_values::Name;
-use scenario_grammar::{Keyword, TextReason, Token};
+use scenario_grammar::{Keyword, MOST_MS, TextReason, Token};
 use scenario_tree::Wait;
 use std::marker::Model;
-
-/// The longest time that a text may name, in milliseconds.
-pub(crate) const MOST_MS: u64 = 1_000_000_000;
 
 /// The tokens of a line that are still to be read.
 #[derive(Drop)]

@@ -8,15 +8,12 @@ use crate::cursor::Cursor;
 use crate::head::expression_head;
 use crate::parts::both;
 use crate::refusal::LineRefusal;
-use gv_values::FaultKind;
-use scenario_grammar::{Head, TextReason, Token};
+use gv_values::{FaultKind, MOST_ELEMENTS};
+use scenario_grammar::{Head, MOST_NESTED, TextReason, Token};
 use scenario_tree::{Binary, Boxed, Expression, Items, Unary};
 use std::alloc::{AllocError, Global};
 
-/// How deep the levels of an expression are at most.
-const MOST_NESTED: u32 = 32;
-
-/// An expression that is no operand of another: of at most 32 levels.
+/// An expression that is no operand of another: of at most `MOST_NESTED` levels.
 pub fn read_expression(alloc: Global, cursor: &mut Cursor<'_>) -> Result<Expression, LineRefusal>
     ensures { Reads (expression_at cursor.old) result cursor.new }
 {
@@ -125,7 +122,7 @@ fn of_two(
 fn list(alloc: Global, cursor: &mut Cursor<'_>, depth: u32) -> Result<Expression, LineRefusal>
     ensures { Reads (list_at (nested_at depth) cursor.old) result cursor.new }
 {
-    let count = cursor.number(0, 64)?;
+    let count = cursor.number(0, MOST_ELEMENTS as u64)?;
     let items = counted(alloc, cursor, depth, count)?;
     Ok(Expression::List(items))
 }

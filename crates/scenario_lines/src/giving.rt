@@ -1,20 +1,18 @@
 //! Reading the rest of a statement that gives a value.
 ghost use Rattle.std.specs.Prelude.{◌≡◌, ◌-◌, length, true};
+ghost use Rattle.scenario_grammar.specs.declared.limits.TheConstants.{MOST_MARK};
 ghost use Rattle.scenario_grammar.specs.Reading.{with_at, under_at, job_kind_of, word_at, all_at, expression_at, count_of_at, number_at, takes_at, giving_by};
 ghost use Rattle.scenario_lines.specs.Givings.{ReadsRawTarget, asks_greenlet, asks_object, link_at, makes};
 ghost use Rattle.scenario_lines.specs.Reads.{Reads};
 
-use crate::cursor::{Cursor, MOST_MS};
+use crate::cursor::Cursor;
 use crate::expression::read_expression;
 use crate::parts::both;
 use crate::refusal::LineRefusal;
-use gv_values::{JobKind, Name};
-use scenario_grammar::{Keyword, TextReason, Token};
+use gv_values::{JobKind, MOST_ELEMENTS, Name};
+use scenario_grammar::{Keyword, MOST_MARK, MOST_MS, TextReason, Token};
 use scenario_tree::{Expression, Giving, Items, LinkEnd};
 use std::alloc::Global;
-
-/// The greatest number of a mark.
-const MOST_MARK: u64 = 1_000_000;
 
 /// What a raw link calls.
 #[derive(Clone, Copy)]
@@ -56,7 +54,7 @@ fn count(cursor: &mut Cursor<'_>) -> Result<Option<u64>, LineRefusal>
     ensures { Reads (count_of_at cursor.old) result cursor.new }
 {
     if cursor.takes(Keyword::Count) {
-        Ok(Some(cursor.number(0, 64)?))
+        Ok(Some(cursor.number(0, MOST_ELEMENTS as u64)?))
     } else {
         Ok(None)
     }
@@ -104,7 +102,7 @@ fn arguments(alloc: Global, cursor: &mut Cursor<'_>) -> Result<Items<Expression>
 
 /// The number of a mark.
 fn mark(cursor: &mut Cursor<'_>) -> Result<u32, LineRefusal>
-    ensures { Reads (number_at 0 1000000 cursor.old) result cursor.new }
+    ensures { Reads (number_at 0 MOST_MARK cursor.old) result cursor.new }
 {
     Ok(cursor.bounded(0, MOST_MARK)? as u32)
 }

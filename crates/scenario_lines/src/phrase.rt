@@ -5,14 +5,17 @@ ghost use Rattle.scenario_lines.specs.Reads.{IsBoxed, Reads, ReadsWhole};
 ghost use Rattle.scenario_lines.specs.Kinds.{kind_by};
 ghost use Rattle.scenario_lines.specs.Taken.{some_number_at};
 
-use crate::cursor::{Cursor, MOST_MS};
+use crate::cursor::Cursor;
 use crate::expression::read_expression;
 use crate::giving::{read_giving, with_fault};
 use crate::kind::{LineKind, line_kind};
 use crate::parts::both;
 use crate::refusal::LineRefusal;
 use gv_values::{Class, Name};
-use scenario_grammar::{Keyword, Phrase, TextReason, Token};
+use scenario_grammar::{
+    Keyword, MOST_MS, MOST_POOL_PLACES, MOST_QUEUE_PLACES, MOST_SLOTS, MOST_UNITS, Phrase,
+    TextReason, Token,
+};
 use scenario_tree::{Boxed, Command, Items, Object, QueueKind};
 use std::alloc::Global;
 
@@ -116,7 +119,7 @@ fn size(cursor: &mut Cursor<'_>) -> Result<Option<u64>, LineRefusal>
     if cursor.takes(Keyword::Nothing) {
         return Ok(None);
     }
-    some_number(cursor, 1, 1_000_000)
+    some_number(cursor, 1, MOST_QUEUE_PLACES)
 }
 
 /// A number of this range.
@@ -280,11 +283,11 @@ fn read_declaration(cursor: &mut Cursor<'_>, word: Keyword) -> Result<Phrase, Li
         Keyword::Result => Ok(Phrase::Declaration(name, Object::Result)),
         Keyword::Sem => Ok(Phrase::Declaration(
             name,
-            Object::Semaphore(cursor.number(0, 1_000_000)?),
+            Object::Semaphore(cursor.number(0, MOST_UNITS)?),
         )),
         Keyword::BoundedSem => Ok(Phrase::Declaration(
             name,
-            Object::BoundedSemaphore(cursor.number(0, 1_000_000)?),
+            Object::BoundedSemaphore(cursor.number(0, MOST_UNITS)?),
         )),
         Keyword::Lock => Ok(Phrase::Declaration(name, Object::Lock)),
         Keyword::Queue => Ok(Phrase::Declaration(
@@ -292,8 +295,14 @@ fn read_declaration(cursor: &mut Cursor<'_>, word: Keyword) -> Result<Phrase, Li
             Object::Queue(queue_kind(cursor)?, size(cursor)?),
         )),
         Keyword::Group => Ok(Phrase::Declaration(name, Object::Group)),
-        Keyword::Pool => Ok(Phrase::Declaration(name, Object::Pool(cursor.number(1, 10_000)?))),
-        Keyword::Native => Ok(Phrase::Declaration(name, Object::Native(cursor.number(1, 64)?))),
+        Keyword::Pool => Ok(Phrase::Declaration(
+            name,
+            Object::Pool(cursor.number(1, MOST_POOL_PLACES)?),
+        )),
+        Keyword::Native => Ok(Phrase::Declaration(
+            name,
+            Object::Native(cursor.number(1, MOST_SLOTS)?),
+        )),
         Keyword::Channel => Ok(Phrase::Declaration(name, Object::Channel)),
         _ => Err(LineRefusal::Reason(TextReason::UnknownWord)),
     }

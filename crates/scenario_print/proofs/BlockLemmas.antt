@@ -12,7 +12,8 @@ use Rattle.scenario_tree.specs.declared.tree.Expression.{Expression}
 use Rattle.scenario_tree.specs.declared.tree.Statement.{Statement}
 use Rattle.scenario_grammar.specs.declared.keyword.Keyword.{Keyword}
 use Rattle.scenario_grammar.specs.declared.phrase.Phrase.TheVariants as phrase
-use Rattle.scenario_grammar.specs.Blocks.{TreeLine, action_lines, block_within, except_lines, is_handled, mark, most_levels, statement_lines}
+use Rattle.scenario_grammar.specs.Blocks.{TreeLine, action_lines, block_within, except_lines, is_handled, mark, statement_lines}
+use Rattle.scenario_grammar.specs.declared.limits.TheConstants.{MOST_LEVELS}
 use Rattle.scenario_grammar.specs.Tokens.{Written, each, only_if}
 use Rattle.scenario_print.specs.TreeLines.{Deeper, WroteTreeLine, WroteFixedLine, Laid, WroteBlock, WroteStatement, WroteExcepts}
 use Rattle.scenario_print.proofs.Each.{each_next}
@@ -20,17 +21,17 @@ use Rattle.scenario_print.proofs.TreeLineLemmas.{laid, laid_back, laid_none, lai
 use Rattle.scenario_print.proofs.Words.{through}
 
 -- a block of a statement that has so many levels below it
-pub inner : {T E : Type 0} {o n : List ℕ} {r : Result T E} {d : ℕ} {fs es : List Statement} (level levels : ℕ) → Deeper level d → level + suc levels ≤ suc most_levels → fs ≡ es → WroteBlock o n r d fs → Laid o n r (level + 1) (level + 1) (block_within levels es)
+pub inner : {T E : Type 0} {o n : List ℕ} {r : Result T E} {d : ℕ} {fs es : List Statement} (level levels : ℕ) → Deeper level d → level + suc levels ≤ suc MOST_LEVELS → fs ≡ es → WroteBlock o n r d fs → Laid o n r (level + 1) (level + 1) (block_within levels es)
 inner {o = o} {n = n} {r = r} {d = d} {fs = fs} level levels deeper fits is f =
-    let small : level ≤ 32 = omega (arith, fits) in
+    let small : level ≤ MOST_LEVELS = omega (arith, fits) in
     let same = deeper small in
-    let rest : level + 1 + levels ≤ suc most_levels = omega (arith, fits) in
-    let below : d + levels ≤ suc most_levels = subst (λ z. z + levels ≤ suc most_levels) (sym same) rest in
+    let rest : level + 1 + levels ≤ suc MOST_LEVELS = omega (arith, fits) in
+    let below : d + levels ≤ suc MOST_LEVELS = subst (λ z. z + levels ≤ suc MOST_LEVELS) (sym same) rest in
     subst (λ z. Laid o n r (level + 1) (level + 1) (block_within levels z)) is
     (subst (λ z. Laid o n r z z (block_within levels fs)) same (record { lines = f.lines levels below; front = f.front }))
 
 statement : {T E : Type 0} {o n : List ℕ} {r : Result T E} (level : ℕ) (s : Statement) (x : Action) {y : Action-F Action Except Statement} → s.action ≡ x → out-Action x ≡ y → BeginsWith n o
-    → ((levels : ℕ) → level + suc levels ≤ suc most_levels → Laid o n r level level (action_lines (block_within levels) s.line y)) → WroteStatement o n r level s
+    → ((levels : ℕ) → level + suc levels ≤ suc MOST_LEVELS → Laid o n r level level (action_lines (block_within levels) s.line y)) → WroteStatement o n r level s
 statement {o = o} {n = n} {r = r} level s x is view front f = record {
   lines = λ levels fits. (subst (λ z. Laid o n r level level (action_lines (block_within levels) s.line z)) (sym (ap out-Action is ∙ view)) (f levels fits)).lines;
   front = front;
@@ -70,7 +71,7 @@ if_else_statement {o = o} {m = m} {k = k} {l = l} {j = j} {n = n} level s e body
     statement level s (a.If e body (Some other)) (is ∙ ap (λ z. a.If e body z) some) (v.outs-If e body (Some other)) (through n m o (through n k m (through n l k (through n j l h.front q.front) p.front) g.front) f.front)
     (λ levels fits. laid (laid (laid (laid_line (Some s.line) (phrase.If e) level f) (inner level levels deeper fits same g)) (laid (laid_back None phrase.Else level refl (else_tree_line p)) (inner level levels deeper fits also q))) (the_end level h))
 
-to_excepts : {T E : Type 0} {o n : List ℕ} {r : Result T E} {fs es : List Except} (level levels : ℕ) → level + suc levels ≤ suc most_levels → fs ≡ es → WroteExcepts o n r level fs → Laid o n r (level + 1) (level + 1) (each (except_lines (block_within levels)) es)
+to_excepts : {T E : Type 0} {o n : List ℕ} {r : Result T E} {fs es : List Except} (level levels : ℕ) → level + suc levels ≤ suc MOST_LEVELS → fs ≡ es → WroteExcepts o n r level fs → Laid o n r (level + 1) (level + 1) (each (except_lines (block_within levels)) es)
 to_excepts {o = o} {n = n} {r = r} level levels fits same f = subst (λ z. Laid o n r (level + 1) (level + 1) (each (except_lines (block_within levels)) z)) same (record { lines = f.lines levels fits; front = f.front })
 
 handled : {T E : Type 0} {o n : List ℕ} (r : Result T E) (a b : ℕ) (t : Bool) (w : Written TreeLine) → Laid o n r a b w → Laid o n r a b (only_if t w)
@@ -110,7 +111,7 @@ pub next_statement : {T E : Type 0} {o m n : List ℕ} {x y : T} (level i : ℕ)
 unfolding block_within
 next_statement {T} {E} {o = o} {m = m} {n = n} {x = x} {y = y} level i ss s within at f g = record { lines = λ levels fits. (by_levels levels fits).lines; front = through n m o g.front f.front }
   where
-    by_levels : (levels : ℕ) → level + levels ≤ suc most_levels → (let done : Result T E = Ok y in Laid o n done level level (block_within levels (take (i + 1) ss)))
+    by_levels : (levels : ℕ) → level + levels ≤ suc MOST_LEVELS → (let done : Result T E = Ok y in Laid o n done level level (block_within levels (take (i + 1) ss)))
     by_levels zero fits = laid_none _ level level (through n m o g.front f.front)
     by_levels (suc levels) fits =
         subst (λ w. (let done : Result T E = Ok y in Laid o n done level level w)) (sym (each_next (statement_lines (block_within levels)) i ss s within at))
@@ -126,7 +127,7 @@ next_except {T} {E} {o = o} {m = m} {k = k} {n = n} {x = x} {y = y} {z = z} leve
   front = through n m o (through n k m h.front g.front) f.front;
 }
   where
-    by_levels : (levels : ℕ) → level + suc levels ≤ suc most_levels → (let done : Result T E = Ok z in Laid o n done (level + 1) (level + 1) (each (except_lines (block_within levels)) (take (i + 1) es)))
+    by_levels : (levels : ℕ) → level + suc levels ≤ suc MOST_LEVELS → (let done : Result T E = Ok z in Laid o n done (level + 1) (level + 1) (each (except_lines (block_within levels)) (take (i + 1) es)))
     by_levels levels fits =
         subst (λ w. (let done : Result T E = Ok z in Laid o n done (level + 1) (level + 1) w)) (sym (each_next (except_lines (block_within levels)) i es e within at))
         (laid (to_excepts level levels fits refl f) (laid (laid_back (Some (out-Except e).line) (phrase.Except (out-Except e).class (out-Except e).name) level refl g) (inner level levels deeper fits same h)))

@@ -2,23 +2,25 @@
 use Rattle.std.proofs.Common.{◌≡◌, ℕ, zero, suc, ◌+◌, ◌<◌, List, [], length, take, get_or, Result, Ok, sym, subst, true, false, Bool, if◌then◌else◌}
 use Rattle.scenario_tree.specs.declared.tree.Expression.{Expression, Expression-F, out-Expression}
 use Rattle.scenario_grammar.specs.declared.token.Token.{Token}
-use Rattle.scenario_grammar.specs.Expressions.{expression, tokens_within, layer_tokens, most_nested}
+use Rattle.scenario_grammar.specs.Expressions.{expression, tokens_within, layer_tokens}
+use Rattle.scenario_grammar.specs.declared.limits.TheConstants.{MOST_NESTED}
 use Rattle.gv_values.specs.declared.name.Name.{Name}
 use Rattle.scenario_grammar.specs.declared.keyword.Keyword.{Keyword}
 use Rattle.scenario_grammar.specs.Tokens.{Written, ◌⊕◌, ◌▹◌, each, fixed, name, number}
 use Rattle.scenario_print.specs.Written.{Wrote, WroteNumber, WroteExpression, WroteExpressions}
 use Rattle.scenario_print.proofs.Each.{each_next}
 use Rattle.scenario_print.proofs.Words.{in_range, joined, no_words, through, worded}
+use Rattle.gv_values.specs.declared.limits.TheConstants.{MOST_ELEMENTS}
 
 -- an expression to so many levels
 pub to_depth : {T E : Type 0} {o n : List ℕ} {r : Result T E} {e : Expression} (depth : ℕ) → WroteExpression o n r e → Wrote o n r (tokens_within depth e)
 to_depth depth f = record { words = f.words depth; front = f.front }
 
 pub whole : {T E : Type 0} {o n : List ℕ} {r : Result T E} {e : Expression} → WroteExpression o n r e → Wrote o n r (expression e)
-whole f = record { words = f.words most_nested; front = f.front }
+whole f = record { words = f.words MOST_NESTED; front = f.front }
 
 pub all_whole : {T E : Type 0} {o n : List ℕ} {r : Result T E} {es : List Expression} → WroteExpressions o n r es → Wrote o n r (each expression es)
-all_whole f = record { words = f.words most_nested; front = f.front }
+all_whole f = record { words = f.words MOST_NESTED; front = f.front }
 
 pub all_to_depth : {T E : Type 0} {o n : List ℕ} {r : Result T E} {es : List Expression} (depth : ℕ) → WroteExpressions o n r es → Wrote o n r (each (tokens_within depth) es)
 all_to_depth depth f = record { words = f.words depth; front = f.front }
@@ -50,10 +52,10 @@ two_operands {T} {E} {o = o} {n = n} {r = r} k w a b c d word same also f g h de
 
 pub some_operands : {T E : Type 0} {o m l n : List ℕ} {x y : T} {r : Result T E} (k : Keyword) (count : ℕ) (es fs : List Expression) → count ≡ length es → fs ≡ es
     → (let done : Result T E = Ok x in Wrote o m done (fixed k)) → (let done : Result T E = Ok y in WroteNumber m l done count) → WroteExpressions l n r fs
-    → (depth : ℕ) → Wrote o n r (k ▹ number 0 64 (length es) ⊕ each (tokens_within depth) es)
+    → (depth : ℕ) → Wrote o n r (k ▹ number 0 MOST_ELEMENTS (length es) ⊕ each (tokens_within depth) es)
 some_operands {T} {E} {o = o} {n = n} {r = r} k count es fs counted same f g h depth =
-    subst (λ z. Wrote o n r (k ▹ number 0 64 z ⊕ each (tokens_within depth) es)) counted
-    (subst (λ z. Wrote o n r (k ▹ number 0 64 count ⊕ each (tokens_within depth) z)) same (worded k f (joined (in_range 0 64 g) (all_to_depth depth h))))
+    subst (λ z. Wrote o n r (k ▹ number 0 MOST_ELEMENTS z ⊕ each (tokens_within depth) es)) counted
+    (subst (λ z. Wrote o n r (k ▹ number 0 MOST_ELEMENTS count ⊕ each (tokens_within depth) z)) same (worded k f (joined (in_range 0 MOST_ELEMENTS g) (all_to_depth depth h))))
 
 pub asked : {T E : Type 0} {o m n : List ℕ} {x : T} {r : Result T E} (k w : Keyword) (a : Name) → w ≡ k → (let done : Result T E = Ok x in Wrote o m done (fixed w)) → Wrote m n r (name a) → Wrote o n r (k ▹ name a)
 asked {T} {E} {o = o} {n = n} {r = r} k w a word f g = subst (λ z. Wrote o n r (z ▹ name a)) word (worded w f g)

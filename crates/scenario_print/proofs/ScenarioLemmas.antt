@@ -10,7 +10,8 @@ use Rattle.scenario_tree.specs.declared.tree.Scenario.{Scenario}
 use Rattle.scenario_tree.specs.declared.tree.Statement.{Statement}
 use Rattle.scenario_grammar.specs.declared.keyword.Keyword.{Keyword}
 use Rattle.scenario_grammar.specs.declared.phrase.Phrase.TheVariants as phrase
-use Rattle.scenario_grammar.specs.Blocks.{TreeLine, block_within, declaration_lines, function_lines, mark, most_levels, profile_lines, scenario_lines}
+use Rattle.scenario_grammar.specs.Blocks.{TreeLine, block_within, declaration_lines, function_lines, mark, profile_lines, scenario_lines}
+use Rattle.scenario_grammar.specs.declared.limits.TheConstants.{MOST_LEVELS}
 use Rattle.scenario_grammar.specs.Layout.{Line, lines}
 use Rattle.scenario_grammar.specs.Phrases.{phrase_tokens}
 use Rattle.scenario_grammar.specs.Printed.{printed, printed_if, printed_tree_lines}
@@ -82,5 +83,5 @@ pub one_function : {T E : Type 0} {o m k n : List ℕ} {x y : T} {r : Result T E
     → (let done : Result T E = Ok x in WroteTreeLine o m done 0 (phrase.Function f.is_raw f.name f.parameters)) → (let done : Result T E = Ok y in WroteBlock m k done 1 body) → WroteFixedLine k n r 0 Keyword.End → Laid o n r 0 0 (function_lines f)
 one_function {T} {E} {o = o} {m = m} {k = k} {n = n} {y = y} f body same p q h = laid (laid (laid_line (Some f.line) (phrase.Function f.is_raw f.name f.parameters) 0 p) inside) (laid_back None phrase.End 0 refl (end_tree_line h))
   where
-    inside : (let done : Result T E = Ok y in Laid m k done 1 1 (block_within most_levels f.body))
-    inside = subst (λ z. (let done : Result T E = Ok y in Laid m k done 1 1 (block_within most_levels z))) same (record { lines = q.lines most_levels (omega arith); front = q.front })
+    inside : (let done : Result T E = Ok y in Laid m k done 1 1 (block_within MOST_LEVELS f.body))
+    inside = subst (λ z. (let done : Result T E = Ok y in Laid m k done 1 1 (block_within MOST_LEVELS z))) same (record { lines = q.lines MOST_LEVELS (omega arith); front = q.front })

@@ -8,7 +8,8 @@ use Rattle.scenario_tree.specs.declared.tree.Scenario.{Scenario}
 use Rattle.scenario_tree.specs.declared.tree.Statement.{Statement}
 use Rattle.scenario_grammar.specs.declared.keyword.Keyword.{Keyword}
 use Rattle.scenario_grammar.specs.declared.phrase.Phrase.{Phrase}
-use Rattle.scenario_grammar.specs.Blocks.{TreeLine, block_within, except_lines, most_levels, statement_lines}
+use Rattle.scenario_grammar.specs.Blocks.{TreeLine, block_within, except_lines, statement_lines}
+use Rattle.scenario_grammar.specs.declared.limits.TheConstants.{MOST_LEVELS}
 use Rattle.scenario_grammar.specs.Keywords.{spelling}
 use Rattle.scenario_grammar.specs.Phrases.{phrase_tokens}
 use Rattle.scenario_grammar.specs.Printed.{printed, printed_tree_lines, words_of}
@@ -38,23 +39,23 @@ pub record Laid {T E : Type 0} (old new : List ℕ) (done : Result T E) (from to
   pub lines : OnOk done (AreLaid old new from to tree_lines)
   pub front : BeginsWith new old
 
--- the level inside a block on this level; a tree that has a text has 32 levels at most
+-- the level inside a block on this level; a tree that has a text has `MOST_LEVELS` levels at most
 abbrev pub Deeper : ℕ → ℕ → Type 0
-Deeper level inner = level ≤ most_levels → inner ≡ level + 1
+Deeper level inner = level ≤ MOST_LEVELS → inner ≡ level + 1
 
 -- the lines of a block on this level
 pub record WroteBlock {T E : Type 0} (old new : List ℕ) (done : Result T E) (level : ℕ) (statements : List Statement) : Type 0 where
-  pub lines : (levels : ℕ) → level + levels ≤ suc most_levels → OnOk done (AreLaid old new level level (block_within levels statements))
+  pub lines : (levels : ℕ) → level + levels ≤ suc MOST_LEVELS → OnOk done (AreLaid old new level level (block_within levels statements))
   pub front : BeginsWith new old
 
 -- the lines of a statement on this level, which has so many levels below it at most
 pub record WroteStatement {T E : Type 0} (old new : List ℕ) (done : Result T E) (level : ℕ) (s : Statement) : Type 0 where
-  pub lines : (levels : ℕ) → level + suc levels ≤ suc most_levels → OnOk done (AreLaid old new level level (statement_lines (block_within levels) s))
+  pub lines : (levels : ℕ) → level + suc levels ≤ suc MOST_LEVELS → OnOk done (AreLaid old new level level (statement_lines (block_within levels) s))
   pub front : BeginsWith new old
 
 -- the excepts of a statement on this level, with their blocks
 pub record WroteExcepts {T E : Type 0} (old new : List ℕ) (done : Result T E) (level : ℕ) (excepts : List Except) : Type 0 where
-  pub lines : (levels : ℕ) → level + suc levels ≤ suc most_levels → OnOk done (AreLaid old new (level + 1) (level + 1) (each (except_lines (block_within levels)) excepts))
+  pub lines : (levels : ℕ) → level + suc levels ≤ suc MOST_LEVELS → OnOk done (AreLaid old new (level + 1) (level + 1) (each (except_lines (block_within levels)) excepts))
   pub front : BeginsWith new old
 
 -- the lines of a tree, from the outermost level to the outermost

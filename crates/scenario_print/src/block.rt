@@ -11,7 +11,7 @@ use scenario_grammar::Keyword;
 use scenario_tree::{Action, Except, Statement};
 use std::alloc::AllocError;
 
-/// The level inside a block on this level. A tree that has a text has at most 32.
+/// The level inside a block on this level. A tree that has a text has at most `MOST_LEVELS`.
 fn deeper(level: usize) -> usize
     ensures { Deeper level result }
 {

@@ -23,6 +23,7 @@ use Rattle.scenario_rules.specs.declared.mention.Says.{Says}
 use Rattle.scenario_rules.specs.declared.mention.Says.TheVariants as says
 use Rattle.scenario_rules.specs.declared.mention.Wanted.{Wanted}
 use Rattle.scenario_rules.specs.declared.mention.Wanted.TheVariants as wanted
+use Rattle.scenario_rules.specs.declared.limits.TheConstants.{MOST_TIMEOUTS}
 
 -- what is asked of which objects
 abbrev pub wanted_by : Query → Wanted
@@ -164,9 +165,6 @@ statement_mentions = laid-Statement (statement_family (ℕ → Part) Part Part) 
 abbrev pub block_mentions : ℕ → List Statement → List Mention
 block_mentions left ss = flat_map (λ s. statement_mentions s left) ss
 
-abbrev pub most_timeouts : ℕ
-most_timeouts = 8
-
 -- what the lines of a function say: its parameters are given values, and then its body
 abbrev pub mentions : Function → List Mention
-mentions f = on f.line (map (λ x. says.Gives x) f.parameters) ++ block_mentions most_timeouts f.body
+mentions f = on f.line (map (λ x. says.Gives x) f.parameters) ++ block_mentions MOST_TIMEOUTS f.body

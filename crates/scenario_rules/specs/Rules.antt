@@ -5,7 +5,7 @@ use Rattle.std.specs.Option.{is_some}
 use Rattle.gv_values.specs.declared.name.Name.{Name}
 use Rattle.scenario_tree.specs.declared.tree.Function.{Function}
 use Rattle.scenario_tree.specs.declared.tree.Scenario.{Scenario}
-use Rattle.scenario_tree.specs.Limits.{most_parameters}
+use Rattle.scenario_tree.specs.declared.limits.TheConstants.{MOST_FUNCTIONS, MOST_OBJECTS, MOST_PARAMETERS}
 use Rattle.scenario_grammar.specs.declared.place.Place.{Place}
 use Rattle.scenario_grammar.specs.declared.reason.RuleReason.{RuleReason}
 use Rattle.scenario_grammar.specs.declared.reason.RuleReason.TheVariants as rule
@@ -18,6 +18,7 @@ use Rattle.scenario_rules.specs.declared.mention.Says.{Says}
 use Rattle.scenario_rules.specs.declared.mention.Says.TheVariants as says
 use Rattle.scenario_rules.specs.Declarations.{declared_as, named_objects, named_functions, repeated, different, parameters, given_names, is_local, is_kind}
 use Rattle.scenario_rules.specs.Mentions.{mentions}
+use Rattle.scenario_rules.specs.declared.limits.TheConstants.{MOST_LOCAL_NAMES}
 
 abbrev pub is_declared : Scenario → Name → Bool
 is_declared s x = is_some (declared_as s x)
@@ -50,7 +51,7 @@ abbrev pub is_hub_in_raw_body : Scenario → Function → Says → Bool
 is_hub_in_raw_body s f says.AsksHub = f.is_raw
 is_hub_in_raw_body s f _ = false
 
--- A timeout block stands in 8 others.
+-- A timeout block stands in `MOST_TIMEOUTS` others.
 abbrev pub is_too_deep : Scenario → Function → Says → Bool
 is_too_deep s f says.NestsTooDeep = true
 is_too_deep s f _ = false
@@ -80,31 +81,21 @@ word_refusals s f m =
 abbrev pub is_wrong_head : Function → Bool
 is_wrong_head f = if f.is_raw then not (length f.parameters == 1) else is_main f && not (length f.parameters == 0)
 
--- different ones, parameters among them
-abbrev pub most_local_names : ℕ
-most_local_names = 64
-
 -- what a function breaks: two of its parameters have one name, its head has a wrong count of parameters, it has more
 -- parameters or local names than there may be, or a word breaks a rule
 abbrev pub function_refusals : Scenario → Function → List Place
 function_refusals s f =
     refused_names rule.DeclaredTwice (repeated (parameters f))
     ++ refused rule.WrongCount f.line (is_wrong_head f)
-    ++ refused_names rule.TooMany (past most_parameters (parameters f))
-    ++ refused_names rule.TooMany (past most_local_names (different (given_names f)))
+    ++ refused_names rule.TooMany (past MOST_PARAMETERS (parameters f))
+    ++ refused_names rule.TooMany (past MOST_LOCAL_NAMES (different (given_names f)))
     ++ flat_map (word_refusals s f) (mentions f)
-
-abbrev pub most_objects : ℕ
-most_objects = 256
-
-abbrev pub most_functions : ℕ
-most_functions = 256
 
 -- the lines that break a rule: too many objects or functions, two of one name, or one in a function
 abbrev pub refusals : Scenario → List Place
 refusals s =
-    refused_names rule.TooMany (past most_objects (named_objects s))
-    ++ refused_names rule.TooMany (past most_functions (named_functions s))
+    refused_names rule.TooMany (past MOST_OBJECTS (named_objects s))
+    ++ refused_names rule.TooMany (past MOST_FUNCTIONS (named_functions s))
     ++ refused_names rule.DeclaredTwice (repeated (named_objects s ++ named_functions s))
     ++ flat_map (function_refusals s) s.functions
 

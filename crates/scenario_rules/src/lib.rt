@@ -5,8 +5,10 @@
 
 mod declared;
 mod laws;
+mod limits;
 mod mention;
 
 pub use declared::Declared;
 pub use laws::{rules_have_reasons, well_formed_scenarios_have_no_place};
+pub use limits::{MOST_LOCAL_NAMES, MOST_TIMEOUTS};
 pub use mention::{Mention, Named, Says, Wanted};

@@ -109,7 +109,7 @@ pub enum Giving {
     /// The number stands after `count`.
     JoinAll(Expression, Option<u64>, Option<u64>),
     Link(LinkEnd, Expression, Name),
-    /// The mark is at most 1000000.
+    /// The mark is at most `scenario_grammar::MOST_MARK`.
     LinkMark(Expression, u32),
     LinkSet(Expression, Name),
     WaitEvent(Name, Option<u64>),

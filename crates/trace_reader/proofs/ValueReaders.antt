@@ -11,6 +11,7 @@ use Rattle.trace_reader.specs.Ranges.{FaultFits, ScalarFits, ScalarsFit, ValueFi
 use Rattle.trace_reader.specs.Fronts.{and_then, after, or_else, strip, small_front, int_front}
 use Rattle.trace_reader.specs.ValueFronts.{closed, error_front, call_fault_front, timeout_front, fault_front, starts_numeral, word_front, scalar_front, scalars_on, list_front, value_front, outcome_front}
 use Rattle.trace_reader.proofs.Readers.{Stops, StartsDigit, and_then-is, or_else-none, small_read, int_read, decimal_start}
+use Rattle.gv_values.specs.declared.limits.TheConstants.{MOST_ELEMENTS}
 
 pub fault_read : (f : FaultKind) (r : Text) → FaultFits f → fault_front (fault_text f ++ r) ≡ Some (f, r)
 unfolding fault_front timeout_front call_fault_front error_front or_else after strip closed
@@ -146,11 +147,11 @@ close_first x (y ∷ ys) r =
     (append_assoc (scalar_text x ++ codes ", ") (scalars_text (y ∷ ys)) r ∙ append_assoc (scalar_text x) (codes ", ") (scalars_text (y ∷ ys) ++ r))
     ∙ no_close x (codes ", " ++ (scalars_text (y ∷ ys) ++ r))
 
-pub list_read : (xs : List Scalar) (r : Text) → length xs ≤ 64 → ScalarsFit xs → list_front (scalars_text xs ++ 93 ∷ r) ≡ Some (xs, r)
+pub list_read : (xs : List Scalar) (r : Text) → length xs ≤ MOST_ELEMENTS → ScalarsFit xs → list_front (scalars_text xs ++ 93 ∷ r) ≡ Some (xs, r)
 unfolding list_front or_else strip
 list_read [] r few h = refl
 list_read (x ∷ xs) r few h =
-    or_else-none _ _ _ (close_first x xs (93 ∷ r)) ∙ scalars_read [] 64 x xs r h (omega (arith, few))
+    or_else-none _ _ _ (close_first x xs (93 ∷ r)) ∙ scalars_read [] MOST_ELEMENTS x xs r h (omega (arith, few))
 
 value_word : (s : Scalar) (r : Text) → ScalarFits s → Stops r → value_front (scalar_text s ++ r) ≡ Some (value_of_scalar s, r)
 unfolding value_front

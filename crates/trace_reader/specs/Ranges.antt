@@ -1,4 +1,4 @@
--- The lines that there are: numbers fit their types, names are names, and lists have at most 64 scalars.
+-- The lines that there are: numbers fit their types, names are names, and lists have at most `MOST_ELEMENTS` scalars.
 use Rattle.std.specs.Prelude.{ℕ, ◌^◌, ◌<◌, ◌≤◌, IsTrue, ℤ, pos, negsuc, List, [], ◌∷◌, length, Option, Some, None}
 use Rattle.gv_values.specs.declared.fault.FaultKind.{FaultKind}
 use Rattle.gv_values.specs.declared.scalar.Scalar.{Scalar}
@@ -15,6 +15,7 @@ use Rattle.trace_text.specs.declared.line.Blocked.{Blocked}
 use Rattle.trace_text.specs.declared.line.Line.{Line}
 use Rattle.trace_text.specs.declared.line.LinkCall.{LinkCall}
 use Rattle.trace_text.specs.declared.line.StopCause.{StopCause}
+use Rattle.gv_values.specs.declared.limits.TheConstants.{MOST_ELEMENTS}
 
 -- an integer of 64 bits
 abbrev pub IntFits : ℤ → Type 0
@@ -42,7 +43,7 @@ ValueFits (Value.Int z) = IntFits z
 ValueFits (Value.Fault f) = FaultFits f
 ValueFits (Value.Greenlet g) = g < 2 ^ 32
 ValueFits (Value.Job j) = j < 2 ^ 32
-ValueFits (Value.List ss) = (length ss ≤ 64) × ScalarsFit ss
+ValueFits (Value.List ss) = (length ss ≤ MOST_ELEMENTS) × ScalarsFit ss
 ValueFits v = Unit {0}
 
 abbrev pub OutcomeFits : Outcome → Type 0

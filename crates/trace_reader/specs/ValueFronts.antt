@@ -8,6 +8,7 @@ use Rattle.gv_values.specs.declared.value.Outcome.{Outcome}
 use Rattle.gv_values.specs.Values.{value_of_scalar}
 use Rattle.gv_values.specs.ValueTexts.{Text}
 use Rattle.trace_reader.specs.Fronts.{Front, and_then, after, or_else, strip, small_front, int_front}
+use Rattle.gv_values.specs.declared.limits.TheConstants.{MOST_ELEMENTS}
 
 -- the end of a numbered fault
 unfoldable pub closed : {A : Type 0} → (A → FaultKind) → A → Text → Front FaultKind
@@ -76,7 +77,7 @@ scalars_on so_far (suc n) text =
     (after (strip (codes ", ") rest) (scalars_on (so_far ++ s ∷ []) n)))
 
 unfoldable pub list_front : Text → Front (List Scalar)
-list_front text = or_else (strip (codes "]") text) (is []) (scalars_on [] 64 text)
+list_front text = or_else (strip (codes "]") text) (is []) (scalars_on [] MOST_ELEMENTS text)
 
 unfoldable pub value_front : Text → Front Value
 value_front text =

@@ -8,7 +8,8 @@ ghost use Rattle.trace_reader.specs.Ranges.{FaultFits, ScalarFits, ScalarsFit, V
 use gv_values::{Answer, FaultKind, Job, JobOutcome, Name, Outcome, Scalar, Value, Whom};
 use trace_text::{Awaited, Blocked, Line, LinkCall, StopCause};
 
-/// A line is one that there is: its numbers fit their types, its names are names, its lists have at most 64 scalars.
+/// A line is one that there is: its numbers fit their types, its names are names, its lists have at most
+/// `MOST_ELEMENTS` scalars.
 pub fn line_fits(line: &Line)
     ensures { LineFits line.now }
 {

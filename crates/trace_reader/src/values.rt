@@ -2,6 +2,7 @@
 #![tactic(auto)]
 
 ghost use Rattle.std.specs.Prelude.{◌≡◌, ◌≤◌, length, IfOk};
+ghost use Rattle.gv_values.specs.declared.limits.TheConstants.{MOST_ELEMENTS};
 ghost use Rattle.trace_reader.specs.Ranges.{FaultFits, ScalarFits, ScalarsFit, ValueFits, OutcomeFits, WhomFits};
 ghost use Rattle.trace_reader.specs.Reads.{Reads};
 ghost use Rattle.trace_reader.specs.LineFronts.{whom_front};
@@ -9,7 +10,7 @@ ghost use Rattle.trace_reader.specs.ValueFronts.{error_front, call_fault_front, 
 
 use crate::cursor::Cursor;
 use crate::fault::LineFault;
-use gv_values::{FaultKind, LIST_LIMIT, List, Outcome, Scalar, Value, Whom};
+use gv_values::{FaultKind, List, MOST_ELEMENTS, Outcome, Scalar, Value, Whom};
 use std::alloc::Global;
 
 #[tactic(auto, unfolding(crate::specs::Fronts::or_else, crate::specs::ValueFronts::fault_front))]
@@ -120,16 +121,16 @@ fn read_word(cursor: &mut Cursor<'_>) -> Result<Scalar, LineFault>
 #[tactic(auto, using(crate::proofs::Lists::no_scalar, crate::proofs::Lists::closed_here, crate::proofs::Lists::broken_here, crate::proofs::Lists::more_here, crate::proofs::Lists::none_left, crate::proofs::Lists::fits_behind), unfolding(crate::specs::Fronts::or_else, crate::specs::ValueFronts::list_front))]
 fn read_list(alloc: Global, cursor: &mut Cursor<'_>) -> Result<List, LineFault>
     ensures reads { Reads (list_front cursor.old) result cursor.new }
-    ensures fits { IfOk result (λ list. (length list ≤ 64) × ScalarsFit list) }
+    ensures fits { IfOk result (λ list. (length list ≤ MOST_ELEMENTS) × ScalarsFit list) }
 {
     let mut list = List::new(alloc);
     if cursor.takes(b"]") {
         return Ok(list);
     }
-    for _ in 0..LIST_LIMIT {
+    for _ in 0..MOST_ELEMENTS {
         let scalar = read_scalar(cursor)?;
         let Ok(()) = list.push(scalar) else {
-            // The list has fewer than 64 scalars, so it was memory.
+            // The list has fewer than `MOST_ELEMENTS` scalars, so it was memory.
             return Err(LineFault::Memory);
         };
         if cursor.takes(b"]") {

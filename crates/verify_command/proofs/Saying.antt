@@ -17,7 +17,8 @@ use Rattle.trace_check.specs.declared.refusal.TraceRefusal.{TraceRefusal}
 use Rattle.trace_check.specs.Places.{parts_at}
 use Rattle.scenario_grammar.specs.Places.{line_at}
 use Rattle.scenario_reading.specs.Judged.{IsRefusedWithReason, judged_text}
-use Rattle.verify_command.specs.Inputs.{end_line, most_checked}
+use Rattle.verify_command.specs.Inputs.{end_line}
+use Rattle.verify_command.specs.declared.lines.TheConstants.{MOST_CHECKED}
 use Rattle.verify_command.specs.Judged.{IsReasoned, IsSaid, IsSaidIf, IsSaidOf, IsSaidOfParts, IsSaidOfScenario, IsSaidOfTrace, IsSame, Verification, said_of_laws, said_of_run, said_of_text}
 use Rattle.verify_command.specs.declared.checking.Unverified.{Unverified}
 
@@ -73,31 +74,31 @@ only_of_run s turns moves trace r v e only right h =
 -- ---- the text
 
 abbrev pub Says : Result Scenario Place → ℕ → ℕ → List ℕ → Verification → Type 0
-Says judged_text turns moves trace v = IsSaid (IsSaidOfScenario judged_text turns moves trace) v
+Says judged turns moves trace v = IsSaid (IsSaidOfScenario judged turns moves trace) v
 
 -- what is said of a scenario is said of the text that is judged to spell it
-pub said_as : (judged_text : Result Scenario Place) (s : Scenario) (turns moves : ℕ) (trace : List ℕ) (v : Verification) → judged_text ≡ Ok s → IsSaidOfScenario (Ok s) turns moves trace v
-    → Says judged_text turns moves trace v
-said_as judged_text s turns moves trace v e h = subst (λ j. Says j turns moves trace v) (sym e) (said (IsSaidOfScenario (Ok s) turns moves trace) v h)
+pub said_as : (judged : Result Scenario Place) (s : Scenario) (turns moves : ℕ) (trace : List ℕ) (v : Verification) → judged ≡ Ok s → IsSaidOfScenario (Ok s) turns moves trace v
+    → Says judged turns moves trace v
+said_as judged s turns moves trace v e h = subst (λ j. Says j turns moves trace v) (sym e) (said (IsSaidOfScenario (Ok s) turns moves trace) v h)
 
-pub only_as : (judged_text : Result Scenario Place) (s : Scenario) (turns moves : ℕ) (trace : List ℕ) (v : Verification) → judged_text ≡ Ok s
+pub only_as : (judged : Result Scenario Place) (s : Scenario) (turns moves : ℕ) (trace : List ℕ) (v : Verification) → judged ≡ Ok s
     → ((right : Verification) → IsSaidOfScenario (Ok s) turns moves trace right → IsSame right v)
-    → (right : Verification) → IsSaidOfScenario judged_text turns moves trace right → IsSame right v
-only_as judged_text s turns moves trace v e only right h = only right (subst (λ j. IsSaidOfScenario j turns moves trace right) e h)
+    → (right : Verification) → IsSaidOfScenario judged turns moves trace right → IsSame right v
+only_as judged s turns moves trace v e only right h = only right (subst (λ j. IsSaidOfScenario j turns moves trace right) e h)
 
-pub refused_as : (judged_text : Result Scenario Place) (e : ParseRefusal) (u : Unverified) (turns moves : ℕ) (trace : List ℕ) → u ≡ said_of_text e → Parses judged_text (Err e)
-    → Says judged_text turns moves trace (Err u)
-refused_as judged_text e u turns moves trace is h = subst (λ x. Says judged_text turns moves trace (Err x)) (sym is) (by e h)
+pub refused_as : (judged : Result Scenario Place) (e : ParseRefusal) (u : Unverified) (turns moves : ℕ) (trace : List ℕ) → u ≡ said_of_text e → Parses judged (Err e)
+    → Says judged turns moves trace (Err u)
+refused_as judged e u turns moves trace is h = subst (λ x. Says judged turns moves trace (Err x)) (sym is) (by e h)
   where
-    by : (e : ParseRefusal) → Parses judged_text (Err e) → Says judged_text turns moves trace (Err (said_of_text e))
+    by : (e : ParseRefusal) → Parses judged (Err e) → Says judged turns moves trace (Err (said_of_text e))
     by (parse.Refused p) h = subst (λ j. Says j turns moves trace (Err (Unverified.Refused p))) (sym h) (λ g. refl)
     by parse.Memory h = λ g. absurd (g refl)
 
-pub only_refused : (judged_text : Result Scenario Place) (e : ParseRefusal) (u : Unverified) (turns moves : ℕ) (trace : List ℕ) → u ≡ said_of_text e → Parses judged_text (Err e)
-    → (right : Verification) → IsSaidOfScenario judged_text turns moves trace right → IsSame right (Err u)
-only_refused judged_text e u turns moves trace is h right r = subst (λ x. IsSame right (Err x)) (sym is) (by e h)
+pub only_refused : (judged : Result Scenario Place) (e : ParseRefusal) (u : Unverified) (turns moves : ℕ) (trace : List ℕ) → u ≡ said_of_text e → Parses judged (Err e)
+    → (right : Verification) → IsSaidOfScenario judged turns moves trace right → IsSame right (Err u)
+only_refused judged e u turns moves trace is h right r = subst (λ x. IsSame right (Err x)) (sym is) (by e h)
   where
-    by : (e : ParseRefusal) → Parses judged_text (Err e) → IsSame right (Err (said_of_text e))
+    by : (e : ParseRefusal) → Parses judged (Err e) → IsSame right (Err (said_of_text e))
     by (parse.Refused p) h = same right (Err (Unverified.Refused p)) (subst (λ j. IsSaidOfScenario j turns moves trace right) h r)
     by parse.Memory h = same_memory right
 
@@ -142,37 +143,37 @@ only_marked o bytes text trace place turns moves v marked text_is trace_is only 
 
 -- ---- the input
 
-is_long : (bytes : List ℕ) → most_checked < length bytes → nat_lt most_checked (length bytes) ≡ true
-is_long bytes long = lt-ltb most_checked (length bytes) long
+is_long : (bytes : List ℕ) → MOST_CHECKED < length bytes → nat_lt MOST_CHECKED (length bytes) ≡ true
+is_long bytes long = lt-ltb MOST_CHECKED (length bytes) long
 
-is_short : (bytes : List ℕ) → length bytes ≤ most_checked → nat_lt most_checked (length bytes) ≡ false
-is_short bytes short = le-ltb most_checked (length bytes) short
+is_short : (bytes : List ℕ) → length bytes ≤ MOST_CHECKED → nat_lt MOST_CHECKED (length bytes) ≡ false
+is_short bytes short = le-ltb MOST_CHECKED (length bytes) short
 
 -- what is said of an input is what is said of one that is so long
-said_of : (is_long : Bool) (check : TraceCheck) (bytes : List ℕ) (v : Verification) → nat_lt most_checked (length bytes) ≡ is_long
+said_of : (is_long : Bool) (check : TraceCheck) (bytes : List ℕ) (v : Verification) → nat_lt MOST_CHECKED (length bytes) ≡ is_long
     → IsSaid (IsSaidIf is_long check bytes) v → IsSaid (IsSaidOf check bytes) v
 unfolding IsSaidOf
 said_of is_long check bytes v e h = subst (λ b. IsSaid (IsSaidIf b check bytes) v) (sym e) h
 
-only_of : (is_long : Bool) (check : TraceCheck) (bytes : List ℕ) (v : Verification) → nat_lt most_checked (length bytes) ≡ is_long
+only_of : (is_long : Bool) (check : TraceCheck) (bytes : List ℕ) (v : Verification) → nat_lt MOST_CHECKED (length bytes) ≡ is_long
     → ((right : Verification) → IsSaidIf is_long check bytes right → IsSame right v)
     → (right : Verification) → IsSaidOf check bytes right → IsSame right v
 unfolding IsSaidOf
 only_of is_long check bytes v e only right h = only right (subst (λ b. IsSaidIf b check bytes right) e h)
 
-pub said_of_short : (check : TraceCheck) (bytes : List ℕ) (v : Verification) → length bytes ≤ most_checked → IsSaid (IsSaidIf false check bytes) v → IsSaid (IsSaidOf check bytes) v
+pub said_of_short : (check : TraceCheck) (bytes : List ℕ) (v : Verification) → length bytes ≤ MOST_CHECKED → IsSaid (IsSaidIf false check bytes) v → IsSaid (IsSaidOf check bytes) v
 said_of_short check bytes v short h = said_of false check bytes v (is_short bytes short) h
 
-pub only_of_short : (check : TraceCheck) (bytes : List ℕ) (v : Verification) → length bytes ≤ most_checked
+pub only_of_short : (check : TraceCheck) (bytes : List ℕ) (v : Verification) → length bytes ≤ MOST_CHECKED
     → ((right : Verification) → IsSaidIf false check bytes right → IsSame right v)
     → (right : Verification) → IsSaidOf check bytes right → IsSame right v
 only_of_short check bytes v short only right h = only_of false check bytes v (is_short bytes short) only right h
 
-pub said_of_long : (check : TraceCheck) (bytes : List ℕ) (n : ℕ) → most_checked < length bytes → n ≡ line_at most_checked bytes
+pub said_of_long : (check : TraceCheck) (bytes : List ℕ) (n : ℕ) → MOST_CHECKED < length bytes → n ≡ line_at MOST_CHECKED bytes
     → IsSaid (IsSaidOf check bytes) (Err (Unverified.Overlong n))
 said_of_long check bytes n long line = said_of true check bytes (Err (Unverified.Overlong n)) (is_long bytes long) (λ g. ap (λ k. Err (Unverified.Overlong k)) line)
 
-pub only_of_long : (check : TraceCheck) (bytes : List ℕ) (n : ℕ) → most_checked < length bytes → n ≡ line_at most_checked bytes
+pub only_of_long : (check : TraceCheck) (bytes : List ℕ) (n : ℕ) → MOST_CHECKED < length bytes → n ≡ line_at MOST_CHECKED bytes
     → (right : Verification) → IsSaidOf check bytes right → IsSame right (Err (Unverified.Overlong n))
 only_of_long check bytes n long line right h =
     only_of true check bytes (Err (Unverified.Overlong n)) (is_long bytes long)

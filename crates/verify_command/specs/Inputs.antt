@@ -1,14 +1,11 @@
 -- Inputs that are checked: how long they may be, and their last line.
-use Rattle.std.specs.Prelude.{ℕ, ◌-◌, List, length}
+use Rattle.std.specs.Prelude.{ℕ, ◌+◌, ◌-◌, List, length}
 use Rattle.scenario_grammar.specs.Places.{line_at}
+use Rattle.verify_command.specs.declared.lines.TheConstants.{MOST_CHECKED}
 
--- the most bytes of an input
-abbrev pub most_checked : ℕ
-most_checked = 67108864
-
--- the most that are read of it: one more
+-- the most bytes that are read of an input: one more than it may have
 abbrev pub most_checked_read : ℕ
-most_checked_read = 67108865
+most_checked_read = MOST_CHECKED + 1
 
 -- the number of the last line: that of the last byte, and 1 where there is none
 abbrev pub end_line : List ℕ → ℕ

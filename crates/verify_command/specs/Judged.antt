@@ -13,7 +13,8 @@ use Rattle.trace_check.specs.Parts.{parted}
 use Rattle.trace_check.specs.declared.lawful.LawlessTrace.{LawlessTrace}
 use Rattle.trace_check.specs.declared.refusal.Cause.{Cause}
 use Rattle.trace_check.specs.declared.refusal.TraceRefusal.{TraceRefusal}
-use Rattle.verify_command.specs.Inputs.{end_line, most_checked}
+use Rattle.verify_command.specs.Inputs.{end_line}
+use Rattle.verify_command.specs.declared.lines.TheConstants.{MOST_CHECKED}
 use Rattle.verify_command.specs.declared.checking.Unverified.{Unverified}
 
 -- the number of lines, or why there is none
@@ -54,13 +55,13 @@ IsSaidOfTrace bytes v = (r : Result ℕ LawlessTrace) × IsJudgedLawful bytes r 
 
 -- an input that is too long is judged no further
 abbrev pub IsSaidIf : (is_long : Bool) → TraceCheck → List ℕ → Verification → Type 0
-IsSaidIf true check bytes v = v ≡ Err (Unverified.Overlong (line_at most_checked bytes))
+IsSaidIf true check bytes v = v ≡ Err (Unverified.Overlong (line_at MOST_CHECKED bytes))
 IsSaidIf false (TraceCheck.Run turns moves) bytes v = IsSaidOfParts (parted bytes) bytes turns moves v
 IsSaidIf false TraceCheck.Laws bytes v = IsSaidOfTrace bytes v
 
 -- what this check of an input says, of which these bytes are here
 unfoldable pub IsSaidOf : TraceCheck → List ℕ → Verification → Type 0
-IsSaidOf check bytes v = IsSaidIf (nat_lt most_checked (length bytes)) check bytes v
+IsSaidOf check bytes v = IsSaidIf (nat_lt MOST_CHECKED (length bytes)) check bytes v
 
 -- it is said, unless memory ran out
 abbrev pub IsSaid : (Verification → Type 0) → Verification → Type 0

@@ -1,5 +1,5 @@
 -- What a world by a rule keeps goes on to hold, and makes its answers legal.
-use Rattle.std.proofs.Common.{◌≡◌, ℕ, suc, ◌+◌, ◌^◌, ◌<◌, ◌≤◌, ◌↔◌, ◌==◌, Bool, true, false, not, ◌||◌, cond, if◌then◌else◌, nat_le, List, [], ◌∷◌, ◌++◌, map, length, min, max, Option, Some, None, refl, sym, ap, ◌∙◌, subst, arith}
+use Rattle.std.proofs.Common.{◌≡◌, ℕ, suc, ◌+◌, ◌<◌, ◌≤◌, ◌↔◌, ◌==◌, Bool, true, false, not, ◌||◌, cond, if◌then◌else◌, nat_le, List, [], ◌∷◌, ◌++◌, map, length, min, max, Option, Some, None, refl, sym, ap, ◌∙◌, subst, arith}
 use Rattle.std.specs.Prelude.{filter, Contains, All}
 use Rattle.std.proofs.lemmas.Bool.{false≢true}
 use Rattle.std.proofs.lemmas.Bool.Decides.{nat_tests}
@@ -15,7 +15,8 @@ use Rattle.world_rules.specs.declared.question.PostedJob.{PostedJob}
 use Rattle.world_rules.specs.declared.question.DueJob.{DueJob}
 use Rattle.world_rules.specs.Jobs.{eval}
 use Rattle.world_rules.specs.Legal.{posted, moment_of, last_answered_moment, is_done_of, is_posted, is_answered, outstanding, IsOutcomeOf, Answers, IsLegal, MayAsk}
-use Rattle.world_rules.specs.Script.{last_moment, due_job, comes_before, sooner, first_due, done_by, scripted, without_done}
+use Rattle.world_rules.specs.Script.{due_job, comes_before, sooner, first_due, done_by, scripted, without_done}
+use Rattle.world_rules.specs.declared.limits.TheConstants.{LAST_MOMENT}
 use Rattle.world.specs.Ruled.{posted_of, IsSound, AnswersNow, IsLegalNow}
 use Rattle.world.proofs.Filtered.{map-filter, filter-filter}
 
@@ -50,13 +51,13 @@ pub contains_posted : (posts : List PostedJob) (number : ℕ) (job : Job) → Co
 contains_posted posts number job h = All-contains (λ (post : PostedJob). is_posted post.number posts ≡ true) posts (posted number job) (posted_each posts) h
 
 pub sound_post : (posts : List PostedJob) (answers : List Answer) (jobs : List DueJob) (moment number : ℕ) (job : Job) (due : ℕ) → IsSound posts answers jobs moment
-    → is_posted number posts ≡ false → due < 2 ^ 62 → IsSound (posts ++ posted number job ∷ []) answers (jobs ++ due_job number job due ∷ []) moment
+    → is_posted number posts ≡ false → due ≤ LAST_MOMENT → IsSound (posts ++ posted number job ∷ []) answers (jobs ++ due_job number job due ∷ []) moment
 sound_post posts answers jobs moment number job due s new fits =
     let open_ : is_answered number answers ≡ false = s.answered number new in record {
       outstanding_are = map-append posted_of jobs (due_job number job due ∷ []) ∙ (ap (λ l. l ++ posted number job ∷ []) s.outstanding_are
           ∙ (ap (λ (b : Bool). outstanding posts answers ++ cond (not b) (posted number job ∷ []) []) (sym open_)
           ∙ sym (filter-append (λ (post : PostedJob). not (is_answered post.number answers)) posts (posted number job ∷ []))));
-      due = All-push (λ (j : DueJob). j.due < 2 ^ 62) jobs (due_job number job due) s.due fits;
+      due = All-push (λ (j : DueJob). j.due ≤ LAST_MOMENT) jobs (due_job number job due) s.due fits;
       answered = λ n none. s.answered n (or_false _ _ (sym (list_any-append (λ (post : PostedJob). post.number == n) posts (posted number job ∷ [])) ∙ none)).0;
       timely = s.timely;
       fits = s.fits;
@@ -81,7 +82,7 @@ sound_answer posts answers jobs moment question answer s legal =
           ∙ (ap (filter (λ (post : PostedJob). not (is_done_of post.number answer))) s.outstanding_are
           ∙ (sym (filter-filter (λ (post : PostedJob). is_answered post.number answers) (λ (post : PostedJob). is_done_of post.number answer) posts)
           ∙ filter_agree _ (λ (post : PostedJob). not (is_answered post.number (answers ++ answer ∷ []))) (λ post. ap not (sym (more post.number))) posts));
-      due = All-filter (λ (job : DueJob). not (is_done_of job.number answer)) (λ (job : DueJob). job.due < 2 ^ 62) jobs s.due;
+      due = All-filter (λ (job : DueJob). not (is_done_of job.number answer)) (λ (job : DueJob). job.due ≤ LAST_MOMENT) jobs s.due;
       answered = λ n none. more n ∙ false_or _ _ (s.answered n none) (false_or _ false (names_posted posts answers question answer n legal.0 none) refl);
       timely = last_moment_of-push answers answer;
       fits = legal.2;
@@ -135,7 +136,7 @@ may_answer posts answers jobs moment x s h =
 done_legal : (posts : List PostedJob) (answers : List Answer) (jobs : List DueJob) (moment : ℕ) (question : Question) (x : DueJob) → IsSound posts answers jobs moment → Contains jobs x
     → IsLegal posts answers question (Answer.Done x.number (eval x.job) (max x.due moment))
 done_legal posts answers jobs moment question x s h =
-    let due : x.due < 2 ^ 62 = All-contains (λ (job : DueJob). job.due < 2 ^ 62) jobs x s.due h in let timely = s.timely in let fits = s.fits in
+    let due : x.due ≤ LAST_MOMENT = All-contains (λ (job : DueJob). job.due ≤ LAST_MOMENT) jobs x s.due h in let timely = s.timely in let fits = s.fits in
     (may_answer posts answers jobs moment x s h, omega arith, omega arith)
 
 -- Done or the other answer, whichever the rule gives, where both would be legal
@@ -151,25 +152,25 @@ done_by_legal posts answers jobs limit moment (Some x) question otherwise h o = 
 
 -- a wait without end, where a job is outstanding
 wait_legal : (posts : List PostedJob) (answers : List Answer) (jobs : List DueJob) (moment : ℕ) (x : DueJob) → IsSound posts answers jobs moment → first_due jobs ≡ Some x
-    → IsLegal posts answers (Question.Wait None) (done_by last_moment moment (first_due jobs) (Answer.Elapsed moment))
+    → IsLegal posts answers (Question.Wait None) (done_by LAST_MOMENT moment (first_due jobs) (Answer.Elapsed moment))
 wait_legal posts answers jobs moment x s e =
-    let due : x.due < 2 ^ 62 = All-contains (λ (job : DueJob). job.due < 2 ^ 62) jobs x s.due (first_in jobs x e) in
-    let soon : nat_le x.due last_moment ≡ true = grind (arith, nat_tests) in
-    subst (λ (f : Option DueJob). IsLegal posts answers (Question.Wait None) (done_by last_moment moment f (Answer.Elapsed moment))) (sym e)
+    let due : x.due ≤ LAST_MOMENT = All-contains (λ (job : DueJob). job.due ≤ LAST_MOMENT) jobs x s.due (first_in jobs x e) in
+    let soon : nat_le x.due LAST_MOMENT ≡ true = grind (arith, nat_tests) in
+    subst (λ (f : Option DueJob). IsLegal posts answers (Question.Wait None) (done_by LAST_MOMENT moment f (Answer.Elapsed moment))) (sym e)
     (subst (λ (b : Bool). IsLegal posts answers (Question.Wait None) (if b then Answer.Done x.number (eval x.job) (max x.due moment) else Answer.Elapsed moment)) (sym soon)
     (done_legal posts answers jobs moment (Question.Wait None) x s (first_in jobs x e)))
 
-later : (posts : List PostedJob) (answers : List Answer) (jobs : List DueJob) (moment now : ℕ) → IsSound posts answers jobs moment → moment ≤ now → now < 2 ^ 62 → (x : DueJob) → Contains jobs x → (question : Question)
+later : (posts : List PostedJob) (answers : List Answer) (jobs : List DueJob) (moment now : ℕ) → IsSound posts answers jobs moment → moment ≤ now → now ≤ LAST_MOMENT → (x : DueJob) → Contains jobs x → (question : Question)
     → IsLegal posts answers question (Answer.Done x.number (eval x.job) (max x.due now))
 later posts answers jobs moment now s le fits x h question =
-    let due : x.due < 2 ^ 62 = All-contains (λ (job : DueJob). job.due < 2 ^ 62) jobs x s.due h in let timely = s.timely in
+    let due : x.due ≤ LAST_MOMENT = All-contains (λ (job : DueJob). job.due ≤ LAST_MOMENT) jobs x s.due h in let timely = s.timely in
     (may_answer posts answers jobs moment x s h, omega arith, omega arith)
 
 -- the answers of a script are legal
 pub scripted_legal : (tick : ℕ) (posts : List PostedJob) (answers : List Answer) (jobs : List DueJob) (moment : ℕ) (question : Question) → IsSound posts answers jobs moment → MayAsk posts answers question
     → IsLegal posts answers question (scripted tick jobs moment question)
 scripted_legal tick posts answers jobs moment Question.Poll s may =
-    let timely = s.timely in let fits = s.fits in let now : ℕ = min (moment + tick) last_moment in
+    let timely = s.timely in let fits = s.fits in let now : ℕ = min (moment + tick) LAST_MOMENT in
     done_by_legal posts answers jobs now now (first_due jobs) Question.Poll (Answer.Nothing now)
     (λ x e. later posts answers jobs moment now s (omega arith) (omega arith) x (first_in jobs x e) Question.Poll)
     (tt, omega arith, omega arith)

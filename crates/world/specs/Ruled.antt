@@ -1,5 +1,5 @@
 -- What the worlds by a rule keep.
-use Rattle.std.specs.Prelude.{◌≡◌, ℕ, ◌^◌, ◌<◌, ◌≤◌, false, List, map, Some, All, Contains}
+use Rattle.std.specs.Prelude.{◌≡◌, ℕ, ◌≤◌, false, List, map, Some, All, Contains}
 use Rattle.gv_values.specs.declared.job.Answer.{Answer}
 use Rattle.gv_values.specs.declared.job.JobOutcome.{JobOutcome}
 use Rattle.world_rules.specs.Jobs.{eval}
@@ -7,6 +7,7 @@ use Rattle.world_rules.specs.declared.question.Question.{Question}
 use Rattle.world_rules.specs.declared.question.PostedJob.{PostedJob}
 use Rattle.world_rules.specs.declared.question.DueJob.{DueJob}
 use Rattle.world_rules.specs.Legal.{posted, moment_of, last_answered_moment, is_posted, is_answered, outstanding}
+use Rattle.world_rules.specs.declared.limits.TheConstants.{LAST_MOMENT}
 
 -- the posted job of a job that is due
 abbrev pub posted_of : DueJob → PostedJob
@@ -27,15 +28,15 @@ AnswersNow jobs (Question.Wait (Some until)) (Answer.Elapsed at) = until ≤ at
 AnswersNow jobs Question.Poll (Answer.Nothing at) = Unit {0}
 AnswersNow jobs question answer = ⊥
 
--- a legal one: its moment is not before this one, and below 2 ^ 62
+-- a legal one: its moment is not before this one, nor after the last that there is
 abbrev pub IsLegalNow : List DueJob → ℕ → Question → Answer → Type 0
-IsLegalNow jobs moment question answer = AnswersNow jobs question answer × (moment ≤ moment_of answer) × (moment_of answer < 2 ^ 62)
+IsLegalNow jobs moment question answer = AnswersNow jobs question answer × (moment ≤ moment_of answer) × (moment_of answer ≤ LAST_MOMENT)
 
 -- the jobs are the outstanding ones, each due at a moment that fits; each answered job was posted; the moment is that
 -- of the last answer
 pub record IsSound (posts : List PostedJob) (answers : List Answer) (jobs : List DueJob) (moment : ℕ) : Type 0 where
   pub outstanding_are : map posted_of jobs ≡ outstanding posts answers
-  pub due : All (λ (job : DueJob). job.due < 2 ^ 62) jobs
+  pub due : All (λ (job : DueJob). job.due ≤ LAST_MOMENT) jobs
   pub answered : (number : ℕ) → is_posted number posts ≡ false → is_answered number answers ≡ false
   pub timely : last_answered_moment answers ≡ moment
-  pub fits : moment < 2 ^ 62
+  pub fits : moment ≤ LAST_MOMENT

@@ -1,9 +1,10 @@
 -- What a world means to those that use it, and what each call does to that.
-use Rattle.std.specs.Prelude.{◌≡◌, ℕ, ◌^◌, ◌<◌, ◌≤◌, Bool, true, List, [], ◌∷◌, ◌++◌}
+use Rattle.std.specs.Prelude.{◌≡◌, ℕ, ◌≤◌, Bool, true, List, [], ◌∷◌, ◌++◌}
 use Rattle.gv_values.specs.declared.job.Job.{Job}
 use Rattle.gv_values.specs.declared.job.Answer.{Answer}
 use Rattle.world_rules.specs.declared.question.PostedJob.{PostedJob}
 use Rattle.world_rules.specs.Legal.{posted, moment_of}
+use Rattle.world_rules.specs.declared.limits.TheConstants.{LAST_MOMENT}
 
 -- the jobs posted since the world began, in order; the answers since then; its moment and workers; what its rule rests
 -- on, a tick and a list of answers; whether it runs; and the name of the reference that it works through, or 0
@@ -40,7 +41,7 @@ pub record Posts (v w : WorldMeaning) (number : ℕ) (job : Job) : Type 0 where
   pub posts : w.posts ≡ v.posts ++ posted number job ∷ []
   pub answers : w.answers ≡ v.answers
   pub moment : v.moment ≤ w.moment
-  pub fits : w.moment < 2 ^ 62
+  pub fits : w.moment ≤ LAST_MOMENT
   pub rest : WorldGoesOn v w
 
 -- an answer more was given and stored, at the moment that it names, which doesn't fall

@@ -6,10 +6,7 @@ ghost use Rattle.world_rules.specs.Script.{due_at, first_due, done_by, scripted}
 ghost use Rattle.world.specs.Upshots.{said};
 
 use gv_values::Answer;
-use world_rules::{DueJob, Question, eval};
-
-/// The greatest moment.
-pub(crate) const LAST_MOMENT: u64 = (1 << 62) - 1;
+use world_rules::{DueJob, LAST_MOMENT, Question, eval};
 
 /// The moment at which a job is done that is posted at a moment and takes so long.
 pub(crate) fn due_at(moment: u64, takes: u64) -> u64

@@ -6,10 +6,10 @@ ghost use Rattle.world_rules.specs.declared.question.DueJob.{DueJob};
 ghost use Rattle.world.specs.Ruled.{IsLegalNow};
 ghost use Rattle.world.specs.Outstanding.{Finds};
 
-use crate::due::{LAST_MOMENT, moment_of};
+use crate::due::moment_of;
 use crate::outstanding::OutstandingJobs;
 use gv_values::Answer;
-use world_rules::Question;
+use world_rules::{LAST_MOMENT, Question};
 
 /// Whether the answer to the question is legal at this moment, where these jobs are outstanding.
 pub(crate) fn is_legal(

@@ -58,6 +58,7 @@ impl ListWorld {
 
 impl World for ListWorld {
     ghost use Rattle.std.specs.Prelude.{◌<◌, ◌≤◌, ◌↔◌, false, List, [], OnErr};
+    ghost use Rattle.gv_values.specs.declared.limits.TheConstants.{MOST_WORKERS};
     ghost use Rattle.world_rules.specs.declared.question.LogEntry.{LogEntry};
     ghost use Rattle.world.specs.Worlds.{Begins};
     ghost use Rattle.world.specs.Listed.{list_meaning, still_listed, list_log, list_log_is};
@@ -73,7 +74,7 @@ impl World for ListWorld {
     fn begin(&mut self, workers: u32) -> Result<(), AllocError>
         requires stopped { (list_meaning self.old).runs ≡ false }
         requires some { 0 < workers }
-        requires few { workers ≤ 16 }
+        requires few { workers ≤ MOST_WORKERS }
         ensures begins { OnOk result (Begins (list_meaning self.old) (list_meaning self.new) workers) }
         ensures log { OnOk result (list_log self.new []) }
         ensures refused { OnErr result (list_meaning self.new ≡ list_meaning self.old) }

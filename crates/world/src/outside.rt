@@ -1,5 +1,6 @@
 //! The interface of a world.
 ghost use Rattle.std.specs.Prelude.{◌≡◌, ℕ, ◌<◌, ◌≤◌, ◌↔◌, Bool, false, true, List, [], ◌∷◌, ◌++◌, IfOk, OnOk, OnErr};
+ghost use Rattle.gv_values.specs.declared.limits.TheConstants.{MOST_WORKERS};
 ghost use Rattle.world_rules.specs.declared.question.LogEntry.{LogEntry};
 ghost use Rattle.world_rules.specs.declared.question.LogEntry.TheVariants as entry;
 ghost use Rattle.world_rules.specs.Legal.{is_posted, posts_of, answers_of, IsLegal, MayAsk};
@@ -23,11 +24,12 @@ pub trait World {
     // Whether it may be long in answering.
     ghost waits: { Bool };
 
-    /// Begins with no posts and no answers, at moment 0, with 1 to 16 workers. `AllocError`: memory is wanting.
+    /// Begins with no posts and no answers, at moment 0, with 1 to `MOST_WORKERS` workers. `AllocError`: memory is
+    /// wanting.
     fn begin(&mut self, workers: u32) -> Result<(), AllocError>
         requires stopped { (meaning self.old).runs ≡ false }
         requires some { 0 < workers }
-        requires few { workers ≤ 16 }
+        requires few { workers ≤ MOST_WORKERS }
         ensures begins { OnOk result (Begins (meaning self.old) (meaning self.new) workers) }
         ensures log { OnOk result (stands_for self.new []) }
         ensures refused { OnErr result (meaning self.new ≡ meaning self.old) }

@@ -6,7 +6,8 @@ use Rattle.gv_values.specs.declared.job.JobOutcome.{JobOutcome}
 use Rattle.gv_values.specs.declared.job.Job.{Job}
 use Rattle.std.proofs.lemmas.Int.{ints}
 use lib.IntN.{nat_abs}
-use Rattle.world_rules.specs.Jobs.{next_collatz, collatz, eval, most_steps}
+use Rattle.world_rules.specs.Jobs.{next_collatz, collatz, eval}
+use Rattle.world_rules.specs.declared.limits.TheConstants.{MOST_STEPS}
 
 not_one : (m : ℕ) → m ≢ 1 → (m == 1) ≡ false
 not_one m n = grind (arith, nat_tests)
@@ -40,7 +41,7 @@ collatz_goes_on k left made m x is n next fits =
     ap (λ j. collatz j made m) is ∙ (collatz_cases false true left made m (not_one m n) small ∙ ap (λ y. collatz left (made + 1) y) (sym next))
 
 -- the job collatz of a positive integer
-pub eval_collatz : (z : ℤ) → pos 1 ≤ℤ z → eval (Job.Collatz z) ≡ collatz most_steps 0 (nat_abs z)
+pub eval_collatz : (z : ℤ) → pos 1 ≤ℤ z → eval (Job.Collatz z) ≡ collatz MOST_STEPS 0 (nat_abs z)
 unfolding eval
 eval_collatz (pos zero) h = absurd (omega (arith, ints))
 eval_collatz (pos (suc n)) h = refl

@@ -3,7 +3,8 @@ use Rattle.std.proofs.Common.{ℕ, zero, suc, ◌+◌, ◌^◌, ◌==◌, Bool, 
 use Rattle.gv_values.specs.declared.fault.FaultKind.{FaultKind}
 use Rattle.gv_values.specs.declared.job.Job.{Job}
 use Rattle.gv_values.specs.declared.job.JobOutcome.{JobOutcome}
-use Rattle.world_rules.specs.Jobs.{next_collatz, collatz, eval, most_steps, most_summed}
+use Rattle.world_rules.specs.Jobs.{next_collatz, collatz, eval}
+use Rattle.world_rules.specs.declared.limits.TheConstants.{MOST_STEPS, MOST_SUMMED}
 
 -- these are the outcomes of jobs
 abbrev pub IsJobEnd : JobOutcome → Type 0
@@ -40,10 +41,10 @@ sum_ends false n = tt
 -- every job comes to an integer, ValueError, OverflowError or Error
 pub eval_ends : (job : Job) → IsJobEnd (eval job)
 unfolding eval
-eval_ends (Job.Sum (pos n)) = sum_ends (nat_le n most_summed) _
+eval_ends (Job.Sum (pos n)) = sum_ends (nat_le n MOST_SUMMED) _
 eval_ends (Job.Sum (negsuc n)) = tt
 eval_ends (Job.Collatz (pos zero)) = tt
-eval_ends (Job.Collatz (pos (suc n))) = collatz_ends most_steps 0 (suc n)
+eval_ends (Job.Collatz (pos (suc n))) = collatz_ends MOST_STEPS 0 (suc n)
 eval_ends (Job.Collatz (negsuc n)) = tt
 eval_ends (Job.Fail z) = tt
 eval_ends (Job.Echo z) = tt

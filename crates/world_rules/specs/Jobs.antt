@@ -3,14 +3,7 @@ use Rattle.std.specs.Prelude.{ℕ, zero, suc, ◌+◌, ◌*◌, ◌/◌, ◌%◌
 use Rattle.gv_values.specs.declared.fault.FaultKind.{FaultKind}
 use Rattle.gv_values.specs.declared.job.Job.{Job}
 use Rattle.gv_values.specs.declared.job.JobOutcome.{JobOutcome}
-
--- the greatest n of which a sum is made
-abbrev pub most_summed : ℕ
-most_summed = 1000000000
-
--- the most steps of a Collatz sequence that are made
-abbrev pub most_steps : ℕ
-most_steps = 10000
+use Rattle.world_rules.specs.declared.limits.TheConstants.{MOST_STEPS, MOST_SUMMED}
 
 -- the number after m in a Collatz sequence
 abbrev pub next_collatz : ℕ → ℕ
@@ -28,13 +21,13 @@ collatz (suc left) made m =
 
 -- 1 + .. + n, where n is not too great
 abbrev pub sum_to : ℤ → JobOutcome
-sum_to (pos n) = if nat_le n most_summed then JobOutcome.Int (pos (n * (n + 1) / 2)) else JobOutcome.Fault FaultKind.ValueError
+sum_to (pos n) = if nat_le n MOST_SUMMED then JobOutcome.Int (pos (n * (n + 1) / 2)) else JobOutcome.Fault FaultKind.ValueError
 sum_to (negsuc n) = JobOutcome.Fault FaultKind.ValueError
 
 -- sum n is 1 + .. + n, collatz n the steps from n to 1, fail n the fault Error(n), and echo n is n
 unfoldable pub eval : Job → JobOutcome
 eval (Job.Sum z) = sum_to z
-eval (Job.Collatz (pos (suc n))) = collatz most_steps 0 (suc n)
+eval (Job.Collatz (pos (suc n))) = collatz MOST_STEPS 0 (suc n)
 eval (Job.Collatz z) = JobOutcome.Fault FaultKind.ValueError
 eval (Job.Fail z) = JobOutcome.Fault (FaultKind.Error z)
 eval (Job.Echo z) = JobOutcome.Int z

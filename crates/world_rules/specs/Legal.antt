@@ -1,5 +1,5 @@
 -- Which answers to a question are legal, given the jobs that were posted and the answers before.
-use Rattle.std.specs.Prelude.{◌≡◌, ℕ, ◌^◌, ◌<◌, ◌≤◌, ◌==◌, Bool, false, not, List, [], ◌∷◌, ◌++◌, length, filter, Some, None, Contains}
+use Rattle.std.specs.Prelude.{◌≡◌, ℕ, ◌<◌, ◌≤◌, ◌==◌, Bool, false, not, List, [], ◌∷◌, ◌++◌, length, filter, Some, None, Contains}
 use Rattle.std.specs.List.{list_any}
 use Rattle.gv_values.specs.declared.job.Job.{Job}
 use Rattle.gv_values.specs.declared.job.JobOutcome.{JobOutcome}
@@ -8,6 +8,7 @@ use Rattle.world_rules.specs.declared.question.Question.{Question}
 use Rattle.world_rules.specs.declared.question.PostedJob.{PostedJob}
 use Rattle.world_rules.specs.declared.question.LogEntry.{LogEntry}
 use Rattle.world_rules.specs.Jobs.{eval}
+use Rattle.world_rules.specs.declared.limits.TheConstants.{LAST_MOMENT}
 
 -- a job with its number
 abbrev pub posted : ℕ → Job → PostedJob
@@ -54,16 +55,16 @@ Answers posts before (Question.Wait (Some until)) (Answer.Elapsed at) = until �
 Answers posts before Question.Poll (Answer.Nothing at) = Unit {0}
 Answers posts before question answer = ⊥
 
--- a legal answer after these posts and answers: its moment is not before the last one, and is below 2 ^ 62
+-- a legal answer after these posts and answers: its moment is not before that of the last answer, nor after `LAST_MOMENT`
 abbrev pub IsLegal : List PostedJob → List Answer → Question → Answer → Type 0
 IsLegal posts before question answer =
-    Answers posts before question answer × (last_answered_moment before ≤ moment_of answer) × (moment_of answer < 2 ^ 62)
+    Answers posts before question answer × (last_answered_moment before ≤ moment_of answer) × (moment_of answer ≤ LAST_MOMENT)
 
--- what may be asked: a wait without end where a job is outstanding, another until a moment below 2 ^ 62
+-- what may be asked: a wait without end where a job is outstanding, another until a moment not after `LAST_MOMENT`
 abbrev pub MayAsk : List PostedJob → List Answer → Question → Type 0
 MayAsk posts answers Question.Poll = Unit {0}
 MayAsk posts answers (Question.Wait None) = 0 < length (outstanding posts answers)
-MayAsk posts answers (Question.Wait (Some until)) = until < 2 ^ 62
+MayAsk posts answers (Question.Wait (Some until)) = until ≤ LAST_MOMENT
 
 -- the jobs that were posted in a log
 abbrev pub posts_of : List LogEntry → List PostedJob

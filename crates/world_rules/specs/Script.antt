@@ -1,19 +1,16 @@
 -- The rule of a script: what it answers, as a function of the outstanding jobs, the moment and the question.
-use Rattle.std.specs.Prelude.{ℕ, ◌+◌, ◌-◌, ◌^◌, ◌==◌, Bool, not, ◌&&◌, ◌||◌, List, [], ◌∷◌, filter, Option, Some, None, if◌then◌else◌, nat_lt, nat_le, min, max}
+use Rattle.std.specs.Prelude.{ℕ, ◌+◌, ◌==◌, Bool, not, ◌&&◌, ◌||◌, List, [], ◌∷◌, filter, Option, Some, None, if◌then◌else◌, nat_lt, nat_le, min, max}
 use Rattle.gv_values.specs.declared.job.Job.{Job}
 use Rattle.gv_values.specs.declared.job.Answer.{Answer}
+use Rattle.world_rules.specs.declared.limits.TheConstants.{LAST_MOMENT}
 use Rattle.world_rules.specs.declared.question.Question.{Question}
 use Rattle.world_rules.specs.declared.question.DueJob.{DueJob}
 use Rattle.world_rules.specs.Jobs.{eval}
 use Rattle.world_rules.specs.Legal.{is_done_of}
 
--- the greatest moment
-abbrev pub last_moment : ℕ
-last_moment = 2 ^ 62 - 1
-
 -- the moment at which a job is done that is posted at a moment and takes so long
 abbrev pub due_at : ℕ → ℕ → ℕ
-due_at moment takes = min (moment + takes) last_moment
+due_at moment takes = min (moment + takes) LAST_MOMENT
 
 -- a job that is done at a moment
 abbrev pub due_job : ℕ → Job → ℕ → DueJob
@@ -42,8 +39,8 @@ done_by limit moment (Some job) otherwise =
 -- the answer of a script whose moment grows by the tick at each Poll
 abbrev pub scripted : ℕ → List DueJob → ℕ → Question → Answer
 scripted tick jobs moment Question.Poll =
-    let now = min (moment + tick) last_moment in done_by now now (first_due jobs) (Answer.Nothing now)
-scripted tick jobs moment (Question.Wait None) = done_by last_moment moment (first_due jobs) (Answer.Elapsed moment)
+    let now = min (moment + tick) LAST_MOMENT in done_by now now (first_due jobs) (Answer.Nothing now)
+scripted tick jobs moment (Question.Wait None) = done_by LAST_MOMENT moment (first_due jobs) (Answer.Elapsed moment)
 scripted tick jobs moment (Question.Wait (Some until)) = done_by until moment (first_due jobs) (Answer.Elapsed (max until moment))
 
 -- the jobs that an answer doesn't name

@@ -1,17 +1,13 @@
 ghost use Rattle.std.specs.Prelude.{◌≡◌, ◌*◌, ◌<◌, ◌≤◌, ◌^◌, MatchOption};
-ghost use Rattle.world_rules.specs.Jobs.{next_collatz, most_steps, collatz, eval, sum_to};
+ghost use Rattle.world_rules.specs.Jobs.{next_collatz, collatz, eval, sum_to};
+ghost use Rattle.world_rules.specs.declared.limits.TheConstants.{MOST_STEPS};
 
+use crate::limits::{MOST_STEPS, MOST_SUMMED};
 use gv_values::{FaultKind, Job, JobOutcome};
 
-/// The greatest n of which a sum is made.
-const MOST_SUMMED: i64 = 1_000_000_000;
-
-/// The most steps of a Collatz sequence that are made.
-const MOST_STEPS: u64 = 10_000;
-
-/// What a job comes to: the sum of 1 to n for n from 0 to 1000000000, else ValueError; the steps of the Collatz
-/// sequence from n to 1, where n below 1 and more than 10000 steps are ValueError and a number of more than 64 bits
-/// signed is OverflowError, whichever comes first; the fault Error(n); n itself.
+/// What a job comes to: the sum of 1 to n for n from 0 to `MOST_SUMMED`, else ValueError; the steps of the Collatz
+/// sequence from n to 1, where n below 1 and more than `MOST_STEPS` steps are ValueError and a number of more than 64
+/// bits signed is OverflowError, whichever comes first; the fault Error(n); n itself.
 #[tactic(auto, unfolding(crate::specs::Jobs::eval))]
 pub fn eval(job: Job) -> JobOutcome
     ensures { result ≡ eval job }
@@ -32,7 +28,7 @@ pub fn eval(job: Job) -> JobOutcome
 fn sum(n: i64) -> JobOutcome
     ensures { result ≡ sum_to n }
 {
-    if n < 0 || n > MOST_SUMMED {
+    if n < 0 || n > MOST_SUMMED as i64 {
         return JobOutcome::Fault(FaultKind::ValueError);
     }
     let n = n as u64;
@@ -55,7 +51,7 @@ fn next(m: u64) -> Option<u64>
 
 fn steps_to_one(n: u64) -> JobOutcome
     requires { n < 2 ^ 63 }
-    ensures { result ≡ collatz most_steps 0 n }
+    ensures { result ≡ collatz MOST_STEPS 0 n }
 {
     let mut m = n;
     for made in 0..MOST_STEPS {

@@ -6,7 +6,9 @@
 #![tactic(auto)]
 
 mod evaluate;
+mod limits;
 mod question;
 
 pub use evaluate::eval;
+pub use limits::{LAST_MOMENT, MOST_STEPS, MOST_SUMMED};
 pub use question::{DueJob, LogEntry, PostedJob, Question};

@@ -3,6 +3,7 @@ use Rattle.machine.specs.Waits.{maps}
 use Rattle.hub_requests.specs.Making.{MayMake}
 use Rattle.hub_requests.specs.Naming.{IsObject}
 use Rattle.hub_requests.proofs.members.map_elements.Given as goal
+use Rattle.gv_values.specs.declared.limits.TheConstants.{MOST_ELEMENTS}
 
 abbrev pub invariant-loop-at : goal.invariant-loop-at
 invariant-loop-at l = record {
@@ -10,7 +11,7 @@ invariant-loop-at l = record {
   sound : MayMake l.g l.hub;
   named : IsObject l.hub.scenario l.o;
   within : l.at ≤ length l.elements;
-  few : length l.elements + length l.made ≤ 64 + l.at;
+  few : length l.elements + length l.made ≤ MOST_ELEMENTS + l.at;
 }
 
 abbrev pub decreases-loop-at : goal.decreases-loop-at

@@ -1,4 +1,4 @@
-use Rattle.scenario_grammar.specs.Phrases.{most_ms}
+use Rattle.scenario_grammar.specs.declared.limits.TheConstants.{MOST_MS}
 use Rattle.scenario_print.proofs.Words.{further, line}
 use Rattle.scenario_print.proofs.command.push_command.Goals as goal
 
@@ -18,7 +18,7 @@ pub returns-in-Start : goal.returns-in-Start
 returns-in-Start c = rw c.in-Start.is (line c.start_expression-in-Start.ensures)
 
 pub returns-in-Sleep : goal.returns-in-Sleep
-returns-in-Sleep c = rw c.in-Sleep.is (line (c.start_number.ensures.words 0 most_ms))
+returns-in-Sleep c = rw c.in-Sleep.is (line (c.start_number.ensures.words 0 MOST_MS))
 
 pub returns-in_ok-start_expression-in-Join : goal.returns-in_ok-start_expression-in-Join
 returns-in_ok-start_expression-in-Join c = rw c.in-Join.is (line (further c.in_ok-start_expression-in-Join.ensures c.push_timed.ensures))

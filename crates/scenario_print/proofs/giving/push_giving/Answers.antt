@@ -1,4 +1,4 @@
-use Rattle.scenario_grammar.specs.Phrases.{most_ms}
+use Rattle.scenario_grammar.specs.declared.limits.TheConstants.{MOST_MARK, MOST_MS}
 use Rattle.scenario_print.proofs.Words.{further, in_range, line}
 use Rattle.scenario_print.proofs.Layers.{all_whole}
 use Rattle.scenario_print.proofs.giving.push_giving.Goals as goal
@@ -7,7 +7,7 @@ pub returns-in-Spawn : goal.returns-in-Spawn
 returns-in-Spawn c = rw c.in-Spawn.is (line c.start_call.ensures)
 
 pub returns-in_ok-push_name-in-SpawnLater : goal.returns-in_ok-push_name-in-SpawnLater
-returns-in_ok-push_name-in-SpawnLater c = rw c.in-SpawnLater.is (line (further (further (c.in_ok-start_number-in-SpawnLater.ensures.words 0 most_ms) c.in_ok-push_name-in-SpawnLater.ensures) (all_whole c.push_expressions.ensures)))
+returns-in_ok-push_name-in-SpawnLater c = rw c.in-SpawnLater.is (line (further (further (c.in_ok-start_number-in-SpawnLater.ensures.words 0 MOST_MS) c.in_ok-push_name-in-SpawnLater.ensures) (all_whole c.push_expressions.ensures)))
 
 pub returns-in-New : goal.returns-in-New
 returns-in-New c = rw c.in-New.is (line c.start_call-in-New.ensures)
@@ -22,7 +22,7 @@ pub returns-in_ok-start_expression-in-Link : goal.returns-in_ok-start_expression
 returns-in_ok-start_expression-in-Link c = rw (c.in-Link.is, ← c.link_word.ensures) (line (further c.in_ok-start_expression-in-Link.ensures c.push_name-in-Link.ensures))
 
 pub returns-in_ok-push_fixed-in-LinkMark : goal.returns-in_ok-push_fixed-in-LinkMark
-returns-in_ok-push_fixed-in-LinkMark c = rw (c.in-LinkMark.is, ← c.from.ensures) (line (further (further c.in_ok-start_expression-in-LinkMark.ensures c.in_ok-push_fixed-in-LinkMark.ensures) (in_range 0 1000000 c.push_number.ensures)))
+returns-in_ok-push_fixed-in-LinkMark c = rw (c.in-LinkMark.is, ← c.from.ensures) (line (further (further c.in_ok-start_expression-in-LinkMark.ensures c.in_ok-push_fixed-in-LinkMark.ensures) (in_range 0 MOST_MARK c.push_number.ensures)))
 
 pub returns-in_ok-push_fixed-in-LinkSet : goal.returns-in_ok-push_fixed-in-LinkSet
 returns-in_ok-push_fixed-in-LinkSet c = rw c.in-LinkSet.is (line (further (further c.in_ok-start_expression-in-LinkSet.ensures c.in_ok-push_fixed-in-LinkSet.ensures) c.push_name-in-LinkSet.ensures))
