@@ -16,7 +16,8 @@ use Rattle.command_words.specs.declared.command.ResultOrder.{ResultOrder}
 use Rattle.command_words.specs.declared.command.ResultOrder.TheVariants as results
 use Rattle.command_words.specs.declared.command.TextCommand.TheVariants.{Run, Format}
 use Rattle.command_words.specs.declared.command.TraceCheck.{TraceCheck}
-use Rattle.command_words.specs.declared.table.TheConstants.{TURNS, MOVES, TICK, NATIVE, PORT, CONNS, POOL, IDLE, JOBS, SIZE}
+use Rattle.command_words.specs.declared.table.TheConstants.{MOST_PORT, MOST_STORM, MOST_TICK, USUAL_IDLE, USUAL_MOVES, USUAL_OPEN_CONNECTIONS, USUAL_TURNS}
+use Rattle.gv_values.specs.declared.limits.TheConstants.{MOST_CONNECTIONS, MOST_IDLE, MOST_MOVES, MOST_OPEN_CONNECTIONS, MOST_TURNS, MOST_WORKERS}
 
 abbrev pub Word : Type 0
 Word = List ℕ
@@ -30,42 +31,42 @@ pub record OptionRow : Type 0 where
   pub usual : Option ℕ
 
 abbrev pub turns : OptionRow
-turns = record { name = codes "turns"; least = TURNS.least; most = TURNS.most; usual = TURNS.usual }
+turns = record { name = codes "turns"; least = 1; most = MOST_TURNS; usual = Some USUAL_TURNS }
 
 abbrev pub moves : OptionRow
-moves = record { name = codes "moves"; least = MOVES.least; most = MOVES.most; usual = MOVES.usual }
+moves = record { name = codes "moves"; least = 1; most = MOST_MOVES; usual = Some USUAL_MOVES }
 
 abbrev pub tick : OptionRow
-tick = record { name = codes "tick"; least = TICK.least; most = TICK.most; usual = TICK.usual }
+tick = record { name = codes "tick"; least = 0; most = MOST_TICK; usual = Some 0 }
 
 abbrev pub native : OptionRow
-native = record { name = codes "native"; least = NATIVE.least; most = NATIVE.most; usual = NATIVE.usual }
+native = record { name = codes "native"; least = 1; most = MOST_WORKERS; usual = None }
 
 -- the option whose value is an order, by its name; `free` stands where it is left out
 abbrev pub order : Word
 order = codes "order"
 
 abbrev pub port : OptionRow
-port = record { name = codes "port"; least = PORT.least; most = PORT.most; usual = PORT.usual }
+port = record { name = codes "port"; least = 0; most = MOST_PORT; usual = None }
 
 abbrev pub conns : OptionRow
-conns = record { name = codes "conns"; least = CONNS.least; most = CONNS.most; usual = CONNS.usual }
+conns = record { name = codes "conns"; least = 1; most = MOST_CONNECTIONS; usual = None }
 
 abbrev pub pool : OptionRow
-pool = record { name = codes "pool"; least = POOL.least; most = POOL.most; usual = POOL.usual }
+pool = record { name = codes "pool"; least = 1; most = MOST_OPEN_CONNECTIONS; usual = Some USUAL_OPEN_CONNECTIONS }
 
 abbrev pub idle : OptionRow
-idle = record { name = codes "idle"; least = IDLE.least; most = IDLE.most; usual = IDLE.usual }
+idle = record { name = codes "idle"; least = 1; most = MOST_IDLE; usual = Some USUAL_IDLE }
 
 abbrev pub jobs : OptionRow
-jobs = record { name = codes "jobs"; least = JOBS.least; most = JOBS.most; usual = JOBS.usual }
+jobs = record { name = codes "jobs"; least = 1; most = MOST_WORKERS; usual = None }
 
 -- the option whose value is a gateway, by its name; `http` stands where it is left out
 abbrev pub gateway : Word
 gateway = codes "gateway"
 
 abbrev pub size : OptionRow
-size = record { name = codes "size"; least = SIZE.least; most = SIZE.most; usual = SIZE.usual }
+size = record { name = codes "size"; least = 1; most = MOST_STORM; usual = None }
 
 -- the option whose value is a check, by its name; `run` stands where it is left out
 abbrev pub check : Word

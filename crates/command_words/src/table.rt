@@ -38,12 +38,33 @@ pub struct CommandRow {
     pub options: &'static [CommandOption],
 }
 
+/// The turns of a run where nothing is said.
+pub const USUAL_TURNS: u64 = 1000000;
+
+/// The moves of a run where nothing is said.
+pub const USUAL_MOVES: u64 = 10000000;
+
+/// The longest tick of a script, in milliseconds.
+pub const MOST_TICK: u64 = 1000;
+
+/// The greatest port.
+pub const MOST_PORT: u64 = 65535;
+
+/// The connections of a server at a time where nothing is said.
+pub const USUAL_OPEN_CONNECTIONS: u64 = 100;
+
+/// The time after which a server closes a quiet connection where nothing is said, in milliseconds.
+pub const USUAL_IDLE: u64 = 60000;
+
+/// The most greenlets of a storm.
+pub const MOST_STORM: u64 = 19000;
+
 /// The most turns of a run.
 pub const TURNS: NumberOption = NumberOption {
     name: "turns",
     least: 1,
     most: MOST_TURNS,
-    usual: Some(1000000),
+    usual: Some(USUAL_TURNS),
 };
 
 /// The most moves of a run.
@@ -51,14 +72,14 @@ pub const MOVES: NumberOption = NumberOption {
     name: "moves",
     least: 1,
     most: MOST_MOVES,
-    usual: Some(10000000),
+    usual: Some(USUAL_MOVES),
 };
 
 /// The tick of a run's script, in milliseconds.
 pub const TICK: NumberOption = NumberOption {
     name: "tick",
     least: 0,
-    most: 1000,
+    most: MOST_TICK,
     usual: Some(0),
 };
 
@@ -77,7 +98,7 @@ pub const ORDER: &str = "order";
 pub const PORT: NumberOption = NumberOption {
     name: "port",
     least: 0,
-    most: 65535,
+    most: MOST_PORT,
     usual: None,
 };
 
@@ -94,7 +115,7 @@ pub const POOL: NumberOption = NumberOption {
     name: "pool",
     least: 1,
     most: MOST_OPEN_CONNECTIONS,
-    usual: Some(100),
+    usual: Some(USUAL_OPEN_CONNECTIONS),
 };
 
 /// The time after which a server closes a quiet connection, in milliseconds.
@@ -102,7 +123,7 @@ pub const IDLE: NumberOption = NumberOption {
     name: "idle",
     least: 1,
     most: MOST_IDLE,
-    usual: Some(60000),
+    usual: Some(USUAL_IDLE),
 };
 
 /// The native workers that do the jobs of a server.
@@ -120,7 +141,7 @@ pub const GATEWAY: &str = "gateway";
 pub const SIZE: NumberOption = NumberOption {
     name: "size",
     least: 1,
-    most: 19000,
+    most: MOST_STORM,
     usual: None,
 };
 

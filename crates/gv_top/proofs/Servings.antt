@@ -13,11 +13,11 @@ use Rattle.command_words.specs.declared.command.ServeOptions.{ServeOptions}
 use Rattle.wsgi_core.specs.Applications.{App}
 use Rattle.wsgi_core.specs.Sessions.{answers}
 use Rattle.world.specs.Worlds.{WorldMeaning as World}
-use Rattle.stream_net.specs.Nets.{IsAtRest, IsFresh, NetMeaning}
+use Rattle.stream_net.specs.Nets.{Connection, IsAtRest, IsFresh, NetMeaning}
 use Rattle.stream_server.specs.declared.limits.Limits.{Limits}
 use Rattle.stream_server.specs.Ranges.{IsInRange}
 use Rattle.stream_server.specs.Serving.{Rests}
-use Rattle.wsgi_native.specs.Agreeing.{Agrees}
+use Rattle.wsgi_native.specs.Agreeing.{Agrees, HasEarned, Owner}
 use Rattle.wsgi_native.specs.Ends.{IsAtJob, IsOutOfJobs}
 use Rattle.wsgi_native.specs.JobApp.{job_app}
 use Rattle.wsgi_native.specs.Tied.{IsInOrder}
@@ -159,29 +159,62 @@ nobody_served (ServeAnswers.Jobs workers) asked app limits w before after out0 o
 abbrev stopped : World → World
 stopped v = record v { runs = false }
 
-agrees_before : (v : World) (app : App) → Agrees (stopped v) app → Agrees v app
-agrees_before v app a = record { plain = a.plain; done = a.done }
+agrees_before : (owner : Owner) (v : World) (conn : ℕ) (app : App) → Agrees owner (stopped v) conn app → Agrees owner v conn app
+agrees_before owner v conn app a = record { plain = a.plain; done = a.done }
 
-agrees_after : (v : World) (app : App) → Agrees v app → Agrees (stopped v) app
-agrees_after v app a = record { plain = a.plain; done = a.done }
+agrees_after : (owner : Owner) (v : World) (conn : ℕ) (app : App) → Agrees owner v conn app → Agrees owner (stopped v) conn app
+agrees_after owner v conn app a = record { plain = a.plain; done = a.done }
 
-at_job_after : (port : ℕ) (v : World) (bytes out : List ℕ) → IsAtJob port v bytes out → IsAtJob port (stopped v) bytes out
-at_job_after port v bytes out h = record { request = h.request; body = h.body; rest = h.rest; job = h.job; asks = h.asks; next = λ app more fits. h.next app more (agrees_before v app fits) }
+earned_after : (port : ℕ) (cs : List Connection) (v : World) → HasEarned port cs v → HasEarned port cs (stopped v)
+earned_after port cs v h = record { owner = h.owner; own = λ k app bytes out agrees. h.own k app bytes out (agrees_before h.owner v k app agrees) }
 
-at_job_before : (port : ℕ) (v : World) (bytes out : List ℕ) → IsAtJob port (stopped v) bytes out → IsAtJob port v bytes out
-at_job_before port v bytes out h = record { request = h.request; body = h.body; rest = h.rest; job = h.job; asks = h.asks; next = λ app more fits. h.next app more (agrees_after v app fits) }
+at_job_after : (owner : Owner) (port : ℕ) (v : World) (conn : ℕ) (bytes out : List ℕ) → IsAtJob owner port v conn bytes out → IsAtJob owner port (stopped v) conn bytes out
+at_job_after owner port v conn bytes out h = record {
+  number = h.number;
+  request = h.request;
+  body = h.body;
+  rest = h.rest;
+  job = h.job;
+  asks = h.asks;
+  next = λ app more fits. h.next app more (agrees_before owner v conn app fits);
+}
+
+at_job_before : (owner : Owner) (port : ℕ) (v : World) (conn : ℕ) (bytes out : List ℕ) → IsAtJob owner port (stopped v) conn bytes out → IsAtJob owner port v conn bytes out
+at_job_before owner port v conn bytes out h = record {
+  number = h.number;
+  request = h.request;
+  body = h.body;
+  rest = h.rest;
+  job = h.job;
+  asks = h.asks;
+  next = λ app more fits. h.next app more (agrees_after owner v conn app fits);
+}
 
 vain_after : (port : ℕ) (w : NetMeaning) (v : World) → IsOutOfJobs port w v → IsOutOfJobs port w (stopped v)
-vain_after port w v h = record { spent = h.spent; conn = h.conn; accepted = h.accepted; not_at_rest = h.not_at_rest; asks = λ bytes out reads writes. at_job_after port v bytes out (h.asks bytes out reads writes) }
+vain_after port w v h = record {
+  owner = h.owner;
+  spent = h.spent;
+  conn = h.conn;
+  accepted = h.accepted;
+  not_at_rest = h.not_at_rest;
+  asks = λ bytes out reads writes. at_job_after h.owner port v h.conn bytes out (h.asks bytes out reads writes);
+}
 
 vain_before : (port : ℕ) (w : NetMeaning) (v : World) → IsOutOfJobs port w (stopped v) → IsOutOfJobs port w v
-vain_before port w v h = record { spent = h.spent; conn = h.conn; accepted = h.accepted; not_at_rest = h.not_at_rest; asks = λ bytes out reads writes. at_job_before port v bytes out (h.asks bytes out reads writes) }
+vain_before port w v h = record {
+  owner = h.owner;
+  spent = h.spent;
+  conn = h.conn;
+  accepted = h.accepted;
+  not_at_rest = h.not_at_rest;
+  asks = λ bytes out reads writes. at_job_before h.owner port v h.conn bytes out (h.asks bytes out reads writes);
+}
 
 serves_after : (end : Served) (asked : ℕ) (limits : Limits) (w : NetMeaning) (v : World) (out0 out1 : Option (List ℕ)) → ServesJobsAt end asked limits w v out0 out1 → ServesJobsAt end asked limits w (stopped v) out0 out1
 unfolding spent_as
 serves_after end asked limits w v out0 out1 h = record {
   serves = spent_as IsAtRest (λ port. IsOutOfJobs port w v) (λ port. IsOutOfJobs port w (stopped v)) end asked answers job_app limits w out0 out1 (λ port vain. vain_after port w v vain) h.serves;
-  earned = λ app agrees. h.earned app (agrees_before v app agrees);
+  earned = earned_after h.serves.port w.connections v h.earned;
   out_of_jobs = λ vain. h.out_of_jobs (vain_before h.serves.port w v vain);
 }
 

@@ -2,9 +2,9 @@
 ghost use Rattle.std.specs.Prelude.{◌≡◌, ◌++◌, OnOk};
 ghost use Rattle.scgi_core.specs.Answers.{cgi_answer, cgi_refusal, cgi_server_error, started};
 
-use http_messages::{Headers, Refusal};
+use http_messages::Refusal;
 use std::alloc::{AllocError, Global};
-use wsgi_core::{Pieces, Reply, ending_of, is_faulty, push_body, push_headers};
+use wsgi_core::{Reply, Response, ending_of, is_faulty, push_body, push_headers};
 
 /// The fixed answer of a refusal.
 pub fn refusal_text(reason: Refusal) -> &'static [u8]
@@ -30,28 +30,26 @@ fn push_server_error(out: &mut Vec<u8>, is_head: bool) -> Result<(), AllocError>
     out.extend_from_slice(b"Internal Server Error")
 }
 
-/// Appends the answer of a reply that can be sent: its status (RFC 3875, section 6.3.3), its headers, an empty line,
+/// Appends a response that can be sent: its status (RFC 3875, section 6.3.3), its headers, an empty line,
 /// and its body, which HEAD has none of.
 fn push_started(
     alloc: Global,
     out: &mut Vec<u8>,
     is_head: bool,
-    status: &[u8],
-    headers: &Headers,
-    pieces: &Pieces,
-    raised: bool,
+    response: &Response,
 ) -> Result<(), AllocError>
-    ensures { OnOk result (out.new.items ≡ out.old.items ++ started is_head status.now headers.now pieces.now raised) }
+    ensures { OnOk result (out.new.items ≡ out.old.items ++ started is_head response.now) }
 {
     out.extend_from_slice(b"Status: ")?;
-    out.extend_from_slice(status)?;
+    out.extend_from_slice(response.status.items())?;
     out.extend_from_slice(b"\r\n")?;
-    push_headers(out, headers)?;
+    push_headers(out, &response.headers)?;
     out.extend_from_slice(b"\r\n")?;
     if is_head {
         return Ok(());
     }
-    push_body(alloc, out, ending_of(0, status, headers), pieces, raised)?;
+    let ending = ending_of(0, response.status.items(), &response.headers);
+    push_body(alloc, out, ending, &response.pieces, response.raised)?;
     Ok(())
 }
 
@@ -69,19 +67,6 @@ pub fn push_answer(
     }
     match reply {
         Reply::Raised => push_server_error(out, is_head),
-        Reply::Started {
-            status,
-            headers,
-            pieces,
-            raised,
-        } => push_started(
-            alloc,
-            out,
-            is_head,
-            status.items(),
-            headers,
-            pieces,
-            *raised,
-        ),
+        Reply::Started(response) => push_started(alloc, out, is_head, response),
     }
 }

@@ -2,15 +2,14 @@
 use Rattle.std.proofs.Common.{◌≡◌, ◌≢◌, ◌⊎◌, ℕ, ◌≤◌, true, false, List, [], length, Option, ap, arith}
 use Rattle.std.specs.List.{All}
 use Rattle.gv_io.specs.Streams.{appended, AppendsPrefix}
-use Rattle.wsgi_core.specs.Applications.{App}
 use Rattle.wsgi_core.specs.Gateways.{said_by}
-use Rattle.wsgi_core.specs.Sessions.{answers}
+use Rattle.wsgi_core.specs.Sessions.{answers, session}
 use Rattle.stream_net.specs.Nets.{Connection, IsAtRest, NetMeaning, listens_at}
 use Rattle.stream_net.specs.declared.net.Quiet.TheVariants.{Awake}
 use Rattle.stream_server.specs.declared.limits.Limits.{Limits}
 use Rattle.stream_server.specs.Serving.{AllBut, BeginsSo, Cause, EachTold, IsAllServed, IsClosedWell, WaitsToRead}
 use Rattle.world.specs.Worlds.{WorldMeaning as World}
-use Rattle.wsgi_native.specs.Agreeing.{Agrees}
+use Rattle.wsgi_native.specs.Agreeing.{HasEarned}
 use Rattle.wsgi_native.specs.Ends.{IsOutOfJobs}
 use Rattle.wsgi_native.specs.JobApp.{job_app}
 use Rattle.serve_command.specs.declared.serving.Served.{Served}
@@ -27,13 +26,20 @@ closed_at_rest cs closed = closed_rest (λ (c : Connection). c.held ≡ false �
 none_asks : (port : ℕ) (w : NetMeaning) (workers : World) (P : Type 0) → w.connections ≡ [] → IsOutOfJobs port w workers → P
 none_asks port w workers P none vain = absurd (let e = ap (λ (xs : List Connection). length xs) none in let within = vain.accepted in omega (arith, within, e))
 
+-- and nothing had to be earned
+none_earned : (port : ℕ) (cs : List Connection) (workers : World) → cs ≡ [] → HasEarned port cs workers
+none_earned port cs workers none = record {
+  owner = λ _. (0, 0);
+  own = λ k app bytes out agrees in' reads writes. no_connection cs (λ c read sent. BeginsSo (session app port read c.ended).bytes sent) none k bytes out in' reads writes;
+}
+
 -- nobody was accepted
 pub none_served_jobs : (end : Served) (asked : ℕ) (limits : Limits) (w : NetMeaning) (workers : World) (out0 out1 : Option (List ℕ)) (port : ℕ) → (end ≡ Served.Finished → ⊥) → (end ≡ Served.NoJobs → ⊥) → w.connections ≡ [] → w.most ≡ 0
     → AppendsPrefix out0 out1 (listening port) → (out1 ≡ out0) ⊎ ((w.listens ≡ listens_at asked port) × (end ≢ Served.WriteFault → out1 ≡ out0)) → ServesJobsAt end asked limits w workers out0 out1
 unfolding none_served
 none_served_jobs end asked limits w workers out0 out1 port unfinished unspent none most begins listens = record {
   serves = none_served IsAtRest (λ at. IsOutOfJobs at w workers) end asked answers job_app limits w out0 out1 port unfinished unspent none most begins listens;
-  earned = λ app agrees. no_connection w.connections (λ c bytes sent. BeginsSo (said_by answers app port bytes c.ended).bytes sent) none;
+  earned = none_earned port w.connections workers none;
   out_of_jobs = none_asks port w workers ((end ≡ Served.NoJobs) ⊎ (end ≡ Served.Memory)) none;
 }
 
@@ -47,7 +53,7 @@ module _ (asked : ℕ) (limits : Limits) (w : NetMeaning) (workers : World) (out
     (silent : end ≢ Served.Finished → end ≢ Served.WriteFault → out2 ≡ out1) where
   -- the first line was told
   pub serves_jobs_so : (before ≡ Served.Finished → IsAllServed w limits.conns) → (before ≡ Served.Listener → All IsAtRest w.connections) → (before ≡ Served.NoJobs → IsOutOfJobs port w workers)
-      → ((app : App) → Agrees workers app → EachTold w.connections (λ c bytes sent. BeginsSo (said_by answers app port bytes c.ended).bytes sent))
+      → HasEarned port w.connections workers
       → (IsOutOfJobs port w workers → (before ≡ Served.NoJobs) ⊎ (before ≡ Served.Memory)) → ServesJobsAt end asked limits w workers out0 out2
   unfolding serves_so
   serves_jobs_so finished resting spent earned vain = record {

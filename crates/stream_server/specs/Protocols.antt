@@ -4,6 +4,10 @@ use Rattle.wsgi_core.specs.Applications.{App}
 use Rattle.wsgi_core.specs.Standings.{Standing}
 use Rattle.stream_server.specs.Speeches.{Speech}
 
+-- the application that answers each connection, by its number
+abbrev pub Apps : Type 0
+Apps = ℕ → App
+
 -- the talk was fed these bytes, was told of their end or not, and those were taken from it
 abbrev pub TalkState : Type 0 → Type 1
 TalkState T = List ℕ → Bool → List ℕ → T → Type 0

@@ -4,7 +4,7 @@ use Rattle.wsgi_core.specs.Applications.{App}
 use Rattle.stream_server.specs.declared.client.Client.{Client}
 use Rattle.stream_server.specs.declared.service.Polled.{Polled}
 use Rattle.stream_server.specs.declared.service.Polled.TheVariants.{Nobody, Released, Memory}
-use Rattle.stream_server.specs.Protocols.{IsFront, Protocol}
+use Rattle.stream_server.specs.Protocols.{Apps, IsFront, Protocol}
 use Rattle.stream_server.specs.Tables.{IsListed, Relists, SeenTable, client_count}
 
 -- it ran out of memory at a piece
@@ -35,7 +35,7 @@ pub record IsHeldFrom {T : Type 0} (P : Protocol T) (old new : Client T) : Type 
   pub stands : (app : App) → IsGiven P app old.talk new.talk
 
 -- a client that was listed and held was taken out, and given the reply for which it was held
-pub record IsReleased {T : Type 0} (P : Protocol T) (fits : App → Type 0) (old new : SeenTable T) (client : Client T) : Type 0 where
+pub record IsReleased {T : Type 0} (P : Protocol T) (fits : Apps → Type 0) (old new : SeenTable T) (client : Client T) : Type 0 where
   pub was : Client T
   pub listed : IsListed old client.conn (Some was)
   pub relists : Relists old new client.conn None
@@ -44,10 +44,10 @@ pub record IsReleased {T : Type 0} (P : Protocol T) (fits : App → Type 0) (old
   pub held : P.holds was.talk ≡ true
   pub later : P.kept was.talk ≤ client.deadline
   pub free : P.holds client.talk ≡ false
-  pub stands : (app : App) → fits app → IsGiven P app was.talk client.talk
+  pub stands : (apps : Apps) → fits apps → IsGiven P (apps client.conn) was.talk client.talk
 
 -- what a poll makes of the table
-abbrev pub Polls : {T : Type 0} → Polled T → Protocol T → (App → Type 0) → SeenTable T → SeenTable T → Type 0
+abbrev pub Polls : {T : Type 0} → Polled T → Protocol T → (Apps → Type 0) → SeenTable T → SeenTable T → Type 0
 Polls Nobody P fits old new = new ≡ old
 Polls (Released client) P fits old new = IsReleased P fits old new client
 Polls Memory P fits old new = Unit {0}

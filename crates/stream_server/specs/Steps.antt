@@ -3,7 +3,7 @@ use Rattle.std.specs.Prelude.{◌≡◌, ℕ, ◌<◌, true, false, List, [], If
 use Rattle.stream_net.specs.Nets.{Connection, NetMeaning, NetGoesOn, connection_at}
 use Rattle.stream_net.specs.declared.net.Quiet.TheVariants.{Awake, ByRead, ByWrite}
 use Rattle.stream_server.specs.Speeches.{BeginsSaid, IsTimely, Speech}
-use Rattle.stream_server.specs.Protocols.{Side}
+use Rattle.stream_server.specs.Protocols.{Apps, Protocol, Side, side_of}
 use Rattle.stream_server.specs.declared.client.Client.{Client}
 use Rattle.stream_server.specs.declared.exchange.Step.{Step}
 use Rattle.stream_server.specs.declared.exchange.Step.TheVariants.{Goes, Waits, Asks, Over, Memory}
@@ -60,6 +60,11 @@ Leaves Waits S idle c g = IsOpen S idle c g × IsResting S c g
 Leaves Asks S idle c g = IsGoing S idle c g
 Leaves Over S idle c g = IsOver S idle c g
 Leaves Memory S idle c g = IsCut S.said c
+
+-- what a step leaves of a client that goes on, whatever fits the service, on whichever connection and at whichever port
+abbrev pub StepLeaves : {T V W : Type 0} → Protocol T → (V → W → Apps → Type 0) → V → Step → ℕ → Connection → Client T → Connection → Client T → Type 0
+StepLeaves {T} {V} {W} P fits service step idle c g d h =
+    (world : W) (apps : Apps) (conn port : ℕ) → fits service world apps → IsGoing (side_of P (apps conn) port) idle c g → Leaves step (side_of P (apps conn) port) idle d h
 
 -- of one connection things were changed, and nothing else; it wasn't closed
 pub record OnlyAt (v w : NetMeaning) (k : ℕ) : Type 0 where

@@ -1,5 +1,5 @@
 //! A server whose application gives each reply at once.
-ghost use Rattle.std.specs.Prelude.{◌≡◌, ◌≢◌, ◌≤◌, Some, None, true, false, List, length, IsSome};
+ghost use Rattle.std.specs.Prelude.{◌≡◌, ◌≢◌, ◌≤◌, ℕ, Some, None, true, false, List, length, IsSome};
 ghost use Rattle.std.specs.List.{All};
 ghost use Rattle.gv_values.specs.Counts.{HasRisen};
 ghost use Rattle.stream_net.specs.Nets.{IsFresh};
@@ -9,7 +9,7 @@ ghost use Rattle.wsgi_core.specs.Gateways.{said_by};
 ghost use Rattle.wsgi_core.specs.Sessions.{session};
 
 use crate::client::Client;
-use crate::limits::{Limits, ServeEnd};
+use crate::limits::{Limits, ServeEnd, Terms};
 use crate::rounds::{ServiceEnd, serve_on};
 use crate::service::{HoldRefusal, Polled, Replied, Service};
 use crate::table::ClientTable;
@@ -30,9 +30,9 @@ impl<'a, T: Talk + Drop, A: Application> Service<T, ()> for Answering<'a, A> {
 
     ghost protocol = { answering T.answers T.is_at T.due };
 
-    ghost fits = { λ service world app. app ≡ A.answer_of service.app.now };
+    ghost fits = { λ service world apps. (conn : ℕ) → apps conn ≡ A.answer_of service.app.now };
 
-    ghost one = { λ service world. A.answer_of service.app.now };
+    ghost one = { λ service world conn. A.answer_of service.app.now };
 
     ghost tied = { λ service world table accepted. Unit {0} };
 
@@ -98,7 +98,7 @@ impl<'a, T: Talk + Drop, A: Application> Service<T, ()> for Answering<'a, A> {
 
     ghost lawful = { answering_lawful T.answers T.is_at T.due T.says };
 
-    ghost fits_one = { λ service world i. A.answer_of service.app.now };
+    ghost fits_one = { λ service world conn i. A.answer_of service.app.now };
 
     ghost tied_new = { λ service world table now accepted tied same. tt };
 
@@ -166,15 +166,8 @@ pub fn serve_with<T: Talk + Drop, N: Net, A: Application, H: Wait>(
     ensures never_falls { (N.meaning net.old).faults ≤ (N.meaning net.new).faults }
 {
     let mut service = Answering { alloc, app };
-    let end = serve_on::<T, (), Answering<A>, N, H>(
-        rt,
-        alloc,
-        net,
-        &mut service,
-        &mut (),
-        port,
-        limits,
-    );
+    let terms = Terms { port, limits };
+    let end = serve_on::<T, (), Answering<A>, N, H>(rt, alloc, net, &mut service, &mut (), terms);
     end_of(end)
 }
 

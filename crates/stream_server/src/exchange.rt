@@ -1,9 +1,7 @@
 //! What goes over one connection.
-ghost use Rattle.std.specs.Prelude.{◌≡◌, ℕ, ◌<◌, false, [], length};
+ghost use Rattle.std.specs.Prelude.{◌≡◌, ◌<◌, false, [], length};
 ghost use Rattle.stream_net.specs.Nets.{IsLive, connection_at};
-ghost use Rattle.stream_server.specs.Protocols.{side_of};
-ghost use Rattle.stream_server.specs.Steps.{IsGoing, Leaves, OnlyAt};
-ghost use Rattle.wsgi_core.specs.Applications.{App};
+ghost use Rattle.stream_server.specs.Steps.{OnlyAt, StepLeaves};
 
 use crate::client::Client;
 use crate::service::{Replied, Service};
@@ -41,8 +39,7 @@ fn send<T: Drop, W, V: Service<T, W>, N: Net>(
     ensures only { OnlyAt (N.meaning net.old) (N.meaning net.new) client.old.conn }
     ensures same { client.new.conn ≡ client.old.conn }
     ensures holds { V.protocol.holds client.new.talk ≡ V.protocol.holds client.old.talk }
-    ensures leaves { (w : W) (app : App) (port : ℕ) → V.fits service.now w app → IsGoing (side_of V.protocol app port) idle (connection_at (N.meaning net.old).connections client.old.conn) client.old
-        → Leaves result (side_of V.protocol app port) idle (connection_at (N.meaning net.new).connections client.old.conn) client.new }
+    ensures leaves { StepLeaves V.protocol V.fits service.now result idle (connection_at (N.meaning net.old).connections client.old.conn) client.old (connection_at (N.meaning net.new).connections client.old.conn) client.new }
     ensures asks_not { result ≡ Step.Asks → ⊥ }
 {
     match net.write(client.conn, service.pending(&client.talk)) {
@@ -71,8 +68,7 @@ fn receive<T: Drop, W, V: Service<T, W>, N: Net>(
     ensures only { OnlyAt (N.meaning net.old) (N.meaning net.new) client.old.conn }
     ensures same { client.new.conn ≡ client.old.conn }
     ensures holds { V.protocol.holds client.new.talk ≡ V.protocol.holds client.old.talk }
-    ensures leaves { (w : W) (app : App) (port : ℕ) → V.fits service.now w app → IsGoing (side_of V.protocol app port) idle (connection_at (N.meaning net.old).connections client.old.conn) client.old
-        → Leaves result (side_of V.protocol app port) idle (connection_at (N.meaning net.new).connections client.old.conn) client.new }
+    ensures leaves { StepLeaves V.protocol V.fits service.now result idle (connection_at (N.meaning net.old).connections client.old.conn) client.old (connection_at (N.meaning net.new).connections client.old.conn) client.new }
     ensures asks_not { result ≡ Step.Asks → ⊥ }
 {
     let mut buffer = [0; PIECE];
@@ -107,8 +103,7 @@ fn listen_on<T: Drop, W, V: Service<T, W>, N: Net>(
     ensures only { OnlyAt (N.meaning net.old) (N.meaning net.new) client.old.conn }
     ensures same { client.new.conn ≡ client.old.conn }
     ensures holds { V.protocol.holds client.new.talk ≡ V.protocol.holds client.old.talk }
-    ensures leaves { (w : W) (app : App) (port : ℕ) → V.fits service.now w app → IsGoing (side_of V.protocol app port) idle (connection_at (N.meaning net.old).connections client.old.conn) client.old
-        → Leaves result (side_of V.protocol app port) idle (connection_at (N.meaning net.new).connections client.old.conn) client.new }
+    ensures leaves { StepLeaves V.protocol V.fits service.now result idle (connection_at (N.meaning net.old).connections client.old.conn) client.old (connection_at (N.meaning net.new).connections client.old.conn) client.new }
     ensures asks_not { result ≡ Step.Asks → ⊥ }
 {
     if client.ended {
@@ -131,8 +126,7 @@ fn advance<T: Drop, W, V: Service<T, W>, N: Net>(
     ensures only { OnlyAt (N.meaning net.old) (N.meaning net.new) client.old.conn }
     ensures same { client.new.conn ≡ client.old.conn }
     ensures holds { V.protocol.holds client.new.talk ≡ V.protocol.holds client.old.talk }
-    ensures leaves { (w : W) (app : App) (port : ℕ) → V.fits service.now w app → IsGoing (side_of V.protocol app port) idle (connection_at (N.meaning net.old).connections client.old.conn) client.old
-        → Leaves result (side_of V.protocol app port) idle (connection_at (N.meaning net.new).connections client.old.conn) client.new }
+    ensures leaves { StepLeaves V.protocol V.fits service.now result idle (connection_at (N.meaning net.old).connections client.old.conn) client.old (connection_at (N.meaning net.new).connections client.old.conn) client.new }
     ensures wants { result ≡ Step.Asks → V.wants client.new.talk }
     ensures none { result ≡ Step.Asks → V.protocol.due client.new.talk ≡ [] }
 {
@@ -160,8 +154,7 @@ pub fn proceed<T: Drop, W, V: Service<T, W>, N: Net, H: Wait>(
     ensures same { client.new.conn ≡ client.old.conn }
     ensures holds { V.protocol.holds client.new.talk ≡ V.protocol.holds client.old.talk }
     ensures rests { result ≡ Step.Goes → ⊥ }
-    ensures leaves { (w : W) (app : App) (port : ℕ) → V.fits service.now w app → IsGoing (side_of V.protocol app port) idle (connection_at (N.meaning net.old).connections client.old.conn) client.old
-        → Leaves result (side_of V.protocol app port) idle (connection_at (N.meaning net.new).connections client.old.conn) client.new }
+    ensures leaves { StepLeaves V.protocol V.fits service.now result idle (connection_at (N.meaning net.old).connections client.old.conn) client.old (connection_at (N.meaning net.new).connections client.old.conn) client.new }
     ensures wants { result ≡ Step.Asks → V.wants client.new.talk }
     ensures none { result ≡ Step.Asks → V.protocol.due client.new.talk ≡ [] }
 {

@@ -3,17 +3,16 @@ ghost use Rattle.std.specs.Prelude.{◌≡◌, ◌≢◌, ◌⊎◌, ℕ, ◌+�
 ghost use Rattle.std.specs.List.{All};
 ghost use Rattle.gv_values.specs.Counts.{HasRisen};
 ghost use Rattle.stream_net.specs.Nets.{IsFresh, IsLive};
-ghost use Rattle.stream_server.specs.Protocols.{side_of};
-ghost use Rattle.stream_server.specs.Running.{AsksInVain, IsRunning, IsRunningBut, IsUnderWay, LeftBy, WasRunning};
-ghost use Rattle.stream_server.specs.Keeping.{HasAccepted, IsStill, Keeps};
+ghost use Rattle.stream_server.specs.Protocols.{Apps};
+ghost use Rattle.stream_server.specs.Running.{AsksInVain, IsRunning, IsRunningBut, IsUnderWay, LeftBy, StaysSound, WasRunning};
+ghost use Rattle.stream_server.specs.Keeping.{Fares, HasAccepted, IsStill, Keeps};
 ghost use Rattle.stream_server.specs.Serving.{IsAllServed};
 ghost use Rattle.stream_server.specs.Ranges.{IsInRange};
 ghost use Rattle.stream_server.specs.Tables.{SeenTable, client_count};
-ghost use Rattle.wsgi_core.specs.Applications.{App};
 
 use crate::client::Client;
 use crate::exchange::{Step, proceed};
-use crate::limits::Limits;
+use crate::limits::Terms;
 use crate::service::{HoldRefusal, Polled, Service};
 use crate::table::ClientTable;
 use std::alloc::Global;
@@ -53,28 +52,32 @@ enum Round {
     Finished,
 }
 
+/// A server under way: by what it waits, and on which terms it serves.
+#[derive(Drop)]
+struct Serving<'a, H> {
+    rt: &'a H,
+    terms: Terms,
+}
+
 /// Asks for the reply to the request of a client that isn't listed, and holds its connection until the reply comes.
-fn hold_client<T: Drop, W, V: Service<T, W>, N: Net>(
+fn hold_client<T: Drop, W, V: Service<T, W>, N: Net, H>(
+    serving: &Serving<H>,
     net: &mut N,
     service: &mut V,
     world: &mut W,
-    port: u16,
-    limits: Limits,
     table: &mut ClientTable<T>,
     client: Client<T>,
 ) -> Result<(), RoundFault>
     requires live { IsLive (N.meaning net.old) client.conn }
-    requires going { IsUnderWay V.protocol (V.fits service.old world.old) port limits.idle (N.meaning net.old) client }
+    requires going { IsUnderWay V.protocol (V.fits service.old world.old) serving.now.terms (N.meaning net.old) client }
     requires wants { V.wants client.talk }
     requires none { V.protocol.due client.talk ≡ [] }
     requires free { V.protocol.holds client.talk ≡ false }
-    requires but { IsRunningBut V.protocol (V.fits service.old world.old) (V.tied_but service.old world.old) port limits (N.meaning net.old) table.old client.conn }
-    ensures running { OnOk result (IsRunning V.protocol (V.fits service.new world.new) (V.tied service.new world.new) port limits (N.meaning net.new) table.new) }
-    ensures left { OnErr result (LeftBy V.protocol (V.fits service.new world.new) port limits (N.meaning net.new)) }
-    ensures sound { V.sound service.new world.new }
-    ensures knows { (app : App) → V.fits service.new world.new app → V.fits service.old world.old app }
-    ensures workers { V.workers world.new ≡ V.workers world.old }
-    ensures in_vain { result ≡ Err RoundFault.Spent → AsksInVain V.protocol (V.fits service.new world.new) V.wants (V.spent service.new world.new) port limits.idle (N.meaning net.new) }
+    requires but { IsRunningBut V.protocol (V.fits service.old world.old) (V.tied_but service.old world.old) serving.now.terms (N.meaning net.old) table.old client.conn }
+    ensures running { OnOk result (IsRunning V.protocol (V.fits service.new world.new) (V.tied service.new world.new) serving.now.terms (N.meaning net.new) table.new) }
+    ensures left { OnErr result (LeftBy V.protocol (V.fits service.new world.new) serving.now.terms (N.meaning net.new)) }
+    ensures service { StaysSound V.sound V.fits V.workers service.old world.old service.new world.new }
+    ensures in_vain { result ≡ Err RoundFault.Spent → AsksInVain V.protocol (V.fits service.new world.new) V.wants (V.spent service.new world.new) serving.now.terms (N.meaning net.new) }
     ensures keeps { Keeps (N.meaning net.old) (N.meaning net.new) }
     ensures no_listener { result ≢ Err RoundFault.Listener }
 {
@@ -94,37 +97,39 @@ fn hold_client<T: Drop, W, V: Service<T, W>, N: Net>(
 /// Goes on with a client that isn't listed: lists it where its connection rests or is held, and closes the connection
 /// where that is to be closed.
 fn serve_client<T: Drop, W, V: Service<T, W>, N: Net, H: Wait>(
-    rt: &H,
+    serving: &Serving<H>,
     net: &mut N,
     service: &mut V,
     world: &mut W,
-    port: u16,
-    limits: Limits,
     table: &mut ClientTable<T>,
     client: Client<T>,
 ) -> Result<(), RoundFault>
     requires live { IsLive (N.meaning net.old) client.conn }
-    requires going { IsUnderWay V.protocol (V.fits service.old world.old) port limits.idle (N.meaning net.old) client }
+    requires going { IsUnderWay V.protocol (V.fits service.old world.old) serving.now.terms (N.meaning net.old) client }
     requires free { V.protocol.holds client.talk ≡ false }
-    requires but { IsRunningBut V.protocol (V.fits service.old world.old) (V.tied_but service.old world.old) port limits (N.meaning net.old) table.old client.conn }
+    requires but { IsRunningBut V.protocol (V.fits service.old world.old) (V.tied_but service.old world.old) serving.now.terms (N.meaning net.old) table.old client.conn }
     requires sound { V.sound service.old world.old }
-    ensures running { OnOk result (IsRunning V.protocol (V.fits service.new world.new) (V.tied service.new world.new) port limits (N.meaning net.new) table.new) }
-    ensures left { OnErr result (LeftBy V.protocol (V.fits service.new world.new) port limits (N.meaning net.new)) }
-    ensures sound { V.sound service.new world.new }
-    ensures knows { (app : App) → V.fits service.new world.new app → V.fits service.old world.old app }
-    ensures workers { V.workers world.new ≡ V.workers world.old }
-    ensures in_vain { result ≡ Err RoundFault.Spent → AsksInVain V.protocol (V.fits service.new world.new) V.wants (V.spent service.new world.new) port limits.idle (N.meaning net.new) }
+    ensures running { OnOk result (IsRunning V.protocol (V.fits service.new world.new) (V.tied service.new world.new) serving.now.terms (N.meaning net.new) table.new) }
+    ensures left { OnErr result (LeftBy V.protocol (V.fits service.new world.new) serving.now.terms (N.meaning net.new)) }
+    ensures service { StaysSound V.sound V.fits V.workers service.old world.old service.new world.new }
+    ensures in_vain { result ≡ Err RoundFault.Spent → AsksInVain V.protocol (V.fits service.new world.new) V.wants (V.spent service.new world.new) serving.now.terms (N.meaning net.new) }
     ensures keeps { Keeps (N.meaning net.old) (N.meaning net.new) }
     ensures no_listener { result ≢ Err RoundFault.Listener }
 {
     let conn = client.conn;
     let mut client = client;
-    match proceed::<T, W, V, N, H>(rt, net, service, &mut client, limits.idle) {
+    match proceed::<T, W, V, N, H>(
+        serving.rt,
+        net,
+        service,
+        &mut client,
+        serving.terms.limits.idle,
+    ) {
         Step::Waits => {
             table.insert(client);
             Ok(())
         }
-        Step::Asks => hold_client::<T, W, V, N>(net, service, world, port, limits, table, client),
+        Step::Asks => hold_client::<T, W, V, N, H>(serving, net, service, world, table, client),
         Step::Over => {
             net.close(conn);
             table.release(conn);
@@ -137,37 +142,29 @@ fn serve_client<T: Drop, W, V: Service<T, W>, N: Net, H: Wait>(
 
 /// Accepts a connection, if one is there, and goes on with it; answers whether one was there.
 fn accept_client<T: Drop, W, V: Service<T, W>, N: Net, H: Wait>(
-    rt: &H,
+    serving: &Serving<H>,
     net: &mut N,
     service: &mut V,
     world: &mut W,
-    port: u16,
-    limits: Limits,
     table: &mut ClientTable<T>,
 ) -> Result<bool, RoundFault>
-    requires running { IsRunning V.protocol (V.fits service.old world.old) (V.tied service.old world.old) port limits (N.meaning net.old) table.old }
+    requires running { IsRunning V.protocol (V.fits service.old world.old) (V.tied service.old world.old) serving.now.terms (N.meaning net.old) table.old }
     requires place { length table.old.members < table.old.limit }
-    requires more { length (N.meaning net.old).connections < limits.conns }
+    requires more { length (N.meaning net.old).connections < serving.now.terms.limits.conns }
     requires sound { V.sound service.old world.old }
-    ensures running { OnOk result (IsRunning V.protocol (V.fits service.new world.new) (V.tied service.new world.new) port limits (N.meaning net.new) table.new) }
-    ensures left { OnErr result (LeftBy V.protocol (V.fits service.new world.new) port limits (N.meaning net.new)) }
-    ensures sound { V.sound service.new world.new }
-    ensures knows { (app : App) → V.fits service.new world.new app → V.fits service.old world.old app }
-    ensures workers { V.workers world.new ≡ V.workers world.old }
-    ensures in_vain { result ≡ Err RoundFault.Spent → AsksInVain V.protocol (V.fits service.new world.new) V.wants (V.spent service.new world.new) port limits.idle (N.meaning net.new) }
+    ensures running { OnOk result (IsRunning V.protocol (V.fits service.new world.new) (V.tied service.new world.new) serving.now.terms (N.meaning net.new) table.new) }
+    ensures left { OnErr result (LeftBy V.protocol (V.fits service.new world.new) serving.now.terms (N.meaning net.new)) }
+    ensures service { StaysSound V.sound V.fits V.workers service.old world.old service.new world.new }
+    ensures in_vain { result ≡ Err RoundFault.Spent → AsksInVain V.protocol (V.fits service.new world.new) V.wants (V.spent service.new world.new) serving.now.terms (N.meaning net.new) }
     ensures came { IfOk result (λ came. came ≡ true → length (N.meaning net.new).connections ≡ length (N.meaning net.old).connections + 1) }
     ensures none { IfOk result (λ came. came ≡ false → length (N.meaning net.new).connections ≡ length (N.meaning net.old).connections) }
     ensures blocked { IfOk result (λ came. came ≡ false → (N.meaning net.new).blocked ≡ true) }
-    ensures listens { (N.meaning net.new).listens ≡ (N.meaning net.old).listens }
-    ensures never_falls { (N.meaning net.old).faults ≤ (N.meaning net.new).faults }
-    ensures listener { result ≡ Err RoundFault.Listener → HasRisen (N.meaning net.old).faults (N.meaning net.new).faults }
-    ensures resting { result ≡ Err RoundFault.Listener → All (IsStill (side_of V.protocol (V.one service.new world.new) port)) (N.meaning net.new).connections }
-    ensures unfailed { result ≢ Err RoundFault.Listener → (N.meaning net.new).faults ≡ (N.meaning net.old).faults }
+    ensures fares { Fares (result ≡ Err RoundFault.Listener) (IsStill V.protocol.holds) (N.meaning net.old) (N.meaning net.new) }
 {
     match net.accept() {
         Accepted::New(conn) => {
-            let deadline = net.now().saturating_add(limits.idle);
-            let talk = service.begin(port);
+            let deadline = net.now().saturating_add(serving.terms.limits.idle);
+            let talk = service.begin(serving.terms.port);
             let client = Client {
                 conn,
                 talk,
@@ -177,9 +174,7 @@ fn accept_client<T: Drop, W, V: Service<T, W>, N: Net, H: Wait>(
             let Ok(()) = table.admit(conn) else {
                 return Err(RoundFault::Memory);
             };
-            match serve_client::<T, W, V, N, H>(
-                rt, net, service, world, port, limits, table, client,
-            ) {
+            match serve_client::<T, W, V, N, H>(serving, net, service, world, table, client) {
                 Ok(()) => Ok(true),
                 Err(fault) => Err(fault),
             }
@@ -193,37 +188,30 @@ fn accept_client<T: Drop, W, V: Service<T, W>, N: Net, H: Wait>(
 /// Accepts connections until no place is free, nobody is there or all were accepted, and answers how many were
 /// accepted so far.
 fn accept_clients<T: Drop, W, V: Service<T, W>, N: Net, H: Wait>(
-    rt: &H,
+    serving: &Serving<H>,
     net: &mut N,
     service: &mut V,
     world: &mut W,
-    port: u16,
-    limits: Limits,
     table: &mut ClientTable<T>,
     accepted: u32,
 ) -> Result<u32, RoundFault>
-    requires running { IsRunning V.protocol (V.fits service.old world.old) (V.tied service.old world.old) port limits (N.meaning net.old) table.old }
+    requires running { IsRunning V.protocol (V.fits service.old world.old) (V.tied service.old world.old) serving.now.terms (N.meaning net.old) table.old }
     requires accepted { accepted ≡ length (N.meaning net.old).connections }
     requires sound { V.sound service.old world.old }
-    ensures running { OnOk result (IsRunning V.protocol (V.fits service.new world.new) (V.tied service.new world.new) port limits (N.meaning net.new) table.new) }
-    ensures left { OnErr result (LeftBy V.protocol (V.fits service.new world.new) port limits (N.meaning net.new)) }
-    ensures sound { V.sound service.new world.new }
-    ensures knows { (app : App) → V.fits service.new world.new app → V.fits service.old world.old app }
-    ensures workers { V.workers world.new ≡ V.workers world.old }
-    ensures in_vain { result ≡ Err RoundFault.Spent → AsksInVain V.protocol (V.fits service.new world.new) V.wants (V.spent service.new world.new) port limits.idle (N.meaning net.new) }
-    ensures accepted { IfOk result (λ accepted. HasAccepted accepted limits.conns (length table.new.members) table.new.limit (N.meaning net.new)) }
-    ensures listens { (N.meaning net.new).listens ≡ (N.meaning net.old).listens }
-    ensures never_falls { (N.meaning net.old).faults ≤ (N.meaning net.new).faults }
-    ensures listener { result ≡ Err RoundFault.Listener → HasRisen (N.meaning net.old).faults (N.meaning net.new).faults }
-    ensures resting { result ≡ Err RoundFault.Listener → All (IsStill (side_of V.protocol (V.one service.new world.new) port)) (N.meaning net.new).connections }
-    ensures unfailed { result ≢ Err RoundFault.Listener → (N.meaning net.new).faults ≡ (N.meaning net.old).faults }
+    ensures running { OnOk result (IsRunning V.protocol (V.fits service.new world.new) (V.tied service.new world.new) serving.now.terms (N.meaning net.new) table.new) }
+    ensures left { OnErr result (LeftBy V.protocol (V.fits service.new world.new) serving.now.terms (N.meaning net.new)) }
+    ensures service { StaysSound V.sound V.fits V.workers service.old world.old service.new world.new }
+    ensures in_vain { result ≡ Err RoundFault.Spent → AsksInVain V.protocol (V.fits service.new world.new) V.wants (V.spent service.new world.new) serving.now.terms (N.meaning net.new) }
+    ensures accepted { IfOk result (λ accepted. HasAccepted accepted serving.now.terms.limits.conns (length table.new.members) table.new.limit (N.meaning net.new)) }
+    ensures fares { Fares (result ≡ Err RoundFault.Listener) (IsStill V.protocol.holds) (N.meaning net.old) (N.meaning net.new) }
 {
+    let conns = serving.terms.limits.conns;
     let mut count = accepted;
-    while count < limits.conns {
+    while count < conns {
         if !table.has_place() {
             return Ok(count);
         }
-        if !accept_client::<T, W, V, N, H>(rt, net, service, world, port, limits, table)? {
+        if !accept_client::<T, W, V, N, H>(serving, net, service, world, table)? {
             return Ok(count);
         }
         count += 1;
@@ -233,30 +221,26 @@ fn accept_clients<T: Drop, W, V: Service<T, W>, N: Net, H: Wait>(
 
 /// Asks whether a reply has come, and goes on with the connection that was held for it.
 fn poll_service<T: Drop, W, V: Service<T, W>, N: Net, H: Wait>(
-    rt: &H,
+    serving: &Serving<H>,
     net: &mut N,
     service: &mut V,
     world: &mut W,
-    port: u16,
-    limits: Limits,
     table: &mut ClientTable<T>,
 ) -> Result<(), RoundFault>
-    requires running { IsRunning V.protocol (V.fits service.old world.old) (V.tied service.old world.old) port limits (N.meaning net.old) table.old }
-    ensures running { OnOk result (IsRunning V.protocol (V.fits service.new world.new) (V.tied service.new world.new) port limits (N.meaning net.new) table.new) }
-    ensures left { OnErr result (LeftBy V.protocol (V.fits service.new world.new) port limits (N.meaning net.new)) }
-    ensures sound { V.sound service.new world.new }
-    ensures knows { (app : App) → V.fits service.new world.new app → V.fits service.old world.old app }
-    ensures workers { V.workers world.new ≡ V.workers world.old }
-    ensures in_vain { result ≡ Err RoundFault.Spent → AsksInVain V.protocol (V.fits service.new world.new) V.wants (V.spent service.new world.new) port limits.idle (N.meaning net.new) }
+    requires running { IsRunning V.protocol (V.fits service.old world.old) (V.tied service.old world.old) serving.now.terms (N.meaning net.old) table.old }
+    ensures running { OnOk result (IsRunning V.protocol (V.fits service.new world.new) (V.tied service.new world.new) serving.now.terms (N.meaning net.new) table.new) }
+    ensures left { OnErr result (LeftBy V.protocol (V.fits service.new world.new) serving.now.terms (N.meaning net.new)) }
+    ensures service { StaysSound V.sound V.fits V.workers service.old world.old service.new world.new }
+    ensures in_vain { result ≡ Err RoundFault.Spent → AsksInVain V.protocol (V.fits service.new world.new) V.wants (V.spent service.new world.new) serving.now.terms (N.meaning net.new) }
     ensures keeps { Keeps (N.meaning net.old) (N.meaning net.new) }
     ensures no_listener { result ≢ Err RoundFault.Listener }
 {
-    let deadline = net.now().saturating_add(limits.idle);
+    let deadline = net.now().saturating_add(serving.terms.limits.idle);
     match service.poll(world, table, deadline) {
         Polled::Nobody => Ok(()),
         Polled::Released(client) => {
             net.hold(client.conn, false);
-            serve_client::<T, W, V, N, H>(rt, net, service, world, port, limits, table, client)
+            serve_client::<T, W, V, N, H>(serving, net, service, world, table, client)
         }
         Polled::Memory => Err(RoundFault::Memory),
     }
@@ -264,23 +248,19 @@ fn poll_service<T: Drop, W, V: Service<T, W>, N: Net, H: Wait>(
 
 /// Goes on with the connection that a wait named, if it has a client and isn't held.
 fn wake_client<T: Drop, W, V: Service<T, W>, N: Net, H: Wait>(
-    rt: &H,
+    serving: &Serving<H>,
     net: &mut N,
     service: &mut V,
     world: &mut W,
-    port: u16,
-    limits: Limits,
     table: &mut ClientTable<T>,
     conn: u32,
 ) -> Result<(), RoundFault>
-    requires woken { WasRunning V.protocol (V.fits service.old world.old) (V.tied service.old world.old) port limits (N.meaning net.old) table.old conn }
+    requires woken { WasRunning V.protocol (V.fits service.old world.old) (V.tied service.old world.old) serving.now.terms (N.meaning net.old) table.old conn }
     requires sound { V.sound service.old world.old }
-    ensures running { OnOk result (IsRunning V.protocol (V.fits service.new world.new) (V.tied service.new world.new) port limits (N.meaning net.new) table.new) }
-    ensures left { OnErr result (LeftBy V.protocol (V.fits service.new world.new) port limits (N.meaning net.new)) }
-    ensures sound { V.sound service.new world.new }
-    ensures knows { (app : App) → V.fits service.new world.new app → V.fits service.old world.old app }
-    ensures workers { V.workers world.new ≡ V.workers world.old }
-    ensures in_vain { result ≡ Err RoundFault.Spent → AsksInVain V.protocol (V.fits service.new world.new) V.wants (V.spent service.new world.new) port limits.idle (N.meaning net.new) }
+    ensures running { OnOk result (IsRunning V.protocol (V.fits service.new world.new) (V.tied service.new world.new) serving.now.terms (N.meaning net.new) table.new) }
+    ensures left { OnErr result (LeftBy V.protocol (V.fits service.new world.new) serving.now.terms (N.meaning net.new)) }
+    ensures service { StaysSound V.sound V.fits V.workers service.old world.old service.new world.new }
+    ensures in_vain { result ≡ Err RoundFault.Spent → AsksInVain V.protocol (V.fits service.new world.new) V.wants (V.spent service.new world.new) serving.now.terms (N.meaning net.new) }
     ensures keeps { Keeps (N.meaning net.old) (N.meaning net.new) }
     ensures no_listener { result ≢ Err RoundFault.Listener }
 {
@@ -291,7 +271,7 @@ fn wake_client<T: Drop, W, V: Service<T, W>, N: Net, H: Wait>(
                 table.insert(client);
                 return Ok(());
             }
-            serve_client::<T, W, V, N, H>(rt, net, service, world, port, limits, table, client)
+            serve_client::<T, W, V, N, H>(serving, net, service, world, table, client)
         }
     }
 }
@@ -313,29 +293,21 @@ fn until<T: Drop, W, V: Service<T, W>, N: Net>(
 
 /// Waits until something happens, and goes on with the connection that was named.
 fn wait_next<T: Drop, W, V: Service<T, W>, N: Net, H: Wait>(
-    rt: &H,
+    serving: &Serving<H>,
     net: &mut N,
     service: &mut V,
     world: &mut W,
-    port: u16,
-    limits: Limits,
     table: &mut ClientTable<T>,
 ) -> Result<(), RoundFault>
-    requires running { IsRunning V.protocol (V.fits service.old world.old) (V.tied service.old world.old) port limits (N.meaning net.old) table.old }
+    requires running { IsRunning V.protocol (V.fits service.old world.old) (V.tied service.old world.old) serving.now.terms (N.meaning net.old) table.old }
     requires asked { client_count table.old ≡ 0 → (N.meaning net.old).blocked ≡ true }
     requires sound { V.sound service.old world.old }
-    ensures running { OnOk result (IsRunning V.protocol (V.fits service.new world.new) (V.tied service.new world.new) port limits (N.meaning net.new) table.new) }
-    ensures left { OnErr result (LeftBy V.protocol (V.fits service.new world.new) port limits (N.meaning net.new)) }
-    ensures sound { V.sound service.new world.new }
-    ensures knows { (app : App) → V.fits service.new world.new app → V.fits service.old world.old app }
-    ensures workers { V.workers world.new ≡ V.workers world.old }
-    ensures in_vain { result ≡ Err RoundFault.Spent → AsksInVain V.protocol (V.fits service.new world.new) V.wants (V.spent service.new world.new) port limits.idle (N.meaning net.new) }
+    ensures running { OnOk result (IsRunning V.protocol (V.fits service.new world.new) (V.tied service.new world.new) serving.now.terms (N.meaning net.new) table.new) }
+    ensures left { OnErr result (LeftBy V.protocol (V.fits service.new world.new) serving.now.terms (N.meaning net.new)) }
+    ensures service { StaysSound V.sound V.fits V.workers service.old world.old service.new world.new }
+    ensures in_vain { result ≡ Err RoundFault.Spent → AsksInVain V.protocol (V.fits service.new world.new) V.wants (V.spent service.new world.new) serving.now.terms (N.meaning net.new) }
     ensures accepted { length (N.meaning net.new).connections ≡ length (N.meaning net.old).connections }
-    ensures listens { (N.meaning net.new).listens ≡ (N.meaning net.old).listens }
-    ensures never_falls { (N.meaning net.old).faults ≤ (N.meaning net.new).faults }
-    ensures listener { result ≡ Err RoundFault.Listener → HasRisen (N.meaning net.old).faults (N.meaning net.new).faults }
-    ensures resting { result ≡ Err RoundFault.Listener → All (IsStill (side_of V.protocol (V.one service.new world.new) port)) (N.meaning net.new).connections }
-    ensures unfailed { result ≢ Err RoundFault.Listener → (N.meaning net.new).faults ≡ (N.meaning net.old).faults }
+    ensures fares { Fares (result ≡ Err RoundFault.Listener) (IsStill V.protocol.holds) (N.meaning net.old) (N.meaning net.new) }
 {
     let until = until::<T, W, V, N>(net, service, table);
     let Ok(ready) = net.next(until) else {
@@ -345,25 +317,24 @@ fn wait_next<T: Drop, W, V: Service<T, W>, N: Net, H: Wait>(
         Ready::Incoming => Ok(()),
         Ready::Elapsed => Ok(()),
         Ready::Readable(conn) => {
-            wake_client::<T, W, V, N, H>(rt, net, service, world, port, limits, table, conn)
+            wake_client::<T, W, V, N, H>(serving, net, service, world, table, conn)
         }
         Ready::Writable(conn) => {
-            wake_client::<T, W, V, N, H>(rt, net, service, world, port, limits, table, conn)
+            wake_client::<T, W, V, N, H>(serving, net, service, world, table, conn)
         }
     }
 }
 
 /// Closes the connections that were idle for too long.
-fn close_idle<T: Drop, W, V: Service<T, W>, N: Net>(
+fn close_idle<T: Drop, W, V: Service<T, W>, N: Net, H>(
+    serving: &Serving<H>,
     net: &mut N,
     service: &V,
     world: &W,
-    port: u16,
-    limits: Limits,
     table: &mut ClientTable<T>,
 )
-    requires { IsRunning V.protocol (V.fits service.now world.now) (V.tied service.now world.now) port limits (N.meaning net.old) table.old }
-    ensures running { IsRunning V.protocol (V.fits service.now world.now) (V.tied service.now world.now) port limits (N.meaning net.new) table.new }
+    requires { IsRunning V.protocol (V.fits service.now world.now) (V.tied service.now world.now) serving.now.terms (N.meaning net.old) table.old }
+    ensures running { IsRunning V.protocol (V.fits service.now world.now) (V.tied service.now world.now) serving.now.terms (N.meaning net.new) table.new }
     ensures keeps { Keeps (N.meaning net.old) (N.meaning net.new) }
 {
     // The greatest deadline stands for those that never come.
@@ -376,46 +347,37 @@ fn close_idle<T: Drop, W, V: Service<T, W>, N: Net>(
 
 /// Accepts, asks after a reply where one is waited for, waits, goes on with what was named, and closes what was idle.
 fn turn<T: Drop, W, V: Service<T, W>, N: Net, H: Wait>(
-    rt: &H,
+    serving: &Serving<H>,
     net: &mut N,
     service: &mut V,
     world: &mut W,
-    port: u16,
-    limits: Limits,
     table: &mut ClientTable<T>,
     accepted: u32,
 ) -> Result<Round, RoundFault>
-    requires running { IsRunning V.protocol (V.fits service.old world.old) (V.tied service.old world.old) port limits (N.meaning net.old) table.old }
+    requires running { IsRunning V.protocol (V.fits service.old world.old) (V.tied service.old world.old) serving.now.terms (N.meaning net.old) table.old }
     requires accepted { accepted ≡ length (N.meaning net.old).connections }
-    requires some_place { 1 ≤ limits.pool }
+    requires some_place { 1 ≤ serving.now.terms.limits.pool }
     requires sound { V.sound service.old world.old }
-    ensures running { OnOk result (IsRunning V.protocol (V.fits service.new world.new) (V.tied service.new world.new) port limits (N.meaning net.new) table.new) }
-    ensures left { LeftBy V.protocol (V.fits service.new world.new) port limits (N.meaning net.new) }
-    ensures sound { V.sound service.new world.new }
-    ensures knows { (app : App) → V.fits service.new world.new app → V.fits service.old world.old app }
-    ensures workers { V.workers world.new ≡ V.workers world.old }
-    ensures in_vain { result ≡ Err RoundFault.Spent → AsksInVain V.protocol (V.fits service.new world.new) V.wants (V.spent service.new world.new) port limits.idle (N.meaning net.new) }
+    ensures running { OnOk result (IsRunning V.protocol (V.fits service.new world.new) (V.tied service.new world.new) serving.now.terms (N.meaning net.new) table.new) }
+    ensures left { LeftBy V.protocol (V.fits service.new world.new) serving.now.terms (N.meaning net.new) }
+    ensures service { StaysSound V.sound V.fits V.workers service.old world.old service.new world.new }
+    ensures in_vain { result ≡ Err RoundFault.Spent → AsksInVain V.protocol (V.fits service.new world.new) V.wants (V.spent service.new world.new) serving.now.terms (N.meaning net.new) }
     ensures accepted { (count : ℕ) → result ≡ Ok (Round.GoesOn count) → count ≡ length (N.meaning net.new).connections }
-    ensures listens { (N.meaning net.new).listens ≡ (N.meaning net.old).listens }
-    ensures never_falls { (N.meaning net.old).faults ≤ (N.meaning net.new).faults }
-    ensures listener { result ≡ Err RoundFault.Listener → HasRisen (N.meaning net.old).faults (N.meaning net.new).faults }
-    ensures resting { result ≡ Err RoundFault.Listener → All (IsStill (side_of V.protocol (V.one service.new world.new) port)) (N.meaning net.new).connections }
-    ensures unfailed { result ≢ Err RoundFault.Listener → (N.meaning net.new).faults ≡ (N.meaning net.old).faults }
-    ensures finished { result ≡ Ok Round.Finished → IsAllServed (N.meaning net.new) limits.conns }
+    ensures fares { Fares (result ≡ Err RoundFault.Listener) (IsStill V.protocol.holds) (N.meaning net.old) (N.meaning net.new) }
+    ensures finished { result ≡ Ok Round.Finished → IsAllServed (N.meaning net.new) serving.now.terms.limits.conns }
 {
+    let limits = serving.terms.limits;
     if !service.is_idle() {
-        poll_service::<T, W, V, N, H>(rt, net, service, world, port, limits, table)?;
+        poll_service::<T, W, V, N, H>(serving, net, service, world, table)?;
     }
-    let accepted = accept_clients::<T, W, V, N, H>(
-        rt, net, service, world, port, limits, table, accepted,
-    )?;
+    let accepted = accept_clients::<T, W, V, N, H>(serving, net, service, world, table, accepted)?;
     if accepted == limits.conns {
         if table.is_empty() {
             return Ok(Round::Finished);
         }
     }
-    wait_next::<T, W, V, N, H>(rt, net, service, world, port, limits, table)?;
-    close_idle::<T, W, V, N>(net, service, world, port, limits, table);
+    wait_next::<T, W, V, N, H>(serving, net, service, world, table)?;
+    close_idle::<T, W, V, N, H>(serving, net, service, world, table);
     Ok(Round::GoesOn(accepted))
 }
 
@@ -437,34 +399,34 @@ pub fn serve_on<T: Drop, W, V: Service<T, W>, N: Net, H: Wait>(
     net: &mut N,
     service: &mut V,
     world: &mut W,
-    port: u16,
-    limits: Limits,
+    terms: Terms,
 ) -> ServiceEnd
     requires listens { IsSome (N.meaning net.old).listens }
     requires fresh { IsFresh (N.meaning net.old) }
-    requires in_range { IsInRange limits }
+    requires in_range { IsInRange terms.limits }
     requires tied { (table : SeenTable T) → V.tied service.old world.old table 0 }
     requires sound { V.sound service.old world.old }
-    // Each connection by itself: what holds of it, for each application as which the service answers.
-    ensures left { LeftBy V.protocol (V.fits service.new world.new) port limits (N.meaning net.new) }
-    ensures finished { result ≡ ServiceEnd.Finished → IsAllServed (N.meaning net.new) limits.conns }
+    // Each connection by itself: what holds of it, for each application as which the service answers it.
+    ensures left { LeftBy V.protocol (V.fits service.new world.new) terms (N.meaning net.new) }
+    ensures finished { result ≡ ServiceEnd.Finished → IsAllServed (N.meaning net.new) terms.limits.conns }
     // Where the listener failed, all open connections wait, by a read or by a write, or are held.
-    ensures resting { result ≡ ServiceEnd.Listener → All (IsStill (side_of V.protocol (V.one service.new world.new) port)) (N.meaning net.new).connections }
+    ensures resting { result ≡ ServiceEnd.Listener → All (IsStill V.protocol.holds) (N.meaning net.new).connections }
     ensures listener { result ≡ ServiceEnd.Listener → HasRisen (N.meaning net.old).faults (N.meaning net.new).faults }
     ensures unfailed { result ≢ ServiceEnd.Listener → (N.meaning net.new).faults ≡ (N.meaning net.old).faults }
     ensures listens { (N.meaning net.new).listens ≡ (N.meaning net.old).listens }
     ensures never_falls { (N.meaning net.old).faults ≤ (N.meaning net.new).faults }
     ensures sound { V.sound service.new world.new }
-    ensures knows { (app : App) → V.fits service.new world.new app → V.fits service.old world.old app }
+    ensures knows { (apps : Apps) → V.fits service.new world.new apps → V.fits service.old world.old apps }
     ensures workers { V.workers world.new ≡ V.workers world.old }
-    ensures in_vain { result ≡ ServiceEnd.Spent → AsksInVain V.protocol (V.fits service.new world.new) V.wants (V.spent service.new world.new) port limits.idle (N.meaning net.new) }
+    ensures in_vain { result ≡ ServiceEnd.Spent → AsksInVain V.protocol (V.fits service.new world.new) V.wants (V.spent service.new world.new) terms (N.meaning net.new) }
 {
-    let Ok(mut table) = ClientTable::new(alloc, limits.pool) else {
+    let Ok(mut table) = ClientTable::new(alloc, terms.limits.pool) else {
         return ServiceEnd::Memory;
     };
+    let serving = Serving { rt, terms };
     let mut accepted = 0;
     for _ in rt.forever() {
-        match turn::<T, W, V, N, H>(rt, net, service, world, port, limits, &mut table, accepted) {
+        match turn::<T, W, V, N, H>(&serving, net, service, world, &mut table, accepted) {
             Ok(Round::GoesOn(count)) => accepted = count,
             Ok(Round::Finished) => return ServiceEnd::Finished,
             Err(RoundFault::Listener) => return ServiceEnd::Listener,

@@ -2,7 +2,7 @@
 ghost use Rattle.std.specs.Prelude.{◌≡◌, ◌≢◌, ℕ, ◌+◌, ◌<◌, ◌≤◌, false, List, [], Bool, length, take, Err, IfOk, OnErr, OnOk, Option, Some, None};
 ghost use Rattle.wsgi_core.specs.Applications.{App};
 ghost use Rattle.wsgi_core.specs.Standings.{IsBegun, IsFed, IsTaken, IsToldTheEnd};
-ghost use Rattle.stream_server.specs.Protocols.{IsLawful, Protocol, side_of};
+ghost use Rattle.stream_server.specs.Protocols.{Apps, IsLawful, Protocol, side_of};
 ghost use Rattle.stream_server.specs.Services.{AreBeside, Closes, IsCutAt, IsGiven, IsGivenCut, IsHeldFrom, Polls, TiesAfter};
 ghost use Rattle.stream_server.specs.Tables.{IsListed, Relists, SeenTable};
 ghost use Rattle.stream_server.specs.declared.client.Client.{Client};
@@ -47,15 +47,18 @@ pub enum Polled<T> {
 
 /// What a server does with the bytes of its connections: it has a talk `T` with each. A request may wait for a reply
 /// that `W` gives: until then its connection is held, and the others go on.
+///
+/// Each connection is answered as by an application of its own. A talk isn't told on which connection it is, so what is
+/// said of a talk alone holds of the application of every connection.
 pub trait Service<T, W> {
     /// What is said, and where a talk stands.
     ghost protocol: { Protocol T };
 
-    /// The applications as which it answers, with this `W` behind it.
-    ghost fits: { Self → W → App → Type 0 };
+    /// The applications as which it answers its connections, with this `W` behind it.
+    ghost fits: { Self → W → Apps → Type 0 };
 
-    /// One of them.
-    ghost one: { Self → W → App };
+    /// Some that fit.
+    ghost one: { Self → W → Apps };
 
     /// What ties it to the clients that are listed, where so many were accepted.
     ghost tied: { Self → W → SeenTable T → ℕ → Type 0 };
@@ -102,16 +105,16 @@ pub trait Service<T, W> {
 
     /// Takes the next piece of the input. After an `Err` memory ran out, and what is pending begins what was to be said.
     fn feed(&self, talk: &mut T, piece: &[u8]) -> Result<(), AllocError>
-        ensures fed { OnOk result ((w : W) (app : App) → fits self.now w app → IsFed protocol.at protocol.at app piece.now talk.old talk.new) }
-        ensures cut { OnErr result ((w : W) (app : App) → fits self.now w app → IsCutAt protocol app piece.now talk.old talk.new) }
+        ensures fed { OnOk result ((w : W) (apps : Apps) (conn : ℕ) → fits self.now w apps → IsFed protocol.at protocol.at (apps conn) piece.now talk.old talk.new) }
+        ensures cut { OnErr result ((w : W) (apps : Apps) (conn : ℕ) → fits self.now w apps → IsCutAt protocol (apps conn) piece.now talk.old talk.new) }
         ensures holds { protocol.holds talk.new ≡ protocol.holds talk.old };
 
     /// Gives the reply to the request that waits, if one does and its reply needn't be waited for.
     fn reply(&self, talk: &mut T) -> Replied
         ensures no_request { result ≡ Replied.NoRequest → (talk.new ≡ talk.old) × (protocol.asks talk.new ≡ false) }
         ensures asks { result ≡ Replied.Asks → (talk.new ≡ talk.old) × wants talk.new }
-        ensures given { result ≡ Replied.Given → (w : W) (app : App) → fits self.now w app → IsGiven protocol app talk.old talk.new }
-        ensures cut { result ≡ Replied.Memory → (w : W) (app : App) → fits self.now w app → IsGivenCut protocol app talk.old talk.new }
+        ensures given { result ≡ Replied.Given → (w : W) (apps : Apps) (conn : ℕ) → fits self.now w apps → IsGiven protocol (apps conn) talk.old talk.new }
+        ensures cut { result ≡ Replied.Memory → (w : W) (apps : Apps) (conn : ℕ) → fits self.now w apps → IsGivenCut protocol (apps conn) talk.old talk.new }
         ensures holds { protocol.holds talk.new ≡ protocol.holds talk.old };
 
     /// Asks `W` for the reply to the request of this client, which is held until it comes: its deadline never comes, and
@@ -122,7 +125,7 @@ pub trait Service<T, W> {
         ensures held { OnOk result (IsHeldFrom protocol client.old client.new) }
         ensures tied { OnOk result ((table now : SeenTable T) (accepted : ℕ) → tied_but self.old world.old table accepted client.old.conn
             → client.old.conn < accepted → Relists table now client.new.conn (Some client.new) → tied self.new world.new now accepted) }
-        ensures fits { (app : App) → fits self.new world.new app → fits self.old world.old app }
+        ensures fits { (apps : Apps) → fits self.new world.new apps → fits self.old world.old apps }
         ensures spent { result ≡ Err HoldRefusal.Spent → spent self.new world.new }
         ensures sound { sound self.new world.new }
         ensures workers { workers world.new ≡ workers world.old };
@@ -134,7 +137,7 @@ pub trait Service<T, W> {
         ensures polled { Polls result protocol (fits self.new world.new) table.old table.new }
         ensures tied { (accepted : ℕ) → tied self.old world.old table.old accepted
             → TiesAfter result (tied self.new world.new table.new accepted) (λ conn. tied_but self.new world.new table.new accepted conn) }
-        ensures fits { (app : App) → fits self.new world.new app → fits self.old world.old app }
+        ensures fits { (apps : Apps) → fits self.new world.new apps → fits self.old world.old apps }
         ensures sound { sound self.new world.new }
         ensures workers { workers world.new ≡ workers world.old };
 
@@ -148,7 +151,7 @@ pub trait Service<T, W> {
     /// What is said is lawful.
     ghost lawful: { (app : App) (port : ℕ) → IsLawful (side_of protocol app port) };
 
-    /// It answers as an application.
+    /// It answers each connection as an application.
     ghost fits_one: { (service : Self) (world : W) → fits service world (one service world) };
 
     /// It stays tied where one more was accepted,

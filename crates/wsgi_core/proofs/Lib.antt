@@ -1,5 +1,6 @@
 pub mod AnswerLaws
 pub mod Cuts
+pub mod Fieldless
 pub mod ProgressLaws
 pub mod ProgressSteps
 pub mod SessionLaws

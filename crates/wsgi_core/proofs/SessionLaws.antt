@@ -8,7 +8,7 @@ use Rattle.http_messages.specs.Cuts.{Cut, waits, refused, whole}
 use Rattle.http_messages.specs.declared.request.HttpRequest.{HttpRequest}
 use Rattle.http_messages.specs.Requests.{request_at}
 use Rattle.http_messages.specs.Bodies.{body_by}
-use Rattle.wsgi_core.specs.Applications.{App}
+use Rattle.wsgi_core.specs.Applications.{App, from}
 use Rattle.wsgi_core.specs.Answers.{Sent, ◌⨾◌, nothing_sent, refusal, if_continues, answer}
 use Rattle.wsgi_core.specs.Sessions.{sent_on, requests, answers}
 use Rattle.http_messages.proofs.CutLaws.{Later, takes_at}
@@ -49,7 +49,7 @@ sent_on-same (whole a rest) f g h = h a rest refl
 
 -- from the body of a request on
 abbrev pub from_body : (App → ℕ → List ℕ → Sent) → App → ℕ → HttpRequest → Cut (List ℕ) → Sent
-from_body again app port request body = sent_on body (λ body rest. answer request (app request.environ body) ⨾ again app port rest)
+from_body again app port request body = sent_on body (λ body rest. answer request (app 0 request.environ body) ⨾ again (from 1 app) port rest)
 
 abbrev pub from_request : (App → ℕ → List ℕ → Sent) → App → ℕ → HttpRequest → List ℕ → Sent
 from_request again app port request rest = if_continues request ⨾ from_body again app port request (body_by request.framing rest)
@@ -61,17 +61,17 @@ requests_before (suc n) app port bytes more =
     (request_at-later port bytes more)
     (λ q rest. then-before (if_continues q) _ _
     (sent_on-before more (body_by q.framing rest) (body_by q.framing (rest ++ more))
-    (λ body rest. answer q (app q.environ body) ⨾ requests n app port rest) (λ body rest. answer q (app q.environ body) ⨾ requests n app port rest)
+    (λ body rest. answer q (app 0 q.environ body) ⨾ requests n (from 1 app) port rest) (λ body rest. answer q (app 0 q.environ body) ⨾ requests n (from 1 app) port rest)
     (body_by-later q.framing rest more)
-    (λ body rest. then-before (answer q (app q.environ body)) _ _ (requests_before n app port rest more))))
+    (λ body rest. then-before (answer q (app 0 q.environ body)) _ _ (requests_before n (from 1 app) port rest more))))
 
 from_request_same : (again other : App → ℕ → List ℕ → Sent) (app : App) (port : ℕ) (q : HttpRequest) (rest : List ℕ)
-    → ((bytes : List ℕ) → length bytes ≤ length rest → again app port bytes ≡ other app port bytes)
+    → ((bytes : List ℕ) → length bytes ≤ length rest → again (from 1 app) port bytes ≡ other (from 1 app) port bytes)
     → from_request again app port q rest ≡ from_request other app port q rest
 from_request_same again other app port q rest h =
     ap (λ (s : Sent). if_continues q ⨾ s)
-    (sent_on-same (body_by q.framing rest) (λ body rest. answer q (app q.environ body) ⨾ again app port rest) (λ body rest. answer q (app q.environ body) ⨾ other app port rest)
-    (λ body end e. ap (λ (s : Sent). answer q (app q.environ body) ⨾ s)
+    (sent_on-same (body_by q.framing rest) (λ body rest. answer q (app 0 q.environ body) ⨾ again (from 1 app) port rest) (λ body rest. answer q (app 0 q.environ body) ⨾ other (from 1 app) port rest)
+    (λ body end e. ap (λ (s : Sent). answer q (app 0 q.environ body) ⨾ s)
     (h end (let t = takes_at 0 rest (body_by q.framing rest) body end (body_by-takes q.framing rest) e in omega arith))))
 
 requests_same : (m n : ℕ) (app : App) (port : ℕ) (bytes : List ℕ) → length bytes < m → length bytes < n → requests m app port bytes ≡ requests n app port bytes
@@ -81,7 +81,7 @@ requests_same (suc m) (suc n) app port bytes h k =
     sent_on-same (request_at port bytes) (from_request (requests m) app port) (from_request (requests n) app port)
     (λ q rest e.
     let t = takes_at 1 bytes (request_at port bytes) q rest (request_at-takes port bytes) e in
-    from_request_same (requests m) (requests n) app port q rest (λ end le. requests_same m n app port end (omega arith) (omega arith)))
+    from_request_same (requests m) (requests n) app port q rest (λ end le. requests_same m n (from 1 app) port end (omega arith) (omega arith)))
 
 -- the first request, and then the others
 pub answers-step : (app : App) (port : ℕ) (bytes : List ℕ) → answers app port bytes ≡ sent_on (request_at port bytes) (from_request answers app port)
@@ -92,7 +92,7 @@ answers-step app port bytes =
     (λ q rest e.
     let t = takes_at 1 bytes (request_at port bytes) q rest (request_at-takes port bytes) e in
     from_request_same (requests (length bytes)) (λ app port bytes. requests (length bytes + 1) app port bytes) app port q rest
-    (λ end le. requests_same (length bytes) (length end + 1) app port end (omega arith) (omega arith)))
+    (λ end le. requests_same (length bytes) (length end + 1) (from 1 app) port end (omega arith) (omega arith)))
   where
     one_more : (n : ℕ) → n + 1 ≡ suc n
     one_more n = omega arith

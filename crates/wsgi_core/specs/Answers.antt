@@ -17,6 +17,7 @@ use Rattle.wsgi_core.specs.declared.answer.Ending.{Ending}
 use Rattle.wsgi_core.specs.declared.answer.Ending.TheVariants.{Counted, InChunks, AtClose, NoBody}
 use Rattle.wsgi_core.specs.declared.reply.Reply.{Reply}
 use Rattle.wsgi_core.specs.declared.reply.Reply.TheVariants.{Raised, Started}
+use Rattle.wsgi_core.specs.declared.reply.Response.{Response}
 
 -- bytes sent, and whether the session closes after them
 pub record Sent : Type 0 where
@@ -113,11 +114,11 @@ is_empty (x ∷ xs) = false
 
 abbrev pub is_faulty : Reply → Bool
 is_faulty Raised = true
-is_faulty (Started status headers pieces broken) =
-    not (is_status status)
-    || not (list_all is_header headers)
-    || is_wrong (has_code (codes "204") status) (stated headers)
-    || (broken && list_all is_empty pieces)
+is_faulty (Started response) =
+    not (is_status response.status)
+    || not (list_all is_header response.headers)
+    || is_wrong (has_code (codes "204") response.status) (stated response.headers)
+    || (response.raised && list_all is_empty response.pieces)
 
 abbrev pub server_error : HttpRequest → Sent
 server_error q = record {
@@ -146,8 +147,8 @@ ending_by true minor (Length n) = Counted n
 ending_by true minor Nothing = if minor == 1 then InChunks else AtClose
 ending_by true minor Wrong = if minor == 1 then InChunks else AtClose
 
-abbrev pub ending : HttpRequest → List ℕ → List Pair → Ending
-ending q status headers = ending_by (has_body_place status) q.minor (stated headers)
+abbrev pub ending : HttpRequest → Response → Ending
+ending q response = ending_by (has_body_place response.status) q.minor (stated response.headers)
 
 abbrev pub is_in_chunks : Ending → Bool
 is_in_chunks InChunks = true
@@ -171,10 +172,10 @@ status_line minor status = line (codes "HTTP/1." ++ decimal minor ++ codes " " +
 abbrev pub coding_line : Ending → List ℕ
 coding_line e = if is_in_chunks e then line (codes "Transfer-Encoding: chunked") else []
 
-abbrev pub head_bytes : HttpRequest → Ending → List ℕ → List Pair → List ℕ
-head_bytes q e status headers =
-    status_line q.minor status
-    ++ flat_map header_line headers
+abbrev pub head_bytes : HttpRequest → Ending → Response → List ℕ
+head_bytes q e response =
+    status_line q.minor response.status
+    ++ flat_map header_line response.headers
     ++ coding_line e
     ++ connection_line q e
     ++ line []
@@ -189,15 +190,15 @@ abbrev pub falls_short : Ending → List (List ℕ) → Bool
 falls_short (Counted n) pieces = nat_lt (length (concat pieces)) n
 falls_short e pieces = false
 
-abbrev pub sent_by : HttpRequest → Ending → List ℕ → List Pair → List (List ℕ) → Bool → Sent
-sent_by q e status headers pieces broken = record {
-  bytes = head_bytes q e status headers ++ (if q.is_head then [] else body_bytes e pieces broken);
-  closes = says_close q e || broken || (not q.is_head && falls_short e pieces);
+abbrev pub sent_by : HttpRequest → Ending → Response → Sent
+sent_by q e response = record {
+  bytes = head_bytes q e response ++ (if q.is_head then [] else body_bytes e response.pieces response.raised);
+  closes = says_close q e || response.raised || (not q.is_head && falls_short e response.pieces);
 }
 
 abbrev pub sent_for : HttpRequest → Reply → Sent
 sent_for q Raised = server_error q
-sent_for q (Started status headers pieces broken) = sent_by q (ending q status headers) status headers pieces broken
+sent_for q (Started response) = sent_by q (ending q response) response
 
 unfoldable pub answer : HttpRequest → Reply → Sent
 answer q reply = if is_faulty reply then server_error q else sent_for q reply

@@ -3,13 +3,14 @@ use Rattle.std.specs.Prelude.{◌≡◌, ℕ, Bool, false, List, [], ◌++◌}
 use Rattle.http_messages.specs.Bodies.{body_left}
 use Rattle.wsgi_core.specs.declared.session.SessionStage.{SessionStage}
 use Rattle.wsgi_core.specs.declared.session.SessionStage.TheVariants.{AtHead, InBody, Asked}
-use Rattle.wsgi_core.specs.Applications.{App}
+use Rattle.wsgi_core.specs.Applications.{App, from}
 use Rattle.wsgi_core.specs.Answers.{Sent, ◌⨾◌, answer}
 use Rattle.wsgi_core.specs.Sessions.{sent_on, answers}
 
--- the bytes that were kept are those not read yet, from the stage on
+-- so many requests were answered; the bytes that were kept are those not read yet, from the stage on
 pub record Progress : Type 0 where
   pub port : ℕ
+  pub answered : ℕ
   pub stage : SessionStage
   pub kept : List ℕ
   pub pending : List ℕ
@@ -19,13 +20,14 @@ pub record Progress : Type 0 where
 unfoldable pub sent_from : App → ℕ → SessionStage → List ℕ → Sent
 sent_from app port AtHead bytes = answers app port bytes
 sent_from app port (InBody request awaited) bytes =
-    sent_on (body_left awaited bytes) (λ body rest. answer request (app request.environ body) ⨾ answers app port rest)
-sent_from app port (Asked request body) bytes = answer request (app request.environ body) ⨾ answers app port bytes
+    sent_on (body_left awaited bytes) (λ body rest. answer request (app 0 request.environ body) ⨾ answers (from 1 app) port rest)
+sent_from app port (Asked request body) bytes = answer request (app 0 request.environ body) ⨾ answers (from 1 app) port bytes
 
 -- what is still to be taken from a session to which these bytes are yet to be fed
 abbrev pub to_come : App → Progress → List ℕ → Sent
 to_come app progress more =
-    record { bytes = progress.pending; closes = progress.closing } ⨾ sent_from app progress.port progress.stage (progress.kept ++ more)
+    record { bytes = progress.pending; closes = progress.closing }
+    ⨾ sent_from (from progress.answered app) progress.port progress.stage (progress.kept ++ more)
 
 -- what is to come stays the same
 abbrev pub GoesOn : App → Progress → Progress → Type 0

@@ -3,7 +3,7 @@ use Rattle.std.specs.Prelude.{ℕ, zero, suc, ◌+◌, Bool, ◌||◌, List, len
 use Rattle.http_messages.specs.Cuts.{Cut, waits, refused, whole}
 use Rattle.http_messages.specs.Requests.{request_at}
 use Rattle.http_messages.specs.Bodies.{body_by}
-use Rattle.wsgi_core.specs.Applications.{App}
+use Rattle.wsgi_core.specs.Applications.{App, from}
 use Rattle.wsgi_core.specs.Answers.{Sent, ◌⨾◌, nothing_sent, refusal, if_continues, answer}
 
 -- what is sent for a reading, given what follows where it is whole
@@ -19,7 +19,7 @@ requests (suc more) app port bytes =
     sent_on (request_at port bytes) (λ request rest.
     if_continues request ⨾
     sent_on (body_by request.framing rest) (λ body rest.
-    answer request (app request.environ body) ⨾ requests more app port rest))
+    answer request (app 0 request.environ body) ⨾ requests more (from 1 app) port rest))
 
 -- each request takes bytes, so their number bounds the requests
 unfoldable pub answers : App → ℕ → List ℕ → Sent

@@ -8,13 +8,17 @@ use Rattle.wsgi_core.specs.declared.session.SessionStage.{SessionStage}
 use Rattle.wsgi_core.specs.declared.session.SessionStage.TheVariants.{AtHead, InBody, Asked}
 use Rattle.http_messages.specs.Environs.{Pair}
 use Rattle.wsgi_core.specs.declared.reply.Reply.{Reply}
-use Rattle.wsgi_core.specs.Applications.{App}
+use Rattle.wsgi_core.specs.Applications.{App, from}
 use Rattle.wsgi_core.specs.Answers.{Sent, ◌⨾◌}
 use Rattle.wsgi_core.specs.Sessions.{answers, session}
 use Rattle.wsgi_core.specs.Progress.{Progress, IsSettled, Stands, sent_from}
 
 abbrev pub progress_of : Session → Progress
-progress_of s = record { port = s.port; stage = s.stage; kept = s.kept; pending = s.pending; closing = s.closing }
+progress_of s = record { port = s.port; answered = s.answered.count; stage = s.stage; kept = s.kept; pending = s.pending; closing = s.closing }
+
+-- how many of its requests were answered, which is the number of the one that waits for its reply
+abbrev pub answered_of : Session → ℕ
+answered_of s = s.answered.count
 
 -- the request at this stage that waits for its reply
 abbrev pub asked_at : SessionStage → Option (List Pair × List ℕ)
@@ -39,10 +43,10 @@ abbrev pub IsAsked : Option (Bor (List Pair) × Bor (List ℕ)) → Option (List
 IsAsked None asked = asked ≡ None
 IsAsked (Some lent) asked = asked ≡ Some (lent.0.now, lent.1.now)
 
--- the reply is what the application answers to the request that waits
-abbrev pub IsReplyTo : App → Option (List Pair × List ℕ) → Reply → Type 0
-IsReplyTo app None reply = ⊥
-IsReplyTo app (Some asked) reply = reply ≡ app asked.0 asked.1
+-- the reply is what the application answers to the request that waits, which has this number
+abbrev pub IsReplyTo : App → ℕ → Option (List Pair × List ℕ) → Reply → Type 0
+IsReplyTo app number None reply = ⊥
+IsReplyTo app number (Some asked) reply = reply ≡ app number asked.0 asked.1
 
 -- The session was begun at the port, it was fed these bytes, it was told of their end or not, and those bytes
 -- were taken from it; a request may wait for its reply.
@@ -93,7 +97,7 @@ then_begins p false b = (b.bytes, refl)
 begun_sent : (app : App) (port : ℕ) (fed taken : List ℕ) (s : Session) → s.port ≡ port → Stands app fed taken (progress_of s)
     → (tail : List ℕ) × ((answers app port fed).bytes ≡ taken ++ s.pending ++ tail)
 begun_sent app port fed taken s same h =
-    let t = then_begins s.pending s.closing (sent_from app s.port s.stage (s.kept ++ [])) in
+    let t = then_begins s.pending s.closing (sent_from (from s.answered.count app) s.port s.stage (s.kept ++ [])) in
     let n = append-nil fed in
     (t.0, ap (λ (x : Sent). x.bytes) (sym (h [] ∙ (λ i. answers app (same i) (n i)))) ∙ ap (λ (l : List ℕ). taken ++ l) t.1 ∙ sym (append_assoc taken s.pending t.0))
 

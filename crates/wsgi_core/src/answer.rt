@@ -4,7 +4,7 @@ ghost use Rattle.std.specs.List.{concat, flat_map, list_all};
 ghost use Rattle.wsgi_core.specs.Answers.{answer, begins_with_code, body_bytes, chunk, coding_line, connection_line, ending, ending_by, falls_short, has_code, has_body_place, has_visible_ends, head_bytes, header_line, is_empty, is_faulty, is_header, is_hop_by_hop, is_reason, is_reason_byte, is_status, is_visible, is_wrong, length_of, says_close, sent_by, server_error, stated, status_line};
 ghost use Rattle.wsgi_core.specs.Stating.{stated_after};
 
-use crate::reply::{Pieces, Reply};
+use crate::reply::{Pieces, Reply, Response};
 use gv_values::digits::are_digits;
 use http_messages::{Bytes, Headers, HttpRequest, eq_any_case, parse_length};
 use httparse::{is_header_value, is_token};
@@ -200,16 +200,14 @@ pub fn is_faulty(reply: &Reply) -> bool
 {
     match reply {
         Reply::Raised => true,
-        Reply::Started {
-            status,
-            headers,
-            pieces,
-            raised,
-        } => {
-            !is_status(status.items())
-                || !are_headers(headers)
-                || is_wrong(has_code(b"204", status.items()), stated_length(headers))
-                || (*raised && are_empty(pieces))
+        Reply::Started(response) => {
+            !is_status(response.status.items())
+                || !are_headers(&response.headers)
+                || is_wrong(
+                    has_code(b"204", response.status.items()),
+                    stated_length(&response.headers),
+                )
+                || (response.raised && are_empty(&response.pieces))
         }
     }
 }
@@ -291,13 +289,12 @@ fn push_head(
     out: &mut Vec<u8>,
     request: &HttpRequest,
     ending: Ending,
-    status: &[u8],
-    headers: &Headers,
+    response: &Response,
 ) -> Result<(), AllocError>
-    ensures { OnOk result (out.new.items ≡ out.old.items ++ head_bytes request.now ending status.now headers.now) }
+    ensures { OnOk result (out.new.items ≡ out.old.items ++ head_bytes request.now ending response.now) }
 {
-    push_status(alloc, out, request.minor, status)?;
-    push_headers(out, headers)?;
+    push_status(alloc, out, request.minor, response.status.items())?;
+    push_headers(out, &response.headers)?;
     push_coding(out, ending)?;
     push_connection(out, request, ending)?;
     out.extend_from_slice(b"\r\n")
@@ -402,28 +399,23 @@ fn push_server_error(out: &mut Vec<u8>, request: &HttpRequest) -> Result<(), All
     out.extend_from_slice(b"Internal Server Error")
 }
 
-/// Appends the answer of a reply that can be sent; answers whether the session closes after it.
+/// Appends a response that can be sent; answers whether the session closes after it.
 fn push_started(
     alloc: Global,
     out: &mut Vec<u8>,
     request: &HttpRequest,
-    status: &[u8],
-    headers: &Headers,
-    pieces: &Pieces,
-    raised: bool,
+    response: &Response,
 ) -> Result<bool, AllocError>
-    ensures sent { OnOk result (out.new.items ≡ out.old.items
-        ++ (sent_by request.now (ending request.now status.now headers.now) status.now headers.now pieces.now raised).bytes) }
-    ensures closes { IfOk result (λ closes. closes
-        ≡ (sent_by request.now (ending request.now status.now headers.now) status.now headers.now pieces.now raised).closes) }
+    ensures sent { OnOk result (out.new.items ≡ out.old.items ++ (sent_by request.now (ending request.now response.now) response.now).bytes) }
+    ensures closes { IfOk result (λ closes. closes ≡ (sent_by request.now (ending request.now response.now) response.now).closes) }
 {
-    let ending = ending_of(request.minor, status, headers);
-    push_head(alloc, out, request, ending, status, headers)?;
-    let closes = says_close(request, ending) || raised;
+    let ending = ending_of(request.minor, response.status.items(), &response.headers);
+    push_head(alloc, out, request, ending, response)?;
+    let closes = says_close(request, ending) || response.raised;
     if request.is_head {
         return Ok(closes);
     }
-    let short = push_body(alloc, out, ending, pieces, raised)?;
+    let short = push_body(alloc, out, ending, &response.pieces, response.raised)?;
     Ok(closes || short)
 }
 
@@ -446,19 +438,6 @@ pub fn push_answer(
             push_server_error(out, request)?;
             Ok(true)
         }
-        Reply::Started {
-            status,
-            headers,
-            pieces,
-            raised,
-        } => push_started(
-            alloc,
-            out,
-            request,
-            status.items(),
-            headers,
-            pieces,
-            *raised,
-        ),
+        Reply::Started(response) => push_started(alloc, out, request, response),
     }
 }

@@ -8,6 +8,7 @@
 #![tactic(auto)]
 
 mod answer;
+mod answered;
 mod gateway;
 mod laws;
 mod reply;
@@ -21,7 +22,7 @@ pub use gateway::{
 };
 pub use http_messages::{Bytes, Environ, Headers};
 pub use laws::{sessions_join_their_pieces, sessions_never_take_back};
-pub use reply::{Application, Pieces, Reply};
+pub use reply::{Application, Pieces, Reply, Response};
 pub use session::{Session, SessionPhase, SessionStage};
 pub use shipped::{Route, ShippedApp, path_of, whole_reply};
 pub use talk::Talk;

@@ -1,14 +1,15 @@
 //! A session, fed in any pieces.
-ghost use Rattle.std.specs.Prelude.{◌≡◌, ◌<◌, ◌≤◌, ◌++◌, [], ℕ, List, Bool, None, length, true, false, IfOk, IsSome, OnErr, OnOk, drop, take};
+ghost use Rattle.std.specs.Prelude.{◌≡◌, ◌<◌, ◌≤◌, ◌+◌, ◌++◌, [], ℕ, List, Bool, None, length, true, false, IfOk, IsSome, OnErr, OnOk, drop, take};
 ghost use Rattle.wsgi_core.specs.Answers.{if_continues, refusal};
 ghost use Rattle.wsgi_core.specs.Applications.{App};
 ghost use Rattle.wsgi_core.specs.Sessions.{answers, session};
 ghost use Rattle.wsgi_core.specs.Stages.{is_at_head};
 ghost use Rattle.wsgi_core.specs.Standings.{IsAllSaid, IsBegun, IsBegunSaid, IsCutBy, IsCutSaid, IsFed, IsTaken, IsTakenCut, IsToldTheEnd, StaysCut, StaysEnded};
-ghost use Rattle.wsgi_core.specs.Steps.{IsAsked, IsAt, IsReplyTo, StandsAt, Stopped, asked_of, pending_of, phase_by, progress_of};
+ghost use Rattle.wsgi_core.specs.Steps.{IsAsked, IsAt, IsReplyTo, StandsAt, Stopped, answered_of, asked_of, pending_of, phase_by, progress_of};
 ghost use Rattle.wsgi_core.specs.Progress.{GoesOn, IsDue, IsSettled, Stands};
 
 use crate::answer::push_answer;
+use crate::answered::Answered;
 use crate::reply::{Application, Reply};
 use http_messages::{
     AwaitedBody, BodyFound, ByteQueue, Bytes, Environ, Found, HttpRequest, Refusal, awaited_by,
@@ -42,6 +43,7 @@ pub enum SessionStage {
 pub struct Session {
     alloc: Global,
     port: u16,
+    answered: Answered,
     stage: SessionStage,
     kept: ByteQueue,
     pending: ByteQueue,
@@ -85,6 +87,7 @@ impl Session {
         Session {
             alloc,
             port,
+            answered: Answered::none(),
             stage: SessionStage::AtHead,
             kept: ByteQueue::new(alloc),
             pending: ByteQueue::new(alloc),
@@ -105,6 +108,7 @@ impl Session {
         ensures shorter { IfOk result (λ more. more ≡ true → length self.new.kept < length self.old.kept) }
         ensures quiet { IfOk result (λ more. more ≡ false → asked_of self.new ≡ None) }
         ensures same_port { self.new.port ≡ self.old.port }
+        ensures same_count { answered_of self.new ≡ answered_of self.old }
         ensures same_end { self.new.ended ≡ self.old.ended }
         ensures err { OnErr result (self.new.pending ≡ self.old.pending) }
     {
@@ -133,6 +137,7 @@ impl Session {
         ensures settled { OnOk result (asked_of self.new ≡ None → (app : App) → IsSettled app (progress_of self.new)) }
         ensures shorter { OnOk result (IsSome (asked_of self.new) → length self.new.kept ≤ length self.old.kept) }
         ensures same_port { self.new.port ≡ self.old.port }
+        ensures same_count { answered_of self.new ≡ answered_of self.old }
         ensures same_end { self.new.ended ≡ self.old.ended }
         ensures err { OnErr result (self.new.pending ≡ self.old.pending) }
     {
@@ -182,6 +187,7 @@ impl Session {
         ensures settled { OnOk result (asked_of self.new ≡ None → (app : App) → IsSettled app (progress_of self.new)) }
         ensures shorter { OnOk result (IsSome (asked_of self.new) → is_at_head self.old.stage ≡ true → length self.new.kept < length self.old.kept) }
         ensures same_port { self.new.port ≡ self.old.port }
+        ensures same_count { answered_of self.new ≡ answered_of self.old }
         ensures same_end { self.new.ended ≡ self.old.ended }
         ensures due { OnErr result ((app : App) → IsDue app (progress_of self.old) self.new.pending) }
     {
@@ -201,6 +207,7 @@ impl Session {
             → Stands app (fed ++ piece.now) taken (progress_of self.new)) }
         ensures settled { OnOk result (asked_of self.new ≡ None → (app : App) → IsSettled app (progress_of self.new)) }
         ensures same_port { self.new.port ≡ self.old.port }
+        ensures same_count { answered_of self.new ≡ answered_of self.old }
         ensures same_end { self.new.ended ≡ self.old.ended }
         ensures due { OnErr result ((app : App) (fed taken : List ℕ) → Stands app fed taken (progress_of self.old)
             → (tail : List ℕ) × ((answers app self.old.port (fed ++ piece.now)).bytes ≡ taken ++ self.new.pending ++ tail)) }
@@ -215,6 +222,7 @@ impl Session {
     pub fn take_in(&mut self, piece: &[u8]) -> Result<(), AllocError>
         ensures stands_at { OnOk result ((app : App) → IsFed StandsAt StandsAt app piece.now self.old self.new) }
         ensures stopped { OnErr result ((app : App) → IsCutBy StandsAt Stopped app piece.now self.old self.new) }
+        ensures counted { answered_of self.new ≡ answered_of self.old }
         ensures ended { StaysEnded StandsAt self.old self.new }
         ensures ended_quiet { StaysEnded IsAt self.old self.new }
         ensures ignored { StaysCut Stopped self.old self.new }
@@ -249,11 +257,12 @@ impl Session {
     /// Appends the answer to the request that waits.
     fn answer_asked(&mut self, reply: Reply) -> Result<(), AllocError>
         requires { IsSome (asked_of self.old) }
-        ensures goes_on { OnOk result ((app : App) → IsReplyTo app (asked_of self.old) reply
+        ensures goes_on { OnOk result ((app : App) → IsReplyTo app (answered_of self.old) (asked_of self.old) reply
             → GoesOn app (progress_of self.old) (progress_of self.new)) }
         ensures at_head { OnOk result (self.new.stage ≡ SessionStage.AtHead) }
         ensures same_kept { self.new.kept ≡ self.old.kept }
         ensures same_port { self.new.port ≡ self.old.port }
+        ensures counted { OnOk result (answered_of self.new ≡ answered_of self.old + 1) }
         ensures same_end { self.new.ended ≡ self.old.ended }
         ensures err { OnErr result (self.new.pending ≡ self.old.pending) }
     {
@@ -265,6 +274,7 @@ impl Session {
                 let closes = push_answer(self.alloc, &mut bytes, &request, &reply)?;
                 self.pending.append(&bytes)?;
                 self.closing = closes;
+                self.answered = self.answered.and_one();
                 Ok(())
             }
         }
@@ -273,13 +283,14 @@ impl Session {
     /// Appends the answer to the request that waits, and goes on.
     fn answer_on(&mut self, reply: Reply) -> Result<(), AllocError>
         requires { IsSome (asked_of self.old) }
-        ensures goes_on { OnOk result ((app : App) → IsReplyTo app (asked_of self.old) reply
+        ensures goes_on { OnOk result ((app : App) → IsReplyTo app (answered_of self.old) (asked_of self.old) reply
             → GoesOn app (progress_of self.old) (progress_of self.new)) }
         ensures settled { OnOk result (asked_of self.new ≡ None → (app : App) → IsSettled app (progress_of self.new)) }
         ensures shorter { OnOk result (IsSome (asked_of self.new) → length self.new.kept < length self.old.kept) }
         ensures same_port { self.new.port ≡ self.old.port }
+        ensures counted { OnOk result (answered_of self.new ≡ answered_of self.old + 1) }
         ensures same_end { self.new.ended ≡ self.old.ended }
-        ensures due { OnErr result ((app : App) → IsReplyTo app (asked_of self.old) reply → IsDue app (progress_of self.old) self.new.pending) }
+        ensures due { OnErr result ((app : App) → IsReplyTo app (answered_of self.old) (asked_of self.old) reply → IsDue app (progress_of self.old) self.new.pending) }
     {
         self.answer_asked(reply)?;
         if self.closing {
@@ -293,10 +304,11 @@ impl Session {
     pub fn answer(&mut self, reply: Reply) -> Result<(), AllocError>
         requires { IsSome (asked_of self.old) }
         ensures stands_at { OnOk result ((app : App) (port : ℕ) (fed : List ℕ) (ended : Bool) (taken : List ℕ)
-            → IsReplyTo app (asked_of self.old) reply → StandsAt app port fed ended taken self.old
+            → IsReplyTo app (answered_of self.old) (asked_of self.old) reply → StandsAt app port fed ended taken self.old
             → StandsAt app port fed ended taken self.new) }
+        ensures counted { OnOk result (answered_of self.new ≡ answered_of self.old + 1) }
         ensures stopped { OnErr result ((app : App) (port : ℕ) (fed : List ℕ) (ended : Bool) (taken : List ℕ)
-            → IsReplyTo app (asked_of self.old) reply → StandsAt app port fed ended taken self.old
+            → IsReplyTo app (answered_of self.old) (asked_of self.old) reply → StandsAt app port fed ended taken self.old
             → Stopped app port fed taken self.new) }
     {
         let answered = self.answer_on(reply);
@@ -371,6 +383,7 @@ impl Session {
         ensures stands_at { IsToldTheEnd StandsAt self.old self.new }
         ensures is_at { IsToldTheEnd IsAt self.old self.new }
         ensures stopped { StaysCut Stopped self.old self.new }
+        ensures counted { answered_of self.new ≡ answered_of self.old }
         ensures pending { pending_of self.new ≡ pending_of self.old }
     {
         self.ended = true;
@@ -393,6 +406,7 @@ impl Session {
         ensures stands_at { IsTaken StandsAt (take n (pending_of self.old)) self.old self.new }
         ensures is_at { IsTaken IsAt (take n (pending_of self.old)) self.old self.new }
         ensures stopped { IsTakenCut Stopped (take n (pending_of self.old)) self.old self.new }
+        ensures counted { answered_of self.new ≡ answered_of self.old }
         ensures rest { pending_of self.new ≡ drop n (pending_of self.old) }
     {
         self.pending.skip(n);

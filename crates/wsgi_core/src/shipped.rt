@@ -1,8 +1,8 @@
 //! The application that comes with the server.
-ghost use Rattle.std.specs.Prelude.{◌≡◌, ◌++◌, [], ◌∷◌, IfOk, OnOk, codes, false, true};
-ghost use Rattle.wsgi_core.specs.Shipped.{content_type, environ_text, pair_text, path_of, reply_at, route_of, shipped, whole_reply};
+ghost use Rattle.std.specs.Prelude.{◌≡◌, ◌++◌, [], ◌∷◌, IfOk, OnOk};
+ghost use Rattle.wsgi_core.specs.Shipped.{bad_reply, chunks_reply, content_type, environ_text, late_reply, pair_text, path_of, reply_at, route_of, shipped, whole_reply};
 
-use crate::reply::{Application, Pieces, Reply};
+use crate::reply::{Application, Pieces, Reply, Response};
 use http_messages::{Bytes, Environ, Headers, Sequence};
 use std::alloc::{AllocError, Global};
 
@@ -131,12 +131,12 @@ pub fn whole_reply(
     let digits = format!(in alloc; "{length}")?;
     push_header(alloc, &mut headers, b"Content-Length", digits.as_bytes())?;
     let pieces = one_piece(alloc, body)?;
-    Ok(Reply::Started {
+    Ok(Reply::Started(Response {
         status,
         headers,
         pieces,
         raised: false,
-    })
+    }))
 }
 
 /// A line for each pair.
@@ -155,7 +155,7 @@ fn environ_text(alloc: Global, environ: &Environ) -> Result<Vec<u8>, AllocError>
 
 /// The reply of three pieces, of which one is empty.
 fn chunks_reply(alloc: Global) -> Result<Reply, AllocError>
-    ensures { IfOk result (λ reply. reply ≡ Reply.Started (codes "200 OK") (content_type (codes "text/plain") ∷ []) (codes "one" ∷ [] ∷ codes "two" ∷ []) false) }
+    ensures { IfOk result (λ reply. reply ≡ chunks_reply) }
 {
     let status = copied(alloc, b"200 OK")?;
     let headers = typed(alloc, b"text/plain")?;
@@ -163,42 +163,42 @@ fn chunks_reply(alloc: Global) -> Result<Reply, AllocError>
     pieces.push(Sequence::new(alloc))?;
     let last = copied(alloc, b"two")?;
     pieces.push(last)?;
-    Ok(Reply::Started {
+    Ok(Reply::Started(Response {
         status,
         headers,
         pieces,
         raised: false,
-    })
+    }))
 }
 
 /// The reply that the application breaks off.
 fn late_reply(alloc: Global) -> Result<Reply, AllocError>
-    ensures { IfOk result (λ reply. reply ≡ Reply.Started (codes "200 OK") (content_type (codes "text/plain") ∷ []) (codes "part" ∷ []) true) }
+    ensures { IfOk result (λ reply. reply ≡ late_reply) }
 {
     let status = copied(alloc, b"200 OK")?;
     let headers = typed(alloc, b"text/plain")?;
     let pieces = one_piece(alloc, b"part")?;
-    Ok(Reply::Started {
+    Ok(Reply::Started(Response {
         status,
         headers,
         pieces,
         raised: true,
-    })
+    }))
 }
 
 /// The reply with a header that is not the application's to send.
 fn bad_reply(alloc: Global) -> Result<Reply, AllocError>
-    ensures { IfOk result (λ reply. reply ≡ Reply.Started (codes "200 OK") (content_type (codes "text/plain") ∷ (codes "Connection", codes "close") ∷ []) [] false) }
+    ensures { IfOk result (λ reply. reply ≡ bad_reply) }
 {
     let status = copied(alloc, b"200 OK")?;
     let mut headers = typed(alloc, b"text/plain")?;
     push_header(alloc, &mut headers, b"Connection", b"close")?;
-    Ok(Reply::Started {
+    Ok(Reply::Started(Response {
         status,
         headers,
         pieces: Sequence::new(alloc),
         raised: false,
-    })
+    }))
 }
 
 /// The reply that a route asks for.

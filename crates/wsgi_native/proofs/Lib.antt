@@ -1,3 +1,4 @@
+pub mod Earning
 pub mod Polling
 pub mod Talking
 pub mod Tying

@@ -1,27 +1,30 @@
 -- What posts and answers make of what fits, and of the clients.
-use Rattle.std.proofs.Common.{◌≡◌, ℕ, ◌+◌, ◌==◌, true, false, if◌then◌else◌, List, [], ◌∷◌, Option, Some, None, Result, Ok, Err, is_some, option_map, refl, sym, ap, ◌∙◌, subst}
+use Rattle.std.proofs.Common.{◌≡◌, ℕ, ◌+◌, ◌==◌, Bool, true, false, if◌then◌else◌, List, [], ◌∷◌, Option, Some, None, Result, Ok, Err, is_some, option_map, refl, sym, ap, ◌∙◌, subst, arith}
 use Rattle.std.specs.Prelude.{Contains, IsSome, OnErr, is_err}
 use Rattle.std.proofs.lemmas.Bool.{false≢true}
+use Rattle.std.proofs.lemmas.Bool.Decides.{nat_tests}
 use Rattle.std.proofs.lemmas.List.Elements.{Contains-append_left}
 use Rattle.gv_values.specs.declared.job.Answer.{Answer}
 use Rattle.gv_values.specs.declared.job.Job.{Job}
 use Rattle.gv_values.specs.declared.job.JobOutcome.{JobOutcome}
 use Rattle.http_messages.specs.Environs.{Pair}
 use Rattle.world_rules.specs.declared.question.PostedJob.{PostedJob}
-use Rattle.world_rules.specs.Legal.{IsOutcomeOf, is_answered, posted}
+use Rattle.world_rules.specs.Legal.{IsOutcomeOf, is_answered, is_posted, posted}
 use Rattle.world.specs.Worlds.{WorldMeaning as World, Posts, Stores}
+use Rattle.world.proofs.Sound.{contains_posted}
+use Rattle.stream_server.specs.Protocols.{Apps}
 use Rattle.stream_server.specs.Services.{IsHeldFrom, IsReleased, Polls, TiesAfter}
 use Rattle.stream_server.specs.declared.service.Polled.{Polled}
 use Rattle.stream_server.specs.declared.service.Polled.TheVariants.{Nobody, Released, Memory}
 use Rattle.stream_server.specs.Tables.{IsListed, Relists, SeenTable, client_count}
 use Rattle.stream_server.specs.declared.client.Client.{Client}
-use Rattle.wsgi_core.specs.Applications.{App}
 use Rattle.wsgi_core.specs.Steps.{StandsAt, asked_of}
 use Rattle.wsgi_core.specs.declared.session.Session.{Session}
-use Rattle.wsgi_native.specs.Agreeing.{Agrees}
+use Rattle.wsgi_native.specs.Agreeing.{Agrees, Owner}
 use Rattle.wsgi_native.specs.Asking.{HasAsked, WantsJob}
 use Rattle.wsgi_native.specs.Giving.{Gives, IsGivenTo}
 use Rattle.wsgi_native.specs.JobApp.{outcome_reply}
+use Rattle.wsgi_native.specs.Owning.{AllAgree}
 use Rattle.wsgi_native.specs.Talks.{deadline_in, held_number, job_protocol, request_of}
 use Rattle.wsgi_native.specs.Tied.{Awaits, IsTied, IsTiedBut}
 use Rattle.wsgi_native.specs.declared.job_talk.HeldFor.{HeldFor}
@@ -69,34 +72,44 @@ is_held g h number conn session number_is kept ended never_ = record {
 -- ---- what agrees with the answers of a world agreed before
 
 -- before a job more was posted
-pub agreed_before : (v w : World) (number : ℕ) (job : Job) → Posts v w number job → (app : App) → Agrees w app → Agrees v app
-agreed_before v w number job p app fits = record {
-  plain = fits.plain;
-  done = λ n j environ body asks there answered. fits.done n j environ body asks
+pub agreed_before : (v w : World) (owner own : Owner) (number : ℕ) (job : Job) (one : ℕ × ℕ) → Posts v w number job → is_posted number v.posts ≡ false → ((n : ℕ) → own n ≡ (if number == n then one else owner n)) → (apps : Apps) → AllAgree own w apps
+    → AllAgree owner v apps
+agreed_before v w owner own number job one p fresh owns apps fits conn = record {
+  plain = (fits conn).plain;
+  done = λ n i j environ body is asks there answered. (fits conn).done n i j environ body (still n j (number == n) refl there ∙ is) asks
       (subst (λ (z : List PostedJob). Contains z (posted n j)) (sym p.posts) (Contains-append_left v.posts (posted number job ∷ []) (posted n j) there))
       (ap (is_answered n) p.answers ∙ answered);
 }
+  where
+    there_new : (n : ℕ) (j : Job) → (number == n) ≡ true → Contains v.posts (posted n j) → ⊥
+    there_new n j test there =
+        let same : number ≡ n = grind (arith, nat_tests) in
+        false≢true (sym fresh ∙ ap (λ (k : ℕ). is_posted k v.posts) same ∙ contains_posted v.posts n j there)
+
+    still : (n : ℕ) (j : Job) (b : Bool) → (number == n) ≡ b → Contains v.posts (posted n j) → own n ≡ owner n
+    still n j true test there = absurd (there_new n j test there)
+    still n j false test there = owns n ∙ ap (λ (c : Bool). if c then one else owner n) test
 
 -- before an answer more was given
-pub agreed_earlier : (v w : World) (answer : Answer) → Stores v w answer → (app : App) → Agrees w app → Agrees v app
-agreed_earlier v w answer s app fits = record {
-  plain = fits.plain;
-  done = λ n j environ body asks there answered. fits.done n j environ body asks
+pub agreed_earlier : (v w : World) (owner : Owner) (answer : Answer) → Stores v w answer → (apps : Apps) → AllAgree owner w apps → AllAgree owner v apps
+agreed_earlier v w owner answer s apps fits conn = record {
+  plain = (fits conn).plain;
+  done = λ n i j environ body is asks there answered. (fits conn).done n i j environ body is asks
       (subst (λ (z : List PostedJob). Contains z (posted n j)) (sym s.posts) there)
       (ap (is_answered n) s.answers ∙ still_answered n v.answers answer answered);
 }
 
 -- where nothing changed
-pub agreed_same : (v w : World) → w ≡ v → (app : App) → Agrees w app → Agrees v app
-agreed_same v w same app fits = subst (λ (x : World). Agrees x app) same fits
+pub agreed_same : (v w : World) (owner : Owner) → w ≡ v → (apps : Apps) → AllAgree owner w apps → AllAgree owner v apps
+agreed_same v w owner same apps fits = subst (λ (x : World). AllAgree owner x apps) same fits
 
 -- ---- a result
 
 -- the client that waited for a job was given what it came to
-pub polled_released : (w v : World) (last : ℕ) (waiting less : ℕ → Option ℕ) (table now : SeenTable JobTalk) (accepted k number : ℕ) (outcome : JobOutcome) (at : ℕ) (was given : Client JobTalk)
-    → IsTied w last waiting (IsListed table) accepted → Stores w v (Answer.Done number outcome at) → IsOutcomeOf number outcome w.posts → waiting number ≡ Some k → IsListed table k (Some was) → was.conn ≡ k
-    → Relists table now k None → client_count now + 1 ≡ client_count table → IsGivenTo outcome was given → IsReleased job_protocol (Agrees v) table now given
-polled_released w v last waiting less table now accepted k number outcome at was given t s right here row number_is relists count is = record {
+pub polled_released : (w v : World) (owner : Owner) (last : ℕ) (waiting less : ℕ → Option ℕ) (table now : SeenTable JobTalk) (accepted k number : ℕ) (outcome : JobOutcome) (at : ℕ) (was given : Client JobTalk)
+    → IsTied w owner last waiting (IsListed table) accepted → Stores w v (Answer.Done number outcome at) → IsOutcomeOf number outcome w.posts → waiting number ≡ Some k → IsListed table k (Some was) → was.conn ≡ k
+    → Relists table now k None → client_count now + 1 ≡ client_count table → IsGivenTo outcome was given → IsReleased job_protocol (AllAgree owner v) table now given
+polled_released w v owner last waiting less table now accepted k number outcome at was given t s right here row number_is relists count is = record {
   was = was;
   listed = subst (λ (n : ℕ). IsListed table n (Some was)) (sym conn) row;
   relists = subst (λ (n : ℕ). Relists table now n None) (sym conn) relists;
@@ -105,18 +118,19 @@ polled_released w v last waiting less table now accepted k number outcome at was
   held = held_some was.talk.held number waits.is_number;
   later = is.later;
   free = free_none given.talk.held is.free;
-  stands = λ app fits. is.stands app
-      (reply_is v number outcome was (outcome_reply outcome) alone awaits outcome_of (ap (is_answered number) s.answers ∙ now_answered number w.answers outcome at) refl app fits);
+  stands = λ apps fits. is.stands (apps given.conn)
+      (reply_is v owner number outcome was (outcome_reply outcome) alone awaits outcome_of (ap (is_answered number) s.answers ∙ now_answered number w.answers outcome at) refl (apps given.conn)
+      (subst (λ (n : ℕ). Agrees owner v n (apps given.conn)) is.conn (fits given.conn)));
 }
   where
     conn : given.conn ≡ k
     conn = is.conn ∙ number_is
 
-    waits : Awaits w.posts number was
+    waits : Awaits w.posts owner number was
     waits = t.held number k (Some was) here row
 
-    awaits : Awaits v.posts number was
-    awaits = subst (λ (z : List PostedJob). Awaits z number was) (sym s.posts) waits
+    awaits : Awaits v.posts owner number was
+    awaits = subst (λ (z : List PostedJob). Awaits z owner number was) (sym s.posts) waits
 
     outcome_of : IsOutcomeOf number outcome v.posts
     outcome_of = subst (λ (z : List PostedJob). IsOutcomeOf number outcome z) (sym s.posts) right
@@ -125,24 +139,24 @@ polled_released w v last waiting less table now accepted k number outcome at was
     alone n a b x y = t.alone n a b (subst (λ (z : List PostedJob). Contains z (posted n a)) s.posts x) (subst (λ (z : List PostedJob). Contains z (posted n b)) s.posts y)
 
 -- it was taken out of those that wait
-pub polled_tied : (w v : World) (last : ℕ) (waiting less : ℕ → Option ℕ) (table now : SeenTable JobTalk) (accepted k number : ℕ) (outcome : JobOutcome) (at : ℕ) (was given : Client JobTalk)
-    → IsTied w last waiting (IsListed table) accepted → Stores w v (Answer.Done number outcome at) → IsOutcomeOf number outcome w.posts → waiting number ≡ Some k → IsListed table k (Some was) → was.conn ≡ k
-    → ((n : ℕ) → less n ≡ (if number == n then None else waiting n)) → Relists table now k None → IsGivenTo outcome was given → IsTiedBut v last less (IsListed now) accepted given.conn
-polled_tied w v last waiting less table now accepted k number outcome at was given t s right here row number_is takes relists is =
-    subst (λ (n : ℕ). IsTiedBut v last less (IsListed now) accepted n) (sym (is.conn ∙ number_is))
-    (tied_answered w v last waiting less (IsListed table) (IsListed now) accepted k number outcome at was t s right here row takes relists.others)
+pub polled_tied : (w v : World) (owner : Owner) (last : ℕ) (waiting less : ℕ → Option ℕ) (table now : SeenTable JobTalk) (accepted k number : ℕ) (outcome : JobOutcome) (at : ℕ) (was given : Client JobTalk)
+    → IsTied w owner last waiting (IsListed table) accepted → Stores w v (Answer.Done number outcome at) → IsOutcomeOf number outcome w.posts → waiting number ≡ Some k → IsListed table k (Some was) → was.conn ≡ k
+    → ((n : ℕ) → less n ≡ (if number == n then None else waiting n)) → Relists table now k None → IsGivenTo outcome was given → IsTiedBut v owner last less (IsListed now) accepted given.conn
+polled_tied w v owner last waiting less table now accepted k number outcome at was given t s right here row number_is takes relists is =
+    subst (λ (n : ℕ). IsTiedBut v owner last less (IsListed now) accepted n) (sym (is.conn ∙ number_is))
+    (tied_answered w v owner last waiting less (IsListed table) (IsListed now) accepted k number outcome at was t s right here row takes relists.others)
 
 -- what a poll makes of the table, and of the tie, whatever was given
-module _ (w v : World) (last : ℕ) (waiting less : ℕ → Option ℕ) (table now : SeenTable JobTalk) (k number : ℕ) (outcome : JobOutcome) (at : ℕ) (was : Client JobTalk)
+module _ (w v : World) (owner : Owner) (last : ℕ) (waiting less : ℕ → Option ℕ) (table now : SeenTable JobTalk) (k number : ℕ) (outcome : JobOutcome) (at : ℕ) (was : Client JobTalk)
     (s : Stores w v (Answer.Done number outcome at)) (right : IsOutcomeOf number outcome w.posts) (here : waiting number ≡ Some k) (row : IsListed table k (Some was)) (number_is : was.conn ≡ k)
     (takes : (n : ℕ) → less n ≡ (if number == n then None else waiting n)) (relists : Relists table now k None) (count : client_count now + 1 ≡ client_count table) where
-  pub gives_polled : (r : Polled JobTalk) (accepted : ℕ) → IsTied w last waiting (IsListed table) accepted → Gives r outcome was → Polls r job_protocol (Agrees v) table now
+  pub gives_polled : (r : Polled JobTalk) (accepted : ℕ) → IsTied w owner last waiting (IsListed table) accepted → Gives r outcome was → Polls r job_protocol (AllAgree owner v) table now
   gives_polled Nobody accepted t is = absurd is
-  gives_polled (Released given) accepted t is = polled_released w v last waiting less table now accepted k number outcome at was given t s right here row number_is relists count is
+  gives_polled (Released given) accepted t is = polled_released w v owner last waiting less table now accepted k number outcome at was given t s right here row number_is relists count is
   gives_polled Memory accepted t is = tt
 
-  pub gives_tied : (r : Polled JobTalk) (accepted : ℕ) → IsTied w last waiting (IsListed table) accepted → Gives r outcome was
-      → TiesAfter r (IsTied v last less (IsListed now) accepted) (λ conn. IsTiedBut v last less (IsListed now) accepted conn)
+  pub gives_tied : (r : Polled JobTalk) (accepted : ℕ) → IsTied w owner last waiting (IsListed table) accepted → Gives r outcome was
+      → TiesAfter r (IsTied v owner last less (IsListed now) accepted) (λ conn. IsTiedBut v owner last less (IsListed now) accepted conn)
   gives_tied Nobody accepted t is = absurd is
-  gives_tied (Released given) accepted t is = polled_tied w v last waiting less table now accepted k number outcome at was given t s right here row number_is takes relists is
+  gives_tied (Released given) accepted t is = polled_tied w v owner last waiting less table now accepted k number outcome at was given t s right here row number_is takes relists is
   gives_tied Memory accepted t is = tt

@@ -30,8 +30,8 @@ asked_waits o a reply e h =
     let is = subst P e h in
     subst (λ (x : Option (List Pair × List ℕ)). IsSome x) (sym is.1) refl
 
-pub asked_reply : (o : Option (List Pair × List ℕ)) (a : Asked) (reply : Reply) → a ≡ Asked.AReply reply → IsAskedFor o a → (app : App) → IsPlain app → IsReplyTo app o reply
-asked_reply o a reply e h app plain =
+pub asked_reply : (o : Option (List Pair × List ℕ)) (a : Asked) (reply : Reply) → a ≡ Asked.AReply reply → IsAskedFor o a → (app : App) (number : ℕ) → IsPlain app → IsReplyTo app number o reply
+asked_reply o a reply e h app number plain =
     let P : Asked → Type 0 = λ x. IsAskedFor o x in
     let is = subst P e h in
-    subst (λ (x : Option (List Pair × List ℕ)). IsReplyTo app x reply) (sym is.1) (is.3 ∙ sym (plain is.0.0 is.0.1 is.2))
+    subst (λ (x : Option (List Pair × List ℕ)). IsReplyTo app number x reply) (sym is.1) (is.3 number ∙ sym (plain number is.0.0 is.0.1 is.2))

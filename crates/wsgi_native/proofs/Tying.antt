@@ -15,12 +15,12 @@ use Rattle.world_rules.specs.Legal.{IsOutcomeOf, is_answered, is_done_of, is_pos
 use Rattle.world.specs.Worlds.{WorldMeaning, Posts, Stores}
 use Rattle.world.proofs.Sound.{contains_posted, or_false}
 use Rattle.wsgi_core.specs.declared.reply.Reply.{Reply}
-use Rattle.wsgi_core.specs.Steps.{IsReplyTo}
+use Rattle.wsgi_core.specs.Steps.{IsReplyTo, answered_of}
 use Rattle.stream_server.specs.Keeping.{Listing}
 use Rattle.stream_server.specs.declared.client.Client.{Client}
 use Rattle.wsgi_native.specs.Asking.{WantsJob}
 use Rattle.wsgi_core.specs.Applications.{App}
-use Rattle.wsgi_native.specs.Agreeing.{Agrees}
+use Rattle.wsgi_native.specs.Agreeing.{Agrees, Owner}
 use Rattle.wsgi_native.specs.JobApp.{outcome_reply}
 use Rattle.wsgi_native.specs.Talks.{held_number, request_of}
 use Rattle.wsgi_native.specs.Tied.{Awaits, IsFor, IsInOrder, IsTied, IsTiedBut}
@@ -71,8 +71,8 @@ same_number o a b e f = cc
 pub first_order : (w : WorldMeaning) → w.runs ≡ true → w.answers ≡ [] → IsInOrder w
 first_order w runs answers = record { runs = runs; done = λ n h. absurd (false≢true (sym (ap (is_answered n) answers) ∙ h)) }
 
-pub tied_none : (w : WorldMeaning) (waiting : ℕ → Option ℕ) (listed : Listing JobTalk) (accepted : ℕ) → w.runs ≡ true → w.posts ≡ [] → w.answers ≡ [] → ((n : ℕ) → waiting n ≡ None) → IsTied w 0 waiting listed accepted
-tied_none w waiting listed accepted runs posts answers none = record {
+pub tied_none : (w : WorldMeaning) (owner : Owner) (waiting : ℕ → Option ℕ) (listed : Listing JobTalk) (accepted : ℕ) → w.runs ≡ true → w.posts ≡ [] → w.answers ≡ [] → ((n : ℕ) → waiting n ≡ None) → IsTied w owner 0 waiting listed accepted
+tied_none w owner waiting listed accepted runs posts answers none = record {
   order = first_order w runs answers;
   fresh = λ n h. ap (is_posted n) posts;
   numbered = λ n h k. absurd (omega arith);
@@ -96,10 +96,10 @@ posted_order w v number job o p = record {
   done = λ n h. ap (is_posted n) p.posts ∙ posted_still n number w.posts job true (o.done n (sym (ap (is_answered n) p.answers) ∙ h));
 }
 
-pub tied_posted : (w v : WorldMeaning) (last : ℕ) (waiting more : ℕ → Option ℕ) (listed now : Listing JobTalk) (accepted k : ℕ) (job : Job) (g : Client JobTalk) → IsTiedBut w last waiting listed accepted k → k < accepted
-    → Posts w v (last + 1) job → ((n : ℕ) → more n ≡ (if last + 1 == n then Some k else waiting n)) → held_number g.talk ≡ Some (last + 1) → WantsJob g.talk job
-    → ((s : Option (Client JobTalk)) → now k s → s ≡ Some g) → ((j : ℕ) (s : Option (Client JobTalk)) → j ≢ k → now j s → listed j s) → IsTied v (last + 1) more now accepted
-tied_posted w v last waiting more listed now accepted k job g t within p adds number wants here others = record {
+pub tied_posted : (w v : WorldMeaning) (owner own : Owner) (last : ℕ) (waiting more : ℕ → Option ℕ) (listed now : Listing JobTalk) (accepted k : ℕ) (job : Job) (g : Client JobTalk) → IsTiedBut w owner last waiting listed accepted k → k < accepted
+    → Posts w v (last + 1) job → ((n : ℕ) → more n ≡ (if last + 1 == n then Some k else waiting n)) → ((n : ℕ) → own n ≡ (if last + 1 == n then (g.conn, answered_of g.talk.session) else owner n)) → held_number g.talk ≡ Some (last + 1) → WantsJob g.talk job
+    → ((s : Option (Client JobTalk)) → now k s → s ≡ Some g) → ((j : ℕ) (s : Option (Client JobTalk)) → j ≢ k → now j s → listed j s) → IsTied v own (last + 1) more now accepted
+tied_posted w v owner own last waiting more listed now accepted k job g t within p adds owns number wants here others = record {
   order = posted_order w v (last + 1) job o.order p;
   fresh = λ n h. ap (is_posted n) p.posts ∙ posted_still n (last + 1) w.posts job false (o.fresh n (omega arith)) ∙ or_none (last + 1 == n) (grind (arith, nat_tests));
   numbered = λ n h l. ap (is_posted n) p.posts ∙ numbered_by n (last + 1 == n) refl h l;
@@ -110,7 +110,7 @@ tied_posted w v last waiting more listed now accepted k job g t within p adds nu
   held = λ n j slot e row. held_by n j slot (last + 1 == n) refl (sym (adds n) ∙ e) row;
 }
   where
-    o : IsTied w last waiting listed accepted
+    o : IsTied w owner last waiting listed accepted
     o = t.tied
 
     numbered_by : (n : ℕ) (b : Bool) → (last + 1 == n) ≡ b → 1 ≤ n → n ≤ last + 1 → is_posted n (w.posts ++ posted (last + 1) job ∷ []) ≡ true
@@ -140,28 +140,33 @@ tied_posted w v last waiting more listed now accepted k job g t within p adds nu
     below_by n j true e = let f : k ≡ j = cc in omega arith
     below_by n j false e = let f = o.below n j e in omega arith
 
-    still_for : (n : ℕ) (slot : Option (Client JobTalk)) → IsFor w.posts n slot → IsFor v.posts n slot
-    still_for n None h = h
-    still_for n (Some c) h = record {
+    owned_by : (n : ℕ) (b : Bool) → (last + 1 == n) ≡ b → own n ≡ (if b then (g.conn, answered_of g.talk.session) else owner n)
+    owned_by n b e = owns n ∙ ap (λ (c : Bool). if c then (g.conn, answered_of g.talk.session) else owner n) e
+
+    still_for : (n : ℕ) (slot : Option (Client JobTalk)) → (last + 1 == n) ≡ false → IsFor w.posts owner n slot → IsFor v.posts own n slot
+    still_for n None e h = h
+    still_for n (Some c) e h = record {
       is_number = h.is_number;
       job = h.job;
       wants = h.wants;
       there = subst (λ (z : List PostedJob). Contains z (posted n h.job)) (sym p.posts) (Contains-append_left w.posts (posted (last + 1) job ∷ []) (posted n h.job) h.there);
+      owns = owned_by n false e ∙ h.owns;
     }
 
-    held_here : (n : ℕ) (slot : Option (Client JobTalk)) → last + 1 ≡ n → slot ≡ Some g → IsFor v.posts n slot
-    held_here n slot e f = subst (IsFor v.posts n) (sym f) record {
+    held_here : (n : ℕ) (slot : Option (Client JobTalk)) → (last + 1 == n) ≡ true → last + 1 ≡ n → slot ≡ Some g → IsFor v.posts own n slot
+    held_here n slot test e f = subst (IsFor v.posts own n) (sym f) record {
       is_number = number ∙ ap (λ (i : ℕ). Some i) e;
       job = job;
       wants = wants;
       there = subst (λ (z : ℕ). Contains v.posts (posted z job)) e (subst (λ (z : List PostedJob). Contains z (posted (last + 1) job)) (sym p.posts) (Contains-push w.posts (posted (last + 1) job)));
+      owns = owned_by n true test;
     }
 
-    held_by : (n j : ℕ) (slot : Option (Client JobTalk)) (b : Bool) → (last + 1 == n) ≡ b → (if b then Some k else waiting n) ≡ Some j → now j slot → IsFor v.posts n slot
+    held_by : (n j : ℕ) (slot : Option (Client JobTalk)) (b : Bool) → (last + 1 == n) ≡ b → (if b then Some k else waiting n) ≡ Some j → now j slot → IsFor v.posts own n slot
     held_by n j slot true test e row =
         let number_is : last + 1 ≡ n = grind (arith, nat_tests) in
-        let f : j ≡ k = cc in held_here n slot number_is (here slot (subst (λ i. now i slot) f row))
-    held_by n j slot false test e row = still_for n slot (o.held n j slot e (others j slot (t.others n j e) row))
+        let f : j ≡ k = cc in held_here n slot test number_is (here slot (subst (λ i. now i slot) f row))
+    held_by n j slot false test e row = still_for n slot test (o.held n j slot e (others j slot (t.others n j e) row))
 
 -- ---- an answer
 
@@ -187,9 +192,9 @@ silent_order w v answer o s silent = record {
 }
 
 -- no job ended
-pub tied_silent : (w v : WorldMeaning) (last : ℕ) (waiting : ℕ → Option ℕ) (listed : Listing JobTalk) (accepted : ℕ) (answer : Answer) → IsTied w last waiting listed accepted → Stores w v answer → ((n : ℕ) → is_done_of n answer ≡ false)
-    → IsTied v last waiting listed accepted
-tied_silent w v last waiting listed accepted answer t s silent = record {
+pub tied_silent : (w v : WorldMeaning) (owner : Owner) (last : ℕ) (waiting : ℕ → Option ℕ) (listed : Listing JobTalk) (accepted : ℕ) (answer : Answer) → IsTied w owner last waiting listed accepted → Stores w v answer → ((n : ℕ) → is_done_of n answer ≡ false)
+    → IsTied v owner last waiting listed accepted
+tied_silent w v owner last waiting listed accepted answer t s silent = record {
   order = silent_order w v answer t.order s silent;
   fresh = λ n h. ap (is_posted n) s.posts ∙ t.fresh n h;
   numbered = λ n h l. ap (is_posted n) s.posts ∙ t.numbered n h l;
@@ -199,14 +204,14 @@ tied_silent w v last waiting listed accepted answer t s silent = record {
   held = λ n j slot e row. same_for n slot (t.held n j slot e row);
 }
   where
-    same_for : (n : ℕ) (slot : Option (Client JobTalk)) → IsFor w.posts n slot → IsFor v.posts n slot
-    same_for n slot h = subst (λ (z : List PostedJob). IsFor z n slot) (sym s.posts) h
+    same_for : (n : ℕ) (slot : Option (Client JobTalk)) → IsFor w.posts owner n slot → IsFor v.posts owner n slot
+    same_for n slot h = subst (λ (z : List PostedJob). IsFor z owner n slot) (sym s.posts) h
 
 -- a job ended, and the client that waits for it is taken out
-pub tied_answered : (w v : WorldMeaning) (last : ℕ) (waiting less : ℕ → Option ℕ) (listed now : Listing JobTalk) (accepted k number : ℕ) (outcome : JobOutcome) (at : ℕ) (g : Client JobTalk)
-    → IsTied w last waiting listed accepted → Stores w v (Answer.Done number outcome at) → IsOutcomeOf number outcome w.posts → waiting number ≡ Some k → listed k (Some g) → ((n : ℕ) → less n ≡ (if number == n then None else waiting n))
-    → ((j : ℕ) (s : Option (Client JobTalk)) → j ≢ k → now j s → listed j s) → IsTiedBut v last less now accepted k
-tied_answered w v last waiting less listed now accepted k number outcome at g t s right here row takes others = record {
+pub tied_answered : (w v : WorldMeaning) (owner : Owner) (last : ℕ) (waiting less : ℕ → Option ℕ) (listed now : Listing JobTalk) (accepted k number : ℕ) (outcome : JobOutcome) (at : ℕ) (g : Client JobTalk)
+    → IsTied w owner last waiting listed accepted → Stores w v (Answer.Done number outcome at) → IsOutcomeOf number outcome w.posts → waiting number ≡ Some k → listed k (Some g) → ((n : ℕ) → less n ≡ (if number == n then None else waiting n))
+    → ((j : ℕ) (s : Option (Client JobTalk)) → j ≢ k → now j s → listed j s) → IsTiedBut v owner last less now accepted k
+tied_answered w v owner last waiting less listed now accepted k number outcome at g t s right here row takes others = record {
   tied = record {
     order = stored_order w v number outcome at t.order s right;
     fresh = λ n h. ap (is_posted n) s.posts ∙ t.fresh n h;
@@ -214,7 +219,7 @@ tied_answered w v last waiting less listed now accepted k number outcome at g t 
     alone = λ n a b h l. t.alone n a b (subst (λ (z : List PostedJob). Contains z (posted n a)) s.posts h) (subst (λ (z : List PostedJob). Contains z (posted n b)) s.posts l);
     awaited = λ n h l e. awaited_by n (sym (ap (is_posted n) s.posts) ∙ h) (answered_before n w.answers (Answer.Done number outcome at) (sym (ap (is_answered n) s.answers) ∙ l)) (sym (takes n) ∙ e);
     below = λ n j e. t.below n j (was n j (number == n) (sym (takes n) ∙ e)).0;
-    held = λ n j slot e now_row. subst (λ (z : List PostedJob). IsFor z n slot) (sym s.posts) (t.held n j slot (was n j (number == n) (sym (takes n) ∙ e)).0 (others j slot (apart n j e) now_row));
+    held = λ n j slot e now_row. subst (λ (z : List PostedJob). IsFor z owner n slot) (sym s.posts) (t.held n j slot (was n j (number == n) (sym (takes n) ∙ e)).0 (others j slot (apart n j e) now_row));
   };
   others = apart;
 }
@@ -232,17 +237,18 @@ tied_answered w v last waiting less listed now accepted k number outcome at g t 
     apart : (n j : ℕ) → less n ≡ Some j → j ≢ k
     apart n j e same =
         let before = was n j (number == n) (sym (takes n) ∙ e) in
-        let own : Awaits w.posts number g = t.held number k (Some g) here row in
-        let other : Awaits w.posts n g = t.held n k (Some g) (before.0 ∙ ap (λ (i : ℕ). Some i) same) row in
+        let own : Awaits w.posts owner number g = t.held number k (Some g) here row in
+        let other : Awaits w.posts owner n g = t.held n k (Some g) (before.0 ∙ ap (λ (i : ℕ). Some i) same) row in
         let f : number ≡ n = same_number (held_number g.talk) number n own.is_number other.is_number in
         absurd (differ number n f before.1)
 
 -- the reply that tells what the job came to is the one to the request that waits
-pub reply_is : (w : WorldMeaning) (number : ℕ) (outcome : JobOutcome) (g : Client JobTalk) (reply : Reply) → ((n : ℕ) (a b : Job) → Contains w.posts (posted n a) → Contains w.posts (posted n b) → a ≡ b)
-    → Awaits w.posts number g → IsOutcomeOf number outcome w.posts → is_answered number w.answers ≡ true → reply ≡ outcome_reply outcome → (app : App) → Agrees w app → IsReplyTo app (request_of g.talk) reply
-reply_is w number outcome g reply alone h right answered is app fits =
+pub reply_is : (w : WorldMeaning) (owner : Owner) (number : ℕ) (outcome : JobOutcome) (g : Client JobTalk) (reply : Reply) → ((n : ℕ) (a b : Job) → Contains w.posts (posted n a) → Contains w.posts (posted n b) → a ≡ b)
+    → Awaits w.posts owner number g → IsOutcomeOf number outcome w.posts → is_answered number w.answers ≡ true → reply ≡ outcome_reply outcome → (app : App) → Agrees owner w g.conn app
+    → IsReplyTo app (answered_of g.talk.session) (request_of g.talk) reply
+reply_is w owner number outcome g reply alone h right answered is app fits =
     let same : right.0 ≡ h.job = alone number right.0 h.job right.1 h.there in
     let r = h.wants.request in
     let told : outcome ≡ eval h.job = right.2 ∙ ap eval same in
-    subst (λ (o : Option (List Pair × List ℕ)). IsReplyTo app o reply) (sym h.wants.asked)
-    (is ∙ ap outcome_reply told ∙ sym (fits.done number h.job r.0 r.1 h.wants.wants h.there answered))
+    subst (λ (o : Option (List Pair × List ℕ)). IsReplyTo app (answered_of g.talk.session) o reply) (sym h.wants.asked)
+    (is ∙ ap outcome_reply told ∙ sym (fits.done number (answered_of g.talk.session) h.job r.0 r.1 h.owns h.wants.wants h.there answered))

@@ -1,5 +1,5 @@
 -- Where a request asks for one more job than have numbers, a server has come to one of two ends.
-use Rattle.std.proofs.Common.{◌≡◌, ◌⊎◌, inl, inr, ℕ, Bool, true, false, List, [], ◌++◌, Some, refl, sym, ap, ◌∙◌, subst}
+use Rattle.std.proofs.Common.{◌≡◌, ◌⊎◌, inl, inr, ℕ, ◌+◌, Bool, true, false, List, [], ◌++◌, Some, refl, sym, ap, ◌∙◌, subst}
 use Rattle.std.specs.List.{All}
 use Rattle.std.proofs.lemmas.Bool.{false≢true}
 use Rattle.http_messages.specs.Environs.{Pair}
@@ -7,6 +7,7 @@ use Rattle.http_messages.specs.declared.request.HttpRequest.{HttpRequest}
 use Rattle.world_rules.specs.Legal.{is_posted}
 use Rattle.stream_net.specs.Nets.{Connection, IsAtRest, NetMeaning, connection_at}
 use Rattle.stream_net.proofs.Lists.{at_all}
+use Rattle.stream_server.specs.declared.limits.Terms.{Terms}
 use Rattle.stream_server.specs.Protocols.{side_of}
 use Rattle.stream_server.specs.Running.{AsksInVain}
 use Rattle.stream_server.specs.Serving.{IsAllServed}
@@ -14,21 +15,24 @@ use Rattle.stream_server.specs.Steps.{IsGoing}
 use Rattle.stream_server.proofs.Endings.{told_is}
 use Rattle.world.specs.Worlds.{WorldMeaning as World}
 use Rattle.wsgi_core.specs.Answers.{◌⨾◌, answer}
-use Rattle.wsgi_core.specs.Applications.{App}
+use Rattle.wsgi_core.specs.Applications.{App, from}
 use Rattle.wsgi_core.specs.Progress.{Stands, sent_from}
 use Rattle.wsgi_core.specs.Sessions.{answers}
-use Rattle.wsgi_core.specs.Steps.{asked_if_open, progress_of}
+use Rattle.wsgi_core.specs.Steps.{answered_of, asked_if_open, progress_of}
+use Rattle.wsgi_core.proofs.ProgressLaws.{from_first, from_next}
 use Rattle.wsgi_core.specs.declared.session.Session.{Session}
 use Rattle.wsgi_core.specs.declared.session.SessionStage.{SessionStage}
 use Rattle.wsgi_core.specs.declared.session.SessionStage.TheVariants.{AtHead, InBody, Asked}
-use Rattle.wsgi_native.specs.Agreeing.{Agrees}
+use Rattle.wsgi_native.specs.Agreeing.{Owner}
 use Rattle.wsgi_native.specs.Asking.{AsksForJob}
 use Rattle.wsgi_native.specs.Ends.{IsOutOfJobs}
 use Rattle.wsgi_native.specs.JobApp.{job_app, job_asked}
 use Rattle.wsgi_native.specs.Laws.{job_agrees}
+use Rattle.wsgi_native.specs.Owning.{AllAgree}
 use Rattle.wsgi_native.specs.Talks.{job_protocol}
 use Rattle.wsgi_native.specs.declared.serving.JobsEnd.{JobsEnd}
 use Rattle.wsgi_native.specs.declared.serving.JobsEnd.TheVariants.{Finished, Listener, NoJobs, Memory}
+use Rattle.wsgi_native.proofs.Earning.{going_at}
 
 -- ---- the request that waits
 
@@ -48,29 +52,34 @@ is_asked_at false (Asked request body) asked e = record { open_still = refl; req
 
 -- where nothing is pending, its answer comes behind what was taken
 answer_follows : (app : App) (port : ℕ) (bytes out more : List ℕ) (s : Session) (request : HttpRequest) (body : List ℕ) → s.port ≡ port → s.closing ≡ false → s.stage ≡ Asked request body → s.pending ≡ []
-    → Stands app bytes out (progress_of s) → answers app port (bytes ++ more) ≡ record { bytes = out; closes = false } ⨾ answer request (app request.environ body) ⨾ answers app port (s.kept ++ more)
+    → Stands app bytes out (progress_of s)
+    → answers app port (bytes ++ more) ≡ record { bytes = out; closes = false } ⨾ answer request (app (answered_of s) request.environ body) ⨾ answers (from (answered_of s + 1) app) port (s.kept ++ more)
 unfolding sent_from
 answer_follows app port bytes out more s request body at opened stage none stands =
+    let number = answered_of s in
     sym (λ i. answers app (at i) (bytes ++ more)) ∙ sym (stands more)
-    ∙ (λ i. record { bytes = out; closes = false } ⨾ (record { bytes = none i; closes = opened i } ⨾ sent_from app (at i) (stage i) (s.kept ++ more)))
+    ∙ (λ i. record { bytes = out; closes = false } ⨾ (record { bytes = none i; closes = opened i } ⨾ sent_from (from number app) (at i) (stage i) (s.kept ++ more)))
+    ∙ (λ i. record { bytes = out; closes = false } ⨾ answer request (from_first number app i request.environ body) ⨾ answers (from_next number app i) port (s.kept ++ more))
 
 -- ---- the ends
 
-pub out_of_jobs : (port idle : ℕ) (m : NetMeaning) (w : World) → AsksInVain job_protocol (Agrees w) AsksForJob (is_posted 4294967295 w.posts ≡ true) port idle m → IsOutOfJobs port m w
-out_of_jobs port idle m w h = record {
+pub out_of_jobs : (owner : Owner) (terms : Terms) (m : NetMeaning) (w : World) → AsksInVain job_protocol (AllAgree owner w) AsksForJob (is_posted 4294967295 w.posts ≡ true) terms m → IsOutOfJobs terms.port m w
+out_of_jobs owner terms m w h = record {
+  owner = owner;
   spent = h.spent;
   conn = h.client.conn;
   accepted = h.live.accepted;
   not_at_rest = λ rests. rests h.live.still_open (going.is_open.held ∙ h.free) going.awake;
   asks = λ bytes out reads writes. record {
+    number = answered_of s;
     request = waits.request;
     body = waits.body;
     rest = s.kept;
     job = h.wants_it.0;
     asks = ap (λ (asked : List Pair × List ℕ). job_asked asked.0) (sym waits.asked_is) ∙ h.wants_it.1.wants;
     next = λ app more fits.
-        let o = (h.going app fits).is_open in
-        answer_follows app port bytes out more s waits.request waits.body o.is_at.same_port waits.open_still waits.stage_is h.none_due
+        let o = (going_at owner w terms m h.client h.going app fits).is_open in
+        answer_follows app terms.port bytes out more s waits.request waits.body o.is_at.same_port waits.open_still waits.stage_is h.none_due
         (subst (λ (fed : List ℕ). Stands app fed out (progress_of s)) (sym (told_is c.read bytes o.fed reads o.reads))
         (subst (λ (taken : List ℕ). Stands app o.fed taken (progress_of s)) (sym (told_is c.written out o.taken writes o.writes)) o.is_at.stands));
   };
@@ -82,8 +91,8 @@ out_of_jobs port idle m w h = record {
     c : Connection
     c = connection_at m.connections h.client.conn
 
-    going : IsGoing (side_of job_protocol job_app port) idle c h.client
-    going = h.going job_app (job_agrees w)
+    going : IsGoing (side_of job_protocol job_app terms.port) terms.limits.idle c h.client
+    going = going_at owner w terms m h.client h.going job_app (job_agrees owner w h.client.conn)
 
     waits : IsAskedAt s.closing s.stage h.wants_it.1.request
     waits = is_asked_at s.closing s.stage h.wants_it.1.request h.wants_it.1.asked

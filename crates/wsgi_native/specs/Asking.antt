@@ -23,7 +23,7 @@ AsksForJob t = (job : Job) × WantsJob t job
 abbrev pub IsAskedFor : Option (List Pair × List ℕ) → Asked → Type 0
 IsAskedFor asked Nothing = asked ≡ None
 IsAskedFor asked (AJob job) = (request : List Pair × List ℕ) × (asked ≡ Some request) × (job_asked request.0 ≡ Some job)
-IsAskedFor asked (AReply reply) = (request : List Pair × List ℕ) × (asked ≡ Some request) × (job_asked request.0 ≡ None) × (reply ≡ shipped request.0 request.1)
+IsAskedFor asked (AReply reply) = (request : List Pair × List ℕ) × (asked ≡ Some request) × (job_asked request.0 ≡ None) × ((number : ℕ) → reply ≡ shipped number request.0 request.1)
 
 -- a request waits
 abbrev pub HasAsked : JobTalk → Type 0

@@ -6,7 +6,7 @@ use Rattle.stream_server.specs.declared.client.Client.{Client}
 use Rattle.stream_server.specs.declared.service.Polled.{Polled}
 use Rattle.stream_server.specs.declared.service.Polled.TheVariants.{Nobody, Released, Memory}
 use Rattle.wsgi_core.specs.Applications.{App}
-use Rattle.wsgi_core.specs.Steps.{IsReplyTo}
+use Rattle.wsgi_core.specs.Steps.{IsReplyTo, answered_of}
 use Rattle.wsgi_native.specs.JobApp.{outcome_reply}
 use Rattle.wsgi_native.specs.Talks.{deadline_in, job_protocol, request_of}
 use Rattle.wsgi_native.specs.declared.job_talk.JobTalk.{JobTalk}
@@ -17,7 +17,7 @@ pub record IsGivenTo (outcome : JobOutcome) (old new : Client JobTalk) : Type 0 
   pub ended : new.ended ≡ old.ended
   pub free : new.talk.held ≡ None
   pub later : deadline_in old.talk.held ≤ new.deadline
-  pub stands : (app : App) → IsReplyTo app (request_of old.talk) (outcome_reply outcome) → IsGiven job_protocol app old.talk new.talk
+  pub stands : (app : App) → IsReplyTo app (answered_of old.talk.session) (request_of old.talk) (outcome_reply outcome) → IsGiven job_protocol app old.talk new.talk
 
 -- it was given that, or memory ran out
 abbrev pub Gives : Polled JobTalk → JobOutcome → Client JobTalk → Type 0

@@ -11,7 +11,7 @@ use Rattle.wsgi_core.specs.Steps.{asked_of, begun_bytes, said_bytes}
 use Rattle.stream_server.specs.Protocols.{IsLawful, side_of}
 use Rattle.stream_server.specs.Keeping.{Listing}
 use Rattle.stream_server.specs.declared.client.Client.{Client}
-use Rattle.wsgi_native.specs.Agreeing.{Agrees, IsPlain}
+use Rattle.wsgi_native.specs.Agreeing.{Agrees, IsPlain, Owner}
 use Rattle.wsgi_native.specs.JobApp.{job_app, reply_by}
 use Rattle.wsgi_native.specs.Talks.{held_number, holds_for, job_protocol}
 use Rattle.wsgi_native.specs.Tied.{Awaits, IsTied, IsTiedBut}
@@ -31,13 +31,13 @@ job_lawful app port = record {
 }
 
 pub job_plain : IsPlain job_app
-job_plain environ body e = ap (λ (o : Option Job). reply_by o environ body) e
+job_plain i environ body e = ap (λ (o : Option Job). reply_by o i environ body) e
 
 -- it agrees with itself
-pub job_agrees : (w : WorldMeaning) → Agrees w job_app
-job_agrees w = record {
+pub job_agrees : (owner : Owner) (w : WorldMeaning) (conn : ℕ) → Agrees owner w conn job_app
+job_agrees owner w conn = record {
   plain = job_plain;
-  done = λ number job environ body e there answered. ap (λ (o : Option Job). reply_by o environ body) e;
+  done = λ number i job environ body owns e there answered. ap (λ (o : Option Job). reply_by o i environ body) e;
 }
 
 -- ---- the tie
@@ -50,9 +50,9 @@ not_held t n = by t.held
     by (Some h) free e = false≢true (sym free)
 
 -- one that was just accepted waits for none
-pub tied_new : (w : WorldMeaning) (last : ℕ) (waiting : ℕ → Option ℕ) (listed now : Listing JobTalk) (accepted : ℕ) → IsTied w last waiting listed accepted → ((k : ℕ) (s : Option (Client JobTalk)) → now k s → listed k s)
-    → IsTiedBut w last waiting now (accepted + 1) accepted
-tied_new w last waiting listed now accepted t same = record {
+pub tied_new : (w : WorldMeaning) (owner : Owner) (last : ℕ) (waiting : ℕ → Option ℕ) (listed now : Listing JobTalk) (accepted : ℕ) → IsTied w owner last waiting listed accepted → ((k : ℕ) (s : Option (Client JobTalk)) → now k s → listed k s)
+    → IsTiedBut w owner last waiting now (accepted + 1) accepted
+tied_new w owner last waiting listed now accepted t same = record {
   tied = record {
     order = t.order;
     fresh = t.fresh;
@@ -66,9 +66,9 @@ tied_new w last waiting listed now accepted t same = record {
 }
 
 -- it is listed, or closed
-pub tied_again : (w : WorldMeaning) (last : ℕ) (waiting : ℕ → Option ℕ) (listed now : Listing JobTalk) (accepted k : ℕ) → IsTiedBut w last waiting listed accepted k
-    → ((j : ℕ) (s : Option (Client JobTalk)) → j ≢ k → now j s → listed j s) → IsTied w last waiting now accepted
-tied_again w last waiting listed now accepted k t others = record {
+pub tied_again : (w : WorldMeaning) (owner : Owner) (last : ℕ) (waiting : ℕ → Option ℕ) (listed now : Listing JobTalk) (accepted k : ℕ) → IsTiedBut w owner last waiting listed accepted k
+    → ((j : ℕ) (s : Option (Client JobTalk)) → j ≢ k → now j s → listed j s) → IsTied w owner last waiting now accepted
+tied_again w owner last waiting listed now accepted k t others = record {
   order = t.tied.order;
   fresh = t.tied.fresh;
   numbered = t.tied.numbered;
@@ -79,9 +79,9 @@ tied_again w last waiting listed now accepted k t others = record {
 }
 
 -- one that isn't held is taken out
-pub tied_out : (w : WorldMeaning) (last : ℕ) (waiting : ℕ → Option ℕ) (listed now : Listing JobTalk) (accepted k : ℕ) (g : Client JobTalk) → IsTied w last waiting listed accepted → listed k (Some g) → holds_for g.talk ≡ false
-    → ((j : ℕ) (s : Option (Client JobTalk)) → j ≢ k → now j s → listed j s) → IsTiedBut w last waiting now accepted k
-tied_out w last waiting listed now accepted k g t row free others = record {
+pub tied_out : (w : WorldMeaning) (owner : Owner) (last : ℕ) (waiting : ℕ → Option ℕ) (listed now : Listing JobTalk) (accepted k : ℕ) (g : Client JobTalk) → IsTied w owner last waiting listed accepted → listed k (Some g) → holds_for g.talk ≡ false
+    → ((j : ℕ) (s : Option (Client JobTalk)) → j ≢ k → now j s → listed j s) → IsTiedBut w owner last waiting now accepted k
+tied_out w owner last waiting listed now accepted k g t row free others = record {
   tied = record {
     order = t.order;
     fresh = t.fresh;
@@ -95,12 +95,12 @@ tied_out w last waiting listed now accepted k g t row free others = record {
 }
   where
     apart : (n j : ℕ) → waiting n ≡ Some j → j ≢ k
-    apart n j e same = let a : Awaits w.posts n g = t.held n k (Some g) (e ∙ ap (λ (i : ℕ). Some i) same) row in not_held g.talk n free a.is_number
+    apart n j e same = let a : Awaits w.posts owner n g = t.held n k (Some g) (e ∙ ap (λ (i : ℕ). Some i) same) row in not_held g.talk n free a.is_number
 
 -- one that is held is taken out and listed again
-pub tied_back : (w : WorldMeaning) (last : ℕ) (waiting : ℕ → Option ℕ) (listed now : Listing JobTalk) (accepted k : ℕ) (g : Client JobTalk) → IsTied w last waiting listed accepted → listed k (Some g)
-    → ((s : Option (Client JobTalk)) → now k s → s ≡ Some g) → ((j : ℕ) (s : Option (Client JobTalk)) → j ≢ k → now j s → listed j s) → IsTied w last waiting now accepted
-tied_back w last waiting listed now accepted k g t row here others = record {
+pub tied_back : (w : WorldMeaning) (owner : Owner) (last : ℕ) (waiting : ℕ → Option ℕ) (listed now : Listing JobTalk) (accepted k : ℕ) (g : Client JobTalk) → IsTied w owner last waiting listed accepted → listed k (Some g)
+    → ((s : Option (Client JobTalk)) → now k s → s ≡ Some g) → ((j : ℕ) (s : Option (Client JobTalk)) → j ≢ k → now j s → listed j s) → IsTied w owner last waiting now accepted
+tied_back w owner last waiting listed now accepted k g t row here others = record {
   order = t.order;
   fresh = t.fresh;
   numbered = t.numbered;

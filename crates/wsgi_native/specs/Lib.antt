@@ -4,5 +4,6 @@ pub mod Ends
 pub mod Giving
 pub mod JobApp
 pub mod Laws
+pub mod Owning
 pub mod Talks
 pub mod Tied

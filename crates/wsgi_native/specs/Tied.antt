@@ -4,8 +4,10 @@ use Rattle.gv_values.specs.declared.job.Job.{Job}
 use Rattle.world_rules.specs.declared.question.PostedJob.{PostedJob}
 use Rattle.world_rules.specs.Legal.{is_answered, is_posted, posted}
 use Rattle.world.specs.Worlds.{WorldMeaning}
+use Rattle.wsgi_core.specs.Steps.{answered_of}
 use Rattle.stream_server.specs.Keeping.{Listing}
 use Rattle.stream_server.specs.declared.client.Client.{Client}
+use Rattle.wsgi_native.specs.Agreeing.{Owner}
 use Rattle.wsgi_native.specs.Asking.{WantsJob}
 use Rattle.wsgi_native.specs.Talks.{held_number}
 use Rattle.wsgi_native.specs.declared.job_talk.JobTalk.{JobTalk}
@@ -15,30 +17,31 @@ pub record IsInOrder (w : WorldMeaning) : Type 0 where
   pub runs : w.runs ≡ true
   pub done : (number : ℕ) → is_answered number w.answers ≡ true → is_posted number w.posts ≡ true
 
--- the client waits for the job of this number, which is the one that its request asks for
-pub record Awaits (posts : List PostedJob) (number : ℕ) (g : Client JobTalk) : Type 0 where
+-- the client waits for the job of this number, which is the one that its request asks for, and which that request owns
+pub record Awaits (posts : List PostedJob) (owner : Owner) (number : ℕ) (g : Client JobTalk) : Type 0 where
   pub is_number : held_number g.talk ≡ Some number
   pub job : Job
   pub wants : WantsJob g.talk job
   pub there : Contains posts (posted number job)
+  pub owns : owner number ≡ (g.conn, answered_of g.talk.session)
 
 -- what is listed is a client that waits for the job of this number
-abbrev pub IsFor : List PostedJob → ℕ → Option (Client JobTalk) → Type 0
-IsFor posts number None = ⊥
-IsFor posts number (Some g) = Awaits posts number g
+abbrev pub IsFor : List PostedJob → Owner → ℕ → Option (Client JobTalk) → Type 0
+IsFor posts owner number None = ⊥
+IsFor posts owner number (Some g) = Awaits posts owner number g
 
 -- The world is in order. The jobs 1 to `last` were posted, each once. Each that was not answered has a connection that
--- waits for it, of those that were accepted, and its client asks for just that job.
-pub record IsTied (w : WorldMeaning) (last : ℕ) (waiting : ℕ → Option ℕ) (listed : Listing JobTalk) (accepted : ℕ) : Type 0 where
+-- waits for it, of those that were accepted, and its client asks for just that job, which is its own.
+pub record IsTied (w : WorldMeaning) (owner : Owner) (last : ℕ) (waiting : ℕ → Option ℕ) (listed : Listing JobTalk) (accepted : ℕ) : Type 0 where
   pub order : IsInOrder w
   pub fresh : (number : ℕ) → last < number → is_posted number w.posts ≡ false
   pub numbered : (number : ℕ) → 1 ≤ number → number ≤ last → is_posted number w.posts ≡ true
   pub alone : (number : ℕ) (a b : Job) → Contains w.posts (posted number a) → Contains w.posts (posted number b) → a ≡ b
   pub awaited : (number : ℕ) → is_posted number w.posts ≡ true → is_answered number w.answers ≡ false → waiting number ≢ None
   pub below : (number k : ℕ) → waiting number ≡ Some k → k < accepted
-  pub held : (number k : ℕ) (slot : Option (Client JobTalk)) → waiting number ≡ Some k → listed k slot → IsFor w.posts number slot
+  pub held : (number k : ℕ) (slot : Option (Client JobTalk)) → waiting number ≡ Some k → listed k slot → IsFor w.posts owner number slot
 
 -- the same, and this connection waits for none
-pub record IsTiedBut (w : WorldMeaning) (last : ℕ) (waiting : ℕ → Option ℕ) (listed : Listing JobTalk) (accepted one : ℕ) : Type 0 where
-  pub tied : IsTied w last waiting listed accepted
+pub record IsTiedBut (w : WorldMeaning) (owner : Owner) (last : ℕ) (waiting : ℕ → Option ℕ) (listed : Listing JobTalk) (accepted one : ℕ) : Type 0 where
+  pub tied : IsTied w owner last waiting listed accepted
   pub others : (number k : ℕ) → waiting number ≡ Some k → k ≢ one

@@ -3,19 +3,21 @@ ghost use Rattle.std.specs.Prelude.{◌≡◌, ◌≢◌, ℕ, ◌+◌, ◌<◌,
 ghost use Rattle.std.specs.HashMap.{get};
 ghost use Rattle.wsgi_core.specs.Applications.{App};
 ghost use Rattle.wsgi_core.specs.Steps.{asked_of};
+ghost use Rattle.stream_server.specs.Protocols.{Apps};
 ghost use Rattle.world_rules.specs.Legal.{is_posted};
 ghost use Rattle.stream_server.specs.Tables.{IsListed, SeenTable};
-ghost use Rattle.wsgi_native.specs.Agreeing.{Agrees};
 ghost use Rattle.stream_server.specs.declared.client.Client.{Client};
 ghost use Rattle.wsgi_native.specs.declared.job_talk.JobTalk.{JobTalk};
 ghost use Rattle.wsgi_native.specs.Asking.{AsksForJob, HasAsked, WantsJob};
 ghost use Rattle.wsgi_native.specs.Giving.{Gives};
 ghost use Rattle.wsgi_native.specs.JobApp.{job_app};
+ghost use Rattle.wsgi_native.specs.Owning.{AllAgree, owner_in};
 ghost use Rattle.wsgi_native.specs.Talks.{job_protocol};
 ghost use Rattle.wsgi_native.specs.Tied.{IsInOrder, IsTied, IsTiedBut};
 
 use crate::job_app::{job_asked, job_reply};
 use crate::job_talk::{Asked, HeldFor, JobTalk, asked_for, freed};
+use crate::owners::{OwnedJob, Owners};
 use gv_values::{Answer, Job, JobOutcome};
 use std::alloc::{AllocError, Global};
 use std::collections::HashMap;
@@ -32,6 +34,8 @@ pub struct Jobs {
     posted: u32,
     // The connection of each that was not answered.
     waiting: HashMap<u32, u32>,
+    // For whom each was posted.
+    owners: Owners,
 }
 
 impl Jobs {
@@ -44,6 +48,7 @@ impl Jobs {
             alloc,
             posted: 0,
             waiting: HashMap::new(alloc),
+            owners: Owners::none(),
         }
     }
 }
@@ -85,13 +90,13 @@ fn wanted_job(talk: &JobTalk) -> Job
 impl<W: World> Service<JobTalk, W> for Jobs {
     ghost protocol = { job_protocol };
 
-    ghost fits = { λ jobs world app. Agrees (W.meaning world) app };
+    ghost fits = { λ jobs world apps. AllAgree (owner_in jobs.owners.list) (W.meaning world) apps };
 
-    ghost one = { λ jobs world. job_app };
+    ghost one = { λ jobs world conn. job_app };
 
-    ghost tied = { λ jobs world table accepted. IsTied (W.meaning world) jobs.posted (get nat_eq jobs.waiting) (IsListed table) accepted };
+    ghost tied = { λ jobs world table accepted. IsTied (W.meaning world) (owner_in jobs.owners.list) jobs.posted (get nat_eq jobs.waiting) (IsListed table) accepted };
 
-    ghost tied_but = { λ jobs world table accepted conn. IsTiedBut (W.meaning world) jobs.posted (get nat_eq jobs.waiting) (IsListed table) accepted conn };
+    ghost tied_but = { λ jobs world table accepted conn. IsTiedBut (W.meaning world) (owner_in jobs.owners.list) jobs.posted (get nat_eq jobs.waiting) (IsListed table) accepted conn };
 
     ghost sound = { λ jobs world. IsInOrder (W.meaning world) };
 
@@ -159,6 +164,11 @@ impl<W: World> Service<JobTalk, W> for Jobs {
             return Err(HoldRefusal::Memory);
         }
         self.posted = number;
+        self.owners = self.owners.and(&OwnedJob {
+            number,
+            conn: client.conn,
+            session: &client.talk.session,
+        });
         client.talk.held = Some(HeldFor {
             job: number,
             deadline: client.deadline,
@@ -207,13 +217,13 @@ impl<W: World> Service<JobTalk, W> for Jobs {
 
     ghost lawful = { laws.job_lawful };
 
-    ghost fits_one = { λ jobs world. laws.job_agrees (W.meaning world) };
+    ghost fits_one = { λ jobs world. laws.job_agrees (owner_in jobs.owners.list) (W.meaning world) };
 
-    ghost tied_new = { λ jobs world table now accepted tied same. laws.tied_new (W.meaning world) jobs.posted (get nat_eq jobs.waiting) (IsListed table) (IsListed now) accepted tied same };
+    ghost tied_new = { λ jobs world table now accepted tied same. laws.tied_new (W.meaning world) (owner_in jobs.owners.list) jobs.posted (get nat_eq jobs.waiting) (IsListed table) (IsListed now) accepted tied same };
 
-    ghost tied_again = { λ jobs world table now accepted conn tied beside. laws.tied_again (W.meaning world) jobs.posted (get nat_eq jobs.waiting) (IsListed table) (IsListed now) accepted conn tied beside };
+    ghost tied_again = { λ jobs world table now accepted conn tied beside. laws.tied_again (W.meaning world) (owner_in jobs.owners.list) jobs.posted (get nat_eq jobs.waiting) (IsListed table) (IsListed now) accepted conn tied beside };
 
-    ghost tied_out = { λ jobs world table now accepted conn client tied listed free beside. laws.tied_out (W.meaning world) jobs.posted (get nat_eq jobs.waiting) (IsListed table) (IsListed now) accepted conn client tied listed free beside };
+    ghost tied_out = { λ jobs world table now accepted conn client tied listed free beside. laws.tied_out (W.meaning world) (owner_in jobs.owners.list) jobs.posted (get nat_eq jobs.waiting) (IsListed table) (IsListed now) accepted conn client tied listed free beside };
 
-    ghost tied_back = { λ jobs world table now accepted conn client tied listed here beside. laws.tied_back (W.meaning world) jobs.posted (get nat_eq jobs.waiting) (IsListed table) (IsListed now) accepted conn client tied listed here beside };
+    ghost tied_back = { λ jobs world table now accepted conn client tied listed here beside. laws.tied_back (W.meaning world) (owner_in jobs.owners.list) jobs.posted (get nat_eq jobs.waiting) (IsListed table) (IsListed now) accepted conn client tied listed here beside };
 }

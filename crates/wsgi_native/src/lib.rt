@@ -5,6 +5,7 @@
 mod job_app;
 mod job_talk;
 mod jobs;
+mod owners;
 mod serving;
 
 pub use job_app::{job_asked, job_on_path, job_reply};

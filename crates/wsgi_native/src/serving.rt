@@ -5,9 +5,8 @@ ghost use Rattle.gv_values.specs.Counts.{HasRisen};
 ghost use Rattle.stream_net.specs.Nets.{IsAtRest, IsFresh};
 ghost use Rattle.stream_server.specs.Serving.{AllBut, BeginsSo, Cause, EachTold, IsAllServed, IsClosedWell, WaitsToRead};
 ghost use Rattle.stream_server.specs.Ranges.{IsInRange};
-ghost use Rattle.wsgi_core.specs.Applications.{App};
 ghost use Rattle.wsgi_core.specs.Sessions.{session};
-ghost use Rattle.wsgi_native.specs.Agreeing.{Agrees};
+ghost use Rattle.wsgi_native.specs.Agreeing.{HasEarned};
 ghost use Rattle.wsgi_native.specs.Ends.{IsOutOfJobs};
 ghost use Rattle.wsgi_native.specs.JobApp.{job_app};
 ghost use Rattle.wsgi_native.specs.Tied.{IsInOrder};
@@ -17,7 +16,7 @@ use crate::jobs::Jobs;
 use std::alloc::Global;
 use std::sync::Wait;
 use stream_net::Net;
-use stream_server::{Limits, ServiceEnd, serve_on};
+use stream_server::{Limits, ServiceEnd, Terms, serve_on};
 use world::World;
 
 /// How a server with jobs ended.
@@ -76,9 +75,8 @@ pub fn serve_jobs<N: Net, W: World, H: Wait>(
     ensures whole { EachTold (N.meaning net.new).connections (λ c bytes out. IsClosedWell c → out ≡ (session job_app port bytes c.ended).bytes) }
     // An open connection was left to wait for bytes only after all that was due had been written.
     ensures answered { EachTold (N.meaning net.new).connections (λ c bytes out. WaitsToRead c → out ≡ (session job_app port bytes c.ended).bytes) }
-    // So it is for each application that agrees with `job_app` but for the requests for jobs that the world never did: a
-    // request for a job was answered only where the world had answered a job of its kind and integer that was posted.
-    ensures earned { (app : App) → Agrees (W.meaning world.new) app → EachTold (N.meaning net.new).connections (λ c bytes out. BeginsSo (session app port bytes c.ended).bytes out) }
+    // Each request for a job that was answered has a posted job of its own, which the world had answered.
+    ensures earned { HasEarned port (N.meaning net.new).connections (W.meaning world.new) }
     ensures most { (N.meaning net.new).most ≤ limits.pool }
     // At any end so many were accepted at most.
     ensures within { length (N.meaning net.new).connections ≤ limits.conns }
@@ -101,6 +99,7 @@ pub fn serve_jobs<N: Net, W: World, H: Wait>(
     ensures workers { (W.meaning world.new).workers ≡ (W.meaning world.old).workers }
 {
     let mut jobs = Jobs::new(alloc);
-    let end = serve_on::<JobTalk, W, Jobs, N, H>(rt, alloc, net, &mut jobs, world, port, limits);
+    let terms = Terms { port, limits };
+    let end = serve_on::<JobTalk, W, Jobs, N, H>(rt, alloc, net, &mut jobs, world, terms);
     end_of(end)
 }

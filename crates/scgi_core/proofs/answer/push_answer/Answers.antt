@@ -12,9 +12,7 @@ returns-then-is_faulty c =
 
 pub returns-in-Started : goal.returns-in-Started
 returns-in-Started c =
-    let r = c.in-Started in
-    let e : cgi_answer c.args.is_head c.args.reply.now ≡ started c.args.is_head c.items.result.now r.headers r.pieces r.raised =
+    let e : cgi_answer c.args.is_head c.args.reply.now ≡ started c.args.is_head c.in-Started.response =
     answer_sent c.args.is_head c.args.reply.now (sym c.if-is_faulty.ensures)
-    ∙ ap (λ (x : Reply). answer_for c.args.is_head x) r.is
-    ∙ (λ i. started c.args.is_head (sym c.items.ensures i) r.headers r.pieces r.raised) in
+    ∙ ap (λ (x : Reply). answer_for c.args.is_head x) c.in-Started.is in
     one_ok c.push_started.result _ _ c.push_started.ensures (λ h. h ∙ ap (λ (l : List ℕ). c.args.out.now.items ++ l) (sym e))

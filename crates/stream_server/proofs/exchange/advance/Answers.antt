@@ -18,18 +18,18 @@ pub listen_on-requires-clause-quiet : goal.listen_on-requires-clause-quiet
 listen_on-requires-clause-quiet g c = (c.in-NoRequest.ensures.no_request refl).1
 
 pub returns-in-NoRequest-clause-leaves : goal.returns-in-NoRequest-clause-leaves
-returns-in-NoRequest-clause-leaves g c = λ w app port fits h.
-    let S = side_of g.V.Service.protocol app port in
+returns-in-NoRequest-clause-leaves g c = λ w apps conn port fits h.
+    let S = side_of g.V.Service.protocol (apps conn) port in
     let c0 = connection_at (g.N.Net.meaning c.args.net.now).connections c.args.client.now.conn in
-    c.listen_on.ensures.leaves w app port fits (same_going S c.args.idle 0 c0 c.args.client.now c.reply.new.talk (c.in-NoRequest.ensures.no_request refl).0 h)
+    c.listen_on.ensures.leaves w apps conn port fits (same_going S c.args.idle 0 c0 c.args.client.now c.reply.new.talk (c.in-NoRequest.ensures.no_request refl).0 h)
 
 pub returns-in-Given-clause-leaves : goal.returns-in-Given-clause-leaves
-returns-in-Given-clause-leaves g c = λ w app port fits h.
-    was_given (side_of g.V.Service.protocol app port) c.args.idle 0 _ c.args.client.now c.reply.new.talk h c.reply.ensures.holds (c.in-Given.ensures.given refl w app fits port)
+returns-in-Given-clause-leaves g c = λ w apps conn port fits h.
+    was_given (side_of g.V.Service.protocol (apps conn) port) c.args.idle 0 _ c.args.client.now c.reply.new.talk h c.reply.ensures.holds (c.in-Given.ensures.given refl w apps conn fits port)
 
 pub returns-in-Asks-clause-leaves : goal.returns-in-Asks-clause-leaves
-returns-in-Asks-clause-leaves g c = λ w app port fits h.
-    let S = side_of g.V.Service.protocol app port in
+returns-in-Asks-clause-leaves g c = λ w apps conn port fits h.
+    let S = side_of g.V.Service.protocol (apps conn) port in
     let c0 = connection_at (g.N.Net.meaning c.args.net.now).connections c.args.client.now.conn in
     same_going S c.args.idle 0 c0 c.args.client.now c.reply.new.talk (c.in-Asks.ensures.asks refl).0 h
 
@@ -37,5 +37,5 @@ pub returns-in-Asks-clause-wants : goal.returns-in-Asks-clause-wants
 returns-in-Asks-clause-wants g c = λ _. (c.in-Asks.ensures.asks refl).1
 
 pub returns-in-Memory-clause-leaves : goal.returns-in-Memory-clause-leaves
-returns-in-Memory-clause-leaves g c = λ w app port fits h.
-    reply_cut (side_of g.V.Service.protocol app port) c.args.idle 0 _ c.args.client.now (g.V.Service.protocol.due c.reply.new.talk) h (c.in-Memory.ensures.cut refl w app fits port)
+returns-in-Memory-clause-leaves g c = λ w apps conn port fits h.
+    reply_cut (side_of g.V.Service.protocol (apps conn) port) c.args.idle 0 _ c.args.client.now (g.V.Service.protocol.due c.reply.new.talk) h (c.in-Memory.ensures.cut refl w apps conn fits port)

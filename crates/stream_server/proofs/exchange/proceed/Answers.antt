@@ -12,7 +12,7 @@ loop-init g c = record {
   only = only_none _ c.args.client.now.conn;
   same = λ i. c.args.client.now.conn;
   holds = refl;
-  leaves = λ w app port fits h. h;
+  leaves = λ w apps conn port fits h. h;
 }
 
 pub advance-requires : goal.advance-requires
@@ -28,10 +28,10 @@ loop-preserved g c =
       only = only_more _ _ _ c.args.client.now.conn c.loop.client.conn was.same was.only c.in-Goes.ensures.only;
       same = c.in-Goes.ensures.same ∙ was.same;
       holds = c.in-Goes.ensures.holds ∙ was.holds;
-      leaves = λ w app port fits h.
-          let S = side_of g.V.Service.protocol app port in
+      leaves = λ w apps conn port fits h.
+          let S = side_of g.V.Service.protocol (apps conn) port in
           leaves_more (g.N.Net.meaning c.loop.net) (g.N.Net.meaning c.advance.new.net) c.args.client.now.conn c.loop.client.conn was.same
-          (λ d. IsGoing S c.args.idle d c.loop.client) (λ d. IsGoing S c.args.idle d c.advance.new.client) (c.in-Goes.ensures.leaves w app port fits) (was.leaves w app port fits h);
+          (λ d. IsGoing S c.args.idle d c.loop.client) (λ d. IsGoing S c.args.idle d c.advance.new.client) (c.in-Goes.ensures.leaves w apps conn port fits) (was.leaves w apps conn port fits h);
     }
 
 pub returns-in_default : goal.returns-in_default
@@ -42,10 +42,10 @@ returns-in_default g c =
       same = c.advance.ensures.same ∙ was.same;
       holds = c.advance.ensures.holds ∙ was.holds;
       rests = c.in_default.not-Goes;
-      leaves = λ w app port fits h.
-          let S = side_of g.V.Service.protocol app port in
+      leaves = λ w apps conn port fits h.
+          let S = side_of g.V.Service.protocol (apps conn) port in
           leaves_more (g.N.Net.meaning c.loop.net) (g.N.Net.meaning c.advance.new.net) c.args.client.now.conn c.loop.client.conn was.same
-          (λ d. IsGoing S c.args.idle d c.loop.client) (λ d. Leaves c.advance.result S c.args.idle d c.advance.new.client) (c.advance.ensures.leaves w app port fits) (was.leaves w app port fits h);
+          (λ d. IsGoing S c.args.idle d c.loop.client) (λ d. Leaves c.advance.result S c.args.idle d c.advance.new.client) (c.advance.ensures.leaves w apps conn port fits) (was.leaves w apps conn port fits h);
       wants = c.advance.ensures.wants;
       none = c.advance.ensures.none;
     }

@@ -1,4 +1,4 @@
-use Rattle.std.proofs.Common.{arith, sym, subst}
+use Rattle.std.proofs.Common.{arith, refl, sym, subst}
 use Rattle.groups_pools.specs.Seen.{AreBelow}
 use Rattle.stream_server.proofs.Rounding.{begun_going, new_left, running_left, running_listens, running_new, running_rests, running_same, same_fault}
 use Rattle.stream_server.specs.declared.rounds.RoundFault.{RoundFault}
@@ -10,33 +10,39 @@ admit-requires-clause-rising g c =
 
 pub returns-in_default-clause-left : goal.returns-in_default-clause-left
 returns-in_default-clause-left g c =
-    new_left g.V.Service.protocol g.met.V.Service.lawful c.args.port c.args.limits (g.V.Service.fits c.args.service.now c.args.world.now) (g.V.Service.tied c.args.service.now c.args.world.now) (g.N.Net.meaning c.args.net.now) (g.N.Net.meaning c.accept.new.self) c.args.table.now _ c.requires.running c.in-New.ensures.accepts (omega (arith, c.requires.place, c.requires.running.admitted.count)) c.requires.more
-    (begun_going g.V.Service.protocol g.met.V.Service.lawful c.args.port c.args.limits (g.V.Service.fits c.args.service.now c.args.world.now) (g.N.Net.meaning c.args.net.now) (g.N.Net.meaning c.accept.new.self) c.in-New.conn c.begin-talk.result c.now.result c.saturating_add-deadline.result c.in-New.ensures.accepts (λ app. c.begin-talk.ensures.begun app) c.begin-talk.ensures.free c.now.ensures c.saturating_add-deadline.ensures)
+    new_left g.V.Service.protocol g.met.V.Service.lawful c.args.serving.now.terms (g.V.Service.fits c.args.service.now c.args.world.now) (g.V.Service.tied c.args.service.now c.args.world.now) (g.N.Net.meaning c.args.net.now) (g.N.Net.meaning c.accept.new.self) c.args.table.now _ c.requires.running c.in-New.ensures.accepts (omega (arith, c.requires.place, c.requires.running.admitted.count)) c.requires.more
+    (begun_going g.V.Service.protocol g.met.V.Service.lawful c.args.serving.now.terms (g.V.Service.fits c.args.service.now c.args.world.now) (g.N.Net.meaning c.args.net.now) (g.N.Net.meaning c.accept.new.self) c.in-New.conn c.begin-talk.result c.now.result c.saturating_add-deadline.result c.in-New.ensures.accepts (λ app. c.begin-talk.ensures.begun app) c.begin-talk.ensures.free c.now.ensures c.saturating_add-deadline.ensures)
 
 pub serve_client-requires-clause-going : goal.serve_client-requires-clause-going
 serve_client-requires-clause-going g c =
-    begun_going g.V.Service.protocol g.met.V.Service.lawful c.args.port c.args.limits (g.V.Service.fits c.args.service.now c.args.world.now) (g.N.Net.meaning c.args.net.now) (g.N.Net.meaning c.accept.new.self) c.in-New.conn c.begin-talk.result c.now.result c.saturating_add-deadline.result c.in-New.ensures.accepts (λ app. c.begin-talk.ensures.begun app) c.begin-talk.ensures.free c.now.ensures c.saturating_add-deadline.ensures
+    begun_going g.V.Service.protocol g.met.V.Service.lawful c.args.serving.now.terms (g.V.Service.fits c.args.service.now c.args.world.now) (g.N.Net.meaning c.args.net.now) (g.N.Net.meaning c.accept.new.self) c.in-New.conn c.begin-talk.result c.now.result c.saturating_add-deadline.result c.in-New.ensures.accepts (λ app. c.begin-talk.ensures.begun app) c.begin-talk.ensures.free c.now.ensures c.saturating_add-deadline.ensures
 
 pub serve_client-requires-clause-but : goal.serve_client-requires-clause-but
 serve_client-requires-clause-but g c =
-    running_new g.V.Service.protocol g.met.V.Service.lawful c.args.port c.args.limits (g.V.Service.fits c.args.service.now c.args.world.now) (g.V.Service.tied c.args.service.now c.args.world.now) (g.V.Service.tied_but c.args.service.now c.args.world.now) (g.N.Net.meaning c.args.net.now) (g.N.Net.meaning c.accept.new.self) c.args.table.now c.admit.new.self c.in-New.conn
+    running_new g.V.Service.protocol g.met.V.Service.lawful c.args.serving.now.terms (g.V.Service.fits c.args.service.now c.args.world.now) (g.V.Service.tied c.args.service.now c.args.world.now) (g.V.Service.tied_but c.args.service.now c.args.world.now) (g.N.Net.meaning c.args.net.now) (g.N.Net.meaning c.accept.new.self) c.args.table.now c.admit.new.self c.in-New.conn
     c.requires.running c.in-New.ensures.accepts (omega (arith, c.requires.place, c.requires.running.admitted.count)) c.requires.more
     (λ n tied same. g.met.V.Service.tied_new c.args.service.now c.args.world.now c.args.table.now c.admit.new.self n tied same) c.in-Ok.ensures.ok
 
 pub returns-in-WouldBlock-clause-running : goal.returns-in-WouldBlock-clause-running
-returns-in-WouldBlock-clause-running g c = running_same g.V.Service.protocol g.met.V.Service.lawful c.args.port c.args.limits (g.V.Service.fits c.args.service.now c.args.world.now) (g.V.Service.tied c.args.service.now c.args.world.now) (g.N.Net.meaning c.args.net.now) (g.N.Net.meaning c.accept.new.self) c.args.table.now _ c.requires.running c.in-WouldBlock.ensures.accepts
+returns-in-WouldBlock-clause-running g c = running_same g.V.Service.protocol g.met.V.Service.lawful c.args.serving.now.terms (g.V.Service.fits c.args.service.now c.args.world.now) (g.V.Service.tied c.args.service.now c.args.world.now) (g.N.Net.meaning c.args.net.now) (g.N.Net.meaning c.accept.new.self) c.args.table.now _ c.requires.running c.in-WouldBlock.ensures.accepts
 
 pub returns-in-Failed-clause-left : goal.returns-in-Failed-clause-left
-returns-in-Failed-clause-left g c = running_left g.V.Service.protocol g.met.V.Service.lawful c.args.port c.args.limits (g.V.Service.fits c.args.service.now c.args.world.now) (g.V.Service.tied c.args.service.now c.args.world.now) (g.N.Net.meaning c.accept.new.self) c.args.table.now (running_same g.V.Service.protocol g.met.V.Service.lawful c.args.port c.args.limits (g.V.Service.fits c.args.service.now c.args.world.now) (g.V.Service.tied c.args.service.now c.args.world.now) (g.N.Net.meaning c.args.net.now) (g.N.Net.meaning c.accept.new.self) c.args.table.now _ c.requires.running c.in-Failed.ensures.accepts.0)
+returns-in-Failed-clause-left g c = running_left g.V.Service.protocol g.met.V.Service.lawful c.args.serving.now.terms (g.V.Service.fits c.args.service.now c.args.world.now) (g.V.Service.tied c.args.service.now c.args.world.now) (g.N.Net.meaning c.accept.new.self) c.args.table.now (running_same g.V.Service.protocol g.met.V.Service.lawful c.args.serving.now.terms (g.V.Service.fits c.args.service.now c.args.world.now) (g.V.Service.tied c.args.service.now c.args.world.now) (g.N.Net.meaning c.args.net.now) (g.N.Net.meaning c.accept.new.self) c.args.table.now _ c.requires.running c.in-Failed.ensures.accepts.0)
 
 pub returns-in-Memory-clause-left : goal.returns-in-Memory-clause-left
-returns-in-Memory-clause-left g c = running_left g.V.Service.protocol g.met.V.Service.lawful c.args.port c.args.limits (g.V.Service.fits c.args.service.now c.args.world.now) (g.V.Service.tied c.args.service.now c.args.world.now) (g.N.Net.meaning c.accept.new.self) c.args.table.now (running_same g.V.Service.protocol g.met.V.Service.lawful c.args.port c.args.limits (g.V.Service.fits c.args.service.now c.args.world.now) (g.V.Service.tied c.args.service.now c.args.world.now) (g.N.Net.meaning c.args.net.now) (g.N.Net.meaning c.accept.new.self) c.args.table.now _ c.requires.running c.in-Memory.ensures.accepts)
+returns-in-Memory-clause-left g c = running_left g.V.Service.protocol g.met.V.Service.lawful c.args.serving.now.terms (g.V.Service.fits c.args.service.now c.args.world.now) (g.V.Service.tied c.args.service.now c.args.world.now) (g.N.Net.meaning c.accept.new.self) c.args.table.now (running_same g.V.Service.protocol g.met.V.Service.lawful c.args.serving.now.terms (g.V.Service.fits c.args.service.now c.args.world.now) (g.V.Service.tied c.args.service.now c.args.world.now) (g.N.Net.meaning c.args.net.now) (g.N.Net.meaning c.accept.new.self) c.args.table.now _ c.requires.running c.in-Memory.ensures.accepts)
 
 pub accept-requires : goal.accept-requires
-accept-requires g c = running_listens g.V.Service.protocol g.met.V.Service.lawful c.args.port c.args.limits (g.V.Service.fits c.args.service.now c.args.world.now) (g.V.Service.tied c.args.service.now c.args.world.now) (g.N.Net.meaning c.args.net.now) c.args.table.now (g.V.Service.one c.args.service.now c.args.world.now) (g.met.V.Service.fits_one c.args.service.now c.args.world.now) c.requires.running
+accept-requires g c = running_listens g.V.Service.protocol g.met.V.Service.lawful c.args.serving.now.terms (g.V.Service.fits c.args.service.now c.args.world.now) (g.V.Service.tied c.args.service.now c.args.world.now) (g.N.Net.meaning c.args.net.now) c.args.table.now (g.V.Service.one c.args.service.now c.args.world.now) (g.met.V.Service.fits_one c.args.service.now c.args.world.now) c.requires.running
 
-pub returns-in-Failed-clause-resting : goal.returns-in-Failed-clause-resting
-returns-in-Failed-clause-resting g c = λ _. running_rests g.V.Service.protocol g.met.V.Service.lawful c.args.port c.args.limits (g.V.Service.fits c.args.service.now c.args.world.now) (g.V.Service.tied c.args.service.now c.args.world.now) (g.N.Net.meaning c.accept.new.self) c.args.table.now (g.V.Service.one c.args.service.now c.args.world.now) (g.met.V.Service.fits_one c.args.service.now c.args.world.now) (running_same g.V.Service.protocol g.met.V.Service.lawful c.args.port c.args.limits (g.V.Service.fits c.args.service.now c.args.world.now) (g.V.Service.tied c.args.service.now c.args.world.now) (g.N.Net.meaning c.args.net.now) (g.N.Net.meaning c.accept.new.self) c.args.table.now _ c.requires.running c.in-Failed.ensures.accepts.0)
+pub returns-in-Failed-clause-fares : goal.returns-in-Failed-clause-fares
+returns-in-Failed-clause-fares g c = record {
+  listens = c.in-Failed.ensures.accepts.0.listens;
+  never_falls = c.in-Failed.ensures.accepts.0.faults;
+  listener = λ _. c.in-Failed.ensures.accepts.1;
+  resting = λ _. running_rests g.V.Service.protocol g.met.V.Service.lawful c.args.serving.now.terms (g.V.Service.fits c.args.service.now c.args.world.now) (g.V.Service.tied c.args.service.now c.args.world.now) (g.N.Net.meaning c.accept.new.self) c.args.table.now (g.V.Service.one c.args.service.now c.args.world.now) (g.met.V.Service.fits_one c.args.service.now c.args.world.now) (running_same g.V.Service.protocol g.met.V.Service.lawful c.args.serving.now.terms (g.V.Service.fits c.args.service.now c.args.world.now) (g.V.Service.tied c.args.service.now c.args.world.now) (g.N.Net.meaning c.args.net.now) (g.N.Net.meaning c.accept.new.self) c.args.table.now _ c.requires.running c.in-Failed.ensures.accepts.0);
+  unfailed = λ other. absurd (other refl);
+}
 
 pub returns-in-Err-clause-in_vain : goal.returns-in-Err-clause-in_vain
 returns-in-Err-clause-in_vain g c = λ e. c.in-Err.ensures.in_vain (same_fault c.in-Err.fault RoundFault.Spent e)

@@ -1,7 +1,8 @@
 use Rattle.std.proofs.Common.{ℕ, arith, List, Some, sym, subst}
 use Rattle.std.specs.List.{Contains}
-use Rattle.stream_net.specs.Nets.{connection_at}
-use Rattle.stream_server.proofs.Rounding.{idle_free, idle_keeps, running_idle}
+use Rattle.stream_net.specs.Nets.{closed_at, connection_at}
+use Rattle.stream_server.proofs.Rounding.{idle_free, running_idle}
+use Rattle.stream_server.proofs.Turns.{keeps_more}
 use Rattle.stream_server.proofs.rounds.close_idle.Goals as goal
 
 pub close-requires-clause-live : goal.close-requires-clause-live
@@ -12,7 +13,7 @@ close-requires-clause-live g c =
 pub close-requires-clause-free : goal.close-requires-clause-free
 close-requires-clause-free g c =
     let was = (c.loop-client.invariant.running.serving (g.V.Service.one c.args.service.now c.args.world.now) (g.met.V.Service.fits_one c.args.service.now c.args.world.now)).kept c.in-Some.client.conn (Some c.in-Some.client) c.in-Some.ensures.was in
-    idle_free g.V.Service.protocol g.met.V.Service.lawful c.args.port c.args.limits (connection_at (g.N.Net.meaning c.loop-client.net).connections c.in-Some.client.conn) c.in-Some.client c.min-now.result (g.V.Service.one c.args.service.now c.args.world.now) was.1 was.2
+    idle_free g.V.Service.protocol g.met.V.Service.lawful c.args.serving.now.terms (connection_at (g.N.Net.meaning c.loop-client.net).connections c.in-Some.client.conn) c.in-Some.client c.min-now.result (g.V.Service.one c.args.service.now c.args.world.now c.in-Some.client.conn) was.1 was.2
     c.in-Some.ensures.due c.loop-client.invariant.short
 
 pub release-requires : goal.release-requires
@@ -28,12 +29,12 @@ loop-client-preserved g c =
     let w = g.N.Net.meaning c.close.new.self in
     let rises = c.close.ensures.rest.moment in
     record {
-      running = running_idle g.V.Service.protocol g.met.V.Service.lawful c.args.port c.args.limits (g.V.Service.fits c.args.service.now c.args.world.now) (g.V.Service.tied c.args.service.now c.args.world.now) (g.V.Service.tied_but c.args.service.now c.args.world.now) v w c.loop-client.table c.remove_due.new.self c.release.new.self c.min-now.result c.in-Some.client (g.V.Service.one c.args.service.now c.args.world.now) (g.met.V.Service.fits_one c.args.service.now c.args.world.now)
+      running = running_idle g.V.Service.protocol g.met.V.Service.lawful c.args.serving.now.terms (g.V.Service.fits c.args.service.now c.args.world.now) (g.V.Service.tied c.args.service.now c.args.world.now) (g.V.Service.tied_but c.args.service.now c.args.world.now) v w c.loop-client.table c.remove_due.new.self c.release.new.self c.min-now.result c.in-Some.client (g.V.Service.one c.args.service.now c.args.world.now) (g.met.V.Service.fits_one c.args.service.now c.args.world.now)
           was.running taken.was taken.relists taken.count c.close.ensures taken.due was.short was.past
           (λ n tied row free others. g.met.V.Service.tied_out c.args.service.now c.args.world.now c.loop-client.table c.remove_due.new.self n c.in-Some.client.conn c.in-Some.client tied row free others)
           (λ n tied others. g.met.V.Service.tied_again c.args.service.now c.args.world.now c.remove_due.new.self c.release.new.self n c.in-Some.client.conn tied others)
           c.release.ensures.released c.release.ensures.fewer;
-      keeps = idle_keeps g.V.Service.protocol g.met.V.Service.lawful c.args.port c.args.limits (g.N.Net.meaning c.args.net.now) v w c.in-Some.client.conn (g.V.Service.one c.args.service.now c.args.world.now) was.keeps c.close.ensures;
+      keeps = keeps_more (g.N.Net.meaning c.args.net.now) v w c.in-Some.client.conn (closed_at w.moment) was.keeps c.close.ensures;
       short = was.short;
       past = omega (arith, was.past, rises);
     }

@@ -6,7 +6,7 @@ use Rattle.stream_server.proofs.rounds.close_idle.Given as goal
 
 abbrev pub invariant-loop-client : goal.invariant-loop-client
 invariant-loop-client g l = record {
-  running : IsRunning g.V.Service.protocol (g.V.Service.fits l.fn.service l.fn.world) (g.V.Service.tied l.fn.service l.fn.world) l.fn.port l.fn.limits (g.N.Net.meaning l.net) l.table;
+  running : IsRunning g.V.Service.protocol (g.V.Service.fits l.fn.service l.fn.world) (g.V.Service.tied l.fn.service l.fn.world) l.fn.serving.terms (g.N.Net.meaning l.net) l.table;
   keeps : Keeps (g.N.Net.meaning l.fn.net) (g.N.Net.meaning l.net);
   short : l.now < 18446744073709551615;
   past : l.now ≤ (g.N.Net.meaning l.net).moment;

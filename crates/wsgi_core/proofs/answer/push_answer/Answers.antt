@@ -17,17 +17,15 @@ returns-then-is_faulty-clause-closes c = sym (ap (λ (s : Sent). s.closes) (answ
 pub returns-in-Started-clause-sent : goal.returns-in-Started-clause-sent
 returns-in-Started-clause-sent c =
     let q = c.args.request.now in
-    let r = c.in-Started in
-    let e : answer q c.args.reply.now ≡ sent_by q (ending q c.items.result.now r.headers) c.items.result.now r.headers r.pieces r.raised =
-    answer_sent q c.args.reply.now (sym c.if-is_faulty.ensures) ∙ ap (λ (x : Reply). sent_for q x) r.is
-    ∙ (λ i. sent_by q (ending q (sym c.items.ensures i) r.headers) (sym c.items.ensures i) r.headers r.pieces r.raised) in
+    let r = c.in-Started.response in
+    let e : answer q c.args.reply.now ≡ sent_by q (ending q r) r =
+    answer_sent q c.args.reply.now (sym c.if-is_faulty.ensures) ∙ ap (λ (x : Reply). sent_for q x) c.in-Started.is in
     one_ok c.push_started.result _ _ c.push_started.ensures.sent (λ h. h ∙ ap (λ (s : Sent). c.args.out.now.items ++ s.bytes) (sym e))
 
 pub returns-in-Started-clause-closes : goal.returns-in-Started-clause-closes
 returns-in-Started-clause-closes c =
     let q = c.args.request.now in
-    let r = c.in-Started in
-    let e : answer q c.args.reply.now ≡ sent_by q (ending q c.items.result.now r.headers) c.items.result.now r.headers r.pieces r.raised =
-    answer_sent q c.args.reply.now (sym c.if-is_faulty.ensures) ∙ ap (λ (x : Reply). sent_for q x) r.is
-    ∙ (λ i. sent_by q (ending q (sym c.items.ensures i) r.headers) (sym c.items.ensures i) r.headers r.pieces r.raised) in
+    let r = c.in-Started.response in
+    let e : answer q c.args.reply.now ≡ sent_by q (ending q r) r =
+    answer_sent q c.args.reply.now (sym c.if-is_faulty.ensures) ∙ ap (λ (x : Reply). sent_for q x) c.in-Started.is in
     IfOk-weaker c.push_started.result _ _ (λ closes h. h ∙ ap (λ (s : Sent). s.closes) (sym e)) c.push_started.ensures.closes

@@ -1,6 +1,6 @@
 use Rattle.std.proofs.Common.{sym, subst}
 use Rattle.world.proofs.Ranking.{at_ok}
-use Rattle.wsgi_core.specs.Steps.{IsReplyTo, StandsAt}
+use Rattle.wsgi_core.specs.Steps.{IsReplyTo, StandsAt, answered_of}
 use Rattle.wsgi_core.specs.declared.reply.Reply.{Reply}
 use Rattle.wsgi_core.specs.declared.session.Session.{Session}
 use Rattle.wsgi_native.specs.Talks.{request_of}
@@ -16,5 +16,5 @@ returns c =
       later = e.later;
       stands = λ app is port fed ended taken at. subst (λ (s : Session). StandsAt app port fed ended taken s) (sym e.session)
           (at_ok c.answer.result c.if-is_err.ensures.value c.answer.ensures.stands_at app port fed ended taken
-          (subst (λ (r : Reply). IsReplyTo app (request_of c.args.client.talk) r) (sym c.in-Ok.ensures) is) at);
+          (subst (λ (r : Reply). IsReplyTo app (answered_of c.args.client.talk.session) (request_of c.args.client.talk) r) (sym c.in-Ok.ensures) is) at);
     }

@@ -16,6 +16,6 @@ returns-clause-goes_on c =
     let bytes : c.append.new.self ≡ s.pending ++ (answer q c.args.reply).bytes =
     c.in_ok-append-in-Asked.ensures.ok ∙ ap (λ (l : List ℕ). s.pending ++ l)
     (c.deref.ensures.value ∙ c.in_ok-closes-in-Asked.ensures.sent ∙ ap (λ (l : List ℕ). l ++ (answer q c.args.reply).bytes) c.new-bytes.ensures.items) in
-    λ app is. at_asked app (progress_of s) (progress_at s.port c.replace.new.dest s.kept c.append.new.self c.in_ok-closes-in-Asked.closes) is_open
-    q body c.args.reply waits_for (reply_there app s.closing s.stage q body c.args.reply is_open waits_for is)
-    refl c.replace.ensures.after refl bytes c.in_ok-closes-in-Asked.ensures.closes
+    λ app is. at_asked app (progress_of s) (progress_at s.port c.and_one-self.result.count c.replace.new.dest s.kept c.append.new.self c.in_ok-closes-in-Asked.closes) is_open
+    q body c.args.reply waits_for (reply_there app s.answered.count s.closing s.stage q body c.args.reply is_open waits_for is)
+    refl c.and_one-self.ensures c.replace.ensures.after refl bytes c.in_ok-closes-in-Asked.ensures.closes

@@ -7,8 +7,8 @@ returns c = λ app. record {
   stands_at = record {
     same_port = refl;
     same_end = refl;
-    stands = stands_begun app c.args.port c.new.result c.new-2.result c.new.ensures c.new-2.ensures;
-    settled = λ _. settled_begun app c.args.port c.new.result c.new-2.result c.new.ensures;
+    stands = stands_begun app c.args.port c.none.result.count c.new.result c.new-2.result c.none.ensures c.new.ensures c.new-2.ensures;
+    settled = λ _. settled_begun app c.args.port c.none.result.count c.new.result c.new-2.result c.new.ensures;
   };
   quiet = refl;
 }

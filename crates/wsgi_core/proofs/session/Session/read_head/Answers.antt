@@ -10,14 +10,14 @@ pub returns-in-Waits-clause-goes_on : goal.returns-in-Waits-clause-goes_on
 returns-in-Waits-clause-goes_on c =
     let s = c.args.self.now in
     let found = rw c.in-Waits.is at c.in_ok-read_request.ensures in
-    λ app. at_head-waits app (progress_of s) (progress_at s.port s.stage c.read_request.new.kept s.pending s.closing)
-    c.requires.is_open c.requires.at_head refl c.requires.at_head refl c.requires.is_open found.1
+    λ app. at_head-waits app (progress_of s) (progress_at s.port s.answered.count s.stage c.read_request.new.kept s.pending s.closing)
+    c.requires.is_open c.requires.at_head refl refl c.requires.at_head refl c.requires.is_open found.1
 
 pub returns-in-Waits-clause-settled : goal.returns-in-Waits-clause-settled
 returns-in-Waits-clause-settled c =
     let s = c.args.self.now in
     let found = rw c.in-Waits.is at c.in_ok-read_request.ensures in
-    λ _ app. settled_head app (progress_at s.port s.stage c.read_request.new.kept s.pending s.closing) c.requires.at_head c.requires.is_open found.0
+    λ _ app. settled_head app (progress_at s.port s.answered.count s.stage c.read_request.new.kept s.pending s.closing) c.requires.at_head c.requires.is_open found.0
 
 pub returns-in-Waits-clause-quiet : goal.returns-in-Waits-clause-quiet
 returns-in-Waits-clause-quiet c = λ _. quiet_at_head c.args.self.now.closing c.args.self.now.stage c.requires.at_head
@@ -27,20 +27,20 @@ returns-in_ok-append-in-Refused-clause-goes_on c =
     let s = c.args.self.now in
     let found = rw c.in-Refused.is at c.in_ok-read_request.ensures in
     λ app. at_head-refused app (progress_of s) (record (progress_of s) { kept = c.read_request.new.kept; pending = c.append.new.self; closing = true })
-    c.requires.is_open c.requires.at_head c.in-Refused.reason found refl
+    c.requires.is_open c.requires.at_head c.in-Refused.reason found refl refl
     (c.in_ok-append-in-Refused.ensures.ok ∙ ap (λ (l : List ℕ). s.pending ++ l) c.refusal_text.ensures) refl
 
 pub returns-in_ok-append-in-Refused-clause-settled : goal.returns-in_ok-append-in-Refused-clause-settled
 returns-in_ok-append-in-Refused-clause-settled c =
     let s = c.args.self.now in
-    λ _ app. closed_settled app (progress_at s.port s.stage c.read_request.new.kept c.append.new.self true) refl
+    λ _ app. closed_settled app (progress_at s.port s.answered.count s.stage c.read_request.new.kept c.append.new.self true) refl
 
 pub returns-in_ok-push_continue-in-Whole-clause-goes_on : goal.returns-in_ok-push_continue-in-Whole-clause-goes_on
 returns-in_ok-push_continue-in-Whole-clause-goes_on c =
     let s = c.args.self.now in
     let found = rw c.in-Whole.is at c.in_ok-read_request.ensures in
-    λ app. at_head-whole app (progress_of s) (progress_at s.port (InBody c.in-Whole.request c.awaited_by-awaited.result) c.read_request.new.kept c.push_continue.new.pending s.closing)
-    c.requires.is_open c.requires.at_head c.in-Whole.request found refl
+    λ app. at_head-whole app (progress_of s) (progress_at s.port s.answered.count (InBody c.in-Whole.request c.awaited_by-awaited.result) c.read_request.new.kept c.push_continue.new.pending s.closing)
+    c.requires.is_open c.requires.at_head c.in-Whole.request found refl refl
     (ap (λ (a : AwaitedBody). InBody c.in-Whole.request a) c.awaited_by-awaited.ensures) c.in_ok-push_continue-in-Whole.ensures.sent c.requires.is_open
 
 pub returns-in_ok-push_continue-in-Whole-clause-shorter : goal.returns-in_ok-push_continue-in-Whole-clause-shorter

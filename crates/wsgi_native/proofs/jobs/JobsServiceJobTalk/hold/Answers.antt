@@ -1,4 +1,4 @@
-use Rattle.std.proofs.Common.{◌+◌, ap, arith, refl, sym, subst}
+use Rattle.std.proofs.Common.{ℕ, ◌+◌, List, ap, arith, refl, sym, subst}
 use Rattle.std.specs.Prelude.{Some, nat_eq}
 use Rattle.std.specs.HashMap.{get}
 use Rattle.world.specs.Worlds.{WorldMeaning as World}
@@ -6,6 +6,8 @@ use Rattle.world.proofs.Ranking.{at_ok}
 use Rattle.stream_server.specs.Tables.{IsListed}
 use Rattle.stream_server.specs.declared.client.Client.{Client}
 use Rattle.wsgi_native.specs.declared.job_talk.JobTalk.{JobTalk}
+use Rattle.wsgi_core.specs.Steps.{answered_of}
+use Rattle.wsgi_native.specs.Owning.{owner_in}
 use Rattle.wsgi_native.specs.Tied.{IsInOrder}
 use Rattle.wsgi_native.proofs.Polling.{agreed_before, agreed_same, at_err, wants_same}
 use Rattle.wsgi_native.proofs.Tying.{posted_order, tied_posted}
@@ -27,13 +29,17 @@ pub returns-then-is_err-clause-sound : goal.returns-then-is_err-clause-sound
 returns-then-is_err-clause-sound g c = c.requires.tied.2.tied.order
 
 pub returns-then-is_err-2-clause-fits : goal.returns-then-is_err-2-clause-fits
-returns-then-is_err-2-clause-fits g c = agreed_same (g.W.World.meaning c.args.world.now) (g.W.World.meaning c.post.new.self) (at_err c.post.result c.if-is_err-2.ensures.value c.post.ensures.refused)
+returns-then-is_err-2-clause-fits g c = agreed_same (g.W.World.meaning c.args.world.now) (g.W.World.meaning c.post.new.self) (owner_in c.args.self.now.owners.list) (at_err c.post.result c.if-is_err-2.ensures.value c.post.ensures.refused)
 
 pub returns-then-is_err-2-clause-sound : goal.returns-then-is_err-2-clause-sound
 returns-then-is_err-2-clause-sound g c = subst (λ (w : World). IsInOrder w) (sym (at_err c.post.result c.if-is_err-2.ensures.value c.post.ensures.refused)) c.requires.tied.2.tied.order
 
 pub returns-clause-fits : goal.returns-clause-fits
-returns-clause-fits g c = agreed_before (g.W.World.meaning c.args.world.now) (g.W.World.meaning c.post.new.self) (c.args.self.now.posted + 1) c.wanted_job-job.result (at_ok c.post.result c.if-is_err-2.ensures.value c.post.ensures.posted)
+returns-clause-fits g c =
+    let client = c.args.client.now in
+    let number = c.args.self.now.posted + 1 in
+    agreed_before (g.W.World.meaning c.args.world.now) (g.W.World.meaning c.post.new.self) (owner_in c.args.self.now.owners.list) (owner_in c.and-self.result.list) number c.wanted_job-job.result (client.conn, answered_of client.talk.session)
+    (at_ok c.post.result c.if-is_err-2.ensures.value c.post.ensures.posted) (c.requires.tied.2.tied.fresh number (omega arith)) (λ n. ap (λ (owned : List (ℕ × (ℕ × ℕ))). owner_in owned n) c.and-self.ensures)
 
 pub returns-clause-sound : goal.returns-clause-sound
 returns-clause-sound g c = posted_order (g.W.World.meaning c.args.world.now) (g.W.World.meaning c.post.new.self) (c.args.self.now.posted + 1) c.wanted_job-job.result c.requires.tied.2.tied.order (at_ok c.post.result c.if-is_err-2.ensures.value c.post.ensures.posted)
@@ -43,8 +49,8 @@ returns-clause-tied g c = λ table now accepted tied within relists.
     let was = c.args.client.now in
     let number = c.args.self.now.posted + 1 in
     let client : Client JobTalk = record { conn = was.conn; talk = record { session = was.talk.session; held = Some (record { job = number; deadline = was.deadline }) }; ended = was.ended; deadline = 18446744073709551615 } in
-    tied_posted (g.W.World.meaning c.args.world.now) (g.W.World.meaning c.post.new.self) c.args.self.now.posted (get nat_eq c.args.self.now.waiting) (get nat_eq c.insert.new.self) (IsListed table) (IsListed now) accepted was.conn c.wanted_job-job.result client tied within
-    (at_ok c.post.result c.if-is_err-2.ensures.value c.post.ensures.posted) (at_ok c.insert.result c.if-is_err.ensures.value c.insert.ensures.updates).0 refl
+    tied_posted (g.W.World.meaning c.args.world.now) (g.W.World.meaning c.post.new.self) (owner_in c.args.self.now.owners.list) (owner_in c.and-self.result.list) c.args.self.now.posted (get nat_eq c.args.self.now.waiting) (get nat_eq c.insert.new.self) (IsListed table) (IsListed now) accepted was.conn c.wanted_job-job.result client tied within
+    (at_ok c.post.result c.if-is_err-2.ensures.value c.post.ensures.posted) (at_ok c.insert.result c.if-is_err.ensures.value c.insert.ensures.updates).0 (λ n. ap (λ (owned : List (ℕ × (ℕ × ℕ))). owner_in owned n) c.and-self.ensures) refl
     (wants_same was.talk client.talk c.wanted_job-job.result refl c.wanted_job-job.ensures) relists.only relists.others
 
 pub returns-then-is_err-2-clause-workers : goal.returns-then-is_err-2-clause-workers

@@ -8,6 +8,7 @@ use Rattle.world.specs.Worlds.{WorldMeaning as World, Stores}
 use Rattle.stream_server.specs.Tables.{IsListed}
 use Rattle.stream_server.specs.declared.client.Client.{Client}
 use Rattle.world.proofs.Sound.{contains_posted}
+use Rattle.wsgi_native.specs.Owning.{owner_in}
 use Rattle.wsgi_native.specs.Tied.{IsInOrder}
 use Rattle.wsgi_native.specs.declared.job_talk.JobTalk.{JobTalk}
 use Rattle.wsgi_native.proofs.Polling.{agreed_earlier, agreed_same, gives_polled, gives_tied, wants_asked}
@@ -34,7 +35,7 @@ give-requires g c =
     wants_asked c.in-Some-remove.client.talk waits.job waits.wants
 
 pub returns-in_default-clause-fits : goal.returns-in_default-clause-fits
-returns-in_default-clause-fits g c = agreed_same (g.W.World.meaning c.args.world.now) (g.W.World.meaning c.ask.new.self) c.in_default.ensures.refused
+returns-in_default-clause-fits g c = agreed_same (g.W.World.meaning c.args.world.now) (g.W.World.meaning c.ask.new.self) (owner_in c.args.self.now.owners.list) c.in_default.ensures.refused
 
 pub returns-in_default-clause-sound : goal.returns-in_default-clause-sound
 returns-in_default-clause-sound g c = subst (λ (w : World). IsInOrder w) (sym c.in_default.ensures.refused) c.requires.1.order
@@ -43,18 +44,18 @@ pub returns-in-Some-remove-clause-polled : goal.returns-in-Some-remove-clause-po
 returns-in-Some-remove-clause-polled g c =
     let stored = (subst (λ (a : Answer). Stores (g.W.World.meaning c.args.world.now) (g.W.World.meaning c.ask.new.self) a) c.in-Done.is c.in-Ok.ensures.stored) in
     let right = (subst (λ (a : Answer). IsLegal (g.W.World.meaning c.args.world.now).posts (g.W.World.meaning c.args.world.now).answers Question.Poll a) c.in-Done.is c.in-Ok.ensures.legal).0.0 in
-    gives_polled (g.W.World.meaning c.args.world.now) (g.W.World.meaning c.ask.new.self) c.args.self.now.posted (get nat_eq c.args.self.now.waiting) (get nat_eq c.remove.new.self) c.args.table.now c.remove-in-Done.new.self c.in-Some.conn c.in-Done.number c.in-Done.outcome c.in-Done.at c.in-Some-remove.client
+    gives_polled (g.W.World.meaning c.args.world.now) (g.W.World.meaning c.ask.new.self) (owner_in c.args.self.now.owners.list) c.args.self.now.posted (get nat_eq c.args.self.now.waiting) (get nat_eq c.remove.new.self) c.args.table.now c.remove-in-Done.new.self c.in-Some.conn c.in-Done.number c.in-Done.outcome c.in-Done.at c.in-Some-remove.client
     stored right (sym c.remove.ensures.value ∙ c.in-Some.is) c.in-Some-remove.ensures.was c.in-Some-remove.ensures.number c.remove.ensures.updates.0 c.in-Some-remove.ensures.relists c.in-Some-remove.ensures.count c.give.result c.requires.0 c.requires.1 c.give.ensures
 
 pub returns-in-Some-remove-clause-tied : goal.returns-in-Some-remove-clause-tied
 returns-in-Some-remove-clause-tied g c = λ accepted tied.
     let stored = (subst (λ (a : Answer). Stores (g.W.World.meaning c.args.world.now) (g.W.World.meaning c.ask.new.self) a) c.in-Done.is c.in-Ok.ensures.stored) in
     let right = (subst (λ (a : Answer). IsLegal (g.W.World.meaning c.args.world.now).posts (g.W.World.meaning c.args.world.now).answers Question.Poll a) c.in-Done.is c.in-Ok.ensures.legal).0.0 in
-    gives_tied (g.W.World.meaning c.args.world.now) (g.W.World.meaning c.ask.new.self) c.args.self.now.posted (get nat_eq c.args.self.now.waiting) (get nat_eq c.remove.new.self) c.args.table.now c.remove-in-Done.new.self c.in-Some.conn c.in-Done.number c.in-Done.outcome c.in-Done.at c.in-Some-remove.client
+    gives_tied (g.W.World.meaning c.args.world.now) (g.W.World.meaning c.ask.new.self) (owner_in c.args.self.now.owners.list) c.args.self.now.posted (get nat_eq c.args.self.now.waiting) (get nat_eq c.remove.new.self) c.args.table.now c.remove-in-Done.new.self c.in-Some.conn c.in-Done.number c.in-Done.outcome c.in-Done.at c.in-Some-remove.client
     stored right (sym c.remove.ensures.value ∙ c.in-Some.is) c.in-Some-remove.ensures.was c.in-Some-remove.ensures.number c.remove.ensures.updates.0 c.in-Some-remove.ensures.relists c.in-Some-remove.ensures.count c.give.result accepted tied c.give.ensures
 
 pub returns-in-Some-remove-clause-fits : goal.returns-in-Some-remove-clause-fits
-returns-in-Some-remove-clause-fits g c = agreed_earlier (g.W.World.meaning c.args.world.now) (g.W.World.meaning c.ask.new.self) c.in-Ok.answer c.in-Ok.ensures.stored
+returns-in-Some-remove-clause-fits g c = agreed_earlier (g.W.World.meaning c.args.world.now) (g.W.World.meaning c.ask.new.self) (owner_in c.args.self.now.owners.list) c.in-Ok.answer c.in-Ok.ensures.stored
 
 pub returns-in-Some-remove-clause-sound : goal.returns-in-Some-remove-clause-sound
 returns-in-Some-remove-clause-sound g c =
@@ -64,11 +65,11 @@ returns-in-Some-remove-clause-sound g c =
 
 pub returns-in-Nothing-clause-tied : goal.returns-in-Nothing-clause-tied
 returns-in-Nothing-clause-tied g c = λ accepted tied.
-    tied_silent (g.W.World.meaning c.args.world.now) (g.W.World.meaning c.ask.new.self) c.args.self.now.posted (get nat_eq c.args.self.now.waiting) (IsListed c.args.table.now) accepted (Answer.Nothing c.in-Nothing.at) tied
+    tied_silent (g.W.World.meaning c.args.world.now) (g.W.World.meaning c.ask.new.self) (owner_in c.args.self.now.owners.list) c.args.self.now.posted (get nat_eq c.args.self.now.waiting) (IsListed c.args.table.now) accepted (Answer.Nothing c.in-Nothing.at) tied
     (subst (λ (a : Answer). Stores (g.W.World.meaning c.args.world.now) (g.W.World.meaning c.ask.new.self) a) c.in-Nothing.is c.in-Ok.ensures.stored) (λ n. refl)
 
 pub returns-in-Nothing-clause-fits : goal.returns-in-Nothing-clause-fits
-returns-in-Nothing-clause-fits g c = agreed_earlier (g.W.World.meaning c.args.world.now) (g.W.World.meaning c.ask.new.self) c.in-Ok.answer c.in-Ok.ensures.stored
+returns-in-Nothing-clause-fits g c = agreed_earlier (g.W.World.meaning c.args.world.now) (g.W.World.meaning c.ask.new.self) (owner_in c.args.self.now.owners.list) c.in-Ok.answer c.in-Ok.ensures.stored
 
 pub returns-in_default-clause-workers : goal.returns-in_default-clause-workers
 returns-in_default-clause-workers g c = ap (λ (w : World). w.workers) c.in_default.ensures.refused
