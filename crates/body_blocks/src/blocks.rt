@@ -41,6 +41,7 @@ impl Blocks {
     }
 
     /// What stands at this place of this block.
+    #[inline(always)]
     pub fn ahead(&self, block: usize, at: usize) -> Option<&FlatStatement>
         ensures here { IsAhead self.now block at (option_copied result) }
         ensures within { OnSome result (at + 1 < 2 ^ 64) }
@@ -65,6 +66,7 @@ impl Blocks {
 }
 
 /// What stands at this place. So many statements have a number.
+#[inline(always)]
 fn at_place(statements: &Items<FlatStatement>, at: usize) -> Option<&FlatStatement>
     ensures same { option_copied result ≡ slice_get statements.now at }
     ensures within { OnSome result (at + 1 < 2 ^ 64) }

@@ -1,5 +1,5 @@
 -- Moves of integers and truth values.
-use Rattle.std.proofs.Common.{◌≡◌, refl, ap, sym, subst, ◌∙◌, ℕ, suc, ◌+◌, Bool, true, false, List, [], ◌∷◌, Option, Some, drop, if◌then◌else◌, arith}
+use Rattle.std.proofs.Common.{◌≡◌, refl, ap, sym, subst, ◌∙◌, ℕ, suc, ◌+◌, Bool, true, false, List, [], ◌∷◌, Option, Some, None, drop, if◌then◌else◌, arith}
 use Rattle.std.specs.Prelude.{IsTrue, unwrap_or}
 use Rattle.gv_values.specs.declared.value.Outcome.{Outcome}
 use Rattle.gv_values.specs.declared.value.Value.{Value}
@@ -48,6 +48,11 @@ again_is_move t todo test b e = subst (λ es. RunsAt (todo_of t es)) (sym e) (λ
 
 -- ---- the moves
 
+-- a truth value that was told of the locals by their slice
+pub means_so : (e : Expression) (slice locals : List Local) (b v : Bool) → b ≡ v → slice ≡ locals → Means e slice (Value.Bool b) → Means e locals (Value.Bool v)
+means_so e slice locals b v h s m =
+    subst (λ (w : Bool). Means e locals (Value.Bool w)) h (subst (λ (ls : List Local). Means e ls (Value.Bool b)) s m)
+
 -- what a test of such a value comes to
 tested_so : (t : List (List Statement)) (e : Expression) (b : Bool) (old new : Stack) (go_on : Bool → List Todo) (entries : List Entry) → Means e old.locals (Value.Bool b) →
     new.locals ≡ old.locals → new.todo ≡ entries →
@@ -65,6 +70,16 @@ while_in t test b old new e m f l n = (
       (tested_so t test.value true old new
       (λ on. if on then (Todo.Statements (block_at b t) ∷ Todo.Again test.value (block_at b t) ∷ todo_of t (drop 1 old.todo)) else todo_of t (drop 1 old.todo))
       (Entry.Rest b 0 ∷ Entry.Again test b ∷ drop 1 old.todo) m l (n ∙ ap (λ es. Entry.Rest b 0 ∷ es) e) (λ left locals. refl)),
+)
+
+pub while_out : (t : List (List Statement)) (test : _) (b : ℕ) (old new : Stack) → old.todo ≡ Entry.Again test b ∷ drop 1 old.todo → Means test.value old.locals (Value.Bool false) →
+    new.left ≡ old.left → new.locals ≡ old.locals → new.todo ≡ drop 1 old.todo → HasMade true t old new
+while_out t test b old new e m f l n = (
+  f,
+  subst (λ es. GoesOn t (body_move (todo_of t es)) old new) (sym e)
+      (tested_so t test.value false old new
+      (λ on. if on then (Todo.Statements (block_at b t) ∷ Todo.Again test.value (block_at b t) ∷ todo_of t (drop 1 old.todo)) else todo_of t (drop 1 old.todo))
+      (drop 1 old.todo) m l n (λ left locals. refl)),
 )
 
 pub let_made : (t : List (List Statement)) (x : List ℕ) (e : Expression) (v : Value) (after : List Entry) (old new : Stack) → Means e old.locals v →
@@ -97,6 +112,14 @@ if_else t e y n after old new m f l k = (
   f,
   tested_so t e false old new (λ b. Todo.Statements (if b then block_at y t else unwrap_or (optional_block t (Some n)) []) ∷ todo_of t after)
       (Entry.Rest n 0 ∷ after) m l k (λ left locals. refl),
+)
+
+pub if_not : (t : List (List Statement)) (e : Expression) (y : ℕ) (after : List Entry) (old new : Stack) → Means e old.locals (Value.Bool false) →
+    new.left ≡ old.left → new.locals ≡ old.locals → IsPassed t after new.todo → HasActed true t (Action-F.If e (block_at y t) (optional_block t None)) after old new
+if_not t e y after old new m f l p = (
+  f,
+  tested_so t e false old new (λ b. Todo.Statements (if b then block_at y t else unwrap_or (optional_block t None) []) ∷ todo_of t after)
+      new.todo m l refl (λ left locals. rest_ends [] (todo_of t after) left locals refl ∙ p left locals),
 )
 
 -- a statement that was acted on is the move at the head

@@ -1,6 +1,6 @@
 use body_blocks::FlatExcept;
 use machine::state::Leaving;
-use scenario_tree::{Expression, Items};
+use scenario_tree::{Boxed, Expression, Items};
 use std::rc::Rc;
 
 /// What is still to do in a body, one entry of its pile. What stands in the code is shared with it, or named by the
@@ -15,8 +15,8 @@ pub enum Entry {
     Guard(Rc<Items<FlatExcept>>, Option<usize>),
     /// The finally of the try, where one of its excepts is inside it.
     Final(Option<usize>),
-    /// How the try was left whose finally is inside it.
-    Afterwards(Leaving),
+    /// How the try was left whose finally is inside it. It is boxed, so that every other entry takes less room.
+    Afterwards(Boxed<Leaving>),
     /// The number of the timeout block inside it, and whether it is silent.
     Within(u32, bool),
 }

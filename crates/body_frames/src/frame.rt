@@ -11,7 +11,7 @@ ghost use Rattle.body_frames.specs.Standings.{body_of, goes_from, stepped};
 ghost use Rattle.body_frames.specs.Steady.{HasMove, IsSteady};
 ghost use Rattle.body_frames.specs.Steps.{answer_of, step_of};
 
-use crate::moves::make_move;
+use crate::moves::{Context, make_move};
 use crate::stack::{Begun, Made, Stack, begin_function, go_inside, go_on_with, outcome_of_leaving};
 use crate::step::{Input, Step};
 use crate::unwind::Unwound;
@@ -116,10 +116,12 @@ impl Frame {
     {
         let standing = mem::replace(&mut self.standing, Standing::Gone);
         let (step, standing) = resume_from(
-            alloc,
-            code,
-            &self.blocks,
-            look,
+            &Context {
+                alloc,
+                code,
+                blocks: &self.blocks,
+                look,
+            },
             &mut self.stack,
             standing,
             input,
@@ -132,26 +134,23 @@ impl Frame {
 
 /// The body goes on with this input, from where it stands.
 fn resume_from<L: Look>(
-    alloc: Global,
-    code: &Code,
-    blocks: &Blocks,
-    look: &L,
+    context: &Context<'_, L>,
     stack: &mut Stack,
     standing: Standing,
     input: Input,
     moves: &mut u64,
 ) -> Result<(Step, Standing), AllocError>
-    requires answer { IsAnswer (body_of blocks.now standing stack.old) input }
-    requires steady { IsSteady (body_of blocks.now standing stack.old) }
-    requires few { HasFewBody (body_of blocks.now standing stack.old) }
-    ensures steady { IfOk result (λ came. IsSteady (body_of blocks.now came.1 stack.new)) }
-    ensures few { IfOk result (λ came. HasFewBody (body_of blocks.now came.1 stack.new)) }
+    requires answer { IsAnswer (body_of context.now.blocks.now standing stack.old) input }
+    requires steady { IsSteady (body_of context.now.blocks.now standing stack.old) }
+    requires few { HasFewBody (body_of context.now.blocks.now standing stack.old) }
+    ensures steady { IfOk result (λ came. IsSteady (body_of context.now.blocks.now came.1 stack.new)) }
+    ensures few { IfOk result (λ came. HasFewBody (body_of context.now.blocks.now came.1 stack.new)) }
     ensures next { IfOk result (λ came.
-        stepped came.0 (body_of blocks.now came.1 stack.new) moves.new
-        ≡ resume moves.old (around code.now (L.answers look.now)) (body_of blocks.now standing stack.old) (answer_of input)) }
+        stepped came.0 (body_of context.now.blocks.now came.1 stack.new) moves.new
+        ≡ resume moves.old (around context.now.code.now (L.answers context.now.look.now)) (body_of context.now.blocks.now standing stack.old) (answer_of input)) }
 {
-    let at = take_input(alloc, blocks, stack, standing, input)?;
-    Ok(go_on(alloc, code, blocks, look, stack, at, moves)?)
+    let at = take_input(context.alloc, context.blocks, stack, standing, input)?;
+    Ok(go_on(context, stack, at, moves)?)
 }
 
 fn outcome_of_input(input: Input) -> Outcome
@@ -202,21 +201,18 @@ fn take_input(
 
 /// The body goes on to its next request or its end. The timeout blocks that were left come first.
 fn go_on<L: Look>(
-    alloc: Global,
-    code: &Code,
-    blocks: &Blocks,
-    look: &L,
+    context: &Context<'_, L>,
     stack: &mut Stack,
     at: Unwound,
     moves: &mut u64,
 ) -> Result<(Step, Standing), AllocError>
-    requires steady { HasMove (goes_from blocks.now at stack.old) }
-    requires few { HasFewUnwound (goes_from blocks.now at stack.old) }
-    ensures steady { IfOk result (λ came. IsSteady (body_of blocks.now came.1 stack.new)) }
-    ensures few { IfOk result (λ came. HasFewBody (body_of blocks.now came.1 stack.new)) }
+    requires steady { HasMove (goes_from context.now.blocks.now at stack.old) }
+    requires few { HasFewUnwound (goes_from context.now.blocks.now at stack.old) }
+    ensures steady { IfOk result (λ came. IsSteady (body_of context.now.blocks.now came.1 stack.new)) }
+    ensures few { IfOk result (λ came. HasFewBody (body_of context.now.blocks.now came.1 stack.new)) }
     ensures gone { IfOk result (λ came.
-        goes moves.old (around code.now (L.answers look.now)) (goes_from blocks.now at stack.old)
-        ≡ stepped came.0 (body_of blocks.now came.1 stack.new) moves.new) }
+        goes moves.old (around context.now.code.now (L.answers context.now.look.now)) (goes_from context.now.blocks.now at stack.old)
+        ≡ stepped came.0 (body_of context.now.blocks.now came.1 stack.new) moves.new) }
 {
     let mut at = at;
     'moves: loop {
@@ -230,7 +226,7 @@ fn go_on<L: Look>(
             return Ok((Step::MovesOut, Standing::Ready(Unwound::Runs)));
         }
         *moves -= 1;
-        match make_move(alloc, code, blocks, look, stack)? {
+        match make_move(context, stack)? {
             Made::Asks(request, gives) => {
                 return Ok((Step::Request(request), Standing::Waits(gives)));
             }

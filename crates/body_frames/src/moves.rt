@@ -19,29 +19,32 @@ use crate::primitive_moves::make_primitive_move;
 use crate::stack::{Made, Stack, go_inwards, is_at_move, leave};
 use body_blocks::{Blocks, FlatAction};
 use body_moves::{Chosen, Evaluation, choose_command, choose_giving};
-use body_values::{Code, Look, bind};
+use body_values::{Code, Look};
 use gv_values::{FaultKind, Outcome, Value};
 use machine::state::Leaving;
 use scenario_tree::Expression;
 use std::alloc::{AllocError, Global};
 use std::rc::Rc;
 
+/// What moves are made over: the names and the blocks of the body's code, and what may be asked of its hub.
+#[derive(Drop)]
+pub struct Context<'a, L> {
+    pub alloc: Global,
+    pub code: &'a Code,
+    pub blocks: &'a Blocks,
+    pub look: &'a L,
+}
+
 /// Makes the move at the head of what is still to do.
-pub fn make_move<L: Look>(
-    alloc: Global,
-    code: &Code,
-    blocks: &Blocks,
-    look: &L,
-    stack: &mut Stack,
-) -> Result<Made, AllocError>
+pub fn make_move<L: Look>(context: &Context<'_, L>, stack: &mut Stack) -> Result<Made, AllocError>
     requires told { stack.old.left ≡ [] }
-    requires moves { IsAtMove (todo_of blocks.now stack.old.todo) }
-    requires few { HasFewToDo (todo_of blocks.now stack.old.todo) }
-    ensures steady { IfOk result (λ made. IsSteady (body_after blocks.now made stack.new)) }
-    ensures few { IfOk result (λ made. HasFewBody (body_after blocks.now made stack.new)) }
-    ensures made { IfOk result (λ made. HasMoved blocks.now (around code.now (L.answers look.now)) stack.old made stack.new) }
+    requires moves { IsAtMove (todo_of context.now.blocks.now stack.old.todo) }
+    requires few { HasFewToDo (todo_of context.now.blocks.now stack.old.todo) }
+    ensures steady { IfOk result (λ made. IsSteady (body_after context.now.blocks.now made stack.new)) }
+    ensures few { IfOk result (λ made. HasFewBody (body_after context.now.blocks.now made stack.new)) }
+    ensures made { IfOk result (λ made. HasMoved context.now.blocks.now (around context.now.code.now (L.answers context.now.look.now)) stack.old made stack.new) }
 {
-    match move_once(alloc, code, blocks, look, stack, 1)? {
+    match move_once(context, stack, 1)? {
         Some(made) => Ok(made),
         // It was the last.
         None => unreachable!(),
@@ -53,51 +56,38 @@ pub fn make_move<L: Look>(
 /// makes no result.
 #[inline]
 pub fn move_once<L: Look>(
-    alloc: Global,
-    code: &Code,
-    blocks: &Blocks,
-    look: &L,
+    context: &Context<'_, L>,
     stack: &mut Stack,
     left: u64,
 ) -> Result<Option<Made>, AllocError>
     requires told { stack.old.left ≡ [] }
-    requires moves { IsAtMove (todo_of blocks.now stack.old.todo) }
-    requires few { HasFewToDo (todo_of blocks.now stack.old.todo) }
-    ensures { IfOk result (λ gone. HasGoneOn blocks.now (around code.now (L.answers look.now)) left stack.old gone stack.new) }
+    requires moves { IsAtMove (todo_of context.now.blocks.now stack.old.todo) }
+    requires few { HasFewToDo (todo_of context.now.blocks.now stack.old.todo) }
+    ensures { IfOk result (λ gone. HasGoneOn context.now.blocks.now (around context.now.code.now (L.answers context.now.look.now)) left stack.old gone stack.new) }
 {
-    if make_primitive_move(blocks, stack)? {
-        if 1 < left && is_at_move(blocks, &stack.todo) {
+    if make_primitive_move(context.blocks, stack)? {
+        if 1 < left && is_at_move(context.blocks, &stack.todo) {
             return Ok(None);
         }
-        return Ok(Some(Made::Further(go_inwards(blocks, stack)?)));
+        return Ok(Some(Made::Further(go_inwards(context.blocks, stack)?)));
     }
-    Ok(Some(make_any_move(alloc, code, blocks, look, stack)?))
+    Ok(Some(make_any_move(context, stack)?))
 }
 
 /// Makes the move, whatever it is. Its results are large, so that it stays a call.
 #[inline(never)]
-fn make_any_move<L: Look>(
-    alloc: Global,
-    code: &Code,
-    blocks: &Blocks,
-    look: &L,
-    stack: &mut Stack,
-) -> Result<Made, AllocError>
+fn make_any_move<L: Look>(context: &Context<'_, L>, stack: &mut Stack) -> Result<Made, AllocError>
     requires told { stack.old.left ≡ [] }
-    requires moves { IsAtMove (todo_of blocks.now stack.old.todo) }
-    requires few { HasFewToDo (todo_of blocks.now stack.old.todo) }
-    ensures steady { IfOk result (λ made. IsSteady (body_after blocks.now made stack.new)) }
+    requires moves { IsAtMove (todo_of context.now.blocks.now stack.old.todo) }
+    requires few { HasFewToDo (todo_of context.now.blocks.now stack.old.todo) }
+    ensures steady { IfOk result (λ made. IsSteady (body_after context.now.blocks.now made stack.new)) }
     ensures made { IfOk result (λ made. (moves : ℕ) (go : Place → Went) →
-        after_move moves stack.old.locals go (body_move (todo_of blocks.now stack.old.todo) (around code.now (L.answers look.now) stack.old.locals))
-        ≡ made_of blocks.now moves go made stack.new) }
+        after_move moves stack.old.locals go (body_move (todo_of context.now.blocks.now stack.old.todo) (around context.now.code.now (L.answers context.now.look.now) stack.old.locals))
+        ≡ made_of context.now.blocks.now moves go made stack.new) }
 {
     match stack.todo.pop() {
-        Some(Entry::Rest { block, at }) => Ok(move_rest(
-            alloc, code, blocks, look, stack, block, at,
-        )?),
-        Some(Entry::Again(test, body)) => Ok(test_while(
-            alloc, code, blocks, look, stack, test, body,
-        )?),
+        Some(Entry::Rest { block, at }) => Ok(move_rest(context, stack, block, at)?),
+        Some(Entry::Again(test, body)) => Ok(test_while(context, stack, test, body)?),
         Some(Entry::Guard(_, _)) => unreachable!(),
         Some(Entry::Final(_)) => unreachable!(),
         Some(Entry::Afterwards(_)) => unreachable!(),
@@ -108,26 +98,23 @@ fn make_any_move<L: Look>(
 
 /// Makes the move of the statement at this place.
 fn move_rest<L: Look>(
-    alloc: Global,
-    code: &Code,
-    blocks: &Blocks,
-    look: &L,
+    context: &Context<'_, L>,
     stack: &mut Stack,
     block: usize,
     at: usize,
 ) -> Result<Made, AllocError>
     requires told { stack.old.left ≡ [] }
-    requires moves { begins (rest blocks.now block at) ≡ true }
-    requires few { HasFew (rest blocks.now block at) }
-    ensures steady { IfOk result (λ made. IsSteady (body_after blocks.now made stack.new)) }
+    requires moves { begins (rest context.now.blocks.now block at) ≡ true }
+    requires few { HasFew (rest context.now.blocks.now block at) }
+    ensures steady { IfOk result (λ made. IsSteady (body_after context.now.blocks.now made stack.new)) }
     ensures made { IfOk result (λ made. (moves : ℕ) (go : Place → Went) →
-        after_move moves stack.old.locals go (body_move (undone.Statements (rest blocks.now block at) ∷ todo_of blocks.now stack.old.todo) (around code.now (L.answers look.now) stack.old.locals))
-        ≡ made_of blocks.now moves go made stack.new) }
+        after_move moves stack.old.locals go (body_move (undone.Statements (rest context.now.blocks.now block at) ∷ todo_of context.now.blocks.now stack.old.todo) (around context.now.code.now (L.answers context.now.look.now) stack.old.locals))
+        ≡ made_of context.now.blocks.now moves go made stack.new) }
 {
-    match blocks.ahead(block, at) {
+    match context.blocks.ahead(block, at) {
         Some(statement) => {
             stack.todo.push(Entry::Rest { block, at: at + 1 })?;
-            Ok(act(alloc, code, blocks, look, stack, &statement.action)?)
+            Ok(act(context, stack, &statement.action)?)
         }
         None => unreachable!(),
     }
@@ -135,52 +122,47 @@ fn move_rest<L: Look>(
 
 /// Makes the move of a statement that is passed already.
 fn act<L: Look>(
-    alloc: Global,
-    code: &Code,
-    blocks: &Blocks,
-    look: &L,
+    context: &Context<'_, L>,
     stack: &mut Stack,
     action: &FlatAction,
 ) -> Result<Made, AllocError>
     requires told { stack.old.left ≡ [] }
-    requires few { HasFewParts (form_of blocks.now action.now) }
-    ensures steady { IfOk result (λ made. IsSteady (body_after blocks.now made stack.new)) }
+    requires few { HasFewParts (form_of context.now.blocks.now action.now) }
+    ensures steady { IfOk result (λ made. IsSteady (body_after context.now.blocks.now made stack.new)) }
     ensures made { IfOk result (λ made. (moves : ℕ) (go : Place → Went) →
-        after_move moves stack.old.locals go (action_move (form_of blocks.now action.now) (around code.now (L.answers look.now) stack.old.locals) (todo_of blocks.now stack.old.todo))
-        ≡ made_of blocks.now moves go made stack.new) }
+        after_move moves stack.old.locals go (action_move (form_of context.now.blocks.now action.now) (around context.now.code.now (L.answers context.now.look.now) stack.old.locals) (todo_of context.now.blocks.now stack.old.todo))
+        ≡ made_of context.now.blocks.now moves go made stack.new) }
 {
     match action {
         FlatAction::Command(command) => {
             let chosen = choose_command(
                 &Evaluation {
-                    alloc,
-                    code,
-                    look,
+                    alloc: context.alloc,
+                    code: context.code,
+                    look: context.look,
                     locals: stack.locals.as_slice(),
                 },
                 command,
             )?;
-            Ok(do_chosen(blocks, stack, chosen)?)
+            Ok(do_chosen(context.blocks, stack, chosen)?)
         }
         FlatAction::Giving(name, giving) => {
             let chosen = choose_giving(
                 &Evaluation {
-                    alloc,
-                    code,
-                    look,
+                    alloc: context.alloc,
+                    code: context.code,
+                    look: context.look,
                     locals: stack.locals.as_slice(),
                 },
                 *name,
                 giving,
             )?;
-            Ok(do_chosen(blocks, stack, chosen)?)
+            Ok(do_chosen(context.blocks, stack, chosen)?)
         }
-        FlatAction::If(test, yes, no) => {
-            Ok(branch(alloc, code, blocks, look, stack, test, *yes, *no)?)
-        }
+        FlatAction::If(test, yes, no) => { Ok(branch(context, stack, test, *yes, *no)?) }
         FlatAction::While(test, body) => {
             let test = test.clone()?;
-            Ok(test_while(alloc, code, blocks, look, stack, test, *body)?)
+            Ok(test_while(context, stack, test, *body)?)
         }
         FlatAction::Try(body, excepts, finally) => {
             let excepts = excepts.clone()?;
@@ -189,7 +171,7 @@ fn act<L: Look>(
                 block: *body,
                 at: 0,
             })?;
-            Ok(Made::Further(go_inwards(blocks, stack)?))
+            Ok(Made::Further(go_inwards(context.blocks, stack)?))
         }
         FlatAction::Timeout(time, silent, body) => Ok(Made::Enters(*time, *silent, *body)),
     }
@@ -206,7 +188,7 @@ fn do_chosen(blocks: &Blocks, stack: &mut Stack, chosen: Chosen) -> Result<Made,
         Chosen::Asks(request, gives) => Ok(Made::Asks(request, gives)),
         Chosen::Goes(how) => Ok(Made::Further(leave(blocks, stack, how)?)),
         Chosen::Binds(name, value) => {
-            bind(&name, value, &mut stack.locals)?;
+            stack.locals.bind(&name, value)?;
             Ok(Made::Further(go_inwards(blocks, stack)?))
         }
     }
@@ -215,70 +197,77 @@ fn do_chosen(blocks: &Blocks, stack: &mut Stack, chosen: Chosen) -> Result<Made,
 /// Makes the move of an `if`.
 #[tactic(auto, using(crate::proofs::Leavings::rest_raises))]
 fn branch<L: Look>(
-    alloc: Global,
-    code: &Code,
-    blocks: &Blocks,
-    look: &L,
+    context: &Context<'_, L>,
     stack: &mut Stack,
     test: &Expression,
     yes: usize,
     no: Option<usize>,
 ) -> Result<Made, AllocError>
     requires told { stack.old.left ≡ [] }
-    ensures steady { IfOk result (λ made. IsSteady (body_after blocks.now made stack.new)) }
+    ensures steady { IfOk result (λ made. IsSteady (body_after context.now.blocks.now made stack.new)) }
     ensures made { IfOk result (λ made. (moves : ℕ) (go : Place → Went) →
-        after_move moves stack.old.locals go (branch_move test.now (block_at yes blocks.now) (optional_block blocks.now no) (around code.now (L.answers look.now) stack.old.locals) (todo_of blocks.now stack.old.todo))
-        ≡ made_of blocks.now moves go made stack.new) }
+        after_move moves stack.old.locals go (branch_move test.now (block_at yes context.now.blocks.now) (optional_block context.now.blocks.now no) (around context.now.code.now (L.answers context.now.look.now) stack.old.locals) (todo_of context.now.blocks.now stack.old.todo))
+        ≡ made_of context.now.blocks.now moves go made stack.new) }
 {
-    match code.meaning(alloc, look, stack.locals.as_slice(), test)? {
+    match context
+        .code
+        .meaning(context.alloc, context.look, stack.locals.as_slice(), test)?
+    {
         Outcome::Value(Value::Bool(true)) => {
             stack.todo.push(Entry::Rest { block: yes, at: 0 })?;
-            Ok(Made::Further(go_inwards(blocks, stack)?))
+            Ok(Made::Further(go_inwards(context.blocks, stack)?))
         }
         Outcome::Value(Value::Bool(false)) => match no {
             Some(no) => {
                 stack.todo.push(Entry::Rest { block: no, at: 0 })?;
-                Ok(Made::Further(go_inwards(blocks, stack)?))
+                Ok(Made::Further(go_inwards(context.blocks, stack)?))
             }
-            None => Ok(Made::Further(go_inwards(blocks, stack)?)),
+            None => Ok(Made::Further(go_inwards(context.blocks, stack)?)),
         },
         Outcome::Value(_) => Ok(Made::Further(leave(
-            blocks,
+            context.blocks,
             stack,
             Leaving::Raising(FaultKind::TypeError),
         )?)),
-        Outcome::Fault(kind) => Ok(Made::Further(leave(blocks, stack, Leaving::Raising(kind))?)),
+        Outcome::Fault(kind) => Ok(Made::Further(leave(
+            context.blocks,
+            stack,
+            Leaving::Raising(kind),
+        )?)),
     }
 }
 
 /// Evaluates the condition of a while once.
 fn test_while<L: Look>(
-    alloc: Global,
-    code: &Code,
-    blocks: &Blocks,
-    look: &L,
+    context: &Context<'_, L>,
     stack: &mut Stack,
     test: Rc<Expression>,
     body: usize,
 ) -> Result<Made, AllocError>
     requires told { stack.old.left ≡ [] }
-    ensures steady { IfOk result (λ made. IsSteady (body_after blocks.now made stack.new)) }
+    ensures steady { IfOk result (λ made. IsSteady (body_after context.now.blocks.now made stack.new)) }
     ensures made { IfOk result (λ made. (moves : ℕ) (go : Place → Went) →
-        after_move moves stack.old.locals go (while_move test.value (block_at body blocks.now) (around code.now (L.answers look.now) stack.old.locals) (todo_of blocks.now stack.old.todo))
-        ≡ made_of blocks.now moves go made stack.new) }
+        after_move moves stack.old.locals go (while_move test.value (block_at body context.now.blocks.now) (around context.now.code.now (L.answers context.now.look.now) stack.old.locals) (todo_of context.now.blocks.now stack.old.todo))
+        ≡ made_of context.now.blocks.now moves go made stack.new) }
 {
-    match code.meaning(alloc, look, stack.locals.as_slice(), &test)? {
+    match context.code.meaning(context.alloc, context.look, stack.locals.as_slice(), &test)? {
         Outcome::Value(Value::Bool(true)) => {
             stack.todo.push(Entry::Again(test, body))?;
             stack.todo.push(Entry::Rest { block: body, at: 0 })?;
-            Ok(Made::Further(go_inwards(blocks, stack)?))
+            Ok(Made::Further(go_inwards(context.blocks, stack)?))
         }
-        Outcome::Value(Value::Bool(false)) => { Ok(Made::Further(go_inwards(blocks, stack)?)) }
+        Outcome::Value(Value::Bool(false)) => {
+            Ok(Made::Further(go_inwards(context.blocks, stack)?))
+        }
         Outcome::Value(_) => Ok(Made::Further(leave(
-            blocks,
+            context.blocks,
             stack,
             Leaving::Raising(FaultKind::TypeError),
         )?)),
-        Outcome::Fault(kind) => Ok(Made::Further(leave(blocks, stack, Leaving::Raising(kind))?)),
+        Outcome::Fault(kind) => Ok(Made::Further(leave(
+            context.blocks,
+            stack,
+            Leaving::Raising(kind),
+        )?)),
     }
 }

@@ -1,5 +1,5 @@
 //! A list that is read and grown at its front, at a cost that does not depend on its length.
-ghost use Rattle.std.specs.Prelude.{◌≡◌, [], ◌∷◌, ◌++◌, OnOk, MatchOption, drop};
+ghost use Rattle.std.specs.Prelude.{◌≡◌, [], ◌∷◌, ◌++◌, IfOk, OnOk, MatchOption, drop};
 ghost use Rattle.std.specs.Option.{option_copied};
 
 use std::alloc::{AllocError, Global};
@@ -23,16 +23,21 @@ impl<T> Model for Pile<T> {
 }
 
 impl<T: Drop> Pile<T> {
-    /// No entry.
-    pub fn new(alloc: Global) -> Pile<T>
-        ensures { result ≡ [] }
+    /// No entry, with room for so many. `AllocError`: memory is wanting.
+    pub fn with_capacity(alloc: Global, capacity: usize) -> Result<Pile<T>, AllocError>
+        ensures { IfOk result (λ pile. pile ≡ []) }
     {
-        Pile {
-            items: Vec::new(alloc),
-        }
+        let items = Vec::with_capacity(alloc, capacity)?;
+        Ok(Pile { items })
+    }
+
+    /// What its memory is taken from.
+    pub fn allocator(&self) -> Global {
+        *self.items.allocator()
     }
 
     /// The first entry.
+    #[inline(always)]
     #[tactic(auto, using(crate::proofs::Piles::first_there, crate::proofs::Piles::none_there))]
     pub fn first(&self) -> Option<&T>
         ensures { MatchOption (option_copied result) (self.now ≡ []) (λ first. self.now ≡ first ∷ drop 1 self.now) }
@@ -49,6 +54,7 @@ impl<T: Drop> Pile<T> {
     }
 
     /// Lets the first entry go.
+    #[inline(always)]
     #[tactic(auto, using(crate::proofs::Piles::rest_left, crate::proofs::Piles::none_left))]
     pub fn drop_first(&mut self)
         ensures { self.new ≡ drop 1 self.old }
@@ -70,6 +76,7 @@ impl<T: Drop> Pile<T> {
     }
 }
 
+#[inline(always)]
 fn pop_last<T>(items: &mut Vec<T>) -> Option<T>
     ensures { MatchOption result ((items.old.items ≡ []) × (items.new.items ≡ [])) (λ last. items.old.items ≡ items.new.items ++ last ∷ []) }
 {

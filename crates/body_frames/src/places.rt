@@ -16,16 +16,15 @@ ghost use Rattle.body_frames.specs.Standings.{body_after, came_of_made, goes_fro
 ghost use Rattle.body_frames.specs.Steady.{HasMove, IsSteady};
 
 use crate::entry::Entry;
-use crate::moves::make_move;
+use crate::moves::{Context, make_move};
 use crate::pile::Pile;
 use crate::runs::make_moves;
 use crate::stack::{Begun, Made, Stack, begin_function, go_inside, go_on_with, outcome_of_leaving};
 use crate::unwind::Unwound;
 use body_blocks::Blocks;
-use body_values::{Code, Look};
+use body_values::{Code, Locals, Look};
 use gv_values::{Name, Outcome, Value};
 use machine::request::Request;
-use machine::state::Local;
 use scenario_tree::Items;
 use std::alloc::{AllocError, Global};
 use std::marker::Model;
@@ -35,7 +34,7 @@ use std::rc::Rc;
 #[derive(Drop)]
 pub struct Parked {
     blocks: Rc<Blocks>,
-    locals: Items<Local>,
+    locals: Locals,
     todo: Pile<Entry>,
     gives: Option<Name>,
 }
@@ -59,7 +58,7 @@ impl Model for Parked {
 #[derive(Drop)]
 pub struct Moving {
     blocks: Rc<Blocks>,
-    locals: Items<Local>,
+    locals: Locals,
     todo: Pile<Entry>,
 }
 
@@ -84,7 +83,7 @@ impl Model for Moving {
 #[derive(Drop)]
 pub struct Entering {
     blocks: Rc<Blocks>,
-    locals: Items<Local>,
+    locals: Locals,
     todo: Pile<Entry>,
     silent: bool,
     body: usize,
@@ -201,7 +200,15 @@ pub fn move_body<L: Look>(
         todo,
         left: Items::new(alloc),
     };
-    let made = make_move(alloc, code, &blocks, look, &mut stack)?;
+    let made = make_move(
+        &Context {
+            alloc,
+            code,
+            blocks: &blocks,
+            look,
+        },
+        &mut stack,
+    )?;
     Ok(come(blocks, stack, made))
 }
 
@@ -228,7 +235,16 @@ pub fn move_on<L: Look>(
         todo,
         left: Items::new(alloc),
     };
-    let (before, made) = make_moves(alloc, code, &blocks, look, &mut stack, most)?;
+    let (before, made) = make_moves(
+        &Context {
+            alloc,
+            code,
+            blocks: &blocks,
+            look,
+        },
+        &mut stack,
+        most,
+    )?;
     Ok((before, come(blocks, stack, made)))
 }
 

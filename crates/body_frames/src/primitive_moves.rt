@@ -14,9 +14,9 @@ use body_primitives::{bind_primitive, primitive_truth};
 use scenario_tree::Command;
 use std::alloc::AllocError;
 
-/// Makes the move that is first to do, where it is a `let`, an `if` that enters a block or a while that goes on, of
-/// integers and truth values. The body then goes on at what is first to do. Else nothing is done.
-#[tactic(auto, using(crate::proofs::PrimitiveMoves::while_in))]
+/// Makes the move that is first to do, where it is a `let`, an `if` or a later test of a while, of integers and truth
+/// values. The body then goes on at what is first to do. Else nothing is done.
+#[tactic(auto, using(crate::proofs::PrimitiveMoves::while_in, crate::proofs::PrimitiveMoves::while_out))]
 pub fn make_primitive_move(blocks: &Blocks, stack: &mut Stack) -> Result<bool, AllocError>
     ensures { IfOk result (λ made. HasMade made blocks.now stack.old stack.new) }
 {
@@ -33,7 +33,11 @@ pub fn make_primitive_move(blocks: &Blocks, stack: &mut Stack) -> Result<bool, A
                     stack.todo.push(Entry::Rest { block: body, at: 0 })?;
                     Ok(true)
                 }
-                _ => Ok(false),
+                Some(false) => {
+                    stack.todo.drop_first();
+                    Ok(true)
+                }
+                None => Ok(false),
             }
         }
         _ => Ok(false),
@@ -58,7 +62,7 @@ fn make_statement(
 }
 
 /// Makes the move of a statement, which the next place of its block follows.
-#[tactic(auto, using(crate::proofs::PrimitiveMoves::if_so, crate::proofs::PrimitiveMoves::if_else))]
+#[tactic(auto, using(crate::proofs::PrimitiveMoves::if_so, crate::proofs::PrimitiveMoves::if_else, crate::proofs::PrimitiveMoves::if_not))]
 fn act(
     blocks: &Blocks,
     stack: &mut Stack,
@@ -82,7 +86,10 @@ fn act(
                     put_rest(&mut stack.todo, no, 0)?;
                     Ok(true)
                 }
-                None => Ok(false),
+                None => {
+                    pass(blocks, &mut stack.todo, block, next)?;
+                    Ok(true)
+                }
             },
             None => Ok(false),
         },

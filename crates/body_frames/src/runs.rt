@@ -10,35 +10,31 @@ ghost use Rattle.body_frames.specs.Runs.{MovesOn};
 ghost use Rattle.body_frames.specs.Standings.{body_after, came_of_made, frame_of};
 ghost use Rattle.body_frames.specs.Steady.{IsSteady};
 
-use crate::moves::move_once;
+use crate::moves::{Context, move_once};
 use crate::stack::{Made, Stack};
 use crate::unwind::Unwound;
-use body_blocks::Blocks;
-use body_values::{Code, Look};
-use std::alloc::{AllocError, Global};
+use body_values::Look;
+use std::alloc::AllocError;
 
 /// Makes moves until one does not stay in the body, one leaves a timeout block, or so many are made: how many were made
 /// before the last, and what came of the last.
 pub fn make_moves<L: Look>(
-    alloc: Global,
-    code: &Code,
-    blocks: &Blocks,
-    look: &L,
+    context: &Context<'_, L>,
     stack: &mut Stack,
     most: u64,
 ) -> Result<(u64, Made), AllocError>
     requires told { stack.old.left ≡ [] }
-    requires moves { IsAtMove (todo_of blocks.now stack.old.todo) }
-    requires few { HasFewToDo (todo_of blocks.now stack.old.todo) }
+    requires moves { IsAtMove (todo_of context.now.blocks.now stack.old.todo) }
+    requires few { HasFewToDo (todo_of context.now.blocks.now stack.old.todo) }
     requires some { 0 < most }
     ensures counted { IfOk result (λ on. on.0 < most) }
-    ensures steady { IfOk result (λ on. IsSteady (body_after blocks.now on.1 stack.new)) }
-    ensures few { IfOk result (λ on. HasFewBody (body_after blocks.now on.1 stack.new)) }
-    ensures moved { IfOk result (λ on. MovesOn (around code.now (L.answers look.now)) on.0 (frame_of blocks.now stack.old) (came_of_made blocks.now on.1 stack.new)) }
+    ensures steady { IfOk result (λ on. IsSteady (body_after context.now.blocks.now on.1 stack.new)) }
+    ensures few { IfOk result (λ on. HasFewBody (body_after context.now.blocks.now on.1 stack.new)) }
+    ensures moved { IfOk result (λ on. MovesOn (around context.now.code.now (L.answers context.now.look.now)) on.0 (frame_of context.now.blocks.now stack.old) (came_of_made context.now.blocks.now on.1 stack.new)) }
 {
     let mut before = 0;
     'moves: loop {
-        match move_once(alloc, code, blocks, look, stack, most - before)? {
+        match move_once(context, stack, most - before)? {
             None => before += 1,
             Some(made) => {
                 if !goes_on(&made, stack, most - before) {

@@ -20,10 +20,10 @@ use crate::entry::Entry;
 use crate::pile::Pile;
 use crate::unwind::{Unwound, begins, unwind};
 use body_blocks::Blocks;
-use body_values::{Code, Start, bind, named};
+use body_values::{Code, Locals, Start, named};
 use gv_values::{Name, Outcome, Value};
 use machine::request::Request;
-use machine::state::{Leaving, Local};
+use machine::state::Leaving;
 use scenario_tree::Items;
 use std::alloc::{AllocError, Global};
 use std::rc::Rc;
@@ -31,7 +31,7 @@ use std::rc::Rc;
 /// The locals, what is still to do, and the timeout blocks that were left and not told yet, innermost first.
 #[derive(Drop)]
 pub struct Stack {
-    pub locals: Items<Local>,
+    pub locals: Locals,
     pub todo: Pile<Entry>,
     pub left: Items<u32>,
 }
@@ -73,7 +73,8 @@ pub fn begin_function(
     Ok(Begun { blocks, stack, at })
 }
 
-/// A body of these statements, whose parameters take the arguments.
+/// A body of these statements, whose parameters take the arguments. It has no more room than it needs: many a body never
+/// enters a block.
 fn begin_block(
     alloc: Global,
     blocks: &Blocks,
@@ -87,12 +88,11 @@ fn begin_block(
     ensures moves { IfOk result (λ b. HasMove (goes_from blocks.now b.1 b.0)) }
     ensures few { IfOk result (λ b. HasFewUnwound (goes_from blocks.now b.1 b.0)) }
 {
-    let mut stack = Stack {
-        locals: named(alloc, parameters, arguments)?,
-        todo: Pile::new(alloc),
-        left: Items::new(alloc),
-    };
-    stack.todo.push(Entry::Rest { block: body, at: 0 })?;
+    let locals = named(alloc, parameters, arguments)?;
+    let mut todo = Pile::with_capacity(alloc, 1)?;
+    todo.push(Entry::Rest { block: body, at: 0 })?;
+    let left = Items::new(alloc);
+    let mut stack = Stack { locals, todo, left };
     let at = go_inwards(blocks, &mut stack)?;
     Ok((stack, at))
 }
@@ -155,6 +155,7 @@ pub fn go_inwards(blocks: &Blocks, stack: &mut Stack) -> Result<Unwound, AllocEr
 }
 
 /// Whether a move is first to do.
+#[inline(always)]
 #[tactic(auto, using(crate::proofs::PrimitiveMoves::rest_is_move, crate::proofs::PrimitiveMoves::again_is_move))]
 pub fn is_at_move(blocks: &Blocks, todo: &Pile<Entry>) -> bool
     ensures { IsTrue result → RunsAt (todo_of blocks.now todo.now) }
@@ -198,7 +199,7 @@ pub fn outcome_of_leaving(how: Leaving) -> Outcome
 fn take_answer(
     gives: Option<Name>,
     answer: Outcome,
-    locals: &mut Items<Local>,
+    locals: &mut Locals,
 ) -> Result<Leaving, AllocError>
     ensures how { IfOk result (λ how. how ≡ leaving_of answer) }
     ensures locals { (todo : List Undone) →
@@ -208,7 +209,7 @@ fn take_answer(
         Outcome::Fault(kind) => Ok(Leaving::Raising(kind)),
         Outcome::Value(value) => {
             if let Some(name) = gives {
-                bind(&name, value, locals)?;
+                locals.bind(&name, value)?;
             }
             Ok(Leaving::Normally)
         }

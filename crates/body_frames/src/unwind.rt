@@ -12,10 +12,10 @@ ghost use Rattle.body_frames.specs.Unwinding.{unwound_of, caught_of, stepped_of,
 use crate::entry::Entry;
 use crate::pile::Pile;
 use body_blocks::{Blocks, FlatExcept};
-use body_values::bind;
+use body_values::Locals;
 use gv_values::{FaultKind, Name, Value};
-use machine::state::{Leaving, Local};
-use scenario_tree::Items;
+use machine::state::Leaving;
+use scenario_tree::{Boxed, Items};
 use std::alloc::AllocError;
 
 /// Whether the body goes on, or how it is left.
@@ -47,11 +47,11 @@ fn past_timeout(n: u32, silent: bool, how: Leaving) -> Leaving
     }
 }
 
-fn bind_if(name: Option<Name>, f: FaultKind, locals: &mut Items<Local>) -> Result<(), AllocError>
+fn bind_if(name: Option<Name>, f: FaultKind, locals: &mut Locals) -> Result<(), AllocError>
     ensures { OnOk result (locals.new ≡ bind_if name (Value.Fault f) locals.old) }
 {
     if let Some(name) = name {
-        bind(&name, Value::Fault(f), locals)?;
+        locals.bind(&name, Value::Fault(f))?;
     }
     Ok(())
 }
@@ -85,6 +85,7 @@ fn finally_first(
     match finally {
         Some(finally) => {
             if begins(blocks, finally, 0) {
+                let how = Boxed::new(todo.allocator(), how)?;
                 todo.push(Entry::Afterwards(how))?;
                 todo.push(Entry::Rest {
                     block: finally,
@@ -104,7 +105,7 @@ fn guard(
     blocks: &Blocks,
     todo: &mut Pile<Entry>,
     f: FaultKind,
-    locals: &mut Items<Local>,
+    locals: &mut Locals,
     excepts: &Items<FlatExcept>,
     finally: Option<usize>,
 ) -> Result<Stepped, AllocError>
@@ -136,7 +137,7 @@ fn step(
     todo: &mut Pile<Entry>,
     left: &mut Items<u32>,
     how: Leaving,
-    locals: &mut Items<Local>,
+    locals: &mut Locals,
     entry: Entry,
 ) -> Result<Stepped, AllocError>
     ensures keeps { IfOk result (λ s. KeepsIfFurther s todo.old todo.new) }
@@ -165,13 +166,14 @@ fn step(
             Ok(Stepped::Further(past_timeout(n, silent, how)))
         }
         Entry::Afterwards(before) => match how {
-            Leaving::Normally => Ok(Stepped::Further(before)),
+            Leaving::Normally => Ok(Stepped::Further(before.into_inner())),
             how => Ok(Stepped::Further(how)),
         },
     }
 }
 
 /// Whether a statement stands there.
+#[inline(always)]
 #[tactic(auto, using(crate::proofs::Readings::begins_there, crate::proofs::Readings::begins_not))]
 pub fn begins(blocks: &Blocks, block: usize, at: usize) -> bool
     ensures { result ≡ begins (rest blocks.now block at) }
@@ -214,7 +216,7 @@ pub fn unwind(
     todo: &mut Pile<Entry>,
     left: &mut Items<u32>,
     how: Leaving,
-    locals: &mut Items<Local>,
+    locals: &mut Locals,
 ) -> Result<Unwound, AllocError>
     ensures { IfOk result (λ u.
         unwind (todo_of blocks.now todo.old) left.old how locals.old ≡ unwound_of u left.new locals.new (todo_of blocks.now todo.new)) }

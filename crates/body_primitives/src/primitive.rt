@@ -7,10 +7,10 @@ ghost use Rattle.gv_values.specs.Arithmetic.{arith_of};
 ghost use Rattle.machine.specs.Expressions.{Look as Answers, and_then, binary, of_result, or_else, unary, value_of_local, with_value};
 ghost use Rattle.body_primitives.specs.Primitives.{Agrees, IsBound, Means, MeansAs};
 
-use body_values::bind;
+use body_values::Locals;
 use gv_values::{Arith, Name, Value, arithmetic};
 use machine::state::Local;
-use scenario_tree::{Binary, Boxed, Expression, Items, Unary};
+use scenario_tree::{Binary, Boxed, Expression, Unary};
 use std::alloc::AllocError;
 
 /// What an expression of integers and truth values gives.
@@ -27,12 +27,12 @@ pub enum Primitive {
 pub fn bind_primitive(
     name: &Name,
     expression: &Expression,
-    locals: &mut Items<Local>,
+    locals: &mut Locals,
 ) -> Result<bool, AllocError>
     ensures { IfOk result (λ bound. IsBound bound name.now expression.now locals.old locals.new) }
 {
     if let Some(n) = plain_integer(locals.as_slice(), expression) {
-        bind(name, Value::Int(n), locals)?;
+        locals.bind(name, Value::Int(n))?;
         return Ok(true);
     }
     Ok(bind_evaluated(name, expression, locals)?)
@@ -54,17 +54,17 @@ pub fn primitive_truth(locals: &[Local], expression: &Expression) -> Option<bool
 fn bind_evaluated(
     name: &Name,
     expression: &Expression,
-    locals: &mut Items<Local>,
+    locals: &mut Locals,
 ) -> Result<bool, AllocError>
     ensures { IfOk result (λ bound. IsBound bound name.now expression.now locals.old locals.new) }
 {
     match evaluate(locals.as_slice(), expression) {
         Primitive::Int(n) => {
-            bind(name, Value::Int(n), locals)?;
+            locals.bind(name, Value::Int(n))?;
             Ok(true)
         }
         Primitive::Bool(b) => {
-            bind(name, Value::Bool(b), locals)?;
+            locals.bind(name, Value::Bool(b))?;
             Ok(true)
         }
         Primitive::Other => Ok(false),
@@ -99,7 +99,7 @@ fn plain_truth(locals: &[Local], expression: &Expression) -> Option<bool>
     }
 }
 
-/// The integer that an operation on two plain integers gives.
+/// A plain integer, or what an operation on two plain integers gives.
 #[inline(always)]
 fn plain_integer(locals: &[Local], expression: &Expression) -> Option<i64>
     ensures { IfSome result (λ n. Means expression.now locals.now (value.Int n)) }
@@ -111,7 +111,7 @@ fn plain_integer(locals: &[Local], expression: &Expression) -> Option<i64>
             };
             compute(*operator, x, y)
         }
-        _ => None,
+        _ => plain(locals, expression),
     }
 }
 

@@ -1,5 +1,5 @@
 //! The locals of a body.
-ghost use Rattle.std.specs.Prelude.{◌≡◌, ◌<◌, length, unwrap_or, OnOk, IfOk, IfSome};
+ghost use Rattle.std.specs.Prelude.{◌≡◌, ◌<◌, [], ◌∷◌, ◌++◌, length, unwrap_or, OnOk, IfOk, IfSome};
 ghost use Rattle.std.specs.Option.{option_copied};
 ghost use Rattle.gv_values.specs.declared.value.Outcome.{Outcome as Outcomes};
 ghost use Rattle.gv_values.specs.declared.value.Value.TheVariants as value;
@@ -10,34 +10,106 @@ ghost use Rattle.machine.specs.Greenlets.{named};
 ghost use Rattle.body_values.specs.Places.{IsPlaceOf};
 
 use crate::front::pop_first;
-use gv_values::digits::same_bytes;
 use gv_values::{Name, Value};
 use machine::state::Local;
 use scenario_tree::{Expression, Items};
 use std::alloc::{AllocError, Global};
+use std::marker::Model;
 
 /// Whether these are the same name.
+#[inline(always)]
 pub fn name_eq(a: &Name, b: &Name) -> bool
     ensures { result ≡ name_eq a.now b.now }
 {
-    same_bytes(a.bytes(), b.bytes())
+    a.bytes() == b.bytes()
 }
 
-/// The name takes the value. A value whose kind is known is a few stores.
+/// The locals of a body, each with its name, in the order in which they were first bound.
+#[derive(Drop)]
+pub struct Locals {
+    all: Vec<Local>,
+}
+
+impl Model for Locals {
+    ghost use Rattle.std.specs.Prelude.{List};
+    ghost use Rattle.machine.specs.declared.state.Local.{Local as Named};
+    ghost use Rattle.scenario_tree.specs.Trees.{trees};
+
+    ghost Value = { List Named };
+
+    ghost coded = { Prim.hlevel trees };
+
+    ghost view = { λ l. l.all.items };
+}
+
+impl Locals {
+    /// No local, with room for so many. `AllocError`: memory is wanting.
+    fn with_capacity(alloc: Global, capacity: usize) -> Result<Locals, AllocError>
+        ensures { IfOk result (λ locals. locals ≡ []) }
+    {
+        let all = Vec::with_capacity(alloc, capacity)?;
+        Ok(Locals { all })
+    }
+
+    /// The locals in order.
+    #[inline(always)]
+    pub fn as_slice(&self) -> &[Local]
+        ensures { result.now ≡ self.now }
+    {
+        self.all.as_slice()
+    }
+
+    /// The name takes the value. `AllocError`: memory is wanting.
+    #[inline(always)]
+    pub fn bind(&mut self, name: &Name, value: Value) -> Result<(), AllocError>
+        ensures { OnOk result (self.new ≡ bind name.now value self.old) }
+    {
+        bind_in(&mut self.all, name, value)?;
+        Ok(())
+    }
+
+    /// One local more.
+    fn push(&mut self, local: Local) -> Result<(), AllocError>
+        ensures { OnOk result (self.new ≡ self.old ++ local ∷ []) }
+    {
+        self.all.push(local)?;
+        Ok(())
+    }
+}
+
+/// The name takes the value. Where it has one already, that alone is written.
 #[inline(always)]
-pub fn bind(name: &Name, value: Value, locals: &mut Items<Local>) -> Result<(), AllocError>
-    ensures { OnOk result (locals.new ≡ bind name.now value locals.old) }
+fn bind_in(all: &mut Vec<Local>, name: &Name, value: Value) -> Result<(), AllocError>
+    ensures { OnOk result (all.new.items ≡ bind name.now value all.old.items) }
 {
-    match place_of(name, locals.as_slice()) {
-        Some(at) => {
-            locals.set(at, Local { name: *name, value });
-        }
-        None => locals.push(Local { name: *name, value })?,
+    match find_place(name, all.as_slice()) {
+        Some(at) => all[at].value = value,
+        None => all.push(Local { name: *name, value })?,
     }
     Ok(())
 }
 
-/// The place of the local with this name.
+/// The place of the local with this name. A short name is compared with no call.
+#[inline(always)]
+fn find_place(name: &Name, locals: &[Local]) -> Option<usize>
+    ensures place { IsPlaceOf name.now locals.now result }
+    ensures within { IfSome result (λ at. at < length locals.now) }
+{
+    if name.bytes().len() < 4 {
+        return place_of(name, locals);
+    }
+    long_place(name, locals)
+}
+
+#[inline(never)]
+fn long_place(name: &Name, locals: &[Local]) -> Option<usize>
+    ensures place { IsPlaceOf name.now locals.now result }
+    ensures within { IfSome result (λ at. at < length locals.now) }
+{
+    place_of(name, locals)
+}
+
+#[inline(always)]
 fn place_of(name: &Name, locals: &[Local]) -> Option<usize>
     ensures place { IsPlaceOf name.now locals.now result }
     ensures within { IfSome result (λ at. at < length locals.now) }
@@ -82,15 +154,11 @@ pub fn find_operand<'a>(expression: &Expression, locals: &'a [Local]) -> Option<
     }
 }
 
-/// The parameters with their arguments.
-pub fn named(
-    alloc: Global,
-    names: &[Name],
-    arguments: Items<Value>,
-) -> Result<Items<Local>, AllocError>
+/// The parameters with their arguments. They take no more memory than they need: many a body has no other local.
+pub fn named(alloc: Global, names: &[Name], arguments: Items<Value>) -> Result<Locals, AllocError>
     ensures { IfOk result (λ locals. locals ≡ named names.now arguments) }
 {
-    let mut locals = Items::new(alloc);
+    let mut locals = Locals::with_capacity(alloc, names.len())?;
     let mut left = arguments;
     for name in names {
         match pop_first(&mut left) {

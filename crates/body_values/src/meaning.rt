@@ -14,6 +14,13 @@ use machine::state::Local;
 use scenario_tree::{Binary, Boxed, Expression, Items};
 use std::alloc::{AllocError, Global};
 
+/// An operator with its first operand, which has this value.
+#[derive(Clone, Copy, Drop)]
+struct Applied<'a> {
+    operator: Binary,
+    first: &'a Value,
+}
+
 impl Code {
     /// The value of the expression, or its first fault. Operands are evaluated from left to right.
     #[cycle(meaning)]
@@ -45,11 +52,29 @@ impl Code {
             Expression::Binary(binary, a, b) => {
                 let a = a.get();
                 if let Some(first) = find_operand(a, locals) {
-                    return Ok(self.of_two(alloc, look, locals, *binary, first, b)?);
+                    return Ok(self.of_two(
+                        alloc,
+                        look,
+                        locals,
+                        Applied {
+                            operator: *binary,
+                            first,
+                        },
+                        b,
+                    )?);
                 }
                 match self.meaning(alloc, look, locals, a)? {
                     Outcome::Value(first) => {
-                        Ok(self.of_two(alloc, look, locals, *binary, &first, b)?)
+                        Ok(self.of_two(
+                            alloc,
+                            look,
+                            locals,
+                            Applied {
+                                operator: *binary,
+                                first: &first,
+                            },
+                            b,
+                        )?)
                     }
                     Outcome::Fault(kind) => Ok(Outcome::Fault(kind)),
                 }
@@ -78,19 +103,20 @@ impl Code {
         alloc: Global,
         look: &L,
         locals: &[Local],
-        operator: Binary,
-        first: &Value,
+        applied: Applied<'_>,
         second: &Boxed<Expression>,
     ) -> Result<Outcome, AllocError>
         ensures { IfOk result (λ o.
-            o ≡ with_value (meaning second.now (around self.now (L.answers look.now) locals.now)) (binary operator first.now)) }
+            o ≡ with_value (meaning second.now (around self.now (L.answers look.now) locals.now)) (binary applied.entry.operator applied.entry.first.now)) }
     {
         let second = second.get();
         if let Some(second) = find_operand(second, locals) {
-            return Ok(operators::binary(alloc, operator, first, second)?);
+            return Ok(operators::binary(alloc, applied.operator, applied.first, second)?);
         }
         match self.meaning(alloc, look, locals, second)? {
-            Outcome::Value(second) => Ok(operators::binary(alloc, operator, first, &second)?),
+            Outcome::Value(second) => {
+                Ok(operators::binary(alloc, applied.operator, applied.first, &second)?)
+            }
             Outcome::Fault(kind) => Ok(Outcome::Fault(kind)),
         }
     }
@@ -170,7 +196,7 @@ impl Code {
     ) -> Result<Result<Items<Value>, FaultKind>, AllocError>
         ensures { IfOk result (λ vs. vs ≡ values expressions.now (around self.now (L.answers look.now) locals.now)) }
     {
-        let mut values = Items::new(alloc);
+        let mut values = Items::from_vec(Vec::with_capacity(alloc, expressions.len())?);
         for expression in expressions {
             match self.meaning(alloc, look, locals, expression)? {
                 Outcome::Value(value) => values.push(value)?,

@@ -8,10 +8,10 @@ use Rattle.body_frames.proofs.frame.go_on.Given as goal
 abbrev pub invariant-moves : goal.invariant-moves
 invariant-moves g l = record {
   same :
-      goes l.initial.moves (around l.fn.code (g.L.Look.answers l.fn.look)) (goes_from l.fn.blocks l.fn.at l.initial.stack)
-      ≡ goes l.moves (around l.fn.code (g.L.Look.answers l.fn.look)) (goes_from l.fn.blocks l.at l.stack);
-  steady : HasMove (goes_from l.fn.blocks l.at l.stack);
-  few : HasFewUnwound (goes_from l.fn.blocks l.at l.stack);
+      goes l.initial.moves (around l.fn.context.code.now (g.L.Look.answers l.fn.context.look.now)) (goes_from l.fn.context.blocks.now l.fn.at l.initial.stack)
+      ≡ goes l.moves (around l.fn.context.code.now (g.L.Look.answers l.fn.context.look.now)) (goes_from l.fn.context.blocks.now l.at l.stack);
+  steady : HasMove (goes_from l.fn.context.blocks.now l.at l.stack);
+  few : HasFewUnwound (goes_from l.fn.context.blocks.now l.at l.stack);
 }
 
 abbrev pub decreases-moves : goal.decreases-moves

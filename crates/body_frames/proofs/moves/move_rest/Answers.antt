@@ -8,15 +8,15 @@ use Rattle.body_frames.proofs.Readings.{few_there, move_there}
 use Rattle.body_frames.proofs.moves.move_rest.Goals as goal
 
 pub act-requires-clause-few : goal.act-requires-clause-few
-act-requires-clause-few g c = few_there c.args.blocks.now c.args.block c.args.at c.in-Some.statement.now c.in-Some.ensures.here c.requires.few
+act-requires-clause-few g c = few_there c.args.context.now.blocks.now c.args.block c.args.at c.in-Some.statement.now c.in-Some.ensures.here c.requires.few
 
 pub returns-clause-made : goal.returns-clause-made
 returns-clause-made g c = λ moves go.
-    let t = c.args.blocks.now in
+    let t = c.args.context.now.blocks.now in
     let s = c.in-Some.statement.now in
     let todo = todo_of t c.args.stack.now.todo in
     let locals = c.args.stack.now.locals in
-    let a = around c.args.code.now (g.L.Look.answers c.args.look.now) locals in
+    let a = around c.args.context.now.code.now (g.L.Look.answers c.args.context.now.look.now) locals in
     let next : suc c.args.at ≡ c.args.at + 1 = omega arith in
     ap (λ (did : Did). after_move moves locals go did) (move_there t c.args.block c.args.at s todo a c.in-Some.ensures.here)
     ∙ ap (λ (p : ℕ). after_move moves locals go (action_move (form_of t s.action) a (Todo.Statements (rest t c.args.block p) ∷ todo))) next

@@ -8,8 +8,8 @@ use Rattle.body_frames.proofs.runs.make_moves.Goals as goal
 
 pub moves-preserved-in-None : goal.moves-preserved-in-None
 moves-preserved-in-None g c =
-    let t = c.args.blocks.now in
-    let look = around c.args.code.now (g.L.Look.answers c.args.look.now) in
+    let t = c.args.context.now.blocks.now in
+    let look = around c.args.context.now.code.now (g.L.Look.answers c.args.context.now.look.now) in
     let gone : HasGoneOn t look (c.args.most - c.moves.before) c.moves.stack None c.move_once.new.stack =
     subst (λ (o : Option Made). HasGoneOn t look (c.args.most - c.moves.before) c.moves.stack o c.move_once.new.stack) c.in-None.is
     c.in_ok-move_once.ensures in
@@ -26,8 +26,8 @@ moves-preserved-in-None g c =
 
 pub returns-then-not-goes_on-clause-moved : goal.returns-then-not-goes_on-clause-moved
 returns-then-not-goes_on-clause-moved g c =
-    let t = c.args.blocks.now in
-    let look = around c.args.code.now (g.L.Look.answers c.args.look.now) in
+    let t = c.args.context.now.blocks.now in
+    let look = around c.args.context.now.code.now (g.L.Look.answers c.args.context.now.look.now) in
     let gone : HasGoneOn t look (c.args.most - c.moves.before) c.moves.stack (Some c.in-Some.made) c.move_once.new.stack =
     subst (λ (o : Option Made). HasGoneOn t look (c.args.most - c.moves.before) c.moves.stack o c.move_once.new.stack) c.in-Some.is
     c.in_ok-move_once.ensures in
@@ -35,8 +35,8 @@ returns-then-not-goes_on-clause-moved g c =
 
 pub moves-preserved-else-not-goes_on-54 : goal.moves-preserved-else-not-goes_on-54
 moves-preserved-else-not-goes_on-54 g c =
-    let t = c.args.blocks.now in
-    let look = around c.args.code.now (g.L.Look.answers c.args.look.now) in
+    let t = c.args.context.now.blocks.now in
+    let look = around c.args.context.now.code.now (g.L.Look.answers c.args.context.now.look.now) in
     let made = c.in-Some.made in
     let stack = c.move_once.new.stack in
     let gone : HasGoneOn t look (c.args.most - c.moves.before) c.moves.stack (Some made) stack =

@@ -11,10 +11,10 @@ abbrev pub invariant-moves : goal.invariant-moves
 invariant-moves g l = record {
   counted : l.before < l.fn.most;
   told : l.stack.left ≡ [];
-  at : IsAtMove (todo_of l.fn.blocks l.stack.todo);
-  few : HasFewToDo (todo_of l.fn.blocks l.stack.todo);
+  at : IsAtMove (todo_of l.fn.context.blocks.now l.stack.todo);
+  few : HasFewToDo (todo_of l.fn.context.blocks.now l.stack.todo);
   leads :
-      LeadsTo (around l.fn.code (g.L.Look.answers l.fn.look)) l.before (frame_of l.fn.blocks l.initial.stack) (frame_of l.fn.blocks l.stack);
+      LeadsTo (around l.fn.context.code.now (g.L.Look.answers l.fn.context.look.now)) l.before (frame_of l.fn.context.blocks.now l.initial.stack) (frame_of l.fn.context.blocks.now l.stack);
 }
 
 abbrev pub decreases-moves : goal.decreases-moves
