@@ -1,5 +1,5 @@
 -- What a greenlet's steps read of it but for its phase: going on and ending replace the phase that it has.
-use Rattle.std.proofs.Common.{◌≡◌, refl, ap, ◌∙◌, ℕ, zero, suc, Bool, ◌==◌, List, [], ◌∷◌, None, slice_get, slice_set, unwrap_or, if◌then◌else◌}
+use Rattle.std.proofs.Common.{◌≡◌, refl, sym, ap, ◌∙◌, ℕ, zero, suc, Bool, ◌==◌, List, [], ◌∷◌, Some, None, slice_get, slice_set, unwrap_or, if◌then◌else◌}
 use Rattle.gv_values.specs.declared.value.Value.{Value}
 use Rattle.gv_values.specs.declared.value.Outcome.{Outcome}
 use Rattle.machine.specs.declared.state.Greenlet.{Greenlet}
@@ -8,10 +8,11 @@ use Rattle.machine.specs.declared.state.Frame.{Frame}
 use Rattle.std.specs.Prelude.{map}
 use Rattle.trace_text.specs.declared.line.Line.{Line}
 use Rattle.machine.specs.Settle.{settle}
+use Rattle.machine.specs.Soundness.{phase_of}
 use Rattle.machine.specs.State.{State, say}
 use Rattle.machine.specs.Unwinding.{Unwound, unwind}
 use Rattle.machine.specs.Landing.{Next, Landing, after_end, goes_on, resumes, starts, given}
-use Rattle.machine.specs.Greenlets.{nobody, greenlet, function_of, with_phase}
+use Rattle.machine.specs.Greenlets.{no_frame, nobody, greenlet, function_of, with_phase}
 use Rattle.machine.specs.Ends.{ended, stop_of, leaving_of, outcome_of_leaving}
 use Rattle.machine.specs.Items.{drop_items, goes_at_end, is_timeout_of}
 use Rattle.machine.specs.Objects.{without_member}
@@ -49,6 +50,15 @@ same_function (x ∷ gs) (suc g) p = same_function gs g p
 
 pub with_phase_twice : (g : ℕ) (p q : Phase) (s : State) → with_phase g q (with_phase g p s) ≡ with_phase g q s
 with_phase_twice g p q s = ap (λ gs. record s { greenlets = gs }) (phase_twice s.greenlets g p q)
+
+-- who has the phase already
+pub phase_same : (gs : List Greenlet) (g : ℕ) (p : Phase) → phase_of g gs ≡ Some p → slice_set gs g (phased gs g p) ≡ gs
+phase_same [] g p h = refl
+phase_same (x ∷ gs) zero p h = ap (λ q. record x { phase = q } ∷ gs) (sym (ap (λ o. unwrap_or o p) h))
+phase_same (x ∷ gs) (suc g) p h = ap (λ ys. x ∷ ys) (phase_same gs g p h)
+
+pub under_way_still : (g : ℕ) (s : State) → phase_of g s.greenlets ≡ Some (Phase.Live no_frame) → s ≡ with_phase g (Phase.Live no_frame) s
+under_way_still g s h = ap (λ (gs : List Greenlet). record s { greenlets = gs }) (sym (phase_same s.greenlets g (Phase.Live no_frame) h))
 
 -- what comes of an end, by what is read of the greenlet
 abbrev after : Landing → ℕ → Outcome → Bool → ℕ → State → Next

@@ -1,5 +1,7 @@
 -- What parts of a run do outside of the hub, one after another.
-use Rattle.std.proofs.Common.{◌≡◌, refl, ap, sym, ◌∙◌, subst, ℕ, List, [], ◌∷◌, ◌++◌, append_assoc, Option, None, map, Bool}
+use Rattle.std.proofs.Common.{◌≡◌, refl, ap, sym, ◌∙◌, subst, ℕ, ◌==◌, List, [], ◌∷◌, ◌++◌, append_assoc, length, Option, None, map, Bool, true, false, arith}
+use Rattle.std.proofs.lemmas.Bool.{true≢false}
+use Rattle.std.proofs.lemmas.Bool.Decides.{nat_tests}
 use Rattle.std.proofs.lemmas.List.{append-nil, map-append}
 use Rattle.trace_text.specs.declared.line.Line.{Line}
 use Rattle.trace_text.specs.LineTexts.{text_of}
@@ -12,7 +14,8 @@ use Rattle.world_rules.specs.Legal.{AreLegal, IsLegal, answers_of, posted, posts
 use Rattle.world.specs.Worlds.{WorldGoesOn, WorldMeaning, Stores}
 use Rattle.world.proofs.LegalLogs.{legal_append}
 use Rattle.machine.specs.declared.state.Post.{Post}
-use Rattle.machine.specs.Run.{logged}
+use Rattle.machine.specs.Run.{logged, silent}
+use Rattle.machine.specs.State.{State}
 use Rattle.machine_turns.specs.Logs.{posts_of_step}
 use Rattle.hub_engine.specs.Outside.{HasDone, HasGiven, HasGivenPart, HasPostedPart, Outside, WritesPart, out_of, outside}
 use Rattle.hub_engine.proofs.Texts.{text_of_append}
@@ -180,3 +183,16 @@ none_done v w lines posts e g = subst (λ ps. HasDone v w (map logged ps)) (fron
     front : (xs ys : List Post) → xs ++ ys ≡ [] → xs ≡ []
     front [] ys e = refl
     front (x ∷ xs) ys e = absurd (cc e)
+
+-- ---- a step that said and posted nothing
+
+pub silent_still : (s : State) (said : List Line) (posted : List Post) → said ≡ s.lines → posted ≡ s.posts → (length said == 0) ≡ true → (length posted == 0) ≡ true → s ≡ silent s
+silent_still s said posted e f lines posts =
+    ap (λ (ls : List Line). record s { lines = ls }) (sym e ∙ none said lines) ∙ ap (λ (ps : List Post). record s { lines = []; posts = ps }) (sym f ∙ none posted posts)
+  where
+    none : {X : Type 0} (xs : List X) → (length xs == 0) ≡ true → xs ≡ []
+    none [] e = refl
+    none (x ∷ xs) e = absurd (let some : (length (x ∷ xs) == 0) ≡ false = grind (arith, nat_tests) in true≢false (sym e ∙ some))
+
+pub given_silent : (v : Outside) (s : State) → s ≡ silent s → HasGiven v v s.lines (map logged s.posts)
+given_silent v s e = subst (λ (x : State). HasGiven v v x.lines (map logged x.posts)) (sym e) (given_nothing v)

@@ -1,3 +1,4 @@
+pub mod Beside
 pub mod Blind
 pub mod Bodies
 pub mod Counts

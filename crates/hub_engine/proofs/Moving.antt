@@ -117,7 +117,7 @@ abbrev pub settled_by : State → (Item → Bool) → State
 settled_by s h = record s { items = settled (map h s.items) s.next_ready s.items; next_ready = numbers_after (map h s.items) s.next_ready s.items }
 
 -- the body of a greenlet that is under way changes nothing of what holds
-settle-under-way : (g : ℕ) (body : Frame) (s : State) →
+pub settle-under-way : (g : ℕ) (body : Frame) (s : State) →
     settle (with_phase g (Phase.Live body) (with_phase g (Phase.Live no_frame) s)) ≡ with_phase g (Phase.Live body) (settle (with_phase g (Phase.Live no_frame) s))
 settle-under-way g body s =
     let t = with_phase g (Phase.Live no_frame) s in
@@ -181,7 +181,7 @@ does-as g locals (Did.Enters ms silent body todo) s = refl
 does-as g locals (Did.Asks request x todo) s = refl
 
 -- the body of the greenlet at this place
-body-at : (gs : List Greenlet) (g : ℕ) (body : Frame) → is_live (phase_of g (slice_set gs g (phased gs g (Phase.Live body)))) ≡ true →
+pub body-at : (gs : List Greenlet) (g : ℕ) (body : Frame) → is_live (phase_of g (slice_set gs g (phased gs g (Phase.Live body)))) ≡ true →
     frame_of (unwrap_or (slice_get (slice_set gs g (phased gs g (Phase.Live body))) g) nobody).phase ≡ body
 body-at [] g body h = absurd (grind (arith, h))
 body-at (x ∷ gs) zero body h = refl

@@ -1,19 +1,21 @@
 //! The moves of a greenlet.
-ghost use Rattle.std.specs.Prelude.{◌≡◌, ◌<◌, ◌≤◌, true, Some, OnOk, IfOk};
+ghost use Rattle.std.specs.Prelude.{◌≡◌, ◌<◌, ◌≤◌, true, IsTrue, Some, OnOk, IfOk};
 ghost use Rattle.body_frames.specs.Runs.{MovesOn};
 ghost use Rattle.body_frames.specs.Standings.{moved_of};
 ghost use Rattle.machine.specs.declared.state.Frame.{Frame};
 ghost use Rattle.machine.specs.declared.state.Phase.{Phase};
 ghost use Rattle.machine.specs.Bodies.{around};
-ghost use Rattle.machine.specs.Greenlets.{with_phase};
+ghost use Rattle.machine.specs.Greenlets.{no_frame, with_phase};
+ghost use Rattle.machine.specs.Landing.{answered};
+ghost use Rattle.machine.specs.Settle.{settle};
 ghost use Rattle.machine.specs.Requests.{follows, performs};
 ghost use Rattle.machine.specs.Moves.{enters, timeout_item};
-ghost use Rattle.machine.specs.Soundness.{Claim, is_unclaimed};
+ghost use Rattle.machine.specs.Soundness.{Claim, is_unclaimed, phase_of};
 ghost use Rattle.machine_trace_laws.specs.Reached.{state_of_next};
 ghost use Rattle.machine_well_formed.specs.Texts.{fits_request};
 ghost use Rattle.hub_state.specs.Sights.{look_of};
 ghost use Rattle.hub_requests.specs.Performing.{performed_of};
-ghost use Rattle.hub_engine.specs.Asking.{IsDeclaredAfter, does_came, fits_came};
+ghost use Rattle.hub_engine.specs.Asking.{IsDeclaredAfter, does_came, fits_came, leaves_greenlets};
 ghost use Rattle.hub_engine.specs.Making.{MayMove};
 ghost use Rattle.hub_engine.specs.Onward.{IsAtRest, MovesTo};
 ghost use Rattle.hub_engine.specs.Ready.{AreDeclared, IsReadyAt, IsReadyToMove};
@@ -21,7 +23,8 @@ ghost use Rattle.hub_engine.specs.Stands.{next_at};
 
 use crate::life::{answer_greenlet, hop_on, land, place_greenlet};
 use crate::stand::Stand;
-use body_frames::{Entering, Moved, Moving, Parked, Request, enter_timeout, move_on};
+use body_frames::{Entering, Moved, Moving, Parked, Request, answer_body, enter_timeout, move_on};
+use gv_values::Outcome;
 use hub_requests::{Performed, perform};
 use hub_state::{Hub, Seen, Stage};
 use machine::items::Delivery;
@@ -60,6 +63,38 @@ fn moves_ahead(hub: &Hub, g: u32, most: u64) -> u64
     1
 }
 
+/// Whether the greenlet is under way.
+fn is_under_way(hub: &Hub, g: u32) -> bool
+    ensures { IsTrue result → phase_of g hub.now.greenlets ≡ Some (Phase.Live no_frame) }
+{
+    match hub.stage(g) {
+        Some(Stage::UnderWay) => true,
+        _ => false,
+    }
+}
+
+/// Lets the greenlet be under way, as mostly it is already; then nothing is done.
+#[tactic(auto, using(crate::proofs::Blind::under_way_still))]
+fn go_under_way(hub: &mut Hub, g: u32)
+    ensures { hub.new ≡ with_phase g (Phase.Live no_frame) hub.old }
+{
+    if is_under_way(hub, g) {
+        return;
+    }
+    hub.set_stage(g, Stage::UnderWay);
+}
+
+/// Settles the hub, where there is anything to settle.
+fn settle_hub(alloc: Global, hub: &mut Hub) -> Result<(), AllocError>
+    ensures { OnOk result (hub.new ≡ settle hub.old) }
+{
+    if hub.is_at_rest() {
+        return Ok(());
+    }
+    hub.settle(alloc)?;
+    Ok(())
+}
+
 /// Goes on after a request of the greenlet.
 #[tactic(auto, using(crate::proofs::Functions::declared_settled))]
 pub fn go_on_after(
@@ -73,18 +108,94 @@ pub fn go_on_after(
 {
     match performed {
         Performed::Answers(outcome) => {
-            hub.settle(alloc)?;
+            settle_hub(alloc, hub)?;
             Ok(answer_greenlet(alloc, hub, g, outcome)?)
         }
         Performed::Parks => {
-            hub.settle(alloc)?;
+            settle_hub(alloc, hub)?;
             Ok(Stand::Resting)
         }
         Performed::Lands(target, input) => {
-            hub.settle(alloc)?;
+            settle_hub(alloc, hub)?;
             Ok(land(alloc, hub, target, input)?)
         }
         Performed::Stops(cause) => Ok(Stand::Over(cause)),
+    }
+}
+
+/// Whether the request has nothing to do with greenlets: it reads none and changes none.
+fn leaves_greenlets(request: &Request) -> bool
+    ensures { result ≡ leaves_greenlets request.now }
+{
+    match request {
+        Request::Print(_) => true,
+        Request::Sleep(_) => true,
+        Request::Set(_) => true,
+        Request::Clear(_) => true,
+        Request::WaitEvent(_, _) => true,
+        Request::ResultSet(_, _) => true,
+        Request::ResultFail(_, _) => true,
+        Request::ResultGet(_, _) => true,
+        Request::ResultWait(_, _) => true,
+        Request::Acquire(_, _) => true,
+        Request::Release(_) => true,
+        Request::QueuePut(_, _, _) => true,
+        Request::QueueGet(_, _) => true,
+        Request::QueuePeek(_, _) => true,
+        Request::QueueDone(_) => true,
+        Request::QueueJoin(_, _) => true,
+        Request::GroupJoin(_, _) => true,
+        Request::NativeSpawn(_, _, _, _) => true,
+        Request::ChannelPut(_, _) => true,
+        Request::ChannelGet(_) => true,
+        Request::QueueShut(_, _) => true,
+        _ => false,
+    }
+}
+
+/// Answers what the body of the greenlet under way asked, with the settling before it.
+#[tactic(auto, using(crate::proofs::Functions::declared_settled, crate::proofs::Functions::declared_placed))]
+fn answer_at_once(
+    alloc: Global,
+    hub: &mut Hub,
+    g: u32,
+    body: Parked,
+    answer: Outcome,
+) -> Result<Stand, AllocError>
+    requires declared { AreDeclared hub.old }
+    requires under_way { phase_of g hub.old.greenlets ≡ Some (Phase.Live no_frame) }
+    ensures { IfOk result (λ at. answered g answer (settle (with_phase g (Phase.Live body) hub.old)) ≡ next_at at hub.new) }
+{
+    settle_hub(alloc, hub)?;
+    let reached = answer_body(alloc, body, answer)?;
+    let hop = place_greenlet(alloc, hub, g, reached)?;
+    Ok(hop_on(alloc, hub, hop)?)
+}
+
+/// Performs what the body asks, where that has nothing to do with greenlets: mostly it is answered at once, so that the
+/// body stands beside the hub until it has to wait.
+#[tactic(auto, using(crate::proofs::Soundly::sound_parked))]
+fn serve_beside(
+    alloc: Global,
+    hub: &mut Hub,
+    g: u32,
+    request: Request,
+    body: Parked,
+) -> Result<Stand, AllocError>
+    requires may_move { MayMove g hub.old }
+    requires fits { fits_request hub.old.scenario request ≡ true }
+    requires leaves { leaves_greenlets request ≡ true }
+    requires after { AreDeclared (state_of_next (follows g (performs request g (with_phase g (Phase.Live body) hub.old)))) }
+    ensures { IfOk result (λ at. follows g (performs request g (with_phase g (Phase.Live body) hub.old)) ≡ next_at at hub.new) }
+{
+    go_under_way(hub, g);
+    let performed = perform(alloc, hub, request, g)?;
+    match performed {
+        Performed::Answers(outcome) => Ok(answer_at_once(alloc, hub, g, body, outcome)?),
+        other => {
+            hub.set_stage(g, Stage::Parked(body));
+            Ok(go_on_after(alloc, hub, g, other)?)
+        }
     }
 }
 
@@ -102,6 +213,9 @@ fn serve_request(
     requires after { AreDeclared (state_of_next (follows g (performs request g (with_phase g (Phase.Live body) hub.old)))) }
     ensures { IfOk result (λ at. follows g (performs request g (with_phase g (Phase.Live body) hub.old)) ≡ next_at at hub.new) }
 {
+    if leaves_greenlets(&request) {
+        return Ok(serve_beside(alloc, hub, g, request, body)?);
+    }
     hub.set_stage(g, Stage::Parked(body));
     let performed = perform(alloc, hub, request, g)?;
     Ok(go_on_after(alloc, hub, g, performed)?)
@@ -132,10 +246,10 @@ fn enter_block(
     requires declared { AreDeclared hub.old }
     ensures { (before : Frame) → IfOk result (λ at. enters g after body.silent body.body body.locals body.todo (with_phase g (Phase.Live before) hub.old) ≡ next_at at hub.new) }
 {
-    hub.set_stage(g, Stage::UnderWay);
+    go_under_way(hub, g);
     let n = hub.count_timeout()?;
     add_timeout(hub, g, n, after)?;
-    hub.settle(alloc)?;
+    settle_hub(alloc, hub)?;
     let reached = enter_timeout(alloc, body, n)?;
     let hop = place_greenlet(alloc, hub, g, reached)?;
     Ok(hop_on(alloc, hub, hop)?)
@@ -152,8 +266,8 @@ fn go_on_by(alloc: Global, hub: &mut Hub, g: u32, moved: Moved) -> Result<Stand,
 {
     match moved {
         Moved::Comes(reached) => {
-            hub.set_stage(g, Stage::UnderWay);
-            hub.settle(alloc)?;
+            go_under_way(hub, g);
+            settle_hub(alloc, hub)?;
             let hop = place_greenlet(alloc, hub, g, reached)?;
             Ok(hop_on(alloc, hub, hop)?)
         }

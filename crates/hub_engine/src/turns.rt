@@ -1,5 +1,5 @@
 //! Turns, and the whole run, whose trace is given out step by step.
-ghost use Rattle.std.specs.Prelude.{◌≡◌, ℕ, suc, Bool, true, [], OnOk, IfOk, IsSome, None, Some};
+ghost use Rattle.std.specs.Prelude.{◌≡◌, ℕ, suc, Bool, true, [], IsTrue, OnOk, IfOk, IsSome, None, Some};
 ghost use Rattle.trace_text.specs.LineTexts.{text_of};
 ghost use Rattle.trace_reader.specs.Ranges.{LinesFit};
 ghost use Rattle.gv_io.specs.Streams.{Extends};
@@ -30,22 +30,19 @@ use trace_reader::line_fits;
 use trace_text::{Line, StopCause, write_line};
 use world::{Question, World};
 
-/// How many bytes a line mostly has at most.
-const LINE_BYTES: usize = 64;
-
-/// The texts of the lines, each with LF. No line takes no memory.
+/// The text of the lines, each with LF, in place of what the text had.
 #[tactic(auto, using(crate::proofs::Texts::text_more, crate::proofs::Texts::fit_more))]
-fn texts(alloc: Global, lines: &[Line]) -> Result<Vec<u8>, AllocError>
-    ensures text { IfOk result (λ text. text.items ≡ text_of lines.now) }
+fn write_lines(lines: &[Line], text: &mut Vec<u8>) -> Result<(), AllocError>
+    ensures text { OnOk result (text.new.items ≡ text_of lines.now) }
     ensures fit { OnOk result (LinesFit lines.now) }
 {
-    let mut text = Vec::with_capacity(alloc, lines.len().saturating_mul(LINE_BYTES))?;
+    text.clear();
     for line in lines {
         line_fits(line);
-        write_line(line, &mut text)?;
+        write_line(line, text)?;
         text.push(b'\n')?;
     }
-    Ok(text)
+    Ok(())
 }
 
 /// The jobs are posted.
@@ -61,9 +58,60 @@ fn post_all<W: World>(world: &mut W, posts: &[Post]) -> Result<(), AllocError>
     Ok(())
 }
 
+/// Whether the step under way said and posted nothing.
+fn is_silent(hub: &Hub) -> bool
+    ensures { IsTrue result → hub.now ≡ silent hub.now }
+{
+    if !hub.lines().is_empty() {
+        return false;
+    }
+    hub.posts().is_empty()
+}
+
+/// The lines and posts of the step under way are given out; mostly there are none. The text is written over: it has room
+/// for the lines, so that few steps allocate.
+#[tactic(auto, using(crate::proofs::Giving::given_silent))]
+fn give_out<W: World, K: Sink>(
+    hub: &mut Hub,
+    world: &mut W,
+    sink: &mut K,
+    text: &mut Vec<u8>,
+) -> Result<(), Broken>
+    requires runs { (W.meaning world.old).runs ≡ true }
+    requires new { ArePostable (W.meaning world.old).posts hub.old.posts }
+    ensures given { Gives result (outside W.waits (K.written sink.old) (K.handed sink.old) (W.meaning world.old) (W.stands_for world.old)) (outside W.waits (K.written sink.new) (K.handed sink.new) (W.meaning world.new) (W.stands_for world.new)) hub.old.lines hub.old.posts }
+    ensures silent { OnOk result (hub.new ≡ silent hub.old) }
+    ensures counts { Counts result (K.faults sink.old) (K.faults sink.new) }
+{
+    if is_silent(hub) {
+        return Ok(());
+    }
+    Ok(give_out_said(hub, world, sink, text)?)
+}
+
 /// The lines and posts of the step under way are given out.
 #[tactic(auto, using(crate::proofs::Trying::tries, crate::proofs::Giving::part_nothing))]
-fn give_out<W: World, K: Sink>(
+fn give_out_said<W: World, K: Sink>(
+    hub: &mut Hub,
+    world: &mut W,
+    sink: &mut K,
+    text: &mut Vec<u8>,
+) -> Result<(), Broken>
+    requires runs { (W.meaning world.old).runs ≡ true }
+    requires new { ArePostable (W.meaning world.old).posts hub.old.posts }
+    ensures given { Gives result (outside W.waits (K.written sink.old) (K.handed sink.old) (W.meaning world.old) (W.stands_for world.old)) (outside W.waits (K.written sink.new) (K.handed sink.new) (W.meaning world.new) (W.stands_for world.new)) hub.old.lines hub.old.posts }
+    ensures silent { OnOk result (hub.new ≡ silent hub.old) }
+    ensures counts { Counts result (K.faults sink.old) (K.faults sink.new) }
+{
+    write_lines(hub.lines(), text)?;
+    post_all(world, hub.posts())?;
+    hub.forget_step();
+    sink.write_all(text.as_slice())?;
+    Ok(())
+}
+
+/// As `give_out`, with a text of its own.
+fn give_out_once<W: World, K: Sink>(
     alloc: Global,
     hub: &mut Hub,
     world: &mut W,
@@ -75,11 +123,8 @@ fn give_out<W: World, K: Sink>(
     ensures silent { OnOk result (hub.new ≡ silent hub.old) }
     ensures counts { Counts result (K.faults sink.old) (K.faults sink.new) }
 {
-    let text = texts(alloc, hub.lines())?;
-    post_all(world, hub.posts())?;
-    hub.forget_step();
-    sink.write_all(text.as_slice())?;
-    Ok(())
+    let mut text = Vec::new(alloc);
+    Ok(give_out(hub, world, sink, &mut text)?)
 }
 
 /// As `give_out`, before a question: what was written is handed on where the answer may be long in coming.
@@ -97,7 +142,7 @@ fn give_out_before<W: World, K: Sink>(
     ensures silent { OnOk result (hub.new ≡ silent hub.old) }
     ensures counts { Counts result (K.faults sink.old) (K.faults sink.new) }
 {
-    give_out(alloc, hub, world, sink)?;
+    give_out_once(alloc, hub, world, sink)?;
     if world.may_wait() {
         sink.flush()?;
     }
@@ -121,8 +166,9 @@ fn run_greenlet<W: World, K: Sink>(
 {
     let mut at = at;
     let mut left = moves;
+    let mut text = Vec::new(alloc);
     loop {
-        give_out(alloc, hub, world, sink)?;
+        give_out(hub, world, sink, &mut text)?;
         match at {
             Stand::Resting => return Ok(Came::ToRest),
             Stand::Over(cause) => return Ok(Came::ToAnEnd(cause)),
@@ -138,29 +184,37 @@ fn run_greenlet<W: World, K: Sink>(
     }
 }
 
-/// The items with a number below the mark are delivered, the least first, at most so many.
+/// What a turn delivers, as of its beginning.
+#[derive(Clone, Copy)]
+struct Due {
+    /// The numbers of its items stand below this.
+    mark: u64,
+    /// They are at most so many.
+    most: usize,
+}
+
+/// The items that are due are delivered, the least number first.
 fn deliver_below<W: World, K: Sink>(
     alloc: Global,
     hub: &mut Hub,
     world: &mut W,
     sink: &mut K,
-    mark: u64,
+    due: Due,
     budget: u64,
-    most: usize,
 ) -> Result<Came, Broken>
     requires tied { IsTied (W.meaning world.old) hub.old }
     ensures tied { IfOk result (λ came. IsTiedAfter came (W.meaning world.new) hub.new) }
-    ensures given { Gives result (outside W.waits (K.written sink.old) (K.handed sink.old) (W.meaning world.old) (W.stands_for world.old)) (outside W.waits (K.written sink.new) (K.handed sink.new) (W.meaning world.new) (W.stands_for world.new)) (deliveries most budget mark hub.old).lines (deliveries most budget mark hub.old).posts }
-    ensures next { IfOk result (λ came. CameTo came (deliveries most budget mark hub.old).next hub.new) }
+    ensures given { Gives result (outside W.waits (K.written sink.old) (K.handed sink.old) (W.meaning world.old) (W.stands_for world.old)) (outside W.waits (K.written sink.new) (K.handed sink.new) (W.meaning world.new) (W.stands_for world.new)) (deliveries due.most budget due.mark hub.old).lines (deliveries due.most budget due.mark hub.old).posts }
+    ensures next { IfOk result (λ came. CameTo came (deliveries due.most budget due.mark hub.old).next hub.new) }
     ensures counts { Counts result (K.faults sink.old) (K.faults sink.new) }
 {
-    let mut left = most;
+    let mut left = due.most;
     while left > 0 {
         left -= 1;
-        if !hub.has_below(mark) {
+        if !hub.has_below(due.mark) {
             return Ok(Came::ToRest);
         }
-        match deliver_one(alloc, hub, world, sink, mark, budget)? {
+        match deliver_one(alloc, hub, world, sink, due.mark, budget)? {
             Came::ToRest => {}
             Came::ToAnEnd(cause) => return Ok(Came::ToAnEnd(cause)),
         }
@@ -207,9 +261,11 @@ fn turn<W: World, K: Sink>(
     ensures counts { Counts result (K.faults sink.old) (K.faults sink.new) }
 {
     hub.count_turn()?;
-    let most = hub.items_len();
-    let mark = hub.next_ready();
-    Ok(deliver_below(alloc, hub, world, sink, mark, budget, most)?)
+    let due = Due {
+        mark: hub.next_ready(),
+        most: hub.items_len(),
+    };
+    Ok(deliver_below(alloc, hub, world, sink, due, budget)?)
 }
 
 /// The question is asked, and its answer taken. The block line before it was given out.
@@ -230,7 +286,7 @@ fn take_answer<W: World, K: Sink>(
 {
     let answer = world.ask(question)?;
     hub.take(alloc, answer)?;
-    Ok(give_out(alloc, hub, world, sink)?)
+    Ok(give_out_once(alloc, hub, world, sink)?)
 }
 
 /// The question is asked and answered, after its block line.
@@ -335,7 +391,8 @@ fn stop<K: Sink>(
         turns: hub.turns(),
         moves: hub.moves(),
     };
-    let text = texts(alloc, &[line])?;
+    let mut text = Vec::new(alloc);
+    write_lines(&[line], &mut text)?;
     sink.write_all(text.as_slice())?;
     Ok(end)
 }

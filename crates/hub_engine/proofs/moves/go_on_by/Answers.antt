@@ -11,17 +11,17 @@ use Rattle.hub_engine.proofs.moves.go_on_by.Goals as goal
 
 pub hop_on-requires : goal.hop_on-requires
 hop_on-requires c =
-    let staged = declared_phased c.args.g (Phase.Live no_frame) c.args.hub.now c.set_stage.new.self c.requires.declared c.set_stage.ensures in
-    let settled = declared_settled c.set_stage.new.self c.settle.new.self staged c.in_ok-settle-in-Comes.ensures in
+    let staged = declared_phased c.args.g (Phase.Live no_frame) c.args.hub.now c.go_under_way.new.hub c.requires.declared c.go_under_way.ensures in
+    let settled = declared_settled c.go_under_way.new.hub c.settle_hub.new.hub staged c.in_ok-settle_hub-in-Comes.ensures in
     record {
-      declared = declared_placed c.args.g (reached_of c.in-Comes.reached) c.settle.new.self c.place_greenlet.new.hub c.in_ok-hop-in-Comes.hop settled c.in_ok-hop-in-Comes.ensures;
+      declared = declared_placed c.args.g (reached_of c.in-Comes.reached) c.settle_hub.new.hub c.place_greenlet.new.hub c.in_ok-hop-in-Comes.hop settled c.in_ok-hop-in-Comes.ensures;
     }
 
 pub returns-in_ok-hop_on-in-Comes : goal.returns-in_ok-hop_on-in-Comes
 returns-in_ok-hop_on-in-Comes c = λ before.
     ap (λ (m : Moved). does_came c.args.g (moved_of m) (with_phase c.args.g (Phase.Live before) c.args.hub.now)) c.in-Comes.is
-    ∙ settles_under_way c.args.g before (reached_of c.in-Comes.reached) c.args.hub.now c.set_stage.new.self c.settle.new.self c.place_greenlet.new.hub c.hop_on.new.hub c.in_ok-hop-in-Comes.hop c.in_ok-hop_on-in-Comes.field-0
-    c.set_stage.ensures c.in_ok-settle-in-Comes.ensures (c.in_ok-hop-in-Comes.ensures lands) c.in_ok-hop_on-in-Comes.ensures
+    ∙ settles_under_way c.args.g before (reached_of c.in-Comes.reached) c.args.hub.now c.go_under_way.new.hub c.settle_hub.new.hub c.place_greenlet.new.hub c.hop_on.new.hub c.in_ok-hop-in-Comes.hop c.in_ok-hop_on-in-Comes.field-0
+    c.go_under_way.ensures c.in_ok-settle_hub-in-Comes.ensures (c.in_ok-hop-in-Comes.ensures lands) c.in_ok-hop_on-in-Comes.ensures
 
 pub returns-in_ok-serve_request-in-Asks : goal.returns-in_ok-serve_request-in-Asks
 returns-in_ok-serve_request-in-Asks c = λ before.

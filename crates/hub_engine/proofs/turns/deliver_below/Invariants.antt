@@ -9,7 +9,7 @@ abbrev pub invariant-loop-left : goal.invariant-loop-left
 invariant-loop-left g l =
     IsPassing (outside g.W.World.waits (g.K.Sink.written l.initial.sink) (g.K.Sink.handed l.initial.sink) (g.W.World.meaning l.initial.world) (g.W.World.stands_for l.initial.world))
     (outside g.W.World.waits (g.K.Sink.written l.sink) (g.K.Sink.handed l.sink) (g.W.World.meaning l.world) (g.W.World.stands_for l.world))
-    (deliveries l.most l.budget l.mark l.initial.hub) (deliveries l.left l.budget l.mark l.hub)
+    (deliveries l.due.most l.budget l.due.mark l.initial.hub) (deliveries l.left l.budget l.due.mark l.hub)
     × (g.K.Sink.faults l.sink ≡ g.K.Sink.faults l.initial.sink) × IsTied (g.W.World.meaning l.world) l.hub
 
 abbrev pub decreases-loop-left : goal.decreases-loop-left

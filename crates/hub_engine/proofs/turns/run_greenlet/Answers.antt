@@ -9,64 +9,64 @@ use Rattle.hub_engine.proofs.Passing.{ended, move_given_up, moved_on, out_of_bud
 use Rattle.hub_engine.proofs.Tying.{postable_at, runs_at, tied_at_rest, tied_moved, to_move}
 use Rattle.hub_engine.proofs.turns.run_greenlet.Goals as goal
 
-pub loop-at-init : goal.loop-at-init
-loop-at-init g c = (passing _ _, refl, c.requires.tied)
+pub loop-text-init : goal.loop-text-init
+loop-text-init g c = (passing _ _, refl, c.requires.tied)
 
 pub give_out-requires : goal.give_out-requires
 give_out-requires g c =
-    record { runs = runs_at _ c.loop-at.at c.loop-at.hub c.loop-at.invariant.2; new = postable_at _ c.loop-at.at c.loop-at.hub c.loop-at.invariant.2 }
+    record { runs = runs_at _ c.loop-text.at c.loop-text.hub c.loop-text.invariant.2; new = postable_at _ c.loop-text.at c.loop-text.hub c.loop-text.invariant.2 }
 
 pub step_greenlet-requires : goal.step_greenlet-requires
 step_greenlet-requires g c =
-    record { some = omega (arith, c.if-left-eq0.false); ready = to_move _ c.loop-at.at _ _ c.loop-at.hub c.give_out.new.hub c.in-Going.is c.loop-at.invariant.2 c.in_ok-give_out.ensures.silent }
+    record { some = omega (arith, c.if-left-eq0.false); ready = to_move _ c.loop-text.at _ _ c.loop-text.hub c.give_out.new.hub c.in-Going.is c.loop-text.invariant.2 c.in_ok-give_out.ensures.silent }
 
 pub returns-in_err-give_out-clause-given : goal.returns-in_err-give_out-clause-given
 returns-in_err-give_out-clause-given g c =
-    let broken = runs_broken _ _ _ _ c.loop-at.left c.loop-at.at c.loop-at.hub c.loop-at.invariant.0 c.in_err-give_out.ensures.given in search (rules, broken)
+    let broken = runs_broken _ _ _ _ c.loop-text.left c.loop-text.at c.loop-text.hub c.loop-text.invariant.0 c.in_err-give_out.ensures.given in search (rules, broken)
 
 pub returns-in-Resting-clause-given : goal.returns-in-Resting-clause-given
 returns-in-Resting-clause-given g c =
-    (rested _ _ _ _ c.loop-at.left c.loop-at.at c.loop-at.hub c.in-Resting.is c.loop-at.invariant.0 c.in_ok-give_out.ensures.given).given
+    (rested _ _ _ _ c.loop-text.left c.loop-text.at c.loop-text.hub c.in-Resting.is c.loop-text.invariant.0 c.in_ok-give_out.ensures.given).given
 
 pub returns-in-Resting-clause-next : goal.returns-in-Resting-clause-next
 returns-in-Resting-clause-next g c =
     subst (λ (x : State). CameTo Came.ToRest (runs c.args.moves (next_at c.args.at c.args.hub.now)).next x) (sym c.in_ok-give_out.ensures.silent)
-    (rested _ _ _ _ c.loop-at.left c.loop-at.at c.loop-at.hub c.in-Resting.is c.loop-at.invariant.0 c.in_ok-give_out.ensures.given).next
+    (rested _ _ _ _ c.loop-text.left c.loop-text.at c.loop-text.hub c.in-Resting.is c.loop-text.invariant.0 c.in_ok-give_out.ensures.given).next
 
 pub returns-in-Resting-clause-tied : goal.returns-in-Resting-clause-tied
 returns-in-Resting-clause-tied g c =
-    tied_at_rest _ _ c.loop-at.at c.loop-at.hub c.give_out.new.hub c.in-Resting.is c.loop-at.invariant.2 c.in_ok-give_out.ensures.given c.in_ok-give_out.ensures.silent
+    tied_at_rest _ _ c.loop-text.at c.loop-text.hub c.give_out.new.hub c.in-Resting.is c.loop-text.invariant.2 c.in_ok-give_out.ensures.given c.in_ok-give_out.ensures.silent
 
 pub returns-in-Over-clause-given : goal.returns-in-Over-clause-given
 returns-in-Over-clause-given g c =
-    (ended _ _ _ _ c.loop-at.left c.loop-at.at _ c.loop-at.hub c.in-Over.is c.loop-at.invariant.0 c.in_ok-give_out.ensures.given).given
+    (ended _ _ _ _ c.loop-text.left c.loop-text.at _ c.loop-text.hub c.in-Over.is c.loop-text.invariant.0 c.in_ok-give_out.ensures.given).given
 
 pub returns-then-left-eq0-clause-given : goal.returns-then-left-eq0-clause-given
 returns-then-left-eq0-clause-given g c =
-    (out_of_budget _ _ _ _ c.loop-at.left c.loop-at.at _ _ c.loop-at.hub c.if-left-eq0.true c.in-Going.is c.loop-at.invariant.0 c.in_ok-give_out.ensures.given).given
+    (out_of_budget _ _ _ _ c.loop-text.left c.loop-text.at _ _ c.loop-text.hub c.if-left-eq0.true c.in-Going.is c.loop-text.invariant.0 c.in_ok-give_out.ensures.given).given
 
 pub returns-in_err-before-in-Going-clause-given : goal.returns-in_err-before-in-Going-clause-given
 returns-in_err-before-in-Going-clause-given g c =
-    let some : 0 < c.loop-at.left = omega (arith, c.if-left-eq0.false) in
-    let broken = move_given_up _ _ _ _ c.loop-at.left c.loop-at.at _ _ c.loop-at.hub some c.in-Going.is c.loop-at.invariant.0 c.in_ok-give_out.ensures.given in
+    let some : 0 < c.loop-text.left = omega (arith, c.if-left-eq0.false) in
+    let broken = move_given_up _ _ _ _ c.loop-text.left c.loop-text.at _ _ c.loop-text.hub some c.in-Going.is c.loop-text.invariant.0 c.in_ok-give_out.ensures.given in
     search (rules, broken)
 
 pub returns-in-Over-clause-next : goal.returns-in-Over-clause-next
 returns-in-Over-clause-next g c =
     subst (λ (x : State). CameTo (Came.ToAnEnd c.in-Over.cause) (runs c.args.moves (next_at c.args.at c.args.hub.now)).next x) (sym c.in_ok-give_out.ensures.silent)
-    (ended _ _ _ _ c.loop-at.left c.loop-at.at _ c.loop-at.hub c.in-Over.is c.loop-at.invariant.0 c.in_ok-give_out.ensures.given).next
+    (ended _ _ _ _ c.loop-text.left c.loop-text.at _ c.loop-text.hub c.in-Over.is c.loop-text.invariant.0 c.in_ok-give_out.ensures.given).next
 
 pub returns-then-left-eq0-clause-next : goal.returns-then-left-eq0-clause-next
 returns-then-left-eq0-clause-next g c =
     subst (λ (x : State). CameTo (Came.ToAnEnd StopCause.NoMoves) (runs c.args.moves (next_at c.args.at c.args.hub.now)).next x) (sym c.in_ok-give_out.ensures.silent)
-    (out_of_budget _ _ _ _ c.loop-at.left c.loop-at.at _ _ c.loop-at.hub c.if-left-eq0.true c.in-Going.is c.loop-at.invariant.0 c.in_ok-give_out.ensures.given).next
+    (out_of_budget _ _ _ _ c.loop-text.left c.loop-text.at _ _ c.loop-text.hub c.if-left-eq0.true c.in-Going.is c.loop-text.invariant.0 c.in_ok-give_out.ensures.given).next
 
-pub loop-at-preserved : goal.loop-at-preserved
-loop-at-preserved g c =
+pub loop-text-preserved : goal.loop-text-preserved
+loop-text-preserved g c =
     let went = c.in_ok-before-in-Going in (
-      moved_on _ _ _ _ c.loop-at.left went.before c.loop-at.at _ _ _ c.loop-at.hub c.give_out.new.hub c.step_greenlet.new.hub went.ensures.few c.in-Going.is c.loop-at.invariant.0
+      moved_on _ _ _ _ c.loop-text.left went.before c.loop-text.at _ _ _ c.loop-text.hub c.give_out.new.hub c.step_greenlet.new.hub went.ensures.few c.in-Going.is c.loop-text.invariant.0
           c.in_ok-give_out.ensures.given c.in_ok-give_out.ensures.silent went.ensures.moved,
-      c.in_ok-give_out.ensures.counts.tells ∙ c.loop-at.invariant.1,
-      tied_moved _ _ c.loop-at.at _ _ went.before _ c.loop-at.hub c.give_out.new.hub c.step_greenlet.new.hub c.loop-at.invariant.2 c.in_ok-give_out.ensures.given
+      c.in_ok-give_out.ensures.counts.tells ∙ c.loop-text.invariant.1,
+      tied_moved _ _ c.loop-text.at _ _ went.before _ c.loop-text.hub c.give_out.new.hub c.step_greenlet.new.hub c.loop-text.invariant.2 c.in_ok-give_out.ensures.given
           c.in_ok-give_out.ensures.silent went.ensures.moved went.ensures.ready,
     )

@@ -24,26 +24,26 @@ returns-in_err-take-clause-ran g c = λ go.
     c.in_ok-answer.ensures.legal c.in_ok-answer.ensures.stored c.in_ok-answer.ensures.log refl (tried-nothing _ _) (Extends-nothing _) (done_nothing after) in
     search (rules, broken)
 
-pub give_out-requires : goal.give_out-requires
-give_out-requires g c =
+pub give_out_once-requires : goal.give_out_once-requires
+give_out_once-requires g c =
     let tied = tied_answered _ _ c.args.question c.in_ok-answer.answer c.args.hub.now c.take.new.self c.requires.tied c.in_ok-answer.ensures.legal c.in_ok-answer.ensures.stored c.in_ok-take.ensures in
     record { runs = tied.runs; new = postable_at _ Stand.Resting c.take.new.self tied }
 
-pub returns-in_err-give_out-clause-ran : goal.returns-in_err-give_out-clause-ran
-returns-in_err-give_out-clause-ran g c = λ go.
+pub returns-in_err-give_out_once-clause-ran : goal.returns-in_err-give_out_once-clause-ran
+returns-in_err-give_out_once-clause-ran g c = λ go.
     let none = posts_taken _ c.in_ok-answer.answer c.args.hub.now c.take.new.self c.requires.tied c.in_ok-take.ensures in
-    let broken = answered_broken (outside g.W.World.waits (g.K.Sink.written c.args.sink.now) (g.K.Sink.handed c.args.sink.now) (g.W.World.meaning c.args.world.now) (g.W.World.stands_for c.args.world.now)) (outside g.W.World.waits (g.K.Sink.written c.args.sink.now) (g.K.Sink.handed c.args.sink.now) (g.W.World.meaning c.ask.new.self) (g.W.World.stands_for c.ask.new.self)) (outside g.W.World.waits (g.K.Sink.written c.give_out.new.sink) (g.K.Sink.handed c.give_out.new.sink) (g.W.World.meaning c.give_out.new.world) (g.W.World.stands_for c.give_out.new.world)) go c.args.question c.in_ok-answer.answer c.args.hub.now c.take.new.self refl refl c.requires.out
-    c.in_ok-answer.ensures.legal c.in_ok-answer.ensures.stored c.in_ok-answer.ensures.log c.in_ok-take.ensures c.in_err-give_out.ensures.given.text c.in_err-give_out.ensures.given.out
-    (none_done (outside g.W.World.waits (g.K.Sink.written c.args.sink.now) (g.K.Sink.handed c.args.sink.now) (g.W.World.meaning c.ask.new.self) (g.W.World.stands_for c.ask.new.self)) (outside g.W.World.waits (g.K.Sink.written c.give_out.new.sink) (g.K.Sink.handed c.give_out.new.sink) (g.W.World.meaning c.give_out.new.world) (g.W.World.stands_for c.give_out.new.world)) _ _ none c.in_err-give_out.ensures.given) in
+    let broken = answered_broken (outside g.W.World.waits (g.K.Sink.written c.args.sink.now) (g.K.Sink.handed c.args.sink.now) (g.W.World.meaning c.args.world.now) (g.W.World.stands_for c.args.world.now)) (outside g.W.World.waits (g.K.Sink.written c.args.sink.now) (g.K.Sink.handed c.args.sink.now) (g.W.World.meaning c.ask.new.self) (g.W.World.stands_for c.ask.new.self)) (outside g.W.World.waits (g.K.Sink.written c.give_out_once.new.sink) (g.K.Sink.handed c.give_out_once.new.sink) (g.W.World.meaning c.give_out_once.new.world) (g.W.World.stands_for c.give_out_once.new.world)) go c.args.question c.in_ok-answer.answer c.args.hub.now c.take.new.self refl refl c.requires.out
+    c.in_ok-answer.ensures.legal c.in_ok-answer.ensures.stored c.in_ok-answer.ensures.log c.in_ok-take.ensures c.in_err-give_out_once.ensures.given.text c.in_err-give_out_once.ensures.given.out
+    (none_done (outside g.W.World.waits (g.K.Sink.written c.args.sink.now) (g.K.Sink.handed c.args.sink.now) (g.W.World.meaning c.ask.new.self) (g.W.World.stands_for c.ask.new.self)) (outside g.W.World.waits (g.K.Sink.written c.give_out_once.new.sink) (g.K.Sink.handed c.give_out_once.new.sink) (g.W.World.meaning c.give_out_once.new.world) (g.W.World.stands_for c.give_out_once.new.world)) _ _ none c.in_err-give_out_once.ensures.given) in
     search (rules, broken)
 
 pub returns-clause-ran : goal.returns-clause-ran
 returns-clause-ran g c = λ go.
     let none = posts_taken _ c.in_ok-answer.answer c.args.hub.now c.take.new.self c.requires.tied c.in_ok-take.ensures in
-    answered_on (outside g.W.World.waits (g.K.Sink.written c.args.sink.now) (g.K.Sink.handed c.args.sink.now) (g.W.World.meaning c.args.world.now) (g.W.World.stands_for c.args.world.now)) (outside g.W.World.waits (g.K.Sink.written c.args.sink.now) (g.K.Sink.handed c.args.sink.now) (g.W.World.meaning c.ask.new.self) (g.W.World.stands_for c.ask.new.self)) (outside g.W.World.waits (g.K.Sink.written c.give_out.new.sink) (g.K.Sink.handed c.give_out.new.sink) (g.W.World.meaning c.give_out.new.world) (g.W.World.stands_for c.give_out.new.world)) go c.args.question c.in_ok-answer.answer c.args.hub.now c.take.new.self c.give_out.new.hub refl refl c.requires.out
-    c.in_ok-answer.ensures.legal c.in_ok-answer.ensures.stored c.in_ok-answer.ensures.log c.in_ok-take.ensures none c.in_ok-give_out.ensures.given c.in_ok-give_out.ensures.silent
+    answered_on (outside g.W.World.waits (g.K.Sink.written c.args.sink.now) (g.K.Sink.handed c.args.sink.now) (g.W.World.meaning c.args.world.now) (g.W.World.stands_for c.args.world.now)) (outside g.W.World.waits (g.K.Sink.written c.args.sink.now) (g.K.Sink.handed c.args.sink.now) (g.W.World.meaning c.ask.new.self) (g.W.World.stands_for c.ask.new.self)) (outside g.W.World.waits (g.K.Sink.written c.give_out_once.new.sink) (g.K.Sink.handed c.give_out_once.new.sink) (g.W.World.meaning c.give_out_once.new.world) (g.W.World.stands_for c.give_out_once.new.world)) go c.args.question c.in_ok-answer.answer c.args.hub.now c.take.new.self c.give_out_once.new.hub refl refl c.requires.out
+    c.in_ok-answer.ensures.legal c.in_ok-answer.ensures.stored c.in_ok-answer.ensures.log c.in_ok-take.ensures none c.in_ok-give_out_once.ensures.given c.in_ok-give_out_once.ensures.silent
 
 pub returns-clause-tied : goal.returns-clause-tied
 returns-clause-tied g c =
     let tied = tied_answered _ _ c.args.question c.in_ok-answer.answer c.args.hub.now c.take.new.self c.requires.tied c.in_ok-answer.ensures.legal c.in_ok-answer.ensures.stored c.in_ok-take.ensures in
-    tied_at_rest (outside g.W.World.waits (g.K.Sink.written c.args.sink.now) (g.K.Sink.handed c.args.sink.now) (g.W.World.meaning c.ask.new.self) (g.W.World.stands_for c.ask.new.self)) (outside g.W.World.waits (g.K.Sink.written c.give_out.new.sink) (g.K.Sink.handed c.give_out.new.sink) (g.W.World.meaning c.give_out.new.world) (g.W.World.stands_for c.give_out.new.world)) Stand.Resting c.take.new.self c.give_out.new.hub refl tied c.in_ok-give_out.ensures.given c.in_ok-give_out.ensures.silent
+    tied_at_rest (outside g.W.World.waits (g.K.Sink.written c.args.sink.now) (g.K.Sink.handed c.args.sink.now) (g.W.World.meaning c.ask.new.self) (g.W.World.stands_for c.ask.new.self)) (outside g.W.World.waits (g.K.Sink.written c.give_out_once.new.sink) (g.K.Sink.handed c.give_out_once.new.sink) (g.W.World.meaning c.give_out_once.new.world) (g.W.World.stands_for c.give_out_once.new.world)) Stand.Resting c.take.new.self c.give_out_once.new.hub refl tied c.in_ok-give_out_once.ensures.given c.in_ok-give_out_once.ensures.silent
