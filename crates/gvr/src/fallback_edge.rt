@@ -1,8 +1,6 @@
 //! The edge to a system that refuses a poll or a clock: what stands in for these.
 //!
 //! Trusted: that nothing more is needed. No clause says what an ear or a bell does.
-//!
-//! Trusted: no clause says what the ear and the bell do.
 
 use native_board::Bell;
 use native_pool::{Clock, Ear, SteadyClock};
@@ -12,9 +10,7 @@ use native_pool::{Clock, Ear, SteadyClock};
 pub struct DeafEar;
 
 impl Ear for DeafEar {
-    fn rest(&mut self, at_most: Option<u64>) {
-        let _ = at_most;
-    }
+    fn rest(&mut self, at_most: Option<u64>) {}
 }
 
 /// A bell that does nothing.

@@ -103,6 +103,7 @@ fn run<H: Threads + Wait + Copy>(
 
 /// Tells of want of memory, and gives its status.
 fn without_memory(rt: &HostRuntime) -> ExitCode {
+    // The status stays where the line can't be written.
     let _ = rt.stderr().lock().write_all(b"gvr: out of memory\n");
     ExitCode::from(OUT_OF_MEMORY)
 }

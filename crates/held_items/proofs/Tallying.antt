@@ -1,10 +1,11 @@
 -- How many wait for each thing, as items come, go, and get their numbers.
-use Rattle.std.proofs.Common.{◌≡◌, ℕ, zero, suc, ◌+◌, ◌<◌, ◌≤◌, ◌&&◌, Bool, true, false, cond, List, [], ◌∷◌, ◌++◌, length, set, Option, Some, None, refl, sym, ap, ◌∙◌, subst, arith, inl, inr, get_or-set_same, get_or-set_other, nat_lt}
+use Rattle.std.proofs.Common.{◌≡◌, ℕ, zero, suc, ◌+◌, ◌^◌, ◌<◌, ◌≤◌, ◌&&◌, Bool, true, false, cond, List, [], ◌∷◌, ◌++◌, length, set, Option, Some, None, refl, sym, ap, ◌∙◌, subst, arith, inl, inr, get_or-set_same, get_or-set_other, nat_lt}
 use Rattle.std.specs.Prelude.{count_by, is_some}
 use Rattle.std.proofs.Math.Path.{fun_ext}
 use Rattle.std.proofs.lemmas.Bool.{cases_eq}
 use Rattle.std.proofs.lemmas.Bool.Decides.{nat_tests}
-use Rattle.std.proofs.lemmas.List.Sums.{sum_by-cons, sum_by-le-sum_by}
+use Rattle.std.proofs.lemmas.List.Sums.{count_by-le-length, sum_by-cons, sum_by-le-sum_by}
+use Rattle.std.proofs.lemmas.List.{length-map}
 use Rattle.linked_items.specs.Items.{Differ}
 use Rattle.machine.specs.declared.items.Delivery.{Delivery}
 use Rattle.machine.specs.declared.items.Item.{Item}
@@ -33,6 +34,14 @@ length_index test (e ∷ es) = by (test e.1.delivery) (length_index test es) ∙
         length (slots_of (cond b (e ∷ some test es) (some test es))) ≡ cond b 1 0 + count_by (λ (i : Item). test i.delivery) (flat es)
     by true r = omega (arith, r)
     by false r = omega (arith, r)
+
+-- no more are counted than there are
+pub count_few : (test : Item → Bool) (es : List Entry) → count_by test (flat es) ≤ length es
+count_few test es = let a = count_by-le-length test (flat es) in let b = length-map es (λ (e : Entry). e.1) in omega (arith, a, b)
+
+-- so it is of those who wait for one thing
+pub tallied_few : (table : List Tally) (es : List Entry) (k : ℕ) → tally_at table k ≡ tally_in es k → length es + 1 < 2 ^ 64 → (tally_at table k).waiting + 1 < 2 ^ 64
+tallied_few table es k is few = let a = ap (λ (t : Tally). t.waiting) is in let b = count_few (waits_by k) es in omega (arith, a, b, few)
 
 -- all who wait in a line were made before one that is made later
 earlier_all : (test : Waiting → Bool) (low next since : ℕ) (es : List Entry) → next ≤ since → AscendTo low next (flat es) → earlier test since (flat es) ≡ length (index (wakes test) es)

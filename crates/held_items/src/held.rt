@@ -1,5 +1,5 @@
 //! The items themselves: one comes, one goes.
-ghost use Rattle.std.specs.Prelude.{◌≡◌, ◌+◌, ℕ, List, [], ◌∷◌, ◌++◌, length, Option, Some, IsSome, is_some, IfOk, OnErr};
+ghost use Rattle.std.specs.Prelude.{◌≡◌, ◌+◌, ◌<◌, ◌^◌, ℕ, List, [], ◌∷◌, ◌++◌, length, Option, Some, IsSome, is_some, IfOk, OnErr, OnOk};
 ghost use Rattle.linked_items.specs.Items.{Lacks, Differ};
 ghost use Rattle.slot_chains.specs.Chained.{first_of};
 ghost use Rattle.machine.specs.Deliveries.{without};
@@ -9,10 +9,12 @@ ghost use Rattle.held_items.specs.Indexed.{AreIndexed};
 ghost use Rattle.held_items.specs.Lined.{AreLined};
 ghost use Rattle.held_items.specs.Held.{HasPlace, no_items, added, taken};
 
+use crate::borders::Borders;
 use crate::indexes::Indexes;
 use crate::lines::Lines;
 use crate::shelf::Shelf;
 use crate::tallies::Tallies;
+use crate::waits::waits_key;
 use machine::items::{Delivery, Item};
 use std::alloc::{AllocError, Global};
 use std::marker::Model;
@@ -24,6 +26,7 @@ pub struct HeldItems {
     pub(crate) indexes: Indexes,
     pub(crate) lines: Lines,
     pub(crate) tallies: Tallies,
+    pub(crate) borders: Borders,
     pub(crate) next_since: u64,
 }
 
@@ -43,20 +46,23 @@ impl Model for HeldItems {
 }
 
 /// Makes room for one more item everywhere, and gives its slot. `AllocError`: memory is wanting.
+#[tactic(auto, using(crate::proofs::Indexing::few_kills))]
 fn make_room(
     shelf: &mut Shelf,
     indexes: &mut Indexes,
     lines: &mut Lines,
     delivery: &Delivery,
 ) -> Result<u32, AllocError>
+    requires { AreIndexed indexes.old shelf.old.entries }
     ensures kept { shelf.new.entries ≡ shelf.old.entries }
     ensures indexed { (es : List Entry) → AreIndexed indexes.old es → AreIndexed indexes.new es }
     ensures lined { (es : List Entry) → AreLined lines.old es → AreLined lines.new es }
     ensures next { lines.new.due.next ≡ lines.old.due.next }
+    ensures few { OnOk result (length shelf.old.entries + 1 < 2 ^ 64) }
     ensures room { IfOk result (λ slot. HasPlace shelf.new indexes.new lines.new slot delivery.now) }
 {
     let slot = shelf.reserve()?;
-    let more = shelf.len().checked_add(1).ok_or(AllocError)?;
+    let more = shelf.len() + 1;
     indexes.reserve(slot, delivery)?;
     lines.reserve(more)?;
     Ok(slot)
@@ -72,6 +78,7 @@ impl HeldItems {
             indexes: Indexes::new(alloc),
             lines: Lines::new(alloc),
             tallies: Tallies::new(alloc),
+            borders: Borders::new(alloc),
             next_since: 0,
         }
     }
@@ -87,13 +94,14 @@ impl HeldItems {
         ensures err { OnErr result (self.new ≡ self.old) }
     {
         let next = self.next_since.checked_add(1).ok_or(AllocError)?;
-        self.tallies.reserve(&delivery)?;
         let slot = make_room(
             &mut self.shelf,
             &mut self.indexes,
             &mut self.lines,
             &delivery,
         )?;
+        self.tallies.reserve(&delivery)?;
+        self.borders.make_place(waits_key(&delivery))?;
         self.indexes.enter(slot, &delivery);
         self.lines.enter(slot, self.next_since, &delivery);
         self.tallies.enter(&delivery);
@@ -113,10 +121,12 @@ impl HeldItems {
         ensures taken { self.new ≡ taken slot self.old }
         ensures items { flat self.new.entries ≡ without result.since (flat self.old.entries) }
     {
+        let before = self.indexes.previous_waiting(slot);
         let item = self.shelf.remove(slot);
         self.indexes.leave(slot, &item.delivery);
         self.lines.leave(slot, &item);
         self.tallies.leave(&item);
+        self.borders.leave(waits_key(&item.delivery), slot, before);
         item
     }
 

@@ -2,6 +2,7 @@
 //! deadline, with no walk over all of them.
 #![tactic(auto)]
 
+mod borders;
 mod classes;
 mod drops;
 mod held;

@@ -1,5 +1,5 @@
 //! How many wait for each thing, and how many of them have a ready number.
-ghost use Rattle.std.specs.Prelude.{◌≡◌, ℕ, ◌<◌, ◌≤◌, true, List, [], ◌∷◌, ◌++◌, Some, None, is_some, slice_set, length, OnOk};
+ghost use Rattle.std.specs.Prelude.{◌≡◌, ℕ, ◌+◌, ◌<◌, ◌≤◌, ◌^◌, true, List, [], ◌∷◌, ◌++◌, Some, None, is_some, slice_set, length, OnOk};
 ghost use Rattle.linked_items.specs.Items.{Differ};
 ghost use Rattle.hub_items.specs.declared.waits.WaitKind.{WaitKind};
 ghost use Rattle.held_items.specs.Entries.{Entry, item_in, slots_of, with_ready, without_slot};
@@ -82,8 +82,9 @@ impl Tallies {
         self.table[key] = tally;
     }
 
-    /// Makes room for one more item. `AllocError`: memory is wanting, or those who wait would pass 64 bits.
+    /// Makes room for one more item. `AllocError`: memory is wanting.
     pub fn reserve(&mut self, delivery: &Delivery) -> Result<(), AllocError>
+        requires { (k : ℕ) → (tally_at self.old.table.items k).waiting + 1 < 2 ^ 64 }
         ensures room { OnOk result (HasTally self.new (waits_key delivery.now)) }
         ensures kept { (es : List Entry) → AreTallied self.old es → AreTallied self.new es }
     {
@@ -91,9 +92,6 @@ impl Tallies {
             return Ok(());
         };
         lengthen(&mut self.table, key + 1)?;
-        if self.at(key).waiting == u64::MAX {
-            return Err(AllocError);
-        }
         Ok(())
     }
 

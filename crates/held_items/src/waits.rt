@@ -2,7 +2,7 @@
 //! walk over the others.
 ghost use Rattle.std.specs.Prelude.{◌≡◌, ◌+◌, ◌<◌, ◌^◌, ℕ, List, ◌∷◌, ◌++◌, None, Some, IfSome, map};
 ghost use Rattle.gv_values.specs.declared.value.Whom.{Whom as AnyWhom};
-ghost use Rattle.slot_chains.specs.Chained.{first_of};
+ghost use Rattle.slot_chains.specs.Chained.{first_of, last_of};
 ghost use Rattle.machine_settling.specs.Classes.{class_of, class_of_wait};
 ghost use Rattle.hub_items.specs.declared.waits.WaitKind.{WaitKind};
 ghost use Rattle.hub_items.specs.Lines.{waiting_line};
@@ -197,6 +197,19 @@ impl HeldItems {
         ensures in_none { (o : ℕ) (xs ys : List ℕ) → index (waits_in_none o) self.now.entries ≡ xs ++ slot ∷ ys → result ≡ first_of ys None }
     {
         self.indexes.next_waiting(slot)
+    }
+
+    /// The slot of the item that was made before that of this slot, of those that wait in the same line.
+    pub fn previous_waiting(&self, slot: u32) -> Option<u32>
+        ensures { (kind : WaitKind) (o : ℕ) (xs ys : List ℕ) → index (waits_in_line kind o) self.now.entries ≡ xs ++ slot ∷ ys → result ≡ last_of None xs }
+    {
+        self.indexes.previous_waiting(slot)
+    }
+
+    /// The slot of the last item with a ready number that waits in the line of this kind at this object, as far as is
+    /// known: whoever takes it has to try it.
+    pub fn last_numbered(&self, o: u32, kind: WaitKind) -> Option<u32> {
+        self.borders.guess(in_line(o, kind))
     }
 
     /// The slot of the oldest item that waits for this target.

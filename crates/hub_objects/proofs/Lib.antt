@@ -1,3 +1,4 @@
+pub mod Belonging
 pub mod JobSets
 pub mod Leaving
 pub mod ObjectSets

@@ -13,6 +13,12 @@ object_set [] o d c h = refl
 object_set (x ∷ os) zero d c h = refl
 object_set (x ∷ os) (suc o) d c h = ap (λ ys. x ∷ ys) (object_set os o d c (omega (arith, h)))
 
+pub left_set : (os : List Object) (o : ℕ) (d : Object) (g : ℕ) → o < length os →
+    slice_set os o (without_member g (slice_index_or os o d)) ≡ slice_set os o (without_member g (unwrap_or (slice_get os o) no_object))
+left_set [] o d g h = refl
+left_set (x ∷ os) zero d g h = refl
+left_set (x ∷ os) (suc o) d g h = ap (λ ys. x ∷ ys) (left_set os o d g (omega (arith, h)))
+
 pub object_out : (os : List Object) (o : ℕ) (x : Object) → length os ≤ o → os ≡ slice_set os o x
 object_out [] o y h = refl
 object_out (x ∷ os) zero y h = grind arith

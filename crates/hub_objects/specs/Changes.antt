@@ -1,5 +1,5 @@
 -- What a step does to one object.
-use Rattle.std.specs.Prelude.{ℕ, ◌+◌, ◌-◌, Some}
+use Rattle.std.specs.Prelude.{ℕ, ◌+◌, ◌-◌, Option, Some, None}
 use Rattle.machine.specs.declared.state.Object.{Object}
 use Rattle.machine.specs.Objects.{after_release, with_flag, with_unit_taken, with_owner, with_item, with_item_taken, with_shut, with_member, with_offer, with_offer_taken, with_slot_taken, with_slot_freed}
 use Rattle.hub_objects.specs.declared.objects.Change.{Change}
@@ -36,3 +36,8 @@ changed Change.OfferTaken = with_offer_taken
 changed (Change.Member g) = with_member g
 changed Change.SlotTaken = with_slot_taken
 changed Change.SlotFreed = with_slot_freed
+
+-- whom the change makes a member
+abbrev pub member_of : Change → Option ℕ
+member_of (Change.Member g) = Some g
+member_of change = None

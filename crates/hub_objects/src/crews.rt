@@ -1,12 +1,27 @@
 //! Groups and pools: a greenlet leaves them at its end.
-ghost use Rattle.std.specs.Prelude.{◌≡◌, ◌<◌, ◌==◌, length, map, filter, not, slice_index};
-ghost use Rattle.machine.specs.Objects.{without_member};
+ghost use Rattle.std.specs.Prelude.{◌≡◌, ◌<◌, ◌==◌, length, map, filter, not, slice_get, slice_index, slice_set, unwrap_or};
+ghost use Rattle.machine.specs.Objects.{no_object, without_member};
+ghost use Rattle.hub_objects.specs.Memberships.{IsMember};
 
+use crate::memberships::Membership;
 use machine::state::Object;
 use scenario_tree::Items;
 
+/// The greenlet, which may be a member there, is no member of any group or pool any more.
+#[tactic(auto, using(crate::proofs::Belonging::leaves_none, crate::proofs::Belonging::leaves_one))]
+pub fn leave_those(objects: &mut Vec<Object>, membership: Membership, g: u32)
+    requires { IsMember g membership objects.old.items }
+    ensures { objects.new.items ≡ map (without_member g) objects.old.items }
+{
+    match membership {
+        Membership::Nowhere => {}
+        Membership::At(o) => leave_one(objects, o, g),
+        Membership::Anywhere => leave_each(objects, g),
+    }
+}
+
 /// The greenlet is no member of any group or pool any more.
-pub fn leave_each(objects: &mut Vec<Object>, g: u32)
+fn leave_each(objects: &mut Vec<Object>, g: u32)
     ensures { objects.new.items ≡ map (without_member g) objects.old.items }
 {
     leave_all(objects, g);
@@ -17,9 +32,33 @@ fn leave_all(objects: &mut [Object], g: u32)
     ensures { objects.new ≡ map (without_member g) objects.old }
 {
     for i in 0..objects.len() {
-        if let Object::Crew(_, members) = &mut objects[i] {
-            leave(members, g);
-        }
+        leave_object(&mut objects[i], g);
+    }
+}
+
+/// The greenlet is no member of the object of this number any more.
+fn leave_one(objects: &mut Vec<Object>, o: u32, g: u32)
+    ensures { objects.new.items ≡ slice_set objects.old.items o (without_member g (unwrap_or (slice_get objects.old.items o) no_object)) }
+{
+    leave_at(objects, o, g);
+}
+
+/// The greenlet is no member of the object of this number, if there is one, any more.
+#[tactic(auto, using(crate::proofs::ObjectSets::left_set, crate::proofs::ObjectSets::object_out))]
+fn leave_at(objects: &mut [Object], o: u32, g: u32)
+    ensures { objects.new ≡ slice_set objects.old o (without_member g (unwrap_or (slice_get objects.old o) no_object)) }
+{
+    if (o as usize) < objects.len() {
+        leave_object(&mut objects[o as usize], g);
+    }
+}
+
+/// The greenlet is no member of the object any more.
+fn leave_object(object: &mut Object, g: u32)
+    ensures { object.new ≡ without_member g object.old }
+{
+    if let Object::Crew(_, members) = object {
+        leave(members, g);
     }
 }
 

@@ -7,6 +7,7 @@
 mod conditions;
 mod crews;
 mod jobs;
+mod memberships;
 mod objects;
 mod offers;
 mod queues;
@@ -18,6 +19,7 @@ pub use conditions::{
     has_unit, is_deserted, is_flagged, is_free, is_owner, is_taken,
 };
 pub use jobs::{Posted, any_outstanding, arrive_at, job_at};
+pub use memberships::Membership;
 pub use objects::{Change, Objects};
 pub use offers::offer_of;
 pub use queues::{is_left, is_shut, item_of};

@@ -4,10 +4,12 @@ ghost use Rattle.std.specs.Option.{option_copied};
 ghost use Rattle.machine.specs.Objects.{with_flag, no_object, with_unit_taken, with_owner, with_item, with_item_taken, with_shut, with_member, without_member, with_offer, with_offer_taken, without_offer, with_slot_taken, with_slot_freed};
 ghost use Rattle.machine.specs.Run.{object_of};
 ghost use Rattle.machine.specs.declared.state.Object.{Object as Shown};
-ghost use Rattle.hub_objects.specs.Changes.{changed, with_unit, with_owner_gone, with_task_done};
+ghost use Rattle.hub_objects.specs.Changes.{changed, member_of, with_unit, with_owner_gone, with_task_done};
 ghost use Rattle.hub_objects.specs.Counted.{AreCounted, IsCounted};
+ghost use Rattle.hub_objects.specs.Memberships.{IsMember};
 
-use crate::crews::leave_each;
+use crate::crews::leave_those;
+use crate::memberships::{Membership, forget, join, membership_in};
 use crate::offers::{add_offer, take_offer, withdraw_each};
 use crate::queues::{clear, take_next};
 use gv_values::{Outcome, Value};
@@ -58,18 +60,20 @@ pub enum Change {
 #[derive(Drop)]
 pub struct Objects {
     all: Vec<Object>,
+    /// By greenlet.
+    memberships: Vec<Membership>,
 }
 
 impl Model for Objects {
     ghost use Rattle.std.specs.Prelude.{List};
     ghost use Rattle.machine.specs.declared.state.Object.{Object as Shown};
-    ghost use Rattle.hub_objects.specs.Counted.{AreCounted};
+    ghost use Rattle.hub_objects.specs.Memberships.{AreKept};
 
     ghost Value = { List Shown };
 
     ghost view = { λ os. os.all.items };
 
-    ghost invariant = { λ os. AreCounted os.all.items };
+    ghost invariant = { λ os. AreKept os.memberships.items os.all.items };
 }
 
 impl Objects {
@@ -79,7 +83,10 @@ impl Objects {
         ensures { IfOk result (λ objects. objects ≡ map (λ d. object_of d.object) declarations.now) }
     {
         let all = objects_of(alloc, declarations)?;
-        Ok(Objects { all })
+        Ok(Objects {
+            all,
+            memberships: Vec::new(alloc),
+        })
     }
 
     /// The object of this number.
@@ -106,14 +113,25 @@ impl Objects {
         ensures changed { OnOk result (self.new ≡ slice_set self.old o (changed change (unwrap_or (slice_get self.old o) no_object))) }
         ensures err { OnErr result (self.new ≡ self.old) }
     {
-        change_at(&mut self.all, o, change)
+        join(&mut self.memberships, member_of(&change), o)?;
+        change_in(&mut self.all, o, change)?;
+        Ok(())
     }
 
-    /// The greenlet leaves its group or pool.
+    /// Where the greenlet may be a member. Looks at no object.
+    pub fn membership(&self, g: u32) -> Membership
+        ensures { IsMember g result self.now }
+    {
+        membership_in(&self.memberships, g)
+    }
+
+    /// The greenlet leaves its group or pool. Looks at each member of those alone where it may be one.
     pub fn leave(&mut self, g: u32)
         ensures { self.new ≡ map (without_member g) self.old }
     {
-        leave_each(&mut self.all, g);
+        let membership = membership_in(&self.memberships, g);
+        leave_those(&mut self.all, membership, g);
+        forget(&mut self.memberships, g);
     }
 
     /// The offer of the Wake with this since goes, where there is one.
@@ -121,6 +139,16 @@ impl Objects {
         ensures { self.new ≡ map (without_offer since) self.old }
     {
         withdraw_each(&mut self.all, since);
+    }
+}
+
+/// Whom the change makes a member.
+fn member_of(change: &Change) -> Option<u32>
+    ensures { result ≡ member_of change.now }
+{
+    match change {
+        Change::Member(g) => Some(*g),
+        _ => None,
     }
 }
 
@@ -154,6 +182,16 @@ fn objects_of(alloc: Global, declarations: &[Declaration]) -> Result<Vec<Object>
 }
 
 /// What the step does to the object of this number.
+fn change_in(objects: &mut Vec<Object>, o: u32, change: Change) -> Result<(), AllocError>
+    requires { AreCounted objects.old.items }
+    ensures changed { OnOk result (objects.new.items ≡ slice_set objects.old.items o (changed change (unwrap_or (slice_get objects.old.items o) no_object))) }
+    ensures err { OnErr result (objects.new.items ≡ objects.old.items) }
+    ensures counted { AreCounted objects.new.items }
+{
+    change_at(objects, o, change)
+}
+
+/// What the step does to the object of this number, if there is one.
 #[tactic(auto, using(crate::proofs::ObjectSets::object_set, crate::proofs::ObjectSets::object_out))]
 fn change_at(objects: &mut [Object], o: u32, change: Change) -> Result<(), AllocError>
     requires { AreCounted objects.old }

@@ -41,7 +41,7 @@ pub fn link_to(
     if hub.links() >= MOST_LINKS {
         return Ok(Performed::Stops(StopCause::NoLinks));
     }
-    let number = hub.count_link()?;
+    let number = hub.count_link();
     if link_stands(hub, target, kind) {
         hub.add_item(Delivery::Link(number, target, kind, function))?;
     }

@@ -1,10 +1,10 @@
 -- A walk over a line that begins behind the last with a number.
-use Rattle.std.proofs.Common.{◌≡◌, refl, sym, ap, ◌∙◌, subst, ℕ, ◌+◌, ◌-◌, ◌<◌, ◌≤◌, Bool, true, false, List, [], ◌∷◌, ◌++◌, length, Option, Some, None, inl, inr, append_assoc, arith, slice_get}
+use Rattle.std.proofs.Common.{◌≡◌, refl, sym, ap, ◌∙◌, subst, ℕ, ◌+◌, ◌-◌, ◌<◌, ◌≤◌, Bool, true, false, List, [], ◌∷◌, ◌++◌, length, Option, Some, None, ◌⊎◌, inl, inr, append_assoc, arith, slice_get}
 use Rattle.std.proofs.lemmas.List.{length-map}
 use Rattle.std.specs.List.{Contains}
 use Rattle.std.specs.Prelude.{is_some}
 use Rattle.linked_items.specs.Items.{Differ}
-use Rattle.slot_chains.specs.Chained.{first_of}
+use Rattle.slot_chains.specs.Chained.{first_of, last_of}
 use Rattle.slot_chains.proofs.Chaining.{IsSplit, split}
 use Rattle.machine.specs.declared.items.Delivery.{Delivery}
 use Rattle.machine.specs.declared.items.Item.{Item}
@@ -26,7 +26,7 @@ use Rattle.hub_state.specs.Found.{Delivers, IsLastNumbered, PassesBy, SeenFound}
 use Rattle.hub_state.specs.Waiters.{holds_in_line}
 use Rattle.hub_state.proofs.Alongs.{AmongTest, IsOnLine}
 use Rattle.hub_state.proofs.Finding.{found_as, in_flat}
-use Rattle.hub_state.proofs.SettledLines.{gains_none, loses_none, numbered_few, numbered_holds, stands_so}
+use Rattle.hub_state.proofs.SettledLines.{gains_none, holds_by, loses_none, numbered_few, stands_so}
 
 -- ---- where a slot stands in its line
 
@@ -65,6 +65,26 @@ stands kind o next es xs ys q differ ascends e =
       place = line_standing (test_of kind o) next es (Some q) q along st ascends ∙ length-map p.front (λ (x : Entry). x.1) ∙ sym (length-map p.front (λ (x : Entry). x.0)) ∙ ap length p.before;
     }
 
+last_at : (p : Option ℕ) (xs : List ℕ) (q : ℕ) → last_of p (xs ++ q ∷ []) ≡ Some q
+last_at p [] q = refl
+last_at p (x ∷ xs) q = last_at (Some x) xs q
+
+-- a list that ends in this slot
+ended_by : (p : Option ℕ) (xs : List ℕ) (q : ℕ) → last_of p xs ≡ Some q → (xs ≡ []) ⊎ ((ys : List ℕ) × (xs ≡ ys ++ q ∷ []))
+ended_by p [] q e = inl refl
+ended_by p (x ∷ xs) q e = by (ended_by (Some x) xs q e)
+  where
+    by : (xs ≡ []) ⊎ ((ys : List ℕ) × (xs ≡ ys ++ q ∷ [])) → (x ∷ xs ≡ []) ⊎ ((ys : List ℕ) × (x ∷ xs ≡ ys ++ q ∷ []))
+    by (inl none) = let same : x ≡ q = cc (sym (ap (last_of (Some x)) none) ∙ e) in inr ([], ap (λ zs. x ∷ zs) none ∙ ap (λ z. z ∷ []) same)
+    by (inr (ys, more)) = inr (x ∷ ys, ap (λ zs. x ∷ zs) more)
+
+ended : (xs : List ℕ) (q : ℕ) → last_of None xs ≡ Some q → (ys : List ℕ) × (xs ≡ ys ++ q ∷ [])
+ended xs q e = by (ended_by None xs q e)
+  where
+    by : (xs ≡ []) ⊎ ((ys : List ℕ) × (xs ≡ ys ++ q ∷ [])) → (ys : List ℕ) × (xs ≡ ys ++ q ∷ [])
+    by (inl none) = absurd (cc (sym e ∙ ap (last_of None) none))
+    by (inr more) = more
+
 length_both : (xs ys : List ℕ) → length (xs ++ ys) ≡ length xs + length ys
 length_both [] ys = omega arith
 length_both (x ∷ xs) ys = let r = length_both xs ys in omega (arith, r)
@@ -85,28 +105,34 @@ follower_has_none es at p j e there none r i f here =
 pub passes_none : (test : Delivery → Bool) (s : State) (es : List Entry) (at : Option ℕ) → at ≡ first_of (index test es) None → PassesBy test s es at 0
 passes_none test s es at h = record { passed = []; left = index test es; is = refl; here = h; count = refl; agrees = λ q i t c. absurd (let below = c.1 in omega (arith, below)) }
 
-pub passes_numbered : (kind : WaitKind) (o next numbered : ℕ) (s : State) (es : List Entry) (q : ℕ) (at : Option ℕ) → Differ (slots_of es) → AscendTo 0 next (flat es) → s.items ≡ flat es → NumbersStandInFront s →
-    numbered ≡ numbered_in_line kind o es → holds_in_line kind (numbered - 1) (slice_get s.objects o) ≡ true → IsLastNumbered (waits_in_line kind o) es q →
-    ((xs ys : List ℕ) → index (waits_in_line kind o) es ≡ xs ++ q ∷ ys → at ≡ first_of ys None) → PassesBy (waits_in_line kind o) s es at numbered
-passes_numbered kind o next numbered s es q at differ ascends items front n last l goes = record {
-  passed = passed;
-  left = sp.back;
+-- the walk to the front stands here: so many are before the next place in its line, all of which have numbers
+pub record IsBack (kind : WaitKind) (o : ℕ) (es : List Entry) (at : Option ℕ) (n : ℕ) : Type 0 where
+  pub front : List ℕ
+  pub behind : List ℕ
+  pub is : index (waits_in_line kind o) es ≡ front ++ behind
+  pub here : at ≡ last_of None front
+  pub count : n ≡ length front
+  pub few : n ≤ numbered_in_line kind o es
+
+-- at first it stands at the last with a number
+pub back_from : (kind : WaitKind) (o next n : ℕ) (s : State) (es : List Entry) (q : ℕ) → Differ (slots_of es) → AscendTo 0 next (flat es) → s.items ≡ flat es → NumbersStandInFront s → n ≡ numbered_in_line kind o es →
+    IsLastNumbered (waits_in_line kind o) es q → IsBack kind o es (Some q) n
+back_from kind o next n s es q differ ascends items front e l = record {
+  front = passed;
+  behind = sp.back;
   is = whole;
-  here = goes sp.front sp.back sp.parts;
-  count = count;
-  agrees = agrees;
+  here = sym (last_at None sp.front q);
+  count = (let few = no_more sp.back refl in let more = enough in omega (arith, e, few, more, long));
+  few = omega (arith, e);
 }
   where
-    test : Delivery → Bool
-    test = waits_in_line kind o
-
-    sp : IsSplit (index test es) q
-    sp = split (index test es) q (index_contains test q es l.item l.there l.passes)
+    sp : IsSplit (index (waits_in_line kind o) es) q
+    sp = split (index (waits_in_line kind o) es) q (index_contains (waits_in_line kind o) q es l.item l.there l.passes)
 
     passed : List ℕ
     passed = sp.front ++ q ∷ []
 
-    whole : index test es ≡ passed ++ sp.back
+    whole : index (waits_in_line kind o) es ≡ passed ++ sp.back
     whole = sp.parts ∙ sym (append_assoc sp.front (q ∷ []) sp.back)
 
     long : length passed ≡ length sp.front + 1
@@ -123,28 +149,68 @@ passes_numbered kind o next numbered s es q at differ ascends items front n last
 
     -- and none of those behind it has one
     no_more : (back : List ℕ) → sp.back ≡ back → numbered_in_line kind o es ≤ length sp.front + 1
-    no_more [] e =
-        let all : waiting_in_line kind o es ≡ length sp.front + 1 = ap length sp.parts ∙ ap (λ ys. length (sp.front ++ q ∷ ys)) e ∙ long in
+    no_more [] b =
+        let all : waiting_in_line kind o es ≡ length sp.front + 1 = ap length sp.parts ∙ ap (λ ys. length (sp.front ++ q ∷ ys)) b ∙ long in
         let few = numbered_few kind o es in
         omega (arith, all, few)
-    no_more (r ∷ back) e =
-        let st = stands kind o next es passed back r differ ascends (whole ∙ ap (λ ys. passed ++ ys) e) in
-        let none = l.last sp.front sp.back r st.item sp.parts (ap (λ ys. first_of ys None) e) st.there in
+    no_more (r ∷ back) b =
+        let st = stands kind o next es passed back r differ ascends (whole ∙ ap (λ ys. passed ++ ys) b) in
+        let none = l.last sp.front sp.back r st.item sp.parts (ap (λ ys. first_of ys None) b) st.there in
         let few = (stands_so kind o s es st.item items front (in_flat r st.item es st.there) st.passes).waiting none in
         let place = st.place in
         omega (arith, few, place, long)
 
-    count : numbered ≡ length passed
-    count = let few = no_more sp.back refl in let more = enough in omega (arith, n, few, more, long)
+-- the slot that it stands at, and those before it
+pub record IsAtBack (kind : WaitKind) (o : ℕ) (es : List Entry) (at : Option ℕ) (n q : ℕ) (b : IsBack kind o es at n) : Type 0 where
+  pub before : List ℕ
+  pub front_is : b.front ≡ before ++ q ∷ []
+  pub parts : index (waits_in_line kind o) es ≡ before ++ q ∷ b.behind
+  pub count : n ≡ length before + 1
 
-    agrees : (r : ℕ) (i : Item) → item_in r es ≡ Some i → Contains passed r → is_some i.ready ≡ holds s i
+pub back_at : (kind : WaitKind) (o : ℕ) (es : List Entry) (at : Option ℕ) (n q : ℕ) (b : IsBack kind o es at n) → at ≡ Some q → IsAtBack kind o es at n q b
+back_at kind o es at n q b e = by (ended b.front q (sym b.here ∙ e))
+  where
+    by : (xs : List ℕ) × (b.front ≡ xs ++ q ∷ []) → IsAtBack kind o es at n q b
+    by (xs, f) = record {
+      before = xs;
+      front_is = f;
+      parts = b.is ∙ ap (λ ys. ys ++ b.behind) f ∙ append_assoc xs (q ∷ []) b.behind;
+      count = (let a = b.count in let long = ap length f in let two = length_both xs (q ∷ []) in omega (arith, a, long, two));
+    }
+
+-- and goes on to the one before it
+pub back_on : (kind : WaitKind) (o : ℕ) (es : List Entry) (at previous : Option ℕ) (n q : ℕ) (b : IsBack kind o es at n) (a : IsAtBack kind o es at n q b) →
+    ((xs ys : List ℕ) → index (waits_in_line kind o) es ≡ xs ++ q ∷ ys → previous ≡ last_of None xs) → IsBack kind o es previous (n - 1)
+back_on kind o es at previous n q b a goes = record {
+  front = a.before;
+  behind = q ∷ b.behind;
+  is = a.parts;
+  here = goes a.before b.behind a.parts;
+  count = (let c = a.count in omega (arith, c));
+  few = (let f = b.few in omega (arith, f));
+}
+
+-- where it stands at one that holds, all up to it have numbers and hold
+pub passes_back : (kind : WaitKind) (o next n : ℕ) (s : State) (es : List Entry) (at follower : Option ℕ) (q : ℕ) (b : IsBack kind o es at n) → Differ (slots_of es) → AscendTo 0 next (flat es) → s.items ≡ flat es → NumbersStandInFront s →
+    IsAtBack kind o es at n q b → holds_in_line kind (n - 1) (slice_get s.objects o) ≡ true → ((xs ys : List ℕ) → index (waits_in_line kind o) es ≡ xs ++ q ∷ ys → follower ≡ first_of ys None) →
+    PassesBy (waits_in_line kind o) s es follower n
+passes_back kind o next n s es at follower q b differ ascends items front a holding goes = record {
+  passed = b.front;
+  left = b.behind;
+  is = b.is;
+  here = goes a.before b.behind a.parts;
+  count = b.count;
+  agrees = agrees;
+}
+  where
+    agrees : (r : ℕ) (i : Item) → item_in r es ≡ Some i → Contains b.front r → is_some i.ready ≡ holds s i
     agrees r i there c = by (is_some i.ready) refl
       where
-        mid : IsSplit passed r
-        mid = split passed r c
+        mid : IsSplit b.front r
+        mid = split b.front r c
 
         st : Stands kind o es mid.front r
-        st = stands kind o next es mid.front (mid.back ++ sp.back) r differ ascends (whole ∙ ap (λ qs. qs ++ sp.back) mid.parts ∙ append_assoc mid.front (r ∷ mid.back) sp.back)
+        st = stands kind o next es mid.front (mid.back ++ b.behind) r differ ascends (b.is ∙ ap (λ qs. qs ++ b.behind) mid.parts ∙ append_assoc mid.front (r ∷ mid.back) b.behind)
 
         same : st.item ≡ i
         same = same_item r es st.item i st.there there
@@ -155,12 +221,12 @@ passes_numbered kind o next numbered s es q at differ ascends items front n last
         place : earlier (test_of kind o) i.since (flat es) ≡ length mid.front
         place = ap (λ (x : Item). earlier (test_of kind o) x.since (flat es)) (sym same) ∙ st.place
 
-        short : length mid.front < length passed
-        short = let e = ap length mid.parts in let b = length_both mid.front (r ∷ mid.back) in omega (arith, e, b)
+        short : length mid.front < length b.front
+        short = let e = ap length mid.parts in let two = length_both mid.front (r ∷ mid.back) in omega (arith, e, two)
 
-        by : (b : Bool) → is_some i.ready ≡ b → is_some i.ready ≡ holds s i
-        by true e = e ∙ sym (numbered_holds kind o numbered s es r i items front n (λ some. last) there waits e)
-        by false e = absurd (let few = (stands_so kind o s es i items front (in_flat r i es there) waits).waiting e in let k = count in let m = short in let p = place in omega (arith, few, k, m, p, n))
+        by : (x : Bool) → is_some i.ready ≡ x → is_some i.ready ≡ holds s i
+        by true e = e ∙ sym (holds_by kind o (n - 1) s es i items waits (let m = short in let p = place in let k = b.count in omega (arith, m, p, k)) holding)
+        by false e = absurd (let few = (stands_so kind o s es i items front (in_flat r i es there) waits).waiting e in let m = short in let p = place in let k = b.count in let f = b.few in omega (arith, few, k, m, p, f))
 
 -- ---- those that it passes by change nothing
 

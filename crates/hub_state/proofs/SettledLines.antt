@@ -176,13 +176,19 @@ numbered_few kind o es =
     subst (λ n. numbered_in_line kind o es ≤ n) (sym (length_index (waits_in_line kind o) es))
     (no_more (λ (j : Item). is_some j.ready && waits_in_line kind o j.delivery) (λ (j : Item). waits_in_line kind o j.delivery) (flat es) (λ j k b. (and_parts (is_some j.ready) (waits_in_line kind o j.delivery) b).1))
 
+-- who has no more before it than so many holds, where those do that have so many
+pub holds_by : (kind : WaitKind) (o most : ℕ) (s : State) (es : List Entry) (i : Item) → s.items ≡ flat es → waits_in_line kind o i.delivery ≡ true → earlier (test_of kind o) i.since (flat es) ≤ most →
+    holds_in_line kind most (slice_get s.objects o) ≡ true → holds s i ≡ true
+holds_by kind o most s es i items t few holding =
+    item_holds_so kind o s i t ∙ ap (λ (is : List Item). holds_in_line kind (earlier (test_of kind o) i.since is) (slice_get s.objects o)) items
+    ∙ holds_before kind o (earlier (test_of kind o) i.since (flat es)) most s i.delivery t few holding
+
 -- where the last with a number holds, each that has one does
 pub numbered_holds : (kind : WaitKind) (o numbered : ℕ) (s : State) (es : List Entry) (q : ℕ) (i : Item) → s.items ≡ flat es → NumbersStandInFront s → numbered ≡ numbered_in_line kind o es →
     ((numbered ≡ 0 → ⊥) → holds_in_line kind (numbered - 1) (slice_get s.objects o) ≡ true) → item_in q es ≡ Some i → waits_in_line kind o i.delivery ≡ true → is_some i.ready ≡ true → holds s i ≡ true
 numbered_holds kind o numbered s es q i items front n last there t r =
     let few = (stands_so kind o s es i items front (in_flat q i es there) t).numbered r in
-    item_holds_so kind o s i t ∙ ap (λ (is : List Item). holds_in_line kind (earlier (test_of kind o) i.since is) (slice_get s.objects o)) items
-    ∙ holds_before kind o (earlier (test_of kind o) i.since (flat es)) (numbered - 1) s i.delivery t (omega (arith, few, n)) (last (λ u. omega (arith, few, n, u)))
+    holds_by kind o (numbered - 1) s es i items t (omega (arith, few, n)) (last (λ u. omega (arith, few, n, u)))
 
 -- ---- a line that is settled
 

@@ -1,6 +1,6 @@
 -- The hub stays up to date: each step keeps it so, where what the step touches is touched.
-use Rattle.std.proofs.Common.{◌≡◌, refl, sym, ◌∙◌, ap, subst, ℕ, zero, suc, ◌+◌, ◌<◌, ◌≤◌, Bool, true, false, List, [], ◌∷◌, ◌++◌, length, get_or, ◌⊎◌, inl, inr, arith}
-use Rattle.std.proofs.lemmas.Bool.{cases_lt, eq-eqb, eqb-true, le-ltb, lt-ltb, or_cases, or_left, or_right, true≢false}
+use Rattle.std.proofs.Common.{◌≡◌, refl, sym, ◌∙◌, ap, subst, ℕ, zero, suc, ◌+◌, ◌<◌, ◌≤◌, Bool, true, false, not, List, [], ◌∷◌, ◌++◌, length, get_or, ◌⊎◌, inl, inr, arith}
+use Rattle.std.proofs.lemmas.Bool.{cases_eq, cases_lt, eq-eqb, eqb-true, le-ltb, lt-ltb, ne_eqb, or_cases, or_left, or_right, true≢false}
 use Rattle.std.proofs.lemmas.List.Elements.{All-from_recursion}
 use Rattle.std.specs.List.{All, list_any}
 use Rattle.std.specs.Prelude.{◌==◌, cond, IfSome, IsTrue, Option, Some, None, nat_lt, slice_get}
@@ -16,11 +16,13 @@ use Rattle.machine.specs.Items.{add_item}
 use Rattle.machine.specs.Questions.{is_numbered}
 use Rattle.machine_settling.specs.Classes.{Class, class_of, is_among as is_target, is_at, is_whom}
 use Rattle.machine_settling.specs.Numbers.{IsAscending}
-use Rattle.machine_settling.specs.Steps.{IsOf, Step, after, either, nothing, the_ends, the_objects, touches}
+use Rattle.machine_settling.specs.Steps.{IsOf, Step, after, either, has_member, nothing, the_ends, the_objects, touches}
 use Rattle.machine_settling.proofs.Agreements.{Agrees, adds-nothing, agreement-weakens, agrees-after, in_last, since_below}
 use Rattle.machine_settling.proofs.Fronts.{fronts_stepped}
 use Rattle.machine_settling.proofs.Members.{In, contains_of_in, in_of_Contains}
 use Rattle.machine_settling.proofs.Parts.{all_by, at_in}
+use Rattle.hub_objects.specs.Memberships.{IsMember, is_outside}
+use Rattle.hub_objects.specs.declared.memberships.Membership.{Membership}
 use Rattle.number_set.specs.Sets.{inserted, is_among}
 use Rattle.held_items.specs.Entries.{Entry}
 use Rattle.held_items.specs.Waits.{number_of, target_of, target_of_class}
@@ -285,6 +287,59 @@ pub touched_if : (test : Option Object → Bool) (objects : List Object) (n : �
     v ≡ with_touched (cond b (Some n) None) u → HasTouched test objects n t u → HasTouched test objects (n + 1) t v
 touched_if test objects n d t u v true l e is h = subst (HasTouched test objects (n + 1) t) (sym is) (touched_more test objects n t u h)
 touched_if test objects n d t u v false l e is h = subst (HasTouched test objects (n + 1) t) (sym is) (touched_other test objects n d t u l (sym e) h)
+
+-- who may be a member nowhere
+pub touched_nowhere : (g : ℕ) (m : Membership) (objects : List Object) (t : SeenTouched) → m ≡ Membership.Nowhere → IsMember g m objects → HasTouched (has_member g) objects (length objects) t t
+touched_nowhere g m objects t e none = record {
+  several = refl;
+  ends = refl;
+  made = refl;
+  targets = refl;
+  rooms = refl;
+  still = λ o h. h;
+  each = λ o l r h. absurd (true≢false (sym h ∙ none o (ap (is_outside o) e)));
+}
+
+-- who may be a member of one object alone, which is touched
+pub touched_there : (g p : ℕ) (m : Membership) (objects : List Object) (t u : SeenTouched) → m ≡ Membership.At p → IsMember g m objects → u ≡ with_touched (Some p) t → HasTouched (has_member g) objects (length objects) t u
+touched_there g p m objects t u e none is = subst (HasTouched (has_member g) objects (length objects) t) (sym is) (by (cases_lt p t.rooms))
+  where
+    v : SeenTouched
+    v = record t { objects = inserted p t.objects }
+
+    here : p < t.rooms → with_touched (Some p) t ≡ v
+    here l = let yes = lt-ltb p t.rooms l in rw yes refl
+
+    past : t.rooms ≤ p → with_touched (Some p) t ≡ t
+    past l = let no = le-ltb p t.rooms l in rw no refl
+
+    -- no other has the member
+    other : (o : ℕ) → (o ≡ p → ⊥) → IsTrue (has_member g (slice_get objects o)) → ⊥
+    other o n h = true≢false (sym h ∙ none o (ap (is_outside o) e ∙ ap not (ne_eqb o p n)))
+
+    by : (p < t.rooms) ⊎ (t.rooms ≤ p) → HasTouched (has_member g) objects (length objects) t (with_touched (Some p) t)
+    by (inl l) = subst (HasTouched (has_member g) objects (length objects) t) (sym (here l)) (record {
+      several = refl;
+      ends = refl;
+      made = refl;
+      targets = refl;
+      rooms = refl;
+      still = λ o k. listed o (inserted p t.objects) (in_still o p t.objects (in_listed o t.objects k));
+      each = λ o k r h. at o h (cases_eq o p);
+    })
+      where
+        at : (o : ℕ) → IsTrue (has_member g (slice_get objects o)) → (o ≡ p) ⊎ (o ≡ p → ⊥) → IsTrue (reopened v (Class.AtObject o))
+        at o h (inl s) = listed o (inserted p t.objects) (subst (λ k. In k (inserted p t.objects)) (sym s) (in_inserted p t.objects))
+        at o h (inr n) = absurd (other o n h)
+    by (inr l) = subst (HasTouched (has_member g) objects (length objects) t) (sym (past l)) (record {
+      several = refl;
+      ends = refl;
+      made = refl;
+      targets = refl;
+      rooms = refl;
+      still = λ o k. k;
+      each = λ o k r h. absurd (other o (λ s. omega (arith, s, l, r)) h);
+    })
 
 -- all that pass it are touched
 pub reopens_all : (test : Option Object → Bool) (objects : List Object) (t u : SeenTouched) → test None ≡ false → HasTouched test objects (length objects) t u →

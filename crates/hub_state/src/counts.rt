@@ -1,5 +1,5 @@
 //! The moment, the counts, and the lines of the step under way.
-ghost use Rattle.std.specs.Prelude.{◌≡◌, ◌+◌, length, OnOk, IfOk};
+ghost use Rattle.std.specs.Prelude.{◌≡◌, ◌+◌, ◌<◌, ◌^◌, length, OnOk, IfOk};
 ghost use Rattle.machine.specs.Run.{silent};
 
 use crate::hub::Hub;
@@ -90,13 +90,14 @@ impl Hub {
         self.links
     }
 
-    /// Numbers one link more, and gives its number. `AllocError`: it would pass 32 bits; the hub is given up.
-    pub fn count_link(&mut self) -> Result<u32, AllocError>
-        ensures counted { OnOk result (self.new ≡ record self.old { links = self.old.links + 1 }) }
-        ensures number { IfOk result (λ n. n ≡ self.old.links + 1) }
+    /// Numbers one link more, and gives its number.
+    pub fn count_link(&mut self) -> u32
+        requires { self.old.links + 1 < 2 ^ 32 }
+        ensures counted { self.new ≡ record self.old { links = self.old.links + 1 } }
+        ensures number { result ≡ self.old.links + 1 }
     {
-        self.links = self.links.checked_add(1).ok_or(AllocError)?;
-        Ok(self.links)
+        self.links += 1;
+        self.links
     }
 
     /// The lines of the step under way.

@@ -51,12 +51,12 @@ impl Hub {
         self.objects.change(o, change)
     }
 
-    /// The greenlet leaves its group or pool. Looks at each member of each.
+    /// The greenlet leaves its group or pool. Looks at the members of that one alone.
     pub fn leave_crews(&mut self, g: u32)
         ensures { self.new ≡ record self.old { objects = map (without_member g) self.old.objects } }
     {
         let _ascending = self.held.len();
-        touch_crews(&mut self.touched, self.objects.as_slice(), g);
+        touch_crews(&mut self.touched, &self.objects, g);
         self.objects.leave(g);
     }
 

@@ -3,9 +3,7 @@ ghost use Rattle.std.specs.Prelude.{◌≡◌, OnOk};
 ghost use Rattle.held_items.specs.Moments.{Gathers};
 ghost use Rattle.hub_state.specs.Found.{none_found, noted};
 
-use crate::borders::Borders;
 use held_items::HeldItems;
-use hub_items::WaitKind;
 use machine::items::Item;
 use std::alloc::{AllocError, Global};
 use std::marker::Model;
@@ -17,8 +15,6 @@ pub(crate) struct Found {
     pub(crate) lost: Vec<(u64, u32)>,
     /// Of each when it was made, and its slot.
     pub(crate) gained: Vec<(u64, u32)>,
-    /// Where walks over lines of waits may begin.
-    pub(crate) borders: Borders,
 }
 
 impl Model for Found {
@@ -37,8 +33,15 @@ impl Found {
         Found {
             lost: Vec::new(alloc),
             gained: Vec::new(alloc),
-            borders: Borders::new(alloc),
         }
+    }
+
+    /// Forgets all of them, and makes room in each list for so many. `AllocError`: memory is wanting.
+    pub(crate) fn make_room(&mut self, items: usize) -> Result<(), AllocError> {
+        self.clear();
+        self.lost.reserve(items)?;
+        self.gained.reserve(items)?;
+        Ok(())
     }
 
     /// Forgets all of them, and keeps their memory.
@@ -69,31 +72,13 @@ impl Found {
         Ok(())
     }
 
-    /// Notes the item of the slot, which waits in the line of this kind at the object. `AllocError`: memory is wanting.
-    pub(crate) fn note_in_line(
-        &mut self,
-        kind: WaitKind,
-        o: u32,
-        slot: u32,
-        item: &Item,
-        holds: bool,
-    ) -> Result<(), AllocError>
-        ensures { OnOk result (self.new ≡ noted slot item.now holds self.old) }
-    {
-        self.note(slot, item, holds)?;
-        if holds {
-            self.borders.set(kind, o, slot)?;
-        }
-        Ok(())
-    }
-
     /// Puts those in whose moment has come and who have no number. `AllocError`: memory is wanting.
     pub(crate) fn gather_due(&mut self, held: &mut HeldItems, moment: u64) -> Result<(), AllocError>
         ensures same { held.new ≡ held.old }
         ensures lost { self.new.lost ≡ self.old.lost }
         ensures gathers { OnOk result (Gathers moment held.old.entries self.old.gained self.new.gained) }
     {
-        self.gained.reserve(held.len())?;
+        self.gained.reserve(held.waiting_len())?;
         held.gather_due(moment, &mut self.gained);
         Ok(())
     }

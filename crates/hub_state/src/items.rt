@@ -60,11 +60,12 @@ impl Hub {
         requires short { DeliversShort delivery }
         ensures { OnOk result (self.new ≡ add_item delivery self.old) }
     {
+        let count = self.held.len();
+        self.found.make_room(count.saturating_add(1))?;
         // One that doesn't hold changes nothing for the others that wait for the same: they need no look.
         let holds = self.would_hold(&delivery);
         self.touched.reserve_awaited(&delivery)?;
         self.touched.touch_awaited(&delivery, holds);
-        let _ascending = self.held.len();
         let slot = add_with_place(&mut self.held, &mut self.touched, delivery)?;
         self.touched.touch_made(slot);
         Ok(())

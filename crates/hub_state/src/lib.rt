@@ -6,13 +6,13 @@
 
 mod ahead;
 mod begin;
-mod borders;
 mod counts;
 mod due;
 mod effects;
 mod found;
 mod greenlets;
 mod hub;
+mod in_lines;
 mod items;
 mod looks;
 mod moments;

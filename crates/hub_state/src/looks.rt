@@ -12,9 +12,9 @@ ghost use Rattle.hub_state.specs.Touched.{IsPast, IsPending};
 ghost use Rattle.hub_state.specs.Waiters.{IsBefore};
 
 use crate::ahead::earlier_ahead;
-use crate::borders::is_in_line;
 use crate::found::Found;
 use crate::hub::Hub;
+use crate::in_lines::is_in_line;
 use crate::touched::Touched;
 use held_items::{HeldItems, Target};
 use hub_items::WaitKind;
@@ -142,37 +142,48 @@ fn is_last_numbered(held: &HeldItems, o: u32, kind: WaitKind, slot: u32) -> bool
     }
 }
 
-/// Where a walk over the line may begin, and how many it passes by: behind the last that has a number, if this one holds
-/// and its slot was guessed; else at the front of the line.
-fn begin_walk(
-    hub: &Hub,
-    held: &HeldItems,
-    o: u32,
-    kind: WaitKind,
-    guess: Option<u32>,
-) -> (Option<u32>, u64)
+/// Where a walk over the line may begin, and how many it passes by: behind the last that has a number and holds. Goes
+/// there from this slot, the last that has a number, towards the front.
+fn walk_back(hub: &Hub, held: &HeldItems, o: u32, kind: WaitKind, last: u32) -> (Option<u32>, u64)
+    requires same { hub.now.items ≡ flat held.now.entries }
+    requires front { NumbersStandInFront hub.now }
+    requires last { IsLastNumbered (waits_in_line kind o) held.now.entries last }
+    ensures { PassesBy (waits_in_line kind o) hub.now held.now.entries result.0 result.1 }
+{
+    let _ascending = held.len();
+    let mut passed = held.numbered_in(o, kind);
+    let mut at = Some(last);
+    while let Some(slot) = at {
+        if hub.holds_in_line(kind, o, passed - 1) {
+            return (held.next_waiting(slot), passed);
+        }
+        passed -= 1;
+        at = held.previous_waiting(slot);
+    }
+    (held.first_in_line(o, kind), 0)
+}
+
+/// Where a walk over the line may begin, and how many it passes by, each of whom has a number and holds: all that do, if
+/// it is known who has the last number; else none.
+#[tactic(auto, using(crate::proofs::LineBegins::passes_none))]
+fn begin_walk(hub: &Hub, held: &HeldItems, o: u32, kind: WaitKind) -> (Option<u32>, u64)
     requires same { hub.now.items ≡ flat held.now.entries }
     requires front { NumbersStandInFront hub.now }
     ensures { PassesBy (waits_in_line kind o) hub.now held.now.entries result.0 result.1 }
 {
     let front = held.first_in_line(o, kind);
-    let Some(slot) = guess else {
+    let Some(slot) = held.last_numbered(o, kind) else {
         return (front, 0);
     };
-    let numbered = held.numbered_in(o, kind);
-    if numbered == 0 {
-        return (front, 0);
-    }
-    let _ascending = held.len();
-    if is_last_numbered(held, o, kind, slot) && hub.holds_in_line(kind, o, numbered - 1) {
-        return (held.next_waiting(slot), numbered);
+    if is_last_numbered(held, o, kind, slot) {
+        return walk_back(hub, held, o, kind, slot);
     }
     (front, 0)
 }
 
 /// Looks at those that wait in the line of this kind at the object, up to the first that has no number and doesn't hold,
-/// since so it is of all behind it. Passes by those that have numbers, where all of them hold, and looks at none where
-/// nothing changes. `AllocError`: memory is wanting.
+/// since so it is of all behind it. Passes by those that have numbers and hold, and looks at none where nothing changes.
+/// `AllocError`: memory is wanting.
 fn look_at_line(
     hub: &Hub,
     held: &HeldItems,
@@ -188,7 +199,7 @@ fn look_at_line(
         return Ok(());
     }
     let _apart = held.len();
-    let (first, passed) = begin_walk(hub, held, o, kind, found.borders.guess(kind, o));
+    let (first, passed) = begin_walk(hub, held, o, kind);
     let mut before = passed;
     let mut at = first;
     while let Some(slot) = at {
@@ -197,7 +208,7 @@ fn look_at_line(
         if !holds && item.ready.is_none() {
             return Ok(());
         }
-        found.note_in_line(kind, o, slot, item, holds)?;
+        found.note(slot, item, holds)?;
         before += 1;
         at = held.next_waiting(slot);
     }

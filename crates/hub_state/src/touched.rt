@@ -10,7 +10,7 @@ ghost use Rattle.hub_state.specs.Touched.{HasPlaces, HasTarget, HasTouched, IsRo
 
 use held_items::{HeldItems, Target, target_of};
 use hub_items::Gone;
-use hub_objects::{has_member, has_offer_by};
+use hub_objects::{Membership, Objects, has_member, has_offer_by};
 use machine::items::{Delivery, Waiting};
 use machine::state::Object;
 use number_set::NumberSet;
@@ -271,8 +271,21 @@ fn object_if(passes: bool, o: u32) -> Option<u32>
     if passes { Some(o) } else { None }
 }
 
-/// Touches each group and pool with this member.
-pub(crate) fn touch_crews(touched: &mut Touched, objects: &[Object], g: u32)
+/// Touches each group and pool with this member. Looks at no object where the greenlet is a member of one at most.
+#[tactic(auto, using(crate::proofs::Touching::touched_nowhere, crate::proofs::Touching::touched_there))]
+pub(crate) fn touch_crews(touched: &mut Touched, objects: &Objects, g: u32)
+    requires { length objects.now ≤ 2 ^ 32 }
+    ensures { HasTouched (has_member g) objects.now (length objects.now) touched.old touched.new }
+{
+    match objects.membership(g) {
+        Membership::Nowhere => {}
+        Membership::At(o) => touched.touch(Some(o)),
+        Membership::Anywhere => touch_each_crew(touched, objects.as_slice(), g),
+    }
+}
+
+/// Touches each of these groups and pools with this member. Looks at each member of each.
+fn touch_each_crew(touched: &mut Touched, objects: &[Object], g: u32)
     requires { length objects.now ≤ 2 ^ 32 }
     ensures { HasTouched (has_member g) objects.now (length objects.now) touched.old touched.new }
 {

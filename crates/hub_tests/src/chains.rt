@@ -31,6 +31,8 @@ fn slots_come_and_go(rt: HostRuntime) -> Result<(), Fail> {
     assert_eq!(rt; digits(&chains, 0), 17);
     assert_eq!(rt; digits(&chains, 1), 0);
     assert_eq!(rt; digits(&chains, 2), 594);
+    assert_eq!(rt; chains.before(4), Some(9));
+    assert_eq!(rt; chains.before(5), None);
     chains.remove(2, 9);
     chains.remove(0, 1);
     chains.push(0, 9);

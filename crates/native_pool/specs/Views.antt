@@ -17,14 +17,14 @@ start_cell running refused (Ok r) = Ok (running r)
 start_cell running refused (Err f) = Err (refused f)
 
 -- a pool, by what it keeps
-abbrev pub pool_of : Option Desk → Option HubPass → History → ℕ → ℕ → ℕ → ℕ → ℕ → List (Result ℕ ℕ) → Pool
-pool_of desk ended history workers reading began refusals joins starts = record {
+abbrev pub pool_of : Option Desk → Option HubPass → History → ℕ → ℕ → ℕ → ℕ → List (Result ℕ ℕ) → Pool
+pool_of desk ended history workers reading refusals joins starts = record {
   posts = history.posts.items;
   answers = history.answers.items;
   moment = history.moment;
   workers = workers;
   reading = reading;
-  began = began;
+  began = history.began;
   refusals = refusals;
   joins = joins;
   starts = starts;

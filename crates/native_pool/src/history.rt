@@ -1,5 +1,5 @@
 //! What was posted to a pool and what it answered.
-ghost use Rattle.std.specs.Prelude.{◌≡◌, ◌<◌, ◌≤◌, ◌++◌, ◌∷◌, [], OnOk, vec_len, vec_capacity, min};
+ghost use Rattle.std.specs.Prelude.{◌≡◌, ◌<◌, ◌≤◌, ◌-◌, ◌++◌, ◌∷◌, [], OnOk, vec_len, vec_capacity, min};
 ghost use Rattle.world_rules.specs.Legal.{posted, moment_of, last_answered_moment};
 ghost use Rattle.world_rules.specs.declared.limits.TheConstants.{LAST_MOMENT};
 
@@ -8,12 +8,14 @@ use std::alloc::{AllocError, Global};
 use world::PostedJob;
 use world_rules::LAST_MOMENT;
 
-/// The posts and answers of a pool since it began, and its moment, which is not before the last answer.
+/// The posts and answers of a pool since it began, and its moment, which is not before the last answer and counts from
+/// the reading of the clock at which it began.
 #[derive(Drop)]
 pub struct History {
     pub(crate) posts: Vec<PostedJob>,
     pub(crate) answers: Vec<Answer>,
     pub(crate) moment: u64,
+    pub(crate) began: u64,
     ghost timely: { last_answered_moment answers.items ≤ moment },
     ghost fits: { moment ≤ LAST_MOMENT },
 }
@@ -27,28 +29,32 @@ impl History {
             posts: Vec::new(alloc),
             answers: Vec::new(alloc),
             moment: 0,
+            began: 0,
         }
     }
 
-    /// Forgets all posts and answers.
-    pub(crate) fn restart(&mut self)
+    /// Forgets all posts and answers, and begins at this reading of the clock.
+    pub(crate) fn restart(&mut self, reading: u64)
         ensures posts { self.new.posts.items ≡ [] }
         ensures answers { self.new.answers.items ≡ [] }
         ensures moment { self.new.moment ≡ 0 }
+        ensures began { self.new.began ≡ reading }
     {
         self.answers.clear();
         self.posts.clear();
         self.moment = 0;
+        self.began = reading;
     }
 
-    /// Goes on to the moment at which so many milliseconds have passed, or to the greatest one.
-    pub(crate) fn advance(&mut self, passed: u64)
-        requires { self.old.moment ≤ passed }
+    /// Goes on to the moment of this reading of the clock, or to the greatest one.
+    pub(crate) fn advance(&mut self, reading: u64)
+        requires { self.old.moment ≤ reading - self.old.began }
         ensures posts { self.new.posts ≡ self.old.posts }
         ensures answers { self.new.answers ≡ self.old.answers }
-        ensures moment { self.new.moment ≡ min passed LAST_MOMENT }
+        ensures moment { self.new.moment ≡ min (reading - self.old.began) LAST_MOMENT }
+        ensures began { self.new.began ≡ self.old.began }
     {
-        self.moment = passed.min(LAST_MOMENT);
+        self.moment = reading.saturating_sub(self.began).min(LAST_MOMENT);
     }
 
     /// Makes room for a post.
@@ -57,6 +63,7 @@ impl History {
         ensures posts { self.new.posts.items ≡ self.old.posts.items }
         ensures answers { self.new.answers.items ≡ self.old.answers.items }
         ensures moment { self.new.moment ≡ self.old.moment }
+        ensures began { self.new.began ≡ self.old.began }
     {
         self.posts.reserve(1)?;
         Ok(())
@@ -68,6 +75,7 @@ impl History {
         ensures posts { self.new.posts.items ≡ self.old.posts.items ++ posted number job ∷ [] }
         ensures answers { self.new.answers.items ≡ self.old.answers.items }
         ensures moment { self.new.moment ≡ self.old.moment }
+        ensures began { self.new.began ≡ self.old.began }
     {
         self.posts.push_reserved(PostedJob { number, job });
     }
@@ -78,6 +86,7 @@ impl History {
         ensures posts { self.new.posts.items ≡ self.old.posts.items }
         ensures answers { self.new.answers.items ≡ self.old.answers.items }
         ensures moment { self.new.moment ≡ self.old.moment }
+        ensures began { self.new.began ≡ self.old.began }
     {
         self.answers.reserve(1)?;
         Ok(())
@@ -90,6 +99,7 @@ impl History {
         ensures answers { self.new.answers.items ≡ self.old.answers.items ++ answer ∷ [] }
         ensures posts { self.new.posts.items ≡ self.old.posts.items }
         ensures moment { self.new.moment ≡ self.old.moment }
+        ensures began { self.new.began ≡ self.old.began }
     {
         self.answers.push_reserved(answer);
     }

@@ -29,6 +29,21 @@ use world::{Question, World};
 /// How long the hub rests at most while it waits for the last jobs, in milliseconds.
 const REST: u64 = 1000;
 
+/// What a world of native threads is made of, beside the handle by which it waits.
+#[derive(Drop)]
+pub struct Parts<R, B, C, G, S> {
+    /// What the hub listens with.
+    pub ear: R,
+    /// What a worker rings.
+    pub bell: B,
+    /// What the hub reads the time from.
+    pub clock: C,
+    /// What lets jobs pass.
+    pub gate: G,
+    /// What starts the workers.
+    pub spawner: S,
+}
+
 /// The world of native threads: jobs are posted to the cells of a board, and each started worker takes those of its
 /// cell. Jobs past the free cells wait in the hub. With no started worker the hub evaluates the oldest job itself when
 /// it is asked.
@@ -48,7 +63,6 @@ pub struct ThreadWorld<H, R, B: Bell + Drop, C: Clock, G: Gate + Drop, S: Spawne
     gate: Arc<G, Global>,
     spawner: S,
     workers: u32,
-    began: u64,
     starts: Vec<Result<S::Running, S::Refused>>,
     desk: Option<Desk>,
     // What was known of the board when the workers were last told to end.
@@ -64,9 +78,9 @@ impl<H, R, B: Bell + Drop, C: Clock, G: Gate + Drop, S: Spawner<B, G>> Model
 
     ghost Value = { Pool };
 
-    ghost view = { λ w. pool_of w.desk w.ended w.history w.workers (C.reading w.clock) w.began (S.refusals w.spawner) (S.joins w.spawner) (map (start_cell S.running_cell S.refused_cell) w.starts.items) };
+    ghost view = { λ w. pool_of w.desk w.ended w.history w.workers (C.reading w.clock) (S.refusals w.spawner) (S.joins w.spawner) (map (start_cell S.running_cell S.refused_cell) w.starts.items) };
 
-    ghost invariant = { λ w. IsSound (pool_of w.desk w.ended w.history w.workers (C.reading w.clock) w.began (S.refusals w.spawner) (S.joins w.spawner) (map (start_cell S.running_cell S.refused_cell) w.starts.items)) };
+    ghost invariant = { λ w. IsSound (pool_of w.desk w.ended w.history w.workers (C.reading w.clock) (S.refusals w.spawner) (S.joins w.spawner) (map (start_cell S.running_cell S.refused_cell) w.starts.items)) };
 }
 
 impl<
@@ -80,8 +94,7 @@ impl<
     ghost use Rattle.std.specs.Prelude.{false};
     ghost use Rattle.native_pool.specs.Pools.{pool_meaning};
 
-    /// A world that doesn't run yet. It keeps the handle, and shares bell and gate with the workers. `AllocError`:
-    /// memory is wanting, and all that was handed in is given up.
+    /// A world of these parts, each by itself, as `of_parts` makes it.
     pub fn new(
         alloc: Global,
         rt: H,
@@ -93,6 +106,32 @@ impl<
     ) -> Result<ThreadWorld<H, R, B, C, G, S>, AllocError>
         ensures stopped { IfOk result (λ world. (pool_meaning world).runs ≡ false) }
     {
+        let parts = Parts {
+            ear,
+            bell,
+            clock,
+            gate,
+            spawner,
+        };
+        ThreadWorld::of_parts(alloc, rt, parts)
+    }
+
+    /// A world that doesn't run yet. It keeps the handle, and shares bell and gate with the workers. `AllocError`:
+    /// memory is wanting, and all that was handed in is given up.
+    pub fn of_parts(
+        alloc: Global,
+        rt: H,
+        parts: Parts<R, B, C, G, S>,
+    ) -> Result<ThreadWorld<H, R, B, C, G, S>, AllocError>
+        ensures stopped { IfOk result (λ world. (pool_meaning world).runs ≡ false) }
+    {
+        let Parts {
+            ear,
+            bell,
+            clock,
+            gate,
+            spawner,
+        } = parts;
         let bell = Arc::new(alloc, bell)?;
         let gate = Arc::new(alloc, gate)?;
         Ok(ThreadWorld {
@@ -104,7 +143,6 @@ impl<
             gate,
             spawner,
             workers: 0,
-            began: 0,
             starts: Vec::new(alloc),
             desk: None,
             ended: None,
@@ -113,26 +151,21 @@ impl<
     }
 }
 
-/// The tasks of all workers, by cell.
+/// The tasks of the workers whose passes these are, by cell.
 fn tasks<B: Bell + Drop, G: Gate + Drop>(
     alloc: Global,
-    workers: u32,
     board: &Arc<Board, Global>,
     mut passes: WorkerPasses,
     bell: &Arc<B, Global>,
     gate: &Arc<G, Global>,
 ) -> Result<Vec<WorkerTask<B, G>>, AllocError>
     requires board { passes_board passes ≡ board_id (arc_value board.now) }
-    requires all { (next_cell passes ≡ 0) × (passes_left passes ≡ workers) }
-    ensures cells { IfOk result (λ tasks. map (λ task. (worker_view task.pass).cell) tasks.items ≡ numbers_from 0 workers) }
-    ensures count { IfOk result (λ tasks. vec_len tasks ≡ workers) }
+    requires first { next_cell passes ≡ 0 }
+    ensures cells { IfOk result (λ tasks. map (λ task. (worker_view task.pass).cell) tasks.items ≡ numbers_from 0 (passes_left passes)) }
+    ensures count { IfOk result (λ tasks. vec_len tasks ≡ passes_left passes) }
 {
     let mut tasks = Vec::new(alloc);
-    for cell in 0..workers {
-        let _ = cell;
-        let Some(pass) = passes.next() else {
-            unreachable!()
-        };
+    while let Some(pass) = passes.next() {
         let task = WorkerTask::new(
             Arc::try_clone(board)?,
             pass,
@@ -217,7 +250,6 @@ fn offered(desk: &mut Desk, question: Question, moment: u64) -> Option<Answer>
 /// it.
 fn try_answer<C: Clock>(
     clock: &mut C,
-    began: u64,
     desk: &mut Desk,
     history: &mut History,
     question: Question,
@@ -225,8 +257,9 @@ fn try_answer<C: Clock>(
     requires room { vec_len history.old.answers < vec_capacity history.old.answers }
     requires made { (hub_view desk.old.pass).made ≡ length (hub_view desk.old.pass).cells }
     requires jobs { Balances (desk_view desk.old) history.old.posts.items history.old.answers.items }
-    requires timely { history.old.moment ≤ C.reading clock.old - began }
-    ensures timely { history.new.moment ≡ min (C.reading clock.new - began) LAST_MOMENT }
+    requires timely { history.old.moment ≤ C.reading clock.old - history.old.began }
+    ensures timely { history.new.moment ≡ min (C.reading clock.new - history.old.began) LAST_MOMENT }
+    ensures began { history.new.began ≡ history.old.began }
     ensures later { history.old.moment ≤ history.new.moment }
     ensures posts { history.new.posts.items ≡ history.old.posts.items }
     ensures legal { IfSome result (λ answer. IsLegal history.old.posts.items history.old.answers.items question answer) }
@@ -237,7 +270,7 @@ fn try_answer<C: Clock>(
     ensures jobs { Balances (desk_view desk.new) history.new.posts.items history.new.answers.items }
     ensures none { IsNone result → Settles (desk_view desk.old) (desk_view desk.new) × (history.new.answers ≡ history.old.answers) }
 {
-    history.advance(clock.now().saturating_sub(began));
+    history.advance(clock.now());
     let Some(answer) = offered(desk, question, history.moment) else {
         return None;
     };
@@ -259,7 +292,6 @@ fn await_answer<H: Wait, R: Ear, C: Clock>(
     rt: &H,
     ear: &mut R,
     clock: &mut C,
-    began: u64,
     desk: &mut Desk,
     history: &mut History,
     question: Question,
@@ -267,8 +299,9 @@ fn await_answer<H: Wait, R: Ear, C: Clock>(
     requires room { vec_len history.old.answers < vec_capacity history.old.answers }
     requires made { (hub_view desk.old.pass).made ≡ length (hub_view desk.old.pass).cells }
     requires jobs { Balances (desk_view desk.old) history.old.posts.items history.old.answers.items }
-    requires timely { history.old.moment ≤ C.reading clock.old - began }
-    ensures timely { history.new.moment ≡ min (C.reading clock.new - began) LAST_MOMENT }
+    requires timely { history.old.moment ≤ C.reading clock.old - history.old.began }
+    ensures timely { history.new.moment ≡ min (C.reading clock.new - history.old.began) LAST_MOMENT }
+    ensures began { history.new.began ≡ history.old.began }
     ensures later { history.old.moment ≤ history.new.moment }
     ensures posts { history.new.posts.items ≡ history.old.posts.items }
     ensures legal { IsLegal history.old.posts.items history.old.answers.items question result }
@@ -279,7 +312,7 @@ fn await_answer<H: Wait, R: Ear, C: Clock>(
     ensures jobs { Balances (desk_view desk.new) history.new.posts.items history.new.answers.items }
 {
     for _ in rt.forever() {
-        if let Some(answer) = try_answer(clock, began, desk, history, question) {
+        if let Some(answer) = try_answer(clock, desk, history, question) {
             return answer;
         }
         ear.rest(rest_of(question, history.moment));
@@ -346,13 +379,12 @@ impl<
             workers: passes,
         } = Board::new(self.alloc, workers)?;
         let board = Arc::new(self.alloc, board)?;
-        let tasks = tasks(self.alloc, workers, &board, passes, &self.bell, &self.gate)?;
+        let tasks = tasks(self.alloc, &board, passes, &self.bell, &self.gate)?;
         let mut started = Vec::with_capacity(self.alloc, MOST_WORKERS as usize)?;
         let mut starts = Vec::with_capacity(self.alloc, MOST_WORKERS as usize)?;
         let held = Vec::with_capacity(self.alloc, MOST_WORKERS as usize)?;
         start_all(&mut self.spawner, tasks, &mut starts, &mut started);
-        self.began = self.clock.now();
-        self.history.restart();
+        self.history.restart(self.clock.now());
         self.workers = workers;
         self.starts = starts;
         self.desk = Some(Desk::new(self.alloc, board, hub, started, held));
@@ -374,7 +406,6 @@ impl<
         ensures same_starts { self.new.starts ≡ self.old.starts }
         ensures same_began { self.new.began ≡ self.old.began }
     {
-        let _ = takes;
         let Some(desk) = &mut self.desk else {
             unreachable!()
         };
@@ -382,8 +413,7 @@ impl<
         desk.add(number, job)?;
         desk.fill();
         self.history.add(number, job);
-        self.history
-            .advance(self.clock.now().saturating_sub(self.began));
+        self.history.advance(self.clock.now());
         Ok(())
     }
 
@@ -411,7 +441,6 @@ impl<
             &self.rt,
             &mut self.ear,
             &mut self.clock,
-            self.began,
             desk,
             &mut self.history,
             question,

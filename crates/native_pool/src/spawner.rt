@@ -93,7 +93,6 @@ impl<B: Bell + Drop, G: Gate + Drop> Spawner<B, G> for NoThreads {
     }
 
     fn join(&mut self, running: NotStarted) {
-        let _ = running;
         self.joined = one_more(self.joined);
     }
 }

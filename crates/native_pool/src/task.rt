@@ -21,9 +21,7 @@ pub trait Gate {
 pub struct OpenGate;
 
 impl Gate for OpenGate {
-    fn pass(&self, number: u32) {
-        let _ = number;
-    }
+    fn pass(&self, number: u32) {}
 }
 
 /// Takes the jobs of the pass's cell until it is told to stop. The pass that it answers has read so.

@@ -18,6 +18,7 @@ pub struct WakerBell {
 
 impl Bell for WakerBell {
     fn ring(&self) {
+        // A ring that fails goes unheard: no clause says that a bell is heard.
         let _ = self.waker.wake();
     }
 }
@@ -45,6 +46,7 @@ impl Ear for PollEar {
             Some(milliseconds) => Some(Duration::from_millis(milliseconds)),
             None => None,
         };
+        // A poll that fails is a rest that ended early, which every caller expects.
         let _ = self.poll.poll(&mut self.events, timeout);
     }
 }

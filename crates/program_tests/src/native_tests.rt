@@ -40,9 +40,7 @@ fn done_at_once(words: &str) -> Row<'_> {
 struct Deaf;
 
 impl Ear for Deaf {
-    fn rest(&mut self, at_most: Option<u64>) {
-        let _ = at_most;
-    }
+    fn rest(&mut self, at_most: Option<u64>) {}
 }
 
 /// A bell that does nothing.

@@ -66,12 +66,12 @@ loop-at-preserved c =
     let kind = c.args.kind in
     let o = c.args.o in
     let line = c.loop-at.invariant in
-    line_on (waits_in_line kind o) (λ (passed : List Item). c.loop-at.before ≡ length passed) (λ (passed : List Item). c.loop-at.before + 1 ≡ length passed) c.args.hub.now es c.args.found.now c.loop-at.found c.note_in_line.new.self
+    line_on (waits_in_line kind o) (λ (passed : List Item). c.loop-at.before ≡ length passed) (λ (passed : List Item). c.loop-at.before + 1 ≡ length passed) c.args.hub.now es c.args.found.now c.loop-at.found c.note.new.self
     c.loop-at.at c.next_waiting-at.result q i c.holds-holds.result c.len-apart.ensures.differ line c.in-Some.is c.get-item.ensures
     (λ st same passes. c.holds-holds.ensures (line_before kind o c.loop-at.before c.args.hub.now i passes
     (line.so ∙ sym (line_standing (test_of kind o) c.args.held.now.next_since es c.loop-at.at q line.along st c.len-apart.ensures.ascends)
     ∙ ap (λ (x : Item). earlier (test_of kind o) x.since (flat es)) same ∙ ap (earlier (test_of kind o) i.since) (sym c.requires.same))))
-    (λ passed few passes so. (let long = length_push passed i in omega (arith, long, so))) c.in_ok-note_in_line.ensures (c.next_waiting-at.ensures.in_line kind o)
+    (λ passed few passes so. (let long = length_push passed i in omega (arith, long, so))) c.in_ok-note.ensures (c.next_waiting-at.ensures.in_line kind o)
 
 pub returns : goal.returns
 returns c =

@@ -19,6 +19,7 @@ loop-preserved g c =
       answers = search rules;
       room = search rules;
       later = search rules;
+      began = search rules;
       timely = grind (arith, common_steps);
       rests = rests_trans _ _ _ was.rests settled.rests;
       made = same.made ∙ (was.made ∙ sym same.cells);

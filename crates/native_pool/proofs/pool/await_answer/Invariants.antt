@@ -13,7 +13,8 @@ invariant-loop g l = record {
   answers : l.history.answers.items ≡ l.fn.history.answers.items;
   room : vec_len l.history.answers < vec_capacity l.history.answers;
   later : l.fn.history.moment ≤ l.history.moment;
-  timely : l.history.moment ≤ g.C.Clock.reading l.clock - l.began;
+  began : l.history.began ≡ l.fn.history.began;
+  timely : l.history.moment ≤ g.C.Clock.reading l.clock - l.fn.history.began;
   rests : Rests (desk_view l.fn.desk) (desk_view l.desk);
   made : (hub_view l.desk.pass).made ≡ length (hub_view l.desk.pass).cells;
   jobs : Balances (desk_view l.desk) l.history.posts.items l.history.answers.items;
