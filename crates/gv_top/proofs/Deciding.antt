@@ -12,6 +12,8 @@ use Rattle.machine.specs.Status.{status, err_line}
 use Rattle.hub_engine.specs.declared.run.EngineEnd.{EngineEnd}
 use Rattle.hub_engine.specs.Ends.{RanTo, end_of, end_of_run}
 use Rattle.gv_top.specs.declared.words.OfflineCommand.{OfflineCommand}
+use Rattle.gv_top.specs.declared.status.Conclusion.{Conclusion}
+use Rattle.gv_top.specs.declared.status.Failure.{Failure}
 use Rattle.gv_top.specs.declared.status.Verdict.{Verdict}
 use Rattle.scenario_grammar.specs.declared.place.Place.{Place}
 use Rattle.scenario_lang.specs.declared.text.ParseRefusal.{ParseRefusal}
@@ -20,17 +22,18 @@ use Rattle.scenario_lang.specs.Lines.{Parses}
 use Rattle.command_words.specs.declared.command.GatewayKind.{GatewayKind}
 use Rattle.command_words.specs.declared.command.TextCommand.{TextCommand}
 use Rattle.gv_top.proofs.ReadTexts.{answer_by, text_answer}
-use Rattle.gv_top.specs.Answers.{Answer, answer_to_scenario, answer_of_run, err_of, most_read, no_port, status_of, usage}
-use Rattle.gv_top.specs.Inner.{answer_to_text, IsExplained, IsOfConnection, verdict_on}
+use Rattle.gv_top.specs.Answers.{Answer, answer_to_scenario, answer_of_run, answer_of_session, err_of, most_read, no_port, status_of, usage}
+use Rattle.gv_top.specs.Inner.{answer_to_text, IsExplained, IsOfConnection}
 use Rattle.scenario_reading.specs.Judged.{IsRefusedWithReason, judged_text}
 use Rattle.gv_top.specs.Gateways.{answers_by}
-use Rattle.gv_top.specs.Verdicts.{verdict_status, verdict_line}
+use Rattle.gv_top.specs.Verdicts.{verdict_line, verdict_of_connection, verdict_of_run, verdict_of_text, verdict_status}
 use Rattle.wsgi_core.specs.Answers.{Sent, nothing_sent}
 use Rattle.wsgi_core.specs.Applications.{App}
 use Rattle.wsgi_core.proofs.ProgressLaws.{answers-nothing}
 use Rattle.scgi_core.proofs.CallLaws.{answers-nothing as scgi-nothing}
 use Rattle.wsgi_connection.specs.declared.connection.TheConstants.{MOST_CONNECTION}
-use Rattle.wsgi_connection.specs.Connections.{HandedAhead, SentAhead}
+use Rattle.wsgi_connection.specs.Connections.{Exchanged, HandedAhead, SentAhead}
+use Rattle.wsgi_connection.specs.Wholes.{IsWhole}
 use Rattle.wsgi_connection.specs.declared.connection.ConnectionEnd.{ConnectionEnd}
 use Rattle.gv_top.specs.Top.{Decided}
 use Rattle.gv_top.specs.Verifying.{IsAnswerOf}
@@ -51,7 +54,7 @@ prefix_of_trace EngineEnd.NoKills r old new h = AppendsPrefix-all old new (text_
 
 -- ---- the verdict of a run
 
-status_of_end : (cause : StopCause) → verdict_status (Verdict.Ran (end_of cause)) ≡ status cause
+status_of_end : (cause : StopCause) → verdict_status (verdict_of_run (end_of cause)) ≡ status cause
 status_of_end (StopCause.Value v) = refl
 status_of_end (StopCause.Fault f) = refl
 status_of_end StopCause.NoTurns = refl
@@ -60,7 +63,7 @@ status_of_end StopCause.NoGreenlets = refl
 status_of_end StopCause.NoLinks = refl
 status_of_end StopCause.NoKills = refl
 
-line_of_end : (cause : StopCause) → verdict_line (Verdict.Ran (end_of cause)) ≡ err_line cause
+line_of_end : (cause : StopCause) → verdict_line (verdict_of_run (end_of cause)) ≡ err_line cause
 line_of_end (StopCause.Value v) = refl
 line_of_end (StopCause.Fault f) = refl
 line_of_end StopCause.NoTurns = refl
@@ -75,33 +78,36 @@ same_end end cause e = ap (λ (o : Option EngineEnd). unwrap_or o end) e
 none_is_none : (end : EngineEnd) → Some end ≡ None → ⊥
 none_is_none end e = cc
 
-number_is : (end : EngineEnd) (e : RunEnd) → Some end ≡ end_of_run e → verdict_status (Verdict.Ran end) ≡ status_of e
-number_is end (RunEnd.Stopped cause) h = ap (λ (x : EngineEnd). verdict_status (Verdict.Ran x)) (same_end end cause h) ∙ status_of_end cause
+number_is : (end : EngineEnd) (e : RunEnd) → Some end ≡ end_of_run e → verdict_status (verdict_of_run end) ≡ status_of e
+number_is end (RunEnd.Stopped cause) h = ap (λ (x : EngineEnd). verdict_status (verdict_of_run x)) (same_end end cause h) ∙ status_of_end cause
 number_is end RunEnd.Asking h = absurd (none_is_none end h)
 
-line_is : (end : EngineEnd) (e : RunEnd) → Some end ≡ end_of_run e → verdict_line (Verdict.Ran end) ≡ err_of e
-line_is end (RunEnd.Stopped cause) h = ap (λ (x : EngineEnd). verdict_line (Verdict.Ran x)) (same_end end cause h) ∙ line_of_end cause
+line_is : (end : EngineEnd) (e : RunEnd) → Some end ≡ end_of_run e → verdict_line (verdict_of_run end) ≡ err_of e
+line_is end (RunEnd.Stopped cause) h = ap (λ (x : EngineEnd). verdict_line (verdict_of_run x)) (same_end end cause h) ∙ line_of_end cause
 line_is end RunEnd.Asking h = absurd (none_is_none end h)
 
+end_decided : (end : EngineEnd) (r : Ran) (old new : Option (List ℕ)) → RanTo end r old new → Decided (verdict_of_run end) (answer_of_run r) old new
+end_decided EngineEnd.WriteFault r old new h = h
+end_decided EngineEnd.Memory r old new h = h
+end_decided EngineEnd.MainValue r old new h = (h.0, number_is EngineEnd.MainValue r.end h.1, line_is EngineEnd.MainValue r.end h.1)
+end_decided (EngineEnd.MainFault f) r old new h = (h.0, number_is (EngineEnd.MainFault f) r.end h.1, line_is (EngineEnd.MainFault f) r.end h.1)
+end_decided EngineEnd.NoTurns r old new h = (h.0, number_is EngineEnd.NoTurns r.end h.1, line_is EngineEnd.NoTurns r.end h.1)
+end_decided EngineEnd.NoMoves r old new h = (h.0, number_is EngineEnd.NoMoves r.end h.1, line_is EngineEnd.NoMoves r.end h.1)
+end_decided EngineEnd.NoGreenlets r old new h = (h.0, number_is EngineEnd.NoGreenlets r.end h.1, line_is EngineEnd.NoGreenlets r.end h.1)
+end_decided EngineEnd.NoLinks r old new h = (h.0, number_is EngineEnd.NoLinks r.end h.1, line_is EngineEnd.NoLinks r.end h.1)
+end_decided EngineEnd.NoKills r old new h = (h.0, number_is EngineEnd.NoKills r.end h.1, line_is EngineEnd.NoKills r.end h.1)
+
 -- the verdict of a run is the answer of that run
-pub run_decided : (end : EngineEnd) (r : Ran) (old new : Option (List ℕ)) → RanTo end r old new → Decided (Verdict.Ran end) (answer_of_run r) old new
-run_decided EngineEnd.WriteFault r old new h = h
-run_decided EngineEnd.Memory r old new h = h
-run_decided EngineEnd.MainValue r old new h = (h.0, number_is _ r.end h.1, line_is _ r.end h.1)
-run_decided (EngineEnd.MainFault f) r old new h = (h.0, number_is _ r.end h.1, line_is _ r.end h.1)
-run_decided EngineEnd.NoTurns r old new h = (h.0, number_is _ r.end h.1, line_is _ r.end h.1)
-run_decided EngineEnd.NoMoves r old new h = (h.0, number_is _ r.end h.1, line_is _ r.end h.1)
-run_decided EngineEnd.NoGreenlets r old new h = (h.0, number_is _ r.end h.1, line_is _ r.end h.1)
-run_decided EngineEnd.NoLinks r old new h = (h.0, number_is _ r.end h.1, line_is _ r.end h.1)
-run_decided EngineEnd.NoKills r old new h = (h.0, number_is _ r.end h.1, line_is _ r.end h.1)
+pub run_decided : (end : EngineEnd) (v : Verdict) (r : Ran) (old new : Option (List ℕ)) → v ≡ verdict_of_run end → RanTo end r old new → Decided v (answer_of_run r) old new
+run_decided end v r old new is h = let P : Verdict → Type 0 = λ x. Decided x (answer_of_run r) old new in subst P (sym is) (end_decided end r old new h)
 
 -- ---- the verdict on a text
 
 refused_decided : (command : TextCommand) (given : List Given) (bytes : List ℕ) (p : Place) (old : Option (List ℕ)) → judged_text bytes ≡ Err p
-    → Decided (Verdict.Refused p) (answer_to_text command given bytes) old old
+    → Decided (Verdict.Did (Conclusion.Refused p)) (answer_to_text command given bytes) old old
 unfolding answer_to_text
 refused_decided command given bytes p old e =
-    let P : Answer → Type 0 = λ a. Decided (Verdict.Refused p) a old old in subst P (sym (ap (answer_by command given) e)) (sym (appended-nothing old), refl, refl)
+    let P : Answer → Type 0 = λ a. Decided (Verdict.Did (Conclusion.Refused p)) a old old in subst P (sym (ap (answer_by command given) e)) (sym (appended-nothing old), refl, refl)
 
 -- the text was judged so, and its scenario decided
 pub judged_decided : (command : TextCommand) (given : List Given) (bytes : List ℕ) (s : Scenario) (v : Verdict) (old new : Option (List ℕ)) → judged_text bytes ≡ Ok s
@@ -109,26 +115,26 @@ pub judged_decided : (command : TextCommand) (given : List Given) (bytes : List 
 unfolding answer_to_text
 judged_decided command given bytes s v old new e h = let P : Answer → Type 0 = λ a. Decided v a old new in subst P (sym (ap (answer_by command given) e)) h
 
-pub refusal_decided : (command : TextCommand) (given : List Given) (bytes : List ℕ) (e : ParseRefusal) (v : Verdict) (old : Option (List ℕ)) → v ≡ verdict_on e → Parses (judged_text bytes) (Err e)
+pub refusal_decided : (command : TextCommand) (given : List Given) (bytes : List ℕ) (e : ParseRefusal) (v : Verdict) (old : Option (List ℕ)) → v ≡ verdict_of_text e → Parses (judged_text bytes) (Err e)
     → Decided v (answer_to_text command given bytes) old old
 refusal_decided command given bytes e v old is h = let P : Verdict → Type 0 = λ v. Decided v (answer_to_text command given bytes) old old in subst P (sym is) (by e h)
   where
-    by : (e : ParseRefusal) → Parses (judged_text bytes) (Err e) → Decided (verdict_on e) (answer_to_text command given bytes) old old
+    by : (e : ParseRefusal) → Parses (judged_text bytes) (Err e) → Decided (verdict_of_text e) (answer_to_text command given bytes) old old
     by (parse.Refused p) h = refused_decided command given bytes p old h
     by parse.Memory h = AppendsPrefix-nothing old (answer_to_text command given bytes).out
 
 -- such a verdict is of no command and of no fault
-pub refusal_number : (e : ParseRefusal) (v : Verdict) (n : ℕ) → v ≡ verdict_on e → verdict_status v ≡ n → n ≢ 3 → n ≢ 7 → ⊥
+pub refusal_number : (e : ParseRefusal) (v : Verdict) (n : ℕ) → v ≡ verdict_of_text e → verdict_status v ≡ n → n ≢ 3 → n ≢ 7 → ⊥
 refusal_number e v n is h h3 h7 = by e (sym (ap verdict_status is) ∙ h)
   where
-    by : (e : ParseRefusal) → verdict_status (verdict_on e) ≡ n → ⊥
+    by : (e : ParseRefusal) → verdict_status (verdict_of_text e) ≡ n → ⊥
     by (parse.Refused p) h = h3 (sym h)
     by parse.Memory h = h7 (sym h)
 
-pub refusal_explained : (e : ParseRefusal) (v : Verdict) → v ≡ verdict_on e → IsRefusedWithReason e → IsExplained v
+pub refusal_explained : (e : ParseRefusal) (v : Verdict) → v ≡ verdict_of_text e → IsRefusedWithReason e → IsExplained v
 refusal_explained e v is h = subst IsExplained (sym is) (by e h)
   where
-    by : (e : ParseRefusal) → IsRefusedWithReason e → IsExplained (verdict_on e)
+    by : (e : ParseRefusal) → IsRefusedWithReason e → IsExplained (verdict_of_text e)
     by (parse.Refused p) h = h
     by parse.Memory h = tt
 
@@ -153,8 +159,30 @@ pub text_decided : (app : App) (c : Option OfflineCommand) (command : TextComman
 text_decided app c command given left a v old new e d h =
     decided_as v a (answer_to_text command given (take most_read left)) old new (text_answer command given (take most_read left) a (answer_as app c (Some (OfflineCommand.Text command)) given left a e h)) d
 
-pub usage_decided : (app : App) (c : Option OfflineCommand) (given : List Given) (left : List ℕ) (a : Answer) (old : Option (List ℕ)) → c ≡ None → IsAnswerOf app c given left a → Decided Verdict.Usage a old old
-usage_decided app c given left a old e h = decided_as Verdict.Usage a usage old old (answer_as app c None given left a e h) (sym (appended-nothing old), refl, refl)
+pub usage_decided : (app : App) (c : Option OfflineCommand) (given : List Given) (left : List ℕ) (a : Answer) (old : Option (List ℕ)) → c ≡ None → IsAnswerOf app c given left a → Decided (Verdict.Did Conclusion.Usage) a old old
+usage_decided app c given left a old e h = decided_as (Verdict.Did Conclusion.Usage) a usage old old (answer_as app c None given left a e h) (sym (appended-nothing old), refl, refl)
+
+-- the verdict of a connection is the answer of what its session sent
+pub connection_decided : (end : ConnectionEnd) (v : Verdict) (s : Sent) (old new : Option (List ℕ)) → v ≡ verdict_of_connection end → IsWhole end s old new → Decided v (answer_of_session s) old new
+connection_decided end v s old new is h = let P : Verdict → Type 0 = λ x. Decided x (answer_of_session s) old new in subst P (sym is) (by end h)
+  where
+    by : (end : ConnectionEnd) → IsWhole end s old new → Decided (verdict_of_connection end) (answer_of_session s) old new
+    by ConnectionEnd.Closed h = let closes = h.1 in (h.0, rw closes refl, rw closes refl)
+    by ConnectionEnd.TooLong h = let closes = h.1 in (h.0, rw closes refl, rw closes refl)
+    by ConnectionEnd.ReadFault h = h
+    by ConnectionEnd.WriteFault h = h
+    by ConnectionEnd.Memory h = h
+
+pub of_connection : (end : ConnectionEnd) (v : Verdict) (given gateway : GatewayKind) (app : App) (in0 in1 out0 out1 : Option (List ℕ)) → v ≡ verdict_of_connection end → OfflineCommand.Wsgi gateway ≡ OfflineCommand.Wsgi given
+    → Exchanged end (answers_by given) app no_port in0 in1 out0 out1 → IsOfConnection v gateway app in0 in1 out0 out1
+of_connection end v given gateway app in0 in1 out0 out1 is wanted h = record {
+  end = end;
+  number = ap verdict_status is;
+  exchanged = subst (λ (k : GatewayKind). Exchanged end (answers_by k) app no_port in0 in1 out0 out1) (same given gateway (sym wanted)) h;
+}
+  where
+    same : (a b : GatewayKind) → OfflineCommand.Wsgi a ≡ OfflineCommand.Wsgi b → a ≡ b
+    same a b z = cc z
 
 -- another command than this one is named
 pub no_command : (c : Option OfflineCommand) (d : OfflineCommand) (P : Type 0) → c ≡ None → c ≡ Some d → P
@@ -178,7 +206,7 @@ ahead_of_nothing gateway app out = record {
 }
 
 -- where memory ran out at once, nothing was exchanged
-pub nothing_exchanged : (gateway : GatewayKind) (app : App) (input out : Option (List ℕ)) → IsOfConnection (Verdict.Ran EngineEnd.Memory) gateway app input input out out
+pub nothing_exchanged : (gateway : GatewayKind) (app : App) (input out : Option (List ℕ)) → IsOfConnection (Verdict.Broke Failure.Memory) gateway app input input out out
 nothing_exchanged gateway app input out =
     record {
       end = ConnectionEnd.Memory;

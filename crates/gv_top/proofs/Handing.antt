@@ -23,14 +23,14 @@ use Rattle.gv_top.specs.declared.words.OfflineCommand.{OfflineCommand}
 use Rattle.scenario_reading.specs.Judged.{judged_text}
 use Rattle.gv_top.specs.Counted.{is_broken_off}
 use Rattle.gv_top.specs.Running.{BeganSo}
-use Rattle.gv_top.specs.Top.{HandsOn, IsTold}
+use Rattle.gv_top.specs.Top.{HandsOn, IsVerdictTold}
 use Rattle.gv_top.specs.Inner.{BeganText, IsOr}
-use Rattle.gv_top.specs.Verdicts.{verdict_status}
+use Rattle.gv_top.specs.Verdicts.{verdict_of_connection, verdict_of_run, verdict_of_server, verdict_status}
 
 -- ---- what was handed on
 
 -- a run that was broken off has one of two statuses
-pub broken_kept : (end : EngineEnd) (P : Type 0) → is_broken_off end ≡ true → verdict_status (Verdict.Ran end) ≢ 5 → verdict_status (Verdict.Ran end) ≢ 7 → P
+pub broken_kept : (end : EngineEnd) (P : Type 0) → is_broken_off end ≡ true → verdict_status (verdict_of_run end) ≢ 5 → verdict_status (verdict_of_run end) ≢ 7 → P
 broken_kept EngineEnd.WriteFault P e h5 h7 = absurd (h5 refl)
 broken_kept EngineEnd.Memory P e h5 h7 = absurd (h7 refl)
 broken_kept EngineEnd.MainValue P e h5 h7 = absurd (cc e)
@@ -41,18 +41,24 @@ broken_kept EngineEnd.NoGreenlets P e h5 h7 = absurd (cc e)
 broken_kept EngineEnd.NoLinks P e h5 h7 = absurd (cc e)
 broken_kept EngineEnd.NoKills P e h5 h7 = absurd (cc e)
 
-pub connection_hands : (end : ConnectionEnd) (w0 h0 w1 h1 : Option (List ℕ)) → (h0 ≡ w0 → end ≢ ConnectionEnd.WriteFault → end ≢ ConnectionEnd.Memory → h1 ≡ w1) → HandsOn (verdict_status (Verdict.Connection end)) w0 h0 w1 h1
-connection_hands end w0 h0 w1 h1 f h5 h7 e = f e (λ z. h5 (ap (λ x. verdict_status (Verdict.Connection x)) z)) (λ z. h7 (ap (λ x. verdict_status (Verdict.Connection x)) z))
+-- what a run hands on by its end, it hands on by its verdict
+pub run_hands : (end : EngineEnd) (v : Verdict) (w0 h0 w1 h1 : Option (List ℕ)) → v ≡ verdict_of_run end → HandsOn (verdict_status (verdict_of_run end)) w0 h0 w1 h1 → HandsOn (verdict_status v) w0 h0 w1 h1
+run_hands end v w0 h0 w1 h1 is h = let P : Verdict → Type 0 = λ x. HandsOn (verdict_status x) w0 h0 w1 h1 in subst P (sym is) h
+
+pub connection_hands : (end : ConnectionEnd) (v : Verdict) (w0 h0 w1 h1 : Option (List ℕ)) → v ≡ verdict_of_connection end →
+    (h0 ≡ w0 → end ≢ ConnectionEnd.WriteFault → end ≢ ConnectionEnd.Memory → h1 ≡ w1) → HandsOn (verdict_status v) w0 h0 w1 h1
+connection_hands end v w0 h0 w1 h1 is f h5 h7 e =
+    f e (λ z. h5 (ap verdict_status is ∙ ap (λ x. verdict_status (verdict_of_connection x)) z)) (λ z. h7 (ap verdict_status is ∙ ap (λ x. verdict_status (verdict_of_connection x)) z))
 
 -- the status that is answered is the verdict's, or 5 or 7
-pub told_hands : (n : ℕ) (v w : Verdict) (err0 err1 out0 h0 out1 h1 : Option (List ℕ)) (e0 e1 : ℕ) → IsOr v w → IsTold n w err0 err1 e0 e1 → HandsOn (verdict_status v) out0 h0 out1 h1 → HandsOn n out0 h0 out1 h1
+pub told_hands : (n : ℕ) (v w : Verdict) (err0 err1 out0 h0 out1 h1 : Option (List ℕ)) (e0 e1 : ℕ) → IsOr v w → IsVerdictTold n w err0 err1 e0 e1 → HandsOn (verdict_status v) out0 h0 out1 h1 → HandsOn n out0 h0 out1 h1
 told_hands n v w err0 err1 out0 h0 out1 h1 e0 e1 o (inr t) h h5 h7 = absurd (h5 t.0)
 told_hands n v w err0 err1 out0 h0 out1 h1 e0 e1 (inl same) (inl t) h h5 h7 =
     let e : verdict_status v ≡ n = ap verdict_status (sym same) ∙ sym t.0 in h (λ z. h5 (sym e ∙ z)) (λ z. h7 (sym e ∙ z))
 told_hands n v w err0 err1 out0 h0 out1 h1 e0 e1 (inr m) (inl t) h h5 h7 = absurd (h7 (t.0 ∙ ap verdict_status m.0))
 
-pub serving_hands : (end : Served) (w0 h0 w1 h1 : Option (List ℕ)) → (h0 ≡ w0 → end ≢ Served.WriteFault → end ≢ Served.Memory → h1 ≡ w1) → HandsOn (verdict_status (Verdict.Served end)) w0 h0 w1 h1
-serving_hands end w0 h0 w1 h1 f h5 h7 e = f e (λ z. h5 (ap (λ x. verdict_status (Verdict.Served x)) z)) (λ z. h7 (ap (λ x. verdict_status (Verdict.Served x)) z))
+pub serving_hands : (end : Served) (w0 h0 w1 h1 : Option (List ℕ)) → (h0 ≡ w0 → end ≢ Served.WriteFault → end ≢ Served.Memory → h1 ≡ w1) → HandsOn (verdict_status (verdict_of_server end)) w0 h0 w1 h1
+serving_hands end w0 h0 w1 h1 f h5 h7 e = f e (λ z. h5 (ap (λ x. verdict_status (verdict_of_server x)) z)) (λ z. h7 (ap (λ x. verdict_status (verdict_of_server x)) z))
 
 -- ---- what was handed on ahead of a question
 

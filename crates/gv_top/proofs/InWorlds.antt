@@ -28,7 +28,7 @@ use Rattle.hub_engine.specs.Ahead.{WroteAhead}
 use Rattle.gv_top.proofs.Deciding.{prefix_of_trace}
 use Rattle.gv_top.proofs.Tops.{unchanged_lawful}
 use Rattle.gv_top.specs.Running.{IsBegun, IsUnbegun, RanHeld, RanNatively, run_of, RanWith}
-use Rattle.gv_top.specs.Inner.{RanInWorld, verdict_on, RanScenarioSo, RanSo}
+use Rattle.gv_top.specs.Inner.{RanInWorld, RanScenarioSo, RanSo}
 use Rattle.scenario_reading.specs.Judged.{judged_text}
 use Rattle.gv_top.specs.Answers.{most_read}
 use Rattle.gv_top.specs.declared.words.OfflineCommand.{OfflineCommand}
@@ -36,7 +36,7 @@ use Rattle.gv_top.specs.Top.{BlocksAtQuiet, Counts, HasLawfulLines}
 use Rattle.machine_blocks.specs.Laws.{BlocksAreTold}
 use Rattle.machine_trace_laws.specs.Laws.{BlocksQuietly}
 use Rattle.scenario_rules.specs.Rules.{IsWellFormed}
-use Rattle.gv_top.specs.Verdicts.{verdict_status}
+use Rattle.gv_top.specs.Verdicts.{verdict_of_run, verdict_of_text, verdict_status}
 use Rattle.gv_top.specs.declared.status.Verdict.{Verdict}
 use Rattle.command_words.specs.declared.command.RunOptions.{RunOptions}
 use Rattle.command_words.specs.declared.command.RunWorld.{RunWorld}
@@ -243,10 +243,10 @@ ran_held law posts answers end c turns moves workers k before inner stands w out
 -- ---- lines that meet the laws
 
 -- what out has of a run whose lines meet the laws
-lines_lawful : (end : EngineEnd) (r : Ran) (out0 out1 : Option (List ℕ)) → RanTo end r out0 out1 → meets_laws r.lines ≡ true → HasLawfulLines (verdict_status (Verdict.Ran end)) out0 out1
+lines_lawful : (end : EngineEnd) (r : Ran) (out0 out1 : Option (List ℕ)) → RanTo end r out0 out1 → meets_laws r.lines ≡ true → HasLawfulLines (verdict_status (verdict_of_run end)) out0 out1
 lines_lawful end r out0 out1 h lawful = record { lines = r.lines; lawful = lawful; prefix = prefix_of_trace end r out0 out1 h; whole = λ h4 h5 h7. whole end h h5 h7 }
   where
-    whole : (end : EngineEnd) → RanTo end r out0 out1 → verdict_status (Verdict.Ran end) ≢ 5 → verdict_status (Verdict.Ran end) ≢ 7 → out1 ≡ appended out0 (text_of r.lines)
+    whole : (end : EngineEnd) → RanTo end r out0 out1 → verdict_status (verdict_of_run end) ≢ 5 → verdict_status (verdict_of_run end) ≢ 7 → out1 ≡ appended out0 (text_of r.lines)
     whole EngineEnd.WriteFault h h5 h7 = absurd (h5 refl)
     whole EngineEnd.Memory h h5 h7 = absurd (h7 refl)
     whole EngineEnd.MainValue h h5 h7 = h.0
@@ -258,10 +258,13 @@ lines_lawful end r out0 out1 h lawful = record { lines = r.lines; lawful = lawfu
     whole EngineEnd.NoKills h h5 h7 = h.0
 
 -- what out has of a run whose lines meet the laws, or of one that was not begun
-pub run_lawful : (end : EngineEnd) (options : RunOptions) (answers : List Answer) (s : Scenario) (out0 out1 : Option (List ℕ)) → RanTo end (run_of options answers s) out0 out1
-    → IsBegun options s answers out0 out1 ⊎ IsUnbegun (verdict_status (Verdict.Ran end)) out0 out1 → HasLawfulLines (verdict_status (Verdict.Ran end)) out0 out1
-run_lawful end options answers s out0 out1 h (inl begun) = lines_lawful end (run_of options answers s) out0 out1 h begun.lawful
-run_lawful end options answers s out0 out1 h (inr unbegun) = unchanged_lawful (verdict_status (Verdict.Ran end)) out0 out1 unbegun.0
+pub run_lawful : (end : EngineEnd) (verdict : Verdict) (options : RunOptions) (answers : List Answer) (s : Scenario) (out0 out1 : Option (List ℕ)) → verdict ≡ verdict_of_run end → RanTo end (run_of options answers s) out0 out1
+    → IsBegun options s answers out0 out1 ⊎ IsUnbegun (verdict_status (verdict_of_run end)) out0 out1 → HasLawfulLines (verdict_status verdict) out0 out1
+run_lawful end verdict options answers s out0 out1 is h begun = let P : Verdict → Type 0 = λ v. HasLawfulLines (verdict_status v) out0 out1 in subst P (sym is) (by begun)
+  where
+    by : IsBegun options s answers out0 out1 ⊎ IsUnbegun (verdict_status (verdict_of_run end)) out0 out1 → HasLawfulLines (verdict_status (verdict_of_run end)) out0 out1
+    by (inl begun) = lines_lawful end (run_of options answers s) out0 out1 h begun.lawful
+    by (inr unbegun) = unchanged_lawful (verdict_status (verdict_of_run end)) out0 out1 unbegun.0
 
 -- ---- under the command
 
@@ -276,18 +279,20 @@ none_ran n options s after stands out0 out1 u = record { begun = inr u; native =
     by (inr (inr e)) h4 h5 h7 = h7 e
 
 -- what a run of these options came to is what the command that asks for it came to
-pub scenario_ran : (command : TextCommand) (options : RunOptions) (end : EngineEnd) (s : Scenario) (after : WorldMeaning) (stands : List LogEntry → Type 0) (out0 out1 : Option (List ℕ)) → command ≡ TextCommand.Run options
-    → IsBegun options s after.answers out0 out1 ⊎ IsUnbegun (verdict_status (Verdict.Ran end)) out0 out1
+pub scenario_ran : (command : TextCommand) (options : RunOptions) (end : EngineEnd) (verdict : Verdict) (s : Scenario) (after : WorldMeaning) (stands : List LogEntry → Type 0) (out0 out1 : Option (List ℕ)) →
+    command ≡ TextCommand.Run options → verdict ≡ verdict_of_run end
+    → IsBegun options s after.answers out0 out1 ⊎ IsUnbegun (verdict_status (verdict_of_run end)) out0 out1
     → ((workers : ℕ) → options.world ≡ RunWorld.Native workers → end ≢ EngineEnd.WriteFault → end ≢ EngineEnd.Memory → RanNatively workers (run_of options after.answers s) after stands)
     → ((workers : ℕ) → options.world ≡ RunWorld.Held workers → end ≢ EngineEnd.WriteFault → end ≢ EngineEnd.Memory → RanHeld workers (run_of options after.answers s) after stands)
-    → RanScenarioSo (verdict_status (Verdict.Ran end)) command s after stands out0 out1
-scenario_ran command options end s after stands out0 out1 is begun h k = λ wanted e.
-    let P : RunOptions → Type 0 = λ o. RanWith (verdict_status (Verdict.Ran end)) o s after stands out0 out1 in
-    subst P (same_options options wanted (sym is ∙ e)) (record {
+    → RanScenarioSo (verdict_status verdict) command s after stands out0 out1
+scenario_ran command options end verdict s after stands out0 out1 is same begun h k = λ wanted e.
+    let P : RunOptions → Type 0 = λ o. RanWith (verdict_status (verdict_of_run end)) o s after stands out0 out1 in
+    let Q : Verdict → Type 0 = λ v. RanWith (verdict_status v) wanted s after stands out0 out1 in
+    subst Q (sym same) (subst P (same_options options wanted (sym is ∙ e)) (record {
       begun = begun;
-      native = λ workers v h4 h5 h7. h workers v (λ z. h5 (ap (λ x. verdict_status (Verdict.Ran x)) z)) (λ z. h7 (ap (λ x. verdict_status (Verdict.Ran x)) z));
-      held = λ workers v h4 h5 h7. k workers v (λ z. h5 (ap (λ x. verdict_status (Verdict.Ran x)) z)) (λ z. h7 (ap (λ x. verdict_status (Verdict.Ran x)) z));
-    })
+      native = λ workers v h4 h5 h7. h workers v (λ z. h5 (ap (λ x. verdict_status (verdict_of_run x)) z)) (λ z. h7 (ap (λ x. verdict_status (verdict_of_run x)) z));
+      held = λ workers v h4 h5 h7. k workers v (λ z. h5 (ap (λ x. verdict_status (verdict_of_run x)) z)) (λ z. h7 (ap (λ x. verdict_status (verdict_of_run x)) z));
+    }))
   where
     same_options : (a b : RunOptions) → TextCommand.Run a ≡ TextCommand.Run b → a ≡ b
     same_options a b e = cc e
@@ -303,11 +308,11 @@ format_runs_nothing command options P is e = absurd (no (sym is ∙ e))
 other_judged : (p : Place) (s : Scenario) → ◌≡◌ {A = Result Scenario Place} (Err p) (Ok s) → ⊥
 other_judged p s z = cc z
 
-pub refused_runs_nothing : (e : ParseRefusal) (v : Verdict) (command : TextCommand) (bytes : List ℕ) (after : WorldMeaning) (stands : List LogEntry → Type 0) (out : Option (List ℕ)) → v ≡ verdict_on e → Parses (judged_text bytes) (Err e)
+pub refused_runs_nothing : (e : ParseRefusal) (v : Verdict) (command : TextCommand) (bytes : List ℕ) (after : WorldMeaning) (stands : List LogEntry → Type 0) (out : Option (List ℕ)) → v ≡ verdict_of_text e → Parses (judged_text bytes) (Err e)
     → RanSo (verdict_status v) command bytes after stands out out
 refused_runs_nothing e v command bytes after stands out is h = λ s j options c. none_ran (verdict_status v) options s after stands out out (refl, inr (inr (ap verdict_status is ∙ by e h s j)))
   where
-    by : (e : ParseRefusal) → Parses (judged_text bytes) (Err e) → (s : Scenario) → judged_text bytes ≡ Ok s → verdict_status (verdict_on e) ≡ 7
+    by : (e : ParseRefusal) → Parses (judged_text bytes) (Err e) → (s : Scenario) → judged_text bytes ≡ Ok s → verdict_status (verdict_of_text e) ≡ 7
     by (parse.Refused p) h s j = absurd (other_judged p s (sym h ∙ j))
     by parse.Memory h s j = refl
 

@@ -31,9 +31,9 @@ use Rattle.gv_top.specs.declared.words.OfflineCommand.{OfflineCommand}
 use Rattle.gv_top.specs.Gateways.{answers_by}
 use Rattle.gv_top.specs.Serving.{Serves, ServesNatively, ServesWith, limits_of}
 use Rattle.gv_top.specs.Answers.{memory_line, read_fault_line}
-use Rattle.gv_top.specs.Top.{IsStatusOf, IsTold}
+use Rattle.gv_top.specs.Top.{IsStatusOf, IsVerdictTold}
 use Rattle.gv_top.specs.Inner.{IsOr}
-use Rattle.gv_top.specs.Verdicts.{verdict_status, verdict_line}
+use Rattle.gv_top.specs.Verdicts.{verdict_line, verdict_of_server, verdict_status}
 use Rattle.gv_top.specs.Words.{built, offline_command_of, serve_of, serving}
 use Rattle.gv_top.proofs.Built.{NamedAreInRange}
 use Rattle.gv_top.proofs.Tops.{HasFailed, fails, left_as_it_was, no_memory_line, read_line, status_or}
@@ -67,14 +67,14 @@ is_none (Some options) h = absurd (h refl)
 -- ---- the status of an end
 
 -- want of memory is told by its own status, or by that of its line
-pub no_memory_status : (n : ℕ) (v w : Verdict) (old new : Option (List ℕ)) (e0 e1 : ℕ) → IsOr v w → IsTold n w old new e0 e1 → verdict_status v ≡ 7 → (n ≡ 5) ⊎ (n ≡ 7)
+pub no_memory_status : (n : ℕ) (v w : Verdict) (old new : Option (List ℕ)) (e0 e1 : ℕ) → IsOr v w → IsVerdictTold n w old new e0 e1 → verdict_status v ≡ 7 → (n ≡ 5) ⊎ (n ≡ 7)
 no_memory_status n v w old new e0 e1 o l e = by (status_or n v w old new e0 e1 o l)
   where
     by : IsStatusOf n v → (n ≡ 5) ⊎ (n ≡ 7)
     by (inl p) = inr (p ∙ e)
     by (inr p) = p.1
 
-pub no_network_fault : (n : ℕ) (v w : Verdict) (old new : Option (List ℕ)) (e0 e1 : ℕ) → IsOr v w → IsTold n w old new e0 e1 → verdict_status v ≢ 10 → n ≢ 10
+pub no_network_fault : (n : ℕ) (v w : Verdict) (old new : Option (List ℕ)) (e0 e1 : ℕ) → IsOr v w → IsVerdictTold n w old new e0 e1 → verdict_status v ≢ 10 → n ≢ 10
 no_network_fault n v w old new e0 e1 o l h = by (status_or n v w old new e0 e1 o l)
   where
     by : IsStatusOf n v → n ≢ 10
@@ -83,7 +83,7 @@ no_network_fault n v w old new e0 e1 o l h = by (status_or n v w old new e0 e1 o
     by (inr (_, inr p)) = λ z. absurd (let q = sym p ∙ z in omega arith)
 
 -- where words that name `serve` lead to want of memory, any other status is of words that don't
-pub names_no_server : (n : ℕ) (v w : Verdict) (o : Option ServeOptions) (old new : Option (List ℕ)) (e0 e1 : ℕ) → IsOr v w → IsTold n w old new e0 e1 →
+pub names_no_server : (n : ℕ) (v w : Verdict) (o : Option ServeOptions) (old new : Option (List ℕ)) (e0 e1 : ℕ) → IsOr v w → IsVerdictTold n w old new e0 e1 →
     (IsSome o → verdict_status v ≡ 7) → n ≢ 5 → n ≢ 7 → o ≡ None
 names_no_server n v w o old new e0 e1 r l h h5 h7 = is_none o (λ named. by (no_memory_status n v w old new e0 e1 r l (h named)))
   where
@@ -238,23 +238,23 @@ served_with_jobs given workers end asked app limits whole w before after out0 ou
 -- ---- what a server came to, and its line
 
 -- the line of the verdict is there, with a status that tells no line that failed and no want of memory
-told_whole : (n : ℕ) (v w : Verdict) (old new : Option (List ℕ)) (e0 e1 : ℕ) → IsOr v w → IsTold n w old new e0 e1 → n ≢ 5 → n ≢ 7 → new ≡ appended old (verdict_line v)
+told_whole : (n : ℕ) (v w : Verdict) (old new : Option (List ℕ)) (e0 e1 : ℕ) → IsOr v w → IsVerdictTold n w old new e0 e1 → n ≢ 5 → n ≢ 7 → new ≡ appended old (verdict_line v)
 told_whole n v w old new e0 e1 (inl e) (inl p) h5 h7 = p.1 ∙ ap (λ x. appended old (verdict_line x)) e
 told_whole n v w old new e0 e1 (inr q) (inl p) h5 h7 = absurd (h7 (p.0 ∙ ap verdict_status q.0))
 told_whole n v w old new e0 e1 o (inr p) h5 h7 = absurd (h5 p.0)
 
 pub serves_so : (n : ℕ) (app : App) (options : ServeOptions) (end : Served) (w : Verdict) (m : NetMeaning) (before rested after : World) (out0 begun out1 err0 silent err1 : Option (List ℕ)) (e0 e1 : ℕ) →
-    rested ≡ before → begun ≡ out0 → silent ≡ err0 → ServesWith options.answers end options.port app (limits_of options) m rested after begun out1 → IsOr (Verdict.Served end) w → IsTold n w silent err1 e0 e1 →
+    rested ≡ before → begun ≡ out0 → silent ≡ err0 → ServesWith options.answers end options.port app (limits_of options) m rested after begun out1 → IsOr (verdict_of_server end) w → IsVerdictTold n w silent err1 e0 e1 →
     Serves n app options m before after out0 out1 err0 err1
 serves_so n app options end w m before rested after out0 begun out1 err0 silent err1 e0 e1 kept same quiet h o l =
     let P : Option (List ℕ) → Type 0 = λ x. ServesWith options.answers end options.port app (limits_of options) m before after x out1 in
     let R : World → Type 0 = λ x. ServesWith options.answers end options.port app (limits_of options) m x after begun out1 in
-    let Q : Option (List ℕ) → Type 0 = λ x. err1 ≡ appended x (verdict_line (Verdict.Served end)) in
+    let Q : Option (List ℕ) → Type 0 = λ x. err1 ≡ appended x (verdict_line (verdict_of_server end)) in
     record {
       end = end;
       serves = subst P same (subst R kept h);
-      status = status_or n (Verdict.Served end) w silent err1 e0 e1 o l;
-      err = λ h5 h7. subst Q quiet (told_whole n (Verdict.Served end) w silent err1 e0 e1 o l h5 h7);
+      status = status_or n (verdict_of_server end) w silent err1 e0 e1 o l;
+      err = λ h5 h7. subst Q quiet (told_whole n (verdict_of_server end) w silent err1 e0 e1 o l h5 h7);
     }
 
 -- where memory ran out as the words were read
@@ -267,20 +267,20 @@ serves_nobody n app options m before after out0 out1 err0 err1 fresh kept same e
   err = by e;
 }
   where
-    by : (n ≡ 5) ⊎ (n ≡ 7) → n ≢ 5 → n ≢ 7 → err1 ≡ appended err0 (verdict_line (Verdict.Served Served.Memory))
+    by : (n ≡ 5) ⊎ (n ≡ 7) → n ≢ 5 → n ≢ 7 → err1 ≡ appended err0 (verdict_line (verdict_of_server Served.Memory))
     by (inl e) h5 h7 = absurd (h5 e)
     by (inr e) h5 h7 = absurd (h7 e)
 
 -- ---- its status
 
-listener_of : (end : Served) → verdict_status (Verdict.Served end) ≡ 10 → end ≡ Served.Listener
+listener_of : (end : Served) → verdict_status (verdict_of_server end) ≡ 10 → end ≡ Served.Listener
 listener_of Served.Finished e = absurd (omega arith)
 listener_of Served.Listener e = refl
 listener_of Served.NoJobs e = absurd (omega arith)
 listener_of Served.WriteFault e = absurd (omega arith)
 listener_of Served.Memory e = absurd (omega arith)
 
-write_fault_of : (end : Served) → verdict_status (Verdict.Served end) ≡ 5 → end ≡ Served.WriteFault
+write_fault_of : (end : Served) → verdict_status (verdict_of_server end) ≡ 5 → end ≡ Served.WriteFault
 write_fault_of Served.Finished e = absurd (omega arith)
 write_fault_of Served.Listener e = absurd (omega arith)
 write_fault_of Served.NoJobs e = absurd (omega arith)
@@ -288,12 +288,12 @@ write_fault_of Served.WriteFault e = refl
 write_fault_of Served.Memory e = absurd (omega arith)
 
 -- status 10 is told of a listener that failed alone
-pub is_listener : (n : ℕ) (end : Served) → IsStatusOf n (Verdict.Served end) → n ≡ 10 → end ≡ Served.Listener
+pub is_listener : (n : ℕ) (end : Served) → IsStatusOf n (verdict_of_server end) → n ≡ 10 → end ≡ Served.Listener
 is_listener n end (inl p) e = listener_of end (sym p ∙ e)
 is_listener n end (inr (_, inl p)) e = absurd (let q = sym p ∙ e in omega arith)
 is_listener n end (inr (_, inr p)) e = absurd (let q = sym p ∙ e in omega arith)
 
-other_number : (end : Served) (m : ℕ) → m ≢ 0 → m ≢ 5 → m ≢ 7 → m ≢ 8 → m ≢ 10 → verdict_status (Verdict.Served end) ≡ m → ⊥
+other_number : (end : Served) (m : ℕ) → m ≢ 0 → m ≢ 5 → m ≢ 7 → m ≢ 8 → m ≢ 10 → verdict_status (verdict_of_server end) ≡ m → ⊥
 other_number Served.Finished m h0 h5 h7 h8 h10 e = h0 (sym e)
 other_number Served.Listener m h0 h5 h7 h8 h10 e = h10 (sym e)
 other_number Served.NoJobs m h0 h5 h7 h8 h10 e = h8 (sym e)
@@ -301,37 +301,37 @@ other_number Served.WriteFault m h0 h5 h7 h8 h10 e = h5 (sym e)
 other_number Served.Memory m h0 h5 h7 h8 h10 e = h7 (sym e)
 
 -- a server has the statuses 0, 5, 7, 8 and 10 alone
-pub no_other_status : (P : Type 0) (n m : ℕ) (end : Served) → IsStatusOf n (Verdict.Served end) → n ≡ m → m ≢ 0 → m ≢ 5 → m ≢ 7 → m ≢ 8 → m ≢ 10 → P
+pub no_other_status : (P : Type 0) (n m : ℕ) (end : Served) → IsStatusOf n (verdict_of_server end) → n ≡ m → m ≢ 0 → m ≢ 5 → m ≢ 7 → m ≢ 8 → m ≢ 10 → P
 no_other_status P n m end (inl p) e h0 h5 h7 h8 h10 = absurd (other_number end m h0 h5 h7 h8 h10 (sym p ∙ e))
 no_other_status P n m end (inr (_, inl p)) e h0 h5 h7 h8 h10 = absurd (h5 (sym e ∙ p))
 no_other_status P n m end (inr (_, inr p)) e h0 h5 h7 h8 h10 = absurd (h7 (sym e ∙ p))
 
 -- a status that is not 5 is not that of a server that failed to write
-pub not_write_fault : (n : ℕ) (end : Served) (w : Verdict) (old new : Option (List ℕ)) (e0 e1 : ℕ) → IsOr (Verdict.Served end) w → IsTold n w old new e0 e1 → n ≢ 5 → end ≢ Served.WriteFault
-not_write_fault n end w old new e0 e1 (inl e) (inl p) h5 = λ z. h5 (p.0 ∙ ap verdict_status e ∙ ap (λ x. verdict_status (Verdict.Served x)) z)
-not_write_fault n end w old new e0 e1 (inr q) (inl p) h5 = λ z. q.3 (ap (λ x. verdict_status (Verdict.Served x)) z)
+pub not_write_fault : (n : ℕ) (end : Served) (w : Verdict) (old new : Option (List ℕ)) (e0 e1 : ℕ) → IsOr (verdict_of_server end) w → IsVerdictTold n w old new e0 e1 → n ≢ 5 → end ≢ Served.WriteFault
+not_write_fault n end w old new e0 e1 (inl e) (inl p) h5 = λ z. h5 (p.0 ∙ ap verdict_status e ∙ ap (λ x. verdict_status (verdict_of_server x)) z)
+not_write_fault n end w old new e0 e1 (inr q) (inl p) h5 = λ z. q.3 (ap (λ x. verdict_status (verdict_of_server x)) z)
 not_write_fault n end w old new e0 e1 o (inr p) h5 = absurd (h5 p.0)
 
 -- one that is neither 5 nor 10 is not that of one whose listener failed
-pub not_listener : (n : ℕ) (end : Served) (w : Verdict) (old new : Option (List ℕ)) (e0 e1 : ℕ) → IsOr (Verdict.Served end) w → IsTold n w old new e0 e1 → n ≢ 5 → n ≢ 10 → end ≢ Served.Listener
-not_listener n end w old new e0 e1 (inl e) (inl p) h5 h10 = λ z. h10 (p.0 ∙ ap verdict_status e ∙ ap (λ x. verdict_status (Verdict.Served x)) z)
-not_listener n end w old new e0 e1 (inr q) (inl p) h5 h10 = λ z. q.4 (ap (λ x. verdict_status (Verdict.Served x)) z)
+pub not_listener : (n : ℕ) (end : Served) (w : Verdict) (old new : Option (List ℕ)) (e0 e1 : ℕ) → IsOr (verdict_of_server end) w → IsVerdictTold n w old new e0 e1 → n ≢ 5 → n ≢ 10 → end ≢ Served.Listener
+not_listener n end w old new e0 e1 (inl e) (inl p) h5 h10 = λ z. h10 (p.0 ∙ ap verdict_status e ∙ ap (λ x. verdict_status (verdict_of_server x)) z)
+not_listener n end w old new e0 e1 (inr q) (inl p) h5 h10 = λ z. q.4 (ap (λ x. verdict_status (verdict_of_server x)) z)
 not_listener n end w old new e0 e1 o (inr p) h5 h10 = absurd (h5 p.0)
 
 -- the lines of faults, where the call had left err as it was
-pub fault_lines : (n : ℕ) (w : Verdict) (err0 silent err1 : Option (List ℕ)) (e0 e1 : ℕ) → silent ≡ err0 → IsTold n w silent err1 e0 e1 →
+pub fault_lines : (n : ℕ) (w : Verdict) (err0 silent err1 : Option (List ℕ)) (e0 e1 : ℕ) → silent ≡ err0 → IsVerdictTold n w silent err1 e0 e1 →
     (n ≡ 4 → err1 ≡ appended err0 read_fault_line) × (n ≡ 7 → err1 ≡ appended err0 memory_line)
 fault_lines n w err0 silent err1 e0 e1 quiet l =
     let P : Option (List ℕ) → Type 0 = λ x. (n ≡ 4 → err1 ≡ appended x read_fault_line) × (n ≡ 7 → err1 ≡ appended x memory_line) in
     subst P quiet (read_line n w silent err1 e0 e1 l, no_memory_line n w silent err1 e0 e1 l)
 
 -- a verdict that is a write fault is that of the server
-written_off : (end : Served) (w : Verdict) → IsOr (Verdict.Served end) w → verdict_status w ≡ 5 → end ≡ Served.WriteFault
+written_off : (end : Served) (w : Verdict) → IsOr (verdict_of_server end) w → verdict_status w ≡ 5 → end ≡ Served.WriteFault
 written_off end w (inl e) h = write_fault_of end (sym (ap verdict_status e) ∙ h)
 written_off end w (inr q) h = absurd (let z = sym (ap verdict_status q.0) ∙ h in omega arith)
 
 pub fails_at_a_line : (n : ℕ) (end : Served) (w : Verdict) (err0 silent err1 : Option (List ℕ)) (w0 begun w1 e0 still e1 : ℕ) → begun ≡ w0 → silent ≡ err0 → still ≡ e0 →
-    (end ≡ Served.WriteFault → HasRisen begun w1) → IsOr (Verdict.Served end) w → IsTold n w silent err1 still e1 → n ≡ 5 → HasFailed err0 err1 w0 w1 e0 e1
+    (end ≡ Served.WriteFault → HasRisen begun w1) → IsOr (verdict_of_server end) w → IsVerdictTold n w silent err1 still e1 → n ≡ 5 → HasFailed err0 err1 w0 w1 e0 e1
 fails_at_a_line n end w err0 silent err1 w0 begun w1 e0 still e1 out_as_it_was quiet faultless risen o l e =
     let P : ℕ → Type 0 = λ x. HasFailed err0 err1 x w1 e0 e1 in
     let Q : Option (List ℕ) → Type 0 = λ x. HasFailed x err1 begun w1 e0 e1 in

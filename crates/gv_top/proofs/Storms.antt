@@ -36,7 +36,7 @@ use Rattle.gv_top.specs.Answers.{Answer, IsStormAnswer, answer_of_storm}
 use Rattle.gv_top.specs.Counted.{WasCounted, is_broken_off}
 use Rattle.gv_top.specs.Storm.{IsStorm, storm_run, storm_text}
 use Rattle.gv_top.specs.Top.{Decided, Ended, IsAnswered, Stream}
-use Rattle.gv_top.specs.Inner.{verdict_on}
+use Rattle.gv_top.specs.Verdicts.{verdict_of_run, verdict_of_text}
 use Rattle.gv_top.proofs.InWorlds.{part_logged}
 use Rattle.gv_top.proofs.ReadTexts.{spelt_is_judged}
 use Rattle.gv_top.proofs.Tops.{answered, status_is}
@@ -137,20 +137,21 @@ was_counted law came lines s engine before begun w none text is same b g empty e
 same_storm : (n : ℕ) (r : Result Scenario Place) (s : Scenario) (bytes : List ℕ) → bytes ≡ storm_text n → judged_text bytes ≡ r → IsStorm n s → r ≡ Ok s
 same_storm n r s bytes is e storm = sym e ∙ ap judged_text is ∙ spelt_is_judged s (storm_text n) storm.0 storm.1
 
-pub storm_decided : (n : ℕ) (t : Scenario) (bytes : List ℕ) (v : Verdict) (old new : Option (List ℕ)) → bytes ≡ storm_text n → judged_text bytes ≡ Ok t
-    → Decided v (answer_of_storm n (storm_run t)) old new → (a : Answer) → IsStormAnswer n a → Decided v a old new
-storm_decided n t bytes v old new is e h a of =
+pub storm_decided : (n : ℕ) (t : Scenario) (bytes : List ℕ) (end : EngineEnd) (v : Verdict) (old new : Option (List ℕ)) → bytes ≡ storm_text n → judged_text bytes ≡ Ok t → v ≡ verdict_of_run end
+    → Decided (verdict_of_run end) (answer_of_storm n (storm_run t)) old new → (a : Answer) → IsStormAnswer n a → Decided v a old new
+storm_decided n t bytes end v old new is e same_verdict h a of =
     let same : t ≡ of.0 = cc (same_storm n (Ok t) of.0 bytes is e of.1) in
     let P : Answer → Type 0 = λ x. Decided v x old new in
     let Q : Scenario → Type 0 = λ s. Decided v (answer_of_storm n (storm_run s)) old new in
-    subst P (sym of.2) (subst Q same h)
+    let R : Verdict → Type 0 = λ x. Decided x (answer_of_storm n (storm_run t)) old new in
+    subst P (sym of.2) (subst Q same (subst R (sym same_verdict) h))
 
 -- its text is not refused, but memory may run out for it
-pub storm_unread : (n : ℕ) (bytes : List ℕ) (e : ParseRefusal) (v : Verdict) (old : Option (List ℕ)) → bytes ≡ storm_text n → v ≡ verdict_on e → Parses (judged_text bytes) (Err e)
+pub storm_unread : (n : ℕ) (bytes : List ℕ) (e : ParseRefusal) (v : Verdict) (old : Option (List ℕ)) → bytes ≡ storm_text n → v ≡ verdict_of_text e → Parses (judged_text bytes) (Err e)
     → (a : Answer) → IsStormAnswer n a → Decided v a old old
 storm_unread n bytes e v old is same h a of = let P : Verdict → Type 0 = λ x. Decided x a old old in subst P (sym same) (by e h)
   where
-    by : (e : ParseRefusal) → Parses (judged_text bytes) (Err e) → Decided (verdict_on e) a old old
+    by : (e : ParseRefusal) → Parses (judged_text bytes) (Err e) → Decided (verdict_of_text e) a old old
     by (parse.Refused p) h = let z : Err p ≡ Ok of.0 = same_storm n (Err p) of.0 bytes is h of.1 in absurd (let no : ⊥ = cc z in no)
     by parse.Memory h = AppendsPrefix-nothing old a.out
 

@@ -9,6 +9,8 @@ use Rattle.hub_engine.specs.declared.run.EngineEnd.{EngineEnd}
 use Rattle.wsgi_core.specs.Applications.{App}
 use Rattle.wsgi_connection.specs.declared.connection.ConnectionEnd.{ConnectionEnd}
 use Rattle.serve_command.specs.declared.serving.Served.{Served}
+use Rattle.gv_top.specs.declared.status.Conclusion.{Conclusion}
+use Rattle.gv_top.specs.declared.status.Failure.{Failure}
 use Rattle.gv_top.specs.declared.status.Verdict.{Verdict}
 use Rattle.gv_top.specs.declared.words.OfflineCommand.{OfflineCommand}
 use Rattle.command_words.specs.declared.command.GatewayKind.{GatewayKind}
@@ -20,14 +22,13 @@ use Rattle.scenario_tree.specs.declared.tree.Scenario.{Scenario}
 use Rattle.scenario_grammar.specs.Spells.{Spells}
 use Rattle.scenario_rules.specs.Rules.{IsWellFormed}
 use Rattle.verify_command.specs.Inputs.{most_checked_read}
-use Rattle.verify_command.specs.declared.checking.Unverified.{Unverified}
 use Rattle.gv_top.specs.Answers.{Answer, memory_line, most_read, read_fault_line, write_fault_line}
 use Rattle.gv_top.specs.Commands.{IsLeftAlone}
 use Rattle.gv_top.specs.Running.{IsBegun, IsUnbegun, RanWith}
-use Rattle.gv_top.specs.Verdicts.{verdict_status, verdict_line}
+use Rattle.gv_top.specs.Verdicts.{verdict_line, verdict_of_connection, verdict_of_run, verdict_of_server, verdict_status}
 use Rattle.gv_top.specs.Verifying.{IsAnswerOf, IsCheckAnswer}
-use Rattle.gv_top.specs.Top.{Counts, Fits, Decided, CameTo, Ended, FailsToWrite, IsStatusOf, IsTold, AnswersConnection, IsAnswered, HasLawfulLines, Stream}
-use Rattle.gv_top.specs.Inner.{IsOfConnection, IsOr}
+use Rattle.gv_top.specs.Top.{Counts, FitsAnswer, Decided, CameTo, Ended, FailsToWrite, IsStatusOf, IsVerdictTold, AnswersConnection, IsAnswered, HasLawfulLines, Stream}
+use Rattle.gv_top.specs.Inner.{IsExplained, IsOfConnection, IsOr}
 
 -- nothing was appended
 pub left_as_it_was : (old new : Option (List ℕ)) (text : List ℕ) → new ≡ old → AppendsPrefix old new text
@@ -43,10 +44,14 @@ uncounted fails old new never e = record { failed = λ f. absurd (never f); unfa
 counted_as : (fails told : Type 0) (old new : ℕ) → (told → fails) → (fails → told) → Counts fails old new → Counts told old new
 counted_as fails told old new f g h = record { failed = λ t. h.failed (f t); unfailed = λ never. h.unfailed (λ x. never (g x)); never_falls = h.never_falls }
 
-pub run_counts : (end : EngineEnd) (old new : ℕ) → Counts (end ≡ EngineEnd.WriteFault) old new → Counts (verdict_status (Verdict.Ran end) ≡ 5) old new
-run_counts end old new h = counted_as (end ≡ EngineEnd.WriteFault) (verdict_status (Verdict.Ran end) ≡ 5) old new (by end) (λ e. ap (λ (x : EngineEnd). verdict_status (Verdict.Ran x)) e) h
+-- so are those of a verdict by its status
+counted_by : (fails : Type 0) (v w : Verdict) (n old new : ℕ) → v ≡ w → (verdict_status w ≡ n → fails) → (fails → verdict_status w ≡ n) → Counts fails old new → Counts (verdict_status v ≡ n) old new
+counted_by fails v w n old new is f g h = counted_as fails (verdict_status v ≡ n) old new (λ e. f (sym (ap verdict_status is) ∙ e)) (λ x. ap verdict_status is ∙ g x) h
+
+pub run_counts : (end : EngineEnd) (v : Verdict) (old new : ℕ) → v ≡ verdict_of_run end → Counts (end ≡ EngineEnd.WriteFault) old new → Counts (verdict_status v ≡ 5) old new
+run_counts end v old new is h = counted_by (end ≡ EngineEnd.WriteFault) v (verdict_of_run end) 5 old new is (by end) (λ e. ap (λ (x : EngineEnd). verdict_status (verdict_of_run x)) e) h
   where
-    by : (end : EngineEnd) → verdict_status (Verdict.Ran end) ≡ 5 → end ≡ EngineEnd.WriteFault
+    by : (end : EngineEnd) → verdict_status (verdict_of_run end) ≡ 5 → end ≡ EngineEnd.WriteFault
     by EngineEnd.MainValue e = absurd (omega arith)
     by (EngineEnd.MainFault f) e = absurd (omega arith)
     by EngineEnd.NoTurns e = absurd (omega arith)
@@ -57,22 +62,82 @@ run_counts end old new h = counted_as (end ≡ EngineEnd.WriteFault) (verdict_st
     by EngineEnd.WriteFault e = refl
     by EngineEnd.Memory e = absurd (omega arith)
 
-pub connection_writes : (end : ConnectionEnd) (old new : ℕ) → Counts (end ≡ ConnectionEnd.WriteFault) old new → Counts (verdict_status (Verdict.Connection end) ≡ 5) old new
-connection_writes end old new h =
-    counted_as (end ≡ ConnectionEnd.WriteFault) (verdict_status (Verdict.Connection end) ≡ 5) old new (by end) (λ e. ap (λ (x : ConnectionEnd). verdict_status (Verdict.Connection x)) e) h
+-- a run has the statuses 0, 1, 5, 6, 7 and 8 alone
+pub run_status : (end : EngineEnd) (v : Verdict) (n : ℕ) → v ≡ verdict_of_run end → verdict_status v ≡ n → n ≢ 0 → n ≢ 1 → n ≢ 5 → n ≢ 6 → n ≢ 7 → n ≢ 8 → ⊥
+run_status end v n is h h0 h1 h5 h6 h7 h8 = by end (sym (ap verdict_status is) ∙ h)
   where
-    by : (end : ConnectionEnd) → verdict_status (Verdict.Connection end) ≡ 5 → end ≡ ConnectionEnd.WriteFault
+    by : (end : EngineEnd) → verdict_status (verdict_of_run end) ≡ n → ⊥
+    by EngineEnd.MainValue e = h0 (sym e)
+    by (EngineEnd.MainFault f) e = h1 (sym e)
+    by EngineEnd.NoTurns e = h6 (sym e)
+    by EngineEnd.NoMoves e = h6 (sym e)
+    by EngineEnd.NoGreenlets e = h8 (sym e)
+    by EngineEnd.NoLinks e = h8 (sym e)
+    by EngineEnd.NoKills e = h8 (sym e)
+    by EngineEnd.WriteFault e = h5 (sym e)
+    by EngineEnd.Memory e = h7 (sym e)
+
+pub run_explained : (end : EngineEnd) (v : Verdict) → v ≡ verdict_of_run end → IsExplained v
+run_explained end v is = subst IsExplained (sym is) (by end)
+  where
+    by : (end : EngineEnd) → IsExplained (verdict_of_run end)
+    by EngineEnd.MainValue = tt
+    by (EngineEnd.MainFault f) = tt
+    by EngineEnd.NoTurns = tt
+    by EngineEnd.NoMoves = tt
+    by EngineEnd.NoGreenlets = tt
+    by EngineEnd.NoLinks = tt
+    by EngineEnd.NoKills = tt
+    by EngineEnd.WriteFault = tt
+    by EngineEnd.Memory = tt
+
+-- a connection has the statuses 0, 4, 5, 7 and 8 alone
+pub connection_status : (end : ConnectionEnd) (v : Verdict) (n : ℕ) → v ≡ verdict_of_connection end → verdict_status v ≡ n → n ≢ 0 → n ≢ 4 → n ≢ 5 → n ≢ 7 → n ≢ 8 → ⊥
+connection_status end v n is h h0 h4 h5 h7 h8 = by end (sym (ap verdict_status is) ∙ h)
+  where
+    by : (end : ConnectionEnd) → verdict_status (verdict_of_connection end) ≡ n → ⊥
+    by ConnectionEnd.Closed e = h0 (sym e)
+    by ConnectionEnd.TooLong e = h8 (sym e)
+    by ConnectionEnd.ReadFault e = h4 (sym e)
+    by ConnectionEnd.WriteFault e = h5 (sym e)
+    by ConnectionEnd.Memory e = h7 (sym e)
+
+pub connection_explained : (end : ConnectionEnd) (v : Verdict) → v ≡ verdict_of_connection end → IsExplained v
+connection_explained end v is = subst IsExplained (sym is) (by end)
+  where
+    by : (end : ConnectionEnd) → IsExplained (verdict_of_connection end)
+    by ConnectionEnd.Closed = tt
+    by ConnectionEnd.TooLong = tt
+    by ConnectionEnd.ReadFault = tt
+    by ConnectionEnd.WriteFault = tt
+    by ConnectionEnd.Memory = tt
+
+pub server_explained : (end : Served) (v : Verdict) → v ≡ verdict_of_server end → IsExplained v
+server_explained end v is = subst IsExplained (sym is) (by end)
+  where
+    by : (end : Served) → IsExplained (verdict_of_server end)
+    by Served.Finished = tt
+    by Served.NoJobs = tt
+    by Served.Listener = tt
+    by Served.WriteFault = tt
+    by Served.Memory = tt
+
+pub connection_writes : (end : ConnectionEnd) (v : Verdict) (old new : ℕ) → v ≡ verdict_of_connection end → Counts (end ≡ ConnectionEnd.WriteFault) old new → Counts (verdict_status v ≡ 5) old new
+connection_writes end v old new is h =
+    counted_by (end ≡ ConnectionEnd.WriteFault) v (verdict_of_connection end) 5 old new is (by end) (λ e. ap (λ (x : ConnectionEnd). verdict_status (verdict_of_connection x)) e) h
+  where
+    by : (end : ConnectionEnd) → verdict_status (verdict_of_connection end) ≡ 5 → end ≡ ConnectionEnd.WriteFault
     by ConnectionEnd.Closed e = absurd (omega arith)
     by ConnectionEnd.TooLong e = absurd (omega arith)
     by ConnectionEnd.ReadFault e = absurd (omega arith)
     by ConnectionEnd.WriteFault e = refl
     by ConnectionEnd.Memory e = absurd (omega arith)
 
-pub connection_reads : (end : ConnectionEnd) (old new : ℕ) → Counts (end ≡ ConnectionEnd.ReadFault) old new → Counts (verdict_status (Verdict.Connection end) ≡ 4) old new
-connection_reads end old new h =
-    counted_as (end ≡ ConnectionEnd.ReadFault) (verdict_status (Verdict.Connection end) ≡ 4) old new (by end) (λ e. ap (λ (x : ConnectionEnd). verdict_status (Verdict.Connection x)) e) h
+pub connection_reads : (end : ConnectionEnd) (v : Verdict) (old new : ℕ) → v ≡ verdict_of_connection end → Counts (end ≡ ConnectionEnd.ReadFault) old new → Counts (verdict_status v ≡ 4) old new
+connection_reads end v old new is h =
+    counted_by (end ≡ ConnectionEnd.ReadFault) v (verdict_of_connection end) 4 old new is (by end) (λ e. ap (λ (x : ConnectionEnd). verdict_status (verdict_of_connection x)) e) h
   where
-    by : (end : ConnectionEnd) → verdict_status (Verdict.Connection end) ≡ 4 → end ≡ ConnectionEnd.ReadFault
+    by : (end : ConnectionEnd) → verdict_status (verdict_of_connection end) ≡ 4 → end ≡ ConnectionEnd.ReadFault
     by ConnectionEnd.Closed e = absurd (omega arith)
     by ConnectionEnd.TooLong e = absurd (omega arith)
     by ConnectionEnd.ReadFault e = refl
@@ -86,48 +151,23 @@ record Broke (v : Verdict) (a : Answer) (old new : Option (List ℕ)) : Type 0 w
   prefix : AppendsPrefix old new a.out
   number : (verdict_status v ≡ 4) ⊎ ((verdict_status v ≡ 5) ⊎ (verdict_status v ≡ 7))
 
-decided : (v : Verdict) (a : Answer) (old new : Option (List ℕ)) → Decided v a old new → Fits v a old new ⊎ Broke v a old new
-decided Verdict.Usage a old new d = inl d
-decided Verdict.ReadFault a old new d = inr (record { prefix = left_as_it_was old new a.out d; number = inl refl })
-decided (Verdict.Refused place) a old new d = inl d
-decided Verdict.Formatted a old new d = inl d
-decided (Verdict.Ran EngineEnd.MainValue) a old new d = inl d
-decided (Verdict.Ran (EngineEnd.MainFault f)) a old new d = inl d
-decided (Verdict.Ran EngineEnd.NoTurns) a old new d = inl d
-decided (Verdict.Ran EngineEnd.NoMoves) a old new d = inl d
-decided (Verdict.Ran EngineEnd.NoGreenlets) a old new d = inl d
-decided (Verdict.Ran EngineEnd.NoLinks) a old new d = inl d
-decided (Verdict.Ran EngineEnd.NoKills) a old new d = inl d
-decided (Verdict.Ran EngineEnd.WriteFault) a old new d = inr (record { prefix = d; number = inr (inl refl) })
-decided (Verdict.Ran EngineEnd.Memory) a old new d = inr (record { prefix = d; number = inr (inr refl) })
-decided (Verdict.Connection ConnectionEnd.Closed) a old new d = inl d
-decided (Verdict.Connection ConnectionEnd.TooLong) a old new d = inl d
-decided (Verdict.Connection ConnectionEnd.ReadFault) a old new d = inr (record { prefix = d; number = inl refl })
-decided (Verdict.Connection ConnectionEnd.WriteFault) a old new d = inr (record { prefix = d; number = inr (inl refl) })
-decided (Verdict.Connection ConnectionEnd.Memory) a old new d = inr (record { prefix = d; number = inr (inr refl) })
-decided (Verdict.Served Served.Finished) a old new d = inl d
-decided (Verdict.Served Served.Listener) a old new d = inl d
-decided (Verdict.Served Served.NoJobs) a old new d = inl d
-decided (Verdict.Served Served.WriteFault) a old new d = inl d
-decided (Verdict.Served Served.Memory) a old new d = inl d
-decided Verdict.Verified a old new d = inl d
-decided (Verdict.Unverified (Unverified.Overlong line)) a old new d = inl d
-decided (Verdict.Unverified (Unverified.Unmarked line)) a old new d = inl d
-decided (Verdict.Unverified (Unverified.Refused place)) a old new d = inl d
-decided (Verdict.Unverified (Unverified.Wrong line cause)) a old new d = inl d
-decided (Verdict.Unverified (Unverified.Lawless line law)) a old new d = inl d
-decided (Verdict.Unverified Unverified.Memory) a old new d = inr (record { prefix = d; number = inr (inr refl) })
+decided : (v : Verdict) (a : Answer) (old new : Option (List ℕ)) → Decided v a old new → FitsAnswer v a old new ⊎ Broke v a old new
+decided (Verdict.Did conclusion) a old new d = inl d
+decided (Verdict.Broke Failure.Read) a old new d = inr (record { prefix = d; number = inl refl })
+decided (Verdict.Broke Failure.Write) a old new d = inr (record { prefix = d; number = inr (inl refl) })
+decided (Verdict.Broke Failure.Net) a old new d = absurd d
+decided (Verdict.Broke Failure.Memory) a old new d = inr (record { prefix = d; number = inr (inr refl) })
 
-prefix_of : (v : Verdict) (a : Answer) (old new : Option (List ℕ)) → Fits v a old new ⊎ Broke v a old new → AppendsPrefix old new a.out
+prefix_of : (v : Verdict) (a : Answer) (old new : Option (List ℕ)) → FitsAnswer v a old new ⊎ Broke v a old new → AppendsPrefix old new a.out
 prefix_of v a old new (inl f) = AppendsPrefix-all old new a.out f.0
 prefix_of v a old new (inr b) = b.prefix
 
-whole_of : (n : ℕ) (v : Verdict) (a : Answer) (old new : Option (List ℕ)) → Fits v a old new ⊎ Broke v a old new →
-    n ≡ verdict_status v → n ≢ 4 → n ≢ 5 → n ≢ 7 → Fits v a old new
+whole_of : (n : ℕ) (v : Verdict) (a : Answer) (old new : Option (List ℕ)) → FitsAnswer v a old new ⊎ Broke v a old new →
+    n ≡ verdict_status v → n ≢ 4 → n ≢ 5 → n ≢ 7 → FitsAnswer v a old new
 whole_of n v a old new (inl f) e h4 h5 h7 = f
 whole_of n v a old new (inr b) e h4 h5 h7 = by b.number
   where
-    by : (verdict_status v ≡ 4) ⊎ ((verdict_status v ≡ 5) ⊎ (verdict_status v ≡ 7)) → Fits v a old new
+    by : (verdict_status v ≡ 4) ⊎ ((verdict_status v ≡ 5) ⊎ (verdict_status v ≡ 7)) → FitsAnswer v a old new
     by (inl q) = absurd (h4 (e ∙ q))
     by (inr (inl q)) = absurd (h5 (e ∙ q))
     by (inr (inr q)) = absurd (h7 (e ∙ q))
@@ -137,12 +177,12 @@ record Said (n : ℕ) (v : Verdict) (old new : Option (List ℕ)) : Type 0 where
   number : n ≡ verdict_status v
   line : new ≡ appended old (verdict_line v)
 
-said : (n : ℕ) (v : Verdict) (old new : Option (List ℕ)) (e0 e1 : ℕ) → IsTold n v old new e0 e1 → n ≢ 5 → Said n v old new
+said : (n : ℕ) (v : Verdict) (old new : Option (List ℕ)) (e0 e1 : ℕ) → IsVerdictTold n v old new e0 e1 → n ≢ 5 → Said n v old new
 said n v old new e0 e1 (inl p) h5 = record { number = p.0; line = p.1 }
 said n v old new e0 e1 (inr p) h5 = absurd (h5 p.0)
 
 pub answered : (n : ℕ) (v : Verdict) (a : Answer) (out0 out1 err0 err1 : Option (List ℕ)) (e0 e1 : ℕ) →
-    Decided v a out0 out1 → IsTold n v err0 err1 e0 e1 → IsAnswered n a out0 out1 err0 err1
+    Decided v a out0 out1 → IsVerdictTold n v err0 err1 e0 e1 → IsAnswered n a out0 out1 err0 err1
 answered n v a out0 out1 err0 err1 e0 e1 d l =
     let c = decided v a out0 out1 d in
     record {
@@ -170,7 +210,7 @@ ran_told n v options s after stands out0 out1 (inr p) h = record { begun = by h.
 
 -- where there is no memory for the line of a verdict, the command came to want of memory
 out_of_memory : (v : Verdict) (app : App) (c : Option OfflineCommand) (after : WorldMeaning) (stands : List LogEntry → Type 0) (input out : Stream) → CameTo v app c after stands input out →
-    verdict_status v ≢ 0 → verdict_status v ≢ 4 → verdict_status v ≢ 5 → CameTo (Verdict.Ran EngineEnd.Memory) app c after stands input out
+    verdict_status v ≢ 0 → verdict_status v ≢ 4 → verdict_status v ≢ 5 → CameTo (Verdict.Broke Failure.Memory) app c after stands input out
 out_of_memory v app c after stands input out h n0 n4 n5 =
     record {
       answer = λ left a told is. prefix_of v a out.before out.after (decided v a out.before out.after (h.answer left a told is));
@@ -193,7 +233,7 @@ left_alone_stream bytes faults = record { before = bytes; after = bytes; faults_
 
 -- memory ran out before anything was done
 pub out_of_memory_at_once : (app : App) (c : Option OfflineCommand) (after : WorldMeaning) (stands : List LogEntry → Type 0) (input out : Option (List ℕ)) (reads writes : ℕ) →
-    CameTo (Verdict.Ran EngineEnd.Memory) app c after stands (left_alone_stream input reads) (left_alone_stream out writes)
+    CameTo (Verdict.Broke Failure.Memory) app c after stands (left_alone_stream input reads) (left_alone_stream out writes)
 out_of_memory_at_once app c after stands input out reads writes =
     record {
       answer = λ left a told is. AppendsPrefix-nothing out a.out;
@@ -224,150 +264,125 @@ came_to v w app c after stands input out h (inr p) =
     let P : Verdict → Type 0 = λ x. CameTo x app c after stands input out in subst P (sym p.0) (out_of_memory v app c after stands input out h p.1 p.2 p.3)
 
 pub ended : (n : ℕ) (v w : Verdict) (app : App) (c : Option OfflineCommand) (after : WorldMeaning) (stands : List LogEntry → Type 0) (input out : Stream) (err0 err1 : Option (List ℕ)) (e0 e1 : ℕ) →
-    CameTo v app c after stands input out → IsOr v w → IsTold n w err0 err1 e0 e1 →
+    CameTo v app c after stands input out → IsOr v w → IsVerdictTold n w err0 err1 e0 e1 →
     Ended n app c after stands input out (record { before = err0; after = err1; faults_before = e0; faults_after = e1 })
 ended n v w app c after stands input out err0 err1 e0 e1 h o l =
     record { verdict = w; came_to = came_to v w app c after stands input out h o; told = l }
 
 -- ---- the lines of faults
 
+-- a status that no failure has
+pub record IsUnbroken (n : ℕ) : Type 0 where
+  pub not_read : n ≢ 4
+  pub not_write : n ≢ 5
+  pub not_memory : n ≢ 7
+  pub not_net : n ≢ 10
+
+zero_unbroken : IsUnbroken 0
+zero_unbroken = record { not_read = λ z. omega arith; not_write = λ z. omega arith; not_memory = λ z. omega arith; not_net = λ z. omega arith }
+
+one_unbroken : IsUnbroken 1
+one_unbroken = record { not_read = λ z. omega arith; not_write = λ z. omega arith; not_memory = λ z. omega arith; not_net = λ z. omega arith }
+
+two_unbroken : IsUnbroken 2
+two_unbroken = record { not_read = λ z. omega arith; not_write = λ z. omega arith; not_memory = λ z. omega arith; not_net = λ z. omega arith }
+
+three_unbroken : IsUnbroken 3
+three_unbroken = record { not_read = λ z. omega arith; not_write = λ z. omega arith; not_memory = λ z. omega arith; not_net = λ z. omega arith }
+
+six_unbroken : IsUnbroken 6
+six_unbroken = record { not_read = λ z. omega arith; not_write = λ z. omega arith; not_memory = λ z. omega arith; not_net = λ z. omega arith }
+
+eight_unbroken : IsUnbroken 8
+eight_unbroken = record { not_read = λ z. omega arith; not_write = λ z. omega arith; not_memory = λ z. omega arith; not_net = λ z. omega arith }
+
+nine_unbroken : IsUnbroken 9
+nine_unbroken = record { not_read = λ z. omega arith; not_write = λ z. omega arith; not_memory = λ z. omega arith; not_net = λ z. omega arith }
+
+-- a call that nothing broke off has the status of no failure
+pub did_unbroken : (conclusion : Conclusion) → IsUnbroken (verdict_status (Verdict.Did conclusion))
+did_unbroken Conclusion.Finished = zero_unbroken
+did_unbroken Conclusion.Usage = two_unbroken
+did_unbroken (Conclusion.MainFault f) = one_unbroken
+did_unbroken Conclusion.NoTurns = six_unbroken
+did_unbroken Conclusion.NoMoves = six_unbroken
+did_unbroken Conclusion.NoGreenlets = eight_unbroken
+did_unbroken Conclusion.NoLinks = eight_unbroken
+did_unbroken Conclusion.NoKills = eight_unbroken
+did_unbroken Conclusion.TooLong = eight_unbroken
+did_unbroken Conclusion.NoJobs = eight_unbroken
+did_unbroken (Conclusion.Refused place) = three_unbroken
+did_unbroken (Conclusion.Overlong number) = three_unbroken
+did_unbroken (Conclusion.Unmarked number) = three_unbroken
+did_unbroken (Conclusion.Wrong number cause) = nine_unbroken
+did_unbroken (Conclusion.Lawless number law) = nine_unbroken
+
 line_of_read : (v : Verdict) → verdict_status v ≡ 4 → verdict_line v ≡ read_fault_line
-line_of_read Verdict.Usage e = absurd (omega arith)
-line_of_read Verdict.ReadFault e = refl
-line_of_read (Verdict.Refused place) e = absurd (omega arith)
-line_of_read Verdict.Formatted e = absurd (omega arith)
-line_of_read (Verdict.Ran EngineEnd.MainValue) e = absurd (omega arith)
-line_of_read (Verdict.Ran (EngineEnd.MainFault f)) e = absurd (omega arith)
-line_of_read (Verdict.Ran EngineEnd.NoTurns) e = absurd (omega arith)
-line_of_read (Verdict.Ran EngineEnd.NoMoves) e = absurd (omega arith)
-line_of_read (Verdict.Ran EngineEnd.NoGreenlets) e = absurd (omega arith)
-line_of_read (Verdict.Ran EngineEnd.NoLinks) e = absurd (omega arith)
-line_of_read (Verdict.Ran EngineEnd.NoKills) e = absurd (omega arith)
-line_of_read (Verdict.Ran EngineEnd.WriteFault) e = absurd (omega arith)
-line_of_read (Verdict.Ran EngineEnd.Memory) e = absurd (omega arith)
-line_of_read (Verdict.Connection ConnectionEnd.Closed) e = absurd (omega arith)
-line_of_read (Verdict.Connection ConnectionEnd.TooLong) e = absurd (omega arith)
-line_of_read (Verdict.Connection ConnectionEnd.ReadFault) e = refl
-line_of_read (Verdict.Connection ConnectionEnd.WriteFault) e = absurd (omega arith)
-line_of_read (Verdict.Connection ConnectionEnd.Memory) e = absurd (omega arith)
-line_of_read (Verdict.Served Served.Finished) e = absurd (omega arith)
-line_of_read (Verdict.Served Served.Listener) e = absurd (omega arith)
-line_of_read (Verdict.Served Served.NoJobs) e = absurd (omega arith)
-line_of_read (Verdict.Served Served.WriteFault) e = absurd (omega arith)
-line_of_read (Verdict.Served Served.Memory) e = absurd (omega arith)
-line_of_read Verdict.Verified e = absurd (omega arith)
-line_of_read (Verdict.Unverified (Unverified.Overlong line)) e = absurd (omega arith)
-line_of_read (Verdict.Unverified (Unverified.Unmarked line)) e = absurd (omega arith)
-line_of_read (Verdict.Unverified (Unverified.Refused place)) e = absurd (omega arith)
-line_of_read (Verdict.Unverified (Unverified.Wrong line cause)) e = absurd (omega arith)
-line_of_read (Verdict.Unverified (Unverified.Lawless line law)) e = absurd (omega arith)
-line_of_read (Verdict.Unverified Unverified.Memory) e = absurd (omega arith)
+line_of_read (Verdict.Did conclusion) e = absurd ((did_unbroken conclusion).not_read e)
+line_of_read (Verdict.Broke Failure.Read) e = refl
+line_of_read (Verdict.Broke Failure.Write) e = absurd (omega arith)
+line_of_read (Verdict.Broke Failure.Net) e = absurd (omega arith)
+line_of_read (Verdict.Broke Failure.Memory) e = absurd (omega arith)
 
 line_of_memory : (v : Verdict) → verdict_status v ≡ 7 → verdict_line v ≡ memory_line
-line_of_memory Verdict.Usage e = absurd (omega arith)
-line_of_memory Verdict.ReadFault e = absurd (omega arith)
-line_of_memory (Verdict.Refused place) e = absurd (omega arith)
-line_of_memory Verdict.Formatted e = absurd (omega arith)
-line_of_memory (Verdict.Ran EngineEnd.MainValue) e = absurd (omega arith)
-line_of_memory (Verdict.Ran (EngineEnd.MainFault f)) e = absurd (omega arith)
-line_of_memory (Verdict.Ran EngineEnd.NoTurns) e = absurd (omega arith)
-line_of_memory (Verdict.Ran EngineEnd.NoMoves) e = absurd (omega arith)
-line_of_memory (Verdict.Ran EngineEnd.NoGreenlets) e = absurd (omega arith)
-line_of_memory (Verdict.Ran EngineEnd.NoLinks) e = absurd (omega arith)
-line_of_memory (Verdict.Ran EngineEnd.NoKills) e = absurd (omega arith)
-line_of_memory (Verdict.Ran EngineEnd.WriteFault) e = absurd (omega arith)
-line_of_memory (Verdict.Ran EngineEnd.Memory) e = refl
-line_of_memory (Verdict.Connection ConnectionEnd.Closed) e = absurd (omega arith)
-line_of_memory (Verdict.Connection ConnectionEnd.TooLong) e = absurd (omega arith)
-line_of_memory (Verdict.Connection ConnectionEnd.ReadFault) e = absurd (omega arith)
-line_of_memory (Verdict.Connection ConnectionEnd.WriteFault) e = absurd (omega arith)
-line_of_memory (Verdict.Connection ConnectionEnd.Memory) e = refl
-line_of_memory (Verdict.Served Served.Finished) e = absurd (omega arith)
-line_of_memory (Verdict.Served Served.Listener) e = absurd (omega arith)
-line_of_memory (Verdict.Served Served.NoJobs) e = absurd (omega arith)
-line_of_memory (Verdict.Served Served.WriteFault) e = absurd (omega arith)
-line_of_memory (Verdict.Served Served.Memory) e = refl
-line_of_memory Verdict.Verified e = absurd (omega arith)
-line_of_memory (Verdict.Unverified (Unverified.Overlong line)) e = absurd (omega arith)
-line_of_memory (Verdict.Unverified (Unverified.Unmarked line)) e = absurd (omega arith)
-line_of_memory (Verdict.Unverified (Unverified.Refused place)) e = absurd (omega arith)
-line_of_memory (Verdict.Unverified (Unverified.Wrong line cause)) e = absurd (omega arith)
-line_of_memory (Verdict.Unverified (Unverified.Lawless line law)) e = absurd (omega arith)
-line_of_memory (Verdict.Unverified Unverified.Memory) e = refl
+line_of_memory (Verdict.Did conclusion) e = absurd ((did_unbroken conclusion).not_memory e)
+line_of_memory (Verdict.Broke Failure.Read) e = absurd (omega arith)
+line_of_memory (Verdict.Broke Failure.Write) e = absurd (omega arith)
+line_of_memory (Verdict.Broke Failure.Net) e = absurd (omega arith)
+line_of_memory (Verdict.Broke Failure.Memory) e = refl
 
 pub line_of_write : (v : Verdict) → verdict_status v ≡ 5 → verdict_line v ≡ write_fault_line
-line_of_write Verdict.Usage e = absurd (omega arith)
-line_of_write Verdict.ReadFault e = absurd (omega arith)
-line_of_write (Verdict.Refused place) e = absurd (omega arith)
-line_of_write Verdict.Formatted e = absurd (omega arith)
-line_of_write (Verdict.Ran EngineEnd.MainValue) e = absurd (omega arith)
-line_of_write (Verdict.Ran (EngineEnd.MainFault f)) e = absurd (omega arith)
-line_of_write (Verdict.Ran EngineEnd.NoTurns) e = absurd (omega arith)
-line_of_write (Verdict.Ran EngineEnd.NoMoves) e = absurd (omega arith)
-line_of_write (Verdict.Ran EngineEnd.NoGreenlets) e = absurd (omega arith)
-line_of_write (Verdict.Ran EngineEnd.NoLinks) e = absurd (omega arith)
-line_of_write (Verdict.Ran EngineEnd.NoKills) e = absurd (omega arith)
-line_of_write (Verdict.Ran EngineEnd.WriteFault) e = refl
-line_of_write (Verdict.Ran EngineEnd.Memory) e = absurd (omega arith)
-line_of_write (Verdict.Connection ConnectionEnd.Closed) e = absurd (omega arith)
-line_of_write (Verdict.Connection ConnectionEnd.TooLong) e = absurd (omega arith)
-line_of_write (Verdict.Connection ConnectionEnd.ReadFault) e = absurd (omega arith)
-line_of_write (Verdict.Connection ConnectionEnd.WriteFault) e = refl
-line_of_write (Verdict.Connection ConnectionEnd.Memory) e = absurd (omega arith)
-line_of_write (Verdict.Served Served.Finished) e = absurd (omega arith)
-line_of_write (Verdict.Served Served.Listener) e = absurd (omega arith)
-line_of_write (Verdict.Served Served.NoJobs) e = absurd (omega arith)
-line_of_write (Verdict.Served Served.WriteFault) e = refl
-line_of_write (Verdict.Served Served.Memory) e = absurd (omega arith)
-line_of_write Verdict.Verified e = absurd (omega arith)
-line_of_write (Verdict.Unverified (Unverified.Overlong line)) e = absurd (omega arith)
-line_of_write (Verdict.Unverified (Unverified.Unmarked line)) e = absurd (omega arith)
-line_of_write (Verdict.Unverified (Unverified.Refused place)) e = absurd (omega arith)
-line_of_write (Verdict.Unverified (Unverified.Wrong line cause)) e = absurd (omega arith)
-line_of_write (Verdict.Unverified (Unverified.Lawless line law)) e = absurd (omega arith)
-line_of_write (Verdict.Unverified Unverified.Memory) e = absurd (omega arith)
+line_of_write (Verdict.Did conclusion) e = absurd ((did_unbroken conclusion).not_write e)
+line_of_write (Verdict.Broke Failure.Read) e = absurd (omega arith)
+line_of_write (Verdict.Broke Failure.Write) e = refl
+line_of_write (Verdict.Broke Failure.Net) e = absurd (omega arith)
+line_of_write (Verdict.Broke Failure.Memory) e = absurd (omega arith)
 
-no_line : (v : Verdict) → verdict_status v ≡ 0 → verdict_line v ≡ []
-no_line Verdict.Usage e = absurd (omega arith)
-no_line Verdict.ReadFault e = absurd (omega arith)
-no_line (Verdict.Refused place) e = absurd (omega arith)
-no_line Verdict.Formatted e = refl
-no_line (Verdict.Ran EngineEnd.MainValue) e = refl
-no_line (Verdict.Ran (EngineEnd.MainFault f)) e = absurd (omega arith)
-no_line (Verdict.Ran EngineEnd.NoTurns) e = absurd (omega arith)
-no_line (Verdict.Ran EngineEnd.NoMoves) e = absurd (omega arith)
-no_line (Verdict.Ran EngineEnd.NoGreenlets) e = absurd (omega arith)
-no_line (Verdict.Ran EngineEnd.NoLinks) e = absurd (omega arith)
-no_line (Verdict.Ran EngineEnd.NoKills) e = absurd (omega arith)
-no_line (Verdict.Ran EngineEnd.WriteFault) e = absurd (omega arith)
-no_line (Verdict.Ran EngineEnd.Memory) e = absurd (omega arith)
-no_line (Verdict.Connection ConnectionEnd.Closed) e = refl
-no_line (Verdict.Connection ConnectionEnd.TooLong) e = absurd (omega arith)
-no_line (Verdict.Connection ConnectionEnd.ReadFault) e = absurd (omega arith)
-no_line (Verdict.Connection ConnectionEnd.WriteFault) e = absurd (omega arith)
-no_line (Verdict.Connection ConnectionEnd.Memory) e = absurd (omega arith)
-no_line (Verdict.Served Served.Finished) e = refl
-no_line (Verdict.Served Served.Listener) e = absurd (omega arith)
-no_line (Verdict.Served Served.NoJobs) e = absurd (omega arith)
-no_line (Verdict.Served Served.WriteFault) e = absurd (omega arith)
-no_line (Verdict.Served Served.Memory) e = absurd (omega arith)
-no_line Verdict.Verified e = refl
-no_line (Verdict.Unverified (Unverified.Overlong line)) e = absurd (omega arith)
-no_line (Verdict.Unverified (Unverified.Unmarked line)) e = absurd (omega arith)
-no_line (Verdict.Unverified (Unverified.Refused place)) e = absurd (omega arith)
-no_line (Verdict.Unverified (Unverified.Wrong line cause)) e = absurd (omega arith)
-no_line (Verdict.Unverified (Unverified.Lawless line law)) e = absurd (omega arith)
-no_line (Verdict.Unverified Unverified.Memory) e = absurd (omega arith)
+-- what broke a call off has a line
+pub failure_has_line : (failure : Failure) → verdict_status (Verdict.Broke failure) ≢ 0
+failure_has_line Failure.Read e = omega arith
+failure_has_line Failure.Write e = omega arith
+failure_has_line Failure.Net e = omega arith
+failure_has_line Failure.Memory e = omega arith
+
+no_line : (conclusion : Conclusion) → verdict_status (Verdict.Did conclusion) ≡ 0 → verdict_line (Verdict.Did conclusion) ≡ []
+no_line Conclusion.Finished e = refl
+no_line Conclusion.Usage e = absurd (omega arith)
+no_line (Conclusion.MainFault f) e = absurd (omega arith)
+no_line Conclusion.NoTurns e = absurd (omega arith)
+no_line Conclusion.NoMoves e = absurd (omega arith)
+no_line Conclusion.NoGreenlets e = absurd (omega arith)
+no_line Conclusion.NoLinks e = absurd (omega arith)
+no_line Conclusion.NoKills e = absurd (omega arith)
+no_line Conclusion.TooLong e = absurd (omega arith)
+no_line Conclusion.NoJobs e = absurd (omega arith)
+no_line (Conclusion.Refused place) e = absurd (omega arith)
+no_line (Conclusion.Overlong number) e = absurd (omega arith)
+no_line (Conclusion.Unmarked number) e = absurd (omega arith)
+no_line (Conclusion.Wrong number cause) e = absurd (omega arith)
+no_line (Conclusion.Lawless number law) e = absurd (omega arith)
 
 -- status 0 is told by no line
-pub told_nothing : (v : Verdict) (err : Option (List ℕ)) (faults : ℕ) → verdict_status v ≡ 0 → (w : Verdict) × IsOr v w × IsTold 0 w err err faults faults
-told_nothing v err faults h = (v, inl refl, inl (sym h, sym (appended-nothing err) ∙ ap (appended err) (sym (no_line v h)), refl))
+pub told_nothing : (conclusion : Conclusion) (err : Option (List ℕ)) (faults : ℕ) → verdict_status (Verdict.Did conclusion) ≡ 0
+    → (w : Verdict) × IsOr (Verdict.Did conclusion) w × IsVerdictTold 0 w err err faults faults
+told_nothing conclusion err faults h = (Verdict.Did conclusion, inl refl, inl (sym h, sym (appended-nothing err) ∙ ap (appended err) (sym (no_line conclusion h)), refl))
 
-pub read_line : (n : ℕ) (v : Verdict) (old new : Option (List ℕ)) (e0 e1 : ℕ) → IsTold n v old new e0 e1 → n ≡ 4 → new ≡ appended old read_fault_line
+-- where there is no memory for the line, want of memory is told
+pub told_memory : (n : ℕ) (conclusion : Conclusion) (old new : Option (List ℕ)) (e0 e1 : ℕ) → verdict_status (Verdict.Did conclusion) ≢ 0 → IsVerdictTold n (Verdict.Broke Failure.Memory) old new e0 e1
+    → (w : Verdict) × IsOr (Verdict.Did conclusion) w × IsVerdictTold n w old new e0 e1
+told_memory n conclusion old new e0 e1 h0 l =
+    let u = did_unbroken conclusion in (Verdict.Broke Failure.Memory, inr (refl, h0, u.not_read, u.not_write, u.not_net), l)
+
+-- what is told of one verdict is told of the same
+pub told_as : {n : ℕ} {v w : Verdict} {old new : Option (List ℕ)} {e0 e1 : ℕ} → v ≡ w → (x : Verdict) × IsOr v x × IsVerdictTold n x old new e0 e1 → (x : Verdict) × IsOr w x × IsVerdictTold n x old new e0 e1
+told_as {n} {old = old} {new = new} {e0 = e0} {e1 = e1} e h =
+    let P : Verdict → Type 0 = λ y. (x : Verdict) × IsOr y x × IsVerdictTold n x old new e0 e1 in subst P e h
+
+pub read_line : (n : ℕ) (v : Verdict) (old new : Option (List ℕ)) (e0 e1 : ℕ) → IsVerdictTold n v old new e0 e1 → n ≡ 4 → new ≡ appended old read_fault_line
 read_line n v old new e0 e1 (inl p) e = p.1 ∙ ap (appended old) (line_of_read v (sym p.0 ∙ e))
 read_line n v old new e0 e1 (inr p) e = let q = p.0 in absurd (omega arith)
 
-pub no_memory_line : (n : ℕ) (v : Verdict) (old new : Option (List ℕ)) (e0 e1 : ℕ) → IsTold n v old new e0 e1 → n ≡ 7 → new ≡ appended old memory_line
+pub no_memory_line : (n : ℕ) (v : Verdict) (old new : Option (List ℕ)) (e0 e1 : ℕ) → IsVerdictTold n v old new e0 e1 → n ≡ 7 → new ≡ appended old memory_line
 no_memory_line n v old new e0 e1 (inl p) e = p.1 ∙ ap (appended old) (line_of_memory v (sym p.0 ∙ e))
 no_memory_line n v old new e0 e1 (inr p) e = let q = p.0 in absurd (omega arith)
 
@@ -387,7 +402,7 @@ pub no_memory_told : {n : ℕ} {app : App} {c : Option OfflineCommand} {after : 
 no_memory_told h = no_memory_line _ h.verdict _ _ _ _ h.told
 
 -- a status that is not 5 is the verdict's
-verdict_of : (n m : ℕ) (v : Verdict) (old new : Option (List ℕ)) (e0 e1 : ℕ) → IsTold n v old new e0 e1 → n ≡ m → m ≢ 5 → verdict_status v ≡ m
+verdict_of : (n m : ℕ) (v : Verdict) (old new : Option (List ℕ)) (e0 e1 : ℕ) → IsVerdictTold n v old new e0 e1 → n ≡ m → m ≢ 5 → verdict_status v ≡ m
 verdict_of n m v old new e0 e1 (inl p) e h5 = sym p.0 ∙ e
 verdict_of n m v old new e0 e1 (inr p) e h5 = absurd (h5 (sym e ∙ p.0))
 
@@ -396,7 +411,7 @@ pub status_is : {n : ℕ} {app : App} {c : Option OfflineCommand} {after : World
 status_is m h e h5 = verdict_of _ m h.verdict _ _ _ _ h.told e h5
 
 -- the status is the verdict's, or 5 where it has a line, or 7
-pub status_or : (n : ℕ) (v w : Verdict) (old new : Option (List ℕ)) (e0 e1 : ℕ) → IsOr v w → IsTold n w old new e0 e1 → IsStatusOf n v
+pub status_or : (n : ℕ) (v w : Verdict) (old new : Option (List ℕ)) (e0 e1 : ℕ) → IsOr v w → IsVerdictTold n w old new e0 e1 → IsStatusOf n v
 status_or n v w old new e0 e1 (inl e) (inl p) = inl (p.0 ∙ ap verdict_status e)
 status_or n v w old new e0 e1 (inl e) (inr p) = inr ((λ z. p.1 (ap verdict_status e ∙ z)), inl p.0)
 status_or n v w old new e0 e1 (inr q) (inl p) = inr (q.1, inr (p.0 ∙ ap verdict_status q.0))
@@ -409,7 +424,7 @@ number_was n m v (inr (_, inl p)) e h5 h7 = absurd (h5 (sym e ∙ p))
 number_was n m v (inr (_, inr p)) e h5 h7 = absurd (h7 (sym e ∙ p))
 
 -- the words are no command, or memory ran out, and the status is that of this, 5 or 7
-pub usage_status : (n : ℕ) (v w : Verdict) (old new : Option (List ℕ)) (e0 e1 : ℕ) → IsOr v w → IsTold n w old new e0 e1 → (verdict_status v ≡ 2) ⊎ (verdict_status v ≡ 7)
+pub usage_status : (n : ℕ) (v w : Verdict) (old new : Option (List ℕ)) (e0 e1 : ℕ) → IsOr v w → IsVerdictTold n w old new e0 e1 → (verdict_status v ≡ 2) ⊎ (verdict_status v ≡ 7)
     → (n ≡ 2) ⊎ (n ≡ 5) ⊎ (n ≡ 7)
 usage_status n v w old new e0 e1 o l e = by e (status_or n v w old new e0 e1 o l)
   where
@@ -423,7 +438,7 @@ abbrev IsTried : List ℕ → Option (List ℕ) → Option (List ℕ) → ℕ �
 IsTried line old new faults0 faults1 = (new ≡ appended old line) ⊎ (HasRisen faults0 faults1 × AppendsPrefix old new line)
 
 -- the line of a write that failed was tried
-tried : (n : ℕ) (v : Verdict) (old new : Option (List ℕ)) (e0 e1 : ℕ) → verdict_status v ≡ 5 → IsTold n v old new e0 e1 → IsTried write_fault_line old new e0 e1
+tried : (n : ℕ) (v : Verdict) (old new : Option (List ℕ)) (e0 e1 : ℕ) → verdict_status v ≡ 5 → IsVerdictTold n v old new e0 e1 → IsTried write_fault_line old new e0 e1
 tried n v old new e0 e1 e (inl p) = inl (p.1 ∙ ap (appended old) (line_of_write v e))
 tried n v old new e0 e1 e (inr p) =
     let P : List ℕ → Type 0 = λ l. AppendsPrefix old new l in inr (p.2, subst P (line_of_write v e) p.3)
@@ -433,7 +448,7 @@ abbrev pub HasFailed : (err0 err1 : Option (List ℕ)) (w0 w1 e0 e1 : ℕ) → T
 HasFailed err0 err1 w0 w1 e0 e1 =
     (HasRisen w0 w1 × IsTried write_fault_line err0 err1 e0 e1) ⊎ ((v : Verdict) × (verdict_status v ≢ 0) × HasRisen e0 e1 × AppendsPrefix err0 err1 (verdict_line v))
 
-pub fails : (n : ℕ) (v : Verdict) (old new : Option (List ℕ)) (w0 w1 e0 e1 : ℕ) → (verdict_status v ≡ 5 → HasRisen w0 w1) → IsTold n v old new e0 e1 → n ≡ 5 →
+pub fails : (n : ℕ) (v : Verdict) (old new : Option (List ℕ)) (w0 w1 e0 e1 : ℕ) → (verdict_status v ≡ 5 → HasRisen w0 w1) → IsVerdictTold n v old new e0 e1 → n ≡ 5 →
     HasFailed old new w0 w1 e0 e1
 fails n v old new w0 w1 e0 e1 f (inl p) e = let is = sym p.0 ∙ e in inl (f is, tried n v old new e0 e1 is (inl p))
 fails n v old new w0 w1 e0 e1 f (inr p) e = inr (v, p.1, p.2, p.3)
@@ -462,7 +477,7 @@ reads_trace {n} check h is h4 h5 h7 left told =
     let e = status_is n h refl h5 in h.came_to.read_trace check is (λ z. h4 (sym e ∙ z)) (λ z. h7 (sym e ∙ z)) left told
 
 -- what was said of a check
-said_of_check : (n : ℕ) (v : Verdict) (a : Answer) (out0 out1 err0 err1 : Option (List ℕ)) (e0 e1 : ℕ) → Fits v a out0 out1 → IsTold n v err0 err1 e0 e1 → n ≢ 5 → IsAnswered n a out0 out1 err0 err1
+said_of_check : (n : ℕ) (v : Verdict) (a : Answer) (out0 out1 err0 err1 : Option (List ℕ)) (e0 e1 : ℕ) → FitsAnswer v a out0 out1 → IsVerdictTold n v err0 err1 e0 e1 → n ≢ 5 → IsAnswered n a out0 out1 err0 err1
 said_of_check n v a out0 out1 err0 err1 e0 e1 f l h5 =
     let s = said n v err0 err1 e0 e1 l h5 in
     record {
@@ -488,7 +503,7 @@ reads_whole {n} text h is h4 h5 h7 left told =
     let e = status_is n h refl h5 in h.came_to.read_whole text is (λ z. h4 (sym e ∙ z)) (λ z. h7 (sym e ∙ z)) left told
 
 -- err does not fail with a status but 5
-pub err_unfailed : (n : ℕ) (v : Verdict) (old new : Option (List ℕ)) (e0 e1 : ℕ) → IsTold n v old new e0 e1 → n ≢ 5 → e1 ≡ e0
+pub err_unfailed : (n : ℕ) (v : Verdict) (old new : Option (List ℕ)) (e0 e1 : ℕ) → IsVerdictTold n v old new e0 e1 → n ≢ 5 → e1 ≡ e0
 err_unfailed n v old new e0 e1 (inl p) h5 = p.2
 err_unfailed n v old new e0 e1 (inr p) h5 = absurd (h5 p.0)
 
@@ -505,7 +520,7 @@ read_unfailed {n} h h4 h5 =
     let e = status_is n h refl h5 in h.came_to.reads.unfailed (λ z. h4 (sym e ∙ z))
 
 -- the connection that was answered
-pub answers_connection : (n : ℕ) (v w : Verdict) (gateway : GatewayKind) (app : App) (err0 err1 in0 in1 out0 out1 : Option (List ℕ)) (e0 e1 : ℕ) → IsOr v w → IsTold n w err0 err1 e0 e1 →
+pub answers_connection : (n : ℕ) (v w : Verdict) (gateway : GatewayKind) (app : App) (err0 err1 in0 in1 out0 out1 : Option (List ℕ)) (e0 e1 : ℕ) → IsOr v w → IsVerdictTold n w err0 err1 e0 e1 →
     IsOfConnection v gateway app in0 in1 out0 out1 → AnswersConnection n gateway app in0 in1 out0 out1
 answers_connection n v w gateway app err0 err1 in0 in1 out0 out1 e0 e1 o l c =
     let P : ℕ → Type 0 = λ m. (n ≡ m) ⊎ ((m ≢ 0) × ((n ≡ 5) ⊎ (n ≡ 7))) in
@@ -525,7 +540,7 @@ pub left_alone : {W : Type 0} (n : ℕ) (in0 : Option (List ℕ)) (old new : W) 
 left_alone n in0 old new e = record { unread = λ z. e; refused = λ z. e; unspelt = λ left told none. e }
 
 -- what a verdict leaves alone, the status that is answered does
-pub left_alone_told : {W : Type 0} (n : ℕ) (v w : Verdict) (in0 err0 err1 : Option (List ℕ)) (e0 e1 : ℕ) (old new : W) → IsOr v w → IsTold n w err0 err1 e0 e1 → IsLeftAlone (verdict_status v) in0 old new
+pub left_alone_told : {W : Type 0} (n : ℕ) (v w : Verdict) (in0 err0 err1 : Option (List ℕ)) (e0 e1 : ℕ) (old new : W) → IsOr v w → IsVerdictTold n w err0 err1 e0 e1 → IsLeftAlone (verdict_status v) in0 old new
     → IsLeftAlone n in0 old new
 left_alone_told n v w in0 err0 err1 e0 e1 old new o l h =
     let s = status_or n v w err0 err1 e0 e1 o l in
@@ -538,7 +553,7 @@ left_alone_told n v w in0 err0 err1 e0 e1 old new o l h =
 -- ---- lines that meet the laws
 
 -- the lines of a verdict are those of the status that is answered
-pub lawful_told : (n : ℕ) (v w : Verdict) (out0 out1 old new : Option (List ℕ)) (e0 e1 : ℕ) → IsOr v w → IsTold n w old new e0 e1 → HasLawfulLines (verdict_status v) out0 out1 → HasLawfulLines n out0 out1
+pub lawful_told : (n : ℕ) (v w : Verdict) (out0 out1 old new : Option (List ℕ)) (e0 e1 : ℕ) → IsOr v w → IsVerdictTold n w old new e0 e1 → HasLawfulLines (verdict_status v) out0 out1 → HasLawfulLines n out0 out1
 lawful_told n v w out0 out1 old new e0 e1 o l h =
     record { lines = h.lines; lawful = h.lawful; prefix = h.prefix; whole = λ h4 h5 h7. by (status_or n v w old new e0 e1 o l) h4 h5 h7 }
   where

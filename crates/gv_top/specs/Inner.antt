@@ -5,8 +5,6 @@ use Rattle.command_words.specs.declared.command.GatewayKind.{GatewayKind}
 use Rattle.command_words.specs.declared.command.RunOptions.{RunOptions}
 use Rattle.command_words.specs.declared.command.TextCommand.{TextCommand}
 use Rattle.scenario_tree.specs.declared.tree.Scenario.{Scenario}
-use Rattle.scenario_lang.specs.declared.text.ParseRefusal.{ParseRefusal}
-use Rattle.scenario_lang.specs.declared.text.ParseRefusal.TheVariants as parse
 use Rattle.scenario_reading.specs.Judged.{HasReason, judged_text}
 use Rattle.world.specs.Worlds.{WorldMeaning}
 use Rattle.world_rules.specs.Legal.{AreLegal}
@@ -15,14 +13,16 @@ use Rattle.machine.specs.Run.{Ran}
 use Rattle.hub_engine.specs.Ends.{IsPartLogged, RanTo}
 use Rattle.hub_engine.specs.Ahead.{WroteAhead}
 use Rattle.hub_engine.specs.declared.run.EngineEnd.{EngineEnd}
-use Rattle.verify_command.specs.Judged.{IsReasoned, Verification}
+use Rattle.verify_command.specs.Judged.{Verification}
 use Rattle.wsgi_core.specs.Applications.{App}
 use Rattle.wsgi_connection.specs.Connections.{Exchanged}
 use Rattle.wsgi_connection.specs.declared.connection.ConnectionEnd.{ConnectionEnd}
 use Rattle.gv_top.specs.Answers.{no_port, Answer, answer_to_scenario, refused_answer}
 use Rattle.gv_top.specs.Gateways.{answers_by}
 use Rattle.gv_top.specs.Running.{BeganSo, RanWith}
-use Rattle.gv_top.specs.Verdicts.{verdict_status}
+use Rattle.gv_top.specs.Verdicts.{verdict_of_connection, verdict_status}
+use Rattle.gv_top.specs.declared.status.Conclusion.{Conclusion}
+use Rattle.gv_top.specs.declared.status.Failure.{Failure}
 use Rattle.gv_top.specs.declared.status.Verdict.{Verdict}
 use Rattle.verify_command.specs.declared.checking.Unverified.{Unverified}
 use Rattle.gv_top.specs.Verifying.{unverified, verified}
@@ -31,18 +31,12 @@ use Rattle.gv_top.specs.Verifying.{unverified, verified}
 
 -- a refusal has one of the reasons
 abbrev pub IsExplained : Verdict → Type 0
-IsExplained (Verdict.Refused place) = HasReason place
-IsExplained (Verdict.Unverified refused_answer) = IsReasoned refused_answer
+IsExplained (Verdict.Did (Conclusion.Refused place)) = HasReason place
 IsExplained v = Unit {0}
-
--- the verdict on a text that no scenario was read of
-abbrev pub verdict_on : ParseRefusal → Verdict
-verdict_on (parse.Refused place) = Verdict.Refused place
-verdict_on parse.Memory = Verdict.Ran EngineEnd.Memory
 
 -- the verdict, or want of memory where it has a line for which there is none; the line of a fault takes none
 abbrev pub IsOr : Verdict → Verdict → Type 0
-IsOr v w = (w ≡ v) ⊎ ((w ≡ Verdict.Ran EngineEnd.Memory) × (verdict_status v ≢ 0) × (verdict_status v ≢ 4) × (verdict_status v ≢ 5) × (verdict_status v ≢ 10))
+IsOr v w = (w ≡ v) ⊎ ((w ≡ Verdict.Broke Failure.Memory) × (verdict_status v ≢ 0) × (verdict_status v ≢ 4) × (verdict_status v ≢ 5) × (verdict_status v ≢ 10))
 
 -- ---- what was done
 
@@ -67,7 +61,7 @@ BeganText waits command bytes before after out0 out1 handed1 =
 -- the verdict is the end of the connection that the input and out are, through this gateway and with this application
 pub record IsOfConnection (v : Verdict) (gateway : GatewayKind) (app : App) (in0 in1 out0 out1 : Option (List ℕ)) : Type 0 where
   pub end : ConnectionEnd
-  pub number : verdict_status v ≡ verdict_status (Verdict.Connection end)
+  pub number : verdict_status v ≡ verdict_status (verdict_of_connection end)
   pub exchanged : Exchanged end (answers_by gateway) app no_port in0 in1 out0 out1
 
 -- what is answered to a text

@@ -35,13 +35,13 @@ IsUnbegun n out0 out1 = (out1 ≡ out0) × ((n ≡ 4) ⊎ (n ≡ 5) ⊎ (n ≡ 7
 
 -- With native workers, what a run says before its last question stood in out when that was answered, and was handed on
 -- where they may be long in answering.
-pub record IsAhead (waits : Bool) (options : RunOptions) (s : Scenario) (answers : List Answer) (out0 out1 handed1 : Option (List ℕ)) : Type 0 where
+pub record IsRunAhead (waits : Bool) (options : RunOptions) (s : Scenario) (answers : List Answer) (out0 out1 handed1 : Option (List ℕ)) : Type 0 where
   pub written : (workers : ℕ) → options.world ≡ Native workers → WroteAhead (λ given. run_of options given s) answers out0 out1
   pub handed : (workers : ℕ) → options.world ≡ Native workers → waits ≡ true → WroteAhead (λ given. run_of options given s) answers out0 handed1
 
 -- the run was begun so; or native workers are as they were: nothing was posted to them, and they answered nothing
 abbrev pub BeganSo : Bool → RunOptions → Scenario → WorldMeaning → WorldMeaning → Option (List ℕ) → Option (List ℕ) → Option (List ℕ) → Type 0
-BeganSo waits options s before after out0 out1 handed1 = IsAhead waits options s after.answers out0 out1 handed1 ⊎ (after ≡ before)
+BeganSo waits options s before after out0 out1 handed1 = IsRunAhead waits options s after.answers out0 out1 handed1 ⊎ (after ≡ before)
 
 -- What native workers are after a whole run: so many were begun, and run no longer; they were posted the jobs of the
 -- job lines, in order, and the turn lines have their answers, each of which is legal; and they stand for the log of the

@@ -12,10 +12,9 @@ use Rattle.world_rules.specs.Legal.{is_answered, is_posted}
 use Rattle.serve_command.specs.declared.serving.Served.{Served}
 use Rattle.serve_command.specs.Jobs.{ServesJobsAt}
 use Rattle.serve_command.specs.Served.{ServesAt}
-use Rattle.gv_top.specs.declared.status.Verdict.{Verdict}
 use Rattle.gv_top.specs.Gateways.{answers_by}
 use Rattle.gv_top.specs.Top.{IsStatusOf}
-use Rattle.gv_top.specs.Verdicts.{verdict_line}
+use Rattle.gv_top.specs.Verdicts.{verdict_line, verdict_of_server}
 
 -- how much a server of these options does
 abbrev pub limits_of : ServeOptions → Limits
@@ -42,5 +41,5 @@ ServesWith (Jobs workers) end asked app limits w before after out0 out1 = Serves
 pub record Serves (n : ℕ) (app : App) (options : ServeOptions) (w : NetMeaning) (before after : World) (out0 out1 err0 err1 : Option (List ℕ)) : Type 0 where
   pub end : Served
   pub serves : ServesWith options.answers end options.port app (limits_of options) w before after out0 out1
-  pub status : IsStatusOf n (Verdict.Served end)
-  pub err : n ≢ 5 → n ≢ 7 → err1 ≡ appended err0 (verdict_line (Verdict.Served end))
+  pub status : IsStatusOf n (verdict_of_server end)
+  pub err : n ≢ 5 → n ≢ 7 → err1 ≡ appended err0 (verdict_line (verdict_of_server end))

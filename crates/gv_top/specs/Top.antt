@@ -18,18 +18,17 @@ use Rattle.machine.specs.Quiet.{is_quiet}
 use Rattle.machine.specs.Run.{Ran}
 use Rattle.machine.specs.TraceLaws.{meets_laws}
 use Rattle.machine_blocks.specs.Blocks.{block_lines, is_block}
-use Rattle.hub_engine.specs.declared.run.EngineEnd.{EngineEnd}
 use Rattle.wsgi_core.specs.Applications.{App}
 use Rattle.wsgi_connection.specs.Connections.{Exchanged}
 use Rattle.wsgi_connection.specs.declared.connection.ConnectionEnd.{ConnectionEnd}
+use Rattle.gv_top.specs.declared.status.Failure.{Failure}
 use Rattle.gv_top.specs.declared.status.Verdict.{Verdict}
 use Rattle.gv_top.specs.declared.words.OfflineCommand.{OfflineCommand}
 use Rattle.gv_top.specs.Answers.{Answer, IsStormAnswer, most_read, no_port, write_fault_line}
 use Rattle.gv_top.specs.Gateways.{answers_by}
-use Rattle.gv_top.specs.Verdicts.{verdict_status, verdict_line}
+use Rattle.gv_top.specs.Verdicts.{verdict_line, verdict_of_connection, verdict_status}
 use Rattle.gv_top.specs.Verifying.{IsAnswerOf, IsCheckAnswer}
 use Rattle.verify_command.specs.Inputs.{most_checked_read}
-use Rattle.verify_command.specs.declared.checking.Unverified.{Unverified}
 use Rattle.gv_top.specs.Running.{RanWith}
 
 -- a stream before the call and after it: its bytes, left to read or written, where they are told; how often it failed
@@ -54,19 +53,14 @@ abbrev pub HandsOn : ℕ → Option (List ℕ) → Option (List ℕ) → Option 
 HandsOn n written0 handed0 written1 handed1 = n ≢ 5 → n ≢ 7 → handed0 ≡ written0 → handed1 ≡ written1
 
 -- the verdict is the answer's, and out has its whole text
-abbrev pub Fits : Verdict → Answer → Option (List ℕ) → Option (List ℕ) → Type 0
-Fits v a old new = (new ≡ appended old a.out) × (verdict_status v ≡ a.status) × (verdict_line v ≡ a.err)
+abbrev pub FitsAnswer : Verdict → Answer → Option (List ℕ) → Option (List ℕ) → Type 0
+FitsAnswer v a old new = (new ≡ appended old a.out) × (verdict_status v ≡ a.status) × (verdict_line v ≡ a.err)
 
--- the verdict fits; or a fault or want of memory cut the text of the answer short, or the input could not be read
+-- the verdict fits; or a fault or want of memory cut the text of the answer short. No answer wants a net.
 abbrev pub Decided : Verdict → Answer → Option (List ℕ) → Option (List ℕ) → Type 0
-Decided Verdict.ReadFault a old new = new ≡ old
-Decided (Verdict.Ran EngineEnd.WriteFault) a old new = AppendsPrefix old new a.out
-Decided (Verdict.Ran EngineEnd.Memory) a old new = AppendsPrefix old new a.out
-Decided (Verdict.Connection ConnectionEnd.ReadFault) a old new = AppendsPrefix old new a.out
-Decided (Verdict.Connection ConnectionEnd.WriteFault) a old new = AppendsPrefix old new a.out
-Decided (Verdict.Connection ConnectionEnd.Memory) a old new = AppendsPrefix old new a.out
-Decided (Verdict.Unverified Unverified.Memory) a old new = AppendsPrefix old new a.out
-Decided v a old new = Fits v a old new
+Decided (Verdict.Did conclusion) a old new = FitsAnswer (Verdict.Did conclusion) a old new
+Decided (Verdict.Broke Failure.Net) a old new = ⊥
+Decided (Verdict.Broke failure) a old new = AppendsPrefix old new a.out
 
 -- What a command came to, by its input and out, and by what native workers are after it.
 pub record CameTo (v : Verdict) (app : App) (command : Option OfflineCommand) (after : WorldMeaning) (stands : List LogEntry → Type 0) (input out : Stream) : Type 0 where
@@ -74,7 +68,7 @@ pub record CameTo (v : Verdict) (app : App) (command : Option OfflineCommand) (a
   pub answer : (left : List ℕ) (a : Answer) → input.before ≡ Some left → IsAnswerOf app command after.answers left a → Decided v a out.before out.after
   -- a check of a trace has an answer
   pub checked : (check : TraceCheck) (left : List ℕ) → command ≡ Some (OfflineCommand.Verify check) → input.before ≡ Some left → verdict_status v ≢ 4 → verdict_status v ≢ 5 → verdict_status v ≢ 7 →
-      (a : Answer) × IsCheckAnswer check (take most_checked_read left) a × Fits v a out.before out.after
+      (a : Answer) × IsCheckAnswer check (take most_checked_read left) a × FitsAnswer v a out.before out.after
   -- the words are no command
   pub usage : verdict_status v ≡ 2 → command ≡ None
   -- a read or a write failed, and none with any other verdict
@@ -99,8 +93,8 @@ pub record CameTo (v : Verdict) (app : App) (command : Option OfflineCommand) (a
       input.before ≡ Some left → Spells s (take most_read left) → IsWellFormed s → RanWith (verdict_status v) options s after stands out.before out.after
 
 -- err has the line of the verdict, whose status is answered; or it failed at that line, and the status is 5
-abbrev pub IsTold : ℕ → Verdict → Option (List ℕ) → Option (List ℕ) → ℕ → ℕ → Type 0
-IsTold n v old new faults0 faults1 =
+abbrev pub IsVerdictTold : ℕ → Verdict → Option (List ℕ) → Option (List ℕ) → ℕ → ℕ → Type 0
+IsVerdictTold n v old new faults0 faults1 =
     ((n ≡ verdict_status v) × (new ≡ appended old (verdict_line v)) × (faults1 ≡ faults0))
     ⊎ ((n ≡ 5) × (verdict_status v ≢ 0) × HasRisen faults0 faults1 × AppendsPrefix old new (verdict_line v))
 
@@ -108,7 +102,7 @@ IsTold n v old new faults0 faults1 =
 pub record Ended (n : ℕ) (app : App) (command : Option OfflineCommand) (after : WorldMeaning) (stands : List LogEntry → Type 0) (input out err : Stream) : Type 0 where
   pub verdict : Verdict
   pub came_to : CameTo verdict app command after stands input out
-  pub told : IsTold n verdict err.before err.after err.faults_before err.faults_after
+  pub told : IsVerdictTold n verdict err.before err.after err.faults_before err.faults_after
 
 -- the status is the verdict's; or, at the line of the verdict, 5 if err failed, and 7 if memory ran out
 abbrev pub IsStatusOf : ℕ → Verdict → Type 0
@@ -137,7 +131,7 @@ pub record BlocksAtQuiet (r : Ran) : Type 0 where
 pub record AnswersConnection (n : ℕ) (gateway : GatewayKind) (app : App) (in0 in1 out0 out1 : Option (List ℕ)) : Type 0 where
   pub end : ConnectionEnd
   pub exchanged : Exchanged end (answers_by gateway) app no_port in0 in1 out0 out1
-  pub status : IsStatusOf n (Verdict.Connection end)
+  pub status : IsStatusOf n (verdict_of_connection end)
 
 -- what led to status 5: out failed, and err has the line of that or failed at it; or err failed at another line
 abbrev pub FailsToWrite : Stream → Stream → Type 0

@@ -48,26 +48,37 @@ pub fn answer_through<S: Source, K: Sink, A: Application>(
     }
 }
 
+/// A server whose connections an application answers.
+#[derive(Clone, Copy)]
+pub struct AppServer {
+    /// The gateway through which it answers.
+    pub gateway: GatewayKind,
+    /// The port at which it listens, or 0 for any.
+    pub port: u16,
+    /// How much it does.
+    pub limits: Limits,
+}
+
 /// Serves connections of the net, as `serve_command` does.
 pub fn serve_through<K: Sink, N: Net, A: Application, H: Wait>(
     rt: &H,
     alloc: Global,
-    gateway: GatewayKind,
-    port: u16,
-    limits: Limits,
+    server: AppServer,
     out: &mut K,
     net: &mut N,
     app: &A,
 ) -> Served
     requires fresh { IsFresh (N.meaning net.old) }
-    requires in_range { IsInRange limits }
-    ensures serves { ServesAt result port (answers_by gateway) (A.answer_of app.now) limits (N.meaning net.new) (K.written out.old) (K.written out.new) }
-    ensures told { IsToldFirst port (N.meaning net.new) (K.written out.old) (K.handed out.new) }
+    requires in_range { IsInRange server.limits }
+    ensures serves { ServesAt result server.port (answers_by server.gateway) (A.answer_of app.now) server.limits (N.meaning net.new) (K.written out.old) (K.written out.new) }
+    ensures told { IsToldFirst server.port (N.meaning net.new) (K.written out.old) (K.handed out.new) }
     ensures handed { K.handed out.old ≡ K.written out.old → result ≢ Served.WriteFault → result ≢ Served.Memory → K.handed out.new ≡ K.written out.new }
     ensures listens { Counts (result ≡ Served.Listener) (N.meaning net.old).faults (N.meaning net.new).faults }
     ensures writes { Counts (result ≡ Served.WriteFault) (K.faults out.old) (K.faults out.new) }
 {
-    match gateway {
+    let port = server.port;
+    let limits = server.limits;
+    match server.gateway {
         GatewayKind::Http => {
             serve_command::<Session, K, N, A, H>(rt, alloc, port, limits, out, net, app)
         }

@@ -9,11 +9,10 @@ ghost use Rattle.command_words.specs.Ranges.{IsWorldInRange};
 ghost use Rattle.hub_engine.specs.Ends.{RanTo};
 ghost use Rattle.hub_engine.specs.Ahead.{WroteAhead};
 ghost use Rattle.scenario_rules.specs.Rules.{IsWellFormed};
-ghost use Rattle.gv_top.specs.declared.status.Verdict.{Verdict};
 ghost use Rattle.gv_top.specs.Running.{BeganSo, IsBegun, IsUnbegun, RanHeld, RanNatively, run_of};
 ghost use Rattle.gv_top.specs.Inner.{RanInWorld};
 ghost use Rattle.gv_top.specs.Top.{Counts, HandsOn};
-ghost use Rattle.gv_top.specs.Verdicts.{verdict_status};
+ghost use Rattle.gv_top.specs.Verdicts.{verdict_of_run, verdict_status};
 ghost use Rattle.gv_top.specs.Words.{is_native_world};
 
 use crate::storming::is_broken_off;
@@ -34,7 +33,7 @@ const SCRIPT_WORKERS: u32 = 1;
 #[tactic(auto, using(gv_io::proofs::StreamLaws::hands))]
 fn handed_on<K: Sink>(end: EngineEnd, out: &mut K) -> EngineEnd
     ensures same { K.written out.new ≡ K.written out.old }
-    ensures hands { verdict_status (Verdict.Ran result) ≢ 5 → verdict_status (Verdict.Ran result) ≢ 7 → K.handed out.new ≡ K.written out.new }
+    ensures hands { verdict_status (verdict_of_run result) ≢ 5 → verdict_status (verdict_of_run result) ≢ 7 → K.handed out.new ≡ K.written out.new }
     ensures never_taken_back { Extends (K.handed out.old) (K.handed out.new) }
     ensures end { (result ≡ end) ⊎ (result ≡ EngineEnd.WriteFault) }
     ensures failed { result ≡ EngineEnd.WriteFault → (end ≡ EngineEnd.WriteFault) ⊎ HasRisen (K.faults out.old) (K.faults out.new) }
@@ -66,7 +65,7 @@ fn run_in_world<K: Sink, W: World>(
         (W.meaning world.old) (W.meaning world.new) (W.stands_for world.new) (K.written out.old) (K.written out.new)) }
     ensures counts { IfSome result (λ end. Counts (end ≡ EngineEnd.WriteFault) (K.faults out.old) (K.faults out.new)) }
     ensures ahead { IfSome result (λ end. W.waits ≡ true → WroteAhead (run engine.scenario engine.turns engine.moves) (W.meaning world.new).answers (K.written out.old) (K.handed out.new)) }
-    ensures hands { IfSome result (λ end. verdict_status (Verdict.Ran end) ≢ 5 → verdict_status (Verdict.Ran end) ≢ 7 → K.handed out.new ≡ K.written out.new) }
+    ensures hands { IfSome result (λ end. verdict_status (verdict_of_run end) ≢ 5 → verdict_status (verdict_of_run end) ≢ 7 → K.handed out.new ≡ K.written out.new) }
     ensures kept { IfNone result (W.meaning world.new ≡ W.meaning world.old) }
     ensures unwritten { IfNone result (K.written out.new ≡ K.written out.old) }
     ensures untried { IfNone result (K.faults out.new ≡ K.faults out.old) }
@@ -84,7 +83,7 @@ fn run_script<K: Sink>(alloc: Global, engine: Engine, tick: u64, out: &mut K) ->
     requires well_formed { IsWellFormed engine.scenario }
     ensures written { RanTo result (script_run engine.scenario engine.turns engine.moves tick) (K.written out.old) (K.written out.new) }
     ensures lawful { meets_laws (script_run engine.scenario engine.turns engine.moves tick).lines ≡ true }
-    ensures hands { HandsOn (verdict_status (Verdict.Ran result)) (K.written out.old) (K.handed out.old) (K.written out.new) (K.handed out.new) }
+    ensures hands { HandsOn (verdict_status (verdict_of_run result)) (K.written out.old) (K.handed out.old) (K.written out.new) (K.handed out.new) }
     ensures counts { Counts (result ≡ EngineEnd.WriteFault) (K.faults out.old) (K.faults out.new) }
 {
     followers_run_scripts();
@@ -110,7 +109,7 @@ fn run_natively<K: Sink, W: World>(
     requires well_formed { IsWellFormed engine.scenario }
     ensures begun { ((meets_laws (run engine.scenario engine.turns engine.moves (W.meaning native.new).answers).lines ≡ true)
         × WroteAhead (run engine.scenario engine.turns engine.moves) (W.meaning native.new).answers (K.written out.old) (K.written out.new))
-        ⊎ IsUnbegun (verdict_status (Verdict.Ran result)) (K.written out.old) (K.written out.new) }
+        ⊎ IsUnbegun (verdict_status (verdict_of_run result)) (K.written out.old) (K.written out.new) }
     ensures began { (WroteAhead (run engine.scenario engine.turns engine.moves) (W.meaning native.new).answers (K.written out.old) (K.written out.new)
         × (W.waits ≡ true → WroteAhead (run engine.scenario engine.turns engine.moves) (W.meaning native.new).answers (K.written out.old) (K.handed out.new)))
         ⊎ (W.meaning native.new ≡ W.meaning native.old) }
@@ -118,7 +117,7 @@ fn run_natively<K: Sink, W: World>(
     ensures native { result ≢ EngineEnd.WriteFault → result ≢ EngineEnd.Memory →
         RanNatively workers (run engine.scenario engine.turns engine.moves (W.meaning native.new).answers) (W.meaning native.new) (W.stands_for native.new) }
     ensures rests { (W.meaning native.new).runs ≡ false }
-    ensures hands { HandsOn (verdict_status (Verdict.Ran result)) (K.written out.old) (K.handed out.old) (K.written out.new) (K.handed out.new) }
+    ensures hands { HandsOn (verdict_status (verdict_of_run result)) (K.written out.old) (K.handed out.old) (K.written out.new) (K.handed out.new) }
     ensures counts { Counts (result ≡ EngineEnd.WriteFault) (K.faults out.old) (K.faults out.new) }
 {
     posts_and_answers_are_told();
@@ -146,7 +145,7 @@ fn run_held<K: Sink, W: World>(
     ensures native { result ≢ EngineEnd.WriteFault → result ≢ EngineEnd.Memory →
         RanHeld workers (script_run engine.scenario engine.turns engine.moves 0) (W.meaning native.new) (W.stands_for native.new) }
     ensures rests { (W.meaning native.new).runs ≡ false }
-    ensures hands { HandsOn (verdict_status (Verdict.Ran result)) (K.written out.old) (K.handed out.old) (K.written out.new) (K.handed out.new) }
+    ensures hands { HandsOn (verdict_status (verdict_of_run result)) (K.written out.old) (K.handed out.old) (K.written out.new) (K.handed out.new) }
     ensures counts { Counts (result ≡ EngineEnd.WriteFault) (K.faults out.old) (K.faults out.new) }
 {
     followers_run_scripts();
@@ -154,6 +153,7 @@ fn run_held<K: Sink, W: World>(
     posts_and_answers_are_told();
     let mut held = Held::new(alloc, native);
     let ran = run_in_world(alloc, engine, workers, &mut held, out);
+    // What the world that was lent stands for is known once it is given back.
     let _ = held.into_inner();
     match ran {
         Some(end) => end,
@@ -177,18 +177,19 @@ pub fn run_scenario<K: Sink, W: World>(
     ensures held { (workers : ℕ) → options.world ≡ RunWorld.Held workers → result ≢ EngineEnd.WriteFault → result ≢ EngineEnd.Memory →
         RanHeld workers (run_of options (W.meaning native.new).answers checked) (W.meaning native.new) (W.stands_for native.new) }
     ensures begun { IsBegun options checked (W.meaning native.new).answers (K.written out.old) (K.written out.new)
-        ⊎ IsUnbegun (verdict_status (Verdict.Ran result)) (K.written out.old) (K.written out.new) }
+        ⊎ IsUnbegun (verdict_status (verdict_of_run result)) (K.written out.old) (K.written out.new) }
     ensures began { BeganSo W.waits options checked (W.meaning native.old) (W.meaning native.new) (K.written out.old) (K.written out.new) (K.handed out.new) }
     ensures untouched { is_native_world options.world ≡ false → native.new ≡ native.old }
     ensures rests { (W.meaning native.new).runs ≡ false }
-    ensures hands { HandsOn (verdict_status (Verdict.Ran result)) (K.written out.old) (K.handed out.old) (K.written out.new) (K.handed out.new) }
+    ensures hands { HandsOn (verdict_status (verdict_of_run result)) (K.written out.old) (K.handed out.old) (K.written out.new) (K.handed out.new) }
     ensures counts { Counts (result ≡ EngineEnd.WriteFault) (K.faults out.old) (K.faults out.new) }
 {
     let budgets = Budgets {
         turns: options.turns,
         moves: options.moves,
     };
-    let _well_formed = checked.scenario();
+    // That a checked scenario is well formed is known of the one that is looked at.
+    let _ = checked.scenario();
     let Ok(engine) = Engine::new(alloc, checked, budgets) else {
         return EngineEnd::Memory;
     };

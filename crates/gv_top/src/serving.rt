@@ -24,8 +24,8 @@ ghost use Rattle.gv_top.specs.Serving.{Serves, ServesNatively, ServesWith, limit
 ghost use Rattle.gv_top.specs.Top.{Counts, HandsOn, seen};
 ghost use Rattle.gv_top.specs.Words.{are_native, offline_command_of, is_native, is_native_server, reads_input, serve_of};
 
-use crate::gateway::serve_through;
-use crate::status::Verdict;
+use crate::gateway::{AppServer, serve_through};
+use crate::status::verdict_of_server;
 use crate::top::{offline, tell};
 use crate::words::server_options;
 use command_words::{ServeAnswers, ServeOptions, command_of, commands_are_in_range};
@@ -49,39 +49,47 @@ fn limits_of(options: ServeOptions) -> Limits
     }
 }
 
-/// Serves with so many native workers for the jobs that requests ask for. They are begun before it, and finished after
-/// it.
+/// A server whose requests ask for jobs.
+#[derive(Clone, Copy)]
+struct JobServer {
+    /// How many native workers do them.
+    workers: u32,
+    /// The port at which it listens, or 0 for any.
+    port: u16,
+    /// How much it does.
+    limits: Limits,
+}
+
+/// Serves with native workers for the jobs that requests ask for. They are begun before it, and finished after it.
 fn serve_natively<K: Sink, N: Net, W: World, H: Wait>(
     rt: &H,
     alloc: Global,
-    workers: u32,
-    port: u16,
-    limits: Limits,
+    server: JobServer,
     out: &mut K,
     net: &mut N,
     native: &mut W,
 ) -> Served
     requires rests { (W.meaning native.old).runs ≡ false }
     requires fresh { IsFresh (N.meaning net.old) }
-    requires in_range { IsInRange limits }
-    requires some { 0 < workers }
-    requires few { workers ≤ MOST_WORKERS }
-    ensures serves { ServesNatively workers result port limits (N.meaning net.new) (W.meaning native.old) (W.meaning native.new) (K.written out.old) (K.written out.new) }
-    ensures told { IsToldFirst port (N.meaning net.new) (K.written out.old) (K.handed out.new) }
+    requires in_range { IsInRange server.limits }
+    requires some { 0 < server.workers }
+    requires few { server.workers ≤ MOST_WORKERS }
+    ensures serves { ServesNatively server.workers result server.port server.limits (N.meaning net.new) (W.meaning native.old) (W.meaning native.new) (K.written out.old) (K.written out.new) }
+    ensures told { IsToldFirst server.port (N.meaning net.new) (K.written out.old) (K.handed out.new) }
     ensures handed { K.handed out.old ≡ K.written out.old → result ≢ Served.WriteFault → result ≢ Served.Memory → K.handed out.new ≡ K.written out.new }
     ensures rests { (W.meaning native.new).runs ≡ false }
     ensures listens { Counts (result ≡ Served.Listener) (N.meaning net.old).faults (N.meaning net.new).faults }
     ensures writes { Counts (result ≡ Served.WriteFault) (K.faults out.old) (K.faults out.new) }
 {
-    let Ok(()) = native.begin(workers) else {
+    let Ok(()) = native.begin(server.workers) else {
         return Served::Memory;
     };
-    let end = serve_jobs_command(rt, alloc, port, limits, out, net, native);
+    let end = serve_jobs_command(rt, alloc, server.port, server.limits, out, net, native);
     native.finish();
     end
 }
 
-/// Serves as the options say.
+/// Serves as the options say. Like `serve`, it takes what `gvr` is given for a server, each by itself.
 fn serve_as<K: Sink, N: Net, W: World, A: Application, H: Wait>(
     rt: &H,
     alloc: Global,
@@ -103,13 +111,24 @@ fn serve_as<K: Sink, N: Net, W: World, A: Application, H: Wait>(
     ensures listens { Counts (result ≡ Served.Listener) (N.meaning net.old).faults (N.meaning net.new).faults }
     ensures writes { Counts (result ≡ Served.WriteFault) (K.faults out.old) (K.faults out.new) }
 {
+    let port = options.port;
     let limits = limits_of(options);
     match options.answers {
         ServeAnswers::Application(gateway) => {
-            serve_through(rt, alloc, gateway, options.port, limits, out, net, app)
+            let server = AppServer {
+                gateway,
+                port,
+                limits,
+            };
+            serve_through(rt, alloc, server, out, net, app)
         }
         ServeAnswers::Jobs(workers) => {
-            serve_natively(rt, alloc, workers, options.port, limits, out, net, native)
+            let server = JobServer {
+                workers,
+                port,
+                limits,
+            };
+            serve_natively(rt, alloc, server, out, net, native)
         }
     }
 }
@@ -143,6 +162,7 @@ fn serve<K: Sink, N: Net, W: World, A: Application, H: Wait>(
     };
     match server_options(command) {
         Some(options) => serve_as(rt, alloc, options, out, net, native, app),
+        // `offline` leaves only words that name a server.
         None => unreachable!(),
     }
 }
@@ -219,7 +239,7 @@ pub fn gvr<S: Source, K: Sink, E: Sink, W: World, N: Net, A: Application, H: Wai
         Some(status) => status,
         None => {
             let end = serve(rt, alloc, words, out, net, native, app);
-            tell(alloc, Verdict::Served(end), err)
+            tell(alloc, verdict_of_server(end), err)
         }
     }
 }

@@ -1,7 +1,7 @@
 //! How a call ends: its status and its line on err.
 ghost use Rattle.std.specs.Prelude.{◌≡◌, List, OnOk, IfOk};
-ghost use Rattle.gv_top.specs.Verdicts.{verdict_status, verdict_line};
-ghost use Rattle.gv_top.specs.Inner.{IsExplained, verdict_on};
+ghost use Rattle.gv_top.specs.Verdicts.{verdict_line, verdict_of_check, verdict_of_connection, verdict_of_run, verdict_of_server, verdict_of_text, verdict_status};
+ghost use Rattle.gv_top.specs.Inner.{IsExplained};
 
 use gv_values::{FaultKind, decimal_text, fault_text};
 use hub_engine::EngineEnd;
@@ -13,27 +13,149 @@ use trace_check::Cause;
 use verify_command::Unverified;
 use wsgi_connection::ConnectionEnd;
 
+/// What broke a call off.
+#[derive(Clone, Copy, Debug, PartialEq, Eq)]
+pub enum Failure {
+    /// The input could not be read.
+    Read,
+    /// Out could not be written.
+    Write,
+    /// The net could not listen, or its listener failed.
+    Net,
+    /// Memory ran out.
+    Memory,
+}
+
+impl Failure {
+    /// The status that the call answers.
+    fn number(self) -> u8
+        ensures { result ≡ verdict_status (Verdict.Broke self) }
+    {
+        match self {
+            Failure::Read => 4,
+            Failure::Write => 5,
+            Failure::Net => 10,
+            Failure::Memory => 7,
+        }
+    }
+
+    /// The line on err, which takes no memory.
+    pub fn line(self) -> &'static [u8]
+        ensures { result.now ≡ verdict_line (Verdict.Broke self) }
+    {
+        match self {
+            Failure::Read => b"gvr: read fault\n",
+            Failure::Write => b"gvr: write fault\n",
+            Failure::Net => b"gvr: network fault\n",
+            Failure::Memory => b"gvr: out of memory\n",
+        }
+    }
+}
+
+/// What a call that nothing broke off came to.
+#[derive(Clone, Copy, Debug, PartialEq, Eq)]
+pub enum Conclusion {
+    /// All was done, and there is nothing to say of it.
+    Finished,
+    /// The words are no command.
+    Usage,
+    /// The run's main ended by this fault.
+    MainFault(FaultKind),
+    /// The run would begin one more turn than its budget.
+    NoTurns,
+    /// The run would begin one more move than its budget.
+    NoMoves,
+    /// The run would make one more greenlet than there may be.
+    NoGreenlets,
+    /// The run would make one more link than there may be.
+    NoLinks,
+    /// The run would make one more kill item than there may be.
+    NoKills,
+    /// The connection had one more byte than it may have.
+    TooLong,
+    /// One more job was asked for than have numbers.
+    NoJobs,
+    /// The input spells no well-formed scenario; where it is refused.
+    Refused(Place),
+    /// The input of a check is too long; the line of the first byte too many.
+    Overlong { line: u64 },
+    /// The input of a check has no line of four equals signs; its last line.
+    Unmarked { line: u64 },
+    /// From this line on the trace is not the run, for this cause.
+    Wrong { line: u64, cause: Cause },
+    /// With this line the trace breaks this law.
+    Lawless { line: u64, law: u8 },
+}
+
+impl Conclusion {
+    /// The status that the call answers.
+    pub fn number(self) -> u8
+        ensures { result ≡ verdict_status (Verdict.Did self) }
+    {
+        match self {
+            Conclusion::Finished => 0,
+            Conclusion::Usage => 2,
+            Conclusion::MainFault(_) => 1,
+            Conclusion::NoTurns => 6,
+            Conclusion::NoMoves => 6,
+            Conclusion::NoGreenlets => 8,
+            Conclusion::NoLinks => 8,
+            Conclusion::NoKills => 8,
+            Conclusion::TooLong => 8,
+            Conclusion::NoJobs => 8,
+            Conclusion::Refused(_) => 3,
+            Conclusion::Overlong { line: _ } => 3,
+            Conclusion::Unmarked { line: _ } => 3,
+            Conclusion::Wrong { line: _, cause: _ } => 9,
+            Conclusion::Lawless { line: _, law: _ } => 9,
+        }
+    }
+
+    /// The line on err, and nothing where it has none.
+    pub fn line(self, alloc: Global) -> Result<Vec<u8>, AllocError>
+        requires { IsExplained (Verdict.Did self) }
+        ensures { IfOk result (λ line. line.items ≡ verdict_line (Verdict.Did self)) }
+    {
+        match self {
+            Conclusion::Finished => Ok(Vec::new(alloc)),
+            Conclusion::Usage => line_with(
+                alloc,
+                b"usage: gvr run, fmt, wsgi, serve, storm or verify",
+            ),
+            Conclusion::MainFault(kind) => fault_line(alloc, kind),
+            Conclusion::NoTurns => line_with(alloc, b"budget of turns spent"),
+            Conclusion::NoMoves => line_with(alloc, b"budget of moves spent"),
+            Conclusion::NoGreenlets => line_with(alloc, b"limit of greenlets"),
+            Conclusion::NoLinks => line_with(alloc, b"limit of links"),
+            Conclusion::NoKills => line_with(alloc, b"limit of kills"),
+            Conclusion::TooLong => line_with(alloc, b"limit of the connection"),
+            Conclusion::NoJobs => line_with(alloc, b"limit of jobs"),
+            Conclusion::Refused(place) => refusal_line(alloc, place),
+            Conclusion::Overlong { line } => place_line(
+                alloc,
+                line,
+                25,
+                b"input longer than 67108864 bytes",
+            ),
+            Conclusion::Unmarked { line } => place_line(
+                alloc,
+                line,
+                24,
+                b"no line of four equals signs",
+            ),
+            Conclusion::Wrong { line, cause } => cause_line(alloc, line, cause),
+            Conclusion::Lawless { line, law } => law_line(alloc, line, law),
+        }
+    }
+}
+
 /// How a call ends.
 #[derive(Clone, Copy, Debug, PartialEq, Eq)]
 pub enum Verdict {
-    /// The words are no command.
-    Usage,
-    /// The input could not be read.
-    ReadFault,
-    /// The input spells no well-formed scenario; where it is refused.
-    Refused(Place),
-    /// The printed form of the scenario is out.
-    Formatted,
-    /// The run came to this end.
-    Ran(EngineEnd),
-    /// The connection came to this end.
-    Connection(ConnectionEnd),
-    /// The server came to this end.
-    Served(Served),
-    /// The trace was checked, and how many lines it has is out.
-    Verified,
-    /// The input was not verified.
-    Unverified(Unverified),
+    /// It came to this.
+    Did(Conclusion),
+    /// This broke it off.
+    Broke(Failure),
 }
 
 impl Verdict {
@@ -42,87 +164,76 @@ impl Verdict {
         ensures { result ≡ verdict_status self }
     {
         match self {
-            Verdict::Usage => 2,
-            Verdict::ReadFault => 4,
-            Verdict::Refused(_) => 3,
-            Verdict::Formatted => 0,
-            Verdict::Ran(EngineEnd::MainValue) => 0,
-            Verdict::Ran(EngineEnd::MainFault(_)) => 1,
-            Verdict::Ran(EngineEnd::NoTurns) => 6,
-            Verdict::Ran(EngineEnd::NoMoves) => 6,
-            Verdict::Ran(EngineEnd::NoGreenlets) => 8,
-            Verdict::Ran(EngineEnd::NoLinks) => 8,
-            Verdict::Ran(EngineEnd::NoKills) => 8,
-            Verdict::Ran(EngineEnd::WriteFault) => 5,
-            Verdict::Ran(EngineEnd::Memory) => 7,
-            Verdict::Connection(ConnectionEnd::Closed) => 0,
-            Verdict::Connection(ConnectionEnd::TooLong) => 8,
-            Verdict::Connection(ConnectionEnd::ReadFault) => 4,
-            Verdict::Connection(ConnectionEnd::WriteFault) => 5,
-            Verdict::Connection(ConnectionEnd::Memory) => 7,
-            Verdict::Served(Served::Finished) => 0,
-            Verdict::Served(Served::Listener) => 10,
-            Verdict::Served(Served::NoJobs) => 8,
-            Verdict::Served(Served::WriteFault) => 5,
-            Verdict::Served(Served::Memory) => 7,
-            Verdict::Verified => 0,
-            Verdict::Unverified(Unverified::Overlong { line: _ }) => 3,
-            Verdict::Unverified(Unverified::Unmarked { line: _ }) => 3,
-            Verdict::Unverified(Unverified::Refused(_)) => 3,
-            Verdict::Unverified(Unverified::Wrong { line: _, cause: _ }) => 9,
-            Verdict::Unverified(Unverified::Lawless { line: _, law: _ }) => 9,
-            Verdict::Unverified(Unverified::Memory) => 7,
-        }
-    }
-
-    /// The line on err, and nothing where it has none.
-    pub fn line(self, alloc: Global) -> Result<Vec<u8>, AllocError>
-        requires { IsExplained self }
-        ensures { IfOk result (λ line. line.items ≡ verdict_line self) }
-    {
-        match self {
-            Verdict::Usage => line_with(
-                alloc,
-                b"usage: gvr run, fmt, wsgi, serve, storm or verify",
-            ),
-            Verdict::ReadFault => line_with(alloc, b"read fault"),
-            Verdict::Refused(place) => refusal_line(alloc, place),
-            Verdict::Formatted => Ok(Vec::new(alloc)),
-            Verdict::Ran(EngineEnd::MainValue) => Ok(Vec::new(alloc)),
-            Verdict::Ran(EngineEnd::MainFault(kind)) => fault_line(alloc, kind),
-            Verdict::Ran(EngineEnd::NoTurns) => line_with(alloc, b"budget of turns spent"),
-            Verdict::Ran(EngineEnd::NoMoves) => line_with(alloc, b"budget of moves spent"),
-            Verdict::Ran(EngineEnd::NoGreenlets) => line_with(alloc, b"limit of greenlets"),
-            Verdict::Ran(EngineEnd::NoLinks) => line_with(alloc, b"limit of links"),
-            Verdict::Ran(EngineEnd::NoKills) => line_with(alloc, b"limit of kills"),
-            Verdict::Ran(EngineEnd::WriteFault) => line_with(alloc, b"write fault"),
-            Verdict::Ran(EngineEnd::Memory) => line_with(alloc, b"out of memory"),
-            Verdict::Connection(ConnectionEnd::Closed) => Ok(Vec::new(alloc)),
-            Verdict::Connection(ConnectionEnd::TooLong) => line_with(
-                alloc,
-                b"limit of the connection",
-            ),
-            Verdict::Connection(ConnectionEnd::ReadFault) => line_with(alloc, b"read fault"),
-            Verdict::Connection(ConnectionEnd::WriteFault) => line_with(alloc, b"write fault"),
-            Verdict::Connection(ConnectionEnd::Memory) => line_with(alloc, b"out of memory"),
-            Verdict::Served(Served::Finished) => Ok(Vec::new(alloc)),
-            Verdict::Served(Served::Listener) => line_with(alloc, b"network fault"),
-            Verdict::Served(Served::NoJobs) => line_with(alloc, b"limit of jobs"),
-            Verdict::Served(Served::WriteFault) => line_with(alloc, b"write fault"),
-            Verdict::Served(Served::Memory) => line_with(alloc, b"out of memory"),
-            Verdict::Verified => Ok(Vec::new(alloc)),
-            Verdict::Unverified(refused_answer) => unverified_line(alloc, refused_answer),
+            Verdict::Did(conclusion) => conclusion.number(),
+            Verdict::Broke(failure) => failure.number(),
         }
     }
 }
 
-/// The verdict on a text that no scenario was read of.
-pub fn verdict_on(refused_answer: ParseRefusal) -> Verdict
-    ensures { result ≡ verdict_on refused_answer }
+/// The verdict on a run that came to this end.
+pub fn verdict_of_run(end: EngineEnd) -> Verdict
+    ensures { result ≡ verdict_of_run end }
 {
-    match refused_answer {
-        ParseRefusal::Refused(place) => Verdict::Refused(place),
-        ParseRefusal::Memory => Verdict::Ran(EngineEnd::Memory),
+    match end {
+        EngineEnd::MainValue => Verdict::Did(Conclusion::Finished),
+        EngineEnd::MainFault(kind) => Verdict::Did(Conclusion::MainFault(kind)),
+        EngineEnd::NoTurns => Verdict::Did(Conclusion::NoTurns),
+        EngineEnd::NoMoves => Verdict::Did(Conclusion::NoMoves),
+        EngineEnd::NoGreenlets => Verdict::Did(Conclusion::NoGreenlets),
+        EngineEnd::NoLinks => Verdict::Did(Conclusion::NoLinks),
+        EngineEnd::NoKills => Verdict::Did(Conclusion::NoKills),
+        EngineEnd::WriteFault => Verdict::Broke(Failure::Write),
+        EngineEnd::Memory => Verdict::Broke(Failure::Memory),
+    }
+}
+
+/// The verdict on a connection that came to this end.
+pub fn verdict_of_connection(end: ConnectionEnd) -> Verdict
+    ensures { result ≡ verdict_of_connection end }
+{
+    match end {
+        ConnectionEnd::Closed => Verdict::Did(Conclusion::Finished),
+        ConnectionEnd::TooLong => Verdict::Did(Conclusion::TooLong),
+        ConnectionEnd::ReadFault => Verdict::Broke(Failure::Read),
+        ConnectionEnd::WriteFault => Verdict::Broke(Failure::Write),
+        ConnectionEnd::Memory => Verdict::Broke(Failure::Memory),
+    }
+}
+
+/// The verdict on a server that came to this end.
+pub fn verdict_of_server(end: Served) -> Verdict
+    ensures { result ≡ verdict_of_server end }
+{
+    match end {
+        Served::Finished => Verdict::Did(Conclusion::Finished),
+        Served::NoJobs => Verdict::Did(Conclusion::NoJobs),
+        Served::Listener => Verdict::Broke(Failure::Net),
+        Served::WriteFault => Verdict::Broke(Failure::Write),
+        Served::Memory => Verdict::Broke(Failure::Memory),
+    }
+}
+
+/// The verdict on a text that no scenario was read of.
+pub fn verdict_of_text(refusal: ParseRefusal) -> Verdict
+    ensures { result ≡ verdict_of_text refusal }
+{
+    match refusal {
+        ParseRefusal::Refused(place) => Verdict::Did(Conclusion::Refused(place)),
+        ParseRefusal::Memory => Verdict::Broke(Failure::Memory),
+    }
+}
+
+/// The verdict on an input that was not verified.
+pub fn verdict_of_check(refusal: Unverified) -> Verdict
+    ensures { result ≡ verdict_of_check refusal }
+{
+    match refusal {
+        Unverified::Overlong { line } => Verdict::Did(Conclusion::Overlong { line }),
+        Unverified::Unmarked { line } => Verdict::Did(Conclusion::Unmarked { line }),
+        Unverified::Refused(place) => Verdict::Did(Conclusion::Refused(place)),
+        Unverified::Wrong { line, cause } => Verdict::Did(Conclusion::Wrong { line, cause }),
+        Unverified::Lawless { line, law } => Verdict::Did(Conclusion::Lawless { line, law }),
+        Unverified::Memory => Verdict::Broke(Failure::Memory),
     }
 }
 
@@ -131,7 +242,6 @@ ghost use Rattle.trace_text.specs.declared.line.StopCause.{StopCause};
 ghost use Rattle.gv_top.specs.Answers.{line, place_text, refused_answer};
 ghost use Rattle.gv_top.specs.Verifying.{trace_text, unverified};
 ghost use Rattle.scenario_reading.specs.Judged.{HasReason};
-ghost use Rattle.verify_command.specs.Judged.{IsReasoned};
 
 fn line_with(alloc: Global, text: &[u8]) -> Result<Vec<u8>, AllocError>
     ensures { IfOk result (λ made. made.items ≡ line text.now) }
@@ -180,31 +290,6 @@ fn place_line(alloc: Global, number: u64, reason: u8, text: &[u8]) -> Result<Vec
     made.extend_from_slice(b": ")?;
     made.extend_from_slice(text)?;
     line_with(alloc, made.as_slice())
-}
-
-/// The line on err of an input that was not verified.
-fn unverified_line(alloc: Global, refused_answer: Unverified) -> Result<Vec<u8>, AllocError>
-    requires { IsReasoned refused_answer }
-    ensures { IfOk result (λ made. made.items ≡ (unverified refused_answer).err) }
-{
-    match refused_answer {
-        Unverified::Overlong { line } => place_line(
-            alloc,
-            line,
-            25,
-            b"input longer than 67108864 bytes",
-        ),
-        Unverified::Unmarked { line } => place_line(
-            alloc,
-            line,
-            24,
-            b"no line of four equals signs",
-        ),
-        Unverified::Refused(place) => refusal_line(alloc, place),
-        Unverified::Wrong { line, cause } => cause_line(alloc, line, cause),
-        Unverified::Lawless { line, law } => law_line(alloc, line, law),
-        Unverified::Memory => line_with(alloc, b"out of memory"),
-    }
 }
 
 fn trace_line(alloc: Global, number: u64, text: &[u8]) -> Result<Vec<u8>, AllocError>

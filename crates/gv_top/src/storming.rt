@@ -1,15 +1,14 @@
 //! The storm of many greenlets: its text, its run into a sink that counts lines, and the summary of that.
 ghost use Rattle.std.specs.Prelude.{◌≡◌, ◌≢◌, IfOk, IfSome};
 ghost use Rattle.machine.specs.Run.{Ran as AnyRan};
-ghost use Rattle.gv_top.specs.declared.status.Verdict.{Verdict as AnyVerdict};
 ghost use Rattle.gv_top.specs.Answers.{Answer, IsStormAnswer, answer_of_storm};
 ghost use Rattle.gv_top.specs.Counted.{WasCounted, is_broken_off};
 ghost use Rattle.gv_top.specs.Storm.{storm_run, storm_text, summary};
 ghost use Rattle.gv_top.specs.Top.{Counts, Decided, HandsOn};
-ghost use Rattle.gv_top.specs.Verdicts.{verdict_status};
+ghost use Rattle.gv_top.specs.Verdicts.{verdict_of_run, verdict_status};
 ghost use Rattle.gv_top.specs.Inner.{IsExplained};
 
-use crate::status::{Verdict, verdict_on};
+use crate::status::{Failure, Verdict, verdict_of_run, verdict_of_text};
 use crate::top::send;
 use gv_io::Sink;
 use gv_values::{MOST_MOVES, MOST_TURNS, decimal_text};
@@ -105,8 +104,8 @@ fn count_run(alloc: Global, checked: Checked) -> Option<CountedRun>
 /// Runs the scenario as the storm of so many greenlets, and writes its summary to out.
 #[tactic(auto, using(gv_io::proofs::StreamLaws::writes))]
 fn sum_up<K: Sink>(alloc: Global, size: u32, checked: Checked, out: &mut K) -> EngineEnd
-    ensures answer { Decided (AnyVerdict.Ran result) (answer_of_storm size (storm_run checked)) (K.written out.old) (K.written out.new) }
-    ensures hands { HandsOn (verdict_status (AnyVerdict.Ran result)) (K.written out.old) (K.handed out.old) (K.written out.new) (K.handed out.new) }
+    ensures answer { Decided (verdict_of_run result) (answer_of_storm size (storm_run checked)) (K.written out.old) (K.written out.new) }
+    ensures hands { HandsOn (verdict_status (verdict_of_run result)) (K.written out.old) (K.handed out.old) (K.written out.new) (K.handed out.new) }
     ensures counts { Counts (result ≡ EngineEnd.WriteFault) (K.faults out.old) (K.faults out.new) }
 {
     let Some(run) = count_run(alloc, checked) else {
@@ -132,10 +131,10 @@ pub fn answer_storm<K: Sink>(alloc: Global, size: u32, out: &mut K) -> Verdict
     ensures writes { Counts (verdict_status result ≡ 5) (K.faults out.old) (K.faults out.new) }
 {
     let Ok(text) = storm_text(alloc, size) else {
-        return Verdict::Ran(EngineEnd::Memory);
+        return Verdict::Broke(Failure::Memory);
     };
     match read_scenario(alloc, text.as_slice()) {
-        Err(refusal) => verdict_on(refusal),
-        Ok(checked) => Verdict::Ran(sum_up(alloc, size, checked, out)),
+        Err(refusal) => verdict_of_text(refusal),
+        Ok(checked) => verdict_of_run(sum_up(alloc, size, checked, out)),
     }
 }

@@ -10,13 +10,13 @@ ghost use Rattle.command_words.specs.Ranges.{IsInRange};
 ghost use Rattle.scenario_grammar.specs.Spells.{Spells};
 ghost use Rattle.scenario_rules.specs.Rules.{IsWellFormed};
 ghost use Rattle.scenario_tree.specs.declared.tree.Scenario.{Scenario as AnyScenario};
-ghost use Rattle.gv_top.specs.Answers.{Answer, IsStormAnswer, answer_to_scenario, formatted, memory_line, most_read, network_fault_line, no_port, read_fault_line, refused_answer, write_fault_line};
+ghost use Rattle.gv_top.specs.Answers.{Answer, IsStormAnswer, answer_to_scenario, formatted, most_read, no_port};
 ghost use Rattle.gv_top.specs.Inner.{answer_to_text, BeganText, IsExplained, IsOfConnection, IsOr, RanScenarioSo, RanSo};
 ghost use Rattle.gv_top.specs.Gateways.{answers_by};
 ghost use Rattle.gv_top.specs.Commands.{AnswersCommand, IsBorneOut, IsLeftAlone};
 ghost use Rattle.gv_top.specs.Running.{BeganSo};
 ghost use Rattle.gv_top.specs.declared.status.Verdict.{Verdict as AnyVerdict};
-ghost use Rattle.gv_top.specs.Top.{CameTo, Counts, Decided, Fits, HandsOn, HasLawfulLines, IsTold, seen};
+ghost use Rattle.gv_top.specs.Top.{CameTo, Counts, Decided, FitsAnswer, HandsOn, HasLawfulLines, IsVerdictTold, seen};
 ghost use Rattle.gv_top.specs.Verdicts.{verdict_line, verdict_status};
 ghost use Rattle.gv_top.specs.Checks.{AnswersCheck};
 ghost use Rattle.gv_top.specs.Verifying.{IsAnswerOf, IsCheckAnswer};
@@ -26,13 +26,14 @@ ghost use Rattle.gv_top.specs.Words.{offline_command_of, is_native, is_native_te
 
 use crate::gateway::answer_through;
 use crate::running::run_scenario;
-use crate::status::{Verdict, verdict_on};
+use crate::status::{
+    Conclusion, Failure, Verdict, verdict_of_connection, verdict_of_run, verdict_of_text,
+};
 use crate::storming::answer_storm;
 use crate::verifying::answer_check;
 use crate::words::{OfflineCommand, server_options, without_a_net};
 use command_words::{TextCommand, command_of, commands_are_in_range};
 use gv_io::{Failed, ReadRefusal, Sink, Source, read_limited};
-use hub_engine::EngineEnd;
 use machine_blocks::blocks_are_told;
 use machine_trace_laws::blocks_are_quiet;
 use scenario_check::Checked;
@@ -80,7 +81,7 @@ fn decide<S: Source, K: Sink, W: World, A: Application>(
 {
     commands_are_in_range();
     let Ok(command) = command_of(alloc, words) else {
-        return Some(Verdict::Ran(EngineEnd::Memory));
+        return Some(Verdict::Broke(Failure::Memory));
     };
     match server_options(command) {
         Some(_) => None,
@@ -106,7 +107,7 @@ fn answer_command<S: Source, K: Sink, W: World, A: Application>(
         Decided result a (K.written out.old) (K.written out.new) }
     ensures checked { (check : AnyCheck) (left : List ℕ) → command ≡ Some (OfflineCommand.Verify check) → S.remaining input.old ≡ Some left →
         verdict_status result ≢ 4 → verdict_status result ≢ 5 → verdict_status result ≢ 7 →
-        (a : Answer) × IsCheckAnswer check (take most_checked_read left) a × Fits result a (K.written out.old) (K.written out.new) }
+        (a : Answer) × IsCheckAnswer check (take most_checked_read left) a × FitsAnswer result a (K.written out.old) (K.written out.new) }
     ensures untold { (check : AnyCheck) → command ≡ Some (OfflineCommand.Verify check) → verdict_status result ≢ 0 → verdict_status result ≢ 5 → K.written out.new ≡ K.written out.old }
     ensures read_trace { (check : AnyCheck) → command ≡ Some (OfflineCommand.Verify check) →
         (left : List ℕ) → S.remaining input.old ≡ Some left → verdict_status result ≢ 4 → verdict_status result ≢ 7 → S.remaining input.new ≡ Some (drop most_checked_read left) }
@@ -137,10 +138,10 @@ fn answer_command<S: Source, K: Sink, W: World, A: Application>(
         (left : List ℕ) → S.remaining input.old ≡ Some left → verdict_status result ≢ 4 → verdict_status result ≢ 7 → S.remaining input.new ≡ Some (drop most_read left) }
 {
     match command {
-        None => Verdict::Usage,
+        None => Verdict::Did(Conclusion::Usage),
         Some(OfflineCommand::Text(command)) => answer_input(alloc, command, input, out, native),
         Some(OfflineCommand::Wsgi(gateway)) => {
-            Verdict::Connection(answer_through(alloc, gateway, input, out, app))
+            verdict_of_connection(answer_through(alloc, gateway, input, out, app))
         }
         Some(OfflineCommand::Storm(size)) => answer_storm(alloc, size, out),
         Some(OfflineCommand::Verify(check)) => answer_check(alloc, check, input, out),
@@ -179,8 +180,8 @@ fn answer_input<S: Source, K: Sink, W: World>(
         verdict_status result ≢ 4 → verdict_status result ≢ 7 → S.remaining input.new ≡ Some (drop most_read left) }
 {
     match read_limited(alloc, input, MOST_TEXT) {
-        Err(ReadRefusal::Fault) => Verdict::ReadFault,
-        Err(ReadRefusal::Memory) => Verdict::Ran(EngineEnd::Memory),
+        Err(ReadRefusal::Fault) => Verdict::Broke(Failure::Read),
+        Err(ReadRefusal::Memory) => Verdict::Broke(Failure::Memory),
         Ok(bytes) => answer_text(alloc, command, bytes.as_slice(), out, native),
     }
 }
@@ -211,7 +212,7 @@ fn answer_text<K: Sink, W: World>(
     ensures writes { Counts (verdict_status result ≡ 5) (K.faults out.old) (K.faults out.new) }
 {
     match read_scenario(alloc, bytes) {
-        Err(refused_answer) => verdict_on(refused_answer),
+        Err(refusal) => verdict_of_text(refusal),
         Ok(checked) => answer_scenario(alloc, command, checked, out, native),
     }
 }
@@ -243,7 +244,7 @@ fn answer_scenario<K: Sink, W: World>(
     ensures writes { Counts (verdict_status result ≡ 5) (K.faults out.old) (K.faults out.new) }
 {
     match command {
-        TextCommand::Run(options) => Verdict::Ran(run_scenario(
+        TextCommand::Run(options) => verdict_of_run(run_scenario(
             alloc, checked, options, native, out,
         )),
         TextCommand::Format => format_scenario(alloc, checked.scenario(), out),
@@ -265,11 +266,11 @@ fn format_scenario<K: Sink>(alloc: Global, scenario: &Scenario, out: &mut K) -> 
 {
     let mut text = Vec::new(alloc);
     let Ok(()) = print(scenario, &mut text) else {
-        return Verdict::Ran(EngineEnd::Memory);
+        return Verdict::Broke(Failure::Memory);
     };
     match send(out, text.as_slice()) {
-        Ok(()) => Verdict::Formatted,
-        Err(_) => Verdict::Ran(EngineEnd::WriteFault),
+        Ok(()) => Verdict::Did(Conclusion::Finished),
+        Err(_) => Verdict::Broke(Failure::Write),
     }
 }
 
@@ -288,39 +289,11 @@ pub(crate) fn send<K: Sink>(sink: &mut K, bytes: &[u8]) -> Result<(), Failed>
     Ok(())
 }
 
-/// The line of want of memory, which takes none.
-fn memory_line() -> &'static [u8]
-    ensures { result.now ≡ memory_line }
-{
-    b"gvr: out of memory\n"
-}
-
-/// The line of a read that failed, which takes no memory.
-fn read_fault_line() -> &'static [u8]
-    ensures { result.now ≡ read_fault_line }
-{
-    b"gvr: read fault\n"
-}
-
-/// The line of a net that could not listen, which takes no memory.
-fn network_fault_line() -> &'static [u8]
-    ensures { result.now ≡ network_fault_line }
-{
-    b"gvr: network fault\n"
-}
-
-/// The line of a write that failed, which takes no memory.
-fn write_fault_line() -> &'static [u8]
-    ensures { result.now ≡ write_fault_line }
-{
-    b"gvr: write fault\n"
-}
-
 /// Tries the verdict's line, once.
 fn try_line<E: Sink>(verdict: Verdict, line: &[u8], err: &mut E) -> u8
     requires line { line.now ≡ verdict_line verdict }
     requires has_line { verdict_status verdict ≢ 0 }
-    ensures told { IsTold result verdict (E.written err.old) (E.written err.new) (E.faults err.old) (E.faults err.new) }
+    ensures told { IsVerdictTold result verdict (E.written err.old) (E.written err.new) (E.faults err.old) (E.faults err.new) }
     ensures handed { result ≢ 5 → E.handed err.old ≡ E.written err.old → E.handed err.new ≡ E.written err.new }
     ensures never_falls { E.faults err.old ≤ E.faults err.new }
 {
@@ -330,40 +303,34 @@ fn try_line<E: Sink>(verdict: Verdict, line: &[u8], err: &mut E) -> u8
     }
 }
 
-/// Tells the verdict where there is no memory for its line: a fault has one that takes none, and any other verdict is
-/// want of memory.
-fn tell_without_memory<E: Sink>(verdict: Verdict, err: &mut E) -> u8
-    requires has_line { verdict_status verdict ≢ 0 }
-    ensures told { (w : AnyVerdict) × IsOr verdict w × IsTold result w (E.written err.old) (E.written err.new) (E.faults err.old) (E.faults err.new) }
+/// Tells what the call came to: its line goes to err, where it has one. Status 0 has no line, and err is left alone then.
+/// Where there is no memory for the line, the verdict is want of memory.
+fn tell_conclusion<E: Sink>(alloc: Global, conclusion: Conclusion, err: &mut E) -> u8
+    requires { IsExplained (AnyVerdict.Did conclusion) }
+    ensures told { (w : AnyVerdict) × IsOr (AnyVerdict.Did conclusion) w × IsVerdictTold result w (E.written err.old) (E.written err.new) (E.faults err.old) (E.faults err.new) }
     ensures handed { result ≢ 5 → E.handed err.old ≡ E.written err.old → E.handed err.new ≡ E.written err.new }
     ensures never_falls { E.faults err.old ≤ E.faults err.new }
 {
-    if verdict.number() == 4 {
-        return try_line(verdict, read_fault_line(), err);
-    }
-    if verdict.number() == 5 {
-        return try_line(verdict, write_fault_line(), err);
-    }
-    if verdict.number() == 10 {
-        return try_line(verdict, network_fault_line(), err);
-    }
-    try_line(Verdict::Ran(EngineEnd::Memory), memory_line(), err)
-}
-
-/// Tells the verdict: its line goes to err, where it has one, and its status is answered. Status 0 has no line, and err
-/// is left alone then.
-pub fn tell<E: Sink>(alloc: Global, verdict: Verdict, err: &mut E) -> u8
-    requires { IsExplained verdict }
-    ensures told { (w : AnyVerdict) × IsOr verdict w × IsTold result w (E.written err.old) (E.written err.new) (E.faults err.old) (E.faults err.new) }
-    ensures handed { result ≢ 5 → E.handed err.old ≡ E.written err.old → E.handed err.new ≡ E.written err.new }
-    ensures never_falls { E.faults err.old ≤ E.faults err.new }
-{
-    if verdict.number() == 0 {
+    if conclusion.number() == 0 {
         return 0;
     }
-    match verdict.line(alloc) {
-        Ok(line) => try_line(verdict, line.as_slice(), err),
-        Err(_) => tell_without_memory(verdict, err),
+    match conclusion.line(alloc) {
+        Ok(line) => try_line(Verdict::Did(conclusion), line.as_slice(), err),
+        Err(_) => try_line(Verdict::Broke(Failure::Memory), Failure::Memory.line(), err),
+    }
+}
+
+/// Tells the verdict: its line goes to err, where it has one, and its status is answered. The line of what broke the call
+/// off takes no memory.
+pub fn tell<E: Sink>(alloc: Global, verdict: Verdict, err: &mut E) -> u8
+    requires { IsExplained verdict }
+    ensures told { (w : AnyVerdict) × IsOr verdict w × IsVerdictTold result w (E.written err.old) (E.written err.new) (E.faults err.old) (E.faults err.new) }
+    ensures handed { result ≢ 5 → E.handed err.old ≡ E.written err.old → E.handed err.new ≡ E.written err.new }
+    ensures never_falls { E.faults err.old ≤ E.faults err.new }
+{
+    match verdict {
+        Verdict::Did(conclusion) => tell_conclusion(alloc, conclusion, err),
+        Verdict::Broke(failure) => try_line(Verdict::Broke(failure), failure.line(), err),
     }
 }
 

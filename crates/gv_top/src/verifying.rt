@@ -1,17 +1,16 @@
 //! Checks of a trace: whether it is the run of a scenario, or whether it meets the laws.
 ghost use Rattle.std.specs.Prelude.{◌≡◌, ◌≢◌, ℕ, List, Some, drop, take};
 ghost use Rattle.gv_top.specs.Answers.{Answer};
-ghost use Rattle.gv_top.specs.Top.{Counts, Decided, Fits, HandsOn};
+ghost use Rattle.gv_top.specs.Top.{Counts, Decided, FitsAnswer, HandsOn};
 ghost use Rattle.gv_top.specs.Verdicts.{verdict_status};
 ghost use Rattle.gv_top.specs.Inner.{IsExplained};
 ghost use Rattle.gv_top.specs.Verifying.{IsCheckAnswer, verified};
 ghost use Rattle.verify_command.specs.Inputs.{most_checked_read};
 
-use crate::status::Verdict;
+use crate::status::{Conclusion, Failure, Verdict, verdict_of_check};
 use crate::top::send;
 use command_words::TraceCheck;
 use gv_io::{ReadRefusal, Sink, Source, read_limited};
-use hub_engine::EngineEnd;
 use serve_command::push_number_line;
 use std::alloc::Global;
 use verify_command::{MOST_CHECKED, verify};
@@ -26,7 +25,7 @@ pub fn answer_check<S: Source, K: Sink>(
     ensures answer { (left : List ℕ) (a : Answer) → S.remaining input.old ≡ Some left → IsCheckAnswer check (take most_checked_read left) a →
         Decided result a (K.written out.old) (K.written out.new) }
     ensures checked { (left : List ℕ) → S.remaining input.old ≡ Some left → verdict_status result ≢ 4 → verdict_status result ≢ 5 → verdict_status result ≢ 7 →
-        (a : Answer) × IsCheckAnswer check (take most_checked_read left) a × Fits result a (K.written out.old) (K.written out.new) }
+        (a : Answer) × IsCheckAnswer check (take most_checked_read left) a × FitsAnswer result a (K.written out.old) (K.written out.new) }
     ensures unprinted { verdict_status result ≢ 0 → verdict_status result ≢ 5 → K.written out.new ≡ K.written out.old }
     ensures command { verdict_status result ≢ 2 }
     ensures no_net { verdict_status result ≢ 10 }
@@ -38,8 +37,8 @@ pub fn answer_check<S: Source, K: Sink>(
         verdict_status result ≢ 4 → verdict_status result ≢ 7 → S.remaining input.new ≡ Some (drop most_checked_read left) }
 {
     match read_limited(alloc, input, MOST_CHECKED) {
-        Err(ReadRefusal::Fault) => Verdict::ReadFault,
-        Err(ReadRefusal::Memory) => Verdict::Ran(EngineEnd::Memory),
+        Err(ReadRefusal::Fault) => Verdict::Broke(Failure::Read),
+        Err(ReadRefusal::Memory) => Verdict::Broke(Failure::Memory),
         Ok(bytes) => check_bytes(alloc, check, bytes.as_slice(), out),
     }
 }
@@ -47,7 +46,7 @@ pub fn answer_check<S: Source, K: Sink>(
 /// Checks this of the bytes, and writes the number of lines to out where it comes out well.
 fn check_bytes<K: Sink>(alloc: Global, check: TraceCheck, bytes: &[u8], out: &mut K) -> Verdict
     ensures answer { (a : Answer) → IsCheckAnswer check bytes.now a → Decided result a (K.written out.old) (K.written out.new) }
-    ensures checked { verdict_status result ≢ 5 → verdict_status result ≢ 7 → (a : Answer) × IsCheckAnswer check bytes.now a × Fits result a (K.written out.old) (K.written out.new) }
+    ensures checked { verdict_status result ≢ 5 → verdict_status result ≢ 7 → (a : Answer) × IsCheckAnswer check bytes.now a × FitsAnswer result a (K.written out.old) (K.written out.new) }
     ensures unprinted { verdict_status result ≢ 0 → verdict_status result ≢ 5 → K.written out.new ≡ K.written out.old }
     ensures command { verdict_status result ≢ 2 }
     ensures read { verdict_status result ≢ 4 }
@@ -58,7 +57,7 @@ fn check_bytes<K: Sink>(alloc: Global, check: TraceCheck, bytes: &[u8], out: &mu
 {
     match verify(alloc, check, bytes) {
         Ok(lines) => write_verified(alloc, lines, out),
-        Err(refusal) => Verdict::Unverified(refusal),
+        Err(refusal) => verdict_of_check(refusal),
     }
 }
 
@@ -66,7 +65,7 @@ fn check_bytes<K: Sink>(alloc: Global, check: TraceCheck, bytes: &[u8], out: &mu
 #[tactic(auto, using(gv_io::proofs::StreamLaws::writes))]
 fn write_verified<K: Sink>(alloc: Global, lines: u64, out: &mut K) -> Verdict
     ensures answer { Decided result (verified lines) (K.written out.old) (K.written out.new) }
-    ensures whole { verdict_status result ≢ 5 → verdict_status result ≢ 7 → Fits result (verified lines) (K.written out.old) (K.written out.new) }
+    ensures whole { verdict_status result ≢ 5 → verdict_status result ≢ 7 → FitsAnswer result (verified lines) (K.written out.old) (K.written out.new) }
     ensures unprinted { verdict_status result ≢ 0 → verdict_status result ≢ 5 → K.written out.new ≡ K.written out.old }
     ensures command { verdict_status result ≢ 2 }
     ensures read { verdict_status result ≢ 4 }
@@ -77,10 +76,10 @@ fn write_verified<K: Sink>(alloc: Global, lines: u64, out: &mut K) -> Verdict
 {
     let mut text = Vec::new(alloc);
     let Ok(()) = push_number_line(b"verified lines", lines, &mut text) else {
-        return Verdict::Ran(EngineEnd::Memory);
+        return Verdict::Broke(Failure::Memory);
     };
     match send(out, text.as_slice()) {
-        Ok(()) => Verdict::Verified,
-        Err(_) => Verdict::Ran(EngineEnd::WriteFault),
+        Ok(()) => Verdict::Did(Conclusion::Finished),
+        Err(_) => Verdict::Broke(Failure::Write),
     }
 }

@@ -1,9 +1,9 @@
 use Rattle.std.proofs.Common.{ap, arith, map, string_bytes, sym, ◌∙◌}
 use Rattle.serve_command.proofs.Ends.{none_told}
-use Rattle.gv_top.specs.declared.status.Verdict.{Verdict}
+use Rattle.gv_top.specs.Verdicts.{verdict_of_server}
 use Rattle.gv_top.proofs.Handing.{hands_from, serving_hands, told_from, told_hands}
 use Rattle.gv_top.proofs.Servings.{fails_at_a_line, fault_lines, is_listener, is_some, names_one, no_other_status, none_named, not_listener, not_write_fault, serves_nobody, serves_so}
-use Rattle.gv_top.proofs.Tops.{err_unfailed, left_alone, status_or}
+use Rattle.gv_top.proofs.Tops.{err_unfailed, left_alone, server_explained, status_or, told_as}
 use Rattle.gv_top.proofs.serving.gvr.Goals as goal
 
 -- ---- where the words were answered without a net
@@ -32,7 +32,7 @@ returns-in-None-clause-checks g c = λ none. none_named _ _ c.in-None.ensures.se
 
 pub returns-in-None-clause-borne_out : goal.returns-in-None-clause-borne_out
 returns-in-None-clause-borne_out g c =
-    let t = c.tell.ensures.told in
+    let t = told_as c.verdict_of_server.ensures c.tell.ensures.told in
     record {
       read_line = (fault_lines _ t.0 _ _ _ _ _ (ap g.E.Sink.written c.in-None.ensures.err_alone) t.2).0;
       memory_line = (fault_lines _ t.0 _ _ _ _ _ (ap g.E.Sink.written c.in-None.ensures.err_alone) t.2).1;
@@ -50,18 +50,18 @@ returns-in-None-clause-borne_out g c =
 
 pub returns-in-None-clause-usage_only : goal.returns-in-None-clause-usage_only
 returns-in-None-clause-usage_only g c = λ e.
-    let t = c.tell.ensures.told in
+    let t = told_as c.verdict_of_server.ensures c.tell.ensures.told in
     no_other_status _ _ 2 c.serve-end.result (status_or _ _ t.0 _ _ _ _ t.1 t.2) e (λ z. omega arith) (λ z. omega arith) (λ z. omega arith) (λ z. omega arith) (λ z. omega arith)
 
 pub returns-in-None-clause-served : goal.returns-in-None-clause-served
 returns-in-None-clause-served g c = λ options e.
-    let t = c.tell.ensures.told in
+    let t = told_as c.verdict_of_server.ensures c.tell.ensures.told in
     serves_so _ _ options c.serve-end.result t.0 _ _ _ _ _ _ _ _ _ _ _ _ (ap g.W.World.meaning (c.offline.ensures.native_alone c.in-None.ensures.serve)) (ap g.K.Sink.written (c.offline.ensures.out_alone c.in-None.ensures.serve)) (ap g.E.Sink.written c.in-None.ensures.err_alone)
     (c.serve-end.ensures.serves options e) t.1 t.2
 
 pub returns-in-None-clause-network_fault : goal.returns-in-None-clause-network_fault
 returns-in-None-clause-network_fault g c = λ e.
-    let t = c.tell.ensures.told in
+    let t = told_as c.verdict_of_server.ensures c.tell.ensures.told in
     (c.in-None.ensures.serve, c.serve-end.ensures.listens.failed (is_listener _ c.serve-end.result (status_or _ _ t.0 _ _ _ _ t.1 t.2) e))
 
 pub returns-in-None-clause-net_alone : goal.returns-in-None-clause-net_alone
@@ -81,7 +81,7 @@ returns-in-Some-clause-untouched g c = λ none h. c.offline.ensures.untouched no
 
 pub returns-in-None-clause-net_unfailed : goal.returns-in-None-clause-net_unfailed
 returns-in-None-clause-net_unfailed g c = λ h5 h10.
-    let t = c.tell.ensures.told in c.serve-end.ensures.listens.unfailed (not_listener _ c.serve-end.result t.0 _ _ _ _ t.1 t.2 h5 h10)
+    let t = told_as c.verdict_of_server.ensures c.tell.ensures.told in c.serve-end.ensures.listens.unfailed (not_listener _ c.serve-end.result t.0 _ _ _ _ t.1 t.2 h5 h10)
 
 -- ---- what was handed on
 
@@ -100,10 +100,13 @@ returns-in-None-clause-handed_ahead g c = λ gateway named e. none_named _ _ c.i
 
 pub returns-in-None-clause-handed : goal.returns-in-None-clause-handed
 returns-in-None-clause-handed g c =
-    let t = c.tell.ensures.told in
+    let t = told_as c.verdict_of_server.ensures c.tell.ensures.told in
     let same = c.offline.ensures.out_alone c.in-None.ensures.serve in
-    hands_from (ap g.K.Sink.written same) (ap g.K.Sink.handed same) (told_hands _ (Verdict.Served c.serve-end.result) t.0 _ _ _ _ _ _ _ _ t.1 t.2 (serving_hands c.serve-end.result _ _ _ _ c.serve-end.ensures.handed))
+    hands_from (ap g.K.Sink.written same) (ap g.K.Sink.handed same) (told_hands _ (verdict_of_server c.serve-end.result) t.0 _ _ _ _ _ _ _ _ t.1 t.2 (serving_hands c.serve-end.result _ _ _ _ c.serve-end.ensures.handed))
 
 pub returns-in-None-clause-err_handed : goal.returns-in-None-clause-err_handed
 returns-in-None-clause-err_handed g c = λ h5 e.
     let same = c.in-None.ensures.err_alone in c.tell.ensures.handed h5 (ap g.E.Sink.handed same ∙ e ∙ sym (ap g.E.Sink.written same))
+
+pub tell-requires : goal.tell-requires
+tell-requires g c = server_explained c.serve-end.result _ c.verdict_of_server.ensures

@@ -1,8 +1,8 @@
-use Rattle.std.proofs.Common.{◌≡◌, ◌∙◌, Some, ap, refl}
+use Rattle.std.proofs.Common.{◌≡◌, ◌∙◌, Some, ap, arith, refl}
 use Rattle.gv_top.specs.declared.words.OfflineCommand.{OfflineCommand}
 use Rattle.gv_top.proofs.Checking.{check_is_no_storm, check_is_no_text, text_is_no_check}
-use Rattle.gv_top.proofs.Deciding.{no_command, text_decided, usage_decided}
-use Rattle.gv_top.proofs.Tops.{connection_reads, connection_writes, left_alone}
+use Rattle.gv_top.proofs.Deciding.{answer_as, connection_decided, decided_as, no_command, of_connection, text_decided, usage_decided}
+use Rattle.gv_top.proofs.Tops.{connection_explained, connection_reads, connection_status, connection_writes, left_alone}
 use Rattle.gv_top.proofs.Handing.{command_began, connection_hands, none_began}
 use Rattle.gv_top.proofs.InWorlds.{text_ran}
 use Rattle.gv_top.proofs.Storms.{text_is_no_storm}
@@ -37,10 +37,10 @@ pub returns-in-Some-Storm-clause-left_alone : goal.returns-in-Some-Storm-clause-
 returns-in-Some-Storm-clause-left_alone g c = left_alone _ _ _ _ refl
 
 pub returns-in-Some-Wsgi-clause-reads : goal.returns-in-Some-Wsgi-clause-reads
-returns-in-Some-Wsgi-clause-reads g c = connection_reads c.answer_through.result _ _ c.answer_through.ensures.reads
+returns-in-Some-Wsgi-clause-reads g c = connection_reads c.answer_through.result _ _ _ c.verdict_of_connection.ensures c.answer_through.ensures.reads
 
 pub returns-in-Some-Wsgi-clause-writes : goal.returns-in-Some-Wsgi-clause-writes
-returns-in-Some-Wsgi-clause-writes g c = connection_writes c.answer_through.result _ _ c.answer_through.ensures.writes
+returns-in-Some-Wsgi-clause-writes g c = connection_writes c.answer_through.result _ _ _ c.verdict_of_connection.ensures c.answer_through.ensures.writes
 
 pub returns-in-None-clause-began : goal.returns-in-None-clause-began
 returns-in-None-clause-began g c = λ text e left told. none_began _ _ _ _ _ _ _
@@ -56,7 +56,7 @@ pub returns-in-Some-Storm-clause-began : goal.returns-in-Some-Storm-clause-began
 returns-in-Some-Storm-clause-began g c = λ text e left told. none_began _ _ _ _ _ _ _
 
 pub returns-in-Some-Wsgi-clause-hands : goal.returns-in-Some-Wsgi-clause-hands
-returns-in-Some-Wsgi-clause-hands g c = connection_hands c.answer_through.result _ _ _ _ c.answer_through.ensures.handed
+returns-in-Some-Wsgi-clause-hands g c = connection_hands c.answer_through.result _ _ _ _ _ c.verdict_of_connection.ensures c.answer_through.ensures.handed
 
 pub returns-in-Some-Verify-clause-left_alone : goal.returns-in-Some-Verify-clause-left_alone
 returns-in-Some-Verify-clause-left_alone g c = left_alone _ _ _ _ refl
@@ -75,3 +75,23 @@ returns-in-Some-Storm-clause-read_trace g c = λ check is left told h4 h7. absur
 
 pub returns-in-Some-Verify-clause-read_whole : goal.returns-in-Some-Verify-clause-read_whole
 returns-in-Some-Verify-clause-read_whole g c = λ text runs left told h4 h7. absurd (text_is_no_check text c.in-Some-Verify.check (rw runs at c.in-Some-Verify.field-0-is))
+
+pub returns-in-Some-Wsgi-clause-answer : goal.returns-in-Some-Wsgi-clause-answer
+returns-in-Some-Wsgi-clause-answer g c = λ left a told of.
+    let inner : c.in-Some-Wsgi.field-0 ≡ OfflineCommand.Wsgi c.in-Some-Wsgi.gateway = (rw c.in-Some-Wsgi.is at c.in-Some-Wsgi.field-0-is) in
+    let named : c.args.command ≡ Some (OfflineCommand.Wsgi c.in-Some-Wsgi.gateway) = c.in-Some-Wsgi.is ∙ ap (λ (x : OfflineCommand). Some x) inner in
+    decided_as _ a _ _ _ (answer_as _ _ (Some (OfflineCommand.Wsgi c.in-Some-Wsgi.gateway)) _ left a named of)
+    (connection_decided c.answer_through.result _ _ _ _ c.verdict_of_connection.ensures (c.answer_through.ensures.whole left told))
+
+pub returns-in-Some-Wsgi-clause-usage : goal.returns-in-Some-Wsgi-clause-usage
+returns-in-Some-Wsgi-clause-usage g c = λ h. absurd (connection_status c.answer_through.result _ 2 c.verdict_of_connection.ensures h (λ e. omega arith) (λ e. omega arith) (λ e. omega arith) (λ e. omega arith) (λ e. omega arith))
+
+pub returns-in-Some-Wsgi-clause-no_net : goal.returns-in-Some-Wsgi-clause-no_net
+returns-in-Some-Wsgi-clause-no_net g c = λ h. connection_status c.answer_through.result _ 10 c.verdict_of_connection.ensures h (λ e. omega arith) (λ e. omega arith) (λ e. omega arith) (λ e. omega arith) (λ e. omega arith)
+
+pub returns-in-Some-Wsgi-clause-connection : goal.returns-in-Some-Wsgi-clause-connection
+returns-in-Some-Wsgi-clause-connection g c = λ gateway named.
+    of_connection c.answer_through.result _ c.in-Some-Wsgi.gateway gateway _ _ _ _ _ c.verdict_of_connection.ensures (rw named at c.in-Some-Wsgi.field-0-is) c.answer_through.ensures.exchanged
+
+pub returns-in-Some-Wsgi-clause-explained : goal.returns-in-Some-Wsgi-clause-explained
+returns-in-Some-Wsgi-clause-explained g c = connection_explained c.answer_through.result _ c.verdict_of_connection.ensures

@@ -13,7 +13,7 @@ use Rattle.gv_top.specs.Verdicts.{verdict_status}
 use Rattle.gv_top.proofs.top.answer_input.Goals as goal
 
 pub returns-in-Err-Fault-clause-answer : goal.returns-in-Err-Fault-clause-answer
-returns-in-Err-Fault-clause-answer g c = λ left told. refl
+returns-in-Err-Fault-clause-answer g c = λ left told. AppendsPrefix-nothing _ _
 
 pub returns-in-Err-Memory-clause-answer : goal.returns-in-Err-Memory-clause-answer
 returns-in-Err-Memory-clause-answer g c = λ left told. AppendsPrefix-nothing _ _

@@ -2,13 +2,13 @@ use Rattle.std.proofs.Common.{List, ℕ, refl, subst, sym, ◌∙◌}
 use Rattle.gv_io.proofs.StreamLaws.{AppendsPrefix-nothing}
 use Rattle.verify_command.specs.Inputs.{most_checked_read}
 use Rattle.gv_top.specs.Answers.{Answer}
-use Rattle.gv_top.specs.Top.{Fits}
+use Rattle.gv_top.specs.Top.{FitsAnswer}
 use Rattle.gv_top.specs.Verifying.{IsCheckAnswer}
 use Rattle.gv_top.proofs.Deciding.{left_behind, read_first}
 use Rattle.gv_top.proofs.verifying.answer_check.Goals as goal
 
 pub returns-in-Err-Fault-clause-answer : goal.returns-in-Err-Fault-clause-answer
-returns-in-Err-Fault-clause-answer g c = λ left a told of. refl
+returns-in-Err-Fault-clause-answer g c = λ left a told of. AppendsPrefix-nothing _ _
 
 pub returns-in-Err-Fault-clause-checked : goal.returns-in-Err-Fault-clause-checked
 returns-in-Err-Fault-clause-checked g c = λ left told h4 h5 h7. absurd (h4 refl)
@@ -26,7 +26,7 @@ returns-in-Ok-clause-answer g c = λ left a told of.
 
 pub returns-in-Ok-clause-checked : goal.returns-in-Ok-clause-checked
 returns-in-Ok-clause-checked g c = λ left told h4 h5 h7.
-    let P : List ℕ → Type 0 = λ bytes. (a : Answer) × IsCheckAnswer c.args.check bytes a × Fits c.check_bytes.result a (g.K.Sink.written c.args.out.now) (g.K.Sink.written c.check_bytes.new.out) in
+    let P : List ℕ → Type 0 = λ bytes. (a : Answer) × IsCheckAnswer c.args.check bytes a × FitsAnswer c.check_bytes.result a (g.K.Sink.written c.args.out.now) (g.K.Sink.written c.check_bytes.new.out) in
     subst P (c.as_slice.ensures.value ∙ read_first most_checked_read left _ _ told c.in-Ok.ensures.first) (c.check_bytes.ensures.checked h5 h7)
 
 pub returns-in-Ok-clause-read_whole : goal.returns-in-Ok-clause-read_whole
