@@ -40,7 +40,9 @@ fn done_at_once(words: &str) -> Row<'_> {
 struct Deaf;
 
 impl Ear for Deaf {
-    fn rest(&mut self, at_most: Option<u64>) {}
+    fn rest(&mut self, at_most: Option<u64>) {
+        let _ = at_most;
+    }
 }
 
 /// A bell that does nothing.

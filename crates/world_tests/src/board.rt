@@ -170,17 +170,16 @@ fn lead<R: Wait>(
     Ok(all)
 }
 
-/// The passes of two workers.
-struct TwoPasses {
+fn pair<R: Threads + Wait + Sync>(
+    rt: &R,
+    board: &Board,
     first: WorkerPass,
     second: WorkerPass,
-}
-
-fn pair<R: Threads + Wait + Sync>(rt: &R, board: &Board, workers: TwoPasses, bell: &Rings)
-    requires first { (worker_board workers.first ≡ board_id board.now) × ((worker_view workers.first).stage ≡ Idle) }
-    requires second { (worker_board workers.second ≡ board_id board.now) × ((worker_view workers.second).stage ≡ Idle) }
+    bell: &Rings,
+)
+    requires first { (worker_board first ≡ board_id board.now) × ((worker_view first).stage ≡ Idle) }
+    requires second { (worker_board second ≡ board_id board.now) × ((worker_view second).stage ≡ Idle) }
 {
-    let TwoPasses { first, second } = workers;
     thread::join(
         rt,
         move ||
@@ -197,12 +196,13 @@ fn run<R: Threads + Wait + Sync>(
     alloc: Global,
     board: &Board,
     hub: HubPass,
-    workers: TwoPasses,
+    first: WorkerPass,
+    second: WorkerPass,
     bell: &Rings,
 ) -> Result<Vec<Finished>, Fail>
     requires hub { hub_board hub ≡ board_id board.now }
-    requires first { (worker_board workers.first ≡ board_id board.now) × ((worker_view workers.first).stage ≡ Idle) }
-    requires second { (worker_board workers.second ≡ board_id board.now) × ((worker_view workers.second).stage ≡ Idle) }
+    requires first { (worker_board first ≡ board_id board.now) × ((worker_view first).stage ≡ Idle) }
+    requires second { (worker_board second ≡ board_id board.now) × ((worker_view second).stage ≡ Idle) }
 {
     let (found, _) = thread::join(
         rt,
@@ -210,8 +210,8 @@ fn run<R: Threads + Wait + Sync>(
             requires { hub_board hub ≡ board_id board.now }
         { lead(rt, alloc, board, hub) },
         move ||
-            requires { (worker_board workers.first ≡ board_id board.now) × ((worker_view workers.first).stage ≡ Idle) × (worker_board workers.second ≡ board_id board.now) × ((worker_view workers.second).stage ≡ Idle) }
-        { pair(rt, board, workers, bell) },
+            requires { (worker_board first ≡ board_id board.now) × ((worker_view first).stage ≡ Idle) × (worker_board second ≡ board_id board.now) × ((worker_view second).stage ≡ Idle) }
+        { pair(rt, board, first, second, bell) },
     );
     found
 }
@@ -229,7 +229,7 @@ fn both<R: Threads + Wait + Sync>(rt: &R, alloc: Global) -> Result<Vec<Finished>
     let Some(second) = workers.next() else {
         unreachable!()
     };
-    run(rt, alloc, &board, hub, TwoPasses { first, second }, &bell)
+    run(rt, alloc, &board, hub, first, second, &bell)
 }
 
 #[test]
