@@ -62,13 +62,11 @@ pub extern "C" fn gvr_answer(
     ensures room { (said.new.out ≤ length out.new) × (said.new.err ≤ length err.new) }
     ensures said { (all : List Word) × AreWords words.now all × IsSaid result all text.now (take said.new.out out.new) (take said.new.err err.new) }
 {
-    match answer::<Gvr>(alloc, &Gvr, words, text, out, err) {
-        Ok(answered) => {
-            *said = answered.said;
-            answered.status
-        }
+    match answer::<Gvr>(alloc, &Gvr, words, text, out, err, said) {
+        Ok(status) => status,
         Err(_) => {
-            *said = Said { out: 0, err: 0 };
+            said.out = 0;
+            said.err = 0;
             OUT_OF_MEMORY
         }
     }

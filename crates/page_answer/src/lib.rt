@@ -16,14 +16,6 @@ pub struct Said {
     pub err: usize,
 }
 
-/// What words and a text are answered.
-pub struct Answered {
-    /// The status of the program.
-    pub status: u32,
-    /// How much it says.
-    pub said: Said,
-}
-
 /// Whoever does what words name.
 pub trait Program {
     /// With this status these words and this text have these bytes on out and on err.
@@ -69,8 +61,8 @@ fn copy_to_front(bytes: &[u8], to: &mut [u8])
 }
 
 /// Answers words, which LFs part, and a text with out and err of their room: the first bytes of `out` and of `err` are
-/// then what the program says. `AllocError`: memory ran out before the program ran, or what it says has no room; what
-/// stands in the two may have changed.
+/// then what the program says, and `said` has how many these are. If memory runs out before the program runs, what
+/// stands in the three may have changed.
 pub fn answer<P: Program>(
     alloc: Global,
     program: &P,
@@ -78,10 +70,11 @@ pub fn answer<P: Program>(
     text: &[u8],
     out: &mut [u8],
     err: &mut [u8],
-) -> Result<Answered, AllocError>
+    said: &mut Said,
+) -> Result<u32, AllocError>
     ensures room { (length out.new ≡ length out.old) × (length err.new ≡ length err.old) }
-    ensures fits { IfOk result (λ answered. (answered.said.out ≤ length out.new) × (answered.said.err ≤ length err.new)) }
-    ensures said { IfOk result (λ answered. (all : List (List ℕ)) × AreWords words.now all × P.says answered.status all text.now (take answered.said.out out.new) (take answered.said.err err.new)) }
+    ensures fits { IfOk result (λ status. (said.new.out ≤ length out.new) × (said.new.err ≤ length err.new)) }
+    ensures said { IfOk result (λ status. (all : List (List ℕ)) × AreWords words.now all × P.says status all text.now (take said.new.out out.new) (take said.new.err err.new)) }
 {
     let words = words_in(alloc, words)?;
     let text = Vec::from_slice(alloc, text)?;
@@ -92,11 +85,9 @@ pub fn answer<P: Program>(
     if out.len() < to_out.bytes().len() || err.len() < to_err.bytes().len() {
         return Err(AllocError);
     }
-    let said = Said {
-        out: to_out.bytes().len(),
-        err: to_err.bytes().len(),
-    };
+    said.out = to_out.bytes().len();
+    said.err = to_err.bytes().len();
     copy_to_front(to_out.bytes(), out);
     copy_to_front(to_err.bytes(), err);
-    Ok(Answered { status, said })
+    Ok(status)
 }
