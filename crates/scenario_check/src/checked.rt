@@ -6,6 +6,7 @@ ghost use Rattle.scenario_check.specs.Checks.{IsPlaced};
 
 use crate::judge::place;
 use scenario_lang::{ParseRefusal, Scenario};
+use scenario_tree::Scenario as Tree;
 use std::alloc::Global;
 use std::marker::Model;
 
@@ -38,6 +39,15 @@ impl Checked {
         ensures main { DefinesMain self.now }
     {
         &self.scenario
+    }
+
+    /// Its tree. The scenario is given up.
+    pub fn into_tree(self) -> Tree
+        ensures same { result ≡ self }
+        ensures well_formed { IsWellFormed self }
+    {
+        let Checked { scenario } = self;
+        scenario.into_tree()
     }
 }
 

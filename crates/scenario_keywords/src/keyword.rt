@@ -1,449 +1,241 @@
 ghost use Rattle.std.specs.Prelude.{◌≡◌, ℕ, List, ◌∷◌};
 ghost use Rattle.std.specs.List.{find};
-ghost use Rattle.scenario_grammar.specs.Keywords.{spelling, is_spelled, keywords, keyword_of};
+ghost use Rattle.scenario_grammar.specs.Keywords.{spelling, is_spelled, keyword_of, profile_of};
+ghost use Rattle.scenario_keywords.specs.Roles.{role_of_word};
 
+use crate::role::WordRole;
 use scenario_grammar::Keyword;
 
-/// All fixed words.
-const KEYWORDS: [Keyword; 127] = [
-    Keyword::Event,
-    Keyword::Result,
-    Keyword::Sem,
-    Keyword::BoundedSem,
-    Keyword::Lock,
-    Keyword::Queue,
-    Keyword::Fifo,
-    Keyword::Lifo,
-    Keyword::Priority,
-    Keyword::Join,
-    Keyword::Nothing,
-    Keyword::Group,
-    Keyword::Pool,
-    Keyword::Native,
-    Keyword::Function,
-    Keyword::RawFunction,
-    Keyword::End,
-    Keyword::True,
-    Keyword::False,
-    Keyword::Current,
-    Keyword::Not,
-    Keyword::And,
-    Keyword::Or,
-    Keyword::List,
-    Keyword::Push,
-    Keyword::At,
-    Keyword::Length,
-    Keyword::Ready,
-    Keyword::Successful,
-    Keyword::Value,
-    Keyword::ExceptionOf,
-    Keyword::IsSet,
-    Keyword::Counter,
-    Keyword::QueueSize,
-    Keyword::Unfinished,
-    Keyword::Members,
-    Keyword::Within,
-    Keyword::Now,
-    Keyword::Print,
-    Keyword::Let,
-    Keyword::Return,
-    Keyword::Raise,
-    Keyword::If,
-    Keyword::Else,
-    Keyword::While,
-    Keyword::Try,
-    Keyword::Except,
-    Keyword::Finally,
-    Keyword::Timeout,
-    Keyword::Silent,
-    Keyword::Spawn,
-    Keyword::SpawnLater,
-    Keyword::New,
-    Keyword::Start,
-    Keyword::Sleep,
-    Keyword::Get,
-    Keyword::Kill,
-    Keyword::With,
-    Keyword::JoinAll,
-    Keyword::Count,
-    Keyword::KillAll,
-    Keyword::Link,
-    Keyword::LinkValue,
-    Keyword::LinkFault,
-    Keyword::RawLink,
-    Keyword::Mark,
-    Keyword::Set,
-    Keyword::Unlink,
-    Keyword::Clear,
-    Keyword::Wait,
-    Keyword::ResultSet,
-    Keyword::ResultFail,
-    Keyword::ResultGet,
-    Keyword::ResultWait,
-    Keyword::Acquire,
-    Keyword::Release,
-    Keyword::QueuePut,
-    Keyword::QueueGet,
-    Keyword::QueuePeek,
-    Keyword::QueueDone,
-    Keyword::QueueJoin,
-    Keyword::GroupSpawn,
-    Keyword::GroupJoin,
-    Keyword::GroupKill,
-    Keyword::Map,
-    Keyword::NativeSpawn,
-    Keyword::Sum,
-    Keyword::Collatz,
-    Keyword::Fail,
-    Keyword::Echo,
-    Keyword::Takes,
-    Keyword::Raw,
-    Keyword::Under,
-    Keyword::Switch,
-    Keyword::Throw,
-    Keyword::SetParent,
-    Keyword::Any,
-    Keyword::Profile,
-    Keyword::Channel,
-    Keyword::ChannelPut,
-    Keyword::ChannelGet,
-    Keyword::QueueShut,
-    Keyword::Immediate,
-    Keyword::Plus,
-    Keyword::Minus,
-    Keyword::Times,
-    Keyword::Slash,
-    Keyword::Percent,
-    Keyword::Equal,
-    Keyword::NotEqual,
-    Keyword::Less,
-    Keyword::AtMost,
-    Keyword::Arrow,
-    Keyword::AnException,
-    Keyword::GreenletExit,
-    Keyword::ATimeout,
-    Keyword::LoopExit,
-    Keyword::Empty,
-    Keyword::Full,
-    Keyword::ShutDown,
-    Keyword::ValueError,
-    Keyword::RuntimeError,
-    Keyword::TypeError,
-    Keyword::OverflowError,
-    Keyword::ZeroDivisionError,
-    Keyword::InvalidSwitch,
-    Keyword::Error,
-];
+/// The table of the fixed words. Each stands under its first byte: how it is spelled, what it begins, and the profile that
+/// brought it. So a new word is a row here, and touches no other code of this crate. The table goes to the macro `$write`,
+/// which makes a match of `$of` of it.
+macro_rules! fixed_words {
+    ($write:ident $of:ident) => {
+        $write! {
+            $of;
+            b'!' { NotEqual => b"!=", Nothing, 1; }
+            b'%' { Percent => b"%", Nothing, 1; }
+            b'*' { Times => b"*", Nothing, 1; }
+            b'+' { Plus => b"+", Nothing, 1; }
+            b'-' { Minus => b"-", Nothing, 1; }
+            b'/' { Slash => b"/", Nothing, 1; }
+            b'<' {
+                Less => b"<", Nothing, 1;
+                AtMost => b"<=", Nothing, 1;
+                Arrow => b"<-", Nothing, 1;
+            }
+            b'=' { Equal => b"==", Nothing, 1; }
+            b'E' {
+                AnException => b"Exception", Nothing, 1;
+                Empty => b"Empty", Nothing, 1;
+                Error => b"Error", Nothing, 1;
+            }
+            b'F' { Full => b"Full", Nothing, 1; }
+            b'G' { GreenletExit => b"GreenletExit", Nothing, 1; }
+            b'I' { InvalidSwitch => b"InvalidSwitch", Nothing, 1; }
+            b'L' { LoopExit => b"LoopExit", Nothing, 1; }
+            b'O' { OverflowError => b"OverflowError", Nothing, 1; }
+            b'R' { RuntimeError => b"RuntimeError", Nothing, 1; }
+            b'S' { ShutDown => b"ShutDown", Nothing, 1; }
+            b'T' {
+                ATimeout => b"Timeout", Nothing, 1;
+                TypeError => b"TypeError", Nothing, 1;
+            }
+            b'V' { ValueError => b"ValueError", Nothing, 1; }
+            b'Z' { ZeroDivisionError => b"ZeroDivisionError", Nothing, 1; }
+            b'a' {
+                And => b"and", Nothing, 1;
+                At => b"at", Nothing, 1;
+                Acquire => b"acquire", Gives, 1;
+                Any => b"any", Nothing, 1;
+            }
+            b'b' { BoundedSem => b"bsem", Declares, 1; }
+            b'c' {
+                Counter => b"counter", Nothing, 1;
+                Count => b"count", Nothing, 1;
+                Clear => b"clear", CommandsObject, 1;
+                Collatz => b"collatz", Nothing, 1;
+                Channel => b"channel", Declares, 2;
+                ChannelPut => b"cput", CommandsObject, 2;
+                ChannelGet => b"cget", Gives, 2;
+            }
+            b'd' { Function => b"def", Defines, 1; }
+            b'e' {
+                Event => b"event", Declares, 1;
+                End => b"end", Ends, 1;
+                ExceptionOf => b"exception", Nothing, 1;
+                Else => b"else", Parts, 1;
+                Except => b"except", Catches, 1;
+                Echo => b"echo", Nothing, 1;
+            }
+            b'f' {
+                Fifo => b"fifo", Nothing, 1;
+                False => b"false", Nothing, 1;
+                Finally => b"finally", Finishes, 1;
+                Fail => b"fail", Nothing, 1;
+            }
+            b'g' {
+                Group => b"group", Declares, 1;
+                Get => b"get", Gives, 1;
+                GroupSpawn => b"gspawn", Gives, 1;
+                GroupJoin => b"gjoin", CommandsObject, 1;
+                GroupKill => b"gkill", CommandsObject, 1;
+            }
+            b'i' {
+                IsSet => b"isset", Nothing, 1;
+                If => b"if", Opens, 1;
+                Immediate => b"immediate", Nothing, 2;
+            }
+            b'j' {
+                Join => b"join", Commands, 1;
+                JoinAll => b"joinall", Gives, 1;
+            }
+            b'k' {
+                Kill => b"kill", Commands, 1;
+                KillAll => b"killall", Commands, 1;
+            }
+            b'l' {
+                Lifo => b"lifo", Nothing, 1;
+                List => b"list", Nothing, 1;
+                Length => b"len", Nothing, 1;
+                Let => b"let", Commands, 1;
+                Link => b"link", Gives, 1;
+                LinkValue => b"linkvalue", Gives, 1;
+                LinkFault => b"linkfault", Gives, 1;
+            }
+            b'm' {
+                Members => b"members", Nothing, 1;
+                Mark => b"mark", Nothing, 1;
+                Map => b"map", Gives, 1;
+            }
+            b'n' {
+                Nothing => b"none", Nothing, 1;
+                Native => b"native", Declares, 1;
+                Not => b"not", Nothing, 1;
+                Now => b"now", Nothing, 1;
+                New => b"new", Gives, 1;
+                NativeSpawn => b"nspawn", Gives, 1;
+            }
+            b'o' { Or => b"or", Nothing, 1; }
+            b'p' {
+                Priority => b"prio", Nothing, 1;
+                Pool => b"pool", Declares, 1;
+                Push => b"push", Nothing, 1;
+                Print => b"print", Commands, 1;
+                Profile => b"profile", Profiles, 1;
+            }
+            b'q' {
+                Queue => b"queue", Declares, 1;
+                QueueSize => b"qsize", Nothing, 1;
+                QueuePut => b"qput", CommandsObject, 1;
+                QueueGet => b"qget", Gives, 1;
+                QueuePeek => b"qpeek", Gives, 1;
+                QueueDone => b"qdone", CommandsObject, 1;
+                QueueJoin => b"qjoin", Gives, 1;
+                QueueShut => b"qshut", CommandsObject, 2;
+            }
+            b'r' {
+                Result => b"result", Declares, 1;
+                Lock => b"rlock", Declares, 1;
+                RawFunction => b"rawdef", Defines, 1;
+                Ready => b"ready", Nothing, 1;
+                Return => b"return", Commands, 1;
+                Raise => b"raise", Commands, 1;
+                RawLink => b"rawlink", Gives, 1;
+                ResultSet => b"rset", CommandsObject, 1;
+                ResultFail => b"rfail", CommandsObject, 1;
+                ResultGet => b"rget", Gives, 1;
+                ResultWait => b"rwait", Gives, 1;
+                Release => b"release", CommandsObject, 1;
+                Raw => b"raw", Gives, 1;
+            }
+            b's' {
+                Sem => b"sem", Declares, 1;
+                Current => b"self", Nothing, 1;
+                Successful => b"successful", Nothing, 1;
+                Silent => b"silent", Nothing, 1;
+                Spawn => b"spawn", Gives, 1;
+                SpawnLater => b"spawnlater", Gives, 1;
+                Start => b"start", Commands, 1;
+                Sleep => b"sleep", Commands, 1;
+                Set => b"set", CommandsObject, 1;
+                Sum => b"sum", Nothing, 1;
+                Switch => b"switch", Gives, 1;
+                SetParent => b"setparent", Commands, 1;
+            }
+            b't' {
+                True => b"true", Nothing, 1;
+                Try => b"try", Opens, 1;
+                Timeout => b"timeout", Opens, 1;
+                Takes => b"takes", Nothing, 1;
+                Throw => b"throw", Gives, 1;
+            }
+            b'u' {
+                Unfinished => b"unfinished", Nothing, 1;
+                Unlink => b"unlink", Commands, 1;
+                Under => b"under", Nothing, 1;
+            }
+            b'v' { Value => b"value", Nothing, 1; }
+            b'w' {
+                Within => b"within", Nothing, 1;
+                While => b"while", Opens, 1;
+                With => b"with", Nothing, 1;
+                Wait => b"wait", Gives, 1;
+            }
+        }
+    };
+}
 
-const FROM_EXCLAMATION: [Keyword; 1] = [Keyword::NotEqual];
+/// The row of a word.
+macro_rules! row_of {
+    ($word:ident; $($first:literal { $($name:ident => $text:literal, $role:ident, $profile:literal;)* })*) => {
+        match $word {
+            $($(Keyword::$name => WordRow {
+                text: $text,
+                role: WordRole::$role,
+                profile: $profile,
+            },)*)*
+        }
+    };
+}
 
-const FROM_PERCENT: [Keyword; 1] = [Keyword::Percent];
+/// The words of a first byte.
+macro_rules! words_from {
+    ($byte:ident; $($first:literal { $($name:ident => $text:literal, $role:ident, $profile:literal;)* })*) => {
+        match $byte {
+            $($first => &[$(Keyword::$name),*],)*
+            _ => &[],
+        }
+    };
+}
 
-const FROM_STAR: [Keyword; 1] = [Keyword::Times];
+/// What the table has of a fixed word.
+#[derive(Clone, Copy)]
+pub(crate) struct WordRow {
+    /// How it is written.
+    pub(crate) text: &'static [u8],
+    /// What it begins.
+    pub(crate) role: WordRole,
+    /// The profile that brought it.
+    pub(crate) profile: u8,
+}
 
-const FROM_PLUS: [Keyword; 1] = [Keyword::Plus];
-
-const FROM_MINUS: [Keyword; 1] = [Keyword::Minus];
-
-const FROM_SLASH: [Keyword; 1] = [Keyword::Slash];
-
-const FROM_LESS: [Keyword; 3] = [Keyword::Less, Keyword::AtMost, Keyword::Arrow];
-
-const FROM_EQUAL: [Keyword; 1] = [Keyword::Equal];
-
-const FROM_CAPITAL_E: [Keyword; 3] = [Keyword::AnException, Keyword::Empty, Keyword::Error];
-
-const FROM_CAPITAL_F: [Keyword; 1] = [Keyword::Full];
-
-const FROM_CAPITAL_G: [Keyword; 1] = [Keyword::GreenletExit];
-
-const FROM_CAPITAL_I: [Keyword; 1] = [Keyword::InvalidSwitch];
-
-const FROM_CAPITAL_L: [Keyword; 1] = [Keyword::LoopExit];
-
-const FROM_CAPITAL_O: [Keyword; 1] = [Keyword::OverflowError];
-
-const FROM_CAPITAL_R: [Keyword; 1] = [Keyword::RuntimeError];
-
-const FROM_CAPITAL_S: [Keyword; 1] = [Keyword::ShutDown];
-
-const FROM_CAPITAL_T: [Keyword; 2] = [Keyword::ATimeout, Keyword::TypeError];
-
-const FROM_CAPITAL_V: [Keyword; 1] = [Keyword::ValueError];
-
-const FROM_CAPITAL_Z: [Keyword; 1] = [Keyword::ZeroDivisionError];
-
-const FROM_A: [Keyword; 4] = [Keyword::And, Keyword::At, Keyword::Acquire, Keyword::Any];
-
-const FROM_B: [Keyword; 1] = [Keyword::BoundedSem];
-
-const FROM_C: [Keyword; 7] = [
-    Keyword::Counter,
-    Keyword::Count,
-    Keyword::Clear,
-    Keyword::Collatz,
-    Keyword::Channel,
-    Keyword::ChannelPut,
-    Keyword::ChannelGet,
-];
-
-const FROM_D: [Keyword; 1] = [Keyword::Function];
-
-const FROM_E: [Keyword; 6] = [
-    Keyword::Event,
-    Keyword::End,
-    Keyword::ExceptionOf,
-    Keyword::Else,
-    Keyword::Except,
-    Keyword::Echo,
-];
-
-const FROM_F: [Keyword; 4] = [
-    Keyword::Fifo,
-    Keyword::False,
-    Keyword::Finally,
-    Keyword::Fail,
-];
-
-const FROM_G: [Keyword; 5] = [
-    Keyword::Group,
-    Keyword::Get,
-    Keyword::GroupSpawn,
-    Keyword::GroupJoin,
-    Keyword::GroupKill,
-];
-
-const FROM_I: [Keyword; 3] = [Keyword::IsSet, Keyword::If, Keyword::Immediate];
-
-const FROM_J: [Keyword; 2] = [Keyword::Join, Keyword::JoinAll];
-
-const FROM_K: [Keyword; 2] = [Keyword::Kill, Keyword::KillAll];
-
-const FROM_L: [Keyword; 7] = [
-    Keyword::Lifo,
-    Keyword::List,
-    Keyword::Length,
-    Keyword::Let,
-    Keyword::Link,
-    Keyword::LinkValue,
-    Keyword::LinkFault,
-];
-
-const FROM_M: [Keyword; 3] = [Keyword::Members, Keyword::Mark, Keyword::Map];
-
-const FROM_N: [Keyword; 6] = [
-    Keyword::Nothing,
-    Keyword::Native,
-    Keyword::Not,
-    Keyword::Now,
-    Keyword::New,
-    Keyword::NativeSpawn,
-];
-
-const FROM_O: [Keyword; 1] = [Keyword::Or];
-
-const FROM_P: [Keyword; 5] = [
-    Keyword::Priority,
-    Keyword::Pool,
-    Keyword::Push,
-    Keyword::Print,
-    Keyword::Profile,
-];
-
-const FROM_Q: [Keyword; 8] = [
-    Keyword::Queue,
-    Keyword::QueueSize,
-    Keyword::QueuePut,
-    Keyword::QueueGet,
-    Keyword::QueuePeek,
-    Keyword::QueueDone,
-    Keyword::QueueJoin,
-    Keyword::QueueShut,
-];
-
-const FROM_R: [Keyword; 13] = [
-    Keyword::Result,
-    Keyword::Lock,
-    Keyword::RawFunction,
-    Keyword::Ready,
-    Keyword::Return,
-    Keyword::Raise,
-    Keyword::RawLink,
-    Keyword::ResultSet,
-    Keyword::ResultFail,
-    Keyword::ResultGet,
-    Keyword::ResultWait,
-    Keyword::Release,
-    Keyword::Raw,
-];
-
-const FROM_S: [Keyword; 12] = [
-    Keyword::Sem,
-    Keyword::Current,
-    Keyword::Successful,
-    Keyword::Silent,
-    Keyword::Spawn,
-    Keyword::SpawnLater,
-    Keyword::Start,
-    Keyword::Sleep,
-    Keyword::Set,
-    Keyword::Sum,
-    Keyword::Switch,
-    Keyword::SetParent,
-];
-
-const FROM_T: [Keyword; 5] = [
-    Keyword::True,
-    Keyword::Try,
-    Keyword::Timeout,
-    Keyword::Takes,
-    Keyword::Throw,
-];
-
-const FROM_U: [Keyword; 3] = [Keyword::Unfinished, Keyword::Unlink, Keyword::Under];
-
-const FROM_V: [Keyword; 1] = [Keyword::Value];
-
-const FROM_W: [Keyword; 4] = [
-    Keyword::Within,
-    Keyword::While,
-    Keyword::With,
-    Keyword::Wait,
-];
+/// The row of a fixed word. Who reads one column of it has the table of that column alone, since this is compiled into
+/// each of them.
+#[inline(always)]
+pub(crate) fn word_row(word: Keyword) -> WordRow
+    ensures text { result.text.now ≡ spelling word }
+    ensures role { result.role ≡ role_of_word word }
+    ensures profile { result.profile ≡ profile_of word }
+{
+    fixed_words!(row_of word)
+}
 
 /// How a fixed word is written.
 pub fn keyword_text(keyword: Keyword) -> &'static [u8]
     ensures { result.now ≡ spelling keyword }
 {
-    match keyword {
-        Keyword::Event => b"event",
-        Keyword::Result => b"result",
-        Keyword::Sem => b"sem",
-        Keyword::BoundedSem => b"bsem",
-        Keyword::Lock => b"rlock",
-        Keyword::Queue => b"queue",
-        Keyword::Fifo => b"fifo",
-        Keyword::Lifo => b"lifo",
-        Keyword::Priority => b"prio",
-        Keyword::Join => b"join",
-        Keyword::Nothing => b"none",
-        Keyword::Group => b"group",
-        Keyword::Pool => b"pool",
-        Keyword::Native => b"native",
-        Keyword::Function => b"def",
-        Keyword::RawFunction => b"rawdef",
-        Keyword::End => b"end",
-        Keyword::True => b"true",
-        Keyword::False => b"false",
-        Keyword::Current => b"self",
-        Keyword::Not => b"not",
-        Keyword::And => b"and",
-        Keyword::Or => b"or",
-        Keyword::List => b"list",
-        Keyword::Push => b"push",
-        Keyword::At => b"at",
-        Keyword::Length => b"len",
-        Keyword::Ready => b"ready",
-        Keyword::Successful => b"successful",
-        Keyword::Value => b"value",
-        Keyword::ExceptionOf => b"exception",
-        Keyword::IsSet => b"isset",
-        Keyword::Counter => b"counter",
-        Keyword::QueueSize => b"qsize",
-        Keyword::Unfinished => b"unfinished",
-        Keyword::Members => b"members",
-        Keyword::Within => b"within",
-        Keyword::Now => b"now",
-        Keyword::Print => b"print",
-        Keyword::Let => b"let",
-        Keyword::Return => b"return",
-        Keyword::Raise => b"raise",
-        Keyword::If => b"if",
-        Keyword::Else => b"else",
-        Keyword::While => b"while",
-        Keyword::Try => b"try",
-        Keyword::Except => b"except",
-        Keyword::Finally => b"finally",
-        Keyword::Timeout => b"timeout",
-        Keyword::Silent => b"silent",
-        Keyword::Spawn => b"spawn",
-        Keyword::SpawnLater => b"spawnlater",
-        Keyword::New => b"new",
-        Keyword::Start => b"start",
-        Keyword::Sleep => b"sleep",
-        Keyword::Get => b"get",
-        Keyword::Kill => b"kill",
-        Keyword::With => b"with",
-        Keyword::JoinAll => b"joinall",
-        Keyword::Count => b"count",
-        Keyword::KillAll => b"killall",
-        Keyword::Link => b"link",
-        Keyword::LinkValue => b"linkvalue",
-        Keyword::LinkFault => b"linkfault",
-        Keyword::RawLink => b"rawlink",
-        Keyword::Mark => b"mark",
-        Keyword::Set => b"set",
-        Keyword::Unlink => b"unlink",
-        Keyword::Clear => b"clear",
-        Keyword::Wait => b"wait",
-        Keyword::ResultSet => b"rset",
-        Keyword::ResultFail => b"rfail",
-        Keyword::ResultGet => b"rget",
-        Keyword::ResultWait => b"rwait",
-        Keyword::Acquire => b"acquire",
-        Keyword::Release => b"release",
-        Keyword::QueuePut => b"qput",
-        Keyword::QueueGet => b"qget",
-        Keyword::QueuePeek => b"qpeek",
-        Keyword::QueueDone => b"qdone",
-        Keyword::QueueJoin => b"qjoin",
-        Keyword::GroupSpawn => b"gspawn",
-        Keyword::GroupJoin => b"gjoin",
-        Keyword::GroupKill => b"gkill",
-        Keyword::Map => b"map",
-        Keyword::NativeSpawn => b"nspawn",
-        Keyword::Sum => b"sum",
-        Keyword::Collatz => b"collatz",
-        Keyword::Fail => b"fail",
-        Keyword::Echo => b"echo",
-        Keyword::Takes => b"takes",
-        Keyword::Raw => b"raw",
-        Keyword::Under => b"under",
-        Keyword::Switch => b"switch",
-        Keyword::Throw => b"throw",
-        Keyword::SetParent => b"setparent",
-        Keyword::Any => b"any",
-        Keyword::Profile => b"profile",
-        Keyword::Channel => b"channel",
-        Keyword::ChannelPut => b"cput",
-        Keyword::ChannelGet => b"cget",
-        Keyword::QueueShut => b"qshut",
-        Keyword::Immediate => b"immediate",
-        Keyword::Plus => b"+",
-        Keyword::Minus => b"-",
-        Keyword::Times => b"*",
-        Keyword::Slash => b"/",
-        Keyword::Percent => b"%",
-        Keyword::Equal => b"==",
-        Keyword::NotEqual => b"!=",
-        Keyword::Less => b"<",
-        Keyword::AtMost => b"<=",
-        Keyword::Arrow => b"<-",
-        Keyword::AnException => b"Exception",
-        Keyword::GreenletExit => b"GreenletExit",
-        Keyword::ATimeout => b"Timeout",
-        Keyword::LoopExit => b"LoopExit",
-        Keyword::Empty => b"Empty",
-        Keyword::Full => b"Full",
-        Keyword::ShutDown => b"ShutDown",
-        Keyword::ValueError => b"ValueError",
-        Keyword::RuntimeError => b"RuntimeError",
-        Keyword::TypeError => b"TypeError",
-        Keyword::OverflowError => b"OverflowError",
-        Keyword::ZeroDivisionError => b"ZeroDivisionError",
-        Keyword::InvalidSwitch => b"InvalidSwitch",
-        Keyword::Error => b"Error",
-    }
+    word_row(keyword).text
 }
 
 /// The fixed word that this is.
@@ -457,69 +249,12 @@ pub fn find_keyword(word: &[u8]) -> Option<Keyword>
     }
 }
 
-/// Those fixed words among which a word with this first byte is found.
+/// The fixed words with this first byte.
 #[tactic(auto, unfolding(scenario_grammar::specs::Keywords::keyword_of, scenario_grammar::specs::Keywords::keywords))]
 fn candidates(first: u8) -> &'static [Keyword]
     ensures { (rest : List ℕ) → find (is_spelled (first ∷ rest)) result.now ≡ keyword_of (first ∷ rest) }
 {
-    match first {
-        b'!' => &FROM_EXCLAMATION,
-        b'%' => &FROM_PERCENT,
-        b'*' => &FROM_STAR,
-        b'+' => &FROM_PLUS,
-        b'-' => &FROM_MINUS,
-        b'/' => &FROM_SLASH,
-        b'<' => &FROM_LESS,
-        b'=' => &FROM_EQUAL,
-        b'E' => &FROM_CAPITAL_E,
-        b'F' => &FROM_CAPITAL_F,
-        b'G' => &FROM_CAPITAL_G,
-        b'I' => &FROM_CAPITAL_I,
-        b'L' => &FROM_CAPITAL_L,
-        b'O' => &FROM_CAPITAL_O,
-        b'R' => &FROM_CAPITAL_R,
-        b'S' => &FROM_CAPITAL_S,
-        b'T' => &FROM_CAPITAL_T,
-        b'V' => &FROM_CAPITAL_V,
-        b'Z' => &FROM_CAPITAL_Z,
-        b'a' => &FROM_A,
-        b'b' => &FROM_B,
-        b'c' => &FROM_C,
-        b'd' => &FROM_D,
-        b'e' => &FROM_E,
-        b'f' => &FROM_F,
-        b'g' => &FROM_G,
-        b'i' => &FROM_I,
-        b'j' => &FROM_J,
-        b'k' => &FROM_K,
-        b'l' => &FROM_L,
-        b'm' => &FROM_M,
-        b'n' => &FROM_N,
-        b'o' => &FROM_O,
-        b'p' => &FROM_P,
-        b'q' => &FROM_Q,
-        b'r' => &FROM_R,
-        b's' => &FROM_S,
-        b't' => &FROM_T,
-        b'u' => &FROM_U,
-        b'v' => &FROM_V,
-        b'w' => &FROM_W,
-        b'h' => &[],
-        b'x' => &[],
-        b'y' => &[],
-        b'z' => &[],
-        b'0' => &[],
-        b'1' => &[],
-        b'2' => &[],
-        b'3' => &[],
-        b'4' => &[],
-        b'5' => &[],
-        b'6' => &[],
-        b'7' => &[],
-        b'8' => &[],
-        b'9' => &[],
-        _ => &KEYWORDS,
-    }
+    fixed_words!(words_from first)
 }
 
 fn first_spelled(keywords: &[Keyword], word: &[u8]) -> Option<Keyword>

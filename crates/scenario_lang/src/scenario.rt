@@ -45,6 +45,14 @@ impl Scenario {
     {
         &self.tree
     }
+
+    /// Its tree. The scenario is given up.
+    pub fn into_tree(self) -> Tree
+        ensures { result ≡ self }
+    {
+        let Scenario { tree } = self;
+        tree
+    }
 }
 
 /// Appends the printed form of the scenario: its one text with two blanks for each open block and

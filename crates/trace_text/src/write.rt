@@ -3,12 +3,12 @@
 
 ghost use Rattle.std.specs.Prelude.{◌≡◌, ◌++◌, take, length, codes, OnOk, OnErr};
 ghost use Rattle.gv_values.specs.Fronts.{BeginsWith};
-ghost use Rattle.gv_values.specs.ValueTexts.{decimal, int_text, greenlet_text, whom_text};
-ghost use Rattle.trace_text.specs.LineTexts.{line_text, awaited_text, until_text, link_call_text, job_call_text, blocked_text, job_outcome_text, answer_text, cause_text, resumed_text};
+ghost use Rattle.gv_values.specs.ValueTexts.{decimal, int_text, greenlet_text, outcome_text, whom_text};
+ghost use Rattle.trace_text.specs.LineTexts.{line_text, awaited_text, until_text, link_call_text, job_call_text, job_outcome_text, answer_text, cause_text, resumed_text};
 
 use crate::line::{Awaited, Blocked, Line, LinkCall, Resumed, StopCause};
 use gv_values::{
-    Answer, Job, JobOutcome, Name, Whom, decimal_text, fault_text, int_text, outcome_text,
+    Answer, Job, JobOutcome, Name, Outcome, Whom, decimal_text, fault_text, int_text, outcome_text,
     value_text, whom_text,
 };
 use std::alloc::AllocError;
@@ -43,57 +43,26 @@ fn push_line(line: &Line, out: &mut Vec<u8>) -> Result<(), AllocError>
             greenlet,
             awaited,
             until,
-        } => {
-            push_head(b"park ", *greenlet, out)?;
-            push_awaited(awaited, out)?;
-            push_until(*until, out)
-        }
-        Line::Resume { greenlet, by } => {
-            out.extend_from_slice(resumed_word(*by))?;
-            whom_text(Whom::Greenlet(*greenlet), out)
-        }
+        } => push_park(*greenlet, awaited, *until, out),
+        Line::Resume { greenlet, by } => push_resume(*greenlet, *by, out),
         Line::Throw { greenlet, fault } => {
             push_head(b"throw ", *greenlet, out)?;
             fault_text(*fault, out)
         }
-        Line::Into { greenlet, input } => {
-            push_head(b"into ", *greenlet, out)?;
-            outcome_text(input, out)
-        }
-        Line::End { greenlet, outcome } => {
-            push_head(b"end ", *greenlet, out)?;
-            outcome_text(outcome, out)
-        }
+        Line::Into { greenlet, input } => push_with_outcome(b"into ", *greenlet, input, out),
+        Line::End { greenlet, outcome } => push_with_outcome(b"end ", *greenlet, outcome, out),
         Line::Link {
             number,
             greenlet,
             call,
-        } => {
-            out.extend_from_slice(b"link ")?;
-            decimal_text(u64::from(*number), out)?;
-            push_head(b" ", *greenlet, out)?;
-            push_link_call(call, out)
-        }
+        } => push_link(*number, *greenlet, call, out),
         Line::Job {
             number,
             greenlet,
             job,
-        } => {
-            out.extend_from_slice(b"job ")?;
-            whom_text(Whom::Job(*number), out)?;
-            push_head(b" ", *greenlet, out)?;
-            push_job_call(*job, out)
-        }
-        Line::Block(blocked) => {
-            out.extend_from_slice(b"block ")?;
-            push_blocked(*blocked, out)
-        }
-        Line::Turn { number, answer } => {
-            out.extend_from_slice(b"turn ")?;
-            decimal_text(*number, out)?;
-            out.extend_from_slice(b" ")?;
-            push_answer(*answer, out)
-        }
+        } => push_job(*number, *greenlet, *job, out),
+        Line::Block(blocked) => push_block(*blocked, out),
+        Line::Turn { number, answer } => push_turn(*number, *answer, out),
         Line::Stop {
             cause,
             turns,
@@ -110,6 +79,34 @@ fn push_head(word: &[u8], greenlet: u32, out: &mut Vec<u8>) -> Result<(), AllocE
     out.extend_from_slice(word)?;
     whom_text(Whom::Greenlet(greenlet), out)?;
     out.extend_from_slice(b" ")
+}
+
+/// A word, the greenlet, and an outcome.
+fn push_with_outcome(
+    word: &[u8],
+    greenlet: u32,
+    outcome: &Outcome,
+    out: &mut Vec<u8>,
+) -> Result<(), AllocError>
+    ensures ok { OnOk result (out.new.items ≡ out.old.items ++ (word.now ++ greenlet_text greenlet ++ codes " " ++ outcome_text outcome.now)) }
+    ensures err { OnErr result (BeginsWith out.new.items out.old.items) }
+{
+    push_head(word, greenlet, out)?;
+    outcome_text(outcome, out)
+}
+
+fn push_park(
+    greenlet: u32,
+    awaited: &Awaited,
+    until: Option<u64>,
+    out: &mut Vec<u8>,
+) -> Result<(), AllocError>
+    ensures ok { OnOk result (out.new.items ≡ out.old.items ++ line_text (Line.Park greenlet awaited.now until)) }
+    ensures err { OnErr result (BeginsWith out.new.items out.old.items) }
+{
+    push_head(b"park ", greenlet, out)?;
+    push_awaited(awaited, out)?;
+    push_until(until, out)
 }
 
 fn push_awaited(awaited: &Awaited, out: &mut Vec<u8>) -> Result<(), AllocError>
@@ -170,6 +167,14 @@ fn push_until(until: Option<u64>, out: &mut Vec<u8>) -> Result<(), AllocError>
     }
 }
 
+fn push_resume(greenlet: u32, by: Resumed, out: &mut Vec<u8>) -> Result<(), AllocError>
+    ensures ok { OnOk result (out.new.items ≡ out.old.items ++ line_text (Line.Resume greenlet by)) }
+    ensures err { OnErr result (BeginsWith out.new.items out.old.items) }
+{
+    out.extend_from_slice(resumed_word(by))?;
+    whom_text(Whom::Greenlet(greenlet), out)
+}
+
 fn resumed_word(by: Resumed) -> &'static [u8]
     ensures { result.now ≡ resumed_text by ++ codes " " }
 {
@@ -177,6 +182,20 @@ fn resumed_word(by: Resumed) -> &'static [u8]
         Resumed::Wake => b"wake ",
         Resumed::Late => b"late ",
     }
+}
+
+fn push_link(
+    number: u32,
+    greenlet: u32,
+    call: &LinkCall,
+    out: &mut Vec<u8>,
+) -> Result<(), AllocError>
+    ensures ok { OnOk result (out.new.items ≡ out.old.items ++ line_text (Line.Link number greenlet call.now)) }
+    ensures err { OnErr result (BeginsWith out.new.items out.old.items) }
+{
+    push_with_number(b"link ", u64::from(number), out)?;
+    push_head(b" ", greenlet, out)?;
+    push_link_call(call, out)
 }
 
 fn push_link_call(call: &LinkCall, out: &mut Vec<u8>) -> Result<(), AllocError>
@@ -191,6 +210,15 @@ fn push_link_call(call: &LinkCall, out: &mut Vec<u8>) -> Result<(), AllocError>
         }
         LinkCall::Set(name) => push_with_name(b"set ", name, out),
     }
+}
+
+fn push_job(number: u32, greenlet: u32, job: Job, out: &mut Vec<u8>) -> Result<(), AllocError>
+    ensures ok { OnOk result (out.new.items ≡ out.old.items ++ line_text (Line.Job number greenlet job)) }
+    ensures err { OnErr result (BeginsWith out.new.items out.old.items) }
+{
+    push_with_whom(b"job ", Whom::Job(number), out)?;
+    push_head(b" ", greenlet, out)?;
+    push_job_call(job, out)
 }
 
 fn push_job_call(job: Job, out: &mut Vec<u8>) -> Result<(), AllocError>
@@ -213,15 +241,24 @@ fn push_with_integer(word: &[u8], integer: i64, out: &mut Vec<u8>) -> Result<(),
     int_text(integer, out)
 }
 
-fn push_blocked(blocked: Blocked, out: &mut Vec<u8>) -> Result<(), AllocError>
-    ensures ok { OnOk result (out.new.items ≡ out.old.items ++ blocked_text blocked) }
+fn push_block(blocked: Blocked, out: &mut Vec<u8>) -> Result<(), AllocError>
+    ensures ok { OnOk result (out.new.items ≡ out.old.items ++ line_text (Line.Block blocked)) }
     ensures err { OnErr result (BeginsWith out.new.items out.old.items) }
 {
     match blocked {
-        Blocked::Until(moment) => decimal_text(moment, out),
-        Blocked::Jobs => out.extend_from_slice(b"jobs"),
-        Blocked::Nothing => out.extend_from_slice(b"none"),
+        Blocked::Until(moment) => push_with_number(b"block ", moment, out),
+        Blocked::Jobs => out.extend_from_slice(b"block jobs"),
+        Blocked::Nothing => out.extend_from_slice(b"block none"),
     }
+}
+
+fn push_turn(number: u64, answer: Answer, out: &mut Vec<u8>) -> Result<(), AllocError>
+    ensures ok { OnOk result (out.new.items ≡ out.old.items ++ line_text (Line.Turn number answer)) }
+    ensures err { OnErr result (BeginsWith out.new.items out.old.items) }
+{
+    push_with_number(b"turn ", number, out)?;
+    out.extend_from_slice(b" ")?;
+    push_answer(answer, out)
 }
 
 fn push_answer(answer: Answer, out: &mut Vec<u8>) -> Result<(), AllocError>
