@@ -47,9 +47,16 @@ made turns moves source text trace status err = record {
 abbrev pub within : ℕ → ℕ → ℕ → Text → Text → ℕ → Text → Row
 within turns moves tick = made turns moves (Source.Scripted tick [])
 
+-- the turns and the moves of a run without words
+abbrev pub usual_turns : ℕ
+usual_turns = 1000000
+
+abbrev pub usual_moves : ℕ
+usual_moves = 10000000
+
 -- without words
 abbrev pub row : Text → Text → ℕ → Text → Row
-row = within 1000000 10000000 0
+row = within usual_turns usual_moves 0
 
 -- within so many turns and moves, under these answers
 abbrev pub answered : ℕ → ℕ → List Answer → Text → Text → ℕ → Text → Row

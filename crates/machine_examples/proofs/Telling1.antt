@@ -2,7 +2,7 @@
 use Rattle.std.proofs.Common.{◌≡◌, refl, List, [], ◌∷◌, map, codes, true}
 use Rattle.std.specs.List.{list_all}
 use Rattle.gv_values.specs.declared.job.Answer.{Answer}
-use Rattle.machine_examples.proofs.Row.{Row, row, answered, told, comes_to, is_lawful}
+use Rattle.machine_examples.proofs.Row.{Row, row, answered, told, comes_to, is_lawful, usual_moves, usual_turns}
 use denote.Hole.Carrier.{hidden, out, shown, roll}
 use Rattle.scenario_tree.specs.declared.tree.Expression.TheBlock.{shape-the_row-Expression-0, hidden-the_row-Expression-0, shown-the_row-Expression-0, shape-the_row-Expression-1, hidden-the_row-Expression-1, shown-the_row-Expression-1}
 use Rattle.scenario_tree.specs.declared.tree.Action.TheBlock.{shown-the_row-Statement-0, shown-the_row-Except-1}
@@ -48,7 +48,7 @@ rows =
     (codes "start g0 main|park g0 sleep until 0|start g1 u|park g1 acquire s|start g2 v|park g2 wait e|wake g0|park g0 sleep until 0|turn 1 nothing 0|wake g2|print g2 2|end g2 value none|wake g1|print g1 1|end g1 value none|wake g0|end g0 value none|stop value none turns 2 moves 10|")
     0 (codes "") ∷
     -- order of since at one Settle: an answer of the world
-    answered 1000000 10000000 (Answer.Elapsed 5 ∷ Answer.Elapsed 14 ∷ []) (codes "def a|sleep 3|print 1|end|def b|sleep 2|print 2|end|def main|x <- spawn a|y <- spawn b|sleep 1|sleep 9|end|")
+    answered usual_turns usual_moves (Answer.Elapsed 5 ∷ Answer.Elapsed 14 ∷ []) (codes "def a|sleep 3|print 1|end|def b|sleep 2|print 2|end|def main|x <- spawn a|y <- spawn b|sleep 1|sleep 9|end|")
     (codes "start g0 main|park g0 sleep until 1|start g1 a|park g1 sleep until 3|start g2 b|park g2 sleep until 2|block 1|turn 1 elapsed 5|wake g0|park g0 sleep until 14|wake g1|print g1 1|end g1 value none|wake g2|print g2 2|end g2 value none|block 14|turn 2 elapsed 14|wake g0|end g0 value none|stop value none turns 3 moves 8|")
     0 (codes "") ∷
     -- kill self, then go on with now

@@ -2,7 +2,7 @@
 use Rattle.std.proofs.Common.{◌≡◌, refl, List, [], ◌∷◌, map, codes, true}
 use Rattle.std.specs.List.{list_all}
 use Rattle.gv_values.specs.declared.job.Answer.{Answer}
-use Rattle.machine_examples.proofs.Row.{Row, row, within, answered, told, comes_to, is_lawful}
+use Rattle.machine_examples.proofs.Row.{Row, row, within, answered, told, comes_to, is_lawful, usual_moves, usual_turns}
 use denote.Hole.Carrier.{hidden, out, shown, roll}
 use Rattle.scenario_tree.specs.declared.tree.Expression.TheBlock.{shape-the_row-Expression-0, hidden-the_row-Expression-0, shown-the_row-Expression-0, shape-the_row-Expression-1, hidden-the_row-Expression-1, shown-the_row-Expression-1}
 use Rattle.scenario_tree.specs.declared.tree.Action.TheBlock.{shown-the_row-Statement-0, shown-the_row-Except-1}
@@ -76,11 +76,11 @@ rows =
     (codes "start g0 main|end g0 fault ZeroDivisionError|stop fault ZeroDivisionError turns 0 moves 1|")
     1 (codes "gvr: main ended by ZeroDivisionError|") ∷
     -- a deadline past 2^62 - 1: the block line writes it
-    answered 3 10000000 (Answer.Elapsed 4611686018427387903 ∷ Answer.Elapsed 4611686018427387903 ∷ Answer.Elapsed 4611686018427387903 ∷ []) (codes "def main|sleep 1|sleep 9|end|")
+    answered 3 usual_moves (Answer.Elapsed 4611686018427387903 ∷ Answer.Elapsed 4611686018427387903 ∷ Answer.Elapsed 4611686018427387903 ∷ []) (codes "def main|sleep 1|sleep 9|end|")
     (codes "start g0 main|park g0 sleep until 1|block 1|turn 1 elapsed 4611686018427387903|wake g0|park g0 sleep until 4611686018427387912|block 4611686018427387912|turn 2 elapsed 4611686018427387903|block 4611686018427387912|turn 3 elapsed 4611686018427387903|stop no-turns turns 3 moves 2|")
     6 (codes "gvr: budget of turns spent|") ∷
     -- the moves budget: an end needs no move
-    within 1000000 2 0 (codes "def w|end|def main|a <- spawn w|join a|end|")
+    within usual_turns 2 0 (codes "def w|end|def main|a <- spawn w|join a|end|")
     (codes "start g0 main|park g0 join g1|start g1 w|end g1 value none|turn 1 nothing 0|wake g0|end g0 value none|stop value none turns 2 moves 2|")
     0 (codes "") ∷
     -- list_equality

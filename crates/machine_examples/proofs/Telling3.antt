@@ -3,7 +3,7 @@ use Rattle.std.proofs.Common.{◌≡◌, refl, List, [], ◌∷◌, map, codes, 
 use Rattle.std.specs.List.{list_all}
 use Rattle.gv_values.specs.declared.job.Answer.{Answer}
 use Rattle.gv_values.specs.declared.job.JobOutcome.{JobOutcome}
-use Rattle.machine_examples.proofs.Row.{Row, row, within, answered, told, comes_to, is_lawful}
+use Rattle.machine_examples.proofs.Row.{Row, row, within, answered, told, comes_to, is_lawful, usual_moves, usual_turns}
 use denote.Hole.Carrier.{hidden, out, shown, roll}
 use Rattle.scenario_tree.specs.declared.tree.Expression.TheBlock.{shape-the_row-Expression-0, hidden-the_row-Expression-0, shown-the_row-Expression-0, shape-the_row-Expression-1, hidden-the_row-Expression-1, shown-the_row-Expression-1}
 use Rattle.scenario_tree.specs.declared.tree.Action.TheBlock.{shown-the_row-Statement-0, shown-the_row-Except-1}
@@ -93,19 +93,19 @@ rows =
     (codes "start g0 main|park g0 sleep until 5|start g1 w|park g1 sleep until 1|start g2 v|park g2 sleep until 1|start g3 j|park g3 gjoin g|block 1|turn 1 elapsed 1|wake g1|end g1 value none|wake g2|end g2 value none|turn 2 nothing 1|start g4 w|park g4 sleep until 2|block 2|turn 3 elapsed 2|wake g4|end g4 value none|turn 4 nothing 2|wake g3|print g3 1|end g3 value none|block 5|turn 5 elapsed 5|wake g0|end g0 value none|stop value none turns 6 moves 10|")
     0 (codes "") ∷
     -- moves_end
-    within 1000000 7 0 (codes "def main|while true|sleep 0|end|end|")
+    within usual_turns 7 0 (codes "def main|while true|sleep 0|end|end|")
     (codes "start g0 main|park g0 sleep until 0|wake g0|park g0 sleep until 0|turn 1 nothing 0|wake g0|park g0 sleep until 0|turn 2 nothing 0|wake g0|stop no-moves turns 3 moves 7|")
     6 (codes "gvr: budget of moves spent|") ∷
     -- turns_end
-    within 4 10000000 0 (codes "def w|while true|sleep 1|end|end|def main|a <- spawn w|join a|end|")
+    within 4 usual_moves 0 (codes "def w|while true|sleep 1|end|end|def main|a <- spawn w|join a|end|")
     (codes "start g0 main|park g0 join g1|start g1 w|park g1 sleep until 1|block 1|turn 1 elapsed 1|wake g1|park g1 sleep until 2|block 2|turn 2 elapsed 2|wake g1|park g1 sleep until 3|block 3|turn 3 elapsed 3|wake g1|park g1 sleep until 4|block 4|turn 4 elapsed 4|stop no-turns turns 4 moves 10|")
     6 (codes "gvr: budget of turns spent|") ∷
     -- moves_in_finally
-    within 1000000 3 0 (codes "def main|try|sleep 1|print 1|finally|print 2|print 3|end|end|")
+    within usual_turns 3 0 (codes "def main|try|sleep 1|print 1|finally|print 2|print 3|end|end|")
     (codes "start g0 main|park g0 sleep until 1|block 1|turn 1 elapsed 1|wake g0|print g0 1|stop no-moves turns 2 moves 3|")
     6 (codes "gvr: budget of moves spent|") ∷
     -- tick
-    within 1000000 10000000 2 (codes "native n 2|def main|j <- nspawn n echo 1 takes 7|k <- nspawn n echo 2 takes 3|sleep 0|sleep 0|sleep 0|print ready k|x <- get j within 2|print x|end|")
+    within usual_turns usual_moves 2 (codes "native n 2|def main|j <- nspawn n echo 1 takes 7|k <- nspawn n echo 2 takes 3|sleep 0|sleep 0|sleep 0|print ready k|x <- get j within 2|print x|end|")
     (codes "start g0 main|job j1 g0 echo 1|job j2 g0 echo 2|park g0 sleep until 0|wake g0|park g0 sleep until 0|turn 1 nothing 2|wake g0|park g0 sleep until 2|turn 2 done j2 4 value 2|wake g0|print g0 true|park g0 get j1 until 6|block 6|turn 3 elapsed 6|late g0|end g0 fault Timeout(1)|stop fault Timeout(1) turns 4 moves 7|")
     1 (codes "gvr: main ended by Timeout(1)|") ∷
     -- far_deadline
@@ -173,11 +173,11 @@ rows =
     (codes "start g0 main|park g0 sleep until 0|start g1 w|end g1 value 1|start g2 x|park g2 wait e|wake g0|park g0 sleep until 0|turn 1 nothing 0|link 1 g1 set e|link 2 g1 g3|start g3 l|print g3 5|end g3 value none|link 3 g1 mark 9|link 5 g1 g4|start g4 l|print g4 5|end g4 value none|wake g0|park g0 sleep until 0|turn 2 nothing 0|wake g2|print g2 6|end g2 value none|wake g0|end g0 value none|stop value none turns 3 moves 16|")
     0 (codes "") ∷
     -- done_past_its_deadline
-    answered 1000000 10000000 (Answer.Done 1 (JobOutcome.Int (pos 4)) 7 ∷ Answer.Nothing 7 ∷ []) (codes "native n 2|event e|def w|x <- wait e within 3|print x|end|def main|a <- spawn w|j <- nspawn n echo 4 takes 9|try|x <- get j within 5|print x|except Timeout t|print t|end|set e|join a|end|")
+    answered usual_turns usual_moves (Answer.Done 1 (JobOutcome.Int (pos 4)) 7 ∷ Answer.Nothing 7 ∷ []) (codes "native n 2|event e|def w|x <- wait e within 3|print x|end|def main|a <- spawn w|j <- nspawn n echo 4 takes 9|try|x <- get j within 5|print x|except Timeout t|print t|end|set e|join a|end|")
     (codes "start g0 main|job j1 g0 echo 4|park g0 get j1 until 5|start g1 w|park g1 wait e until 3|block 3|turn 1 done j1 7 value 4|wake g0|print g0 4|park g0 join g1|late g1|print g1 false|end g1 value none|turn 2 nothing 7|wake g0|end g0 value none|stop value none turns 3 moves 9|")
     0 (codes "") ∷
     -- slot_and_timeout_at_once
-    answered 1000000 10000000 (Answer.Done 1 (JobOutcome.Int (pos 4)) 7 ∷ Answer.Nothing 7 ∷ []) (codes "native n 1|def main|j <- nspawn n echo 4 takes 9|timeout 3|try|k <- nspawn n echo 5|print k|except Timeout t|print t|end|end|sleep 0|end|")
+    answered usual_turns usual_moves (Answer.Done 1 (JobOutcome.Int (pos 4)) 7 ∷ Answer.Nothing 7 ∷ []) (codes "native n 1|def main|j <- nspawn n echo 4 takes 9|timeout 3|try|k <- nspawn n echo 5|print k|except Timeout t|print t|end|end|sleep 0|end|")
     (codes "start g0 main|job j1 g0 echo 4|park g0 nspawn n|block 3|turn 1 done j1 7 value 4|throw g0 Timeout(1)|print g0 Timeout(1)|park g0 sleep until 7|turn 2 nothing 7|wake g0|end g0 value none|stop value none turns 3 moves 6|")
     0 (codes "") ∷
     []

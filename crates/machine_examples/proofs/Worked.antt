@@ -3,7 +3,7 @@ use Rattle.std.proofs.Common.{◌≡◌, refl, List, [], ◌∷◌, map, codes, 
 use Rattle.std.specs.List.{list_all}
 use Rattle.gv_values.specs.declared.job.Answer.{Answer}
 use Rattle.gv_values.specs.declared.job.JobOutcome.{JobOutcome}
-use Rattle.machine_examples.proofs.Row.{Row, row, within, answered, told, comes_to, is_lawful}
+use Rattle.machine_examples.proofs.Row.{Row, row, within, answered, told, comes_to, is_lawful, usual_moves, usual_turns}
 use denote.Hole.Carrier.{hidden, out, shown, roll}
 use Rattle.scenario_tree.specs.declared.tree.Expression.TheBlock.{shape-the_row-Expression-0, hidden-the_row-Expression-0, shown-the_row-Expression-0, shape-the_row-Expression-1, hidden-the_row-Expression-1, shown-the_row-Expression-1}
 use Rattle.scenario_tree.specs.declared.tree.Action.TheBlock.{shown-the_row-Statement-0, shown-the_row-Except-1}
@@ -109,19 +109,19 @@ rows =
     (codes "start g0 main|end g0 fault ValueError|stop fault ValueError turns 0 moves 3|")
     1 (codes "gvr: main ended by ValueError|") ∷
     -- budgets, turns 3
-    within 3 10000000 0 (codes "def w n|print n|sleep 0|print + n 10|end|def main|a <- spawn w 1|b <- spawn w 2|join a|join b|end|")
+    within 3 usual_moves 0 (codes "def w n|print n|sleep 0|print + n 10|end|def main|a <- spawn w 1|b <- spawn w 2|join a|join b|end|")
     (codes "start g0 main|park g0 join g1|start g1 w|print g1 1|park g1 sleep until 0|start g2 w|print g2 2|park g2 sleep until 0|turn 1 nothing 0|wake g1|print g1 11|end g1 value none|wake g2|print g2 12|end g2 value none|turn 2 nothing 0|wake g0|end g0 value none|stop value none turns 3 moves 10|")
     0 (codes "") ∷
     -- budgets, turns 2
-    within 2 10000000 0 (codes "def w n|print n|sleep 0|print + n 10|end|def main|a <- spawn w 1|b <- spawn w 2|join a|join b|end|")
+    within 2 usual_moves 0 (codes "def w n|print n|sleep 0|print + n 10|end|def main|a <- spawn w 1|b <- spawn w 2|join a|join b|end|")
     (codes "start g0 main|park g0 join g1|start g1 w|print g1 1|park g1 sleep until 0|start g2 w|print g2 2|park g2 sleep until 0|turn 1 nothing 0|wake g1|print g1 11|end g1 value none|wake g2|print g2 12|end g2 value none|turn 2 nothing 0|stop no-turns turns 2 moves 9|")
     6 (codes "gvr: budget of turns spent|") ∷
     -- budgets, moves 9
-    within 1000000 9 0 (codes "def w n|print n|sleep 0|print + n 10|end|def main|a <- spawn w 1|b <- spawn w 2|join a|join b|end|")
+    within usual_turns 9 0 (codes "def w n|print n|sleep 0|print + n 10|end|def main|a <- spawn w 1|b <- spawn w 2|join a|join b|end|")
     (codes "start g0 main|park g0 join g1|start g1 w|print g1 1|park g1 sleep until 0|start g2 w|print g2 2|park g2 sleep until 0|turn 1 nothing 0|wake g1|print g1 11|end g1 value none|wake g2|print g2 12|end g2 value none|turn 2 nothing 0|wake g0|stop no-moves turns 3 moves 9|")
     6 (codes "gvr: budget of moves spent|") ∷
     -- listed_answers
-    answered 1000000 10000000 (Answer.Done 2 (JobOutcome.Int (pos 4)) 7 ∷ Answer.Done 1 (JobOutcome.Int (pos 6)) 9 ∷ []) (codes "native n 2|def main|a <- nspawn n sum 3|b <- nspawn n echo 4|x <- get a|print x|end|")
+    answered usual_turns usual_moves (Answer.Done 2 (JobOutcome.Int (pos 4)) 7 ∷ Answer.Done 1 (JobOutcome.Int (pos 6)) 9 ∷ []) (codes "native n 2|def main|a <- nspawn n sum 3|b <- nspawn n echo 4|x <- get a|print x|end|")
     (codes "start g0 main|job j1 g0 sum 3|job j2 g0 echo 4|park g0 get j1|block jobs|turn 1 done j2 7 value 4|block jobs|turn 2 done j1 9 value 6|wake g0|print g0 6|end g0 value none|stop value none turns 3 moves 4|")
     0 (codes "") ∷
     -- two_sleepers_first_form
@@ -177,7 +177,7 @@ rows =
     (codes "start g0 main|end g0 fault ValueError|stop fault ValueError turns 0 moves 1|")
     1 (codes "gvr: main ended by ValueError|") ∷
     -- ticking_clock
-    within 1000000 10000000 5 (codes "def w n|print n|sleep 0|print + n 10|end|def main|a <- spawn w 1|b <- spawn w 2|join a|join b|end|")
+    within usual_turns usual_moves 5 (codes "def w n|print n|sleep 0|print + n 10|end|def main|a <- spawn w 1|b <- spawn w 2|join a|join b|end|")
     (codes "start g0 main|park g0 join g1|start g1 w|print g1 1|park g1 sleep until 0|start g2 w|print g2 2|park g2 sleep until 0|turn 1 nothing 5|wake g1|print g1 11|end g1 value none|wake g2|print g2 12|end g2 value none|turn 2 nothing 10|wake g0|end g0 value none|stop value none turns 3 moves 10|")
     0 (codes "") ∷
     -- no_threads
@@ -189,7 +189,7 @@ rows =
     (codes "start g0 main|park g0 join g1|start g1 w|print g1 1|park g1 sleep until 0|start g2 w|print g2 2|park g2 sleep until 0|turn 1 nothing 0|wake g1|print g1 11|end g1 value none|wake g2|print g2 12|end g2 value none|turn 2 nothing 0|wake g0|end g0 value none|stop value none turns 3 moves 10|")
     0 (codes "") ∷
     -- unit_before_deadline
-    within 1000000 10000000 5 (codes "sem s 0|def w|x <- acquire s within 10|print x|end|def main|a <- spawn w|sleep 9|release s|join a|end|")
+    within usual_turns usual_moves 5 (codes "sem s 0|def w|x <- acquire s within 10|print x|end|def main|a <- spawn w|sleep 9|release s|join a|end|")
     (codes "start g0 main|park g0 sleep until 9|start g1 w|park g1 acquire s until 10|block 9|turn 1 elapsed 9|wake g0|park g0 join g1|turn 2 nothing 14|wake g1|print g1 true|end g1 value none|turn 3 nothing 19|wake g0|end g0 value none|stop value none turns 4 moves 6|")
     0 (codes "") ∷
     []
