@@ -470,7 +470,7 @@ hushed (Next.Going g s) = Next.Going g (silent s)
 hushed (Next.Resting s) = Next.Resting (silent s)
 hushed (Next.Over cause s) = Next.Over cause (silent s)
 
-abbrev StandsSomehow : Next → Type 0
+abbrev pub StandsSomehow : Next → Type 0
 StandsSomehow next = (b : History) × At b (hushed next)
 
 hush : (b : History) (next : Next) → At b next → StandsSomehow next
@@ -481,7 +481,7 @@ hush b (Next.Over cause s) a = (a.story, ends-silent b s a)
 rests-here : (b : History) (s : State) → s ≡ silent s → At b (Next.Resting (silent s)) → At b (Next.Resting s)
 rests-here b s e a = subst (λ (z : State). At b (Next.Resting z)) (sym e) a
 
-reached-stands : (c : Scenario) → IsFitText c → (next : Next) → Reached c next → StandsSomehow next
+pub reached-stands : (c : Scenario) → IsFitText c → (next : Next) → Reached c next → StandsSomehow next
 reached-stands c text next (Reached.Started) = hush at_first (starts lands 0 [] (first_state c)) (begins-at c text)
 reached-stands c text next (Reached.Moved g s r) =
     let a = reached-stands c text (Next.Going g s) r in
