@@ -3,7 +3,7 @@
 
 ghost use Rattle.std.specs.Prelude.{◌≡◌, ◌≢◌, ℕ, ◌+◌, ◌-◌, ◌<◌, ◌≤◌, ◌^◌, List, [], ◌∷◌, ◌++◌, length, min, Option, Some, None, OnOk, OnErr, IfOk, IfSome, IfNone, IsTrue, ◌↔◌, ◌⊎◌, slice_get};
 ghost use Rattle.std.specs.List.{Contains};
-ghost use Rattle.linked_items.specs.Items.{without_number};
+ghost use Rattle.linked_items.specs.Items.{Differ, without_number};
 ghost use Rattle.waiters.specs.OneSide.{IsAmongFirst};
 ghost use Rattle.groups_pools.specs.Seen.{SeenCrew, free_places, open_places, HasPlace, AreBelow, IsRising, IsSound, place_gone, join_gone, with_member_in};
 
@@ -51,6 +51,14 @@ fn place_of(members: &[u32], g: u32) -> usize
     }
 }
 
+/// Nobody waits twice, and no more were told than wait. The call does nothing.
+fn waits_are_sound(waits: &WaitList)
+    ensures differ { Differ waits.now.items }
+    ensures told { waits.now.told ≤ length waits.now.items }
+{
+    waits.len();
+}
+
 /// A number more, behind all others. Without memory nothing is changed.
 fn push_member(members: &mut Vec<u32>, g: u32) -> Result<(), AllocError>
     ensures ok { OnOk result (members.new.items ≡ members.old.items ++ g ∷ []) }
@@ -92,7 +100,6 @@ impl Crew {
     pub fn admit_now(&self) -> bool
         ensures { IsTrue result ↔ HasPlace self.now }
     {
-        let _limit = self.limit;
         let waiting = self.places.len();
         waiting < self.free(waiting + 1)
     }
@@ -104,7 +111,7 @@ impl Crew {
         ensures ok { OnOk result (self.new ≡ with_member_in g self.old) }
         ensures err { OnErr result (self.new ≡ self.old) }
     {
-        let _waiting = self.places.len();
+        waits_are_sound(&self.places);
         push_member(&mut self.members, g)?;
         Ok(())
     }
@@ -117,7 +124,7 @@ impl Crew {
         ensures ok { OnOk result (self.new ≡ with_member_in g (place_gone item self.old)) }
         ensures err { OnErr result (self.new ≡ self.old) }
     {
-        let _waiting = self.places.len();
+        waits_are_sound(&self.places);
         push_member(&mut self.members, g)?;
         self.places.remove(item);
         Ok(())
@@ -136,7 +143,8 @@ impl Crew {
     /// gives all in one piece of memory.
     pub fn member_ended(&mut self, g: u32)
         requires { Contains self.old.members g }
-        ensures { self.new ≡ record self.old { members = without_number g self.old.members } }
+        ensures ended { self.new ≡ record self.old { members = without_number g self.old.members } }
+        ensures rising { IsRising self.old.members }
     {
         let at = place_of(&self.members, g);
         self.members.remove(at);
@@ -157,7 +165,7 @@ impl Crew {
         requires { Contains self.old.places item }
         ensures { self.new ≡ place_gone item self.old }
     {
-        let _len = self.places.len();
+        waits_are_sound(&self.places);
         self.places.remove(item);
     }
 
@@ -166,7 +174,7 @@ impl Crew {
         requires { Contains self.old.joins item }
         ensures { self.new ≡ join_gone item self.old }
     {
-        let _len = self.joins.len();
+        waits_are_sound(&self.joins);
         self.joins.remove(item);
     }
 
@@ -190,7 +198,7 @@ impl Crew {
         ensures item { IfSome result (λ item. (slice_get self.old.places self.old.told_places ≡ Some item) × (self.old.told_places < open_places self.old)) }
         ensures told { IfSome result (λ _. self.new ≡ record self.old { told_places = self.old.told_places + 1 }) }
     {
-        let _joining = self.joins.len();
+        waits_are_sound(&self.joins);
         let waiting = self.places.len();
         let places = self.free(waiting);
         self.places.grow(places)
@@ -215,8 +223,8 @@ impl Crew {
         ensures item { IfSome result (λ item. (slice_get self.old.joins (self.old.told_joins - 1) ≡ Some item) × (0 < self.old.told_joins) × (length self.old.members ≢ 0)) }
         ensures told { IfSome result (λ _. self.new ≡ record self.old { told_joins = self.old.told_joins - 1 }) }
     {
-        let _waiting = self.places.len();
-        let _joining = self.joins.len();
+        waits_are_sound(&self.places);
+        waits_are_sound(&self.joins);
         let places = self.join_places();
         self.joins.shrink(places)
     }
@@ -245,7 +253,6 @@ impl Parking for Crew {
     fn reserve(&mut self, n: usize) -> Result<(), AllocError> {
         let places = self.places.len() as usize;
         let joins = self.joins.len() as usize;
-        let _limit = self.limit;
         let len = places + joins;
         if n <= self.limit - len {
             return Ok(());

@@ -66,6 +66,18 @@ impl ByteQueue {
         Ok(())
     }
 
+    /// Takes bytes off the end, so that so many are left, where there are more.
+    pub fn truncate(&mut self, len: usize)
+        ensures { self.new ≡ take len self.old }
+    {
+        if len < self.len() {
+            self.bytes.truncate(self.start + len);
+            self.line = 0;
+            self.empty = 0;
+            self.place = LinePlace::Start;
+        }
+    }
+
     /// Takes bytes off the front.
     pub fn skip(&mut self, n: usize)
         requires { n ≤ length self.old }

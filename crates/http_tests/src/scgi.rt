@@ -6,7 +6,7 @@ use scgi_core::ScgiSession;
 use std::alloc::{AllocError, Global};
 use std::test::Fail;
 use wsgi_connection::{ConnectionEnd, answer_connection};
-use wsgi_core::{SessionPhase, ShippedApp};
+use wsgi_core::{SessionPhase, ShippedApp, Talk};
 
 const BAD_REQUEST: &[u8] = b"Status: 400 Bad Request\r\nContent-Length: 0\r\n\r\n";
 
@@ -145,7 +145,7 @@ fn answers_at_the_last_byte(session: &mut ScgiSession) -> Result<bool, Fail> {
 
 #[test]
 fn it_answers_at_the_last_byte_of_the_body(rt: HostRuntime) -> Result<(), Fail> {
-    let mut session = ScgiSession::new(rt.alloc());
+    let mut session = ScgiSession::begin(rt.alloc(), 0);
     assert!(rt; answers_at_the_last_byte(&mut session)?);
     Ok(())
 }

@@ -90,7 +90,7 @@ impl Lingering {
             return;
         }
         if self.lingerers.len() >= MOST_LINGERING {
-            let _ = self.let_first_go();
+            self.let_first_go();
         }
         // Room was made for as many as linger.
         let _ = self.lingerers.push(Lingerer {
@@ -143,7 +143,7 @@ impl Lingering {
         for _ in 0..MOST_LINGERING {
             match self.earliest() {
                 Some(until) if until <= moment => {
-                    let _ = self.let_first_go();
+                    self.let_first_go();
                 }
                 _ => return,
             }

@@ -172,7 +172,8 @@ impl<R: std::net::Net + Clock + Drop> MioNet<R> {
             ..
         } = self;
         for _ in 0..LAST_WAITS {
-            let _ = next_told(&mut queue, &mut lingering);
+            // What those that linger were sent is dropped; nobody asks for anything else any more.
+            next_told(&mut queue, &mut lingering);
             moment = reading(&rt, &start, moment);
             lingering.let_go(moment);
             let Some(until) = lingering.earliest() else {

@@ -11,7 +11,6 @@ mod length;
 mod limits;
 mod request;
 mod session;
-mod talk;
 
 pub use laws::pairs_are_those_written;
 pub use request::ScgiRequest;

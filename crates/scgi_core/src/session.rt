@@ -1,11 +1,7 @@
 //! A session, fed in any pieces.
-ghost use Rattle.std.specs.Prelude.{◌≡◌, ◌≤◌, ◌++◌, [], ℕ, List, Bool, length, false, OnErr, OnOk, drop, take};
-ghost use Rattle.wsgi_core.specs.Applications.{App};
-ghost use Rattle.wsgi_core.specs.Standings.{IsAllSaid, IsBegun, IsCutBy, IsCutSaid, IsFed, IsTaken, IsTakenCut, IsToldTheEnd, StaysCut, StaysEnded};
-ghost use Rattle.wsgi_core.specs.Steps.{phase_by};
+ghost use Rattle.std.specs.Prelude.{◌≡◌, ◌++◌, ℕ, List, false, OnErr, OnOk};
 ghost use Rattle.scgi_core.specs.Sessions.{scgi_answers};
-ghost use Rattle.scgi_core.specs.Connections.{scgi};
-ghost use Rattle.scgi_core.specs.Steps.{IsAt, Stands, Stopped, pending_of};
+ghost use Rattle.scgi_core.specs.Steps.{IsAt, Stands, Stopped, pending_of, said_bytes, stopped_bytes};
 
 use crate::answer::{push_answer, refusal_text};
 use crate::head::read_call;
@@ -14,7 +10,7 @@ pub use crate::request::ScgiStage;
 use http_messages::ByteQueue;
 use std::alloc::{AllocError, Global};
 use std::mem;
-use wsgi_core::{Application, SessionPhase};
+use wsgi_core::{Application, SessionPhase, Talk};
 
 /// The session of one connection: one request and its answer (SCGI, N. Schemenauer, section 2). What it says it says
 /// under RFC 3875, section 6.
@@ -29,20 +25,6 @@ pub struct ScgiSession {
 }
 
 impl ScgiSession {
-    /// A session to which nothing was fed. What it says doesn't depend on a port.
-    pub fn new(alloc: Global) -> ScgiSession
-        ensures { (port : ℕ) → IsBegun IsAt port result }
-    {
-        ScgiSession {
-            alloc,
-            stage: ScgiStage::AtHead,
-            kept: ByteQueue::new(alloc),
-            pending: ByteQueue::new(alloc),
-            closing: false,
-            ended: false,
-        }
-    }
-
     /// Appends the piece, and answers the request if it is whole.
     fn feed_open<A: Application>(&mut self, piece: &[u8], app: &A) -> Result<(), AllocError>
         requires { self.old.closing ≡ false }
@@ -66,25 +48,37 @@ impl ScgiSession {
             }
             CallFound::CallWhole(request, body) => {
                 let reply = app.call(self.alloc, &request.environ, body.items())?;
-                let mut bytes = Vec::new(self.alloc);
-                push_answer(self.alloc, &mut bytes, request.is_head, &reply)?;
-                self.pending.append(&bytes)?;
+                push_answer(self.alloc, &mut self.pending, request.is_head, &reply)?;
                 self.closing = true;
                 Ok(())
             }
         }
     }
+}
 
-    /// Takes the next piece of the input, and answers the request if it is whole. Whatever was fed and taken before,
-    /// what is pending now and what was taken are what the session sends for all that was fed. A session that is
-    /// closing or ended, or that ran out of memory, ignores the piece and stays as it was. After an `Err` it is
-    /// closing, and they begin what it sends.
-    pub fn feed<A: Application>(&mut self, piece: &[u8], app: &A) -> Result<(), AllocError>
-        ensures is_at { OnOk result (IsFed IsAt IsAt (A.answer_of app.now) piece.now self.old self.new) }
-        ensures stopped { OnErr result (IsCutBy IsAt Stopped (A.answer_of app.now) piece.now self.old self.new) }
-        ensures ended { StaysEnded IsAt self.old self.new }
-        ensures ignored { StaysCut Stopped self.old self.new }
-    {
+/// The session as one side of a connection. It goes on until it has given its answer.
+impl Talk for ScgiSession {
+    ghost answers = { scgi_answers };
+
+    ghost is_at = { IsAt };
+
+    ghost is_cut = { Stopped };
+
+    ghost due = { pending_of };
+
+    /// What it says doesn't depend on the port.
+    fn begin(alloc: Global, _port: u16) -> ScgiSession {
+        ScgiSession {
+            alloc,
+            stage: ScgiStage::AtHead,
+            kept: ByteQueue::new(alloc),
+            pending: ByteQueue::new(alloc),
+            closing: false,
+            ended: false,
+        }
+    }
+
+    fn feed<A: Application>(&mut self, piece: &[u8], app: &A) -> Result<(), AllocError> {
         if self.ended {
             return Ok(());
         }
@@ -98,47 +92,30 @@ impl ScgiSession {
         fed
     }
 
-    /// Tells that the input has ended: nothing more is answered than what came before. A session that ran out of
-    /// memory stays as it was.
-    pub fn end(&mut self)
-        ensures is_at { IsToldTheEnd IsAt self.old self.new }
-        ensures stopped { StaysCut Stopped self.old self.new }
-        ensures pending { pending_of self.new ≡ pending_of self.old }
-    {
+    fn end(&mut self) {
         self.ended = true;
     }
 
-    /// The bytes to be sent: with those taken, what the session sends for all that was fed. After want of memory they
-    /// begin it.
-    pub fn pending(&self) -> &[u8]
-        ensures pending { result.now ≡ pending_of self.now }
-        ensures said { IsAllSaid scgi_answers IsAt result.now self.now }
-        ensures stopped { IsCutSaid scgi_answers Stopped result.now self.now }
-    {
+    fn pending(&self) -> &[u8] {
         self.pending.items()
     }
 
-    /// Removes bytes from the front of those pending: they were sent.
-    pub fn took(&mut self, n: usize)
-        requires { n ≤ length (pending_of self.old) }
-        ensures is_at { IsTaken IsAt (take n (pending_of self.old)) self.old self.new }
-        ensures stopped { IsTakenCut Stopped (take n (pending_of self.old)) self.old self.new }
-        ensures rest { pending_of self.new ≡ drop n (pending_of self.old) }
-    {
+    fn took(&mut self, n: usize) {
         self.pending.skip(n);
     }
 
-    /// Whether the session goes on: not behind its answer, not behind the end of its input, and not after want of
-    /// memory.
-    pub fn phase(&self) -> SessionPhase
-        ensures said { (app : App) (port : ℕ) (fed : List ℕ) (ended : Bool) (taken : List ℕ) → IsAt app port fed ended taken self.now
-            → result ≡ phase_by (scgi app port fed ended).closes }
-        ensures stopped { (app : App) (port : ℕ) (fed taken : List ℕ) → Stopped app port fed taken self.now
-            → result ≡ SessionPhase.Closing }
-    {
+    fn phase(&self) -> SessionPhase {
         if self.closing || self.ended {
             return SessionPhase::Closing;
         }
         SessionPhase::Serving
     }
+
+    ghost says = { said_bytes };
+
+    ghost begins = { stopped_bytes };
+
+    fn never_takes_back() {}
+
+    fn is_silent_at_first() {}
 }

@@ -1,7 +1,8 @@
 //! The clients of a server, by their numbers and by their deadlines, and the crew that has a place for each.
 ghost use Rattle.std.specs.Prelude.{◌≡◌, ◌↔◌, ℕ, ◌+◌, ◌<◌, ◌≤◌, ◌==◌, ◌++◌, [], ◌∷◌, length, IfOk, IfNone, IfSome, IsSome, IsTrue, OnErr, OnOk, Some, None};
 ghost use Rattle.std.specs.List.{Contains};
-ghost use Rattle.linked_items.specs.Items.{without_number};
+ghost use Rattle.linked_items.specs.Items.{Differ, without_number};
+ghost use Rattle.due_timers.specs.SeenTimers.{items_in};
 ghost use Rattle.groups_pools.specs.Seen.{AreBelow};
 
 use crate::client::Client;
@@ -27,6 +28,13 @@ pub struct ClientTable<T> {
     crew: Crew,
     // So many fit.
     limit: u32,
+}
+
+/// No number has two timers. The call does nothing.
+fn timers_differ(timers: &Timers)
+    ensures { Differ (items_in timers.now.timers) }
+{
+    timers.len();
 }
 
 impl<T> Model for ClientTable<T> {
@@ -58,7 +66,6 @@ impl<T: Drop> ClientTable<T> {
         let mut timers = Timers::new(alloc);
         timers.reserve(limit as usize)?;
         let crew = Crew::new(alloc, Some(limit))?;
-        let _room = clients.capacity();
         Ok(ClientTable {
             clients,
             places,
@@ -92,7 +99,6 @@ impl<T: Drop> ClientTable<T> {
         ensures released { self.new ≡ with_members (without_number conn self.old.members) self.old }
         ensures fewer { length self.new.members + 1 ≡ length self.old.members }
     {
-        let _members = self.crew.members();
         self.crew.member_ended(conn);
     }
 
@@ -134,7 +140,7 @@ impl<T: Drop> ClientTable<T> {
         let Some(key) = self.places.find(conn) else {
             return None;
         };
-        let _timers = self.timers.len();
+        timers_differ(&self.timers);
         self.timers.cancel(conn);
         self.places.remove(conn);
         Some(self.clients.remove(key))
@@ -148,7 +154,7 @@ impl<T: Drop> ClientTable<T> {
         ensures count { IfSome result (λ _. client_count self.new + 1 ≡ client_count self.old) }
         ensures same { IfNone result (self.new ≡ self.old) }
     {
-        let _timers = self.timers.len();
+        timers_differ(&self.timers);
         let Some(conn) = self.timers.take_due(now) else {
             return None;
         };

@@ -48,6 +48,7 @@ module _ (t r r' : SeenItems) (limit item number : ℕ) (is : IsSound (inside t 
       let m : r'.spare ≡ r.spare - 1 = ap (λ v. v.spare) now in
       record {
         differ = subst (λ es. Differ (items_of es)) (sym parked_entries) (subst Differ (sym (items_joined (entries_in t r) ((item, number) ∷ []))) (differ_snoc (items_of (entries_in t r)) item is.differ (lacks_of_absent item (items_of (entries_in t r)) absent)));
+        small = is.small;
         within = let a = is.within in omega arith;
         told_fits = is.told_fits;
         rest_fits = let a = is.rest_fits in let b = is.within in omega arith;
@@ -92,6 +93,7 @@ module _ (t r t' : SeenItems) (limit item : ℕ) (is : IsSound (inside t r limit
       let m : t'.spare ≡ t.spare + 1 = ap (λ v. v.spare) now in
       record {
         differ = subst (λ es. Differ (items_of es)) (sym told_left_entries) (differ_without_entry item (entries_in t r) is.differ);
+        small = is.small;
         within = let a = is.within in omega arith;
         told_fits = let a = is.told_fits in omega arith;
         rest_fits = is.rest_fits;
@@ -122,6 +124,7 @@ module _ (t r r' : SeenItems) (limit item : ℕ) (is : IsSound (inside t r limit
       let m : r'.spare ≡ r.spare + 1 = ap (λ v. v.spare) now in
       record {
         differ = subst (λ es. Differ (items_of es)) (sym left_entries) (differ_without_entry item (entries_in t r) is.differ);
+        small = is.small;
         within = let a = is.within in omega arith;
         told_fits = is.told_fits;
         rest_fits = let a = is.rest_fits in omega arith;
@@ -154,6 +157,7 @@ module _ (t r t' r' : SeenItems) (limit : ℕ) (e : ℕ × ℕ) (is : IsSound (i
         let u = ap (λ v. v.spare) rest in
         record {
           differ = subst (λ es. Differ (items_of es)) (sym grown_entries) is.differ;
+          small = is.small;
           within = let a = is.within in omega arith;
           told_fits = let a = is.told_fits in let b = is.within in omega arith;
           rest_fits = let a = is.rest_fits in omega arith;
@@ -201,6 +205,7 @@ module _ (t r t' r' : SeenItems) (limit : ℕ) (e : ℕ × ℕ) (is : IsSound (i
         let u = ap (λ v. v.spare) rest in
         record {
           differ = subst (λ es. Differ (items_of es)) (sym shrunk_entries) is.differ;
+          small = is.small;
           within = let a = is.within in omega arith;
           told_fits = let a = is.told_fits in omega arith;
           rest_fits = let a = is.rest_fits in let b = is.within in omega arith;

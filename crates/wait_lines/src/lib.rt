@@ -86,7 +86,6 @@ impl WaitLine {
         ensures differ { Differ (items_of self.now.entries) }
         ensures told { self.now.told ≤ length self.now.entries }
     {
-        let _limit = self.limit;
         (self.told.len() + self.rest.len()) as u64
     }
 
@@ -192,7 +191,6 @@ impl WaitLine {
         if self.told.contains(item) {
             self.told.rank_of(item) as u64
         } else {
-            let _limit = self.limit;
             (self.told.len() + self.rest.rank_of(item)) as u64
         }
     }

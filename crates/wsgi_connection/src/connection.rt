@@ -8,12 +8,9 @@ ghost use Rattle.wsgi_connection.specs.Connections.{Exchanged, HandedAhead, whol
 ghost use Rattle.wsgi_connection.specs.Wholes.{IsWhole};
 ghost use Rattle.wsgi_connection.specs.Pieces.{Breaks, Counts, Goes, IsAtRest, Leaves, said};
 
-use gv_io::{Failed, Sink, Source};
+use gv_io::{Failed, MOST_PIECE, Sink, Source};
 use std::alloc::Global;
 use wsgi_core::{Application, SessionPhase, Talk};
-
-/// The most bytes that one read asks for.
-pub const MOST_PIECE: usize = 4096;
 
 /// The most bytes of a connection that are looked at.
 pub const MOST_CONNECTION: usize = 16777216;

@@ -115,3 +115,16 @@ answer_faulty q reply e = cond-true (is_faulty reply) (server_error q) (sent_for
 pub answer_sent : (q : HttpRequest) (reply : Reply) → is_faulty reply ≡ false → answer q reply ≡ sent_for q reply
 unfolding answer
 answer_sent q reply e = cond-false (is_faulty reply) (server_error q) (sent_for q reply) e
+
+-- An answer of which HEAD is sent the head alone, and any other method the body behind it.
+module _ (sent_to : Bool → List ℕ) (body : List ℕ) (all : sent_to true ++ body ≡ sent_to false) (is_head : Bool) (out head : List ℕ) (sent : head ≡ out ++ sent_to true) where
+  pub head_alone : is_head ≡ true → head ≡ out ++ sent_to is_head
+  head_alone e = sent ∙ ap (λ (b : Bool). out ++ sent_to b) (sym e)
+
+  pub head_and_body : (new : List ℕ) → is_head ≡ false → new ≡ head ++ body → new ≡ out ++ sent_to is_head
+  head_and_body new e pushed =
+      pushed
+      ∙ ap (λ (l : List ℕ). l ++ body) sent
+      ∙ append_assoc out (sent_to true) body
+      ∙ ap (λ (l : List ℕ). out ++ l) all
+      ∙ ap (λ (b : Bool). out ++ sent_to b) (sym e)

@@ -1,12 +1,15 @@
 //! Answers as bytes.
-ghost use Rattle.std.specs.Prelude.{◌≡◌, ◌<◌, ◌-◌, ◌++◌, IsTrue, OnOk, IfOk, length as list_length, take};
+#![tactic(auto, using(gv_values::proofs::Fronts::fronts))]
+
+ghost use Rattle.std.specs.Prelude.{◌≡◌, ◌<◌, ◌-◌, ◌++◌, IsTrue, OnOk, OnErr, IfOk, length as list_length, take};
 ghost use Rattle.std.specs.List.{concat, flat_map, list_all};
+ghost use Rattle.gv_values.specs.Fronts.{BeginsWith};
 ghost use Rattle.wsgi_core.specs.Answers.{answer, begins_with_code, body_bytes, chunk, coding_line, connection_line, ending, ending_by, falls_short, has_code, has_body_place, has_visible_ends, head_bytes, header_line, is_empty, is_faulty, is_header, is_hop_by_hop, is_reason, is_reason_byte, is_status, is_visible, is_wrong, length_of, says_close, sent_by, server_error, stated, status_line};
 ghost use Rattle.wsgi_core.specs.Stating.{stated_after};
 
 use crate::reply::{Pieces, Reply, Response};
 use gv_values::digits::are_digits;
-use http_messages::{Bytes, Headers, HttpRequest, eq_any_case, parse_length};
+use http_messages::{ByteQueue, Bytes, Headers, HttpRequest, eq_any_case, parse_length};
 use httparse::{is_header_value, is_token};
 use std::alloc::{AllocError, Global};
 
@@ -235,93 +238,113 @@ fn says_close(request: &HttpRequest, ending: Ending) -> bool
 
 /// Appends the line on the connection.
 fn push_connection(
-    out: &mut Vec<u8>,
+    out: &mut ByteQueue,
     request: &HttpRequest,
     ending: Ending,
 ) -> Result<(), AllocError>
-    ensures { OnOk result (out.new.items ≡ out.old.items ++ connection_line request.now ending) }
+    ensures sent { OnOk result (out.new ≡ out.old ++ connection_line request.now ending) }
+    ensures err { OnErr result (BeginsWith out.new out.old) }
 {
     if says_close(request, ending) {
-        return out.extend_from_slice(b"Connection: close\r\n");
+        return out.append(b"Connection: close\r\n");
     }
     if request.minor == 0 {
-        return out.extend_from_slice(b"Connection: keep-alive\r\n");
+        return out.append(b"Connection: keep-alive\r\n");
     }
     Ok(())
 }
 
-/// Appends the headers as lines (RFC 9112, section 5), with names as the application spelt them.
-pub fn push_headers(out: &mut Vec<u8>, headers: &Headers) -> Result<(), AllocError>
-    ensures { OnOk result (out.new.items ≡ out.old.items ++ flat_map header_line headers.now) }
+/// Appends a header as a line (RFC 9112, section 5), with the name as the application spelt it.
+fn push_header(out: &mut ByteQueue, header: &(Bytes, Bytes)) -> Result<(), AllocError>
+    ensures sent { OnOk result (out.new ≡ out.old ++ header_line header.now) }
+    ensures err { OnErr result (BeginsWith out.new out.old) }
+{
+    out.append(header.0.items())?;
+    out.append(b": ")?;
+    out.append(header.1.items())?;
+    out.append(b"\r\n")
+}
+
+/// Appends the headers as lines.
+pub fn push_headers(out: &mut ByteQueue, headers: &Headers) -> Result<(), AllocError>
+    ensures sent { OnOk result (out.new ≡ out.old ++ flat_map header_line headers.now) }
+    ensures err { OnErr result (BeginsWith out.new out.old) }
 {
     for header in headers.items() {
-        out.extend_from_slice(header.0.items())?;
-        out.extend_from_slice(b": ")?;
-        out.extend_from_slice(header.1.items())?;
-        out.extend_from_slice(b"\r\n")?;
+        push_header(out, header)?;
     }
     Ok(())
 }
 
 /// Appends the line that tells that chunks follow, where they do.
-fn push_coding(out: &mut Vec<u8>, ending: Ending) -> Result<(), AllocError>
-    ensures { OnOk result (out.new.items ≡ out.old.items ++ coding_line ending) }
+fn push_coding(out: &mut ByteQueue, ending: Ending) -> Result<(), AllocError>
+    ensures sent { OnOk result (out.new ≡ out.old ++ coding_line ending) }
+    ensures err { OnErr result (BeginsWith out.new out.old) }
 {
     if ending == Ending::InChunks {
-        return out.extend_from_slice(b"Transfer-Encoding: chunked\r\n");
+        return out.append(b"Transfer-Encoding: chunked\r\n");
     }
     Ok(())
 }
 
 /// Appends the line of the version and the status.
-fn push_status(alloc: Global, out: &mut Vec<u8>, minor: u8, status: &[u8]) -> Result<(), AllocError>
-    ensures { OnOk result (out.new.items ≡ out.old.items ++ status_line minor status.now) }
+fn push_status(
+    alloc: Global,
+    out: &mut ByteQueue,
+    minor: u8,
+    status: &[u8],
+) -> Result<(), AllocError>
+    ensures sent { OnOk result (out.new ≡ out.old ++ status_line minor status.now) }
+    ensures err { OnErr result (BeginsWith out.new out.old) }
 {
     let version = format!(in alloc; "HTTP/1.{minor} ")?;
-    out.extend_from_slice(version.as_bytes())?;
-    out.extend_from_slice(status)?;
-    out.extend_from_slice(b"\r\n")
+    out.append(version.as_bytes())?;
+    out.append(status)?;
+    out.append(b"\r\n")
 }
 
 /// Appends the head of an answer.
 fn push_head(
     alloc: Global,
-    out: &mut Vec<u8>,
+    out: &mut ByteQueue,
     request: &HttpRequest,
     ending: Ending,
     response: &Response,
 ) -> Result<(), AllocError>
-    ensures { OnOk result (out.new.items ≡ out.old.items ++ head_bytes request.now ending response.now) }
+    ensures sent { OnOk result (out.new ≡ out.old ++ head_bytes request.now ending response.now) }
+    ensures err { OnErr result (BeginsWith out.new out.old) }
 {
     push_status(alloc, out, request.minor, response.status.items())?;
     push_headers(out, &response.headers)?;
     push_coding(out, ending)?;
     push_connection(out, request, ending)?;
-    out.extend_from_slice(b"\r\n")
+    out.append(b"\r\n")
 }
 
 /// Appends a piece of a chunked body.
-fn push_chunk(alloc: Global, out: &mut Vec<u8>, piece: &[u8]) -> Result<(), AllocError>
-    ensures { OnOk result (out.new.items ≡ out.old.items ++ chunk piece.now) }
+fn push_chunk(alloc: Global, out: &mut ByteQueue, piece: &[u8]) -> Result<(), AllocError>
+    ensures sent { OnOk result (out.new ≡ out.old ++ chunk piece.now) }
+    ensures err { OnErr result (BeginsWith out.new out.old) }
 {
     if piece.is_empty() {
         return Ok(());
     }
     let size = format!(in alloc; "{:x}", piece.len())?;
-    out.extend_from_slice(size.as_bytes())?;
-    out.extend_from_slice(b"\r\n")?;
-    out.extend_from_slice(piece)?;
-    out.extend_from_slice(b"\r\n")
+    out.append(size.as_bytes())?;
+    out.append(b"\r\n")?;
+    out.append(piece)?;
+    out.append(b"\r\n")
 }
 
 /// Appends the pieces of a chunked body, and the last chunk unless the application raised.
 fn push_chunks(
     alloc: Global,
-    out: &mut Vec<u8>,
+    out: &mut ByteQueue,
     pieces: &Pieces,
     raised: bool,
 ) -> Result<(), AllocError>
-    ensures { OnOk result (out.new.items ≡ out.old.items ++ body_bytes Ending.InChunks pieces.now raised) }
+    ensures sent { OnOk result (out.new ≡ out.old ++ body_bytes Ending.InChunks pieces.now raised) }
+    ensures err { OnErr result (BeginsWith out.new out.old) }
 {
     for piece in pieces.items() {
         push_chunk(alloc, out, piece.items())?;
@@ -329,30 +352,32 @@ fn push_chunks(
     if raised {
         return Ok(());
     }
-    out.extend_from_slice(b"0\r\n\r\n")
+    out.append(b"0\r\n\r\n")
 }
 
 /// Appends the first `length` bytes of the pieces; answers how many of them are missing.
-fn push_counted(out: &mut Vec<u8>, length: u64, pieces: &Pieces) -> Result<u64, AllocError>
-    ensures sent { OnOk result (out.new.items ≡ out.old.items ++ take length (concat pieces.now)) }
+fn push_counted(out: &mut ByteQueue, length: u64, pieces: &Pieces) -> Result<u64, AllocError>
+    ensures sent { OnOk result (out.new ≡ out.old ++ take length (concat pieces.now)) }
     ensures missing { IfOk result (λ missing. missing ≡ length - list_length (concat pieces.now)) }
+    ensures err { OnErr result (BeginsWith out.new out.old) }
 {
     let mut left = length;
     for piece in pieces.items() {
         let bytes = piece.items();
         let len = left.min(bytes.len() as u64);
-        out.extend_from_slice(&bytes[..len as usize])?;
+        out.append(&bytes[..len as usize])?;
         left -= len;
     }
     Ok(left)
 }
 
 /// Appends the pieces.
-fn push_pieces(out: &mut Vec<u8>, pieces: &Pieces) -> Result<(), AllocError>
-    ensures { OnOk result (out.new.items ≡ out.old.items ++ concat pieces.now) }
+fn push_pieces(out: &mut ByteQueue, pieces: &Pieces) -> Result<(), AllocError>
+    ensures sent { OnOk result (out.new ≡ out.old ++ concat pieces.now) }
+    ensures err { OnErr result (BeginsWith out.new out.old) }
 {
     for piece in pieces.items() {
-        out.extend_from_slice(piece.items())?;
+        out.append(piece.items())?;
     }
     Ok(())
 }
@@ -361,13 +386,14 @@ fn push_pieces(out: &mut Vec<u8>, pieces: &Pieces) -> Result<(), AllocError>
 /// length.
 pub fn push_body(
     alloc: Global,
-    out: &mut Vec<u8>,
+    out: &mut ByteQueue,
     ending: Ending,
     pieces: &Pieces,
     raised: bool,
 ) -> Result<bool, AllocError>
-    ensures sent { OnOk result (out.new.items ≡ out.old.items ++ body_bytes ending pieces.now raised) }
+    ensures sent { OnOk result (out.new ≡ out.old ++ body_bytes ending pieces.now raised) }
     ensures short { IfOk result (λ short. short ≡ falls_short ending pieces.now) }
+    ensures err { OnErr result (BeginsWith out.new out.old) }
 {
     match ending {
         Ending::NoBody => Ok(false),
@@ -387,27 +413,29 @@ pub fn push_body(
 }
 
 /// Appends the answer that replaces a faulty reply.
-fn push_server_error(out: &mut Vec<u8>, request: &HttpRequest) -> Result<(), AllocError>
-    ensures { OnOk result (out.new.items ≡ out.old.items ++ (server_error request.now).bytes) }
+fn push_server_error(out: &mut ByteQueue, request: &HttpRequest) -> Result<(), AllocError>
+    ensures sent { OnOk result (out.new ≡ out.old ++ (server_error request.now).bytes) }
+    ensures err { OnErr result (BeginsWith out.new out.old) }
 {
-    out.extend_from_slice(
+    out.append(
         b"HTTP/1.1 500 Internal Server Error\r\nContent-Type: text/plain\r\nConnection: close\r\nContent-Length: 21\r\n\r\n",
     )?;
     if request.is_head {
         return Ok(());
     }
-    out.extend_from_slice(b"Internal Server Error")
+    out.append(b"Internal Server Error")
 }
 
 /// Appends a response that can be sent; answers whether the session closes after it.
 fn push_started(
     alloc: Global,
-    out: &mut Vec<u8>,
+    out: &mut ByteQueue,
     request: &HttpRequest,
     response: &Response,
 ) -> Result<bool, AllocError>
-    ensures sent { OnOk result (out.new.items ≡ out.old.items ++ (sent_by request.now (ending request.now response.now) response.now).bytes) }
+    ensures sent { OnOk result (out.new ≡ out.old ++ (sent_by request.now (ending request.now response.now) response.now).bytes) }
     ensures closes { IfOk result (λ closes. closes ≡ (sent_by request.now (ending request.now response.now) response.now).closes) }
+    ensures err { OnErr result (BeginsWith out.new out.old) }
 {
     let ending = ending_of(request.minor, response.status.items(), &response.headers);
     push_head(alloc, out, request, ending, response)?;
@@ -419,15 +447,16 @@ fn push_started(
     Ok(closes || short)
 }
 
-/// Appends the answer to a request; answers whether the session closes after it (RFC 9112, sections 9.3 and 9.6).
-pub fn push_answer(
+/// Appends the answer to a request, or without memory a part of it; answers whether the session closes after it.
+fn push_reply(
     alloc: Global,
-    out: &mut Vec<u8>,
+    out: &mut ByteQueue,
     request: &HttpRequest,
     reply: &Reply,
 ) -> Result<bool, AllocError>
-    ensures sent { OnOk result (out.new.items ≡ out.old.items ++ (answer request.now reply.now).bytes) }
+    ensures sent { OnOk result (out.new ≡ out.old ++ (answer request.now reply.now).bytes) }
     ensures closes { IfOk result (λ closes. closes ≡ (answer request.now reply.now).closes) }
+    ensures err { OnErr result (BeginsWith out.new out.old) }
 {
     if is_faulty(reply) {
         push_server_error(out, request)?;
@@ -440,4 +469,37 @@ pub fn push_answer(
         }
         Reply::Started(response) => push_started(alloc, out, request, response),
     }
+}
+
+/// Appends the answer to a request; answers whether the session closes after it (RFC 9112, sections 9.3 and 9.6). After
+/// an `Err` nothing has changed.
+pub fn push_answer(
+    alloc: Global,
+    out: &mut ByteQueue,
+    request: &HttpRequest,
+    reply: &Reply,
+) -> Result<bool, AllocError>
+    ensures sent { OnOk result (out.new ≡ out.old ++ (answer request.now reply.now).bytes) }
+    ensures closes { IfOk result (λ closes. closes ≡ (answer request.now reply.now).closes) }
+    ensures err { OnErr result (out.new ≡ out.old) }
+{
+    let len = out.len();
+    let pushed = push_reply(alloc, out, request, reply);
+    all_or_nothing(pushed, out, len)
+}
+
+/// After a failure, takes off what was appended behind the first `len` bytes.
+pub fn all_or_nothing<T>(
+    pushed: Result<T, AllocError>,
+    out: &mut ByteQueue,
+    len: usize,
+) -> Result<T, AllocError>
+    ensures same { result ≡ pushed }
+    ensures ok { OnOk pushed (out.new ≡ out.old) }
+    ensures err { OnErr pushed (out.new ≡ take len out.old) }
+{
+    if pushed.is_err() {
+        out.truncate(len);
+    }
+    pushed
 }

@@ -16,7 +16,9 @@ mod session;
 mod shipped;
 mod talk;
 
-pub use answer::{Ending, Stated, ending_of, is_faulty, push_answer, push_body, push_headers};
+pub use answer::{
+    Ending, Stated, all_or_nothing, ending_of, is_faulty, push_answer, push_body, push_headers,
+};
 pub use gateway::{
     WSGI_MULTIPROCESS, WSGI_MULTITHREAD, WSGI_RUN_ONCE, WSGI_URL_SCHEME, WSGI_VERSION,
 };

@@ -270,9 +270,7 @@ impl Session {
             SessionStage::AtHead => unreachable!(),
             SessionStage::InBody(..) => unreachable!(),
             SessionStage::Asked(request, _) => {
-                let mut bytes = Vec::new(self.alloc);
-                let closes = push_answer(self.alloc, &mut bytes, &request, &reply)?;
-                self.pending.append(&bytes)?;
+                let closes = push_answer(self.alloc, &mut self.pending, &request, &reply)?;
                 self.closing = closes;
                 self.answered = self.answered.and_one();
                 Ok(())

@@ -1,4 +1,4 @@
-use Rattle.std.proofs.Common.{◌≡◌, ◌++◌, ◌∙◌, Contains, inl, inr, sym, ap, subst, refl, IsTrue, ◌↔◌}
+use Rattle.std.proofs.Common.{◌∙◌, Contains, inl, inr, sym, ap, subst, refl, IsTrue, ◌↔◌}
 use Rattle.std.proofs.lemmas.List.Elements.{Contains-append_cases, Contains-append_left, Contains-append_right}
 use Rattle.linked_items.specs.Items.{items_of}
 use Rattle.linked_items.proofs.ItemLemmas.{items_joined}

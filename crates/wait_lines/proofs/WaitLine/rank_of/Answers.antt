@@ -15,6 +15,7 @@ overflow_add-result c =
     let at = slice_get_within (items_of c.self.inside.rest.entries) c.rank_of-else-contains.result c.args.item c.rank_of-else-contains.ensures in
     let n = length_items c.self.inside.rest.entries in
     let within = c.self.invariant.within in
+    let small = c.self.invariant.small in
     omega arith
 
 pub returns-then-contains : goal.returns-then-contains

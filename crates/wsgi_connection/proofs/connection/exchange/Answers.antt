@@ -1,7 +1,8 @@
 use Rattle.std.proofs.Common.{◌+◌, ◌≤◌, ℕ, Ok, [], false, ap, sym, ◌∙◌, length, length-take-le, take, arith}
 use Rattle.std.proofs.lemmas.Grind.{common_steps}
 use Rattle.gv_io.proofs.StreamLaws.{Extends-nothing, prepended-nothing}
-use Rattle.wsgi_connection.specs.declared.connection.TheConstants.{MOST_CONNECTION, MOST_PIECE}
+use Rattle.gv_io.specs.declared.limits.TheConstants.{MOST_PIECE}
+use Rattle.wsgi_connection.specs.declared.connection.TheConstants.{MOST_CONNECTION}
 use Rattle.wsgi_connection.proofs.Exchanges.{cut_only, handed_before, read_failed, input_ended, piece_cut, piece_answered, piece_last, looked_at_more, short_piece, is_closing, is_serving, was_closed}
 use Rattle.wsgi_connection.proofs.connection.exchange.Goals as goal
 

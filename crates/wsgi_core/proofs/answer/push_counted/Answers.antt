@@ -9,13 +9,13 @@ loop-piece-preserved c =
     let p = c.piece-item.result in
     let left = c.loop-piece.left in
     let len = c.min-len.result in
-    let out = c.loop-piece.out.items in
+    let out = c.loop-piece.out in
     let inside : i < length pieces = omega (arith, ap length c.items-piece-items.ensures) in
     let is : p ≡ get_or pieces i p = c.piece-item.is ∙ ap (λ (l : List (List ℕ)). get_or l i p) c.items-piece-items.ensures in
     let least : len ≡ min left (length p) = c.min-len.ensures ∙ ap (λ (l : List ℕ). min left (length l)) c.items-bytes.ensures in
-    let pushed : c.extend_from_slice.new.self.items ≡ out ++ take len p =
-    c.in_ok-extend_from_slice.ensures.items ∙ ap (λ (l : List ℕ). out ++ take len l) c.items-bytes.ensures in
+    let pushed : c.append.new.self ≡ out ++ take len p =
+    c.in_ok-append.ensures.ok ∙ ap (λ (l : List ℕ). out ++ take len l) c.items-bytes.ensures in
     record {
-      sent = counted_sent c.args.length pieces i p inside is left len c.args.out.now.items out c.extend_from_slice.new.self.items c.loop-piece.invariant.sent c.loop-piece.invariant.left least pushed;
-      left = counted_left c.args.length pieces i p inside is left len c.args.out.now.items out c.extend_from_slice.new.self.items c.loop-piece.invariant.sent c.loop-piece.invariant.left least pushed;
+      sent = counted_sent c.args.length pieces i p inside is left len c.args.out.now out c.append.new.self c.loop-piece.invariant.sent c.loop-piece.invariant.left least pushed;
+      left = counted_left c.args.length pieces i p inside is left len c.args.out.now out c.append.new.self c.loop-piece.invariant.sent c.loop-piece.invariant.left least pushed;
     }

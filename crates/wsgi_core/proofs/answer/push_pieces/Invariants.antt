@@ -3,4 +3,4 @@ use Rattle.std.specs.List.{concat}
 use Rattle.wsgi_core.proofs.answer.push_pieces.Given as goal
 
 abbrev pub invariant-loop-piece : goal.invariant-loop-piece
-invariant-loop-piece l = l.out.items ≡ l.initial.out.items ++ concat (take l.piece-index l.fn.pieces)
+invariant-loop-piece l = l.out ≡ l.initial.out ++ concat (take l.piece-index l.fn.pieces)

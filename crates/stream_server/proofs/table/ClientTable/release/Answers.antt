@@ -12,11 +12,11 @@ member_ended-requires g c = subst (λ (s : SeenTable g.row.T.Denot). Contains s.
 
 pub invariant_of-self : goal.invariant_of-self
 invariant_of-self g c =
-    crew_sound c.self.inside c.member_ended.new.self c.self.invariant (ap (λ (k : SeenCrew). k.size) c.member_ended.ensures) (ap (λ (k : SeenCrew). k.places) c.member_ended.ensures)
+    crew_sound c.self.inside c.member_ended.new.self c.self.invariant (ap (λ (k : SeenCrew). k.size) c.member_ended.ensures.ended) (ap (λ (k : SeenCrew). k.places) c.member_ended.ensures.ended)
 
 pub returns-clause-fewer : goal.returns-clause-fewer
 returns-clause-fewer g c =
     let h = c.self.inside in
-    ap (λ (k : SeenCrew). length k.members + 1) c.member_ended.ensures
-    ∙ without_length c.args.conn h.crew.members (rising_differ h.crew.members c.members-members.ensures.rising) (subst (λ (s : SeenTable g.row.T.Denot). Contains s.members c.args.conn) (sym c.self.view_is) c.requires)
+    ap (λ (k : SeenCrew). length k.members + 1) c.member_ended.ensures.ended
+    ∙ without_length c.args.conn h.crew.members (rising_differ h.crew.members c.member_ended.ensures.rising) (subst (λ (s : SeenTable g.row.T.Denot). Contains s.members c.args.conn) (sym c.self.view_is) c.requires)
     ∙ ap (λ (s : SeenTable g.row.T.Denot). length s.members) c.self.view_is

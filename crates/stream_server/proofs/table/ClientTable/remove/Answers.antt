@@ -17,7 +17,7 @@ pub invariant_of-self : goal.invariant_of-self
 invariant_of-self g c =
     let h = c.self.inside in
     let t = c.cancel.ensures.taken in
-    less_sound h _ c.args.conn c.in-Some.key t.timer c.self.invariant c.len-timers.ensures.differ t.item_is t.rest
+    less_sound h _ c.args.conn c.in-Some.key t.timer c.self.invariant c.timers_differ.ensures t.item_is t.rest
     c.in-Some.ensures.found c.remove.ensures.loses c.remove-2.ensures.updates refl c.remove-2.ensures.len c.remove-2.ensures.capacity refl c.remove.ensures.spare c.cancel.ensures.spare
 
 pub returns-clause-number : goal.returns-clause-number

@@ -15,7 +15,7 @@ pub invariant_of-self-2 : goal.invariant_of-self-2
 invariant_of-self-2 g c =
     let h = c.self.inside in
     let t = c.in-Some.ensures.taken in
-    less_sound h _ c.in-Some.conn c.remove-key.result t.timer c.self.invariant c.len-timers.ensures.differ t.item_is t.rest
+    less_sound h _ c.in-Some.conn c.remove-key.result t.timer c.self.invariant c.timers_differ.ensures t.item_is t.rest
     c.remove-key.ensures.place c.remove-key.ensures.loses c.remove.ensures.updates refl c.remove.ensures.len c.remove.ensures.capacity refl c.remove-key.ensures.spare c.in-Some.ensures.spare
 
 pub returns-clause-was : goal.returns-clause-was

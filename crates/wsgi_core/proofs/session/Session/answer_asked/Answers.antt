@@ -1,6 +1,5 @@
-use Rattle.std.proofs.Common.{◌≡◌, ◌++◌, ◌∙◌, refl, sym, ap, ℕ, List}
+use Rattle.std.proofs.Common.{◌≡◌, ◌∙◌, refl, sym}
 use Rattle.wsgi_core.specs.declared.session.SessionStage.TheVariants.{Asked}
-use Rattle.wsgi_core.specs.Answers.{answer}
 use Rattle.wsgi_core.specs.Steps.{progress_of}
 use Rattle.wsgi_core.proofs.ProgressLaws.{progress_at}
 use Rattle.wsgi_core.proofs.ProgressSteps.{open_where_asked, reply_there, at_asked}
@@ -13,9 +12,6 @@ returns-clause-goes_on c =
     let body = c.in-Asked.field-1 in
     let is_open = open_where_asked s.closing s.stage c.requires in
     let waits_for : s.stage ≡ Asked q body = sym c.replace.ensures.value ∙ c.in-Asked.is in
-    let bytes : c.append.new.self ≡ s.pending ++ (answer q c.args.reply).bytes =
-    c.in_ok-append-in-Asked.ensures.ok ∙ ap (λ (l : List ℕ). s.pending ++ l)
-    (c.deref.ensures.value ∙ c.in_ok-closes-in-Asked.ensures.sent ∙ ap (λ (l : List ℕ). l ++ (answer q c.args.reply).bytes) c.new-bytes.ensures.items) in
-    λ app is. at_asked app (progress_of s) (progress_at s.port c.and_one-self.result.count c.replace.new.dest s.kept c.append.new.self c.in_ok-closes-in-Asked.closes) is_open
+    λ app is. at_asked app (progress_of s) (progress_at s.port c.and_one-self.result.count c.replace.new.dest s.kept c.push_answer.new.out c.in_ok-closes-in-Asked.closes) is_open
     q body c.args.reply waits_for (reply_there app s.answered.count s.closing s.stage q body c.args.reply is_open waits_for is)
-    refl c.and_one-self.ensures c.replace.ensures.after refl bytes c.in_ok-closes-in-Asked.ensures.closes
+    refl c.and_one-self.ensures c.replace.ensures.after refl c.in_ok-closes-in-Asked.ensures.sent c.in_ok-closes-in-Asked.ensures.closes
