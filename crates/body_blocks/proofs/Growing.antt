@@ -1,6 +1,8 @@
 -- The blocks with one more, and a place among them.
-use Rattle.std.proofs.Common.{◌≡◌, refl, ap, sym, subst, ◌∙◌, ℕ, zero, suc, ◌≤◌, List, [], ◌∷◌, ◌++◌, length, map, drop, take, Option, Some, None, slice_get, unwrap_or, option_map}
-use Rattle.std.proofs.lemmas.List.{append_assoc, append-nil, length-map, take_all}
+use Prim.Native.Nat.{max}
+use denote.Param.Weighed.{most, most-append}
+use Rattle.std.proofs.Common.{◌≡◌, refl, ap, sym, subst, ◌∙◌, ℕ, zero, suc, ◌≤◌, List, [], ◌∷◌, ◌++◌, length, map, drop, reverse, Option, Some, None, slice_get, unwrap_or, option_map, arith}
+use Rattle.std.proofs.lemmas.List.{append_assoc, append-nil, length-map, map-append, reverse-append}
 use Rattle.scenario_tree.specs.declared.tree.Statement.{Statement}
 use Rattle.body_blocks.specs.declared.statement.FlatStatement.{FlatStatement}
 use Rattle.body_blocks.specs.Trees.{AllStand, IsAhead, Stands, block_at, statement_of, trees}
@@ -19,17 +21,13 @@ no_trees = refl
 pub own_tree : (t : List (List Statement)) (b : List FlatStatement) (ss : List Statement) → Stands t b ss → map (statement_of t) b ≡ ss
 own_tree t b ss h = subst (λ (u : List (List Statement)). map (statement_of u) b ≡ ss) (append-nil t) (h [])
 
-map_more : {X Y : Type 0} (f : X → Y) (xs ys : List X) → map f (xs ++ ys) ≡ map f xs ++ map f ys
-map_more f [] ys = refl
-map_more f (x ∷ xs) ys = ap (λ zs. f x ∷ zs) (map_more f xs ys)
-
 -- one more block keeps that all stand
 pub all_stand_more : (bs : List (List FlatStatement)) (b : List FlatStatement) (t : List (List Statement)) (ss : List Statement) → AllStand bs t → Stands t b ss →
     AllStand (bs ++ b ∷ []) (t ++ ss ∷ [])
 all_stand_more bs b t ss all own = λ more.
     let same : (t ++ ss ∷ []) ++ more ≡ t ++ (ss ∷ [] ++ more) = append_assoc t (ss ∷ []) more in
     let f : List (List Statement) → List FlatStatement → List Statement = λ u c. map (statement_of u) c in
-    map_more (f ((t ++ ss ∷ []) ++ more)) bs (b ∷ [])
+    map-append (f ((t ++ ss ∷ []) ++ more)) bs (b ∷ [])
     ∙ ap (λ (u : List (List Statement)). map (f u) bs ++ f u b ∷ []) same
     ∙ ap (λ (us : List (List Statement)). us ++ f (t ++ (ss ∷ [] ++ more)) b ∷ []) (all (ss ∷ [] ++ more))
     ∙ ap (λ (c : List Statement). t ++ c ∷ []) (own (ss ∷ [] ++ more))
@@ -104,14 +102,39 @@ as_many bs t u all same =
     let e : map (map (statement_of (t ++ []))) bs ≡ t = all [] in
     sym (length-map bs (map (statement_of (t ++ [])))) ∙ ap length e ∙ ap length same
 
+-- ---- a list that is taken from its end
+
+-- what is left, before what these stand for, is the whole list, whatever blocks are made after them
+abbrev pub Taken : {X Y : Type 0} → (List (List Statement) → X → Y) → List (List Statement) → List Y → List X → List Y → Type 0
+Taken f t left xs whole = (more : List (List Statement)) → left ++ reverse (map (f (t ++ more)) xs) ≡ whole
+
+map-turned : {X Y : Type 0} (f : X → Y) (xs : List X) → map f (reverse xs) ≡ reverse (map f xs)
+map-turned f [] = refl
+map-turned f (x ∷ xs) =
+    ap (map f) (reverse-append (x ∷ []) xs) ∙ map-append f (reverse xs) (x ∷ []) ∙ ap (λ ys. ys ++ f x ∷ []) (map-turned f xs)
+    ∙ sym (reverse-append (f x ∷ []) (map f xs))
+
+-- what is taken is no larger than the largest of the list
+pub taken_within : {Y : Type 0} (μ : Y → ℕ) (old new rest whole : List Y) (y : Y) → old ++ rest ≡ whole → old ≡ new ++ y ∷ [] → μ y ≤ most μ whole
+taken_within μ old new rest whole y all popped =
+    let before : most μ old ≡ max (most μ new) (most μ (y ∷ [])) = ap (most μ) popped ∙ most-append μ new (y ∷ []) in
+    let both : most μ whole ≡ max (most μ old) (most μ rest) = ap (most μ) (sym all) ∙ most-append μ old rest in
+    omega (arith, before, both)
+
+-- all is taken, and stands in its order
+pub all_taken : {X Y : Type 0} (f : List (List Statement) → X → Y) (t : List (List Statement)) (left : List Y) (xs done : List X) (whole : List Y) → Taken f t left xs whole →
+    left ≡ [] → done ≡ reverse xs → (more : List (List Statement)) → map (f (t ++ more)) done ≡ whole
+all_taken {X} {Y} f t left xs done whole taken none turned more =
+    ap (map (f (t ++ more))) turned ∙ map-turned (f (t ++ more)) xs
+    ∙ ap (λ (ys : List Y). ys ++ reverse (map (f (t ++ more)) xs)) (sym none) ∙ taken more
+
 -- ---- flat statements for those of a tree
 
 pub stand_own : (t : List (List Statement)) (b : List FlatStatement) (ss : List Statement) → Stands t b ss → Stands t b (map (statement_of t) b)
 stand_own t b ss h = subst (Stands t b) (sym (own_tree t b ss h)) h
 
-pub pushed_block : (t u : List (List Statement)) (b : List FlatStatement) (full : List Statement) (n p : ℕ) → Stands t b (take p full) → length full ≤ p →
+pub pushed_block : (t u : List (List Statement)) (b : List FlatStatement) (full : List Statement) (n : ℕ) → Stands t b full →
     u ≡ t ++ map (statement_of t) b ∷ [] → n ≡ length t → (more : List (List Statement)) → block_at n (u ++ more) ≡ full
-pushed_block t u b full n p h all e k more =
-    let whole : map (statement_of t) b ≡ full = own_tree t b (take p full) h ∙ take_all p full all in
+pushed_block t u b full n h e k more =
     ap (λ (i : ℕ). block_at i (u ++ more)) k ∙ ap (λ (w : List (List Statement)). block_at (length t) (w ++ more)) e
-    ∙ last_block t (map (statement_of t) b) more ∙ whole
+    ∙ last_block t (map (statement_of t) b) more ∙ own_tree t b full h

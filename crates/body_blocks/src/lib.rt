@@ -1,11 +1,13 @@
-//! The blocks of some code by their numbers. No block stands inside another: a statement names those inside it.
+//! The blocks of some code by their numbers. No block stands inside another: a statement names those inside it. They are
+//! made of a tree that is given up, so that no part of it is copied.
 #![tactic(auto)]
 
 mod adding;
 mod blocks;
-mod copies;
 mod statement;
+mod turning;
 
 pub use adding::add_block;
 pub use blocks::Blocks;
 pub use statement::{FlatAction, FlatExcept, FlatStatement};
+pub use turning::turned;

@@ -1,27 +1,23 @@
 -- Moves of a body one after another.
-use Rattle.std.proofs.Common.{◌≡◌, refl, ap, subst, sym, ◌∙◌, ℕ, suc, ◌+◌, ◌<◌, Bool, true, false, List, [], Some, None, arith}
+use Rattle.std.proofs.Common.{◌≡◌, refl, ap, subst, sym, ◌∙◌, ℕ, suc, ◌+◌, Bool, true, false, List, [], None, arith}
 use Rattle.scenario_tree.specs.declared.tree.Scenario.{Scenario}
 use Rattle.scenario_tree.specs.declared.tree.Statement.{Statement}
 use Rattle.machine.specs.declared.state.Frame.{Frame}
 use Rattle.machine.specs.declared.state.Local.{Local}
 use Rattle.machine.specs.Bodies.{around}
 use Rattle.machine.specs.BodyMoves.{body_move}
-use Rattle.machine.specs.declared.state.Leaving.{Leaving}
 use Rattle.machine.specs.Expressions.{Around, Look}
-use Rattle.machine.specs.Unwinding.{Unwound}
 use Rattle.body_frames.specs.declared.entry.Entry.{Entry}
 use Rattle.body_frames.specs.declared.stack.Made.{Made}
 use Rattle.body_frames.specs.declared.stack.Stack.{Stack}
 use Rattle.body_frames.specs.declared.unwind.Unwound.{Unwound as Left}
-use Rattle.body_frames.specs.AtMove.{IsAtMove}
 use Rattle.body_frames.specs.Entries.{todo_of}
 use Rattle.body_frames.specs.Few.{HasFewBody, HasFewToDo}
 use Rattle.body_frames.specs.Places.{Came, Place}
 use Rattle.body_frames.specs.PrimitiveMoves.{HasMade, RunsAt}
-use Rattle.body_frames.specs.Runs.{HasGoneOn, HasMoved, MovesOn, came_of_move}
+use Rattle.body_frames.specs.Runs.{HasCome, HasMoved, HasStayed, MovesOn, came_of_move}
 use Rattle.body_frames.specs.Standings.{body_after, came_of_made, frame_of}
 use Rattle.body_frames.specs.Steady.{IsSteady}
-use Rattle.body_frames.proofs.AtMoves.{moves_as}
 use Rattle.body_frames.proofs.Coming.{comes_of_move}
 use Rattle.body_frames.proofs.Keeping.{move_stays_few}
 use Rattle.body_frames.proofs.PrimitiveMoves.{primitive_made}
@@ -58,9 +54,6 @@ leads_last t around n a old made new leads h =
 
 -- ---- where the body stays
 
-pub stays_at_move : (t : List (List Statement)) (made : Made) (s : Stack) → made ≡ Made.Further Left.Runs → IsSteady (body_after t made s) → IsAtMove (todo_of t s.todo)
-stays_at_move t made s stays h = subst (λ (m : Made). IsSteady (body_after t m s)) stays h
-
 pub stays_few : (t : List (List Statement)) (made : Made) (s : Stack) → made ≡ Made.Further Left.Runs → HasFewBody (body_after t made s) → HasFewToDo (todo_of t s.todo)
 stays_few t made s stays h = subst (λ (m : Made). HasFewBody (body_after t m s)) stays h
 
@@ -76,33 +69,33 @@ moves_on_as t u f locals todo around n made s came shared view same h =
 
 -- ---- one move
 
-pub gone_by : (t : List (List Statement)) (around : List Local → Around) (left : ℕ) (old : Stack) (made : Made) (new : Stack) → HasFewToDo (todo_of t old.todo) →
-    IsSteady (body_after t made new) → HasMoved t around old made new → HasGoneOn t around left old (Some made) new
-gone_by t around left old made new few steady h =
-    (steady, move_stays_few t (todo_of t old.todo) (around old.locals) old.locals made new few h, h)
+pub come_by : (t : List (List Statement)) (around : List Local → Around) (old : Stack) (made : Made) (new : Stack) → HasFewToDo (todo_of t old.todo) →
+    IsSteady (body_after t made new) → HasMoved t around old made new → HasCome t around old made new
+come_by t around old made new few steady h = (steady, move_stays_few t (todo_of t old.todo) (around old.locals) old.locals made new few h, h)
+
+-- nothing was done
+pub unmade : (t : List (List Statement)) (old new : Stack) (made : Bool) → HasMade made t old new → made ≡ false → new ≡ old
+unmade t old new false h not = h
+unmade t old new true h not = cc
 
 -- where nothing was done before
-pub gone_any : (t : List (List Statement)) (around : List Local → Around) (left : ℕ) (old mid : Stack) (tried : Bool) (made : Made) (new : Stack) → tried ≡ false →
-    HasMade tried t old mid → HasFewToDo (todo_of t old.todo) → IsSteady (body_after t made new) → HasMoved t around mid made new →
-    HasGoneOn t around left old (Some made) new
-gone_any t around left old mid false made new not h few steady moved =
-    gone_by t around left old made new few steady (subst (λ (s : Stack). HasMoved t around s made new) h moved)
-gone_any t around left old mid true made new not h few steady moved = cc
+pub come_by_any : (t : List (List Statement)) (around : List Local → Around) (old mid : Stack) (tried : Bool) (made : Made) (new : Stack) → tried ≡ false →
+    HasMade tried t old mid → HasFewToDo (todo_of t old.todo) → IsSteady (body_after t made new) → HasMoved t around mid made new → HasCome t around old made new
+come_by_any t around old mid tried made new not h few steady moved =
+    come_by t around old made new few steady (subst (λ (s : Stack). HasMoved t around s made new) (unmade t old mid tried h not) moved)
 
-pub gone_at_once : (t : List (List Statement)) (s : Scenario) (look : Look) (left : ℕ) (old : Stack) (made : Bool) (new : Stack) → HasFewToDo (todo_of t old.todo) →
-    old.left ≡ [] → made ≡ true → HasMade made t old new → RunsAt (todo_of t new.todo) → 1 < left → HasGoneOn t (around s look) left old None new
-gone_at_once t s look left old false new few told h made runs more = cc
-gone_at_once t s look left old true new few told h made runs more =
+pub stayed_at_once : (t : List (List Statement)) (s : Scenario) (look : Look) (old : Stack) (made : Bool) (new : Stack) → HasFewToDo (todo_of t old.todo) → old.left ≡ [] →
+    made ≡ true → HasMade made t old new → RunsAt (todo_of t new.todo) → HasStayed t (around s look) old new
+stayed_at_once t s look old false new few told h made runs = cc
+stayed_at_once t s look old true new few told h made runs =
     let moved : HasMoved t (around s look) old (Made.Further Left.Runs) new =
     primitive_made true t old new new Left.Runs s look refl made told (runs new.left new.locals) in (
-      more,
       made.0 ∙ told,
-      moves_as (Unwound.Runs [] new.locals (todo_of t new.todo)) (todo_of t new.todo) [] Leaving.Normally new.locals (runs [] new.locals),
       move_stays_few t (todo_of t old.todo) (around s look old.locals) old.locals (Made.Further Left.Runs) new few moved,
       moved,
     )
 
 -- a body that stays leads on
-pub leads_at_once : (t : List (List Statement)) (around : List Local → Around) (left n : ℕ) (a : Frame) (old new : Stack) →
-    LeadsTo around n a (frame_of t old) → HasGoneOn t around left old None new → LeadsTo around (n + 1) a (frame_of t new)
-leads_at_once t around left n a old new leads h = leads_on t around n a old (Made.Further Left.Runs) new leads h.4 refl h.1
+pub leads_at_once : (t : List (List Statement)) (around : List Local → Around) (n : ℕ) (a : Frame) (old new : Stack) →
+    LeadsTo around n a (frame_of t old) → HasStayed t around old new → LeadsTo around (n + 1) a (frame_of t new)
+leads_at_once t around n a old new leads h = leads_on t around n a old (Made.Further Left.Runs) new leads h.2 refl h.0

@@ -3,6 +3,7 @@ pub mod AtMoves
 pub mod Catches
 pub mod Coming
 pub mod Few
+pub mod Heads
 pub mod Keeping
 pub mod Leading
 pub mod Leavings

@@ -1,5 +1,5 @@
 -- Moves of a body one after another, with nothing of the hub between them. This project's own.
-use Rattle.std.specs.Prelude.{ℕ, zero, suc, ◌≡◌, ◌<◌, List, [], Option, Some, None}
+use Rattle.std.specs.Prelude.{ℕ, zero, suc, ◌≡◌, List, []}
 use Rattle.scenario_tree.specs.declared.tree.Statement.{Statement}
 use Rattle.machine.specs.declared.state.Frame.{Frame}
 use Rattle.machine.specs.declared.state.Local.{Local}
@@ -10,7 +10,6 @@ use Rattle.machine.specs.Unwinding.{Unwound}
 use Rattle.body_frames.specs.declared.stack.Made.{Made}
 use Rattle.body_frames.specs.declared.stack.Stack.{Stack}
 use Rattle.body_frames.specs.declared.unwind.Unwound.{Unwound as Left}
-use Rattle.body_frames.specs.AtMove.{IsAtMove}
 use Rattle.body_frames.specs.Entries.{todo_of}
 use Rattle.body_frames.specs.Few.{HasFewBody, HasFewToDo}
 use Rattle.body_frames.specs.Places.{Came, Place, came_by}
@@ -31,8 +30,10 @@ abbrev pub HasMoved : List (List Statement) → (List Local → Around) → Stac
 HasMoved t around old made new = (moves : ℕ) (go : Unwound → Stepped) →
     after_move moves old.locals go (body_move (todo_of t old.todo) (around old.locals)) ≡ made_of t moves go made new
 
--- The move was made, of so many that are left. Where nothing is told of it, the body stays, and there are more.
-abbrev pub HasGoneOn : List (List Statement) → (List Local → Around) → ℕ → Stack → Option Made → Stack → Type 0
-HasGoneOn t around left old None new = (1 < left) × (new.left ≡ []) × IsAtMove (todo_of t new.todo) × HasFewToDo (todo_of t new.todo)
-    × HasMoved t around old (Made.Further Left.Runs) new
-HasGoneOn t around left old (Some made) new = IsSteady (body_after t made new) × HasFewBody (body_after t made new) × HasMoved t around old made new
+-- it was made so, and the body after it, if it goes on by itself, is at its next move, with few arguments in each call
+abbrev pub HasCome : List (List Statement) → (List Local → Around) → Stack → Made → Stack → Type 0
+HasCome t around old made new = IsSteady (body_after t made new) × HasFewBody (body_after t made new) × HasMoved t around old made new
+
+-- it was made so, and the body is at its next move
+abbrev pub HasStayed : List (List Statement) → (List Local → Around) → Stack → Stack → Type 0
+HasStayed t around old new = (new.left ≡ []) × HasFewToDo (todo_of t new.todo) × HasMoved t around old (Made.Further Left.Runs) new

@@ -1,22 +1,22 @@
 //! One move of a body.
-ghost use Rattle.std.specs.Prelude.{◌≡◌, ◌∷◌, [], ℕ, true, IfOk};
-ghost use Rattle.machine.specs.declared.state.Todo.TheVariants as undone;
+ghost use Rattle.std.specs.Prelude.{◌≡◌, [], ℕ, false, IfOk};
 ghost use Rattle.machine.specs.Bodies.{around, after_move, Stepped as Went};
-ghost use Rattle.machine.specs.BodyMoves.{action_move, body_move, while_move};
+ghost use Rattle.machine.specs.BodyMoves.{action_move, while_move};
 ghost use Rattle.machine.specs.Unwinding.{Unwound as Place};
 ghost use Rattle.body_blocks.specs.Trees.{block_at};
-ghost use Rattle.body_values.specs.Few.{HasFew, HasFewParts};
+ghost use Rattle.body_values.specs.Few.{HasFewParts};
 ghost use Rattle.body_moves.specs.Chosen.{branch_move, came_of};
-ghost use Rattle.body_frames.specs.AtMove.{IsAtMove};
-ghost use Rattle.body_frames.specs.Entries.{begins, form_of, optional_block, rest, todo_of};
-ghost use Rattle.body_frames.specs.Few.{HasFewBody, HasFewToDo};
-ghost use Rattle.body_frames.specs.Runs.{HasGoneOn, HasMoved};
+ghost use Rattle.body_frames.specs.declared.stack.Stack.{Stack as Stacks};
+ghost use Rattle.body_frames.specs.Entries.{form_of, optional_block, todo_of};
+ghost use Rattle.body_frames.specs.Few.{HasFewToDo};
+ghost use Rattle.body_frames.specs.PrimitiveMoves.{HasMade};
+ghost use Rattle.body_frames.specs.Runs.{HasCome, HasMoved};
 ghost use Rattle.body_frames.specs.Standings.{body_after, made_of};
 ghost use Rattle.body_frames.specs.Steady.{IsSteady};
 
 use crate::entry::Entry;
-use crate::primitive_moves::make_primitive_move;
-use crate::stack::{Made, Stack, go_inwards, is_at_move, leave};
+use crate::primitive_moves::{advance, make_primitive_move};
+use crate::stack::{Made, Stack, go_inwards, leave};
 use body_blocks::{Blocks, FlatAction};
 use body_moves::{Chosen, Evaluation, choose_command, choose_giving};
 use body_values::{Code, Look};
@@ -38,85 +38,59 @@ pub struct Context<'a, L> {
 /// Makes the move at the head of what is still to do.
 pub fn make_move<L: Look>(context: &Context<'_, L>, stack: &mut Stack) -> Result<Made, AllocError>
     requires told { stack.old.left ≡ [] }
-    requires moves { IsAtMove (todo_of context.now.blocks.now stack.old.todo) }
     requires few { HasFewToDo (todo_of context.now.blocks.now stack.old.todo) }
-    ensures steady { IfOk result (λ made. IsSteady (body_after context.now.blocks.now made stack.new)) }
-    ensures few { IfOk result (λ made. HasFewBody (body_after context.now.blocks.now made stack.new)) }
-    ensures made { IfOk result (λ made. HasMoved context.now.blocks.now (around context.now.code.now (L.answers context.now.look.now)) stack.old made stack.new) }
+    ensures { IfOk result (λ made. HasCome context.now.blocks.now (around context.now.code.now (L.answers context.now.look.now)) stack.old made stack.new) }
 {
-    match move_once(context, stack, 1)? {
-        Some(made) => Ok(made),
-        // It was the last.
-        None => unreachable!(),
-    }
+    let is_made = make_primitive_move(context.blocks, stack)?;
+    Ok(finish_move(context, stack, is_made)?)
 }
 
-/// Makes the move at the head of what is still to do, of so many that are left: none where the body stays at its next
-/// move, has left no timeout block, and more are left; else what came of the move. A move of integers and truth values
-/// makes no result.
-#[inline]
-pub fn move_once<L: Look>(
+/// What comes of the move at the head, which was made already as one of integers and truth values, or is made here. Its
+/// results are large, so that it stays a call.
+#[inline(never)]
+pub fn finish_move<L: Look>(
     context: &Context<'_, L>,
     stack: &mut Stack,
-    left: u64,
-) -> Result<Option<Made>, AllocError>
-    requires told { stack.old.left ≡ [] }
-    requires moves { IsAtMove (todo_of context.now.blocks.now stack.old.todo) }
-    requires few { HasFewToDo (todo_of context.now.blocks.now stack.old.todo) }
-    ensures { IfOk result (λ gone. HasGoneOn context.now.blocks.now (around context.now.code.now (L.answers context.now.look.now)) left stack.old gone stack.new) }
+    is_made: bool,
+) -> Result<Made, AllocError>
+    requires told { is_made ≡ false → stack.old.left ≡ [] }
+    requires few { is_made ≡ false → HasFewToDo (todo_of context.now.blocks.now stack.old.todo) }
+    ensures { (old : Stacks) → HasMade is_made context.now.blocks.now old stack.old → HasFewToDo (todo_of context.now.blocks.now old.todo) → old.left ≡ [] →
+        IfOk result (λ made. HasCome context.now.blocks.now (around context.now.code.now (L.answers context.now.look.now)) old made stack.new) }
 {
-    if make_primitive_move(context.blocks, stack)? {
-        if 1 < left && is_at_move(context.blocks, &stack.todo) {
-            return Ok(None);
-        }
-        return Ok(Some(Made::Further(go_inwards(context.blocks, stack)?)));
+    if is_made {
+        return Ok(Made::Further(go_inwards(context.blocks, stack)?));
     }
-    Ok(Some(make_any_move(context, stack)?))
+    Ok(make_any_move(context, stack)?)
 }
 
-/// Makes the move, whatever it is. Its results are large, so that it stays a call.
-#[inline(never)]
+/// Makes the move at the head, whatever it is. Where no move stands there, the body goes on inwards, as the definition
+/// says.
 fn make_any_move<L: Look>(context: &Context<'_, L>, stack: &mut Stack) -> Result<Made, AllocError>
     requires told { stack.old.left ≡ [] }
-    requires moves { IsAtMove (todo_of context.now.blocks.now stack.old.todo) }
     requires few { HasFewToDo (todo_of context.now.blocks.now stack.old.todo) }
     ensures steady { IfOk result (λ made. IsSteady (body_after context.now.blocks.now made stack.new)) }
-    ensures made { IfOk result (λ made. (moves : ℕ) (go : Place → Went) →
-        after_move moves stack.old.locals go (body_move (todo_of context.now.blocks.now stack.old.todo) (around context.now.code.now (L.answers context.now.look.now) stack.old.locals))
-        ≡ made_of context.now.blocks.now moves go made stack.new) }
+    ensures made { IfOk result (λ made. HasMoved context.now.blocks.now (around context.now.code.now (L.answers context.now.look.now)) stack.old made stack.new) }
 {
-    match stack.todo.pop() {
-        Some(Entry::Rest { block, at }) => Ok(move_rest(context, stack, block, at)?),
-        Some(Entry::Again(test, body)) => Ok(test_while(context, stack, test, body)?),
-        Some(Entry::Guard(_, _)) => unreachable!(),
-        Some(Entry::Final(_)) => unreachable!(),
-        Some(Entry::Afterwards(_)) => unreachable!(),
-        Some(Entry::Within(_, _)) => unreachable!(),
-        None => unreachable!(),
-    }
-}
-
-/// Makes the move of the statement at this place.
-fn move_rest<L: Look>(
-    context: &Context<'_, L>,
-    stack: &mut Stack,
-    block: usize,
-    at: usize,
-) -> Result<Made, AllocError>
-    requires told { stack.old.left ≡ [] }
-    requires moves { begins (rest context.now.blocks.now block at) ≡ true }
-    requires few { HasFew (rest context.now.blocks.now block at) }
-    ensures steady { IfOk result (λ made. IsSteady (body_after context.now.blocks.now made stack.new)) }
-    ensures made { IfOk result (λ made. (moves : ℕ) (go : Place → Went) →
-        after_move moves stack.old.locals go (body_move (undone.Statements (rest context.now.blocks.now block at) ∷ todo_of context.now.blocks.now stack.old.todo) (around context.now.code.now (L.answers context.now.look.now) stack.old.locals))
-        ≡ made_of context.now.blocks.now moves go made stack.new) }
-{
-    match context.blocks.ahead(block, at) {
-        Some(statement) => {
-            stack.todo.push(Entry::Rest { block, at: at + 1 })?;
-            Ok(act(context, stack, &statement.action)?)
+    match stack.todo.first() {
+        Some(Entry::Rest { block, at }) => {
+            let block = *block;
+            let at = *at;
+            match context.blocks.ahead(block, at) {
+                Some(statement) => {
+                    advance(&mut stack.todo, block, at + 1)?;
+                    Ok(act(context, stack, &statement.action)?)
+                }
+                None => Ok(Made::Further(go_inwards(context.blocks, stack)?)),
+            }
         }
-        None => unreachable!(),
+        Some(Entry::Again(test, body)) => {
+            let test = test.clone()?;
+            let body = *body;
+            stack.todo.drop_first();
+            Ok(test_while(context, stack, test, body)?)
+        }
+        _ => Ok(Made::Further(go_inwards(context.blocks, stack)?)),
     }
 }
 

@@ -121,7 +121,7 @@ fn bind_value(
 }
 
 /// The first entry gives way to the rest of the block from this place on.
-fn advance(todo: &mut Pile<Entry>, block: usize, next: usize) -> Result<(), AllocError>
+pub fn advance(todo: &mut Pile<Entry>, block: usize, next: usize) -> Result<(), AllocError>
     ensures { OnOk result (todo.new ≡ Listed.Rest block next ∷ drop 1 todo.old) }
 {
     todo.drop_first();
@@ -130,6 +130,7 @@ fn advance(todo: &mut Pile<Entry>, block: usize, next: usize) -> Result<(), Allo
 }
 
 /// The same, but for a rest without statements, which is left at once.
+#[inline(always)]
 #[tactic(auto, using(crate::proofs::PrimitiveMoves::passed_on, crate::proofs::PrimitiveMoves::passed_out))]
 fn pass(
     blocks: &Blocks,

@@ -52,20 +52,24 @@ pub struct Start {
 }
 
 impl Code {
-    /// The code of this scenario. `AllocError`: memory is wanting.
-    pub fn new(alloc: Global, scenario: &Scenario) -> Result<Code, AllocError>
-        requires small { IsSmall scenario.now }
-        requires few { HasFewCalls scenario.now }
-        ensures { IfOk result (λ code. code ≡ scenario.now) }
+    /// The code of this scenario, which is given up. `AllocError`: memory is wanting.
+    pub fn new(alloc: Global, scenario: Scenario) -> Result<Code, AllocError>
+        requires small { IsSmall scenario }
+        requires few { HasFewCalls scenario }
+        ensures { IfOk result (λ code. code ≡ scenario) }
     {
-        let object_numbers = number_objects(alloc, scenario.objects.as_slice())?;
-        let function_numbers = number_functions(alloc, scenario.functions.as_slice())?;
-        let objects = Items::from_slice(alloc, scenario.objects.as_slice())?;
+        let Scenario {
+            profile,
+            objects,
+            functions,
+        } = scenario;
+        let object_numbers = number_objects(alloc, objects.as_slice())?;
+        let function_numbers = number_functions(alloc, functions.as_slice())?;
         let mut blocks = Blocks::new(alloc);
-        let functions = add_functions(alloc, &mut blocks, scenario.functions.as_slice())?;
+        let functions = add_functions(alloc, &mut blocks, functions)?;
         let blocks = Rc::new(alloc, blocks)?;
         Ok(Code {
-            profile: scenario.profile,
+            profile,
             objects,
             functions,
             object_numbers,

@@ -5,7 +5,7 @@ ghost use Rattle.body_blocks.specs.Trees.{Grows};
 ghost use Rattle.machine.specs.Greenlets.{no_function};
 ghost use Rattle.body_values.specs.Codes.{function_of};
 
-use body_blocks::{Blocks, add_block};
+use body_blocks::{Blocks, add_block, turned};
 use gv_values::Name;
 use scenario_tree::{Function, Items};
 use std::alloc::{AllocError, Global};
@@ -24,32 +24,39 @@ pub struct FlatFunction {
 pub fn add_functions(
     alloc: Global,
     blocks: &mut Blocks,
-    functions: &[Function],
+    functions: Items<Function>,
 ) -> Result<Items<FlatFunction>, AllocError>
-    ensures { IfOk result (λ flat. map (function_of blocks.new) flat ≡ functions.now) }
+    ensures { IfOk result (λ flat. map (function_of blocks.new) flat ≡ functions) }
 {
-    let mut flat = Items::new(alloc);
-    for function in functions {
+    let mut left = functions;
+    let mut flat = Vec::with_capacity(alloc, left.len())?;
+    while let Some(function) = left.pop() {
         let one = add_function(alloc, blocks, function)?;
         flat.push(one)?;
     }
-    Ok(flat)
+    Ok(turned(flat))
 }
 
 fn add_function(
     alloc: Global,
     blocks: &mut Blocks,
-    function: &Function,
+    function: Function,
 ) -> Result<FlatFunction, AllocError>
     ensures grows { IfOk result (λ _. Grows blocks.old blocks.new) }
-    ensures same { IfOk result (λ f. (more : List (List Line)) → function_of (blocks.new ++ more) f ≡ function.now) }
+    ensures same { IfOk result (λ f. (more : List (List Line)) → function_of (blocks.new ++ more) f ≡ function) }
 {
-    let parameters = Items::from_slice(alloc, function.parameters.as_slice())?;
-    let body = add_block(alloc, blocks, &function.body)?;
+    let Function {
+        line,
+        is_raw,
+        name,
+        parameters,
+        body,
+    } = function;
+    let body = add_block(alloc, blocks, body)?;
     Ok(FlatFunction {
-        line: function.line,
-        is_raw: function.is_raw,
-        name: function.name,
+        line,
+        is_raw,
+        name,
         parameters,
         body,
     })

@@ -6,12 +6,12 @@ use machine_arguments::calls_have_few;
 use scenario_check::Checked;
 use std::alloc::{AllocError, Global};
 
-/// The code of a scenario: its objects, and its functions with their blocks by number. `AllocError`: memory is
-/// wanting.
+/// The code of a scenario, which is given up: its objects, and its functions with their blocks by number. `AllocError`:
+/// memory is wanting.
 #[tactic(auto, using(crate::proofs::Limits::well_formed_is_small))]
-pub fn compile(alloc: Global, checked: &Checked) -> Result<Code, AllocError>
-    ensures { IfOk result (λ code. code ≡ checked.now) }
+pub fn compile(alloc: Global, checked: Checked) -> Result<Code, AllocError>
+    ensures { IfOk result (λ code. code ≡ checked) }
 {
     calls_have_few();
-    Ok(Code::new(alloc, checked.scenario().tree())?)
+    Ok(Code::new(alloc, checked.into_tree())?)
 }

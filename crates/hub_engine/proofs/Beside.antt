@@ -1,9 +1,8 @@
 -- Requests that have nothing to do with greenlets: they come to the same, whatever greenlets there are.
-use Rattle.std.proofs.Common.{◌≡◌, refl, ap, sym, ◌∙◌, subst, ℕ, zero, suc, ◌==◌, Bool, true, false, List, [], ◌∷◌, Option, Some, None, slice_get, slice_set, if◌then◌else◌, arith}
+use Rattle.std.proofs.Common.{◌≡◌, refl, ap, sym, ◌∙◌, ℕ, zero, suc, ◌==◌, Bool, true, false, List, [], ◌∷◌, Option, Some, None, slice_set, if◌then◌else◌, arith}
 use Rattle.std.proofs.lemmas.Bool.{true≢false}
 use Rattle.gv_values.specs.Jobs.{job_of}
 use Rattle.gv_values.specs.declared.value.Outcome.{Outcome}
-use Rattle.gv_values.specs.declared.value.Value.{Value}
 use Rattle.scenario_tree.specs.declared.tree.Wait.{Wait}
 use Rattle.trace_text.specs.declared.line.Awaited.{Awaited}
 use Rattle.machine.specs.declared.items.Waiting.{Waiting}

@@ -17,7 +17,7 @@ use Rattle.machine.specs.declared.state.Post.{Post}
 use Rattle.machine.specs.Run.{logged, silent}
 use Rattle.machine.specs.State.{State}
 use Rattle.machine_turns.specs.Logs.{posts_of_step}
-use Rattle.hub_engine.specs.Outside.{HasDone, HasGiven, HasGivenPart, HasPostedPart, Outside, WritesPart, out_of, outside}
+use Rattle.hub_engine.specs.Outside.{HasDone, HasGiven, HasGivenPart, HasPostedPart, Outside, WritesPart, out_of, outside_as}
 use Rattle.hub_engine.proofs.Texts.{text_of_append}
 use Rattle.hub_engine.proofs.Trying.{fit_append, tried-after, tried-longer, tried-nothing, tried-whole}
 
@@ -118,26 +118,26 @@ part_nothing v lines posts = record { text = tried-nothing v.written lines; out 
 
 -- all was given out, and it broke off behind that
 pub given_whole : (v w : Outside) (waits : Bool) (written handed : Option (List ℕ)) (lines : List Line) (posts : List Post) → HasGiven v w lines (map logged posts) → written ≡ w.written →
-    Extends w.out (outside waits written handed w.means w.stands).out → HasGivenPart v (outside waits written handed w.means w.stands) lines posts
+    Extends w.out (outside_as waits written handed w.means w.stands).out → HasGivenPart v (outside_as waits written handed w.means w.stands) lines posts
 given_whole v w waits written handed lines posts g same more = record {
   text = subst (WritesPart v.written written) (append-nil lines) (tried-whole v.written written lines [] (same ∙ g.text) g.fit);
-  out = Extends-after v.out w.out (outside waits written handed w.means w.stands).out g.out more;
-  made = made_all v (outside waits written handed w.means w.stands) posts g.done;
+  out = Extends-after v.out w.out (outside_as waits written handed w.means w.stands).out g.out more;
+  made = made_all v (outside_as waits written handed w.means w.stands) posts g.done;
 }
 
 -- what was given out was handed on too
 pub given_flushed : (v w : Outside) (waits : Bool) (written handed : Option (List ℕ)) (lines : List Line) (entries : List LogEntry) → HasGiven v w lines entries → written ≡ w.written →
-    Extends w.out (outside waits written handed w.means w.stands).out → HasGiven v (outside waits written handed w.means w.stands) lines entries
+    Extends w.out (outside_as waits written handed w.means w.stands).out → HasGiven v (outside_as waits written handed w.means w.stands) lines entries
 given_flushed v w waits written handed lines entries g same more = record {
   text = same ∙ g.text;
-  out = Extends-after v.out w.out (outside waits written handed w.means w.stands).out g.out more;
+  out = Extends-after v.out w.out (outside_as waits written handed w.means w.stands).out g.out more;
   fit = g.fit;
   done = g.done;
 }
 
 -- some posts were made, and nothing was written
 pub part_posted : (waits : Bool) (written handed : Option (List ℕ)) (m n : WorldMeaning) (stood stands : List LogEntry → Type 0) (lines : List Line) (posts : List Post) →
-    HasPostedPart (outside waits None None m stood) (outside waits None None n stands) posts → HasGivenPart (outside waits written handed m stood) (outside waits written handed n stands) lines posts
+    HasPostedPart (outside_as waits None None m stood) (outside_as waits None None n stands) posts → HasGivenPart (outside_as waits written handed m stood) (outside_as waits written handed n stands) lines posts
 part_posted waits written handed m n stood stands lines posts h = record {
   text = tried-nothing written lines;
   out = Extends-nothing (out_of waits written handed);

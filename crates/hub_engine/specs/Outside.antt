@@ -1,15 +1,17 @@
 -- What a part of a run does outside of the hub: the text that it writes to the sink, and what it does with the world.
-use Rattle.std.specs.Prelude.{◌≡◌, ℕ, Bool, false, if◌then◌else◌, List, [], ◌∷◌, ◌++◌, map, ⊤, Option, Result, Ok, Err}
+use Rattle.std.specs.Prelude.{◌≡◌, ℕ, Bool, false, if◌then◌else◌, List, [], ◌∷◌, ◌++◌, map, ⊤, Option, None, Result, Ok, Err}
 use Rattle.trace_text.specs.declared.line.Line.{Line}
 use Rattle.trace_text.specs.LineTexts.{text_of}
 use Rattle.trace_reader.specs.Ranges.{LinesFit}
 use Rattle.gv_io.specs.Streams.{appended, AppendsPrefix, Extends}
+use Rattle.gv_io.specs.declared.sink.Sink.{Ghosts as Sinks}
 use Rattle.world_rules.specs.declared.question.LogEntry.{LogEntry}
 use Rattle.world_rules.specs.declared.question.PostedJob.{PostedJob}
 use Rattle.world_rules.specs.Legal.{AreLegal, answers_of, is_posted, posted, posts_of}
 use Rattle.world.specs.Worlds.{WorldGoesOn, WorldMeaning}
+use Rattle.world.specs.declared.outside.World.{Ghosts as Worlds}
 use Rattle.machine.specs.declared.state.Post.{Post}
-use Rattle.machine.specs.Run.{logged}
+use Rattle.machine.specs.Run.{Passed, logged}
 use Rattle.hub_engine.specs.declared.broken.Broken.{Broken}
 
 -- what the sink was written, where it is told, and what of it is out; what the world means; and the logs for which it
@@ -24,8 +26,17 @@ pub record Outside : Type 1 where
 abbrev pub out_of : Bool → Option (List ℕ) → Option (List ℕ) → Option (List ℕ)
 out_of waits written handed = if waits then handed else written
 
-abbrev pub outside : Bool → Option (List ℕ) → Option (List ℕ) → WorldMeaning → (List LogEntry → Type 0) → Outside
-outside waits written handed means stands = record { written = written; out = out_of waits written handed; means = means; stands = stands }
+-- the same, where this was written and handed on
+abbrev pub outside_as : Bool → Option (List ℕ) → Option (List ℕ) → WorldMeaning → (List LogEntry → Type 0) → Outside
+outside_as waits written handed means stands = record { written = written; out = out_of waits written handed; means = means; stands = stands }
+
+-- world and sink, by what their traits say of them
+abbrev pub outside : {W K : Type 0} → Worlds W → Sinks K → W → K → Outside
+outside w k world sink = outside_as w.waits (k.written sink) (k.handed sink) (w.meaning world) (w.stands_for world)
+
+-- the world alone, with no sink
+abbrev pub world_alone : {W : Type 0} → Worlds W → W → Outside
+world_alone w world = outside_as w.waits None None (w.meaning world) (w.stands_for world)
 
 -- each of the posts has a number that was not posted before
 abbrev pub ArePostable : List PostedJob → List Post → Type 0
@@ -81,3 +92,7 @@ pub record HasGivenPart (v w : Outside) (lines : List Line) (posts : List Post) 
 abbrev pub Gives : {A : Type 0} → Result A Broken → Outside → Outside → List Line → List Post → Type 0
 Gives (Ok x) v w lines posts = HasGiven v w lines (map logged posts)
 Gives (Err e) v w lines posts = HasGivenPart v w lines posts
+
+-- the same, of all that the part of a run gives out
+abbrev pub Passes : {A : Type 0} → Result A Broken → Outside → Outside → Passed → Type 0
+Passes r v w p = Gives r v w p.lines p.posts

@@ -1,5 +1,5 @@
 //! The delivery of items.
-ghost use Rattle.std.specs.Prelude.{◌≡◌, ◌∷◌, [], true, Some, IsSome, IfOk, IfSome};
+ghost use Rattle.std.specs.Prelude.{◌≡◌, ◌∷◌, [], true, Some, IsSome, IfOk};
 ghost use Rattle.gv_values.specs.declared.value.Value.TheVariants as value;
 ghost use Rattle.machine.specs.declared.items.Item.{Item as AnyItem};
 ghost use Rattle.machine.specs.declared.items.Delivery.TheVariants as delivery;
@@ -47,7 +47,7 @@ pub fn throw_into(
         greenlet: g,
         fault: kind,
     })?;
-    hub.settle(alloc)?;
+    hub.settle()?;
     Ok(answer_greenlet(alloc, hub, g, Outcome::Fault(kind))?)
 }
 
@@ -109,7 +109,7 @@ fn end_late(alloc: Global, hub: &mut Hub, g: u32, n: u32) -> Result<Stand, Alloc
         by: Resumed::Late,
     })?;
     hub.drop_items(&Gone::WaitOf(g));
-    hub.settle(alloc)?;
+    hub.settle()?;
     Ok(answer_greenlet(alloc, hub, g, outcome)?)
 }
 
@@ -169,7 +169,7 @@ fn call_link(
                 greenlet: g,
                 call: LinkCall::Mark(mark),
             })?;
-            hub.settle(alloc)?;
+            hub.settle()?;
             Ok(Stand::Resting)
         }
         LinkKind::Set(o) => {
@@ -180,7 +180,7 @@ fn call_link(
                 call: LinkCall::Set(name),
             })?;
             hub.change(o, Change::Flag(true))?;
-            hub.settle(alloc)?;
+            hub.settle()?;
             Ok(Stand::Resting)
         }
         LinkKind::Any => Ok(call_function(alloc, hub, number, g, function)?),

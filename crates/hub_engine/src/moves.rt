@@ -85,13 +85,13 @@ fn go_under_way(hub: &mut Hub, g: u32)
 }
 
 /// Settles the hub, where there is anything to settle.
-fn settle_hub(alloc: Global, hub: &mut Hub) -> Result<(), AllocError>
+fn settle_hub(hub: &mut Hub) -> Result<(), AllocError>
     ensures { OnOk result (hub.new ≡ settle hub.old) }
 {
     if hub.is_at_rest() {
         return Ok(());
     }
-    hub.settle(alloc)?;
+    hub.settle()?;
     Ok(())
 }
 
@@ -108,15 +108,15 @@ pub fn go_on_after(
 {
     match performed {
         Performed::Answers(outcome) => {
-            settle_hub(alloc, hub)?;
+            settle_hub(hub)?;
             Ok(answer_greenlet(alloc, hub, g, outcome)?)
         }
         Performed::Parks => {
-            settle_hub(alloc, hub)?;
+            settle_hub(hub)?;
             Ok(Stand::Resting)
         }
         Performed::Lands(target, input) => {
-            settle_hub(alloc, hub)?;
+            settle_hub(hub)?;
             Ok(land(alloc, hub, target, input)?)
         }
         Performed::Stops(cause) => Ok(Stand::Over(cause)),
@@ -166,7 +166,7 @@ fn answer_at_once(
     requires under_way { phase_of g hub.old.greenlets ≡ Some (Phase.Live no_frame) }
     ensures { IfOk result (λ at. answered g answer (settle (with_phase g (Phase.Live body) hub.old)) ≡ next_at at hub.new) }
 {
-    settle_hub(alloc, hub)?;
+    settle_hub(hub)?;
     let reached = answer_body(alloc, body, answer)?;
     let hop = place_greenlet(alloc, hub, g, reached)?;
     Ok(hop_on(alloc, hub, hop)?)
@@ -249,7 +249,7 @@ fn enter_block(
     go_under_way(hub, g);
     let n = hub.count_timeout()?;
     add_timeout(hub, g, n, after)?;
-    settle_hub(alloc, hub)?;
+    settle_hub(hub)?;
     let reached = enter_timeout(alloc, body, n)?;
     let hop = place_greenlet(alloc, hub, g, reached)?;
     Ok(hop_on(alloc, hub, hop)?)
@@ -267,7 +267,7 @@ fn go_on_by(alloc: Global, hub: &mut Hub, g: u32, moved: Moved) -> Result<Stand,
     match moved {
         Moved::Comes(reached) => {
             go_under_way(hub, g);
-            settle_hub(alloc, hub)?;
+            settle_hub(hub)?;
             let hop = place_greenlet(alloc, hub, g, reached)?;
             Ok(hop_on(alloc, hub, hop)?)
         }

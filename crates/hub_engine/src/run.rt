@@ -101,7 +101,7 @@ impl Engine {
         ensures { IfOk result (λ engine. engine ≡ record { scenario = checked; turns = budgets.turns; moves = budgets.moves }) }
     {
         may_run(&checked);
-        let hub = Hub::new(alloc, compile(alloc, &checked)?)?;
+        let hub = Hub::new(alloc, compile(alloc, checked)?)?;
         Ok(Engine { hub, budgets })
     }
 

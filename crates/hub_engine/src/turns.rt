@@ -8,7 +8,7 @@ ghost use Rattle.machine.specs.Deliveries.{deliver};
 ghost use Rattle.machine.specs.Questions.{question as question_of};
 ghost use Rattle.machine.specs.Run.{GoingOn, Source, after_question, asks, deliveries, least_below, run, runs, runs_on, silent, stopped, turn};
 ghost use Rattle.hub_engine.specs.Ends.{end_of};
-ghost use Rattle.hub_engine.specs.Outside.{ArePostable, Gives, PostsOn, out_of, outside};
+ghost use Rattle.hub_engine.specs.Outside.{ArePostable, Gives, Passes, PostsOn, out_of, outside, world_alone};
 ghost use Rattle.hub_engine.specs.Ready.{IsPrepared};
 ghost use Rattle.hub_engine.specs.Stands.{next_at};
 ghost use Rattle.hub_engine.specs.Tied.{IsTied, IsTiedAfter, IsTiedAt};
@@ -50,7 +50,7 @@ fn write_lines(lines: &[Line], text: &mut Vec<u8>) -> Result<(), AllocError>
 fn post_all<W: World>(world: &mut W, posts: &[Post]) -> Result<(), AllocError>
     requires runs { (W.meaning world.old).runs ≡ true }
     requires new { ArePostable (W.meaning world.old).posts posts.now }
-    ensures posted { PostsOn result (outside W.waits None None (W.meaning world.old) (W.stands_for world.old)) (outside W.waits None None (W.meaning world.new) (W.stands_for world.new)) posts.now }
+    ensures posted { PostsOn result (world_alone W.World world.old) (world_alone W.World world.new) posts.now }
 {
     for post in posts {
         world.post(post.number, post.job, post.takes)?;
@@ -79,7 +79,7 @@ fn give_out<W: World, K: Sink>(
 ) -> Result<(), Broken>
     requires runs { (W.meaning world.old).runs ≡ true }
     requires new { ArePostable (W.meaning world.old).posts hub.old.posts }
-    ensures given { Gives result (outside W.waits (K.written sink.old) (K.handed sink.old) (W.meaning world.old) (W.stands_for world.old)) (outside W.waits (K.written sink.new) (K.handed sink.new) (W.meaning world.new) (W.stands_for world.new)) hub.old.lines hub.old.posts }
+    ensures given { Gives result (outside W.World K.Sink world.old sink.old) (outside W.World K.Sink world.new sink.new) hub.old.lines hub.old.posts }
     ensures silent { OnOk result (hub.new ≡ silent hub.old) }
     ensures counts { Counts result (K.faults sink.old) (K.faults sink.new) }
 {
@@ -99,7 +99,7 @@ fn give_out_said<W: World, K: Sink>(
 ) -> Result<(), Broken>
     requires runs { (W.meaning world.old).runs ≡ true }
     requires new { ArePostable (W.meaning world.old).posts hub.old.posts }
-    ensures given { Gives result (outside W.waits (K.written sink.old) (K.handed sink.old) (W.meaning world.old) (W.stands_for world.old)) (outside W.waits (K.written sink.new) (K.handed sink.new) (W.meaning world.new) (W.stands_for world.new)) hub.old.lines hub.old.posts }
+    ensures given { Gives result (outside W.World K.Sink world.old sink.old) (outside W.World K.Sink world.new sink.new) hub.old.lines hub.old.posts }
     ensures silent { OnOk result (hub.new ≡ silent hub.old) }
     ensures counts { Counts result (K.faults sink.old) (K.faults sink.new) }
 {
@@ -119,7 +119,7 @@ fn give_out_once<W: World, K: Sink>(
 ) -> Result<(), Broken>
     requires runs { (W.meaning world.old).runs ≡ true }
     requires new { ArePostable (W.meaning world.old).posts hub.old.posts }
-    ensures given { Gives result (outside W.waits (K.written sink.old) (K.handed sink.old) (W.meaning world.old) (W.stands_for world.old)) (outside W.waits (K.written sink.new) (K.handed sink.new) (W.meaning world.new) (W.stands_for world.new)) hub.old.lines hub.old.posts }
+    ensures given { Gives result (outside W.World K.Sink world.old sink.old) (outside W.World K.Sink world.new sink.new) hub.old.lines hub.old.posts }
     ensures silent { OnOk result (hub.new ≡ silent hub.old) }
     ensures counts { Counts result (K.faults sink.old) (K.faults sink.new) }
 {
@@ -137,7 +137,7 @@ fn give_out_before<W: World, K: Sink>(
 ) -> Result<(), Broken>
     requires runs { (W.meaning world.old).runs ≡ true }
     requires new { ArePostable (W.meaning world.old).posts hub.old.posts }
-    ensures given { Gives result (outside W.waits (K.written sink.old) (K.handed sink.old) (W.meaning world.old) (W.stands_for world.old)) (outside W.waits (K.written sink.new) (K.handed sink.new) (W.meaning world.new) (W.stands_for world.new)) hub.old.lines hub.old.posts }
+    ensures given { Gives result (outside W.World K.Sink world.old sink.old) (outside W.World K.Sink world.new sink.new) hub.old.lines hub.old.posts }
     ensures out { OnOk result (out_of W.waits (K.written sink.new) (K.handed sink.new) ≡ K.written sink.new) }
     ensures silent { OnOk result (hub.new ≡ silent hub.old) }
     ensures counts { Counts result (K.faults sink.old) (K.faults sink.new) }
@@ -160,7 +160,7 @@ fn run_greenlet<W: World, K: Sink>(
 ) -> Result<Came, Broken>
     requires tied { IsTiedAt (W.meaning world.old) (next_at at hub.old) }
     ensures tied { IfOk result (λ came. IsTiedAfter came (W.meaning world.new) hub.new) }
-    ensures given { Gives result (outside W.waits (K.written sink.old) (K.handed sink.old) (W.meaning world.old) (W.stands_for world.old)) (outside W.waits (K.written sink.new) (K.handed sink.new) (W.meaning world.new) (W.stands_for world.new)) (runs moves (next_at at hub.old)).lines (runs moves (next_at at hub.old)).posts }
+    ensures given { Passes result (outside W.World K.Sink world.old sink.old) (outside W.World K.Sink world.new sink.new) (runs moves (next_at at hub.old)) }
     ensures next { IfOk result (λ came. CameTo came (runs moves (next_at at hub.old)).next hub.new) }
     ensures counts { Counts result (K.faults sink.old) (K.faults sink.new) }
 {
@@ -204,7 +204,7 @@ fn deliver_below<W: World, K: Sink>(
 ) -> Result<Came, Broken>
     requires tied { IsTied (W.meaning world.old) hub.old }
     ensures tied { IfOk result (λ came. IsTiedAfter came (W.meaning world.new) hub.new) }
-    ensures given { Gives result (outside W.waits (K.written sink.old) (K.handed sink.old) (W.meaning world.old) (W.stands_for world.old)) (outside W.waits (K.written sink.new) (K.handed sink.new) (W.meaning world.new) (W.stands_for world.new)) (deliveries due.most budget due.mark hub.old).lines (deliveries due.most budget due.mark hub.old).posts }
+    ensures given { Passes result (outside W.World K.Sink world.old sink.old) (outside W.World K.Sink world.new sink.new) (deliveries due.most budget due.mark hub.old) }
     ensures next { IfOk result (λ came. CameTo came (deliveries due.most budget due.mark hub.old).next hub.new) }
     ensures counts { Counts result (K.faults sink.old) (K.faults sink.new) }
 {
@@ -235,7 +235,7 @@ fn deliver_one<W: World, K: Sink>(
     requires there { IsSome (least_below mark hub.old.items) }
     requires tied { IsTied (W.meaning world.old) hub.old }
     ensures tied { IfOk result (λ came. IsTiedAfter came (W.meaning world.new) hub.new) }
-    ensures given { (i : AnyItem) → least_below mark hub.old.items ≡ Some i → Gives result (outside W.waits (K.written sink.old) (K.handed sink.old) (W.meaning world.old) (W.stands_for world.old)) (outside W.waits (K.written sink.new) (K.handed sink.new) (W.meaning world.new) (W.stands_for world.new)) (runs_on budget hub.old (deliver i hub.old)).lines (runs_on budget hub.old (deliver i hub.old)).posts }
+    ensures given { (i : AnyItem) → least_below mark hub.old.items ≡ Some i → Passes result (outside W.World K.Sink world.old sink.old) (outside W.World K.Sink world.new sink.new) (runs_on budget hub.old (deliver i hub.old)) }
     ensures next { (i : AnyItem) → least_below mark hub.old.items ≡ Some i →
         IfOk result (λ came. CameTo came (runs_on budget hub.old (deliver i hub.old)).next hub.new) }
     ensures counts { Counts result (K.faults sink.old) (K.faults sink.new) }
@@ -256,7 +256,7 @@ fn turn<W: World, K: Sink>(
 ) -> Result<Came, Broken>
     requires tied { IsTied (W.meaning world.old) hub.old }
     ensures tied { IfOk result (λ came. IsTiedAfter came (W.meaning world.new) hub.new) }
-    ensures given { Gives result (outside W.waits (K.written sink.old) (K.handed sink.old) (W.meaning world.old) (W.stands_for world.old)) (outside W.waits (K.written sink.new) (K.handed sink.new) (W.meaning world.new) (W.stands_for world.new)) (turn budget hub.old).lines (turn budget hub.old).posts }
+    ensures given { Passes result (outside W.World K.Sink world.old sink.old) (outside W.World K.Sink world.new sink.new) (turn budget hub.old) }
     ensures next { IfOk result (λ came. CameTo came (turn budget hub.old).next hub.new) }
     ensures counts { Counts result (K.faults sink.old) (K.faults sink.new) }
 {
@@ -280,12 +280,12 @@ fn take_answer<W: World, K: Sink>(
     requires asked { question_of hub.old ≡ Some question }
     requires out { out_of W.waits (K.written sink.old) (K.handed sink.old) ≡ K.written sink.old }
     ensures tied { OnOk result (IsTied (W.meaning world.new) hub.new) }
-    ensures ran { (go : GoingOn) → RunsOn result (outside W.waits (K.written sink.old) (K.handed sink.old) (W.meaning world.old) (W.stands_for world.old)) (outside W.waits (K.written sink.new) (K.handed sink.new) (W.meaning world.new) (W.stands_for world.new))
+    ensures ran { (go : GoingOn) → RunsOn result (outside W.World K.Sink world.old sink.old) (outside W.World K.Sink world.new sink.new)
         (λ later. asks go question (Source.Given later) hub.old) (λ later. go (Source.Given later) hub.new) }
     ensures counts { Counts result (K.faults sink.old) (K.faults sink.new) }
 {
     let answer = world.ask(question)?;
-    hub.take(alloc, answer)?;
+    hub.take(answer)?;
     Ok(give_out_once(alloc, hub, world, sink)?)
 }
 
@@ -300,7 +300,7 @@ fn ask_world<W: World, K: Sink>(
     requires tied { IsTied (W.meaning world.old) hub.old }
     requires asked { question_of hub.old ≡ Some question }
     ensures tied { OnOk result (IsTied (W.meaning world.new) hub.new) }
-    ensures ran { (go : GoingOn) (budget : ℕ) → RunsOn result (outside W.waits (K.written sink.old) (K.handed sink.old) (W.meaning world.old) (W.stands_for world.old)) (outside W.waits (K.written sink.new) (K.handed sink.new) (W.meaning world.new) (W.stands_for world.new))
+    ensures ran { (go : GoingOn) (budget : ℕ) → RunsOn result (outside W.World K.Sink world.old sink.old) (outside W.World K.Sink world.new sink.new)
         (λ later. after_question go budget (Some question) (Source.Given later) hub.old) (λ later. go (Source.Given later) hub.new) }
     ensures counts { Counts result (K.faults sink.old) (K.faults sink.new) }
 {
@@ -319,7 +319,7 @@ fn throw_loop_exit<W: World, K: Sink>(
 ) -> Result<Came, Broken>
     requires tied { IsTied (W.meaning world.old) hub.old }
     ensures tied { IfOk result (λ came. IsTiedAfter came (W.meaning world.new) hub.new) }
-    ensures ran { (go : GoingOn) → Rounds result (outside W.waits (K.written sink.old) (K.handed sink.old) (W.meaning world.old) (W.stands_for world.old)) (outside W.waits (K.written sink.new) (K.handed sink.new) (W.meaning world.new) (W.stands_for world.new))
+    ensures ran { (go : GoingOn) → Rounds result (outside W.World K.Sink world.old sink.old) (outside W.World K.Sink world.new sink.new)
         (λ later. after_question go budget None (Source.Given later) hub.old) (λ s later. go (Source.Given later) s) hub.new }
     ensures counts { Counts result (K.faults sink.old) (K.faults sink.new) }
 {
@@ -339,7 +339,7 @@ fn end_turn<W: World, K: Sink>(
 ) -> Result<Came, Broken>
     requires tied { IsTied (W.meaning world.old) hub.old }
     ensures tied { IfOk result (λ came. IsTiedAfter came (W.meaning world.new) hub.new) }
-    ensures ran { (go : GoingOn) → Rounds result (outside W.waits (K.written sink.old) (K.handed sink.old) (W.meaning world.old) (W.stands_for world.old)) (outside W.waits (K.written sink.new) (K.handed sink.new) (W.meaning world.new) (W.stands_for world.new))
+    ensures ran { (go : GoingOn) → Rounds result (outside W.World K.Sink world.old sink.old) (outside W.World K.Sink world.new sink.new)
         (λ later. after_question go budget (question_of hub.old) (Source.Given later) hub.old) (λ s later. go (Source.Given later) s) hub.new }
     ensures counts { Counts result (K.faults sink.old) (K.faults sink.new) }
 {
@@ -362,7 +362,7 @@ fn round<W: World, K: Sink>(
 ) -> Result<Came, Broken>
     requires tied { IsTied (W.meaning world.old) hub.old }
     ensures tied { IfOk result (λ came. IsTiedAfter came (W.meaning world.new) hub.new) }
-    ensures ran { (turns : ℕ) → Rounds result (outside W.waits (K.written sink.old) (K.handed sink.old) (W.meaning world.old) (W.stands_for world.old)) (outside W.waits (K.written sink.new) (K.handed sink.new) (W.meaning world.new) (W.stands_for world.new))
+    ensures ran { (turns : ℕ) → Rounds result (outside W.World K.Sink world.old sink.old) (outside W.World K.Sink world.new sink.new)
         (from_turn (suc turns) budget hub.old) (from_turn turns budget) hub.new }
     ensures counts { Counts result (K.faults sink.old) (K.faults sink.new) }
 {
@@ -407,7 +407,7 @@ fn run_turns<W: World, K: Sink>(
     moves: u64,
 ) -> Result<EngineEnd, Broken>
     requires tied { IsTied (W.meaning world.old) hub.old }
-    ensures ran { RunsTo result (outside W.waits (K.written sink.old) (K.handed sink.old) (W.meaning world.old) (W.stands_for world.old)) (outside W.waits (K.written sink.new) (K.handed sink.new) (W.meaning world.new) (W.stands_for world.new)) (from_turn turns moves hub.old) hub.new }
+    ensures ran { RunsTo result (outside W.World K.Sink world.old sink.old) (outside W.World K.Sink world.new sink.new) (from_turn turns moves hub.old) hub.new }
     ensures counts { Counts result (K.faults sink.old) (K.faults sink.new) }
 {
     let mut left = turns;
@@ -434,7 +434,7 @@ pub fn run<W: World, K: Sink>(
     requires runs { (W.meaning world.old).runs ≡ true }
     requires no_posts { (W.meaning world.old).posts ≡ [] }
     requires no_answers { (W.meaning world.old).answers ≡ [] }
-    ensures ran { RunsTo result (outside W.waits (K.written sink.old) (K.handed sink.old) (W.meaning world.old) (W.stands_for world.old)) (outside W.waits (K.written sink.new) (K.handed sink.new) (W.meaning world.new) (W.stands_for world.new)) (run hub.old.scenario turns moves) hub.new }
+    ensures ran { RunsTo result (outside W.World K.Sink world.old sink.old) (outside W.World K.Sink world.new sink.new) (run hub.old.scenario turns moves) hub.new }
     ensures counts { Counts result (K.faults sink.old) (K.faults sink.new) }
 {
     let at = start_body(alloc, hub, 0, Items::new(alloc))?;

@@ -8,7 +8,7 @@ use Rattle.trace_text.specs.declared.line.StopCause.{StopCause}
 use Rattle.machine.specs.declared.items.Waiting.{Waiting}
 use Rattle.machine.specs.Holds.{earlier, has_place, is_place}
 use Rattle.machine.specs.Greenlets.{has_greenlet_left}
-use Rattle.machine.specs.State.{State, Name}
+use Rattle.machine.specs.State.{State}
 use Rattle.machine.specs.Waits.{Performed, add_member, maps, parked}
 use Rattle.machine.specs.Objects.{name_of_object}
 use Rattle.hub_requests.proofs.Results.{first-of}
@@ -44,14 +44,13 @@ step : (xs : List Scalar) (i : ℕ) (d : Scalar) (g o f : ℕ) (made : List ℕ)
     maps (drop i xs) g o f made s ≡ placed (is_free s o) (has_greenlet_left s) (get_or xs i d) (drop (i + 1) xs) g o f made s
 step xs i d g o f made s h = ap (λ (zs : List Scalar). maps zs g o f made s) (first-of xs i d h)
 
-pub map_parks : (xs rest : List Scalar) (i : ℕ) (d : Scalar) (g o f : ℕ) (made : List ℕ) (free : Bool) (name : Name) (s t : State) (whole : Performed) → i < length xs → whole ≡ maps (drop i xs) g o f made s →
-    free ≡ is_free s o → free ≡ false → rest ≡ drop i xs → name ≡ name_of_object o s → t ≡ parked g (Awaited.Map name) (Waiting.MapPlace o f rest made) None s → whole ≡ Performed.Parks t
-map_parks xs rest i d g o f made free name s t whole h e k l r n p =
+pub map_parks : (xs rest : List Scalar) (i : ℕ) (d : Scalar) (g o f : ℕ) (made : List ℕ) (free : Bool) (s t : State) (whole : Performed) → i < length xs → whole ≡ maps (drop i xs) g o f made s →
+    free ≡ is_free s o → free ≡ false → rest ≡ drop i xs → t ≡ parked g (Awaited.Map (name_of_object o s)) (Waiting.MapPlace o f rest made) None s → whole ≡ Performed.Parks t
+map_parks xs rest i d g o f made free s t whole h e k l r p =
     let x = get_or xs i d in
     let ys = drop (i + 1) xs in
     e ∙ step xs i d g o f made s h ∙ ap (λ (b : Bool). placed b (has_greenlet_left s) x ys g o f made s) (sym k ∙ l)
-    ∙ ap (λ (m : Name). Performed.Parks (parked g (Awaited.Map m) (Waiting.MapPlace o f (x ∷ ys) made) None s)) (sym n)
-    ∙ ap (λ (zs : List Scalar). Performed.Parks (parked g (Awaited.Map name) (Waiting.MapPlace o f zs made) None s)) (sym (r ∙ first-of xs i d h))
+    ∙ ap (λ (zs : List Scalar). Performed.Parks (parked g (Awaited.Map (name_of_object o s)) (Waiting.MapPlace o f zs made) None s)) (sym (r ∙ first-of xs i d h))
     ∙ ap (λ (z : State). Performed.Parks z) (sym p)
 
 pub map_stops : (xs : List Scalar) (i : ℕ) (d : Scalar) (g o f : ℕ) (made : List ℕ) (free left : Bool) (s : State) (whole : Performed) → i < length xs → whole ≡ maps (drop i xs) g o f made s →

@@ -1,3 +1,4 @@
+pub mod Awaited
 pub mod Far
 pub mod Gathering
 pub mod Making

@@ -1,9 +1,11 @@
 //! What a wait gives whose condition holds. A unit, an item, an offer, a place or a slot is taken here.
-ghost use Rattle.std.specs.Prelude.{◌≡◌, IfOk, unwrap_or};
+ghost use Rattle.std.specs.Prelude.{◌≡◌, ◌+◌, IfOk, length, unwrap_or};
 ghost use Rattle.std.specs.Option.{option_copied};
-ghost use Rattle.machine.specs.declared.items.Waiting.{Waiting as AnyWaiting};
-ghost use Rattle.machine.specs.Holds.{outcome_of};
-ghost use Rattle.machine.specs.Waits.{completes, nothing, value_or_none};
+ghost use Rattle.gv_values.specs.declared.value.Outcome.{Outcome as AnyOutcome};
+ghost use Rattle.gv_values.specs.declared.value.Value.{Value as AnyValue};
+ghost use Rattle.machine.specs.Holds.{earlier, is_take, outcome_of};
+ghost use Rattle.machine.specs.Objects.{object_at, offer_of, with_object, with_offer_taken};
+ghost use Rattle.machine.specs.Waits.{Performed as AnyPerformed, completes, nothing, peeks_item, posted, puts_item, takes_item, value_or_none};
 ghost use Rattle.hub_items.specs.Short.{IsShort};
 ghost use Rattle.hub_requests.specs.Making.{MayMake};
 ghost use Rattle.hub_requests.specs.Naming.{IsNamed};
@@ -12,7 +14,7 @@ ghost use Rattle.hub_requests.specs.Results.{result_of_option};
 
 use crate::gathering::gather;
 use crate::late::done_ones;
-use crate::members::{go_on_mapping, make_member};
+use crate::members::{Mapping, go_on_mapping, make_member};
 use crate::performed::{Performed, done, raises, truth};
 use gv_values::{FaultKind, Job, Outcome, Value, Whom};
 use hub_objects::Change;
@@ -56,32 +58,17 @@ fn ended_with(alloc: Global, hub: &Hub, whom: Whom) -> Result<Outcome, AllocErro
 }
 
 /// Posts the job, whose handle is the answer.
-fn post_job(
-    hub: &mut Hub,
-    g: u32,
-    since: u64,
-    o: u32,
-    job: Job,
-    takes: u64,
-) -> Result<Performed, AllocError>
-    ensures { IfOk result (λ p. completes g since (AnyWaiting.Slot o job takes) hub.old ≡ performed_of p hub.new) }
+fn post_job(hub: &mut Hub, g: u32, o: u32, job: Job, takes: u64) -> Result<Performed, AllocError>
+    ensures { IfOk result (λ p. AnyPerformed.Answers (AnyOutcome.Value (AnyValue.Job (length hub.old.jobs + 1))) (posted g o job takes hub.old) ≡ performed_of p hub.new) }
 {
-    let _ = since;
     let number = hub.post(g, o, job, takes)?;
     Ok(Performed::Answers(Outcome::Value(Value::Job(number))))
 }
 
 /// Puts the value into the queue; one that is shut refuses it.
-fn put_item(
-    hub: &mut Hub,
-    g: u32,
-    since: u64,
-    o: u32,
-    value: Value,
-) -> Result<Performed, AllocError>
-    ensures { IfOk result (λ p. completes g since (AnyWaiting.Put o value) hub.old ≡ performed_of p hub.new) }
+fn put_item(hub: &mut Hub, o: u32, value: Value) -> Result<Performed, AllocError>
+    ensures { IfOk result (λ p. puts_item o value (object_at o hub.old) hub.old ≡ performed_of p hub.new) }
 {
-    let _ = (g, since);
     if hub.is_shut(o) {
         return Ok(raises(FaultKind::ShutDown));
     }
@@ -90,16 +77,9 @@ fn put_item(
 }
 
 /// Takes the item of the queue that is next, where the earlier getters leave one; else the queue is shut.
-fn take_item(
-    alloc: Global,
-    hub: &mut Hub,
-    g: u32,
-    since: u64,
-    o: u32,
-) -> Result<Performed, AllocError>
-    ensures { IfOk result (λ p. completes g since (AnyWaiting.Take o) hub.old ≡ performed_of p hub.new) }
+fn take_item(alloc: Global, hub: &mut Hub, since: u64, o: u32) -> Result<Performed, AllocError>
+    ensures { IfOk result (λ p. takes_item o (earlier (is_take o) since hub.old.items) (object_at o hub.old) hub.old ≡ performed_of p hub.new) }
 {
-    let _ = g;
     if !hub.has_item_left(o, since) {
         return Ok(raises(FaultKind::ShutDown));
     }
@@ -109,16 +89,9 @@ fn take_item(
 }
 
 /// Reads the item of the queue that is next, where the earlier getters leave one; else the queue is shut.
-fn peek_item(
-    alloc: Global,
-    hub: &mut Hub,
-    g: u32,
-    since: u64,
-    o: u32,
-) -> Result<Performed, AllocError>
-    ensures { IfOk result (λ p. completes g since (AnyWaiting.Peek o) hub.old ≡ performed_of p hub.new) }
+fn peek_item(alloc: Global, hub: &mut Hub, since: u64, o: u32) -> Result<Performed, AllocError>
+    ensures { IfOk result (λ p. peeks_item (earlier (is_take o) since hub.old.items) (object_at o hub.old) hub.old ≡ performed_of p hub.new) }
 {
-    let _ = g;
     if !hub.has_item_left(o, since) {
         return Ok(raises(FaultKind::ShutDown));
     }
@@ -126,16 +99,9 @@ fn peek_item(
 }
 
 /// Takes the oldest offer of the channel.
-fn take_offer(
-    alloc: Global,
-    hub: &mut Hub,
-    g: u32,
-    since: u64,
-    o: u32,
-) -> Result<Performed, AllocError>
-    ensures { IfOk result (λ p. completes g since (AnyWaiting.TakeOffer o) hub.old ≡ performed_of p hub.new) }
+fn take_offer(alloc: Global, hub: &mut Hub, o: u32) -> Result<Performed, AllocError>
+    ensures { IfOk result (λ p. AnyPerformed.Answers (AnyOutcome.Value (offer_of (object_at o hub.old))) (with_object o (with_offer_taken (object_at o hub.old)) hub.old) ≡ performed_of p hub.new) }
 {
-    let _ = (g, since);
     let value = hub.offer_of(alloc, o)?;
     hub.change(o, Change::OfferTaken)?;
     Ok(Performed::Answers(Outcome::Value(value)))
@@ -179,18 +145,23 @@ pub fn complete_wait(
             hub.change(o, Change::Owner(g))?;
             Ok(truth(true))
         }
-        Waiting::Put(o, value) => Ok(put_item(hub, g, since, o, value)?),
-        Waiting::Take(o) => Ok(take_item(alloc, hub, g, since, o)?),
-        Waiting::Peek(o) => Ok(peek_item(alloc, hub, g, since, o)?),
+        Waiting::Put(o, value) => Ok(put_item(hub, o, value)?),
+        Waiting::Take(o) => Ok(take_item(alloc, hub, since, o)?),
+        Waiting::Peek(o) => Ok(peek_item(alloc, hub, since, o)?),
         Waiting::Tasks(_) => Ok(truth(true)),
         Waiting::Place(o, function, arguments) => Ok(make_member(hub, g, o, function, arguments)?),
         Waiting::MapPlace(o, function, elements, made) => {
-            Ok(go_on_mapping(alloc, hub, g, o, function, elements, made)?)
+            let mapping = Mapping {
+                crew: o,
+                function,
+                made,
+            };
+            Ok(go_on_mapping(alloc, hub, g, mapping, elements)?)
         }
         Waiting::MapEnd(_, made) => Ok(Performed::Answers(gather(alloc, hub, made.as_slice())?)),
         Waiting::Members(_) => Ok(done()),
-        Waiting::Slot(o, job, time) => Ok(post_job(hub, g, since, o, job, time)?),
+        Waiting::Slot(o, job, time) => Ok(post_job(hub, g, o, job, time)?),
         Waiting::Offered(_) => Ok(done()),
-        Waiting::TakeOffer(o) => Ok(take_offer(alloc, hub, g, since, o)?),
+        Waiting::TakeOffer(o) => Ok(take_offer(alloc, hub, o)?),
     }
 }

@@ -8,8 +8,8 @@ ghost use Rattle.hub_requests.specs.Making.{MayMake};
 ghost use Rattle.hub_requests.specs.Naming.{IsObject};
 ghost use Rattle.hub_requests.specs.Performing.{performed_of};
 
-use crate::kills::kill_greenlets;
-use crate::members::map_elements;
+use crate::kills::{Killing, kill_greenlets};
+use crate::members::{Mapping, map_elements};
 use crate::operands::{fault_operand, int_operand};
 use crate::performed::{Performed, raises};
 use crate::waits::come_to_wait;
@@ -36,12 +36,10 @@ pub fn spawn_member(
     requires named { IsObject hub.old.scenario o }
     ensures { IfOk result (λ p. performs (Asked.GroupSpawn o function arguments) g hub.old ≡ performed_of p hub.new) }
 {
-    let name = hub.name_of_object(o);
     Ok(come_to_wait(
         alloc,
         hub,
         g,
-        Awaited::GroupSpawn(name),
         Waiting::Place(o, function, arguments.into_values()),
         Wait::Block,
     )?)
@@ -60,15 +58,7 @@ pub fn join_crew(
     requires named { IsObject hub.old.scenario o }
     ensures { IfOk result (λ p. performs (Asked.GroupJoin o how) g hub.old ≡ performed_of p hub.new) }
 {
-    let name = hub.name_of_object(o);
-    Ok(come_to_wait(
-        alloc,
-        hub,
-        g,
-        Awaited::GroupJoin(name),
-        Waiting::Members(o),
-        how,
-    )?)
+    Ok(come_to_wait(alloc, hub, g, Waiting::Members(o), how)?)
 }
 
 /// The members in order of admission.
@@ -100,7 +90,17 @@ pub fn kill_crew(
     };
     let name = hub.name_of_object(o);
     let members = members_of(alloc, hub.object(o))?;
-    Ok(kill_greenlets(alloc, hub, g, Awaited::GroupKill(name), kind, members, how)?)
+    Ok(kill_greenlets(
+        alloc,
+        hub,
+        g,
+        Killing {
+            kind,
+            targets: members,
+            awaited: Awaited::GroupKill(name),
+            how,
+        },
+    )?)
 }
 
 /// Makes a member for each element of a list.
@@ -122,13 +122,26 @@ pub fn map_list(
             alloc,
             hub,
             g,
-            o,
-            function,
+            Mapping {
+                crew: o,
+                function,
+                made: Items::new(alloc),
+            },
             list.scalars(),
-            Items::new(alloc),
         )?),
         _ => Ok(raises(FaultKind::TypeError)),
     }
+}
+
+/// A job that is asked for.
+#[derive(Drop)]
+pub struct JobAsked {
+    /// What is done with the operand.
+    pub kind: JobKind,
+    /// The operand.
+    pub operand: Value,
+    /// How many milliseconds it takes.
+    pub takes: u64,
 }
 
 /// Waits for a slot of the native pool, and posts a job.
@@ -138,24 +151,20 @@ pub fn spawn_job(
     hub: &mut Hub,
     g: u32,
     o: u32,
-    kind: JobKind,
-    value: Value,
-    time: u64,
+    job: JobAsked,
 ) -> Result<Performed, AllocError>
     requires may_make { MayMake g hub.old }
     requires named { IsObject hub.old.scenario o }
-    ensures { IfOk result (λ p. performs (Asked.NativeSpawn o kind value time) g hub.old ≡ performed_of p hub.new) }
+    ensures { IfOk result (λ p. performs (Asked.NativeSpawn o job.kind job.operand job.takes) g hub.old ≡ performed_of p hub.new) }
 {
-    match int_operand(&value) {
+    match int_operand(&job.operand) {
         None => Ok(raises(FaultKind::TypeError)),
         Some(z) => {
-            let name = hub.name_of_object(o);
             Ok(come_to_wait(
                 alloc,
                 hub,
                 g,
-                Awaited::NativeSpawn(name),
-                Waiting::Slot(o, job_of(kind, z), time),
+                Waiting::Slot(o, job_of(job.kind, z), job.takes),
                 Wait::Block,
             )?)
         }

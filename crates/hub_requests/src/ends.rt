@@ -28,5 +28,6 @@ pub fn end_greenlet(
     hub.set_stage(g, Stage::Done(outcome.copy(alloc)?));
     hub.drop_items(&Gone::AtEnd(g, outcome.copy(alloc)?));
     hub.leave_crews(g);
-    hub.settle(alloc)
+    hub.settle()?;
+    Ok(())
 }

@@ -6,7 +6,7 @@ ghost use Rattle.hub_requests.specs.Making.{MayMake};
 ghost use Rattle.hub_requests.specs.Performing.{performed_of};
 ghost use Rattle.gv_values.specs.declared.limits.TheConstants.{MOST_ELEMENTS};
 
-use crate::kills::kill_greenlets;
+use crate::kills::{Killing, kill_greenlets};
 use crate::links::{drop_link, link_to};
 use crate::making::{make_greenlet, spawn_greenlet, start_greenlet};
 use crate::operands::{
@@ -104,14 +104,7 @@ pub fn sleep_for(alloc: Global, hub: &mut Hub, g: u32, time: u64) -> Result<Perf
     ensures { IfOk result (λ p. performs (Asked.Sleep time) g hub.old ≡ performed_of p hub.new) }
 {
     let until = deadline_after(hub, time)?;
-    Ok(come_to_wait(
-        alloc,
-        hub,
-        g,
-        Awaited::Sleep,
-        Waiting::Sleep(until),
-        Wait::Block,
-    )?)
+    Ok(come_to_wait(alloc, hub, g, Waiting::Sleep(until), Wait::Block)?)
 }
 
 /// Waits for the end of a greenlet.
@@ -128,14 +121,7 @@ pub fn join_handle(
 {
     match plain_greenlet(hub, &value) {
         None => Ok(raises(FaultKind::TypeError)),
-        Some(target) => Ok(come_to_wait(
-            alloc,
-            hub,
-            g,
-            Awaited::Join(Whom::Greenlet(target)),
-            Waiting::Join(target),
-            how,
-        )?),
+        Some(target) => Ok(come_to_wait(alloc, hub, g, Waiting::Join(target), how)?),
     }
 }
 
@@ -153,7 +139,7 @@ pub fn get_outcome(
 {
     match whom_operand(hub, &value) {
         None => Ok(raises(FaultKind::TypeError)),
-        Some(whom) => Ok(come_to_wait(alloc, hub, g, Awaited::Get(whom), Waiting::Get(whom), how)?),
+        Some(whom) => Ok(come_to_wait(alloc, hub, g, Waiting::Get(whom), how)?),
     }
 }
 
@@ -182,10 +168,12 @@ pub fn kill_one(
         alloc,
         hub,
         g,
-        Awaited::Kill(Whom::Greenlet(target)),
-        kind,
-        targets,
-        how,
+        Killing {
+            kind,
+            targets,
+            awaited: Awaited::Kill(Whom::Greenlet(target)),
+            how,
+        },
     )?)
 }
 
@@ -209,7 +197,17 @@ pub fn kill_all(
     let Some(kind) = fault_operand(&fault) else {
         return Ok(raises(FaultKind::TypeError));
     };
-    Ok(kill_greenlets(alloc, hub, g, Awaited::KillAll, kind, targets, how)?)
+    Ok(kill_greenlets(
+        alloc,
+        hub,
+        g,
+        Killing {
+            kind,
+            targets,
+            awaited: Awaited::KillAll,
+            how,
+        },
+    )?)
 }
 
 /// How many of so many greenlets are waited for.
@@ -240,14 +238,7 @@ pub fn join_all(
         return Ok(raises(FaultKind::TypeError));
     };
     let need = need_of(count, targets.len());
-    Ok(come_to_wait(
-        alloc,
-        hub,
-        g,
-        Awaited::JoinAll,
-        Waiting::JoinAll(targets, need),
-        how,
-    )?)
+    Ok(come_to_wait(alloc, hub, g, Waiting::JoinAll(targets, need), how)?)
 }
 
 /// Links to the end of a greenlet.

@@ -14,7 +14,7 @@ ghost use Rattle.hub_requests.specs.Sendings.{sent};
 use crate::ends::end_greenlet;
 use crate::far::{Far, how_far};
 use crate::performed::Performed;
-use crate::waits::come_to_wait;
+use crate::waits::come_to_wait_as;
 use gv_values::{FaultKind, Outcome, kept_outcome};
 use hub_state::Hub;
 use machine::items::{Delivery, Waiting};
@@ -22,6 +22,19 @@ use machine::limits::MOST_KILLS;
 use scenario_tree::{Items, Wait};
 use std::alloc::{AllocError, Global};
 use trace_text::{Awaited, Line, StopCause};
+
+/// Kills of one kind that a greenlet sends, and how it waits for the ends of those to whom they go.
+#[derive(Drop)]
+pub struct Killing {
+    /// The fault that is thrown into each.
+    pub kind: FaultKind,
+    /// To whom they go, in this order.
+    pub targets: Items<u32>,
+    /// What the park line says is waited for.
+    pub awaited: Awaited,
+    /// How their ends are waited for.
+    pub how: Wait,
+}
 
 /// Ends a greenlet that has not started, by the kill.
 fn end_unrun(alloc: Global, hub: &mut Hub, kind: FaultKind, target: u32) -> Result<(), AllocError>
@@ -80,18 +93,21 @@ pub fn kill_greenlets(
     alloc: Global,
     hub: &mut Hub,
     g: u32,
-    awaited: Awaited,
-    kind: FaultKind,
-    targets: Items<u32>,
-    how: Wait,
+    killing: Killing,
 ) -> Result<Performed, AllocError>
     requires may_make { MayMake g hub.old }
-    requires plain { AreNotRaw hub.old.greenlets targets }
-    ensures { IfOk result (λ p. kills g awaited kind targets how hub.old ≡ performed_of p hub.new) }
+    requires plain { AreNotRaw hub.old.greenlets killing.targets }
+    ensures { IfOk result (λ p. kills g killing.awaited killing.kind killing.targets killing.how hub.old ≡ performed_of p hub.new) }
 {
+    let Killing {
+        kind,
+        targets,
+        awaited,
+        how,
+    } = killing;
     let are_sent = send_kills(alloc, hub, kind, targets.as_slice())?;
     if !are_sent {
         return Ok(Performed::Stops(StopCause::NoKills));
     }
-    Ok(come_to_wait(alloc, hub, g, awaited, Waiting::Kill(targets), how)?)
+    Ok(come_to_wait_as(alloc, hub, g, awaited, Waiting::Kill(targets), how)?)
 }

@@ -2,6 +2,7 @@
 //! end of its wait gives. Each contract is an equation with the definition of the machine of the same meaning.
 #![tactic(auto)]
 
+mod awaited;
 mod completions;
 mod crew_requests;
 mod ends;

@@ -17,7 +17,7 @@ use hub_state::Hub;
 use machine::items::{Delivery, Waiting};
 use scenario_tree::Items;
 use std::alloc::{AllocError, Global};
-use trace_text::{Awaited, StopCause};
+use trace_text::StopCause;
 
 /// Makes a member of the group or pool, with its start; its number is the answer.
 #[tactic(auto, using(crate::proofs::Soundly::start_free))]
@@ -73,8 +73,7 @@ fn end_map(
     if hub.all_done(made.as_slice()) {
         return Ok(Performed::Answers(gather(alloc, hub, made.as_slice())?));
     }
-    let name = hub.name_of_object(o);
-    park(hub, g, Awaited::Map(name), Waiting::MapEnd(o, made))?;
+    park(hub, g, Waiting::MapEnd(o, made))?;
     Ok(Performed::Parks)
 }
 
@@ -97,34 +96,42 @@ fn rest_of(alloc: Global, elements: &[Scalar], at: usize) -> Result<Items<Scalar
     Ok(Items::from_slice(alloc, rest)?)
 }
 
+/// A map that is under way.
+#[derive(Drop)]
+pub struct Mapping {
+    /// The group or pool.
+    pub crew: u32,
+    /// The function that its members run.
+    pub function: u32,
+    /// The members that it has made, in order.
+    pub made: Items<u32>,
+}
+
 /// Goes on with a map at these elements: a member for each, where there is a place for it.
 pub fn map_elements(
     alloc: Global,
     hub: &mut Hub,
     g: u32,
-    o: u32,
-    function: u32,
+    mapping: Mapping,
     elements: &[Scalar],
-    made: Items<u32>,
 ) -> Result<Performed, AllocError>
     requires may_make { MayMake g hub.old }
-    requires named { IsObject hub.old.scenario o }
-    requires short { length elements.now + length made ≤ MOST_ELEMENTS }
-    ensures { IfOk result (λ p. maps elements.now g o function made hub.old ≡ performed_of p hub.new) }
+    requires named { IsObject hub.old.scenario mapping.crew }
+    requires short { length elements.now + length mapping.made ≤ MOST_ELEMENTS }
+    ensures { IfOk result (λ p. maps elements.now g mapping.crew mapping.function mapping.made hub.old ≡ performed_of p hub.new) }
 {
+    let Mapping {
+        crew,
+        function,
+        made,
+    } = mapping;
     let mut made = made;
     let mut at = 0;
     while at < elements.len() {
-        let free = hub.has_place(o);
+        let free = hub.has_place(crew);
         if !free {
             let rest = rest_of(alloc, elements, at)?;
-            let name = hub.name_of_object(o);
-            park(
-                hub,
-                g,
-                Awaited::Map(name),
-                Waiting::MapPlace(o, function, rest, made),
-            )?;
+            park(hub, g, Waiting::MapPlace(crew, function, rest, made))?;
             return Ok(Performed::Parks);
         }
         let left = hub.has_greenlet_left();
@@ -132,11 +139,11 @@ pub fn map_elements(
             return Ok(Performed::Stops(StopCause::NoGreenlets));
         }
         let arguments = argument_of(alloc, elements[at])?;
-        let member = add_member(hub, g, o, function, arguments)?;
+        let member = add_member(hub, g, crew, function, arguments)?;
         made.push(member)?;
         at += 1;
     }
-    Ok(end_map(alloc, hub, g, o, made)?)
+    Ok(end_map(alloc, hub, g, crew, made)?)
 }
 
 /// The elements after the first.
@@ -153,26 +160,24 @@ pub fn go_on_mapping(
     alloc: Global,
     hub: &mut Hub,
     g: u32,
-    o: u32,
-    function: u32,
+    mapping: Mapping,
     elements: Items<Scalar>,
-    made: Items<u32>,
 ) -> Result<Performed, AllocError>
     requires may_make { MayMake g hub.old }
-    requires named { IsObject hub.old.scenario o }
-    requires short { length elements + length made ≤ MOST_ELEMENTS }
-    ensures { IfOk result (λ p. map_goes_on elements g o function made hub.old ≡ performed_of p hub.new) }
+    requires named { IsObject hub.old.scenario mapping.crew }
+    requires short { length elements + length mapping.made ≤ MOST_ELEMENTS }
+    ensures { IfOk result (λ p. map_goes_on elements g mapping.crew mapping.function mapping.made hub.old ≡ performed_of p hub.new) }
 {
     if elements.len() == 0 {
-        return Ok(end_map(alloc, hub, g, o, made)?);
+        return Ok(end_map(alloc, hub, g, mapping.crew, mapping.made)?);
     }
     if !hub.has_greenlet_left() {
         return Ok(Performed::Stops(StopCause::NoGreenlets));
     }
-    let mut made = made;
+    let mut mapping = mapping;
     let arguments = argument_of(alloc, elements.as_slice()[0])?;
-    let member = add_member(hub, g, o, function, arguments)?;
-    made.push(member)?;
+    let member = add_member(hub, g, mapping.crew, mapping.function, arguments)?;
+    mapping.made.push(member)?;
     let rest = after_first(elements.as_slice());
-    Ok(map_elements(alloc, hub, g, o, function, rest, made)?)
+    Ok(map_elements(alloc, hub, g, mapping, rest)?)
 }

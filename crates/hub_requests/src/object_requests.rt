@@ -20,7 +20,6 @@ use machine::items::Waiting;
 use machine::state::Object;
 use scenario_tree::Wait;
 use std::alloc::{AllocError, Global};
-use trace_text::Awaited;
 
 /// Sets the event's flag, and counts the set for those who wait for one. The answer is none.
 #[tactic(auto, unfolding(machine::specs::Requests::performs))]
@@ -63,16 +62,8 @@ pub fn wait_for_event(
     requires named { IsObject hub.old.scenario o }
     ensures { IfOk result (λ p. performs (Asked.WaitEvent o how) g hub.old ≡ performed_of p hub.new) }
 {
-    let name = hub.name_of_object(o);
     let sets = sets_of(hub.object(o));
-    Ok(come_to_wait(
-        alloc,
-        hub,
-        g,
-        Awaited::Wait(name),
-        Waiting::Event(o, sets),
-        how,
-    )?)
+    Ok(come_to_wait(alloc, hub, g, Waiting::Event(o, sets), how)?)
 }
 
 /// Puts a value into the result.
@@ -111,15 +102,7 @@ pub fn get_result(
     requires named { IsObject hub.old.scenario o }
     ensures { IfOk result (λ p. performs (Asked.ResultGet o how) g hub.old ≡ performed_of p hub.new) }
 {
-    let name = hub.name_of_object(o);
-    Ok(come_to_wait(
-        alloc,
-        hub,
-        g,
-        Awaited::ResultGet(name),
-        Waiting::ResultGet(o),
-        how,
-    )?)
+    Ok(come_to_wait(alloc, hub, g, Waiting::ResultGet(o), how)?)
 }
 
 /// Waits until something is put into the result.
@@ -135,15 +118,7 @@ pub fn wait_for_result(
     requires named { IsObject hub.old.scenario o }
     ensures { IfOk result (λ p. performs (Asked.ResultWait o how) g hub.old ≡ performed_of p hub.new) }
 {
-    let name = hub.name_of_object(o);
-    Ok(come_to_wait(
-        alloc,
-        hub,
-        g,
-        Awaited::ResultWait(name),
-        Waiting::ResultWait(o),
-        how,
-    )?)
+    Ok(come_to_wait(alloc, hub, g, Waiting::ResultWait(o), how)?)
 }
 
 /// The object is the lock, and else a semaphore.
@@ -157,7 +132,7 @@ fn waiting_for(object: Option<&Object>, o: u32) -> Waiting
 }
 
 /// Waits for a unit of a semaphore, or for a lock.
-#[tactic(auto, using(crate::proofs::Named::acquired_named, crate::proofs::Named::acquired_short), unfolding(machine::specs::Requests::performs))]
+#[tactic(auto, using(crate::proofs::Named::acquired_there, crate::proofs::Named::acquired_short, crate::proofs::Named::acquired_said), unfolding(machine::specs::Requests::performs))]
 pub fn acquire(
     alloc: Global,
     hub: &mut Hub,
@@ -169,9 +144,8 @@ pub fn acquire(
     requires named { IsObject hub.old.scenario o }
     ensures { IfOk result (λ p. performs (Asked.Acquire o how) g hub.old ≡ performed_of p hub.new) }
 {
-    let name = hub.name_of_object(o);
     let waiting = waiting_for(hub.object(o), o);
-    Ok(come_to_wait(alloc, hub, g, Awaited::Acquire(name), waiting, how)?)
+    Ok(come_to_wait(alloc, hub, g, waiting, how)?)
 }
 
 /// The answer to what was done, or refused by a fault.

@@ -1,9 +1,12 @@
 //! How a greenlet parks.
-ghost use Rattle.std.specs.Prelude.{◌≡◌, None, Some, OnOk};
+ghost use Rattle.std.specs.Prelude.{◌≡◌, None, Some, IfSome, OnOk};
 ghost use Rattle.machine.specs.Waits.{parked, until_of};
 ghost use Rattle.hub_items.specs.Short.{IsShort};
+ghost use Rattle.hub_requests.specs.Awaited.{awaited_of, object_of};
 ghost use Rattle.hub_requests.specs.Making.{MayMake};
+ghost use Rattle.hub_requests.specs.Naming.{IsObject};
 
+use crate::awaited::awaited_of;
 use crate::late::draws;
 use hub_state::Hub;
 use machine::items::{Delivery, Waiting};
@@ -21,8 +24,19 @@ fn until_of(waiting: &Waiting, deadline: Option<u64>) -> Option<u64>
 }
 
 /// Parks the greenlet without a deadline of its own.
+pub fn park(hub: &mut Hub, g: u32, waiting: Waiting) -> Result<(), AllocError>
+    requires may_make { MayMake g hub.old }
+    requires named { IfSome (object_of waiting) (IsObject hub.old.scenario) }
+    requires short { IsShort waiting }
+    ensures { OnOk result (hub.new ≡ parked g (awaited_of waiting hub.old) waiting None hub.old) }
+{
+    let awaited = awaited_of(hub, &waiting);
+    park_as(hub, g, awaited, waiting)
+}
+
+/// As `park`, with a line that says this is waited for.
 #[tactic(auto, using(crate::proofs::Soundly::wake_free))]
-pub fn park(hub: &mut Hub, g: u32, awaited: Awaited, waiting: Waiting) -> Result<(), AllocError>
+pub fn park_as(hub: &mut Hub, g: u32, awaited: Awaited, waiting: Waiting) -> Result<(), AllocError>
     requires may_make { MayMake g hub.old }
     requires short { IsShort waiting }
     ensures { OnOk result (hub.new ≡ parked g awaited waiting None hub.old) }
@@ -36,7 +50,7 @@ pub fn park(hub: &mut Hub, g: u32, awaited: Awaited, waiting: Waiting) -> Result
     Ok(())
 }
 
-/// Parks the greenlet until a deadline: right after its Wake stands its Late.
+/// As `park_as`, until a deadline: right after its Wake stands its Late.
 #[tactic(auto, using(crate::proofs::Soundly::wake_free, crate::proofs::Soundly::late_free, crate::proofs::Soundly::late_drawn_free))]
 pub fn park_until(
     hub: &mut Hub,

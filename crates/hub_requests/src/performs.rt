@@ -5,7 +5,7 @@ ghost use Rattle.machine_well_formed.specs.Texts.{fits_request};
 ghost use Rattle.hub_requests.specs.Making.{MayMake};
 ghost use Rattle.hub_requests.specs.Performing.{performed_of};
 
-use crate::crew_requests::{join_crew, kill_crew, map_list, spawn_job, spawn_member};
+use crate::crew_requests::{JobAsked, join_crew, kill_crew, map_list, spawn_job, spawn_member};
 use crate::greenlet_requests::{
     get_outcome, join_all, join_handle, kill_all, kill_one, link_handle, make_new, print_value,
     sleep_for, spawn_later, spawn_now, start_handle, unlink,
@@ -75,9 +75,17 @@ pub fn perform(
         Request::GroupJoin(o, how) => Ok(join_crew(alloc, hub, g, o, how)?),
         Request::GroupKill(o, fault, how) => Ok(kill_crew(alloc, hub, g, o, fault, how)?),
         Request::Map(o, function, value) => Ok(map_list(alloc, hub, g, o, function, value)?),
-        Request::NativeSpawn(o, kind, value, time) => {
-            Ok(spawn_job(alloc, hub, g, o, kind, value, time)?)
-        }
+        Request::NativeSpawn(o, kind, operand, takes) => Ok(spawn_job(
+            alloc,
+            hub,
+            g,
+            o,
+            JobAsked {
+                kind,
+                operand,
+                takes,
+            },
+        )?),
         Request::Raw(function, under) => Ok(make_raw(alloc, hub, g, function, under)?),
         Request::Switch(value, input) => Ok(switch_to(hub, g, value, input)?),
         Request::Throw(value, fault) => Ok(throw_to(hub, g, value, fault)?),

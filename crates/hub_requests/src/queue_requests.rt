@@ -19,7 +19,6 @@ use machine::items::Waiting;
 use machine::state::Object;
 use scenario_tree::{QueueKind, Wait};
 use std::alloc::{AllocError, Global};
-use trace_text::Awaited;
 
 /// A priority queue takes integers alone.
 fn takes_value(object: Option<&Object>, value: &Value) -> bool
@@ -49,15 +48,7 @@ pub fn put_item(
     if !takes_value(hub.object(o), &value) {
         return Ok(raises(FaultKind::TypeError));
     }
-    let name = hub.name_of_object(o);
-    Ok(come_to_wait(
-        alloc,
-        hub,
-        g,
-        Awaited::QueuePut(name),
-        Waiting::Put(o, value),
-        how,
-    )?)
+    Ok(come_to_wait(alloc, hub, g, Waiting::Put(o, value), how)?)
 }
 
 /// Waits for an item of the queue, and takes it.
@@ -73,15 +64,7 @@ pub fn get_item(
     requires named { IsObject hub.old.scenario o }
     ensures { IfOk result (λ p. performs (Asked.QueueGet o how) g hub.old ≡ performed_of p hub.new) }
 {
-    let name = hub.name_of_object(o);
-    Ok(come_to_wait(
-        alloc,
-        hub,
-        g,
-        Awaited::QueueGet(name),
-        Waiting::Take(o),
-        how,
-    )?)
+    Ok(come_to_wait(alloc, hub, g, Waiting::Take(o), how)?)
 }
 
 /// Waits for an item of the queue, and reads it.
@@ -97,15 +80,7 @@ pub fn peek_item(
     requires named { IsObject hub.old.scenario o }
     ensures { IfOk result (λ p. performs (Asked.QueuePeek o how) g hub.old ≡ performed_of p hub.new) }
 {
-    let name = hub.name_of_object(o);
-    Ok(come_to_wait(
-        alloc,
-        hub,
-        g,
-        Awaited::QueuePeek(name),
-        Waiting::Peek(o),
-        how,
-    )?)
+    Ok(come_to_wait(alloc, hub, g, Waiting::Peek(o), how)?)
 }
 
 /// Waits until no task of the queue is unfinished.
@@ -121,15 +96,7 @@ pub fn join_queue(
     requires named { IsObject hub.old.scenario o }
     ensures { IfOk result (λ p. performs (Asked.QueueJoin o how) g hub.old ≡ performed_of p hub.new) }
 {
-    let name = hub.name_of_object(o);
-    Ok(come_to_wait(
-        alloc,
-        hub,
-        g,
-        Awaited::QueueJoin(name),
-        Waiting::Tasks(o),
-        how,
-    )?)
+    Ok(come_to_wait(alloc, hub, g, Waiting::Tasks(o), how)?)
 }
 
 /// Ends a task of the queue.
@@ -146,7 +113,6 @@ pub fn end_task(hub: &mut Hub, g: u32, o: u32) -> Result<Performed, AllocError>
 pub fn shut_queue(hub: &mut Hub, g: u32, o: u32, immediate: bool) -> Result<Performed, AllocError>
     ensures { IfOk result (λ p. performs (Asked.QueueShut o immediate) g hub.old ≡ performed_of p hub.new) }
 {
-    let _ = g;
     hub.change(o, Change::Shut(immediate))?;
     Ok(done())
 }
@@ -169,13 +135,5 @@ pub fn get_offer(alloc: Global, hub: &mut Hub, g: u32, o: u32) -> Result<Perform
     requires named { IsObject hub.old.scenario o }
     ensures { IfOk result (λ p. performs (Asked.ChannelGet o) g hub.old ≡ performed_of p hub.new) }
 {
-    let name = hub.name_of_object(o);
-    Ok(come_to_wait(
-        alloc,
-        hub,
-        g,
-        Awaited::ChannelGet(name),
-        Waiting::TakeOffer(o),
-        Wait::Block,
-    )?)
+    Ok(come_to_wait(alloc, hub, g, Waiting::TakeOffer(o), Wait::Block)?)
 }

@@ -1,14 +1,16 @@
 //! How a greenlet comes to a wait: it completes at once, parks, or does not wait.
-ghost use Rattle.std.specs.Prelude.{◌≡◌, OnOk, IfOk};
+ghost use Rattle.std.specs.Prelude.{◌≡◌, OnOk, IfOk, IfSome};
 ghost use Rattle.machine.specs.Waits.{comes, offered, waits};
 ghost use Rattle.hub_items.specs.Short.{IsShort};
+ghost use Rattle.hub_requests.specs.Awaited.{awaited_of, object_of};
 ghost use Rattle.hub_requests.specs.Making.{MayMake};
 ghost use Rattle.hub_requests.specs.Naming.{IsNamed, IsObject};
 ghost use Rattle.hub_requests.specs.Performing.{performed_of};
 
+use crate::awaited::awaited_of;
 use crate::completions::complete_wait;
 use crate::late::{draw, late_outcome};
-use crate::parking::{park, park_until};
+use crate::parking::{park, park_as, park_until};
 use crate::performed::Performed;
 use gv_values::Value;
 use hub_objects::Change;
@@ -33,7 +35,7 @@ fn park_or_pass(
 {
     match how {
         Wait::Block => {
-            park(hub, g, awaited, waiting)?;
+            park_as(hub, g, awaited, waiting)?;
             Ok(Performed::Parks)
         }
         Wait::Within(time) => {
@@ -50,7 +52,25 @@ fn park_or_pass(
 }
 
 /// Lets a newcomer wait, unless its wait completes at once.
+#[tactic(auto, using(crate::proofs::Named::named_there))]
 pub fn come_to_wait(
+    alloc: Global,
+    hub: &mut Hub,
+    g: u32,
+    waiting: Waiting,
+    how: Wait,
+) -> Result<Performed, AllocError>
+    requires may_make { MayMake g hub.old }
+    requires named { IfSome (object_of waiting) (IsObject hub.old.scenario) }
+    requires short { IsShort waiting }
+    ensures { IfOk result (λ p. comes g (awaited_of waiting hub.old) waiting how hub.old ≡ performed_of p hub.new) }
+{
+    let awaited = awaited_of(hub, &waiting);
+    Ok(come_to_wait_as(alloc, hub, g, awaited, waiting, how)?)
+}
+
+/// As `come_to_wait`, with a park line that says this is waited for.
+pub fn come_to_wait_as(
     alloc: Global,
     hub: &mut Hub,
     g: u32,
@@ -78,7 +98,6 @@ pub fn offer(hub: &mut Hub, g: u32, o: u32, value: Value) -> Result<(), AllocErr
     ensures { OnOk result (hub.new ≡ offered g o value hub.old) }
 {
     let since = hub.next_since();
-    let name = hub.name_of_object(o);
-    park(hub, g, Awaited::ChannelPut(name), Waiting::Offered(o))?;
+    park(hub, g, Waiting::Offered(o))?;
     hub.change(o, Change::Offer(value, since))
 }

@@ -47,6 +47,7 @@ pub record IsOnLine (test : Delivery → Bool) (IsSo : List Item → Type 0) (s 
   pub along : IsAlong test es at
   pub so : IsSo (flat along.front)
   pub finds : (done : Delivery → Bool) → AreUnseen test done → Finds (Delivers done) s es old → Finds (AmongTest done (slots_of along.front)) s es now
+  pub room : now.room ≡ old.room
 
 nothing_in : (q : ℕ) → Contains [] q → ⊥
 nothing_in q c = let below = c.1 in omega (arith, below)
@@ -57,6 +58,7 @@ line_none test IsSo s es old at h so = record {
   along = along_none test es at h;
   so = so;
   finds = λ done new f. finds_as (Delivers done) (AmongTest done []) s es old (λ q i t l. inl l) (λ q i t l. back done (q, i) l) f;
+  room = refl;
 }
   where
     back : (done : Delivery → Bool) (e : Entry) → AmongTest done [] e → Delivers done e
@@ -65,8 +67,10 @@ line_none test IsSo s es old at h so = record {
 
 pub line_all : (test : Delivery → Bool) (IsSo : List Item → Type 0) (s : State) (es : List Entry) (old now : SeenFound) (at : Option ℕ) → Differ (slots_of es) → IsOnLine test IsSo s es old now at → at ≡ None →
     LooksAlong test s es old now
-line_all test IsSo s es old now at differ l e = λ done new f.
-    finds_as (AmongTest done (slots_of l.along.front)) (Delivers (λ d. done d || test d)) s es now (λ q i t m. to done q i t m) (λ q i t m. from done q i t m) (l.finds done new f)
+line_all test IsSo s es old now at differ l e = record {
+  finds = λ done new f. finds_as (AmongTest done (slots_of l.along.front)) (Delivers (λ d. done d || test d)) s es now (λ q i t m. to done q i t m) (λ q i t m. from done q i t m) (l.finds done new f);
+  room = l.room;
+}
   where
     all : index test es ≡ slots_of l.along.front
     all = ap slots_of (along_all test es at l.along e)
@@ -104,6 +108,7 @@ line_on test IsSo IsThen s es old now new at next q i h differ l e got tells pas
           subst (λ qs. Finds (AmongTest done qs) s es new) (sym (slots_there front q st.item []))
           (subst (λ x. Finds (AmongTest done (slots_of front ++ q ∷ [])) s es x) (ap (λ b. noted q i b now) (sym is) ∙ sym notes)
           (finds_as (Or (AmongTest done (slots_of front)) q) (AmongTest done (slots_of front ++ q ∷ [])) s es (noted q i (holds s i) now) (λ r j t m. forth done (r, j) m) (λ r j t m. back done (r, j) m) more));
+      room = ap (λ (f : SeenFound). f.room) notes ∙ l.room;
     }
   where
     fresh : (done : Delivery → Bool) → done i.delivery ≡ false → Lacks q (slots_of l.along.front) → AmongTest done (slots_of l.along.front) (q, i) → ⊥
@@ -166,10 +171,13 @@ closed_needs s j e t = true≢false (sym (and_parts (holds s j) (is_none j.ready
 pub line_stopped : (kind : WaitKind) (o next : ℕ) (IsSo : List Item → Type 0) (s : State) (es : List Entry) (old now : SeenFound) (at : Option ℕ) (q : ℕ) (i : Item) → Differ (slots_of es) → AscendTo 0 next (flat es) →
     s.items ≡ flat es → NumbersStandInFront s → IsOnLine (waits_in_line kind o) IsSo s es old now at → at ≡ Some q → item_in q es ≡ Some i → holds s i ≡ false → is_some i.ready ≡ false →
     LooksAlong (waits_in_line kind o) s es old now
-line_stopped kind o next IsSo s es old now at q i differ ascends items fronts l e got fails none = λ done new f. (let g = l.finds done new f in record {
-  lost = found_as (AmongTest done front) (Delivers (λ d. done d || test d)) (loses_number (holds s)) es now.lost (λ r j t u m. to done r j t m) (λ r j t u m. from done r j t (λ k. closed_loses s j k u) m) g.lost;
-  gained = found_as (AmongTest done front) (Delivers (λ d. done d || test d)) (needs_number (holds s)) es now.gained (λ r j t u m. to done r j t m) (λ r j t u m. from done r j t (λ k. closed_needs s j k u) m) g.gained;
-})
+line_stopped kind o next IsSo s es old now at q i differ ascends items fronts l e got fails none = record {
+  finds = λ done new f. (let g = l.finds done new f in record {
+    lost = found_as (AmongTest done front) (Delivers (λ d. done d || test d)) (loses_number (holds s)) es now.lost (λ r j t u m. to done r j t m) (λ r j t u m. from done r j t (λ k. closed_loses s j k u) m) g.lost;
+    gained = found_as (AmongTest done front) (Delivers (λ d. done d || test d)) (needs_number (holds s)) es now.gained (λ r j t u m. to done r j t m) (λ r j t u m. from done r j t (λ k. closed_needs s j k u) m) g.gained;
+  });
+  room = l.room;
+}
   where
     test : Delivery → Bool
     test = waits_in_line kind o

@@ -19,16 +19,16 @@ use Rattle.hub_state.proofs.Joining.{or_none, or_three}
 -- ---- columns
 
 -- in this column of the object
-abbrev in_column : ℕ → ℕ → Delivery → Bool
+abbrev pub in_column : ℕ → ℕ → Delivery → Bool
 in_column o n d = has_key waits_key (object_place o n) d
 
 -- the key is one of the first columns of the object
-abbrev is_before : ℕ → ℕ → Option ℕ → Bool
+abbrev pub is_before : ℕ → ℕ → Option ℕ → Bool
 is_before o n None = false
 is_before o n (Some k) = nat_le (object_place o 0) k && nat_lt k (object_place o n)
 
 -- in one of the first columns of the object
-abbrev in_columns : ℕ → ℕ → Delivery → Bool
+abbrev pub in_columns : ℕ → ℕ → Delivery → Bool
 in_columns o n d = is_before o n (waits_key d)
 
 and_false : (a : Bool) → (a && false) ≡ false
@@ -51,7 +51,7 @@ one_further low m k l = by (cases_order k m)
     by (inr (inl h)) = rw (lt-ltb k m h, ne_eqb m k (λ e. omega (arith, e, h)), lt-ltb k (m + 1) (omega (arith, h))) (below (nat_le low k))
     by (inr (inr h)) = rw (le-ltb k m (omega (arith, h)), ne_eqb m k (λ e. omega (arith, e, h)), le-ltb k (m + 1) (omega (arith, h))) (above (nat_le low k))
 
-columns_more : (o n : ℕ) (d : Delivery) → (in_columns o n d || in_column o n d) ≡ in_columns o (n + 1) d
+pub columns_more : (o n : ℕ) (d : Delivery) → (in_columns o n d || in_column o n d) ≡ in_columns o (n + 1) d
 columns_more o n d = by (waits_key d)
   where
     by : (key : Option ℕ) → (is_before o n key || is_key (object_place o n) key) ≡ is_before o (n + 1) key
@@ -60,14 +60,14 @@ columns_more o n d = by (waits_key d)
         let next : object_place o (n + 1) ≡ object_place o n + 1 = omega arith in
         one_further (object_place o 0) (object_place o n) k (omega arith) ∙ ap (λ m. nat_le (object_place o 0) k && nat_lt k m) (sym next)
 
-columns_apart : (o n : ℕ) (d : Delivery) → IsTrue (in_column o n d) → in_columns o n d ≡ false
+pub columns_apart : (o n : ℕ) (d : Delivery) → IsTrue (in_column o n d) → in_columns o n d ≡ false
 columns_apart o n d = by (waits_key d)
   where
     by : (key : Option ℕ) → is_key (object_place o n) key ≡ true → is_before o n key ≡ false
     by None t = refl
     by (Some k) t = let e = eqb-true (object_place o n) k t in rw (le-ltb k (object_place o n) (omega (arith, e))) (and_false (nat_le (object_place o 0) k))
 
-no_columns : (o : ℕ) (d : Delivery) → in_columns o 0 d ≡ false
+pub no_columns : (o : ℕ) (d : Delivery) → in_columns o 0 d ≡ false
 no_columns o d = by (waits_key d)
   where
     by : (key : Option ℕ) → is_before o 0 key ≡ false
@@ -87,7 +87,7 @@ few_columns (Some line) = by line.0
     by WaitKind.Slot = omega arith
     by WaitKind.TakeOffer = omega arith
 
-all_columns : (o : ℕ) (d : Delivery) → in_columns o 8 d ≡ waits_at o d
+pub all_columns : (o : ℕ) (d : Delivery) → in_columns o 8 d ≡ waits_at o d
 all_columns o d = by (line_of_delivery d) (class_of d)
   where
     row : (p column : ℕ) → column < 8 → (nat_le (object_place o 0) (object_place p column) && nat_lt (object_place p column) (object_place o 8)) ≡ (o == p)
@@ -107,22 +107,30 @@ all_columns o d = by (line_of_delivery d) (class_of d)
 -- ---- one look after another
 
 along_as : (a b : Delivery → Bool) (s : State) (es : List Entry) (x y : SeenFound) → ((d : Delivery) → a d ≡ b d) → LooksAlong a s es x y → LooksAlong b s es x y
-along_as a b s es x y same f = λ done new h.
-    finds_as (Delivers (λ d. done d || a d)) (Delivers (λ d. done d || b d)) s es y (λ q i t m. ap (λ r. done i.delivery || r) (sym (same i.delivery)) ∙ m) (λ q i t m. ap (λ r. done i.delivery || r) (same i.delivery) ∙ m)
-    (f done (λ d t. new d (sym (same d) ∙ t)) h)
+along_as a b s es x y same f = record {
+  finds = λ done new h.
+      finds_as (Delivers (λ d. done d || a d)) (Delivers (λ d. done d || b d)) s es y (λ q i t m. ap (λ r. done i.delivery || r) (sym (same i.delivery)) ∙ m) (λ q i t m. ap (λ r. done i.delivery || r) (same i.delivery) ∙ m)
+      (f.finds done (λ d t. new d (sym (same d) ∙ t)) h);
+  room = f.room;
+}
 
 along_both : (a b c : Delivery → Bool) (s : State) (es : List Entry) (x y z : SeenFound) → ((d : Delivery) → (a d || b d) ≡ c d) → ((d : Delivery) → IsTrue (b d) → a d ≡ false) → LooksAlong a s es x y → LooksAlong b s es y z →
     LooksAlong c s es x z
-along_both a b c s es x y z is apart f g = λ done new h.
-    finds_as (Delivers (λ d. (done d || a d) || b d)) (Delivers (λ d. done d || c d)) s es z (λ q i t m. sym (whole done i.delivery) ∙ m) (λ q i t m. whole done i.delivery ∙ m)
-    (g (λ d. done d || a d) (λ d t. or_none (done d) (a d) (new d (sym (is d) ∙ or_right (a d) (b d) t)) (apart d t)) (f done (λ d t. new d (sym (is d) ∙ or_left (a d) (b d) t)) h))
+along_both a b c s es x y z is apart f g = record {
+  finds = λ done new h.
+      finds_as (Delivers (λ d. (done d || a d) || b d)) (Delivers (λ d. done d || c d)) s es z (λ q i t m. sym (whole done i.delivery) ∙ m) (λ q i t m. whole done i.delivery ∙ m)
+      (g.finds (λ d. done d || a d) (λ d t. or_none (done d) (a d) (new d (sym (is d) ∙ or_right (a d) (b d) t)) (apart d t)) (f.finds done (λ d t. new d (sym (is d) ∙ or_left (a d) (b d) t)) h));
+  room = g.room ∙ f.room;
+}
   where
     whole : (done : Delivery → Bool) (d : Delivery) → ((done d || a d) || b d) ≡ (done d || c d)
     whole done d = or_three (done d) (a d) (b d) ∙ ap (λ r. done d || r) (is d)
 
-along_none : (o : ℕ) (s : State) (es : List Entry) (x : SeenFound) → LooksAlong (in_columns o 0) s es x x
-along_none o s es x = λ done new h.
-    finds_as (Delivers done) (Delivers (λ d. done d || in_columns o 0 d)) s es x (λ q i t m. or_left (done i.delivery) (in_columns o 0 i.delivery) m) (λ q i t m. only done i.delivery m) h
+pub along_none : (o : ℕ) (s : State) (es : List Entry) (x : SeenFound) → LooksAlong (in_columns o 0) s es x x
+along_none o s es x = record {
+  finds = λ done new h. finds_as (Delivers done) (Delivers (λ d. done d || in_columns o 0 d)) s es x (λ q i t m. or_left (done i.delivery) (in_columns o 0 i.delivery) m) (λ q i t m. only done i.delivery m) h;
+  room = refl;
+}
   where
     or_nothing : (b c : Bool) → c ≡ false → (b || c) ≡ true → b ≡ true
     or_nothing true c e m = refl
@@ -133,6 +141,12 @@ along_none o s es x = λ done new h.
 
 one_column : (o n : ℕ) (s : State) (es : List Entry) (x y z : SeenFound) → LooksAlong (in_columns o n) s es x y → LooksAlong (in_column o n) s es y z → LooksAlong (in_columns o (n + 1)) s es x z
 one_column o n s es x y z f g = along_both (in_columns o n) (in_column o n) (in_columns o (n + 1)) s es x y z (columns_more o n) (columns_apart o n) f g
+
+-- one line more
+pub line_more : (kind : WaitKind) (o : ℕ) (s : State) (es : List Entry) (x y z : SeenFound) → LooksAlong (in_columns o (line_column kind)) s es x y → LooksAlong (waits_in_line kind o) s es y z →
+    LooksAlong (in_columns o (line_column kind + 1)) s es x z
+line_more kind o s es x y z f g =
+    one_column o (line_column kind) s es x y z f (along_as (waits_in_line kind o) (in_column o (line_column kind)) s es y z (λ d. sym (line_key kind o d)) g)
 
 -- ---- all at an object
 
@@ -149,16 +163,13 @@ pub record LooksByLine (o : ℕ) (s : State) (es : List Entry) (x0 x1 x2 x3 x4 x
 
 pub by_line : (o : ℕ) (s : State) (es : List Entry) (x0 x1 x2 x3 x4 x5 x6 x7 x8 : SeenFound) → LooksByLine o s es x0 x1 x2 x3 x4 x5 x6 x7 x8 → LooksAt (is_at o) s es x0 x8
 by_line o s es x0 x1 x2 x3 x4 x5 x6 x7 x8 l =
-    let c0 = one_column o 0 s es x0 x0 x1 (along_none o s es x0) (of WaitKind.Acquire x0 x1 l.acquire) in
-    let c1 = one_column o 1 s es x0 x1 x2 c0 (of WaitKind.Lock x1 x2 l.lock) in
-    let c2 = one_column o 2 s es x0 x2 x3 c1 (of WaitKind.Put x2 x3 l.put) in
-    let c3 = one_column o 3 s es x0 x3 x4 c2 (of WaitKind.Take x3 x4 l.take) in
-    let c4 = one_column o 4 s es x0 x4 x5 c3 (of WaitKind.Place x4 x5 l.place) in
-    let c5 = one_column o 5 s es x0 x5 x6 c4 (of WaitKind.Slot x5 x6 l.slot) in
-    let c6 = one_column o 6 s es x0 x6 x7 c5 (of WaitKind.TakeOffer x6 x7 l.take_offer) in
+    let c0 = line_more WaitKind.Acquire o s es x0 x0 x1 (along_none o s es x0) l.acquire in
+    let c1 = line_more WaitKind.Lock o s es x0 x1 x2 c0 l.lock in
+    let c2 = line_more WaitKind.Put o s es x0 x2 x3 c1 l.put in
+    let c3 = line_more WaitKind.Take o s es x0 x3 x4 c2 l.take in
+    let c4 = line_more WaitKind.Place o s es x0 x4 x5 c3 l.place in
+    let c5 = line_more WaitKind.Slot o s es x0 x5 x6 c4 l.slot in
+    let c6 = line_more WaitKind.TakeOffer o s es x0 x6 x7 c5 l.take_offer in
     let c7 = one_column o 7 s es x0 x7 x8 c6 (along_as (waits_in_none o) (in_column o 7) s es x7 x8 (λ d. sym (none_key o d)) l.others) in
     let all = along_as (in_columns o 8) (waits_at o) s es x0 x8 (all_columns o) c7 in
-    λ done new h. all (λ d. done (class_of d)) (λ d t. new (class_of d) t) h
-  where
-    of : (kind : WaitKind) (x y : SeenFound) → LooksAlong (waits_in_line kind o) s es x y → LooksAlong (in_column o (line_column kind)) s es x y
-    of kind x y f = along_as (waits_in_line kind o) (in_column o (line_column kind)) s es x y (λ d. sym (line_key kind o d)) f
+    record { finds = λ done new h. all.finds (λ d. done (class_of d)) (λ d t. new (class_of d) t) h; room = all.room }

@@ -138,8 +138,11 @@ module _ (moment : ℕ) (s : State) (now : s.moment ≡ moment) (es : List Entry
           let come : c.0 ≤ moment = let l = leb-true c.0 s.moment (sym (due_holds s i c.0 c.1) ∙ parts.0) in omega (arith, l, now) in
           Contains-append_right (slots_in ps) (slots_in due) q (d.complete q i c.0 t (waits_of i c.0 (none_is_none i.ready parts.1) c.1) come)
 
-pub looks_due : (moment : ℕ) (es : List Entry) (old new : SeenFound) → Gathers moment es old.gained new.gained → new.lost ≡ old.lost → (s : State) → s.moment ≡ moment → All (IsPast moment) (flat es) → LooksAt is_moment s es old new
-looks_due moment es old new g lost s now past = λ done apart h. record {
-  lost = subst (λ ps. AreFound (IsOf (either done is_moment)) (loses_number (holds s)) es ps) (sym lost) (none_lost moment s now es done apart old.lost past h.lost);
-  gained = subst (λ ps. AreFound (IsOf (either done is_moment)) (needs_number (holds s)) es ps) (sym g.is) (all_gained moment s now es done apart old.gained g.due g.all h.gained);
+pub looks_due : (moment : ℕ) (es : List Entry) (old new : SeenFound) → Gathers moment es old.gained new.gained → new.lost ≡ old.lost → new.room ≡ old.room → (s : State) → s.moment ≡ moment → All (IsPast moment) (flat es) → LooksAt is_moment s es old new
+looks_due moment es old new g lost room s now past = record {
+  finds = λ done apart h. (record {
+    lost = subst (λ ps. AreFound (IsOf (either done is_moment)) (loses_number (holds s)) es ps) (sym lost) (none_lost moment s now es done apart old.lost past h.lost);
+    gained = subst (λ ps. AreFound (IsOf (either done is_moment)) (needs_number (holds s)) es ps) (sym g.is) (all_gained moment s now es done apart old.gained g.due g.all h.gained);
+  });
+  room = room;
 }

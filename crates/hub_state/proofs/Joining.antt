@@ -1,20 +1,20 @@
 -- Looks, one after another.
-use Rattle.std.proofs.Common.{◌≡◌, refl, sym, ap, ◌∙◌, ℕ, Bool, true, false, List, [], ◌∷◌, ◌++◌, arith}
+use Rattle.std.proofs.Common.{◌≡◌, refl, sym, ap, ◌∙◌, subst, ℕ, ◌≤◌, Bool, true, false, List, [], ◌∷◌, ◌++◌, length, arith}
 use Rattle.std.proofs.lemmas.Bool.{eqb-true, ne_eqb, or_left, or_right, true≢false}
 use Rattle.std.proofs.lemmas.Bool.Decides.{nat_tests}
 use Rattle.std.specs.List.{list_any}
 use Rattle.std.specs.Prelude.{◌==◌, ◌&&◌, ◌||◌, IsTrue}
-use Rattle.linked_items.specs.Items.{Lacks}
+use Rattle.linked_items.specs.Items.{Differ, Lacks}
 use Rattle.machine.specs.declared.items.Item.{Item}
 use Rattle.machine.specs.Holds.{holds}
 use Rattle.machine.specs.State.{State}
 use Rattle.machine_settling.specs.Classes.{Class, class_of, is_at}
 use Rattle.machine_settling.specs.Numbers.{loses_number, needs_number}
 use Rattle.machine_settling.specs.Steps.{either, nothing}
-use Rattle.held_items.specs.Entries.{Entry}
+use Rattle.held_items.specs.Entries.{Entry, slots_of}
 use Rattle.held_items.specs.Waits.{is_for, same_target, target_of}
 use Rattle.held_items.specs.declared.waits.Target.{Target}
-use Rattle.hub_state.specs.Found.{AreFound, HasFound, IsOf, LooksAt, SeenFound, at_objects, for_one_of, for_several, is_always, is_moment, is_one_of, none_found, touched_now}
+use Rattle.hub_state.specs.Found.{AreFound, HasFound, IsOf, LooksAt, MayLookAt, SeenFound, at_objects, emptied, for_one_of, for_several, is_always, is_moment, is_one_of, touched_now}
 use Rattle.hub_state.specs.Touched.{SeenTouched, is_touched, reopened}
 use Rattle.hub_state.proofs.Classes.{is_place}
 use Rattle.hub_state.proofs.Finding.{finds_as}
@@ -36,7 +36,7 @@ found_same f g s es x same h = finds_as (IsOf f) (IsOf g) s es x (λ q i t a. sy
 
 -- no class
 pub looks_none : (s : State) (es : List Entry) (x : SeenFound) → LooksAt nothing s es x x
-looks_none s es x = λ done new h. found_same done (either done nothing) s es x (λ c. or_nothing (done c)) h
+looks_none s es x = record { finds = λ done new h. found_same done (either done nothing) s es x (λ c. or_nothing (done c)) h; room = refl }
   where
     or_nothing : (a : Bool) → a ≡ (a || false)
     or_nothing true = refl
@@ -44,17 +44,23 @@ looks_none s es x = λ done new h. found_same done (either done nothing) s es x 
 
 -- these classes, and then those
 pub looks_both : (a b c : Class → Bool) (s : State) (es : List Entry) (x y z : SeenFound) → ((k : Class) → (a k || b k) ≡ c k) → ((k : Class) → IsTrue (b k) → a k ≡ false) → LooksAt a s es x y → LooksAt b s es y z → LooksAt c s es x z
-looks_both a b c s es x y z is apart f g = λ done new h.
-    found_same (either (either done a) b) (either done c) s es z (λ k. or_three (done k) (a k) (b k) ∙ ap (λ r. done k || r) (is k))
-    (g (either done a) (λ k t. or_none (done k) (a k) (new k (sym (is k) ∙ or_right (a k) (b k) t)) (apart k t)) (f done (λ k t. new k (sym (is k) ∙ or_left (a k) (b k) t)) h))
+looks_both a b c s es x y z is apart f g = record {
+  finds = λ done new h.
+      found_same (either (either done a) b) (either done c) s es z (λ k. or_three (done k) (a k) (b k) ∙ ap (λ r. done k || r) (is k))
+      (g.finds (either done a) (λ k t. or_none (done k) (a k) (new k (sym (is k) ∙ or_right (a k) (b k) t)) (apart k t)) (f.finds done (λ k t. new k (sym (is k) ∙ or_left (a k) (b k) t)) h));
+  room = g.room ∙ f.room;
+}
 
 -- the same classes, otherwise said
 pub looks_as : (a b : Class → Bool) (s : State) (es : List Entry) (x y : SeenFound) → ((k : Class) → a k ≡ b k) → LooksAt a s es x y → LooksAt b s es x y
-looks_as a b s es x y same f = λ done new h. found_same (either done a) (either done b) s es y (λ k. ap (λ r. done k || r) (same k)) (f done (λ k t. new k (sym (same k) ∙ t)) h)
+looks_as a b s es x y same f = record {
+  finds = λ done new h. found_same (either done a) (either done b) s es y (λ k. ap (λ r. done k || r) (same k)) (f.finds done (λ k t. new k (sym (same k) ∙ t)) h);
+  room = f.room;
+}
 
 -- ---- one object after another
 
-any_more : (o : ℕ) (front : List ℕ) (p : ℕ) → (list_any (λ r. o == r) front || (o == p)) ≡ list_any (λ r. o == r) (front ++ p ∷ [])
+pub any_more : (o : ℕ) (front : List ℕ) (p : ℕ) → (list_any (λ r. o == r) front || (o == p)) ≡ list_any (λ r. o == r) (front ++ p ∷ [])
 any_more o [] p = one (o == p)
   where
     one : (b : Bool) → (false || b) ≡ (b || false)
@@ -140,14 +146,14 @@ several_looked_at true s es x y t f = looks_as (is_for Target.Several) (for_seve
 -- ---- all that a settling looks at
 
 -- who waits for ends waits for something
-several_apart : (several : Bool) (c : Class) → IsTrue (for_several several c) → is_always c ≡ false
+pub several_apart : (several : Bool) (c : Class) → IsTrue (for_several several c) → is_always c ≡ false
 several_apart several (Class.OfEnds targets need) t = refl
 several_apart several Class.Always t = absurd (true≢false (sym t))
 several_apart several (Class.AtMoment deadline) t = refl
 several_apart several (Class.AtObject o) t = refl
 
 -- who waits for one doesn't wait for several
-ones_apart : (several : Bool) (ends : List ℕ) (c : Class) → IsTrue (for_one_of ends c) → either is_always (for_several several) c ≡ false
+pub ones_apart : (several : Bool) (ends : List ℕ) (c : Class) → IsTrue (for_one_of ends c) → either is_always (for_several several) c ≡ false
 ones_apart several ends (Class.OfEnds targets need) t = by (target_of targets) t
   where
     by : (target : Target) → is_one_of ends target ≡ true → (false || (same_target Target.Several target && several)) ≡ false
@@ -157,52 +163,62 @@ ones_apart several ends Class.Always t = absurd (true≢false (sym t))
 ones_apart several ends (Class.AtMoment deadline) t = refl
 ones_apart several ends (Class.AtObject o) t = refl
 
-objects_apart_all : (several : Bool) (ends objects : List ℕ) (c : Class) → IsTrue (at_objects objects c) → either (either is_always (for_several several)) (for_one_of ends) c ≡ false
+pub objects_apart_all : (several : Bool) (ends objects : List ℕ) (c : Class) → IsTrue (at_objects objects c) → either (either is_always (for_several several)) (for_one_of ends) c ≡ false
 objects_apart_all several ends objects (Class.AtObject o) t = refl
 objects_apart_all several ends objects Class.Always t = absurd (true≢false (sym t))
 objects_apart_all several ends objects (Class.AtMoment deadline) t = absurd (true≢false (sym t))
 objects_apart_all several ends objects (Class.OfEnds targets need) t = absurd (true≢false (sym t))
 
-moments_apart : (t : SeenTouched) (c : Class) → IsTrue (is_moment c) → touched_now t c ≡ false
-moments_apart t (Class.AtMoment deadline) u = refl
-moments_apart t Class.Always u = absurd (true≢false (sym u))
-moments_apart t (Class.OfEnds targets need) u = absurd (true≢false (sym u))
-moments_apart t (Class.AtObject o) u = absurd (true≢false (sym u))
+moments_apart : (t : SeenTouched) (c : Class) → IsTrue (touched_now t c) → is_moment c ≡ false
+moments_apart t (Class.AtMoment deadline) u = absurd (true≢false (sym u))
+moments_apart t Class.Always u = refl
+moments_apart t (Class.OfEnds targets need) u = refl
+moments_apart t (Class.AtObject o) u = refl
 
-all_reopened : (t : SeenTouched) (c : Class) → (touched_now t c || is_moment c) ≡ reopened t c
+all_reopened : (t : SeenTouched) (c : Class) → (is_moment c || touched_now t c) ≡ reopened t c
 all_reopened t Class.Always = refl
 all_reopened t (Class.AtMoment deadline) = refl
 all_reopened t (Class.OfEnds targets need) = by (target_of targets)
   where
-    one : (b : Bool) → (((false || b) || false) || false) ≡ b
+    one : (b : Bool) → (false || ((false || b) || false)) ≡ b
     one true = refl
     one false = refl
 
-    several : (b : Bool) → ((((false || b) || false) || false) || false) ≡ b
+    several : (b : Bool) → (false || (((false || b) || false) || false)) ≡ b
     several true = refl
     several false = refl
 
-    by : (target : Target) → ((((false || (same_target Target.Several target && t.several)) || is_one_of t.ends target) || false) || false) ≡ is_touched t target
+    by : (target : Target) → (false || (((false || (same_target Target.Several target && t.several)) || is_one_of t.ends target) || false)) ≡ is_touched t target
     by (Target.One n) = one (list_any (λ m. n == m) t.ends)
     by Target.Several = several t.several
 all_reopened t (Class.AtObject o) = by (list_any (λ p. o == p) t.objects)
   where
-    by : (b : Bool) → ((((false || false) || false) || b) || false) ≡ b
+    by : (b : Bool) → (false || (((false || false) || false) || b)) ≡ b
     by true = refl
     by false = refl
 
 -- before the first look nobody was found
-none_has : (s : State) (es : List Entry) → HasFound nothing s es none_found
-none_has s es = record { lost = none (λ i. loses_number (holds s) i); gained = none (λ i. needs_number (holds s) i) }
+pub none_has : (s : State) (es : List Entry) (f : SeenFound) → HasFound nothing s es (emptied f)
+none_has s es f = record { lost = none (λ i. loses_number (holds s) i); gained = none (λ i. needs_number (holds s) i) }
   where
     none : (test : Item → Bool) → AreFound (IsOf nothing) test es []
     none test = record { apart = tt; sound = λ p h. absurd (let below = h.1 in omega (arith, below)); complete = λ q i t l u. absurd (true≢false (sym l)) }
 
--- all that was touched, and those whose moment has come
-pub looks_all : (t : SeenTouched) (s : State) (es : List Entry) (x y : SeenFound) → LooksAt (touched_now t) s es none_found x → LooksAt is_moment s es x y → HasFound (reopened t) s es y
-looks_all t s es x y f g =
-    found_same (either nothing (reopened t)) (reopened t) s es y (λ c. refl)
-    (looks_both (touched_now t) is_moment (reopened t) s es none_found x y (all_reopened t) (moments_apart t) f g nothing (λ c u. refl) (none_has s es))
+-- those whose moment has come, and all that was touched
+pub looks_all : (t : SeenTouched) (s : State) (es : List Entry) (x y z : SeenFound) → LooksAt is_moment s es (emptied x) y → LooksAt (touched_now t) s es y z → HasFound (reopened t) s es z
+looks_all t s es x y z f g =
+    found_same (either nothing (reopened t)) (reopened t) s es z (λ c. refl)
+    ((looks_both is_moment (touched_now t) (reopened t) s es (emptied x) y z (all_reopened t) (moments_apart t) f g).finds nothing (λ c u. refl) (none_has s es x))
+
+-- after those whose moment has come, what was touched may be looked at
+pub may_look_touched : (t : SeenTouched) (s : State) (es : List Entry) (x y : SeenFound) → Differ (slots_of es) → length es ≤ x.room → LooksAt is_moment s es (emptied x) y → MayLookAt (touched_now t) s es y
+may_look_touched t s es x y apart room f = record {
+  apart = apart;
+  done = either nothing is_moment;
+  unseen = moments_apart t;
+  found = f.finds nothing (λ c u. refl) (none_has s es x);
+  room = subst (λ n. length es ≤ n) (sym f.room) room;
+}
 
 -- what each of the looks at what was touched found, one after another
 pub record LooksInTurn (t : SeenTouched) (s : State) (es : List Entry) (x0 x1 x2 x3 x4 : SeenFound) : Type 0 where

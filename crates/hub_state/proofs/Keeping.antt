@@ -1,6 +1,7 @@
 -- What keeps the invariant of the hub through each of its calls, by the fields that the call changes.
-use Rattle.std.proofs.Common.{◌≡◌, refl, sym, ap, subst, ◌∙◌, ℕ, ◌+◌, ◌-◌, ◌==◌, Bool, true, false, not, List, [], ◌∷◌, ◌++◌, length, map, slice_set, Option, Some, arith}
+use Rattle.std.proofs.Common.{◌≡◌, refl, sym, ap, subst, ◌∙◌, ℕ, ◌+◌, ◌-◌, ◌==◌, Bool, true, false, not, List, [], ◌∷◌, ◌++◌, length, map, slice_set, Option, Some, None, if◌then◌else◌, arith}
 use Rattle.std.specs.Prelude.{◌||◌, Result, Ok, Err, OnOk, OnErr, IfSome, is_some, option_and_then}
+use Rattle.std.specs.List.{list_any}
 use Rattle.std.proofs.lemmas.List.{length-map, length-set, map-append}
 use Rattle.linked_items.specs.Items.{Lacks}
 use Rattle.gv_values.specs.declared.job.Job.{Job}
@@ -38,9 +39,11 @@ use Rattle.hub_items.proofs.Sounds.{sound_filter, sound_more, sound_settled, sou
 use Rattle.held_items.specs.Entries.{Entry, SeenItems, flat, item_in, slots_of, without_slot}
 use Rattle.held_items.specs.Held.{added, taken, without_all}
 use Rattle.held_items.specs.Lined.{new_item}
+use Rattle.held_items.specs.Waits.{waits_at}
 use Rattle.held_items.proofs.EntryLemmas.{is_other, is_same}
 use Rattle.hub_state.specs.Over.{over, with_held}
 use Rattle.hub_state.specs.Touched.{HasPlaces, HasTouched, IsKept, IsPending, IsUpToDate, SeenTouched, awaited, left_by, reopened, untouched, with_end, with_touched}
+use Rattle.hub_state.proofs.Awaiting.{kept_unawaited}
 use Rattle.hub_state.proofs.Finding.{in_flat}
 use Rattle.hub_state.proofs.Touching.{Grows, grows_all, grows_end, grows_on, grows_same, grows_touched, kept_added, kept_beside, kept_grown, pending_fewer, pending_more}
 use Rattle.hub_state.proofs.UpToDate.{ascending, kept_arrived, kept_changed, kept_comes, kept_dropped, kept_left, kept_made, kept_parented, kept_posted, kept_settled, kept_taken, kept_withdrawn, pending_settled}
@@ -172,12 +175,26 @@ pub either_way : {A E : Type 0} (r : Result A E) (P Q R : Type 0) → (P → R) 
 either_way (Ok x) P Q R f g p q = f p
 either_way (Err e) P Q R f g p q = g q
 
+-- what holds whether it went well or not
+pub on_err : {A E : Type 0} (r : Result A E) (P : Type 0) → P → OnErr r P
+on_err (Ok x) P p = tt
+on_err (Err e) P p = p
+
 pub hub_changed : (o : ℕ) (x : Object) (held : SeenItems) (t u : SeenTouched) (s : State) (objects : List Object) → IsAscending s → u ≡ with_touched (Some o) t → objects ≡ slice_set s.objects o x → IsKept held t s →
     IsKept held u (record s { objects = objects })
 hub_changed o x held t u s objects a touched e h =
     subst (λ v. IsKept held v (record s { objects = objects })) (sym touched)
     (subst (λ xs. IsKept held (with_touched (Some o) t) (record s { objects = xs })) (sym e)
     (hub_moved held t (with_touched (Some o) t) s (with_object o x s) (grows_touched (Some o) t) (length-set s.objects o x) (kept_changed o x t s a h.current) h))
+
+-- it need be touched only where somebody waits there
+pub hub_changed_if : (o : ℕ) (x : Object) (b : Bool) (held : SeenItems) (t u : SeenTouched) (s : State) (objects : List Object) → IsAscending s → b ≡ list_any (λ (i : Item). waits_at o i.delivery) s.items →
+    u ≡ with_touched (if b then Some o else None) t → objects ≡ slice_set s.objects o x → IsKept held t s → IsKept held u (record s { objects = objects })
+hub_changed_if o x true held t u s objects a awaited touched e h = hub_changed o x held t u s objects a touched e h
+hub_changed_if o x false held t u s objects a awaited touched e h =
+    subst (λ v. IsKept held v (record s { objects = objects })) (sym touched)
+    (subst (λ xs. IsKept held t (record s { objects = xs })) (sym e)
+    (hub_moved held t t s (with_object o x s) (grows_same t) (length-set s.objects o x) (kept_unawaited o t (with_object o x s) (sym awaited) (kept_changed o x t s a h.current)) h))
 
 -- more is touched, and a call that fails leaves the objects as they are
 pub hub_failed : (held : SeenItems) (t u : SeenTouched) (s : State) (objects : List Object) → Grows t u → objects ≡ s.objects → IsKept held t s → IsKept held u (record s { objects = objects })

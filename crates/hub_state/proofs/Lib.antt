@@ -1,4 +1,5 @@
 pub mod Alongs
+pub mod Awaiting
 pub mod Classes
 pub mod Columns
 pub mod Coming
@@ -12,6 +13,7 @@ pub mod Looking
 pub mod Numbering
 pub mod PhaseSets
 pub mod Resting
+pub mod Rooms
 pub mod SettledLines
 pub mod Settling
 pub mod Sorting

@@ -238,6 +238,7 @@ line_from test s es old at n p = record {
     lost = found_as (Delivers done) (AmongTest done (slots_of parts.front)) (loses_number (holds s)) es old.lost (λ q i t u m. inl m) (λ q i t u m. back done q i (λ c. loses_none i.ready (holds s i) (p.agrees q i t c) u) m) f.lost;
     gained = found_as (Delivers done) (AmongTest done (slots_of parts.front)) (needs_number (holds s)) es old.gained (λ q i t u m. inl m) (λ q i t u m. back done q i (λ c. gains_none i.ready (holds s i) (p.agrees q i t c) u) m) f.gained;
   });
+  room = refl;
 }
   where
     parts : IsParted (some test es) p.passed p.left

@@ -51,6 +51,7 @@ pub record IsLooking (classes : Class → Bool) (IsSo : List Item → Type 0) (s
   pub along : IsAlong (delivers classes) es at
   pub so : IsSo (flat along.front)
   pub finds : (done : Class → Bool) → AreNew classes done → HasFound done s es old → Finds (Among done (slots_of along.front)) s es now
+  pub room : now.room ≡ old.room
 
 nothing_in : (q : ℕ) → Contains [] q → ⊥
 nothing_in q c = let below = c.1 in omega (arith, below)
@@ -61,6 +62,7 @@ looking_none classes IsSo s es old at h so = record {
   along = along_none (delivers classes) es at h;
   so = so;
   finds = λ done new f. finds_as (IsOf done) (Among done []) s es old (λ q i t l. inl l) (λ q i t l. back done (q, i) l) f;
+  room = refl;
 }
   where
     back : (done : Class → Bool) (e : Entry) → Among done [] e → IsOf done e
@@ -69,8 +71,10 @@ looking_none classes IsSo s es old at h so = record {
 
 pub looking_all : (classes : Class → Bool) (IsSo : List Item → Type 0) (s : State) (es : List Entry) (old now : SeenFound) (at : Option ℕ) → Differ (slots_of es) → IsLooking classes IsSo s es old now at → at ≡ None →
     LooksAt classes s es old now
-looking_all classes IsSo s es old now at differ l e = λ done new f.
-    finds_as (Among done (slots_of l.along.front)) (IsOf (either done classes)) s es now (λ q i t m. to done q i t m) (λ q i t m. from done q i t m) (l.finds done new f)
+looking_all classes IsSo s es old now at differ l e = record {
+  finds = λ done new f. finds_as (Among done (slots_of l.along.front)) (IsOf (either done classes)) s es now (λ q i t m. to done q i t m) (λ q i t m. from done q i t m) (l.finds done new f);
+  room = l.room;
+}
   where
     all : index (delivers classes) es ≡ slots_of l.along.front
     all = ap slots_of (along_all (delivers classes) es at l.along e)
@@ -126,6 +130,7 @@ looking_on classes IsSo IsThen s es old now new at next q i h differ l e got tel
           subst (λ qs. Finds (Among done qs) s es new) (sym (slots_there front q st.item []))
           (subst (λ x. Finds (Among done (slots_of front ++ q ∷ [])) s es x) (ap (λ b. noted q i b now) (sym is) ∙ sym notes)
           (finds_as (Or (Among done (slots_of front)) q) (Among done (slots_of front ++ q ∷ [])) s es (noted q i (holds s i) now) (λ r j t m. forth done (r, j) m) (λ r j t m. back done (r, j) m) more));
+      room = ap (λ (f : SeenFound). f.room) notes ∙ l.room;
     }
   where
     fresh : (done : Class → Bool) → done (class_of i.delivery) ≡ false → Lacks q (slots_of l.along.front) → Among done (slots_of l.along.front) (q, i) → ⊥
@@ -152,19 +157,28 @@ abbrev pub Made : (Class → Bool) → List ℕ → Entry → Type 0
 Made done front e = IsOf done e ⊎ (Contains front e.0 × IsOf is_always e)
 
 -- these of the slots were looked at
-abbrev pub LooksMade : List ℕ → List Entry → SeenFound → SeenFound → Type 0
-LooksMade front es old now = (s : State) (done : Class → Bool) → AreNew is_always done → HasFound done s es old → Finds (Made done front) s es now
+pub record LooksMade (front : List ℕ) (es : List Entry) (old now : SeenFound) : Type 0 where
+  pub finds : (s : State) (done : Class → Bool) → AreNew is_always done → HasFound done s es old → Finds (Made done front) s es now
+  pub room : now.room ≡ old.room
 
 pub made_none : (es : List Entry) (old : SeenFound) → LooksMade [] es old old
-made_none es old = λ s done new f. finds_as (IsOf done) (Made done []) s es old (λ q i t l. inl l) (λ q i t l. back done (q, i) l) f
+made_none es old = record { finds = λ s done new f. finds_as (IsOf done) (Made done []) s es old (λ q i t l. inl l) (λ q i t l. back done (q, i) l) f; room = refl }
   where
     back : (done : Class → Bool) (e : Entry) → Made done [] e → IsOf done e
     back done e (inl l) = l
     back done e (inr c) = absurd (nothing_in e.0 c.0)
 
 pub made_more : (front : List ℕ) (q : ℕ) (es : List Entry) (old now : SeenFound) → Lacks q front → LooksMade front es old now → LooksMade (front ++ q ∷ []) es old (noted_always q (item_in q es) now)
-made_more front q es old now lacks l = λ s done new f. by s done new (item_in q es) refl (l s done new f)
+made_more front q es old now lacks l = record { finds = λ s done new f. by s done new (item_in q es) refl (l.finds s done new f); room = still (item_in q es) ∙ l.room }
   where
+    still : (o : Option Item) → (noted_always q o now).room ≡ now.room
+    still None = refl
+    still (Some i) = of_test (waits_for_nothing i.delivery)
+      where
+        of_test : (b : Bool) → (cond b (noted q i true now) now).room ≡ now.room
+        of_test true = refl
+        of_test false = refl
+
     longer : (done : Class → Bool) (e : Entry) → Made done front e → Made done (front ++ q ∷ []) e
     longer done e (inl m) = inl m
     longer done e (inr c) = inr (Contains-append_left front (q ∷ []) e.0 c.0, c.1)
@@ -215,10 +229,13 @@ none_is_none None e = refl
 none_is_none (Some n) e = absurd (cc e)
 
 pub made_all : (made : List ℕ) (es : List Entry) (old now : SeenFound) → IsPending made es → LooksMade made es old now → (s : State) → LooksAt is_always s es old now
-made_all made es old now pending l s = λ done new f. (let g = l s done new f in record {
-  lost = found_as (Made done made) (IsOf (either done is_always)) (loses_number (holds s)) es now.lost (λ q i t u m. to done q i m) (λ q i t u m. from_lost done q i u m) g.lost;
-  gained = found_as (Made done made) (IsOf (either done is_always)) (needs_number (holds s)) es now.gained (λ q i t u m. to done q i m) (λ q i t u m. from_gained done q i t u m) g.gained;
-})
+made_all made es old now pending l s = record {
+  finds = λ done new f. (let g = l.finds s done new f in record {
+    lost = found_as (Made done made) (IsOf (either done is_always)) (loses_number (holds s)) es now.lost (λ q i t u m. to done q i m) (λ q i t u m. from_lost done q i u m) g.lost;
+    gained = found_as (Made done made) (IsOf (either done is_always)) (needs_number (holds s)) es now.gained (λ q i t u m. to done q i m) (λ q i t u m. from_gained done q i t u m) g.gained;
+  });
+  room = l.room;
+}
   where
     to : (done : Class → Bool) (q : ℕ) (i : Item) → Made done made (q, i) → either done is_always (class_of i.delivery) ≡ true
     to done q i (inl m) = or_left (done (class_of i.delivery)) (is_always (class_of i.delivery)) m

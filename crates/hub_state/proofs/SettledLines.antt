@@ -228,12 +228,15 @@ gains_none (Some n) true e t = true≢false (sym t)
 gains_none (Some n) false e t = true≢false e
 
 pub line_settled : (test : Delivery → Bool) (s : State) (es : List Entry) (old : SeenFound) → AgreesAlong test s es → LooksAlong test s es old old
-line_settled test s es old all = λ done new f. (record {
-  lost = found_as (Delivers done) (Delivers (λ d. done d || test d)) (loses_number (holds s)) es old.lost (λ r j t u m. or_left (done j.delivery) (test j.delivery) m)
-      (λ r j t u m. of_done done j (λ k. loses_none j.ready (holds s j) (all r j t k) u) m) f.lost;
-  gained = found_as (Delivers done) (Delivers (λ d. done d || test d)) (needs_number (holds s)) es old.gained (λ r j t u m. or_left (done j.delivery) (test j.delivery) m)
-      (λ r j t u m. of_done done j (λ k. gains_none j.ready (holds s j) (all r j t k) u) m) f.gained;
-})
+line_settled test s es old all = record {
+  finds = λ done new f. (record {
+    lost = found_as (Delivers done) (Delivers (λ d. done d || test d)) (loses_number (holds s)) es old.lost (λ r j t u m. or_left (done j.delivery) (test j.delivery) m)
+        (λ r j t u m. of_done done j (λ k. loses_none j.ready (holds s j) (all r j t k) u) m) f.lost;
+    gained = found_as (Delivers done) (Delivers (λ d. done d || test d)) (needs_number (holds s)) es old.gained (λ r j t u m. or_left (done j.delivery) (test j.delivery) m)
+        (λ r j t u m. of_done done j (λ k. gains_none j.ready (holds s j) (all r j t k) u) m) f.gained;
+  });
+  room = refl;
+}
   where
     of_done : (done : Delivery → Bool) (j : Item) → (test j.delivery ≡ true → ⊥) → (done j.delivery || test j.delivery) ≡ true → done j.delivery ≡ true
     of_done done j other m = by (or_cases (done j.delivery) (test j.delivery) m)

@@ -1,5 +1,5 @@
 -- Where those that were found lose and get their numbers, the state is settled.
-use Rattle.std.proofs.Common.{◌≡◌, refl, sym, ap, ◌∙◌, subst, ℕ, ◌+◌, ◌≤◌, Bool, true, false, cond, not, List, [], ◌∷◌, Option, Some, None, inl, inr, arith}
+use Rattle.std.proofs.Common.{◌≡◌, refl, sym, ap, ◌∙◌, subst, ℕ, suc, ◌+◌, ◌≤◌, Bool, true, false, cond, not, List, [], ◌∷◌, length, Option, Some, None, inl, inr, arith}
 use Rattle.std.proofs.lemmas.Bool.{and_parts, true≢false}
 use Rattle.std.proofs.lemmas.List.Elements.{All-from_recursion}
 use Rattle.std.proofs.lemmas.List.Sorted.{Contains-permutation, IsPermutation-map, IsPermutation-sym}
@@ -9,7 +9,7 @@ use Rattle.std.specs.Prelude.{◌↔◌, IsTrue, filter, is_none, is_some, map}
 use Rattle.linked_items.specs.Items.{Differ}
 use Rattle.machine.specs.declared.items.Item.{Item}
 use Rattle.machine.specs.Holds.{holds}
-use Rattle.machine.specs.Settle.{settle}
+use Rattle.machine.specs.Settle.{number_after, settle, settled}
 use Rattle.machine.specs.Soundness.{ascend}
 use Rattle.machine.specs.State.{State}
 use Rattle.machine_settling.specs.Classes.{Class, is_of}
@@ -21,14 +21,16 @@ use Rattle.hub_items.specs.Sound.{AscendTo}
 use Rattle.held_items.specs.Entries.{Entry, SeenItems, flat, item_in, slots_of}
 use Rattle.held_items.specs.Moments.{slots_in}
 use Rattle.held_items.proofs.Ordering.{same_item}
-use Rattle.hub_state.specs.Found.{AreFound, AreReady, HasFound, IsOf, LooksAt, Numbers, SeenFound, is_moment, none_found, sinces_in, touched_now}
-use Rattle.hub_state.specs.Over.{with_held}
+use Rattle.hub_state.specs.Found.{AreFound, AreReady, HasFound, IsOf, LooksAt, MayLookAt, Numbers, SeenFound, emptied, is_moment, sinces_in, touched_now}
+use Rattle.hub_state.specs.Over.{whole, with_held}
 use Rattle.hub_state.specs.Touched.{IsKept, IsPast, SeenTouched, reopened, untouched}
+use Rattle.hub_state.specs.declared.base.Base.{Base}
 use Rattle.hub_state.proofs.Finding.{entry_there, in_flat, in_map, item_of_in, map_in, pair_of}
-use Rattle.hub_state.proofs.Joining.{looks_all}
+use Rattle.hub_state.proofs.Joining.{looks_all, may_look_touched}
 use Rattle.hub_state.proofs.Keeping.{hub_settled}
 use Rattle.hub_state.proofs.Sorting.{differ_moved, rising_sinces}
 use Rattle.hub_state.proofs.UpToDate.{ascending}
+use Rattle.hub_state.proofs.Walks.{length_flat}
 
 -- ---- items in order of making
 
@@ -144,11 +146,29 @@ gained_ready holding i t = by i.ready (and_parts (holding i) (is_none i.ready) t
 
 -- ---- all of it
 
--- the looks at what was touched, and at those whose moment has come, find all that a settling has to look at
-pub looked_all : (held : SeenItems) (t : SeenTouched) (s : State) (x y z : SeenFound) → s.items ≡ flat held.entries → IsKept held t s → x ≡ none_found → LooksAt (touched_now t) s held.entries x y →
-    ((r : State) → r.moment ≡ s.moment → All (IsPast s.moment) (flat held.entries) → LooksAt is_moment r held.entries y z) → HasFound (reopened t) s held.entries z
-looked_all held t s x y z items k none touched due =
-    looks_all t s held.entries y z (subst (λ (f : SeenFound). LooksAt (touched_now t) s held.entries f y) none touched) (due s refl (subst (All (IsPast s.moment)) items k.current.past))
+-- a look at those whose moment has come
+abbrev pub LooksDue : State → List Entry → SeenFound → SeenFound → Type 0
+LooksDue s es x y = (r : State) → r.moment ≡ s.moment → All (IsPast s.moment) (flat es) → LooksAt is_moment r es x y
+
+due_first : (held : SeenItems) (t : SeenTouched) (s : State) (f x y : SeenFound) → s.items ≡ flat held.entries → IsKept held t s → x ≡ emptied f → LooksDue s held.entries x y → LooksAt is_moment s held.entries (emptied f) y
+due_first held t s f x y items k none due = subst (λ (g : SeenFound). LooksAt is_moment s held.entries g y) none (due s refl (subst (All (IsPast s.moment)) items k.current.past))
+
+-- the looks at those whose moment has come, which leaves the items as they are, and at what was touched, find all that a
+-- settling has to look at
+pub looked_all : (held before : SeenItems) (t : SeenTouched) (b : Base) (f x y z : SeenFound) → before ≡ held → IsKept held t (whole b held) → x ≡ emptied f → LooksDue (whole b held) held.entries x y →
+    LooksAt (touched_now t) (whole b before) before.entries y z → HasFound (reopened t) (whole b held) held.entries z
+looked_all held before t b f x y z same k none due touched =
+    looks_all t (whole b held) held.entries f y z (due_first held t (whole b held) f x y refl k none due) (subst (λ (h : SeenItems). LooksAt (touched_now t) (whole b h) h.entries y z) same touched)
+
+-- the room stays
+pub room_left : (held before : SeenItems) (t : SeenTouched) (b : Base) (f x y z : SeenFound) → IsKept held t (whole b held) → x ≡ emptied f → LooksDue (whole b held) held.entries x y → LooksAt (touched_now t) (whole b before) before.entries y z →
+    z.room ≡ f.room
+room_left held before t b f x y z k none due touched = touched.room ∙ (due_first held t (whole b held) f x y refl k none due).room
+
+-- after the first of them there is room for the second
+pub may_look_now : (held : SeenItems) (t : SeenTouched) (s : State) (f x y : SeenFound) → s.items ≡ flat held.entries → IsKept held t s → Differ (slots_of held.entries) → length held.entries ≤ f.room → x ≡ emptied f →
+    LooksDue s held.entries x y → MayLookAt (touched_now t) s held.entries y
+may_look_now held t s f x y items k differ room none due = may_look_touched t s held.entries f y differ room (due_first held t s f x y items k none due)
 
 -- those that were found to lose their numbers have one, and the others have none
 pub lost_there : (held before : SeenItems) (t : SeenTouched) (s : State) (f : SeenFound) → before ≡ held → HasFound (reopened t) s held.entries f → AreReady true before.entries f.lost
@@ -159,10 +179,16 @@ pub gained_there : (held before : SeenItems) (t : SeenTouched) (s : State) (f : 
 gained_there held before t s f same found =
     subst (λ (h : SeenItems). AreReady false h.entries f.gained) (sym same) (found_ready (IsOf (reopened t)) (needs_number (holds s)) false held.entries f.gained (gained_ready (holds s)) found.gained)
 
--- the state is settled, and all is up to date
+-- the state is settled, all is up to date, and there are as many items as before
 pub record AreSettled (held new : SeenItems) (t now : SeenTouched) (s : State) : Type 0 where
   pub is : with_held new s ≡ settle s
   pub kept : IsKept new now (with_held new s)
+  pub count : length new.entries ≡ length held.entries
+
+settled_length : (hs : List Bool) (n : ℕ) (items : List Item) → length (settled hs n items) ≡ length items
+settled_length [] n items = refl
+settled_length (h ∷ hs) n [] = refl
+settled_length (h ∷ hs) n (i ∷ items) = ap suc (settled_length hs (number_after h i.ready n) items)
 
 pub numbers_settle : (held before new : SeenItems) (t now : SeenTouched) (s : State) (f g : SeenFound) → s ≡ with_held held s → IsKept held t s → Differ (slots_of held.entries) → AscendTo 0 held.next_since (flat held.entries) →
     HasFound (reopened t) s held.entries f → before ≡ held → Numbers f g before new → now ≡ untouched t → AreSettled held new t now s
@@ -177,4 +203,7 @@ numbers_settle held before new t now s f g whole k differ asc found same n clear
       kept =
           hub_settled held new t now s (ap (λ (r : State). r.items) settled) (ap (λ (r : State). r.next_ready) settled) (ap (λ (r : State). r.next_since) settled) clear
           (subst (IsKept held t) whole k);
+      count =
+          length_flat new.entries ∙ ap (λ (r : State). length r.items) settled ∙ settled_length (map (holds (with_held held s)) (flat held.entries)) held.next (flat held.entries)
+          ∙ sym (length_flat held.entries);
     }

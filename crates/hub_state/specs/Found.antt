@@ -1,5 +1,5 @@
 -- What a settling finds: who loses a number, and who gets one.
-use Rattle.std.specs.Prelude.{◌≡◌, ◌==◌, ℕ, not, ◌&&◌, ◌||◌, Bool, true, false, IsTrue, List, [], ◌∷◌, ◌++◌, Option, Some, None, is_some, is_none, if◌then◌else◌, length, map}
+use Rattle.std.specs.Prelude.{◌≡◌, ◌==◌, ◌<◌, ◌≤◌, ℕ, not, ◌&&◌, ◌||◌, Bool, true, false, IsTrue, List, [], ◌∷◌, ◌++◌, Option, Some, None, is_some, is_none, if◌then◌else◌, length, map}
 use Rattle.std.specs.List.{Contains, list_any}
 use Rattle.std.specs.List.Sorted.{IsNonDecreasingBy, IsPermutation}
 use Rattle.linked_items.specs.Items.{Differ}
@@ -11,21 +11,32 @@ use Rattle.machine.specs.State.{State}
 use Rattle.machine_settling.specs.Classes.{Class, class_of}
 use Rattle.machine_settling.specs.Numbers.{gives_all, loses_number, needs_number, takes_all}
 use Rattle.machine_settling.specs.Steps.{either}
-use Rattle.held_items.specs.Entries.{Entry, SeenItems, index, item_in}
+use Rattle.held_items.specs.Entries.{Entry, SeenItems, index, item_in, slots_of}
 use Rattle.held_items.specs.Moments.{slots_in}
 use Rattle.held_items.specs.Waits.{is_for, target_of}
 use Rattle.held_items.specs.declared.waits.Target.{Target}
 use Rattle.hub_state.specs.Over.{with_held}
 use Rattle.hub_state.specs.Touched.{SeenTouched}
 
--- those that lose their numbers, and those that get one: of each when it was made, and its slot
+-- those that lose their numbers, and those that get one: of each when it was made, and its slot; each list has room for
+-- so many
 pub record SeenFound : Type 0 where
   pub lost : List (ℕ × ℕ)
   pub gained : List (ℕ × ℕ)
+  pub room : ℕ
 
--- nobody
+-- nobody, and room for none
 abbrev pub none_found : SeenFound
-none_found = record { lost = []; gained = [] }
+none_found = record { lost = []; gained = []; room = 0 }
+
+-- nobody any more
+abbrev pub emptied : SeenFound → SeenFound
+emptied f = record f { lost = []; gained = [] }
+
+-- each list has room for one more
+pub record HasPlace (f : SeenFound) : Type 0 where
+  pub lost : length f.lost < f.room
+  pub gained : length f.gained < f.room
 
 -- when they were made
 abbrev pub sinces_in : List (ℕ × ℕ) → List ℕ
@@ -37,7 +48,7 @@ listed b p ps = if b then ps ++ p ∷ [] else ps
 
 -- the item of this slot too, of which it is said whether it holds, where it loses its number or gets one
 abbrev pub noted : ℕ → Item → Bool → SeenFound → SeenFound
-noted q i holds f = record { lost = listed (not holds && is_some i.ready) (i.since, q) f.lost; gained = listed (holds && is_none i.ready) (i.since, q) f.gained }
+noted q i holds f = record f { lost = listed (not holds && is_some i.ready) (i.since, q) f.lost; gained = listed (holds && is_none i.ready) (i.since, q) f.gained }
 
 -- ---- what was found of those that were looked at
 
@@ -89,19 +100,35 @@ abbrev pub noted_always : ℕ → Option Item → SeenFound → SeenFound
 noted_always q None f = f
 noted_always q (Some i) f = if waits_for_nothing i.delivery then noted q i true f else f
 
--- where none of these classes was looked at, their items were now
-abbrev pub LooksAt : (Class → Bool) → State → List Entry → SeenFound → SeenFound → Type 0
-LooksAt classes s es old new =
-    (done : Class → Bool) → ((c : Class) → IsTrue (classes c) → done c ≡ false) → HasFound done s es old → HasFound (either done classes) s es new
+-- there is room for each item, and none of these classes was looked at yet, though others may have been
+pub record MayLookAt (classes : Class → Bool) (s : State) (es : List Entry) (f : SeenFound) : Type 0 where
+  pub apart : Differ (slots_of es)
+  pub done : Class → Bool
+  pub unseen : (c : Class) → IsTrue (classes c) → done c ≡ false
+  pub found : HasFound done s es f
+  pub room : length es ≤ f.room
+
+-- where none of these classes was looked at, their items were now; the room stays
+pub record LooksAt (classes : Class → Bool) (s : State) (es : List Entry) (old new : SeenFound) : Type 0 where
+  pub finds : (done : Class → Bool) → ((c : Class) → IsTrue (classes c) → done c ≡ false) → HasFound done s es old → HasFound (either done classes) s es new
+  pub room : new.room ≡ old.room
 
 -- the item delivers what passes the test
 abbrev pub Delivers : (Delivery → Bool) → Entry → Type 0
 Delivers test e = IsTrue (test e.1.delivery)
 
--- where none of those that pass this test was looked at, they were now
-abbrev pub LooksAlong : (Delivery → Bool) → State → List Entry → SeenFound → SeenFound → Type 0
-LooksAlong test s es old new =
-    (done : Delivery → Bool) → ((d : Delivery) → IsTrue (test d) → done d ≡ false) → Finds (Delivers done) s es old → Finds (Delivers (λ d. done d || test d)) s es new
+-- there is room for each item, and none of those that pass this test was looked at yet, though others may have been
+pub record MayLookAlong (test : Delivery → Bool) (s : State) (es : List Entry) (f : SeenFound) : Type 0 where
+  pub apart : Differ (slots_of es)
+  pub done : Delivery → Bool
+  pub unseen : (d : Delivery) → IsTrue (test d) → done d ≡ false
+  pub found : Finds (Delivers done) s es f
+  pub room : length es ≤ f.room
+
+-- where none of those that pass this test was looked at, they were now; the room stays
+pub record LooksAlong (test : Delivery → Bool) (s : State) (es : List Entry) (old new : SeenFound) : Type 0 where
+  pub finds : (done : Delivery → Bool) → ((d : Delivery) → IsTrue (test d) → done d ≡ false) → Finds (Delivers done) s es old → Finds (Delivers (λ d. done d || test d)) s es new
+  pub room : new.room ≡ old.room
 
 -- each item that passes this test has a number exactly where it holds
 abbrev pub AgreesAlong : (Delivery → Bool) → State → List Entry → Type 0

@@ -1,5 +1,6 @@
 pub mod Forgotten
 pub mod Found
+pub mod FoundParts
 pub mod Hosts
 pub mod HubParts
 pub mod Over
@@ -7,4 +8,5 @@ pub mod Phases
 pub mod Rest
 pub mod Sights
 pub mod Touched
+pub mod Unawaited
 pub mod Waiters

@@ -4,6 +4,7 @@ ghost use Rattle.machine.specs.Expressions.{function_number};
 ghost use Rattle.machine.specs.Run.{first_state};
 ghost use Rattle.hub_objects.specs.Counted.{AreCounted};
 
+use crate::base::Base;
 use crate::found::Found;
 use crate::greenlets::Greenlets;
 use crate::hub::Hub;
@@ -41,20 +42,22 @@ impl Hub {
         touched.reserve(count)?;
         let greenlets = Greenlets::first(alloc, number_of_main(&code))?;
         Ok(Hub {
-            code,
-            moment: 0,
-            turns: 0,
-            moves: 0,
-            timeouts: 0,
-            links: 0,
-            objects,
-            greenlets,
-            jobs: Vec::new(alloc),
+            base: Base {
+                code,
+                moment: 0,
+                turns: 0,
+                moves: 0,
+                timeouts: 0,
+                links: 0,
+                objects,
+                greenlets,
+                jobs: Vec::new(alloc),
+                lines: Vec::new(alloc),
+                posts: Vec::new(alloc),
+            },
             held: HeldItems::new(alloc),
             touched,
             found: Found::new(alloc),
-            lines: Vec::new(alloc),
-            posts: Vec::new(alloc),
         })
     }
 }

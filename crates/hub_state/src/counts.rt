@@ -13,28 +13,28 @@ impl Hub {
     pub fn code(&self) -> &Code
         ensures { result.now ≡ self.now.scenario }
     {
-        &self.code
+        &self.base.code
     }
 
     /// The moment, in milliseconds from the beginning of the run.
     pub fn moment(&self) -> u64
         ensures { result ≡ self.now.moment }
     {
-        self.moment
+        self.base.moment
     }
 
     /// How many turns have begun.
     pub fn turns(&self) -> u64
         ensures { result ≡ self.now.turns }
     {
-        self.turns
+        self.base.turns
     }
 
     /// How many moves were made.
     pub fn moves(&self) -> u64
         ensures { result ≡ self.now.moves }
     {
-        self.moves
+        self.base.moves
     }
 
     /// The number that the next item to become ready is given.
@@ -63,7 +63,7 @@ impl Hub {
     pub fn count_turn(&mut self) -> Result<(), AllocError>
         ensures { OnOk result (self.new ≡ record self.old { turns = self.old.turns + 1 }) }
     {
-        self.turns = self.turns.checked_add(1).ok_or(AllocError)?;
+        self.base.turns = self.base.turns.checked_add(1).ok_or(AllocError)?;
         Ok(())
     }
 
@@ -71,7 +71,7 @@ impl Hub {
     pub fn timeouts(&self) -> u32
         ensures { result ≡ self.now.timeouts }
     {
-        self.timeouts
+        self.base.timeouts
     }
 
     /// Numbers one timeout more, and gives its number. `AllocError`: it would pass 32 bits; the hub is given up.
@@ -79,15 +79,15 @@ impl Hub {
         ensures counted { OnOk result (self.new ≡ record self.old { timeouts = self.old.timeouts + 1 }) }
         ensures number { IfOk result (λ n. n ≡ self.old.timeouts + 1) }
     {
-        self.timeouts = self.timeouts.checked_add(1).ok_or(AllocError)?;
-        Ok(self.timeouts)
+        self.base.timeouts = self.base.timeouts.checked_add(1).ok_or(AllocError)?;
+        Ok(self.base.timeouts)
     }
 
     /// How many links were made.
     pub fn links(&self) -> u32
         ensures { result ≡ self.now.links }
     {
-        self.links
+        self.base.links
     }
 
     /// Numbers one link more, and gives its number.
@@ -96,29 +96,29 @@ impl Hub {
         ensures counted { self.new ≡ record self.old { links = self.old.links + 1 } }
         ensures number { result ≡ self.old.links + 1 }
     {
-        self.links += 1;
-        self.links
+        self.base.links += 1;
+        self.base.links
     }
 
     /// The lines of the step under way.
     pub fn lines(&self) -> &[Line]
         ensures { result.now ≡ self.now.lines }
     {
-        &self.lines
+        &self.base.lines
     }
 
     /// The posts of the step under way.
     pub fn posts(&self) -> &[Post]
         ensures { result.now ≡ self.now.posts }
     {
-        &self.posts
+        &self.base.posts
     }
 
     /// Drops the lines and posts of the step under way, which were given out.
     pub fn forget_step(&mut self)
         ensures { self.new ≡ silent self.old }
     {
-        self.lines.clear();
-        self.posts.clear();
+        self.base.lines.clear();
+        self.base.posts.clear();
     }
 }

@@ -11,7 +11,8 @@ ghost use Rattle.hub_objects.specs.Releases.{refused};
 
 use crate::ahead::earlier;
 use crate::hub::Hub;
-use crate::touched::{touch_crews, touch_offers};
+use crate::touched::{object_if, touch_crews, touch_offers};
+use crate::unawaited::is_awaited;
 use gv_values::{FaultKind, Job, Name, Value};
 use hub_items::WaitKind;
 use hub_objects::{
@@ -26,7 +27,7 @@ impl Hub {
     pub fn object(&self, o: u32) -> Option<&Object>
         ensures { option_copied result ≡ slice_get self.now.objects o }
     {
-        self.objects.get(o)
+        self.base.objects.get(o)
     }
 
     /// The name of the object of this number.
@@ -34,11 +35,11 @@ impl Hub {
         requires declared { o < length self.now.scenario.objects }
         ensures { result ≡ name_of_object o self.now }
     {
-        name_at(self.code.objects(), o)
+        name_at(self.base.code.objects(), o)
     }
 
     /// Changes the object of this number. Takes one step, but where an item of a queue or an offer goes: the others are
-    /// looked at or moved up.
+    /// looked at or moved up. Where nobody waits at it, no later settling looks at it.
     ///
     /// # Errors
     ///
@@ -47,8 +48,8 @@ impl Hub {
         ensures { OnOk result (self.new ≡ with_object o (changed change (object_at o self.old)) self.old) }
     {
         let _ascending = self.held.len();
-        self.touched.touch(Some(o));
-        self.objects.change(o, change)
+        self.touched.touch(object_if(is_awaited(&self.held, o), o));
+        self.base.objects.change(o, change)
     }
 
     /// The greenlet leaves its group or pool. Looks at the members of that one alone.
@@ -56,8 +57,8 @@ impl Hub {
         ensures { self.new ≡ record self.old { objects = map (without_member g) self.old.objects } }
     {
         let _ascending = self.held.len();
-        touch_crews(&mut self.touched, &self.objects, g);
-        self.objects.leave(g);
+        touch_crews(&mut self.touched, &self.base.objects, g);
+        self.base.objects.leave(g);
     }
 
     /// What the greenlet offers on a channel goes, where it is still there. Looks at each offer.
@@ -66,8 +67,8 @@ impl Hub {
     {
         if let Some(since) = self.held.since_of_wake(g) {
             let _ascending = self.held.len();
-            touch_offers(&mut self.touched, self.objects.as_slice(), since);
-            self.objects.withdraw(since);
+            touch_offers(&mut self.touched, self.base.objects.as_slice(), since);
+            self.base.objects.withdraw(since);
         }
     }
 
@@ -76,7 +77,7 @@ impl Hub {
     pub fn item_of(&self, alloc: Global, o: u32) -> Result<Value, AllocError>
         ensures { IfOk result (λ value. value ≡ item_of (object_at o self.now)) }
     {
-        match self.objects.get(o) {
+        match self.base.objects.get(o) {
             Some(object) => Ok(item_of(alloc, object)?),
             None => Ok(Value::Nothing),
         }
@@ -86,7 +87,7 @@ impl Hub {
     pub fn offer_of(&self, alloc: Global, o: u32) -> Result<Value, AllocError>
         ensures { IfOk result (λ value. value ≡ offer_of (object_at o self.now)) }
     {
-        match self.objects.get(o) {
+        match self.base.objects.get(o) {
             Some(object) => Ok(offer_of(alloc, object)?),
             None => Ok(Value::Nothing),
         }
@@ -96,7 +97,7 @@ impl Hub {
     pub fn is_shut(&self, o: u32) -> bool
         ensures { result ≡ is_shut (object_at o self.now) }
     {
-        is_shut(self.objects.get(o))
+        is_shut(self.base.objects.get(o))
     }
 
     /// Whether the getters of the queue from before this since leave an item. Looks at each of them.
@@ -104,7 +105,7 @@ impl Hub {
         ensures { result ≡ is_left (earlier (is_take o) since self.now.items) (object_at o self.now) }
     {
         let before = earlier(&self.held, WaitKind::Take, o, since);
-        is_left(self.objects.get(o), before)
+        is_left(self.base.objects.get(o), before)
     }
 
     /// The greenlet gives back a unit or a lock, or is refused by a fault.
@@ -116,7 +117,7 @@ impl Hub {
     pub fn release(&mut self, g: u32, o: u32) -> Result<Option<FaultKind>, AllocError>
         ensures { IfOk result (λ fault. releases g o (object_at o self.old) self.old ≡ refused fault self.new) }
     {
-        match release_of(self.objects.get(o), g) {
+        match release_of(self.base.objects.get(o), g) {
             Release::Refused(kind) => Ok(Some(kind)),
             Release::Nothing => Ok(None),
             Release::Unit => {
@@ -136,7 +137,7 @@ impl Hub {
     pub fn finish(&mut self, o: u32) -> Result<Option<FaultKind>, AllocError>
         ensures { IfOk result (λ fault. finishes o (object_at o self.old) self.old ≡ refused fault self.new) }
     {
-        if has_task(self.objects.get(o)) {
+        if has_task(self.base.objects.get(o)) {
             self.change(o, Change::TaskDone)?;
             Ok(None)
         } else {
@@ -154,19 +155,19 @@ impl Hub {
         ensures posted { OnOk result (self.new ≡ posted g o job takes self.old) }
         ensures number { IfOk result (λ n. n ≡ length self.old.jobs + 1) }
     {
-        if self.jobs.len() >= u32::MAX as usize {
+        if self.base.jobs.len() >= u32::MAX as usize {
             return Err(AllocError);
         }
-        let number = self.jobs.len() as u32 + 1;
-        self.jobs.reserve(1)?;
-        self.posts.reserve(1)?;
-        self.lines.reserve(1)?;
+        let number = self.base.jobs.len() as u32 + 1;
+        self.base.jobs.reserve(1)?;
+        self.base.posts.reserve(1)?;
+        self.base.lines.reserve(1)?;
         let _ascending = self.held.len();
         self.touched.touch(Some(o));
-        self.objects.change(o, Change::SlotTaken)?;
-        self.jobs.push_reserved(Posted::new(job, o));
-        self.posts.push_reserved(Post { number, job, takes });
-        self.lines.push_reserved(Line::Job {
+        self.base.objects.change(o, Change::SlotTaken)?;
+        self.base.jobs.push_reserved(Posted::new(job, o));
+        self.base.posts.push_reserved(Post { number, job, takes });
+        self.base.lines.push_reserved(Line::Job {
             number,
             greenlet: g,
             job,

@@ -1,33 +1,19 @@
 //! The state itself.
+use crate::base::Base;
 use crate::found::Found;
-use crate::greenlets::Greenlets;
 use crate::touched::Touched;
-use body_frames::Code;
 use held_items::HeldItems;
-use hub_objects::{Objects, Posted};
-use machine::state::Post;
 use std::marker::Model;
-use trace_text::Line;
 
 /// The hub, its greenlets and their items: one state of the machine.
 #[derive(Drop)]
 pub struct Hub {
-    pub(crate) code: Code,
-    pub(crate) moment: u64,
-    pub(crate) turns: u64,
-    pub(crate) moves: u64,
-    pub(crate) timeouts: u32,
-    pub(crate) links: u32,
-    pub(crate) objects: Objects,
-    pub(crate) greenlets: Greenlets,
-    pub(crate) jobs: Vec<Posted>,
+    pub(crate) base: Base,
     pub(crate) held: HeldItems,
     /// What was touched since the last settling.
     pub(crate) touched: Touched,
-    /// Who is found in a settling; kept from one to the next, so that few allocate.
+    /// Who is found in a settling, with room for each item.
     pub(crate) found: Found,
-    pub(crate) lines: Vec<Line>,
-    pub(crate) posts: Vec<Post>,
 }
 
 impl Model for Hub {

@@ -1,5 +1,5 @@
 //! The few operations that touch items and waits: one is made, some go, one is taken to be delivered.
-ghost use Rattle.std.specs.Prelude.{◌≡◌, ◌<◌, true, OnOk, OnErr, IfOk, IfSome};
+ghost use Rattle.std.specs.Prelude.{◌≡◌, ◌<◌, ◌≤◌, true, length, OnOk, OnErr, IfOk, IfSome};
 ghost use Rattle.std.specs.Option.{option_copied};
 ghost use Rattle.machine.specs.State.{say};
 ghost use Rattle.machine.specs.Items.{add_item, drop_items, is_timeout_of};
@@ -11,6 +11,7 @@ ghost use Rattle.hub_items.specs.Short.{DeliversShort, IsShort};
 ghost use Rattle.held_items.specs.Held.{added};
 ghost use Rattle.hub_state.specs.Touched.{IsRoomier};
 
+use crate::found::Found;
 use crate::hub::Hub;
 use crate::touched::{Touched, object_left};
 use held_items::HeldItems;
@@ -20,20 +21,41 @@ use scenario_tree::Items;
 use std::alloc::AllocError;
 use trace_text::Line;
 
-/// Adds an item, and makes a place for its slot. `AllocError`: memory is wanting, or its place in order of making would
-/// pass 64 bits; no item is added.
+/// Makes a place for the item in this slot, and room for so many items in a settling. `AllocError`: memory is wanting;
+/// what was touched and the room that there was stay.
+fn make_places(
+    touched: &mut Touched,
+    found: &mut Found,
+    slot: u32,
+    items: usize,
+) -> Result<(), AllocError>
+    ensures same { IsRoomier touched.old touched.new }
+    ensures longer { found.old.room ≤ found.new.room }
+    ensures place { OnOk result (slot < touched.new.slots) }
+    ensures room { OnOk result (items ≤ found.new.room) }
+{
+    touched.reserve_slot(slot)?;
+    found.reserve(items)?;
+    Ok(())
+}
+
+/// Adds an item, with a place for its slot and room for it in a settling. `AllocError`: memory is wanting, or its place in
+/// order of making would pass 64 bits; no item is added.
 fn add_with_place(
     held: &mut HeldItems,
     touched: &mut Touched,
+    found: &mut Found,
     delivery: Delivery,
 ) -> Result<u32, AllocError>
     ensures added { IfOk result (λ slot. held.new ≡ added slot delivery held.old) }
     ensures place { IfOk result (λ slot. slot < touched.new.slots) }
+    ensures room { OnOk result (length held.new.entries ≤ found.new.room) }
+    ensures longer { found.old.room ≤ found.new.room }
     ensures same { IsRoomier touched.old touched.new }
     ensures err { OnErr result (held.new.entries ≡ held.old.entries) }
 {
     let slot = held.add(delivery)?;
-    if touched.reserve_slot(slot).is_err() {
+    if make_places(touched, found, slot, held.len()).is_err() {
         drop(held.take(slot));
         return Err(AllocError);
     }
@@ -45,7 +67,7 @@ impl Hub {
     pub fn say(&mut self, line: Line) -> Result<(), AllocError>
         ensures { OnOk result (self.new ≡ say line self.old) }
     {
-        self.lines.push(line)?;
+        self.base.lines.push(line)?;
         Ok(())
     }
 
@@ -60,13 +82,12 @@ impl Hub {
         requires short { DeliversShort delivery }
         ensures { OnOk result (self.new ≡ add_item delivery self.old) }
     {
-        let count = self.held.len();
-        self.found.make_room(count.saturating_add(1))?;
+        let _ascending = self.held.len();
         // One that doesn't hold changes nothing for the others that wait for the same: they need no look.
         let holds = self.would_hold(&delivery);
         self.touched.reserve_awaited(&delivery)?;
         self.touched.touch_awaited(&delivery, holds);
-        let slot = add_with_place(&mut self.held, &mut self.touched, delivery)?;
+        let slot = add_with_place(&mut self.held, &mut self.touched, &mut self.found, delivery)?;
         self.touched.touch_made(slot);
         Ok(())
     }

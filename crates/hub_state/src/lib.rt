@@ -5,6 +5,7 @@
 #![tactic(auto)]
 
 mod ahead;
+mod base;
 mod begin;
 mod counts;
 mod due;
@@ -24,7 +25,9 @@ mod raws;
 mod rest;
 mod seen;
 mod touched;
+mod unawaited;
 
 pub use greenlets::Stage;
 pub use hub::Hub;
+pub use numbers::NumbersSpent;
 pub use seen::Seen;

@@ -1,25 +1,26 @@
 //! What a settling looks at.
-ghost use Rattle.std.specs.Prelude.{IsTrue, ◌≡◌, ◌+◌, ◌<◌, ◌^◌, ℕ, true, List, [], ◌∷◌, ◌++◌, length, OnOk};
+ghost use Rattle.std.specs.Prelude.{IsTrue, ◌≡◌, ◌≤◌, true, [], length, Some};
 ghost use Rattle.std.specs.List.{All};
 ghost use Rattle.linked_items.specs.Items.{Differ};
+ghost use Rattle.machine.specs.declared.items.Item.{Item as AnyItem};
 ghost use Rattle.machine.specs.State.{State as Shown};
 ghost use Rattle.machine_settling.specs.Classes.{is_at};
 ghost use Rattle.machine_settling.specs.Fronts.{NumbersStandInFront};
 ghost use Rattle.held_items.specs.Entries.{flat, item_in};
 ghost use Rattle.held_items.specs.Waits.{is_for, waits_in_line, waits_in_none};
-ghost use Rattle.hub_state.specs.Found.{AgreesAlong, IsLastNumbered, LooksAlong, LooksAt, PassesBy, at_objects, for_one_of, for_several, is_always, is_moment, noted_always, touched_now, waits_for_nothing};
+ghost use Rattle.hub_state.specs.Found.{AgreesAlong, HasPlace, IsLastNumbered, LooksAlong, LooksAt, MayLookAlong, MayLookAt, PassesBy, at_objects, for_one_of, for_several, is_always, is_moment, noted_always, touched_now, waits_for_nothing};
+ghost use Rattle.hub_state.specs.Over.{whole};
 ghost use Rattle.hub_state.specs.Touched.{IsPast, IsPending};
 ghost use Rattle.hub_state.specs.Waiters.{IsBefore};
 
 use crate::ahead::earlier_ahead;
+use crate::base::Base;
 use crate::found::Found;
-use crate::hub::Hub;
 use crate::in_lines::is_in_line;
 use crate::touched::Touched;
 use held_items::{HeldItems, Target};
 use hub_items::WaitKind;
 use machine::items::{Delivery, Item};
-use std::alloc::AllocError;
 
 /// Whether such an item waits for nothing.
 fn waits_for_nothing(delivery: &Delivery) -> bool
@@ -32,97 +33,77 @@ fn waits_for_nothing(delivery: &Delivery) -> bool
     }
 }
 
-/// Notes the item of the slot, where there is one that waits for nothing. `AllocError`: memory is wanting.
-fn note_made(held: &HeldItems, slot: u32, found: &mut Found) -> Result<(), AllocError>
-    ensures { OnOk result (found.new ≡ noted_always slot (item_in slot held.now.entries) found.old) }
+/// Notes the item of the slot, where there is one that waits for nothing.
+fn note_made(held: &HeldItems, slot: u32, found: &mut Found)
+    requires { (i : AnyItem) → item_in slot held.now.entries ≡ Some i → waits_for_nothing i.delivery ≡ true → HasPlace found.old }
+    ensures { found.new ≡ noted_always slot (item_in slot held.now.entries) found.old }
 {
     if held.has(slot) {
         let item = held.get(slot);
         if waits_for_nothing(&item.delivery) {
-            found.note(slot, item, true)?;
+            found.note(slot, item, true);
         }
     }
-    Ok(())
 }
 
-/// Looks at those that wait for nothing, which are among those that were made. `AllocError`: memory is wanting.
-fn look_at_made(held: &HeldItems, made: &[u32], found: &mut Found) -> Result<(), AllocError>
+/// Looks at those that wait for nothing, which are among those that were made.
+fn look_at_made(held: &HeldItems, made: &[u32], found: &mut Found)
     requires apart { Differ made.now }
     requires pending { IsPending made.now held.now.entries }
-    ensures { OnOk result ((s : Shown) → LooksAt is_always s held.now.entries found.old found.new) }
+    requires may { (s : Shown) × MayLookAt is_always s held.now.entries found.old }
+    ensures { (s : Shown) → LooksAt is_always s held.now.entries found.old found.new }
 {
     for slot in made {
-        note_made(held, *slot, found)?;
+        note_made(held, *slot, found);
     }
-    Ok(())
 }
 
-/// Looks at those that wait for this target. `AllocError`: memory is wanting.
-fn look_at_target(
-    hub: &Hub,
-    held: &HeldItems,
-    target: Target,
-    found: &mut Found,
-) -> Result<(), AllocError>
-    requires { hub.now.items ≡ flat held.now.entries }
-    ensures { OnOk result (LooksAt (is_for target) hub.now held.now.entries found.old found.new) }
+/// Looks at those that wait for this target.
+fn look_at_target(base: &Base, held: &HeldItems, target: Target, found: &mut Found)
+    requires { MayLookAt (is_for target) (whole base.now held.now) held.now.entries found.old }
+    ensures { LooksAt (is_for target) (whole base.now held.now) held.now.entries found.old found.new }
 {
-    let _apart = held.len();
     let mut at = held.first_for(target);
     while let Some(slot) = at {
         let item = held.get(slot);
-        found.note(slot, item, hub.holds(item, 0))?;
+        found.note(slot, item, base.holds(item, 0));
         at = held.next_for(slot);
     }
-    Ok(())
 }
 
-/// Looks at those that wait for several ends, where they are touched. `AllocError`: memory is wanting.
-fn look_at_several(
-    hub: &Hub,
-    held: &HeldItems,
-    touched: bool,
-    found: &mut Found,
-) -> Result<(), AllocError>
-    requires { hub.now.items ≡ flat held.now.entries }
-    ensures { OnOk result (LooksAt (for_several touched) hub.now held.now.entries found.old found.new) }
+/// Looks at those that wait for several ends, where they are touched.
+fn look_at_several(base: &Base, held: &HeldItems, touched: bool, found: &mut Found)
+    requires { MayLookAt (for_several touched) (whole base.now held.now) held.now.entries found.old }
+    ensures { LooksAt (for_several touched) (whole base.now held.now) held.now.entries found.old found.new }
 {
     if !touched {
-        return Ok(());
+        return;
     }
-    look_at_target(hub, held, Target::Several, found)?;
-    Ok(())
+    look_at_target(base, held, Target::Several, found);
 }
 
-/// Looks at those that wait for one of these greenlets and jobs alone. `AllocError`: memory is wanting.
-fn look_at_ends(
-    hub: &Hub,
-    held: &HeldItems,
-    ends: &[u32],
-    found: &mut Found,
-) -> Result<(), AllocError>
-    requires same { hub.now.items ≡ flat held.now.entries }
+/// Looks at those that wait for one of these greenlets and jobs alone.
+fn look_at_ends(base: &Base, held: &HeldItems, ends: &[u32], found: &mut Found)
     requires apart { Differ ends.now }
-    ensures { OnOk result (LooksAt (for_one_of ends.now) hub.now held.now.entries found.old found.new) }
+    requires may { MayLookAt (for_one_of ends.now) (whole base.now held.now) held.now.entries found.old }
+    ensures { LooksAt (for_one_of ends.now) (whole base.now held.now) held.now.entries found.old found.new }
 {
     for number in ends {
-        look_at_target(hub, held, Target::One(*number), found)?;
+        look_at_target(base, held, Target::One(*number), found);
     }
-    Ok(())
 }
 
 /// Whether nothing changes in the line of this kind at the object: the last that has a number holds, and the first that has
 /// none doesn't. Goes by how many there are of both, and looks at nobody.
-fn is_settled(hub: &Hub, held: &HeldItems, o: u32, kind: WaitKind) -> bool
-    requires same { hub.now.items ≡ flat held.now.entries }
-    requires front { NumbersStandInFront hub.now }
-    ensures { IsTrue result → AgreesAlong (waits_in_line kind o) hub.now held.now.entries }
+fn is_settled(base: &Base, held: &HeldItems, o: u32, kind: WaitKind) -> bool
+    requires { NumbersStandInFront (whole base.now held.now) }
+    ensures { IsTrue result → AgreesAlong (waits_in_line kind o) (whole base.now held.now) held.now.entries }
 {
     let numbered = held.numbered_in(o, kind);
-    if numbered != 0 && !hub.holds_in_line(kind, o, numbered - 1) {
+    if numbered != 0 && !base.holds_in_line(kind, o, numbered - 1) {
         return false;
     }
-    numbered == held.waiting_in(o, kind) || !hub.holds_in_line(kind, o, numbered)
+    numbered == held.waiting_in(o, kind) || !base.holds_in_line(kind, o, numbered)
 }
 
 /// Whether the item of the slot is the last of the line that has a number.
@@ -144,17 +125,16 @@ fn is_last_numbered(held: &HeldItems, o: u32, kind: WaitKind, slot: u32) -> bool
 
 /// Where a walk over the line may begin, and how many it passes by: behind the last that has a number and holds. Goes
 /// there from this slot, the last that has a number, towards the front.
-fn walk_back(hub: &Hub, held: &HeldItems, o: u32, kind: WaitKind, last: u32) -> (Option<u32>, u64)
-    requires same { hub.now.items ≡ flat held.now.entries }
-    requires front { NumbersStandInFront hub.now }
+fn walk_back(base: &Base, held: &HeldItems, o: u32, kind: WaitKind, last: u32) -> (Option<u32>, u64)
+    requires front { NumbersStandInFront (whole base.now held.now) }
     requires last { IsLastNumbered (waits_in_line kind o) held.now.entries last }
-    ensures { PassesBy (waits_in_line kind o) hub.now held.now.entries result.0 result.1 }
+    ensures { PassesBy (waits_in_line kind o) (whole base.now held.now) held.now.entries result.0 result.1 }
 {
     let _ascending = held.len();
     let mut passed = held.numbered_in(o, kind);
     let mut at = Some(last);
     while let Some(slot) = at {
-        if hub.holds_in_line(kind, o, passed - 1) {
+        if base.holds_in_line(kind, o, passed - 1) {
             return (held.next_waiting(slot), passed);
         }
         passed -= 1;
@@ -166,53 +146,44 @@ fn walk_back(hub: &Hub, held: &HeldItems, o: u32, kind: WaitKind, last: u32) -> 
 /// Where a walk over the line may begin, and how many it passes by, each of whom has a number and holds: all that do, if
 /// it is known who has the last number; else none.
 #[tactic(auto, using(crate::proofs::LineBegins::passes_none))]
-fn begin_walk(hub: &Hub, held: &HeldItems, o: u32, kind: WaitKind) -> (Option<u32>, u64)
-    requires same { hub.now.items ≡ flat held.now.entries }
-    requires front { NumbersStandInFront hub.now }
-    ensures { PassesBy (waits_in_line kind o) hub.now held.now.entries result.0 result.1 }
+fn begin_walk(base: &Base, held: &HeldItems, o: u32, kind: WaitKind) -> (Option<u32>, u64)
+    requires { NumbersStandInFront (whole base.now held.now) }
+    ensures { PassesBy (waits_in_line kind o) (whole base.now held.now) held.now.entries result.0 result.1 }
 {
     let front = held.first_in_line(o, kind);
     let Some(slot) = held.last_numbered(o, kind) else {
         return (front, 0);
     };
     if is_last_numbered(held, o, kind, slot) {
-        return walk_back(hub, held, o, kind, slot);
+        return walk_back(base, held, o, kind, slot);
     }
     (front, 0)
 }
 
 /// Looks at those that wait in the line of this kind at the object, up to the first that has no number and doesn't hold,
 /// since so it is of all behind it. Passes by those that have numbers and hold, and looks at none where nothing changes.
-/// `AllocError`: memory is wanting.
-fn look_at_line(
-    hub: &Hub,
-    held: &HeldItems,
-    o: u32,
-    kind: WaitKind,
-    found: &mut Found,
-) -> Result<(), AllocError>
-    requires same { hub.now.items ≡ flat held.now.entries }
-    requires front { NumbersStandInFront hub.now }
-    ensures { OnOk result (LooksAlong (waits_in_line kind o) hub.now held.now.entries found.old found.new) }
+fn look_at_line(base: &Base, held: &HeldItems, o: u32, kind: WaitKind, found: &mut Found)
+    requires front { NumbersStandInFront (whole base.now held.now) }
+    requires may { MayLookAlong (waits_in_line kind o) (whole base.now held.now) held.now.entries found.old }
+    ensures { LooksAlong (waits_in_line kind o) (whole base.now held.now) held.now.entries found.old found.new }
 {
-    if is_settled(hub, held, o, kind) {
-        return Ok(());
+    if is_settled(base, held, o, kind) {
+        return;
     }
     let _apart = held.len();
-    let (first, passed) = begin_walk(hub, held, o, kind);
+    let (first, passed) = begin_walk(base, held, o, kind);
     let mut before = passed;
     let mut at = first;
     while let Some(slot) = at {
         let item = held.get(slot);
-        let holds = hub.holds(item, before);
+        let holds = base.holds(item, before);
         if !holds && item.ready.is_none() {
-            return Ok(());
+            return;
         }
-        found.note(slot, item, holds)?;
+        found.note(slot, item, holds);
         before += 1;
         at = held.next_waiting(slot);
     }
-    Ok(())
 }
 
 /// How many wait before the item in the line that its condition looks at; 0 where it looks at none.
@@ -225,84 +196,66 @@ fn before_item(held: &HeldItems, item: &Item) -> u64
     }
 }
 
-/// Looks at those that wait at the object in no line. `AllocError`: memory is wanting.
-fn look_at_others(hub: &Hub, held: &HeldItems, o: u32, found: &mut Found) -> Result<(), AllocError>
-    requires { hub.now.items ≡ flat held.now.entries }
-    ensures { OnOk result (LooksAlong (waits_in_none o) hub.now held.now.entries found.old found.new) }
+/// Looks at those that wait at the object in no line.
+fn look_at_others(base: &Base, held: &HeldItems, o: u32, found: &mut Found)
+    requires { MayLookAlong (waits_in_none o) (whole base.now held.now) held.now.entries found.old }
+    ensures { LooksAlong (waits_in_none o) (whole base.now held.now) held.now.entries found.old found.new }
 {
-    let _apart = held.len();
     let mut at = held.first_of_others(o);
     while let Some(slot) = at {
         let item = held.get(slot);
-        found.note(slot, item, hub.holds(item, before_item(held, item)))?;
+        found.note(slot, item, base.holds(item, before_item(held, item)));
         at = held.next_waiting(slot);
     }
-    Ok(())
 }
 
-/// Looks at those that wait at the object. `AllocError`: memory is wanting.
-fn look_at_object(hub: &Hub, held: &HeldItems, o: u32, found: &mut Found) -> Result<(), AllocError>
-    requires same { hub.now.items ≡ flat held.now.entries }
-    requires front { NumbersStandInFront hub.now }
-    ensures { OnOk result (LooksAt (is_at o) hub.now held.now.entries found.old found.new) }
+/// Looks at those that wait at the object.
+fn look_at_object(base: &Base, held: &HeldItems, o: u32, found: &mut Found)
+    requires front { NumbersStandInFront (whole base.now held.now) }
+    requires may { MayLookAt (is_at o) (whole base.now held.now) held.now.entries found.old }
+    ensures { LooksAt (is_at o) (whole base.now held.now) held.now.entries found.old found.new }
 {
-    look_at_line(hub, held, o, WaitKind::Acquire, found)?;
-    look_at_line(hub, held, o, WaitKind::Lock, found)?;
-    look_at_line(hub, held, o, WaitKind::Put, found)?;
-    look_at_line(hub, held, o, WaitKind::Take, found)?;
-    look_at_line(hub, held, o, WaitKind::Place, found)?;
-    look_at_line(hub, held, o, WaitKind::Slot, found)?;
-    look_at_line(hub, held, o, WaitKind::TakeOffer, found)?;
-    look_at_others(hub, held, o, found)?;
-    Ok(())
+    look_at_line(base, held, o, WaitKind::Acquire, found);
+    look_at_line(base, held, o, WaitKind::Lock, found);
+    look_at_line(base, held, o, WaitKind::Put, found);
+    look_at_line(base, held, o, WaitKind::Take, found);
+    look_at_line(base, held, o, WaitKind::Place, found);
+    look_at_line(base, held, o, WaitKind::Slot, found);
+    look_at_line(base, held, o, WaitKind::TakeOffer, found);
+    look_at_others(base, held, o, found);
 }
 
-/// Looks at those that wait at these objects. `AllocError`: memory is wanting.
-fn look_at_objects(
-    hub: &Hub,
-    held: &HeldItems,
-    objects: &[u32],
-    found: &mut Found,
-) -> Result<(), AllocError>
-    requires same { hub.now.items ≡ flat held.now.entries }
-    requires front { NumbersStandInFront hub.now }
+/// Looks at those that wait at these objects.
+fn look_at_objects(base: &Base, held: &HeldItems, objects: &[u32], found: &mut Found)
+    requires front { NumbersStandInFront (whole base.now held.now) }
     requires apart { Differ objects.now }
-    ensures { OnOk result (LooksAt (at_objects objects.now) hub.now held.now.entries found.old found.new) }
+    requires may { MayLookAt (at_objects objects.now) (whole base.now held.now) held.now.entries found.old }
+    ensures { LooksAt (at_objects objects.now) (whole base.now held.now) held.now.entries found.old found.new }
 {
     for o in objects {
-        look_at_object(hub, held, *o, found)?;
+        look_at_object(base, held, *o, found);
     }
-    Ok(())
 }
 
-/// Looks at those whose moment has come. `AllocError`: memory is wanting.
-pub(crate) fn look_at_due(
-    held: &mut HeldItems,
-    moment: u64,
-    found: &mut Found,
-) -> Result<(), AllocError>
+/// Looks at those whose moment has come, before any other.
+pub(crate) fn look_at_due(held: &mut HeldItems, moment: u64, found: &mut Found)
+    requires room { length held.old.entries ≤ found.old.room }
+    requires none { found.old.gained ≡ [] }
     ensures same { held.new ≡ held.old }
-    ensures looks { OnOk result ((s : Shown) → s.moment ≡ moment → All (IsPast moment) (flat held.old.entries) → LooksAt is_moment s held.old.entries found.old found.new) }
+    ensures looks { (s : Shown) → s.moment ≡ moment → All (IsPast moment) (flat held.old.entries) → LooksAt is_moment s held.old.entries found.old found.new }
 {
-    found.gather_due(held, moment)?;
-    Ok(())
+    found.gather_due(held, moment);
 }
 
-/// Looks at all that was touched: what was made, ends and objects. `AllocError`: memory is wanting.
-pub(crate) fn look_at_touched(
-    hub: &Hub,
-    held: &HeldItems,
-    touched: &Touched,
-    found: &mut Found,
-) -> Result<(), AllocError>
-    requires same { hub.now.items ≡ flat held.now.entries }
-    requires front { NumbersStandInFront hub.now }
+/// Looks at all that was touched: what was made, ends and objects.
+pub(crate) fn look_at_touched(base: &Base, held: &HeldItems, touched: &Touched, found: &mut Found)
+    requires front { NumbersStandInFront (whole base.now held.now) }
     requires pending { IsPending touched.now.made held.now.entries }
-    ensures { OnOk result (LooksAt (touched_now touched.now) hub.now held.now.entries found.old found.new) }
+    requires may { MayLookAt (touched_now touched.now) (whole base.now held.now) held.now.entries found.old }
+    ensures { LooksAt (touched_now touched.now) (whole base.now held.now) held.now.entries found.old found.new }
 {
-    look_at_made(held, touched.made(), found)?;
-    look_at_several(hub, held, touched.several(), found)?;
-    look_at_ends(hub, held, touched.ends(), found)?;
-    look_at_objects(hub, held, touched.objects(), found)?;
-    Ok(())
+    look_at_made(held, touched.made(), found);
+    look_at_several(base, held, touched.several(), found);
+    look_at_ends(base, held, touched.ends(), found);
+    look_at_objects(base, held, touched.objects(), found);
 }

@@ -62,11 +62,11 @@ impl Hub {
         ensures { self.new ≡ reached moment self.old }
     {
         let _ascending = self.held.len();
-        if moment >= self.moment {
-            self.moment = moment;
+        if moment >= self.base.moment {
+            self.base.moment = moment;
             return;
         }
         forget_early(&mut self.held, moment);
-        self.moment = moment;
+        self.base.moment = moment;
     }
 }

@@ -3,10 +3,13 @@ ghost use Rattle.std.specs.Prelude.{◌≡◌, length, is_some, slice_get};
 ghost use Rattle.std.specs.Option.{option_copied};
 ghost use Rattle.gv_values.specs.declared.value.Whom.{Whom as Target};
 ghost use Rattle.machine.specs.Holds.{delivery_holds, holds, wait_holds, outcome_of, is_done, all_done, done_among, newcomer_completes, earlier, is_place, has_place};
+ghost use Rattle.held_items.specs.Entries.{SeenItems, flat};
 ghost use Rattle.hub_items.specs.Lines.{IsAhead};
+ghost use Rattle.hub_state.specs.Over.{itemless, whole};
 ghost use Rattle.hub_state.specs.Waiters.{IsBefore, holds_in_line};
 
 use crate::ahead::{ahead_of_last, earlier_than_last};
+use crate::base::Base;
 use crate::hub::Hub;
 use gv_values::{Outcome, Whom, link_fits};
 use hub_items::WaitKind;
@@ -15,11 +18,19 @@ use hub_objects::{
     has_unit, is_deserted, is_flagged, is_free, is_owner, is_taken, job_at,
 };
 use machine::items::{Delivery, Item, Waiting};
+use machine::state::Object;
 
-impl Hub {
+impl Base {
+    /// The object of this number.
+    pub(crate) fn object(&self, o: u32) -> Option<&Object>
+        ensures { option_copied result ≡ slice_get self.now.objects o }
+    {
+        self.objects.get(o)
+    }
+
     /// What the greenlet ended with, if it did.
-    pub fn outcome_of_greenlet(&self, g: u32) -> Option<&Outcome>
-        ensures { option_copied result ≡ outcome_of self.now (Target.Greenlet g) }
+    pub(crate) fn outcome_of_greenlet(&self, g: u32) -> Option<&Outcome>
+        ensures { option_copied result ≡ outcome_of (itemless self.now) (Target.Greenlet g) }
     {
         match self.greenlets.get(g) {
             Some(greenlet) => greenlet.outcome(),
@@ -27,19 +38,9 @@ impl Hub {
         }
     }
 
-    /// Whether the greenlet or job has ended.
-    pub fn has_ended(&self, whom: Whom) -> bool
-        ensures { result ≡ is_some (outcome_of self.now whom) }
-    {
-        match whom {
-            Whom::Greenlet(g) => self.outcome_of_greenlet(g).is_some(),
-            Whom::Job(j) => self.outcome_of_job(j).is_some(),
-        }
-    }
-
     /// What the job came to, if it has arrived.
-    pub fn outcome_of_job(&self, j: u32) -> Option<&Outcome>
-        ensures { option_copied result ≡ outcome_of self.now (Target.Job j) }
+    pub(crate) fn outcome_of_job(&self, j: u32) -> Option<&Outcome>
+        ensures { option_copied result ≡ outcome_of (itemless self.now) (Target.Job j) }
     {
         match job_at(&self.jobs, j) {
             Some(job) => job.outcome(),
@@ -47,16 +48,26 @@ impl Hub {
         }
     }
 
+    /// Whether the greenlet or job has ended.
+    fn has_ended(&self, whom: Whom) -> bool
+        ensures { result ≡ is_some (outcome_of (itemless self.now) whom) }
+    {
+        match whom {
+            Whom::Greenlet(g) => self.outcome_of_greenlet(g).is_some(),
+            Whom::Job(j) => self.outcome_of_job(j).is_some(),
+        }
+    }
+
     /// Whether the greenlet has ended.
-    pub fn is_done(&self, g: u32) -> bool
-        ensures { result ≡ is_done self.now g }
+    pub(crate) fn is_done(&self, g: u32) -> bool
+        ensures { result ≡ is_done (itemless self.now) g }
     {
         self.outcome_of_greenlet(g).is_some()
     }
 
     /// Whether all these greenlets have ended.
-    pub fn all_done(&self, gs: &[u32]) -> bool
-        ensures { result ≡ all_done self.now gs.now }
+    pub(crate) fn all_done(&self, gs: &[u32]) -> bool
+        ensures { result ≡ all_done (itemless self.now) gs.now }
     {
         for g in gs {
             if !self.is_done(*g) {
@@ -68,7 +79,7 @@ impl Hub {
 
     /// How many of these greenlets have ended.
     fn done_among(&self, gs: &[u32]) -> u64
-        ensures { result ≡ done_among self.now gs.now }
+        ensures { result ≡ done_among (itemless self.now) gs.now }
     {
         let mut n = 0;
         for g in gs {
@@ -82,8 +93,8 @@ impl Hub {
     /// Whether the wait's condition holds, for a waiter with this since, where so many wait before it in the line that
     /// the condition looks at.
     fn wait_holds(&self, since: u64, waiting: &Waiting, before: u64) -> bool
-        ensures { IsAhead before (length self.now.objects) (λ test. earlier test since self.now.items) waiting.now
-            → result ≡ wait_holds self.now since waiting.now }
+        ensures { (held : SeenItems) → IsAhead before (length self.now.objects) (λ test. earlier test since (flat held.entries)) waiting.now
+            → result ≡ wait_holds (whole self.now held) since waiting.now }
     {
         match waiting {
             Waiting::Sleep(until) => *until <= self.moment,
@@ -110,36 +121,6 @@ impl Hub {
         }
     }
 
-    /// Whether the wait's condition holds for the last of all waiters.
-    fn holds_last(&self, waiting: &Waiting) -> bool
-        ensures { result ≡ wait_holds self.now self.now.next_since waiting.now }
-    {
-        let before = ahead_of_last(&self.held, waiting);
-        self.wait_holds(self.held.next_since(), waiting, before)
-    }
-
-    /// Whether a group or pool has a place that nobody waits for.
-    pub fn has_place(&self, o: u32) -> bool
-        ensures { result ≡ has_place (earlier (is_place o) self.now.next_since self.now.items) (slice_get self.now.objects o) }
-    {
-        let before = earlier_than_last(&self.held, WaitKind::Place, o);
-        has_place(self.object(o), before)
-    }
-
-    /// Whether a greenlet that comes to the wait does not begin it, since its condition holds for the last of all
-    /// waiters.
-    pub fn newcomer_completes(&self, g: u32, waiting: &Waiting) -> bool
-        ensures { result ≡ newcomer_completes self.now g waiting.now }
-    {
-        match waiting {
-            Waiting::Sleep(_) => false,
-            Waiting::Offered(_) => false,
-            Waiting::Event(o, _) => is_flagged(self.objects.get(*o)),
-            Waiting::Lock(o) => is_owner(self.objects.get(*o), g) || self.holds_last(waiting),
-            _ => self.holds_last(waiting),
-        }
-    }
-
     /// Whether who waits so at this object holds, with so many before it in its line.
     pub(crate) fn holds_in_line(&self, kind: WaitKind, o: u32, before: u64) -> bool
         ensures { result ≡ holds_in_line kind before (slice_get self.now.objects o) }
@@ -159,7 +140,7 @@ impl Hub {
     /// Whether the condition of an item with this since holds that delivers this, where so many wait before it in the
     /// line that the condition looks at.
     fn delivery_holds(&self, since: u64, delivery: &Delivery, before: u64) -> bool
-        ensures { IsBefore before self.now since delivery.now → result ≡ delivery_holds self.now since delivery.now }
+        ensures { (held : SeenItems) → IsBefore before (whole self.now held) since delivery.now → result ≡ delivery_holds (whole self.now held) since delivery.now }
     {
         match delivery {
             Delivery::Start(_, None) => true,
@@ -177,9 +158,70 @@ impl Hub {
 
     /// Whether the item's condition holds, where so many wait before it in the line that the condition looks at.
     pub(crate) fn holds(&self, item: &Item, before: u64) -> bool
-        ensures { IsBefore before self.now item.now.since item.now.delivery → result ≡ holds self.now item.now }
+        ensures { (held : SeenItems) → IsBefore before (whole self.now held) item.now.since item.now.delivery → result ≡ holds (whole self.now held) item.now }
     {
         self.delivery_holds(item.since, &item.delivery, before)
+    }
+}
+
+impl Hub {
+    /// What the greenlet ended with, if it did.
+    pub fn outcome_of_greenlet(&self, g: u32) -> Option<&Outcome>
+        ensures { option_copied result ≡ outcome_of self.now (Target.Greenlet g) }
+    {
+        self.base.outcome_of_greenlet(g)
+    }
+
+    /// What the job came to, if it has arrived.
+    pub fn outcome_of_job(&self, j: u32) -> Option<&Outcome>
+        ensures { option_copied result ≡ outcome_of self.now (Target.Job j) }
+    {
+        self.base.outcome_of_job(j)
+    }
+
+    /// Whether the greenlet has ended.
+    pub fn is_done(&self, g: u32) -> bool
+        ensures { result ≡ is_done self.now g }
+    {
+        self.base.is_done(g)
+    }
+
+    /// Whether all these greenlets have ended.
+    pub fn all_done(&self, gs: &[u32]) -> bool
+        ensures { result ≡ all_done self.now gs.now }
+    {
+        self.base.all_done(gs)
+    }
+
+    /// Whether the wait's condition holds for the last of all waiters.
+    fn holds_last(&self, waiting: &Waiting) -> bool
+        ensures { result ≡ wait_holds self.now self.now.next_since waiting.now }
+    {
+        let before = ahead_of_last(&self.held, waiting);
+        self.base
+            .wait_holds(self.held.next_since(), waiting, before)
+    }
+
+    /// Whether a group or pool has a place that nobody waits for.
+    pub fn has_place(&self, o: u32) -> bool
+        ensures { result ≡ has_place (earlier (is_place o) self.now.next_since self.now.items) (slice_get self.now.objects o) }
+    {
+        let before = earlier_than_last(&self.held, WaitKind::Place, o);
+        has_place(self.object(o), before)
+    }
+
+    /// Whether a greenlet that comes to the wait does not begin it, since its condition holds for the last of all
+    /// waiters.
+    pub fn newcomer_completes(&self, g: u32, waiting: &Waiting) -> bool
+        ensures { result ≡ newcomer_completes self.now g waiting.now }
+    {
+        match waiting {
+            Waiting::Sleep(_) => false,
+            Waiting::Offered(_) => false,
+            Waiting::Event(o, _) => is_flagged(self.object(*o)),
+            Waiting::Lock(o) => is_owner(self.object(*o), g) || self.holds_last(waiting),
+            _ => self.holds_last(waiting),
+        }
     }
 
     /// Whether an item that delivers this would hold if it were made now.
@@ -188,7 +230,9 @@ impl Hub {
     {
         match delivery {
             Delivery::Wake(_, waiting) => self.holds_last(waiting),
-            _ => self.delivery_holds(self.held.next_since(), delivery, 0),
+            _ => self
+                .base
+                .delivery_holds(self.held.next_since(), delivery, 0),
         }
     }
 }

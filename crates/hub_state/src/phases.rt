@@ -21,7 +21,7 @@ impl Hub {
     pub fn function_of(&self, g: u32) -> u32
         ensures { result ≡ (greenlet g self.now).function }
     {
-        match self.greenlets.get(g) {
+        match self.base.greenlets.get(g) {
             Some(greenlet) => greenlet.function(),
             None => 0,
         }
@@ -31,7 +31,7 @@ impl Hub {
     pub fn stage(&self, g: u32) -> Option<&Stage>
         ensures { option_map phase_of_stage (option_copied result) ≡ phase_of_greenlet g self.now.greenlets }
     {
-        match self.greenlets.get(g) {
+        match self.base.greenlets.get(g) {
             Some(greenlet) => Some(greenlet.stage()),
             None => None,
         }
@@ -55,7 +55,7 @@ impl Hub {
         let ended = self.is_end(g, &stage);
         self.touched.touch_end(ended, g);
         let _ascending = self.held.len();
-        self.greenlets.swap(g, stage)
+        self.base.greenlets.swap(g, stage)
     }
 
     /// Lets the greenlet have come so far.
@@ -93,14 +93,14 @@ impl Hub {
     pub fn has_greenlet_left(&self) -> bool
         ensures { result ≡ has_greenlet_left self.now }
     {
-        self.greenlets.has_room()
+        self.base.greenlets.has_room()
     }
 
     /// How many greenlets were made.
     pub fn greenlets_len(&self) -> u32
         ensures { result ≡ length self.now.greenlets }
     {
-        self.greenlets.len()
+        self.base.greenlets.len()
     }
 
     /// Makes a greenlet that has not started, and gives its number. `AllocError`: memory is wanting; the hub is given
@@ -117,8 +117,9 @@ impl Hub {
         ensures number { IfOk result (λ g. g ≡ length self.old.greenlets) }
     {
         let _ascending = self.held.len();
-        let number = self.greenlets.len();
-        self.greenlets
+        let number = self.base.greenlets.len();
+        self.base
+            .greenlets
             .push(Greenlet::new(raw, parent, function, arguments))?;
         Ok(number)
     }

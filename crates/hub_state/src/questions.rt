@@ -8,7 +8,7 @@ ghost use Rattle.hub_state.specs.Forgotten.{came};
 use crate::hub::Hub;
 use gv_values::{Answer, JobOutcome};
 use hub_objects::{Change, Posted, any_outstanding, arrive_at, job_at};
-use std::alloc::{AllocError, Global};
+use std::alloc::AllocError;
 use trace_text::{Blocked, Line};
 use world_rules::{LAST_MOMENT, Question};
 
@@ -31,7 +31,7 @@ impl Hub {
         match self.held.least_deadline() {
             Some(moment) => Some(Question::Wait(Some(moment.min(LAST_MOMENT)))),
             None => {
-                if any_outstanding(&self.jobs) {
+                if any_outstanding(&self.base.jobs) {
                     Some(Question::Wait(None))
                 } else {
                     None
@@ -51,14 +51,14 @@ impl Hub {
         let blocked = match self.held.least_deadline() {
             Some(moment) => Blocked::Until(moment),
             None => {
-                if any_outstanding(&self.jobs) {
+                if any_outstanding(&self.base.jobs) {
                     Blocked::Jobs
                 } else {
                     Blocked::Nothing
                 }
             }
         };
-        self.lines.push(Line::Block(blocked))?;
+        self.base.lines.push(Line::Block(blocked))?;
         Ok(())
     }
 
@@ -66,15 +66,15 @@ impl Hub {
     fn arrive(&mut self, j: u32, outcome: JobOutcome) -> Result<(), AllocError>
         ensures { OnOk result (self.new ≡ arrives j outcome (job_at j self.old.jobs) self.old) }
     {
-        let Some(job) = job_at(&self.jobs, j) else {
+        let Some(job) = job_at(&self.base.jobs, j) else {
             return Ok(());
         };
         let pool = job.pool();
         let _ascending = self.held.len();
         self.touched.touch_end(true, j);
         self.touched.touch(Some(pool));
-        self.objects.change(pool, Change::SlotFreed)?;
-        arrive_in(&mut self.jobs, j, outcome);
+        self.base.objects.change(pool, Change::SlotFreed)?;
+        arrive_in(&mut self.base.jobs, j, outcome);
         Ok(())
     }
 
@@ -106,16 +106,16 @@ impl Hub {
     ///
     /// # Errors
     ///
-    /// Memory is wanting, or a ready number would pass 64 bits, which no run within its budget comes to; the hub is
-    /// given up, and may have a part of the answer already.
+    /// Memory is wanting, or a ready number would pass 2^63, which no run within its budget comes to; the hub is given
+    /// up, and may have a part of the answer already.
     #[tactic(auto, using(crate::proofs::Forgetting::taken_so))]
-    pub fn take(&mut self, alloc: Global, answer: Answer) -> Result<(), AllocError>
+    pub fn take(&mut self, answer: Answer) -> Result<(), AllocError>
         ensures { OnOk result (self.new ≡ take_answer answer self.old) }
     {
-        let number = self.turns;
+        let number = self.base.turns;
         self.come(answer)?;
         self.say(Line::Turn { number, answer })?;
-        self.settle(alloc)?;
+        self.settle()?;
         Ok(())
     }
 }

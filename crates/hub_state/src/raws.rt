@@ -1,5 +1,5 @@
 //! Parents and hosts of raw greenlets.
-ghost use Rattle.std.specs.Prelude.{◌≡◌, ◌+◌, length, slice_get, slice_set};
+ghost use Rattle.std.specs.Prelude.{◌≡◌, length, slice_set};
 ghost use Rattle.machine.specs.Greenlets.{greenlet};
 ghost use Rattle.machine.specs.Hosts.{host_of, host_within, is_above};
 ghost use Rattle.hub_state.specs.Hosts.{at};
@@ -12,14 +12,14 @@ impl Hub {
     pub fn is_raw(&self, g: u32) -> bool
         ensures { result ≡ (greenlet g self.now).raw }
     {
-        is_raw_at(self.greenlets.as_slice(), g)
+        is_raw_at(self.base.greenlets.as_slice(), g)
     }
 
     /// Where the outcome of the greenlet goes, if it is raw.
     pub fn parent_of(&self, g: u32) -> u32
         ensures { result ≡ (greenlet g self.now).parent }
     {
-        parent_at(self.greenlets.as_slice(), g)
+        parent_at(self.base.greenlets.as_slice(), g)
     }
 
     /// The greenlet that is not raw and in which this one runs: the first one up the chain of parents. Goes up the
@@ -27,14 +27,14 @@ impl Hub {
     pub fn host_of(&self, g: u32) -> u32
         ensures { result ≡ host_of self.now g }
     {
-        host_of(self.greenlets.as_slice(), g)
+        host_of(self.base.greenlets.as_slice(), g)
     }
 
     /// Whether the child stands in the chain of parents that begins at this greenlet. Goes up the chain.
     pub fn is_above(&self, child: u32, g: u32) -> bool
         ensures { result ≡ is_above (length self.now.greenlets) self.now.greenlets child g }
     {
-        is_above(self.greenlets.as_slice(), child, g)
+        is_above(self.base.greenlets.as_slice(), child, g)
     }
 
     /// Gives the child this parent.
@@ -42,7 +42,7 @@ impl Hub {
         ensures { self.new ≡ record self.old { greenlets = slice_set self.old.greenlets child (record (greenlet child self.old) { parent = parent }) } }
     {
         let _ascending = self.held.len();
-        self.greenlets.set_parent(child, parent);
+        self.base.greenlets.set_parent(child, parent);
     }
 }
 

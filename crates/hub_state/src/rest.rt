@@ -28,14 +28,14 @@ impl Hub {
         if !self.touched.objects().is_empty() || !self.touched.made().is_empty() {
             return false;
         }
-        !has_come(self.held.least_deadline(), self.moment)
+        !has_come(self.held.least_deadline(), self.base.moment)
     }
 
     /// Counts so many moves more. `AllocError`: their number would pass 64 bits; the hub is given up.
     pub fn count_moves(&mut self, moves: u64) -> Result<(), AllocError>
         ensures { OnOk result (self.new ≡ record self.old { moves = self.old.moves + moves }) }
     {
-        self.moves = self.moves.checked_add(moves).ok_or(AllocError)?;
+        self.base.moves = self.base.moves.checked_add(moves).ok_or(AllocError)?;
         Ok(())
     }
 }

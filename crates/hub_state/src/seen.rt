@@ -33,7 +33,7 @@ impl<'a> Seen<'a> {
     pub fn new(hub: &'a Hub, current: u32) -> Seen<'a>
         ensures { result ≡ record { current = current; state = hub.now } }
     {
-        let _counted = hub.objects.as_slice();
+        let _counted = hub.base.objects.as_slice();
         Seen { hub, current }
     }
 }

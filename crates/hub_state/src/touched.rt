@@ -5,7 +5,6 @@ ghost use Rattle.linked_items.specs.Items.{Differ};
 ghost use Rattle.machine_settling.specs.Classes.{class_of, class_of_wait};
 ghost use Rattle.machine_settling.specs.Steps.{has_member, has_offer_by};
 ghost use Rattle.held_items.specs.Entries.{flat};
-ghost use Rattle.held_items.specs.Waits.{target_of_class};
 ghost use Rattle.hub_state.specs.Touched.{HasPlaces, HasTarget, HasTouched, IsRoomier, awaited, left_by, none_touched, untouched, waited_at, with_end, with_made, with_target, with_touched, with_waited};
 
 use held_items::{HeldItems, Target, target_of};
@@ -265,7 +264,7 @@ pub(crate) fn object_of(delivery: &Delivery) -> Option<u32>
 }
 
 /// The object of this number, if it passes.
-fn object_if(passes: bool, o: u32) -> Option<u32>
+pub(crate) fn object_if(passes: bool, o: u32) -> Option<u32>
     ensures { result ≡ (if passes then Some o else None) }
 {
     if passes { Some(o) } else { None }

@@ -64,7 +64,7 @@ fn code_of(alloc: Global, text: &str) -> Result<Code, Fail>
         return Err(Fail::from("no function"));
     }
     let checked = check(alloc, scenario)?;
-    Ok(compile(alloc, &checked)?)
+    Ok(compile(alloc, checked)?)
 }
 
 /// The first step of a body of the first function, and how many of these moves are left after it.

@@ -1,16 +1,22 @@
-use Rattle.std.proofs.Common.{◌≡◌, ◌++◌, List, map, take}
-use Rattle.scenario_tree.specs.declared.tree.Statement.{Statement}
-use Rattle.body_blocks.specs.Trees.{Grows, Stands, except_of}
+use Rattle.std.proofs.Common.{length}
+use Rattle.body_blocks.specs.Trees.{Grows, except_of, statement_of}
+use Rattle.body_blocks.proofs.Growing.{Taken}
 use Rattle.body_blocks.proofs.adding.+block.Given as goal
 
 abbrev pub invariant-add_block-loop-statement : goal.invariant-add_block-loop-statement
 invariant-add_block-loop-statement l = record {
   grows : Grows l.initial.blocks l.blocks;
-  stands : Stands l.blocks l.statements (take l.statement-index l.block);
+  taken : Taken statement_of l.blocks l.left l.statements.items l.fn.block;
 }
+
+abbrev pub decreases-add_block-loop-statement : goal.decreases-add_block-loop-statement
+decreases-add_block-loop-statement l = length l.left
 
 abbrev pub invariant-add_excepts-loop-except : goal.invariant-add_excepts-loop-except
 invariant-add_excepts-loop-except l = record {
   grows : Grows l.initial.blocks l.blocks;
-  stands : (more : List (List Statement)) → map (except_of (l.blocks ++ more)) l.flat ≡ take l.except-index l.excepts;
+  taken : Taken except_of l.blocks l.left l.flat.items l.fn.excepts;
 }
+
+abbrev pub decreases-add_excepts-loop-except : goal.decreases-add_excepts-loop-except
+decreases-add_excepts-loop-except l = length l.left

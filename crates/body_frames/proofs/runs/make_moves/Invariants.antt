@@ -1,6 +1,5 @@
 use Rattle.std.proofs.Common.{◌≡◌, ◌<◌, ◌-◌, []}
 use Rattle.machine.specs.Bodies.{around}
-use Rattle.body_frames.specs.AtMove.{IsAtMove}
 use Rattle.body_frames.specs.Entries.{todo_of}
 use Rattle.body_frames.specs.Few.{HasFewToDo}
 use Rattle.body_frames.specs.Standings.{frame_of}
@@ -11,7 +10,6 @@ abbrev pub invariant-moves : goal.invariant-moves
 invariant-moves g l = record {
   counted : l.before < l.fn.most;
   told : l.stack.left ≡ [];
-  at : IsAtMove (todo_of l.fn.context.blocks.now l.stack.todo);
   few : HasFewToDo (todo_of l.fn.context.blocks.now l.stack.todo);
   leads :
       LeadsTo (around l.fn.context.code.now (g.L.Look.answers l.fn.context.look.now)) l.before (frame_of l.fn.context.blocks.now l.initial.stack) (frame_of l.fn.context.blocks.now l.stack);

@@ -1,6 +1,10 @@
-use Rattle.std.proofs.Common.{take}
-use Rattle.body_values.proofs.Codes.{Made}
+use Rattle.std.proofs.Common.{length}
+use Rattle.body_blocks.proofs.Growing.{Taken}
+use Rattle.body_values.specs.Codes.{function_of}
 use Rattle.body_values.proofs.functions.add_functions.Given as goal
 
 abbrev pub invariant-loop-function : goal.invariant-loop-function
-invariant-loop-function l = Made l.blocks l.flat (take l.function-index l.functions)
+invariant-loop-function l = Taken function_of l.blocks l.left l.flat.items l.fn.functions
+
+abbrev pub decreases-loop-function : goal.decreases-loop-function
+decreases-loop-function l = length l.left

@@ -9,7 +9,7 @@ use Rattle.hub_engine.proofs.turns.ask_world.Goals as goal
 
 pub returns-in_err-block-clause-ran : goal.returns-in_err-block-clause-ran
 returns-in_err-block-clause-ran g c = λ go b.
-    let broken = broken_first (outside g.W.World.waits (g.K.Sink.written c.args.sink.now) (g.K.Sink.handed c.args.sink.now) (g.W.World.meaning c.args.world.now) (g.W.World.stands_for c.args.world.now)) (λ later. after_question go b (Some c.args.question) (Source.Given later) c.args.hub.now) in
+    let broken = broken_first (outside g.W.World g.K.Sink c.args.world.now c.args.sink.now) (λ later. after_question go b (Some c.args.question) (Source.Given later) c.args.hub.now) in
     search (rules, broken)
 
 pub give_out_before-requires : goal.give_out_before-requires
@@ -20,12 +20,12 @@ give_out_before-requires g c =
 pub returns-in_err-give_out_before-clause-ran : goal.returns-in_err-give_out_before-clause-ran
 returns-in_err-give_out_before-clause-ran g c = λ go b.
     let none = ap (λ (x : State). x.posts) c.in_ok-block.ensures ∙ posts_blocked _ c.args.hub.now c.requires.tied in
-    let broken = blocked_broken (outside g.W.World.waits (g.K.Sink.written c.args.sink.now) (g.K.Sink.handed c.args.sink.now) (g.W.World.meaning c.args.world.now) (g.W.World.stands_for c.args.world.now)) (outside g.W.World.waits (g.K.Sink.written c.give_out_before.new.sink) (g.K.Sink.handed c.give_out_before.new.sink) (g.W.World.meaning c.give_out_before.new.world) (g.W.World.stands_for c.give_out_before.new.world)) go b c.args.question c.args.hub.now c.block.new.self c.in_ok-block.ensures none c.in_err-give_out_before.ensures.given in
+    let broken = blocked_broken (outside g.W.World g.K.Sink c.args.world.now c.args.sink.now) (outside g.W.World g.K.Sink c.give_out_before.new.world c.give_out_before.new.sink) go b c.args.question c.args.hub.now c.block.new.self c.in_ok-block.ensures none c.in_err-give_out_before.ensures.given in
     search (rules, broken)
 
 pub take_answer-requires : goal.take_answer-requires
 take_answer-requires g c = record {
-  tied = tied_at_rest (outside g.W.World.waits (g.K.Sink.written c.args.sink.now) (g.K.Sink.handed c.args.sink.now) (g.W.World.meaning c.args.world.now) (g.W.World.stands_for c.args.world.now)) (outside g.W.World.waits (g.K.Sink.written c.give_out_before.new.sink) (g.K.Sink.handed c.give_out_before.new.sink) (g.W.World.meaning c.give_out_before.new.world) (g.W.World.stands_for c.give_out_before.new.world)) Stand.Resting c.block.new.self c.give_out_before.new.hub refl (tied_blocked _ c.args.hub.now c.block.new.self c.requires.tied c.in_ok-block.ensures)
+  tied = tied_at_rest (outside g.W.World g.K.Sink c.args.world.now c.args.sink.now) (outside g.W.World g.K.Sink c.give_out_before.new.world c.give_out_before.new.sink) Stand.Resting c.block.new.self c.give_out_before.new.hub refl (tied_blocked _ c.args.hub.now c.block.new.self c.requires.tied c.in_ok-block.ensures)
       c.in_ok-give_out_before.ensures.given c.in_ok-give_out_before.ensures.silent;
   out = c.in_ok-give_out_before.ensures.out;
   asked = asked_blocked c.args.question c.args.hub.now c.block.new.self c.give_out_before.new.hub c.requires.asked c.in_ok-block.ensures c.in_ok-give_out_before.ensures.silent;
@@ -33,15 +33,21 @@ take_answer-requires g c = record {
 
 pub returns-in_err-take_answer-clause-ran : goal.returns-in_err-take_answer-clause-ran
 returns-in_err-take_answer-clause-ran g c = λ go b.
+    let u = outside g.W.World g.K.Sink c.args.world.now c.args.sink.now in
+    let v = outside g.W.World g.K.Sink c.give_out_before.new.world c.give_out_before.new.sink in
+    let w = outside g.W.World g.K.Sink c.take_answer.new.world c.take_answer.new.sink in
     let none = ap (λ (x : State). x.posts) c.in_ok-block.ensures ∙ posts_blocked _ c.args.hub.now c.requires.tied in
-    let first = blocked_on (outside g.W.World.waits (g.K.Sink.written c.args.sink.now) (g.K.Sink.handed c.args.sink.now) (g.W.World.meaning c.args.world.now) (g.W.World.stands_for c.args.world.now)) (outside g.W.World.waits (g.K.Sink.written c.give_out_before.new.sink) (g.K.Sink.handed c.give_out_before.new.sink) (g.W.World.meaning c.give_out_before.new.world) (g.W.World.stands_for c.give_out_before.new.world)) go b c.args.question c.args.hub.now c.block.new.self c.give_out_before.new.hub c.in_ok-block.ensures none c.in_ok-give_out_before.ensures.silent c.in_ok-give_out_before.ensures.given in
-    let broken = running_broken (outside g.W.World.waits (g.K.Sink.written c.args.sink.now) (g.K.Sink.handed c.args.sink.now) (g.W.World.meaning c.args.world.now) (g.W.World.stands_for c.args.world.now)) (outside g.W.World.waits (g.K.Sink.written c.give_out_before.new.sink) (g.K.Sink.handed c.give_out_before.new.sink) (g.W.World.meaning c.give_out_before.new.world) (g.W.World.stands_for c.give_out_before.new.world)) (outside g.W.World.waits (g.K.Sink.written c.take_answer.new.sink) (g.K.Sink.handed c.take_answer.new.sink) (g.W.World.meaning c.take_answer.new.world) (g.W.World.stands_for c.take_answer.new.world)) (λ later. after_question go b (Some c.args.question) (Source.Given later) c.args.hub.now)
+    let first = blocked_on u v go b c.args.question c.args.hub.now c.block.new.self c.give_out_before.new.hub c.in_ok-block.ensures none c.in_ok-give_out_before.ensures.silent c.in_ok-give_out_before.ensures.given in
+    let broken = running_broken u v w (λ later. after_question go b (Some c.args.question) (Source.Given later) c.args.hub.now)
     (λ later. asks go c.args.question (Source.Given later) c.give_out_before.new.hub) first (c.in_err-take_answer.ensures.ran go) in
     search (rules, broken)
 
 pub returns-clause-ran : goal.returns-clause-ran
 returns-clause-ran g c = λ go b.
+    let u = outside g.W.World g.K.Sink c.args.world.now c.args.sink.now in
+    let v = outside g.W.World g.K.Sink c.give_out_before.new.world c.give_out_before.new.sink in
+    let w = outside g.W.World g.K.Sink c.take_answer.new.world c.take_answer.new.sink in
     let none = ap (λ (x : State). x.posts) c.in_ok-block.ensures ∙ posts_blocked _ c.args.hub.now c.requires.tied in
-    let first = blocked_on (outside g.W.World.waits (g.K.Sink.written c.args.sink.now) (g.K.Sink.handed c.args.sink.now) (g.W.World.meaning c.args.world.now) (g.W.World.stands_for c.args.world.now)) (outside g.W.World.waits (g.K.Sink.written c.give_out_before.new.sink) (g.K.Sink.handed c.give_out_before.new.sink) (g.W.World.meaning c.give_out_before.new.world) (g.W.World.stands_for c.give_out_before.new.world)) go b c.args.question c.args.hub.now c.block.new.self c.give_out_before.new.hub c.in_ok-block.ensures none c.in_ok-give_out_before.ensures.silent c.in_ok-give_out_before.ensures.given in
-    running_then (outside g.W.World.waits (g.K.Sink.written c.args.sink.now) (g.K.Sink.handed c.args.sink.now) (g.W.World.meaning c.args.world.now) (g.W.World.stands_for c.args.world.now)) (outside g.W.World.waits (g.K.Sink.written c.give_out_before.new.sink) (g.K.Sink.handed c.give_out_before.new.sink) (g.W.World.meaning c.give_out_before.new.world) (g.W.World.stands_for c.give_out_before.new.world)) (outside g.W.World.waits (g.K.Sink.written c.take_answer.new.sink) (g.K.Sink.handed c.take_answer.new.sink) (g.W.World.meaning c.take_answer.new.world) (g.W.World.stands_for c.take_answer.new.world)) (λ later. after_question go b (Some c.args.question) (Source.Given later) c.args.hub.now)
+    let first = blocked_on u v go b c.args.question c.args.hub.now c.block.new.self c.give_out_before.new.hub c.in_ok-block.ensures none c.in_ok-give_out_before.ensures.silent c.in_ok-give_out_before.ensures.given in
+    running_then u v w (λ later. after_question go b (Some c.args.question) (Source.Given later) c.args.hub.now)
     (λ later. asks go c.args.question (Source.Given later) c.give_out_before.new.hub) (λ later. go (Source.Given later) c.take_answer.new.hub) first (c.in_ok-take_answer.ensures.ran go)

@@ -9,7 +9,7 @@ use Rattle.hub_engine.proofs.turns.deliver_one.Goals as goal
 pub returns-in_err-next-clause-given : goal.returns-in_err-next-clause-given
 returns-in_err-next-clause-given g c = λ i e.
     let p = runs_on c.args.budget c.args.hub.now (deliver i c.args.hub.now) in
-    let broken = part_nothing (outside g.W.World.waits (g.K.Sink.written c.args.sink.now) (g.K.Sink.handed c.args.sink.now) (g.W.World.meaning c.args.world.now) (g.W.World.stands_for c.args.world.now)) p.lines p.posts in
+    let broken = part_nothing (outside g.W.World g.K.Sink c.args.world.now c.args.sink.now) p.lines p.posts in
     search (rules, broken)
 
 pub run_greenlet-requires : goal.run_greenlet-requires

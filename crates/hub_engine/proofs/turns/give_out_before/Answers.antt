@@ -6,11 +6,11 @@ use Rattle.hub_engine.proofs.turns.give_out_before.Goals as goal
 
 pub returns-in_err-flush-clause-given : goal.returns-in_err-flush-clause-given
 returns-in_err-flush-clause-given g c =
-    let broken = given_whole (outside g.W.World.waits (g.K.Sink.written c.args.sink.now) (g.K.Sink.handed c.args.sink.now) (g.W.World.meaning c.args.world.now) (g.W.World.stands_for c.args.world.now)) (outside g.W.World.waits (g.K.Sink.written c.give_out_once.new.sink) (g.K.Sink.handed c.give_out_once.new.sink) (g.W.World.meaning c.give_out_once.new.world) (g.W.World.stands_for c.give_out_once.new.world)) g.W.World.waits (g.K.Sink.written c.flush.new.self) (g.K.Sink.handed c.flush.new.self) c.args.hub.now.lines c.args.hub.now.posts
+    let broken = given_whole (outside g.W.World g.K.Sink c.args.world.now c.args.sink.now) (outside g.W.World g.K.Sink c.give_out_once.new.world c.give_out_once.new.sink) g.W.World.waits (g.K.Sink.written c.flush.new.self) (g.K.Sink.handed c.flush.new.self) c.args.hub.now.lines c.args.hub.now.posts
     c.in_ok-give_out_once.ensures.given c.flush.ensures.same (out_flushed g.W.World.waits _ _ _ _ c.flush.ensures.same c.flush.ensures.never_taken_back) in
     search (rules, broken)
 
 pub returns-in_ok-flush-clause-given : goal.returns-in_ok-flush-clause-given
 returns-in_ok-flush-clause-given g c =
-    given_flushed (outside g.W.World.waits (g.K.Sink.written c.args.sink.now) (g.K.Sink.handed c.args.sink.now) (g.W.World.meaning c.args.world.now) (g.W.World.stands_for c.args.world.now)) (outside g.W.World.waits (g.K.Sink.written c.give_out_once.new.sink) (g.K.Sink.handed c.give_out_once.new.sink) (g.W.World.meaning c.give_out_once.new.world) (g.W.World.stands_for c.give_out_once.new.world)) g.W.World.waits (g.K.Sink.written c.flush.new.self) (g.K.Sink.handed c.flush.new.self) _ _
+    given_flushed (outside g.W.World g.K.Sink c.args.world.now c.args.sink.now) (outside g.W.World g.K.Sink c.give_out_once.new.world c.give_out_once.new.sink) g.W.World.waits (g.K.Sink.written c.flush.new.self) (g.K.Sink.handed c.flush.new.self) _ _
     c.in_ok-give_out_once.ensures.given c.flush.ensures.same (out_flushed g.W.World.waits _ _ _ _ c.flush.ensures.same c.flush.ensures.never_taken_back)

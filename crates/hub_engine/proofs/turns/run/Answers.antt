@@ -22,7 +22,7 @@ start_body-requires g c = record { declared = declared_started c.args.hub.now.sc
 
 pub returns-in_err-at-clause-ran : goal.returns-in_err-at-clause-ran
 returns-in_err-at-clause-ran g c =
-    let broken = broken_first (outside g.W.World.waits (g.K.Sink.written c.args.sink.now) (g.K.Sink.handed c.args.sink.now) (g.W.World.meaning c.args.world.now) (g.W.World.stands_for c.args.world.now)) (run c.args.hub.now.scenario c.args.turns c.args.moves) in search (rules, broken)
+    let broken = broken_first (outside g.W.World g.K.Sink c.args.world.now c.args.sink.now) (run c.args.hub.now.scenario c.args.turns c.args.moves) in search (rules, broken)
 
 pub run_greenlet-requires : goal.run_greenlet-requires
 run_greenlet-requires g c =
@@ -32,40 +32,52 @@ run_greenlet-requires g c =
 pub returns-in_err-cause-clause-ran : goal.returns-in_err-cause-clause-ran
 returns-in_err-cause-clause-ran g c =
     let begun = without_arguments c.new.result c.args.hub.now c.start_body.new.hub c.in_ok-at.at c.new.ensures c.in_ok-at.ensures in
-    let broken = began_broken (outside g.W.World.waits (g.K.Sink.written c.args.sink.now) (g.K.Sink.handed c.args.sink.now) (g.W.World.meaning c.args.world.now) (g.W.World.stands_for c.args.world.now)) (outside g.W.World.waits (g.K.Sink.written c.run_greenlet.new.sink) (g.K.Sink.handed c.run_greenlet.new.sink) (g.W.World.meaning c.run_greenlet.new.world) (g.W.World.stands_for c.run_greenlet.new.world)) c.args.turns c.args.moves c.args.hub.now.scenario c.in_ok-at.at c.args.hub.now c.start_body.new.hub c.requires.prepared.first begun c.in_err-cause.ensures.given in
+    let broken = began_broken (outside g.W.World g.K.Sink c.args.world.now c.args.sink.now) (outside g.W.World g.K.Sink c.run_greenlet.new.world c.run_greenlet.new.sink) c.args.turns c.args.moves c.args.hub.now.scenario c.in_ok-at.at c.args.hub.now c.start_body.new.hub c.requires.prepared.first begun c.in_err-cause.ensures.given in
     search (rules, broken)
 
 pub returns-in_err-stop-in-ToAnEnd-clause-ran : goal.returns-in_err-stop-in-ToAnEnd-clause-ran
 returns-in_err-stop-in-ToAnEnd-clause-ran g c =
+    let u = outside g.W.World g.K.Sink c.args.world.now c.args.sink.now in
+    let v = outside g.W.World g.K.Sink c.run_greenlet.new.world c.run_greenlet.new.sink in
+    let w = outside g.W.World g.K.Sink c.run_greenlet.new.world c.stop.new.sink in
     let begun = without_arguments c.new.result c.args.hub.now c.start_body.new.hub c.in_ok-at.at c.new.ensures c.in_ok-at.ensures in
-    let part = began (outside g.W.World.waits (g.K.Sink.written c.args.sink.now) (g.K.Sink.handed c.args.sink.now) (g.W.World.meaning c.args.world.now) (g.W.World.stands_for c.args.world.now)) (outside g.W.World.waits (g.K.Sink.written c.run_greenlet.new.sink) (g.K.Sink.handed c.run_greenlet.new.sink) (g.W.World.meaning c.run_greenlet.new.world) (g.W.World.stands_for c.run_greenlet.new.world)) c.args.turns c.args.moves c.args.hub.now.scenario c.in_ok-at.at _ c.args.hub.now c.start_body.new.hub c.run_greenlet.new.hub c.requires.prepared.first begun c.in_ok-cause.ensures.next c.in_ok-cause.ensures.given in
-    let stop = stops_at (outside g.W.World.waits (g.K.Sink.written c.args.sink.now) (g.K.Sink.handed c.args.sink.now) (g.W.World.meaning c.args.world.now) (g.W.World.stands_for c.args.world.now)) (outside g.W.World.waits (g.K.Sink.written c.run_greenlet.new.sink) (g.K.Sink.handed c.run_greenlet.new.sink) (g.W.World.meaning c.run_greenlet.new.world) (g.W.World.stands_for c.run_greenlet.new.world)) _ c.in-ToAnEnd.cause (run c.args.hub.now.scenario c.args.turns c.args.moves) (from_turn c.args.turns c.args.moves) c.run_greenlet.new.hub c.in-ToAnEnd.is part in
-    let broken = stop_broken (outside g.W.World.waits (g.K.Sink.written c.args.sink.now) (g.K.Sink.handed c.args.sink.now) (g.W.World.meaning c.args.world.now) (g.W.World.stands_for c.args.world.now)) (outside g.W.World.waits (g.K.Sink.written c.run_greenlet.new.sink) (g.K.Sink.handed c.run_greenlet.new.sink) (g.W.World.meaning c.run_greenlet.new.world) (g.W.World.stands_for c.run_greenlet.new.world)) (outside g.W.World.waits (g.K.Sink.written c.stop.new.sink) (g.K.Sink.handed c.stop.new.sink) (g.W.World.meaning c.run_greenlet.new.world) (g.W.World.stands_for c.run_greenlet.new.world)) (run c.args.hub.now.scenario c.args.turns c.args.moves) c.in-ToAnEnd.cause c.run_greenlet.new.hub stop c.in_err-stop-in-ToAnEnd.ensures.written (c.stop.ensures.out g.W.World.waits) (done_nothing (outside g.W.World.waits (g.K.Sink.written c.run_greenlet.new.sink) (g.K.Sink.handed c.run_greenlet.new.sink) (g.W.World.meaning c.run_greenlet.new.world) (g.W.World.stands_for c.run_greenlet.new.world))) in
+    let part = began u v c.args.turns c.args.moves c.args.hub.now.scenario c.in_ok-at.at _ c.args.hub.now c.start_body.new.hub c.run_greenlet.new.hub c.requires.prepared.first begun c.in_ok-cause.ensures.next c.in_ok-cause.ensures.given in
+    let stop = stops_at u v _ c.in-ToAnEnd.cause (run c.args.hub.now.scenario c.args.turns c.args.moves) (from_turn c.args.turns c.args.moves) c.run_greenlet.new.hub c.in-ToAnEnd.is part in
+    let broken = stop_broken u v w (run c.args.hub.now.scenario c.args.turns c.args.moves) c.in-ToAnEnd.cause c.run_greenlet.new.hub stop c.in_err-stop-in-ToAnEnd.ensures.written (c.stop.ensures.out g.W.World.waits) (done_nothing v) in
     search (rules, broken)
 
 pub returns-in_ok-stop-in-ToAnEnd-clause-ran : goal.returns-in_ok-stop-in-ToAnEnd-clause-ran
 returns-in_ok-stop-in-ToAnEnd-clause-ran g c =
+    let u = outside g.W.World g.K.Sink c.args.world.now c.args.sink.now in
+    let v = outside g.W.World g.K.Sink c.run_greenlet.new.world c.run_greenlet.new.sink in
+    let w = outside g.W.World g.K.Sink c.run_greenlet.new.world c.stop.new.sink in
     let begun = without_arguments c.new.result c.args.hub.now c.start_body.new.hub c.in_ok-at.at c.new.ensures c.in_ok-at.ensures in
-    let part = began (outside g.W.World.waits (g.K.Sink.written c.args.sink.now) (g.K.Sink.handed c.args.sink.now) (g.W.World.meaning c.args.world.now) (g.W.World.stands_for c.args.world.now)) (outside g.W.World.waits (g.K.Sink.written c.run_greenlet.new.sink) (g.K.Sink.handed c.run_greenlet.new.sink) (g.W.World.meaning c.run_greenlet.new.world) (g.W.World.stands_for c.run_greenlet.new.world)) c.args.turns c.args.moves c.args.hub.now.scenario c.in_ok-at.at _ c.args.hub.now c.start_body.new.hub c.run_greenlet.new.hub c.requires.prepared.first begun c.in_ok-cause.ensures.next c.in_ok-cause.ensures.given in
-    let stop = stops_at (outside g.W.World.waits (g.K.Sink.written c.args.sink.now) (g.K.Sink.handed c.args.sink.now) (g.W.World.meaning c.args.world.now) (g.W.World.stands_for c.args.world.now)) (outside g.W.World.waits (g.K.Sink.written c.run_greenlet.new.sink) (g.K.Sink.handed c.run_greenlet.new.sink) (g.W.World.meaning c.run_greenlet.new.world) (g.W.World.stands_for c.run_greenlet.new.world)) _ c.in-ToAnEnd.cause (run c.args.hub.now.scenario c.args.turns c.args.moves) (from_turn c.args.turns c.args.moves) c.run_greenlet.new.hub c.in-ToAnEnd.is part in
-    stopped_on (outside g.W.World.waits (g.K.Sink.written c.args.sink.now) (g.K.Sink.handed c.args.sink.now) (g.W.World.meaning c.args.world.now) (g.W.World.stands_for c.args.world.now)) (outside g.W.World.waits (g.K.Sink.written c.run_greenlet.new.sink) (g.K.Sink.handed c.run_greenlet.new.sink) (g.W.World.meaning c.run_greenlet.new.world) (g.W.World.stands_for c.run_greenlet.new.world)) (outside g.W.World.waits (g.K.Sink.written c.stop.new.sink) (g.K.Sink.handed c.stop.new.sink) (g.W.World.meaning c.run_greenlet.new.world) (g.W.World.stands_for c.run_greenlet.new.world)) (run c.args.hub.now.scenario c.args.turns c.args.moves) c.in-ToAnEnd.cause _ c.run_greenlet.new.hub stop c.in_ok-stop-in-ToAnEnd.ensures.written (c.stop.ensures.out g.W.World.waits) (done_nothing (outside g.W.World.waits (g.K.Sink.written c.run_greenlet.new.sink) (g.K.Sink.handed c.run_greenlet.new.sink) (g.W.World.meaning c.run_greenlet.new.world) (g.W.World.stands_for c.run_greenlet.new.world))) c.in_ok-stop-in-ToAnEnd.ensures.end
+    let part = began u v c.args.turns c.args.moves c.args.hub.now.scenario c.in_ok-at.at _ c.args.hub.now c.start_body.new.hub c.run_greenlet.new.hub c.requires.prepared.first begun c.in_ok-cause.ensures.next c.in_ok-cause.ensures.given in
+    let stop = stops_at u v _ c.in-ToAnEnd.cause (run c.args.hub.now.scenario c.args.turns c.args.moves) (from_turn c.args.turns c.args.moves) c.run_greenlet.new.hub c.in-ToAnEnd.is part in
+    stopped_on u v w (run c.args.hub.now.scenario c.args.turns c.args.moves) c.in-ToAnEnd.cause _ c.run_greenlet.new.hub stop c.in_ok-stop-in-ToAnEnd.ensures.written (c.stop.ensures.out g.W.World.waits) (done_nothing v) c.in_ok-stop-in-ToAnEnd.ensures.end
 
 pub run_turns-requires : goal.run_turns-requires
 run_turns-requires g c = record { tied = tied_after _ _ c.run_greenlet.new.hub c.in-ToRest.is c.in_ok-cause.ensures.tied }
 
 pub returns-in_err-run_turns-in-ToRest-clause-ran : goal.returns-in_err-run_turns-in-ToRest-clause-ran
 returns-in_err-run_turns-in-ToRest-clause-ran g c =
+    let u = outside g.W.World g.K.Sink c.args.world.now c.args.sink.now in
+    let v = outside g.W.World g.K.Sink c.run_greenlet.new.world c.run_greenlet.new.sink in
+    let w = outside g.W.World g.K.Sink c.run_turns.new.world c.run_turns.new.sink in
     let begun = without_arguments c.new.result c.args.hub.now c.start_body.new.hub c.in_ok-at.at c.new.ensures c.in_ok-at.ensures in
-    let part = began (outside g.W.World.waits (g.K.Sink.written c.args.sink.now) (g.K.Sink.handed c.args.sink.now) (g.W.World.meaning c.args.world.now) (g.W.World.stands_for c.args.world.now)) (outside g.W.World.waits (g.K.Sink.written c.run_greenlet.new.sink) (g.K.Sink.handed c.run_greenlet.new.sink) (g.W.World.meaning c.run_greenlet.new.world) (g.W.World.stands_for c.run_greenlet.new.world)) c.args.turns c.args.moves c.args.hub.now.scenario c.in_ok-at.at _ c.args.hub.now c.start_body.new.hub c.run_greenlet.new.hub c.requires.prepared.first begun c.in_ok-cause.ensures.next c.in_ok-cause.ensures.given in
-    let rest = rests_on (outside g.W.World.waits (g.K.Sink.written c.args.sink.now) (g.K.Sink.handed c.args.sink.now) (g.W.World.meaning c.args.world.now) (g.W.World.stands_for c.args.world.now)) (outside g.W.World.waits (g.K.Sink.written c.run_greenlet.new.sink) (g.K.Sink.handed c.run_greenlet.new.sink) (g.W.World.meaning c.run_greenlet.new.world) (g.W.World.stands_for c.run_greenlet.new.world)) _ (run c.args.hub.now.scenario c.args.turns c.args.moves) (from_turn c.args.turns c.args.moves) c.run_greenlet.new.hub c.in-ToRest.is part in
-    let broken = ran_then (outside g.W.World.waits (g.K.Sink.written c.args.sink.now) (g.K.Sink.handed c.args.sink.now) (g.W.World.meaning c.args.world.now) (g.W.World.stands_for c.args.world.now)) (outside g.W.World.waits (g.K.Sink.written c.run_greenlet.new.sink) (g.K.Sink.handed c.run_greenlet.new.sink) (g.W.World.meaning c.run_greenlet.new.world) (g.W.World.stands_for c.run_greenlet.new.world)) (outside g.W.World.waits (g.K.Sink.written c.run_turns.new.sink) (g.K.Sink.handed c.run_turns.new.sink) (g.W.World.meaning c.run_turns.new.world) (g.W.World.stands_for c.run_turns.new.world)) (Err c.in_err-run_turns-in-ToRest.field-0.0) (run c.args.hub.now.scenario c.args.turns c.args.moves) (from_turn c.args.turns c.args.moves c.run_greenlet.new.hub) c.run_turns.new.hub rest
+    let part = began u v c.args.turns c.args.moves c.args.hub.now.scenario c.in_ok-at.at _ c.args.hub.now c.start_body.new.hub c.run_greenlet.new.hub c.requires.prepared.first begun c.in_ok-cause.ensures.next c.in_ok-cause.ensures.given in
+    let rest = rests_on u v _ (run c.args.hub.now.scenario c.args.turns c.args.moves) (from_turn c.args.turns c.args.moves) c.run_greenlet.new.hub c.in-ToRest.is part in
+    let broken = ran_then u v w (Err c.in_err-run_turns-in-ToRest.field-0.0) (run c.args.hub.now.scenario c.args.turns c.args.moves) (from_turn c.args.turns c.args.moves c.run_greenlet.new.hub) c.run_turns.new.hub rest
     c.in_err-run_turns-in-ToRest.ensures.ran in
     search (rules, broken)
 
 pub returns-in_ok-run_turns-in-ToRest-clause-ran : goal.returns-in_ok-run_turns-in-ToRest-clause-ran
 returns-in_ok-run_turns-in-ToRest-clause-ran g c =
+    let u = outside g.W.World g.K.Sink c.args.world.now c.args.sink.now in
+    let v = outside g.W.World g.K.Sink c.run_greenlet.new.world c.run_greenlet.new.sink in
+    let w = outside g.W.World g.K.Sink c.run_turns.new.world c.run_turns.new.sink in
     let begun = without_arguments c.new.result c.args.hub.now c.start_body.new.hub c.in_ok-at.at c.new.ensures c.in_ok-at.ensures in
-    let part = began (outside g.W.World.waits (g.K.Sink.written c.args.sink.now) (g.K.Sink.handed c.args.sink.now) (g.W.World.meaning c.args.world.now) (g.W.World.stands_for c.args.world.now)) (outside g.W.World.waits (g.K.Sink.written c.run_greenlet.new.sink) (g.K.Sink.handed c.run_greenlet.new.sink) (g.W.World.meaning c.run_greenlet.new.world) (g.W.World.stands_for c.run_greenlet.new.world)) c.args.turns c.args.moves c.args.hub.now.scenario c.in_ok-at.at _ c.args.hub.now c.start_body.new.hub c.run_greenlet.new.hub c.requires.prepared.first begun c.in_ok-cause.ensures.next c.in_ok-cause.ensures.given in
-    let rest = rests_on (outside g.W.World.waits (g.K.Sink.written c.args.sink.now) (g.K.Sink.handed c.args.sink.now) (g.W.World.meaning c.args.world.now) (g.W.World.stands_for c.args.world.now)) (outside g.W.World.waits (g.K.Sink.written c.run_greenlet.new.sink) (g.K.Sink.handed c.run_greenlet.new.sink) (g.W.World.meaning c.run_greenlet.new.world) (g.W.World.stands_for c.run_greenlet.new.world)) _ (run c.args.hub.now.scenario c.args.turns c.args.moves) (from_turn c.args.turns c.args.moves) c.run_greenlet.new.hub c.in-ToRest.is part in
-    ran_then (outside g.W.World.waits (g.K.Sink.written c.args.sink.now) (g.K.Sink.handed c.args.sink.now) (g.W.World.meaning c.args.world.now) (g.W.World.stands_for c.args.world.now)) (outside g.W.World.waits (g.K.Sink.written c.run_greenlet.new.sink) (g.K.Sink.handed c.run_greenlet.new.sink) (g.W.World.meaning c.run_greenlet.new.world) (g.W.World.stands_for c.run_greenlet.new.world)) (outside g.W.World.waits (g.K.Sink.written c.run_turns.new.sink) (g.K.Sink.handed c.run_turns.new.sink) (g.W.World.meaning c.run_turns.new.world) (g.W.World.stands_for c.run_turns.new.world)) (Ok c.in_ok-run_turns-in-ToRest.field-0) (run c.args.hub.now.scenario c.args.turns c.args.moves) (from_turn c.args.turns c.args.moves c.run_greenlet.new.hub) c.run_turns.new.hub rest
+    let part = began u v c.args.turns c.args.moves c.args.hub.now.scenario c.in_ok-at.at _ c.args.hub.now c.start_body.new.hub c.run_greenlet.new.hub c.requires.prepared.first begun c.in_ok-cause.ensures.next c.in_ok-cause.ensures.given in
+    let rest = rests_on u v _ (run c.args.hub.now.scenario c.args.turns c.args.moves) (from_turn c.args.turns c.args.moves) c.run_greenlet.new.hub c.in-ToRest.is part in
+    ran_then u v w (Ok c.in_ok-run_turns-in-ToRest.field-0) (run c.args.hub.now.scenario c.args.turns c.args.moves) (from_turn c.args.turns c.args.moves c.run_greenlet.new.hub) c.run_turns.new.hub rest
     c.in_ok-run_turns-in-ToRest.ensures.ran

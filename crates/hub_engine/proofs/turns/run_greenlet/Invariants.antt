@@ -8,8 +8,8 @@ use Rattle.hub_engine.proofs.turns.run_greenlet.Given as goal
 
 abbrev pub invariant-loop-text : goal.invariant-loop-text
 invariant-loop-text g l =
-    IsPassing (outside g.W.World.waits (g.K.Sink.written l.initial.sink) (g.K.Sink.handed l.initial.sink) (g.W.World.meaning l.initial.world) (g.W.World.stands_for l.initial.world))
-    (outside g.W.World.waits (g.K.Sink.written l.sink) (g.K.Sink.handed l.sink) (g.W.World.meaning l.world) (g.W.World.stands_for l.world))
+    IsPassing (outside g.W.World g.K.Sink l.initial.world l.initial.sink)
+    (outside g.W.World g.K.Sink l.world l.sink)
     (runs l.moves (next_at l.fn.at l.initial.hub)) (runs l.left (next_at l.at l.hub))
     × (g.K.Sink.faults l.sink ≡ g.K.Sink.faults l.initial.sink) × IsTiedAt (g.W.World.meaning l.world) (next_at l.at l.hub)
 

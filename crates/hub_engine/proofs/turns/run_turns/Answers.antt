@@ -13,14 +13,14 @@ loop-left-init g c = (running _ _, refl, c.requires.tied)
 
 pub returns-in_err-round-clause-ran : goal.returns-in_err-round-clause-ran
 returns-in_err-round-clause-ran g c =
-    let broken = next_round (outside g.W.World.waits (g.K.Sink.written c.args.sink.now) (g.K.Sink.handed c.args.sink.now) (g.W.World.meaning c.args.world.now) (g.W.World.stands_for c.args.world.now)) (outside g.W.World.waits (g.K.Sink.written c.loop-left.sink) (g.K.Sink.handed c.loop-left.sink) (g.W.World.meaning c.loop-left.world) (g.W.World.stands_for c.loop-left.world)) (outside g.W.World.waits (g.K.Sink.written c.round.new.sink) (g.K.Sink.handed c.round.new.sink) (g.W.World.meaning c.round.new.world) (g.W.World.stands_for c.round.new.world)) c.loop-left.left c.args.moves (Err c.in_err-round.field-0.0) (from_turn c.args.turns c.args.moves c.args.hub.now)
+    let broken = next_round (outside g.W.World g.K.Sink c.args.world.now c.args.sink.now) (outside g.W.World g.K.Sink c.loop-left.world c.loop-left.sink) (outside g.W.World g.K.Sink c.round.new.world c.round.new.sink) c.loop-left.left c.args.moves (Err c.in_err-round.field-0.0) (from_turn c.args.turns c.args.moves c.args.hub.now)
     c.loop-left.hub c.round.new.hub c.loop-left-test.true c.loop-left.invariant.0 c.in_err-round.ensures.ran in
     search (rules, broken)
 
 pub loop-left-preserved : goal.loop-left-preserved
 loop-left-preserved g c = (
-  rests_on (outside g.W.World.waits (g.K.Sink.written c.args.sink.now) (g.K.Sink.handed c.args.sink.now) (g.W.World.meaning c.args.world.now) (g.W.World.stands_for c.args.world.now)) (outside g.W.World.waits (g.K.Sink.written c.round.new.sink) (g.K.Sink.handed c.round.new.sink) (g.W.World.meaning c.round.new.world) (g.W.World.stands_for c.round.new.world)) c.in_ok-round.field-0 (from_turn c.args.turns c.args.moves c.args.hub.now) (from_turn (c.loop-left.left - 1) c.args.moves) c.round.new.hub c.in-ToRest.is
-      (next_round (outside g.W.World.waits (g.K.Sink.written c.args.sink.now) (g.K.Sink.handed c.args.sink.now) (g.W.World.meaning c.args.world.now) (g.W.World.stands_for c.args.world.now)) (outside g.W.World.waits (g.K.Sink.written c.loop-left.sink) (g.K.Sink.handed c.loop-left.sink) (g.W.World.meaning c.loop-left.world) (g.W.World.stands_for c.loop-left.world)) (outside g.W.World.waits (g.K.Sink.written c.round.new.sink) (g.K.Sink.handed c.round.new.sink) (g.W.World.meaning c.round.new.world) (g.W.World.stands_for c.round.new.world)) c.loop-left.left c.args.moves (Ok c.in_ok-round.field-0) (from_turn c.args.turns c.args.moves c.args.hub.now)
+  rests_on (outside g.W.World g.K.Sink c.args.world.now c.args.sink.now) (outside g.W.World g.K.Sink c.round.new.world c.round.new.sink) c.in_ok-round.field-0 (from_turn c.args.turns c.args.moves c.args.hub.now) (from_turn (c.loop-left.left - 1) c.args.moves) c.round.new.hub c.in-ToRest.is
+      (next_round (outside g.W.World g.K.Sink c.args.world.now c.args.sink.now) (outside g.W.World g.K.Sink c.loop-left.world c.loop-left.sink) (outside g.W.World g.K.Sink c.round.new.world c.round.new.sink) c.loop-left.left c.args.moves (Ok c.in_ok-round.field-0) (from_turn c.args.turns c.args.moves c.args.hub.now)
       c.loop-left.hub c.round.new.hub c.loop-left-test.true c.loop-left.invariant.0 c.in_ok-round.ensures.ran),
   c.in_ok-round.ensures.counts.tells ∙ c.loop-left.invariant.1,
   tied_after _ _ c.round.new.hub c.in-ToRest.is c.in_ok-round.ensures.tied,
@@ -28,26 +28,40 @@ loop-left-preserved g c = (
 
 pub returns-in_err-stop-in-ToAnEnd-clause-ran : goal.returns-in_err-stop-in-ToAnEnd-clause-ran
 returns-in_err-stop-in-ToAnEnd-clause-ran g c =
-    let stop = stops_at (outside g.W.World.waits (g.K.Sink.written c.args.sink.now) (g.K.Sink.handed c.args.sink.now) (g.W.World.meaning c.args.world.now) (g.W.World.stands_for c.args.world.now)) (outside g.W.World.waits (g.K.Sink.written c.round.new.sink) (g.K.Sink.handed c.round.new.sink) (g.W.World.meaning c.round.new.world) (g.W.World.stands_for c.round.new.world)) c.in_ok-round.field-0 c.in-ToAnEnd.cause (from_turn c.args.turns c.args.moves c.args.hub.now) (from_turn (c.loop-left.left - 1) c.args.moves) c.round.new.hub c.in-ToAnEnd.is
-    (next_round (outside g.W.World.waits (g.K.Sink.written c.args.sink.now) (g.K.Sink.handed c.args.sink.now) (g.W.World.meaning c.args.world.now) (g.W.World.stands_for c.args.world.now)) (outside g.W.World.waits (g.K.Sink.written c.loop-left.sink) (g.K.Sink.handed c.loop-left.sink) (g.W.World.meaning c.loop-left.world) (g.W.World.stands_for c.loop-left.world)) (outside g.W.World.waits (g.K.Sink.written c.round.new.sink) (g.K.Sink.handed c.round.new.sink) (g.W.World.meaning c.round.new.world) (g.W.World.stands_for c.round.new.world)) c.loop-left.left c.args.moves (Ok c.in_ok-round.field-0) (from_turn c.args.turns c.args.moves c.args.hub.now)
+    let u = outside g.W.World g.K.Sink c.args.world.now c.args.sink.now in
+    let v = outside g.W.World g.K.Sink c.round.new.world c.round.new.sink in
+    let w = outside g.W.World g.K.Sink c.loop-left.world c.loop-left.sink in
+    let x = outside g.W.World g.K.Sink c.round.new.world c.stop.new.sink in
+    let stop = stops_at u v c.in_ok-round.field-0 c.in-ToAnEnd.cause (from_turn c.args.turns c.args.moves c.args.hub.now) (from_turn (c.loop-left.left - 1) c.args.moves) c.round.new.hub c.in-ToAnEnd.is
+    (next_round u w v c.loop-left.left c.args.moves (Ok c.in_ok-round.field-0) (from_turn c.args.turns c.args.moves c.args.hub.now)
     c.loop-left.hub c.round.new.hub c.loop-left-test.true c.loop-left.invariant.0 c.in_ok-round.ensures.ran) in
-    let broken = stop_broken (outside g.W.World.waits (g.K.Sink.written c.args.sink.now) (g.K.Sink.handed c.args.sink.now) (g.W.World.meaning c.args.world.now) (g.W.World.stands_for c.args.world.now)) (outside g.W.World.waits (g.K.Sink.written c.round.new.sink) (g.K.Sink.handed c.round.new.sink) (g.W.World.meaning c.round.new.world) (g.W.World.stands_for c.round.new.world)) (outside g.W.World.waits (g.K.Sink.written c.stop.new.sink) (g.K.Sink.handed c.stop.new.sink) (g.W.World.meaning c.round.new.world) (g.W.World.stands_for c.round.new.world)) (from_turn c.args.turns c.args.moves c.args.hub.now) c.in-ToAnEnd.cause c.round.new.hub stop c.in_err-stop-in-ToAnEnd.ensures.written (c.stop.ensures.out g.W.World.waits) (done_nothing (outside g.W.World.waits (g.K.Sink.written c.round.new.sink) (g.K.Sink.handed c.round.new.sink) (g.W.World.meaning c.round.new.world) (g.W.World.stands_for c.round.new.world))) in
+    let broken = stop_broken u v x (from_turn c.args.turns c.args.moves c.args.hub.now) c.in-ToAnEnd.cause c.round.new.hub stop c.in_err-stop-in-ToAnEnd.ensures.written (c.stop.ensures.out g.W.World.waits) (done_nothing v) in
     search (rules, broken)
 
 pub returns-in-ToAnEnd-clause-ran : goal.returns-in-ToAnEnd-clause-ran
 returns-in-ToAnEnd-clause-ran g c =
-    let stop = stops_at (outside g.W.World.waits (g.K.Sink.written c.args.sink.now) (g.K.Sink.handed c.args.sink.now) (g.W.World.meaning c.args.world.now) (g.W.World.stands_for c.args.world.now)) (outside g.W.World.waits (g.K.Sink.written c.round.new.sink) (g.K.Sink.handed c.round.new.sink) (g.W.World.meaning c.round.new.world) (g.W.World.stands_for c.round.new.world)) c.in_ok-round.field-0 c.in-ToAnEnd.cause (from_turn c.args.turns c.args.moves c.args.hub.now) (from_turn (c.loop-left.left - 1) c.args.moves) c.round.new.hub c.in-ToAnEnd.is
-    (next_round (outside g.W.World.waits (g.K.Sink.written c.args.sink.now) (g.K.Sink.handed c.args.sink.now) (g.W.World.meaning c.args.world.now) (g.W.World.stands_for c.args.world.now)) (outside g.W.World.waits (g.K.Sink.written c.loop-left.sink) (g.K.Sink.handed c.loop-left.sink) (g.W.World.meaning c.loop-left.world) (g.W.World.stands_for c.loop-left.world)) (outside g.W.World.waits (g.K.Sink.written c.round.new.sink) (g.K.Sink.handed c.round.new.sink) (g.W.World.meaning c.round.new.world) (g.W.World.stands_for c.round.new.world)) c.loop-left.left c.args.moves (Ok c.in_ok-round.field-0) (from_turn c.args.turns c.args.moves c.args.hub.now)
+    let u = outside g.W.World g.K.Sink c.args.world.now c.args.sink.now in
+    let v = outside g.W.World g.K.Sink c.round.new.world c.round.new.sink in
+    let w = outside g.W.World g.K.Sink c.loop-left.world c.loop-left.sink in
+    let x = outside g.W.World g.K.Sink c.round.new.world c.stop.new.sink in
+    let stop = stops_at u v c.in_ok-round.field-0 c.in-ToAnEnd.cause (from_turn c.args.turns c.args.moves c.args.hub.now) (from_turn (c.loop-left.left - 1) c.args.moves) c.round.new.hub c.in-ToAnEnd.is
+    (next_round u w v c.loop-left.left c.args.moves (Ok c.in_ok-round.field-0) (from_turn c.args.turns c.args.moves c.args.hub.now)
     c.loop-left.hub c.round.new.hub c.loop-left-test.true c.loop-left.invariant.0 c.in_ok-round.ensures.ran) in
-    stopped_on (outside g.W.World.waits (g.K.Sink.written c.args.sink.now) (g.K.Sink.handed c.args.sink.now) (g.W.World.meaning c.args.world.now) (g.W.World.stands_for c.args.world.now)) (outside g.W.World.waits (g.K.Sink.written c.round.new.sink) (g.K.Sink.handed c.round.new.sink) (g.W.World.meaning c.round.new.world) (g.W.World.stands_for c.round.new.world)) (outside g.W.World.waits (g.K.Sink.written c.stop.new.sink) (g.K.Sink.handed c.stop.new.sink) (g.W.World.meaning c.round.new.world) (g.W.World.stands_for c.round.new.world)) (from_turn c.args.turns c.args.moves c.args.hub.now) c.in-ToAnEnd.cause _ c.round.new.hub stop c.in_ok-stop-in-ToAnEnd.ensures.written (c.stop.ensures.out g.W.World.waits) (done_nothing (outside g.W.World.waits (g.K.Sink.written c.round.new.sink) (g.K.Sink.handed c.round.new.sink) (g.W.World.meaning c.round.new.world) (g.W.World.stands_for c.round.new.world))) c.in_ok-stop-in-ToAnEnd.ensures.end
+    stopped_on u v x (from_turn c.args.turns c.args.moves c.args.hub.now) c.in-ToAnEnd.cause _ c.round.new.hub stop c.in_ok-stop-in-ToAnEnd.ensures.written (c.stop.ensures.out g.W.World.waits) (done_nothing v) c.in_ok-stop-in-ToAnEnd.ensures.end
 
 pub returns-in_err-stop-clause-ran : goal.returns-in_err-stop-clause-ran
 returns-in_err-stop-clause-ran g c =
-    let stop = out_of_turns (outside g.W.World.waits (g.K.Sink.written c.args.sink.now) (g.K.Sink.handed c.args.sink.now) (g.W.World.meaning c.args.world.now) (g.W.World.stands_for c.args.world.now)) (outside g.W.World.waits (g.K.Sink.written c.loop-left.sink) (g.K.Sink.handed c.loop-left.sink) (g.W.World.meaning c.loop-left.world) (g.W.World.stands_for c.loop-left.world)) c.loop-left.left c.args.moves (from_turn c.args.turns c.args.moves c.args.hub.now) c.loop-left.hub c.loop-left-test.false c.loop-left.invariant.0 in
-    let broken = stop_broken (outside g.W.World.waits (g.K.Sink.written c.args.sink.now) (g.K.Sink.handed c.args.sink.now) (g.W.World.meaning c.args.world.now) (g.W.World.stands_for c.args.world.now)) (outside g.W.World.waits (g.K.Sink.written c.loop-left.sink) (g.K.Sink.handed c.loop-left.sink) (g.W.World.meaning c.loop-left.world) (g.W.World.stands_for c.loop-left.world)) (outside g.W.World.waits (g.K.Sink.written c.stop-2.new.sink) (g.K.Sink.handed c.stop-2.new.sink) (g.W.World.meaning c.loop-left.world) (g.W.World.stands_for c.loop-left.world)) (from_turn c.args.turns c.args.moves c.args.hub.now) StopCause.NoTurns c.loop-left.hub stop c.in_err-stop.ensures.written (c.stop-2.ensures.out g.W.World.waits) (done_nothing (outside g.W.World.waits (g.K.Sink.written c.loop-left.sink) (g.K.Sink.handed c.loop-left.sink) (g.W.World.meaning c.loop-left.world) (g.W.World.stands_for c.loop-left.world))) in
+    let u = outside g.W.World g.K.Sink c.args.world.now c.args.sink.now in
+    let v = outside g.W.World g.K.Sink c.loop-left.world c.loop-left.sink in
+    let w = outside g.W.World g.K.Sink c.loop-left.world c.stop-2.new.sink in
+    let stop = out_of_turns u v c.loop-left.left c.args.moves (from_turn c.args.turns c.args.moves c.args.hub.now) c.loop-left.hub c.loop-left-test.false c.loop-left.invariant.0 in
+    let broken = stop_broken u v w (from_turn c.args.turns c.args.moves c.args.hub.now) StopCause.NoTurns c.loop-left.hub stop c.in_err-stop.ensures.written (c.stop-2.ensures.out g.W.World.waits) (done_nothing v) in
     search (rules, broken)
 
 pub returns-clause-ran : goal.returns-clause-ran
 returns-clause-ran g c =
-    let stop = out_of_turns (outside g.W.World.waits (g.K.Sink.written c.args.sink.now) (g.K.Sink.handed c.args.sink.now) (g.W.World.meaning c.args.world.now) (g.W.World.stands_for c.args.world.now)) (outside g.W.World.waits (g.K.Sink.written c.loop-left.sink) (g.K.Sink.handed c.loop-left.sink) (g.W.World.meaning c.loop-left.world) (g.W.World.stands_for c.loop-left.world)) c.loop-left.left c.args.moves (from_turn c.args.turns c.args.moves c.args.hub.now) c.loop-left.hub c.loop-left-test.false c.loop-left.invariant.0 in
-    stopped_on (outside g.W.World.waits (g.K.Sink.written c.args.sink.now) (g.K.Sink.handed c.args.sink.now) (g.W.World.meaning c.args.world.now) (g.W.World.stands_for c.args.world.now)) (outside g.W.World.waits (g.K.Sink.written c.loop-left.sink) (g.K.Sink.handed c.loop-left.sink) (g.W.World.meaning c.loop-left.world) (g.W.World.stands_for c.loop-left.world)) (outside g.W.World.waits (g.K.Sink.written c.stop-2.new.sink) (g.K.Sink.handed c.stop-2.new.sink) (g.W.World.meaning c.loop-left.world) (g.W.World.stands_for c.loop-left.world)) (from_turn c.args.turns c.args.moves c.args.hub.now) StopCause.NoTurns _ c.loop-left.hub stop c.in_ok-stop.ensures.written (c.stop-2.ensures.out g.W.World.waits) (done_nothing (outside g.W.World.waits (g.K.Sink.written c.loop-left.sink) (g.K.Sink.handed c.loop-left.sink) (g.W.World.meaning c.loop-left.world) (g.W.World.stands_for c.loop-left.world))) c.in_ok-stop.ensures.end
+    let u = outside g.W.World g.K.Sink c.args.world.now c.args.sink.now in
+    let v = outside g.W.World g.K.Sink c.loop-left.world c.loop-left.sink in
+    let w = outside g.W.World g.K.Sink c.loop-left.world c.stop-2.new.sink in
+    let stop = out_of_turns u v c.loop-left.left c.args.moves (from_turn c.args.turns c.args.moves c.args.hub.now) c.loop-left.hub c.loop-left-test.false c.loop-left.invariant.0 in
+    stopped_on u v w (from_turn c.args.turns c.args.moves c.args.hub.now) StopCause.NoTurns _ c.loop-left.hub stop c.in_ok-stop.ensures.written (c.stop-2.ensures.out g.W.World.waits) (done_nothing v) c.in_ok-stop.ensures.end

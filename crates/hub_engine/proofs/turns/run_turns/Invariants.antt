@@ -6,8 +6,8 @@ use Rattle.hub_engine.proofs.turns.run_turns.Given as goal
 
 abbrev pub invariant-loop-left : goal.invariant-loop-left
 invariant-loop-left g l =
-    IsRunning (outside g.W.World.waits (g.K.Sink.written l.initial.sink) (g.K.Sink.handed l.initial.sink) (g.W.World.meaning l.initial.world) (g.W.World.stands_for l.initial.world))
-    (outside g.W.World.waits (g.K.Sink.written l.sink) (g.K.Sink.handed l.sink) (g.W.World.meaning l.world) (g.W.World.stands_for l.world))
+    IsRunning (outside g.W.World g.K.Sink l.initial.world l.initial.sink)
+    (outside g.W.World g.K.Sink l.world l.sink)
     (from_turn l.turns l.moves l.initial.hub) (from_turn l.left l.moves l.hub)
     × (g.K.Sink.faults l.sink ≡ g.K.Sink.faults l.initial.sink) × IsTied (g.W.World.meaning l.world) l.hub
 

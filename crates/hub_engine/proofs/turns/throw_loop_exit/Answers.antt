@@ -7,7 +7,7 @@ use Rattle.hub_engine.proofs.turns.throw_loop_exit.Goals as goal
 
 pub returns-in_err-block-clause-ran : goal.returns-in_err-block-clause-ran
 returns-in_err-block-clause-ran g c = λ go.
-    let broken = broken_first (outside g.W.World.waits (g.K.Sink.written c.args.sink.now) (g.K.Sink.handed c.args.sink.now) (g.W.World.meaning c.args.world.now) (g.W.World.stands_for c.args.world.now)) (λ later. after_question go c.args.budget None (Source.Given later) c.args.hub.now) in
+    let broken = broken_first (outside g.W.World g.K.Sink c.args.world.now c.args.sink.now) (λ later. after_question go c.args.budget None (Source.Given later) c.args.hub.now) in
     search (rules, broken)
 
 pub throw_into-requires : goal.throw_into-requires
@@ -15,7 +15,7 @@ throw_into-requires g c = record { declared = declared_blocked _ c.args.hub.now 
 
 pub returns-in_err-at-clause-ran : goal.returns-in_err-at-clause-ran
 returns-in_err-at-clause-ran g c = λ go.
-    let broken = broken_first (outside g.W.World.waits (g.K.Sink.written c.args.sink.now) (g.K.Sink.handed c.args.sink.now) (g.W.World.meaning c.args.world.now) (g.W.World.stands_for c.args.world.now)) (λ later. after_question go c.args.budget None (Source.Given later) c.args.hub.now) in
+    let broken = broken_first (outside g.W.World g.K.Sink c.args.world.now c.args.sink.now) (λ later. after_question go c.args.budget None (Source.Given later) c.args.hub.now) in
     search (rules, broken)
 
 pub run_greenlet-requires : goal.run_greenlet-requires
@@ -24,12 +24,12 @@ run_greenlet-requires g c = record { tied = tied_exit _ c.args.hub.now c.block.n
 pub returns-in_err-run_greenlet-clause-ran : goal.returns-in_err-run_greenlet-clause-ran
 returns-in_err-run_greenlet-clause-ran g c = λ go.
     let left : c.saturating_sub-left.result ≡ c.args.budget - c.block.new.self.moves = omega (arith, c.saturating_sub-left.ensures, c.moves.ensures) in
-    let broken = exit_broken_at (outside g.W.World.waits (g.K.Sink.written c.args.sink.now) (g.K.Sink.handed c.args.sink.now) (g.W.World.meaning c.args.world.now) (g.W.World.stands_for c.args.world.now)) (outside g.W.World.waits (g.K.Sink.written c.run_greenlet.new.sink) (g.K.Sink.handed c.run_greenlet.new.sink) (g.W.World.meaning c.run_greenlet.new.world) (g.W.World.stands_for c.run_greenlet.new.world)) go c.args.budget c.saturating_sub-left.result c.in_ok-at.at c.args.hub.now c.block.new.self c.throw_into.new.hub
+    let broken = exit_broken_at (outside g.W.World g.K.Sink c.args.world.now c.args.sink.now) (outside g.W.World g.K.Sink c.run_greenlet.new.world c.run_greenlet.new.sink) go c.args.budget c.saturating_sub-left.result c.in_ok-at.at c.args.hub.now c.block.new.self c.throw_into.new.hub
     c.in_ok-block.ensures left c.in_ok-at.ensures c.in_err-run_greenlet.ensures.given in
     search (rules, broken)
 
 pub returns-clause-ran : goal.returns-clause-ran
 returns-clause-ran g c = λ go.
     let left : c.saturating_sub-left.result ≡ c.args.budget - c.block.new.self.moves = omega (arith, c.saturating_sub-left.ensures, c.moves.ensures) in
-    exited_at (outside g.W.World.waits (g.K.Sink.written c.args.sink.now) (g.K.Sink.handed c.args.sink.now) (g.W.World.meaning c.args.world.now) (g.W.World.stands_for c.args.world.now)) (outside g.W.World.waits (g.K.Sink.written c.run_greenlet.new.sink) (g.K.Sink.handed c.run_greenlet.new.sink) (g.W.World.meaning c.run_greenlet.new.world) (g.W.World.stands_for c.run_greenlet.new.world)) go c.args.budget c.saturating_sub-left.result c.in_ok-at.at _ c.args.hub.now c.block.new.self c.throw_into.new.hub c.run_greenlet.new.hub
+    exited_at (outside g.W.World g.K.Sink c.args.world.now c.args.sink.now) (outside g.W.World g.K.Sink c.run_greenlet.new.world c.run_greenlet.new.sink) go c.args.budget c.saturating_sub-left.result c.in_ok-at.at _ c.args.hub.now c.block.new.self c.throw_into.new.hub c.run_greenlet.new.hub
     c.in_ok-block.ensures left c.in_ok-at.ensures c.in_ok-run_greenlet.ensures.next c.in_ok-run_greenlet.ensures.given

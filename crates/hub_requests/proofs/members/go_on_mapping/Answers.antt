@@ -8,12 +8,12 @@ use Rattle.hub_requests.proofs.members.go_on_mapping.Goals as goal
 
 pub map_elements-requires-clause-may_make : goal.map_elements-requires-clause-may_make
 map_elements-requires-clause-may_make c =
-    sound_member c.args.o c.args.function c.args.g c.in_ok-arguments.arguments c.args.hub.now c.add_member.new.hub c.requires.may_make c.in_ok-member.ensures.added
+    sound_member c.args.mapping.crew c.args.mapping.function c.args.g c.in_ok-arguments.arguments c.args.hub.now c.add_member.new.hub c.requires.may_make c.in_ok-member.ensures.added
 
 pub map_elements-requires-clause-named : goal.map_elements-requires-clause-named
-map_elements-requires-clause-named c = subst (λ (x : State). IsObject x.scenario c.args.o) (sym c.in_ok-member.ensures.added) c.requires.named
+map_elements-requires-clause-named c = subst (λ (x : State). IsObject x.scenario c.args.mapping.crew) (sym c.in_ok-member.ensures.added) c.requires.named
 
 pub map_elements-requires-clause-short : goal.map_elements-requires-clause-short
 map_elements-requires-clause-short c =
-    few_after c.args.elements c.after_first-rest.result.now c.args.made c.push.new.self c.in_ok-member.member c.in_ok-push.ensures.ok
+    few_after c.args.elements c.after_first-rest.result.now c.args.mapping.made c.push.new.self c.in_ok-member.member c.in_ok-push.ensures.ok
     (c.after_first-rest.ensures.few ∙ ap (λ (xs : List Scalar). length xs) c.as_slice-2.ensures) c.requires.short

@@ -9,14 +9,14 @@ use Rattle.hub_requests.proofs.members.map_elements.Goals as goal
 pub returns-then-not-free : goal.returns-then-not-free
 returns-then-not-free c =
     let none : c.has_place-free.result ≡ false = search (rules, c.if-not-free.true) in
-    map_parks c.args.elements.now c.in_ok-rest.rest c.loop-at.at Scalar.Nothing c.args.g c.args.o c.args.function c.loop-at.made c.has_place-free.result c.name_of_object-name.result c.loop-at.hub c.park.new.hub _ (omega arith)
-    c.loop-at.invariant.same c.has_place-free.ensures none c.in_ok-rest.ensures.rest c.name_of_object-name.ensures c.in_ok-park.ensures
+    map_parks c.args.elements.now c.in_ok-rest.rest c.loop-at.at Scalar.Nothing c.args.g c.args.mapping.crew c.args.mapping.function c.loop-at.made c.has_place-free.result c.loop-at.hub c.park.new.hub _ (omega arith)
+    c.loop-at.invariant.same c.has_place-free.ensures none c.in_ok-rest.ensures.rest c.in_ok-park.ensures
 
 pub returns-then-not-left : goal.returns-then-not-left
 returns-then-not-left c =
     let some : c.has_place-free.result ≡ true = search (rules, c.if-not-free.false) in
     let none : c.has_greenlet_left-left.result ≡ false = search (rules, c.if-not-left.true) in
-    map_stops c.args.elements.now c.loop-at.at Scalar.Nothing c.args.g c.args.o c.args.function c.loop-at.made c.has_place-free.result c.has_greenlet_left-left.result c.loop-at.hub _ (omega arith)
+    map_stops c.args.elements.now c.loop-at.at Scalar.Nothing c.args.g c.args.mapping.crew c.args.mapping.function c.loop-at.made c.has_place-free.result c.has_greenlet_left-left.result c.loop-at.hub _ (omega arith)
     c.loop-at.invariant.same c.has_place-free.ensures some c.has_greenlet_left-left.ensures none
 
 pub loop-at-preserved : goal.loop-at-preserved
@@ -24,11 +24,11 @@ loop-at-preserved c =
     let some : c.has_place-free.result ≡ true = search (rules, c.if-not-free.false) in
     let more : c.has_greenlet_left-left.result ≡ true = search (rules, c.if-not-left.false) in
     record {
-      same = map_next c.args.elements.now c.loop-at.at _ c.args.g c.args.o c.args.function c.in_ok-member.member c.loop-at.made c.push.new.self c.in_ok-arguments.arguments c.has_place-free.result
+      same = map_next c.args.elements.now c.loop-at.at _ c.args.g c.args.mapping.crew c.args.mapping.function c.in_ok-member.member c.loop-at.made c.push.new.self c.in_ok-arguments.arguments c.has_place-free.result
           c.has_greenlet_left-left.result c.loop-at.hub c.add_member.new.hub _ (omega arith) c.loop-at.invariant.same c.has_place-free.ensures some c.has_greenlet_left-left.ensures more
           c.in_ok-arguments.ensures c.in_ok-member.ensures.number c.in_ok-member.ensures.added c.in_ok-push.ensures.ok;
-      sound = sound_member c.args.o c.args.function c.args.g c.in_ok-arguments.arguments c.loop-at.hub c.add_member.new.hub c.loop-at.invariant.sound c.in_ok-member.ensures.added;
-      named = subst (λ (x : State). IsObject x.scenario c.args.o) (sym c.in_ok-member.ensures.added) c.loop-at.invariant.named;
+      sound = sound_member c.args.mapping.crew c.args.mapping.function c.args.g c.in_ok-arguments.arguments c.loop-at.hub c.add_member.new.hub c.loop-at.invariant.sound c.in_ok-member.ensures.added;
+      named = subst (λ (x : State). IsObject x.scenario c.args.mapping.crew) (sym c.in_ok-member.ensures.added) c.loop-at.invariant.named;
       within = omega arith;
       few = few_more c.args.elements.now c.loop-at.made c.push.new.self c.in_ok-member.member c.loop-at.at c.in_ok-push.ensures.ok c.loop-at.invariant.few;
     }

@@ -7,9 +7,9 @@ use Rattle.gv_values.specs.declared.limits.TheConstants.{MOST_ELEMENTS}
 
 abbrev pub invariant-loop-at : goal.invariant-loop-at
 invariant-loop-at l = record {
-  same : maps l.elements l.g l.o l.function l.initial.made l.initial.hub ≡ maps (drop l.at l.elements) l.g l.o l.function l.made l.hub;
+  same : maps l.elements l.g l.crew l.function l.initial.made l.initial.hub ≡ maps (drop l.at l.elements) l.g l.crew l.function l.made l.hub;
   sound : MayMake l.g l.hub;
-  named : IsObject l.hub.scenario l.o;
+  named : IsObject l.hub.scenario l.crew;
   within : l.at ≤ length l.elements;
   few : length l.elements + length l.made ≤ MOST_ELEMENTS + l.at;
 }

@@ -3,11 +3,12 @@ use Rattle.machine.specs.declared.items.Item.{Item}
 use Rattle.held_items.specs.Entries.{index}
 use Rattle.held_items.specs.Waits.{is_for, waits_for}
 use Rattle.held_items.proofs.Dropping.{behind}
+use Rattle.hub_state.specs.Over.{whole}
 use Rattle.hub_state.proofs.Looking.{IsLooking}
 use Rattle.hub_state.proofs.looks.look_at_target.Given as goal
 
 abbrev pub invariant-loop-at : goal.invariant-loop-at
-invariant-loop-at l = IsLooking (is_for l.fn.target) (λ (passed : List Item). ⊤) l.hub l.held.entries l.fn.found l.found l.at
+invariant-loop-at l = IsLooking (is_for l.fn.target) (λ (passed : List Item). ⊤) (whole l.base l.held) l.held.entries l.fn.found l.found l.at
 
 abbrev pub decreases-loop-at : goal.decreases-loop-at
 decreases-loop-at l = behind l.at (index (waits_for l.fn.target) l.held.entries)

@@ -1,11 +1,12 @@
-use Rattle.std.proofs.Common.{sym, ◌∙◌, arith}
+use Rattle.std.proofs.Common.{refl, sym, ◌∙◌, arith}
 use Rattle.held_items.specs.Waits.{waits_in_line}
+use Rattle.hub_state.specs.Over.{whole}
 use Rattle.hub_state.proofs.LineBegins.{back_at, back_from, back_on, passes_back, passes_none}
 use Rattle.hub_state.proofs.looks.walk_back.Goals as goal
 
 pub loop-at-init : goal.loop-at-init
 loop-at-init c =
-    back_from c.args.kind c.args.o c.args.held.now.next_since c.numbered_in-passed.result c.args.hub.now c.args.held.now.entries c.args.last c.len-ascending.ensures.differ c.len-ascending.ensures.ascends c.requires.same
+    back_from c.args.kind c.args.o c.args.held.now.next_since c.numbered_in-passed.result (whole c.args.base.now c.args.held.now) c.args.held.now.entries c.args.last c.len-ascending.ensures.differ c.len-ascending.ensures.ascends refl
     c.requires.front c.numbered_in-passed.ensures c.requires.last
 
 pub overflow_sub-passed : goal.overflow_sub-passed
@@ -15,8 +16,8 @@ overflow_sub-passed c =
 
 pub returns-then-holds_in_line : goal.returns-then-holds_in_line
 returns-then-holds_in_line c =
-    passes_back c.args.kind c.args.o c.args.held.now.next_since c.loop-at.passed c.args.hub.now c.args.held.now.entries c.loop-at.at c.next_waiting.result c.in-Some.slot c.loop-at.invariant c.len-ascending.ensures.differ
-    c.len-ascending.ensures.ascends c.requires.same c.requires.front (back_at c.args.kind c.args.o c.args.held.now.entries c.loop-at.at c.loop-at.passed c.in-Some.slot c.loop-at.invariant c.in-Some.is)
+    passes_back c.args.kind c.args.o c.args.held.now.next_since c.loop-at.passed (whole c.args.base.now c.args.held.now) c.args.held.now.entries c.loop-at.at c.next_waiting.result c.in-Some.slot c.loop-at.invariant c.len-ascending.ensures.differ
+    c.len-ascending.ensures.ascends refl c.requires.front (back_at c.args.kind c.args.o c.args.held.now.entries c.loop-at.at c.loop-at.passed c.in-Some.slot c.loop-at.invariant c.in-Some.is)
     (sym c.holds_in_line.ensures ∙ c.if-holds_in_line.true) (c.next_waiting.ensures.in_line c.args.kind c.args.o)
 
 pub loop-at-preserved : goal.loop-at-preserved
@@ -30,4 +31,4 @@ loop-at-smaller c =
     omega (arith, n)
 
 pub returns : goal.returns
-returns c = passes_none (waits_in_line c.args.kind c.args.o) c.args.hub.now c.args.held.now.entries c.first_in_line.result c.first_in_line.ensures
+returns c = passes_none (waits_in_line c.args.kind c.args.o) (whole c.args.base.now c.args.held.now) c.args.held.now.entries c.first_in_line.result c.first_in_line.ensures

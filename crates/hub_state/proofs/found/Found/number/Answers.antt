@@ -28,7 +28,7 @@ returns c =
     let lost = c.self.inside.lost.items in
     let gained = c.sort.new.gained.items in
     record {
-      numbers = subst (λ (f : SeenFound). Numbers f (record { lost = lost; gained = gained }) c.args.held.now c.number_all.new.held) c.self.view_is (record {
+      numbers = subst (λ (f : SeenFound). Numbers f (record { lost = lost; gained = gained; room = c.self.inside.room }) c.args.held.now c.number_all.new.held) c.self.view_is (record {
         moved = c.sort.ensures.moved;
         sorted = c.sort.ensures.sorted;
         is = λ s.
@@ -36,5 +36,7 @@ returns c =
             ∙ ap (λ (ps : List (ℕ × ℕ)). gives_all (sinces_in ps) (with_held c.unnumber_all.new.held s)) c.deref-2.ensures.value
             ∙ ap (gives_all (sinces_in gained)) (c.unnumber_all.ensures.taken s ∙ ap (λ (ps : List (ℕ × ℕ)). takes_all (sinces_in ps) (with_held c.args.held.now s)) c.deref.ensures.value);
       });
+      room = ap (λ (f : SeenFound). f.room) c.self.view_is;
       err = tt;
+      spent = tt;
     }

@@ -15,7 +15,11 @@ invariant_of-self c =
     let v = c.touch_end.new.self in
     let u = c.touch.new.self in
     let grows = grows_on t v u (grows_is t v _ c.touch_end.ensures (grows_end true c.args.j t)) (grows_is v u _ c.touch.ensures (grows_touched (Some c.pool-pool.result) v)) in
-    hub_failed c.self.inside.held t u (state_of c.self.inside) c.change.new.self grows c.in_err-change.ensures.err c.self.invariant
+    record {
+      kept =
+          hub_failed c.self.inside.held t u (state_of c.self.inside) c.change.new.self grows c.in_err-change.ensures.err c.self.invariant.kept;
+      room = c.self.invariant.room;
+    }
 
 pub invariant_of-self-2 : goal.invariant_of-self-2
 invariant_of-self-2 c =
@@ -24,5 +28,9 @@ invariant_of-self-2 c =
     let there : job_at c.args.j s.jobs ≡ Some job =
     ap (job_at c.args.j) (sym c.deref.ensures.value) ∙ sym c.job_at.ensures ∙ ap option_copied c.in-Some.is in
     let came = subst (λ (found : Option JobState). came_by found c.args.j c.args.outcome s.jobs c.arrive_in.ensures.0 c.arrive_in.new.jobs.items) there c.arrive_in.ensures.1 in
-    hub_arrived c.args.j c.args.outcome job c.pool-pool.result c.self.inside.held c.self.inside.touched c.touch_end.new.self c.touch.new.self s c.change.new.self c.arrive_in.new.jobs.items
-    (ascending 0 _ _ c.len-ascending.ensures.ascends) there c.pool-pool.ensures c.touch_end.ensures c.touch.ensures c.in_ok-change.ensures.changed came.1 c.self.invariant
+    record {
+      kept =
+          hub_arrived c.args.j c.args.outcome job c.pool-pool.result c.self.inside.held c.self.inside.touched c.touch_end.new.self c.touch.new.self s c.change.new.self c.arrive_in.new.jobs.items
+          (ascending 0 _ _ c.len-ascending.ensures.ascends) there c.pool-pool.ensures c.touch_end.ensures c.touch.ensures c.in_ok-change.ensures.changed came.1 c.self.invariant.kept;
+      room = c.self.invariant.room;
+    }

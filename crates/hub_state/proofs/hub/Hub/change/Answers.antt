@@ -1,6 +1,7 @@
-use Rattle.std.proofs.Common.{Some}
+use Rattle.std.proofs.Common.{◌≡◌, ◌∙◌, ap, Some, None, if◌then◌else◌}
 use Rattle.hub_state.specs.HubParts.{state_of}
-use Rattle.hub_state.proofs.Keeping.{either_way, hub_changed, hub_failed}
+use Rattle.hub_state.specs.Touched.{with_touched}
+use Rattle.hub_state.proofs.Keeping.{either_way, hub_changed_if, hub_failed}
 use Rattle.hub_state.proofs.Touching.{grows_is, grows_touched}
 use Rattle.hub_state.proofs.UpToDate.{ascending}
 use Rattle.hub_state.proofs.hub.Hub.change.Goals as goal
@@ -12,5 +13,10 @@ invariant_of-self c =
     let t = c.self.inside.touched in
     let u = c.touch.new.self in
     let a = ascending 0 _ _ c.len-ascending.ensures.ascends in
-    either_way c.change.result _ _ _ (λ e. hub_changed c.args.o _ held t u s c.change.new.self a c.touch.ensures e c.self.invariant)
-    (λ e. hub_failed held t u s c.change.new.self (grows_is t u _ c.touch.ensures (grows_touched (Some c.args.o) t)) e c.self.invariant) c.change.ensures.changed c.change.ensures.err
+    let touched : u ≡ with_touched (if c.is_awaited.result then Some c.args.o else None) t = c.touch.ensures ∙ ap (λ o. with_touched o t) c.object_if.ensures in
+    record {
+      kept =
+          either_way c.change.result _ _ _ (λ e. hub_changed_if c.args.o _ c.is_awaited.result held t u s c.change.new.self a c.is_awaited.ensures touched e c.self.invariant.kept)
+          (λ e. hub_failed held t u s c.change.new.self (grows_is t u _ c.touch.ensures (grows_touched c.object_if.result t)) e c.self.invariant.kept) c.change.ensures.changed c.change.ensures.err;
+      room = c.self.invariant.room;
+    }

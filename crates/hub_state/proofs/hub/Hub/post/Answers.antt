@@ -10,12 +10,20 @@ pub invariant_of-self-in_err-change : goal.invariant_of-self-in_err-change
 invariant_of-self-in_err-change c =
     let t = c.self.inside.touched in
     let u = c.touch.new.self in
-    hub_unposted c.self.inside.held t u (state_of c.self.inside) c.change.new.self c.reserve.new.self.items c.reserve-3.new.self.items c.reserve-2.new.self.items
-    (grows_is t u _ c.touch.ensures (grows_touched (Some c.args.o) t)) c.in_err-change.ensures.err c.reserve.ensures.items c.self.invariant
+    record {
+      kept =
+          hub_unposted c.self.inside.held t u (state_of c.self.inside) c.change.new.self c.reserve.new.self.items c.reserve-3.new.self.items c.reserve-2.new.self.items
+          (grows_is t u _ c.touch.ensures (grows_touched (Some c.args.o) t)) c.in_err-change.ensures.err c.reserve.ensures.items c.self.invariant.kept;
+      room = c.self.invariant.room;
+    }
 
 pub invariant_of-self-2 : goal.invariant_of-self-2
 invariant_of-self-2 c =
     let s = state_of c.self.inside in
     let posted = c.push_reserved.ensures.items ∙ ap (λ (js : List JobState). js ++ c.new.result ∷ []) c.reserve.ensures.items ∙ ap (λ (job : JobState). s.jobs ++ job ∷ []) c.new.ensures in
-    hub_posted c.args.g c.args.o c.args.job c.args.takes c.self.inside.held c.self.inside.touched c.touch.new.self s c.change.new.self c.push_reserved.new.self.items c.push_reserved-3.new.self.items
-    c.push_reserved-2.new.self.items (ascending 0 _ _ c.len-ascending.ensures.ascends) c.touch.ensures c.in_ok-change.ensures.changed posted c.self.invariant
+    record {
+      kept =
+          hub_posted c.args.g c.args.o c.args.job c.args.takes c.self.inside.held c.self.inside.touched c.touch.new.self s c.change.new.self c.push_reserved.new.self.items c.push_reserved-3.new.self.items
+          c.push_reserved-2.new.self.items (ascending 0 _ _ c.len-ascending.ensures.ascends) c.touch.ensures c.in_ok-change.ensures.changed posted c.self.invariant.kept;
+      room = c.self.invariant.room;
+    }

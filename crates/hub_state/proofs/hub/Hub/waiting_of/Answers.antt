@@ -7,4 +7,4 @@ use Rattle.held_items.specs.Entries.{flat}
 use Rattle.hub_state.proofs.hub.Hub.waiting_of.Goals as goal
 
 pub returns-clause-short : goal.returns-clause-short
-returns-clause-short c = subst (λ (o : Option Waiting). IfSome o IsShort) (sym c.waiting_of.ensures) (short_wait c.args.g (flat c.self.inside.held.entries) c.self.invariant.sound.short)
+returns-clause-short c = subst (λ (o : Option Waiting). IfSome o IsShort) (sym c.waiting_of.ensures) (short_wait c.args.g (flat c.self.inside.held.entries) c.self.invariant.kept.sound.short)
