@@ -16,7 +16,7 @@ use serve_command::{Served, serve_command};
 use std::alloc::Global;
 use std::sync::Wait;
 use stream_net::Net;
-use stream_server::Limits;
+use stream_server::Terms;
 use wsgi_connection::{ConnectionEnd, answer_connection};
 use wsgi_core::{Application, Session};
 
@@ -53,10 +53,8 @@ pub fn answer_through<S: Source, K: Sink, A: Application>(
 pub struct AppServer {
     /// The gateway through which it answers.
     pub gateway: GatewayKind,
-    /// The port at which it listens, or 0 for any.
-    pub port: u16,
-    /// How much it does.
-    pub limits: Limits,
+    /// The port at which it listens, or 0 for any, and how much it does.
+    pub terms: Terms,
 }
 
 /// Serves connections of the net, as `serve_command` does.
@@ -69,21 +67,18 @@ pub fn serve_through<K: Sink, N: Net, A: Application, H: Wait>(
     app: &A,
 ) -> Served
     requires fresh { IsFresh (N.meaning net.old) }
-    requires in_range { IsInRange server.limits }
-    ensures serves { ServesAt result server.port (answers_by server.gateway) (A.answer_of app.now) server.limits (N.meaning net.new) (K.written out.old) (K.written out.new) }
-    ensures told { IsToldFirst server.port (N.meaning net.new) (K.written out.old) (K.handed out.new) }
+    requires in_range { IsInRange server.terms.limits }
+    ensures serves { ServesAt result server.terms.port (answers_by server.gateway) (A.answer_of app.now) server.terms.limits (N.meaning net.new) (K.written out.old) (K.written out.new) }
+    ensures told { IsToldFirst server.terms.port (N.meaning net.new) (K.written out.old) (K.handed out.new) }
     ensures handed { K.handed out.old ≡ K.written out.old → result ≢ Served.WriteFault → result ≢ Served.Memory → K.handed out.new ≡ K.written out.new }
     ensures listens { Counts (result ≡ Served.Listener) (N.meaning net.old).faults (N.meaning net.new).faults }
     ensures writes { Counts (result ≡ Served.WriteFault) (K.faults out.old) (K.faults out.new) }
 {
-    let port = server.port;
-    let limits = server.limits;
+    let terms = server.terms;
     match server.gateway {
-        GatewayKind::Http => {
-            serve_command::<Session, K, N, A, H>(rt, alloc, port, limits, out, net, app)
-        }
+        GatewayKind::Http => serve_command::<Session, K, N, A, H>(rt, alloc, terms, out, net, app),
         GatewayKind::Scgi => {
-            serve_command::<ScgiSession, K, N, A, H>(rt, alloc, port, limits, out, net, app)
+            serve_command::<ScgiSession, K, N, A, H>(rt, alloc, terms, out, net, app)
         }
     }
 }

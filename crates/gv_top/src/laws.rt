@@ -2,6 +2,7 @@
 ghost use Rattle.std.specs.Prelude.{◌≡◌, ◌<◌, ◌^◌, ℕ, List, Some, None};
 ghost use Rattle.scenario_tree.specs.declared.tree.Scenario.{Scenario};
 ghost use Rattle.machine.specs.Budgets.{AreBudgets};
+ghost use Rattle.machine_counts.specs.Laws.{RunsLeaveRoom, RunsStandIn};
 ghost use Rattle.command_words.specs.declared.command.RunOptions.{RunOptions};
 ghost use Rattle.command_words.specs.declared.command.TextCommand.{TextCommand};
 ghost use Rattle.gv_top.specs.declared.words.OfflineCommand.{OfflineCommand};
@@ -11,6 +12,7 @@ ghost use Rattle.gv_top.specs.Storm.{IsStorm};
 ghost use Rattle.gv_top.specs.Words.{offline_command_of, serve_of};
 
 use command_words::commands_are_in_range;
+use machine_counts::runs_leave_room;
 
 /// No words name both a server and a command that needs no net.
 pub fn words_name_one()
@@ -35,4 +37,14 @@ pub fn budgets_are_in_range()
         → AreBudgets options.turns options.moves }
 {
     commands_are_in_range();
+}
+
+/// No run within the budgets that words may name comes to the end of a count, wherever its answers come from: its last
+/// state is one in which the hub stands, after no more turns and moves than its budgets, and there each count is far below
+/// what its type holds, if no object is declared with more than that.
+pub fn counts_stay_small()
+    ensures stand { RunsStandIn }
+    ensures room { RunsLeaveRoom }
+{
+    runs_leave_room();
 }

@@ -34,7 +34,7 @@ use serve_command::{Served, serve_jobs_command};
 use std::alloc::Global;
 use std::sync::Wait;
 use stream_net::Net;
-use stream_server::Limits;
+use stream_server::{Limits, Terms};
 use world::World;
 use wsgi_core::Application;
 
@@ -54,10 +54,8 @@ fn limits_of(options: ServeOptions) -> Limits
 struct JobServer {
     /// How many native workers do them.
     workers: u32,
-    /// The port at which it listens, or 0 for any.
-    port: u16,
-    /// How much it does.
-    limits: Limits,
+    /// The port at which it listens, or 0 for any, and how much it does.
+    terms: Terms,
 }
 
 /// Serves with native workers for the jobs that requests ask for. They are begun before it, and finished after it.
@@ -71,11 +69,11 @@ fn serve_natively<K: Sink, N: Net, W: World, H: Wait>(
 ) -> Served
     requires rests { (W.meaning native.old).runs ≡ false }
     requires fresh { IsFresh (N.meaning net.old) }
-    requires in_range { IsInRange server.limits }
+    requires in_range { IsInRange server.terms.limits }
     requires some { 0 < server.workers }
     requires few { server.workers ≤ MOST_WORKERS }
-    ensures serves { ServesNatively server.workers result server.port server.limits (N.meaning net.new) (W.meaning native.old) (W.meaning native.new) (K.written out.old) (K.written out.new) }
-    ensures told { IsToldFirst server.port (N.meaning net.new) (K.written out.old) (K.handed out.new) }
+    ensures serves { ServesNatively server.workers result server.terms.port server.terms.limits (N.meaning net.new) (W.meaning native.old) (W.meaning native.new) (K.written out.old) (K.written out.new) }
+    ensures told { IsToldFirst server.terms.port (N.meaning net.new) (K.written out.old) (K.handed out.new) }
     ensures handed { K.handed out.old ≡ K.written out.old → result ≢ Served.WriteFault → result ≢ Served.Memory → K.handed out.new ≡ K.written out.new }
     ensures rests { (W.meaning native.new).runs ≡ false }
     ensures listens { Counts (result ≡ Served.Listener) (N.meaning net.old).faults (N.meaning net.new).faults }
@@ -84,15 +82,23 @@ fn serve_natively<K: Sink, N: Net, W: World, H: Wait>(
     let Ok(()) = native.begin(server.workers) else {
         return Served::Memory;
     };
-    let end = serve_jobs_command(rt, alloc, server.port, server.limits, out, net, native);
+    let end = serve_jobs_command(rt, alloc, server.terms, out, net, native);
     native.finish();
     end
 }
 
-/// Serves as the options say. Like `serve`, it takes what `gvr` is given for a server, each by itself.
-fn serve_as<K: Sink, N: Net, W: World, A: Application, H: Wait>(
-    rt: &H,
+/// What the system gives a server.
+#[derive(Drop)]
+struct Host<'a, H> {
+    /// The leave to wait without end.
+    rt: &'a H,
+    /// Memory.
     alloc: Global,
+}
+
+/// Serves as the options say.
+fn serve_as<K: Sink, N: Net, W: World, A: Application, H: Wait>(
+    host: &Host<H>,
     options: ServeOptions,
     out: &mut K,
     net: &mut N,
@@ -111,32 +117,26 @@ fn serve_as<K: Sink, N: Net, W: World, A: Application, H: Wait>(
     ensures listens { Counts (result ≡ Served.Listener) (N.meaning net.old).faults (N.meaning net.new).faults }
     ensures writes { Counts (result ≡ Served.WriteFault) (K.faults out.old) (K.faults out.new) }
 {
-    let port = options.port;
     let limits = limits_of(options);
+    let terms = Terms {
+        port: options.port,
+        limits,
+    };
     match options.answers {
         ServeAnswers::Application(gateway) => {
-            let server = AppServer {
-                gateway,
-                port,
-                limits,
-            };
-            serve_through(rt, alloc, server, out, net, app)
+            let server = AppServer { gateway, terms };
+            serve_through(host.rt, host.alloc, server, out, net, app)
         }
         ServeAnswers::Jobs(workers) => {
-            let server = JobServer {
-                workers,
-                port,
-                limits,
-            };
-            serve_natively(rt, alloc, server, out, net, native)
+            let server = JobServer { workers, terms };
+            serve_natively(host.rt, host.alloc, server, out, net, native)
         }
     }
 }
 
 /// Serves as the words say, which name `serve`.
 fn serve<K: Sink, N: Net, W: World, A: Application, H: Wait>(
-    rt: &H,
-    alloc: Global,
+    host: &Host<H>,
     words: &[String],
     out: &mut K,
     net: &mut N,
@@ -157,11 +157,11 @@ fn serve<K: Sink, N: Net, W: World, A: Application, H: Wait>(
     ensures writes { Counts (result ≡ Served.WriteFault) (K.faults out.old) (K.faults out.new) }
 {
     commands_are_in_range();
-    let Ok(command) = command_of(alloc, words) else {
+    let Ok(command) = command_of(host.alloc, words) else {
         return Served::Memory;
     };
     match server_options(command) {
-        Some(options) => serve_as(rt, alloc, options, out, net, native, app),
+        Some(options) => serve_as(host, options, out, net, native, app),
         // `offline` leaves only words that name a server.
         None => unreachable!(),
     }
@@ -238,7 +238,8 @@ pub fn gvr<S: Source, K: Sink, E: Sink, W: World, N: Net, A: Application, H: Wai
     match offline(alloc, words, input, out, err, native, app) {
         Some(status) => status,
         None => {
-            let end = serve(rt, alloc, words, out, net, native, app);
+            let host = Host { rt, alloc };
+            let end = serve(&host, words, out, net, native, app);
             tell(alloc, verdict_of_server(end), err)
         }
     }

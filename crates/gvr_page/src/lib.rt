@@ -62,8 +62,11 @@ pub extern "C" fn gvr_answer(
     ensures room { (said.new.out ≤ length out.new) × (said.new.err ≤ length err.new) }
     ensures said { (all : List Word) × AreWords words.now all × IsSaid result all text.now (take said.new.out out.new) (take said.new.err err.new) }
 {
-    match answer::<Gvr>(alloc, &Gvr, words, text, out, err, said) {
-        Ok(status) => status,
+    match answer::<Gvr>(alloc, &Gvr, words, text, out, err) {
+        Ok(answered) => {
+            *said = answered.said;
+            answered.status
+        }
         Err(_) => {
             said.out = 0;
             said.err = 0;

@@ -9,11 +9,21 @@ use std::alloc::{AllocError, Global};
 
 /// How many bytes of out and of err a call has written. It has the layout of C, since a page reads it.
 #[repr(C)]
+#[derive(Clone, Copy)]
 pub struct Said {
     /// The bytes of out.
     pub out: usize,
     /// The bytes of err.
     pub err: usize,
+}
+
+/// How a call ended, and how much it has written.
+#[derive(Clone, Copy)]
+pub struct Answered {
+    /// The status.
+    pub status: u32,
+    /// The bytes.
+    pub said: Said,
 }
 
 /// Whoever does what words name.
@@ -61,8 +71,8 @@ fn copy_to_front(bytes: &[u8], to: &mut [u8])
 }
 
 /// Answers words, which LFs part, and a text with out and err of their room: the first bytes of `out` and of `err` are
-/// then what the program says, and `said` has how many these are. If memory runs out before the program runs, what
-/// stands in the three may have changed.
+/// then what the program says, and the result has how many these are. If memory runs out, what stands in the two may
+/// have changed.
 pub fn answer<P: Program>(
     alloc: Global,
     program: &P,
@@ -70,11 +80,10 @@ pub fn answer<P: Program>(
     text: &[u8],
     out: &mut [u8],
     err: &mut [u8],
-    said: &mut Said,
-) -> Result<u32, AllocError>
+) -> Result<Answered, AllocError>
     ensures room { (length out.new ≡ length out.old) × (length err.new ≡ length err.old) }
-    ensures fits { IfOk result (λ status. (said.new.out ≤ length out.new) × (said.new.err ≤ length err.new)) }
-    ensures said { IfOk result (λ status. (all : List (List ℕ)) × AreWords words.now all × P.says status all text.now (take said.new.out out.new) (take said.new.err err.new)) }
+    ensures fits { IfOk result (λ answered. (answered.said.out ≤ length out.new) × (answered.said.err ≤ length err.new)) }
+    ensures said { IfOk result (λ answered. (all : List (List ℕ)) × AreWords words.now all × P.says answered.status all text.now (take answered.said.out out.new) (take answered.said.err err.new)) }
 {
     let words = words_in(alloc, words)?;
     let text = Vec::from_slice(alloc, text)?;
@@ -85,9 +94,11 @@ pub fn answer<P: Program>(
     if out.len() < to_out.bytes().len() || err.len() < to_err.bytes().len() {
         return Err(AllocError);
     }
-    said.out = to_out.bytes().len();
-    said.err = to_err.bytes().len();
+    let said = Said {
+        out: to_out.bytes().len(),
+        err: to_err.bytes().len(),
+    };
     copy_to_front(to_out.bytes(), out);
     copy_to_front(to_err.bytes(), err);
-    Ok(status)
+    Ok(Answered { status, said })
 }

@@ -13,7 +13,7 @@ use gv_io::Sink;
 use std::alloc::Global;
 use std::sync::Wait;
 use stream_net::Net;
-use stream_server::Limits;
+use stream_server::Terms;
 use world::World;
 use wsgi_native::{JobsEnd, serve_jobs};
 
@@ -41,19 +41,18 @@ fn served_end(end: JobsEnd) -> Served
 pub fn serve_jobs_command<K: Sink, N: Net, W: World, H: Wait>(
     rt: &H,
     alloc: Global,
-    port: u16,
-    limits: Limits,
+    terms: Terms,
     out: &mut K,
     net: &mut N,
     world: &mut W,
 ) -> Served
     requires fresh { IsFresh (N.meaning net.old) }
-    requires in_range { IsInRange limits }
+    requires in_range { IsInRange terms.limits }
     requires runs { (W.meaning world.old).runs ≡ true }
     requires no_posts { (W.meaning world.old).posts ≡ [] }
     requires no_answers { (W.meaning world.old).answers ≡ [] }
-    ensures serves { ServesJobsAt result port limits (N.meaning net.new) (W.meaning world.new) (K.written out.old) (K.written out.new) }
-    ensures told { IsToldFirst port (N.meaning net.new) (K.written out.old) (K.handed out.new) }
+    ensures serves { ServesJobsAt result terms.port terms.limits (N.meaning net.new) (W.meaning world.new) (K.written out.old) (K.written out.new) }
+    ensures told { IsToldFirst terms.port (N.meaning net.new) (K.written out.old) (K.handed out.new) }
     ensures handed { K.handed out.old ≡ K.written out.old → result ≢ Served.WriteFault → result ≢ Served.Memory → K.handed out.new ≡ K.written out.new }
     ensures listener { result ≡ Served.Listener → HasRisen (N.meaning net.old).faults (N.meaning net.new).faults }
     ensures write_fault { result ≡ Served.WriteFault → HasRisen (K.faults out.old) (K.faults out.new) }
@@ -65,7 +64,8 @@ pub fn serve_jobs_command<K: Sink, N: Net, W: World, H: Wait>(
     ensures in_order { IsInOrder (W.meaning world.new) }
     ensures workers { (W.meaning world.new).workers ≡ (W.meaning world.old).workers }
 {
-    let port = match open_port(alloc, port, out, net) {
+    let limits = terms.limits;
+    let port = match open_port(alloc, terms.port, out, net) {
         Ok(port) => port,
         Err(end) => return end,
     };

@@ -10,7 +10,7 @@ use gv_io::Sink;
 use std::alloc::Global;
 use std::sync::Wait;
 use stream_net::Net;
-use stream_server::{Limits, ServeEnd, serve_with};
+use stream_server::{ServeEnd, Terms, serve_with};
 use wsgi_core::{Application, Talk};
 
 /// How the command ended.
@@ -43,8 +43,8 @@ fn served_end(end: ServeEnd) -> Served
     }
 }
 
-/// Listens at the port, or at any for 0, writes `listening P` with the port that it listens at, serves that many
-/// connections with the application, and writes `served N`.
+/// Listens at the port of the terms, or at any for 0, writes `listening P` with the port that it listens at, serves that
+/// many connections with the application, and writes `served N`.
 ///
 /// The first line is handed on before a connection is accepted, so that whoever reads it may connect; where it can't
 /// be written, none is accepted. Each connection has a talk of its own, of a server at that port (PEP 3333; RFC 9112
@@ -52,16 +52,15 @@ fn served_end(end: ServeEnd) -> Served
 pub fn serve_command<T: Talk + Drop, K: Sink, N: Net, A: Application, H: Wait>(
     rt: &H,
     alloc: Global,
-    port: u16,
-    limits: Limits,
+    terms: Terms,
     out: &mut K,
     net: &mut N,
     app: &A,
 ) -> Served
     requires fresh { IsFresh (N.meaning net.old) }
-    requires in_range { IsInRange limits }
-    ensures serves { ServesAt result port T.answers (A.answer_of app.now) limits (N.meaning net.new) (K.written out.old) (K.written out.new) }
-    ensures told { IsToldFirst port (N.meaning net.new) (K.written out.old) (K.handed out.new) }
+    requires in_range { IsInRange terms.limits }
+    ensures serves { ServesAt result terms.port T.answers (A.answer_of app.now) terms.limits (N.meaning net.new) (K.written out.old) (K.written out.new) }
+    ensures told { IsToldFirst terms.port (N.meaning net.new) (K.written out.old) (K.handed out.new) }
     ensures handed { K.handed out.old ≡ K.written out.old → result ≢ Served.WriteFault → result ≢ Served.Memory → K.handed out.new ≡ K.written out.new }
     ensures listener { result ≡ Served.Listener → HasRisen (N.meaning net.old).faults (N.meaning net.new).faults }
     ensures write_fault { result ≡ Served.WriteFault → HasRisen (K.faults out.old) (K.faults out.new) }
@@ -70,7 +69,8 @@ pub fn serve_command<T: Talk + Drop, K: Sink, N: Net, A: Application, H: Wait>(
     ensures net_never_falls { (N.meaning net.old).faults ≤ (N.meaning net.new).faults }
     ensures out_never_falls { K.faults out.old ≤ K.faults out.new }
 {
-    let port = match open_port(alloc, port, out, net) {
+    let limits = terms.limits;
+    let port = match open_port(alloc, terms.port, out, net) {
         Ok(port) => port,
         Err(end) => return end,
     };

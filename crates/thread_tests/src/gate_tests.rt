@@ -3,7 +3,7 @@ use crate::calls::{Left, Still, called};
 use crate::held::{EachStarts, HoldingGate, Signals, Watched};
 use native_board::Bell;
 use native_pool::{
-    Clock, Ear, Gate, PollEar, Spawner, ThreadWorld, WakerBell, WorkerTask, spawn_worker,
+    Clock, Ear, Gate, Parts, PollEar, Spawner, ThreadWorld, WakerBell, WorkerTask, spawn_worker,
 };
 use std::alloc::{AllocError, Global};
 use std::sync::atomic::Ordering;
@@ -42,14 +42,10 @@ fn run_over<
 >(
     alloc: Global,
     rt: H,
-    ear: R,
-    bell: B,
-    clock: C,
-    gate: G,
-    spawner: S,
+    parts: Parts<R, B, C, G, S>,
     signals: Arc<Signals, Global>,
 ) -> Result<Left, AllocError> {
-    let world = ThreadWorld::new(alloc, rt, ear, bell, clock, gate, spawner)?;
+    let world = ThreadWorld::of_parts(alloc, rt, parts)?;
     let mut native = Watched { world, signals };
     Ok(called(alloc, &["run", "--native=2"], TWO_ECHOES, &mut native)?)
 }
@@ -72,8 +68,15 @@ fn gate_two_workers(rt: HostRuntime) -> Result<(), Fail> {
         refused: 0,
         joined: 0,
     };
+    let parts = Parts {
+        ear,
+        bell,
+        clock: Still,
+        gate,
+        spawner,
+    };
     let seen = Arc::try_clone(&signals)?;
-    let left = run_over(alloc, rt, ear, bell, Still, gate, spawner, seen)?;
+    let left = run_over(alloc, rt, parts, seen)?;
     assert_eq!(rt; left.status, Some(0));
     assert_eq!(rt; signals.came.load(Ordering::SeqCst), 2);
     assert_eq!(rt; signals.given_up.load(Ordering::SeqCst), 0);

@@ -7,7 +7,7 @@ use gv_top::gvr;
 use mio_net::MioNet;
 use native_board::Bell;
 use native_pool::{
-    Clock, Ear, Gate, OpenGate, PollEar, Spawner, SteadyClock, ThreadSpawner, ThreadWorld,
+    Clock, Ear, Gate, OpenGate, Parts, PollEar, Spawner, SteadyClock, ThreadSpawner, ThreadWorld,
     WakerBell, WorkerTask, spawn_worker,
 };
 use std::alloc::{AllocError, Global};
@@ -97,15 +97,11 @@ fn call_over<
     rt: H,
     line: &str,
     net: &mut N,
-    ear: R,
-    bell: B,
-    clock: C,
-    gate: G,
-    spawner: S,
+    parts: Parts<R, B, C, G, S>,
 ) -> Result<Left, AllocError>
     requires { IsFresh (N.meaning net.old) }
 {
-    let mut native = ThreadWorld::new(alloc, rt, ear, bell, clock, gate, spawner)?;
+    let mut native = ThreadWorld::of_parts(alloc, rt, parts)?;
     let mut words = Vec::new(alloc);
     for word in line.split_whitespace() {
         words.push(String::from_str(alloc, word)?)?;
@@ -151,20 +147,16 @@ fn each_of_64_clients_is_sent_what_its_own_job_came_to(rt: HostRuntime) -> Resul
         alloc,
         move |task: WorkerTask<WakerBell, OpenGate>| spawn_worker(&rt, task),
     )?;
-    let spawner = ThreadSpawner::new(rt, start);
-    let mut net = MioNet::new(rt, alloc)?;
-    let line = format!(in alloc; "serve --port {port} --conns 65 --idle 500 --jobs 4")?;
-    let left = call_over(
-        alloc,
-        rt,
-        line.as_str(),
-        &mut net,
+    let parts = Parts {
         ear,
         bell,
         clock,
-        OpenGate,
-        spawner,
-    )?;
+        gate: OpenGate,
+        spawner: ThreadSpawner::new(rt, start),
+    };
+    let mut net = MioNet::new(rt, alloc)?;
+    let line = format!(in alloc; "serve --port {port} --conns 65 --idle 500 --jobs 4")?;
+    let left = call_over(alloc, rt, line.as_str(), &mut net, parts)?;
     assert_eq!(rt; left.status, 0);
     assert!(rt; left.out.bytes().ends_with(b"served 65\n"));
     for client in clients {

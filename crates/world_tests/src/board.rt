@@ -170,16 +170,18 @@ fn lead<R: Wait>(
     Ok(all)
 }
 
-fn pair<R: Threads + Wait + Sync>(
-    rt: &R,
-    board: &Board,
+/// The passes of two workers.
+#[derive(Drop)]
+struct TwoPasses {
     first: WorkerPass,
     second: WorkerPass,
-    bell: &Rings,
-)
-    requires first { (worker_board first ≡ board_id board.now) × ((worker_view first).stage ≡ Idle) }
-    requires second { (worker_board second ≡ board_id board.now) × ((worker_view second).stage ≡ Idle) }
+}
+
+fn pair<R: Threads + Wait + Sync>(rt: &R, board: &Board, workers: TwoPasses, bell: &Rings)
+    requires first { (worker_board workers.first ≡ board_id board.now) × ((worker_view workers.first).stage ≡ Idle) }
+    requires second { (worker_board workers.second ≡ board_id board.now) × ((worker_view workers.second).stage ≡ Idle) }
 {
+    let TwoPasses { first, second } = workers;
     thread::join(
         rt,
         move ||
@@ -196,13 +198,12 @@ fn run<R: Threads + Wait + Sync>(
     alloc: Global,
     board: &Board,
     hub: HubPass,
-    first: WorkerPass,
-    second: WorkerPass,
+    workers: TwoPasses,
     bell: &Rings,
 ) -> Result<Vec<Finished>, Fail>
     requires hub { hub_board hub ≡ board_id board.now }
-    requires first { (worker_board first ≡ board_id board.now) × ((worker_view first).stage ≡ Idle) }
-    requires second { (worker_board second ≡ board_id board.now) × ((worker_view second).stage ≡ Idle) }
+    requires first { (worker_board workers.first ≡ board_id board.now) × ((worker_view workers.first).stage ≡ Idle) }
+    requires second { (worker_board workers.second ≡ board_id board.now) × ((worker_view workers.second).stage ≡ Idle) }
 {
     let (found, _) = thread::join(
         rt,
@@ -210,8 +211,8 @@ fn run<R: Threads + Wait + Sync>(
             requires { hub_board hub ≡ board_id board.now }
         { lead(rt, alloc, board, hub) },
         move ||
-            requires { (worker_board first ≡ board_id board.now) × ((worker_view first).stage ≡ Idle) × (worker_board second ≡ board_id board.now) × ((worker_view second).stage ≡ Idle) }
-        { pair(rt, board, first, second, bell) },
+            requires { (worker_board workers.first ≡ board_id board.now) × ((worker_view workers.first).stage ≡ Idle) × (worker_board workers.second ≡ board_id board.now) × ((worker_view workers.second).stage ≡ Idle) }
+        { pair(rt, board, workers, bell) },
     );
     found
 }
@@ -229,7 +230,8 @@ fn both<R: Threads + Wait + Sync>(rt: &R, alloc: Global) -> Result<Vec<Finished>
     let Some(second) = workers.next() else {
         unreachable!()
     };
-    run(rt, alloc, &board, hub, first, second, &bell)
+    let workers = TwoPasses { first, second };
+    run(rt, alloc, &board, hub, workers, &bell)
 }
 
 #[test]

@@ -7,7 +7,7 @@ use gv_io::one_more;
 use gv_values::{Answer, Job, JobOutcome};
 use native_board::{Bell, Board, Finished, HubPass, Made, WorkerPass};
 use native_pool::{
-    Clock, Ear, Gate, NoThreads, OpenGate, PollEar, Spawner, SteadyClock, ThreadSpawner,
+    Clock, Ear, Gate, NoThreads, OpenGate, Parts, PollEar, Spawner, SteadyClock, ThreadSpawner,
     ThreadWorld, WakerBell, WorkerTask, spawn_worker,
 };
 use std::alloc::{AllocError, Global};
@@ -235,17 +235,8 @@ fn parts_answer<
     C: Clock + Drop,
     G: Gate + Drop,
     S: Spawner<B, G> + Drop,
->(
-    alloc: Global,
-    rt: H,
-    ear: R,
-    bell: B,
-    clock: C,
-    gate: G,
-    spawner: S,
-    count: u32,
-) -> Result<bool, Fail> {
-    let mut world = ThreadWorld::new(alloc, rt, ear, bell, clock, gate, spawner)?;
+>(alloc: Global, rt: H, parts: Parts<R, B, C, G, S>, count: u32) -> Result<bool, Fail> {
+    let mut world = ThreadWorld::of_parts(alloc, rt, parts)?;
     let one = answers_all(&mut world, alloc, 1, count)?;
     let two = answers_all(&mut world, alloc, 2, count)?;
     let sixteen = answers_all(&mut world, alloc, 16, count)?;
@@ -260,8 +251,14 @@ fn workers_answer_each_job_once_with_its_value(rt: HostRuntime) -> Result<(), Fa
         rt.alloc(),
         move |task: WorkerTask<WakerBell, OpenGate>| spawn_worker(&rt, task),
     )?;
-    let spawner = ThreadSpawner::new(rt, start);
-    assert!(rt; parts_answer(rt.alloc(), rt, ear, bell, clock, OpenGate, spawner, 1000)?);
+    let parts = Parts {
+        ear,
+        bell,
+        clock,
+        gate: OpenGate,
+        spawner: ThreadSpawner::new(rt, start),
+    };
+    assert!(rt; parts_answer(rt.alloc(), rt, parts, 1000)?);
     Ok(())
 }
 
@@ -361,7 +358,14 @@ fn where_every_second_start_is_refused_the_others_do_the_jobs(rt: HostRuntime) -
         refused: 0,
         joined: 0,
     };
-    assert!(rt; parts_answer(rt.alloc(), rt, ear, bell, clock, gate, spawner, 100)?);
+    let parts = Parts {
+        ear,
+        bell,
+        clock,
+        gate,
+        spawner,
+    };
+    assert!(rt; parts_answer(rt.alloc(), rt, parts, 100)?);
     assert!(rt; count.load(Ordering::SeqCst) == 200);
     Ok(())
 }
