@@ -14,7 +14,7 @@ use body_values::Look;
 use gv_values::{FaultKind, LinkKind, Name, Outcome, Value};
 use machine::request::Request;
 use machine::state::Leaving;
-use scenario_tree::{Command, Expression, Giving, LinkEnd, Wait};
+use scenario_tree::{Command, Expression, Giving, LinkEnd, Timed, Wait};
 use std::alloc::AllocError;
 
 /// What a move does.
@@ -29,7 +29,7 @@ pub enum Chosen {
 }
 
 /// The wait of a statement that may have a time of `within`.
-fn timed(within: Option<u64>) -> Wait
+fn timed(within: Timed) -> Wait
     ensures { result ≡ timed within }
 {
     match within {

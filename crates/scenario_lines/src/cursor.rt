@@ -7,7 +7,7 @@ ghost use Rattle.scenario_lines.specs.Taken.{Takes};
 use crate::refusal::LineRefusal;
 use gv_values::Name;
 use scenario_grammar::{Keyword, MOST_MS, TextReason, Token};
-use scenario_tree::Wait;
+use scenario_tree::{Timed, Wait};
 use std::marker::Model;
 
 /// The tokens of a line that are still to be read.
@@ -81,7 +81,7 @@ impl<'a> Cursor<'a> {
 
     /// Takes `within` and its time in milliseconds, where that stands there.
     #[tactic(auto, using(crate::proofs::Unsaid::no_time))]
-    pub fn timed(&mut self) -> Result<Option<u64>, LineRefusal>
+    pub fn timed(&mut self) -> Result<Timed, LineRefusal>
         ensures { Reads (timed_at self.old) result self.new }
     {
         if self.takes(Keyword::Within) {

@@ -10,7 +10,7 @@ ghost use Rattle.scenario_print.specs.Written.{Wrote};
 use crate::expression::push_expression;
 use crate::word::{push_fixed, push_number};
 use scenario_grammar::Keyword;
-use scenario_tree::{Expression, Wait};
+use scenario_tree::{Expression, Timed, Wait};
 use std::alloc::AllocError;
 
 /// A fixed word and a number, where there is one.
@@ -27,7 +27,7 @@ fn push_numbered(word: Keyword, number: Option<u64>, out: &mut Vec<u8>) -> Resul
 }
 
 /// `within` and the time, where there is one.
-pub(crate) fn push_timed(time: Option<u64>, out: &mut Vec<u8>) -> Result<(), AllocError>
+pub(crate) fn push_timed(time: Timed, out: &mut Vec<u8>) -> Result<(), AllocError>
     ensures { Wrote out.old.items out.new.items result (timed_tokens time) }
 {
     push_numbered(Keyword::Within, time, out)

@@ -14,7 +14,7 @@ use crate::part::{push_marked, push_timed, push_wait};
 use crate::word::{push_first, push_name, push_number};
 use gv_values::Name;
 use scenario_grammar::Keyword;
-use scenario_tree::{Expression, Wait};
+use scenario_tree::{Expression, Timed, Wait};
 use std::alloc::AllocError;
 
 pub(crate) fn start_name(word: Keyword, n: &Name, out: &mut Vec<u8>) -> Result<(), AllocError>
@@ -82,7 +82,7 @@ pub(crate) fn start_name_wait(
 pub(crate) fn start_name_timed(
     word: Keyword,
     n: &Name,
-    time: Option<u64>,
+    time: Timed,
     out: &mut Vec<u8>,
 ) -> Result<(), AllocError>
     ensures { Started out.old.items out.new.items result word (name n.now ⊕ timed_tokens time) }

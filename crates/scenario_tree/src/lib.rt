@@ -12,5 +12,5 @@ pub use limits::{MOST_FUNCTIONS, MOST_OBJECTS, MOST_PARAMETERS};
 pub use sqlite_items::{Boxed, Items};
 pub use tree::{
     Action, Binary, Block, Command, Declaration, Except, Expression, Function, Giving, LinkEnd,
-    Object, Query, QueueKind, Scenario, Statement, Unary, Wait,
+    Object, Query, QueueKind, Scenario, Statement, Timed, Unary, Wait,
 };

@@ -53,7 +53,12 @@ pub enum Expression {
     Query(Query, Name),
 }
 
-/// How long a statement waits: until it is served, at most so long, or not at all.
+/// How long a statement waits, WAIT in the language: until it is served, at most so long, or not at
+/// all.
+///
+/// A statement that can't say all three has less, `Timed`, or in a `gkill` whether `now` stands
+/// there: no tree has a `now` or a `within` where no text has one. A request has `Wait` for each,
+/// since the hub lets all of them wait alike.
 #[derive(Clone, Copy, Debug, PartialEq, Eq)]
 pub enum Wait {
     Block,
@@ -61,7 +66,11 @@ pub enum Wait {
     Now,
 }
 
-/// A statement of one line that gives no value. `Option<u64>` is a time of `within`.
+/// How long a statement waits that can't say `now`, TIMED in the language: the time of `within`,
+/// none where it waits until it is served.
+pub type Timed = Option<u64>;
+
+/// A statement of one line that gives no value.
 #[derive(Drop)]
 pub enum Command {
     Print(Expression),
@@ -70,7 +79,7 @@ pub enum Command {
     Raise(Expression),
     Start(Expression),
     Sleep(u64),
-    Join(Expression, Option<u64>),
+    Join(Expression, Timed),
     /// The fault stands after `with`.
     Kill(Expression, Option<Expression>, Wait),
     KillAll(Expression, Option<Expression>, Wait),
@@ -82,7 +91,7 @@ pub enum Command {
     Release(Name),
     QueuePut(Name, Expression, Wait),
     QueueDone(Name),
-    GroupJoin(Name, Option<u64>),
+    GroupJoin(Name, Timed),
     /// The fault, and whether `now` stands there.
     GroupKill(Name, Option<Expression>, bool),
     SetParent(Expression, Expression),
@@ -107,18 +116,18 @@ pub enum Giving {
     New(Name, Items<Expression>),
     Get(Expression, Wait),
     /// The number stands after `count`.
-    JoinAll(Expression, Option<u64>, Option<u64>),
+    JoinAll(Expression, Option<u64>, Timed),
     Link(LinkEnd, Expression, Name),
     /// The mark is at most `scenario_grammar::MOST_MARK`.
     LinkMark(Expression, u32),
     LinkSet(Expression, Name),
-    WaitEvent(Name, Option<u64>),
+    WaitEvent(Name, Timed),
     ResultGet(Name, Wait),
-    ResultWait(Name, Option<u64>),
+    ResultWait(Name, Timed),
     Acquire(Name, Wait),
     QueueGet(Name, Wait),
     QueuePeek(Name, Wait),
-    QueueJoin(Name, Option<u64>),
+    QueueJoin(Name, Timed),
     GroupSpawn(Name, Name, Items<Expression>),
     Map(Name, Name, Expression),
     /// The time stands after `takes`.
