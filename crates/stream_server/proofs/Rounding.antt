@@ -48,12 +48,9 @@ module _ {T : Type 0} where
   pub list_kept : (table now : SeenTable T) (members : List ℕ) → now ≡ with_members members table → (k : ℕ) (slot : Option (Client T)) → IsListed now k slot → IsListed table k slot
   list_kept table now members is k slot row = subst (λ (t : SeenTable T). IsListed t k slot) is row
 
-  -- nobody is listed where a client was taken out
-  pub found_absent : (table now : SeenTable T) (k : ℕ) (g : Client T) → g.conn ≡ k → Relists table now k None → (other : Client T) → IsListed now g.conn (Some other) → ⊥
-  found_absent table now k g same relists other row = not_some other (relists.only (Some other) (subst (λ (n : ℕ). IsListed now n (Some other)) same row))
-    where
-      not_some : (c : Client T) → ◌≡◌ {A = Option (Client T)} (Some c) None → ⊥
-      not_some c e = absurd (cc)
+  -- the same client is held alike
+  pub same_holds : (holds : T → Bool) (g h : Client T) → ◌≡◌ {A = Option (Client T)} (Some h) (Some g) → holds g.talk ≡ holds h.talk
+  same_holds holds g h e = let same : h ≡ g = cc in ap (λ (x : Client T). holds x.talk) (sym same)
 
 module _ {T : Type 0} (P : Protocol T) (law : (app : App) (port : ℕ) → IsLawful (side_of P app port)) (terms : Terms) where
   -- ---- the ends
@@ -233,32 +230,14 @@ module _ {T : Type 0} (P : Protocol T) (law : (app : App) (port : ℕ) → IsLaw
         λ apps fits. (known apps fits).2,
       )
 
-  pub found_place : (F : Apps → Type 0) (A : SeenTable T → ℕ → Type 0) (w : NetMeaning) (table now : SeenTable T) (k : ℕ) (one : Apps) → F one → WasRunning P F A terms w table k → Relists table now k None → client_count now + 1 ≡ client_count table
-      → client_count now < now.limit
-  found_place F A w table now k one fits h relists count =
-      let s = (h.woken one fits).serving in
-      let few = s.few in
-      let room = s.room_is in
-      let limit = relists.limit in
-      omega (arith, few, room, limit, count)
-
-  -- its client was found, is held, and is listed again
-  pub running_back : (F : Apps → Type 0) (A : SeenTable T → ℕ → Type 0) (w : NetMeaning) (table less now : SeenTable T) (k : ℕ) (g : Client T) → WasRunning P F A terms w table k → IsListed table k (Some g) → g.conn ≡ k → P.holds g.talk ≡ true
-      → ((n : ℕ) → A table n → IsListed table k (Some g) → ((s : Option (Client T)) → IsListed now k s → s ≡ Some g) → AreBeside table now k → A now n)
-      → Relists table less k None → client_count less + 1 ≡ client_count table → Relists less now g.conn (Some g) → client_count now ≡ client_count less + 1 → IsRunning P F A terms w now
-  running_back F A w table less now k g h row same held ties relists count again more =
-      let here = at_own now k g.conn (Some g) same again.only in
-      let others = beside less now k g.conn same again.others in
-      let out = taken_out table less (length w.connections) k g.conn g h.admitted row relists same count in
-      record {
-        serving = λ apps fits.
-            let known = turns.known_named P law terms.port terms.limits apps w (IsListed table) (IsListed less) (client_count table) (client_count less) table.limit less.limit k g (h.woken apps fits) row count relists.limit relists.only relists.others in
-            subst (λ (n : ℕ). IsServing P apps terms.port terms.limits w (IsListed now) (client_count now) n) (sym again.limit)
-            (subst (λ (n : ℕ). IsServing P apps terms.port terms.limits w (IsListed now) n less.limit) (sym more)
-            (turns.but_listed P law terms.port terms.limits apps w (IsListed less) (IsListed now) (client_count less) less.limit k g known.0 known.1.accepted known.2.is_open (known.3 held) here others));
-        tied = ties (length w.connections) h.tied row here (λ j s other at_j. relists.others j s other (others j s other at_j));
-        admitted = listed_again less now (length w.connections) (length w.connections) g.conn g.conn g out again refl refl more;
-      }
+  -- its client was found, and is held
+  pub running_held_on : (F : Apps → Type 0) (A : SeenTable T → ℕ → Type 0) (w : NetMeaning) (table : SeenTable T) (k : ℕ) (g : Client T) → WasRunning P F A terms w table k → IsListed table k (Some g) → P.holds g.talk ≡ true
+      → IsRunning P F A terms w table
+  running_held_on F A w table k g h row held = record {
+    serving = λ apps fits. turns.held_named P law terms.port terms.limits apps w (IsListed table) (client_count table) table.limit k g (h.woken apps fits) row held;
+    tied = h.tied;
+    admitted = h.admitted;
+  }
 
   -- ---- a reply that was waited for
 

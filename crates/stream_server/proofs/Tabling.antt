@@ -9,7 +9,8 @@ use Rattle.std.proofs.lemmas.List.Sorted.{All-permutation, Contains-permutation,
 use Rattle.std.proofs.lemmas.List.Sums.{sum_by-cons}
 use Rattle.slab.specs.Slab.{Slab, get, slab_len, Updates}
 use Rattle.linked_items.specs.declared.places.Slot.{Slot}
-use Rattle.linked_items.specs.Table.{Has, Gains, Loses}
+use Rattle.linked_items.specs.declared.places.Slot.TheVariants.{Held}
+use Rattle.linked_items.specs.Table.{Has, Gains, IsOnce, Loses, slot_at}
 use Rattle.linked_items.specs.Items.{Differ, Lacks}
 use Rattle.due_timers.specs.declared.heap.Timer.{Timer}
 use Rattle.groups_pools.specs.Seen.{SeenCrew}
@@ -238,6 +239,35 @@ no_timer places clients ts x tied absent h =
 
 pub no_place : {T : Type 0} (places : List Slot) (clients : Slab (Client T)) (members : List ℕ) (limit x : ℕ) → ((k j : ℕ) → Has places k j → Stands clients k j) → IsAbsent (record { places = places; clients = clients; members = members; limit = limit }) x → (j : ℕ) → Has places x j → ⊥
 no_place places clients members limit x stands absent j has = let s = stands x j has in absent s.client (j, has, s.is)
+
+-- ---- the client of a number
+
+same_place : (q i j : ℕ) → Held q i ≡ Held q j → i ≡ j
+same_place q i j e = cc
+
+-- an item has one place
+one_place : (places : List Slot) (k i j : ℕ) → IsOnce places → Has places k i → Has places k j → i ≡ j
+one_place places k i j once h l = same_place k i j (sym h.1 ∙ ap (slot_at places) (once.once h.0 l.0 k i j h.1 l.1) ∙ l.1)
+
+module _ {T : Type 0} (places : List Slot) (clients : Slab (Client T)) (members : List ℕ) (limit k key : ℕ) where
+  -- the table of these
+  abbrev of_these : SeenTable T
+  of_these = record { places = places; clients = clients; members = members; limit = limit }
+
+  -- what stands under its key is listed
+  pub here_listed : (o : Option (Client T)) → Has places k key → Stands clients k key → o ≡ get clients key → IsListed of_these k o
+  here_listed None has s e = absurd (none_some (get clients key) s.client (sym e) s.is)
+  here_listed (Some g) has s e = (key, has, sym e)
+
+  -- and nothing else
+  pub only_listed : (o : Option (Client T)) → IsOnce places → Has places k key → o ≡ get clients key → (slot : Option (Client T)) → IsListed of_these k slot → slot ≡ o
+  only_listed o once has e None row = absurd (row key has)
+  only_listed o once has e (Some g) row = sym row.2 ∙ ap (get clients) (one_place places k row.0 key once row.1 has) ∙ sym e
+
+-- where the number has no place nothing is listed
+pub nobody_listed : {T : Type 0} (table : SeenTable T) (k : ℕ) → ((key : ℕ) → Has table.places k key → ⊥) → (slot : Option (Client T)) → IsListed table k slot → slot ≡ None
+nobody_listed table k absent None row = refl
+nobody_listed table k absent (Some g) row = absurd (absent row.0 row.1)
 
 some_is : {A : Type 0} (o : Option A) (a : A) → o ≡ Some a → IsSome o
 some_is o a e = subst IsSome (sym e) refl

@@ -36,6 +36,11 @@ never b f t = absurd (cc)
 pub gains_length : (v w : NetMeaning) (k : ℕ) → Gains v w k → length w.connections ≡ length v.connections + 1
 gains_length v w k x = ap (λ (cs : List Connection). length cs) x.connections ∙ length-append v.connections (x.connection ∷ [])
 
+-- a wait changes nothing of one that is awake
+woken_awake : (b : Bool) (c : Connection) → c.quiet ≡ Awake → woken_if b c ≡ c
+woken_awake true c e = refl
+woken_awake false c e = ap (λ (q : Quiet). record c { quiet = q }) (sym e)
+
 -- a wait takes no connection away
 pub named_length : (ready : Ready) (cs : List Connection) → length (named ready cs) ≡ length cs
 named_length Incoming cs = refl
@@ -147,6 +152,10 @@ module _ {T : Type 0} (S : Side T) (limits : Limits) (law : IsLawful S) where
   kept_timely : (c : Connection) (g : Client T) → IsCalm S limits.idle c g → S.holds g.talk ≡ true → IsTimely limits.idle c (S.kept g.talk)
   kept_timely c g (Free free rests) held = never (S.holds g.talk) free held
   kept_timely c g (Held held' e never_ timely) held = timely
+
+  held_awake : (c : Connection) (g : Client T) → IsCalm S limits.idle c g → S.holds g.talk ≡ true → c.quiet ≡ Awake
+  held_awake c g (Free free rests) held = never (S.holds g.talk) free held
+  held_awake c g (Held held' e never_ timely) held = e
 
   -- one that is held is served
   pub served_calm : (c : Connection) (g : Client T) → IsOpen S limits.idle c g → IsCalm S limits.idle c g → IsServed S.said limits.idle c
@@ -443,11 +452,21 @@ module _ {T : Type 0} (P : Protocol T) (law : (app : App) (port : ℕ) → IsLaw
           let closed : (connection_at v.connections k).closed ≡ true = r.serving.kept k None row in' in
           ap (λ (b : Bool). slice_set v.connections k (woken_if b (connection_at v.connections k))) closed ∙ set-get_or v.connections k absent_connection
 
+  -- the client that was named is held
+  pub held_named : (w : NetMeaning) (listed : Listing T) (count room k : ℕ) (g : Client T) → IsWoken P apps port limits w listed count room k → listed k (Some g) → P.holds g.talk ≡ true
+      → IsServing P apps port limits w listed count room
+  held_named w listed count room k g r row held =
+      let v = r.before in
+      let c = connection_at v.connections k in
+      let awake : c.quiet ≡ Awake = held_awake (S k) limits (lawful_at k) c g (r.serving.kept k (Some g) row).2 held in
+      serving_after v w listed count room r.serving r.passes
+      (r.named ∙ ap (λ (d : Connection). slice_set v.connections k d) (woken_awake c.closed c awake) ∙ set-get_or v.connections k absent_connection)
+
   -- its client was found
   pub known_named : (w : NetMeaning) (listed now : Listing T) (count left room room' k : ℕ) (g : Client T) → IsWoken P apps port limits w listed count room k → listed k (Some g)
       → left + 1 ≡ count → room' ≡ room → ((s : Option (Client T)) → now k s → s ≡ None) → ((j : ℕ) (s : Option (Client T)) → j ≢ k → now j s → listed j s)
-      → IsServingBut P apps port limits w now left room' k × IsLive w k × IsGoing (S k) limits.idle (connection_at w.connections k) g × (P.holds g.talk ≡ true → IsCalm (S k) limits.idle (connection_at w.connections k) g)
-  known_named w listed now count left room room' k g r row counts limit only others = (all, live, record { is_open = is_open; awake = awake }, calm)
+      → IsServingBut P apps port limits w now left room' k × IsLive w k × IsGoing (S k) limits.idle (connection_at w.connections k) g
+  known_named w listed now count left room room' k g r row counts limit only others = (all, live, record { is_open = is_open; awake = awake })
     where
       v : NetMeaning
       v = r.before
@@ -466,17 +485,6 @@ module _ {T : Type 0} (P : Protocol T) (law : (app : App) (port : ℕ) → IsLaw
 
       awake : (connection_at w.connections k).quiet ≡ Awake
       awake = ap (λ (d : Connection). d.quiet) here ∙ ap (λ (b : Bool). (woken_if b c).quiet) was.1.still_open
-
-      calm : P.holds g.talk ≡ true → IsCalm (S k) limits.idle (connection_at w.connections k) g
-      calm held = held_calm was.2
-        where
-          timely_woken : (b : Bool) → IsTimely limits.idle c (P.kept g.talk) → IsTimely limits.idle (woken_if b c) (P.kept g.talk)
-          timely_woken true timely = timely
-          timely_woken false timely = timely
-
-          held_calm : IsCalm (S k) limits.idle c g → IsCalm (S k) limits.idle (connection_at w.connections k) g
-          held_calm (Free free rests) = never (P.holds g.talk) free held
-          held_calm (Held held' e never_ timely) = Held held' awake never_ (subst (λ (d : Connection). IsTimely limits.idle d (P.kept g.talk)) (sym here) (timely_woken c.closed timely))
 
       long : length w.connections ≡ length v.connections
       long = ap (λ (cs : List Connection). length cs) r.named ∙ length-set v.connections k (woken_if c.closed c)
@@ -601,7 +609,7 @@ module _ {T : Type 0} (P : Protocol T) (law : (app : App) (port : ℕ) → IsLaw
 
   pub known_at : (w : NetMeaning) (listed now : Listing T) (count left room room' k j : ℕ) (g : Client T) → IsWoken P apps port limits w listed count room k → j ≡ k → listed k (Some g)
       → left + 1 ≡ count → room' ≡ room → ((s : Option (Client T)) → now k s → s ≡ None) → ((i : ℕ) (s : Option (Client T)) → i ≢ k → now i s → listed i s)
-      → IsServingBut P apps port limits w now left room' j × IsLive w j × IsGoing (S j) limits.idle (connection_at w.connections j) g × (P.holds g.talk ≡ true → IsCalm (S j) limits.idle (connection_at w.connections j) g)
+      → IsServingBut P apps port limits w now left room' j × IsLive w j × IsGoing (S j) limits.idle (connection_at w.connections j) g
   known_at w listed now count left room room' k j g r same row counts limit only others =
-      subst (λ (n : ℕ). IsServingBut P apps port limits w now left room' n × IsLive w n × IsGoing (S n) limits.idle (connection_at w.connections n) g × (P.holds g.talk ≡ true → IsCalm (S n) limits.idle (connection_at w.connections n) g)) (sym same)
+      subst (λ (n : ℕ). IsServingBut P apps port limits w now left room' n × IsLive w n × IsGoing (S n) limits.idle (connection_at w.connections n) g) (sym same)
       (known_named w listed now count left room room' k g r row counts limit only others)

@@ -8,7 +8,8 @@ ghost use Rattle.stream_server.specs.Running.{AsksInVain, IsRunning, IsRunningBu
 ghost use Rattle.stream_server.specs.Keeping.{Fares, HasAccepted, IsStill, Keeps};
 ghost use Rattle.stream_server.specs.Serving.{IsAllServed};
 ghost use Rattle.stream_server.specs.Ranges.{IsInRange};
-ghost use Rattle.stream_server.specs.Tables.{SeenTable, client_count};
+ghost use Rattle.stream_server.specs.Tables.{IsListed, SeenTable, client_count};
+ghost use Rattle.stream_server.specs.declared.client.Client.{Client};
 
 use crate::client::Client;
 use crate::exchange::{Step, proceed};
@@ -246,6 +247,21 @@ fn poll_service<T: Drop, W, V: Service<T, W>, N: Net, H: Wait>(
     }
 }
 
+/// Whether a client of this number is listed and held.
+fn is_client_held<T: Drop, W, V: Service<T, W>>(
+    service: &V,
+    table: &ClientTable<T>,
+    conn: u32,
+) -> bool
+    ensures listed { result ≡ true → (client : Client T) × IsListed table.now conn (Some client) }
+    ensures holds { (client : Client T) → IsListed table.now conn (Some client) → result ≡ V.protocol.holds client.talk }
+{
+    match table.get(conn) {
+        None => false,
+        Some(client) => service.is_held(&client.talk),
+    }
+}
+
 /// Goes on with the connection that a wait named, if it has a client and isn't held.
 fn wake_client<T: Drop, W, V: Service<T, W>, N: Net, H: Wait>(
     serving: &Serving<H>,
@@ -264,15 +280,12 @@ fn wake_client<T: Drop, W, V: Service<T, W>, N: Net, H: Wait>(
     ensures keeps { Keeps (N.meaning net.old) (N.meaning net.new) }
     ensures no_listener { result ≢ Err RoundFault.Listener }
 {
+    if is_client_held::<T, W, V>(service, table, conn) {
+        return Ok(());
+    }
     match table.remove(conn) {
         None => Ok(()),
-        Some(client) => {
-            if service.is_held(&client.talk) {
-                table.insert(client);
-                return Ok(());
-            }
-            serve_client::<T, W, V, N, H>(serving, net, service, world, table, client)
-        }
+        Some(client) => serve_client::<T, W, V, N, H>(serving, net, service, world, table, client),
     }
 }
 

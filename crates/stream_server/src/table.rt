@@ -1,6 +1,7 @@
 //! The clients of a server, by their numbers and by their deadlines, and the crew that has a place for each.
-ghost use Rattle.std.specs.Prelude.{◌≡◌, ◌↔◌, ℕ, ◌+◌, ◌<◌, ◌≤◌, ◌==◌, ◌++◌, [], ◌∷◌, length, IfOk, IfNone, IfSome, IsSome, IsTrue, OnErr, OnOk, Some, None};
+ghost use Rattle.std.specs.Prelude.{◌≡◌, ◌↔◌, ℕ, ◌+◌, ◌<◌, ◌≤◌, ◌==◌, ◌++◌, [], ◌∷◌, length, IfOk, IfNone, IfSome, IsSome, IsTrue, OnErr, OnOk, Option, Some, None};
 ghost use Rattle.std.specs.List.{Contains};
+ghost use Rattle.std.specs.Option.{option_copied};
 ghost use Rattle.linked_items.specs.Items.{Differ, without_number};
 ghost use Rattle.due_timers.specs.SeenTimers.{items_in};
 ghost use Rattle.groups_pools.specs.Seen.{AreBelow};
@@ -15,8 +16,8 @@ use std::marker::Model;
 
 /// Clients in a slab, each found by the number of its connection, and the numbers of all that were admitted.
 ///
-/// A client is taken out while its connection is gone on with; its number is a member all the time, until it is
-/// released.
+/// A client is taken out while its connection is gone on with: a `&mut` to it could change its number and its deadline,
+/// by which it is found here. Its number is a member all the time, until it is released.
 #[derive(Drop)]
 pub struct ClientTable<T> {
     clients: Slab<Client<T>>,
@@ -51,6 +52,7 @@ impl<T> Model for ClientTable<T> {
 
 impl<T: Drop> ClientTable<T> {
     ghost use Rattle.stream_server.specs.Tables.{IsAbsent, IsListed, Relists, client_count, with_members};
+    ghost use Rattle.stream_server.specs.declared.client.Client.{Client};
 
     /// Nobody is listed or admitted, and so many fit.
     pub fn new(alloc: Global, limit: u32) -> Result<Self, AllocError>
@@ -114,6 +116,17 @@ impl<T: Drop> ClientTable<T> {
         ensures { 0 < client_count self.now → IsSome result }
     {
         self.timers.least()
+    }
+
+    /// The client of this number, if one is listed.
+    pub fn get(&self, conn: u32) -> Option<&Client<T>>
+        ensures here { IsListed self.now conn (option_copied result) }
+        ensures only { (slot : Option (Client T)) → IsListed self.now conn slot → slot ≡ option_copied result }
+    {
+        let Some(key) = self.places.find(conn) else {
+            return None;
+        };
+        self.clients.get(key)
     }
 
     /// Lists a client.
