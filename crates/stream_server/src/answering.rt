@@ -105,8 +105,6 @@ impl<'a, T: Talk + Drop, A: Application> Service<T, ()> for Answering<'a, A> {
     ghost tied_again = { λ service world table now accepted conn tied beside. tt };
 
     ghost tied_out = { λ service world table now accepted conn client tied listed free beside. tt };
-
-    ghost tied_back = { λ service world table now accepted conn client tied listed here beside. tt };
 }
 
 /// The end of a server whose service never runs out.

@@ -162,12 +162,7 @@ pub trait Service<T, W> {
     ghost tied_again: { (service : Self) (world : W) (table now : SeenTable T) (accepted conn : ℕ) → tied_but service world table accepted conn
         → AreBeside table now conn → tied service world now accepted };
 
-    /// where a client that isn't held was taken out,
+    /// and where a client that isn't held was taken out.
     ghost tied_out: { (service : Self) (world : W) (table now : SeenTable T) (accepted conn : ℕ) (client : Client T) → tied service world table accepted
         → IsListed table conn (Some client) → protocol.holds client.talk ≡ false → AreBeside table now conn → tied_but service world now accepted conn };
-
-    /// and where one was taken out and listed again.
-    ghost tied_back: { (service : Self) (world : W) (table now : SeenTable T) (accepted conn : ℕ) (client : Client T) → tied service world table accepted
-        → IsListed table conn (Some client) → ((slot : Option (Client T)) → IsListed now conn slot → slot ≡ Some client) → AreBeside table now conn
-        → tied service world now accepted };
 }

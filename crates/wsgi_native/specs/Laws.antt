@@ -1,8 +1,8 @@
 -- The laws of a service whose requests for jobs a world answers.
-use Rattle.std.proofs.Common.{◌≡◌, ◌≢◌, inl, inr, ℕ, ◌+◌, ◌<◌, false, List, Option, Some, None, is_some, option_map, refl, sym, ap, ◌∙◌, subst}
+use Rattle.std.proofs.Common.{◌≡◌, ◌≢◌, ℕ, ◌+◌, ◌<◌, false, List, Option, Some, None, is_some, option_map, refl, sym, ap, ◌∙◌, subst}
 use Rattle.std.proofs.Math.Nat.{lt_irrefl, lt_trans}
 use Rattle.std.proofs.Math.Numerals.{lt-add-one}
-use Rattle.std.proofs.lemmas.Bool.{cases_eq, false≢true}
+use Rattle.std.proofs.lemmas.Bool.{false≢true}
 use Rattle.http_messages.specs.Environs.{Pair}
 use Rattle.gv_values.specs.declared.job.Job.{Job}
 use Rattle.world.specs.Worlds.{WorldMeaning}
@@ -96,19 +96,3 @@ tied_out w owner last waiting listed now accepted k g t row free others = record
   where
     apart : (n j : ℕ) → waiting n ≡ Some j → j ≢ k
     apart n j e same = let a : Awaits w.posts owner n g = t.held n k (Some g) (e ∙ ap (λ (i : ℕ). Some i) same) row in not_held g.talk n free a.is_number
-
--- one that is held is taken out and listed again
-pub tied_back : (w : WorldMeaning) (owner : Owner) (last : ℕ) (waiting : ℕ → Option ℕ) (listed now : Listing JobTalk) (accepted k : ℕ) (g : Client JobTalk) → IsTied w owner last waiting listed accepted → listed k (Some g)
-    → ((s : Option (Client JobTalk)) → now k s → s ≡ Some g) → ((j : ℕ) (s : Option (Client JobTalk)) → j ≢ k → now j s → listed j s) → IsTied w owner last waiting now accepted
-tied_back w owner last waiting listed now accepted k g t row here others = record {
-  order = t.order;
-  fresh = t.fresh;
-  numbered = t.numbered;
-  alone = t.alone;
-  awaited = t.awaited;
-  below = t.below;
-  held = λ n j slot e now_row. t.held n j slot e (elim (cases_eq j k) [
-    | inl same ↦ subst (λ (i : ℕ). listed i slot) (sym same) (subst (λ (o : Option (Client JobTalk)). listed k o) (sym (here slot (subst (λ (i : ℕ). now i slot) same now_row))) row)
-    | inr other ↦ others j slot other now_row
-  ]);
-}

@@ -224,6 +224,4 @@ impl<W: World> Service<JobTalk, W> for Jobs {
     ghost tied_again = { λ jobs world table now accepted conn tied beside. laws.tied_again (W.meaning world) (owner_in jobs.owners.list) jobs.posted (get nat_eq jobs.waiting) (IsListed table) (IsListed now) accepted conn tied beside };
 
     ghost tied_out = { λ jobs world table now accepted conn client tied listed free beside. laws.tied_out (W.meaning world) (owner_in jobs.owners.list) jobs.posted (get nat_eq jobs.waiting) (IsListed table) (IsListed now) accepted conn client tied listed free beside };
-
-    ghost tied_back = { λ jobs world table now accepted conn client tied listed here beside. laws.tied_back (W.meaning world) (owner_in jobs.owners.list) jobs.posted (get nat_eq jobs.waiting) (IsListed table) (IsListed now) accepted conn client tied listed here beside };
 }
