@@ -1,5 +1,5 @@
 //! What a server says on its connections, and what a request may wait for there.
-ghost use Rattle.std.specs.Prelude.{◌≡◌, ◌≢◌, ℕ, ◌+◌, ◌<◌, ◌≤◌, false, List, [], Bool, length, take, Err, IfOk, OnErr, OnOk, Option, Some, None};
+ghost use Rattle.std.specs.Prelude.{◌≡◌, ℕ, ◌+◌, ◌<◌, ◌≤◌, false, length, take, Err, OnErr, OnOk, Option, Some, None};
 ghost use Rattle.wsgi_core.specs.Applications.{App};
 ghost use Rattle.wsgi_core.specs.Standings.{IsBegun, IsFed, IsTaken, IsToldTheEnd};
 ghost use Rattle.stream_server.specs.Protocols.{Apps, IsLawful, Protocol, side_of};
