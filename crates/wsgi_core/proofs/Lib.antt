@@ -1,6 +1,5 @@
 pub mod AnswerLaws
 pub mod Cuts
-pub mod Fieldless
 pub mod ProgressLaws
 pub mod ProgressSteps
 pub mod SessionLaws

@@ -24,7 +24,7 @@ use types.Kit.{‵, raw, ◌⊛◌, prop, ◌$◌, ◌∵◌, !, qed, move, keep
 use types.Logic.{Logic}
 use types.Part.{agg}
 use types.Run.{enter, returns, no_more}
-use Rattle.line_counter.proofs.Nothing.{made_of_nothing, no_fields}
+use Rattle.gv_values.proofs.Fieldless.{made_of_nothing, no_fields}
 use Rattle.line_counter.specs.contracts.told.Told as Told
 use Rattle.line_counter.specs.contracts.told.Piece as Piece
 use Rattle.line_counter.specs.contracts.told.Told.and as call

@@ -22,7 +22,7 @@ use types.Kit.{‵, raw, ◌⊛◌, ◌$◌, ◌∵◌, !, qed, move, keep, drop
 use types.Logic.{Logic}
 use types.Part.{agg}
 use types.Run.{enter, returns, no_more}
-use Rattle.line_counter.proofs.Nothing.{made_of_nothing, no_fields}
+use Rattle.gv_values.proofs.Fieldless.{made_of_nothing, no_fields}
 use Rattle.line_counter.specs.contracts.told.Told as Told
 use Rattle.line_counter.specs.contracts.told.Told.nothing as call
 use Rattle.line_counter.specs.contracts.told.Told.nothing.Key.{name as #self}

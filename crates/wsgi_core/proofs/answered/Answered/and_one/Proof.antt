@@ -24,7 +24,7 @@ use types.Kit.{‵, raw, ◌⊛◌, prop, ◌$◌, ◌∵◌, !, qed, move, keep
 use types.Logic.{Logic}
 use types.Part.{agg}
 use types.Run.{enter, returns, no_more}
-use Rattle.wsgi_core.proofs.Fieldless.{made_of_nothing, no_fields}
+use Rattle.gv_values.proofs.Fieldless.{made_of_nothing, no_fields}
 use Rattle.wsgi_core.specs.contracts.answered.Answered as Answered
 use Rattle.wsgi_core.specs.contracts.answered.Answered.and_one as call
 use Rattle.wsgi_core.specs.contracts.answered.Answered.and_one.Key.{name as #self}

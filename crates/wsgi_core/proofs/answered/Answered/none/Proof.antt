@@ -22,7 +22,7 @@ use types.Kit.{‵, raw, ◌⊛◌, ◌$◌, ◌∵◌, !, qed, move, keep, drop
 use types.Logic.{Logic}
 use types.Part.{agg}
 use types.Run.{enter, returns, no_more}
-use Rattle.wsgi_core.proofs.Fieldless.{made_of_nothing, no_fields}
+use Rattle.gv_values.proofs.Fieldless.{made_of_nothing, no_fields}
 use Rattle.wsgi_core.specs.contracts.answered.Answered as Answered
 use Rattle.wsgi_core.specs.contracts.answered.Answered.none as call
 use Rattle.wsgi_core.specs.contracts.answered.Answered.none.Key.{name as #self}

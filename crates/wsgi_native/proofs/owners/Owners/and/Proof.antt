@@ -25,7 +25,7 @@ use types.Logic.{Logic}
 use types.Part.{agg}
 use types.Run.{enter, returns, no_more}
 use Rattle.wsgi_core.specs.Steps.{answered_of}
-use Rattle.wsgi_core.proofs.Fieldless.{made_of_nothing, no_fields}
+use Rattle.gv_values.proofs.Fieldless.{made_of_nothing, no_fields}
 use Rattle.wsgi_native.specs.contracts.owners.Owners as Owners
 use Rattle.wsgi_native.specs.contracts.owners.OwnedJob as OwnedJob
 use Rattle.wsgi_native.specs.contracts.owners.Owners.and as call

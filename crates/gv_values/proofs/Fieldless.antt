@@ -1,4 +1,4 @@
--- A step of the walks that make an `Answered`, which has no fields. Assumes `Logic`.
+-- A step of the walks that make a struct without fields. Assumes `Logic`.
 use Rattle.std.proofs.Common.{List, [], ◌∷◌, refl}
 use seplogic.Ra.Ura.{Ura}
 use mir.Val.{Val, vstruct, vnil}
