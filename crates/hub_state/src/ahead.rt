@@ -5,6 +5,7 @@ ghost use Rattle.held_items.specs.Entries.{flat};
 ghost use Rattle.hub_items.specs.Lines.{IsAhead};
 ghost use Rattle.hub_items.specs.WaitKinds.{test_of};
 
+use crate::order::items_stand_in_order;
 use held_items::HeldItems;
 use hub_items::{WaitKind, line_ahead};
 use machine::items::Waiting;
@@ -14,7 +15,7 @@ pub(crate) fn earlier(held: &HeldItems, kind: WaitKind, object: u32, since: u64)
     ensures { result ≡ earlier (test_of kind object) since (flat held.now.entries) }
 {
     let mut n = 0;
-    let _apart = held.len();
+    items_stand_in_order(held);
     let mut at = held.first_in_line(object, kind);
     while let Some(slot) = at {
         if held.get(slot).since >= since {
@@ -41,7 +42,7 @@ pub(crate) fn earlier_ahead(held: &HeldItems, waiting: &Waiting, since: u64) -> 
 pub(crate) fn earlier_than_last(held: &HeldItems, kind: WaitKind, object: u32) -> u64
     ensures { result ≡ earlier (test_of kind object) held.now.next_since (flat held.now.entries) }
 {
-    let _ascending = held.len();
+    items_stand_in_order(held);
     held.waiting_in(object, kind)
 }
 

@@ -5,6 +5,7 @@ ghost use Rattle.machine.specs.Deliveries.{without_item};
 ghost use Rattle.hub_items.specs.Short.{DeliversShort};
 
 use crate::hub::Hub;
+use crate::order::items_stand_in_order;
 use crate::touched::object_of;
 use machine::items::Item;
 
@@ -25,7 +26,7 @@ impl Hub {
     {
         match self.held.next_below(mark) {
             Some(slot) => {
-                let _ascending = self.held.len();
+                items_stand_in_order(&self.held);
                 let item = self.held.take(slot);
                 self.touched.touch(object_of(&item.delivery));
                 item

@@ -11,6 +11,7 @@ ghost use Rattle.hub_objects.specs.Releases.{refused};
 
 use crate::ahead::earlier;
 use crate::hub::Hub;
+use crate::order::items_stand_in_order;
 use crate::touched::{object_if, touch_crews, touch_offers};
 use crate::unawaited::is_awaited;
 use gv_values::{FaultKind, Job, Name, Value};
@@ -47,7 +48,7 @@ impl Hub {
     pub fn change(&mut self, o: u32, change: Change) -> Result<(), AllocError>
         ensures { OnOk result (self.new ≡ with_object o (changed change (object_at o self.old)) self.old) }
     {
-        let _ascending = self.held.len();
+        items_stand_in_order(&self.held);
         self.touched.touch(object_if(is_awaited(&self.held, o), o));
         self.base.objects.change(o, change)
     }
@@ -56,7 +57,7 @@ impl Hub {
     pub fn leave_crews(&mut self, g: u32)
         ensures { self.new ≡ record self.old { objects = map (without_member g) self.old.objects } }
     {
-        let _ascending = self.held.len();
+        items_stand_in_order(&self.held);
         touch_crews(&mut self.touched, &self.base.objects, g);
         self.base.objects.leave(g);
     }
@@ -66,7 +67,7 @@ impl Hub {
         ensures { self.new ≡ without_offer_by (since_of_wake g self.old.items) self.old }
     {
         if let Some(since) = self.held.since_of_wake(g) {
-            let _ascending = self.held.len();
+            items_stand_in_order(&self.held);
             touch_offers(&mut self.touched, self.base.objects.as_slice(), since);
             self.base.objects.withdraw(since);
         }
@@ -162,7 +163,7 @@ impl Hub {
         self.base.jobs.reserve(1)?;
         self.base.posts.reserve(1)?;
         self.base.lines.reserve(1)?;
-        let _ascending = self.held.len();
+        items_stand_in_order(&self.held);
         self.touched.touch(Some(o));
         self.base.objects.change(o, Change::SlotTaken)?;
         self.base.jobs.push_reserved(Posted::new(job, o));

@@ -13,6 +13,7 @@ ghost use Rattle.hub_state.specs.Touched.{IsRoomier};
 
 use crate::found::Found;
 use crate::hub::Hub;
+use crate::order::items_stand_in_order;
 use crate::touched::{Touched, object_left};
 use held_items::HeldItems;
 use hub_items::Gone;
@@ -82,7 +83,7 @@ impl Hub {
         requires short { DeliversShort delivery }
         ensures { OnOk result (self.new ≡ add_item delivery self.old) }
     {
-        let _ascending = self.held.len();
+        items_stand_in_order(&self.held);
         // One that doesn't hold changes nothing for the others that wait for the same: they need no look.
         let holds = self.would_hold(&delivery);
         self.touched.reserve_awaited(&delivery)?;
@@ -119,7 +120,7 @@ impl Hub {
     pub fn drop_items(&mut self, gone: &Gone)
         ensures { self.new ≡ drop_items (gone_of gone.now) self.old }
     {
-        let _ascending = self.held.len();
+        items_stand_in_order(&self.held);
         self.touched.touch(object_left(&self.held, gone));
         self.held.drop_items(gone);
     }

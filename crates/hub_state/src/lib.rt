@@ -18,6 +18,7 @@ mod items;
 mod looks;
 mod moments;
 mod numbers;
+mod order;
 mod outcomes;
 mod phases;
 mod questions;

@@ -17,6 +17,7 @@ use crate::ahead::earlier_ahead;
 use crate::base::Base;
 use crate::found::Found;
 use crate::in_lines::is_in_line;
+use crate::order::items_stand_in_order;
 use crate::touched::Touched;
 use held_items::{HeldItems, Target};
 use hub_items::WaitKind;
@@ -130,7 +131,7 @@ fn walk_back(base: &Base, held: &HeldItems, o: u32, kind: WaitKind, last: u32) -
     requires last { IsLastNumbered (waits_in_line kind o) held.now.entries last }
     ensures { PassesBy (waits_in_line kind o) (whole base.now held.now) held.now.entries result.0 result.1 }
 {
-    let _ascending = held.len();
+    items_stand_in_order(held);
     let mut passed = held.numbered_in(o, kind);
     let mut at = Some(last);
     while let Some(slot) = at {
@@ -170,7 +171,7 @@ fn look_at_line(base: &Base, held: &HeldItems, o: u32, kind: WaitKind, found: &m
     if is_settled(base, held, o, kind) {
         return;
     }
-    let _apart = held.len();
+    items_stand_in_order(held);
     let (first, passed) = begin_walk(base, held, o, kind);
     let mut before = passed;
     let mut at = first;

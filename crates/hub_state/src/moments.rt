@@ -4,6 +4,7 @@ ghost use Rattle.machine_settling.specs.Classes.{class_of, class_of_wait};
 ghost use Rattle.hub_state.specs.Forgotten.{all_forgotten, is_after, is_early, reached};
 
 use crate::hub::Hub;
+use crate::order::items_stand_in_order;
 use held_items::HeldItems;
 use machine::items::{Delivery, Item, Waiting};
 
@@ -45,7 +46,7 @@ fn forget_early(held: &mut HeldItems, moment: u64)
     ensures next { held.new.next ≡ held.old.next }
     ensures since { held.new.next_since ≡ held.old.next_since }
 {
-    let _differ = held.len();
+    items_stand_in_order(held);
     let mut at = held.oldest();
     while let Some(slot) = at {
         let early = is_early(held.get(slot), moment);
@@ -61,7 +62,7 @@ impl Hub {
     pub(crate) fn reach(&mut self, moment: u64)
         ensures { self.new ≡ reached moment self.old }
     {
-        let _ascending = self.held.len();
+        items_stand_in_order(&self.held);
         if moment >= self.base.moment {
             self.base.moment = moment;
             return;

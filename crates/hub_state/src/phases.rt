@@ -11,6 +11,7 @@ ghost use Rattle.machine.specs.declared.limits.TheConstants.{MOST_GREENLETS};
 
 use crate::greenlets::{Greenlet, Stage};
 use crate::hub::Hub;
+use crate::order::items_stand_in_order;
 use body_frames::Parked;
 use gv_values::Value;
 use scenario_tree::Items;
@@ -54,7 +55,7 @@ impl Hub {
     {
         let ended = self.is_end(g, &stage);
         self.touched.touch_end(ended, g);
-        let _ascending = self.held.len();
+        items_stand_in_order(&self.held);
         self.base.greenlets.swap(g, stage)
     }
 
@@ -62,7 +63,7 @@ impl Hub {
     pub fn set_stage(&mut self, g: u32, stage: Stage)
         ensures { self.new ≡ with_phase g (phase_of_stage stage) self.old }
     {
-        let _before = self.swap_stage(g, stage);
+        drop(self.swap_stage(g, stage));
     }
 
     /// Takes the body of the greenlet, which is then under way. None only where no body of it waits for
@@ -116,7 +117,7 @@ impl Hub {
         ensures made { OnOk result (self.new ≡ add_greenlet raw parent function arguments self.old) }
         ensures number { IfOk result (λ g. g ≡ length self.old.greenlets) }
     {
-        let _ascending = self.held.len();
+        items_stand_in_order(&self.held);
         let number = self.base.greenlets.len();
         self.base
             .greenlets

@@ -6,6 +6,7 @@ ghost use Rattle.hub_objects.specs.Jobs.{job_came};
 ghost use Rattle.hub_state.specs.Forgotten.{came};
 
 use crate::hub::Hub;
+use crate::order::items_stand_in_order;
 use gv_values::{Answer, JobOutcome};
 use hub_objects::{Change, Posted, any_outstanding, arrive_at, job_at};
 use std::alloc::AllocError;
@@ -16,7 +17,7 @@ use world_rules::{LAST_MOMENT, Question};
 fn arrive_in(jobs: &mut Vec<Posted>, j: u32, outcome: JobOutcome)
     ensures { (pool : Option ℕ) × job_came j outcome jobs.old.items pool jobs.new.items }
 {
-    let _pool = arrive_at(jobs, j, outcome);
+    arrive_at(jobs, j, outcome);
 }
 
 impl Hub {
@@ -70,7 +71,7 @@ impl Hub {
             return Ok(());
         };
         let pool = job.pool();
-        let _ascending = self.held.len();
+        items_stand_in_order(&self.held);
         self.touched.touch_end(true, j);
         self.touched.touch(Some(pool));
         self.base.objects.change(pool, Change::SlotFreed)?;

@@ -6,6 +6,7 @@ ghost use Rattle.hub_state.specs.Hosts.{at};
 
 use crate::greenlets::Greenlet;
 use crate::hub::Hub;
+use crate::order::items_stand_in_order;
 
 impl Hub {
     /// Whether the greenlet is raw.
@@ -41,7 +42,7 @@ impl Hub {
     pub fn set_parent(&mut self, child: u32, parent: u32)
         ensures { self.new ≡ record self.old { greenlets = slice_set self.old.greenlets child (record (greenlet child self.old) { parent = parent }) } }
     {
-        let _ascending = self.held.len();
+        items_stand_in_order(&self.held);
         self.base.greenlets.set_parent(child, parent);
     }
 }

@@ -33,6 +33,7 @@ impl<'a> Seen<'a> {
     pub fn new(hub: &'a Hub, current: u32) -> Seen<'a>
         ensures { result ≡ record { current = current; state = hub.now } }
     {
+        // What is counted of its objects fits: the invariant of what is seen.
         let _counted = hub.base.objects.as_slice();
         Seen { hub, current }
     }

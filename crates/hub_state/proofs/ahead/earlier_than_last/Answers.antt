@@ -5,4 +5,4 @@ use Rattle.hub_state.proofs.ahead.earlier_than_last.Goals as goal
 pub returns : goal.returns
 returns c =
     let n = c.args.held.now.next_since in
-    c.waiting_in.ensures ∙ sym (place_in_line c.args.kind c.args.object n n c.args.held.now.entries (omega arith) c.len-ascending.ensures.ascends)
+    c.waiting_in.ensures ∙ sym (place_in_line c.args.kind c.args.object n n c.args.held.now.entries (omega arith) c.items_stand_in_order.ensures.ascends)

@@ -35,10 +35,10 @@ returns-then-is_none c =
     let line = c.loop-at.invariant in
     let st = along_at (waits_in_line kind o) es c.loop-at.at q line.along c.requires.may.apart c.in-Some.is in
     let same = same_item q es st.item i st.there c.get-item.ensures in
-    let standing = line_standing (test_of kind o) c.args.held.now.next_since es c.loop-at.at q line.along st c.len-apart.ensures.ascends in
+    let standing = line_standing (test_of kind o) c.args.held.now.next_since es c.loop-at.at q line.along st c.items_stand_in_order.ensures.ascends in
     let before = line.so ∙ sym standing ∙ ap (λ (x : Item). earlier (test_of kind o) x.since (flat es)) same in
     let fails = sym (c.holds-holds.ensures c.args.held.now (line_before kind o c.loop-at.before (whole c.args.base.now c.args.held.now) i (ap (λ (x : Item). waits_in_line kind o x.delivery) (sym same) ∙ st.among.passes) before)) ∙ c.if-not-holds.true in
-    line_stopped kind o c.args.held.now.next_since (λ (passed : List Item). c.loop-at.before ≡ length passed) (whole c.args.base.now c.args.held.now) es c.args.found.now c.loop-at.found c.loop-at.at q i c.requires.may.apart c.len-apart.ensures.ascends
+    line_stopped kind o c.args.held.now.next_since (λ (passed : List Item). c.loop-at.before ≡ length passed) (whole c.args.base.now c.args.held.now) es c.args.found.now c.loop-at.found c.loop-at.at q i c.requires.may.apart c.items_stand_in_order.ensures.ascends
     refl c.requires.front line c.in-Some.is c.get-item.ensures fails (c.is_none.ensures ∙ ap not c.if-is_none.true)
 
 pub note-requires : goal.note-requires
@@ -53,9 +53,8 @@ overflow_add-before c =
     let st = along_at (waits_in_line c.args.kind c.args.o) es c.loop-at.at c.in-Some.slot line.along c.requires.may.apart c.in-Some.is in
     let few = standing_few (waits_in_line c.args.kind c.args.o) es c.loop-at.at c.in-Some.slot line.along st in
     let count = line.so in
-    let all = c.len-apart.ensures.len in
-    let fits = c.len-apart.type_inv in
-    omega (arith, few, count, all, fits)
+    let fits = c.items_stand_in_order.ensures.few in
+    omega (arith, few, count, fits)
 
 pub loop-at-smaller : goal.loop-at-smaller
 loop-at-smaller c =
@@ -76,7 +75,7 @@ loop-at-preserved c =
     line_on (waits_in_line kind o) (λ (passed : List Item). c.loop-at.before ≡ length passed) (λ (passed : List Item). c.loop-at.before + 1 ≡ length passed) (whole c.args.base.now c.args.held.now) es c.args.found.now c.loop-at.found c.note.new.self
     c.loop-at.at c.next_waiting-at.result q i c.holds-holds.result c.requires.may.apart line c.in-Some.is c.get-item.ensures
     (λ st same passes. c.holds-holds.ensures c.args.held.now (line_before kind o c.loop-at.before (whole c.args.base.now c.args.held.now) i passes
-    (line.so ∙ sym (line_standing (test_of kind o) c.args.held.now.next_since es c.loop-at.at q line.along st c.len-apart.ensures.ascends)
+    (line.so ∙ sym (line_standing (test_of kind o) c.args.held.now.next_since es c.loop-at.at q line.along st c.items_stand_in_order.ensures.ascends)
     ∙ ap (λ (x : Item). earlier (test_of kind o) x.since (flat es)) same)))
     (λ passed few passes so. (let long = length_push passed i in omega (arith, long, so))) c.note.ensures (c.next_waiting-at.ensures.in_line kind o)
 

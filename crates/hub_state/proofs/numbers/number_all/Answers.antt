@@ -20,4 +20,4 @@ loop-pair-preserved c =
     let rest = drop (k + 1) c.args.gained.now in
     let left = subst (λ (xs : List (ℕ × ℕ)). Gives c.args.gained.now xs k c.args.held.now c.loop-pair.held) (drop_more c.args.gained.now k (0, 0) c.loop-pair-test.true) c.loop-pair.invariant in
     subst (λ (h : SeenItems). Gives c.args.gained.now rest (k + 1) c.args.held.now h) (sym c.number.ensures)
-    (gives_more c.args.gained.now rest k (get_or c.args.gained.now k (0, 0)) c.args.held.now c.loop-pair.held c.len-apart.ensures.differ c.len-apart.ensures.ascends left)
+    (gives_more c.args.gained.now rest k (get_or c.args.gained.now k (0, 0)) c.args.held.now c.loop-pair.held c.items_stand_in_order.ensures.differ c.items_stand_in_order.ensures.ascends left)

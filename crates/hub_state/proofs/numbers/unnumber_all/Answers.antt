@@ -20,4 +20,4 @@ loop-pair-preserved c =
     let rest = drop (k + 1) c.args.lost.now in
     let left = subst (λ (xs : List (ℕ × ℕ)). Takes c.args.lost.now xs c.args.held.now c.loop-pair.held) (drop_more c.args.lost.now k (0, 0) c.loop-pair-test.true) c.loop-pair.invariant in
     subst (λ (h : SeenItems). Takes c.args.lost.now rest c.args.held.now h) (sym c.unnumber.ensures)
-    (takes_more c.args.lost.now rest (get_or c.args.lost.now k (0, 0)) c.args.held.now c.loop-pair.held c.len-apart.ensures.differ c.len-apart.ensures.ascends left)
+    (takes_more c.args.lost.now rest (get_or c.args.lost.now k (0, 0)) c.args.held.now c.loop-pair.held c.items_stand_in_order.ensures.differ c.items_stand_in_order.ensures.ascends left)

@@ -20,6 +20,6 @@ invariant_of-self-2 c =
     let made = c.in_ok-push.ensures.ok ∙ ap (λ (g : Greenlet). c.self.inside.base.greenlets ++ g ∷ []) c.new.ensures in
     record {
       kept =
-          hub_made c.args.raw c.args.parent c.args.function c.args.arguments c.self.inside.held c.self.inside.touched (state_of c.self.inside) c.push.new.self (ascending 0 _ _ c.len-ascending.ensures.ascends) made c.self.invariant.kept;
+          hub_made c.args.raw c.args.parent c.args.function c.args.arguments c.self.inside.held c.self.inside.touched (state_of c.self.inside) c.push.new.self (ascending 0 _ _ c.items_stand_in_order.ensures.ascends) made c.self.invariant.kept;
       room = c.self.invariant.room;
     }

@@ -31,6 +31,6 @@ invariant_of-self-2 c =
     record {
       kept =
           hub_arrived c.args.j c.args.outcome job c.pool-pool.result c.self.inside.held c.self.inside.touched c.touch_end.new.self c.touch.new.self s c.change.new.self c.arrive_in.new.jobs.items
-          (ascending 0 _ _ c.len-ascending.ensures.ascends) there c.pool-pool.ensures c.touch_end.ensures c.touch.ensures c.in_ok-change.ensures.changed came.1 c.self.invariant.kept;
+          (ascending 0 _ _ c.items_stand_in_order.ensures.ascends) there c.pool-pool.ensures c.touch_end.ensures c.touch.ensures c.in_ok-change.ensures.changed came.1 c.self.invariant.kept;
       room = c.self.invariant.room;
     }

@@ -12,7 +12,7 @@ invariant_of-self c =
     let held = c.self.inside.held in
     let t = c.self.inside.touched in
     let u = c.touch.new.self in
-    let a = ascending 0 _ _ c.len-ascending.ensures.ascends in
+    let a = ascending 0 _ _ c.items_stand_in_order.ensures.ascends in
     let touched : u ≡ with_touched (if c.is_awaited.result then Some c.args.o else None) t = c.touch.ensures ∙ ap (λ o. with_touched o t) c.object_if.ensures in
     record {
       kept =

@@ -24,6 +24,6 @@ invariant_of-self-2 c =
     record {
       kept =
           hub_posted c.args.g c.args.o c.args.job c.args.takes c.self.inside.held c.self.inside.touched c.touch.new.self s c.change.new.self c.push_reserved.new.self.items c.push_reserved-3.new.self.items
-          c.push_reserved-2.new.self.items (ascending 0 _ _ c.len-ascending.ensures.ascends) c.touch.ensures c.in_ok-change.ensures.changed posted c.self.invariant.kept;
+          c.push_reserved-2.new.self.items (ascending 0 _ _ c.items_stand_in_order.ensures.ascends) c.touch.ensures c.in_ok-change.ensures.changed posted c.self.invariant.kept;
       room = c.self.invariant.room;
     }

@@ -12,7 +12,7 @@ pub invariant_of-self : goal.invariant_of-self
 invariant_of-self c =
     record {
       kept =
-          hub_later c.args.moment c.self.inside.held c.self.inside.touched (state_of c.self.inside) (ascending 0 _ _ c.len-ascending.ensures.ascends) c.if-moment-self.true c.self.invariant.kept;
+          hub_later c.args.moment c.self.inside.held c.self.inside.touched (state_of c.self.inside) (ascending 0 _ _ c.items_stand_in_order.ensures.ascends) c.if-moment-self.true c.self.invariant.kept;
       room = c.self.invariant.room;
     }
 
@@ -27,7 +27,7 @@ invariant_of-self-2 c =
     let e = c.forget_early.ensures in
     record {
       kept =
-          hub_reached c.args.moment c.self.inside.held c.forget_early.new.held c.self.inside.touched (state_of c.self.inside) c.len-ascending.ensures.ascends e.entries e.next e.since c.self.invariant.kept;
+          hub_reached c.args.moment c.self.inside.held c.forget_early.new.held c.self.inside.touched (state_of c.self.inside) c.items_stand_in_order.ensures.ascends e.entries e.next e.since c.self.invariant.kept;
       room = changed_fit (λ (x : Entry). (x.0, forgotten c.args.moment x.1)) c.self.inside.held.entries _ _ e.entries c.self.invariant.room;
     }
 

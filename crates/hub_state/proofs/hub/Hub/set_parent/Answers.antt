@@ -7,6 +7,6 @@ pub invariant_of-self : goal.invariant_of-self
 invariant_of-self c =
     record {
       kept =
-          hub_parented c.args.child c.args.parent c.self.inside.held c.self.inside.touched (state_of c.self.inside) c.set_parent.new.self (ascending 0 _ _ c.len-ascending.ensures.ascends) c.set_parent.ensures c.self.invariant.kept;
+          hub_parented c.args.child c.args.parent c.self.inside.held c.self.inside.touched (state_of c.self.inside) c.set_parent.new.self (ascending 0 _ _ c.items_stand_in_order.ensures.ascends) c.set_parent.ensures c.self.invariant.kept;
       room = c.self.invariant.room;
     }

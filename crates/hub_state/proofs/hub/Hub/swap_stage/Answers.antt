@@ -14,7 +14,7 @@ invariant_of-self c =
     let ended = subst (λ (r : State). c.is_end-ended.result ≡ (is_done r c.args.g || is_some (outcome_of_phase (phase_of_stage c.args.stage)))) (sym c.self.view_is) c.is_end-ended.ensures in
     record {
       kept =
-          hub_comes c.args.g (phase_of_stage c.args.stage) c.is_end-ended.result c.self.inside.held c.self.inside.touched c.touch_end.new.self s c.swap.new.self (ascending 0 _ _ c.len-ascending.ensures.ascends) ended c.touch_end.ensures
+          hub_comes c.args.g (phase_of_stage c.args.stage) c.is_end-ended.result c.self.inside.held c.self.inside.touched c.touch_end.new.self s c.swap.new.self (ascending 0 _ _ c.items_stand_in_order.ensures.ascends) ended c.touch_end.ensures
           c.swap.ensures.set c.self.invariant.kept;
       room = c.self.invariant.room;
     }

@@ -10,7 +10,7 @@ pub invariant_of-self : goal.invariant_of-self
 invariant_of-self c =
     record {
       kept =
-          hub_taken _ c.take-item.result c.self.inside.held c.take-item.new.self c.self.inside.touched c.touch.new.self (state_of c.self.inside) c.len-ascending.ensures.ascends c.take-item.ensures.item c.take-item.ensures.taken
+          hub_taken _ c.take-item.result c.self.inside.held c.take-item.new.self c.self.inside.touched c.touch.new.self (state_of c.self.inside) c.items_stand_in_order.ensures.ascends c.take-item.ensures.item c.take-item.ensures.taken
           c.take-item.ensures.items (c.touch.ensures ∙ ap (λ (o : Option ℕ). with_touched o c.self.inside.touched) c.object_of.ensures) c.self.invariant.kept;
       room = fewer_fit (λ (e : Entry). not (e.0 == c.in-Some.slot)) c.self.inside.held.entries _ _ (ap (λ (s : SeenItems). s.entries) c.take-item.ensures.taken) c.self.invariant.room;
     }

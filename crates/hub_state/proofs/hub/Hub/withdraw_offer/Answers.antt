@@ -15,6 +15,6 @@ invariant_of-self c =
     let touched = subst (λ (xs : List Object). HasTouched (has_offer_by since) xs (length xs) t u) c.as_slice.ensures.same c.touch_offers.ensures in
     record {
       kept =
-          hub_withdrawn since c.self.inside.held t u (state_of c.self.inside) c.withdraw.new.self (ascending 0 _ _ c.len-ascending.ensures.ascends) touched c.withdraw.ensures c.self.invariant.kept;
+          hub_withdrawn since c.self.inside.held t u (state_of c.self.inside) c.withdraw.new.self (ascending 0 _ _ c.items_stand_in_order.ensures.ascends) touched c.withdraw.ensures c.self.invariant.kept;
       room = c.self.invariant.room;
     }
