@@ -1,7 +1,7 @@
 -- The first of some excepts, by its class.
 use Rattle.std.proofs.Common.{◌≡◌, refl, ap, sym, ◌∙◌, true, false, List, [], ◌∷◌, Some, map, ℕ, zero, suc, ◌+◌, ◌<◌, length, drop, get_or, arith}
 use Rattle.gv_values.specs.declared.fault.FaultKind.{FaultKind}
-use Rattle.gv_values.specs.Faults.{catches}
+use Rattle.gv_values.specs.Fault.{catches}
 use Rattle.scenario_tree.specs.declared.tree.Except.{out-Except, out-roll-Except}
 use Rattle.scenario_tree.specs.declared.tree.Statement.{Statement}
 use Rattle.machine.specs.Unwinding.{catching}

@@ -4,7 +4,7 @@ use Rattle.std.specs.Prelude.{if◌then◌else◌, pos, unwrap_or}
 use Rattle.gv_values.specs.declared.fault.FaultKind.{FaultKind}
 use Rattle.gv_values.specs.declared.value.Outcome.{Outcome}
 use Rattle.gv_values.specs.declared.value.Value.{Value}
-use Rattle.gv_values.specs.Faults.{catches}
+use Rattle.gv_values.specs.Fault.{catches}
 use Rattle.scenario_tree.specs.declared.tree.Action.{Action, Action-F, out-Action}
 use Rattle.scenario_tree.specs.declared.tree.Command.{Command}
 use Rattle.scenario_tree.specs.declared.tree.Except.{Except, out-Except}

@@ -7,7 +7,7 @@ use Rattle.gv_values.specs.declared.fault.FaultKind.{FaultKind}
 use Rattle.gv_values.specs.declared.value.Value.{Value}
 use Rattle.gv_values.specs.declared.value.Outcome.{Outcome}
 use Rattle.gv_values.specs.declared.scalar.Scalar.{Scalar}
-use Rattle.gv_values.specs.Values.{scalar_of_value}
+use Rattle.gv_values.specs.Value.{scalar_of_value}
 use Rattle.machine.specs.Expressions.{scalars, listed, type_error}
 use Rattle.gv_values.specs.declared.limits.TheConstants.{MOST_ELEMENTS}
 

@@ -6,7 +6,7 @@ use Rattle.std.proofs.lemmas.Str.Parse.{without_leading_plus_none}
 use Rattle.std.specs.Char.{digit_value}
 use Rattle.std.specs.List.{list_all}
 use Rattle.std.specs.Str.Parse.{AllDigits, IsNumeral, digits_value, without_leading_plus}
-use Rattle.gv_values.specs.Names.{is_digit}
+use Rattle.gv_values.specs.Name.{is_digit}
 use Rattle.gv_values.specs.Digits.{is_plain_number}
 use Rattle.gv_values.proofs.PlainNumbers.{plain_digits}
 use Rattle.command_words.specs.Words.{number_in}

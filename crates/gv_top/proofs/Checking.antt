@@ -8,7 +8,7 @@ use Rattle.verify_command.specs.Judged.{IsReasoned, IsSaid, IsSaidOf, IsSame, Ve
 use Rattle.verify_command.specs.declared.checking.Unverified.{Unverified}
 use Rattle.gv_top.specs.Answers.{Answer}
 use Rattle.gv_top.specs.Top.{Decided, FitsAnswer}
-use Rattle.gv_top.specs.Verdicts.{verdict_line, verdict_of_check, verdict_status}
+use Rattle.gv_top.specs.Status.{verdict_line, verdict_of_check, verdict_status}
 use Rattle.gv_top.specs.Verifying.{IsCheckAnswer, unverified, verified}
 use Rattle.gv_top.specs.Inner.{IsAnswerWhere, IsExplained}
 use Rattle.gv_top.specs.declared.status.Verdict.{Verdict}

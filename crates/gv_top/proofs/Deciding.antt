@@ -2,7 +2,7 @@
 use Rattle.std.proofs.Common.{◌≡◌, ◌≢◌, ℕ, List, [], ◌++◌, take, drop, Option, Some, None, Ok, Err, refl, ap, sym, subst, ◌∙◌, unwrap_or, IfSome, take-append-drop, arith}
 use Rattle.std.proofs.lemmas.List.{append_cancel_left}
 use Rattle.gv_values.specs.declared.job.Answer.{Answer as Given}
-use Rattle.trace_text.specs.LineTexts.{text_of}
+use Rattle.trace_text.specs.Line.{text_of}
 use Rattle.trace_text.specs.declared.line.StopCause.{StopCause}
 use Rattle.scenario_tree.specs.declared.tree.Scenario.{Scenario}
 use Rattle.gv_io.specs.Streams.{appended, prepended, AppendsPrefix}
@@ -25,14 +25,14 @@ use Rattle.gv_top.proofs.ReadTexts.{answer_by, text_answer}
 use Rattle.gv_top.specs.Answers.{Answer, answer_to_scenario, answer_of_run, answer_of_session, err_of, most_read, no_port, status_of, usage}
 use Rattle.gv_top.specs.Inner.{answer_to_text, IsExplained, IsOfConnection}
 use Rattle.scenario_reading.specs.Judged.{IsRefusedWithReason, judged_text}
-use Rattle.gv_top.specs.Gateways.{answers_by}
-use Rattle.gv_top.specs.Verdicts.{verdict_line, verdict_of_connection, verdict_of_run, verdict_of_text, verdict_status}
-use Rattle.wsgi_core.specs.Answers.{Sent, nothing_sent}
+use Rattle.gv_top.specs.Gateway.{answers_by}
+use Rattle.gv_top.specs.Status.{verdict_line, verdict_of_connection, verdict_of_run, verdict_of_text, verdict_status}
+use Rattle.wsgi_core.specs.Answer.{Sent, nothing_sent}
 use Rattle.wsgi_core.specs.Applications.{App}
 use Rattle.wsgi_core.proofs.ProgressLaws.{answers-nothing}
 use Rattle.scgi_core.proofs.CallLaws.{answers-nothing as scgi-nothing}
 use Rattle.wsgi_connection.specs.declared.connection.TheConstants.{MOST_CONNECTION}
-use Rattle.wsgi_connection.specs.Connections.{Exchanged, HandedAhead, SentAhead}
+use Rattle.wsgi_connection.specs.Connection.{Exchanged, HandedAhead, SentAhead}
 use Rattle.wsgi_connection.specs.Wholes.{IsWhole}
 use Rattle.wsgi_connection.specs.declared.connection.ConnectionEnd.{ConnectionEnd}
 use Rattle.gv_top.specs.Top.{Decided}

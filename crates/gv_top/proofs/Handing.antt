@@ -3,18 +3,18 @@ use Rattle.std.proofs.Common.{◌≡◌, ◌≢◌, ◌⊎◌, inl, inr, refl, a
 use Rattle.gv_values.specs.declared.job.Answer.{Answer}
 use Rattle.gv_io.specs.Streams.{appended, Extends}
 use Rattle.gv_io.proofs.StreamLaws.{appended-appended}
-use Rattle.trace_text.specs.LineTexts.{text_of}
+use Rattle.trace_text.specs.Line.{text_of}
 use Rattle.scenario_tree.specs.declared.tree.Scenario.{Scenario}
 use Rattle.scenario_grammar.specs.declared.place.Place.{Place}
-use Rattle.world.specs.Worlds.{WorldMeaning}
+use Rattle.world.specs.Outside.{WorldMeaning}
 use Rattle.machine.specs.Run.{Ran, run, script_run}
 use Rattle.hub_engine.specs.declared.run.EngineEnd.{EngineEnd}
-use Rattle.hub_engine.specs.Ahead.{WroteAhead}
+use Rattle.hub_engine.specs.Run.{WroteAhead}
 use Rattle.hub_engine.specs.Prepared.{Prepared}
 use Rattle.wsgi_connection.specs.declared.connection.ConnectionEnd.{ConnectionEnd}
-use Rattle.stream_net.specs.Nets.{NetMeaning as Net}
+use Rattle.stream_net.specs.Net.{NetMeaning as Net}
 use Rattle.serve_command.specs.declared.serving.Served.{Served}
-use Rattle.serve_command.specs.Served.{IsToldFirst}
+use Rattle.serve_command.specs.Serving.{IsToldFirst}
 use Rattle.command_words.specs.declared.command.RunOptions.{RunOptions}
 use Rattle.command_words.specs.declared.command.RunWorld.{RunWorld}
 use Rattle.command_words.specs.declared.command.TextCommand.{TextCommand}
@@ -25,7 +25,7 @@ use Rattle.gv_top.specs.Counted.{is_broken_off}
 use Rattle.gv_top.specs.Running.{BeganSo}
 use Rattle.gv_top.specs.Top.{HandsOn, IsVerdictTold}
 use Rattle.gv_top.specs.Inner.{BeganText, IsOr}
-use Rattle.gv_top.specs.Verdicts.{verdict_of_connection, verdict_of_run, verdict_of_server, verdict_status}
+use Rattle.gv_top.specs.Status.{verdict_of_connection, verdict_of_run, verdict_of_server, verdict_status}
 
 -- ---- what was handed on
 

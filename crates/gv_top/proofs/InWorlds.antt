@@ -6,7 +6,7 @@ use Rattle.gv_io.specs.Streams.{appended, AppendsPrefix}
 use Rattle.gv_io.proofs.StreamLaws.{AppendsPrefix-longer}
 use Rattle.trace_text.specs.declared.line.Line.{Line}
 use Rattle.trace_text.specs.declared.line.StopCause.{StopCause}
-use Rattle.trace_text.specs.LineTexts.{answers_told, line_text, text_of}
+use Rattle.trace_text.specs.Line.{answers_told, line_text, text_of}
 use Rattle.scenario_tree.specs.declared.tree.Scenario.{Scenario}
 use Rattle.world_rules.specs.declared.question.LogEntry.{LogEntry}
 use Rattle.world_rules.specs.Legal.{AreLegal, answers_of, is_answered, posts_of}
@@ -16,7 +16,7 @@ use Rattle.world.specs.Holding.{Leads}
 use Rattle.world.specs.LegalLogs.{HasLegalLog}
 use Rattle.world.specs.Kept.{rule_state, script_log, script_meaning}
 use Rattle.world.specs.Logged.{script_log_is}
-use Rattle.world.specs.Worlds.{Begins, WorldGoesOn, WorldMeaning}
+use Rattle.world.specs.Outside.{Begins, WorldGoesOn, WorldMeaning}
 use Rattle.machine.specs.Run.{End as RunEnd, Ran, Source, run, run_from, script_run}
 use Rattle.machine_scripts.specs.Scripts.{FollowersRunScripts, IsBeginningOf}
 use Rattle.machine_told.specs.Told.{posts_told}
@@ -24,7 +24,7 @@ use Rattle.machine_told.specs.Laws.{AnswersAreTold, PostsAreTold}
 use Rattle.hub_engine.specs.declared.run.EngineEnd.{EngineEnd}
 use Rattle.hub_engine.specs.Prepared.{Prepared}
 use Rattle.hub_engine.specs.Ends.{HasLogged, IsPartLogged, RanTo, end_of_run}
-use Rattle.hub_engine.specs.Ahead.{WroteAhead}
+use Rattle.hub_engine.specs.Run.{WroteAhead}
 use Rattle.gv_top.proofs.Deciding.{prefix_of_trace}
 use Rattle.gv_top.proofs.Tops.{unchanged_lawful}
 use Rattle.gv_top.specs.Running.{IsBegun, IsUnbegun, RanHeld, RanNatively, run_of, RanWith}
@@ -36,7 +36,7 @@ use Rattle.gv_top.specs.Top.{BlocksAtQuiet, Counts, HasLawfulLines}
 use Rattle.machine_blocks.specs.Laws.{BlocksAreTold}
 use Rattle.machine_trace_laws.specs.Laws.{BlocksQuietly}
 use Rattle.scenario_rules.specs.Rules.{IsWellFormed}
-use Rattle.gv_top.specs.Verdicts.{verdict_of_run, verdict_of_text, verdict_status}
+use Rattle.gv_top.specs.Status.{verdict_of_run, verdict_of_text, verdict_status}
 use Rattle.gv_top.specs.declared.status.Verdict.{Verdict}
 use Rattle.command_words.specs.declared.command.RunOptions.{RunOptions}
 use Rattle.command_words.specs.declared.command.RunWorld.{RunWorld}

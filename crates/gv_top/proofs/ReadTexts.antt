@@ -13,7 +13,7 @@ use Rattle.scenario_check.proofs.FirstPlace.{well_formed, not_well_formed}
 use Rattle.machine.specs.Run.{Ran, End}
 use Rattle.gv_top.specs.Answers.{IsRefusedAt, IsTextAnswer, Answer, answer_to_scenario, answer_of_run, most_read, refused_answer, status_of}
 use Rattle.gv_top.specs.Inner.{answer_to_text}
-use Rattle.world.specs.Worlds.{WorldMeaning}
+use Rattle.world.specs.Outside.{WorldMeaning}
 use Rattle.world_rules.specs.declared.question.LogEntry.{LogEntry}
 use Rattle.command_words.specs.declared.command.RunOptions.{RunOptions}
 use Rattle.gv_top.specs.Commands.{Headline}

@@ -4,7 +4,7 @@ use Rattle.std.proofs.lemmas.Bool.{le-ltb, lt-ltb, ltb-false, ltb-true}
 use Rattle.command_words.specs.declared.command.TraceCheck.{TraceCheck}
 use Rattle.scenario_tree.specs.declared.tree.Scenario.{Scenario}
 use Rattle.scenario_grammar.specs.declared.place.Place.{Place}
-use Rattle.scenario_grammar.specs.Places.{line_at, place}
+use Rattle.scenario_grammar.specs.Place.{line_at, place}
 use Rattle.scenario_check.proofs.FirstPlace.{well_formed}
 use Rattle.scenario_reading.specs.Judged.{judged_text}
 use Rattle.machine.specs.Run.{run}
@@ -13,7 +13,7 @@ use Rattle.trace_check.specs.Parts.{parted}
 use Rattle.trace_check.specs.declared.lawful.LawlessTrace.{LawlessTrace}
 use Rattle.trace_check.specs.declared.refusal.Cause.{Cause}
 use Rattle.trace_check.specs.declared.refusal.TraceRefusal.{TraceRefusal}
-use Rattle.verify_command.specs.Inputs.{end_line}
+use Rattle.verify_command.specs.Lines.{end_line}
 use Rattle.verify_command.specs.declared.lines.TheConstants.{MOST_CHECKED}
 use Rattle.verify_command.specs.Judged.{IsSaidIf, IsSaidOf, IsSaidOfParts, IsSaidOfScenario, Verification, said_of_laws, said_of_run}
 use Rattle.verify_command.specs.declared.checking.Unverified.{Unverified}

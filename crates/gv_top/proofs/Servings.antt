@@ -11,9 +11,9 @@ use Rattle.command_words.specs.declared.command.GatewayKind.{GatewayKind}
 use Rattle.command_words.specs.declared.command.ServeAnswers.{ServeAnswers}
 use Rattle.command_words.specs.declared.command.ServeOptions.{ServeOptions}
 use Rattle.wsgi_core.specs.Applications.{App}
-use Rattle.wsgi_core.specs.Sessions.{answers}
-use Rattle.world.specs.Worlds.{WorldMeaning as World}
-use Rattle.stream_net.specs.Nets.{Connection, IsAtRest, IsFresh, NetMeaning}
+use Rattle.wsgi_core.specs.Session.{answers}
+use Rattle.world.specs.Outside.{WorldMeaning as World}
+use Rattle.stream_net.specs.Net.{Connection, IsAtRest, IsFresh, NetMeaning}
 use Rattle.stream_server.specs.declared.limits.Limits.{Limits}
 use Rattle.stream_server.specs.Ranges.{IsInRange}
 use Rattle.stream_server.specs.Serving.{Rests}
@@ -23,17 +23,17 @@ use Rattle.wsgi_native.specs.JobApp.{job_app}
 use Rattle.wsgi_native.specs.Tied.{IsInOrder}
 use Rattle.serve_command.specs.declared.serving.Served.{Served}
 use Rattle.serve_command.specs.Jobs.{ServesJobsAt}
-use Rattle.serve_command.specs.Served.{ServesAt, listening}
+use Rattle.serve_command.specs.Serving.{ServesAt, listening}
 use Rattle.serve_command.proofs.Ends.{memory_no_jobs, memory_unfinished, none_served, spent_as}
 use Rattle.serve_command.proofs.JobsEnds.{none_served_jobs}
 use Rattle.gv_top.specs.declared.status.Verdict.{Verdict}
 use Rattle.gv_top.specs.declared.words.OfflineCommand.{OfflineCommand}
-use Rattle.gv_top.specs.Gateways.{answers_by}
+use Rattle.gv_top.specs.Gateway.{answers_by}
 use Rattle.gv_top.specs.Serving.{Serves, ServesNatively, ServesWith, limits_of}
 use Rattle.gv_top.specs.Answers.{memory_line, read_fault_line}
 use Rattle.gv_top.specs.Top.{IsStatusOf, IsVerdictTold}
 use Rattle.gv_top.specs.Inner.{IsOr}
-use Rattle.gv_top.specs.Verdicts.{verdict_line, verdict_of_server, verdict_status}
+use Rattle.gv_top.specs.Status.{verdict_line, verdict_of_server, verdict_status}
 use Rattle.gv_top.specs.Words.{built, offline_command_of, serve_of, serving}
 use Rattle.gv_top.proofs.Built.{NamedAreInRange}
 use Rattle.gv_top.proofs.Tops.{HasFailed, fails, left_as_it_was, no_memory_line, read_line, status_or}

@@ -13,7 +13,7 @@ use Rattle.std.proofs.lemmas.List.Folds.{list_all-append}
 use Rattle.std.proofs.lemmas.Str.Parse.{digit_from_value}
 use denote.Hole.Carrier.{out, shown, hidden, roll}
 use Rattle.gv_values.specs.Digits.{is_plain_number}
-use Rattle.gv_values.specs.Names.{is_digit}
+use Rattle.gv_values.specs.Name.{is_digit}
 use Rattle.gv_values.specs.declared.arith.Arith.TheVariants as arithmetic
 use Rattle.gv_values.proofs.Decimals.{printed_decimal}
 use Rattle.scenario_tree.specs.declared.tree.Action.{Action, out-Action}
@@ -37,14 +37,14 @@ use Rattle.scenario_grammar.specs.declared.token.Token.{Token}
 use Rattle.scenario_grammar.specs.declared.token.Token.TheVariants as token
 use Rattle.scenario_grammar.specs.Blocks.{scenario_lines, block_within}
 use Rattle.scenario_grammar.specs.Expressions.{tokens_within}
-use Rattle.scenario_grammar.specs.Keywords.{keywords, keyword_of}
+use Rattle.scenario_grammar.specs.Keyword.{keywords, keyword_of}
 use Rattle.scenario_grammar.specs.Layout.{Line, Word, lines, lines_from, is_blank, is_end, is_ended, is_spaced, is_text_byte}
-use Rattle.scenario_grammar.specs.Phrases.{phrase_tokens}
+use Rattle.scenario_grammar.specs.Phrase.{phrase_tokens}
 use Rattle.scenario_grammar.specs.Spells.{AreTreeLines, Spells}
-use Rattle.scenario_grammar.specs.Tokens.{◌⊕◌, ◌▹◌, only_if, name, token_of, token_in, known_in, number_token, in_64_bits, begins_number}
-use Rattle.scenario_rules.specs.Mentions.{statement_mentions}
+use Rattle.scenario_grammar.specs.Token.{◌⊕◌, ◌▹◌, only_if, name, token_of, token_in, known_in, number_token, in_64_bits, begins_number}
+use Rattle.scenario_rules.specs.Mention.{statement_mentions}
 use Rattle.scenario_rules.specs.Rules.{IsWellFormed}
-use Rattle.gv_top.specs.Storm.{storm_text, storm_head, storm_tail}
+use Rattle.gv_top.specs.Storming.{storm_text, storm_head, storm_tail}
 
 -- ---- the scenario
 

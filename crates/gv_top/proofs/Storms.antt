@@ -4,7 +4,7 @@ use Rattle.std.proofs.lemmas.Grind.{common_steps}
 use Rattle.gv_io.specs.Streams.{appended}
 use Rattle.gv_io.proofs.StreamLaws.{AppendsPrefix-nothing, appended-told}
 use Rattle.line_counter.specs.Lines.{lines_of}
-use Rattle.trace_text.specs.LineTexts.{line_text, text_of}
+use Rattle.trace_text.specs.Line.{line_text, text_of}
 use Rattle.trace_text.specs.declared.line.Line.{Line}
 use Rattle.trace_text.specs.declared.line.StopCause.{StopCause}
 use Rattle.scenario_tree.specs.declared.tree.Scenario.{Scenario}
@@ -12,7 +12,7 @@ use Rattle.scenario_grammar.specs.declared.place.Place.{Place}
 use Rattle.scenario_lang.specs.declared.text.ParseRefusal.{ParseRefusal}
 use Rattle.scenario_lang.specs.declared.text.ParseRefusal.TheVariants as parse
 use Rattle.scenario_lang.specs.Lines.{Parses}
-use Rattle.world.specs.Worlds.{Begins, WorldGoesOn, WorldMeaning}
+use Rattle.world.specs.Outside.{Begins, WorldGoesOn, WorldMeaning}
 use Rattle.world.specs.Kept.{rule_state, script_log, script_meaning}
 use Rattle.world.specs.declared.script.ScriptWorld.{ScriptWorld}
 use Rattle.world_rules.specs.declared.question.LogEntry.{LogEntry}
@@ -34,9 +34,9 @@ use Rattle.gv_top.specs.declared.words.OfflineCommand.{OfflineCommand}
 use Rattle.scenario_reading.specs.Judged.{judged_text}
 use Rattle.gv_top.specs.Answers.{Answer, IsStormAnswer, answer_of_storm}
 use Rattle.gv_top.specs.Counted.{WasCounted, is_broken_off}
-use Rattle.gv_top.specs.Storm.{IsStorm, storm_run, storm_text}
+use Rattle.gv_top.specs.Storming.{IsStorm, storm_run, storm_text}
 use Rattle.gv_top.specs.Top.{Decided, Ended, IsAnswered, Stream}
-use Rattle.gv_top.specs.Verdicts.{verdict_of_run, verdict_of_text}
+use Rattle.gv_top.specs.Status.{verdict_of_run, verdict_of_text}
 use Rattle.gv_top.proofs.InWorlds.{part_logged}
 use Rattle.gv_top.proofs.ReadTexts.{spelt_is_judged}
 use Rattle.gv_top.proofs.Tops.{answered, status_is}

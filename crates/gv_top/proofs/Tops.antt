@@ -3,7 +3,7 @@ use Rattle.std.proofs.Common.{◌≡◌, ◌≢◌, ◌⊎◌, inl, inr, refl, a
 use Rattle.gv_values.specs.Counts.{HasRisen}
 use Rattle.gv_io.specs.Streams.{appended, AppendsPrefix}
 use Rattle.gv_io.proofs.StreamLaws.{appended-nothing, AppendsPrefix-all, AppendsPrefix-nothing}
-use Rattle.world.specs.Worlds.{WorldMeaning}
+use Rattle.world.specs.Outside.{WorldMeaning}
 use Rattle.world_rules.specs.declared.question.LogEntry.{LogEntry}
 use Rattle.hub_engine.specs.declared.run.EngineEnd.{EngineEnd}
 use Rattle.wsgi_core.specs.Applications.{App}
@@ -17,15 +17,15 @@ use Rattle.command_words.specs.declared.command.GatewayKind.{GatewayKind}
 use Rattle.command_words.specs.declared.command.RunOptions.{RunOptions}
 use Rattle.command_words.specs.declared.command.TextCommand.{TextCommand}
 use Rattle.command_words.specs.declared.command.TraceCheck.{TraceCheck}
-use Rattle.trace_text.specs.LineTexts.{text_of}
+use Rattle.trace_text.specs.Line.{text_of}
 use Rattle.scenario_tree.specs.declared.tree.Scenario.{Scenario}
 use Rattle.scenario_grammar.specs.Spells.{Spells}
 use Rattle.scenario_rules.specs.Rules.{IsWellFormed}
-use Rattle.verify_command.specs.Inputs.{most_checked_read}
+use Rattle.verify_command.specs.Lines.{most_checked_read}
 use Rattle.gv_top.specs.Answers.{Answer, memory_line, most_read, read_fault_line, write_fault_line}
 use Rattle.gv_top.specs.Commands.{IsLeftAlone}
 use Rattle.gv_top.specs.Running.{IsBegun, IsUnbegun, RanWith}
-use Rattle.gv_top.specs.Verdicts.{verdict_line, verdict_of_connection, verdict_of_run, verdict_of_server, verdict_status}
+use Rattle.gv_top.specs.Status.{verdict_line, verdict_of_connection, verdict_of_run, verdict_of_server, verdict_status}
 use Rattle.gv_top.specs.Verifying.{IsAnswerOf, IsCheckAnswer}
 use Rattle.gv_top.specs.Top.{Counts, FitsAnswer, Decided, CameTo, Ended, FailsToWrite, IsStatusOf, IsVerdictTold, AnswersConnection, IsAnswered, HasLawfulLines, Stream}
 use Rattle.gv_top.specs.Inner.{IsExplained, IsOfConnection, IsOr}

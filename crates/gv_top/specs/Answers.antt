@@ -1,20 +1,20 @@
 -- What the call answers: its status, what it writes to out, and its line on err.
 use Rattle.std.specs.Prelude.{◌≡◌, ℕ, ◌+◌, if◌then◌else◌, List, [], ◌++◌, Some, codes, ◌⊎◌}
-use Rattle.trace_text.specs.LineTexts.{text_of}
-use Rattle.gv_values.specs.ValueTexts.{decimal}
+use Rattle.trace_text.specs.Line.{text_of}
+use Rattle.gv_values.specs.Texts.{decimal}
 use Rattle.gv_values.specs.declared.job.Answer.{Answer as Given}
 use Rattle.scenario_tree.specs.declared.tree.Scenario.{Scenario}
 use Rattle.scenario_grammar.specs.declared.place.Place.{Place}
 use Rattle.scenario_grammar.specs.Printed.{printed}
-use Rattle.scenario_grammar.specs.Reasons.{reason_text}
-use Rattle.wsgi_core.specs.Answers.{Sent}
+use Rattle.scenario_grammar.specs.Reason.{reason_text}
+use Rattle.wsgi_core.specs.Answer.{Sent}
 use Rattle.gv_top.specs.Running.{run_of}
-use Rattle.gv_top.specs.Storm.{IsStorm, storm_run, summary}
+use Rattle.gv_top.specs.Storming.{IsStorm, storm_run, summary}
 use Rattle.command_words.specs.declared.command.TextCommand.{TextCommand}
 use Rattle.command_words.specs.declared.command.TextCommand.TheVariants.{Run, Format}
 use Rattle.machine.specs.Run.{Ran, End}
 use Rattle.machine.specs.Status.{status, err_line, line_of}
-use Rattle.scenario_grammar.specs.Places.{place}
+use Rattle.scenario_grammar.specs.Place.{place}
 use Rattle.scenario_grammar.specs.Spells.{Spells}
 use Rattle.scenario_rules.specs.Rules.{IsWellFormed, place_of}
 use Rattle.scenario_grammar.specs.declared.limits.TheConstants.{MOST_TEXT}

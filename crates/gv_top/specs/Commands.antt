@@ -9,13 +9,13 @@ use Rattle.scenario_tree.specs.declared.tree.Scenario.{Scenario}
 use Rattle.scenario_grammar.specs.declared.place.Place.{Place}
 use Rattle.scenario_grammar.specs.Spells.{Spells}
 use Rattle.scenario_rules.specs.Rules.{IsWellFormed}
-use Rattle.world.specs.Worlds.{WorldMeaning}
+use Rattle.world.specs.Outside.{WorldMeaning}
 use Rattle.world_rules.specs.declared.question.LogEntry.{LogEntry}
 use Rattle.wsgi_core.specs.Applications.{App}
 use Rattle.gv_top.specs.declared.words.OfflineCommand.{OfflineCommand}
 use Rattle.gv_top.specs.Answers.{answer_of_run, answer_of_storm, formatted, memory_line, most_read, read_fault_line, refused_answer, IsRefusedAt}
 use Rattle.gv_top.specs.Running.{RanWith, run_of}
-use Rattle.gv_top.specs.Storm.{IsStorm, storm_run}
+use Rattle.gv_top.specs.Storming.{IsStorm, storm_run}
 use Rattle.machine.specs.Run.{End}
 use Rattle.gv_top.specs.Top.{AnswersConnection, BlocksAtQuiet, Ended, FailsToWrite, HasLawfulLines, IsAnswered, Stream}
 

@@ -6,21 +6,21 @@ use Rattle.command_words.specs.declared.command.RunOptions.{RunOptions}
 use Rattle.command_words.specs.declared.command.TextCommand.{TextCommand}
 use Rattle.scenario_tree.specs.declared.tree.Scenario.{Scenario}
 use Rattle.scenario_reading.specs.Judged.{HasReason, judged_text}
-use Rattle.world.specs.Worlds.{WorldMeaning}
+use Rattle.world.specs.Outside.{WorldMeaning}
 use Rattle.world_rules.specs.Legal.{AreLegal}
 use Rattle.world_rules.specs.declared.question.LogEntry.{LogEntry}
 use Rattle.machine.specs.Run.{Ran}
 use Rattle.hub_engine.specs.Ends.{IsPartLogged, RanTo}
-use Rattle.hub_engine.specs.Ahead.{WroteAhead}
+use Rattle.hub_engine.specs.Run.{WroteAhead}
 use Rattle.hub_engine.specs.declared.run.EngineEnd.{EngineEnd}
 use Rattle.verify_command.specs.Judged.{Verification}
 use Rattle.wsgi_core.specs.Applications.{App}
-use Rattle.wsgi_connection.specs.Connections.{Exchanged}
+use Rattle.wsgi_connection.specs.Connection.{Exchanged}
 use Rattle.wsgi_connection.specs.declared.connection.ConnectionEnd.{ConnectionEnd}
 use Rattle.gv_top.specs.Answers.{no_port, Answer, answer_to_scenario, refused_answer}
-use Rattle.gv_top.specs.Gateways.{answers_by}
+use Rattle.gv_top.specs.Gateway.{answers_by}
 use Rattle.gv_top.specs.Running.{BeganSo, RanWith}
-use Rattle.gv_top.specs.Verdicts.{verdict_of_connection, verdict_status}
+use Rattle.gv_top.specs.Status.{verdict_of_connection, verdict_status}
 use Rattle.gv_top.specs.declared.status.Conclusion.{Conclusion}
 use Rattle.gv_top.specs.declared.status.Failure.{Failure}
 use Rattle.gv_top.specs.declared.status.Verdict.{Verdict}

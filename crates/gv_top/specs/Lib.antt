@@ -1,13 +1,13 @@
-pub mod Storm
+pub mod Storming
 pub mod Counted
 pub mod Inner
 pub mod Running
 pub mod Answers
 pub mod Commands
-pub mod Gateways
+pub mod Gateway
 pub mod Serving
 pub mod Top
-pub mod Verdicts
+pub mod Status
 pub mod Verifying
 pub mod Checks
 pub mod Words

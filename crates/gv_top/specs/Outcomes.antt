@@ -2,15 +2,15 @@
 use Rattle.std.specs.Prelude.{◌≡◌, ◌<◌, ◌≤◌, ℕ, List, Some, None, length}
 use Rattle.command_words.specs.declared.command.TraceCheck.{TraceCheck}
 use Rattle.scenario_tree.specs.declared.tree.Scenario.{Scenario}
-use Rattle.scenario_grammar.specs.Places.{line_at}
+use Rattle.scenario_grammar.specs.Place.{line_at}
 use Rattle.scenario_grammar.specs.Spells.{Spells}
 use Rattle.scenario_rules.specs.Rules.{IsWellFormed}
 use Rattle.machine.specs.Run.{run}
-use Rattle.trace_check.specs.Judged.{IsVerified, IsWrong}
-use Rattle.trace_check.specs.LawTraces.{IsLawful, IsLawless, IsUnread}
+use Rattle.trace_check.specs.Check.{IsVerified, IsWrong}
+use Rattle.trace_check.specs.Lawful.{IsLawful, IsLawless, IsUnread}
 use Rattle.trace_check.specs.Parts.{parted}
 use Rattle.trace_check.specs.declared.refusal.Cause.{Cause}
-use Rattle.verify_command.specs.Inputs.{end_line}
+use Rattle.verify_command.specs.Lines.{end_line}
 use Rattle.verify_command.specs.declared.lines.TheConstants.{MOST_CHECKED}
 use Rattle.verify_command.specs.declared.checking.Unverified.{Unverified}
 use Rattle.gv_top.specs.Answers.{IsRefusedAt}

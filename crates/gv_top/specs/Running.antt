@@ -4,13 +4,13 @@ use Rattle.gv_values.specs.declared.job.Answer.{Answer}
 use Rattle.world_rules.specs.declared.question.LogEntry.{LogEntry}
 use Rattle.world_rules.specs.Legal.{AreLegal, is_answered}
 use Rattle.world.specs.LegalLogs.{HasLegalLog}
-use Rattle.world.specs.Worlds.{WorldMeaning}
+use Rattle.world.specs.Outside.{WorldMeaning}
 use Rattle.scenario_tree.specs.declared.tree.Scenario.{Scenario}
 use Rattle.machine.specs.Run.{Ran, run, script_run}
 use Rattle.machine.specs.TraceLaws.{meets_laws}
-use Rattle.trace_text.specs.LineTexts.{answers_told}
+use Rattle.trace_text.specs.Line.{answers_told}
 use Rattle.machine_told.specs.Told.{posts_told}
-use Rattle.hub_engine.specs.Ahead.{WroteAhead}
+use Rattle.hub_engine.specs.Run.{WroteAhead}
 use Rattle.command_words.specs.declared.command.RunOptions.{RunOptions}
 use Rattle.command_words.specs.declared.command.RunWorld.TheVariants.{Script, Native, Held}
 

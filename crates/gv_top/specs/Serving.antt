@@ -5,16 +5,16 @@ use Rattle.command_words.specs.declared.command.ServeAnswers.{ServeAnswers}
 use Rattle.command_words.specs.declared.command.ServeAnswers.TheVariants.{Application, Jobs}
 use Rattle.command_words.specs.declared.command.ServeOptions.{ServeOptions}
 use Rattle.wsgi_core.specs.Applications.{App}
-use Rattle.stream_net.specs.Nets.{NetMeaning}
+use Rattle.stream_net.specs.Net.{NetMeaning}
 use Rattle.stream_server.specs.declared.limits.Limits.{Limits}
-use Rattle.world.specs.Worlds.{WorldMeaning as World}
+use Rattle.world.specs.Outside.{WorldMeaning as World}
 use Rattle.world_rules.specs.Legal.{is_answered, is_posted}
 use Rattle.serve_command.specs.declared.serving.Served.{Served}
 use Rattle.serve_command.specs.Jobs.{ServesJobsAt}
-use Rattle.serve_command.specs.Served.{ServesAt}
-use Rattle.gv_top.specs.Gateways.{answers_by}
+use Rattle.serve_command.specs.Serving.{ServesAt}
+use Rattle.gv_top.specs.Gateway.{answers_by}
 use Rattle.gv_top.specs.Top.{IsStatusOf}
-use Rattle.gv_top.specs.Verdicts.{verdict_line, verdict_of_server}
+use Rattle.gv_top.specs.Status.{verdict_line, verdict_of_server}
 
 -- how much a server of these options does
 abbrev pub limits_of : ServeOptions → Limits

@@ -10,25 +10,25 @@ use Rattle.command_words.specs.declared.command.TraceCheck.{TraceCheck}
 use Rattle.scenario_tree.specs.declared.tree.Scenario.{Scenario}
 use Rattle.scenario_grammar.specs.Spells.{Spells}
 use Rattle.scenario_rules.specs.Rules.{IsWellFormed}
-use Rattle.world.specs.Worlds.{WorldMeaning}
+use Rattle.world.specs.Outside.{WorldMeaning}
 use Rattle.world_rules.specs.declared.question.LogEntry.{LogEntry}
-use Rattle.trace_text.specs.LineTexts.{text_of}
+use Rattle.trace_text.specs.Line.{text_of}
 use Rattle.trace_text.specs.declared.line.Line.{Line}
 use Rattle.machine.specs.Quiet.{is_quiet}
 use Rattle.machine.specs.Run.{Ran}
 use Rattle.machine.specs.TraceLaws.{meets_laws}
 use Rattle.machine_blocks.specs.Blocks.{block_lines, is_block}
 use Rattle.wsgi_core.specs.Applications.{App}
-use Rattle.wsgi_connection.specs.Connections.{Exchanged}
+use Rattle.wsgi_connection.specs.Connection.{Exchanged}
 use Rattle.wsgi_connection.specs.declared.connection.ConnectionEnd.{ConnectionEnd}
 use Rattle.gv_top.specs.declared.status.Failure.{Failure}
 use Rattle.gv_top.specs.declared.status.Verdict.{Verdict}
 use Rattle.gv_top.specs.declared.words.OfflineCommand.{OfflineCommand}
 use Rattle.gv_top.specs.Answers.{Answer, IsStormAnswer, most_read, no_port, write_fault_line}
-use Rattle.gv_top.specs.Gateways.{answers_by}
-use Rattle.gv_top.specs.Verdicts.{verdict_line, verdict_of_connection, verdict_status}
+use Rattle.gv_top.specs.Gateway.{answers_by}
+use Rattle.gv_top.specs.Status.{verdict_line, verdict_of_connection, verdict_status}
 use Rattle.gv_top.specs.Verifying.{IsAnswerOf, IsCheckAnswer}
-use Rattle.verify_command.specs.Inputs.{most_checked_read}
+use Rattle.verify_command.specs.Lines.{most_checked_read}
 use Rattle.gv_top.specs.Running.{RanWith}
 
 -- a stream before the call and after it: its bytes, left to read or written, where they are told; how often it failed

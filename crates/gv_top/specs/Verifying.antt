@@ -1,17 +1,17 @@
 -- What `verify` answers, and what each command does.
 use Rattle.std.specs.Prelude.{◌≡◌, ◌⊎◌, ℕ, List, [], ◌++◌, Option, Some, None, codes, take}
 use Rattle.gv_values.specs.declared.job.Answer.{Answer as Given}
-use Rattle.gv_values.specs.ValueTexts.{decimal}
+use Rattle.gv_values.specs.Texts.{decimal}
 use Rattle.command_words.specs.declared.command.TraceCheck.{TraceCheck}
 use Rattle.serve_command.specs.Lines.{number_line}
-use Rattle.trace_check.specs.Causes.{cause_number, check_cause_text}
-use Rattle.verify_command.specs.Inputs.{most_checked_read}
+use Rattle.trace_check.specs.Refusal.{cause_number, check_cause_text}
+use Rattle.verify_command.specs.Lines.{most_checked_read}
 use Rattle.verify_command.specs.declared.checking.Unverified.{Unverified}
 use Rattle.wsgi_core.specs.Applications.{App}
-use Rattle.wsgi_connection.specs.Connections.{whole_session}
+use Rattle.wsgi_connection.specs.Connection.{whole_session}
 use Rattle.gv_top.specs.Answers.{Answer, IsStormAnswer, IsTextAnswer, answer_of_session, most_read, no_port, place_text, refused_answer, on_err, usage}
 use Rattle.gv_top.specs.Outcomes.{Fails, Passes, Refuses}
-use Rattle.gv_top.specs.Gateways.{answers_by}
+use Rattle.gv_top.specs.Gateway.{answers_by}
 use Rattle.gv_top.specs.declared.words.OfflineCommand.{OfflineCommand}
 use Rattle.gv_top.specs.declared.words.OfflineCommand.TheVariants.{Text, Wsgi, Storm, Verify}
 

@@ -1,12 +1,12 @@
 //! What the program says through the gateway that its words name.
 ghost use Rattle.std.specs.Prelude.{◌≡◌, ◌≢◌, ℕ, List, Some};
-ghost use Rattle.stream_net.specs.Nets.{IsFresh};
+ghost use Rattle.stream_net.specs.Net.{IsFresh};
 ghost use Rattle.stream_server.specs.Ranges.{IsInRange};
-ghost use Rattle.serve_command.specs.Served.{IsToldFirst, ServesAt};
-ghost use Rattle.wsgi_connection.specs.Connections.{Exchanged, HandedAhead, whole_session};
+ghost use Rattle.serve_command.specs.Serving.{IsToldFirst, ServesAt};
+ghost use Rattle.wsgi_connection.specs.Connection.{Exchanged, HandedAhead, whole_session};
 ghost use Rattle.wsgi_connection.specs.Wholes.{IsWhole};
 ghost use Rattle.gv_top.specs.Answers.{no_port};
-ghost use Rattle.gv_top.specs.Gateways.{answers_by};
+ghost use Rattle.gv_top.specs.Gateway.{answers_by};
 ghost use Rattle.gv_top.specs.Top.{Counts};
 
 use command_words::GatewayKind;

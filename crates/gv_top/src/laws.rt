@@ -8,7 +8,7 @@ ghost use Rattle.command_words.specs.declared.command.TextCommand.{TextCommand};
 ghost use Rattle.gv_top.specs.declared.words.OfflineCommand.{OfflineCommand};
 ghost use Rattle.gv_values.specs.declared.job.Answer.{Answer as Given};
 ghost use Rattle.gv_top.specs.Answers.{Answer, IsTextAnswer};
-ghost use Rattle.gv_top.specs.Storm.{IsStorm};
+ghost use Rattle.gv_top.specs.Storming.{IsStorm};
 ghost use Rattle.gv_top.specs.Words.{offline_command_of, serve_of};
 
 use command_words::commands_are_in_range;

@@ -7,12 +7,12 @@ ghost use Rattle.machine.specs.Run.{run, script_run};
 ghost use Rattle.machine.specs.TraceLaws.{meets_laws};
 ghost use Rattle.command_words.specs.Ranges.{IsWorldInRange};
 ghost use Rattle.hub_engine.specs.Ends.{RanTo};
-ghost use Rattle.hub_engine.specs.Ahead.{WroteAhead};
+ghost use Rattle.hub_engine.specs.Run.{WroteAhead};
 ghost use Rattle.scenario_rules.specs.Rules.{IsWellFormed};
 ghost use Rattle.gv_top.specs.Running.{BeganSo, IsBegun, IsUnbegun, RanHeld, RanNatively, run_of};
 ghost use Rattle.gv_top.specs.Inner.{RanInWorld};
 ghost use Rattle.gv_top.specs.Top.{Counts, HandsOn};
-ghost use Rattle.gv_top.specs.Verdicts.{verdict_of_run, verdict_status};
+ghost use Rattle.gv_top.specs.Status.{verdict_of_run, verdict_status};
 ghost use Rattle.gv_top.specs.Words.{is_native_world};
 
 use crate::storming::is_broken_off;

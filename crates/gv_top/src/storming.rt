@@ -3,9 +3,9 @@ ghost use Rattle.std.specs.Prelude.{◌≡◌, ◌≢◌, IfOk, IfSome};
 ghost use Rattle.machine.specs.Run.{Ran as AnyRan};
 ghost use Rattle.gv_top.specs.Answers.{Answer, IsStormAnswer, answer_of_storm};
 ghost use Rattle.gv_top.specs.Counted.{WasCounted, is_broken_off};
-ghost use Rattle.gv_top.specs.Storm.{storm_run, storm_text, summary};
+ghost use Rattle.gv_top.specs.Storming.{storm_run, storm_text, summary};
 ghost use Rattle.gv_top.specs.Top.{Counts, Decided, HandsOn};
-ghost use Rattle.gv_top.specs.Verdicts.{verdict_of_run, verdict_status};
+ghost use Rattle.gv_top.specs.Status.{verdict_of_run, verdict_status};
 ghost use Rattle.gv_top.specs.Inner.{IsExplained};
 
 use crate::status::{Failure, Verdict, verdict_of_run, verdict_of_text};
@@ -41,7 +41,7 @@ struct CountedRun {
 }
 
 /// The text of the storm of so many greenlets.
-#[tactic(auto, unfolding(crate::specs::Storm::storm_text))]
+#[tactic(auto, unfolding(crate::specs::Storming::storm_text))]
 fn storm_text(alloc: Global, size: u32) -> Result<Vec<u8>, AllocError>
     ensures { IfOk result (λ text. text.items ≡ storm_text size) }
 {

@@ -2,10 +2,10 @@
 ghost use Rattle.std.specs.Prelude.{◌≡◌, ◌≢◌, ℕ, List, Some, drop, take};
 ghost use Rattle.gv_top.specs.Answers.{Answer};
 ghost use Rattle.gv_top.specs.Top.{Counts, Decided, FitsAnswer, HandsOn};
-ghost use Rattle.gv_top.specs.Verdicts.{verdict_status};
+ghost use Rattle.gv_top.specs.Status.{verdict_status};
 ghost use Rattle.gv_top.specs.Inner.{IsExplained};
 ghost use Rattle.gv_top.specs.Verifying.{IsCheckAnswer, verified};
-ghost use Rattle.verify_command.specs.Inputs.{most_checked_read};
+ghost use Rattle.verify_command.specs.Lines.{most_checked_read};
 
 use crate::status::{Conclusion, Failure, Verdict, verdict_of_check};
 use crate::top::send;

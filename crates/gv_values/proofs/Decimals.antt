@@ -5,7 +5,7 @@ use Rattle.std.specs.Fmt.{signed_decimal}
 use Rattle.std.specs.Fmt.{decimal as printed}
 use Rattle.std.proofs.lemmas.Fmt.{decimal_from_appends, length-decimal-le_succ, AppendsLastDigit}
 use Rattle.std.specs.Int.Signed.{mag}
-use Rattle.gv_values.specs.ValueTexts.{digits_within, decimal, int_text}
+use Rattle.gv_values.specs.Texts.{digits_within, decimal, int_text}
 
 last_digit : (k n : ℕ) → n < 10 → digits_within (suc k) n ≡ (48 + n) ∷ []
 last_digit k n small = let test : nat_lt n 10 ≡ true = grind (arith, nat_tests) in rw (test, digits_within)

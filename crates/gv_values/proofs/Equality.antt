@@ -3,8 +3,8 @@ use Rattle.std.proofs.Common.{rules, ◌≡◌, Bool, List, [], ◌∷◌, ◌&&
 use Rattle.std.specs.Cmp.Lexicographic.{pointwise}
 use Rattle.gv_values.specs.declared.scalar.Scalar.{Scalar}
 use Rattle.gv_values.specs.declared.fault.FaultKind.{FaultKind}
-use Rattle.gv_values.specs.Faults.{fault_eq}
-use Rattle.gv_values.specs.Values.{scalar_eq, scalars_eq}
+use Rattle.gv_values.specs.Fault.{fault_eq}
+use Rattle.gv_values.specs.Value.{scalar_eq, scalars_eq}
 use Rattle.gv_values.specs.contracts.scalar.ScalarPartialEq.TheImpl.{eq-value as scalar}
 use Rattle.gv_values.specs.contracts.fault.FaultKindPartialEq.TheImpl.{eq-value as fault}
 

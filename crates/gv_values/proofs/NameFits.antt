@@ -4,7 +4,7 @@ use Rattle.std.specs.List.{list_all}
 use Rattle.std.proofs.lemmas.List.{drop-replicate, length-replicate}
 use Rattle.std.proofs.Math.Seq.{take-append_seam, drop-append_seam}
 use Rattle.std.proofs.lemmas.Bool.{ltb-true}
-use Rattle.gv_values.specs.Names.{is_name, is_lower, is_name_byte}
+use Rattle.gv_values.specs.Name.{is_name, is_lower, is_name_byte}
 use Rattle.gv_values.specs.NameParts.{IsStored}
 use Rattle.gv_values.specs.declared.limits.TheConstants.{MOST_NAME_BYTES}
 

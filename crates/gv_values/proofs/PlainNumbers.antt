@@ -3,7 +3,7 @@ use Rattle.std.proofs.Common.{◌≡◌, ℕ, true, ◌&&◌, List, [], ◌∷�
 use Rattle.std.proofs.lemmas.Bool.{and_from, and_parts, le-leb, leb-true}
 use Rattle.std.specs.List.{list_all}
 use Rattle.gv_values.specs.Digits.{is_plain_number}
-use Rattle.gv_values.specs.Names.{is_digit}
+use Rattle.gv_values.specs.Name.{is_digit}
 
 pub plain_digits : (w : List ℕ) → is_plain_number w ≡ true → list_all is_digit w ≡ true
 plain_digits [] h = cc

@@ -1,7 +1,7 @@
 -- Words of digits.
 use Rattle.std.specs.Prelude.{ℕ, Bool, false, ◌&&◌, nat_le, List, [], ◌∷◌}
 use Rattle.std.specs.List.{list_all}
-use Rattle.gv_values.specs.Names.{is_digit}
+use Rattle.gv_values.specs.Name.{is_digit}
 
 -- `0`, or digits that begin with another
 abbrev pub is_plain_number : List ℕ → Bool

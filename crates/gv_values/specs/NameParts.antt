@@ -3,7 +3,7 @@ use Rattle.std.specs.Prelude.{◌≡◌, ℕ, ◌-◌, ◌≤◌, List, ◌++◌
 use Rattle.std.proofs.Common.{ap, sym, ◌∙◌, length-take-le, take-append-drop}
 use Rattle.gv_values.specs.declared.limits.TheConstants.{MOST_NAME_BYTES}
 use Rattle.gv_values.specs.declared.name.Name.TheInside.{Inside}
-use Rattle.gv_values.specs.Names.{is_name}
+use Rattle.gv_values.specs.Name.{is_name}
 
 abbrev pub name_view : Inside → List ℕ
 name_view a = take a.count a.bytes

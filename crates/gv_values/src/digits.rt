@@ -1,7 +1,7 @@
 //! Words of digits and words of bytes, as command lines and scenarios compare them.
 ghost use Rattle.std.specs.Prelude.{◌≡◌, bytes_eq};
 ghost use Rattle.std.specs.List.{list_all};
-ghost use Rattle.gv_values.specs.Names.{is_digit};
+ghost use Rattle.gv_values.specs.Name.{is_digit};
 ghost use Rattle.gv_values.specs.Digits.{is_plain_number};
 
 /// Whether the text is `0`, or digits that begin with another.

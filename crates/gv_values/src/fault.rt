@@ -1,5 +1,5 @@
 ghost use Rattle.std.specs.Prelude.{◌≡◌};
-ghost use Rattle.gv_values.specs.Faults.{catches};
+ghost use Rattle.gv_values.specs.Fault.{catches};
 
 /// What a greenlet can be ended or interrupted by (gevent API reference: exceptions of `gevent`,
 /// `gevent.timeout` and `gevent.hub`; greenlet documentation: `GreenletExit`).

@@ -1,5 +1,5 @@
 ghost use Rattle.std.specs.Prelude.{◌≡◌};
-ghost use Rattle.gv_values.specs.Jobs.{job_of};
+ghost use Rattle.gv_values.specs.Job.{job_of};
 
 use crate::fault::FaultKind;
 

@@ -1,6 +1,6 @@
 ghost use Rattle.std.specs.Prelude.{◌≡◌, Some, None, if◌then◌else◌, IsTrue};
 ghost use Rattle.std.specs.List.{list_all};
-ghost use Rattle.gv_values.specs.Names.{is_name, is_name_byte};
+ghost use Rattle.gv_values.specs.Name.{is_name, is_name_byte};
 
 use crate::limits::MOST_NAME_BYTES;
 use std::marker::Model;

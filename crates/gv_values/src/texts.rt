@@ -2,7 +2,7 @@
 //! these are as before.
 ghost use Rattle.std.specs.Prelude.{◌≡◌, ◌++◌, take, length, OnOk, OnErr};
 ghost use Rattle.gv_values.specs.Fronts.{BeginsWith};
-ghost use Rattle.gv_values.specs.ValueTexts.{decimal, int_text, fault_text, scalar_text, scalars_text, value_text, outcome_text, whom_text};
+ghost use Rattle.gv_values.specs.Texts.{decimal, int_text, fault_text, scalar_text, scalars_text, value_text, outcome_text, whom_text};
 
 use crate::fault::FaultKind;
 use crate::scalar::Scalar;

@@ -1,5 +1,5 @@
 ghost use Rattle.std.specs.Prelude.{◌≡◌, IfOk};
-ghost use Rattle.gv_values.specs.Values.{value_of_scalar, scalar_of_value, value_eq, scalars_eq};
+ghost use Rattle.gv_values.specs.Value.{value_of_scalar, scalar_of_value, value_eq, scalars_eq};
 
 use crate::fault::FaultKind;
 use crate::list::List;

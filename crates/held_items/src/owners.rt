@@ -3,7 +3,7 @@ ghost use Rattle.std.specs.Prelude.{◌≡◌, nat_lt, count_by};
 ghost use Rattle.std.specs.Option.{option_copied};
 ghost use Rattle.slot_chains.specs.Chained.{first_of};
 ghost use Rattle.machine.specs.Items.{is_start_of};
-ghost use Rattle.machine.specs.Requests.{is_kill};
+ghost use Rattle.machine.specs.Request.{is_kill};
 ghost use Rattle.machine.specs.Deliveries.{waiting_of, since_of_wake};
 ghost use Rattle.held_items.specs.Entries.{flat, index};
 ghost use Rattle.held_items.specs.Classes.{is_wake_of};

@@ -9,7 +9,7 @@ use Rattle.http_messages.specs.declared.refusal.Refusal.TheVariants.{BadRequest,
 use Rattle.http_messages.specs.Cuts.{Cut, waits, refused, whole, and_then, within, line_end, empty_line_end}
 use Rattle.http_messages.specs.declared.request.Framing.{Framing}
 use Rattle.http_messages.specs.declared.request.Framing.TheVariants.{Sized, Chunked}
-use Rattle.http_messages.specs.Bodies.{exactly, size_on, chunk_size_at, chunk_line, chunk_data, trailers, chunks, rest_of_chunks, body_by}
+use Rattle.http_messages.specs.Body.{exactly, size_on, chunk_size_at, chunk_line, chunk_data, trailers, chunks, rest_of_chunks, body_by}
 use Rattle.http_messages.proofs.CutLaws.{Later, and_then-later, within-stable, line_end-finds, empty_line_end-finds, Takes, and_then-takes, takes_at, and_then-same, within-takes}
 use Rattle.http_messages.specs.declared.limits.TheConstants.{MOST_BODY, MOST_CHUNK_LINE, MOST_TRAILERS}
 

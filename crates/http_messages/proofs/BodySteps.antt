@@ -10,7 +10,7 @@ use Rattle.http_messages.specs.declared.request.AwaitedBody.TheVariants.{InChunk
 use Rattle.http_messages.specs.declared.found.BodyFound.{BodyFound}
 use Rattle.http_messages.specs.declared.found.BodyFound.TheVariants.{BodyWaits, BodyRefused, BodyWhole}
 use Rattle.http_messages.specs.Cuts.{Cut, waits, refused, whole, and_then, line_end, empty_line_end}
-use Rattle.http_messages.specs.Bodies.{size_on, chunk_size_at, chunk_line, chunk_data, trailers, rest_of_chunks, rest_of_chunk, body_left}
+use Rattle.http_messages.specs.Body.{size_on, chunk_size_at, chunk_line, chunk_data, trailers, rest_of_chunks, rest_of_chunk, body_left}
 use Rattle.http_messages.specs.Readings.{ReadsAlike, FindsBody}
 use Rattle.http_messages.proofs.CutLaws.{Later}
 use Rattle.http_messages.proofs.CutReads.{within_at, within_long, within_short}

@@ -12,7 +12,7 @@ use Rattle.std.specs.Str.{bytes_eq}
 use Rattle.httparse.specs.Grammar.{AllPass, is_ows, is_extension_byte, ChunkLine, IsChunkLine, IsExtension, ReadsChunkLine, HasNoChunkLine, NeverHasChunkLine, chunk_size, print_chunk_line, print_extension, print_end, crlf}
 use Rattle.httparse.specs.Spans.{IsChunkLineAt}
 use Rattle.httparse.proofs.ChunkLemmas.{chunk_line_unique}
-use Rattle.http_messages.specs.Bodies.{extension_of, after_digits, chunk_line_of, is_extension, is_chunk_line, chunk_line}
+use Rattle.http_messages.specs.Body.{extension_of, after_digits, chunk_line_of, is_extension, is_chunk_line, chunk_line}
 
 -- ---- the test and the fact
 

@@ -16,7 +16,7 @@ use Rattle.httparse.specs.declared.spans.Span.{Span}
 use Rattle.httparse.specs.Grammar.{Field, IsField, IsToken as httparse_token, is_token_byte as httparse_token_byte}
 use Rattle.httparse.specs.Spans.{header_bytes, name_and_value, span_bytes}
 use Rattle.http_messages.specs.declared.environ.KeyClass.{KeyClass}
-use Rattle.http_messages.specs.Environs.{Pair, joint}
+use Rattle.http_messages.specs.Environ.{Pair, joint}
 use Rattle.http_messages.specs.Fields.{AreFields, by_name, entry_pairs, joined, texts, with_field}
 use Rattle.http_messages.specs.Requests.{values}
 use Rattle.http_messages.specs.declared.limits.TheConstants.{MOST_FIELDS, MOST_HEAD}

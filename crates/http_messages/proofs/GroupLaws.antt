@@ -12,7 +12,7 @@ use Rattle.http_header.specs.HeaderMap.{Entries}
 use Rattle.http_header.specs.Token.{lowercase}
 use Rattle.http_messages.specs.declared.environ.KeyClass.{KeyClass}
 use Rattle.http_messages.specs.declared.environ.KeyClass.TheVariants.{ContentType, ContentLength, Other}
-use Rattle.http_messages.specs.Environs.{Pair, environ_of, field_pairs, is_in, is_kept, is_underscore, joint, key_of, pair_of, pairs_of_class, request_pairs, with_pair}
+use Rattle.http_messages.specs.Environ.{Pair, environ_of, field_pairs, is_in, is_kept, is_underscore, joint, key_of, pair_of, pairs_of_class, request_pairs, with_pair}
 use Rattle.http_messages.specs.Fields.{by_name, entry_pairs, is_of, joined, with_field}
 use Rattle.http_messages.proofs.KeyLaws.{back, key_in, key_is, strip, lower_is_of, lower_key_of, lower_name, no_underscore, told_by_key}
 

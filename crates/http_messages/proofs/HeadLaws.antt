@@ -13,7 +13,7 @@ use Rattle.std.specs.Str.{bytes_eq, is_utf8}
 use Rattle.httparse.specs.Grammar.{is_token_byte, is_uri_byte, is_value_byte, AllPass, IsToken, is_token, LineEnd, crlf, lf, print_end, print_blank, print_version, Field, print_field, IsField, print_section, RequestHead, print_request, IsRequestHead, ReadsRequest}
 use Rattle.httparse.proofs.GrammarLemmas.{print_request-append, cons-append}
 use Rattle.http_messages.specs.Cuts.{is_lf}
-use Rattle.http_messages.specs.Heads.{line_and_end, is_space, is_colon, field_of, fields_of, last_of, head_with, head_of_lines, is_field, is_request_head, if_printed, request_head}
+use Rattle.http_messages.specs.Head.{line_and_end, is_space, is_colon, field_of, fields_of, last_of, head_with, head_of_lines, is_field, is_request_head, if_printed, request_head}
 
 -- ---- the tests and the facts
 

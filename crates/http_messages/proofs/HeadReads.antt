@@ -12,7 +12,7 @@ use Rattle.httparse.specs.Outcome.{IsCompleteAnd}
 use Rattle.httparse.specs.Spans.{IsRequestAt, IsRequestWithin, IsRequestOf, FindsRequest, name_and_value, header_bytes}
 use Rattle.httparse.proofs.GrammarLemmas.{print_request-append}
 use Rattle.std.proofs.lemmas.List.{length-map}
-use Rattle.http_messages.specs.Heads.{request_head}
+use Rattle.http_messages.specs.Head.{request_head}
 use Rattle.http_messages.proofs.HeadLaws.{request_head-sound, request_head-full}
 use Rattle.http_messages.specs.Cuts.{empty_line}
 use Rattle.http_messages.specs.declared.limits.TheConstants.{MOST_FIELDS}

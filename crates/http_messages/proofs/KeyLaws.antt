@@ -10,7 +10,7 @@ use Rattle.std.proofs.lemmas.Str.Ascii.{lowercase-uppercase, lowercase-lowercase
 use Rattle.http_header.specs.Token.{lowercase}
 use Rattle.http_messages.specs.declared.environ.KeyClass.{KeyClass}
 use Rattle.http_messages.specs.declared.environ.KeyClass.TheVariants.{ContentType, ContentLength, Other}
-use Rattle.http_messages.specs.Environs.{is_in, key_byte, key_of, is_content_key, is_underscore}
+use Rattle.http_messages.specs.Environ.{is_in, key_byte, key_of, is_content_key, is_underscore}
 use Rattle.http_messages.specs.Fields.{is_of}
 
 -- ---- bytes

@@ -9,9 +9,9 @@ use Rattle.http_messages.specs.declared.request.HttpRequest.{HttpRequest}
 use Rattle.http_messages.specs.declared.request.AwaitedBody.{AwaitedBody}
 use Rattle.http_messages.specs.declared.request.AwaitedBody.TheVariants.{Counted, InChunks, InChunk, InTrailers}
 use Rattle.http_messages.specs.Cuts.{Cut, waits, refused, whole, and_then, or_refused, line_end, empty_line_end, drop_empty_lines}
-use Rattle.http_messages.specs.Heads.{request_head}
+use Rattle.http_messages.specs.Head.{request_head}
 use Rattle.http_messages.specs.Requests.{judged, first_line, head_lines, head_at, request_here, request_at}
-use Rattle.http_messages.specs.Bodies.{body_by, body_left, chunk_data, rest_of_chunks}
+use Rattle.http_messages.specs.Body.{body_by, body_left, chunk_data, rest_of_chunks}
 use Rattle.http_messages.specs.AwaitedBody.{awaited_by}
 use Rattle.http_messages.proofs.CutLaws.{Later, IsStable, and_then-later, or_refused-later, within-stable, line_end-finds, empty_line_end-finds, dropped-later, Takes, and_then-takes, within-takes, drop_empty_lines-le}
 use Rattle.http_messages.proofs.BodyLaws.{exactly_later, rest_of_chunks-later, chunk_data_later, trailers_later, exactly_takes, trailers_takes, rest_of_chunks-takes, chunk_data_takes}

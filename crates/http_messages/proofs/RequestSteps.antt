@@ -5,7 +5,7 @@ use Rattle.std.specs.Prelude.{◌==◌, Result}
 use Rattle.http_messages.specs.declared.refusal.Refusal.{Refusal}
 use Rattle.http_messages.specs.declared.request.HttpRequest.{HttpRequest}
 use Rattle.http_messages.specs.Cuts.{Cut, waits, refused, whole, and_then, or_refused, is_lf, empty_line, drop_empty_lines}
-use Rattle.http_messages.specs.Heads.{request_head}
+use Rattle.http_messages.specs.Head.{request_head}
 use Rattle.http_messages.specs.Requests.{judged, head_at, request_here, request_at}
 use Rattle.http_messages.specs.Readings.{ReadsAlike}
 use Rattle.http_messages.proofs.JudgeLaws.{no_line}

@@ -7,7 +7,7 @@ use Rattle.httparse.specs.Spans.{header_bytes}
 use Rattle.http_header.specs.HeaderMap.{Entries, append}
 use Rattle.http_header.specs.Token.{lowercase}
 use Rattle.http_messages.specs.declared.environ.KeyClass.{KeyClass}
-use Rattle.http_messages.specs.Environs.{Pair, is_in, is_underscore, joint, key_of}
+use Rattle.http_messages.specs.Environ.{Pair, is_in, is_underscore, joint, key_of}
 
 -- the names and values that the spans cover
 abbrev pub fields_at : List ℕ → List HeaderSpan → List Pair

@@ -1,8 +1,8 @@
 -- Laws of the definitions, which functions of src/laws.rt prove.
 use Rattle.std.specs.Prelude.{◌≡◌, ◌↔◌, List, ℕ, [], Some}
 use Rattle.httparse.specs.Grammar.{RequestHead, ReadsRequest, ChunkLine, ReadsChunkLine}
-use Rattle.http_messages.specs.Heads.{request_head}
-use Rattle.http_messages.specs.Bodies.{chunk_line}
+use Rattle.http_messages.specs.Head.{request_head}
+use Rattle.http_messages.specs.Body.{chunk_line}
 
 -- `request_head` gives exactly the heads of the parser's grammar
 abbrev pub HeadsAreOfTheGrammar : Type 0

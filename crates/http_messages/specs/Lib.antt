@@ -1,8 +1,8 @@
-pub mod Bodies
+pub mod Body
 pub mod Cuts
-pub mod Environs
+pub mod Environ
 pub mod Fields
-pub mod Heads
+pub mod Head
 pub mod Laws
 pub mod Readings
 pub mod Requests

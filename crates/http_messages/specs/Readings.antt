@@ -10,7 +10,7 @@ use Rattle.http_messages.specs.declared.found.BodyStep.{BodyStep}
 use Rattle.http_messages.specs.declared.found.BodyStep.TheVariants.{Stops, GoesOn}
 use Rattle.http_messages.specs.declared.request.AwaitedBody.{AwaitedBody}
 use Rattle.http_messages.specs.Cuts.{Cut, waits, refused, whole}
-use Rattle.http_messages.specs.Bodies.{body_left}
+use Rattle.http_messages.specs.Body.{body_left}
 
 -- the answer says what the bytes decide, and where what is there ends
 abbrev pub Sees : Sight → List ℕ → Cut (List ℕ) → Type 0

@@ -13,8 +13,8 @@ use Rattle.http_messages.specs.declared.request.Framing.{Framing}
 use Rattle.http_messages.specs.declared.request.Framing.TheVariants.{Sized, Chunked}
 use Rattle.http_messages.specs.declared.request.HttpRequest.{HttpRequest}
 use Rattle.http_messages.specs.Cuts.{Cut, and_then, or_refused, within, line_end, empty_line_end, drop_empty_lines}
-use Rattle.http_messages.specs.Heads.{request_head}
-use Rattle.http_messages.specs.Environs.{Pair, begins_with, environ_of}
+use Rattle.http_messages.specs.Head.{request_head}
+use Rattle.http_messages.specs.Environ.{Pair, begins_with, environ_of}
 
 -- the values of the pairs of this name in any case, in order
 abbrev pub values : List ℕ → List Pair → List (List ℕ)

@@ -1,7 +1,7 @@
 //! Bodies.
 ghost use Rattle.std.specs.Prelude.{◌≡◌, ◌<◌, ◌≤◌, ℕ, length, option_map, IfOk};
 ghost use Rattle.httparse.specs.Grammar.{chunk_size};
-ghost use Rattle.http_messages.specs.Bodies.{chunk_line};
+ghost use Rattle.http_messages.specs.Body.{chunk_line};
 ghost use Rattle.http_messages.specs.AwaitedBody.{awaited_by};
 ghost use Rattle.http_messages.specs.Readings.{FindsBody, StepsBody};
 

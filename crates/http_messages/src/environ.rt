@@ -4,7 +4,7 @@ ghost use Rattle.std.specs.List.{after_first, before_first, flat_map, list_any};
 ghost use Rattle.std.specs.Option.{option_copied};
 ghost use Rattle.http_header.specs.HeaderMap.{get_all};
 ghost use Rattle.percent_encoding.specs.Percent.{percent_decode};
-ghost use Rattle.http_messages.specs.Environs.{Pair, environ_of, is_in, is_content_key, is_question, is_underscore, joint, key_byte, key_of, pair_value, path_of, request_pairs};
+ghost use Rattle.http_messages.specs.Environ.{Pair, environ_of, is_in, is_content_key, is_question, is_underscore, joint, key_byte, key_of, pair_value, path_of, request_pairs};
 ghost use Rattle.http_messages.specs.Fields.{AreFields, entry_pairs, joined, texts};
 
 use crate::fields::{Fields, Head};

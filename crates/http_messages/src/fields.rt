@@ -5,7 +5,7 @@ ghost use Rattle.http_header.specs.FieldName.{IsFieldName};
 ghost use Rattle.http_header.specs.HeaderMap.{value_count};
 ghost use Rattle.http_header.specs.Token.{lowercase};
 ghost use Rattle.http_messages.specs.declared.limits.TheConstants.{MOST_FIELDS};
-ghost use Rattle.http_messages.specs.Environs.{Pair};
+ghost use Rattle.http_messages.specs.Environ.{Pair};
 ghost use Rattle.http_messages.specs.Fields.{AreFields, fields_at, texts, with_field};
 ghost use Rattle.http_messages.specs.Requests.{values};
 

@@ -4,7 +4,7 @@ ghost use Rattle.httparse.specs.Grammar.{RequestHead};
 ghost use Rattle.httparse.specs.Spans.{IsRequestAt, IsRequestWithin};
 ghost use Rattle.http_messages.specs.declared.limits.TheConstants.{MOST_FIELDS, MOST_HEAD};
 ghost use Rattle.http_messages.specs.Cuts.{drop_empty_lines, empty_line};
-ghost use Rattle.http_messages.specs.Heads.{request_head};
+ghost use Rattle.http_messages.specs.Head.{request_head};
 ghost use Rattle.http_messages.specs.Readings.{EndsWithin, Finds, Sees};
 ghost use Rattle.http_messages.specs.Requests.{head_at, request_at};
 

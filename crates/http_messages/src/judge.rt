@@ -6,9 +6,9 @@ ghost use Rattle.std.specs.Str.Parse.{digits_value};
 ghost use Rattle.httparse.specs.Grammar.{is_ows, skip_ows, trim_ows};
 ghost use Rattle.http_messages.specs.declared.limits.TheConstants.{MOST_HEAD};
 ghost use Rattle.http_messages.specs.Cuts.{empty_line};
-ghost use Rattle.http_messages.specs.Environs.{Pair};
+ghost use Rattle.http_messages.specs.Environ.{Pair};
 ghost use Rattle.http_messages.specs.Fields.{AreFields};
-ghost use Rattle.http_messages.specs.Heads.{request_head};
+ghost use Rattle.http_messages.specs.Head.{request_head};
 ghost use Rattle.http_messages.specs.Requests.{announces_body, coded_by, does_persist, expects, framing_by, framing_of, has_member, is_allowed_target, is_length, judged, on_framing, request_of, sized_by};
 
 use crate::environ::environ_of;

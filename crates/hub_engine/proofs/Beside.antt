@@ -1,7 +1,7 @@
 -- Requests that have nothing to do with greenlets: they come to the same, whatever greenlets there are.
 use Rattle.std.proofs.Common.{◌≡◌, refl, ap, sym, ◌∙◌, ℕ, zero, suc, ◌==◌, Bool, true, false, List, [], ◌∷◌, Option, Some, None, slice_set, if◌then◌else◌, arith}
 use Rattle.std.proofs.lemmas.Bool.{true≢false}
-use Rattle.gv_values.specs.Jobs.{job_of}
+use Rattle.gv_values.specs.Job.{job_of}
 use Rattle.gv_values.specs.declared.value.Outcome.{Outcome}
 use Rattle.scenario_tree.specs.declared.tree.Wait.{Wait}
 use Rattle.trace_text.specs.declared.line.Awaited.{Awaited}
@@ -16,7 +16,7 @@ use Rattle.machine.specs.Greenlets.{no_frame, with_phase}
 use Rattle.machine.specs.Holds.{earlier, is_take, newcomer_completes}
 use Rattle.machine.specs.Landing.{answered, given, lands, resumes}
 use Rattle.machine.specs.Objects.{at_bound, is_left, is_shut, name_of_object, object_at, sets_of, takes_value}
-use Rattle.machine.specs.Requests.{acquires, fault_operand, finishes, follows, int_operand, performs, releases, typed}
+use Rattle.machine.specs.Request.{acquires, fault_operand, finishes, follows, int_operand, performs, releases, typed}
 use Rattle.machine.specs.Settle.{settle}
 use Rattle.machine.specs.Soundness.{is_live, phase_of}
 use Rattle.machine.specs.State.{State}

@@ -13,8 +13,8 @@ use Rattle.scenario_grammar.specs.declared.keyword.Keyword.{Keyword}
 use Rattle.scenario_grammar.specs.declared.token.Token.{Token}
 use Rattle.scenario_grammar.specs.declared.token.Token.TheVariants as token
 use Rattle.scenario_grammar.specs.Blocks.{TreeLine, declaration_lines, function_lines, profile_lines, scenario_lines}
-use Rattle.scenario_grammar.specs.Phrases.{object_tokens, phrase_tokens}
-use Rattle.scenario_grammar.specs.Tokens.{Written, ◌⊕◌, ◌▹◌, each, name, number, only_if}
+use Rattle.scenario_grammar.specs.Phrase.{object_tokens, phrase_tokens}
+use Rattle.scenario_grammar.specs.Token.{Written, ◌⊕◌, ◌▹◌, each, name, number, only_if}
 use Rattle.scenario_print.specs.Texts.{HasText, has_words}
 use Rattle.machine.specs.Run.{first_state, object_of}
 use Rattle.hub_objects.specs.Counted.{AreCounted, IsCounted}

@@ -1,7 +1,7 @@
 -- What a run that is over, or broke off, leaves outside of the hub, where nothing had been done with the world.
 use Rattle.std.proofs.Common.{◌≡◌, refl, ap, sym, ◌∙◌, subst, ℕ, List, [], ◌∷◌, ◌++◌, length, length-append, Option, Some, arith}
 use Rattle.std.proofs.lemmas.List.{append-nil}
-use Rattle.trace_text.specs.LineTexts.{text_of}
+use Rattle.trace_text.specs.Line.{text_of}
 use Rattle.trace_text.specs.declared.line.StopCause.{StopCause}
 use Rattle.gv_io.specs.Streams.{appended, AppendsPrefix}
 use Rattle.gv_values.specs.declared.job.Answer.{Answer}
@@ -16,7 +16,7 @@ use Rattle.hub_engine.specs.declared.broken.Broken.{Broken}
 use Rattle.hub_engine.specs.declared.run.EngineEnd.{EngineEnd}
 use Rattle.hub_engine.specs.declared.run.Ran.{Ran}
 use Rattle.hub_engine.specs.Ends.{CountsOf, HasLogged, HasNumbersAt, IsPartLogged, RanTo, end_of, end_of_run}
-use Rattle.hub_engine.specs.Ahead.{WroteAhead}
+use Rattle.hub_engine.specs.Run.{WroteAhead}
 use Rattle.hub_engine.specs.Outside.{Outside, WritesPart}
 use Rattle.hub_engine.specs.Written.{HasBroken, HasEnded, Runs, RunsTo, ended_as, finished, preceded}
 use Rattle.hub_engine.proofs.Giving.{answers_of_append}

@@ -19,7 +19,7 @@ use Rattle.machine.specs.Landing.{Landing, Next, after_end, given, goes_on, land
 use Rattle.machine.specs.Deliveries.{without_offer_by}
 use Rattle.machine.specs.Moves.{timeout_item}
 use Rattle.machine.specs.declared.items.Delivery.{Delivery}
-use Rattle.machine.specs.Requests.{follows}
+use Rattle.machine.specs.Request.{follows}
 use Rattle.machine.specs.Settle.{settle}
 use Rattle.machine.specs.Unwinding.{Unwound, unwind}
 use Rattle.machine.specs.Waits.{Performed}

@@ -4,14 +4,14 @@ use Rattle.std.proofs.lemmas.Bool.{true≢false}
 use Rattle.std.proofs.lemmas.Bool.Decides.{nat_tests}
 use Rattle.std.proofs.lemmas.List.{append-nil, map-append}
 use Rattle.trace_text.specs.declared.line.Line.{Line}
-use Rattle.trace_text.specs.LineTexts.{text_of}
+use Rattle.trace_text.specs.Line.{text_of}
 use Rattle.gv_io.specs.Streams.{appended, Extends}
 use Rattle.gv_io.proofs.StreamLaws.{appended-nothing, appended-appended, Extends-after, Extends-nothing}
 use Rattle.gv_values.specs.declared.job.Answer.{Answer}
 use Rattle.world_rules.specs.declared.question.LogEntry.{LogEntry}
 use Rattle.world_rules.specs.declared.question.Question.{Question}
 use Rattle.world_rules.specs.Legal.{AreLegal, IsLegal, answers_of, posted, posts_of}
-use Rattle.world.specs.Worlds.{WorldGoesOn, WorldMeaning, Stores}
+use Rattle.world.specs.Outside.{WorldGoesOn, WorldMeaning, Stores}
 use Rattle.world.proofs.LegalLogs.{legal_append}
 use Rattle.machine.specs.declared.state.Post.{Post}
 use Rattle.machine.specs.Run.{logged, silent}

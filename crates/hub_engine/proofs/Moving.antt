@@ -24,7 +24,7 @@ use Rattle.machine.specs.Soundness.{phase_of, is_live}
 use Rattle.machine.specs.Landing.{Next, goes_on, lands}
 use Rattle.machine.specs.Greenlets.{frame_of, greenlet, no_frame, nobody, with_phase}
 use Rattle.machine.specs.Moves.{does, enters, look, move, timeout_item}
-use Rattle.machine.specs.Requests.{follows, performs}
+use Rattle.machine.specs.Request.{follows, performs}
 use Rattle.machine.specs.Unwinding.{unwind}
 use Rattle.machine.specs.Settle.{numbers_after, settle, settled}
 use Rattle.machine.specs.State.{State}

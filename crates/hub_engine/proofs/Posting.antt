@@ -8,7 +8,7 @@ use Rattle.gv_values.specs.declared.job.Job.{Job}
 use Rattle.world_rules.specs.declared.question.LogEntry.{LogEntry}
 use Rattle.world_rules.specs.declared.question.PostedJob.{PostedJob}
 use Rattle.world_rules.specs.Legal.{is_posted, posted}
-use Rattle.world.specs.Worlds.{WorldMeaning, Posts}
+use Rattle.world.specs.Outside.{WorldMeaning, Posts}
 use Rattle.machine.specs.declared.state.JobState.{JobState}
 use Rattle.machine.specs.declared.state.Post.{Post}
 use Rattle.machine.specs.Run.{logged}

@@ -4,7 +4,7 @@ use Rattle.std.specs.Prelude.{Result, Ok, Err}
 use Rattle.std.proofs.lemmas.List.{append-nil}
 use Rattle.trace_text.specs.declared.line.Line.{Line}
 use Rattle.trace_text.specs.declared.line.StopCause.{StopCause}
-use Rattle.trace_text.specs.LineTexts.{text_of}
+use Rattle.trace_text.specs.Line.{text_of}
 use Rattle.trace_reader.specs.Ranges.{LinesFit}
 use Rattle.gv_io.specs.Streams.{appended, Extends}
 use Rattle.gv_io.proofs.StreamLaws.{appended-appended, Extends-after, Extends-nothing}
@@ -13,7 +13,7 @@ use Rattle.gv_values.specs.declared.job.Answer.{Answer}
 use Rattle.world_rules.specs.declared.question.LogEntry.{LogEntry}
 use Rattle.world_rules.specs.declared.question.Question.{Question}
 use Rattle.world_rules.specs.Legal.{IsLegal, answers_of}
-use Rattle.world.specs.Worlds.{Stores}
+use Rattle.world.specs.Outside.{Stores}
 use Rattle.scenario_tree.specs.declared.tree.Scenario.{Scenario}
 use Rattle.machine.specs.declared.state.Post.{Post}
 use Rattle.machine.specs.Landing.{Next, lands, starts}

@@ -1,7 +1,7 @@
 -- The texts of lines one after another.
 use Rattle.std.proofs.Common.{◌≡◌, refl, ap, sym, ◌∙◌, ℕ, zero, suc, ◌+◌, ◌<◌, List, [], ◌∷◌, ◌++◌, length, take, get_or, append_assoc, arith}
 use Rattle.trace_text.specs.declared.line.Line.{Line}
-use Rattle.trace_text.specs.LineTexts.{text_of, line_text}
+use Rattle.trace_text.specs.Line.{text_of, line_text}
 use Rattle.trace_reader.specs.Ranges.{LineFits, LinesFit}
 
 pub text_of_append : (xs ys : List Line) → text_of (xs ++ ys) ≡ text_of xs ++ text_of ys

@@ -2,7 +2,7 @@
 use Rattle.std.proofs.Common.{◌≡◌, refl, ap, sym, ◌∙◌, subst, ℕ, List, [], ◌∷◌, ◌++◌, append_assoc, Option, Bool, true, false, take}
 use Rattle.std.proofs.lemmas.List.{append-nil}
 use Rattle.trace_text.specs.declared.line.Line.{Line}
-use Rattle.trace_text.specs.LineTexts.{text_of}
+use Rattle.trace_text.specs.Line.{text_of}
 use Rattle.trace_reader.specs.Ranges.{LinesFit}
 use Rattle.gv_io.specs.Streams.{appended, AppendsPrefix, Extends}
 use Rattle.gv_io.proofs.StreamLaws.{AppendsPrefix-nothing, AppendsPrefix-all, AppendsPrefix-after, AppendsPrefix-longer, Extends-nothing, writes}

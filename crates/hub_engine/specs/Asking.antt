@@ -7,7 +7,7 @@ use Rattle.machine.specs.declared.request.Request.{Request}
 use Rattle.machine.specs.Landing.{Next, lands}
 use Rattle.machine.specs.Greenlets.{with_phase}
 use Rattle.machine.specs.Moves.{enters}
-use Rattle.machine.specs.Requests.{follows, performs}
+use Rattle.machine.specs.Request.{follows, performs}
 use Rattle.machine.specs.Settle.{settle}
 use Rattle.machine.specs.State.{State}
 use Rattle.machine_trace_laws.specs.Reached.{state_of_next}

@@ -9,4 +9,4 @@ pub mod Ready
 pub mod Stands
 pub mod Tied
 pub mod Written
-pub mod Ahead
+pub mod Run

@@ -1,14 +1,14 @@
 -- What a part of a run does outside of the hub: the text that it writes to the sink, and what it does with the world.
 use Rattle.std.specs.Prelude.{◌≡◌, ℕ, Bool, false, if◌then◌else◌, List, [], ◌∷◌, ◌++◌, map, ⊤, Option, None, Result, Ok, Err}
 use Rattle.trace_text.specs.declared.line.Line.{Line}
-use Rattle.trace_text.specs.LineTexts.{text_of}
+use Rattle.trace_text.specs.Line.{text_of}
 use Rattle.trace_reader.specs.Ranges.{LinesFit}
 use Rattle.gv_io.specs.Streams.{appended, AppendsPrefix, Extends}
 use Rattle.gv_io.specs.declared.sink.Sink.{Ghosts as Sinks}
 use Rattle.world_rules.specs.declared.question.LogEntry.{LogEntry}
 use Rattle.world_rules.specs.declared.question.PostedJob.{PostedJob}
 use Rattle.world_rules.specs.Legal.{AreLegal, answers_of, is_posted, posted, posts_of}
-use Rattle.world.specs.Worlds.{WorldGoesOn, WorldMeaning}
+use Rattle.world.specs.Outside.{WorldGoesOn, WorldMeaning}
 use Rattle.world.specs.declared.outside.World.{Ghosts as Worlds}
 use Rattle.machine.specs.declared.state.Post.{Post}
 use Rattle.machine.specs.Run.{Passed, logged}

@@ -3,7 +3,7 @@ use Rattle.std.specs.Prelude.{◌≡◌, true, ⊤}
 use Rattle.machine.specs.Landing.{Next}
 use Rattle.machine.specs.State.{State}
 use Rattle.machine_turns.specs.Logs.{KnowsJobs, StandsKnowing}
-use Rattle.world.specs.Worlds.{WorldMeaning}
+use Rattle.world.specs.Outside.{WorldMeaning}
 use Rattle.hub_engine.specs.declared.stand.Came.{Came}
 use Rattle.hub_engine.specs.Ready.{IsReady, IsReadyAt}
 

@@ -8,7 +8,7 @@ ghost use Rattle.machine.specs.Bodies.{around};
 ghost use Rattle.machine.specs.Greenlets.{no_frame, with_phase};
 ghost use Rattle.machine.specs.Landing.{answered};
 ghost use Rattle.machine.specs.Settle.{settle};
-ghost use Rattle.machine.specs.Requests.{follows, performs};
+ghost use Rattle.machine.specs.Request.{follows, performs};
 ghost use Rattle.machine.specs.Moves.{enters, timeout_item};
 ghost use Rattle.machine.specs.Soundness.{Claim, is_unclaimed, phase_of};
 ghost use Rattle.machine_trace_laws.specs.Reached.{state_of_next};

@@ -8,11 +8,11 @@ ghost use Rattle.machine.specs.Blocked.{blocked_states};
 ghost use Rattle.machine.specs.Run.{Source, first_state, run};
 ghost use Rattle.machine.specs.TraceLaws.{meets_laws};
 ghost use Rattle.machine_well_formed.specs.Texts.{HasMain};
-ghost use Rattle.world.specs.Worlds.{WorldGoesOn};
+ghost use Rattle.world.specs.Outside.{WorldGoesOn};
 ghost use Rattle.world_rules.specs.Legal.{AreLegal};
 ghost use Rattle.hub_objects.specs.Counted.{AreCounted};
 ghost use Rattle.hub_engine.specs.Ends.{HasLogged, HasNumbers, RanTo};
-ghost use Rattle.hub_engine.specs.Ahead.{WroteAhead};
+ghost use Rattle.hub_engine.specs.Run.{WroteAhead};
 ghost use Rattle.hub_engine.specs.Outside.{WritesPart};
 ghost use Rattle.hub_engine.specs.declared.run.EngineEnd.TheVariants as ends;
 

@@ -1,6 +1,6 @@
 //! Turns, and the whole run, whose trace is given out step by step.
 ghost use Rattle.std.specs.Prelude.{◌≡◌, ℕ, suc, Bool, true, [], IsTrue, OnOk, IfOk, IsSome, None, Some};
-ghost use Rattle.trace_text.specs.LineTexts.{text_of};
+ghost use Rattle.trace_text.specs.Line.{text_of};
 ghost use Rattle.trace_reader.specs.Ranges.{LinesFit};
 ghost use Rattle.gv_io.specs.Streams.{Extends};
 ghost use Rattle.machine.specs.declared.items.Item.{Item as AnyItem};

@@ -2,7 +2,7 @@
 use Rattle.std.specs.Prelude.{Bool}
 use Rattle.machine.specs.declared.items.Delivery.{Delivery}
 use Rattle.machine.specs.Items.{is_wait_of, is_timeout_of, goes_at_end}
-use Rattle.machine.specs.Requests.{is_link}
+use Rattle.machine.specs.Request.{is_link}
 use Rattle.hub_items.specs.declared.gone.Gone.{Gone}
 
 abbrev pub gone_of : Gone → Delivery → Bool

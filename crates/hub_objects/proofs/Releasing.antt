@@ -5,7 +5,7 @@ use Rattle.std.proofs.lemmas.Bool.Decides.{nat_tests}
 use Rattle.gv_values.specs.declared.fault.FaultKind.{FaultKind}
 use Rattle.machine.specs.declared.state.Object.{Object}
 use Rattle.machine.specs.Objects.{at_bound, after_release, no_object, with_object}
-use Rattle.machine.specs.Requests.{done, finishes, releases}
+use Rattle.machine.specs.Request.{done, finishes, releases}
 use Rattle.machine.specs.State.{State}
 use Rattle.machine.specs.Waits.{Performed, raises}
 use Rattle.hub_objects.specs.Changes.{with_owner_gone, with_task_done, with_unit}

@@ -3,7 +3,7 @@ use Rattle.std.specs.Prelude.{ℕ, ◌==◌, Bool, false, Option, Some, None, if
 use Rattle.gv_values.specs.declared.fault.FaultKind.{FaultKind}
 use Rattle.machine.specs.declared.state.Object.{Object}
 use Rattle.machine.specs.Objects.{at_bound}
-use Rattle.machine.specs.Requests.{done}
+use Rattle.machine.specs.Request.{done}
 use Rattle.machine.specs.State.{State}
 use Rattle.machine.specs.Waits.{Performed, raises}
 use Rattle.hub_objects.specs.declared.releases.Release.{Release}

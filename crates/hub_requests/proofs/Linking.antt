@@ -12,7 +12,7 @@ use Rattle.machine.specs.Holds.{outcome_of}
 use Rattle.gv_values.specs.declared.fault.FaultKind.{FaultKind}
 use Rattle.machine.specs.declared.request.Request.{Request}
 use Rattle.machine.specs.Items.{add_item, drop_items}
-use Rattle.machine.specs.Requests.{done, int_operand, is_link, link_stands, links, performs, typed}
+use Rattle.machine.specs.Request.{done, int_operand, is_link, link_stands, links, performs, typed}
 use Rattle.machine.specs.State.{State}
 use Rattle.machine.specs.Waits.{Performed, raises}
 use Rattle.machine.specs.declared.limits.TheConstants.{MOST_LINKS}

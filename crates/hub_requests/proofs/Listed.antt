@@ -3,7 +3,7 @@ use Rattle.std.proofs.Common.{◌≡◌, refl, ap, sym, subst, ◌∙◌, ℕ, z
 use Rattle.std.specs.Prelude.{if◌then◌else◌}
 use Rattle.gv_values.specs.declared.scalar.Scalar.{Scalar}
 use Rattle.machine.specs.Greenlets.{greenlet}
-use Rattle.machine.specs.Requests.{plain_greenlets}
+use Rattle.machine.specs.Request.{plain_greenlets}
 use Rattle.machine.specs.State.{State}
 use Rattle.hub_requests.specs.Operands.{plain_scalar}
 

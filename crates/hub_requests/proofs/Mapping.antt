@@ -2,7 +2,7 @@
 use Rattle.std.proofs.Common.{◌≡◌, refl, ap, sym, ◌∙◌, ℕ, ◌+◌, ◌<◌, ◌≤◌, Bool, true, false, List, [], ◌∷◌, ◌++◌, length, drop, get_or, None, slice_get, arith}
 use Rattle.gv_values.specs.declared.scalar.Scalar.{Scalar}
 use Rattle.gv_values.specs.declared.value.Value.{Value}
-use Rattle.gv_values.specs.Values.{value_of_scalar}
+use Rattle.gv_values.specs.Value.{value_of_scalar}
 use Rattle.trace_text.specs.declared.line.Awaited.{Awaited}
 use Rattle.trace_text.specs.declared.line.StopCause.{StopCause}
 use Rattle.machine.specs.declared.items.Waiting.{Waiting}

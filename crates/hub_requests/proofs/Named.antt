@@ -8,7 +8,7 @@ use Rattle.trace_text.specs.declared.line.Awaited.{Awaited}
 use Rattle.machine.specs.declared.items.Waiting.{Waiting}
 use Rattle.machine.specs.declared.state.Object.{Object}
 use Rattle.machine.specs.Objects.{name_of_object}
-use Rattle.machine.specs.Requests.{acquires}
+use Rattle.machine.specs.Request.{acquires}
 use Rattle.machine.specs.State.{State}
 use Rattle.machine.specs.declared.request.Request.{Request}
 use Rattle.machine.proofs.Halves.{left}

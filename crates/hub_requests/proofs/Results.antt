@@ -6,7 +6,7 @@ use Rattle.gv_values.specs.declared.fault.FaultKind.{FaultKind}
 use Rattle.gv_values.specs.declared.scalar.Scalar.{Scalar}
 use Rattle.gv_values.specs.declared.value.Outcome.{Outcome}
 use Rattle.gv_values.specs.declared.value.Value.{Value}
-use Rattle.gv_values.specs.Values.{scalar_of_value}
+use Rattle.gv_values.specs.Value.{scalar_of_value}
 use Rattle.machine.specs.Expressions.{scalars}
 use Rattle.machine.specs.Waits.{gathered, outcome_of_greenlet}
 use Rattle.machine.specs.State.{State}

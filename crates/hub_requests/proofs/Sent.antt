@@ -14,7 +14,7 @@ use Rattle.machine.specs.Items.{add_item}
 use Rattle.machine.specs.Ends.{ended}
 use Rattle.machine.specs.Greenlets.{nobody}
 use Rattle.gv_values.specs.Ends.{kept}
-use Rattle.machine.specs.Requests.{Sending, kills_standing, sends, sends_all}
+use Rattle.machine.specs.Request.{Sending, kills_standing, sends, sends_all}
 use Rattle.machine.specs.State.{State, say}
 use Rattle.machine_soundness.proofs.Lists.{all-of}
 use Rattle.hub_requests.specs.Far.{far_of}

@@ -10,7 +10,7 @@ use Rattle.machine.specs.State.{State, say}
 use Rattle.machine.specs.Greenlets.{add_greenlet, greenlet}
 use Rattle.machine.specs.Items.{add_item, is_start_of}
 use Rattle.machine.specs.Hosts.{host_of}
-use Rattle.machine.specs.Requests.{Sending, has_start, sends, sends_all}
+use Rattle.machine.specs.Request.{Sending, has_start, sends, sends_all}
 use Rattle.machine.specs.Objects.{members_of}
 use Rattle.machine.specs.Soundness.{Claim, is_unclaimed}
 use Rattle.machine.specs.Waits.{add_member}

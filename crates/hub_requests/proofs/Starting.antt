@@ -7,7 +7,7 @@ use Rattle.machine.specs.declared.state.Phase.{Phase}
 use Rattle.machine.specs.Soundness.{phase_of}
 use Rattle.machine.specs.Greenlets.{nobody}
 use Rattle.machine.specs.Items.{add_item}
-use Rattle.machine.specs.Requests.{has_start, is_new, start_of, starts_at}
+use Rattle.machine.specs.Request.{has_start, is_new, start_of, starts_at}
 use Rattle.machine.specs.State.{State}
 use Rattle.hub_requests.specs.Far.{far_of}
 use Rattle.hub_requests.specs.declared.far.Far.{Far}

@@ -1,6 +1,6 @@
 -- What the sending of kills comes to.
 use Rattle.std.specs.Prelude.{Bool, true, false}
-use Rattle.machine.specs.Requests.{Sending}
+use Rattle.machine.specs.Request.{Sending}
 use Rattle.machine.specs.State.{State}
 
 -- all were sent, or one was too many

@@ -2,7 +2,7 @@
 ghost use Rattle.std.specs.Prelude.{◌≡◌, unwrap_or, IfOk};
 ghost use Rattle.std.specs.Option.{option_copied};
 ghost use Rattle.machine.specs.Objects.{members_of, no_object};
-ghost use Rattle.machine.specs.Requests.{performs};
+ghost use Rattle.machine.specs.Request.{performs};
 ghost use Rattle.machine.specs.declared.request.Request.{Request as Asked};
 ghost use Rattle.hub_requests.specs.Making.{MayMake};
 ghost use Rattle.hub_requests.specs.Naming.{IsObject};
@@ -23,7 +23,7 @@ use std::alloc::{AllocError, Global};
 use trace_text::Awaited;
 
 /// Waits for a place in the group or pool, and makes a member.
-#[tactic(auto, unfolding(machine::specs::Requests::performs))]
+#[tactic(auto, unfolding(machine::specs::Request::performs))]
 pub fn spawn_member(
     alloc: Global,
     hub: &mut Hub,
@@ -46,7 +46,7 @@ pub fn spawn_member(
 }
 
 /// Waits until the group or pool has no member.
-#[tactic(auto, unfolding(machine::specs::Requests::performs))]
+#[tactic(auto, unfolding(machine::specs::Request::performs))]
 pub fn join_crew(
     alloc: Global,
     hub: &mut Hub,
@@ -72,7 +72,7 @@ fn members_of(alloc: Global, object: Option<&Object>) -> Result<Items<u32>, Allo
 }
 
 /// Kills the members of the group or pool, and waits for their ends.
-#[tactic(auto, unfolding(machine::specs::Requests::performs))]
+#[tactic(auto, unfolding(machine::specs::Request::performs))]
 pub fn kill_crew(
     alloc: Global,
     hub: &mut Hub,
@@ -104,7 +104,7 @@ pub fn kill_crew(
 }
 
 /// Makes a member for each element of a list.
-#[tactic(auto, unfolding(machine::specs::Requests::performs))]
+#[tactic(auto, unfolding(machine::specs::Request::performs))]
 pub fn map_list(
     alloc: Global,
     hub: &mut Hub,
@@ -145,7 +145,7 @@ pub struct JobAsked {
 }
 
 /// Waits for a slot of the native pool, and posts a job.
-#[tactic(auto, unfolding(machine::specs::Requests::performs))]
+#[tactic(auto, unfolding(machine::specs::Request::performs))]
 pub fn spawn_job(
     alloc: Global,
     hub: &mut Hub,

@@ -1,6 +1,6 @@
 //! Requests on greenlets: prints, new greenlets, waits for ends, kills, links.
 ghost use Rattle.std.specs.Prelude.{◌≡◌, ◌+◌, ◌≤◌, min, unwrap_or, IfOk};
-ghost use Rattle.machine.specs.Requests.{performs};
+ghost use Rattle.machine.specs.Request.{performs};
 ghost use Rattle.machine.specs.declared.request.Request.{Request as Asked};
 ghost use Rattle.hub_requests.specs.Making.{MayMake};
 ghost use Rattle.hub_requests.specs.Performing.{performed_of};
@@ -23,7 +23,7 @@ use std::alloc::{AllocError, Global};
 use trace_text::{Awaited, Line};
 
 /// Says what is printed.
-#[tactic(auto, unfolding(machine::specs::Requests::performs))]
+#[tactic(auto, unfolding(machine::specs::Request::performs))]
 pub fn print_value(hub: &mut Hub, g: u32, value: Value) -> Result<Performed, AllocError>
     ensures { IfOk result (λ p. performs (Asked.Print value) g hub.old ≡ performed_of p hub.new) }
 {
@@ -32,7 +32,7 @@ pub fn print_value(hub: &mut Hub, g: u32, value: Value) -> Result<Performed, All
 }
 
 /// Makes a greenlet that starts.
-#[tactic(auto, unfolding(machine::specs::Requests::performs))]
+#[tactic(auto, unfolding(machine::specs::Request::performs))]
 pub fn spawn_now(
     hub: &mut Hub,
     g: u32,
@@ -53,7 +53,7 @@ fn deadline_after(hub: &Hub, time: u64) -> Result<u64, AllocError>
 }
 
 /// Makes a greenlet that starts after so many milliseconds.
-#[tactic(auto, unfolding(machine::specs::Requests::performs))]
+#[tactic(auto, unfolding(machine::specs::Request::performs))]
 pub fn spawn_later(
     hub: &mut Hub,
     g: u32,
@@ -69,7 +69,7 @@ pub fn spawn_later(
 }
 
 /// Makes a greenlet that is not started.
-#[tactic(auto, unfolding(machine::specs::Requests::performs))]
+#[tactic(auto, unfolding(machine::specs::Request::performs))]
 pub fn make_new(
     hub: &mut Hub,
     g: u32,
@@ -83,7 +83,7 @@ pub fn make_new(
 
 /// Gives the greenlet of the handle a start, where it is New and has none. The answer is none, or a TypeError where the
 /// value is no handle of a greenlet that is not raw.
-#[tactic(auto, unfolding(machine::specs::Requests::performs))]
+#[tactic(auto, unfolding(machine::specs::Request::performs))]
 pub fn start_handle(hub: &mut Hub, g: u32, value: Value) -> Result<Performed, AllocError>
     requires { MayMake g hub.old }
     ensures { IfOk result (λ p. performs (Asked.Start value) g hub.old ≡ performed_of p hub.new) }
@@ -98,7 +98,7 @@ pub fn start_handle(hub: &mut Hub, g: u32, value: Value) -> Result<Performed, Al
 }
 
 /// Lets the greenlet sleep for so many milliseconds.
-#[tactic(auto, unfolding(machine::specs::Requests::performs))]
+#[tactic(auto, unfolding(machine::specs::Request::performs))]
 pub fn sleep_for(alloc: Global, hub: &mut Hub, g: u32, time: u64) -> Result<Performed, AllocError>
     requires { MayMake g hub.old }
     ensures { IfOk result (λ p. performs (Asked.Sleep time) g hub.old ≡ performed_of p hub.new) }
@@ -108,7 +108,7 @@ pub fn sleep_for(alloc: Global, hub: &mut Hub, g: u32, time: u64) -> Result<Perf
 }
 
 /// Waits for the end of a greenlet.
-#[tactic(auto, unfolding(machine::specs::Requests::performs))]
+#[tactic(auto, unfolding(machine::specs::Request::performs))]
 pub fn join_handle(
     alloc: Global,
     hub: &mut Hub,
@@ -126,7 +126,7 @@ pub fn join_handle(
 }
 
 /// Waits for what a greenlet or job ends with.
-#[tactic(auto, unfolding(machine::specs::Requests::performs))]
+#[tactic(auto, unfolding(machine::specs::Request::performs))]
 pub fn get_outcome(
     alloc: Global,
     hub: &mut Hub,
@@ -144,7 +144,7 @@ pub fn get_outcome(
 }
 
 /// Kills a greenlet, and waits for its end.
-#[tactic(auto, unfolding(machine::specs::Requests::performs))]
+#[tactic(auto, unfolding(machine::specs::Request::performs))]
 pub fn kill_one(
     alloc: Global,
     hub: &mut Hub,
@@ -178,7 +178,7 @@ pub fn kill_one(
 }
 
 /// Kills the greenlets of a list, and waits for their ends.
-#[tactic(auto, unfolding(machine::specs::Requests::performs))]
+#[tactic(auto, unfolding(machine::specs::Request::performs))]
 pub fn kill_all(
     alloc: Global,
     hub: &mut Hub,
@@ -222,7 +222,7 @@ fn need_of(count: Option<u64>, most: usize) -> u32
 }
 
 /// Waits for the ends of so many of a list.
-#[tactic(auto, unfolding(machine::specs::Requests::performs))]
+#[tactic(auto, unfolding(machine::specs::Request::performs))]
 pub fn join_all(
     alloc: Global,
     hub: &mut Hub,
@@ -242,7 +242,7 @@ pub fn join_all(
 }
 
 /// Links to the end of a greenlet.
-#[tactic(auto, unfolding(machine::specs::Requests::performs))]
+#[tactic(auto, unfolding(machine::specs::Request::performs))]
 pub fn link_handle(
     hub: &mut Hub,
     g: u32,
@@ -260,7 +260,7 @@ pub fn link_handle(
 }
 
 /// Removes the link of a number.
-#[tactic(auto, using(crate::proofs::Linking::unlinked, crate::proofs::Linking::not_unlinked), unfolding(machine::specs::Requests::performs))]
+#[tactic(auto, using(crate::proofs::Linking::unlinked, crate::proofs::Linking::not_unlinked), unfolding(machine::specs::Request::performs))]
 pub fn unlink(hub: &mut Hub, g: u32, value: Value) -> Result<Performed, AllocError>
     requires { MayMake g hub.old }
     ensures { IfOk result (λ p. performs (Asked.Unlink value) g hub.old ≡ performed_of p hub.new) }

@@ -5,7 +5,7 @@ ghost use Rattle.gv_values.specs.Ends.{kept};
 ghost use Rattle.trace_text.specs.declared.line.Line.TheVariants as line;
 ghost use Rattle.machine.specs.Ends.{ended};
 ghost use Rattle.machine.specs.State.{say};
-ghost use Rattle.machine.specs.Requests.{kills, sends, sends_all};
+ghost use Rattle.machine.specs.Request.{kills, sends, sends_all};
 ghost use Rattle.hub_requests.specs.Making.{MayMake};
 ghost use Rattle.hub_requests.specs.Performing.{performed_of};
 ghost use Rattle.machine_soundness.specs.Going.{AreNotRaw};

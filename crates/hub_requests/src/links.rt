@@ -3,7 +3,7 @@ ghost use Rattle.std.specs.Prelude.{◌≡◌, IfOk};
 ghost use Rattle.gv_values.specs.declared.value.Whom.{Whom};
 ghost use Rattle.machine.specs.Holds.{outcome_of};
 ghost use Rattle.machine.specs.Items.{drop_items};
-ghost use Rattle.machine.specs.Requests.{is_link, link_stands, links};
+ghost use Rattle.machine.specs.Request.{is_link, link_stands, links};
 ghost use Rattle.hub_requests.specs.Making.{MayMake};
 ghost use Rattle.hub_requests.specs.Performing.{performed_of};
 

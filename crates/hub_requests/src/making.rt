@@ -1,6 +1,6 @@
 //! New greenlets, and their starts.
 ghost use Rattle.std.specs.Prelude.{◌≡◌, false, OnOk, IfOk};
-ghost use Rattle.machine.specs.Requests.{makes, start_of, starts_at};
+ghost use Rattle.machine.specs.Request.{makes, start_of, starts_at};
 ghost use Rattle.hub_requests.specs.Making.{MayMake};
 ghost use Rattle.hub_requests.specs.Performing.{performed_of};
 

@@ -1,6 +1,6 @@
 //! Members of groups and pools, and maps.
 ghost use Rattle.std.specs.Prelude.{◌≡◌, ◌<◌, ◌≤◌, ◌+◌, ◌∷◌, [], drop, OnOk, IfOk, length};
-ghost use Rattle.gv_values.specs.Values.{value_of_scalar};
+ghost use Rattle.gv_values.specs.Value.{value_of_scalar};
 ghost use Rattle.machine.specs.Waits.{made_member, map_ends, maps, map_goes_on, add_member};
 ghost use Rattle.hub_requests.specs.Making.{MayMake};
 ghost use Rattle.hub_requests.specs.Naming.{IsObject};

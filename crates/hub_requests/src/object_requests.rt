@@ -2,7 +2,7 @@
 ghost use Rattle.std.specs.Prelude.{◌≡◌, unwrap_or, IfOk};
 ghost use Rattle.std.specs.Option.{option_copied};
 ghost use Rattle.machine.specs.Objects.{no_object, sets_of};
-ghost use Rattle.machine.specs.Requests.{acquires, performs};
+ghost use Rattle.machine.specs.Request.{acquires, performs};
 ghost use Rattle.machine.specs.State.{State as AnyState};
 ghost use Rattle.machine.specs.declared.request.Request.{Request as Asked};
 ghost use Rattle.hub_objects.specs.Releases.{refused};
@@ -22,7 +22,7 @@ use scenario_tree::Wait;
 use std::alloc::{AllocError, Global};
 
 /// Sets the event's flag, and counts the set for those who wait for one. The answer is none.
-#[tactic(auto, unfolding(machine::specs::Requests::performs))]
+#[tactic(auto, unfolding(machine::specs::Request::performs))]
 pub fn set_event(hub: &mut Hub, g: u32, o: u32) -> Result<Performed, AllocError>
     ensures { IfOk result (λ p. performs (Asked.Set o) g hub.old ≡ performed_of p hub.new) }
 {
@@ -31,7 +31,7 @@ pub fn set_event(hub: &mut Hub, g: u32, o: u32) -> Result<Performed, AllocError>
 }
 
 /// Clears the event's flag. The answer is none.
-#[tactic(auto, unfolding(machine::specs::Requests::performs))]
+#[tactic(auto, unfolding(machine::specs::Request::performs))]
 pub fn clear_event(hub: &mut Hub, g: u32, o: u32) -> Result<Performed, AllocError>
     ensures { IfOk result (λ p. performs (Asked.Clear o) g hub.old ≡ performed_of p hub.new) }
 {
@@ -50,7 +50,7 @@ fn sets_of(object: Option<&Object>) -> u64
 }
 
 /// Waits for a set of the event.
-#[tactic(auto, unfolding(machine::specs::Requests::performs))]
+#[tactic(auto, unfolding(machine::specs::Request::performs))]
 pub fn wait_for_event(
     alloc: Global,
     hub: &mut Hub,
@@ -67,7 +67,7 @@ pub fn wait_for_event(
 }
 
 /// Puts a value into the result.
-#[tactic(auto, unfolding(machine::specs::Requests::performs))]
+#[tactic(auto, unfolding(machine::specs::Request::performs))]
 pub fn set_result(hub: &mut Hub, g: u32, o: u32, value: Value) -> Result<Performed, AllocError>
     ensures { IfOk result (λ p. performs (Asked.ResultSet o value) g hub.old ≡ performed_of p hub.new) }
 {
@@ -76,7 +76,7 @@ pub fn set_result(hub: &mut Hub, g: u32, o: u32, value: Value) -> Result<Perform
 }
 
 /// Puts a fault into the result.
-#[tactic(auto, unfolding(machine::specs::Requests::performs))]
+#[tactic(auto, unfolding(machine::specs::Request::performs))]
 pub fn fail_result(hub: &mut Hub, g: u32, o: u32, value: Value) -> Result<Performed, AllocError>
     ensures { IfOk result (λ p. performs (Asked.ResultFail o value) g hub.old ≡ performed_of p hub.new) }
 {
@@ -90,7 +90,7 @@ pub fn fail_result(hub: &mut Hub, g: u32, o: u32, value: Value) -> Result<Perfor
 }
 
 /// Waits for what is put into the result.
-#[tactic(auto, unfolding(machine::specs::Requests::performs))]
+#[tactic(auto, unfolding(machine::specs::Request::performs))]
 pub fn get_result(
     alloc: Global,
     hub: &mut Hub,
@@ -106,7 +106,7 @@ pub fn get_result(
 }
 
 /// Waits until something is put into the result.
-#[tactic(auto, unfolding(machine::specs::Requests::performs))]
+#[tactic(auto, unfolding(machine::specs::Request::performs))]
 pub fn wait_for_result(
     alloc: Global,
     hub: &mut Hub,
@@ -132,7 +132,7 @@ fn waiting_for(object: Option<&Object>, o: u32) -> Waiting
 }
 
 /// Waits for a unit of a semaphore, or for a lock.
-#[tactic(auto, using(crate::proofs::Named::acquired_there, crate::proofs::Named::acquired_short, crate::proofs::Named::acquired_said), unfolding(machine::specs::Requests::performs))]
+#[tactic(auto, using(crate::proofs::Named::acquired_there, crate::proofs::Named::acquired_short, crate::proofs::Named::acquired_said), unfolding(machine::specs::Request::performs))]
 pub fn acquire(
     alloc: Global,
     hub: &mut Hub,
@@ -159,7 +159,7 @@ pub fn refused(fault: Option<FaultKind>) -> Performed
 }
 
 /// Gives a unit or a lock back.
-#[tactic(auto, unfolding(machine::specs::Requests::performs))]
+#[tactic(auto, unfolding(machine::specs::Request::performs))]
 pub fn release(hub: &mut Hub, g: u32, o: u32) -> Result<Performed, AllocError>
     ensures { IfOk result (λ p. performs (Asked.Release o) g hub.old ≡ performed_of p hub.new) }
 {

@@ -1,6 +1,6 @@
 //! The kinds of operands.
 ghost use Rattle.std.specs.Prelude.{◌≡◌, ◌≤◌, Some, IfOk, IfSome, length};
-ghost use Rattle.machine.specs.Requests.{plain_greenlet, plain_greenlets, plain_greenlet_list, fault_operand, whom_operand, any_greenlet, raw_greenlet, int_operand};
+ghost use Rattle.machine.specs.Request.{plain_greenlet, plain_greenlets, plain_greenlet_list, fault_operand, whom_operand, any_greenlet, raw_greenlet, int_operand};
 ghost use Rattle.hub_requests.specs.Operands.{plain_scalar};
 ghost use Rattle.gv_values.specs.declared.limits.TheConstants.{MOST_ELEMENTS};
 

@@ -1,6 +1,6 @@
 //! The table of requests.
 ghost use Rattle.std.specs.Prelude.{◌≡◌, true, IfOk};
-ghost use Rattle.machine.specs.Requests.{performs};
+ghost use Rattle.machine.specs.Request.{performs};
 ghost use Rattle.machine_well_formed.specs.Texts.{fits_request};
 ghost use Rattle.hub_requests.specs.Making.{MayMake};
 ghost use Rattle.hub_requests.specs.Performing.{performed_of};

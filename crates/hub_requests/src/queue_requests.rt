@@ -3,7 +3,7 @@ ghost use Rattle.std.specs.Prelude.{◌≡◌, unwrap_or, IfOk};
 ghost use Rattle.std.specs.Option.{option_copied};
 ghost use Rattle.scenario_tree.specs.declared.tree.Wait.TheVariants as wait;
 ghost use Rattle.machine.specs.Objects.{no_object, takes_value};
-ghost use Rattle.machine.specs.Requests.{performs};
+ghost use Rattle.machine.specs.Request.{performs};
 ghost use Rattle.machine.specs.declared.request.Request.{Request as Asked};
 ghost use Rattle.hub_requests.specs.Making.{MayMake};
 ghost use Rattle.hub_requests.specs.Naming.{IsObject};
@@ -32,7 +32,7 @@ fn takes_value(object: Option<&Object>, value: &Value) -> bool
 }
 
 /// Waits for a place of the queue, and puts the value there.
-#[tactic(auto, unfolding(machine::specs::Requests::performs))]
+#[tactic(auto, unfolding(machine::specs::Request::performs))]
 pub fn put_item(
     alloc: Global,
     hub: &mut Hub,
@@ -52,7 +52,7 @@ pub fn put_item(
 }
 
 /// Waits for an item of the queue, and takes it.
-#[tactic(auto, unfolding(machine::specs::Requests::performs))]
+#[tactic(auto, unfolding(machine::specs::Request::performs))]
 pub fn get_item(
     alloc: Global,
     hub: &mut Hub,
@@ -68,7 +68,7 @@ pub fn get_item(
 }
 
 /// Waits for an item of the queue, and reads it.
-#[tactic(auto, unfolding(machine::specs::Requests::performs))]
+#[tactic(auto, unfolding(machine::specs::Request::performs))]
 pub fn peek_item(
     alloc: Global,
     hub: &mut Hub,
@@ -84,7 +84,7 @@ pub fn peek_item(
 }
 
 /// Waits until no task of the queue is unfinished.
-#[tactic(auto, unfolding(machine::specs::Requests::performs))]
+#[tactic(auto, unfolding(machine::specs::Request::performs))]
 pub fn join_queue(
     alloc: Global,
     hub: &mut Hub,
@@ -100,7 +100,7 @@ pub fn join_queue(
 }
 
 /// Ends a task of the queue.
-#[tactic(auto, unfolding(machine::specs::Requests::performs))]
+#[tactic(auto, unfolding(machine::specs::Request::performs))]
 pub fn end_task(hub: &mut Hub, g: u32, o: u32) -> Result<Performed, AllocError>
     ensures { IfOk result (λ p. performs (Asked.QueueDone o) g hub.old ≡ performed_of p hub.new) }
 {
@@ -109,7 +109,7 @@ pub fn end_task(hub: &mut Hub, g: u32, o: u32) -> Result<Performed, AllocError>
 }
 
 /// Shuts the queue; at once its items go too.
-#[tactic(auto, unfolding(machine::specs::Requests::performs))]
+#[tactic(auto, unfolding(machine::specs::Request::performs))]
 pub fn shut_queue(hub: &mut Hub, g: u32, o: u32, immediate: bool) -> Result<Performed, AllocError>
     ensures { IfOk result (λ p. performs (Asked.QueueShut o immediate) g hub.old ≡ performed_of p hub.new) }
 {
@@ -118,7 +118,7 @@ pub fn shut_queue(hub: &mut Hub, g: u32, o: u32, immediate: bool) -> Result<Perf
 }
 
 /// Offers the value on the channel, and waits until it is taken.
-#[tactic(auto, unfolding(machine::specs::Requests::performs))]
+#[tactic(auto, unfolding(machine::specs::Request::performs))]
 pub fn put_offer(hub: &mut Hub, g: u32, o: u32, value: Value) -> Result<Performed, AllocError>
     requires may_make { MayMake g hub.old }
     requires named { IsObject hub.old.scenario o }
@@ -129,7 +129,7 @@ pub fn put_offer(hub: &mut Hub, g: u32, o: u32, value: Value) -> Result<Performe
 }
 
 /// Waits for an offer on the channel, and takes it.
-#[tactic(auto, unfolding(machine::specs::Requests::performs))]
+#[tactic(auto, unfolding(machine::specs::Request::performs))]
 pub fn get_offer(alloc: Global, hub: &mut Hub, g: u32, o: u32) -> Result<Performed, AllocError>
     requires may_make { MayMake g hub.old }
     requires named { IsObject hub.old.scenario o }

@@ -1,7 +1,7 @@
 //! Requests on raw greenlets.
 ghost use Rattle.std.specs.Prelude.{◌≡◌, ◌==◌, IfOk};
 ghost use Rattle.machine.specs.Hosts.{host_of};
-ghost use Rattle.machine.specs.Requests.{performs};
+ghost use Rattle.machine.specs.Request.{performs};
 ghost use Rattle.machine.specs.declared.request.Request.{Request as Asked};
 ghost use Rattle.hub_requests.specs.Performing.{performed_of};
 
@@ -22,7 +22,7 @@ fn share_host(hub: &Hub, g: u32, other: u32) -> bool
 
 /// Makes a raw greenlet of the function, under the greenlet that is given, or else under the one that asks. The answer
 /// is its handle; where the value is no greenlet it is a TypeError, and at one of another host an InvalidSwitch.
-#[tactic(auto, unfolding(machine::specs::Requests::performs))]
+#[tactic(auto, unfolding(machine::specs::Request::performs))]
 pub fn make_raw(
     alloc: Global,
     hub: &mut Hub,
@@ -45,7 +45,7 @@ pub fn make_raw(
 }
 
 /// Switches to a greenlet with a value.
-#[tactic(auto, unfolding(machine::specs::Requests::performs))]
+#[tactic(auto, unfolding(machine::specs::Request::performs))]
 pub fn switch_to(hub: &mut Hub, g: u32, value: Value, input: Value) -> Result<Performed, AllocError>
     ensures { IfOk result (λ p. performs (Asked.Switch value input) g hub.old ≡ performed_of p hub.new) }
 {
@@ -59,7 +59,7 @@ pub fn switch_to(hub: &mut Hub, g: u32, value: Value, input: Value) -> Result<Pe
 }
 
 /// Switches to a greenlet with a fault.
-#[tactic(auto, unfolding(machine::specs::Requests::performs))]
+#[tactic(auto, unfolding(machine::specs::Request::performs))]
 pub fn throw_to(
     hub: &mut Hub,
     g: u32,
@@ -81,7 +81,7 @@ pub fn throw_to(
 }
 
 /// Gives a raw greenlet another parent.
-#[tactic(auto, unfolding(machine::specs::Requests::performs))]
+#[tactic(auto, unfolding(machine::specs::Request::performs))]
 pub fn set_parent(
     hub: &mut Hub,
     g: u32,

@@ -4,7 +4,7 @@ ghost use Rattle.std.specs.Option.{option_copied};
 ghost use Rattle.machine.specs.Deliveries.{since_of_wake, without_offer_by};
 ghost use Rattle.machine.specs.Holds.{earlier, is_take};
 ghost use Rattle.machine.specs.Objects.{item_of, is_left, is_shut, name_of_object, object_at, offer_of, with_object, without_member};
-ghost use Rattle.machine.specs.Requests.{finishes, releases};
+ghost use Rattle.machine.specs.Request.{finishes, releases};
 ghost use Rattle.machine.specs.Waits.{posted};
 ghost use Rattle.hub_objects.specs.Changes.{changed};
 ghost use Rattle.hub_objects.specs.Releases.{refused};

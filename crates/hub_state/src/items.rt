@@ -3,7 +3,7 @@ ghost use Rattle.std.specs.Prelude.{◌≡◌, ◌<◌, ◌≤◌, true, length,
 ghost use Rattle.std.specs.Option.{option_copied};
 ghost use Rattle.machine.specs.State.{say};
 ghost use Rattle.machine.specs.Items.{add_item, drop_items, is_timeout_of};
-ghost use Rattle.machine.specs.Requests.{has_start, kills_standing};
+ghost use Rattle.machine.specs.Request.{has_start, kills_standing};
 ghost use Rattle.machine.specs.Deliveries.{waiting_of};
 ghost use Rattle.machine.specs.Soundness.{claim_of, is_unclaimed};
 ghost use Rattle.hub_items.specs.Gone.{gone_of};

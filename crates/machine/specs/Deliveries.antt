@@ -20,7 +20,7 @@ use Rattle.machine.specs.Items.{drop_items, is_wait_of}
 use Rattle.machine.specs.Greenlets.{greenlet, add_greenlet, has_greenlet_left}
 use Rattle.machine.specs.Waits.{completes, late_outcome}
 use Rattle.machine.specs.Objects.{with_object, object_at, name_of_object, without_offer}
-use Rattle.machine.specs.Requests.{follows}
+use Rattle.machine.specs.Request.{follows}
 use Rattle.machine.specs.Objects.{with_flag}
 
 -- what the greenlet waits for

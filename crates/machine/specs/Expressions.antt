@@ -16,7 +16,7 @@ use Rattle.gv_values.specs.declared.value.Value.{Value}
 use Rattle.gv_values.specs.declared.scalar.Scalar.{Scalar}
 use Rattle.gv_values.specs.declared.value.Outcome.{Outcome}
 use Rattle.gv_values.specs.declared.value.Whom.{Whom}
-use Rattle.gv_values.specs.Values.{value_eq, value_of_scalar, scalar_of_value}
+use Rattle.gv_values.specs.Value.{value_eq, value_of_scalar, scalar_of_value}
 use Rattle.gv_values.specs.Arithmetic.{arith_of}
 use Rattle.machine.specs.declared.state.Local.{Local}
 use Rattle.machine.specs.State.{Name}

@@ -16,7 +16,7 @@ use Rattle.machine.specs.BodyMoves.{Did, body_move}
 use Rattle.machine.specs.Landing.{Next, goes_on, lands}
 use Rattle.machine.specs.Items.{add_item}
 use Rattle.machine.specs.Greenlets.{greenlet, with_phase, frame_of}
-use Rattle.machine.specs.Requests.{performs, follows}
+use Rattle.machine.specs.Request.{performs, follows}
 
 -- an event that is set, or a result into which something was put
 abbrev pub is_set_object : Option Object → Bool

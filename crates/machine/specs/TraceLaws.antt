@@ -6,9 +6,9 @@ use Rattle.gv_values.specs.declared.job.JobOutcome.{JobOutcome}
 use Rattle.std.specs.Ordering.{int_eq}
 use Rattle.trace_text.specs.declared.line.Line.{Line}
 use Rattle.gv_values.specs.declared.job.Answer.{Answer}
-use Rattle.gv_values.specs.Faults.{fault_eq}
+use Rattle.gv_values.specs.Fault.{fault_eq}
 use Rattle.world_rules.specs.Legal.{moment_of}
-use Rattle.world_rules.specs.Jobs.{eval}
+use Rattle.world_rules.specs.Evaluate.{eval}
 
 -- each line passes the test, which has the earlier lines too, the latest first
 abbrev pub each_line : (List Line → Line → Bool) → List Line → List Line → Bool

@@ -5,7 +5,7 @@ use Rattle.scenario_tree.specs.declared.tree.Statement.{Statement}
 use Rattle.scenario_tree.specs.declared.tree.Except.{Except, out-Except}
 use Rattle.gv_values.specs.declared.fault.FaultKind.{FaultKind}
 use Rattle.gv_values.specs.declared.value.Value.{Value}
-use Rattle.gv_values.specs.Faults.{catches}
+use Rattle.gv_values.specs.Fault.{catches}
 use Rattle.machine.specs.Expressions.{bind}
 use Rattle.machine.specs.declared.state.Local.{Local}
 use Rattle.machine.specs.declared.state.Leaving.{Leaving}

@@ -19,7 +19,7 @@ use Rattle.machine.specs.Holds.{outcome_of, is_done, newcomer_completes, earlier
 use Rattle.machine.specs.Items.{add_item}
 use Rattle.machine.specs.Greenlets.{add_greenlet, has_greenlet_left}
 use Rattle.machine.specs.Objects.{with_object, object_at, name_of_object, with_unit_taken, with_owner, with_item, with_item_taken, item_of, with_member, with_slot_taken, is_shut, is_left, with_offer, with_offer_taken, offer_of}
-use Rattle.gv_values.specs.Values.{value_of_scalar}
+use Rattle.gv_values.specs.Value.{value_of_scalar}
 use Rattle.machine.specs.Expressions.{scalars, truth}
 
 -- what comes of a request

@@ -24,7 +24,7 @@ use Rattle.scenario_rules.specs.declared.mention.Named.{Named}
 use Rattle.scenario_rules.specs.declared.mention.Says.{Says}
 use Rattle.scenario_rules.specs.declared.mention.Says.TheVariants as says
 use Rattle.scenario_rules.specs.Declarations.{declarations, declared_as, function_as, function_entry, object_entry, parameters}
-use Rattle.scenario_rules.specs.Mentions.{block_mentions, mentions, on}
+use Rattle.scenario_rules.specs.Mention.{block_mentions, mentions, on}
 use Rattle.scenario_rules.specs.declared.limits.TheConstants.{MOST_TIMEOUTS}
 use Rattle.scenario_rules.specs.Rules.{IsWellFormed, function_refusals, is_undeclared, is_wrong_count, is_wrong_kind, past, refused, refused_names, word_refusals}
 use Rattle.scenario_tree.specs.declared.limits.TheConstants.{MOST_PARAMETERS}

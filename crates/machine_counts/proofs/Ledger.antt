@@ -24,7 +24,7 @@ use Rattle.machine.specs.Greenlets.{add_greenlet, greenlet, with_phase}
 use Rattle.machine.specs.Holds.{holds}
 use Rattle.machine.specs.Items.{add_item, drop_items, goes_at_end}
 use Rattle.machine.specs.Objects.{object_at, with_object, with_slot_taken, without_member}
-use Rattle.machine.specs.Requests.{kills_standing}
+use Rattle.machine.specs.Request.{kills_standing}
 use Rattle.machine.specs.Settle.{settle}
 use Rattle.machine.specs.Soundness.{ascend, phase_of}
 use Rattle.machine.specs.Waits.{drawn, draws, posted}

@@ -8,8 +8,8 @@ use Rattle.gv_values.specs.declared.value.Outcome.{Outcome}
 use Rattle.gv_values.specs.declared.value.Value.{Value}
 use Rattle.gv_values.specs.declared.value.Whom.{Whom}
 use Rattle.gv_values.specs.Ends.{kept}
-use Rattle.gv_values.specs.Jobs.{job_of}
-use Rattle.gv_values.specs.Values.{value_of_scalar}
+use Rattle.gv_values.specs.Job.{job_of}
+use Rattle.gv_values.specs.Value.{value_of_scalar}
 use Rattle.scenario_tree.specs.declared.tree.Wait.{Wait}
 use Rattle.trace_text.specs.declared.line.Awaited.{Awaited}
 use Rattle.trace_text.specs.declared.line.Line.{Line}
@@ -27,7 +27,7 @@ use Rattle.machine.specs.Holds.{earlier, is_take, newcomer_completes, outcome_of
 use Rattle.machine.specs.Hosts.{host_of, is_above}
 use Rattle.machine.specs.Items.{add_item, drop_items}
 use Rattle.machine.specs.Objects.{after_release, at_bound, is_left, is_shut, item_of, members_of, name_of_object, object_at, sets_of, takes_value, with_item, with_item_taken, with_member, with_object}
-use Rattle.machine.specs.Requests.{Sending, acquires, any_greenlet, done, fault_operand, finishes, greenlet_value, has_start, int_operand, is_link, is_new, kills, kills_standing, link_stands, links, list_operand, makes, on_host, performs, plain_greenlet, plain_greenlet_list, put_result, raw_greenlet, releases, sends, sends_all, sets_parent, start_of, starts_at, typed, whom_operand}
+use Rattle.machine.specs.Request.{Sending, acquires, any_greenlet, done, fault_operand, finishes, greenlet_value, has_start, int_operand, is_link, is_new, kills, kills_standing, link_stands, links, list_operand, makes, on_host, performs, plain_greenlet, plain_greenlet_list, put_result, raw_greenlet, releases, sends, sends_all, sets_parent, start_of, starts_at, typed, whom_operand}
 use Rattle.machine.specs.Soundness.{phase_of}
 use Rattle.machine.specs.Waits.{Performed, add_member, comes, completes, drawn, draws, gathered, made_member, map_ends, map_goes_on, maps, nothing, offered, outcome_of_greenlet, parked, peeks_item, puts_item, raises, takes_item, waits}
 use Rattle.machine_counts.specs.Counts.{object_count}

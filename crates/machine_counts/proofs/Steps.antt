@@ -33,7 +33,7 @@ use Rattle.machine.specs.Landing.{Next, lands, starts}
 use Rattle.machine.specs.Moves.{does, move, timeout_item}
 use Rattle.machine.specs.Objects.{name_of_object, object_at, with_flag, with_object, with_slot_freed, without_offer}
 use Rattle.machine.specs.Questions.{any_numbered, arrives, block_line, job_done, take_answer}
-use Rattle.machine.specs.Requests.{follows, performs}
+use Rattle.machine.specs.Request.{follows, performs}
 use Rattle.machine.specs.Settle.{settle}
 use Rattle.machine.specs.Soundness.{phase_of}
 use Rattle.machine.specs.Waits.{Performed, completes, late_outcome}

@@ -12,7 +12,7 @@ use Rattle.machine.specs.declared.state.Object.{Object}
 use Rattle.machine.specs.declared.state.Phase.{Phase}
 use Rattle.machine.specs.Deliveries.{without}
 use Rattle.machine.specs.Objects.{next_place, no_object, with_flag, with_item, with_item_taken, with_member, with_offer, with_offer_taken, with_owner, with_shut, with_slot_freed, with_slot_taken, with_unit_taken, without_member, without_offer}
-use Rattle.machine.specs.Requests.{is_kill}
+use Rattle.machine.specs.Request.{is_kill}
 use Rattle.machine.specs.Settle.{number_after, numbers_after, settled}
 use Rattle.machine.specs.Soundness.{ascend, is_live, is_unstarted, phase_of}
 use Rattle.machine.proofs.Halves.{right}

@@ -5,7 +5,7 @@ use Rattle.std.specs.List.{flat_map, list_all}
 use Rattle.gv_values.specs.declared.job.Answer.{Answer}
 use Rattle.scenario_tree.specs.declared.tree.Scenario.{Scenario}
 use Rattle.scenario_grammar.specs.Parsed.{reading}
-use Rattle.trace_text.specs.LineTexts.{line_text}
+use Rattle.trace_text.specs.Line.{line_text}
 use Rattle.machine.specs.TraceLaws.{meets_laws}
 use Rattle.machine.specs.Quiet.{is_quiet}
 use Rattle.machine.specs.Soundness.{is_sound}

@@ -9,18 +9,18 @@ use Rattle.scenario_tree.specs.declared.tree.Expression.TheBlock.{shape-the_row-
 use Rattle.scenario_tree.specs.declared.tree.Action.TheBlock.{shown-the_row-Statement-0, shown-the_row-Except-1}
 use Rattle.scenario_tree.specs.declared.tree.Action.{out-Action}
 use Rattle.scenario_tree.specs.declared.tree.Except.{out-Except, roll-Except}
-use Rattle.scenario_grammar.specs.Keywords.{keyword_of, keywords}
+use Rattle.scenario_grammar.specs.Keyword.{keyword_of, keywords}
 use Rattle.scenario_grammar.specs.Layout.{lines}
 use Rattle.scenario_grammar.specs.Parsed.{reading, read_lines}
 use Rattle.scenario_grammar.specs.Reading.{phrase_of, nested_at, name_at, number_at, integer_at}
-use Rattle.scenario_grammar.specs.Tokens.{token_of}
+use Rattle.scenario_grammar.specs.Token.{token_of}
 use Rattle.machine.specs.Holds.{has_set_since, has_result, has_unit, is_free, has_room, has_item, all_finished, has_place, is_deserted, has_slot, is_taken, has_offer}
 use Rattle.machine.specs.Moves.{move}
-use Rattle.machine.specs.Requests.{performs}
+use Rattle.machine.specs.Request.{performs}
 use Rattle.machine.specs.Deliveries.{deliver, interrupts}
 use Rattle.machine.specs.Questions.{take_answer}
 use Rattle.gv_values.specs.Arithmetic.{rounds}
-use Rattle.world_rules.specs.Jobs.{collatz, eval}
+use Rattle.world_rules.specs.Evaluate.{collatz, eval}
 
 abbrev rows : List Row
 rows =

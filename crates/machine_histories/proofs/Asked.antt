@@ -11,10 +11,10 @@ use Rattle.gv_values.specs.declared.job.JobOutcome.{JobOutcome}
 use Rattle.gv_values.specs.declared.scalar.Scalar.{Scalar}
 use Rattle.gv_values.specs.declared.value.Outcome.{Outcome}
 use Rattle.gv_values.specs.declared.value.Value.{Value}
-use Rattle.gv_values.specs.Faults.{fault_eq}
-use Rattle.gv_values.specs.Values.{value_of_scalar}
+use Rattle.gv_values.specs.Fault.{fault_eq}
+use Rattle.gv_values.specs.Value.{value_of_scalar}
 use Rattle.world_rules.specs.declared.question.PostedJob.{PostedJob}
-use Rattle.world_rules.specs.Jobs.{eval}
+use Rattle.world_rules.specs.Evaluate.{eval}
 use Rattle.world_rules.specs.Legal.{is_answered, posted as job_posted}
 use Rattle.scenario_rules.specs.declared.mention.Wanted.TheVariants as wanted
 use Rattle.scenario_tree.specs.declared.tree.Wait.{Wait}
@@ -33,7 +33,7 @@ use Rattle.machine.specs.TraceLaws.{gives_outcome, is_job_line, is_of, is_park, 
 use Rattle.machine.specs.Greenlets.{add_greenlet, has_greenlet_left}
 use Rattle.machine.specs.Items.{add_item}
 use Rattle.machine.specs.Hosts.{host_of}
-use Rattle.machine.specs.Requests.{on_host, typed}
+use Rattle.machine.specs.Request.{on_host, typed}
 use Rattle.machine.specs.Objects.{with_slot_taken, is_left, is_shut, item_of, name_of_object, object_at, with_item, with_item_taken, with_member, with_object, with_offer, with_offer_taken, with_owner, with_unit_taken}
 use Rattle.machine.specs.Waits.{Performed, add_member, comes, completes, drawn, draws, gathered, made_member, map_ends, map_goes_on, maps, nothing, offered, outcome_of_greenlet, parked, peeks_item, posted, puts_item, raises, takes_item, until_of, waits}
 use Rattle.machine_soundness.specs.Going.{has_no_wait, is_plain, IsKept}

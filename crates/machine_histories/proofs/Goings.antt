@@ -24,7 +24,7 @@ use Rattle.machine.specs.Greenlets.{add_greenlet, greenlet, nobody, with_phase}
 use Rattle.machine.specs.Items.{add_item, drop_items, goes_at_end}
 use Rattle.machine.specs.Ends.{ended}
 use Rattle.machine.specs.Objects.{without_member, object_at, with_object}
-use Rattle.machine.specs.Requests.{is_kill, kills_standing}
+use Rattle.machine.specs.Request.{is_kill, kills_standing}
 use Rattle.machine.specs.Settle.{settle}
 use Rattle.machine_soundness.specs.Going.{has_no_wait, is_plain, IsKept}
 use Rattle.machine_soundness.specs.Laws.{is_wake_of}

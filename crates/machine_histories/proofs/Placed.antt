@@ -8,7 +8,7 @@ use Rattle.scenario_tree.specs.declared.tree.Scenario.{Scenario}
 use Rattle.scenario_rules.specs.declared.mention.Mention.{Mention}
 use Rattle.scenario_rules.specs.declared.mention.Says.{Says}
 use Rattle.scenario_rules.specs.declared.mention.Says.TheVariants as says
-use Rattle.scenario_rules.specs.Mentions.{block_mentions}
+use Rattle.scenario_rules.specs.Mention.{block_mentions}
 use Rattle.scenario_rules.specs.declared.limits.TheConstants.{MOST_TIMEOUTS}
 use Rattle.machine.specs.declared.items.Delivery.{Delivery}
 use Rattle.machine.specs.declared.items.Item.{Item}

@@ -22,7 +22,7 @@ use Rattle.machine.specs.Deliveries.{deliver, interrupts}
 use Rattle.machine.specs.Soundness.{phase_of, Claim, are_single, claim_eq, claim_of, is_live, is_meant, is_unclaimed, is_unstarted, same_claim}
 use Rattle.machine.specs.Landing.{Next, lands, starts}
 use Rattle.machine.specs.Greenlets.{frame_of, greenlet}
-use Rattle.machine.specs.Requests.{is_kill}
+use Rattle.machine.specs.Request.{is_kill}
 use Rattle.machine.specs.Moves.{move, look}
 use Rattle.machine.specs.Run.{first_state, silent}
 use Rattle.machine_soundness.specs.Going.{IsKept, is_meant_did, next_did}

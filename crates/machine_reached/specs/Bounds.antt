@@ -4,7 +4,7 @@ use Rattle.scenario_tree.specs.declared.tree.Scenario.{Scenario}
 use Rattle.scenario_rules.specs.Rules.{IsWellFormed}
 use Rattle.machine.specs.State.{State}
 use Rattle.machine.specs.Landing.{Next}
-use Rattle.machine.specs.Requests.{kills_standing}
+use Rattle.machine.specs.Request.{kills_standing}
 use Rattle.machine.specs.Run.{Source, run_from}
 use Rattle.machine_trace_laws.specs.Reached.{Reached, state_of_next}
 use Rattle.machine.specs.declared.limits.TheConstants.{MOST_KILLS}

@@ -21,8 +21,8 @@ use Rattle.machine.specs.Items.{add_item, is_wait_of}
 use Rattle.machine.specs.Greenlets.{add_greenlet, has_greenlet_left, greenlet}
 use Rattle.machine.specs.Hosts.{host_of}
 use Rattle.machine.specs.Objects.{with_flag, with_shut, members_of, with_object, object_at, no_object, with_unit_taken, with_owner, with_item, with_item_taken, with_member, with_slot_taken, name_of_object, with_offer, with_offer_taken, is_shut, is_left, item_of}
-use Rattle.machine.specs.Requests.{typed, on_host, plain_greenlet, plain_greenlets, plain_greenlet_list}
-use Rattle.gv_values.specs.Values.{value_of_scalar}
+use Rattle.machine.specs.Request.{typed, on_host, plain_greenlet, plain_greenlets, plain_greenlet_list}
+use Rattle.gv_values.specs.Value.{value_of_scalar}
 use Rattle.machine.specs.declared.state.Greenlet.{Greenlet}
 use Rattle.machine.specs.Waits.{Performed, add_member, map_ends, maps, map_goes_on, made_member, posted, completes, comes, waits, parked, drawn, draws, until_of, gathered, outcome_of_greenlet, raises, nothing, offered, puts_item, takes_item, peeks_item}
 use Rattle.machine_soundness.specs.Going.{AreNotRaw, is_plain, has_plain_members, IsKept}

@@ -10,7 +10,7 @@ use Rattle.gv_values.specs.declared.scalar.Scalar.{Scalar}
 use Rattle.gv_values.specs.declared.value.Outcome.{Outcome}
 use Rattle.gv_values.specs.declared.value.Value.{Value}
 use Rattle.gv_values.specs.declared.value.Whom.{Whom}
-use Rattle.gv_values.specs.Values.{value_of_scalar}
+use Rattle.gv_values.specs.Value.{value_of_scalar}
 use Rattle.world_rules.specs.declared.question.Question.{Question}
 use Rattle.world_rules.specs.Legal.{answers_of, moment_of, posted, posts_of}
 use Rattle.world_rules.specs.declared.question.LogEntry.{LogEntry}
@@ -47,8 +47,8 @@ use Rattle.machine.specs.Items.{add_item, drop_items, is_timeout_of}
 use Rattle.machine.specs.Ends.{ended, leaving_of, outcome_of_leaving, stop_of}
 use Rattle.machine.specs.Hosts.{host_of, is_above}
 use Rattle.gv_values.specs.Ends.{kept}
-use Rattle.machine.specs.Requests.{Sending, acquires, any_greenlet, done, fault_operand, finishes, follows, has_start, int_operand, is_link, is_new, kills, kills_standing, link_stands, links, list_operand, makes, on_host, performs, plain_greenlet, plain_greenlet_list, put_result, raw_greenlet, releases, sends, sends_all, sets_parent, start_of, starts_at, typed, whom_operand}
-use Rattle.gv_values.specs.Jobs.{job_of}
+use Rattle.machine.specs.Request.{Sending, acquires, any_greenlet, done, fault_operand, finishes, follows, has_start, int_operand, is_link, is_new, kills, kills_standing, link_stands, links, list_operand, makes, on_host, performs, plain_greenlet, plain_greenlet_list, put_result, raw_greenlet, releases, sends, sends_all, sets_parent, start_of, starts_at, typed, whom_operand}
+use Rattle.gv_values.specs.Job.{job_of}
 use Rattle.machine.specs.Objects.{after_release, at_bound, members_of, sets_of, takes_value, is_left, is_shut, item_of, name_of_object, object_at, with_item, with_item_taken, with_object}
 use Rattle.machine.specs.Moves.{does, look, move, timeout_item}
 use Rattle.machine.specs.Unwinding.{Unwound, unwind}
@@ -56,7 +56,7 @@ use Rattle.machine.specs.Run.{GoingOn, Passed, Ran, Source, after_answer, after_
 use Rattle.machine.specs.Settle.{settle}
 use Rattle.machine.specs.Waits.{Performed, add_member, comes, completes, drawn, draws, gathered, late_outcome, made_member, map_ends, map_goes_on, maps, nothing, outcome_of_greenlet, parked, peeks_item, puts_item, raises, takes_item, until_of, waits}
 use Rattle.machine.proofs.Scripts.{answers_of-posts}
-use Rattle.trace_text.specs.LineTexts.{answers_told}
+use Rattle.trace_text.specs.Line.{answers_told}
 use Rattle.machine_told.specs.Told.{post_told, posts_told}
 use Rattle.machine.specs.declared.limits.TheConstants.{MOST_KILLS, MOST_LINKS}
 

@@ -2,7 +2,7 @@
 use Rattle.std.specs.Prelude.{◌≡◌, ℕ}
 use Rattle.world_rules.specs.Legal.{answers_of, posts_of}
 use Rattle.scenario_tree.specs.declared.tree.Scenario.{Scenario}
-use Rattle.trace_text.specs.LineTexts.{answers_told}
+use Rattle.trace_text.specs.Line.{answers_told}
 use Rattle.machine.specs.Run.{Source, run_from}
 use Rattle.machine_told.specs.Told.{posts_told}
 

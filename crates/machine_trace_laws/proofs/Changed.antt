@@ -15,7 +15,7 @@ use Rattle.trace_text.specs.declared.line.LinkCall.{LinkCall}
 use Rattle.trace_text.specs.declared.line.Resumed.{Resumed}
 use Rattle.trace_text.specs.declared.line.StopCause.{StopCause}
 use Rattle.machine.specs.TraceLaws.{each_line, ends_once, jobs_done_once, links_after_end, moments_rise, nothing_after_end, throws_at_parked}
-use Rattle.world_rules.specs.Jobs.{collatz, eval}
+use Rattle.world_rules.specs.Evaluate.{collatz, eval}
 
 data Law : Type 0 where
   EndsOnce NothingAfterEnd ThrowsAtParked LinksAfterEnd MomentsRise JobsDoneOnce : Law

@@ -39,7 +39,7 @@ use Rattle.machine.specs.TraceLaws.{gives_outcome, is_done_line, is_job_line, is
 use Rattle.machine.specs.Greenlets.{add_greenlet, function_of, greenlet, has_greenlet_left, named, nobody}
 use Rattle.machine.specs.Landing.{answered, lands, Next, starts}
 use Rattle.machine.specs.Items.{is_wait_of}
-use Rattle.machine.specs.Requests.{is_kill}
+use Rattle.machine.specs.Request.{is_kill}
 use Rattle.machine.specs.Unwinding.{unwind}
 use Rattle.machine.specs.Run.{first_state}
 use Rattle.machine.specs.Settle.{settle}

@@ -40,8 +40,8 @@ use Rattle.machine.specs.Greenlets.{add_greenlet, has_greenlet_left, greenlet, w
 use Rattle.machine.specs.Ends.{ended}
 use Rattle.machine.specs.Hosts.{host_of, is_above}
 use Rattle.gv_values.specs.Ends.{kept}
-use Rattle.machine.specs.Requests.{Sending, performs, follows, sends, sends_all, kills, kills_standing, link_stands, links, makes, starts_at, start_of, is_new, has_start, releases, finishes, acquires, fault_operand, plain_greenlet, plain_greenlet_list, list_operand, int_operand, any_greenlet, whom_operand, is_link, is_kill, put_result, done, typed, on_host, raw_greenlet, sets_parent}
-use Rattle.gv_values.specs.Jobs.{job_of}
+use Rattle.machine.specs.Request.{Sending, performs, follows, sends, sends_all, kills, kills_standing, link_stands, links, makes, starts_at, start_of, is_new, has_start, releases, finishes, acquires, fault_operand, plain_greenlet, plain_greenlet_list, list_operand, int_operand, any_greenlet, whom_operand, is_link, is_kill, put_result, done, typed, on_host, raw_greenlet, sets_parent}
+use Rattle.gv_values.specs.Job.{job_of}
 use Rattle.machine.specs.Moves.{does, move, enters, timeout_item, look}
 use Rattle.machine.specs.Objects.{at_bound, after_release, takes_value, members_of, sets_of, with_flag, with_shut, with_object, object_at, name_of_object}
 use Rattle.machine.specs.Waits.{Performed, comes, raises, nothing, maps}

@@ -7,7 +7,7 @@ use Rattle.gv_values.specs.declared.value.Outcome.{Outcome}
 use Rattle.gv_values.specs.declared.value.Whom.{Whom}
 use Rattle.gv_values.specs.declared.scalar.Scalar.{Scalar}
 use Rattle.gv_values.specs.declared.fault.FaultKind.{FaultKind}
-use Rattle.gv_values.specs.Values.{value_of_scalar}
+use Rattle.gv_values.specs.Value.{value_of_scalar}
 use Rattle.scenario_tree.specs.declared.tree.Scenario.{Scenario}
 use Rattle.scenario_tree.specs.declared.tree.Wait.{Wait}
 use Rattle.trace_text.specs.declared.line.Line.{Line}
@@ -39,8 +39,8 @@ use Rattle.machine.specs.Ends.{ended, stop_of, outcome_of_leaving}
 use Rattle.machine.specs.Hosts.{host_of, is_above}
 use Rattle.machine.specs.Waits.{Performed, raises, parked, drawn, draws, waits, add_member, map_ends, maps, map_goes_on, made_member, gathered, outcome_of_greenlet, posted, completes, comes, nothing, puts_item, takes_item, peeks_item, offered}
 use Rattle.machine.specs.Objects.{with_object, object_at, name_of_object, is_shut, is_left, item_of, with_item, with_item_taken, at_bound, after_release, takes_value, members_of, sets_of}
-use Rattle.machine.specs.Requests.{typed, done, makes, starts_at, greenlet_value, start_of, is_new, has_start, Sending, sends, sends_all, kills, kills_standing, link_stands, links, is_link, put_result, releases, acquires, finishes, int_operand, list_operand, whom_operand, any_greenlet, on_host, sets_parent, raw_greenlet, plain_greenlet, plain_greenlet_list, fault_operand, performs, follows}
-use Rattle.gv_values.specs.Jobs.{job_of}
+use Rattle.machine.specs.Request.{typed, done, makes, starts_at, greenlet_value, start_of, is_new, has_start, Sending, sends, sends_all, kills, kills_standing, link_stands, links, is_link, put_result, releases, acquires, finishes, int_operand, list_operand, whom_operand, any_greenlet, on_host, sets_parent, raw_greenlet, plain_greenlet, plain_greenlet_list, fault_operand, performs, follows}
+use Rattle.gv_values.specs.Job.{job_of}
 use Rattle.machine.specs.Moves.{timeout_item, does, move, look}
 use Rattle.machine.specs.Deliveries.{waiting_of, without_wait, interrupts, late, calls, called, delivers, since_of_wake, without_offer_by}
 use Rattle.machine.specs.declared.limits.TheConstants.{MOST_KILLS, MOST_LINKS}

@@ -8,7 +8,7 @@ use Rattle.std.specs.List.{list_all}
 use Rattle.gv_values.specs.declared.fault.FaultKind.{FaultKind}
 use Rattle.gv_values.specs.declared.value.Value.{Value}
 use Rattle.gv_values.specs.declared.value.Outcome.{Outcome}
-use Rattle.gv_values.specs.Faults.{catches}
+use Rattle.gv_values.specs.Fault.{catches}
 use Rattle.scenario_tree.specs.declared.tree.Action.{Action, Action-F, out-Action, map-Action, map_is-Action}
 use Rattle.scenario_tree.specs.declared.tree.Action.TheBlock.{lays-Action, lays-Statement, the_family, the_fold, view-Action, shown-the_row-Statement-0}
 use Rattle.scenario_tree.specs.declared.tree.Action.TheFolds.{family, steps}
@@ -24,7 +24,7 @@ use Rattle.scenario_rules.specs.declared.mention.Mention.{Mention}
 use Rattle.scenario_rules.specs.declared.mention.Says.{Says}
 use Rattle.scenario_rules.specs.declared.mention.Says.TheVariants as says
 use Rattle.scenario_rules.specs.declared.mention.Wanted.TheVariants as wanted
-use Rattle.scenario_rules.specs.Mentions.{Part, action_says, block_mentions, command_says, each_part, except_says, expression_says, giving_says, on, statement_mentions, statement_says, target_says, timeout_says}
+use Rattle.scenario_rules.specs.Mention.{Part, action_says, block_mentions, command_says, each_part, except_says, expression_says, giving_says, on, statement_mentions, statement_says, target_says, timeout_says}
 use Rattle.scenario_rules.specs.declared.limits.TheConstants.{MOST_TIMEOUTS}
 use Rattle.scenario_rules.specs.Layers.{action_mentions, except_mentions, handler_mentions}
 use Rattle.scenario_rules.proofs.Layers.{except_out, in_block, in_handlers}

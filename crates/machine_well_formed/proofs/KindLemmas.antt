@@ -11,7 +11,7 @@ use Rattle.scenario_rules.specs.declared.mention.Wanted.TheVariants as wanted
 use Rattle.machine.specs.declared.state.Object.{Object}
 use Rattle.machine.specs.Objects.{with_slot_freed}
 use Rattle.machine.specs.Objects.{without_member}
-use Rattle.machine.specs.Requests.{acquires}
+use Rattle.machine.specs.Request.{acquires}
 use Rattle.machine.specs.Objects.{with_flag, with_shut}
 use Rattle.machine.specs.Run.{object_of}
 use Rattle.machine.specs.Objects.{no_object, with_item, with_item_taken, with_member, with_offer, with_offer_taken, with_owner, with_slot_taken, with_unit_taken, without_offer}

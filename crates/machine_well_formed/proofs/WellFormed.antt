@@ -22,7 +22,7 @@ use Rattle.scenario_rules.specs.declared.mention.Says.{Says}
 use Rattle.scenario_rules.specs.declared.mention.Says.TheVariants as says
 use Rattle.scenario_rules.specs.declared.mention.Wanted.{Wanted}
 use Rattle.scenario_rules.specs.Declarations.{declared_as, function_as, function_entry, named_functions, named_objects, object_entry, parameters, repeated, different, given_names, is_kind}
-use Rattle.scenario_rules.specs.Mentions.{block_mentions, mentions, on}
+use Rattle.scenario_rules.specs.Mention.{block_mentions, mentions, on}
 use Rattle.scenario_rules.specs.declared.limits.TheConstants.{MOST_LOCAL_NAMES, MOST_TIMEOUTS}
 use Rattle.scenario_tree.specs.declared.limits.TheConstants.{MOST_FUNCTIONS, MOST_OBJECTS, MOST_PARAMETERS}
 use Rattle.scenario_rules.specs.Rules.{IsWellFormed, function_refusals, is_hub_in_raw_body, is_too_deep, is_undeclared, is_wrong_count, is_wrong_head, is_wrong_kind, past, refused, refused_names, word_refusals}

@@ -13,7 +13,7 @@ use Rattle.scenario_rules.specs.declared.mention.Wanted.TheVariants as wanted
 use Rattle.scenario_rules.specs.Declarations.{is_kind}
 use Rattle.scenario_tree.specs.declared.tree.Object.{Object as Declared}
 use Rattle.machine_well_formed.specs.Kinds.{declared_kinds, kinds}
-use Rattle.scenario_rules.specs.Mentions.{block_mentions}
+use Rattle.scenario_rules.specs.Mention.{block_mentions}
 use Rattle.scenario_rules.specs.declared.limits.TheConstants.{MOST_TIMEOUTS}
 use Rattle.scenario_rules.specs.Layers.{handler_mentions}
 use Rattle.machine.specs.declared.items.Delivery.{Delivery}

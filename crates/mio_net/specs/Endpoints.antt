@@ -2,7 +2,7 @@
 use Rattle.std.specs.Prelude.{ℕ, Bool, List, map, Option, None}
 use Rattle.stream_net.specs.Accounts.{account_meaning}
 use Rattle.stream_net.specs.declared.net.Ports.{Ports}
-use Rattle.stream_net.specs.Nets.{Connection, NetMeaning, Readiness}
+use Rattle.stream_net.specs.Net.{Connection, NetMeaning, Readiness}
 use Rattle.mio_net.specs.declared.endpoint.Endpoint.{Endpoint}
 
 -- a connection of the system tells no bytes

@@ -2,7 +2,7 @@
 ghost use Rattle.std.specs.Prelude.{◌≡◌, ◌≢◌, ◌<◌, ◌≤◌, map, ℕ, List, length};
 ghost use Rattle.gv_values.specs.Counts.{HasRisen};
 ghost use Rattle.mio_net.specs.Endpoints.{endpoint_meaning};
-ghost use Rattle.stream_net.specs.Nets.{closed_at, held_as};
+ghost use Rattle.stream_net.specs.Net.{closed_at, held_as};
 ghost use Rattle.stream_net.specs.Reads.{after_read};
 ghost use Rattle.stream_net.specs.Waits.{named, woken, woken_if};
 ghost use Rattle.stream_net.specs.Writes.{after_write};

@@ -4,7 +4,7 @@
 //! call keeps and counts of the connections, and nothing of which bytes come or go.
 ghost use Rattle.std.specs.Prelude.{◌≡◌, ◌<◌, ◌≤◌, ◌^◌, length, map, false, IfOk};
 ghost use Rattle.mio_net.specs.Endpoints.{endpoint_meaning};
-ghost use Rattle.stream_net.specs.Nets.{live_count};
+ghost use Rattle.stream_net.specs.Net.{live_count};
 
 use crate::endpoint::{
     Endpoint, close_endpoint, hold_endpoint, name_endpoint, read_endpoint, write_endpoint,
@@ -130,7 +130,7 @@ fn reading<R: Clock>(rt: &R, start: &Option<Instant>, before: u64) -> u64
 
 impl<R: std::net::Net + Clock + Drop> MioNet<R> {
     ghost use Rattle.mio_net.specs.Endpoints.{meaning_by};
-    ghost use Rattle.stream_net.specs.Nets.{IsFresh};
+    ghost use Rattle.stream_net.specs.Net.{IsFresh};
 
     /// A net that doesn't listen yet. Without a poll and a clock of the system it never will.
     pub fn new(rt: R, alloc: Global) -> io::Result<MioNet<R>>

@@ -17,7 +17,7 @@ use Rattle.native_board.specs.declared.views.View.TheVariants.{Worker}
 use Rattle.native_board.specs.Words.{CellWords, state_in, cell_words, ended_of, signed_in, value_of}
 use Rattle.native_board.specs.Rules.{CellRule, NoLost, hub_cell, signal_of, Kept}
 use Rattle.native_board.specs.Lost.{NothingIsLost}
-use Rattle.world_rules.specs.Jobs.{eval}
+use Rattle.world_rules.specs.Evaluate.{eval}
 use Rattle.native_board.proofs.Moves.{St, hub_there, worker_seat}
 
 abbrev Found : Signal → ℕ → ℕ → CellWords → WorkerStage → Job → Ended → Type 0

@@ -31,8 +31,8 @@ use Rattle.native_board.specs.declared.views.View.{View}
 use Rattle.native_board.specs.declared.views.View.TheVariants.{Hub, Worker}
 use Rattle.native_board.specs.Words.{CellWords, cell_words, state_in, signed_in, signal_in, ended_of, value_of, job_outcome_of}
 use Rattle.gv_values.specs.JobParts.{kind_of, argument_of}
-use Rattle.gv_values.specs.Jobs.{job_of}
-use Rattle.world_rules.specs.Jobs.{eval}
+use Rattle.gv_values.specs.Job.{job_of}
+use Rattle.world_rules.specs.Evaluate.{eval}
 use Rattle.native_board.specs.Rules.{CellRule, NoLost, Fits, signal_of, begun, first, Shows, Carries, Rests, Takes, Stops, untaken, hub_cell, posts_at, Kept}
 use Rattle.native_board.specs.Plays.{with_worker, new_worker, marked, counted, on_cell, on_post, on_stage, ordered, filled, sent, stopped, asked, begun_with, looked, numbered, holds, valued, owing, rested, freed, lowered, saw, swept, IsJob, StoresFree, StoresValue, StoresDone, SwapsHigh, SwapsLow, LoadsNext, LoadsValue, StoresOrder, StoresArgument, StoresPosted, StoresStop, LoadsState, LoadsOrder, LoadsArgument}
 use Rattle.native_board.proofs.Moves.{spares, put_word, puts, in_board, has_count, own_in_board, off_cells, is_high, lowers, sees, started_fits, hub_seat, hub_at, hub_or, worker_at, CountsElse, moved}

@@ -15,7 +15,7 @@ use Rattle.native_board.specs.declared.views.View.{View}
 use Rattle.native_board.specs.declared.views.View.TheVariants.{Hub, Worker}
 use Rattle.native_board.specs.Words.{cell_words, state_in, ended_of, signed_in, value_of}
 use Rattle.native_board.specs.Rules.{hub_cell, signal_of}
-use Rattle.world_rules.specs.Jobs.{eval}
+use Rattle.world_rules.specs.Evaluate.{eval}
 
 -- Where a worker's cell is done and the hub doesn't know it, the signal is raised, or the worker will raise it, or the
 -- sweep has not reached the cell; and what the cell says is what the job comes to

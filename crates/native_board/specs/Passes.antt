@@ -7,7 +7,7 @@ use Rattle.native_board.specs.declared.views.CellState.TheVariants.{Free, Posted
 use Rattle.gv_values.specs.declared.job.Job.{Job}
 use Rattle.native_board.specs.declared.found.Finished.{Finished}
 use Rattle.gv_values.specs.declared.job.JobOutcome.{JobOutcome}
-use Rattle.world_rules.specs.Jobs.{eval}
+use Rattle.world_rules.specs.Evaluate.{eval}
 use Rattle.native_board.specs.declared.found.Looked.{Looked}
 use Rattle.native_board.specs.declared.found.Looked.TheVariants as looked
 use Rattle.native_board.specs.declared.views.HubCell.{HubCell}

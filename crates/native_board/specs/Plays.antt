@@ -13,8 +13,8 @@ use Rattle.native_board.specs.declared.views.WorkerStage.TheVariants.{Idle, Aske
 use Rattle.native_board.specs.declared.views.View.{View}
 use Rattle.native_board.specs.declared.views.View.TheVariants.{Hub, Worker}
 use Rattle.native_board.specs.Words.{state_in, number_in, kind_in, signed_in, ended_of, value_of}
-use Rattle.gv_values.specs.Jobs.{job_of}
-use Rattle.world_rules.specs.Jobs.{eval}
+use Rattle.gv_values.specs.Job.{job_of}
+use Rattle.world_rules.specs.Evaluate.{eval}
 use Rattle.native_board.specs.Rules.{hub_cell, posts_at}
 
 -- the hub's view of cell i becomes x

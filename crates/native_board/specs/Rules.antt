@@ -18,7 +18,7 @@ use Rattle.native_board.specs.declared.views.View.{View}
 use Rattle.native_board.specs.declared.views.View.TheVariants.{Hub, Worker}
 use Rattle.native_board.specs.Words.{CellWords, cell_words, signal_in, state_in, number_in, kind_in, signed_in, ended_of, value_of}
 use Rattle.gv_values.specs.JobParts.{kind_of, argument_of}
-use Rattle.world_rules.specs.Jobs.{eval}
+use Rattle.world_rules.specs.Evaluate.{eval}
 
 -- the worker is between two jobs
 abbrev pub Rests : WorkerStage → Type 0

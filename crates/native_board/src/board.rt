@@ -1,7 +1,7 @@
 //! The board.
 ghost use Rattle.std.specs.Prelude.{◌≡◌, ℕ, ◌+◌, ◌<◌, ◌≤◌, ◌++◌, length, vec_len, vec_capacity};
 ghost use Rattle.gv_values.specs.declared.job.Job.{Job};
-ghost use Rattle.world_rules.specs.Jobs.{eval};
+ghost use Rattle.world_rules.specs.Evaluate.{eval};
 ghost use Rattle.native_board.specs.declared.views.HubCell.TheVariants.{Stopped};
 ghost use Rattle.native_board.specs.declared.views.WorkerStage.TheVariants.{Idle, Holds};
 ghost use Rattle.native_board.specs.Plays.{marked};

@@ -9,8 +9,8 @@ ghost use Rattle.gv_values.specs.declared.job.Job.{Job};
 ghost use Rattle.native_board.specs.Rules.{hub_cell};
 ghost use Rattle.native_board.specs.Words.{state_in, number_in, kind_in, signed_in, ended_of, value_of};
 ghost use Rattle.gv_values.specs.JobParts.{kind_of};
-ghost use Rattle.gv_values.specs.Jobs.{job_of};
-ghost use Rattle.world_rules.specs.Jobs.{eval};
+ghost use Rattle.gv_values.specs.Job.{job_of};
+ghost use Rattle.world_rules.specs.Evaluate.{eval};
 ghost use Rattle.native_board.specs.Plays.{asked, saw, IsJob};
 ghost use Rattle.native_board.specs.Passes.{hub_of, worker_of, lowers, BecomesHub, HoldsOf, ValuedOf, IsValuedOf, IsHubAt, IsMarked, IsSent, IsWorkerAt, IsStaged, HasLooked};
 

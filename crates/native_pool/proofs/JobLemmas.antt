@@ -9,7 +9,7 @@ use Rattle.std.proofs.lemmas.List.Elements.{All-nil, All-cons, All-head, All-tai
 use Rattle.gv_values.specs.declared.job.Job.{Job}
 use Rattle.gv_values.specs.declared.job.Answer.{Answer}
 use Rattle.world_rules.specs.declared.question.PostedJob.{PostedJob}
-use Rattle.world_rules.specs.Jobs.{eval}
+use Rattle.world_rules.specs.Evaluate.{eval}
 use Rattle.world_rules.specs.Legal.{posted, is_posted, is_answered, IsOutcomeOf}
 use Rattle.native_board.specs.declared.found.Finished.{Finished}
 use Rattle.native_board.specs.declared.views.CellState.{CellState}

@@ -5,7 +5,7 @@ use Rattle.gv_values.specs.declared.job.Job.{Job}
 use Rattle.gv_values.specs.declared.job.Answer.{Answer}
 use Rattle.world_rules.specs.declared.question.PostedJob.{PostedJob}
 use Rattle.world_rules.specs.declared.question.Question.{Question}
-use Rattle.world_rules.specs.Jobs.{eval}
+use Rattle.world_rules.specs.Evaluate.{eval}
 use Rattle.world_rules.specs.Legal.{posted, is_answered, Answers}
 use Rattle.native_board.specs.declared.found.Finished.{Finished}
 use Rattle.native_board.specs.declared.views.HubCell.{HubCell}

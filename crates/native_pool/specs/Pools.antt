@@ -10,7 +10,7 @@ use Rattle.native_board.specs.declared.views.HubCell.TheVariants.{Stopped}
 use Rattle.native_board.specs.declared.views.HubView.{HubView}
 use Rattle.native_board.specs.Rules.{hub_cell}
 use Rattle.native_board.specs.Passes.{is_sent}
-use Rattle.world.specs.Worlds.{WorldMeaning}
+use Rattle.world.specs.Outside.{WorldMeaning}
 use Rattle.gv_values.specs.Counts.{HasRisen}
 use Rattle.gv_values.specs.OneMore.{one_more}
 use Rattle.native_pool.specs.Desks.{DeskView, Balances}

@@ -4,7 +4,7 @@ ghost use Rattle.std.specs.Prelude.{◌≡◌, ℕ, ◌<◌, ◌≤◌, ◌++◌
 ghost use Rattle.std.specs.Arc.{arc_value};
 ghost use Rattle.gv_values.specs.declared.job.Job.{Job};
 ghost use Rattle.gv_values.specs.declared.limits.TheConstants.{MOST_WORKERS};
-ghost use Rattle.world_rules.specs.Jobs.{eval};
+ghost use Rattle.world_rules.specs.Evaluate.{eval};
 ghost use Rattle.world_rules.specs.Legal.{posted};
 ghost use Rattle.native_board.specs.Boards.{board_id, hub_board, hub_view};
 ghost use Rattle.native_board.specs.Rules.{hub_cell};

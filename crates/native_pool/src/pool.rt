@@ -348,7 +348,7 @@ impl<
     ghost use Rattle.world_rules.specs.declared.question.LogEntry.{LogEntry};
     ghost use Rattle.world_rules.specs.declared.question.LogEntry.TheVariants as entry;
     ghost use Rattle.world_rules.specs.Legal.{is_posted, MayAsk};
-    ghost use Rattle.world.specs.Worlds.{Begins, Posts, Stores};
+    ghost use Rattle.world.specs.Outside.{Begins, Posts, Stores};
     ghost use Rattle.native_pool.specs.Desks.{WaitsBehind, KeepsResults};
     ghost use Rattle.native_pool.specs.Pools.{pool_meaning, pool_log, IsTimely, HasCome, WhileRunning, Between, KeepsStarts, HasStopped, joined_each};
 

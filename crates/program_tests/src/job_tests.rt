@@ -1,6 +1,6 @@
 //! `serve --jobs` through the call, over connections and answers that go by a script.
 ghost use Rattle.std.specs.Prelude.{◌<◌, ◌^◌, ◌≡◌, length, false};
-ghost use Rattle.stream_net.specs.Nets.{IsFresh};
+ghost use Rattle.stream_net.specs.Net.{IsFresh};
 
 use crate::calls::words_of;
 use crate::served::sending;

@@ -1,6 +1,6 @@
 //! `serve` through the call, over nets of the tests' own.
 ghost use Rattle.std.specs.Prelude.{◌<◌, ◌^◌, length, IfOk};
-ghost use Rattle.stream_net.specs.Nets.{IsFresh};
+ghost use Rattle.stream_net.specs.Net.{IsFresh};
 
 use crate::nets::{Notes, Watched, Worn};
 use crate::served::{Served, is_served, sending};

@@ -1,5 +1,5 @@
 //! The command `serve` through the call, over a net, and what it leaves.
-ghost use Rattle.stream_net.specs.Nets.{IsFresh};
+ghost use Rattle.stream_net.specs.Net.{IsFresh};
 
 use crate::calls::words_of;
 use gv_io::{MemorySink, MemorySource, Sink};

@@ -16,7 +16,7 @@ use Rattle.scenario_rules.specs.declared.mention.Says.TheVariants as says
 use Rattle.scenario_rules.specs.declared.mention.Wanted.{Wanted}
 use Rattle.scenario_rules.specs.declared.mention.Named.{Named}
 use Rattle.scenario_rules.specs.Declarations.{declared_as, different, given_by, given_names, is_among, is_kind, is_local, parameters, repeated}
-use Rattle.scenario_rules.specs.Mentions.{mentions}
+use Rattle.scenario_rules.specs.Mention.{mentions}
 use Rattle.scenario_rules.specs.Rules.{first_after, function_refusals, is_wrong_head, past, refused, refused_names, word_refusals}
 use Rattle.scenario_rules.specs.declared.limits.TheConstants.{MOST_LOCAL_NAMES}
 use Rattle.scenario_tree.specs.declared.limits.TheConstants.{MOST_PARAMETERS}

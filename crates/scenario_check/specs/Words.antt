@@ -4,7 +4,7 @@ use Rattle.gv_values.specs.declared.name.Name.{Name}
 use Rattle.scenario_grammar.specs.declared.place.Place.{Place}
 use Rattle.scenario_grammar.specs.declared.reason.RuleReason.{RuleReason}
 use Rattle.scenario_grammar.specs.declared.reason.RuleReason.TheVariants as rule
-use Rattle.scenario_grammar.specs.Reasons.{rule_number}
+use Rattle.scenario_grammar.specs.Reason.{rule_number}
 use Rattle.scenario_rules.specs.declared.declared.Declared.{Declared}
 use Rattle.scenario_rules.specs.declared.declared.Declared.TheVariants as declared
 use Rattle.scenario_rules.specs.declared.mention.Says.{Says}

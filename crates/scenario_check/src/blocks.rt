@@ -1,7 +1,7 @@
 //! Blocks, and the whole of a function.
 ghost use Rattle.std.specs.Prelude.{◌≡◌, [], ◌∷◌, ◌++◌, OnOk, IfOk, map};
 ghost use Rattle.scenario_tree.specs.declared.tree.Except.{out-Except};
-ghost use Rattle.scenario_rules.specs.Mentions.{block_mentions, giving_says, target_says, mentions, on, statement_mentions, timeout_says};
+ghost use Rattle.scenario_rules.specs.Mention.{block_mentions, giving_says, target_says, mentions, on, statement_mentions, timeout_says};
 ghost use Rattle.scenario_rules.specs.declared.limits.TheConstants.{MOST_TIMEOUTS};
 ghost use Rattle.scenario_rules.specs.Layers.{action_mentions, except_mentions, handler_mentions};
 ghost use Rattle.scenario_rules.specs.declared.mention.Says.{Says as Word};

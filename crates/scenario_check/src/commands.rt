@@ -1,6 +1,6 @@
 //! Statements of one line that give no value.
 ghost use Rattle.std.specs.Prelude.{◌≡◌, ◌++◌, OnOk};
-ghost use Rattle.scenario_rules.specs.Mentions.{command_says, on};
+ghost use Rattle.scenario_rules.specs.Mention.{command_says, on};
 
 use crate::expressions::{say, say_expression};
 use crate::parts::{say_hub, say_object, say_perhaps, say_row};

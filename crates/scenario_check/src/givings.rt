@@ -1,6 +1,6 @@
 //! Statements of one line that give a value.
 ghost use Rattle.std.specs.Prelude.{◌≡◌, ◌++◌, OnOk};
-ghost use Rattle.scenario_rules.specs.Mentions.{giving_says, on};
+ghost use Rattle.scenario_rules.specs.Mention.{giving_says, on};
 
 use crate::expressions::{say, say_expression};
 use crate::parts::{say_call, say_hub, say_object, say_perhaps, say_row};

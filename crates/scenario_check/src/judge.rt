@@ -4,7 +4,7 @@ ghost use Rattle.std.specs.List.{flat_map};
 ghost use Rattle.scenario_tree.specs.declared.tree.Scenario.{Scenario as AnyScenario};
 ghost use Rattle.scenario_rules.specs.declared.mention.Mention.{Mention as AnyMention};
 ghost use Rattle.scenario_rules.specs.Declarations.{declarations, different, given_by, given_names, named_functions, named_objects, parameters, repeated};
-ghost use Rattle.scenario_rules.specs.Mentions.{mentions};
+ghost use Rattle.scenario_rules.specs.Mention.{mentions};
 ghost use Rattle.scenario_rules.specs.Rules.{first_after, function_refusals, is_wrong_head, past, place_of, refused, refused_names, word_refusals};
 ghost use Rattle.scenario_rules.specs.declared.limits.TheConstants.{MOST_LOCAL_NAMES};
 ghost use Rattle.scenario_tree.specs.declared.limits.TheConstants.{MOST_FUNCTIONS, MOST_OBJECTS, MOST_PARAMETERS};

@@ -3,7 +3,7 @@ use Rattle.std.proofs.Common.{◌≡◌, ℕ, zero, suc, pos, negsuc, Bool, true
 use Rattle.std.specs.List.{list_all}
 use Rattle.scenario_grammar.specs.declared.token.Token.{Token}
 use Rattle.scenario_grammar.specs.declared.token.Token.TheVariants as token
-use Rattle.scenario_grammar.specs.Tokens.{Written, each, only_if, is_free_name, in_64_bits, name, integer, number}
+use Rattle.scenario_grammar.specs.Token.{Written, each, only_if, is_free_name, in_64_bits, name, integer, number}
 use Rattle.scenario_grammar.specs.Reading.{Reader, Reading, ◌<$>◌, name_at, integer_at, number_at, count_at}
 use Rattle.scenario_grammar.proofs.Parts.{is_proper, Sound, Full, Anything, ok_first, ok_second, proper_at, map_sound, then_sound, map_full, then_full}
 use Rattle.scenario_grammar.specs.declared.reason.TextReason.TheVariants as reason

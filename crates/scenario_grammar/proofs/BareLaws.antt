@@ -20,7 +20,7 @@ use Rattle.scenario_grammar.specs.declared.building.OpenBlock.{OpenBlock}
 use Rattle.scenario_grammar.specs.declared.building.Opening.{Opening}
 use Rattle.scenario_grammar.specs.declared.building.Opening.TheVariants as opening
 use Rattle.scenario_grammar.specs.Parsed.{standing, kind_of, opens_main, is_begun, has_objects}
-use Rattle.scenario_grammar.specs.Places.{misplaced}
+use Rattle.scenario_grammar.specs.Place.{misplaced}
 use Rattle.scenario_grammar.specs.Spells.{is_main}
 use Rattle.scenario_grammar.proofs.Begun.{begun}
 use Rattle.scenario_grammar.proofs.BlockLaws.{follow, follow_one}

@@ -16,11 +16,11 @@ use Rattle.scenario_grammar.specs.declared.phrase.Phrase.TheVariants as phrase
 use Rattle.scenario_grammar.specs.declared.building.OpenBlock.{OpenBlock}
 use Rattle.scenario_grammar.specs.declared.building.Opening.{Opening}
 use Rattle.scenario_grammar.specs.declared.building.Opening.TheVariants as opening
-use Rattle.scenario_grammar.specs.Tokens.{Written, ◌⊕◌, each, only_if}
+use Rattle.scenario_grammar.specs.Token.{Written, ◌⊕◌, each, only_if}
 use Rattle.scenario_grammar.specs.Blocks.{TreeLine, line, mark, statement_lines, action_lines, block_within, except_lines, is_handled, profile_lines, declaration_lines, function_lines}
 use Rattle.scenario_grammar.specs.Building.{Building, at, caught, opened, added, closed_by, step}
 use Rattle.scenario_grammar.specs.Parsed.{standing, kind_of}
-use Rattle.scenario_grammar.specs.Places.{Body, Profiles, Declares, Defines, States, Opens, Parts, Catches, Finishes, Ends, misplaced, in_a_body}
+use Rattle.scenario_grammar.specs.Place.{Body, Profiles, Declares, Defines, States, Opens, Parts, Catches, Finishes, Ends, misplaced, in_a_body}
 use Rattle.scenario_grammar.proofs.BlockLaws.{Said}
 use Rattle.scenario_grammar.proofs.PhraseLaws.{role}
 use Rattle.scenario_grammar.specs.declared.reason.TextReason.{TextReason}

@@ -14,11 +14,11 @@ use Rattle.scenario_grammar.specs.declared.phrase.Phrase.TheVariants as phrase
 use Rattle.scenario_grammar.specs.declared.building.OpenBlock.{OpenBlock}
 use Rattle.scenario_grammar.specs.declared.building.Opening.{Opening}
 use Rattle.scenario_grammar.specs.declared.building.Opening.TheVariants as opening
-use Rattle.scenario_grammar.specs.Tokens.{Written, ◌⊕◌, each}
+use Rattle.scenario_grammar.specs.Token.{Written, ◌⊕◌, each}
 use Rattle.scenario_grammar.specs.Blocks.{TreeLine, line, mark, statement_lines, action_lines, block_within, except_lines}
 use Rattle.scenario_grammar.specs.Building.{Building, at, opened, added, changed, else_of, except_by, finally_by, caught, ended, step}
 use Rattle.scenario_grammar.specs.Parsed.{standing, kind_of}
-use Rattle.scenario_grammar.specs.Places.{Then, Catching, States, Opens, Parts, Catches, Finishes, Ends, misplaced, is_try, is_trying}
+use Rattle.scenario_grammar.specs.Place.{Then, Catching, States, Opens, Parts, Catches, Finishes, Ends, misplaced, is_try, is_trying}
 use Rattle.scenario_grammar.proofs.Parts.{both}
 use Rattle.scenario_grammar.proofs.PhraseLaws.{role}
 use Rattle.scenario_grammar.specs.declared.reason.TextReason.{TextReason}

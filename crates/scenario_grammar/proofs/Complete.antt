@@ -16,17 +16,17 @@ use Rattle.scenario_grammar.specs.Building.{Building, added, ended, opened, step
 use Rattle.scenario_grammar.specs.Layout.{Line, lines, is_end, is_spaced, is_ended, is_text_byte, IsText}
 use Rattle.scenario_grammar.specs.declared.limits.TheConstants.{MOST_LEVELS, MOST_TEXT}
 use Rattle.scenario_grammar.specs.Parsed.{nothing_yet, standing, read_words, read_line, read_lines, scenario, finished, reading}
-use Rattle.scenario_grammar.specs.Phrases.{phrase_tokens}
-use Rattle.scenario_grammar.specs.Places.{Profiles, Declares, Defines, misplaced, role_of, line_at, last_line, place_in_bytes}
+use Rattle.scenario_grammar.specs.Phrase.{phrase_tokens}
+use Rattle.scenario_grammar.specs.Place.{Profiles, Declares, Defines, misplaced, role_of, line_at, last_line, place_in_bytes}
 use Rattle.std.proofs.lemmas.Bool.{eqb-true, le-ltb}
 use Rattle.scenario_grammar.specs.Reading.{phrase_of, ◌>>=◌}
 use Rattle.scenario_grammar.specs.Spells.{AreTreeLines, is_main, Spells}
-use Rattle.scenario_grammar.specs.Tokens.{◌⊕◌, each, only_if, token_in}
+use Rattle.scenario_grammar.specs.Token.{◌⊕◌, each, only_if, token_in}
 use Rattle.scenario_grammar.proofs.BlockLaws.{follow, AreSaid, Makes, then_makes, line_makes, none_makes, mark_makes, makes_as, Inside, Anyway, IsEnding, block_makes, end_makes}
 use Rattle.scenario_grammar.proofs.PhraseLaws.{role, phrase_read}
 use Rattle.scenario_grammar.specs.declared.reason.TextReason.{TextReason}
 use Rattle.scenario_grammar.specs.declared.reason.TextReason.TheVariants as reason
-use Rattle.scenario_grammar.specs.Reasons.{text_number}
+use Rattle.scenario_grammar.specs.Reason.{text_number}
 use Rattle.scenario_grammar.proofs.Parts.{both}
 use Rattle.scenario_grammar.proofs.Profiles.{profile_said, says_later, step_grows}
 

@@ -19,7 +19,7 @@ use Rattle.scenario_grammar.specs.declared.keyword.Keyword.{Keyword}
 use Rattle.scenario_grammar.specs.declared.keyword.Keyword.TheVariants as k
 use Rattle.scenario_grammar.specs.declared.token.Token.{Token}
 use Rattle.scenario_grammar.specs.declared.token.Token.TheVariants as token
-use Rattle.scenario_grammar.specs.Tokens.{Written, ◌⊕◌, ◌▹◌, each, fixed, name, integer, number, in_64_bits, is_free_name}
+use Rattle.scenario_grammar.specs.Token.{Written, ◌⊕◌, ◌▹◌, each, fixed, name, integer, number, in_64_bits, is_free_name}
 use Rattle.scenario_grammar.specs.Expressions.{binary_keyword, unary_keyword, query_keyword, fault_tokens, layer_tokens, tokens_within}
 use Rattle.scenario_grammar.specs.Reading.{Reading, ◌<$>◌, name_at, integer_at, number_at, count_at, head_of, headed_at, nested_at}
 use Rattle.scenario_grammar.proofs.Parts.{is_proper, AreProper, Built, Sound, Full, Anything, ok_first, ok_second, proper_at, both, bind_ok, map_sound, then_sound, pure_sound, map_full, then_full}

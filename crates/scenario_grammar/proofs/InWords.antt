@@ -20,8 +20,8 @@ use Rattle.scenario_grammar.specs.declared.phrase.Phrase.TheVariants as phrase
 use Rattle.scenario_grammar.specs.declared.token.Token.{Token}
 use Rattle.scenario_grammar.specs.declared.token.Token.TheVariants as token
 use Rattle.scenario_grammar.specs.Expressions.{expression, fault_tokens, layer_tokens, tokens_within, binary_keyword, unary_keyword, query_keyword}
-use Rattle.scenario_grammar.specs.Phrases.{phrase_tokens, command_tokens, giving_tokens, object_tokens, head_tokens, target_tokens, timeout_tokens, ms, within, timed_tokens, wait_tokens, marked, flag, count_tokens, takes_tokens, size_tokens, link_keyword, job_keyword, queue_keyword, class_keyword}
-use Rattle.scenario_grammar.specs.Tokens.{Written, ◌⊕◌, ◌▹◌, each, perhaps, only_if, fixed, name, integer, number, in_64_bits, is_free_name}
+use Rattle.scenario_grammar.specs.Phrase.{phrase_tokens, command_tokens, giving_tokens, object_tokens, head_tokens, target_tokens, timeout_tokens, ms, within, timed_tokens, wait_tokens, marked, flag, count_tokens, takes_tokens, size_tokens, link_keyword, job_keyword, queue_keyword, class_keyword}
+use Rattle.scenario_grammar.specs.Token.{Written, ◌⊕◌, ◌▹◌, each, perhaps, only_if, fixed, name, integer, number, in_64_bits, is_free_name}
 use Rattle.gv_values.specs.declared.limits.TheConstants.{MOST_ELEMENTS}
 use Rattle.scenario_grammar.specs.declared.limits.TheConstants.{MOST_MARK, MOST_MS, MOST_NESTED, MOST_POOL_PLACES, MOST_QUEUE_PLACES, MOST_SLOTS, MOST_UNITS}
 

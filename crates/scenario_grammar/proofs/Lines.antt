@@ -17,11 +17,11 @@ use Rattle.scenario_grammar.specs.declared.token.Token.{Token}
 use Rattle.scenario_grammar.specs.declared.token.Token.TheVariants as token
 use Rattle.scenario_grammar.specs.declared.phrase.Phrase.{Phrase}
 use Rattle.scenario_grammar.specs.declared.phrase.Phrase.TheVariants as phrase
-use Rattle.scenario_grammar.specs.Tokens.{Written, ◌⊕◌, ◌▹◌, each, fixed, name, number, perhaps}
+use Rattle.scenario_grammar.specs.Token.{Written, ◌⊕◌, ◌▹◌, each, fixed, name, number, perhaps}
 use Rattle.scenario_grammar.specs.Expressions.{expression}
-use Rattle.scenario_grammar.specs.Phrases.{phrase_tokens, giving_tokens, timeout_tokens, ms, timed_tokens, wait_tokens, marked, with_fault, flag, count_tokens, takes_tokens, size_tokens, job_keyword, queue_keyword, class_keyword}
+use Rattle.scenario_grammar.specs.Phrase.{phrase_tokens, giving_tokens, timeout_tokens, ms, timed_tokens, wait_tokens, marked, with_fault, flag, count_tokens, takes_tokens, size_tokens, job_keyword, queue_keyword, class_keyword}
 use Rattle.scenario_grammar.specs.Reading.{◌<$>◌, pure, name_at, number_at, expression_at, nested_at, all_at, raw_link_at, gives, giving_by, phrase_by}
-use Rattle.scenario_grammar.specs.Places.{role_by, States}
+use Rattle.scenario_grammar.specs.Place.{role_by, States}
 use Rattle.scenario_grammar.proofs.Parts.{AreProper, Anything, both, bind_ok, map_sound, map_full, pure_sound}
 use Rattle.scenario_grammar.proofs.Words.{Faithful, made, joined, next, ending, Ends, inner, names, numbers, times, expressions, timed_parts, takes_parts, under_parts, with_parts, with_at_the_end, count_parts, wait_parts, before_wait, before_time, before_now, now_parts, silent_parts, immediate_parts, one_number, after_tokens, after_parts, size_parts, jobs, queues, classes, binding_parts, all_parts}
 use Rattle.scenario_grammar.specs.declared.reason.TextReason.TheVariants as reason

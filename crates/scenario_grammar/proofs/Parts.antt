@@ -3,7 +3,7 @@ use Rattle.std.proofs.Common.{◌≡◌, Bool, true, List, [], ◌++◌, Some, N
 use Rattle.std.specs.List.{list_all}
 use Rattle.scenario_grammar.specs.declared.token.Token.{Token}
 use Rattle.scenario_grammar.specs.declared.token.Token.TheVariants as token
-use Rattle.scenario_grammar.specs.Tokens.{Written, ◌⊕◌, is_free_name, in_64_bits}
+use Rattle.scenario_grammar.specs.Token.{Written, ◌⊕◌, is_free_name, in_64_bits}
 use Rattle.scenario_grammar.specs.Reading.{Reader, ◌>>=◌, ◌<$>◌, ◌<*>◌, pure}
 use Rattle.scenario_grammar.specs.declared.reason.TextReason.{TextReason}
 

@@ -3,7 +3,7 @@ use Rattle.std.proofs.Common.{◌≡◌, ℕ, nat_le, Bool, true, false, if◌th
 use Rattle.std.specs.List.{list_all}
 use Rattle.std.specs.Str.Parse.{signed_digits_value}
 use Rattle.gv_values.specs.declared.name.Name.{Name}
-use Rattle.gv_values.specs.Names.{is_name}
+use Rattle.gv_values.specs.Name.{is_name}
 use Rattle.scenario_tree.specs.declared.tree.Command.{Command}
 use Rattle.scenario_tree.specs.declared.tree.Command.TheVariants as command
 use Rattle.scenario_tree.specs.declared.tree.Giving.{Giving}
@@ -14,11 +14,11 @@ use Rattle.scenario_grammar.specs.declared.token.Token.{Token}
 use Rattle.scenario_grammar.specs.declared.token.Token.TheVariants as token
 use Rattle.scenario_grammar.specs.declared.phrase.Phrase.{Phrase}
 use Rattle.scenario_grammar.specs.declared.phrase.Phrase.TheVariants as phrase
-use Rattle.scenario_grammar.specs.Keywords.{keyword_of, profile_of}
+use Rattle.scenario_grammar.specs.Keyword.{keyword_of, profile_of}
 use Rattle.scenario_grammar.specs.Layout.{Word}
-use Rattle.scenario_grammar.specs.Places.{Role, Profiles, Declares, Defines, States, Opens, Parts, Catches, Finishes, Ends, Standing, role_by, role_of, misplaced}
-use Rattle.scenario_grammar.specs.Tokens.{Written, ◌⊕◌, ◌▹◌, fixed, name, is_free_name, in_64_bits, is_integer, begins_number, number_token, loose_token, token_of, known_in, token_in}
-use Rattle.scenario_grammar.specs.Phrases.{phrase_tokens, giving_tokens, target_tokens}
+use Rattle.scenario_grammar.specs.Place.{Role, Profiles, Declares, Defines, States, Opens, Parts, Catches, Finishes, Ends, Standing, role_by, role_of, misplaced}
+use Rattle.scenario_grammar.specs.Token.{Written, ◌⊕◌, ◌▹◌, fixed, name, is_free_name, in_64_bits, is_integer, begins_number, number_token, loose_token, token_of, known_in, token_in}
+use Rattle.scenario_grammar.specs.Phrase.{phrase_tokens, giving_tokens, target_tokens}
 use Rattle.scenario_grammar.specs.Reading.{Reading, ◌<$>◌, name_at, number_at, nested_at, giving_by, giving_at, phrase_by, is_given, given_at, unmarked_at, whole, phrase_of}
 use Rattle.scenario_grammar.proofs.Parts.{is_proper, AreProper, bind_ok, ok_first, ok_second, both}
 use Rattle.scenario_grammar.proofs.Atoms.{and_left, and_right, kept}

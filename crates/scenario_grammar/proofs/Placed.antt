@@ -16,16 +16,16 @@ use Rattle.scenario_grammar.specs.Blocks.{TreeLine}
 use Rattle.scenario_grammar.specs.Building.{Building, step}
 use Rattle.scenario_grammar.specs.Layout.{Line, lines, is_spaced}
 use Rattle.scenario_grammar.specs.Parsed.{nothing_yet, is_begun, has_objects, standing, read_words, read_line, read_lines, scenario, finished, reading, opens_main}
-use Rattle.scenario_grammar.specs.Places.{Body, Standing, at_the_start, after, misplaced, role_of, judge, judge_line, judge_lines, at_the_end, last_line, place_in_bytes, place_in_lines, place}
+use Rattle.scenario_grammar.specs.Place.{Body, Standing, at_the_start, after, misplaced, role_of, judge, judge_line, judge_lines, at_the_end, last_line, place_in_bytes, place_in_lines, place}
 use Rattle.scenario_grammar.specs.Reading.{phrase_of, ◌>>=◌}
 use Rattle.scenario_grammar.specs.Spells.{is_main}
-use Rattle.scenario_grammar.specs.Tokens.{token_in}
+use Rattle.scenario_grammar.specs.Token.{token_in}
 use Rattle.scenario_grammar.proofs.Begun.{begun, Kept, Stacked, steps}
 use Rattle.scenario_grammar.proofs.PhraseLaws.{role, phrase_read, phrase_said, tokens_proper}
 use Rattle.scenario_grammar.proofs.Sound.{line_read, nothing_kept}
 use Rattle.scenario_grammar.specs.declared.reason.TextReason.{TextReason}
 use Rattle.scenario_grammar.specs.declared.reason.TextReason.TheVariants as reason
-use Rattle.scenario_grammar.specs.Reasons.{text_number}
+use Rattle.scenario_grammar.specs.Reason.{text_number}
 use Rattle.scenario_grammar.specs.declared.limits.TheConstants.{MOST_LEVELS}
 
 -- the standing after a phrase is that of what the phrase makes

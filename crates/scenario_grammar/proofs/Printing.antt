@@ -11,11 +11,11 @@ use Rattle.scenario_grammar.specs.Blocks.{TreeLine, scenario_lines}
 use Rattle.scenario_grammar.specs.Layout.{Line, lines, lines_from, with_line, drop_blanks, is_blank, is_end, is_spaced, is_ended, is_text_byte, IsText}
 use Rattle.scenario_grammar.specs.declared.limits.TheConstants.{MOST_TEXT}
 use Rattle.scenario_grammar.specs.Parsed.{nothing_yet, reading, read_lines, scenario}
-use Rattle.scenario_grammar.specs.Phrases.{phrase_tokens}
-use Rattle.scenario_grammar.specs.Places.{place_in_bytes}
+use Rattle.scenario_grammar.specs.Phrase.{phrase_tokens}
+use Rattle.scenario_grammar.specs.Place.{place_in_bytes}
 use Rattle.scenario_grammar.specs.Printed.{is_closing, is_opening, less_if, more_if, words_of, printed_tree_lines, printed_if, printed}
 use Rattle.scenario_grammar.specs.Spells.{AreTreeLines, is_main, Spells}
-use Rattle.scenario_grammar.specs.Tokens.{token_in, token_word}
+use Rattle.scenario_grammar.specs.Token.{token_in, token_word}
 use Rattle.scenario_grammar.proofs.Atoms.{and_left, and_right}
 use Rattle.scenario_grammar.proofs.BareLaws.{SamePhrases, renumbered, functions_bare}
 use Rattle.scenario_grammar.proofs.Complete.{built, numbered, numbered_said, AreTold, told, scenario_makes, text_full, none_in_bytes, reading_by}

@@ -15,12 +15,12 @@ use Rattle.scenario_grammar.specs.declared.reason.TextReason.TheVariants as reas
 use Rattle.scenario_grammar.specs.declared.token.Token.{Token}
 use Rattle.scenario_grammar.specs.declared.token.Token.TheVariants as token
 use Rattle.scenario_grammar.specs.Building.{Building, closed_by, step}
-use Rattle.scenario_grammar.specs.Keywords.{profile_of}
+use Rattle.scenario_grammar.specs.Keyword.{profile_of}
 use Rattle.scenario_grammar.specs.Layout.{Word}
 use Rattle.scenario_grammar.specs.Parsed.{standing}
-use Rattle.scenario_grammar.specs.Phrases.{phrase_tokens}
-use Rattle.scenario_grammar.specs.Places.{Profiles, misplaced}
-use Rattle.scenario_grammar.specs.Tokens.{known_in, token_of, token_in}
+use Rattle.scenario_grammar.specs.Phrase.{phrase_tokens}
+use Rattle.scenario_grammar.specs.Place.{Profiles, misplaced}
+use Rattle.scenario_grammar.specs.Token.{known_in, token_of, token_in}
 use Rattle.scenario_grammar.proofs.Atoms.{and_left, and_right}
 use Rattle.scenario_grammar.proofs.Begun.{begun}
 use Rattle.scenario_grammar.proofs.InWords.{is_word, phrase_in_words}

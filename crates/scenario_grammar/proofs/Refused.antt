@@ -10,8 +10,8 @@ use Rattle.scenario_grammar.specs.Building.{Building}
 use Rattle.scenario_grammar.specs.Layout.{Line, lines, is_end, is_text_byte, is_ended}
 use Rattle.scenario_grammar.specs.declared.limits.TheConstants.{MOST_TEXT}
 use Rattle.scenario_grammar.specs.Parsed.{nothing_yet, standing, read_line, read_lines, scenario, finished, reading}
-use Rattle.scenario_grammar.specs.Places.{line_at, last_line, place_in_bytes}
-use Rattle.scenario_grammar.specs.Reasons.{text_number}
+use Rattle.scenario_grammar.specs.Place.{line_at, last_line, place_in_bytes}
+use Rattle.scenario_grammar.specs.Reason.{text_number}
 use Rattle.scenario_grammar.specs.ReasonNumbers.{is_text_reason}
 
 -- the number of each is one of them

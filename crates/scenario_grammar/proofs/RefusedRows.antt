@@ -2,11 +2,11 @@
 use Rattle.std.proofs.Common.{replicate, ◌+◌, ◌≡◌, ◌==◌, ℕ, refl, List, [], ◌∷◌, ◌++◌, map, if◌then◌else◌, Option, Some, None, codes}
 use Rattle.std.specs.List.{flat_map}
 use Rattle.scenario_grammar.specs.declared.place.Place.{Place}
-use Rattle.scenario_grammar.specs.Keywords.{keyword_of, keywords}
+use Rattle.scenario_grammar.specs.Keyword.{keyword_of, keywords}
 use Rattle.scenario_grammar.specs.Layout.{lines}
-use Rattle.scenario_grammar.specs.Places.{place, judge_lines}
+use Rattle.scenario_grammar.specs.Place.{place, judge_lines}
 use Rattle.scenario_grammar.specs.Reading.{phrase_of, nested_at, name_at, number_at, integer_at}
-use Rattle.scenario_grammar.specs.Tokens.{token_of}
+use Rattle.scenario_grammar.specs.Token.{token_of}
 
 abbrev at : ℕ → ℕ → Option Place
 at line reason = Some (record { line = line; reason = reason })

@@ -14,17 +14,17 @@ use Rattle.scenario_grammar.specs.Building.{Building, step}
 use Rattle.scenario_grammar.specs.Layout.{Line, lines, is_end, is_spaced, is_ended, is_text_byte}
 use Rattle.scenario_grammar.specs.declared.limits.TheConstants.{MOST_LEVELS, MOST_TEXT}
 use Rattle.scenario_grammar.specs.Parsed.{nothing_yet, standing, read_words, read_line, read_lines, scenario, finished, reading}
-use Rattle.scenario_grammar.specs.Phrases.{phrase_tokens}
-use Rattle.scenario_grammar.specs.Places.{misplaced, role_of, line_at, last_line, place_in_bytes}
+use Rattle.scenario_grammar.specs.Phrase.{phrase_tokens}
+use Rattle.scenario_grammar.specs.Place.{misplaced, role_of, line_at, last_line, place_in_bytes}
 use Rattle.scenario_grammar.specs.Reading.{phrase_of, ◌>>=◌}
 use Rattle.scenario_grammar.specs.Spells.{IsTreeLine, AreTreeLines, is_main, Spells}
-use Rattle.scenario_grammar.specs.Tokens.{◌⊕◌, each, token_in}
+use Rattle.scenario_grammar.specs.Token.{◌⊕◌, each, token_in}
 use Rattle.scenario_grammar.proofs.Begun.{Kept, steps, open_lines, plus_none}
 use Rattle.scenario_grammar.proofs.BlockLaws.{Said}
 use Rattle.scenario_grammar.proofs.PhraseLaws.{role, phrase_read, phrase_said, tokens_proper}
 use Rattle.scenario_grammar.specs.declared.reason.TextReason.{TextReason}
 use Rattle.scenario_grammar.specs.declared.reason.TextReason.TheVariants as reason
-use Rattle.scenario_grammar.specs.Reasons.{text_number}
+use Rattle.scenario_grammar.specs.Reason.{text_number}
 use Rattle.scenario_grammar.proofs.Profiles.{says_later, step_grows}
 
 -- one line that was read: its phrase, in its place

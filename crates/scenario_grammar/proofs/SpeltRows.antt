@@ -26,10 +26,10 @@ use Rattle.scenario_grammar.specs.Layout.{lines}
 use Rattle.scenario_grammar.specs.Parsed.{reading, read_lines}
 use Rattle.scenario_grammar.specs.Reading.{phrase_of, nested_at, name_at, number_at, integer_at}
 use Rattle.scenario_grammar.specs.Expressions.{tokens_within}
-use Rattle.scenario_grammar.specs.Keywords.{keyword_of, keywords}
-use Rattle.scenario_grammar.specs.Tokens.{name, token_of}
+use Rattle.scenario_grammar.specs.Keyword.{keyword_of, keywords}
+use Rattle.scenario_grammar.specs.Token.{name, token_of}
 use Rattle.scenario_grammar.specs.Blocks.{scenario_lines, block_within}
-use Rattle.scenario_grammar.specs.Phrases.{phrase_tokens}
+use Rattle.scenario_grammar.specs.Phrase.{phrase_tokens}
 
 abbrev text : List (List ℕ) → List ℕ
 text = flat_map (λ l. l ++ 10 ∷ [])

@@ -14,9 +14,9 @@ use Rattle.scenario_grammar.specs.declared.keyword.Keyword.{Keyword}
 use Rattle.scenario_grammar.specs.declared.keyword.Keyword.TheVariants as k
 use Rattle.scenario_grammar.specs.declared.token.Token.{Token}
 use Rattle.scenario_grammar.specs.declared.token.Token.TheVariants as token
-use Rattle.scenario_grammar.specs.Tokens.{Written, ◌⊕◌, ◌▹◌, each, fixed, name, number, perhaps}
+use Rattle.scenario_grammar.specs.Token.{Written, ◌⊕◌, ◌▹◌, each, fixed, name, number, perhaps}
 use Rattle.scenario_grammar.specs.Expressions.{expression}
-use Rattle.scenario_grammar.specs.Phrases.{ms, timed_tokens, wait_tokens, marked, with_fault, flag, count_tokens, takes_tokens, size_tokens, job_keyword, queue_keyword, class_keyword}
+use Rattle.scenario_grammar.specs.Phrase.{ms, timed_tokens, wait_tokens, marked, with_fault, flag, count_tokens, takes_tokens, size_tokens, job_keyword, queue_keyword, class_keyword}
 use Rattle.scenario_grammar.specs.declared.limits.TheConstants.{MOST_MS, MOST_NESTED, MOST_QUEUE_PLACES}
 use Rattle.scenario_grammar.specs.Reading.{Reader, Reading, ◌<$>◌, ◌<*>◌, name_at, number_at, ms_at, expression_at, wait_at, with_at, timed_at, under_at, count_of_at, takes_at, now_at, silent_at, immediate_at, after_at, word_at, job_kind_of, queue_of, fault_class_of, class_at, binding_at, size_at, to_the_end, all_at}
 use Rattle.scenario_grammar.proofs.Parts.{AreProper, Built, Sound, Full, Anything, ok_first, ok_second, proper_at, both, map_sound, then_sound, map_full, then_full}

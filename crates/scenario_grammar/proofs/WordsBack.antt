@@ -9,14 +9,14 @@ use Rattle.std.proofs.lemmas.Bool.{leb-true, ltb-true, eqb-true}
 use Rattle.std.proofs.lemmas.Fmt.{decimal-digits_value}
 use Rattle.std.proofs.lemmas.Str.{digit_value_digit}
 use Rattle.std.proofs.lemmas.Str.Parse.{IsNumeralModel, numerals_by_value, tells_digits}
-use Rattle.gv_values.specs.Names.{is_name, is_digit}
+use Rattle.gv_values.specs.Name.{is_name, is_digit}
 use Rattle.scenario_grammar.specs.declared.keyword.Keyword.{Keyword}
 use Rattle.scenario_grammar.specs.declared.token.Token.{Token}
 use Rattle.scenario_grammar.specs.declared.token.Token.TheVariants as token
-use Rattle.scenario_grammar.specs.Keywords.{spelling, is_spelled, keywords, keyword_of}
+use Rattle.scenario_grammar.specs.Keyword.{spelling, is_spelled, keywords, keyword_of}
 use Rattle.scenario_grammar.specs.Layout.{Word}
 use Rattle.gv_values.specs.Digits.{is_plain_number}
-use Rattle.scenario_grammar.specs.Tokens.{token_word, token_of, loose_token, number_token, in_64_bits, begins_with_zero, is_integer, begins_number}
+use Rattle.scenario_grammar.specs.Token.{token_word, token_of, loose_token, number_token, in_64_bits, begins_with_zero, is_integer, begins_number}
 use Rattle.scenario_grammar.proofs.Atoms.{and_left, and_right}
 use Rattle.scenario_grammar.proofs.InWords.{is_word}
 

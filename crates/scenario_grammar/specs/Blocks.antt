@@ -8,7 +8,7 @@ use Rattle.scenario_tree.specs.declared.tree.Scenario.{Scenario}
 use Rattle.scenario_tree.specs.declared.tree.Statement.{Statement}
 use Rattle.scenario_grammar.specs.declared.phrase.Phrase.{Phrase}
 use Rattle.scenario_grammar.specs.declared.phrase.Phrase.TheVariants as phrase
-use Rattle.scenario_grammar.specs.Tokens.{Written, ◌⊕◌, each, perhaps, only_if}
+use Rattle.scenario_grammar.specs.Token.{Written, ◌⊕◌, each, perhaps, only_if}
 use Rattle.scenario_grammar.specs.declared.limits.TheConstants.{MOST_LEVELS}
 
 -- A line of a tree: its number where the tree keeps it, and what it says.

@@ -13,7 +13,7 @@ use Rattle.scenario_tree.specs.declared.tree.Expression.{Expression, Expression-
 use Rattle.scenario_grammar.specs.declared.keyword.Keyword.{Keyword}
 use Rattle.scenario_grammar.specs.declared.keyword.Keyword.TheVariants as k
 use Rattle.scenario_grammar.specs.declared.token.Token.{Token}
-use Rattle.scenario_grammar.specs.Tokens.{Written, ◌⊕◌, ◌▹◌, each, fixed, name, integer, number}
+use Rattle.scenario_grammar.specs.Token.{Written, ◌⊕◌, ◌▹◌, each, fixed, name, integer, number}
 use Rattle.gv_values.specs.declared.limits.TheConstants.{MOST_ELEMENTS}
 use Rattle.scenario_grammar.specs.declared.limits.TheConstants.{MOST_NESTED}
 

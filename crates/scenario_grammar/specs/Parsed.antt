@@ -11,11 +11,11 @@ use Rattle.scenario_grammar.specs.declared.reason.TextReason.TheVariants as reas
 use Rattle.scenario_grammar.specs.declared.token.Token.{Token}
 use Rattle.scenario_grammar.specs.Building.{Building, step}
 use Rattle.scenario_grammar.specs.Layout.{Line, lines, is_spaced}
-use Rattle.scenario_grammar.specs.Places.{Open, Body, Then, Otherwise, Loop, Trying, Catching, Ending, Timing, Standing, role_of, misplaced, at_the_end, last_line, place_in_bytes}
+use Rattle.scenario_grammar.specs.Place.{Open, Body, Then, Otherwise, Loop, Trying, Catching, Ending, Timing, Standing, role_of, misplaced, at_the_end, last_line, place_in_bytes}
 use Rattle.scenario_grammar.specs.Reading.{phrase_of, ◌>>=◌}
-use Rattle.scenario_grammar.specs.Reasons.{text_number}
+use Rattle.scenario_grammar.specs.Reason.{text_number}
 use Rattle.scenario_grammar.specs.Spells.{is_main}
-use Rattle.scenario_grammar.specs.Tokens.{token_in}
+use Rattle.scenario_grammar.specs.Token.{token_in}
 
 -- before the first line
 abbrev pub nothing_yet : Building

@@ -6,8 +6,8 @@ use Rattle.std.specs.Option.{IsSomeAnd}
 use Rattle.scenario_tree.specs.declared.tree.Function.{Function}
 use Rattle.scenario_tree.specs.declared.tree.Scenario.{Scenario}
 use Rattle.scenario_grammar.specs.Layout.{Line, lines, IsText}
-use Rattle.scenario_grammar.specs.Tokens.{token_in}
-use Rattle.scenario_grammar.specs.Phrases.{phrase_tokens}
+use Rattle.scenario_grammar.specs.Token.{token_in}
+use Rattle.scenario_grammar.specs.Phrase.{phrase_tokens}
 use Rattle.scenario_grammar.specs.Blocks.{TreeLine, scenario_lines}
 
 -- the words say, in this profile, what the tree has there, on the line that the tree keeps

@@ -5,7 +5,7 @@ ghost use Rattle.scenario_grammar.specs.declared.place.Place.{Place};
 ghost use Rattle.scenario_grammar.specs.Bare.{bare};
 ghost use Rattle.scenario_grammar.specs.declared.limits.TheConstants.{MOST_TEXT};
 ghost use Rattle.scenario_grammar.specs.Parsed.{reading};
-ghost use Rattle.scenario_grammar.specs.Places.{place};
+ghost use Rattle.scenario_grammar.specs.Place.{place};
 ghost use Rattle.scenario_grammar.specs.Printed.{printed};
 ghost use Rattle.scenario_grammar.specs.ReasonNumbers.{is_text_reason};
 ghost use Rattle.scenario_grammar.specs.Spells.{Spells};

@@ -1,6 +1,6 @@
 //! Why a text or a scenario is refused, by names; the numbers are those that a refusal shows.
 ghost use Rattle.std.specs.Prelude.{◌≡◌, ◌≤◌};
-ghost use Rattle.scenario_grammar.specs.Reasons.{reason_text, rule_number, text_number};
+ghost use Rattle.scenario_grammar.specs.Reason.{reason_text, rule_number, text_number};
 
 /// Why bytes are no text of a scenario.
 #[derive(Clone, Copy, Debug, PartialEq, Eq)]

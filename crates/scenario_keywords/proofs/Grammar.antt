@@ -2,7 +2,7 @@
 use Rattle.std.proofs.Common.{◌≡◌, refl}
 use Rattle.scenario_grammar.specs.declared.keyword.Keyword.{Keyword}
 use Rattle.scenario_grammar.specs.declared.keyword.Keyword.TheVariants as k
-use Rattle.scenario_grammar.specs.Places.{role_by}
+use Rattle.scenario_grammar.specs.Place.{role_by}
 use Rattle.scenario_grammar.specs.Reading.{gives}
 use Rattle.scenario_keywords.specs.Roles.{gives_value, grammar_role, role_of_word}
 

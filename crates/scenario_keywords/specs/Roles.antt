@@ -2,7 +2,7 @@
 use Rattle.std.specs.Prelude.{Bool, true, false, if◌then◌else◌}
 use Rattle.scenario_grammar.specs.declared.keyword.Keyword.{Keyword}
 use Rattle.scenario_grammar.specs.declared.keyword.Keyword.TheVariants as k
-use Rattle.scenario_grammar.specs.Places as places
+use Rattle.scenario_grammar.specs.Place as places
 use Rattle.scenario_grammar.specs.Reading.{gives}
 use Rattle.scenario_keywords.specs.declared.role.WordRole.{WordRole}
 use Rattle.scenario_keywords.specs.declared.role.WordRole.TheVariants as role

@@ -1,6 +1,6 @@
 ghost use Rattle.std.specs.Prelude.{◌≡◌, ℕ, List, ◌∷◌};
 ghost use Rattle.std.specs.List.{find};
-ghost use Rattle.scenario_grammar.specs.Keywords.{spelling, is_spelled, keyword_of, profile_of};
+ghost use Rattle.scenario_grammar.specs.Keyword.{spelling, is_spelled, keyword_of, profile_of};
 ghost use Rattle.scenario_keywords.specs.Roles.{role_of_word};
 
 use crate::role::WordRole;
@@ -239,7 +239,7 @@ pub fn keyword_text(keyword: Keyword) -> &'static [u8]
 }
 
 /// The fixed word that this is.
-#[tactic(auto, unfolding(scenario_grammar::specs::Keywords::keyword_of, scenario_grammar::specs::Keywords::keywords))]
+#[tactic(auto, unfolding(scenario_grammar::specs::Keyword::keyword_of, scenario_grammar::specs::Keyword::keywords))]
 pub fn find_keyword(word: &[u8]) -> Option<Keyword>
     ensures { result ≡ keyword_of word.now }
 {
@@ -250,7 +250,7 @@ pub fn find_keyword(word: &[u8]) -> Option<Keyword>
 }
 
 /// The fixed words with this first byte.
-#[tactic(auto, unfolding(scenario_grammar::specs::Keywords::keyword_of, scenario_grammar::specs::Keywords::keywords))]
+#[tactic(auto, unfolding(scenario_grammar::specs::Keyword::keyword_of, scenario_grammar::specs::Keyword::keywords))]
 fn candidates(first: u8) -> &'static [Keyword]
     ensures { (rest : List ℕ) → find (is_spelled (first ∷ rest)) result.now ≡ keyword_of (first ∷ rest) }
 {

@@ -1,7 +1,7 @@
 //! What each fixed word begins.
 ghost use Rattle.std.specs.Prelude.{◌≡◌};
-ghost use Rattle.scenario_grammar.specs.Keywords.{profile_of};
-ghost use Rattle.scenario_grammar.specs.Places.{role_by};
+ghost use Rattle.scenario_grammar.specs.Keyword.{profile_of};
+ghost use Rattle.scenario_grammar.specs.Place.{role_by};
 ghost use Rattle.scenario_grammar.specs.Reading.{gives};
 ghost use Rattle.scenario_keywords.specs.Roles.{gives_value, grammar_role, role_of_word};
 

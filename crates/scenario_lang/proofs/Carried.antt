@@ -8,7 +8,7 @@ use Rattle.scenario_grammar.specs.Layout.{drop_blanks, is_blank, is_empty}
 use Rattle.scenario_grammar.specs.Parsed.{read_line, read_words}
 use Rattle.scenario_grammar.specs.declared.reason.TextReason.{TextReason}
 use Rattle.scenario_grammar.specs.declared.reason.TextReason.TheVariants as reason
-use Rattle.scenario_grammar.specs.Tokens.{token_in}
+use Rattle.scenario_grammar.specs.Token.{token_in}
 use Rattle.scenario_lines.specs.Fronts.{spaced_tokens}
 use Rattle.scenario_lang.specs.Lines.{Takes, carried, carries, line_text}
 use Rattle.scenario_lines.specs.declared.refusal.LineRefusal.{LineRefusal}

@@ -5,7 +5,7 @@ use Rattle.scenario_grammar.specs.declared.place.Place.{Place}
 use Rattle.scenario_grammar.specs.Bare.{bare}
 use Rattle.scenario_grammar.specs.declared.limits.TheConstants.{MOST_TEXT}
 use Rattle.scenario_grammar.specs.Parsed.{reading}
-use Rattle.scenario_grammar.specs.Places.{place}
+use Rattle.scenario_grammar.specs.Place.{place}
 use Rattle.scenario_grammar.specs.Printed.{printed}
 use Rattle.scenario_grammar.specs.Spells.{Spells}
 use Rattle.scenario_grammar.specs.Spelt.{HasSpelling}

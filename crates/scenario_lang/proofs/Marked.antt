@@ -2,7 +2,7 @@
 use Rattle.std.proofs.Common.{◌≡◌, true, false, List, [], ◌∷◌, refl}
 use Rattle.scenario_grammar.specs.declared.token.Token.{Token}
 use Rattle.scenario_grammar.specs.declared.token.Token.TheVariants as token
-use Rattle.scenario_grammar.specs.Places.{Gives, Role, outside, role_of}
+use Rattle.scenario_grammar.specs.Place.{Gives, Role, outside, role_of}
 use Rattle.scenario_grammar.specs.Reading.{is_given}
 use Rattle.scenario_lang.specs.Roles.{role_unmarked}
 

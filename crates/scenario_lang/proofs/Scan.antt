@@ -11,10 +11,10 @@ use Rattle.scenario_grammar.specs.Building.{Building}
 use Rattle.scenario_grammar.specs.Layout.{Line, lines, lines_from, with_line, drop_blanks, is_end, is_text_byte, is_ended, is_blank}
 use Rattle.scenario_grammar.specs.declared.limits.TheConstants.{MOST_TEXT}
 use Rattle.scenario_grammar.specs.Parsed.{finished, read_line, read_lines, read_text, reading, nothing_yet, standing, scenario}
-use Rattle.scenario_grammar.specs.Places.{at_the_end, line_at, last_line, place_in_bytes}
+use Rattle.scenario_grammar.specs.Place.{at_the_end, line_at, last_line, place_in_bytes}
 use Rattle.scenario_grammar.specs.declared.reason.TextReason.{TextReason}
 use Rattle.scenario_grammar.specs.declared.reason.TextReason.TheVariants as reason
-use Rattle.scenario_grammar.specs.Reasons.{text_number}
+use Rattle.scenario_grammar.specs.Reason.{text_number}
 use Rattle.scenario_lines.specs.Fronts.{is_printable}
 use Rattle.scenario_lang.specs.Lines.{after_line, carried, ended_at, fault_from, line_text, outcome, placed, then_lines}
 

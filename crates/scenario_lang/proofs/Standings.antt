@@ -1,9 +1,9 @@
 -- The grammar's rule on the place of a line, by the little of what stands before it that the rule asks for.
 use Rattle.std.proofs.Common.{◌≡◌, Bool, List, [], ◌∷◌, Option, length, nat_le, refl}
 use Rattle.scenario_grammar.specs.declared.limits.TheConstants.{MOST_LEVELS}
-use Rattle.scenario_grammar.specs.Places.{Open, Standing, misplaced}
-use Rattle.scenario_grammar.specs.Places.{Profiles, Declares, Defines, States, Gives, Opens, Parts, Catches, Finishes, Ends, Unknown}
-use Rattle.scenario_grammar.specs.Places as places
+use Rattle.scenario_grammar.specs.Place.{Open, Standing, misplaced}
+use Rattle.scenario_grammar.specs.Place.{Profiles, Declares, Defines, States, Gives, Opens, Parts, Catches, Finishes, Ends, Unknown}
+use Rattle.scenario_grammar.specs.Place as places
 use Rattle.scenario_lang.specs.Roles.{innermost_of, misplaced_by}
 
 of_blocks : (s : Standing) (os : List Open) → s.open_blocks ≡ os → (r : places.Role) →

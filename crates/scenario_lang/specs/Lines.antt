@@ -6,11 +6,11 @@ use Rattle.scenario_grammar.specs.declared.place.Place.{Place}
 use Rattle.scenario_grammar.specs.Building.{Building}
 use Rattle.scenario_grammar.specs.Layout.{drop_blanks, is_blank, is_end, is_text_byte, lines_from}
 use Rattle.scenario_grammar.specs.Parsed.{read_line, read_lines, scenario, standing}
-use Rattle.scenario_grammar.specs.Places.{at_the_end, place}
+use Rattle.scenario_grammar.specs.Place.{at_the_end, place}
 use Rattle.scenario_grammar.specs.Spells.{Spells}
 use Rattle.scenario_grammar.specs.declared.reason.TextReason.{TextReason}
 use Rattle.scenario_grammar.specs.declared.reason.TextReason.TheVariants as reason
-use Rattle.scenario_grammar.specs.Reasons.{text_number}
+use Rattle.scenario_grammar.specs.Reason.{text_number}
 use Rattle.scenario_lines.specs.declared.refusal.LineRefusal.{LineRefusal}
 use Rattle.scenario_lines.specs.declared.refusal.LineRefusal.TheVariants as refusal
 use Rattle.scenario_lang.specs.declared.builder.Builder.{Builder}

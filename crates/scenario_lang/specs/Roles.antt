@@ -4,9 +4,9 @@ use Rattle.scenario_grammar.specs.declared.token.Token.{Token}
 use Rattle.scenario_grammar.specs.declared.token.Token.TheVariants as token
 use Rattle.scenario_grammar.specs.declared.reason.TextReason.{TextReason}
 use Rattle.scenario_grammar.specs.declared.reason.TextReason.TheVariants as reason
-use Rattle.scenario_grammar.specs.Places.{Open, Body, Then, Otherwise, Loop, Trying, Catching, Ending, Timing, is_then, is_try, is_trying, role_by}
-use Rattle.scenario_grammar.specs.Places.{Profiles, Declares, Defines, States, Gives, Opens, Parts, Catches, Finishes, Ends, Unknown}
-use Rattle.scenario_grammar.specs.Places as places
+use Rattle.scenario_grammar.specs.Place.{Open, Body, Then, Otherwise, Loop, Trying, Catching, Ending, Timing, is_then, is_try, is_trying, role_by}
+use Rattle.scenario_grammar.specs.Place.{Profiles, Declares, Defines, States, Gives, Opens, Parts, Catches, Finishes, Ends, Unknown}
+use Rattle.scenario_grammar.specs.Place as places
 use Rattle.scenario_keywords.specs.Roles.{grammar_role}
 use Rattle.scenario_lang.specs.declared.role.Role.{Role}
 use Rattle.scenario_lang.specs.declared.role.Role.TheVariants as r

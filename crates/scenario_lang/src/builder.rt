@@ -5,7 +5,7 @@ ghost use Rattle.std.specs.List.{list_any};
 ghost use Rattle.std.specs.Option.{option_map};
 ghost use Rattle.scenario_grammar.specs.declared.limits.TheConstants.{MOST_LEVELS};
 ghost use Rattle.scenario_grammar.specs.Parsed.{has_objects, is_begun, nothing_yet, standing};
-ghost use Rattle.scenario_grammar.specs.Places.{misplaced};
+ghost use Rattle.scenario_grammar.specs.Place.{misplaced};
 ghost use Rattle.scenario_grammar.specs.Spells.{is_main};
 ghost use Rattle.scenario_lang.specs.Builders.{building, open_of, with_open, with_one_more};
 ghost use Rattle.scenario_lang.specs.Lines.{ended_at};

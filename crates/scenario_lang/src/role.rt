@@ -1,6 +1,6 @@
 //! What the first words make of a line.
 ghost use Rattle.std.specs.Prelude.{◌≡◌, if◌then◌else◌};
-ghost use Rattle.scenario_grammar.specs.Places.{role_of, outside};
+ghost use Rattle.scenario_grammar.specs.Place.{role_of, outside};
 ghost use Rattle.scenario_grammar.specs.Reading.{gives};
 ghost use Rattle.scenario_keywords.specs.Roles.{grammar_role};
 ghost use Rattle.scenario_lang.specs.Roles.{as_role, role_unmarked};

@@ -3,8 +3,8 @@ ghost use Rattle.std.specs.Prelude.{◌≡◌, ◌+◌, ◌-◌, ◌≤◌, ◌<
 ghost use Rattle.scenario_grammar.specs.Layout.{is_end};
 ghost use Rattle.scenario_grammar.specs.declared.limits.TheConstants.{MOST_TEXT};
 ghost use Rattle.scenario_grammar.specs.Parsed.{nothing_yet, read_words, reading};
-ghost use Rattle.scenario_grammar.specs.Places.{line_at};
-ghost use Rattle.scenario_grammar.specs.Reasons.{text_number};
+ghost use Rattle.scenario_grammar.specs.Place.{line_at};
+ghost use Rattle.scenario_grammar.specs.Reason.{text_number};
 ghost use Rattle.scenario_lang.specs.Builders.{building};
 ghost use Rattle.scenario_lang.specs.Lines.{IsRefused, IsSpelt, Parses, Takes, after_line, carries, ended_at, line_text, outcome, placed, state_of};
 

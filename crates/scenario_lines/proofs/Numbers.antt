@@ -6,11 +6,11 @@ use Rattle.std.proofs.lemmas.Int.Digits.{digits_value_more}
 use Rattle.std.specs.List.{list_all}
 use Rattle.std.specs.Char.{digit_value}
 use Rattle.std.specs.Str.Parse.{digits_value}
-use Rattle.gv_values.specs.Names.{is_digit}
+use Rattle.gv_values.specs.Name.{is_digit}
 use Rattle.scenario_grammar.specs.declared.token.Token.TheVariants as token
 use Rattle.gv_values.specs.Digits.{is_plain_number}
 use Rattle.gv_values.proofs.PlainNumbers.{plain_digits}
-use Rattle.scenario_grammar.specs.Tokens.{is_integer, number_token}
+use Rattle.scenario_grammar.specs.Token.{is_integer, number_token}
 use Rattle.scenario_lines.specs.Numbers.{integer_token, minus_digits}
 
 pub capped_pos : (v : ℕ) → integer_token (pos (min v (2 ^ 64 - 1))) ≡ integer_token (pos v)

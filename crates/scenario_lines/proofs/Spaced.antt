@@ -5,7 +5,7 @@ use Rattle.std.proofs.lemmas.List.Splits.{slice_split_first, slice_split-cons_no
 use Rattle.std.proofs.lemmas.Bool.{cases_Bool, eqb-true, ltb-true, ltb-false}
 use Rattle.scenario_grammar.specs.declared.token.Token.{Token}
 use Rattle.scenario_grammar.specs.Layout.{is_blank, is_empty}
-use Rattle.scenario_grammar.specs.Tokens.{token_in}
+use Rattle.scenario_grammar.specs.Token.{token_in}
 use Rattle.scenario_lines.specs.Fronts.{spaced_tokens, tokens_if_spaced}
 
 -- the tokens of all words, where those of the first are known

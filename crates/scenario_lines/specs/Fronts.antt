@@ -3,7 +3,7 @@ use Rattle.std.specs.Prelude.{ℕ, Bool, ◌&&◌, not, nat_le, if◌then◌else
 use Rattle.std.specs.List.{list_all, slice_split}
 use Rattle.scenario_grammar.specs.declared.token.Token.{Token}
 use Rattle.scenario_grammar.specs.Layout.{Word, is_blank, is_empty, is_end}
-use Rattle.scenario_grammar.specs.Tokens.{token_in}
+use Rattle.scenario_grammar.specs.Token.{token_in}
 use Rattle.scenario_lines.specs.declared.layout.Front.{Front}
 use Rattle.scenario_lines.specs.declared.layout.Front.TheVariants as front
 

@@ -2,9 +2,9 @@ ghost use Rattle.std.specs.Prelude.{◌≡◌, ◌-◌, ◌^◌, IsTrue, pos, ne
 ghost use Rattle.std.specs.List.{list_all};
 ghost use Rattle.std.specs.Option.{option_copied};
 ghost use Rattle.std.specs.Str.Parse.{digits_value};
-ghost use Rattle.gv_values.specs.Names.{is_digit};
+ghost use Rattle.gv_values.specs.Name.{is_digit};
 ghost use Rattle.gv_values.specs.Digits.{is_plain_number};
-ghost use Rattle.scenario_grammar.specs.Tokens.{begins_number, is_integer, known_in, number_token, loose_token, token_in, token_of};
+ghost use Rattle.scenario_grammar.specs.Token.{begins_number, is_integer, known_in, number_token, loose_token, token_in, token_of};
 ghost use Rattle.scenario_lines.specs.Numbers.{integer_token, minus_digits};
 
 use gv_values::Name;
@@ -35,7 +35,7 @@ fn known_in(profile: u8, token: Token) -> Token
 }
 
 /// What a word is in the profile that has all fixed words.
-#[tactic(auto, unfolding(scenario_grammar::specs::Tokens::token_of))]
+#[tactic(auto, unfolding(scenario_grammar::specs::Token::token_of))]
 fn any_token(word: &[u8]) -> Token
     ensures { result ≡ token_of word.now }
 {

@@ -14,7 +14,7 @@ use Rattle.scenario_grammar.specs.declared.keyword.Keyword.{Keyword}
 use Rattle.scenario_grammar.specs.declared.phrase.Phrase.TheVariants as phrase
 use Rattle.scenario_grammar.specs.Blocks.{TreeLine, action_lines, block_within, except_lines, is_handled, mark, statement_lines}
 use Rattle.scenario_grammar.specs.declared.limits.TheConstants.{MOST_LEVELS}
-use Rattle.scenario_grammar.specs.Tokens.{Written, each, only_if}
+use Rattle.scenario_grammar.specs.Token.{Written, each, only_if}
 use Rattle.scenario_print.specs.TreeLines.{Deeper, WroteTreeLine, WroteFixedLine, Laid, WroteBlock, WroteStatement, WroteExcepts}
 use Rattle.scenario_print.proofs.Each.{each_next}
 use Rattle.scenario_print.proofs.TreeLineLemmas.{laid, laid_back, laid_none, laid_nothing, laid_line, else_tree_line, end_tree_line, finally_tree_line, try_tree_line}

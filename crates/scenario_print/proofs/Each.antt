@@ -1,7 +1,7 @@
 -- Parts written one after another.
 use Rattle.std.proofs.Common.{◌≡◌, ℕ, suc, ◌+◌, ◌<◌, arith, List, length, take, get_or, sym, ap, ◌∙◌}
 use Rattle.std.proofs.Math.Seq.{take-suc}
-use Rattle.scenario_grammar.specs.Tokens.{Written, ◌⊕◌, each}
+use Rattle.scenario_grammar.specs.Token.{Written, ◌⊕◌, each}
 use Rattle.scenario_grammar.proofs.Begun.{each_more}
 
 -- the parts up to the next

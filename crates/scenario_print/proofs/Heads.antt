@@ -6,8 +6,8 @@ use Rattle.gv_values.specs.Fronts.{BeginsWith}
 use Rattle.scenario_grammar.specs.declared.keyword.Keyword.{Keyword}
 use Rattle.scenario_grammar.specs.declared.keyword.Keyword.TheVariants as k
 use Rattle.scenario_grammar.specs.declared.token.Token.{Token}
-use Rattle.scenario_grammar.specs.Phrases.{class_keyword, flag, head_tokens, timeout_tokens}
-use Rattle.scenario_grammar.specs.Tokens.{Written, ◌⊕◌, ◌▹◌, each, fixed, name, perhaps}
+use Rattle.scenario_grammar.specs.Phrase.{class_keyword, flag, head_tokens, timeout_tokens}
+use Rattle.scenario_grammar.specs.Token.{Written, ◌⊕◌, ◌▹◌, each, fixed, name, perhaps}
 use Rattle.scenario_print.specs.Written.{after_tokens, Started, Wrote, WroteLine}
 use Rattle.scenario_grammar.proofs.Begun.{plus_none}
 use Rattle.scenario_print.proofs.Words.{further, line, started}

@@ -6,7 +6,7 @@ use Rattle.scenario_grammar.specs.Expressions.{expression, tokens_within, layer_
 use Rattle.scenario_grammar.specs.declared.limits.TheConstants.{MOST_NESTED}
 use Rattle.gv_values.specs.declared.name.Name.{Name}
 use Rattle.scenario_grammar.specs.declared.keyword.Keyword.{Keyword}
-use Rattle.scenario_grammar.specs.Tokens.{Written, ◌⊕◌, ◌▹◌, each, fixed, name, number}
+use Rattle.scenario_grammar.specs.Token.{Written, ◌⊕◌, ◌▹◌, each, fixed, name, number}
 use Rattle.scenario_print.specs.Written.{Wrote, WroteNumber, WroteExpression, WroteExpressions}
 use Rattle.scenario_print.proofs.Each.{each_next}
 use Rattle.scenario_print.proofs.Words.{in_range, joined, no_words, through, worded}

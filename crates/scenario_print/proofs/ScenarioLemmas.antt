@@ -13,10 +13,10 @@ use Rattle.scenario_grammar.specs.declared.phrase.Phrase.TheVariants as phrase
 use Rattle.scenario_grammar.specs.Blocks.{TreeLine, block_within, declaration_lines, function_lines, mark, profile_lines, scenario_lines}
 use Rattle.scenario_grammar.specs.declared.limits.TheConstants.{MOST_LEVELS}
 use Rattle.scenario_grammar.specs.Layout.{Line, lines}
-use Rattle.scenario_grammar.specs.Phrases.{phrase_tokens}
+use Rattle.scenario_grammar.specs.Phrase.{phrase_tokens}
 use Rattle.scenario_grammar.specs.Printed.{printed, printed_if, printed_tree_lines}
 use Rattle.scenario_grammar.specs.Spells.{AreTreeLines, Spells}
-use Rattle.scenario_grammar.specs.Tokens.{Written, ◌⊕◌, each, only_if}
+use Rattle.scenario_grammar.specs.Token.{Written, ◌⊕◌, each, only_if}
 use Rattle.scenario_print.specs.TreeLines.{WroteTreeLine, WroteFixedLine, Laid, WroteBlock, WroteScenario}
 use Rattle.scenario_print.specs.Texts.{has_words, HasText}
 use Rattle.scenario_print.proofs.Each.{each_next}

@@ -9,10 +9,10 @@ use Rattle.scenario_grammar.specs.declared.phrase.Phrase.{Phrase}
 use Rattle.scenario_grammar.specs.declared.phrase.Phrase.TheVariants as phrase
 use Rattle.scenario_grammar.specs.declared.token.Token.{Token}
 use Rattle.scenario_grammar.specs.Blocks.{TreeLine}
-use Rattle.scenario_grammar.specs.Keywords.{spelling}
-use Rattle.scenario_grammar.specs.Phrases.{phrase_tokens}
+use Rattle.scenario_grammar.specs.Keyword.{spelling}
+use Rattle.scenario_grammar.specs.Phrase.{phrase_tokens}
 use Rattle.scenario_grammar.specs.Printed.{printed_tree_lines, words_of, is_closing, is_opening, less_if, more_if}
-use Rattle.scenario_grammar.specs.Tokens.{Written, ◌⊕◌, fixed, token_word}
+use Rattle.scenario_grammar.specs.Token.{Written, ◌⊕◌, fixed, token_word}
 use Rattle.scenario_print.specs.Texts.{has_words}
 use Rattle.scenario_print.specs.Written.{Appended, spaced, Started, AreWords, WroteLine}
 use Rattle.scenario_print.specs.TreeLines.{line_text, WroteTreeLine, WroteFixedLine, Laid}

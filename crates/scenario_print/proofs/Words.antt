@@ -7,8 +7,8 @@ use Rattle.gv_values.specs.declared.name.Name.{Name}
 use Rattle.scenario_grammar.specs.declared.keyword.Keyword.{Keyword}
 use Rattle.scenario_grammar.specs.declared.token.Token.{Token}
 use Rattle.scenario_grammar.specs.declared.token.Token.TheVariants as token
-use Rattle.scenario_grammar.specs.Keywords.{spelling}
-use Rattle.scenario_grammar.specs.Tokens.{Written, ◌⊕◌, ◌▹◌, fixed, name, number, integer, only_if, token_word, is_free_name, in_64_bits}
+use Rattle.scenario_grammar.specs.Keyword.{spelling}
+use Rattle.scenario_grammar.specs.Token.{Written, ◌⊕◌, ◌▹◌, fixed, name, number, integer, only_if, token_word, is_free_name, in_64_bits}
 use Rattle.scenario_print.specs.Written.{Appended, spaced, Wrote, WroteNumber, Started, AreWords, WroteLine}
 
 pub through : (whole middle front : List ℕ) → BeginsWith whole middle → BeginsWith middle front → BeginsWith whole front

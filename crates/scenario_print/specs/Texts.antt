@@ -4,7 +4,7 @@ use Rattle.std.specs.List.{list_all}
 use Rattle.std.specs.Option.{is_some, IsSomeAnd}
 use Rattle.scenario_tree.specs.declared.tree.Scenario.{Scenario}
 use Rattle.scenario_grammar.specs.Blocks.{TreeLine, scenario_lines}
-use Rattle.scenario_grammar.specs.Phrases.{phrase_tokens}
+use Rattle.scenario_grammar.specs.Phrase.{phrase_tokens}
 
 -- what the line says has words
 abbrev pub has_words : TreeLine → Bool

@@ -10,10 +10,10 @@ use Rattle.scenario_grammar.specs.declared.keyword.Keyword.{Keyword}
 use Rattle.scenario_grammar.specs.declared.phrase.Phrase.{Phrase}
 use Rattle.scenario_grammar.specs.Blocks.{TreeLine, block_within, except_lines, statement_lines}
 use Rattle.scenario_grammar.specs.declared.limits.TheConstants.{MOST_LEVELS}
-use Rattle.scenario_grammar.specs.Keywords.{spelling}
-use Rattle.scenario_grammar.specs.Phrases.{phrase_tokens}
+use Rattle.scenario_grammar.specs.Keyword.{spelling}
+use Rattle.scenario_grammar.specs.Phrase.{phrase_tokens}
 use Rattle.scenario_grammar.specs.Printed.{printed, printed_tree_lines, words_of}
-use Rattle.scenario_grammar.specs.Tokens.{Written, each}
+use Rattle.scenario_grammar.specs.Token.{Written, each}
 use Rattle.scenario_print.specs.Texts.{has_words, HasText}
 
 -- a line with its blanks and its end

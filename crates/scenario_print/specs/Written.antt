@@ -5,9 +5,9 @@ use Rattle.scenario_tree.specs.declared.tree.Expression.{Expression}
 use Rattle.scenario_grammar.specs.declared.keyword.Keyword.{Keyword}
 use Rattle.scenario_grammar.specs.declared.token.Token.{Token}
 use Rattle.scenario_grammar.specs.Expressions.{tokens_within}
-use Rattle.scenario_grammar.specs.Keywords.{spelling}
-use Rattle.scenario_grammar.specs.Phrases.{ms}
-use Rattle.scenario_grammar.specs.Tokens.{Written, each, fixed, number, token_word}
+use Rattle.scenario_grammar.specs.Keyword.{spelling}
+use Rattle.scenario_grammar.specs.Phrase.{ms}
+use Rattle.scenario_grammar.specs.Token.{Written, each, fixed, number, token_word}
 
 -- bytes behind others
 pub record Appended {T E : Type 0} (old new : List ℕ) (done : Result T E) (text : List ℕ) : Type 0 where

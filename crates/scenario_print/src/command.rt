@@ -2,7 +2,7 @@
 #![tactic(auto, using(crate::proofs::Words::through))]
 
 ghost use Rattle.std.specs.Prelude.{◌≡◌};
-ghost use Rattle.scenario_grammar.specs.Phrases.{command_tokens};
+ghost use Rattle.scenario_grammar.specs.Phrase.{command_tokens};
 ghost use Rattle.scenario_print.specs.Written.{WroteLine};
 
 use crate::part::{push_flag, push_marked, push_timed, push_wait};

@@ -3,8 +3,8 @@
 
 ghost use Rattle.std.specs.Prelude.{◌≡◌, ◌++◌, codes};
 ghost use Rattle.scenario_grammar.specs.Expressions.{expression};
-ghost use Rattle.scenario_grammar.specs.Phrases.{giving_tokens, job_keyword, link_keyword, target_tokens};
-ghost use Rattle.scenario_grammar.specs.Tokens.{◌⊕◌, each, name, perhaps};
+ghost use Rattle.scenario_grammar.specs.Phrase.{giving_tokens, job_keyword, link_keyword, target_tokens};
+ghost use Rattle.scenario_grammar.specs.Token.{◌⊕◌, each, name, perhaps};
 ghost use Rattle.scenario_print.specs.Written.{Appended, Started, WroteLine};
 
 use crate::expression::{push_expression, push_expressions};

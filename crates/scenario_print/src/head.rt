@@ -2,8 +2,8 @@
 #![tactic(auto, using(crate::proofs::Words::through))]
 
 ghost use Rattle.std.specs.Prelude.{◌≡◌, if◌then◌else◌};
-ghost use Rattle.scenario_grammar.specs.Phrases.{class_keyword, head_tokens, object_tokens, queue_keyword, size_tokens, timeout_tokens};
-ghost use Rattle.scenario_grammar.specs.Tokens.{◌⊕◌, ◌▹◌, each, fixed, name, perhaps};
+ghost use Rattle.scenario_grammar.specs.Phrase.{class_keyword, head_tokens, object_tokens, queue_keyword, size_tokens, timeout_tokens};
+ghost use Rattle.scenario_grammar.specs.Token.{◌⊕◌, ◌▹◌, each, fixed, name, perhaps};
 ghost use Rattle.scenario_print.specs.Written.{after_tokens, Started, Wrote, WroteLine};
 
 use crate::part::push_flag;

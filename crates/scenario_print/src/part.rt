@@ -2,9 +2,9 @@
 #![tactic(auto, using(crate::proofs::Words::through))]
 
 ghost use Rattle.std.specs.Prelude.{◌≡◌, ℕ};
-ghost use Rattle.scenario_grammar.specs.Tokens.{◌▹◌, perhaps};
-ghost use Rattle.scenario_grammar.specs.Tokens.{number as in_range};
-ghost use Rattle.scenario_grammar.specs.Phrases.{count_tokens, flag, marked, takes_tokens, timed_tokens, wait_tokens};
+ghost use Rattle.scenario_grammar.specs.Token.{◌▹◌, perhaps};
+ghost use Rattle.scenario_grammar.specs.Token.{number as in_range};
+ghost use Rattle.scenario_grammar.specs.Phrase.{count_tokens, flag, marked, takes_tokens, timed_tokens, wait_tokens};
 ghost use Rattle.scenario_print.specs.Written.{Wrote};
 
 use crate::expression::push_expression;

@@ -5,7 +5,7 @@ ghost use Rattle.std.specs.Prelude.{◌≡◌, ◌++◌, List, ℕ, OnOk, OnErr}
 ghost use Rattle.scenario_grammar.specs.Blocks.{declaration_lines, function_lines, profile_lines};
 ghost use Rattle.scenario_grammar.specs.Printed.{printed};
 ghost use Rattle.scenario_grammar.specs.Spells.{Spells};
-ghost use Rattle.scenario_grammar.specs.Tokens.{each};
+ghost use Rattle.scenario_grammar.specs.Token.{each};
 ghost use Rattle.scenario_tree.specs.declared.tree.Scenario.{Scenario};
 ghost use Rattle.scenario_print.specs.TreeLines.{Laid, WroteScenario};
 ghost use Rattle.scenario_print.specs.Texts.{HasText};

@@ -4,9 +4,9 @@
 ghost use Rattle.std.specs.Prelude.{◌≡◌, ℕ};
 ghost use Rattle.gv_values.specs.Fronts.{BeginsWith};
 ghost use Rattle.scenario_grammar.specs.Expressions.{expression};
-ghost use Rattle.scenario_grammar.specs.Phrases.{timed_tokens, wait_tokens, with_fault};
-ghost use Rattle.scenario_grammar.specs.Tokens.{◌⊕◌, name};
-ghost use Rattle.scenario_grammar.specs.Tokens.{number as in_range};
+ghost use Rattle.scenario_grammar.specs.Phrase.{timed_tokens, wait_tokens, with_fault};
+ghost use Rattle.scenario_grammar.specs.Token.{◌⊕◌, name};
+ghost use Rattle.scenario_grammar.specs.Token.{number as in_range};
 ghost use Rattle.scenario_print.specs.Written.{Started};
 
 use crate::expression::push_expression;

@@ -2,7 +2,7 @@
 #![tactic(auto, using(crate::proofs::Words::leaves))]
 
 ghost use Rattle.std.specs.Prelude.{◌≡◌, [], ◌∷◌, ◌++◌, Some};
-ghost use Rattle.scenario_grammar.specs.Tokens.{fixed, integer, name};
+ghost use Rattle.scenario_grammar.specs.Token.{fixed, integer, name};
 ghost use Rattle.scenario_print.specs.Written.{Appended, Started, Wrote, WroteNumber};
 
 use gv_values::Name;

@@ -11,7 +11,7 @@ use Rattle.scenario_tree.specs.declared.tree.Except.{Except, out-Except}
 use Rattle.scenario_tree.specs.declared.tree.Expression.{Expression}
 use Rattle.scenario_tree.specs.declared.tree.Giving.{Giving}
 use Rattle.scenario_tree.specs.declared.tree.Statement.{Statement}
-use Rattle.scenario_rules.specs.Mentions.{Part, on, action_says, block_mentions, command_says, each_part, except_says, expression_says, giving_says, statement_mentions, statement_says, target_says, timeout_says}
+use Rattle.scenario_rules.specs.Mention.{Part, on, action_says, block_mentions, command_says, each_part, except_says, expression_says, giving_says, statement_mentions, statement_says, target_says, timeout_says}
 use Rattle.scenario_rules.specs.Layers.{action_mentions, except_mentions, handler_mentions}
 
 action_out : (x : Action) → action_mentions x ≡ action_says (map-Action Action Except Statement (ℕ → Part) Part Part action_mentions except_mentions statement_mentions (out-Action x))

@@ -6,12 +6,12 @@ use Rattle.scenario_tree.specs.declared.tree.Action.TheBlock.{shown-the_row-Stat
 use Rattle.scenario_tree.specs.declared.tree.Action.{out-Action}
 use Rattle.scenario_tree.specs.declared.tree.Except.{out-Except, roll-Except}
 use Rattle.scenario_grammar.specs.declared.place.Place.{Place}
-use Rattle.scenario_grammar.specs.Keywords.{keyword_of, keywords}
+use Rattle.scenario_grammar.specs.Keyword.{keyword_of, keywords}
 use Rattle.scenario_grammar.specs.Layout.{lines}
 use Rattle.scenario_grammar.specs.Parsed.{reading, read_lines}
 use Rattle.scenario_grammar.specs.Reading.{phrase_of, nested_at, name_at, number_at, integer_at}
-use Rattle.scenario_grammar.specs.Tokens.{token_of}
-use Rattle.scenario_rules.specs.Mentions.{statement_mentions}
+use Rattle.scenario_grammar.specs.Token.{token_of}
+use Rattle.scenario_rules.specs.Mention.{statement_mentions}
 use Rattle.scenario_rules.specs.Rules.{place_of}
 
 abbrev at : ℕ → ℕ → Option Place

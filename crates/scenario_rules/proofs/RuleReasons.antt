@@ -8,12 +8,12 @@ use Rattle.scenario_tree.specs.declared.tree.Scenario.{Scenario}
 use Rattle.scenario_grammar.specs.declared.place.Place.{Place}
 use Rattle.scenario_grammar.specs.declared.reason.RuleReason.{RuleReason}
 use Rattle.scenario_grammar.specs.declared.reason.RuleReason.TheVariants as rule
-use Rattle.scenario_grammar.specs.Reasons.{rule_number}
+use Rattle.scenario_grammar.specs.Reason.{rule_number}
 use Rattle.scenario_grammar.specs.ReasonNumbers.{is_rule_reason}
 use Rattle.scenario_rules.specs.declared.mention.Mention.{Mention}
 use Rattle.scenario_rules.specs.declared.mention.Named.{Named}
 use Rattle.scenario_rules.specs.Declarations.{different, given_names, named_functions, named_objects, parameters, repeated}
-use Rattle.scenario_rules.specs.Mentions.{mentions}
+use Rattle.scenario_rules.specs.Mention.{mentions}
 use Rattle.scenario_rules.specs.Rules.{IsWellFormed, earlier_place, first_after, function_refusals, is_before, is_hub_in_raw_body, is_too_deep, is_undeclared, is_wrong_count, is_wrong_head, is_wrong_kind, past, place_of, refusals, refused, refused_names, word_refusals}
 use Rattle.scenario_rules.specs.declared.limits.TheConstants.{MOST_LOCAL_NAMES}
 use Rattle.scenario_tree.specs.declared.limits.TheConstants.{MOST_FUNCTIONS, MOST_OBJECTS, MOST_PARAMETERS}

@@ -18,7 +18,7 @@ use Rattle.scenario_rules.specs.declared.mention.Says.{Says}
 use Rattle.scenario_rules.specs.declared.mention.Says.TheVariants as says
 use Rattle.scenario_rules.specs.declared.mention.Wanted.{Wanted}
 use Rattle.scenario_rules.specs.declared.mention.Wanted.TheVariants as wanted
-use Rattle.scenario_rules.specs.Mentions.{mentions}
+use Rattle.scenario_rules.specs.Mention.{mentions}
 
 abbrev pub function_as : Function → Declared
 function_as f = if f.is_raw then declared.RawBody else declared.Function (length f.parameters)

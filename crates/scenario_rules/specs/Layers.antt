@@ -6,7 +6,7 @@ use Rattle.scenario_tree.specs.declared.tree.Except.{Except}
 use Rattle.scenario_tree.specs.declared.tree.Action.TheBlock.{laid-Action, laid-Except}
 use Rattle.scenario_tree.specs.declared.tree.Action.TheFolds.{family as statement_family, steps as statement_steps}
 use Rattle.scenario_rules.specs.declared.mention.Mention.{Mention}
-use Rattle.scenario_rules.specs.Mentions.{Part, action_says, except_says, statement_says}
+use Rattle.scenario_rules.specs.Mention.{Part, action_says, except_says, statement_says}
 
 -- the same of what stands on the line of a statement
 unfoldable pub action_mentions : Action → ℕ → Part

@@ -1,4 +1,4 @@
 pub mod Declarations
-pub mod Mentions
+pub mod Mention
 pub mod Rules
 pub mod Layers

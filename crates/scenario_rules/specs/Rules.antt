@@ -9,7 +9,7 @@ use Rattle.scenario_tree.specs.declared.limits.TheConstants.{MOST_FUNCTIONS, MOS
 use Rattle.scenario_grammar.specs.declared.place.Place.{Place}
 use Rattle.scenario_grammar.specs.declared.reason.RuleReason.{RuleReason}
 use Rattle.scenario_grammar.specs.declared.reason.RuleReason.TheVariants as rule
-use Rattle.scenario_grammar.specs.Reasons.{rule_number}
+use Rattle.scenario_grammar.specs.Reason.{rule_number}
 use Rattle.scenario_grammar.specs.Spells.{is_main}
 use Rattle.scenario_rules.specs.declared.declared.Declared.TheVariants as declared
 use Rattle.scenario_rules.specs.declared.mention.Mention.{Mention}
@@ -17,7 +17,7 @@ use Rattle.scenario_rules.specs.declared.mention.Named.{Named}
 use Rattle.scenario_rules.specs.declared.mention.Says.{Says}
 use Rattle.scenario_rules.specs.declared.mention.Says.TheVariants as says
 use Rattle.scenario_rules.specs.Declarations.{declared_as, named_objects, named_functions, repeated, different, parameters, given_names, is_local, is_kind}
-use Rattle.scenario_rules.specs.Mentions.{mentions}
+use Rattle.scenario_rules.specs.Mention.{mentions}
 use Rattle.scenario_rules.specs.declared.limits.TheConstants.{MOST_LOCAL_NAMES}
 
 abbrev pub is_declared : Scenario → Name → Bool

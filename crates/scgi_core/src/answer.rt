@@ -3,7 +3,7 @@
 
 ghost use Rattle.std.specs.Prelude.{◌≡◌, ◌++◌, OnErr, OnOk};
 ghost use Rattle.gv_values.specs.Fronts.{BeginsWith};
-ghost use Rattle.scgi_core.specs.Answers.{cgi_answer, cgi_refusal, cgi_server_error, started};
+ghost use Rattle.scgi_core.specs.Answer.{cgi_answer, cgi_refusal, cgi_server_error, started};
 
 use http_messages::{ByteQueue, Refusal};
 use std::alloc::{AllocError, Global};

@@ -2,7 +2,7 @@
 ghost use Rattle.std.specs.Prelude.{◌≡◌, ◌≤◌, ◌∷◌, IfOk, OnOk, filter, length as list_length};
 ghost use Rattle.std.specs.List.{list_all, list_any};
 ghost use Rattle.std.specs.Option.{option_copied};
-ghost use Rattle.scgi_core.specs.Pairs.{are_apart, is_named, is_passed_on, told_length, name_is, pairs_in, read_byte, scgi_request_of, are_well, judged_pairs, judged_block};
+ghost use Rattle.scgi_core.specs.Block.{are_apart, is_named, is_passed_on, told_length, name_is, pairs_in, read_byte, scgi_request_of, are_well, judged_pairs, judged_block};
 
 use crate::limits::MOST_PAIRS;
 use crate::request::ScgiRequest;
@@ -162,7 +162,7 @@ fn scgi_request_of(
 
 /// The request of the bytes of a head behind its length: `n` bytes of names and values, and the byte in the comma's
 /// place.
-#[tactic(auto, unfolding(crate::specs::Pairs::judged_block))]
+#[tactic(auto, unfolding(crate::specs::Block::judged_block))]
 pub fn judged_block(
     alloc: Global,
     n: usize,

@@ -1,7 +1,7 @@
 //! A request, read from the front of the bytes that were kept.
 ghost use Rattle.std.specs.Prelude.{◌≡◌, IfOk};
 ghost use Rattle.http_messages.specs.Readings.{Finds};
-ghost use Rattle.scgi_core.specs.Calls.{scgi_request_at};
+ghost use Rattle.scgi_core.specs.Head.{scgi_request_at};
 ghost use Rattle.scgi_core.specs.Readings.{FindsCall};
 
 use crate::block::judged_block;

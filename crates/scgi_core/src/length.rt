@@ -1,6 +1,6 @@
 //! The length at the front of a head, as netstrings have it (D. J. Bernstein, "Netstrings", 1997).
 ghost use Rattle.std.specs.Prelude.{◌≡◌};
-ghost use Rattle.scgi_core.specs.Heads.{goes_on_length, length_at};
+ghost use Rattle.scgi_core.specs.Length.{goes_on_length, length_at};
 ghost use Rattle.scgi_core.specs.Readings.{SeesLength};
 
 use crate::limits::{MOST_BLOCK, MOST_BLOCK_DIGITS};

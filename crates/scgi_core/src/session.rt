@@ -1,6 +1,6 @@
 //! A session, fed in any pieces.
 ghost use Rattle.std.specs.Prelude.{◌≡◌, ◌++◌, ℕ, List, false, OnErr, OnOk};
-ghost use Rattle.scgi_core.specs.Sessions.{scgi_answers};
+ghost use Rattle.scgi_core.specs.Session.{scgi_answers};
 ghost use Rattle.scgi_core.specs.Steps.{IsAt, Stands, Stopped, pending_of, said_bytes, stopped_bytes};
 
 use crate::answer::{push_answer, refusal_text};

@@ -5,13 +5,13 @@ use Rattle.std.proofs.lemmas.List.Elements.{All-nil, All-weaker}
 use Rattle.gv_io.specs.Streams.{appended, AppendsPrefix, Extends}
 use Rattle.gv_io.proofs.StreamLaws.{appended-appended, AppendsPrefix-after, AppendsPrefix-longer}
 use Rattle.wsgi_core.specs.Applications.{App}
-use Rattle.wsgi_core.specs.Gateways.{Gateway, said_by}
-use Rattle.stream_net.specs.Nets.{Connection, NetMeaning, listens_at}
+use Rattle.wsgi_core.specs.Talk.{Gateway, said_by}
+use Rattle.stream_net.specs.Net.{Connection, NetMeaning, listens_at}
 use Rattle.stream_server.specs.declared.limits.Limits.{Limits}
 use Rattle.stream_server.specs.Serving.{AllBut, BeginsSo, Cause, EachTold, IsAllServed, IsClosedWell, WaitsToRead}
 use Rattle.serve_command.specs.declared.serving.Served.{Served}
 use Rattle.serve_command.specs.Endings.{Stays}
-use Rattle.serve_command.specs.Served.{IsToldFirst, ServesSo, listening, served}
+use Rattle.serve_command.specs.Serving.{IsToldFirst, ServesSo, listening, served}
 
 -- nothing is said of no connections
 pub no_connection : (cs : List Connection) (P : Connection → List ℕ → List ℕ → Type 0) → cs ≡ [] → EachTold cs P

@@ -2,20 +2,20 @@
 use Rattle.std.proofs.Common.{◌≡◌, ◌≢◌, ◌⊎◌, ℕ, ◌≤◌, true, false, List, [], length, Option, ap, arith}
 use Rattle.std.specs.List.{All}
 use Rattle.gv_io.specs.Streams.{appended, AppendsPrefix}
-use Rattle.wsgi_core.specs.Gateways.{said_by}
-use Rattle.wsgi_core.specs.Sessions.{answers, session}
-use Rattle.stream_net.specs.Nets.{Connection, IsAtRest, NetMeaning, listens_at}
+use Rattle.wsgi_core.specs.Talk.{said_by}
+use Rattle.wsgi_core.specs.Session.{answers, session}
+use Rattle.stream_net.specs.Net.{Connection, IsAtRest, NetMeaning, listens_at}
 use Rattle.stream_net.specs.declared.net.Quiet.TheVariants.{Awake}
 use Rattle.stream_server.specs.declared.limits.Limits.{Limits}
 use Rattle.stream_server.specs.Serving.{AllBut, BeginsSo, Cause, EachTold, IsAllServed, IsClosedWell, WaitsToRead}
-use Rattle.world.specs.Worlds.{WorldMeaning as World}
+use Rattle.world.specs.Outside.{WorldMeaning as World}
 use Rattle.wsgi_native.specs.Agreeing.{HasEarned}
 use Rattle.wsgi_native.specs.Ends.{IsOutOfJobs}
 use Rattle.wsgi_native.specs.JobApp.{job_app}
 use Rattle.serve_command.specs.declared.serving.Served.{Served}
 use Rattle.serve_command.specs.Endings.{Stays}
 use Rattle.serve_command.specs.Jobs.{ServesJobsAt}
-use Rattle.serve_command.specs.Served.{listening, served}
+use Rattle.serve_command.specs.Serving.{listening, served}
 use Rattle.serve_command.proofs.Ends.{closed_rest, no_connection, none_served, serves_so, still_spent}
 
 -- closed ones are at rest

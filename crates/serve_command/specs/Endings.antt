@@ -1,8 +1,8 @@
 -- A server before the first connection and after the last.
 use Rattle.std.specs.Prelude.{◌≡◌, ◌≢◌, ◌⊎◌, ℕ, List, Option}
 use Rattle.gv_io.specs.Streams.{AppendsPrefix}
-use Rattle.stream_net.specs.Nets.{NetMeaning, listens_at}
-use Rattle.serve_command.specs.Served.{listening}
+use Rattle.stream_net.specs.Net.{NetMeaning, listens_at}
+use Rattle.serve_command.specs.Serving.{listening}
 use Rattle.serve_command.specs.declared.serving.Served.{Served}
 
 -- it came to this end before anybody was accepted: it listens nowhere and told nothing, or a line was not written

@@ -1,13 +1,13 @@
 -- What the command `serve` leaves behind where native workers answer the requests for jobs.
 use Rattle.std.specs.Prelude.{◌≡◌, ◌⊎◌, ℕ, List, Option}
-use Rattle.stream_net.specs.Nets.{IsAtRest, NetMeaning}
+use Rattle.stream_net.specs.Net.{IsAtRest, NetMeaning}
 use Rattle.stream_server.specs.declared.limits.Limits.{Limits}
-use Rattle.world.specs.Worlds.{WorldMeaning as World}
-use Rattle.wsgi_core.specs.Sessions.{answers}
+use Rattle.world.specs.Outside.{WorldMeaning as World}
+use Rattle.wsgi_core.specs.Session.{answers}
 use Rattle.wsgi_native.specs.Agreeing.{HasEarned}
 use Rattle.wsgi_native.specs.Ends.{IsOutOfJobs}
 use Rattle.wsgi_native.specs.JobApp.{job_app}
-use Rattle.serve_command.specs.Served.{ServesSo}
+use Rattle.serve_command.specs.Serving.{ServesSo}
 use Rattle.serve_command.specs.declared.serving.Served.{Served}
 
 -- It served over HTTP, with the application that answers what a job comes to, while the workers were asked for the jobs.

@@ -1,4 +1,4 @@
 pub mod Endings
 pub mod Jobs
 pub mod Lines
-pub mod Served
+pub mod Serving

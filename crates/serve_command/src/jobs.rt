@@ -1,9 +1,9 @@
 //! The same, where native workers answer the requests for jobs.
 ghost use Rattle.std.specs.Prelude.{◌≡◌, ◌≢◌, ◌⊎◌, ◌≤◌, true, []};
 ghost use Rattle.gv_values.specs.Counts.{HasRisen};
-ghost use Rattle.stream_net.specs.Nets.{IsFresh};
+ghost use Rattle.stream_net.specs.Net.{IsFresh};
 ghost use Rattle.stream_server.specs.Ranges.{IsInRange};
-ghost use Rattle.serve_command.specs.Served.{IsToldFirst};
+ghost use Rattle.serve_command.specs.Serving.{IsToldFirst};
 ghost use Rattle.serve_command.specs.Jobs.{ServesJobsAt};
 ghost use Rattle.wsgi_native.specs.Tied.{IsInOrder};
 

@@ -1,9 +1,9 @@
 //! Listens, tells the port, serves, and tells how many connections were served.
 ghost use Rattle.std.specs.Prelude.{◌≡◌, ◌≢◌, ◌≤◌, ℕ};
 ghost use Rattle.gv_values.specs.Counts.{HasRisen};
-ghost use Rattle.stream_net.specs.Nets.{IsFresh};
+ghost use Rattle.stream_net.specs.Net.{IsFresh};
 ghost use Rattle.stream_server.specs.Ranges.{IsInRange};
-ghost use Rattle.serve_command.specs.Served.{IsToldFirst, ServesAt};
+ghost use Rattle.serve_command.specs.Serving.{IsToldFirst, ServesAt};
 
 use crate::telling::{open_port, tell_end};
 use gv_io::Sink;

@@ -2,9 +2,9 @@
 ghost use Rattle.std.specs.Prelude.{◌≡◌, ◌≢◌, ◌≤◌, Err, IfErr, IfOk, IsErrOf, OnOk};
 ghost use Rattle.gv_io.specs.Streams.{AppendsPrefix, Extends, appended};
 ghost use Rattle.gv_values.specs.Counts.{HasRisen};
-ghost use Rattle.stream_net.specs.Nets.{IsFresh, listens_at};
+ghost use Rattle.stream_net.specs.Net.{IsFresh, listens_at};
 ghost use Rattle.serve_command.specs.Endings.{IsUnopened, Stays};
-ghost use Rattle.serve_command.specs.Served.{listening, served};
+ghost use Rattle.serve_command.specs.Serving.{listening, served};
 
 use crate::lines::{Unwritten, write_line};
 use crate::serving::Served;

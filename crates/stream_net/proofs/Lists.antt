@@ -5,7 +5,7 @@ use Rattle.std.proofs.lemmas.Bool.{cases_eq}
 use Rattle.std.proofs.lemmas.List.{get_or-set_same, get_or-set_other}
 use Rattle.std.proofs.lemmas.List.Sums.{sum_by-set, sum_by_push, get_or-le-sum_by}
 use Rattle.std.proofs.lemmas.List.Elements.{All-from_get_or, All-get_or}
-use Rattle.stream_net.specs.Nets.{Connection, connection_at, absent_connection, live_count, is_open}
+use Rattle.stream_net.specs.Net.{Connection, connection_at, absent_connection, live_count, is_open}
 
 -- what holds at k and elsewhere holds everywhere
 pub everywhere : (k : ℕ) (P : ℕ → Type 0) → P k → ((j : ℕ) → j ≢ k → P j) → (j : ℕ) → P j

@@ -11,7 +11,7 @@ use Rattle.stream_net.specs.declared.script.Piece.{Piece}
 use Rattle.stream_net.specs.Accounts.{account_meaning, read_after}
 use Rattle.stream_net.specs.MemoryEndpoints.{joined, bytes_at, is_failing, read_of, scripted_meaning, no_piece}
 use Rattle.stream_net.specs.MemoryNets.{meaning_by}
-use Rattle.stream_net.specs.Nets.{Connection, Changes, Ports, IsNotReady, connection_at, absent_connection}
+use Rattle.stream_net.specs.Net.{Connection, Changes, Ports, IsNotReady, connection_at, absent_connection}
 use Rattle.stream_net.specs.Reads.{Reads, after_read}
 use Rattle.stream_net.specs.Rules.{EndsRead, EndsWrite, Rewrites}
 use Rattle.stream_net.specs.Writes.{Writes, after_write}

@@ -3,7 +3,7 @@ use Rattle.std.specs.Prelude.{◌≡◌, ℕ, ◌≤◌, max, Bool, true, false,
 use Rattle.gv_values.specs.Counts.{HasRisen}
 use Rattle.stream_net.specs.declared.net.Accepted.{Accepted}
 use Rattle.stream_net.specs.declared.net.Accepted.TheVariants.{New, WouldBlock, Failed, Memory}
-use Rattle.stream_net.specs.Nets.{Connection, NetMeaning, IsNew, live_count}
+use Rattle.stream_net.specs.Net.{Connection, NetMeaning, IsNew, live_count}
 
 -- one more connection, of the next number
 pub record Gains (v w : NetMeaning) (k : ℕ) : Type 0 where

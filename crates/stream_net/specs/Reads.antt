@@ -4,7 +4,7 @@ use Rattle.gv_values.specs.Counts.{HasRisen}
 use Rattle.gv_io.specs.Streams.{appended}
 use Rattle.stream_net.specs.declared.net.ReadEnd.{ReadEnd}
 use Rattle.stream_net.specs.declared.net.ReadEnd.TheVariants.{Got, End, WouldBlock, Failed}
-use Rattle.stream_net.specs.Nets.{Awake, ByRead, Connection, NetMeaning, Changes, connection_at}
+use Rattle.stream_net.specs.Net.{Awake, ByRead, Connection, NetMeaning, Changes, connection_at}
 
 -- a connection after a read that answered so and gave these bytes, at this moment, with so many faults
 abbrev pub after_read : ReadEnd → List ℕ → ℕ → ℕ → Connection → Connection

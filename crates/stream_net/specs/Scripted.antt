@@ -2,7 +2,7 @@
 use Rattle.std.specs.Prelude.{◌≡◌, ℕ, true}
 use Rattle.stream_net.specs.declared.memory_net.MemoryNet.{MemoryNet}
 use Rattle.stream_net.specs.MemoryNets.{meaning_by, readiness_by}
-use Rattle.stream_net.specs.Nets.{Connection, NetMeaning, Readiness}
+use Rattle.stream_net.specs.Net.{Connection, NetMeaning, Readiness}
 
 abbrev pub meaning_of : MemoryNet → NetMeaning
 meaning_of n = meaning_by n.endpoints.items n.most n.moment n.listens n.faults n.blocked

@@ -5,7 +5,7 @@ use Rattle.gv_values.specs.Counts.{HasRisen}
 use Rattle.gv_io.specs.declared.source.Failed.{Failed}
 use Rattle.stream_net.specs.declared.net.Ready.{Ready}
 use Rattle.stream_net.specs.declared.net.Ready.TheVariants.{Incoming, Readable, Writable, Elapsed}
-use Rattle.stream_net.specs.Nets.{Awake, Connection, NetMeaning, connection_at, live_count, IsAtRest}
+use Rattle.stream_net.specs.Net.{Awake, Connection, NetMeaning, connection_at, live_count, IsAtRest}
 
 -- a live connection that was named is awake; a closed one keeps what it was
 abbrev pub woken_if : Bool → Connection → Connection

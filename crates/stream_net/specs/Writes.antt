@@ -4,7 +4,7 @@ use Rattle.gv_values.specs.Counts.{HasRisen}
 use Rattle.gv_io.specs.Streams.{appended}
 use Rattle.stream_net.specs.declared.net.WriteEnd.{WriteEnd}
 use Rattle.stream_net.specs.declared.net.WriteEnd.TheVariants.{Took, WouldBlock, Failed, Memory}
-use Rattle.stream_net.specs.Nets.{Awake, ByWrite, Connection, NetMeaning, Changes, connection_at}
+use Rattle.stream_net.specs.Net.{Awake, ByWrite, Connection, NetMeaning, Changes, connection_at}
 
 -- a connection after a write of these bytes that answered so, at this moment, where its faults are so many
 abbrev pub after_write : WriteEnd → List ℕ → ℕ → ℕ → Connection → Connection

@@ -2,7 +2,7 @@
 ghost use Rattle.std.specs.Prelude.{◌≡◌, ◌≢◌, ℕ, ◌≤◌, List, Option, IfSome, []};
 ghost use Rattle.gv_values.specs.Counts.{HasRisen};
 ghost use Rattle.stream_net.specs.Accounts.{account_meaning, read_after};
-ghost use Rattle.stream_net.specs.Nets.{IsNew, closed_at, held_as};
+ghost use Rattle.stream_net.specs.Net.{IsNew, closed_at, held_as};
 ghost use Rattle.stream_net.specs.Reads.{after_read};
 ghost use Rattle.stream_net.specs.Taken.{written_after};
 ghost use Rattle.stream_net.specs.Waits.{woken_if};

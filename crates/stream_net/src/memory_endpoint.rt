@@ -5,7 +5,7 @@ ghost use Rattle.gv_values.specs.OneMore.{one_more as count_after};
 ghost use Rattle.stream_net.specs.Accounts.{read_after};
 ghost use Rattle.stream_net.specs.MemoryEndpoints.{bytes_at, has_bytes, is_failing, is_past, is_readable, is_writable, scripted_meaning, next_byte, read_of, until_end};
 ghost use Rattle.stream_net.specs.MemoryNets.{IsWithin};
-ghost use Rattle.stream_net.specs.Nets.{IsNew, closed_at, held_as};
+ghost use Rattle.stream_net.specs.Net.{IsNew, closed_at, held_as};
 ghost use Rattle.stream_net.specs.News.{arrives_next, has_news, has_piece, is_news, piece_after, told_of};
 ghost use Rattle.stream_net.specs.Reads.{after_read};
 ghost use Rattle.stream_net.specs.Rules.{EndsRead, EndsWrite, WasRead, WasWritten, found_by, waits_after, writes_after};

@@ -1,7 +1,7 @@
 //! What a net is to a server.
 ghost use Rattle.std.specs.Prelude.{◌≡◌, ◌≢◌, ℕ, ◌<◌, ◌≤◌, false, length, IfOk, IsSome, OnOk, OnErr};
 ghost use Rattle.gv_values.specs.Counts.{HasRisen};
-ghost use Rattle.stream_net.specs.Nets.{Changes, IsLive, IsNotReady, NetMeaning, Readiness, closed_at, connection_at, held_as, listens_at};
+ghost use Rattle.stream_net.specs.Net.{Changes, IsLive, IsNotReady, NetMeaning, Readiness, closed_at, connection_at, held_as, listens_at};
 ghost use Rattle.stream_net.specs.Reads.{Reads};
 ghost use Rattle.stream_net.specs.Writes.{Writes};
 ghost use Rattle.stream_net.specs.Accepts.{Accepts};

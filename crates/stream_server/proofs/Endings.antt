@@ -1,7 +1,7 @@
 -- What is left of the connections, by their bytes that are told.
 use Rattle.std.proofs.Common.{◌≡◌, ◌≢◌, ℕ, ◌<◌, Bool, true, false, List, ◌++◌, length, Option, Some, IfSome, refl, sym, ap, ◌∙◌, subst, arith}
 use Rattle.std.specs.List.{All}
-use Rattle.stream_net.specs.Nets.{Connection, IsAtRest, connection_at}
+use Rattle.stream_net.specs.Net.{Connection, IsAtRest, connection_at}
 use Rattle.stream_net.specs.declared.net.Quiet.{Quiet}
 use Rattle.stream_net.specs.declared.net.Quiet.TheVariants.{Awake, ByRead, ByWrite}
 use Rattle.stream_server.specs.Speeches.{IsServed, Speech}

@@ -5,7 +5,7 @@ use Rattle.std.proofs.lemmas.Bool.Decides.{nat_tests}
 use Rattle.wsgi_core.specs.Applications.{App}
 use Rattle.linked_items.specs.Items.{without_number}
 use Rattle.stream_net.specs.Accepts.{Gains, GainsNone}
-use Rattle.stream_net.specs.Nets.{Changes, Connection, IsAtRest, IsFresh, IsLive, NetMeaning, closed_at, connection_at, held_as}
+use Rattle.stream_net.specs.Net.{Changes, Connection, IsAtRest, IsFresh, IsLive, NetMeaning, closed_at, connection_at, held_as}
 use Rattle.stream_net.specs.Waits.{MayWait, TimePasses, woken}
 use Rattle.stream_net.specs.declared.net.Ready.{Ready}
 use Rattle.stream_net.proofs.Lists.{all_from, at_all}

@@ -4,7 +4,7 @@ use Rattle.std.proofs.lemmas.List.{get_or-set_same, set-get_or, length-set}
 use Rattle.gv_io.specs.Streams.{appended}
 use Rattle.wsgi_core.specs.Steps.{phase_by}
 use Rattle.wsgi_core.specs.declared.session.SessionPhase.{SessionPhase}
-use Rattle.stream_net.specs.Nets.{Connection, NetMeaning, Changes, NetGoesOn, IsLive, connection_at, absent_connection}
+use Rattle.stream_net.specs.Net.{Connection, NetMeaning, Changes, NetGoesOn, IsLive, connection_at, absent_connection}
 use Rattle.stream_net.specs.declared.net.ReadEnd.TheVariants.{Got, End as AtEnd}
 use Rattle.stream_net.specs.declared.net.WriteEnd.TheVariants.{Took, Memory as NoMemory}
 use Rattle.stream_net.specs.Reads.{after_read, Reads}

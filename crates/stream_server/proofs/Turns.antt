@@ -5,7 +5,7 @@ use Rattle.std.proofs.lemmas.List.{length-set, set-get_or, get_or_append_left}
 use Rattle.std.proofs.lemmas.Bool.{cases_lt}
 use Rattle.std.proofs.lemmas.List.Elements.{All-nil}
 use Rattle.std.proofs.Math.Seq.{get_or-append_seam}
-use Rattle.stream_net.specs.Nets.{Connection, NetMeaning, Changes, IsAtRest, IsFresh, IsLive, connection_at, absent_connection, live_count, closed_at, held_as}
+use Rattle.stream_net.specs.Net.{Connection, NetMeaning, Changes, IsAtRest, IsFresh, IsLive, connection_at, absent_connection, live_count, closed_at, held_as}
 use Rattle.stream_net.specs.declared.net.Quiet.{Quiet}
 use Rattle.stream_net.specs.declared.net.Quiet.TheVariants.{Awake, ByRead, ByWrite}
 use Rattle.stream_net.specs.Accepts.{Gains, GainsNone}

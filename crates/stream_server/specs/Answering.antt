@@ -2,7 +2,7 @@
 use Rattle.std.specs.Prelude.{◌≡◌, ℕ, Bool, false, List, [], ◌++◌}
 use Rattle.std.proofs.Common.{sym, ◌∙◌, append-nil}
 use Rattle.wsgi_core.specs.Applications.{App}
-use Rattle.wsgi_core.specs.Gateways.{Gateway, said_by}
+use Rattle.wsgi_core.specs.Talk.{Gateway, said_by}
 use Rattle.wsgi_core.specs.Standings.{Standing}
 use Rattle.stream_server.specs.Protocols.{IsLawful, Protocol, side_of}
 

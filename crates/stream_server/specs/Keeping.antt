@@ -2,7 +2,7 @@
 use Rattle.std.specs.Prelude.{◌≡◌, ◌≢◌, ◌⊎◌, ℕ, ◌+◌, ◌<◌, ◌≤◌, Bool, true, false, List, length, Option, Some, None, IsSome}
 use Rattle.std.specs.List.{All}
 use Rattle.gv_values.specs.Counts.{HasRisen}
-use Rattle.stream_net.specs.Nets.{Connection, NetMeaning, connection_at, live_count}
+use Rattle.stream_net.specs.Net.{Connection, NetMeaning, connection_at, live_count}
 use Rattle.stream_net.specs.declared.net.Quiet.TheVariants.{Awake}
 use Rattle.stream_net.specs.Waits.{TimePasses, woken}
 use Rattle.stream_server.specs.declared.client.Client.{Client}

@@ -1,7 +1,7 @@
 -- A server between two events, by its service and its table. `fits` is what the service knows of the applications as
 -- which it answers its connections, and `ties` what ties it to its clients, of whom the last number is given.
 use Rattle.std.specs.Prelude.{◌≡◌, ℕ, false, [], length}
-use Rattle.stream_net.specs.Nets.{IsLive, NetMeaning, connection_at}
+use Rattle.stream_net.specs.Net.{IsLive, NetMeaning, connection_at}
 use Rattle.stream_server.specs.declared.client.Client.{Client}
 use Rattle.stream_server.specs.declared.limits.Terms.{Terms}
 use Rattle.stream_server.specs.Protocols.{Apps, Protocol, side_of}

@@ -1,8 +1,8 @@
 -- What is said of a server that ended: what each connection was sent, and why it was closed.
 use Rattle.std.specs.Prelude.{◌≡◌, ◌≢◌, ℕ, ◌+◌, ◌<◌, ◌≤◌, true, false, List, ◌++◌, length, Some}
 use Rattle.std.specs.List.{All}
-use Rattle.wsgi_core.specs.Answers.{Sent}
-use Rattle.stream_net.specs.Nets.{Connection, NetMeaning, connection_at}
+use Rattle.wsgi_core.specs.Answer.{Sent}
+use Rattle.stream_net.specs.Net.{Connection, NetMeaning, connection_at}
 use Rattle.stream_net.specs.declared.net.Quiet.{Quiet}
 use Rattle.stream_net.specs.declared.net.Quiet.TheVariants.{Awake, ByRead, ByWrite}
 

@@ -1,7 +1,7 @@
 -- What a talk says, and what of it a connection was sent.
 use Rattle.std.specs.Prelude.{◌≡◌, ℕ, ◌+◌, ◌-◌, ◌^◌, ◌<◌, ◌≤◌, Bool, true, false, List, ◌++◌, IfSome}
-use Rattle.wsgi_core.specs.Answers.{Sent}
-use Rattle.stream_net.specs.Nets.{Connection}
+use Rattle.wsgi_core.specs.Answer.{Sent}
+use Rattle.stream_net.specs.Net.{Connection}
 use Rattle.stream_net.specs.declared.net.Quiet.TheVariants.{ByRead}
 use Rattle.stream_server.specs.Serving.{Cause}
 

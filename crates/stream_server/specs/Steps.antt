@@ -1,6 +1,6 @@
 -- A client under way: the server's side of a connection against the net's.
 use Rattle.std.specs.Prelude.{◌≡◌, ℕ, ◌<◌, true, false, List, [], IfSome, slice_set}
-use Rattle.stream_net.specs.Nets.{Connection, NetMeaning, NetGoesOn, connection_at}
+use Rattle.stream_net.specs.Net.{Connection, NetMeaning, NetGoesOn, connection_at}
 use Rattle.stream_net.specs.declared.net.Quiet.TheVariants.{Awake, ByRead, ByWrite}
 use Rattle.stream_server.specs.Speeches.{BeginsSaid, IsTimely, Speech}
 use Rattle.stream_server.specs.Protocols.{Apps, Protocol, Side, side_of}

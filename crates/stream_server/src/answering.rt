@@ -2,11 +2,11 @@
 ghost use Rattle.std.specs.Prelude.{◌≡◌, ◌≢◌, ◌≤◌, ℕ, true, false, length, IsSome};
 ghost use Rattle.std.specs.List.{All};
 ghost use Rattle.gv_values.specs.Counts.{HasRisen};
-ghost use Rattle.stream_net.specs.Nets.{IsFresh};
+ghost use Rattle.stream_net.specs.Net.{IsFresh};
 ghost use Rattle.stream_server.specs.Serving.{AllBut, BeginsSo, Cause, EachTold, IsAllServed, IsClosedWell, Rests, WaitsToRead};
 ghost use Rattle.stream_server.specs.Ranges.{IsInRange};
-ghost use Rattle.wsgi_core.specs.Gateways.{said_by};
-ghost use Rattle.wsgi_core.specs.Sessions.{session};
+ghost use Rattle.wsgi_core.specs.Talk.{said_by};
+ghost use Rattle.wsgi_core.specs.Session.{session};
 
 use crate::client::Client;
 use crate::limits::{Limits, ServeEnd, Terms};

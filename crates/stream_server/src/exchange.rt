@@ -1,6 +1,6 @@
 //! What goes over one connection.
 ghost use Rattle.std.specs.Prelude.{◌≡◌, ◌<◌, false, [], length};
-ghost use Rattle.stream_net.specs.Nets.{IsLive, connection_at};
+ghost use Rattle.stream_net.specs.Net.{IsLive, connection_at};
 ghost use Rattle.stream_server.specs.Steps.{OnlyAt, StepLeaves};
 
 use crate::client::Client;

@@ -2,7 +2,7 @@
 ghost use Rattle.std.specs.Prelude.{◌≡◌, ◌≢◌, ℕ, ◌+◌, ◌<◌, ◌≤◌, Some, None, Ok, Err, true, false, [], Option, length, IsSome, OnOk, OnErr, IfOk};
 ghost use Rattle.std.specs.List.{All};
 ghost use Rattle.gv_values.specs.Counts.{HasRisen};
-ghost use Rattle.stream_net.specs.Nets.{IsFresh, IsLive};
+ghost use Rattle.stream_net.specs.Net.{IsFresh, IsLive};
 ghost use Rattle.stream_server.specs.Protocols.{Apps};
 ghost use Rattle.stream_server.specs.Running.{AsksInVain, IsRunning, IsRunningBut, IsUnderWay, LeftBy, StaysSound, WasRunning};
 ghost use Rattle.stream_server.specs.Keeping.{Fares, HasAccepted, IsStill, Keeps};

@@ -1,6 +1,6 @@
 //! `serve --jobs` over loopback: many connections, each with a job of its own that native threads do, while one reads
 //! nothing.
-ghost use Rattle.stream_net.specs.Nets.{IsFresh};
+ghost use Rattle.stream_net.specs.Net.{IsFresh};
 
 use gv_io::{MemorySink, MemorySource};
 use gv_top::gvr;

@@ -5,7 +5,7 @@ use Rattle.std.proofs.lemmas.Grind.{common_steps}
 use Rattle.std.proofs.Math.Seq.{take-add, take-length}
 use Rattle.gv_io.specs.Streams.{appended, AppendsPrefix, Extends}
 use Rattle.gv_io.proofs.StreamLaws.{AppendsPrefix-nothing, AppendsPrefix-told, appended-told}
-use Rattle.gv_values.specs.ValueTexts.{Text}
+use Rattle.gv_values.specs.Texts.{Text}
 use Rattle.trace_check.specs.Comparing.{Comparing, Compares, IsCommon, IsNext, told_text}
 
 -- a sink, by its parts

@@ -8,7 +8,7 @@ use Rattle.std.proofs.lemmas.List.Quantifiers.{position-Some}
 use Rattle.std.proofs.lemmas.List.Sums.{fails_before_first}
 use Rattle.std.proofs.Math.Seq.{take-add}
 use Rattle.std.proofs.lemmas.Slice.Eq.{bytes_eq-Decides}
-use Rattle.gv_values.specs.ValueTexts.{Text}
+use Rattle.gv_values.specs.Texts.{Text}
 use Rattle.trace_check.specs.Parts.{is_marked, last_mark, dividing_mark, parted, parted_from}
 use Rattle.trace_check.specs.Reads.{is_feed}
 

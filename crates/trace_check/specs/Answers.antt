@@ -1,10 +1,10 @@
 -- When the answer of a check is right, and when two are the same.
 use Rattle.std.specs.Prelude.{◌≡◌, ℕ, Result, Ok, Err}
-use Rattle.gv_values.specs.ValueTexts.{Text}
+use Rattle.gv_values.specs.Texts.{Text}
 use Rattle.trace_check.specs.declared.refusal.TraceRefusal.{TraceRefusal}
-use Rattle.trace_check.specs.Judged.{IsVerified, IsWrong, Runs}
+use Rattle.trace_check.specs.Check.{IsVerified, IsWrong, Runs}
 use Rattle.trace_check.specs.declared.lawful.LawlessTrace.{LawlessTrace}
-use Rattle.trace_check.specs.LawTraces.{IsLawful, IsLawless, IsUnread}
+use Rattle.trace_check.specs.Lawful.{IsLawful, IsLawless, IsUnread}
 
 -- the answer is right, unless memory ran out
 abbrev pub IsJudged : Runs → Text → Result ℕ TraceRefusal → Type 0

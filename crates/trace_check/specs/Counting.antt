@@ -1,11 +1,11 @@
 -- Lines of a trace that were counted, one after another.
 use Rattle.std.specs.Prelude.{◌≡◌, ℕ, List, [], ◌∷◌, ◌++◌, Some, length, Result, Ok, Err}
-use Rattle.gv_values.specs.ValueTexts.{Text}
+use Rattle.gv_values.specs.Texts.{Text}
 use Rattle.trace_text.specs.declared.line.Line.{Line}
-use Rattle.trace_text.specs.LineTexts.{text_of}
+use Rattle.trace_text.specs.Line.{text_of}
 use Rattle.trace_reader.specs.Ranges.{LinesFit}
 use Rattle.trace_check.specs.Kept.{StandsFor}
-use Rattle.trace_check.specs.LawTraces.{broken_law}
+use Rattle.trace_check.specs.Lawful.{broken_law}
 use Rattle.trace_check.specs.Traces.{BeginsWithLine, BeginsWithNone}
 use Rattle.trace_check.specs.Reads.{BeginsAt}
 use Rattle.trace_check.specs.declared.laws.LawRefusal.{LawRefusal}

@@ -2,7 +2,7 @@
 -- project's own.
 use Rattle.std.specs.Prelude.{◌==◌, Bool, true, ◌&&◌, ◌||◌, [], ◌∷◌, Option, Some, None, option_map, if◌then◌else◌, codes, drop, take}
 use Rattle.std.specs.Str.{bytes_eq}
-use Rattle.gv_values.specs.ValueTexts.{Text}
+use Rattle.gv_values.specs.Texts.{Text}
 
 -- the line, with its LF
 abbrev pub dividing_mark : Text

@@ -1,9 +1,9 @@
 -- Lines that are read off the front of a trace.
 use Rattle.std.specs.Prelude.{◌≡◌, ◌==◌, ◌≤◌, ℕ, Bool, List, ◌∷◌, ◌++◌, drop, filter, length}
 use Rattle.gv_values.specs.declared.job.Answer.{Answer}
-use Rattle.gv_values.specs.ValueTexts.{Text}
+use Rattle.gv_values.specs.Texts.{Text}
 use Rattle.trace_text.specs.declared.line.Line.{Line}
-use Rattle.trace_text.specs.LineTexts.{answers_told, line_text, text_of}
+use Rattle.trace_text.specs.Line.{answers_told, line_text, text_of}
 use Rattle.trace_reader.specs.Ranges.{LineFits, LinesFit}
 use Rattle.trace_check.specs.declared.reading.FirstLine.{FirstLine}
 use Rattle.trace_check.specs.Traces.{BeginsWithNone}

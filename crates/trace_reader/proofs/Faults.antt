@@ -1,7 +1,7 @@
 -- How a fault is read, word after word.
 use Rattle.std.proofs.Common.{◌≡◌, Some, None, codes, ap, sym, ◌∙◌}
 use Rattle.gv_values.specs.declared.fault.FaultKind.{FaultKind}
-use Rattle.gv_values.specs.ValueTexts.{Text}
+use Rattle.gv_values.specs.Texts.{Text}
 use Rattle.trace_reader.specs.Fronts.{or_else, strip}
 use Rattle.trace_reader.specs.ValueFronts.{is, call_fault_front, timeout_front, fault_front}
 use Rattle.trace_reader.proofs.Readers.{or_else-is, or_else-none}

@@ -8,14 +8,14 @@ use Rattle.gv_values.specs.declared.value.Whom.{Whom}
 use Rattle.gv_values.specs.declared.job.Answer.{Answer}
 use Rattle.gv_values.specs.declared.job.Job.{Job}
 use Rattle.gv_values.specs.declared.job.JobOutcome.{JobOutcome}
-use Rattle.gv_values.specs.ValueTexts.{Text, decimal, int_text, fault_text, value_text, outcome_text, greenlet_text, job_text, whom_text}
+use Rattle.gv_values.specs.Texts.{Text, decimal, int_text, fault_text, value_text, outcome_text, greenlet_text, job_text, whom_text}
 use Rattle.trace_text.specs.declared.line.Awaited.{Awaited}
 use Rattle.trace_text.specs.declared.line.Blocked.{Blocked}
 use Rattle.trace_text.specs.declared.line.Line.{Line}
 use Rattle.trace_text.specs.declared.line.LinkCall.{LinkCall}
 use Rattle.trace_text.specs.declared.line.Resumed.{Resumed}
 use Rattle.trace_text.specs.declared.line.StopCause.{StopCause}
-use Rattle.trace_text.specs.LineTexts.{line_text, awaited_text, until_text, link_call_text, job_call_text, blocked_text, job_outcome_text, answer_text, cause_text}
+use Rattle.trace_text.specs.Line.{line_text, awaited_text, until_text, link_call_text, job_call_text, blocked_text, job_outcome_text, answer_text, cause_text}
 use Rattle.trace_reader.specs.Ranges.{FaultFits, ValueFits, OutcomeFits, WhomFits, NameFits, AwaitedFits, UntilFits, LinkCallFits, JobFits, BlockedFits, JobOutcomeFits, AnswerFits, CauseFits, LineFits}
 use Rattle.trace_reader.specs.Fronts.{Front, and_then, after, or_else, strip, number_front, small_front, greenlet_front, job_front, int_front, name_front}
 use Rattle.trace_reader.specs.ValueFronts.{fault_front, starts_numeral, value_front, outcome_front}

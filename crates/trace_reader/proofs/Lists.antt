@@ -1,7 +1,7 @@
 -- How the scalars of a list are read one after another.
 use Rattle.std.proofs.Common.{◌≡◌, ℕ, suc, ◌+◌, ◌-◌, ◌<◌, List, [], ◌∷◌, ◌++◌, Some, None, codes, refl, ap, sym, ◌∙◌, arith}
 use Rattle.gv_values.specs.declared.scalar.Scalar.{Scalar}
-use Rattle.gv_values.specs.ValueTexts.{Text}
+use Rattle.gv_values.specs.Texts.{Text}
 use Rattle.trace_reader.specs.Ranges.{ScalarFits, ScalarsFit}
 use Rattle.trace_reader.specs.Fronts.{Front, and_then, after, or_else, strip}
 use Rattle.trace_reader.specs.ValueFronts.{is, scalar_front, scalars_on}

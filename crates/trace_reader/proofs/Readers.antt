@@ -5,8 +5,8 @@ use Rattle.std.proofs.lemmas.Bool.{cases_lt}
 use Rattle.std.proofs.lemmas.Bool.Decides.{nat_tests}
 use Rattle.std.specs.List.{list_all}
 use Rattle.std.proofs.Math.Seq.{take-append_seam, drop-append_seam}
-use Rattle.gv_values.specs.Names.{is_digit, is_name_byte, is_name}
-use Rattle.gv_values.specs.ValueTexts.{Text, digits_within, decimal, int_text, greenlet_text, job_text}
+use Rattle.gv_values.specs.Name.{is_digit, is_name_byte, is_name}
+use Rattle.gv_values.specs.Texts.{Text, digits_within, decimal, int_text, greenlet_text, job_text}
 use Rattle.trace_reader.specs.Ranges.{IntFits}
 use Rattle.trace_reader.specs.Fronts.{Front, and_then, after, or_else, strip, number_on, number_front, small_front, greenlet_front, job_front, below_zero, not_below_zero, int_front, word_length, name_front}
 

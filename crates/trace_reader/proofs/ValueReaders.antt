@@ -5,8 +5,8 @@ use Rattle.gv_values.specs.declared.fault.FaultKind.{FaultKind}
 use Rattle.gv_values.specs.declared.scalar.Scalar.{Scalar}
 use Rattle.gv_values.specs.declared.value.Value.{Value}
 use Rattle.gv_values.specs.declared.value.Outcome.{Outcome}
-use Rattle.gv_values.specs.ValueTexts.{Text, decimal, int_text, fault_text, scalar_text, scalars_text, value_text, outcome_text, greenlet_text, job_text}
-use Rattle.gv_values.specs.Values.{value_of_scalar}
+use Rattle.gv_values.specs.Texts.{Text, decimal, int_text, fault_text, scalar_text, scalars_text, value_text, outcome_text, greenlet_text, job_text}
+use Rattle.gv_values.specs.Value.{value_of_scalar}
 use Rattle.trace_reader.specs.Ranges.{FaultFits, ScalarFits, ScalarsFit, ValueFits, OutcomeFits}
 use Rattle.trace_reader.specs.Fronts.{and_then, after, or_else, strip, small_front, int_front}
 use Rattle.trace_reader.specs.ValueFronts.{closed, error_front, call_fault_front, timeout_front, fault_front, starts_numeral, word_front, scalar_front, scalars_on, list_front, value_front, outcome_front}

@@ -5,7 +5,7 @@ use Rattle.std.proofs.lemmas.Bool.Decides.{nat_tests}
 use Rattle.std.proofs.lemmas.List.Sums.{prefix_len-le-length}
 use Rattle.std.specs.Prelude.{◌==◌}
 use Rattle.std.specs.List.{position}
-use Rattle.gv_values.specs.ValueTexts.{Text}
+use Rattle.gv_values.specs.Texts.{Text}
 use Rattle.trace_reader.specs.Fronts.{word_length}
 
 pub word_within : (text : Text) → word_length text ≤ length text

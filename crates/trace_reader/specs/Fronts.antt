@@ -3,8 +3,8 @@ use Rattle.std.specs.Prelude.{◌==◌, ℕ, ◌+◌, ◌*◌, ◌-◌, ◌^◌,
 use Rattle.std.specs.Cmp.Lexicographic.{pointwise}
 use Rattle.std.specs.Prelude.{nat_eq}
 use Rattle.std.specs.List.{position_or_len}
-use Rattle.gv_values.specs.Names.{is_digit, is_name}
-use Rattle.gv_values.specs.ValueTexts.{Text}
+use Rattle.gv_values.specs.Name.{is_digit, is_name}
+use Rattle.gv_values.specs.Texts.{Text}
 
 -- what was read, and the rest
 abbrev pub Front : Type 0 → Type 0

@@ -4,7 +4,7 @@ use Rattle.gv_values.specs.declared.value.Whom.{Whom}
 use Rattle.gv_values.specs.declared.job.Answer.{Answer}
 use Rattle.gv_values.specs.declared.job.Job.{Job}
 use Rattle.gv_values.specs.declared.job.JobOutcome.{JobOutcome}
-use Rattle.gv_values.specs.ValueTexts.{Text}
+use Rattle.gv_values.specs.Texts.{Text}
 use Rattle.trace_text.specs.declared.line.Awaited.{Awaited}
 use Rattle.trace_text.specs.declared.line.Blocked.{Blocked}
 use Rattle.trace_text.specs.declared.line.Line.{Line}

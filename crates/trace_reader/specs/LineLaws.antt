@@ -1,7 +1,7 @@
 -- What the text of a line tells of it.
 use Rattle.std.specs.Prelude.{◌≡◌, [], Some}
 use Rattle.trace_text.specs.declared.line.Line.{Line}
-use Rattle.trace_text.specs.LineTexts.{line_text}
+use Rattle.trace_text.specs.Line.{line_text}
 use Rattle.trace_reader.specs.Ranges.{LineFits}
 use Rattle.trace_reader.specs.LineFronts.{line_front}
 

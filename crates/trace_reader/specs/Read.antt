@@ -1,8 +1,8 @@
 -- What reading a line of its text ensures.
 use Rattle.std.specs.Prelude.{◌≡◌, ◌≢◌, ◌↔◌, Result, Ok, Err, IsErrOf}
-use Rattle.gv_values.specs.ValueTexts.{Text}
+use Rattle.gv_values.specs.Texts.{Text}
 use Rattle.trace_text.specs.declared.line.Line.{Line}
-use Rattle.trace_text.specs.LineTexts.{line_text}
+use Rattle.trace_text.specs.Line.{line_text}
 use Rattle.trace_reader.specs.declared.fault.LineFault.{LineFault}
 use Rattle.trace_reader.specs.declared.fault.LineFault.TheVariants as fault
 use Rattle.trace_reader.specs.Ranges.{LineFits}

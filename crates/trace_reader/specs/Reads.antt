@@ -1,6 +1,6 @@
 -- What a function that reads the front of a text ensures: what the definitions read there, unless memory runs out.
 use Rattle.std.specs.Prelude.{◌≡◌, Bool, true, false, Some, None, Result, Ok, Err}
-use Rattle.gv_values.specs.ValueTexts.{Text}
+use Rattle.gv_values.specs.Texts.{Text}
 use Rattle.trace_reader.specs.declared.fault.LineFault.{LineFault}
 use Rattle.trace_reader.specs.declared.fault.LineFault.TheVariants as fault
 use Rattle.trace_reader.specs.Fronts.{Front, strip}

@@ -1,12 +1,12 @@
 -- How the texts of faults and values are read.
 use Rattle.std.specs.Prelude.{ℕ, zero, suc, Bool, true, false, ◌||◌, ◌==◌, if◌then◌else◌, List, [], ◌∷◌, ◌++◌, Some, None, codes}
-use Rattle.gv_values.specs.Names.{is_digit}
+use Rattle.gv_values.specs.Name.{is_digit}
 use Rattle.gv_values.specs.declared.fault.FaultKind.{FaultKind}
 use Rattle.gv_values.specs.declared.scalar.Scalar.{Scalar}
 use Rattle.gv_values.specs.declared.value.Value.{Value}
 use Rattle.gv_values.specs.declared.value.Outcome.{Outcome}
-use Rattle.gv_values.specs.Values.{value_of_scalar}
-use Rattle.gv_values.specs.ValueTexts.{Text}
+use Rattle.gv_values.specs.Value.{value_of_scalar}
+use Rattle.gv_values.specs.Texts.{Text}
 use Rattle.trace_reader.specs.Fronts.{Front, and_then, after, or_else, strip, small_front, int_front}
 use Rattle.gv_values.specs.declared.limits.TheConstants.{MOST_ELEMENTS}
 

@@ -4,7 +4,7 @@
 ghost use Rattle.std.specs.Prelude.{◌≡◌, ◌≤◌, ◌==◌, ◌+◌, ◌*◌, ◌-◌, ◌^◌, nat_lt, if◌then◌else◌, [], length, Some, None, IfOk};
 ghost use Rattle.trace_reader.specs.Fronts.{strip, number_front, small_front, greenlet_front, job_front, int_front, below_zero, not_below_zero, word_length, name_front};
 ghost use Rattle.std.specs.List.{position};
-ghost use Rattle.gv_values.specs.ValueTexts.{Text};
+ghost use Rattle.gv_values.specs.Texts.{Text};
 ghost use Rattle.trace_reader.specs.Ranges.{IntFits, NameFits};
 ghost use Rattle.trace_reader.specs.Reads.{Reads, Takes, Passes};
 ghost use Rattle.trace_reader.specs.ValueFronts.{starts_numeral};
@@ -20,7 +20,7 @@ pub(crate) struct Cursor<'a> {
 }
 
 impl<'a> Model for Cursor<'a> {
-    ghost use Rattle.gv_values.specs.ValueTexts.{Text};
+    ghost use Rattle.gv_values.specs.Texts.{Text};
 
     ghost Value = { Text };
 

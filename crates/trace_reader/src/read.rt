@@ -2,7 +2,7 @@
 
 ghost use Rattle.std.specs.Prelude.{◌≡◌, IfOk};
 ghost use Rattle.trace_text.specs.declared.line.Line.{Line as LineOf};
-ghost use Rattle.trace_text.specs.LineTexts.{line_text};
+ghost use Rattle.trace_text.specs.Line.{line_text};
 ghost use Rattle.trace_reader.specs.Ranges.{LineFits};
 ghost use Rattle.trace_reader.specs.Read.{IsRead, IsRefused};
 

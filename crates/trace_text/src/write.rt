@@ -3,8 +3,8 @@
 
 ghost use Rattle.std.specs.Prelude.{◌≡◌, ◌++◌, take, length, codes, OnOk, OnErr};
 ghost use Rattle.gv_values.specs.Fronts.{BeginsWith};
-ghost use Rattle.gv_values.specs.ValueTexts.{decimal, int_text, greenlet_text, outcome_text, whom_text};
-ghost use Rattle.trace_text.specs.LineTexts.{line_text, awaited_text, until_text, link_call_text, job_call_text, job_outcome_text, answer_text, cause_text, resumed_text};
+ghost use Rattle.gv_values.specs.Texts.{decimal, int_text, greenlet_text, outcome_text, whom_text};
+ghost use Rattle.trace_text.specs.Line.{line_text, awaited_text, until_text, link_call_text, job_call_text, job_outcome_text, answer_text, cause_text, resumed_text};
 
 use crate::line::{Awaited, Blocked, Line, LinkCall, Resumed, StopCause};
 use gv_values::{

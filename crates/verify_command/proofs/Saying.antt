@@ -15,9 +15,9 @@ use Rattle.trace_check.specs.Answers.{IsJudged, IsSameAnswer, IsJudgedLawful, Is
 use Rattle.trace_check.specs.declared.lawful.LawlessTrace.{LawlessTrace}
 use Rattle.trace_check.specs.declared.refusal.TraceRefusal.{TraceRefusal}
 use Rattle.trace_check.specs.Places.{parts_at}
-use Rattle.scenario_grammar.specs.Places.{line_at}
+use Rattle.scenario_grammar.specs.Place.{line_at}
 use Rattle.scenario_reading.specs.Judged.{IsRefusedWithReason, judged_text}
-use Rattle.verify_command.specs.Inputs.{end_line}
+use Rattle.verify_command.specs.Lines.{end_line}
 use Rattle.verify_command.specs.declared.lines.TheConstants.{MOST_CHECKED}
 use Rattle.verify_command.specs.Judged.{IsReasoned, IsSaid, IsSaidIf, IsSaidOf, IsSaidOfParts, IsSaidOfScenario, IsSaidOfTrace, IsSame, Verification, said_of_laws, said_of_run, said_of_text}
 use Rattle.verify_command.specs.declared.checking.Unverified.{Unverified}

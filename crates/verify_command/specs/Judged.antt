@@ -3,7 +3,7 @@ use Rattle.std.specs.Prelude.{◌≡◌, ◌≢◌, ℕ, Bool, true, false, nat_
 use Rattle.command_words.specs.declared.command.TraceCheck.{TraceCheck}
 use Rattle.scenario_tree.specs.declared.tree.Scenario.{Scenario}
 use Rattle.scenario_grammar.specs.declared.place.Place.{Place}
-use Rattle.scenario_grammar.specs.Places.{line_at}
+use Rattle.scenario_grammar.specs.Place.{line_at}
 use Rattle.scenario_lang.specs.declared.text.ParseRefusal.{ParseRefusal}
 use Rattle.scenario_lang.specs.declared.text.ParseRefusal.TheVariants as parse
 use Rattle.scenario_reading.specs.Judged.{HasReason, judged_text}
@@ -13,7 +13,7 @@ use Rattle.trace_check.specs.Parts.{parted}
 use Rattle.trace_check.specs.declared.lawful.LawlessTrace.{LawlessTrace}
 use Rattle.trace_check.specs.declared.refusal.Cause.{Cause}
 use Rattle.trace_check.specs.declared.refusal.TraceRefusal.{TraceRefusal}
-use Rattle.verify_command.specs.Inputs.{end_line}
+use Rattle.verify_command.specs.Lines.{end_line}
 use Rattle.verify_command.specs.declared.lines.TheConstants.{MOST_CHECKED}
 use Rattle.verify_command.specs.declared.checking.Unverified.{Unverified}
 

@@ -1,8 +1,8 @@
 //! The lines of an input, which are told where it is refused.
 ghost use Rattle.std.specs.Prelude.{◌≡◌, ◌≤◌, count_by, length};
 ghost use Rattle.scenario_grammar.specs.Layout.{is_end};
-ghost use Rattle.scenario_grammar.specs.Places.{line_at};
-ghost use Rattle.verify_command.specs.Inputs.{end_line};
+ghost use Rattle.scenario_grammar.specs.Place.{line_at};
+ghost use Rattle.verify_command.specs.Lines.{end_line};
 
 /// The most bytes of an input.
 pub const MOST_CHECKED: usize = 67108864;

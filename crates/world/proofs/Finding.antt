@@ -10,7 +10,7 @@ use Rattle.gv_values.specs.declared.job.JobOutcome.{JobOutcome}
 use Rattle.gv_values.specs.declared.job.Answer.{Answer}
 use Rattle.world_rules.specs.declared.question.PostedJob.{PostedJob}
 use Rattle.world_rules.specs.declared.question.DueJob.{DueJob}
-use Rattle.world_rules.specs.Jobs.{eval}
+use Rattle.world_rules.specs.Evaluate.{eval}
 use Rattle.world_rules.specs.Legal.{posted, is_done_of, is_posted}
 use Rattle.world_rules.specs.Script.{comes_before, sooner, first_due, without_done}
 use Rattle.world.specs.Ruled.{IsEndOf}

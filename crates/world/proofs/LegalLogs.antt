@@ -8,7 +8,7 @@ use Rattle.world_rules.specs.declared.question.Question.{Question}
 use Rattle.world_rules.specs.Legal.{AreLegal, IsLegal, answers_of, posted, posts_of}
 use Rattle.world_rules.proofs.Logs.{answers_of-asked, answers_of-post, posts_of-asked, posts_of-post}
 use Rattle.world.specs.LegalLogs.{HasLegalLog, TakeNoTime}
-use Rattle.world.specs.Worlds.{Begins, WorldMeaning, Posts, Stores}
+use Rattle.world.specs.Outside.{Begins, WorldMeaning, Posts, Stores}
 
 pub legal_append : (posts : List PostedJob) (answers : List Answer) (log more : List LogEntry) → AreLegal posts answers log →
     AreLegal (posts ++ posts_of log) (answers ++ answers_of log) more → AreLegal posts answers (log ++ more)

@@ -13,7 +13,7 @@ use Rattle.gv_values.specs.declared.job.Answer.{Answer}
 use Rattle.world_rules.specs.declared.question.Question.{Question}
 use Rattle.world_rules.specs.declared.question.PostedJob.{PostedJob}
 use Rattle.world_rules.specs.declared.question.DueJob.{DueJob}
-use Rattle.world_rules.specs.Jobs.{eval}
+use Rattle.world_rules.specs.Evaluate.{eval}
 use Rattle.world_rules.specs.Legal.{posted, moment_of, last_answered_moment, is_done_of, is_posted, is_answered, outstanding, IsOutcomeOf, Answers, IsLegal, MayAsk}
 use Rattle.world_rules.specs.Script.{due_job, comes_before, sooner, first_due, done_by, scripted, without_done}
 use Rattle.world_rules.specs.declared.limits.TheConstants.{LAST_MOMENT}

@@ -11,10 +11,10 @@ use Rattle.gv_values.specs.declared.job.JobOutcome.{JobOutcome}
 use Rattle.world_rules.specs.declared.question.DueJob.{DueJob}
 use Rattle.world_rules.specs.declared.question.PostedJob.{PostedJob}
 use Rattle.world_rules.specs.declared.question.Question.{Question}
-use Rattle.world_rules.specs.Jobs.{eval}
+use Rattle.world_rules.specs.Evaluate.{eval}
 use Rattle.world_rules.specs.Legal.{IsLegal, IsOutcomeOf, is_answered, is_done_of, is_posted, outstanding, posted}
 use Rattle.world_rules.specs.Rules.{RuleState, rule_after_post, start}
-use Rattle.world.specs.Worlds.{Begins, WorldMeaning, Posts}
+use Rattle.world.specs.Outside.{Begins, WorldMeaning, Posts}
 use Rattle.world.specs.declared.script.ScriptWorld.{ScriptWorld}
 use Rattle.world.specs.Holding.{IsTied, Leads, Places, Takes}
 use Rattle.world.specs.Kept.{SameScript, SameSetting, rule_state, script_meaning}

@@ -3,9 +3,9 @@ use Rattle.std.specs.Prelude.{◌≡◌, ◌≢◌, ℕ, ◌<◌, ◌==◌, true
 use Rattle.gv_values.specs.declared.job.Answer.{Answer}
 use Rattle.gv_values.specs.declared.job.Job.{Job}
 use Rattle.gv_values.specs.declared.job.JobOutcome.{JobOutcome}
-use Rattle.world_rules.specs.Jobs.{eval}
+use Rattle.world_rules.specs.Evaluate.{eval}
 use Rattle.world_rules.specs.Legal.{IsOutcomeOf, is_answered, is_posted, posted}
-use Rattle.world.specs.Worlds.{WorldGoesOn, WorldMeaning}
+use Rattle.world.specs.Outside.{WorldGoesOn, WorldMeaning}
 
 -- for each number a place for its result, if there is one, and the result, if it came
 abbrev pub Places : Type 0

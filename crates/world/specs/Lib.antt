@@ -1,4 +1,4 @@
-pub mod Worlds
+pub mod Outside
 pub mod Ruled
 pub mod Outstanding
 pub mod Kept

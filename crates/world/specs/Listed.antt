@@ -7,7 +7,7 @@ use Rattle.world.specs.Logged.{rule_log_is}
 use Rattle.world_rules.specs.declared.question.LogEntry.{LogEntry}
 use Rattle.world_rules.specs.Rules.{start, Follows}
 use Rattle.world.specs.declared.list.ListWorld.{ListWorld}
-use Rattle.world.specs.Worlds.{WorldMeaning}
+use Rattle.world.specs.Outside.{WorldMeaning}
 use Rattle.world.specs.Kept.{script_meaning, rule_state}
 
 -- the meaning of a list world, whose rule rests on the list that it held when it began

@@ -1,6 +1,6 @@
 -- What a script answers, before the job that it names is evaluated.
 use Rattle.gv_values.specs.declared.job.Answer.{Answer}
-use Rattle.world_rules.specs.Jobs.{eval}
+use Rattle.world_rules.specs.Evaluate.{eval}
 use Rattle.world.specs.declared.due.Upshot.{Upshot}
 use Rattle.world.specs.declared.due.Upshot.TheVariants.{Ends, Elapses, Nothing}
 

@@ -60,7 +60,7 @@ impl World for ListWorld {
     ghost use Rattle.std.specs.Prelude.{◌<◌, ◌≤◌, ◌↔◌, false, List, [], OnErr};
     ghost use Rattle.gv_values.specs.declared.limits.TheConstants.{MOST_WORKERS};
     ghost use Rattle.world_rules.specs.declared.question.LogEntry.{LogEntry};
-    ghost use Rattle.world.specs.Worlds.{Begins};
+    ghost use Rattle.world.specs.Outside.{Begins};
     ghost use Rattle.world.specs.Listed.{list_meaning, still_listed, list_log, list_log_is};
 
     ghost meaning = { list_meaning };

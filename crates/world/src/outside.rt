@@ -4,7 +4,7 @@ ghost use Rattle.gv_values.specs.declared.limits.TheConstants.{MOST_WORKERS};
 ghost use Rattle.world_rules.specs.declared.question.LogEntry.{LogEntry};
 ghost use Rattle.world_rules.specs.declared.question.LogEntry.TheVariants as entry;
 ghost use Rattle.world_rules.specs.Legal.{is_posted, posts_of, answers_of, IsLegal, MayAsk};
-ghost use Rattle.world.specs.Worlds.{WorldMeaning, Begins, Posts, Stores};
+ghost use Rattle.world.specs.Outside.{WorldMeaning, Begins, Posts, Stores};
 
 use gv_values::{Answer, Job};
 use std::alloc::AllocError;

@@ -36,7 +36,7 @@ impl ScriptWorld {
     ghost use Rattle.world.specs.Kept.{script_meaning, due_jobs, rule_state, SameSetting, SameScript};
     ghost use Rattle.world.specs.LegalLogs.{HasLegalLog};
     ghost use Rattle.world.specs.Upshots.{said};
-    ghost use Rattle.world.specs.Worlds.{Posts};
+    ghost use Rattle.world.specs.Outside.{Posts};
 
     /// A world that doesn't run yet, whose moment grows by so many milliseconds at each Poll.
     pub fn new(alloc: Global, tick: u64) -> ScriptWorld

@@ -6,7 +6,7 @@ use Rattle.gv_values.specs.declared.job.JobOutcome.{JobOutcome}
 use Rattle.gv_values.specs.declared.job.Job.{Job}
 use Rattle.std.proofs.lemmas.Int.{ints}
 use lib.IntN.{nat_abs}
-use Rattle.world_rules.specs.Jobs.{next_collatz, collatz, eval}
+use Rattle.world_rules.specs.Evaluate.{next_collatz, collatz, eval}
 use Rattle.world_rules.specs.declared.limits.TheConstants.{MOST_STEPS}
 
 not_one : (m : ℕ) → m ≢ 1 → (m == 1) ≡ false

@@ -3,7 +3,7 @@ use Rattle.std.proofs.Common.{ℕ, zero, suc, ◌+◌, ◌^◌, ◌==◌, Bool, 
 use Rattle.gv_values.specs.declared.fault.FaultKind.{FaultKind}
 use Rattle.gv_values.specs.declared.job.Job.{Job}
 use Rattle.gv_values.specs.declared.job.JobOutcome.{JobOutcome}
-use Rattle.world_rules.specs.Jobs.{next_collatz, collatz, eval}
+use Rattle.world_rules.specs.Evaluate.{next_collatz, collatz, eval}
 use Rattle.world_rules.specs.declared.limits.TheConstants.{MOST_STEPS, MOST_SUMMED}
 
 -- these are the outcomes of jobs

@@ -7,7 +7,7 @@ use Rattle.gv_values.specs.declared.job.Answer.{Answer}
 use Rattle.world_rules.specs.declared.question.Question.{Question}
 use Rattle.world_rules.specs.declared.question.PostedJob.{PostedJob}
 use Rattle.world_rules.specs.declared.question.LogEntry.{LogEntry}
-use Rattle.world_rules.specs.Jobs.{eval}
+use Rattle.world_rules.specs.Evaluate.{eval}
 use Rattle.world_rules.specs.declared.limits.TheConstants.{LAST_MOMENT}
 
 -- a job with its number

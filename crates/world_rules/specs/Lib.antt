@@ -1,4 +1,4 @@
-pub mod Jobs
+pub mod Evaluate
 pub mod Legal
 pub mod Script
 pub mod Rules

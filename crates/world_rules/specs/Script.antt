@@ -5,7 +5,7 @@ use Rattle.gv_values.specs.declared.job.Answer.{Answer}
 use Rattle.world_rules.specs.declared.limits.TheConstants.{LAST_MOMENT}
 use Rattle.world_rules.specs.declared.question.Question.{Question}
 use Rattle.world_rules.specs.declared.question.DueJob.{DueJob}
-use Rattle.world_rules.specs.Jobs.{eval}
+use Rattle.world_rules.specs.Evaluate.{eval}
 use Rattle.world_rules.specs.Legal.{is_done_of}
 
 -- the moment at which a job is done that is posted at a moment and takes so long

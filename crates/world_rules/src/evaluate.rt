@@ -1,5 +1,5 @@
 ghost use Rattle.std.specs.Prelude.{◌≡◌, ◌*◌, ◌<◌, ◌≤◌, ◌^◌, MatchOption};
-ghost use Rattle.world_rules.specs.Jobs.{next_collatz, collatz, eval, sum_to};
+ghost use Rattle.world_rules.specs.Evaluate.{next_collatz, collatz, eval, sum_to};
 ghost use Rattle.world_rules.specs.declared.limits.TheConstants.{MOST_STEPS};
 
 use crate::limits::{MOST_STEPS, MOST_SUMMED};
@@ -8,7 +8,7 @@ use gv_values::{FaultKind, Job, JobOutcome};
 /// What a job comes to: the sum of 1 to n for n from 0 to `MOST_SUMMED`, else ValueError; the steps of the Collatz
 /// sequence from n to 1, where n below 1 and more than `MOST_STEPS` steps are ValueError and a number of more than 64
 /// bits signed is OverflowError, whichever comes first; the fault Error(n); n itself.
-#[tactic(auto, unfolding(crate::specs::Jobs::eval))]
+#[tactic(auto, unfolding(crate::specs::Evaluate::eval))]
 pub fn eval(job: Job) -> JobOutcome
     ensures { result ≡ eval job }
 {

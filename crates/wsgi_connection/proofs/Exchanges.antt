@@ -5,17 +5,17 @@ use Rattle.std.proofs.lemmas.List.{append_cancel_left, take-append-le, take_all}
 use Rattle.gv_io.specs.Streams.{appended, prepended, AppendsPrefix, Extends}
 use Rattle.gv_io.specs.declared.limits.TheConstants.{MOST_PIECE}
 use Rattle.gv_io.proofs.StreamLaws.{appended-nothing, appended-appended, prepended-prepended, prepended-nothing, AppendsPrefix-after, AppendsPrefix-longer, AppendsPrefix-all}
-use Rattle.wsgi_core.specs.Answers.{Sent, nothing_sent}
+use Rattle.wsgi_core.specs.Answer.{Sent, nothing_sent}
 use Rattle.wsgi_core.specs.Applications.{App}
 use Rattle.wsgi_core.specs.Steps.{phase_by}
-use Rattle.wsgi_core.specs.Gateways.{Gateway, said_by}
+use Rattle.wsgi_core.specs.Talk.{Gateway, said_by}
 use Rattle.wsgi_core.specs.Standings.{IsBefore, Standing}
 use Rattle.wsgi_core.specs.declared.session.SessionPhase.{SessionPhase}
 use Rattle.wsgi_connection.specs.declared.connection.TheConstants.{MOST_CONNECTION}
 use Rattle.wsgi_connection.specs.declared.connection.ConnectionEnd.{ConnectionEnd}
 use Rattle.wsgi_connection.specs.declared.connection.Turn.{Turn}
 use Rattle.wsgi_connection.specs.declared.connection.ConnectionEnd.TheVariants.{Closed, TooLong, ReadFault, WriteFault, Memory}
-use Rattle.wsgi_connection.specs.Connections.{whole_session, Exchanged, HandedAhead, IsServed, SentAhead, SentFor}
+use Rattle.wsgi_connection.specs.Connection.{whole_session, Exchanged, HandedAhead, IsServed, SentAhead, SentFor}
 use Rattle.wsgi_connection.specs.Wholes.{IsWhole}
 use Rattle.wsgi_connection.specs.Pieces.{Breaks, Goes, IsAtRest, said}
 

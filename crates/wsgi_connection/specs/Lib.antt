@@ -1,3 +1,3 @@
-pub mod Connections
+pub mod Connection
 pub mod Pieces
 pub mod Wholes

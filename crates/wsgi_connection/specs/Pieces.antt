@@ -2,14 +2,14 @@
 use Rattle.std.specs.Prelude.{◌≡◌, ℕ, ◌+◌, ◌<◌, ◌≤◌, false, List, ◌++◌, length, take, Option}
 use Rattle.gv_io.specs.Streams.{appended, prepended, AppendsPrefix}
 use Rattle.wsgi_core.specs.Applications.{App}
-use Rattle.wsgi_core.specs.Gateways.{Gateway, said_by}
+use Rattle.wsgi_core.specs.Talk.{Gateway, said_by}
 use Rattle.wsgi_core.specs.Standings.{Standing}
 use Rattle.wsgi_connection.specs.declared.connection.TheConstants.{MOST_CONNECTION}
 use Rattle.wsgi_connection.specs.declared.connection.ConnectionEnd.{ConnectionEnd}
 use Rattle.wsgi_connection.specs.declared.connection.ConnectionEnd.TheVariants.{WriteFault, Memory}
 use Rattle.wsgi_connection.specs.declared.connection.Turn.{Turn}
 use Rattle.wsgi_connection.specs.declared.connection.Turn.TheVariants.{Answered, Ended}
-use Rattle.wsgi_connection.specs.Connections.{Exchanged, IsServed}
+use Rattle.wsgi_connection.specs.Connection.{Exchanged, IsServed}
 
 -- what is sent for these bytes
 abbrev pub said : Gateway → App → ℕ → List ℕ → List ℕ

@@ -1,7 +1,7 @@
 -- What is sent for all that was left of an input.
 use Rattle.std.specs.Prelude.{◌≡◌, ℕ, true, false, List, Option}
 use Rattle.gv_io.specs.Streams.{appended, AppendsPrefix}
-use Rattle.wsgi_core.specs.Answers.{Sent}
+use Rattle.wsgi_core.specs.Answer.{Sent}
 use Rattle.wsgi_connection.specs.declared.connection.ConnectionEnd.{ConnectionEnd}
 use Rattle.wsgi_connection.specs.declared.connection.ConnectionEnd.TheVariants.{Closed, TooLong, ReadFault, WriteFault, Memory}
 

@@ -4,7 +4,7 @@ ghost use Rattle.gv_values.specs.Counts.{HasRisen};
 ghost use Rattle.gv_io.specs.Streams.{appended, AppendsPrefix, Extends};
 ghost use Rattle.wsgi_core.specs.Applications.{App};
 ghost use Rattle.wsgi_connection.specs.declared.connection.TheConstants.{MOST_CONNECTION};
-ghost use Rattle.wsgi_connection.specs.Connections.{Exchanged, HandedAhead, whole_session};
+ghost use Rattle.wsgi_connection.specs.Connection.{Exchanged, HandedAhead, whole_session};
 ghost use Rattle.wsgi_connection.specs.Wholes.{IsWhole};
 ghost use Rattle.wsgi_connection.specs.Pieces.{Breaks, Counts, Goes, IsAtRest, Leaves, said};
 

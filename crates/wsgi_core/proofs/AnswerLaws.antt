@@ -4,7 +4,7 @@ use Rattle.std.proofs.lemmas.List.{take_more, take_all}
 use Rattle.std.proofs.lemmas.Bool.{cases_lt, cond-true, cond-false}
 use Rattle.std.specs.List.{concat}
 use Rattle.std.specs.Str.{str_eq_ignore_ascii_case}
-use Rattle.http_messages.specs.Environs.{Pair}
+use Rattle.http_messages.specs.Environ.{Pair}
 use Rattle.http_messages.proofs.JudgeLaws.{values_more, values_same}
 use Rattle.http_messages.specs.declared.request.HttpRequest.{HttpRequest}
 use Rattle.wsgi_core.specs.declared.reply.Reply.{Reply}
@@ -12,7 +12,7 @@ use Rattle.wsgi_core.specs.declared.answer.Stated.{Stated}
 use Rattle.wsgi_core.specs.declared.answer.Stated.TheVariants.{Nothing, Length, Wrong}
 use Rattle.std.specs.Str.Parse.{digits_value}
 use Rattle.http_messages.specs.Requests.{is_length, values}
-use Rattle.wsgi_core.specs.Answers.{length_of, stated_by, is_faulty, server_error, sent_for, answer}
+use Rattle.wsgi_core.specs.Answer.{length_of, stated_by, is_faulty, server_error, sent_for, answer}
 use Rattle.wsgi_core.specs.Stating.{stated_next}
 
 concat-append : (xs : List (List ℕ)) (p : List ℕ) → concat (xs ++ p ∷ []) ≡ concat xs ++ p

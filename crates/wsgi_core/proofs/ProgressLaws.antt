@@ -6,7 +6,7 @@ use Rattle.http_messages.specs.declared.refusal.Refusal.{Refusal}
 use Rattle.http_messages.specs.declared.request.HttpRequest.{HttpRequest}
 use Rattle.http_messages.specs.declared.request.AwaitedBody.{AwaitedBody}
 use Rattle.http_messages.specs.Cuts.{Cut, waits, refused, whole}
-use Rattle.http_messages.specs.Bodies.{body_left}
+use Rattle.http_messages.specs.Body.{body_left}
 use Rattle.http_messages.specs.AwaitedBody.{awaited_by}
 use Rattle.http_messages.specs.Readings.{ReadsAlike}
 use Rattle.http_messages.specs.Requests.{request_at}
@@ -14,8 +14,8 @@ use Rattle.wsgi_core.specs.declared.session.SessionStage.{SessionStage}
 use Rattle.wsgi_core.specs.declared.session.SessionStage.TheVariants.{AtHead, InBody, Asked}
 use Rattle.wsgi_core.specs.declared.reply.Reply.{Reply}
 use Rattle.wsgi_core.specs.Applications.{App, from}
-use Rattle.wsgi_core.specs.Answers.{Sent, ◌⨾◌, nothing_sent, refusal, if_continues, answer}
-use Rattle.wsgi_core.specs.Sessions.{sent_on, answers}
+use Rattle.wsgi_core.specs.Answer.{Sent, ◌⨾◌, nothing_sent, refusal, if_continues, answer}
+use Rattle.wsgi_core.specs.Session.{sent_on, answers}
 use Rattle.wsgi_core.specs.Progress.{Progress, sent_from, to_come, GoesOn, IsSettled, IsDue, Stands}
 use Rattle.http_messages.proofs.BodySteps.{later_whole}
 use Rattle.http_messages.proofs.CutLaws.{Later, takes_at}

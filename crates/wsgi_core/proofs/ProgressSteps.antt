@@ -4,9 +4,9 @@ use Rattle.std.proofs.Common.{◌≡◌, ◌+◌, ℕ, Bool, true, false, List, 
 use Rattle.http_messages.specs.declared.refusal.Refusal.{Refusal}
 use Rattle.http_messages.specs.declared.request.HttpRequest.{HttpRequest}
 use Rattle.http_messages.specs.declared.request.AwaitedBody.{AwaitedBody}
-use Rattle.http_messages.specs.Environs.{Pair}
+use Rattle.http_messages.specs.Environ.{Pair}
 use Rattle.http_messages.specs.Cuts.{waits, refused, whole}
-use Rattle.http_messages.specs.Bodies.{body_left}
+use Rattle.http_messages.specs.Body.{body_left}
 use Rattle.http_messages.specs.AwaitedBody.{awaited_by}
 use Rattle.http_messages.specs.Readings.{ReadsAlike}
 use Rattle.http_messages.specs.Requests.{request_at}
@@ -14,7 +14,7 @@ use Rattle.wsgi_core.specs.declared.session.SessionStage.{SessionStage}
 use Rattle.wsgi_core.specs.declared.session.SessionStage.TheVariants.{AtHead, InBody, Asked}
 use Rattle.wsgi_core.specs.declared.reply.Reply.{Reply}
 use Rattle.wsgi_core.specs.Applications.{App}
-use Rattle.wsgi_core.specs.Answers.{refusal, if_continues, answer}
+use Rattle.wsgi_core.specs.Answer.{refusal, if_continues, answer}
 use Rattle.wsgi_core.specs.Steps.{asked_at, asked_if_open, IsReplyTo}
 use Rattle.wsgi_core.specs.Progress.{Progress, GoesOn, IsSettled}
 use Rattle.wsgi_core.proofs.ProgressLaws.{progress_at, same_progress, head_alike, head_waits, head_refused, head_whole, body_alike, body_waits, body_refused, body_whole, asked_answered}

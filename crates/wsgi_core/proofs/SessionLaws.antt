@@ -7,10 +7,10 @@ use Rattle.std.proofs.Common.{◌≡◌, ℕ, zero, suc, ◌+◌, ◌<◌, ◌�
 use Rattle.http_messages.specs.Cuts.{Cut, waits, refused, whole}
 use Rattle.http_messages.specs.declared.request.HttpRequest.{HttpRequest}
 use Rattle.http_messages.specs.Requests.{request_at}
-use Rattle.http_messages.specs.Bodies.{body_by}
+use Rattle.http_messages.specs.Body.{body_by}
 use Rattle.wsgi_core.specs.Applications.{App, from}
-use Rattle.wsgi_core.specs.Answers.{Sent, ◌⨾◌, nothing_sent, refusal, if_continues, answer}
-use Rattle.wsgi_core.specs.Sessions.{sent_on, requests, answers}
+use Rattle.wsgi_core.specs.Answer.{Sent, ◌⨾◌, nothing_sent, refusal, if_continues, answer}
+use Rattle.wsgi_core.specs.Session.{sent_on, requests, answers}
 use Rattle.http_messages.proofs.CutLaws.{Later, takes_at}
 use Rattle.http_messages.proofs.RequestLaws.{request_at-later, request_at-takes}
 use Rattle.http_messages.proofs.BodyLaws.{body_by-later, body_by-takes}

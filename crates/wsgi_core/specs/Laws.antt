@@ -2,7 +2,7 @@
 use Rattle.std.specs.Prelude.{◌≡◌, ℕ, Bool, true, false, List, [], ◌∷◌, ◌++◌}
 use Rattle.wsgi_core.specs.declared.session.Session.{Session}
 use Rattle.wsgi_core.specs.Applications.{App}
-use Rattle.wsgi_core.specs.Sessions.{session}
+use Rattle.wsgi_core.specs.Session.{session}
 use Rattle.wsgi_core.specs.Standings.{IsFed, IsTaken}
 use Rattle.wsgi_core.specs.Steps.{IsAt, StandsAt}
 

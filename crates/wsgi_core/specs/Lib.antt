@@ -1,11 +1,11 @@
-pub mod Answers
+pub mod Answer
 pub mod Applications
-pub mod Gateways
 pub mod Laws
 pub mod Progress
-pub mod Sessions
+pub mod Session
 pub mod Shipped
 pub mod Stages
 pub mod Standings
 pub mod Stating
 pub mod Steps
+pub mod Talk

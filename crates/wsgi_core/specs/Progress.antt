@@ -1,11 +1,11 @@
 -- A session between two pieces: what it keeps, and what it has still to say.
 use Rattle.std.specs.Prelude.{◌≡◌, ℕ, Bool, false, List, [], ◌++◌}
-use Rattle.http_messages.specs.Bodies.{body_left}
+use Rattle.http_messages.specs.Body.{body_left}
 use Rattle.wsgi_core.specs.declared.session.SessionStage.{SessionStage}
 use Rattle.wsgi_core.specs.declared.session.SessionStage.TheVariants.{AtHead, InBody, Asked}
 use Rattle.wsgi_core.specs.Applications.{App, from}
-use Rattle.wsgi_core.specs.Answers.{Sent, ◌⨾◌, answer}
-use Rattle.wsgi_core.specs.Sessions.{sent_on, answers}
+use Rattle.wsgi_core.specs.Answer.{Sent, ◌⨾◌, answer}
+use Rattle.wsgi_core.specs.Session.{sent_on, answers}
 
 -- so many requests were answered; the bytes that were kept are those not read yet, from the stage on
 pub record Progress : Type 0 where

@@ -2,7 +2,7 @@
 use Rattle.std.specs.Prelude.{ℕ, Bool, true, false, List, [], ◌∷◌, ◌++◌, length, Option, Some, None, if◌then◌else◌, codes, decimal}
 use Rattle.std.specs.List.{flat_map}
 use Rattle.std.specs.Str.{bytes_eq}
-use Rattle.http_messages.specs.Environs.{Pair, pair_value}
+use Rattle.http_messages.specs.Environ.{Pair, pair_value}
 use Rattle.wsgi_core.specs.declared.reply.Reply.{Reply}
 use Rattle.wsgi_core.specs.declared.reply.Reply.TheVariants.{Raised, Started}
 use Rattle.wsgi_core.specs.declared.reply.Response.{Response}

@@ -1,9 +1,9 @@
 -- What is known of one side of a connection between two calls, and what a call makes of it. `old` and `new` are it
 -- before and after the call; what is said holds whatever was done to it before.
 use Rattle.std.specs.Prelude.{◌≡◌, ℕ, Bool, true, false, List, [], ◌++◌}
-use Rattle.wsgi_core.specs.Answers.{Sent}
+use Rattle.wsgi_core.specs.Answer.{Sent}
 use Rattle.wsgi_core.specs.Applications.{App}
-use Rattle.wsgi_core.specs.Gateways.{Gateway}
+use Rattle.wsgi_core.specs.Talk.{Gateway}
 
 -- its application, its port, the bytes that it was fed, whether it was told of their end, and the bytes taken from it
 abbrev pub Standing : Type 0 → Type 1

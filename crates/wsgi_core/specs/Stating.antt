@@ -1,8 +1,8 @@
 -- What the headers state of the body's length, one after the other.
 use Rattle.std.specs.Prelude.{ℕ, List, if◌then◌else◌, codes}
 use Rattle.std.specs.Str.{str_eq_ignore_ascii_case}
-use Rattle.http_messages.specs.Environs.{Pair}
-use Rattle.wsgi_core.specs.Answers.{length_of}
+use Rattle.http_messages.specs.Environ.{Pair}
+use Rattle.wsgi_core.specs.Answer.{length_of}
 use Rattle.wsgi_core.specs.declared.answer.Stated.{Stated}
 use Rattle.wsgi_core.specs.declared.answer.Stated.TheVariants.{Nothing, Length, Wrong}
 

@@ -6,11 +6,11 @@ use Rattle.wsgi_core.specs.declared.session.SessionPhase.{SessionPhase}
 use Rattle.wsgi_core.specs.declared.session.SessionPhase.TheVariants.{Serving, Closing}
 use Rattle.wsgi_core.specs.declared.session.SessionStage.{SessionStage}
 use Rattle.wsgi_core.specs.declared.session.SessionStage.TheVariants.{AtHead, InBody, Asked}
-use Rattle.http_messages.specs.Environs.{Pair}
+use Rattle.http_messages.specs.Environ.{Pair}
 use Rattle.wsgi_core.specs.declared.reply.Reply.{Reply}
 use Rattle.wsgi_core.specs.Applications.{App, from}
-use Rattle.wsgi_core.specs.Answers.{Sent, ◌⨾◌}
-use Rattle.wsgi_core.specs.Sessions.{answers, session}
+use Rattle.wsgi_core.specs.Answer.{Sent, ◌⨾◌}
+use Rattle.wsgi_core.specs.Session.{answers, session}
 use Rattle.wsgi_core.specs.Progress.{Progress, IsSettled, Stands, sent_from}
 
 abbrev pub progress_of : Session → Progress

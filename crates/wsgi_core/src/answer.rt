@@ -4,7 +4,7 @@
 ghost use Rattle.std.specs.Prelude.{◌≡◌, ◌<◌, ◌-◌, ◌++◌, IsTrue, OnOk, OnErr, IfOk, length as list_length, take};
 ghost use Rattle.std.specs.List.{concat, flat_map, list_all};
 ghost use Rattle.gv_values.specs.Fronts.{BeginsWith};
-ghost use Rattle.wsgi_core.specs.Answers.{answer, begins_with_code, body_bytes, chunk, coding_line, connection_line, ending, ending_by, falls_short, has_code, has_body_place, has_visible_ends, head_bytes, header_line, is_empty, is_faulty, is_header, is_hop_by_hop, is_reason, is_reason_byte, is_status, is_visible, is_wrong, length_of, says_close, sent_by, server_error, stated, status_line};
+ghost use Rattle.wsgi_core.specs.Answer.{answer, begins_with_code, body_bytes, chunk, coding_line, connection_line, ending, ending_by, falls_short, has_code, has_body_place, has_visible_ends, head_bytes, header_line, is_empty, is_faulty, is_header, is_hop_by_hop, is_reason, is_reason_byte, is_status, is_visible, is_wrong, length_of, says_close, sent_by, server_error, stated, status_line};
 ghost use Rattle.wsgi_core.specs.Stating.{stated_after};
 
 use crate::reply::{Pieces, Reply, Response};

@@ -3,7 +3,7 @@ ghost use Rattle.std.specs.Prelude.{◌≡◌, ◌++◌, ℕ, List, Bool, false}
 ghost use Rattle.wsgi_core.specs.declared.session.Session.{Session};
 ghost use Rattle.wsgi_core.specs.Applications.{App};
 ghost use Rattle.wsgi_core.specs.Laws.{Becomes, Call, NeverTakesBack, fed_by, taken_by};
-ghost use Rattle.wsgi_core.specs.Sessions.{session};
+ghost use Rattle.wsgi_core.specs.Session.{session};
 ghost use Rattle.wsgi_core.specs.Standings.{IsBegun};
 ghost use Rattle.wsgi_core.specs.Steps.{IsAt, pending_of};
 

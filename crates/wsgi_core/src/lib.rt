@@ -1,7 +1,7 @@
 //! What a connection is sent: the HTTP sessions of a server, as a function of all its bytes.
 //!
 //! The law of `Session` is `sessions_join_their_pieces`: new, fed any pieces, and with any bytes taken from it, what was
-//! taken and what is pending are what `session` (`specs/Sessions`) says of the pieces joined.
+//! taken and what is pending are what `session` (`specs/Session`) says of the pieces joined.
 //!
 //! A reply's names and values are tested by `httparse`'s `is_token` and `is_header_value`, since `http_header`'s names
 //! end at 65535 bytes. A reply keeps its names as they are spelt; a request's are in lower case.

@@ -1,8 +1,8 @@
 //! A session, fed in any pieces.
 ghost use Rattle.std.specs.Prelude.{◌≡◌, ◌<◌, ◌≤◌, ◌+◌, ◌++◌, [], ℕ, List, Bool, None, length, true, false, IfOk, IsSome, OnErr, OnOk, drop, take};
-ghost use Rattle.wsgi_core.specs.Answers.{if_continues, refusal};
+ghost use Rattle.wsgi_core.specs.Answer.{if_continues, refusal};
 ghost use Rattle.wsgi_core.specs.Applications.{App};
-ghost use Rattle.wsgi_core.specs.Sessions.{answers, session};
+ghost use Rattle.wsgi_core.specs.Session.{answers, session};
 ghost use Rattle.wsgi_core.specs.Stages.{is_at_head};
 ghost use Rattle.wsgi_core.specs.Standings.{IsAllSaid, IsBegun, IsBegunSaid, IsCutBy, IsCutSaid, IsFed, IsTaken, IsTakenCut, IsToldTheEnd, StaysCut, StaysEnded};
 ghost use Rattle.wsgi_core.specs.Steps.{IsAsked, IsAt, IsReplyTo, StandsAt, Stopped, answered_of, asked_of, pending_of, phase_by, progress_of};

@@ -1,9 +1,9 @@
 //! What a connection talks to: something that is fed its bytes and says what is sent for them.
 ghost use Rattle.std.specs.Prelude.{◌≡◌, ◌≤◌, ◌++◌, ℕ, List, [], Bool, length, take, drop, OnOk, OnErr};
-ghost use Rattle.wsgi_core.specs.Answers.{nothing_sent};
+ghost use Rattle.wsgi_core.specs.Answer.{nothing_sent};
 ghost use Rattle.wsgi_core.specs.Applications.{App};
-ghost use Rattle.wsgi_core.specs.Gateways.{Gateway, said_by};
-ghost use Rattle.wsgi_core.specs.Sessions.{answers};
+ghost use Rattle.wsgi_core.specs.Talk.{Gateway, said_by};
+ghost use Rattle.wsgi_core.specs.Session.{answers};
 ghost use Rattle.wsgi_core.specs.Standings.{IsBefore, IsBegun, IsCutBy, IsFed, IsTaken, IsTakenCut, IsToldTheEnd, StaysCut, StaysEnded};
 ghost use Rattle.wsgi_core.specs.Steps.{IsAt, Stopped, pending_of, phase_by, said_bytes, stopped_bytes};
 

@@ -1,7 +1,7 @@
 -- What holds for each family of applications holds for each application on one connection.
 use Rattle.std.proofs.Common.{◌≡◌, ℕ, ◌<◌, ◌==◌, Bool, true, false, if◌then◌else◌, length, refl, ap, subst, arith}
 use Rattle.std.proofs.lemmas.Bool.Decides.{nat_tests}
-use Rattle.stream_net.specs.Nets.{NetMeaning, connection_at}
+use Rattle.stream_net.specs.Net.{NetMeaning, connection_at}
 use Rattle.stream_server.specs.declared.client.Client.{Client}
 use Rattle.stream_server.specs.declared.limits.Terms.{Terms}
 use Rattle.stream_server.specs.Protocols.{Apps, side_of}
@@ -9,9 +9,9 @@ use Rattle.stream_server.specs.Running.{IsUnderWay, LeftBy}
 use Rattle.stream_server.specs.Speeches.{IsServed}
 use Rattle.stream_server.specs.Steps.{IsGoing}
 use Rattle.stream_server.proofs.Endings.{own_at}
-use Rattle.world.specs.Worlds.{WorldMeaning as World}
+use Rattle.world.specs.Outside.{WorldMeaning as World}
 use Rattle.wsgi_core.specs.Applications.{App}
-use Rattle.wsgi_core.specs.Sessions.{session}
+use Rattle.wsgi_core.specs.Session.{session}
 use Rattle.wsgi_native.specs.Agreeing.{Agrees, HasEarned, Owner}
 use Rattle.wsgi_native.specs.JobApp.{job_app}
 use Rattle.wsgi_native.specs.Laws.{job_agrees}

@@ -7,10 +7,10 @@ use Rattle.std.proofs.lemmas.List.Elements.{Contains-append_left}
 use Rattle.gv_values.specs.declared.job.Answer.{Answer}
 use Rattle.gv_values.specs.declared.job.Job.{Job}
 use Rattle.gv_values.specs.declared.job.JobOutcome.{JobOutcome}
-use Rattle.http_messages.specs.Environs.{Pair}
+use Rattle.http_messages.specs.Environ.{Pair}
 use Rattle.world_rules.specs.declared.question.PostedJob.{PostedJob}
 use Rattle.world_rules.specs.Legal.{IsOutcomeOf, is_answered, is_posted, posted}
-use Rattle.world.specs.Worlds.{WorldMeaning as World, Posts, Stores}
+use Rattle.world.specs.Outside.{WorldMeaning as World, Posts, Stores}
 use Rattle.world.proofs.Sound.{contains_posted}
 use Rattle.stream_server.specs.Protocols.{Apps}
 use Rattle.stream_server.specs.Services.{IsHeldFrom, IsReleased, Polls, TiesAfter}

@@ -1,6 +1,6 @@
 -- A session that may wait for a job is a lawful side of a connection.
 use Rattle.std.proofs.Common.{◌≡◌, ℕ, false, List, Option, IsSome, is_some, refl, sym, ap, ◌∙◌, subst}
-use Rattle.http_messages.specs.Environs.{Pair}
+use Rattle.http_messages.specs.Environ.{Pair}
 use Rattle.gv_values.specs.declared.job.Job.{Job}
 use Rattle.wsgi_core.specs.Applications.{App}
 use Rattle.wsgi_core.specs.declared.reply.Reply.{Reply}

@@ -8,11 +8,11 @@ use Rattle.std.proofs.lemmas.List.Folds.{list_any-append}
 use Rattle.gv_values.specs.declared.job.Answer.{Answer}
 use Rattle.gv_values.specs.declared.job.Job.{Job}
 use Rattle.gv_values.specs.declared.job.JobOutcome.{JobOutcome}
-use Rattle.http_messages.specs.Environs.{Pair}
+use Rattle.http_messages.specs.Environ.{Pair}
 use Rattle.world_rules.specs.declared.question.PostedJob.{PostedJob}
-use Rattle.world_rules.specs.Jobs.{eval}
+use Rattle.world_rules.specs.Evaluate.{eval}
 use Rattle.world_rules.specs.Legal.{IsOutcomeOf, is_answered, is_done_of, is_posted, posted}
-use Rattle.world.specs.Worlds.{WorldMeaning, Posts, Stores}
+use Rattle.world.specs.Outside.{WorldMeaning, Posts, Stores}
 use Rattle.world.proofs.Sound.{contains_posted, or_false}
 use Rattle.wsgi_core.specs.declared.reply.Reply.{Reply}
 use Rattle.wsgi_core.specs.Steps.{IsReplyTo, answered_of}

@@ -2,10 +2,10 @@
 use Rattle.std.proofs.Common.{◌≡◌, ◌⊎◌, inl, inr, ℕ, ◌+◌, Bool, true, false, List, [], ◌++◌, Some, refl, sym, ap, ◌∙◌, subst}
 use Rattle.std.specs.List.{All}
 use Rattle.std.proofs.lemmas.Bool.{false≢true}
-use Rattle.http_messages.specs.Environs.{Pair}
+use Rattle.http_messages.specs.Environ.{Pair}
 use Rattle.http_messages.specs.declared.request.HttpRequest.{HttpRequest}
 use Rattle.world_rules.specs.Legal.{is_posted}
-use Rattle.stream_net.specs.Nets.{Connection, IsAtRest, NetMeaning, connection_at}
+use Rattle.stream_net.specs.Net.{Connection, IsAtRest, NetMeaning, connection_at}
 use Rattle.stream_net.proofs.Lists.{at_all}
 use Rattle.stream_server.specs.declared.limits.Terms.{Terms}
 use Rattle.stream_server.specs.Protocols.{side_of}
@@ -13,11 +13,11 @@ use Rattle.stream_server.specs.Running.{AsksInVain}
 use Rattle.stream_server.specs.Serving.{IsAllServed}
 use Rattle.stream_server.specs.Steps.{IsGoing}
 use Rattle.stream_server.proofs.Endings.{told_is}
-use Rattle.world.specs.Worlds.{WorldMeaning as World}
-use Rattle.wsgi_core.specs.Answers.{◌⨾◌, answer}
+use Rattle.world.specs.Outside.{WorldMeaning as World}
+use Rattle.wsgi_core.specs.Answer.{◌⨾◌, answer}
 use Rattle.wsgi_core.specs.Applications.{App, from}
 use Rattle.wsgi_core.specs.Progress.{Stands, sent_from}
-use Rattle.wsgi_core.specs.Sessions.{answers}
+use Rattle.wsgi_core.specs.Session.{answers}
 use Rattle.wsgi_core.specs.Steps.{answered_of, asked_if_open, progress_of}
 use Rattle.wsgi_core.proofs.ProgressLaws.{from_first, from_next}
 use Rattle.wsgi_core.specs.declared.session.Session.{Session}

@@ -1,14 +1,14 @@
 -- Applications that answer as `job_app` does, where that is known.
 use Rattle.std.specs.Prelude.{◌≡◌, ℕ, ◌<◌, true, List, length, Some, None, Contains}
 use Rattle.gv_values.specs.declared.job.Job.{Job}
-use Rattle.http_messages.specs.Environs.{Pair}
-use Rattle.world_rules.specs.Jobs.{eval}
+use Rattle.http_messages.specs.Environ.{Pair}
+use Rattle.world_rules.specs.Evaluate.{eval}
 use Rattle.world_rules.specs.Legal.{is_answered, posted}
-use Rattle.world.specs.Worlds.{WorldMeaning as World}
-use Rattle.stream_net.specs.Nets.{Connection, connection_at}
+use Rattle.world.specs.Outside.{WorldMeaning as World}
+use Rattle.stream_net.specs.Net.{Connection, connection_at}
 use Rattle.stream_server.specs.Serving.{BeginsSo}
 use Rattle.wsgi_core.specs.Applications.{App}
-use Rattle.wsgi_core.specs.Sessions.{session}
+use Rattle.wsgi_core.specs.Session.{session}
 use Rattle.wsgi_core.specs.Shipped.{shipped}
 use Rattle.wsgi_native.specs.JobApp.{job_asked, outcome_reply}
 

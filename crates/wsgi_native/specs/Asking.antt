@@ -1,7 +1,7 @@
 -- What a session asks for.
 use Rattle.std.specs.Prelude.{◌≡◌, ℕ, List, Option, Some, None, IsSome}
 use Rattle.gv_values.specs.declared.job.Job.{Job}
-use Rattle.http_messages.specs.Environs.{Pair}
+use Rattle.http_messages.specs.Environ.{Pair}
 use Rattle.wsgi_core.specs.Shipped.{shipped}
 use Rattle.wsgi_native.specs.JobApp.{job_asked}
 use Rattle.wsgi_native.specs.Talks.{request_of}

@@ -3,11 +3,11 @@ use Rattle.std.specs.Prelude.{◌≡◌, ℕ, ◌+◌, ◌<◌, true, false, Lis
 use Rattle.gv_values.specs.declared.job.Job.{Job}
 use Rattle.http_messages.specs.declared.request.HttpRequest.{HttpRequest}
 use Rattle.world_rules.specs.Legal.{is_posted}
-use Rattle.stream_net.specs.Nets.{IsAtRest, NetMeaning, connection_at}
-use Rattle.world.specs.Worlds.{WorldMeaning as World}
-use Rattle.wsgi_core.specs.Answers.{◌⨾◌, answer}
+use Rattle.stream_net.specs.Net.{IsAtRest, NetMeaning, connection_at}
+use Rattle.world.specs.Outside.{WorldMeaning as World}
+use Rattle.wsgi_core.specs.Answer.{◌⨾◌, answer}
 use Rattle.wsgi_core.specs.Applications.{App, from}
-use Rattle.wsgi_core.specs.Sessions.{answers}
+use Rattle.wsgi_core.specs.Session.{answers}
 use Rattle.wsgi_native.specs.Agreeing.{Agrees, Owner}
 use Rattle.wsgi_native.specs.JobApp.{job_asked}
 

@@ -1,7 +1,7 @@
 -- For whom jobs were posted, as a server keeps it.
 use Rattle.std.specs.Prelude.{ℕ, ◌==◌, if◌then◌else◌, List, [], ◌∷◌}
 use Rattle.stream_server.specs.Protocols.{Apps}
-use Rattle.world.specs.Worlds.{WorldMeaning as World}
+use Rattle.world.specs.Outside.{WorldMeaning as World}
 use Rattle.wsgi_native.specs.Agreeing.{Agrees, Owner}
 
 -- the owner of the job of this number, by a list of numbers and owners, of which the first one of a number counts

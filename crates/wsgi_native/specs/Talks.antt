@@ -1,8 +1,8 @@
 -- A session that may wait for a job, as one side of a connection.
 use Rattle.std.specs.Prelude.{ℕ, Bool, List, Option, Some, None, is_some, option_map}
-use Rattle.http_messages.specs.Environs.{Pair}
+use Rattle.http_messages.specs.Environ.{Pair}
 use Rattle.stream_server.specs.Protocols.{Protocol}
-use Rattle.wsgi_core.specs.Sessions.{session}
+use Rattle.wsgi_core.specs.Session.{session}
 use Rattle.wsgi_core.specs.Standings.{Standing}
 use Rattle.wsgi_core.specs.Steps.{StandsAt, asked_of}
 use Rattle.wsgi_native.specs.declared.job_talk.HeldFor.{HeldFor}

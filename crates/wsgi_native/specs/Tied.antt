@@ -3,7 +3,7 @@ use Rattle.std.specs.Prelude.{◌≡◌, ◌≢◌, ℕ, ◌<◌, ◌≤◌, tru
 use Rattle.gv_values.specs.declared.job.Job.{Job}
 use Rattle.world_rules.specs.declared.question.PostedJob.{PostedJob}
 use Rattle.world_rules.specs.Legal.{is_answered, is_posted, posted}
-use Rattle.world.specs.Worlds.{WorldMeaning}
+use Rattle.world.specs.Outside.{WorldMeaning}
 use Rattle.wsgi_core.specs.Steps.{answered_of}
 use Rattle.stream_server.specs.Keeping.{Listing}
 use Rattle.stream_server.specs.declared.client.Client.{Client}

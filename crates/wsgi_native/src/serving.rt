@@ -2,10 +2,10 @@
 ghost use Rattle.std.specs.Prelude.{◌≡◌, ◌≢◌, ◌⊎◌, ◌≤◌, true, false, List, [], length, IsSome};
 ghost use Rattle.std.specs.List.{All};
 ghost use Rattle.gv_values.specs.Counts.{HasRisen};
-ghost use Rattle.stream_net.specs.Nets.{IsAtRest, IsFresh};
+ghost use Rattle.stream_net.specs.Net.{IsAtRest, IsFresh};
 ghost use Rattle.stream_server.specs.Serving.{AllBut, BeginsSo, Cause, EachTold, IsAllServed, IsClosedWell, WaitsToRead};
 ghost use Rattle.stream_server.specs.Ranges.{IsInRange};
-ghost use Rattle.wsgi_core.specs.Sessions.{session};
+ghost use Rattle.wsgi_core.specs.Session.{session};
 ghost use Rattle.wsgi_native.specs.Agreeing.{HasEarned};
 ghost use Rattle.wsgi_native.specs.Ends.{IsOutOfJobs};
 ghost use Rattle.wsgi_native.specs.JobApp.{job_app};

@@ -1,6 +1,6 @@
 use Rattle.std.proofs.Common.{ap}
 use Rattle.machine.specs.Run.{run}
-use Rattle.world.specs.Worlds.{WorldMeaning}
+use Rattle.world.specs.Outside.{WorldMeaning}
 use Rattle.gv_top.proofs.Handing.{ahead_later}
 use Rattle.gv_top.proofs.InWorlds.{counts_handed, ran_in_world}
 use Rattle.gv_top.proofs.running.run_in_world.Goals as goal

@@ -1,6 +1,6 @@
 use Rattle.std.proofs.Common.{ap, arith, map, string_bytes, sym, ◌∙◌}
 use Rattle.serve_command.proofs.Ends.{none_told}
-use Rattle.gv_top.specs.Verdicts.{verdict_of_server}
+use Rattle.gv_top.specs.Status.{verdict_of_server}
 use Rattle.gv_top.proofs.Handing.{hands_from, serving_hands, told_from, told_hands}
 use Rattle.gv_top.proofs.Servings.{fails_at_a_line, fault_lines, is_listener, is_some, names_one, no_other_status, none_named, not_listener, not_write_fault, serves_nobody, serves_so}
 use Rattle.gv_top.proofs.Tops.{err_unfailed, left_alone, server_explained, status_or, told_as}

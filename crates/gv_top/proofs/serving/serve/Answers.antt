@@ -3,7 +3,7 @@ use Rattle.command_words.specs.declared.command.ServeOptions.{ServeOptions}
 use Rattle.gv_top.specs.Serving.{ServesWith, limits_of}
 use Rattle.gv_top.specs.Words.{is_native_server, serving}
 use Rattle.serve_command.proofs.Ends.{none_told}
-use Rattle.serve_command.specs.Served.{IsToldFirst}
+use Rattle.serve_command.specs.Serving.{IsToldFirst}
 use Rattle.gv_top.proofs.Servings.{by_options, nobody_served, options_in_range}
 use Rattle.gv_top.proofs.serving.serve.Goals as goal
 

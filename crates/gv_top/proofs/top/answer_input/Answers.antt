@@ -9,7 +9,7 @@ use Rattle.scenario_rules.specs.Rules.{IsWellFormed}
 use Rattle.scenario_tree.specs.declared.tree.Scenario.{Scenario}
 use Rattle.gv_top.specs.Answers.{most_read}
 use Rattle.gv_top.specs.Inner.{RanSo, BeganText}
-use Rattle.gv_top.specs.Verdicts.{verdict_status}
+use Rattle.gv_top.specs.Status.{verdict_status}
 use Rattle.gv_top.proofs.top.answer_input.Goals as goal
 
 pub returns-in-Err-Fault-clause-answer : goal.returns-in-Err-Fault-clause-answer

@@ -1,5 +1,5 @@
 use Rattle.std.proofs.Common.{length}
-use Rattle.http_messages.specs.Bodies.{body_left}
+use Rattle.http_messages.specs.Body.{body_left}
 use Rattle.http_messages.specs.Readings.{ReadsAlike}
 use Rattle.http_messages.proofs.body.read_body.Given as goal
 

@@ -1,7 +1,7 @@
 use Rattle.std.proofs.Common.{refl, ◌≡◌, ◌<◌, ◌∙◌, sym, ap, ℕ, List, length, take, drop, length-drop, arith, subst, Option, Some, None}
 use Rattle.std.specs.Prelude.{option_map}
 use Rattle.httparse.specs.Grammar.{chunk_size}
-use Rattle.http_messages.specs.Bodies.{chunk_line, body_left}
+use Rattle.http_messages.specs.Body.{chunk_line, body_left}
 use Rattle.http_messages.specs.Readings.{ReadsAlike}
 use Rattle.http_messages.specs.declared.request.AwaitedBody.TheVariants.{InChunks, InChunk, InTrailers}
 use Rattle.http_messages.proofs.BodySteps.{size_waits, size_too_long, size_refused, size_too_large, size_last, size_more}

@@ -1,7 +1,7 @@
 use Rattle.std.proofs.Common.{◌++◌, ◌∙◌, ap, List, ℕ}
 use Rattle.http_header.specs.HeaderMap.{Entries}
 use Rattle.http_messages.specs.declared.environ.KeyClass.TheVariants.{ContentType, ContentLength, Other}
-use Rattle.http_messages.specs.Environs.{Pair, request_pairs}
+use Rattle.http_messages.specs.Environ.{Pair, request_pairs}
 use Rattle.http_messages.specs.Fields.{texts}
 use Rattle.http_messages.proofs.GroupLaws.{class_pairs, environ_grouped}
 use Rattle.http_messages.proofs.environ.environ_of.Goals as goal

@@ -2,7 +2,7 @@ use Rattle.std.proofs.Common.{◌≡◌, ◌++◌, map, List, ℕ}
 use Rattle.std.specs.List.{flat_map}
 use Rattle.std.specs.Borrow.{Bor}
 use Rattle.http_header.specs.HeaderMap.{get_all}
-use Rattle.http_messages.specs.Environs.{joint}
+use Rattle.http_messages.specs.Environ.{joint}
 use Rattle.http_messages.specs.Fields.{joined}
 use Rattle.http_messages.proofs.environ.joined.Given as goal
 

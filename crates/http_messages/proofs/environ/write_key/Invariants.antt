@@ -1,5 +1,5 @@
 use Rattle.std.proofs.Common.{◌≡◌, ◌++◌, map, take, codes}
-use Rattle.http_messages.specs.Environs.{key_byte}
+use Rattle.http_messages.specs.Environ.{key_byte}
 use Rattle.http_messages.proofs.environ.write_key.Given as goal
 
 abbrev pub invariant-loop-byte : goal.invariant-loop-byte

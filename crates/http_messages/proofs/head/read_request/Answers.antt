@@ -1,6 +1,6 @@
 use Rattle.std.proofs.Common.{◌≡◌, ◌∙◌, sym, ap, subst, ℕ, List, take, drop, Ok, Err}
 use Rattle.http_messages.specs.Cuts.{waits, whole, empty_line, drop_empty_lines}
-use Rattle.http_messages.specs.Heads.{request_head}
+use Rattle.http_messages.specs.Head.{request_head}
 use Rattle.http_messages.specs.Readings.{ReadsAlike}
 use Rattle.http_messages.specs.Requests.{judged, request_at}
 use Rattle.http_messages.proofs.FieldLaws.{taken_few}

@@ -2,7 +2,7 @@ use Rattle.std.proofs.Common.{◌∙◌, sym, ap, map, take}
 use Rattle.std.proofs.lemmas.Result.{IfOk-weaker}
 use Rattle.httparse.specs.Spans.{name_and_value}
 use Rattle.http_messages.specs.Fields.{AreFields, by_name}
-use Rattle.http_messages.specs.Heads.{request_head}
+use Rattle.http_messages.specs.Head.{request_head}
 use Rattle.http_messages.specs.Requests.{request_of}
 use Rattle.http_messages.proofs.FieldLaws.{names_at}
 use Rattle.http_messages.proofs.JudgeLaws.{judged_none, judged_some}

@@ -1,7 +1,7 @@
 use Rattle.std.proofs.Common.{◌∙◌, ap, sym}
 use Rattle.machine.specs.declared.state.Phase.{Phase}
 use Rattle.machine.specs.Greenlets.{with_phase}
-use Rattle.machine.specs.Requests.{follows}
+use Rattle.machine.specs.Request.{follows}
 use Rattle.hub_requests.specs.Performing.{performed_of}
 use Rattle.hub_requests.specs.declared.performed.Performed.{Performed}
 use Rattle.hub_engine.proofs.Beside.{declared_beside, declared_waiting, performed_beside, still_under_way}

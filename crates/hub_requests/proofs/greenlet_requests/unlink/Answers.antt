@@ -4,7 +4,7 @@ use Rattle.std.proofs.lemmas.Int.{to_z-of_z}
 use mir.Val.{SFits}
 use mir.Syntax.{w64}
 use Rattle.machine.specs.Items.{drop_items}
-use Rattle.machine.specs.Requests.{is_link}
+use Rattle.machine.specs.Request.{is_link}
 use Rattle.hub_requests.specs.Performing.{performed_of}
 use Rattle.hub_requests.specs.declared.performed.Performed.{Performed}
 use Rattle.hub_requests.proofs.Linking.{unlinked}

@@ -1,5 +1,5 @@
 use Rattle.std.proofs.Common.{◌≡◌, subst, ℕ, List, rules}
-use Rattle.machine.specs.Requests.{sends_all}
+use Rattle.machine.specs.Request.{sends_all}
 use Rattle.hub_requests.specs.Sendings.{sent}
 use Rattle.hub_requests.proofs.Soundly.{sound_sent}
 use Rattle.hub_requests.proofs.kills.kill_greenlets.Goals as goal

@@ -1,5 +1,5 @@
 use Rattle.std.proofs.Common.{◌≡◌, drop}
-use Rattle.machine.specs.Requests.{sends_all}
+use Rattle.machine.specs.Request.{sends_all}
 use Rattle.hub_requests.proofs.kills.send_kills.Given as goal
 
 abbrev pub invariant-loop-target : goal.invariant-loop-target

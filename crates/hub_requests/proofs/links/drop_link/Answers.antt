@@ -2,7 +2,7 @@ use Rattle.std.proofs.Common.{◌∙◌, ap}
 use Rattle.std.specs.Prelude.{ℤ}
 use Rattle.std.proofs.Math.Facts.{to_z-of_z}
 use Rattle.machine.specs.Items.{drop_items}
-use Rattle.machine.specs.Requests.{is_link}
+use Rattle.machine.specs.Request.{is_link}
 use Rattle.hub_requests.proofs.links.drop_link.Goals as goal
 
 -- a signed number that stands in a value of an enum behind a reference is read back

@@ -1,5 +1,5 @@
 use Rattle.std.proofs.Common.{◌≡◌, ◌≤◌, drop, length}
-use Rattle.machine.specs.Requests.{plain_greenlets}
+use Rattle.machine.specs.Request.{plain_greenlets}
 use Rattle.hub_requests.proofs.Listed.{joined}
 use Rattle.hub_requests.proofs.operands.plain_greenlets.Given as goal
 

@@ -1,6 +1,6 @@
 use Rattle.std.proofs.Common.{ap, sym, ◌∙◌, ◌++◌}
 use Rattle.scenario_tree.specs.declared.tree.Action.TheVariants as A
-use Rattle.scenario_rules.specs.Mentions.{block_mentions, on, timeout_says}
+use Rattle.scenario_rules.specs.Mention.{block_mentions, on, timeout_says}
 use Rattle.scenario_rules.specs.Layers.{action_mentions}
 use Rattle.scenario_rules.proofs.Layers.{except_out, if_mentions, else_mentions, while_mentions, try_mentions, finally_mentions, timeout_mentions}
 use Rattle.scenario_check.proofs.Appending.{two_added, three_added}

@@ -1,5 +1,5 @@
 use Rattle.std.proofs.Common.{◌≡◌, ◌++◌, drop}
-use Rattle.scenario_rules.specs.Mentions.{block_mentions}
+use Rattle.scenario_rules.specs.Mention.{block_mentions}
 use Rattle.scenario_rules.specs.Layers.{handler_mentions}
 use Rattle.scenario_check.proofs.blocks.+block.Given as goal
 

@@ -1,5 +1,5 @@
 use Rattle.std.proofs.Common.{◌≡◌, ◌++◌, drop, map}
-use Rattle.scenario_rules.specs.Mentions.{on}
+use Rattle.scenario_rules.specs.Mention.{on}
 use Rattle.scenario_rules.specs.declared.mention.Says.{Says as Word}
 use Rattle.scenario_check.proofs.blocks.say_parameters.Given as goal
 

@@ -1,5 +1,5 @@
 use Rattle.std.proofs.Common.{ap, ◌∙◌}
-use Rattle.scenario_rules.specs.Mentions.{expression_says}
+use Rattle.scenario_rules.specs.Mention.{expression_says}
 use Rattle.scenario_check.proofs.Appending.{added_as, said_as}
 use Rattle.scenario_check.proofs.ByForm.{unary_says, binary_says, and_says, or_says}
 use Rattle.scenario_check.proofs.expressions.+expression.Goals as goal

@@ -1,5 +1,5 @@
 use Rattle.std.proofs.Common.{◌≡◌, ◌++◌, drop}
-use Rattle.scenario_rules.specs.Mentions.{all_say, on}
+use Rattle.scenario_rules.specs.Mention.{all_say, on}
 use Rattle.scenario_check.proofs.expressions.+expression.Given as goal
 
 abbrev pub invariant-say_all-loop-expression : goal.invariant-say_all-loop-expression

@@ -1,5 +1,5 @@
 use Rattle.std.proofs.Common.{refl}
-use Rattle.scenario_grammar.specs.Keywords.{keyword_of, keywords}
+use Rattle.scenario_grammar.specs.Keyword.{keyword_of, keywords}
 use Rattle.scenario_keywords.proofs.keyword.candidates.Goals as goal
 
 pub returns-in-114 : goal.returns-in-114

@@ -1,6 +1,6 @@
 use Rattle.std.proofs.Common.{◌≡◌, drop}
 use Rattle.std.specs.List.{find}
-use Rattle.scenario_grammar.specs.Keywords.{is_spelled}
+use Rattle.scenario_grammar.specs.Keyword.{is_spelled}
 use Rattle.scenario_keywords.proofs.keyword.first_spelled.Given as goal
 
 abbrev pub invariant-loop-keyword : goal.invariant-loop-keyword

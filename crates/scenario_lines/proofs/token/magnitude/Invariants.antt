@@ -1,7 +1,7 @@
 use Rattle.std.proofs.Common.{◌≡◌, ◌-◌, ◌^◌, IsTrue, min, take}
 use Rattle.std.specs.List.{list_all}
 use Rattle.std.specs.Str.Parse.{digits_value}
-use Rattle.gv_values.specs.Names.{is_digit}
+use Rattle.gv_values.specs.Name.{is_digit}
 use Rattle.scenario_lines.proofs.token.magnitude.Given as goal
 
 abbrev pub invariant-loop-b : goal.invariant-loop-b

@@ -1,6 +1,6 @@
 use Rattle.std.proofs.Common.{take, Result, Ok}
 use Rattle.std.specs.declared.alloc.AllocError.{AllocError}
-use Rattle.scenario_grammar.specs.Tokens.{each, name}
+use Rattle.scenario_grammar.specs.Token.{each, name}
 use Rattle.scenario_print.specs.Written.{Wrote}
 use Rattle.scenario_print.proofs.head.push_names.Given as goal
 

@@ -1,7 +1,7 @@
 use Rattle.std.proofs.Common.{take, Result, Ok}
 use Rattle.std.specs.declared.alloc.AllocError.{AllocError}
 use Rattle.scenario_grammar.specs.Blocks.{function_lines}
-use Rattle.scenario_grammar.specs.Tokens.{each}
+use Rattle.scenario_grammar.specs.Token.{each}
 use Rattle.scenario_print.specs.TreeLines.{Laid}
 use Rattle.scenario_print.proofs.scenario.push_functions.Given as goal
 

@@ -1,5 +1,5 @@
 use Rattle.scenario_grammar.specs.declared.phrase.Phrase.TheVariants as phrase
-use Rattle.scenario_grammar.specs.Phrases.{phrase_tokens}
+use Rattle.scenario_grammar.specs.Phrase.{phrase_tokens}
 use Rattle.scenario_print.proofs.TreeLineLemmas.{outer_line}
 use Rattle.scenario_print.proofs.tree_line.push_declaration_line.Goals as goal
 

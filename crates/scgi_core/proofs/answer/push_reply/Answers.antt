@@ -1,7 +1,7 @@
 use Rattle.std.proofs.Common.{◌≡◌, ◌++◌, ◌∙◌, sym, ap, List, ℕ}
 use Rattle.wsgi_core.specs.declared.reply.Reply.{Reply}
 use Rattle.wsgi_core.proofs.ProgressSteps.{one_ok}
-use Rattle.scgi_core.specs.Answers.{cgi_answer, answer_for, started}
+use Rattle.scgi_core.specs.Answer.{cgi_answer, answer_for, started}
 use Rattle.scgi_core.proofs.AnswerLaws.{answer_faulty, answer_sent}
 use Rattle.scgi_core.proofs.answer.push_reply.Goals as goal
 

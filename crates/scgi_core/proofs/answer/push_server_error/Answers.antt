@@ -1,7 +1,7 @@
 use Rattle.std.proofs.Common.{codes, refl}
 use Rattle.wsgi_core.proofs.AnswerLaws.{head_alone, head_and_body}
 use Rattle.wsgi_core.proofs.ProgressSteps.{one_ok}
-use Rattle.scgi_core.specs.Answers.{cgi_server_error}
+use Rattle.scgi_core.specs.Answer.{cgi_server_error}
 use Rattle.scgi_core.proofs.answer.push_server_error.Goals as goal
 
 pub returns-then-is_head-clause-sent : goal.returns-then-is_head-clause-sent

@@ -1,5 +1,5 @@
 use Rattle.std.proofs.Common.{◌≢◌, ◌∙◌}
-use Rattle.stream_net.specs.Nets.{Connection}
+use Rattle.stream_net.specs.Net.{Connection}
 use Rattle.stream_net.specs.declared.net.Quiet.TheVariants.{Awake}
 use Rattle.stream_server.specs.Serving.{Rests}
 use Rattle.serve_command.proofs.Ends.{closed_rest, none_served, none_told, serves_so, told_first}

@@ -1,6 +1,6 @@
 use Rattle.std.proofs.Common.{inl, refl}
 use Rattle.gv_io.proofs.StreamLaws.{AppendsPrefix-nothing}
-use Rattle.serve_command.specs.Served.{listening}
+use Rattle.serve_command.specs.Serving.{listening}
 use Rattle.serve_command.proofs.telling.open_port.Goals as goal
 
 pub returns-in_default-clause-unopened : goal.returns-in_default-clause-unopened

@@ -1,7 +1,7 @@
 use Rattle.std.proofs.Common.{ℕ, ap, arith, inl, refl, ◌∙◌}
 use Rattle.gv_io.specs.Streams.{appended}
 use Rattle.gv_io.proofs.StreamLaws.{AppendsPrefix-all, AppendsPrefix-nothing, Extends-nothing}
-use Rattle.serve_command.specs.Served.{served}
+use Rattle.serve_command.specs.Serving.{served}
 use Rattle.serve_command.proofs.telling.tell_end.Goals as goal
 
 pub returns-in-Ok-clause-begins : goal.returns-in-Ok-clause-begins

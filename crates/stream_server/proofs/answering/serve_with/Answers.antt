@@ -1,7 +1,7 @@
 use Rattle.std.proofs.Common.{◌≡◌, ℕ, refl, sym}
-use Rattle.stream_net.specs.Nets.{NetMeaning}
+use Rattle.stream_net.specs.Net.{NetMeaning}
 use Rattle.wsgi_core.specs.Applications.{App}
-use Rattle.wsgi_core.specs.Gateways.{said_by}
+use Rattle.wsgi_core.specs.Talk.{said_by}
 use Rattle.stream_server.specs.declared.limits.Limits.{Limits}
 use Rattle.stream_server.specs.Answering.{answering}
 use Rattle.stream_server.specs.Protocols.{Apps, Protocol}

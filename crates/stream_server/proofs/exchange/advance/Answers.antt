@@ -1,5 +1,5 @@
 use Rattle.std.proofs.Common.{◌≡◌, [], refl, sym, subst}
-use Rattle.stream_net.specs.Nets.{connection_at}
+use Rattle.stream_net.specs.Net.{connection_at}
 use Rattle.stream_server.specs.Protocols.{side_of}
 use Rattle.stream_server.proofs.Stepping.{none_left, reply_cut, same_going, was_given}
 use Rattle.stream_server.proofs.exchange.advance.Goals as goal

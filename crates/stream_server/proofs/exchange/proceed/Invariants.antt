@@ -1,5 +1,5 @@
 use Rattle.std.proofs.Common.{◌≡◌, ℕ}
-use Rattle.stream_net.specs.Nets.{IsLive, connection_at}
+use Rattle.stream_net.specs.Net.{IsLive, connection_at}
 use Rattle.stream_server.specs.Protocols.{Apps, side_of}
 use Rattle.stream_server.specs.Steps.{IsGoing, OnlyAt}
 use Rattle.stream_server.proofs.exchange.proceed.Given as goal

@@ -1,6 +1,6 @@
 use Rattle.std.proofs.Common.{ℕ, arith, List, Some, sym, subst}
 use Rattle.std.specs.List.{Contains}
-use Rattle.stream_net.specs.Nets.{closed_at, connection_at}
+use Rattle.stream_net.specs.Net.{closed_at, connection_at}
 use Rattle.stream_server.proofs.Rounding.{idle_free, running_idle}
 use Rattle.stream_server.proofs.Turns.{keeps_more}
 use Rattle.stream_server.proofs.rounds.close_idle.Goals as goal

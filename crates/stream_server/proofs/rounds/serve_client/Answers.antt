@@ -1,5 +1,5 @@
 use Rattle.std.proofs.Common.{sym, subst, ◌∙◌, ℕ, refl}
-use Rattle.stream_net.specs.Nets.{connection_at}
+use Rattle.stream_net.specs.Net.{connection_at}
 use Rattle.stream_net.proofs.Lists.{is_absent}
 use Rattle.stream_server.specs.Protocols.{side_of}
 use Rattle.stream_server.specs.Steps.{IsGoing}

@@ -3,7 +3,7 @@ use Rattle.std.proofs.lemmas.Int.{ints, to_z-of_z}
 use lib.IntN.{nat_abs}
 use mir.Val.{SFits}
 use mir.Syntax.{w64}
-use Rattle.world_rules.specs.Jobs.{eval, collatz}
+use Rattle.world_rules.specs.Evaluate.{eval, collatz}
 use Rattle.world_rules.specs.declared.limits.TheConstants.{MOST_STEPS}
 use Rattle.world_rules.proofs.CollatzSteps.{eval_collatz}
 use Rattle.world_rules.proofs.evaluate.eval.Goals as goal

@@ -3,7 +3,7 @@ use Rattle.std.proofs.lemmas.Int.{ints}
 use Rattle.gv_values.specs.declared.job.JobOutcome.{JobOutcome}
 use mir.Val.{to_z}
 use mir.Syntax.{w64}
-use Rattle.world_rules.specs.Jobs.{collatz}
+use Rattle.world_rules.specs.Evaluate.{collatz}
 use Rattle.world_rules.specs.declared.limits.TheConstants.{MOST_STEPS}
 use Rattle.world_rules.proofs.CollatzSteps.{collatz_at_one, collatz_ends_early, collatz_overflows, collatz_goes_on}
 use Rattle.world_rules.proofs.evaluate.steps_to_one.Goals as goal

@@ -1,5 +1,5 @@
 use Rattle.std.proofs.Common.{◌≡◌, ◌-◌, ◌<◌, ◌^◌}
-use Rattle.world_rules.specs.Jobs.{collatz}
+use Rattle.world_rules.specs.Evaluate.{collatz}
 use Rattle.world_rules.specs.declared.limits.TheConstants.{MOST_STEPS}
 use Rattle.world_rules.proofs.evaluate.steps_to_one.Given as goal
 

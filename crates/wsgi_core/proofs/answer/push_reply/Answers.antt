@@ -1,7 +1,7 @@
 use Rattle.std.proofs.Common.{◌≡◌, ◌++◌, ◌∙◌, sym, ap}
 use Rattle.std.proofs.lemmas.Result.{IfOk-weaker}
 use Rattle.wsgi_core.specs.declared.reply.Reply.{Reply}
-use Rattle.wsgi_core.specs.Answers.{Sent, answer, ending, sent_by, sent_for}
+use Rattle.wsgi_core.specs.Answer.{Sent, answer, ending, sent_by, sent_for}
 use Rattle.wsgi_core.proofs.AnswerLaws.{answer_faulty, answer_sent}
 use Rattle.wsgi_core.proofs.ProgressSteps.{one_ok}
 use Rattle.wsgi_core.proofs.answer.push_reply.Goals as goal

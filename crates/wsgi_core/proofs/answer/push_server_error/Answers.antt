@@ -1,5 +1,5 @@
 use Rattle.std.proofs.Common.{Bool, List, codes, refl, ℕ}
-use Rattle.wsgi_core.specs.Answers.{server_error}
+use Rattle.wsgi_core.specs.Answer.{server_error}
 use Rattle.wsgi_core.proofs.AnswerLaws.{head_alone, head_and_body}
 use Rattle.wsgi_core.proofs.ProgressSteps.{one_ok}
 use Rattle.wsgi_core.proofs.answer.push_server_error.Goals as goal

@@ -1,6 +1,6 @@
 use Rattle.std.proofs.Common.{◌≡◌, ℕ, Bool, true, false, if◌then◌else◌, List, None, codes, drop, refl, ap, sym, ◌∙◌}
 use Rattle.gv_values.specs.declared.job.JobKind.TheVariants.{Sum, Collatz, Fail, Echo}
-use Rattle.http_messages.specs.Environs.{begins_with}
+use Rattle.http_messages.specs.Environ.{begins_with}
 use Rattle.wsgi_native.specs.JobApp.{job_in}
 use Rattle.wsgi_native.proofs.job_app.job_on_path.Goals as goal
 

@@ -3,7 +3,7 @@ use Rattle.std.specs.Prelude.{nat_eq}
 use Rattle.std.specs.HashMap.{get}
 use Rattle.stream_server.specs.Tables.{IsListed}
 use Rattle.stream_server.proofs.Endings.{all_rest, answered_of, but_rest, cause_of, own_of, whole_of}
-use Rattle.wsgi_core.specs.Sessions.{session}
+use Rattle.wsgi_core.specs.Session.{session}
 use Rattle.wsgi_native.specs.JobApp.{job_app}
 use Rattle.wsgi_native.specs.Owning.{owner_in}
 use Rattle.wsgi_native.specs.Talks.{job_protocol}

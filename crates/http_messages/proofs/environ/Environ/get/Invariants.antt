@@ -1,5 +1,5 @@
 use Rattle.std.proofs.Common.{◌≡◌, drop}
-use Rattle.http_messages.specs.Environs.{pair_value}
+use Rattle.http_messages.specs.Environ.{pair_value}
 use Rattle.http_messages.proofs.environ.Environ.get.Given as goal
 
 abbrev pub invariant-loop-pair : goal.invariant-loop-pair

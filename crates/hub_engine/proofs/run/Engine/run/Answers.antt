@@ -4,7 +4,7 @@ use Rattle.machine.specs.Run.{Source, run}
 use Rattle.hub_engine.specs.declared.run.EngineEnd.{EngineEnd}
 use Rattle.hub_engine.specs.declared.run.Ran.{Ran}
 use Rattle.hub_engine.specs.Ends.{CountsOf, HasLogged, HasNumbersAt, RanTo}
-use Rattle.hub_engine.specs.Ahead.{WroteAhead}
+use Rattle.hub_engine.specs.Run.{WroteAhead}
 use Rattle.hub_engine.specs.Outside.{outside, out_of}
 use Rattle.hub_engine.specs.Prepared.{Prepared}
 use Rattle.hub_engine.specs.Written.{RunsTo}

@@ -1,6 +1,6 @@
 use Rattle.std.proofs.Common.{◌≡◌, ◌<◌, ◌+◌, ◌++◌, ◌∷◌, [], ◌∙◌, ap, List, length, map, Some, None, false, arith}
 use Rattle.std.proofs.lemmas.List.{length-append}
-use Rattle.stream_net.specs.Nets.{live_count}
+use Rattle.stream_net.specs.Net.{live_count}
 use Rattle.mio_net.specs.declared.endpoint.Endpoint.{Endpoint}
 use Rattle.mio_net.specs.Endpoints.{endpoint_meaning}
 use Rattle.mio_net.proofs.EndpointLemmas.{one_gained, one_more_live}

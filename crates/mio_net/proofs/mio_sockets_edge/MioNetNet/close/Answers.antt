@@ -1,6 +1,6 @@
 use Rattle.std.proofs.Common.{◌≡◌, ◌<◌, ap, ◌∙◌, sym, length, slice_set, arith, false}
 use Rattle.std.proofs.lemmas.List.{length-set}
-use Rattle.stream_net.specs.Nets.{Connection}
+use Rattle.stream_net.specs.Net.{Connection}
 use Rattle.mio_net.proofs.EndpointLemmas.{one_changed, closed_count, at_old as old_at}
 use Rattle.mio_net.proofs.mio_sockets_edge.MioNetNet.close.Goals as goal
 

@@ -1,6 +1,6 @@
 use Rattle.std.proofs.Common.{◌<◌, ap, ◌∙◌, sym, length, slice_set, arith}
 use Rattle.std.proofs.lemmas.List.{length-set}
-use Rattle.stream_net.specs.Nets.{Connection}
+use Rattle.stream_net.specs.Net.{Connection}
 use Rattle.mio_net.proofs.EndpointLemmas.{one_changed, kept_count}
 use Rattle.mio_net.proofs.mio_sockets_edge.MioNetNet.hold.Goals as goal
 

@@ -6,7 +6,7 @@ use mir.Syntax.{w64}
 use Rattle.native_board.specs.declared.views.CellState.TheVariants.{Done}
 use Rattle.native_board.specs.declared.views.HubCell.TheVariants.{Vacant, Sent}
 use Rattle.native_board.specs.Words.{job_outcome_of}
-use Rattle.world_rules.specs.Jobs.{eval}
+use Rattle.world_rules.specs.Evaluate.{eval}
 use Rattle.native_board.specs.Rules.{hub_cell}
 use Rattle.native_board.specs.Plays.{saw}
 use Rattle.native_board.specs.Passes.{hub_in, hub_of, BecomesHub, swept_cell, finished_at, is_sent}

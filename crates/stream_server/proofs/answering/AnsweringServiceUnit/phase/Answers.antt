@@ -1,5 +1,5 @@
 use Rattle.std.proofs.Common.{sym, ◌∙◌}
-use Rattle.wsgi_core.specs.Gateways.{said_by}
+use Rattle.wsgi_core.specs.Talk.{said_by}
 use Rattle.stream_server.proofs.Stepping.{is_closing}
 use Rattle.stream_server.proofs.answering.AnsweringServiceUnit.phase.Goals as goal
 

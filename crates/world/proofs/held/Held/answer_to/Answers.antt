@@ -3,7 +3,7 @@ use Rattle.std.specs.Prelude.{nat_eq}
 use Rattle.std.specs.HashMap.{get}
 use Rattle.gv_values.specs.declared.job.Answer.{Answer}
 use Rattle.gv_values.specs.declared.job.JobOutcome.{JobOutcome}
-use Rattle.world_rules.specs.Jobs.{eval}
+use Rattle.world_rules.specs.Evaluate.{eval}
 use Rattle.world_rules.specs.Legal.{IsLegal}
 use Rattle.world_rules.specs.Script.{scripted}
 use Rattle.world.specs.Kept.{due_jobs, script_meaning}

@@ -7,7 +7,7 @@ use Rattle.world_rules.specs.Script.{scripted}
 use Rattle.world_rules.specs.Rules.{RuleState, rule_after_answer, start, Follows}
 use Rattle.world_rules.proofs.Logs.{Follows-asked}
 use Rattle.world.specs.Kept.{due_jobs, rule_state, script_meaning}
-use Rattle.world.specs.Worlds.{Stores}
+use Rattle.world.specs.Outside.{Stores}
 use Rattle.world.specs.declared.script.ScriptWorld.{ScriptWorld}
 use Rattle.world.proofs.Tying.{tied_stored}
 use Rattle.world.proofs.held.HeldWorld.ask.Goals as goal

@@ -8,7 +8,7 @@ use Rattle.world.proofs.Tying.{tied_after_begin}
 use Rattle.std.proofs.Math.Logic.{∥∥₁_map}
 use Rattle.world.specs.Holding.{IsTied}
 use Rattle.world.specs.Kept.{script_meaning}
-use Rattle.world.specs.Worlds.{WorldMeaning}
+use Rattle.world.specs.Outside.{WorldMeaning}
 use Rattle.world.proofs.LegalLogs.{logged_begun, logged_same}
 use Rattle.world.proofs.held.HeldWorld.begin.Goals as goal
 

@@ -2,7 +2,7 @@ use Rattle.std.proofs.Common.{ap, sym, subst, ◌<◌}
 use Rattle.std.specs.Prelude.{nat_eq, false}
 use Rattle.std.specs.HashMap.{get}
 use Rattle.world.specs.Kept.{script_meaning}
-use Rattle.world.specs.Worlds.{WorldMeaning}
+use Rattle.world.specs.Outside.{WorldMeaning}
 use Rattle.world.specs.declared.script.ScriptWorld.{ScriptWorld}
 use Rattle.world.specs.Holding.{IsTied}
 use Rattle.world.proofs.Tying.{tied_finished}

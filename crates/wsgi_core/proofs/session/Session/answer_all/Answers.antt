@@ -1,6 +1,6 @@
 use Rattle.std.proofs.Common.{sym, subst, ℕ, List}
 use Rattle.std.specs.Prelude.{Option}
-use Rattle.http_messages.specs.Environs.{Pair}
+use Rattle.http_messages.specs.Environ.{Pair}
 use Rattle.wsgi_core.specs.Steps.{IsReplyTo, progress_of}
 use Rattle.wsgi_core.proofs.ProgressLaws.{due_here, due-then, on_err}
 use Rattle.wsgi_core.proofs.session.Session.answer_all.Goals as goal

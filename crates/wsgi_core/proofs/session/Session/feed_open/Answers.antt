@@ -1,5 +1,5 @@
 use Rattle.std.proofs.Common.{sym, ap, ◌∙◌, ◌++◌, ℕ}
-use Rattle.wsgi_core.specs.Sessions.{answers}
+use Rattle.wsgi_core.specs.Session.{answers}
 use Rattle.wsgi_core.specs.Steps.{progress_of}
 use Rattle.wsgi_core.proofs.ProgressLaws.{due_fed}
 use Rattle.wsgi_core.proofs.ProgressSteps.{one_err}

@@ -1,5 +1,5 @@
 use Rattle.std.proofs.Common.{refl, sym, ap, ◌∙◌, ◌++◌, ℕ}
-use Rattle.wsgi_core.specs.Sessions.{answers}
+use Rattle.wsgi_core.specs.Session.{answers}
 use Rattle.wsgi_core.proofs.ProgressSteps.{one_err, three_ok}
 use Rattle.wsgi_core.proofs.session.Session.take_in.Goals as goal
 

@@ -1,7 +1,7 @@
 use Rattle.std.proofs.Common.{ℕ, ◌+◌, List, ap, arith, refl, sym, subst}
 use Rattle.std.specs.Prelude.{Some, nat_eq}
 use Rattle.std.specs.HashMap.{get}
-use Rattle.world.specs.Worlds.{WorldMeaning as World}
+use Rattle.world.specs.Outside.{WorldMeaning as World}
 use Rattle.world.proofs.Ranking.{at_ok}
 use Rattle.stream_server.specs.Tables.{IsListed}
 use Rattle.stream_server.specs.declared.client.Client.{Client}

@@ -1,5 +1,5 @@
 use Rattle.std.proofs.Common.{sym, ◌∙◌}
-use Rattle.wsgi_core.specs.Sessions.{session}
+use Rattle.wsgi_core.specs.Session.{session}
 use Rattle.wsgi_core.specs.Steps.{asked_of}
 use Rattle.stream_server.proofs.Stepping.{is_closing}
 use Rattle.wsgi_native.specs.Laws.{none_asked}

@@ -4,7 +4,7 @@ use Rattle.std.specs.HashMap.{get}
 use Rattle.gv_values.specs.declared.job.Answer.{Answer}
 use Rattle.world_rules.specs.declared.question.Question.{Question}
 use Rattle.world_rules.specs.Legal.{IsLegal}
-use Rattle.world.specs.Worlds.{WorldMeaning as World, Stores}
+use Rattle.world.specs.Outside.{WorldMeaning as World, Stores}
 use Rattle.stream_server.specs.Tables.{IsListed}
 use Rattle.stream_server.specs.declared.client.Client.{Client}
 use Rattle.world.proofs.Sound.{contains_posted}

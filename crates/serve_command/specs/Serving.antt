@@ -3,8 +3,8 @@ use Rattle.std.specs.Prelude.{◌≡◌, ◌≢◌, ◌⊎◌, ℕ, ◌<◌, ◌
 use Rattle.std.specs.List.{All}
 use Rattle.gv_io.specs.Streams.{appended, AppendsPrefix}
 use Rattle.wsgi_core.specs.Applications.{App}
-use Rattle.wsgi_core.specs.Gateways.{Gateway, said_by}
-use Rattle.stream_net.specs.Nets.{Connection, NetMeaning, listens_at}
+use Rattle.wsgi_core.specs.Talk.{Gateway, said_by}
+use Rattle.stream_net.specs.Net.{Connection, NetMeaning, listens_at}
 use Rattle.stream_server.specs.declared.limits.Limits.{Limits}
 use Rattle.stream_server.specs.Serving.{AllBut, BeginsSo, Cause, EachTold, IsAllServed, IsClosedWell, Rests, WaitsToRead}
 use Rattle.serve_command.specs.Lines.{number_line}

@@ -3,7 +3,7 @@ use Rattle.std.specs.Prelude.{ℕ, List, [], ◌∷◌, ◌++◌, Option, Some, 
 use Rattle.gv_values.specs.declared.job.Answer.{Answer}
 use Rattle.gv_values.specs.declared.job.Job.{Job}
 use Rattle.gv_values.specs.declared.job.JobOutcome.{JobOutcome}
-use Rattle.gv_values.specs.ValueTexts.{Text, decimal, int_text, fault_text, value_text, outcome_text, greenlet_text, job_text, whom_text}
+use Rattle.gv_values.specs.Texts.{Text, decimal, int_text, fault_text, value_text, outcome_text, greenlet_text, job_text, whom_text}
 use Rattle.trace_text.specs.declared.line.Awaited.{Awaited}
 use Rattle.trace_text.specs.declared.line.Blocked.{Blocked}
 use Rattle.trace_text.specs.declared.line.Line.{Line}

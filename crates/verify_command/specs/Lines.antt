@@ -1,6 +1,6 @@
 -- Inputs that are checked: how long they may be, and their last line.
 use Rattle.std.specs.Prelude.{ℕ, ◌+◌, ◌-◌, List, length}
-use Rattle.scenario_grammar.specs.Places.{line_at}
+use Rattle.scenario_grammar.specs.Place.{line_at}
 use Rattle.verify_command.specs.declared.lines.TheConstants.{MOST_CHECKED}
 
 -- the most bytes that are read of an input: one more than it may have

@@ -19,7 +19,7 @@ use Rattle.trace_text.specs.declared.line.Line.{Line}
 use Rattle.trace_text.specs.declared.line.Awaited.{Awaited}
 use Rattle.machine.specs.State.{State, say}
 use Rattle.machine.specs.Holds.{outcome_of}
-use Rattle.gv_values.specs.Jobs.{job_of}
+use Rattle.gv_values.specs.Job.{job_of}
 use Rattle.gv_values.specs.Ends.{link_fits, kept}
 use Rattle.machine.specs.Settle.{settle}
 use Rattle.machine.specs.declared.request.Request.{Request}

@@ -2,9 +2,9 @@
 use Rattle.std.specs.Prelude.{◌≡◌, ℕ, ◌+◌, ◌≤◌, Bool, true, false, List, [], ◌++◌, length, take, nat_le, Option, IfSome}
 use Rattle.gv_io.specs.Streams.{appended, prepended, AppendsPrefix, Extends}
 use Rattle.gv_io.specs.declared.limits.TheConstants.{MOST_PIECE}
-use Rattle.wsgi_core.specs.Answers.{Sent}
+use Rattle.wsgi_core.specs.Answer.{Sent}
 use Rattle.wsgi_core.specs.Applications.{App}
-use Rattle.wsgi_core.specs.Gateways.{Gateway, said_by}
+use Rattle.wsgi_core.specs.Talk.{Gateway, said_by}
 use Rattle.wsgi_connection.specs.declared.connection.TheConstants.{MOST_CONNECTION}
 use Rattle.wsgi_connection.specs.declared.connection.ConnectionEnd.{ConnectionEnd}
 use Rattle.wsgi_connection.specs.declared.connection.ConnectionEnd.TheVariants.{Closed, TooLong, ReadFault, WriteFault, Memory}

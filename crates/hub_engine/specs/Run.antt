@@ -1,6 +1,6 @@
 -- What a run says before an answer.
 use Rattle.std.specs.Prelude.{◌≡◌, ℕ, List, [], ◌∷◌, ◌++◌, Option}
-use Rattle.trace_text.specs.LineTexts.{text_of}
+use Rattle.trace_text.specs.Line.{text_of}
 use Rattle.gv_io.specs.Streams.{appended}
 use Rattle.gv_values.specs.declared.job.Answer.{Answer}
 use Rattle.machine.specs.Run.{Ran}

@@ -1,7 +1,7 @@
 -- What any gateway sends, as a function of all that a connection gives.
 use Rattle.std.specs.Prelude.{ℕ, Bool, ◌||◌, List}
 use Rattle.wsgi_core.specs.Applications.{App}
-use Rattle.wsgi_core.specs.Answers.{Sent}
+use Rattle.wsgi_core.specs.Answer.{Sent}
 
 -- of an application, a port and the bytes: what is sent, and whether the connection closes by that
 abbrev pub Gateway : Type 0

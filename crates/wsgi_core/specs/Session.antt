@@ -2,9 +2,9 @@
 use Rattle.std.specs.Prelude.{ℕ, zero, suc, ◌+◌, Bool, ◌||◌, List, length}
 use Rattle.http_messages.specs.Cuts.{Cut, waits, refused, whole}
 use Rattle.http_messages.specs.Requests.{request_at}
-use Rattle.http_messages.specs.Bodies.{body_by}
+use Rattle.http_messages.specs.Body.{body_by}
 use Rattle.wsgi_core.specs.Applications.{App, from}
-use Rattle.wsgi_core.specs.Answers.{Sent, ◌⨾◌, nothing_sent, refusal, if_continues, answer}
+use Rattle.wsgi_core.specs.Answer.{Sent, ◌⨾◌, nothing_sent, refusal, if_continues, answer}
 
 -- what is sent for a reading, given what follows where it is whole
 abbrev pub sent_on : {A : Type 0} → Cut A → (A → List ℕ → Sent) → Sent

@@ -4,12 +4,12 @@ use Rattle.std.specs.Option.{is_none}
 use Rattle.std.specs.Fmt.{signed_decimal}
 use Rattle.std.specs.Str.Parse.{signed_digits_value}
 use Rattle.gv_values.specs.Digits.{is_plain_number}
-use Rattle.gv_values.specs.Names.{is_name, is_digit}
+use Rattle.gv_values.specs.Name.{is_name, is_digit}
 use Rattle.gv_values.specs.declared.name.Name.{Name}
 use Rattle.scenario_grammar.specs.declared.keyword.Keyword.{Keyword}
 use Rattle.scenario_grammar.specs.declared.token.Token.{Token}
 use Rattle.scenario_grammar.specs.declared.token.Token.TheVariants as token
-use Rattle.scenario_grammar.specs.Keywords.{spelling, keyword_of, profile_of}
+use Rattle.scenario_grammar.specs.Keyword.{spelling, keyword_of, profile_of}
 use Rattle.scenario_grammar.specs.Layout.{Word}
 
 -- how a token is written; only those of the first three kinds are

@@ -1,6 +1,6 @@
 -- The storm of many greenlets: its text, its scenario, its run, and the summary of that.
 use Rattle.std.specs.Prelude.{ℕ, List, ◌++◌, length, codes}
-use Rattle.gv_values.specs.ValueTexts.{decimal}
+use Rattle.gv_values.specs.Texts.{decimal}
 use Rattle.scenario_tree.specs.declared.tree.Scenario.{Scenario}
 use Rattle.scenario_grammar.specs.Spells.{Spells}
 use Rattle.scenario_rules.specs.Rules.{IsWellFormed}

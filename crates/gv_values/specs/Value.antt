@@ -5,7 +5,7 @@ use Rattle.std.specs.Ordering.{int_eq}
 use Rattle.std.specs.Cmp.Lexicographic.{pointwise}
 use Rattle.gv_values.specs.declared.scalar.Scalar.{Scalar}
 use Rattle.gv_values.specs.declared.value.Value.{Value}
-use Rattle.gv_values.specs.Faults.{fault_eq}
+use Rattle.gv_values.specs.Fault.{fault_eq}
 
 -- the scalar as a value
 abbrev pub value_of_scalar : Scalar → Value

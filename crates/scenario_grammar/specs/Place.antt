@@ -12,9 +12,9 @@ use Rattle.scenario_grammar.specs.declared.token.Token.{Token}
 use Rattle.scenario_grammar.specs.declared.token.Token.TheVariants as token
 use Rattle.scenario_grammar.specs.Layout.{Line, lines, is_end, is_text_byte, is_spaced, is_ended}
 use Rattle.scenario_grammar.specs.declared.limits.TheConstants.{MOST_LEVELS, MOST_TEXT}
-use Rattle.scenario_grammar.specs.Tokens.{token_in}
+use Rattle.scenario_grammar.specs.Token.{token_in}
 use Rattle.scenario_grammar.specs.Reading.{phrase_of, gives, is_given, ◌>>=◌}
-use Rattle.scenario_grammar.specs.Reasons.{text_number}
+use Rattle.scenario_grammar.specs.Reason.{text_number}
 
 -- a block that is open, by what has come of it
 pub data Open : Type 0 where
