@@ -125,18 +125,20 @@ fn two_plain(locals: &[Local], a: &Boxed<Expression>, b: &Boxed<Expression>) -> 
     Some((x, y))
 }
 
-/// The integer that is written there, or that the local has.
+/// The integer that is written there, or that the local has. Two tests of the form cost less than a match of all.
 #[inline(always)]
 #[tactic(auto, using(crate::proofs::Primitives::of_found))]
 fn plain(locals: &[Local], expression: &Expression) -> Option<i64>
     ensures { IfSome result (λ n. Means expression.now locals.now (value.Int n)) }
 {
-    match expression {
-        Expression::Int(n) => Some(*n),
-        Expression::Local(name) => match find(name, locals) {
-            Some(Value::Int(n)) => Some(*n),
-            _ => None,
-        },
+    if let Expression::Int(n) = expression {
+        return Some(*n);
+    }
+    let Expression::Local(name) = expression else {
+        return None;
+    };
+    match find(name, locals) {
+        Some(Value::Int(n)) => Some(*n),
         _ => None,
     }
 }
