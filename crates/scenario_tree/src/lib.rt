@@ -4,7 +4,6 @@
 //! values, and trees are equal where they say the same.
 #![tactic(auto)]
 
-mod copy;
 mod limits;
 mod tree;
 
