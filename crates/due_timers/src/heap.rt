@@ -181,6 +181,7 @@ impl Timers {
         }
         self.places.reserve(n)?;
         self.heap.reserve(n)?;
+        // That it fits `usize` is known of a room that is asked.
         let _room = self.heap.capacity();
         self.limit = len + n;
         Ok(())

@@ -110,6 +110,7 @@ impl DueLine {
                 if number >= mark {
                     return None;
                 }
+                // That no item stands twice is known of a list whose length is asked.
                 let _len = self.list.len();
                 self.list.remove(first);
                 Some(first)

@@ -151,5 +151,6 @@ fn may_run(checked: &Checked)
     ensures main { HasMain checked.now }
     ensures counted { AreCounted (first_state checked.now).objects }
 {
+    // That the scenario is one of a text is known of a tree that is looked at.
     let _written = checked.scenario().tree();
 }

@@ -17,9 +17,6 @@ pub items_joined : (xs ys : List (ℕ × ℕ)) → items_of (xs ++ ys) ≡ items
 items_joined [] ys = refl
 items_joined (x ∷ xs) ys = ap (λ l. x.0 ∷ l) (items_joined xs ys)
 
-pub length_items : (xs : List (ℕ × ℕ)) → length (items_of xs) ≡ length xs
-length_items [] = refl
-length_items (x ∷ xs) = ap suc (length_items xs)
 
 pub items_without : (x : ℕ) (es : List (ℕ × ℕ)) → items_of (without_entry x es) ≡ without_number x (items_of es)
 items_without x [] = refl
@@ -61,12 +58,6 @@ lacks_without x y (z ∷ xs) a = elim (cases_eq z y) [
   | inr differs ↦ rw (test_keeps z y (λ h. differs (sym h))) (a.0, lacks_without x y xs a.1)
 ]
 
-pub without_lacks : (x : ℕ) (xs : List ℕ) → Lacks x (without_number x xs)
-without_lacks x [] = tt
-without_lacks x (z ∷ xs) = elim (cases_eq z x) [
-  | inl same ↦ rw (test_drops z x same) (without_lacks x xs)
-  | inr differs ↦ rw (test_keeps z x (λ h. differs (sym h))) (λ h. differs (sym h), without_lacks x xs)
-]
 
 -- lists of different items
 pub differ_snoc : (xs : List ℕ) (x : ℕ) → Differ xs → Lacks x xs → Differ (xs ++ x ∷ [])
@@ -92,14 +83,6 @@ pub differ_from_back : (xs ys : List ℕ) (x : ℕ) → Differ (xs ++ x ∷ ys) 
 differ_from_back [] ys x a = a.0
 differ_from_back (y ∷ xs) ys x a = differ_from_back xs ys x a.1
 
--- an item of the front is not in the back, nor the other way round
-pub differ_parts : (xs ys : List ℕ) (x : ℕ) → Differ (xs ++ ys) → Contains xs x → Lacks x ys
-differ_parts [] ys x a p = absurd (omega (arith, p.1))
-differ_parts (y ∷ xs) ys x a p = by_index (differ_parts xs ys x a.1) p.0 p.1 p.2
-  where
-    by_index : (Contains xs x → Lacks x ys) → (k : ℕ) → k < suc (length xs) → get_or (y ∷ xs) k x ≡ x → Lacks x ys
-    by_index more zero within found = subst (λ z. Lacks z ys) found (lacks_back y xs ys a.0)
-    by_index more (suc k) within found = more (k, omega arith, found)
 
 pub differ_of_without : (x : ℕ) (xs : List ℕ) → Differ xs → Differ (without_number x xs)
 differ_of_without x [] a = tt
@@ -116,8 +99,6 @@ without_absent x (y ∷ xs) l = rw (test_keeps y x l.0) (ap (λ r. y ∷ r) (wit
 pub without_joined : (x : ℕ) (xs ys : List ℕ) → without_number x (xs ++ ys) ≡ without_number x xs ++ without_number x ys
 without_joined x xs ys = filter-append (λ y. not (y == x)) xs ys
 
-pub without_front : (x : ℕ) (xs ys : List ℕ) → Lacks x ys → without_number x (xs ++ ys) ≡ without_number x xs ++ ys
-without_front x xs ys l = without_joined x xs ys ∙ ap (λ r. without_number x xs ++ r) (without_absent x ys l)
 
 pub without_back : (x : ℕ) (xs ys : List ℕ) → Lacks x xs → without_number x (xs ++ ys) ≡ xs ++ without_number x ys
 without_back x xs ys l = without_joined x xs ys ∙ ap (λ r. r ++ without_number x ys) (without_absent x xs l)
@@ -157,16 +138,10 @@ last_is (x ∷ y ∷ es) e h =
         let b : length (y ∷ es) - 1 ≡ length es = omega arith in
         ap (slice_get (y ∷ es)) b ∙ sym (ap (slice_get (x ∷ y ∷ es)) a) ∙ h
 
-pub at_border : (xs ys : List ℕ) (y : ℕ) → slice_get (xs ++ y ∷ ys) (length xs) ≡ Some y
-at_border [] ys y = refl
-at_border (x ∷ xs) ys y = at_border xs ys y
 
 pub entry_first_dropped : (e : ℕ × ℕ) (es : List (ℕ × ℕ)) → Lacks e.0 (items_of es) → without_entry e.0 (e ∷ es) ≡ es
 entry_first_dropped e es l = rw (test_drops e.0 e.0 refl) (entries_absent e.0 es l)
 
-pub entry_last_dropped : (e : ℕ × ℕ) (es : List (ℕ × ℕ)) → Lacks e.0 (items_of es) → without_entry e.0 (es ++ e ∷ []) ≡ es
-entry_last_dropped e [] l = rw (test_drops e.0 e.0 refl) refl
-entry_last_dropped e (x ∷ es) l = rw (test_keeps x.0 e.0 l.0) (ap (λ r. x ∷ r) (entry_last_dropped e es l.1))
 
 -- an item leaves the middle
 pub differ_without : (xs ys : List ℕ) (x : ℕ) → Differ (xs ++ x ∷ ys) → Differ (xs ++ ys)

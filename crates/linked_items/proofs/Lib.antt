@@ -2,5 +2,4 @@ pub mod ItemLemmas
 pub mod LineLemmas
 pub mod ListLemmas
 pub mod TableLemmas
-pub mod WalkLemmas
 pub mod StrideLemmas

@@ -187,20 +187,6 @@ pushed_last l mid l' es e is none up count f t h =
       count = let long = length-append es (e ∷ []) in let n = is.count in let m = set.count in omega arith;
     }
 
--- a node is put at the front
-pub pushed_first : (l mid l' : Links) (es : List Linked) (e : Linked) → IsLine l es → get l.nodes e.key ≡ None → Updates l.nodes mid.nodes e.key (Some (node_of e None l.first)) → slab_len mid.nodes ≡ slab_len l.nodes + 1 → mid.first ≡ l.first → mid.last ≡ l.last → BeforeIsSet mid l.first (Some e.key) l' → IsLine (record { nodes = l'.nodes; first = Some e.key; last = l'.last }) (e ∷ es)
-pushed_first l mid l' es e is none up count f t h =
-    let away : IsApart e.key es = apart_of_none l.nodes e.key None es None none is.segment in
-    let kept : IsSegment mid.nodes None es None = segment_kept l.nodes mid.nodes e.key None es None (of_updates l.nodes mid.nodes e.key (Some (node_of e None l.first)) up) away is.segment in
-    let set : BackIsSet mid l' es (Some e.key) = back_is_set mid l' None es (Some e.key) (t ∙ is.tail) is.apart kept (subst (λ o. BeforeIsSet mid o (Some e.key) l') is.head h) in
-    let here : get mid.nodes e.key ≡ Some (node_of e None (first_of es None)) = up.changed ∙ ap (λ o. Some (node_of e None o)) is.head in
-    let moved : IsSegment l'.nodes None (e ∷ []) (first_of es None) = set.rest None (e ∷ []) (first_of es None) (away, is.apart) (here, tt) in record {
-      segment = (moved.0, set.segment);
-      apart = (away, is.apart);
-      head = refl;
-      tail = set.last;
-      count = let n = is.count in let m = set.count in omega arith;
-    }
 
 -- a node is taken out
 pub taken : (l mid l' l'' : Links) (xs ys : List Linked) (e : Linked) (n : Node) → IsLine l (xs ++ e ∷ ys) → get l.nodes e.key ≡ Some n → Updates l.nodes mid.nodes e.key None → slab_len mid.nodes + 1 ≡ slab_len l.nodes → mid.first ≡ l.first → mid.last ≡ l.last → AfterIsSet mid n.before n.after l' → BeforeIsSet l' n.after n.before l'' → IsLine l'' (xs ++ ys)

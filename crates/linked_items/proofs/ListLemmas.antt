@@ -101,14 +101,6 @@ tied_last slots slots' es e t g = record {
   ];
 }
 
-pub tied_first : (slots slots' : List Slot) (es : List Linked) (e : Linked) → IsTied slots es → Gains slots slots' e.item e.key → IsTied slots' (e ∷ es)
-tied_first slots slots' es e t g = record {
-  placed = λ q k h. elim h [
-    | inl c ↦ subst (λ x. Has slots' x k) c.0 (subst (λ x. Has slots' e.item x) c.1 g.here)
-    | inr a ↦ g.kept q k (t.placed q k a)
-  ];
-  listed = λ q k h. elim (g.only q k h) [ inl a ↦ inr (t.listed q k a) | inr b ↦ inl (sym b.0, sym b.1) ];
-}
 
 pub tied_without : (slots slots' : List Slot) (xs ys : List Linked) (e : Linked) → Differ (node_items (xs ++ e ∷ ys)) → IsTied slots (xs ++ e ∷ ys) → Loses slots slots' e.item → IsTied slots' (xs ++ ys)
 tied_without slots slots' xs ys e d t g =
@@ -164,12 +156,6 @@ list_last l l' slots slots' es e is lacks line gains = record {
   differ = subst Differ (sym (node_items_joined es (e ∷ []))) (differ_snoc (node_items es) e.item is.differ lacks);
 }
 
-pub list_first : (l l' : Links) (slots slots' : List Slot) (es : List Linked) (e : Linked) → IsItemList l slots es → Lacks e.item (node_items es) → IsLine l' (e ∷ es) → Gains slots slots' e.item e.key → IsItemList l' slots' (e ∷ es)
-list_first l l' slots slots' es e is lacks line gains = record {
-  line = line;
-  tied = tied_first slots slots' es e is.tied gains;
-  differ = (lacks, is.differ);
-}
 
 pub list_without : (l l' : Links) (slots slots' : List Slot) (xs ys : List Linked) (e : Linked) → IsItemList l slots (xs ++ e ∷ ys) → IsLine l' (xs ++ ys) → Loses slots slots' e.item → IsItemList l' slots' (xs ++ ys)
 list_without l l' slots slots' xs ys e is line loses = record {
@@ -241,20 +227,6 @@ last_line : (l : Links) (es : List Linked) (k : ℕ) → IsLine l es → l.last 
 last_line l [] k is h = absurd (cc (is.tail, h))
 last_line l (e ∷ es) k is h = subst (λ o. LastFound l.nodes o (e ∷ es)) (sym is.tail ∙ h) (last_found l.nodes None None e es is.segment)
 
-pub last_some : (l : Links) (es : List Linked) (k : ℕ) (n : Node) → IsLine l es → l.last ≡ Some k → get l.nodes k ≡ Some n → slice_get (pairs es) (length (pairs es) - 1) ≡ Some (n.item, n.number)
-last_some l es k n is h found =
-    let r : LastFound l.nodes (Some k) es = last_line l es k is h in
-    let k_is : k ≡ r.key = (let t = r.there in cc) in
-    let node : Some n ≡ Some r.node = sym found ∙ ap (get l.nodes) k_is ∙ r.found in
-    let n_is : n ≡ r.node = cc in
-    ap (λ m. slice_get (pairs es) (m - 1)) (length_pairs es) ∙ r.seen ∙ ap (λ m. Some (m.item, m.number)) (sym n_is)
-
-pub last_held : (l : Links) (es : List Linked) (k : ℕ) → IsLine l es → l.last ≡ Some k → get l.nodes k ≡ None → ⊥
-last_held l es k is h none =
-    let r : LastFound l.nodes (Some k) es = last_line l es k is h in
-    let k_is : k ≡ r.key = (let t = r.there in cc) in
-    let node : None ≡ Some r.node = sym none ∙ ap (get l.nodes) k_is ∙ r.found in
-    cc
 
 -- what the table finds is what the list has
 pub found_is : (slots : List Slot) (es : List Linked) (entries : List (ℕ × ℕ)) (item : ℕ) (o : Option ℕ) (b : Bool) → IsTied slots es → pairs es ≡ entries → b ≡ is_some o → IfSome o (λ k. Has slots item k) → IfNone o ((k : ℕ) → Has slots item k → ⊥) → IsTrue b ↔ Contains (items_of entries) item

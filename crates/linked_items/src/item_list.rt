@@ -58,6 +58,7 @@ impl ItemList {
         }
         self.places.reserve(n)?;
         self.links.nodes.reserve(n)?;
+        // That it fits `usize` is known of a room that is asked.
         let _room = self.links.nodes.capacity();
         self.limit = len + n;
         Ok(())
@@ -78,13 +79,6 @@ impl ItemList {
         self.limit - self.links.nodes.len()
     }
 
-    /// Whether the item is there.
-    pub fn contains(&self, item: u32) -> bool
-        ensures { IsTrue result ↔ Contains (items_of self.now.entries) item }
-    {
-        self.places.find(item).is_some()
-    }
-
     /// Puts an item at the end.
     pub fn push_last(&mut self, item: u32, number: u64)
         requires room { 0 < self.old.spare }
@@ -92,16 +86,6 @@ impl ItemList {
         ensures { self.new ≡ item_list (self.old.entries ++ (item, number) ∷ []) (self.old.spare - 1) }
     {
         let key = self.links.push_last(item, number);
-        self.places.insert(item, key);
-    }
-
-    /// Puts an item at the front.
-    pub fn push_first(&mut self, item: u32, number: u64)
-        requires room { 0 < self.old.spare }
-        requires absent { Contains (items_of self.old.entries) item → ⊥ }
-        ensures { self.new ≡ item_list ((item, number) ∷ self.old.entries) (self.old.spare - 1) }
-    {
-        let key = self.links.push_first(item, number);
         self.places.insert(item, key);
     }
 
@@ -123,24 +107,5 @@ impl ItemList {
             Some(node) => Some((node.item, node.number)),
             None => None,
         }
-    }
-
-    /// The last item with its number.
-    pub fn last(&self) -> Option<(u32, u64)>
-        ensures { result ≡ slice_get self.now.entries (length self.now.entries - 1) }
-    {
-        let key = self.links.last?;
-        match self.links.nodes.get(key) {
-            Some(node) => Some((node.item, node.number)),
-            None => None,
-        }
-    }
-
-    /// How many items stand before this one.
-    pub fn rank_of(&self, item: u32) -> usize
-        requires { Contains (items_of self.now.entries) item }
-        ensures { slice_get (items_of self.now.entries) result ≡ Some item }
-    {
-        self.links.rank(item)
     }
 }

@@ -85,25 +85,6 @@ impl Links {
         key
     }
 
-    /// Puts an item at the front of the line, under a new key.
-    pub fn push_first(&mut self, item: u32, number: u64) -> usize
-        requires { HasRoomFor self.old.nodes 1 }
-        ensures line { (es : List Linked) → IsLine self.old es → IsLine self.new (linked result item number ∷ es) }
-        ensures count { slab_len self.new.nodes ≡ slab_len self.old.nodes + 1 }
-        ensures capacity { self.new.nodes.capacity ≡ self.old.nodes.capacity }
-    {
-        let after = self.first;
-        let key = self.nodes.insert_reserved(Node {
-            item,
-            number,
-            before: None,
-            after,
-        });
-        self.set_before(after, Some(key));
-        self.first = Some(key);
-        key
-    }
-
     /// Takes the node at `key` out of the line.
     pub fn take(&mut self, key: usize) -> Node
         requires { IsSome (get self.old.nodes key) }
@@ -116,28 +97,5 @@ impl Links {
         self.set_after(node.before, node.after);
         self.set_before(node.after, node.before);
         node
-    }
-
-    /// How many nodes stand before that of the item.
-    pub fn rank(&self, item: u32) -> usize
-        requires { (es : List Linked) × IsLine self.now es × Contains (node_items es) item }
-        ensures { (es : List Linked) → IsLine self.now es → slice_get (node_items es) result ≡ Some item }
-    {
-        let mut at = self.first;
-        for rank in 0..self.nodes.len() {
-            match at {
-                None => unreachable!(),
-                Some(key) => match self.nodes.get(key) {
-                    None => unreachable!(),
-                    Some(node) => {
-                        if node.item == item {
-                            return rank;
-                        }
-                        at = node.after;
-                    }
-                },
-            }
-        }
-        unreachable!()
     }
 }

@@ -60,8 +60,8 @@ abbrev twice : ℕ → List Line → List Line
 twice n lines = take (n + 1) lines ++ drop n lines
 
 -- it is left out
-abbrev without : ℕ → List Line → List Line
-without n lines = take n lines ++ drop (n + 1) lines
+abbrev lines_without : ℕ → List Line → List Line
+lines_without n lines = take n lines ++ drop (n + 1) lines
 
 -- another stands before it
 abbrev before : ℕ → Line → List Line → List Line
@@ -116,10 +116,10 @@ rows =
     ∷ row (before 8 (Line.Into 1 none) thrown) (Law.NothingAfterEnd ∷ [])
     ∷ row (before 9 (Line.Start 1 (codes "w")) thrown) (Law.NothingAfterEnd ∷ [])
     -- no law asks that a greenlet ends
-    ∷ row (without 11 linked) []
-    ∷ row (without 7 thrown) []
+    ∷ row (lines_without 11 linked) []
+    ∷ row (lines_without 7 thrown) []
     -- a link before its greenlet's end, or called twice
-    ∷ row (without 3 linked) (Law.LinksAfterEnd ∷ [])
+    ∷ row (lines_without 3 linked) (Law.LinksAfterEnd ∷ [])
     ∷ row (twice 8 linked) (Law.LinksAfterEnd ∷ [])
     ∷ row (twice 12 linked) (Law.LinksAfterEnd ∷ [])
     ∷ row (before 3 (Line.Link 2 1 (LinkCall.Mark 8)) linked) (Law.LinksAfterEnd ∷ [])
@@ -127,7 +127,7 @@ rows =
     ∷ row (instead 12 (Line.Link 3 0 (LinkCall.Mark 8)) linked) (Law.LinksAfterEnd ∷ [])
     -- a throw at a greenlet that has not parked; one that has no line may be killed
     ∷ row thrown []
-    ∷ row (without 3 thrown) (Law.ThrowsAtParked ∷ [])
+    ∷ row (lines_without 3 thrown) (Law.ThrowsAtParked ∷ [])
     ∷ row (twice 6 thrown) (Law.ThrowsAtParked ∷ [])
     ∷ row (before 6 (Line.Resume 1 Resumed.Late) thrown) (Law.ThrowsAtParked ∷ [])
     ∷ row (before 5 (killed 0) thrown) (Law.ThrowsAtParked ∷ [])
@@ -142,14 +142,14 @@ rows =
     ∷ row (instead 7 (Line.Turn 2 (Answer.Elapsed 9)) posted) []
     -- a job that was not posted, is done twice, or comes to another outcome
     ∷ row posted []
-    ∷ row (without 2 posted) (Law.JobsDoneOnce ∷ [])
+    ∷ row (lines_without 2 posted) (Law.JobsDoneOnce ∷ [])
     ∷ row (twice 2 posted) (Law.JobsDoneOnce ∷ [])
     ∷ row (twice 7 posted) (Law.JobsDoneOnce ∷ [])
     ∷ row (before 1 (done 0 1 (JobOutcome.Int (pos 6)) 0) posted) (Law.JobsDoneOnce ∷ [])
     ∷ row (instead 5 (done 1 3 (JobOutcome.Int (pos 4)) 7) posted) (Law.JobsDoneOnce ∷ [])
     ∷ row (instead 7 (done 2 1 (JobOutcome.Int (pos 7)) 9) posted) (Law.JobsDoneOnce ∷ [])
     ∷ row (instead 5 (done 1 2 (JobOutcome.Fault (FaultKind.Error (pos 4))) 7) posted) (Law.JobsDoneOnce ∷ [])
-    ∷ row (without 5 posted) []
+    ∷ row (lines_without 5 posted) []
     ∷ []
 
 each_breaks_its_law : map (λ (r : Row). broken r.lines) rows ≡ map (λ (r : Row). r.breaks) rows

@@ -18,7 +18,7 @@ use Rattle.stream_server.specs.Services.{AreBeside, IsHeldFrom, IsReleased}
 use Rattle.stream_server.specs.Keeping.{HasAccepted, IsServing, IsServingBut, IsStill}
 use Rattle.stream_server.specs.Steps.{Free, IsCalm, IsCut, IsGoing, IsOpen, IsOver, IsResting, OnlyAt}
 use Rattle.stream_server.specs.Tables.{AreAdmitted, AreAdmittedBut, IsListed, Relists, SeenTable, client_count, with_members}
-use Rattle.stream_server.proofs.Members.{admitted_still, listed_again, none_admitted, one_admitted, released, taken_out}
+use Rattle.stream_server.proofs.Admissions.{admitted_still, listed_again, none_admitted, one_admitted, released, taken_out}
 use Rattle.stream_server.proofs.Stepping.{changed_length, only_length, only_none}
 use Rattle.stream_server.proofs.Turns as turns
 

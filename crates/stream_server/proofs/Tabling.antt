@@ -13,7 +13,6 @@ use Rattle.linked_items.specs.declared.places.Slot.TheVariants.{Held}
 use Rattle.linked_items.specs.Table.{Has, Gains, IsOnce, Loses, slot_at}
 use Rattle.linked_items.specs.Items.{Differ, Lacks}
 use Rattle.due_timers.specs.declared.heap.Timer.{Timer}
-use Rattle.groups_pools.specs.Seen.{SeenCrew}
 use Rattle.due_timers.specs.SeenTimers.{items_in}
 use Rattle.stream_server.specs.declared.client.Client.{Client}
 use Rattle.stream_server.specs.Tables.{SeenTable, IsListed, IsAbsent, Relists}
@@ -281,8 +280,8 @@ its_number clients k key g s is = ap (λ (x : Client _). x.conn) (some_same g s.
 -- a table that a client has left
 pub less_sound : {T : Type 0} (h i : Inside T) (x key : ℕ) (t : Timer) → IsSound h → Differ (items_in h.timers.timers) → t.item ≡ x → IsPermutation h.timers.timers (t ∷ i.timers.timers)
     → Has h.places.slots x key → Loses h.places.slots i.places.slots x → Updates h.clients i.clients key None → i.limit ≡ h.limit → slab_len i.clients + 1 ≡ slab_len h.clients
-    → i.clients.capacity ≡ h.clients.capacity → i.crew ≡ h.crew → i.places.spare ≡ h.places.spare + 1 → i.timers.spare ≡ h.timers.spare + 1 → IsSound i
-less_sound h i x key t s differ is moves here loses updates limit len capacity crew places timers =
+    → i.clients.capacity ≡ h.clients.capacity → i.places.spare ≡ h.places.spare + 1 → i.timers.spare ≡ h.timers.spare + 1 → IsSound i
+less_sound h i x key t s differ is moves here loses updates limit len capacity places timers =
     let long = length_permutation h.timers.timers (t ∷ i.timers.timers) moves in
     record {
       stands = stands_less h.places.slots i.places.slots h.clients i.clients x key s.stands here loses updates;
@@ -293,8 +292,6 @@ less_sound h i x key t s differ is moves here loses updates limit len capacity c
       room = omega (arith, s.room, capacity, limit);
       places_room = omega (arith, s.places_room, places, len, limit);
       timers_room = omega (arith, s.timers_room, timers, len, limit);
-      size = ap (λ (c : SeenCrew). c.size) crew ∙ s.size ∙ ap Some (sym limit);
-      none_waits = ap (λ (c : SeenCrew). c.places) crew ∙ s.none_waits;
     }
 
 -- the client of a timer that was taken
@@ -313,9 +310,8 @@ due_place places clients ts us t x tied moves is =
 
 -- an empty table
 pub new_sound : {T : Type 0} (h : Inside T) → h.clients.slots ≡ [] → ((q k : ℕ) → Has h.places.slots q k → ⊥) → h.timers.timers ≡ [] → slab_len h.clients + h.limit ≤ h.clients.capacity
-    → h.limit ≤ h.places.spare → h.limit ≤ h.timers.spare
-    → h.crew.size ≡ Some h.limit → h.crew.places ≡ [] → IsSound h
-new_sound h clients places timers room places_room timers_room size none_waits =
+    → h.limit ≤ h.places.spare → h.limit ≤ h.timers.spare → IsSound h
+new_sound h clients places timers room places_room timers_room =
     let len : slab_len h.clients ≡ 0 = ap (λ (xs : List (Option _)). count_by is_some xs) clients in
     let long : length h.timers.timers ≡ 0 = ap (λ (ts : List Timer). length ts) timers in
     record {
@@ -327,13 +323,11 @@ new_sound h clients places timers room places_room timers_room size none_waits =
       room = omega (arith, len, room);
       places_room = omega (arith, places_room);
       timers_room = omega (arith, timers_room);
-      size = size;
-      none_waits = none_waits;
     }
 
 -- members come and go
-pub crew_sound : {T : Type 0} (h : Inside T) (crew : SeenCrew) → IsSound h → crew.size ≡ h.crew.size → crew.places ≡ h.crew.places → IsSound (record h { crew = crew })
-crew_sound h crew s size places = record {
+pub members_sound : {T : Type 0} (h : Inside T) (members : List ℕ) → IsSound h → IsSound (record h { members = members })
+members_sound h members s = record {
   stands = s.stands;
   timed = s.timed;
   tied = s.tied;
@@ -342,6 +336,4 @@ crew_sound h crew s size places = record {
   room = s.room;
   places_room = s.places_room;
   timers_room = s.timers_room;
-  size = size ∙ s.size;
-  none_waits = places ∙ s.none_waits;
 }

@@ -1,5 +1,6 @@
 pub mod Answering
 pub mod Keeping
+pub mod Members
 pub mod Protocols
 pub mod Ranges
 pub mod Running

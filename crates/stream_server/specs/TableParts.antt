@@ -1,5 +1,5 @@
 -- What holds of the fields of a `ClientTable`.
-use Rattle.std.specs.Prelude.{◌≡◌, ℕ, ◌+◌, ◌≤◌, List, [], length, Some}
+use Rattle.std.specs.Prelude.{◌≡◌, ℕ, ◌+◌, ◌≤◌, List, length, Some}
 use Rattle.std.specs.List.{All, Contains}
 use Rattle.slab.specs.Slab.{Slab, get, slab_len}
 use Rattle.linked_items.specs.declared.places.Slot.{Slot}
@@ -21,7 +21,7 @@ pub record IsTied {T : Type 0} (places : List Slot) (clients : Slab (Client T)) 
   pub placed : Has places t.item key
   pub deadline : (j : ℕ) (client : Client T) → Has places t.item j → get clients j ≡ Some client → client.deadline ≡ t.deadline
 
--- the three agree, there is room for so many, and the crew has as many places, for which nobody waits
+-- the three agree, and there is room for so many
 pub record IsSound {T : Type 0} (h : Inside T) : Type 0 where
   pub stands : (k key : ℕ) → Has h.places.slots k key → Stands h.clients k key
   pub timed : (k key : ℕ) → Has h.places.slots k key → Contains (items_in h.timers.timers) k
@@ -31,5 +31,3 @@ pub record IsSound {T : Type 0} (h : Inside T) : Type 0 where
   pub room : h.limit ≤ h.clients.capacity
   pub places_room : h.limit ≤ slab_len h.clients + h.places.spare
   pub timers_room : h.limit ≤ slab_len h.clients + h.timers.spare
-  pub size : h.crew.size ≡ Some h.limit
-  pub none_waits : h.crew.places ≡ []

@@ -4,8 +4,8 @@ use Rattle.std.specs.List.{Contains}
 use Rattle.slab.specs.Slab.{Slab, get, slab_len}
 use Rattle.linked_items.specs.declared.places.Slot.{Slot}
 use Rattle.linked_items.specs.Table.{Has}
-use Rattle.groups_pools.specs.Seen.{AreBelow}
 use Rattle.stream_server.specs.declared.client.Client.{Client}
+use Rattle.stream_server.specs.Members.{AreBelow}
 
 -- the clients in a slab, the key of each by its number, the numbers that were admitted, and how many fit
 pub record SeenTable (T : Type 0) : Type 0 where

@@ -5,6 +5,7 @@ mod answering;
 mod client;
 mod exchange;
 mod limits;
+mod members;
 mod rounds;
 mod service;
 mod table;

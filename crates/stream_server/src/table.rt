@@ -1,14 +1,14 @@
-//! The clients of a server, by their numbers and by their deadlines, and the crew that has a place for each.
+//! The clients of a server, by their numbers and by their deadlines, and the members, who have a place each.
 ghost use Rattle.std.specs.Prelude.{◌≡◌, ◌↔◌, ℕ, ◌+◌, ◌<◌, ◌≤◌, ◌==◌, ◌++◌, [], ◌∷◌, length, IfOk, IfNone, IfSome, IsSome, IsTrue, OnErr, OnOk, Option, Some, None};
 ghost use Rattle.std.specs.List.{Contains};
 ghost use Rattle.std.specs.Option.{option_copied};
 ghost use Rattle.linked_items.specs.Items.{Differ, without_number};
 ghost use Rattle.due_timers.specs.SeenTimers.{items_in};
-ghost use Rattle.groups_pools.specs.Seen.{AreBelow};
+ghost use Rattle.stream_server.specs.Members.{AreBelow};
 
 use crate::client::Client;
+use crate::members::Members;
 use due_timers::Timers;
-use groups_pools::Crew;
 use linked_items::places::Places;
 use slab::Slab;
 use std::alloc::{AllocError, Global};
@@ -26,7 +26,7 @@ pub struct ClientTable<T> {
     // The deadline of each client.
     timers: Timers,
     // The numbers of the live connections.
-    crew: Crew,
+    members: Members,
     // So many fit.
     limit: u32,
 }
@@ -43,7 +43,7 @@ impl<T> Model for ClientTable<T> {
 
     ghost Value = { SeenTable T };
 
-    ghost view = { λ h. record { places = h.places.slots; clients = h.clients; members = h.crew.members; limit = h.limit } };
+    ghost view = { λ h. record { places = h.places.slots; clients = h.clients; members = h.members; limit = h.limit } };
 
     ghost use Rattle.stream_server.specs.TableParts.{IsSound};
 
@@ -67,12 +67,11 @@ impl<T: Drop> ClientTable<T> {
         places.reserve(limit as usize)?;
         let mut timers = Timers::new(alloc);
         timers.reserve(limit as usize)?;
-        let crew = Crew::new(alloc, Some(limit))?;
         Ok(ClientTable {
             clients,
             places,
             timers,
-            crew,
+            members: Members::new(alloc),
             limit,
         })
     }
@@ -81,7 +80,7 @@ impl<T: Drop> ClientTable<T> {
     pub fn has_place(&self) -> bool
         ensures { IsTrue result ↔ (length self.now.members < self.now.limit) }
     {
-        self.crew.admit_now()
+        self.members.len() < self.limit as usize
     }
 
     /// Admits a connection. Its number is above all that were admitted. Without memory nothing is changed.
@@ -91,8 +90,7 @@ impl<T: Drop> ClientTable<T> {
         ensures ok { OnOk result (self.new ≡ with_members (self.old.members ++ conn ∷ []) self.old) }
         ensures err { OnErr result (self.new ≡ self.old) }
     {
-        self.crew.admit(conn)?;
-        Ok(())
+        self.members.admit(conn)
     }
 
     /// Lets a connection go, so that its place is free.
@@ -101,7 +99,7 @@ impl<T: Drop> ClientTable<T> {
         ensures released { self.new ≡ with_members (without_number conn self.old.members) self.old }
         ensures fewer { length self.new.members + 1 ≡ length self.old.members }
     {
-        self.crew.member_ended(conn);
+        self.members.release(conn);
     }
 
     /// Whether nobody is listed.

@@ -1,5 +1,5 @@
 use Rattle.std.proofs.Common.{arith, refl, sym, subst}
-use Rattle.groups_pools.specs.Seen.{AreBelow}
+use Rattle.stream_server.specs.Members.{AreBelow}
 use Rattle.stream_server.proofs.Rounding.{begun_going, new_left, running_left, running_listens, running_new, running_rests, running_same, same_fault}
 use Rattle.stream_server.specs.declared.rounds.RoundFault.{RoundFault}
 use Rattle.stream_server.proofs.rounds.accept_client.Goals as goal

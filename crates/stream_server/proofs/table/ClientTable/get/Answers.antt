@@ -18,10 +18,10 @@ returns-clause-here g c =
     let h = c.self.inside in
     let found = c.in-Some.ensures.found in
     subst (λ (s : SeenTable g.row.T.Denot). IsListed s c.args.conn (option_copied c.get.result)) c.self.view_is
-    (here_listed h.places.slots h.clients h.crew.members h.limit c.args.conn c.in-Some.key (option_copied c.get.result) found (c.self.invariant.stands c.args.conn c.in-Some.key found) c.get.ensures)
+    (here_listed h.places.slots h.clients h.members h.limit c.args.conn c.in-Some.key (option_copied c.get.result) found (c.self.invariant.stands c.args.conn c.in-Some.key found) c.get.ensures)
 
 pub returns-clause-only : goal.returns-clause-only
 returns-clause-only g c =
     let h = c.self.inside in
     subst (λ (s : SeenTable g.row.T.Denot). (slot : Option (Client g.row.T.Denot)) → IsListed s c.args.conn slot → slot ≡ option_copied c.get.result) c.self.view_is
-    (only_listed h.places.slots h.clients h.crew.members h.limit c.args.conn c.in-Some.key (option_copied c.get.result) c.in-Some.ensures.once c.in-Some.ensures.found c.get.ensures)
+    (only_listed h.places.slots h.clients h.members h.limit c.args.conn c.in-Some.key (option_copied c.get.result) c.in-Some.ensures.once c.in-Some.ensures.found c.get.ensures)

@@ -10,19 +10,19 @@ pub add-requires-clause-absent : goal.add-requires-clause-absent
 add-requires-clause-absent g c =
     let h = c.self.inside in
     no_timer h.places.slots h.clients h.timers.timers c.args.client.conn c.self.invariant.tied
-    (no_place h.places.slots h.clients h.crew.members h.limit c.args.client.conn c.self.invariant.stands (subst (λ (s : SeenTable g.row.T.Denot). IsAbsent s c.args.client.conn) (sym c.self.view_is) c.requires.absent))
+    (no_place h.places.slots h.clients h.members h.limit c.args.client.conn c.self.invariant.stands (subst (λ (s : SeenTable g.row.T.Denot). IsAbsent s c.args.client.conn) (sym c.self.view_is) c.requires.absent))
 
 pub insert-requires-clause-absent : goal.insert-requires-clause-absent
 insert-requires-clause-absent g c =
     let h = c.self.inside in
-    no_place h.places.slots h.clients h.crew.members h.limit c.args.client.conn c.self.invariant.stands (subst (λ (s : SeenTable g.row.T.Denot). IsAbsent s c.args.client.conn) (sym c.self.view_is) c.requires.absent)
+    no_place h.places.slots h.clients h.members h.limit c.args.client.conn c.self.invariant.stands (subst (λ (s : SeenTable g.row.T.Denot). IsAbsent s c.args.client.conn) (sym c.self.view_is) c.requires.absent)
 
 pub invariant_of-self : goal.invariant_of-self
 invariant_of-self g c =
     let h = c.self.inside in
     let was = c.self.invariant in
     let absent : (j : ℕ) → Has h.places.slots c.args.client.conn j → ⊥ =
-    no_place h.places.slots h.clients h.crew.members h.limit c.args.client.conn was.stands (subst (λ (s : SeenTable g.row.T.Denot). IsAbsent s c.args.client.conn) (sym c.self.view_is) c.requires.absent) in
+    no_place h.places.slots h.clients h.members h.limit c.args.client.conn was.stands (subst (λ (s : SeenTable g.row.T.Denot). IsAbsent s c.args.client.conn) (sym c.self.view_is) c.requires.absent) in
     let add = c.add.ensures in
     let put = c.insert_reserved-key.ensures in
     let place = c.insert.ensures in
@@ -37,8 +37,6 @@ invariant_of-self g c =
       room = omega (arith, was.room, put.capacity);
       places_room = omega (arith, was.places_room, place.spare, put.len);
       timers_room = omega (arith, was.timers_room, add.spare, put.len);
-      size = was.size;
-      none_waits = was.none_waits;
     }
 
 pub returns-clause-relists : goal.returns-clause-relists
@@ -46,9 +44,9 @@ returns-clause-relists g c =
     let h = c.self.inside in
     let was = c.self.invariant in
     let absent : (j : ℕ) → Has h.places.slots c.args.client.conn j → ⊥ =
-    no_place h.places.slots h.clients h.crew.members h.limit c.args.client.conn was.stands (subst (λ (s : SeenTable g.row.T.Denot). IsAbsent s c.args.client.conn) (sym c.self.view_is) c.requires.absent) in
+    no_place h.places.slots h.clients h.members h.limit c.args.client.conn was.stands (subst (λ (s : SeenTable g.row.T.Denot). IsAbsent s c.args.client.conn) (sym c.self.view_is) c.requires.absent) in
     let put = c.insert_reserved-key.ensures in
     let place = c.insert.ensures in
-    let now : SeenTable g.row.T.Denot = record { places = c.insert.new.self.slots; clients = c.insert_reserved-key.new.self; members = h.crew.members; limit = h.limit } in
+    let now : SeenTable g.row.T.Denot = record { places = c.insert.new.self.slots; clients = c.insert_reserved-key.new.self; members = h.members; limit = h.limit } in
     subst (λ (s : SeenTable g.row.T.Denot). Relists s now c.args.client.conn (Some c.args.client)) c.self.view_is
-    (relists_more h.places.slots c.insert.new.self.slots h.clients c.insert_reserved-key.new.self c.args.client c.insert_reserved-key.result was.stands absent place.gains put.was_vacant put.updates h.crew.members h.limit)
+    (relists_more h.places.slots c.insert.new.self.slots h.clients c.insert_reserved-key.new.self c.args.client c.insert_reserved-key.result was.stands absent place.gains put.was_vacant put.updates h.members h.limit)

@@ -18,7 +18,7 @@ invariant_of-self g c =
     let h = c.self.inside in
     let t = c.cancel.ensures.taken in
     less_sound h _ c.args.conn c.in-Some.key t.timer c.self.invariant c.timers_differ.ensures t.item_is t.rest
-    c.in-Some.ensures.found c.remove.ensures.loses c.remove-2.ensures.updates refl c.remove-2.ensures.len c.remove-2.ensures.capacity refl c.remove.ensures.spare c.cancel.ensures.spare
+    c.in-Some.ensures.found c.remove.ensures.loses c.remove-2.ensures.updates refl c.remove-2.ensures.len c.remove-2.ensures.capacity c.remove.ensures.spare c.cancel.ensures.spare
 
 pub returns-clause-number : goal.returns-clause-number
 returns-clause-number g c =
@@ -27,6 +27,6 @@ returns-clause-number g c =
 pub returns-clause-relists : goal.returns-clause-relists
 returns-clause-relists g c =
     let h = c.self.inside in
-    let now : SeenTable g.row.T.Denot = record { places = c.remove.new.self.slots; clients = c.remove-2.new.self; members = h.crew.members; limit = h.limit } in
+    let now : SeenTable g.row.T.Denot = record { places = c.remove.new.self.slots; clients = c.remove-2.new.self; members = h.members; limit = h.limit } in
     subst (λ (s : SeenTable g.row.T.Denot). Relists s now c.args.conn None) c.self.view_is
-    (relists_less h.places.slots c.remove.new.self.slots h.clients c.remove-2.new.self c.args.conn c.in-Some.key c.self.invariant.stands c.in-Some.ensures.found c.remove.ensures.loses c.remove-2.ensures.updates h.crew.members h.limit)
+    (relists_less h.places.slots c.remove.new.self.slots h.clients c.remove-2.new.self c.args.conn c.in-Some.key c.self.invariant.stands c.in-Some.ensures.found c.remove.ensures.loses c.remove-2.ensures.updates h.members h.limit)

@@ -16,13 +16,13 @@ invariant_of-self-2 g c =
     let h = c.self.inside in
     let t = c.in-Some.ensures.taken in
     less_sound h _ c.in-Some.conn c.remove-key.result t.timer c.self.invariant c.timers_differ.ensures t.item_is t.rest
-    c.remove-key.ensures.place c.remove-key.ensures.loses c.remove.ensures.updates refl c.remove.ensures.len c.remove.ensures.capacity refl c.remove-key.ensures.spare c.in-Some.ensures.spare
+    c.remove-key.ensures.place c.remove-key.ensures.loses c.remove.ensures.updates refl c.remove.ensures.len c.remove.ensures.capacity c.remove-key.ensures.spare c.in-Some.ensures.spare
 
 pub returns-clause-was : goal.returns-clause-was
 returns-clause-was g c =
     let h = c.self.inside in
     let at = its_number h.clients c.in-Some.conn c.remove-key.result c.remove.result (c.self.invariant.stands c.in-Some.conn c.remove-key.result c.remove-key.ensures.place) c.remove.ensures.value in
-    let was : SeenTable g.row.T.Denot = record { places = h.places.slots; clients = h.clients; members = h.crew.members; limit = h.limit } in
+    let was : SeenTable g.row.T.Denot = record { places = h.places.slots; clients = h.clients; members = h.members; limit = h.limit } in
     subst (λ (s : SeenTable g.row.T.Denot). IsListed s c.remove.result.conn (Some c.remove.result)) c.self.view_is
     (subst (λ (n : ℕ). IsListed was n (Some c.remove.result)) (sym at) (c.remove-key.result, c.remove-key.ensures.place, c.remove.ensures.value))
 
@@ -36,7 +36,7 @@ pub returns-clause-relists : goal.returns-clause-relists
 returns-clause-relists g c =
     let h = c.self.inside in
     let at = its_number h.clients c.in-Some.conn c.remove-key.result c.remove.result (c.self.invariant.stands c.in-Some.conn c.remove-key.result c.remove-key.ensures.place) c.remove.ensures.value in
-    let now : SeenTable g.row.T.Denot = record { places = c.remove-key.new.self.slots; clients = c.remove.new.self; members = h.crew.members; limit = h.limit } in
+    let now : SeenTable g.row.T.Denot = record { places = c.remove-key.new.self.slots; clients = c.remove.new.self; members = h.members; limit = h.limit } in
     subst (λ (s : SeenTable g.row.T.Denot). Relists s now c.remove.result.conn None) c.self.view_is
-    (subst (λ (n : ℕ). Relists (record { places = h.places.slots; clients = h.clients; members = h.crew.members; limit = h.limit }) now n None) (sym at)
-    (relists_less h.places.slots c.remove-key.new.self.slots h.clients c.remove.new.self c.in-Some.conn c.remove-key.result c.self.invariant.stands c.remove-key.ensures.place c.remove-key.ensures.loses c.remove.ensures.updates h.crew.members h.limit))
+    (subst (λ (n : ℕ). Relists (record { places = h.places.slots; clients = h.clients; members = h.members; limit = h.limit }) now n None) (sym at)
+    (relists_less h.places.slots c.remove-key.new.self.slots h.clients c.remove.new.self c.in-Some.conn c.remove-key.result c.self.invariant.stands c.remove-key.ensures.place c.remove-key.ensures.loses c.remove.ensures.updates h.members h.limit))
