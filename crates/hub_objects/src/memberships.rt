@@ -1,8 +1,8 @@
 //! Of which groups and pools a greenlet may be a member: kept by greenlet, so that at its end nobody looks for it at the
-//! others.
-ghost use Rattle.std.specs.Prelude.{◌≡◌, ◌<◌, ℕ, false, length, slice_set, IfSome, OnOk};
+//! others, nor at its own any further than where it stands.
+ghost use Rattle.std.specs.Prelude.{◌≡◌, ◌<◌, length, slice_set, OnErr, OnOk};
 ghost use Rattle.hub_objects.specs.declared.memberships.Membership.{Membership as AnyMembership};
-ghost use Rattle.hub_objects.specs.Memberships.{AreStill, is_outside, joined, membership_in};
+ghost use Rattle.hub_objects.specs.Memberships.{AreJoined, AreSame, joined, membership_in};
 
 use std::alloc::AllocError;
 
@@ -11,7 +11,7 @@ use std::alloc::AllocError;
 pub enum Membership {
     /// Of none.
     Nowhere,
-    /// Of the one of this number alone.
+    /// Of the one of this number alone, and there once at most.
     At(u32),
     /// Of each.
     Anywhere,
@@ -39,7 +39,7 @@ fn joined(membership: Membership, o: u32) -> Membership
 
 /// Makes a place for the greenlet. `AllocError`: memory is wanting.
 fn reserve_for(table: &mut Vec<Membership>, g: u32) -> Result<(), AllocError>
-    ensures same { (h : ℕ) → membership_in table.new.items h ≡ membership_in table.old.items h }
+    ensures same { AreSame table.old.items table.new.items }
     ensures room { OnOk result (g < length table.new.items) }
 {
     if table.len() <= g as usize {
@@ -59,8 +59,8 @@ fn join_at(table: &mut [Membership], g: u32, o: u32)
 
 /// Notes that the greenlet, if there is one, may be a member of this object too. `AllocError`: memory is wanting.
 pub(crate) fn join(table: &mut Vec<Membership>, g: Option<u32>, o: u32) -> Result<(), AllocError>
-    ensures still { AreStill table.old.items table.new.items }
-    ensures here { OnOk result (IfSome g (λ h. is_outside o (membership_in table.new.items h) ≡ false)) }
+    ensures joined { OnOk result (AreJoined g o table.old.items table.new.items) }
+    ensures err { OnErr result (AreSame table.old.items table.new.items) }
 {
     let Some(g) = g else {
         return Ok(());

@@ -119,13 +119,15 @@ impl Objects {
     }
 
     /// Where the greenlet may be a member. Looks at no object.
+    #[tactic(auto, using(crate::proofs::Belonging::member_there))]
     pub fn membership(&self, g: u32) -> Membership
         ensures { IsMember g result self.now }
     {
         membership_in(&self.memberships, g)
     }
 
-    /// The greenlet leaves its group or pool. Looks at each member of those alone where it may be one.
+    /// The greenlet leaves its group or pool. Looks at the members of those alone where it may be one; if that is one
+    /// alone, at none behind it.
     pub fn leave(&mut self, g: u32)
         ensures { self.new ≡ map (without_member g) self.old }
     {
