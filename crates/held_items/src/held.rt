@@ -87,13 +87,13 @@ impl HeldItems {
     ///
     /// # Errors
     ///
-    /// Memory is wanting, or its place would pass 64 bits; nothing has changed.
+    /// Memory is wanting; nothing has changed.
     pub fn add(&mut self, delivery: Delivery) -> Result<u32, AllocError>
+        requires { self.old.next_since + 1 < 2 ^ 64 }
         ensures added { IfOk result (λ slot. self.new ≡ added slot delivery self.old) }
         ensures absent { IfOk result (λ slot. Lacks slot (slots_of self.old.entries)) }
         ensures err { OnErr result (self.new ≡ self.old) }
     {
-        let next = self.next_since.checked_add(1).ok_or(AllocError)?;
         let slot = make_room(
             &mut self.shelf,
             &mut self.indexes,
@@ -110,7 +110,7 @@ impl HeldItems {
             delivery,
             ready: None,
         });
-        self.next_since = next;
+        self.next_since += 1;
         Ok(slot)
     }
 

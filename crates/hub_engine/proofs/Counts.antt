@@ -1,4 +1,5 @@
--- A scenario that has a text declares no object of which more is counted than fits a number with a sign.
+-- A scenario that has a text declares no object of which more is counted than fits a number with a sign, and none that
+-- counts much.
 use Rattle.std.proofs.Common.{◌≡◌, refl, ℕ, pos, zero, suc, ◌<◌, ◌≤◌, ◌^◌, Bool, true, false, List, [], ◌∷◌, map, Some, None, arith}
 use Rattle.std.proofs.lemmas.Bool.{and_parts}
 use Rattle.std.proofs.lemmas.Bool.Decides.{nat_tests}
@@ -17,6 +18,7 @@ use Rattle.scenario_grammar.specs.Phrase.{object_tokens, phrase_tokens}
 use Rattle.scenario_grammar.specs.Token.{Written, ◌⊕◌, ◌▹◌, each, name, number, only_if}
 use Rattle.scenario_print.specs.Texts.{HasText, has_words}
 use Rattle.machine.specs.Run.{first_state, object_of}
+use Rattle.machine_counts.specs.Counts.{AreCountable, object_count}
 use Rattle.hub_objects.specs.Counted.{AreCounted, IsCounted}
 use Rattle.scenario_grammar.specs.declared.limits.TheConstants.{MOST_UNITS}
 
@@ -79,3 +81,41 @@ declared (d ∷ ds) h =
 pub text_is_counted : (c : Scenario) → HasText c → AreCounted (first_state c).objects
 unfolding scenario_lines
 text_is_counted c h = declared c.objects (split (profile_lines c.profile) (each declaration_lines c.objects) (split (profile_lines c.profile ⊕ each declaration_lines c.objects) (each function_lines c.functions) h).0).1
+
+-- ---- far below
+
+far : (x : ℕ) → x ≤ MOST_UNITS → x < 2 ^ 62
+far x h = omega (arith, h)
+
+-- what is counted of an object as it is declared is far below what its type holds
+light : (d : Declared) (n : Name) → is_some (object_tokens d n) ≡ true → object_count (Some (object_of d)) < 2 ^ 62
+light Declared.Event n h = omega arith
+light Declared.Result n h = omega arith
+light (Declared.Semaphore x) n h = far x (in_range (name n) 0 MOST_UNITS x (behind _ _ h))
+light (Declared.BoundedSemaphore x) n h = far x (in_range (name n) 0 MOST_UNITS x (behind _ _ h))
+light Declared.Lock n h = omega arith
+light (Declared.Queue kind size) n h = omega arith
+light Declared.Group n h = omega arith
+light (Declared.Pool x) n h = omega arith
+light (Declared.Native x) n h = omega arith
+light Declared.Channel n h = omega arith
+
+none-countable : AreCountable []
+none-countable o = omega arith
+
+-- the first counts little, and so do those after it
+more-countable : (d : Declaration) (ds : List Declaration) → object_count (Some (object_of d.object)) < 2 ^ 62 → AreCountable (map (λ x. object_of x.object) ds) →
+    AreCountable (map (λ x. object_of x.object) (d ∷ ds))
+more-countable d ds here rest zero = here
+more-countable d ds here rest (suc o) = rest o
+
+declared-countable : (ds : List Declaration) → AllWords (each declaration_lines ds) → AreCountable (map (λ d. object_of d.object) ds)
+declared-countable [] h = none-countable
+declared-countable (d ∷ ds) h =
+    let parts = split (declaration_lines d) (each declaration_lines ds) h in
+    more-countable d ds (light d.object d.name (written d parts.0)) (declared-countable ds parts.1)
+
+-- the objects of a scenario that has a text count little as they are declared
+pub text_is_countable : (c : Scenario) → HasText c → AreCountable (first_state c).objects
+unfolding scenario_lines
+text_is_countable c h = declared-countable c.objects (split (profile_lines c.profile) (each declaration_lines c.objects) (split (profile_lines c.profile ⊕ each declaration_lines c.objects) (each function_lines c.functions) h).0).1

@@ -139,7 +139,7 @@ alike-settled s t m = record { scenario = m.scenario; functions = m.functions }
 -- ---- what a hop leaves
 
 -- it is put down where it goes up
-abbrev put_down : Landing
+abbrev pub put_down : Landing
 put_down g o s = Next.Resting s
 
 alike-put_down : Keeps put_down

@@ -14,8 +14,10 @@ pub mod Passing
 pub mod Posting
 pub mod Readily
 pub mod Running
+pub mod Settlings
 pub mod Soundly
 pub mod Staying
 pub mod Texts
 pub mod Tying
 pub mod Trying
+pub mod Within

@@ -6,7 +6,9 @@ pub mod Onward
 pub mod Outside
 pub mod Prepared
 pub mod Ready
+pub mod Settlings
 pub mod Stands
 pub mod Tied
+pub mod Within
 pub mod Written
 pub mod Run

@@ -8,6 +8,7 @@ use Rattle.machine.specs.Greenlets.{greenlet}
 use Rattle.machine.specs.Landing.{Next}
 use Rattle.machine.specs.Run.{first_state, silent}
 use Rattle.machine_trace_laws.specs.Reached.{Reached}
+use Rattle.machine_counts.specs.Counts.{AreCountable}
 use Rattle.machine_soundness.specs.Going.{IsSoundAt}
 use Rattle.machine_well_formed.specs.Texts.{HasMain}
 
@@ -34,10 +35,11 @@ pub record IsReadyToMove (g : ℕ) (s : State) : Type 0 where
 pub record AreDeclared (s : State) : Type 0 where
   pub each : (g : ℕ) → IsFunction s.scenario (greenlet g s).function
 
--- the scenario may be run: it is well formed, and has a main
+-- the scenario may be run: it is well formed, has a main, and declares its objects with few counts
 pub record MayRun (c : Scenario) : Type 0 where
   pub well_formed : IsWellFormed c
   pub main : HasMain c
+  pub countable : AreCountable (first_state c).objects
 
 -- nothing of the run has begun
 pub record IsPrepared (s : State) : Type 0 where

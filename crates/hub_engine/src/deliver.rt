@@ -1,5 +1,5 @@
 //! The delivery of items.
-ghost use Rattle.std.specs.Prelude.{◌≡◌, ◌∷◌, [], true, Some, IsSome, IfOk};
+ghost use Rattle.std.specs.Prelude.{◌≡◌, ◌+◌, ◌∷◌, [], true, Some, IsSome, IfOk};
 ghost use Rattle.gv_values.specs.declared.value.Value.TheVariants as value;
 ghost use Rattle.machine.specs.declared.items.Item.{Item as AnyItem};
 ghost use Rattle.machine.specs.declared.items.Delivery.TheVariants as delivery;
@@ -10,12 +10,16 @@ ghost use Rattle.machine.specs.Deliveries.{called, calls, deliver, delivers, int
 ghost use Rattle.machine.specs.Run.{least_below};
 ghost use Rattle.machine_trace_laws.specs.Reached.{state_of_next};
 ghost use Rattle.machine_well_formed.specs.Texts.{fits_item, fits_link};
+ghost use Rattle.machine_counts.specs.Rooms.{HasRoom, room_of_delivery};
+ghost use Rattle.machine_counts.specs.Steps.{wait_weight};
 ghost use Rattle.hub_items.specs.Short.{DeliversShort, IsShort};
 ghost use Rattle.hub_requests.specs.Making.{MayMake};
 ghost use Rattle.hub_requests.specs.Naming.{IsNamed};
 ghost use Rattle.hub_engine.specs.Delivering.{IsDelivered, late_answer};
 ghost use Rattle.hub_engine.specs.Ready.{AreDeclared, IsReady, IsReadyAt};
+ghost use Rattle.hub_engine.specs.Settlings.{MaySettle, most_hops};
 ghost use Rattle.hub_engine.specs.Stands.{next_at};
+ghost use Rattle.hub_engine.specs.Within.{IsWithinSomehow};
 
 use crate::life::{answer_greenlet, start_body};
 use crate::moves::go_on_after;
@@ -39,6 +43,7 @@ pub fn throw_into(
     kind: FaultKind,
 ) -> Result<Stand, AllocError>
     requires declared { AreDeclared hub.old }
+    requires settles { MaySettle (most_hops + 2) hub.old }
     ensures { IfOk result (λ at. interrupts g kind hub.old ≡ next_at at hub.new) }
 {
     hub.withdraw_offer(g);
@@ -47,7 +52,7 @@ pub fn throw_into(
         greenlet: g,
         fault: kind,
     })?;
-    hub.settle()?;
+    hub.settle();
     Ok(answer_greenlet(alloc, hub, g, Outcome::Fault(kind))?)
 }
 
@@ -55,6 +60,7 @@ pub fn throw_into(
 #[tactic(auto, using(crate::proofs::Blind::starts_blind, crate::proofs::Functions::declared_phased))]
 fn start_greenlet(alloc: Global, hub: &mut Hub, g: u32) -> Result<Stand, AllocError>
     requires declared { AreDeclared hub.old }
+    requires settles { MaySettle (most_hops + 2) hub.old }
     ensures { IfOk result (λ at. starts lands g (arguments (greenlet g hub.old).phase) hub.old ≡ next_at at hub.new) }
 {
     let arguments = hub.take_arguments(alloc, g);
@@ -73,6 +79,7 @@ fn wake_greenlet(
     requires may_make { MayMake g (without_wait g hub.old) }
     requires named { IsNamed hub.old.scenario waiting }
     requires short { IsShort waiting }
+    requires room { HasRoom (2 + wait_weight waiting) hub.old }
     requires after { AreDeclared (state_of_next (delivers since (delivery.Wake g waiting) hub.old)) }
     ensures { IfOk result (λ at. delivers since (delivery.Wake g waiting) hub.old ≡ next_at at hub.new) }
 {
@@ -99,6 +106,7 @@ fn late_answer(alloc: Global, hub: &Hub, g: u32, n: u32) -> Result<Option<Outcom
 #[tactic(auto, using(crate::proofs::Delivered::late_none, crate::proofs::Delivered::late_some, crate::proofs::Functions::declared_said, crate::proofs::Functions::declared_dropped, crate::proofs::Functions::declared_settled))]
 fn end_late(alloc: Global, hub: &mut Hub, g: u32, n: u32) -> Result<Stand, AllocError>
     requires declared { AreDeclared hub.old }
+    requires settles { MaySettle (most_hops + 2) hub.old }
     ensures { IfOk result (λ at. late g n (waiting_of g hub.old.items) hub.old ≡ next_at at hub.new) }
 {
     let Some(outcome) = late_answer(alloc, hub, g, n)? else {
@@ -109,7 +117,7 @@ fn end_late(alloc: Global, hub: &mut Hub, g: u32, n: u32) -> Result<Stand, Alloc
         by: Resumed::Late,
     })?;
     hub.drop_items(&Gone::WaitOf(g));
-    hub.settle()?;
+    hub.settle();
     Ok(answer_greenlet(alloc, hub, g, outcome)?)
 }
 
@@ -133,6 +141,7 @@ fn call_function(
 ) -> Result<Stand, AllocError>
     requires declared { AreDeclared hub.old }
     requires fits { fits_link hub.old.scenario AnyLinkKind.Any function ≡ true }
+    requires settles { MaySettle (most_hops + 2) hub.old }
     ensures { IfOk result (λ at. calls number g function hub.old ≡ next_at at hub.new) }
 {
     if !hub.has_greenlet_left() {
@@ -160,6 +169,7 @@ fn call_link(
 ) -> Result<Stand, AllocError>
     requires declared { AreDeclared hub.old }
     requires fits { fits_link hub.old.scenario kind function ≡ true }
+    requires settles { MaySettle (most_hops + 2) hub.old }
     ensures { IfOk result (λ at. called number g kind function hub.old ≡ next_at at hub.new) }
 {
     match kind {
@@ -169,7 +179,7 @@ fn call_link(
                 greenlet: g,
                 call: LinkCall::Mark(mark),
             })?;
-            hub.settle()?;
+            hub.settle();
             Ok(Stand::Resting)
         }
         LinkKind::Set(o) => {
@@ -180,7 +190,7 @@ fn call_link(
                 call: LinkCall::Set(name),
             })?;
             hub.change(o, Change::Flag(true))?;
-            hub.settle()?;
+            hub.settle();
             Ok(Stand::Resting)
         }
         LinkKind::Any => Ok(call_function(alloc, hub, number, g, function)?),
@@ -201,6 +211,7 @@ fn deliver_content(
     requires fits { fits_item hub.old.scenario delivery ≡ true }
     requires short { DeliversShort delivery }
     requires declared { AreDeclared hub.old }
+    requires room { HasRoom (room_of_delivery delivery) hub.old }
     requires after { AreDeclared (state_of_next (delivers since delivery hub.old)) }
     ensures { IfOk result (λ at. delivers since delivery hub.old ≡ next_at at hub.new) }
 {
@@ -221,6 +232,7 @@ fn deliver_content(
 pub fn deliver_item(alloc: Global, hub: &mut Hub, mark: u64) -> Result<Stand, AllocError>
     requires there { IsSome (least_below mark hub.old.items) }
     requires ready { IsReady hub.old }
+    requires within { IsWithinSomehow hub.old }
     ensures delivered { IfOk result (λ next. (i : AnyItem) → least_below mark hub.old.items ≡ Some i → deliver i hub.old ≡ next_at next hub.new) }
     ensures ready { IfOk result (λ next. IsReadyAt (next_at next hub.new)) }
 {

@@ -1,5 +1,5 @@
 //! Greenlets: how one starts, goes on and ends, and how an input lands at a raw one.
-ghost use Rattle.std.specs.Prelude.{◌≡◌, IfOk};
+ghost use Rattle.std.specs.Prelude.{◌≡◌, ◌+◌, IfOk};
 ghost use Rattle.body_values.specs.Functions.{IsFunction};
 ghost use Rattle.body_frames.specs.Standings.{reached_of};
 ghost use Rattle.machine.specs.Landing.{Landing, after_end, starts, resumes, answered, lands, lands_once};
@@ -7,6 +7,7 @@ ghost use Rattle.machine.specs.Ends.{outcome_of_leaving, leaving_of, stop_of};
 ghost use Rattle.machine.specs.Greenlets.{frame_of, greenlet};
 ghost use Rattle.machine.specs.Items.{drop_items, is_timeout_of};
 ghost use Rattle.hub_engine.specs.Ready.{AreDeclared};
+ghost use Rattle.hub_engine.specs.Settlings.{MaySettle, most_hops};
 ghost use Rattle.hub_engine.specs.Stands.{goes_to, hopped, next_at};
 
 use crate::stand::{Hop, Stand};
@@ -45,6 +46,7 @@ fn go_on_after_end(
     g: u32,
     outcome: Outcome,
 ) -> Result<Hop, AllocError>
+    requires { MaySettle 1 hub.old }
     ensures { IfOk result (λ hop. (up : Landing) → after_end up g outcome hub.old ≡ hopped up hop hub.new) }
 {
     let raw = hub.is_raw(g);
@@ -77,6 +79,7 @@ pub fn place_greenlet(
     g: u32,
     reached: Reached,
 ) -> Result<Hop, AllocError>
+    requires { MaySettle 1 hub.old }
     ensures { IfOk result (λ hop. (up : Landing) → goes_to up g (reached_of reached) hub.old ≡ hopped up hop hub.new) }
 {
     match reached {
@@ -100,6 +103,7 @@ fn begin_greenlet(
     arguments: Items<Value>,
 ) -> Result<Hop, AllocError>
     requires declared { IsFunction hub.old.scenario (greenlet g hub.old).function }
+    requires settles { MaySettle 1 hub.old }
     ensures { IfOk result (λ hop. (up : Landing) → starts up g arguments hub.old ≡ hopped up hop hub.new) }
 {
     let function = hub.function_of(g);
@@ -115,6 +119,7 @@ fn begin_greenlet(
 /// Gives the answer to the statement of the greenlet.
 #[tactic(auto, using(crate::proofs::Bodies::answer_goes, crate::proofs::Bodies::answer_unheard))]
 fn resume_greenlet(alloc: Global, hub: &mut Hub, g: u32, answer: Outcome) -> Result<Hop, AllocError>
+    requires { MaySettle 1 hub.old }
     ensures { IfOk result (λ hop. (up : Landing) → resumes up g (frame_of (greenlet g hub.old).phase) answer hub.old ≡ hopped up hop hub.new) }
 {
     match hub.take_body(g) {
@@ -133,6 +138,7 @@ fn resume_greenlet(alloc: Global, hub: &mut Hub, g: u32, answer: Outcome) -> Res
 #[tactic(auto, using(crate::proofs::Landing::lands_done, crate::proofs::Landing::lands_live, crate::proofs::Landing::lands_value, crate::proofs::Landing::lands_fault))]
 fn land_once(alloc: Global, hub: &mut Hub, g: u32, input: Outcome) -> Result<Hop, AllocError>
     requires declared { IsFunction hub.old.scenario (greenlet g hub.old).function }
+    requires settles { MaySettle 1 hub.old }
     ensures { IfOk result (λ hop. (up : Landing) → lands_once up g input hub.old ≡ hopped up hop hub.new) }
 {
     match how_far(hub, g) {
@@ -159,6 +165,7 @@ fn land_once(alloc: Global, hub: &mut Hub, g: u32, input: Outcome) -> Result<Hop
 #[tactic(auto, using(crate::proofs::Landing::land_step, crate::proofs::Functions::declared_landed))]
 pub fn land(alloc: Global, hub: &mut Hub, g: u32, input: Outcome) -> Result<Stand, AllocError>
     requires declared { AreDeclared hub.old }
+    requires settles { MaySettle most_hops hub.old }
     ensures { IfOk result (λ at. lands g input hub.old ≡ next_at at hub.new) }
 {
     let mut left = hub.greenlets_len();
@@ -180,6 +187,7 @@ pub fn land(alloc: Global, hub: &mut Hub, g: u32, input: Outcome) -> Result<Stan
 /// Lets what goes up land.
 pub fn hop_on(alloc: Global, hub: &mut Hub, hop: Hop) -> Result<Stand, AllocError>
     requires declared { AreDeclared hub.old }
+    requires settles { MaySettle most_hops hub.old }
     ensures { IfOk result (λ at. hopped lands hop hub.old ≡ next_at at hub.new) }
 {
     match hop {
@@ -197,6 +205,7 @@ pub fn start_body(
     arguments: Items<Value>,
 ) -> Result<Stand, AllocError>
     requires declared { AreDeclared hub.old }
+    requires settles { MaySettle (most_hops + 1) hub.old }
     ensures { IfOk result (λ at. starts lands g arguments hub.old ≡ next_at at hub.new) }
 {
     let hop = begin_greenlet(alloc, hub, g, arguments)?;
@@ -212,6 +221,7 @@ pub fn answer_greenlet(
     answer: Outcome,
 ) -> Result<Stand, AllocError>
     requires declared { AreDeclared hub.old }
+    requires settles { MaySettle (most_hops + 1) hub.old }
     ensures { IfOk result (λ at. answered g answer hub.old ≡ next_at at hub.new) }
 {
     let hop = resume_greenlet(alloc, hub, g, answer)?;

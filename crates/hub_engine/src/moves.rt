@@ -1,5 +1,5 @@
 //! The moves of a greenlet.
-ghost use Rattle.std.specs.Prelude.{◌≡◌, ◌<◌, ◌≤◌, true, IsTrue, Some, OnOk, IfOk};
+ghost use Rattle.std.specs.Prelude.{◌≡◌, ◌+◌, ◌<◌, ◌≤◌, ◌^◌, true, length, IsTrue, Some, OnOk, IfOk};
 ghost use Rattle.body_frames.specs.Runs.{MovesOn};
 ghost use Rattle.body_frames.specs.Standings.{moved_of};
 ghost use Rattle.machine.specs.declared.state.Frame.{Frame};
@@ -19,6 +19,7 @@ ghost use Rattle.hub_engine.specs.Asking.{IsDeclaredAfter, does_came, fits_came,
 ghost use Rattle.hub_engine.specs.Making.{MayMove};
 ghost use Rattle.hub_engine.specs.Onward.{IsAtRest, MovesTo};
 ghost use Rattle.hub_engine.specs.Ready.{AreDeclared, IsReadyAt, IsReadyToMove};
+ghost use Rattle.hub_engine.specs.Settlings.{HasMoveRoom, HasMovesRoom, MaySettle, most_hops};
 ghost use Rattle.hub_engine.specs.Stands.{next_at};
 
 use crate::life::{answer_greenlet, hop_on, land, place_greenlet};
@@ -85,14 +86,14 @@ fn go_under_way(hub: &mut Hub, g: u32)
 }
 
 /// Settles the hub, where there is anything to settle.
-fn settle_hub(hub: &mut Hub) -> Result<(), AllocError>
-    ensures { OnOk result (hub.new ≡ settle hub.old) }
+fn settle_hub(hub: &mut Hub)
+    requires { hub.old.next_ready + length hub.old.items ≤ 2 ^ 63 }
+    ensures { hub.new ≡ settle hub.old }
 {
     if hub.is_at_rest() {
-        return Ok(());
+        return;
     }
-    hub.settle()?;
-    Ok(())
+    hub.settle();
 }
 
 /// Goes on after a request of the greenlet.
@@ -104,19 +105,20 @@ pub fn go_on_after(
     performed: Performed,
 ) -> Result<Stand, AllocError>
     requires declared { AreDeclared hub.old }
+    requires settles { MaySettle (most_hops + 2) hub.old }
     ensures { IfOk result (λ at. follows g (performed_of performed hub.old) ≡ next_at at hub.new) }
 {
     match performed {
         Performed::Answers(outcome) => {
-            settle_hub(hub)?;
+            settle_hub(hub);
             Ok(answer_greenlet(alloc, hub, g, outcome)?)
         }
         Performed::Parks => {
-            settle_hub(hub)?;
+            settle_hub(hub);
             Ok(Stand::Resting)
         }
         Performed::Lands(target, input) => {
-            settle_hub(hub)?;
+            settle_hub(hub);
             Ok(land(alloc, hub, target, input)?)
         }
         Performed::Stops(cause) => Ok(Stand::Over(cause)),
@@ -164,9 +166,10 @@ fn answer_at_once(
 ) -> Result<Stand, AllocError>
     requires declared { AreDeclared hub.old }
     requires under_way { phase_of g hub.old.greenlets ≡ Some (Phase.Live no_frame) }
+    requires settles { MaySettle (most_hops + 2) hub.old }
     ensures { IfOk result (λ at. answered g answer (settle (with_phase g (Phase.Live body) hub.old)) ≡ next_at at hub.new) }
 {
-    settle_hub(hub)?;
+    settle_hub(hub);
     let reached = answer_body(alloc, body, answer)?;
     let hop = place_greenlet(alloc, hub, g, reached)?;
     Ok(hop_on(alloc, hub, hop)?)
@@ -185,6 +188,7 @@ fn serve_beside(
     requires may_move { MayMove g hub.old }
     requires fits { fits_request hub.old.scenario request ≡ true }
     requires leaves { leaves_greenlets request ≡ true }
+    requires room { HasMoveRoom g hub.old }
     requires after { AreDeclared (state_of_next (follows g (performs request g (with_phase g (Phase.Live body) hub.old)))) }
     ensures { IfOk result (λ at. follows g (performs request g (with_phase g (Phase.Live body) hub.old)) ≡ next_at at hub.new) }
 {
@@ -210,6 +214,7 @@ fn serve_request(
 ) -> Result<Stand, AllocError>
     requires may_move { MayMove g hub.old }
     requires fits { fits_request hub.old.scenario request ≡ true }
+    requires room { HasMoveRoom g hub.old }
     requires after { AreDeclared (state_of_next (follows g (performs request g (with_phase g (Phase.Live body) hub.old)))) }
     ensures { IfOk result (λ at. follows g (performs request g (with_phase g (Phase.Live body) hub.old)) ≡ next_at at hub.new) }
 {
@@ -223,7 +228,8 @@ fn serve_request(
 
 /// Makes the timeout item, where the block has a time.
 fn add_timeout(hub: &mut Hub, g: u32, n: u32, after: Option<u64>) -> Result<(), AllocError>
-    requires { is_unclaimed (Some (Claim.TimeoutNumbered n)) hub.old.items ≡ true }
+    requires free { is_unclaimed (Some (Claim.TimeoutNumbered n)) hub.old.items ≡ true }
+    requires since { hub.old.next_since + 1 < 2 ^ 64 }
     ensures { OnOk result (hub.new ≡ timeout_item g n after hub.old) }
 {
     if let Some(time) = after {
@@ -244,12 +250,13 @@ fn enter_block(
 ) -> Result<Stand, AllocError>
     requires may_move { MayMove g hub.old }
     requires declared { AreDeclared hub.old }
+    requires room { HasMoveRoom g hub.old }
     ensures { (before : Frame) → IfOk result (λ at. enters g after body.silent body.body body.locals body.todo (with_phase g (Phase.Live before) hub.old) ≡ next_at at hub.new) }
 {
     go_under_way(hub, g);
-    let n = hub.count_timeout()?;
+    let n = hub.count_timeout();
     add_timeout(hub, g, n, after)?;
-    settle_hub(hub)?;
+    settle_hub(hub);
     let reached = enter_timeout(alloc, body, n)?;
     let hop = place_greenlet(alloc, hub, g, reached)?;
     Ok(hop_on(alloc, hub, hop)?)
@@ -261,13 +268,14 @@ fn go_on_by(alloc: Global, hub: &mut Hub, g: u32, moved: Moved) -> Result<Stand,
     requires may_move { MayMove g hub.old }
     requires fits { fits_came hub.old.scenario (moved_of moved) ≡ true }
     requires declared { AreDeclared hub.old }
+    requires room { HasMoveRoom g hub.old }
     requires after { IsDeclaredAfter g (moved_of moved) hub.old }
     ensures { (before : Frame) → IfOk result (λ at. does_came g (moved_of moved) (with_phase g (Phase.Live before) hub.old) ≡ next_at at hub.new) }
 {
     match moved {
         Moved::Comes(reached) => {
             go_under_way(hub, g);
-            settle_hub(hub)?;
+            settle_hub(hub);
             let hop = place_greenlet(alloc, hub, g, reached)?;
             Ok(hop_on(alloc, hub, hop)?)
         }
@@ -288,13 +296,15 @@ pub fn step_greenlet(
 ) -> Result<(u64, Stand), AllocError>
     requires ready { IsReadyToMove g (with_phase g (Phase.Live body) hub.old) }
     requires some { 0 < most }
+    requires few { hub.old.moves + most < 2 ^ 64 }
+    requires room { HasMovesRoom most g hub.old }
     ensures few { IfOk result (λ went. went.0 < most) }
     ensures moved { IfOk result (λ went. MovesTo g went.0 (with_phase g (Phase.Live body) hub.old) (next_at went.1 hub.new)) }
     ensures ready { IfOk result (λ went. IsReadyAt (next_at went.1 hub.new)) }
 {
     let ahead = moves_ahead(hub, g, most);
     let (before, moved) = step_body(alloc, hub, g, body, ahead)?;
-    hub.count_moves(before + 1)?;
+    hub.count_moves(before + 1);
     let at = go_on_by(alloc, hub, g, moved)?;
     Ok((before, at))
 }

@@ -1,5 +1,5 @@
 //! The engine as its callers see it: prepared, and then run once.
-ghost use Rattle.std.specs.Prelude.{◌≡◌, ◌≢◌, ◌≤◌, true, [], IfOk};
+ghost use Rattle.std.specs.Prelude.{◌≡◌, ◌≢◌, ◌≤◌, true, [], IfOk, OnOk};
 ghost use Rattle.std.specs.List.{list_all};
 ghost use Rattle.gv_values.specs.Counts.{HasRisen};
 ghost use Rattle.scenario_rules.specs.Rules.{IsWellFormed};
@@ -8,18 +8,20 @@ ghost use Rattle.machine.specs.Blocked.{blocked_states};
 ghost use Rattle.machine.specs.Run.{Source, first_state, run};
 ghost use Rattle.machine.specs.TraceLaws.{meets_laws};
 ghost use Rattle.machine_well_formed.specs.Texts.{HasMain};
+ghost use Rattle.machine_counts.specs.Counts.{AreCountable};
 ghost use Rattle.world.specs.Outside.{WorldGoesOn};
 ghost use Rattle.world_rules.specs.Legal.{AreLegal};
 ghost use Rattle.hub_objects.specs.Counted.{AreCounted};
 ghost use Rattle.hub_engine.specs.Ends.{HasLogged, HasNumbers, RanTo};
 ghost use Rattle.hub_engine.specs.Run.{WroteAhead};
 ghost use Rattle.hub_engine.specs.Outside.{WritesPart};
+ghost use Rattle.hub_engine.specs.Within.{AreFewBudgets};
 ghost use Rattle.hub_engine.specs.declared.run.EngineEnd.TheVariants as ends;
 
 use crate::turns::{ended_as, run};
 use flat_code::compile;
 use gv_io::Sink;
-use gv_values::FaultKind;
+use gv_values::{FaultKind, MOST_MOVES, MOST_TURNS};
 use hub_state::Hub;
 use machine_trace_laws::{blocks_are_quiet, runs_are_lawful};
 use scenario_check::Checked;
@@ -83,7 +85,7 @@ pub struct Engine {
 
 impl Model for Engine {
     ghost use Rattle.hub_engine.specs.Prepared.{Prepared};
-    ghost use Rattle.hub_engine.specs.Ready.{IsPrepared};
+    ghost use Rattle.hub_engine.specs.Within.{IsGiven};
     ghost use Rattle.scenario_tree.specs.Trees.{trees};
 
     ghost Value = { Prepared };
@@ -92,14 +94,16 @@ impl Model for Engine {
 
     ghost view = { λ e. record { scenario = e.hub.scenario; turns = e.budgets.turns; moves = e.budgets.moves } };
 
-    ghost invariant = { λ e. IsPrepared e.hub };
+    ghost invariant = { λ e. IsGiven e.budgets.turns e.budgets.moves e.hub };
 }
 
 impl Engine {
-    /// The scenario before its run. `AllocError`: memory is wanting, and the scenario is given up.
+    /// The scenario before its run. `AllocError`: memory is wanting, or the budgets are more than a run may be given; the
+    /// scenario is given up.
     pub fn new(alloc: Global, checked: Checked, budgets: Budgets) -> Result<Engine, AllocError>
         ensures { IfOk result (λ engine. engine ≡ record { scenario = checked; turns = budgets.turns; moves = budgets.moves }) }
     {
+        may_be_given(budgets)?;
         may_run(&checked);
         let hub = Hub::new(alloc, compile(alloc, checked)?)?;
         Ok(Engine { hub, budgets })
@@ -144,13 +148,27 @@ impl Engine {
     }
 }
 
-/// A scenario that is checked may be run: its main has a number, and what its objects count fits.
+/// A scenario that is checked may be run: its main has a number, and what its objects count fits, by far.
 #[tactic(auto, using(crate::proofs::Mains::main_there))]
 fn may_run(checked: &Checked)
     ensures well_formed { IsWellFormed checked.now }
     ensures main { HasMain checked.now }
     ensures counted { AreCounted (first_state checked.now).objects }
+    ensures countable { AreCountable (first_state checked.now).objects }
 {
     // That the scenario is one of a text is known of a tree that is looked at.
     let _written = checked.scenario().tree();
+}
+
+/// A run may be given no more turns and moves than the limits say. `AllocError`: these are more.
+fn may_be_given(budgets: Budgets) -> Result<(), AllocError>
+    ensures { OnOk result (AreFewBudgets budgets.turns budgets.moves) }
+{
+    if budgets.turns > MOST_TURNS {
+        return Err(AllocError);
+    }
+    if budgets.moves > MOST_MOVES {
+        return Err(AllocError);
+    }
+    Ok(())
 }

@@ -1,8 +1,9 @@
 //! Turns, and the whole run, whose trace is given out step by step.
-ghost use Rattle.std.specs.Prelude.{◌≡◌, ℕ, suc, Bool, true, [], IsTrue, OnOk, IfOk, IsSome, None, Some};
+ghost use Rattle.std.specs.Prelude.{◌≡◌, ◌+◌, ◌<◌, ◌≤◌, ℕ, suc, Bool, true, false, [], IsTrue, OnOk, IfOk, IsSome, None, Some};
 ghost use Rattle.trace_text.specs.Line.{text_of};
 ghost use Rattle.trace_reader.specs.Ranges.{LinesFit};
 ghost use Rattle.gv_io.specs.Streams.{Extends};
+ghost use Rattle.gv_values.specs.declared.limits.TheConstants.{MOST_MOVES, MOST_TURNS};
 ghost use Rattle.machine.specs.declared.items.Item.{Item as AnyItem};
 ghost use Rattle.machine.specs.Deliveries.{deliver};
 ghost use Rattle.machine.specs.Questions.{question as question_of};
@@ -11,7 +12,8 @@ ghost use Rattle.hub_engine.specs.Ends.{end_of};
 ghost use Rattle.hub_engine.specs.Outside.{ArePostable, Gives, Passes, PostsOn, out_of, outside, world_alone};
 ghost use Rattle.hub_engine.specs.Ready.{IsPrepared};
 ghost use Rattle.hub_engine.specs.Stands.{next_at};
-ghost use Rattle.hub_engine.specs.Tied.{IsTied, IsTiedAfter, IsTiedAt};
+ghost use Rattle.hub_engine.specs.Tied.{IsTied, IsTiedAfter, IsTiedAt, IsTiedSomehow};
+ghost use Rattle.hub_engine.specs.Within.{AreFewBudgets};
 ghost use Rattle.hub_engine.specs.Written.{CameTo, Counts, RunsTo, Rounds, RunsOn, Writes, ended_as, from_turn};
 
 use crate::broken::Broken;
@@ -158,8 +160,9 @@ fn run_greenlet<W: World, K: Sink>(
     at: Stand,
     moves: u64,
 ) -> Result<Came, Broken>
-    requires tied { IsTiedAt (W.meaning world.old) (next_at at hub.old) }
-    ensures tied { IfOk result (λ came. IsTiedAfter came (W.meaning world.new) hub.new) }
+    requires tied { IsTiedSomehow (W.meaning world.old) (next_at at hub.old) }
+    requires few { hub.old.moves + moves ≤ MOST_MOVES }
+    ensures tied { (may : Bool) (turns : ℕ) → IsTiedAt may turns (W.meaning world.old) (next_at at hub.old) → IfOk result (λ came. IsTiedAfter came may turns (W.meaning world.new) hub.new) }
     ensures given { Passes result (outside W.World K.Sink world.old sink.old) (outside W.World K.Sink world.new sink.new) (runs moves (next_at at hub.old)) }
     ensures next { IfOk result (λ came. CameTo came (runs moves (next_at at hub.old)).next hub.new) }
     ensures counts { Counts result (K.faults sink.old) (K.faults sink.new) }
@@ -202,8 +205,9 @@ fn deliver_below<W: World, K: Sink>(
     due: Due,
     budget: u64,
 ) -> Result<Came, Broken>
-    requires tied { IsTied (W.meaning world.old) hub.old }
-    ensures tied { IfOk result (λ came. IsTiedAfter came (W.meaning world.new) hub.new) }
+    requires tied { IsTied true hub.old.turns (W.meaning world.old) hub.old }
+    requires few { budget ≤ MOST_MOVES }
+    ensures tied { IfOk result (λ came. IsTiedAfter came true hub.old.turns (W.meaning world.new) hub.new) }
     ensures given { Passes result (outside W.World K.Sink world.old sink.old) (outside W.World K.Sink world.new sink.new) (deliveries due.most budget due.mark hub.old) }
     ensures next { IfOk result (λ came. CameTo came (deliveries due.most budget due.mark hub.old).next hub.new) }
     ensures counts { Counts result (K.faults sink.old) (K.faults sink.new) }
@@ -233,8 +237,9 @@ fn deliver_one<W: World, K: Sink>(
     budget: u64,
 ) -> Result<Came, Broken>
     requires there { IsSome (least_below mark hub.old.items) }
-    requires tied { IsTied (W.meaning world.old) hub.old }
-    ensures tied { IfOk result (λ came. IsTiedAfter came (W.meaning world.new) hub.new) }
+    requires tied { IsTied true hub.old.turns (W.meaning world.old) hub.old }
+    requires few { budget ≤ MOST_MOVES }
+    ensures tied { IfOk result (λ came. IsTiedAfter came true hub.old.turns (W.meaning world.new) hub.new) }
     ensures given { (i : AnyItem) → least_below mark hub.old.items ≡ Some i → Passes result (outside W.World K.Sink world.old sink.old) (outside W.World K.Sink world.new sink.new) (runs_on budget hub.old (deliver i hub.old)) }
     ensures next { (i : AnyItem) → least_below mark hub.old.items ≡ Some i →
         IfOk result (λ came. CameTo came (runs_on budget hub.old (deliver i hub.old)).next hub.new) }
@@ -246,7 +251,6 @@ fn deliver_one<W: World, K: Sink>(
 }
 
 /// A turn: what has a number by its beginning is delivered.
-#[tactic(auto, using(crate::proofs::Giving::part_nothing))]
 fn turn<W: World, K: Sink>(
     alloc: Global,
     hub: &mut Hub,
@@ -254,13 +258,15 @@ fn turn<W: World, K: Sink>(
     sink: &mut K,
     budget: u64,
 ) -> Result<Came, Broken>
-    requires tied { IsTied (W.meaning world.old) hub.old }
-    ensures tied { IfOk result (λ came. IsTiedAfter came (W.meaning world.new) hub.new) }
+    requires tied { IsTied false hub.old.turns (W.meaning world.old) hub.old }
+    requires left { hub.old.turns < MOST_TURNS }
+    requires few { budget ≤ MOST_MOVES }
+    ensures tied { IfOk result (λ came. IsTiedAfter came true (hub.old.turns + 1) (W.meaning world.new) hub.new) }
     ensures given { Passes result (outside W.World K.Sink world.old sink.old) (outside W.World K.Sink world.new sink.new) (turn budget hub.old) }
     ensures next { IfOk result (λ came. CameTo came (turn budget hub.old).next hub.new) }
     ensures counts { Counts result (K.faults sink.old) (K.faults sink.new) }
 {
-    hub.count_turn()?;
+    hub.count_turn();
     let due = Due {
         mark: hub.next_ready(),
         most: hub.items_len(),
@@ -276,10 +282,10 @@ fn take_answer<W: World, K: Sink>(
     sink: &mut K,
     question: Question,
 ) -> Result<(), Broken>
-    requires tied { IsTied (W.meaning world.old) hub.old }
+    requires tied { IsTied true hub.old.turns (W.meaning world.old) hub.old }
     requires asked { question_of hub.old ≡ Some question }
     requires out { out_of W.waits (K.written sink.old) (K.handed sink.old) ≡ K.written sink.old }
-    ensures tied { OnOk result (IsTied (W.meaning world.new) hub.new) }
+    ensures tied { OnOk result (IsTied false hub.old.turns (W.meaning world.new) hub.new) }
     ensures ran { (go : GoingOn) → RunsOn result (outside W.World K.Sink world.old sink.old) (outside W.World K.Sink world.new sink.new)
         (λ later. asks go question (Source.Given later) hub.old) (λ later. go (Source.Given later) hub.new) }
     ensures counts { Counts result (K.faults sink.old) (K.faults sink.new) }
@@ -297,9 +303,9 @@ fn ask_world<W: World, K: Sink>(
     sink: &mut K,
     question: Question,
 ) -> Result<(), Broken>
-    requires tied { IsTied (W.meaning world.old) hub.old }
+    requires tied { IsTied true hub.old.turns (W.meaning world.old) hub.old }
     requires asked { question_of hub.old ≡ Some question }
-    ensures tied { OnOk result (IsTied (W.meaning world.new) hub.new) }
+    ensures tied { OnOk result (IsTied false hub.old.turns (W.meaning world.new) hub.new) }
     ensures ran { (go : GoingOn) (budget : ℕ) → RunsOn result (outside W.World K.Sink world.old sink.old) (outside W.World K.Sink world.new sink.new)
         (λ later. after_question go budget (Some question) (Source.Given later) hub.old) (λ later. go (Source.Given later) hub.new) }
     ensures counts { Counts result (K.faults sink.old) (K.faults sink.new) }
@@ -317,8 +323,9 @@ fn throw_loop_exit<W: World, K: Sink>(
     sink: &mut K,
     budget: u64,
 ) -> Result<Came, Broken>
-    requires tied { IsTied (W.meaning world.old) hub.old }
-    ensures tied { IfOk result (λ came. IsTiedAfter came (W.meaning world.new) hub.new) }
+    requires tied { IsTied true hub.old.turns (W.meaning world.old) hub.old }
+    requires few { budget ≤ MOST_MOVES }
+    ensures tied { IfOk result (λ came. IsTiedAfter came false hub.old.turns (W.meaning world.new) hub.new) }
     ensures ran { (go : GoingOn) → Rounds result (outside W.World K.Sink world.old sink.old) (outside W.World K.Sink world.new sink.new)
         (λ later. after_question go budget None (Source.Given later) hub.old) (λ s later. go (Source.Given later) s) hub.new }
     ensures counts { Counts result (K.faults sink.old) (K.faults sink.new) }
@@ -337,8 +344,9 @@ fn end_turn<W: World, K: Sink>(
     sink: &mut K,
     budget: u64,
 ) -> Result<Came, Broken>
-    requires tied { IsTied (W.meaning world.old) hub.old }
-    ensures tied { IfOk result (λ came. IsTiedAfter came (W.meaning world.new) hub.new) }
+    requires tied { IsTied true hub.old.turns (W.meaning world.old) hub.old }
+    requires few { budget ≤ MOST_MOVES }
+    ensures tied { IfOk result (λ came. IsTiedAfter came false hub.old.turns (W.meaning world.new) hub.new) }
     ensures ran { (go : GoingOn) → Rounds result (outside W.World K.Sink world.old sink.old) (outside W.World K.Sink world.new sink.new)
         (λ later. after_question go budget (question_of hub.old) (Source.Given later) hub.old) (λ s later. go (Source.Given later) s) hub.new }
     ensures counts { Counts result (K.faults sink.old) (K.faults sink.new) }
@@ -360,8 +368,10 @@ fn round<W: World, K: Sink>(
     sink: &mut K,
     budget: u64,
 ) -> Result<Came, Broken>
-    requires tied { IsTied (W.meaning world.old) hub.old }
-    ensures tied { IfOk result (λ came. IsTiedAfter came (W.meaning world.new) hub.new) }
+    requires tied { IsTied false hub.old.turns (W.meaning world.old) hub.old }
+    requires left { hub.old.turns < MOST_TURNS }
+    requires few { budget ≤ MOST_MOVES }
+    ensures tied { IfOk result (λ came. IsTiedAfter came false (hub.old.turns + 1) (W.meaning world.new) hub.new) }
     ensures ran { (turns : ℕ) → Rounds result (outside W.World K.Sink world.old sink.old) (outside W.World K.Sink world.new sink.new)
         (from_turn (suc turns) budget hub.old) (from_turn turns budget) hub.new }
     ensures counts { Counts result (K.faults sink.old) (K.faults sink.new) }
@@ -406,7 +416,9 @@ fn run_turns<W: World, K: Sink>(
     turns: u64,
     moves: u64,
 ) -> Result<EngineEnd, Broken>
-    requires tied { IsTied (W.meaning world.old) hub.old }
+    requires tied { IsTied false hub.old.turns (W.meaning world.old) hub.old }
+    requires left { hub.old.turns + turns ≤ MOST_TURNS }
+    requires few { moves ≤ MOST_MOVES }
     ensures ran { RunsTo result (outside W.World K.Sink world.old sink.old) (outside W.World K.Sink world.new sink.new) (from_turn turns moves hub.old) hub.new }
     ensures counts { Counts result (K.faults sink.old) (K.faults sink.new) }
 {
@@ -431,6 +443,7 @@ pub fn run<W: World, K: Sink>(
     moves: u64,
 ) -> Result<EngineEnd, Broken>
     requires prepared { IsPrepared hub.old }
+    requires few { AreFewBudgets turns moves }
     requires runs { (W.meaning world.old).runs ≡ true }
     requires no_posts { (W.meaning world.old).posts ≡ [] }
     requires no_answers { (W.meaning world.old).answers ≡ [] }

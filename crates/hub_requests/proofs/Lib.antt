@@ -3,6 +3,7 @@ pub mod Linking
 pub mod Listed
 pub mod Mapping
 pub mod Named
+pub mod Rooms
 pub mod Sent
 pub mod Soundly
 pub mod Starting

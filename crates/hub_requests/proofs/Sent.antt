@@ -68,6 +68,9 @@ sends_many far f g s e h k =
 pub kill_free : (items : List Item) → is_unclaimed None items ≡ true
 kill_free items = all-of _ items (λ i. refl)
 
+pub was_sent : (b : Bool) (t : State) (x : Sending) → b ≡ true → x ≡ sent b t → x ≡ sent true t
+was_sent b t x so e = subst (λ (c : Bool). x ≡ sent c t) so e
+
 -- ---- one of several
 
 pub sent_first : (f : FaultKind) (ks : List ℕ) (i d : ℕ) (s t : State) (x : Sending) → i < length ks → x ≡ sends_all f (drop i ks) s → sends f (get_or ks i d) s ≡ sent true t →

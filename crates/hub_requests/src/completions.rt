@@ -1,11 +1,13 @@
 //! What a wait gives whose condition holds. A unit, an item, an offer, a place or a slot is taken here.
-ghost use Rattle.std.specs.Prelude.{◌≡◌, ◌+◌, IfOk, length, unwrap_or};
+ghost use Rattle.std.specs.Prelude.{◌≡◌, ◌+◌, ◌<◌, ◌^◌, IfOk, length, unwrap_or};
 ghost use Rattle.std.specs.Option.{option_copied};
 ghost use Rattle.gv_values.specs.declared.value.Outcome.{Outcome as AnyOutcome};
 ghost use Rattle.gv_values.specs.declared.value.Value.{Value as AnyValue};
 ghost use Rattle.machine.specs.Holds.{earlier, is_take, outcome_of};
 ghost use Rattle.machine.specs.Objects.{object_at, offer_of, with_object, with_offer_taken};
 ghost use Rattle.machine.specs.Waits.{Performed as AnyPerformed, completes, nothing, peeks_item, posted, puts_item, takes_item, value_or_none};
+ghost use Rattle.machine_counts.specs.Rooms.{HasRoom};
+ghost use Rattle.machine_counts.specs.Steps.{wait_weight};
 ghost use Rattle.hub_items.specs.Short.{IsShort};
 ghost use Rattle.hub_requests.specs.Making.{MayMake};
 ghost use Rattle.hub_requests.specs.Naming.{IsNamed};
@@ -59,6 +61,7 @@ fn ended_with(alloc: Global, hub: &Hub, whom: Whom) -> Result<Outcome, AllocErro
 
 /// Posts the job, whose handle is the answer.
 fn post_job(hub: &mut Hub, g: u32, o: u32, job: Job, takes: u64) -> Result<Performed, AllocError>
+    requires { length hub.old.jobs + 1 < 2 ^ 32 }
     ensures { IfOk result (λ p. AnyPerformed.Answers (AnyOutcome.Value (AnyValue.Job (length hub.old.jobs + 1))) (posted g o job takes hub.old) ≡ performed_of p hub.new) }
 {
     let number = hub.post(g, o, job, takes)?;
@@ -122,6 +125,7 @@ pub fn complete_wait(
     requires may_make { MayMake g hub.old }
     requires named { IsNamed hub.old.scenario waiting }
     requires short { IsShort waiting }
+    requires room { HasRoom (2 + wait_weight waiting) hub.old }
     ensures { IfOk result (λ p. completes g since waiting hub.old ≡ performed_of p hub.new) }
 {
     match waiting {

@@ -4,6 +4,7 @@ ghost use Rattle.std.specs.Option.{option_copied};
 ghost use Rattle.machine.specs.Objects.{members_of, no_object};
 ghost use Rattle.machine.specs.Request.{performs};
 ghost use Rattle.machine.specs.declared.request.Request.{Request as Asked};
+ghost use Rattle.machine_counts.specs.Rooms.{HasRoom, room_of_move};
 ghost use Rattle.hub_requests.specs.Making.{MayMake};
 ghost use Rattle.hub_requests.specs.Naming.{IsObject};
 ghost use Rattle.hub_requests.specs.Performing.{performed_of};
@@ -34,6 +35,7 @@ pub fn spawn_member(
 ) -> Result<Performed, AllocError>
     requires may_make { MayMake g hub.old }
     requires named { IsObject hub.old.scenario o }
+    requires room { HasRoom room_of_move hub.old }
     ensures { IfOk result (λ p. performs (Asked.GroupSpawn o function arguments) g hub.old ≡ performed_of p hub.new) }
 {
     Ok(come_to_wait(
@@ -56,6 +58,7 @@ pub fn join_crew(
 ) -> Result<Performed, AllocError>
     requires may_make { MayMake g hub.old }
     requires named { IsObject hub.old.scenario o }
+    requires room { HasRoom room_of_move hub.old }
     ensures { IfOk result (λ p. performs (Asked.GroupJoin o how) g hub.old ≡ performed_of p hub.new) }
 {
     Ok(come_to_wait(alloc, hub, g, Waiting::Members(o), how)?)
@@ -83,6 +86,7 @@ pub fn kill_crew(
 ) -> Result<Performed, AllocError>
     requires may_make { MayMake g hub.old }
     requires named { IsObject hub.old.scenario o }
+    requires room { HasRoom room_of_move hub.old }
     ensures { IfOk result (λ p. performs (Asked.GroupKill o fault how) g hub.old ≡ performed_of p hub.new) }
 {
     let Some(kind) = fault_operand(&fault) else {
@@ -115,6 +119,7 @@ pub fn map_list(
 ) -> Result<Performed, AllocError>
     requires may_make { MayMake g hub.old }
     requires named { IsObject hub.old.scenario o }
+    requires room { HasRoom room_of_move hub.old }
     ensures { IfOk result (λ p. performs (Asked.Map o function value) g hub.old ≡ performed_of p hub.new) }
 {
     match value {
@@ -155,6 +160,7 @@ pub fn spawn_job(
 ) -> Result<Performed, AllocError>
     requires may_make { MayMake g hub.old }
     requires named { IsObject hub.old.scenario o }
+    requires room { HasRoom room_of_move hub.old }
     ensures { IfOk result (λ p. performs (Asked.NativeSpawn o job.kind job.operand job.takes) g hub.old ≡ performed_of p hub.new) }
 {
     match int_operand(&job.operand) {

@@ -1,4 +1,4 @@
-ghost use Rattle.std.specs.Prelude.{◌≡◌, OnOk};
+ghost use Rattle.std.specs.Prelude.{◌≡◌, ◌+◌, ◌≤◌, ◌^◌, length, OnOk};
 ghost use Rattle.machine.specs.Ends.{ended};
 
 use gv_values::Outcome;
@@ -12,13 +12,14 @@ use trace_text::Line;
 ///
 /// # Errors
 ///
-/// Memory is wanting, or a number would pass its width, which no run within its budget comes to; the hub is given up.
+/// Memory is wanting; the hub is given up.
 pub fn end_greenlet(
     alloc: Global,
     hub: &mut Hub,
     g: u32,
     outcome: &Outcome,
 ) -> Result<(), AllocError>
+    requires { hub.old.next_ready + length hub.old.items ≤ 2 ^ 63 }
     ensures { OnOk result (hub.new ≡ ended g outcome.now hub.old) }
 {
     hub.say(Line::End {
@@ -28,6 +29,6 @@ pub fn end_greenlet(
     hub.set_stage(g, Stage::Done(outcome.copy(alloc)?));
     hub.drop_items(&Gone::AtEnd(g, outcome.copy(alloc)?));
     hub.leave_crews(g);
-    hub.settle()?;
+    hub.settle();
     Ok(())
 }

@@ -2,6 +2,7 @@
 ghost use Rattle.std.specs.Prelude.{◌≡◌, ◌+◌, ◌≤◌, min, unwrap_or, IfOk};
 ghost use Rattle.machine.specs.Request.{performs};
 ghost use Rattle.machine.specs.declared.request.Request.{Request as Asked};
+ghost use Rattle.machine_counts.specs.Rooms.{HasRoom, room_of_move};
 ghost use Rattle.hub_requests.specs.Making.{MayMake};
 ghost use Rattle.hub_requests.specs.Performing.{performed_of};
 ghost use Rattle.gv_values.specs.declared.limits.TheConstants.{MOST_ELEMENTS};
@@ -39,7 +40,8 @@ pub fn spawn_now(
     function: u32,
     arguments: Arguments,
 ) -> Result<Performed, AllocError>
-    requires { MayMake g hub.old }
+    requires may_make { MayMake g hub.old }
+    requires room { HasRoom room_of_move hub.old }
     ensures { IfOk result (λ p. performs (Asked.Spawn function arguments) g hub.old ≡ performed_of p hub.new) }
 {
     Ok(spawn_greenlet(hub, g, function, arguments.into_values(), None)?)
@@ -61,7 +63,8 @@ pub fn spawn_later(
     function: u32,
     arguments: Arguments,
 ) -> Result<Performed, AllocError>
-    requires { MayMake g hub.old }
+    requires may_make { MayMake g hub.old }
+    requires room { HasRoom room_of_move hub.old }
     ensures { IfOk result (λ p. performs (Asked.SpawnLater time function arguments) g hub.old ≡ performed_of p hub.new) }
 {
     let from = deadline_after(hub, time)?;
@@ -85,7 +88,8 @@ pub fn make_new(
 /// value is no handle of a greenlet that is not raw.
 #[tactic(auto, unfolding(machine::specs::Request::performs))]
 pub fn start_handle(hub: &mut Hub, g: u32, value: Value) -> Result<Performed, AllocError>
-    requires { MayMake g hub.old }
+    requires may_make { MayMake g hub.old }
+    requires room { HasRoom room_of_move hub.old }
     ensures { IfOk result (λ p. performs (Asked.Start value) g hub.old ≡ performed_of p hub.new) }
 {
     match plain_greenlet(hub, &value) {
@@ -100,7 +104,8 @@ pub fn start_handle(hub: &mut Hub, g: u32, value: Value) -> Result<Performed, Al
 /// Lets the greenlet sleep for so many milliseconds.
 #[tactic(auto, unfolding(machine::specs::Request::performs))]
 pub fn sleep_for(alloc: Global, hub: &mut Hub, g: u32, time: u64) -> Result<Performed, AllocError>
-    requires { MayMake g hub.old }
+    requires may_make { MayMake g hub.old }
+    requires room { HasRoom room_of_move hub.old }
     ensures { IfOk result (λ p. performs (Asked.Sleep time) g hub.old ≡ performed_of p hub.new) }
 {
     let until = deadline_after(hub, time)?;
@@ -116,7 +121,8 @@ pub fn join_handle(
     value: Value,
     how: Wait,
 ) -> Result<Performed, AllocError>
-    requires { MayMake g hub.old }
+    requires may_make { MayMake g hub.old }
+    requires room { HasRoom room_of_move hub.old }
     ensures { IfOk result (λ p. performs (Asked.Join value how) g hub.old ≡ performed_of p hub.new) }
 {
     match plain_greenlet(hub, &value) {
@@ -134,7 +140,8 @@ pub fn get_outcome(
     value: Value,
     how: Wait,
 ) -> Result<Performed, AllocError>
-    requires { MayMake g hub.old }
+    requires may_make { MayMake g hub.old }
+    requires room { HasRoom room_of_move hub.old }
     ensures { IfOk result (λ p. performs (Asked.Get value how) g hub.old ≡ performed_of p hub.new) }
 {
     match whom_operand(hub, &value) {
@@ -153,7 +160,8 @@ pub fn kill_one(
     fault: Option<Value>,
     how: Wait,
 ) -> Result<Performed, AllocError>
-    requires { MayMake g hub.old }
+    requires may_make { MayMake g hub.old }
+    requires room { HasRoom room_of_move hub.old }
     ensures { IfOk result (λ p. performs (Asked.Kill value fault how) g hub.old ≡ performed_of p hub.new) }
 {
     let Some(target) = plain_greenlet(hub, &value) else {
@@ -187,7 +195,8 @@ pub fn kill_all(
     fault: Option<Value>,
     how: Wait,
 ) -> Result<Performed, AllocError>
-    requires { MayMake g hub.old }
+    requires may_make { MayMake g hub.old }
+    requires room { HasRoom room_of_move hub.old }
     ensures { IfOk result (λ p. performs (Asked.KillAll value fault how) g hub.old ≡ performed_of p hub.new) }
 {
     let listed = plain_greenlet_list(alloc, hub, &value)?;
@@ -231,7 +240,8 @@ pub fn join_all(
     count: Option<u64>,
     how: Wait,
 ) -> Result<Performed, AllocError>
-    requires { MayMake g hub.old }
+    requires may_make { MayMake g hub.old }
+    requires room { HasRoom room_of_move hub.old }
     ensures { IfOk result (λ p. performs (Asked.JoinAll value count how) g hub.old ≡ performed_of p hub.new) }
 {
     let Some(targets) = plain_greenlet_list(alloc, hub, &value)? else {
@@ -250,7 +260,8 @@ pub fn link_handle(
     kind: LinkKind,
     function: u32,
 ) -> Result<Performed, AllocError>
-    requires { MayMake g hub.old }
+    requires may_make { MayMake g hub.old }
+    requires room { HasRoom room_of_move hub.old }
     ensures { IfOk result (λ p. performs (Asked.Link value kind function) g hub.old ≡ performed_of p hub.new) }
 {
     match plain_greenlet(hub, &value) {

@@ -1,5 +1,5 @@
 //! Kills.
-ghost use Rattle.std.specs.Prelude.{◌≡◌, OnOk, IfOk};
+ghost use Rattle.std.specs.Prelude.{◌≡◌, ◌+◌, ◌≤◌, ◌^◌, length, OnOk, IfOk};
 ghost use Rattle.gv_values.specs.declared.value.Outcome.{Outcome as AnyOutcome};
 ghost use Rattle.gv_values.specs.Ends.{kept};
 ghost use Rattle.trace_text.specs.declared.line.Line.TheVariants as line;
@@ -9,6 +9,7 @@ ghost use Rattle.machine.specs.Request.{kills, sends, sends_all};
 ghost use Rattle.hub_requests.specs.Making.{MayMake};
 ghost use Rattle.hub_requests.specs.Performing.{performed_of};
 ghost use Rattle.machine_soundness.specs.Going.{AreNotRaw};
+ghost use Rattle.machine_counts.specs.Rooms.{HasRoom, room_of_move};
 ghost use Rattle.hub_requests.specs.Sendings.{sent};
 
 use crate::ends::end_greenlet;
@@ -38,6 +39,7 @@ pub struct Killing {
 
 /// Ends a greenlet that has not started, by the kill.
 fn end_unrun(alloc: Global, hub: &mut Hub, kind: FaultKind, target: u32) -> Result<(), AllocError>
+    requires { hub.old.next_ready + length hub.old.items ≤ 2 ^ 63 }
     ensures { OnOk result (hub.new ≡ ended target (kept (AnyOutcome.Fault kind)) (say (line.Throw target kind) hub.old)) }
 {
     hub.say(Line::Throw {
@@ -51,6 +53,7 @@ fn end_unrun(alloc: Global, hub: &mut Hub, kind: FaultKind, target: u32) -> Resu
 /// Sends a kill to the greenlet; false where one more may not stand.
 #[tactic(auto, using(crate::proofs::Sent::sends_done, crate::proofs::Sent::sends_new, crate::proofs::Sent::sends_live, crate::proofs::Sent::sends_many, crate::proofs::Sent::kill_free))]
 fn send_kill(alloc: Global, hub: &mut Hub, kind: FaultKind, target: u32) -> Result<bool, AllocError>
+    requires { HasRoom room_of_move hub.old }
     ensures { IfOk result (λ b. sends kind target hub.old ≡ sent b hub.new) }
 {
     match how_far(hub, target) {
@@ -77,6 +80,7 @@ fn send_kills(
     kind: FaultKind,
     targets: &[u32],
 ) -> Result<bool, AllocError>
+    requires { HasRoom room_of_move hub.old }
     ensures { IfOk result (λ b. sends_all kind targets.now hub.old ≡ sent b hub.new) }
 {
     for target in targets {
@@ -97,6 +101,7 @@ pub fn kill_greenlets(
 ) -> Result<Performed, AllocError>
     requires may_make { MayMake g hub.old }
     requires plain { AreNotRaw hub.old.greenlets killing.targets }
+    requires room { HasRoom room_of_move hub.old }
     ensures { IfOk result (λ p. kills g killing.awaited killing.kind killing.targets killing.how hub.old ≡ performed_of p hub.new) }
 {
     let Killing {

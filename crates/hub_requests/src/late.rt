@@ -1,5 +1,5 @@
 //! What a wait gives where its time is over, and the numbers of Timeouts.
-ghost use Rattle.std.specs.Prelude.{◌≡◌, ◌<◌, ◌≤◌, ◌++◌, ◌∷◌, [], length, OnOk, IfOk};
+ghost use Rattle.std.specs.Prelude.{◌≡◌, ◌+◌, ◌<◌, ◌≤◌, ◌^◌, ◌++◌, ◌∷◌, [], length, OnOk, IfOk};
 ghost use Rattle.hub_items.specs.Short.{IsShort};
 ghost use Rattle.machine.specs.Waits.{done_ones, draws, drawn, late_outcome};
 ghost use Rattle.gv_values.specs.declared.limits.TheConstants.{MOST_ELEMENTS};
@@ -21,14 +21,15 @@ pub fn draws(waiting: &Waiting) -> bool
 }
 
 /// Draws a number, where the wait draws one.
-pub fn draw(hub: &mut Hub, waiting: &Waiting) -> Result<u32, AllocError>
-    ensures drawn { OnOk result (hub.new ≡ drawn waiting.now hub.old) }
-    ensures number { IfOk result (λ n. n ≡ hub.new.timeouts) }
+pub fn draw(hub: &mut Hub, waiting: &Waiting) -> u32
+    requires { hub.old.timeouts + 1 < 2 ^ 32 }
+    ensures drawn { hub.new ≡ drawn waiting.now hub.old }
+    ensures number { result ≡ hub.new.timeouts }
 {
     if draws(waiting) {
         hub.count_timeout()
     } else {
-        Ok(hub.timeouts())
+        hub.timeouts()
     }
 }
 

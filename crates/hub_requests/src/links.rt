@@ -1,5 +1,5 @@
 //! Links.
-ghost use Rattle.std.specs.Prelude.{◌≡◌, IfOk};
+ghost use Rattle.std.specs.Prelude.{◌≡◌, ◌+◌, ◌<◌, ◌^◌, IfOk};
 ghost use Rattle.gv_values.specs.declared.value.Whom.{Whom};
 ghost use Rattle.machine.specs.Holds.{outcome_of};
 ghost use Rattle.machine.specs.Items.{drop_items};
@@ -35,7 +35,8 @@ pub fn link_to(
     kind: LinkKind,
     function: u32,
 ) -> Result<Performed, AllocError>
-    requires { MayMake g hub.old }
+    requires may_make { MayMake g hub.old }
+    requires since { hub.old.next_since + 1 < 2 ^ 64 }
     ensures { IfOk result (λ p. links target kind function hub.old ≡ performed_of p hub.new) }
 {
     if hub.links() >= MOST_LINKS {

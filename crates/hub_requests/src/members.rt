@@ -1,5 +1,5 @@
 //! Members of groups and pools, and maps.
-ghost use Rattle.std.specs.Prelude.{◌≡◌, ◌<◌, ◌≤◌, ◌+◌, ◌∷◌, [], drop, OnOk, IfOk, length};
+ghost use Rattle.std.specs.Prelude.{◌≡◌, ◌<◌, ◌≤◌, ◌+◌, ◌^◌, ◌∷◌, [], drop, OnOk, IfOk, length};
 ghost use Rattle.gv_values.specs.Value.{value_of_scalar};
 ghost use Rattle.machine.specs.Waits.{made_member, map_ends, maps, map_goes_on, add_member};
 ghost use Rattle.hub_requests.specs.Making.{MayMake};
@@ -29,6 +29,7 @@ fn add_member(
     arguments: Items<Value>,
 ) -> Result<u32, AllocError>
     requires may_make { MayMake g hub.old }
+    requires since { hub.old.next_since + 1 < 2 ^ 64 }
     requires room { length hub.old.greenlets < MOST_GREENLETS }
     ensures added { OnOk result (hub.new ≡ add_member o function arguments hub.old) }
     ensures number { IfOk result (λ n. n ≡ length hub.old.greenlets) }
@@ -47,7 +48,8 @@ pub fn make_member(
     function: u32,
     arguments: Items<Value>,
 ) -> Result<Performed, AllocError>
-    requires { MayMake g hub.old }
+    requires may_make { MayMake g hub.old }
+    requires since { hub.old.next_since + 1 < 2 ^ 64 }
     ensures { IfOk result (λ p. made_member o function arguments hub.old ≡ performed_of p hub.new) }
 {
     if !hub.has_greenlet_left() {
@@ -67,6 +69,7 @@ fn end_map(
 ) -> Result<Performed, AllocError>
     requires may_make { MayMake g hub.old }
     requires named { IsObject hub.old.scenario o }
+    requires since { hub.old.next_since + 1 < 2 ^ 64 }
     requires short { length made ≤ MOST_ELEMENTS }
     ensures { IfOk result (λ p. map_ends g o made hub.old ≡ performed_of p hub.new) }
 {
@@ -117,6 +120,7 @@ pub fn map_elements(
 ) -> Result<Performed, AllocError>
     requires may_make { MayMake g hub.old }
     requires named { IsObject hub.old.scenario mapping.crew }
+    requires since { hub.old.next_since + MOST_ELEMENTS + 1 < 2 ^ 64 }
     requires short { length elements.now + length mapping.made ≤ MOST_ELEMENTS }
     ensures { IfOk result (λ p. maps elements.now g mapping.crew mapping.function mapping.made hub.old ≡ performed_of p hub.new) }
 {
@@ -165,6 +169,7 @@ pub fn go_on_mapping(
 ) -> Result<Performed, AllocError>
     requires may_make { MayMake g hub.old }
     requires named { IsObject hub.old.scenario mapping.crew }
+    requires since { hub.old.next_since + MOST_ELEMENTS + 2 < 2 ^ 64 }
     requires short { length elements + length mapping.made ≤ MOST_ELEMENTS }
     ensures { IfOk result (λ p. map_goes_on elements g mapping.crew mapping.function mapping.made hub.old ≡ performed_of p hub.new) }
 {

@@ -6,6 +6,7 @@ ghost use Rattle.machine.specs.Request.{acquires, performs};
 ghost use Rattle.machine.specs.State.{State as AnyState};
 ghost use Rattle.machine.specs.declared.request.Request.{Request as Asked};
 ghost use Rattle.hub_objects.specs.Releases.{refused};
+ghost use Rattle.machine_counts.specs.Rooms.{HasRoom, room_of_move};
 ghost use Rattle.hub_requests.specs.Making.{MayMake};
 ghost use Rattle.hub_requests.specs.Naming.{IsObject};
 ghost use Rattle.hub_requests.specs.Performing.{performed_of};
@@ -60,6 +61,7 @@ pub fn wait_for_event(
 ) -> Result<Performed, AllocError>
     requires may_make { MayMake g hub.old }
     requires named { IsObject hub.old.scenario o }
+    requires room { HasRoom room_of_move hub.old }
     ensures { IfOk result (λ p. performs (Asked.WaitEvent o how) g hub.old ≡ performed_of p hub.new) }
 {
     let sets = sets_of(hub.object(o));
@@ -100,6 +102,7 @@ pub fn get_result(
 ) -> Result<Performed, AllocError>
     requires may_make { MayMake g hub.old }
     requires named { IsObject hub.old.scenario o }
+    requires room { HasRoom room_of_move hub.old }
     ensures { IfOk result (λ p. performs (Asked.ResultGet o how) g hub.old ≡ performed_of p hub.new) }
 {
     Ok(come_to_wait(alloc, hub, g, Waiting::ResultGet(o), how)?)
@@ -116,6 +119,7 @@ pub fn wait_for_result(
 ) -> Result<Performed, AllocError>
     requires may_make { MayMake g hub.old }
     requires named { IsObject hub.old.scenario o }
+    requires room { HasRoom room_of_move hub.old }
     ensures { IfOk result (λ p. performs (Asked.ResultWait o how) g hub.old ≡ performed_of p hub.new) }
 {
     Ok(come_to_wait(alloc, hub, g, Waiting::ResultWait(o), how)?)
@@ -142,6 +146,7 @@ pub fn acquire(
 ) -> Result<Performed, AllocError>
     requires may_make { MayMake g hub.old }
     requires named { IsObject hub.old.scenario o }
+    requires room { HasRoom room_of_move hub.old }
     ensures { IfOk result (λ p. performs (Asked.Acquire o how) g hub.old ≡ performed_of p hub.new) }
 {
     let waiting = waiting_for(hub.object(o), o);

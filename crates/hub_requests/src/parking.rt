@@ -1,5 +1,5 @@
 //! How a greenlet parks.
-ghost use Rattle.std.specs.Prelude.{◌≡◌, None, Some, IfSome, OnOk};
+ghost use Rattle.std.specs.Prelude.{◌≡◌, ◌+◌, ◌<◌, ◌^◌, None, Some, IfSome, OnOk};
 ghost use Rattle.machine.specs.Waits.{parked, until_of};
 ghost use Rattle.hub_items.specs.Short.{IsShort};
 ghost use Rattle.hub_requests.specs.Awaited.{awaited_of, object_of};
@@ -28,6 +28,7 @@ pub fn park(hub: &mut Hub, g: u32, waiting: Waiting) -> Result<(), AllocError>
     requires may_make { MayMake g hub.old }
     requires named { IfSome (object_of waiting) (IsObject hub.old.scenario) }
     requires short { IsShort waiting }
+    requires since { hub.old.next_since + 1 < 2 ^ 64 }
     ensures { OnOk result (hub.new ≡ parked g (awaited_of waiting hub.old) waiting None hub.old) }
 {
     let awaited = awaited_of(hub, &waiting);
@@ -39,6 +40,7 @@ pub fn park(hub: &mut Hub, g: u32, waiting: Waiting) -> Result<(), AllocError>
 pub fn park_as(hub: &mut Hub, g: u32, awaited: Awaited, waiting: Waiting) -> Result<(), AllocError>
     requires may_make { MayMake g hub.old }
     requires short { IsShort waiting }
+    requires since { hub.old.next_since + 1 < 2 ^ 64 }
     ensures { OnOk result (hub.new ≡ parked g awaited waiting None hub.old) }
 {
     hub.say(Line::Park {
@@ -61,6 +63,8 @@ pub fn park_until(
 ) -> Result<(), AllocError>
     requires may_make { MayMake g hub.old }
     requires short { IsShort waiting }
+    requires since { hub.old.next_since + 2 < 2 ^ 64 }
+    requires drawn { hub.old.timeouts + 1 < 2 ^ 32 }
     ensures { OnOk result (hub.new ≡ parked g awaited waiting (Some deadline) hub.old) }
 {
     hub.say(Line::Park {
@@ -71,7 +75,7 @@ pub fn park_until(
     let numbered = draws(&waiting);
     hub.add_item(Delivery::Wake(g, waiting))?;
     if numbered {
-        let n = hub.count_timeout()?;
+        let n = hub.count_timeout();
         hub.add_item(Delivery::Late(g, deadline, n))?;
     } else {
         hub.add_item(Delivery::Late(g, deadline, 0))?;

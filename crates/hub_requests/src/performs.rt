@@ -2,6 +2,7 @@
 ghost use Rattle.std.specs.Prelude.{◌≡◌, true, IfOk};
 ghost use Rattle.machine.specs.Request.{performs};
 ghost use Rattle.machine_well_formed.specs.Texts.{fits_request};
+ghost use Rattle.machine_counts.specs.Rooms.{HasRoom, room_of_move};
 ghost use Rattle.hub_requests.specs.Making.{MayMake};
 ghost use Rattle.hub_requests.specs.Performing.{performed_of};
 
@@ -37,6 +38,7 @@ pub fn perform(
 ) -> Result<Performed, AllocError>
     requires may_make { MayMake g hub.old }
     requires fits { fits_request hub.old.scenario request ≡ true }
+    requires room { HasRoom room_of_move hub.old }
     ensures { IfOk result (λ p. performs request g hub.old ≡ performed_of p hub.new) }
 {
     match request {

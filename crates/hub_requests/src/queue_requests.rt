@@ -5,6 +5,7 @@ ghost use Rattle.scenario_tree.specs.declared.tree.Wait.TheVariants as wait;
 ghost use Rattle.machine.specs.Objects.{no_object, takes_value};
 ghost use Rattle.machine.specs.Request.{performs};
 ghost use Rattle.machine.specs.declared.request.Request.{Request as Asked};
+ghost use Rattle.machine_counts.specs.Rooms.{HasRoom, room_of_move};
 ghost use Rattle.hub_requests.specs.Making.{MayMake};
 ghost use Rattle.hub_requests.specs.Naming.{IsObject};
 ghost use Rattle.hub_requests.specs.Performing.{performed_of};
@@ -43,6 +44,7 @@ pub fn put_item(
 ) -> Result<Performed, AllocError>
     requires may_make { MayMake g hub.old }
     requires named { IsObject hub.old.scenario o }
+    requires room { HasRoom room_of_move hub.old }
     ensures { IfOk result (λ p. performs (Asked.QueuePut o value how) g hub.old ≡ performed_of p hub.new) }
 {
     if !takes_value(hub.object(o), &value) {
@@ -62,6 +64,7 @@ pub fn get_item(
 ) -> Result<Performed, AllocError>
     requires may_make { MayMake g hub.old }
     requires named { IsObject hub.old.scenario o }
+    requires room { HasRoom room_of_move hub.old }
     ensures { IfOk result (λ p. performs (Asked.QueueGet o how) g hub.old ≡ performed_of p hub.new) }
 {
     Ok(come_to_wait(alloc, hub, g, Waiting::Take(o), how)?)
@@ -78,6 +81,7 @@ pub fn peek_item(
 ) -> Result<Performed, AllocError>
     requires may_make { MayMake g hub.old }
     requires named { IsObject hub.old.scenario o }
+    requires room { HasRoom room_of_move hub.old }
     ensures { IfOk result (λ p. performs (Asked.QueuePeek o how) g hub.old ≡ performed_of p hub.new) }
 {
     Ok(come_to_wait(alloc, hub, g, Waiting::Peek(o), how)?)
@@ -94,6 +98,7 @@ pub fn join_queue(
 ) -> Result<Performed, AllocError>
     requires may_make { MayMake g hub.old }
     requires named { IsObject hub.old.scenario o }
+    requires room { HasRoom room_of_move hub.old }
     ensures { IfOk result (λ p. performs (Asked.QueueJoin o how) g hub.old ≡ performed_of p hub.new) }
 {
     Ok(come_to_wait(alloc, hub, g, Waiting::Tasks(o), how)?)
@@ -122,6 +127,7 @@ pub fn shut_queue(hub: &mut Hub, g: u32, o: u32, immediate: bool) -> Result<Perf
 pub fn put_offer(hub: &mut Hub, g: u32, o: u32, value: Value) -> Result<Performed, AllocError>
     requires may_make { MayMake g hub.old }
     requires named { IsObject hub.old.scenario o }
+    requires room { HasRoom room_of_move hub.old }
     ensures { IfOk result (λ p. performs (Asked.ChannelPut o value) g hub.old ≡ performed_of p hub.new) }
 {
     offer(hub, g, o, value)?;
@@ -133,6 +139,7 @@ pub fn put_offer(hub: &mut Hub, g: u32, o: u32, value: Value) -> Result<Performe
 pub fn get_offer(alloc: Global, hub: &mut Hub, g: u32, o: u32) -> Result<Performed, AllocError>
     requires may_make { MayMake g hub.old }
     requires named { IsObject hub.old.scenario o }
+    requires room { HasRoom room_of_move hub.old }
     ensures { IfOk result (λ p. performs (Asked.ChannelGet o) g hub.old ≡ performed_of p hub.new) }
 {
     Ok(come_to_wait(alloc, hub, g, Waiting::TakeOffer(o), Wait::Block)?)

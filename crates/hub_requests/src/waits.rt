@@ -1,6 +1,7 @@
 //! How a greenlet comes to a wait: it completes at once, parks, or does not wait.
-ghost use Rattle.std.specs.Prelude.{◌≡◌, OnOk, IfOk, IfSome};
+ghost use Rattle.std.specs.Prelude.{◌≡◌, ◌+◌, ◌<◌, ◌^◌, OnOk, IfOk, IfSome};
 ghost use Rattle.machine.specs.Waits.{comes, offered, waits};
+ghost use Rattle.machine_counts.specs.Rooms.{HasRoom, room_of_move};
 ghost use Rattle.hub_items.specs.Short.{IsShort};
 ghost use Rattle.hub_requests.specs.Awaited.{awaited_of, object_of};
 ghost use Rattle.hub_requests.specs.Making.{MayMake};
@@ -31,6 +32,7 @@ fn park_or_pass(
 ) -> Result<Performed, AllocError>
     requires may_make { MayMake g hub.old }
     requires short { IsShort waiting }
+    requires room { HasRoom room_of_move hub.old }
     ensures { IfOk result (λ p. waits g awaited waiting how hub.old ≡ performed_of p hub.new) }
 {
     match how {
@@ -44,7 +46,7 @@ fn park_or_pass(
             Ok(Performed::Parks)
         }
         Wait::Now => {
-            let n = draw(hub, &waiting)?;
+            let n = draw(hub, &waiting);
             let outcome = late_outcome(alloc, hub, &waiting, n)?;
             Ok(Performed::Answers(outcome))
         }
@@ -63,6 +65,7 @@ pub fn come_to_wait(
     requires may_make { MayMake g hub.old }
     requires named { IfSome (object_of waiting) (IsObject hub.old.scenario) }
     requires short { IsShort waiting }
+    requires room { HasRoom room_of_move hub.old }
     ensures { IfOk result (λ p. comes g (awaited_of waiting hub.old) waiting how hub.old ≡ performed_of p hub.new) }
 {
     let awaited = awaited_of(hub, &waiting);
@@ -70,6 +73,7 @@ pub fn come_to_wait(
 }
 
 /// As `come_to_wait`, with a park line that says this is waited for.
+#[tactic(auto, using(crate::proofs::Rooms::room_completed))]
 pub fn come_to_wait_as(
     alloc: Global,
     hub: &mut Hub,
@@ -81,6 +85,7 @@ pub fn come_to_wait_as(
     requires may_make { MayMake g hub.old }
     requires named { IsNamed hub.old.scenario waiting }
     requires short { IsShort waiting }
+    requires room { HasRoom room_of_move hub.old }
     ensures { IfOk result (λ p. comes g awaited waiting how hub.old ≡ performed_of p hub.new) }
 {
     if hub.newcomer_completes(g, &waiting) {
@@ -95,6 +100,7 @@ pub fn come_to_wait_as(
 pub fn offer(hub: &mut Hub, g: u32, o: u32, value: Value) -> Result<(), AllocError>
     requires may_make { MayMake g hub.old }
     requires named { IsObject hub.old.scenario o }
+    requires since { hub.old.next_since + 1 < 2 ^ 64 }
     ensures { OnOk result (hub.new ≡ offered g o value hub.old) }
 {
     let since = hub.next_since();

@@ -1,9 +1,9 @@
 -- A moment is reached, whether it is a later one or not.
-use Rattle.std.proofs.Common.{◌≡◌, refl, ap, sym, ◌∙◌, subst, ℕ, ◌<◌, ◌≤◌, ◌&&◌, Bool, true, false, cond, not, List, [], ◌∷◌, ◌++◌, length, map, ◌⊎◌, inl, inr, Option, Some, None, arith}
+use Rattle.std.proofs.Common.{◌≡◌, refl, ap, sym, ◌∙◌, subst, ℕ, ◌+◌, ◌^◌, ◌<◌, ◌≤◌, ◌&&◌, Bool, true, false, cond, not, List, [], ◌∷◌, ◌++◌, length, map, ◌⊎◌, inl, inr, Option, Some, None, arith}
 use Rattle.std.specs.Prelude.{◌||◌, IsTrue, is_some}
 use Rattle.std.specs.List.{AllByRecursion}
 use Rattle.std.proofs.lemmas.Bool.{and_cases, and_parts, lt-leb, ltb-false, ltb-true, true≢false}
-use Rattle.std.proofs.lemmas.List.{append_assoc, map-append}
+use Rattle.std.proofs.lemmas.List.{append_assoc, length-map, map-append}
 use Rattle.std.proofs.lemmas.List.Elements.{All-from_recursion, recursion_from_All}
 use Rattle.linked_items.specs.Items.{Differ}
 use Rattle.slot_chains.specs.Chained.{first_of}
@@ -236,6 +236,32 @@ taken_so (Answer.Done j o at) s = by (job_at j s.jobs)
     by (Some job) = settle_forgotten (say (Line.Turn s.turns (Answer.Done j o at)) (arrives j o (Some job) (record s { moment = at })))
 taken_so (Answer.Elapsed at) s = settle_forgotten (say (Line.Turn s.turns (Answer.Elapsed at)) (record s { moment = at }))
 taken_so (Answer.Nothing at) s = settle_forgotten (say (Line.Turn s.turns (Answer.Nothing at)) (record s { moment = at }))
+
+-- an answer leaves room for the settling that it brings
+came-next : (answer : Answer) (s : State) → (came answer s).next_ready ≡ s.next_ready
+came-next (Answer.Done j o at) s = by (job_at j (reached at s).jobs)
+  where
+    by : (found : Option JobState) → (arrives j o found (reached at s)).next_ready ≡ s.next_ready
+    by None = refl
+    by (Some job) = refl
+came-next (Answer.Elapsed at) s = refl
+came-next (Answer.Nothing at) s = refl
+
+came-items : (answer : Answer) (s : State) → length (came answer s).items ≡ length s.items
+came-items (Answer.Done j o at) s = by (job_at j (reached at s).jobs)
+  where
+    by : (found : Option JobState) → length (arrives j o found (reached at s)).items ≡ length s.items
+    by None = length-map s.items (forgotten at)
+    by (Some job) = length-map s.items (forgotten at)
+came-items (Answer.Elapsed at) s = length-map s.items (forgotten at)
+came-items (Answer.Nothing at) s = length-map s.items (forgotten at)
+
+pub came_fits : (answer : Answer) (line : Line) (s t u : State) → t ≡ came answer s → u ≡ say line t → s.next_ready + length s.items ≤ 2 ^ 63 → u.next_ready + length u.items ≤ 2 ^ 63
+came_fits answer line s t u e f h =
+    let next = came-next answer s in
+    let items = came-items answer s in
+    let there : (came answer s).next_ready + length (came answer s).items ≤ 2 ^ 63 = omega (arith, next, items, h) in
+    subst (λ (x : State). x.next_ready + length x.items ≤ 2 ^ 63) (sym f) (subst (λ (x : State). x.next_ready + length x.items ≤ 2 ^ 63) (sym e) there)
 
 -- ---- the hub is kept
 

@@ -175,11 +175,6 @@ pub either_way : {A E : Type 0} (r : Result A E) (P Q R : Type 0) → (P → R) 
 either_way (Ok x) P Q R f g p q = f p
 either_way (Err e) P Q R f g p q = g q
 
--- what holds whether it went well or not
-pub on_err : {A E : Type 0} (r : Result A E) (P : Type 0) → P → OnErr r P
-on_err (Ok x) P p = tt
-on_err (Err e) P p = p
-
 pub hub_changed : (o : ℕ) (x : Object) (held : SeenItems) (t u : SeenTouched) (s : State) (objects : List Object) → IsAscending s → u ≡ with_touched (Some o) t → objects ≡ slice_set s.objects o x → IsKept held t s →
     IsKept held u (record s { objects = objects })
 hub_changed o x held t u s objects a touched e h =

@@ -1,11 +1,10 @@
 //! The moment, the counts, and the lines of the step under way.
-ghost use Rattle.std.specs.Prelude.{◌≡◌, ◌+◌, ◌<◌, ◌^◌, length, OnOk, IfOk};
+ghost use Rattle.std.specs.Prelude.{◌≡◌, ◌+◌, ◌<◌, ◌^◌, length};
 ghost use Rattle.machine.specs.Run.{silent};
 
 use crate::hub::Hub;
 use body_frames::Code;
 use machine::state::Post;
-use std::alloc::AllocError;
 use trace_text::Line;
 
 impl Hub {
@@ -59,12 +58,12 @@ impl Hub {
         self.held.len()
     }
 
-    /// Counts one turn more. `AllocError`: its number would pass 64 bits; the hub is given up.
-    pub fn count_turn(&mut self) -> Result<(), AllocError>
-        ensures { OnOk result (self.new ≡ record self.old { turns = self.old.turns + 1 }) }
+    /// Counts one turn more.
+    pub fn count_turn(&mut self)
+        requires { self.old.turns + 1 < 2 ^ 64 }
+        ensures { self.new ≡ record self.old { turns = self.old.turns + 1 } }
     {
-        self.base.turns = self.base.turns.checked_add(1).ok_or(AllocError)?;
-        Ok(())
+        self.base.turns += 1;
     }
 
     /// How many timeouts were numbered.
@@ -74,13 +73,14 @@ impl Hub {
         self.base.timeouts
     }
 
-    /// Numbers one timeout more, and gives its number. `AllocError`: it would pass 32 bits; the hub is given up.
-    pub fn count_timeout(&mut self) -> Result<u32, AllocError>
-        ensures counted { OnOk result (self.new ≡ record self.old { timeouts = self.old.timeouts + 1 }) }
-        ensures number { IfOk result (λ n. n ≡ self.old.timeouts + 1) }
+    /// Numbers one timeout more, and gives its number.
+    pub fn count_timeout(&mut self) -> u32
+        requires { self.old.timeouts + 1 < 2 ^ 32 }
+        ensures counted { self.new ≡ record self.old { timeouts = self.old.timeouts + 1 } }
+        ensures number { result ≡ self.old.timeouts + 1 }
     {
-        self.base.timeouts = self.base.timeouts.checked_add(1).ok_or(AllocError)?;
-        Ok(self.base.timeouts)
+        self.base.timeouts += 1;
+        self.base.timeouts
     }
 
     /// How many links were made.

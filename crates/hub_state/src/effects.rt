@@ -1,5 +1,5 @@
 //! What the steps of the hub do to its objects, and what they read of them.
-ghost use Rattle.std.specs.Prelude.{◌≡◌, ◌<◌, ◌+◌, length, map, slice_get, OnOk, IfOk};
+ghost use Rattle.std.specs.Prelude.{◌≡◌, ◌<◌, ◌+◌, ◌^◌, length, map, slice_get, OnOk, IfOk};
 ghost use Rattle.std.specs.Option.{option_copied};
 ghost use Rattle.machine.specs.Deliveries.{since_of_wake, without_offer_by};
 ghost use Rattle.machine.specs.Holds.{earlier, is_take};
@@ -150,15 +150,13 @@ impl Hub {
     ///
     /// # Errors
     ///
-    /// Memory is wanting, or the number would pass 32 bits, which no run within its budget comes to; the hub is given
-    /// up.
+    /// Memory is wanting, or the pool's outstanding jobs would pass 2^63, which no run within its budget comes to; the
+    /// hub is given up.
     pub fn post(&mut self, g: u32, o: u32, job: Job, takes: u64) -> Result<u32, AllocError>
+        requires { length self.old.jobs + 1 < 2 ^ 32 }
         ensures posted { OnOk result (self.new ≡ posted g o job takes self.old) }
         ensures number { IfOk result (λ n. n ≡ length self.old.jobs + 1) }
     {
-        if self.base.jobs.len() >= u32::MAX as usize {
-            return Err(AllocError);
-        }
         let number = self.base.jobs.len() as u32 + 1;
         self.base.jobs.reserve(1)?;
         self.base.posts.reserve(1)?;

@@ -1,5 +1,5 @@
 //! The few operations that touch items and waits: one is made, some go, one is taken to be delivered.
-ghost use Rattle.std.specs.Prelude.{◌≡◌, ◌<◌, ◌≤◌, true, length, OnOk, OnErr, IfOk, IfSome};
+ghost use Rattle.std.specs.Prelude.{◌≡◌, ◌+◌, ◌<◌, ◌≤◌, ◌^◌, true, length, OnOk, OnErr, IfOk, IfSome};
 ghost use Rattle.std.specs.Option.{option_copied};
 ghost use Rattle.machine.specs.State.{say};
 ghost use Rattle.machine.specs.Items.{add_item, drop_items, is_timeout_of};
@@ -40,14 +40,15 @@ fn make_places(
     Ok(())
 }
 
-/// Adds an item, with a place for its slot and room for it in a settling. `AllocError`: memory is wanting, or its place in
-/// order of making would pass 64 bits; no item is added.
+/// Adds an item, with a place for its slot and room for it in a settling. `AllocError`: memory is wanting; no item is
+/// added.
 fn add_with_place(
     held: &mut HeldItems,
     touched: &mut Touched,
     found: &mut Found,
     delivery: Delivery,
 ) -> Result<u32, AllocError>
+    requires { held.old.next_since + 1 < 2 ^ 64 }
     ensures added { IfOk result (λ slot. held.new ≡ added slot delivery held.old) }
     ensures place { IfOk result (λ slot. slot < touched.new.slots) }
     ensures room { OnOk result (length held.new.entries ≤ found.new.room) }
@@ -72,15 +73,12 @@ impl Hub {
         Ok(())
     }
 
-    /// Makes one item more, the newest, which says what no other says. Looks at no other.
-    ///
-    /// # Errors
-    ///
-    /// Memory is wanting, or its place would pass 64 bits, which no run within its budget comes to; the hub is given
-    /// up.
+    /// Makes one item more, the newest, which says what no other says. Looks at no other. `AllocError`: memory is
+    /// wanting; the hub is given up.
     pub fn add_item(&mut self, delivery: Delivery) -> Result<(), AllocError>
         requires unclaimed { is_unclaimed (claim_of delivery) self.old.items ≡ true }
         requires short { DeliversShort delivery }
+        requires since { self.old.next_since + 1 < 2 ^ 64 }
         ensures { OnOk result (self.new ≡ add_item delivery self.old) }
     {
         items_stand_in_order(&self.held);

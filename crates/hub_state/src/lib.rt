@@ -30,5 +30,4 @@ mod unawaited;
 
 pub use greenlets::Stage;
 pub use hub::Hub;
-pub use numbers::NumbersSpent;
 pub use seen::Seen;

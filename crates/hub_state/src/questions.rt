@@ -1,5 +1,5 @@
 //! What the hub asks between two turns, and what the answer does.
-ghost use Rattle.std.specs.Prelude.{◌≡◌, ℕ, Option, OnOk};
+ghost use Rattle.std.specs.Prelude.{◌≡◌, ◌+◌, ◌≤◌, ◌^◌, ℕ, Option, length, OnOk};
 ghost use Rattle.machine.specs.Questions.{question, block_line, arrives, take_answer};
 ghost use Rattle.machine.specs.Holds.{job_at};
 ghost use Rattle.hub_objects.specs.Jobs.{job_came};
@@ -107,16 +107,16 @@ impl Hub {
     ///
     /// # Errors
     ///
-    /// Memory is wanting, or a ready number would pass 2^63, which no run within its budget comes to; the hub is given
-    /// up, and may have a part of the answer already.
+    /// Memory is wanting; the hub is given up, and may have a part of the answer already.
     #[tactic(auto, using(crate::proofs::Forgetting::taken_so))]
     pub fn take(&mut self, answer: Answer) -> Result<(), AllocError>
+        requires { self.old.next_ready + length self.old.items ≤ 2 ^ 63 }
         ensures { OnOk result (self.new ≡ take_answer answer self.old) }
     {
-        let number = self.base.turns;
+        let number = self.turns();
         self.come(answer)?;
         self.say(Line::Turn { number, answer })?;
-        self.settle()?;
+        self.settle();
         Ok(())
     }
 }

@@ -1,10 +1,9 @@
 //! Between two settlings: whether there is anything to settle, and the count of the moves that were made.
-ghost use Rattle.std.specs.Prelude.{◌≡◌, ◌+◌, IsTrue, OnOk};
+ghost use Rattle.std.specs.Prelude.{◌≡◌, ◌+◌, ◌<◌, ◌^◌, IsTrue};
 ghost use Rattle.machine.specs.Settle.{settle};
 ghost use Rattle.hub_state.specs.Rest.{has_come};
 
 use crate::hub::Hub;
-use std::alloc::AllocError;
 
 /// Whether the deadline, if there is one, is no later than this moment.
 fn has_come(deadline: Option<u64>, moment: u64) -> bool
@@ -31,11 +30,11 @@ impl Hub {
         !has_come(self.held.least_deadline(), self.base.moment)
     }
 
-    /// Counts so many moves more. `AllocError`: their number would pass 64 bits; the hub is given up.
-    pub fn count_moves(&mut self, moves: u64) -> Result<(), AllocError>
-        ensures { OnOk result (self.new ≡ record self.old { moves = self.old.moves + moves }) }
+    /// Counts so many moves more.
+    pub fn count_moves(&mut self, moves: u64)
+        requires { self.old.moves + moves < 2 ^ 64 }
+        ensures { self.new ≡ record self.old { moves = self.old.moves + moves } }
     {
-        self.base.moves = self.base.moves.checked_add(moves).ok_or(AllocError)?;
-        Ok(())
+        self.base.moves += moves;
     }
 }

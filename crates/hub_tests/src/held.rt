@@ -23,17 +23,27 @@ fn sinces(held: &HeldItems) -> u64 {
     all
 }
 
+/// Adds the item. `AllocError`: memory is wanting, or its place in order of making would pass 64 bits.
+fn put(held: &mut HeldItems, delivery: Delivery) -> Result<(), AllocError> {
+    if held.next_since() == u64::MAX {
+        drop(delivery);
+        return Err(AllocError);
+    }
+    held.add(delivery)?;
+    Ok(())
+}
+
 /// Items of each kind for greenlet 2, and a start of greenlet 1.
 fn fill(held: &mut HeldItems) -> Result<(), AllocError> {
-    held.add(Delivery::Start(1, None))?;
-    held.add(Delivery::Wake(2, Waiting::Sleep(50)))?;
-    held.add(Delivery::Late(2, 40, 0))?;
-    held.add(Delivery::Timeout(2, 1, 30))?;
-    held.add(Delivery::Timeout(2, 2, 20))?;
-    held.add(Delivery::Kill(2, FaultKind::GreenletExit))?;
-    held.add(Delivery::Link(1, 2, LinkKind::Value, 0))?;
-    held.add(Delivery::Link(2, 2, LinkKind::Fault, 0))?;
-    held.add(Delivery::Link(3, 2, LinkKind::Any, 0))?;
+    put(held, Delivery::Start(1, None))?;
+    put(held, Delivery::Wake(2, Waiting::Sleep(50)))?;
+    put(held, Delivery::Late(2, 40, 0))?;
+    put(held, Delivery::Timeout(2, 1, 30))?;
+    put(held, Delivery::Timeout(2, 2, 20))?;
+    put(held, Delivery::Kill(2, FaultKind::GreenletExit))?;
+    put(held, Delivery::Link(1, 2, LinkKind::Value, 0))?;
+    put(held, Delivery::Link(2, 2, LinkKind::Fault, 0))?;
+    put(held, Delivery::Link(3, 2, LinkKind::Any, 0))?;
     Ok(())
 }
 
@@ -119,14 +129,14 @@ fn numbers_come_and_go(rt: HostRuntime) {
 
 /// Items that wait for objects 3 and 7, there in a line or in none, and three that wait for none.
 fn fill_waits(held: &mut HeldItems) -> Result<(), AllocError> {
-    held.add(Delivery::Wake(3, Waiting::Sleep(50)))?;
-    held.add(Delivery::Wake(1, Waiting::Lock(7)))?;
-    held.add(Delivery::Wake(2, Waiting::Join(9)))?;
-    held.add(Delivery::Wake(4, Waiting::Peek(3)))?;
-    held.add(Delivery::Wake(5, Waiting::Event(7, 0)))?;
-    held.add(Delivery::Link(1, 2, LinkKind::Any, 0))?;
-    held.add(Delivery::Wake(6, Waiting::Lock(7)))?;
-    held.add(Delivery::Wake(7, Waiting::Take(3)))?;
+    put(held, Delivery::Wake(3, Waiting::Sleep(50)))?;
+    put(held, Delivery::Wake(1, Waiting::Lock(7)))?;
+    put(held, Delivery::Wake(2, Waiting::Join(9)))?;
+    put(held, Delivery::Wake(4, Waiting::Peek(3)))?;
+    put(held, Delivery::Wake(5, Waiting::Event(7, 0)))?;
+    put(held, Delivery::Link(1, 2, LinkKind::Any, 0))?;
+    put(held, Delivery::Wake(6, Waiting::Lock(7)))?;
+    put(held, Delivery::Wake(7, Waiting::Take(3)))?;
     Ok(())
 }
 
@@ -188,16 +198,16 @@ fn greenlets(alloc: Global, numbers: &[u32]) -> Result<Items<u32>, AllocError> {
 
 /// Items that wait for the ends of one greenlet or job, of several, and of none, and one that waits for no end.
 fn fill_ends(alloc: Global, held: &mut HeldItems) -> Result<(), AllocError> {
-    held.add(Delivery::Wake(1, Waiting::Sleep(50)))?;
-    held.add(Delivery::Wake(2, Waiting::Join(9)))?;
-    held.add(Delivery::Wake(3, Waiting::Get(Whom::Job(5))))?;
+    put(held, Delivery::Wake(1, Waiting::Sleep(50)))?;
+    put(held, Delivery::Wake(2, Waiting::Join(9)))?;
+    put(held, Delivery::Wake(3, Waiting::Get(Whom::Job(5))))?;
     let both = greenlets(alloc, &[9, 5])?;
-    held.add(Delivery::Wake(4, Waiting::JoinAll(both, 1)))?;
-    held.add(Delivery::Link(1, 5, LinkKind::Any, 0))?;
+    put(held, Delivery::Wake(4, Waiting::JoinAll(both, 1)))?;
+    put(held, Delivery::Link(1, 5, LinkKind::Any, 0))?;
     let one = greenlets(alloc, &[9])?;
-    held.add(Delivery::Wake(6, Waiting::Kill(one)))?;
+    put(held, Delivery::Wake(6, Waiting::Kill(one)))?;
     let none = greenlets(alloc, &[])?;
-    held.add(Delivery::Wake(7, Waiting::MapEnd(3, none)))?;
+    put(held, Delivery::Wake(7, Waiting::MapEnd(3, none)))?;
     Ok(())
 }
 
@@ -285,10 +295,10 @@ fn take_line(held: &HeldItems, waiting: u64, numbered: u64) -> bool {
 
 /// Two greenlets that wait to take from queue 3, one that waits to take from another, and one that peeks.
 fn wait(held: &mut HeldItems) -> Result<(), AllocError> {
-    held.add(Delivery::Wake(1, Waiting::Take(3)))?;
-    held.add(Delivery::Wake(2, Waiting::Take(4)))?;
-    held.add(Delivery::Wake(3, Waiting::Peek(3)))?;
-    held.add(Delivery::Wake(4, Waiting::Take(3)))?;
+    put(held, Delivery::Wake(1, Waiting::Take(3)))?;
+    put(held, Delivery::Wake(2, Waiting::Take(4)))?;
+    put(held, Delivery::Wake(3, Waiting::Peek(3)))?;
+    put(held, Delivery::Wake(4, Waiting::Take(3)))?;
     Ok(())
 }
 

@@ -1,5 +1,6 @@
 use Rattle.hub_engine.proofs.Delivered.{delivered_as, delivered_declared, may_deliver, taken_declared, taken_fits}
 use Rattle.hub_engine.proofs.Readily.{ready_delivered}
+use Rattle.hub_engine.proofs.Within.{taken_room}
 use Rattle.hub_engine.proofs.deliver.deliver_item.Goals as goal
 
 pub deliver_content-requires-clause-may_go_on : goal.deliver_content-requires-clause-may_go_on
@@ -19,6 +20,11 @@ pub deliver_content-requires-clause-declared : goal.deliver_content-requires-cla
 deliver_content-requires-clause-declared c =
     let item = c.take_below-since in
     taken_declared item.result c.args.hub.now item.new.self item.ensures.gone c.requires.ready
+
+pub deliver_content-requires-clause-room : goal.deliver_content-requires-clause-room
+deliver_content-requires-clause-room c =
+    let item = c.take_below-since in
+    taken_room c.args.mark item.result c.args.hub.now item.new.self item.ensures.item item.ensures.gone c.requires.within
 
 pub deliver_content-requires-clause-after : goal.deliver_content-requires-clause-after
 deliver_content-requires-clause-after c =

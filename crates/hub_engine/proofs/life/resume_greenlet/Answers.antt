@@ -9,7 +9,14 @@ use Rattle.body_frames.specs.Places.{Place}
 use Rattle.body_frames.specs.Standings.{reached_of}
 use Rattle.hub_engine.specs.Stands.{goes_to, hopped}
 use Rattle.hub_engine.proofs.Bodies.{answer_goes, answer_unheard}
+use Rattle.hub_engine.proofs.Settlings.{settles_phased}
 use Rattle.hub_engine.proofs.life.resume_greenlet.Goals as goal
+
+pub place_greenlet-requires : goal.place_greenlet-requires
+place_greenlet-requires c = settles_phased 1 c.args.g (Phase.Live no_frame) c.args.hub.now c.take_body.new.self c.take_body.ensures.taken c.requires
+
+pub place_greenlet-requires-in-None : goal.place_greenlet-requires-in-None
+place_greenlet-requires-in-None c = settles_phased 1 c.args.g (Phase.Live no_frame) c.args.hub.now c.take_body.new.self c.take_body.ensures.taken c.requires
 
 pub returns-in_ok-place_greenlet-in-Some : goal.returns-in_ok-place_greenlet-in-Some
 returns-in_ok-place_greenlet-in-Some c = λ up.

@@ -1,4 +1,5 @@
-use Rattle.std.proofs.Common.{rules, ◌<◌, ◌∙◌, refl, subst, sym, arith}
+use Rattle.std.proofs.Common.{rules, ◌≡◌, ◌+◌, ◌<◌, ◌≤◌, ◌∙◌, refl, ap, subst, sym, arith}
+use Rattle.gv_values.specs.declared.limits.TheConstants.{MOST_MOVES}
 use Rattle.trace_text.specs.declared.line.StopCause.{StopCause}
 use Rattle.machine.specs.Run.{runs}
 use Rattle.machine.specs.State.{State}
@@ -6,19 +7,30 @@ use Rattle.hub_engine.specs.declared.stand.Came.{Came}
 use Rattle.hub_engine.specs.Stands.{next_at}
 use Rattle.hub_engine.specs.Written.{CameTo}
 use Rattle.hub_engine.proofs.Passing.{ended, move_given_up, moved_on, out_of_budget, passing, rested, runs_broken}
-use Rattle.hub_engine.proofs.Tying.{postable_at, runs_at, tied_at_rest, tied_moved, to_move}
+use Rattle.hub_engine.proofs.Tying.{counted_moved, postable_at, runs_at, tied_at_rest, tied_moved, to_move, to_room}
 use Rattle.hub_engine.proofs.turns.run_greenlet.Goals as goal
 
 pub loop-text-init : goal.loop-text-init
-loop-text-init g c = (passing _ _, refl, c.requires.tied)
+loop-text-init g c = (passing _ _, refl, λ may turns h. h, c.requires.few)
 
 pub give_out-requires : goal.give_out-requires
 give_out-requires g c =
-    record { runs = runs_at _ c.loop-text.at c.loop-text.hub c.loop-text.invariant.2; new = postable_at _ c.loop-text.at c.loop-text.hub c.loop-text.invariant.2 }
+    let first = c.requires.tied in
+    let tied = c.loop-text.invariant.2 first.may first.turns first.tied in
+    record { runs = runs_at _ c.loop-text.at c.loop-text.hub tied; new = postable_at _ c.loop-text.at c.loop-text.hub tied }
 
 pub step_greenlet-requires : goal.step_greenlet-requires
 step_greenlet-requires g c =
-    record { some = omega (arith, c.if-left-eq0.false); ready = to_move _ c.loop-text.at _ _ c.loop-text.hub c.give_out.new.hub c.in-Going.is c.loop-text.invariant.2 c.in_ok-give_out.ensures.silent }
+    let first = c.requires.tied in
+    let tied = c.loop-text.invariant.2 first.may first.turns first.tied in
+    let same : c.give_out.new.hub.moves ≡ c.loop-text.hub.moves = ap (λ (s : State). s.moves) c.in_ok-give_out.ensures.silent in
+    let most : c.loop-text.hub.moves + c.loop-text.left ≤ MOST_MOVES = c.loop-text.invariant.3 in
+    record {
+      some = omega (arith, c.if-left-eq0.false);
+      few = omega (arith, same, most);
+      room = to_room first.may first.turns _ c.loop-text.at _ c.loop-text.left _ c.loop-text.hub c.give_out.new.hub c.in-Going.is tied c.in_ok-give_out.ensures.silent (omega (arith, same, most));
+      ready = to_move first.may first.turns _ c.loop-text.at _ _ c.loop-text.hub c.give_out.new.hub c.in-Going.is tied c.in_ok-give_out.ensures.silent;
+    }
 
 pub returns-in_err-give_out-clause-given : goal.returns-in_err-give_out-clause-given
 returns-in_err-give_out-clause-given g c =
@@ -34,8 +46,14 @@ returns-in-Resting-clause-next g c =
     (rested _ _ _ _ c.loop-text.left c.loop-text.at c.loop-text.hub c.in-Resting.is c.loop-text.invariant.0 c.in_ok-give_out.ensures.given).next
 
 pub returns-in-Resting-clause-tied : goal.returns-in-Resting-clause-tied
-returns-in-Resting-clause-tied g c =
-    tied_at_rest _ _ c.loop-text.at c.loop-text.hub c.give_out.new.hub c.in-Resting.is c.loop-text.invariant.2 c.in_ok-give_out.ensures.given c.in_ok-give_out.ensures.silent
+returns-in-Resting-clause-tied g c = λ may turns h.
+    tied_at_rest may turns _ _ c.loop-text.at c.loop-text.hub c.give_out.new.hub c.in-Resting.is (c.loop-text.invariant.2 may turns h) c.in_ok-give_out.ensures.given c.in_ok-give_out.ensures.silent
+
+pub returns-in-Over-clause-tied : goal.returns-in-Over-clause-tied
+returns-in-Over-clause-tied g c = λ may turns h. tt
+
+pub returns-then-left-eq0-clause-tied : goal.returns-then-left-eq0-clause-tied
+returns-then-left-eq0-clause-tied g c = λ may turns h. tt
 
 pub returns-in-Over-clause-given : goal.returns-in-Over-clause-given
 returns-in-Over-clause-given g c =
@@ -63,10 +81,19 @@ returns-then-left-eq0-clause-next g c =
 
 pub loop-text-preserved : goal.loop-text-preserved
 loop-text-preserved g c =
-    let went = c.in_ok-before-in-Going in (
+    let went = c.in_ok-before-in-Going in
+    let first = c.requires.tied in
+    let same : c.give_out.new.hub.moves ≡ c.loop-text.hub.moves = ap (λ (s : State). s.moves) c.in_ok-give_out.ensures.silent in
+    let most : c.loop-text.hub.moves + c.loop-text.left ≤ MOST_MOVES = c.loop-text.invariant.3 in
+    let fewer : went.before < c.loop-text.left = went.ensures.few in
+    let few : c.give_out.new.hub.moves + (went.before + 1) ≤ MOST_MOVES = omega (arith, same, most, fewer) in
+    let counted = counted_moved first.may first.turns _ c.loop-text.at _ _ went.before _ c.loop-text.hub c.give_out.new.hub c.step_greenlet.new.hub (c.loop-text.invariant.2 first.may first.turns first.tied) c.in-Going.is
+    c.in_ok-give_out.ensures.silent few went.ensures.moved in (
       moved_on _ _ _ _ c.loop-text.left went.before c.loop-text.at _ _ _ c.loop-text.hub c.give_out.new.hub c.step_greenlet.new.hub went.ensures.few c.in-Going.is c.loop-text.invariant.0
           c.in_ok-give_out.ensures.given c.in_ok-give_out.ensures.silent went.ensures.moved,
       c.in_ok-give_out.ensures.counts.tells ∙ c.loop-text.invariant.1,
-      tied_moved _ _ c.loop-text.at _ _ went.before _ c.loop-text.hub c.give_out.new.hub c.step_greenlet.new.hub c.loop-text.invariant.2 c.in_ok-give_out.ensures.given
-          c.in_ok-give_out.ensures.silent went.ensures.moved went.ensures.ready,
+      λ may turns h.
+          tied_moved may turns _ _ c.loop-text.at _ _ went.before _ c.loop-text.hub c.give_out.new.hub c.step_greenlet.new.hub (c.loop-text.invariant.2 may turns h) c.in-Going.is c.in_ok-give_out.ensures.given
+          c.in_ok-give_out.ensures.silent few went.ensures.moved went.ensures.ready,
+      omega (arith, same, counted, most, fewer),
     )

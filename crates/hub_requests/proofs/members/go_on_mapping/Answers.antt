@@ -1,4 +1,4 @@
-use Rattle.std.proofs.Common.{◌∙◌, ap, sym, subst, List, length}
+use Rattle.std.proofs.Common.{◌∙◌, ap, sym, subst, List, length, arith}
 use Rattle.gv_values.specs.declared.scalar.Scalar.{Scalar}
 use Rattle.machine.specs.State.{State}
 use Rattle.hub_requests.specs.Naming.{IsObject}
@@ -9,6 +9,15 @@ use Rattle.hub_requests.proofs.members.go_on_mapping.Goals as goal
 pub map_elements-requires-clause-may_make : goal.map_elements-requires-clause-may_make
 map_elements-requires-clause-may_make c =
     sound_member c.args.mapping.crew c.args.mapping.function c.args.g c.in_ok-arguments.arguments c.args.hub.now c.add_member.new.hub c.requires.may_make c.in_ok-member.ensures.added
+
+pub map_elements-requires-clause-since : goal.map_elements-requires-clause-since
+map_elements-requires-clause-since c = let one = ap (λ (s : State). s.next_since) c.in_ok-member.ensures.added in let fits = c.requires.since in omega (arith, one, fits)
+
+pub add_member-requires-clause-since : goal.add_member-requires-clause-since
+add_member-requires-clause-since c = let fits = c.requires.since in omega (arith, fits)
+
+pub end_map-requires-clause-since : goal.end_map-requires-clause-since
+end_map-requires-clause-since c = let fits = c.requires.since in omega (arith, fits)
 
 pub map_elements-requires-clause-named : goal.map_elements-requires-clause-named
 map_elements-requires-clause-named c = subst (λ (x : State). IsObject x.scenario c.args.mapping.crew) (sym c.in_ok-member.ensures.added) c.requires.named

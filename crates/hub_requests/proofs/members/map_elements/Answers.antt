@@ -1,4 +1,4 @@
-use Rattle.std.proofs.Common.{◌≡◌, sym, subst, true, false, rules, arith}
+use Rattle.std.proofs.Common.{◌≡◌, ap, sym, subst, true, false, rules, arith}
 use Rattle.gv_values.specs.declared.scalar.Scalar.{Scalar}
 use Rattle.machine.specs.State.{State}
 use Rattle.hub_requests.specs.Naming.{IsObject}
@@ -19,6 +19,15 @@ returns-then-not-left c =
     map_stops c.args.elements.now c.loop-at.at Scalar.Nothing c.args.g c.args.mapping.crew c.args.mapping.function c.loop-at.made c.has_place-free.result c.has_greenlet_left-left.result c.loop-at.hub _ (omega arith)
     c.loop-at.invariant.same c.has_place-free.ensures some c.has_greenlet_left-left.ensures none
 
+pub park-requires-clause-since : goal.park-requires-clause-since
+park-requires-clause-since c = let fits = c.loop-at.invariant.since in let within = c.loop-at.invariant.within in let short = c.requires.short in omega (arith, fits, within, short)
+
+pub add_member-requires-clause-since : goal.add_member-requires-clause-since
+add_member-requires-clause-since c = let fits = c.loop-at.invariant.since in let within = c.loop-at.invariant.within in let short = c.requires.short in omega (arith, fits, within, short)
+
+pub end_map-requires-clause-since : goal.end_map-requires-clause-since
+end_map-requires-clause-since c = let fits = c.loop-at.invariant.since in let within = c.loop-at.invariant.within in let short = c.requires.short in omega (arith, fits, within, short)
+
 pub loop-at-preserved : goal.loop-at-preserved
 loop-at-preserved c =
     let some : c.has_place-free.result ≡ true = search (rules, c.if-not-free.false) in
@@ -31,4 +40,5 @@ loop-at-preserved c =
       named = subst (λ (x : State). IsObject x.scenario c.args.mapping.crew) (sym c.in_ok-member.ensures.added) c.loop-at.invariant.named;
       within = omega arith;
       few = few_more c.args.elements.now c.loop-at.made c.push.new.self c.in_ok-member.member c.loop-at.at c.in_ok-push.ensures.ok c.loop-at.invariant.few;
+      since = let one = ap (λ (s : State). s.next_since) c.in_ok-member.ensures.added in let fits = c.loop-at.invariant.since in omega (arith, one, fits);
     }

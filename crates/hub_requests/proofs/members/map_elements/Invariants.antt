@@ -1,4 +1,4 @@
-use Rattle.std.proofs.Common.{◌≡◌, ◌≤◌, ◌+◌, ◌-◌, length, drop}
+use Rattle.std.proofs.Common.{◌≡◌, ◌<◌, ◌≤◌, ◌+◌, ◌-◌, ◌^◌, length, drop}
 use Rattle.machine.specs.Waits.{maps}
 use Rattle.hub_requests.specs.Making.{MayMake}
 use Rattle.hub_requests.specs.Naming.{IsObject}
@@ -12,6 +12,7 @@ invariant-loop-at l = record {
   named : IsObject l.hub.scenario l.crew;
   within : l.at ≤ length l.elements;
   few : length l.elements + length l.made ≤ MOST_ELEMENTS + l.at;
+  since : l.hub.next_since + MOST_ELEMENTS + 1 < 2 ^ 64 + l.at;
 }
 
 abbrev pub decreases-loop-at : goal.decreases-loop-at

@@ -11,6 +11,12 @@ use Rattle.hub_engine.specs.Written.{RunsTo}
 use Rattle.hub_engine.proofs.Ending.{ran_ahead, ran_legal, ran_logged, ran_numbers, ran_out, ran_tried, ran_written}
 use Rattle.hub_engine.proofs.run.Engine.run.Goals as goal
 
+pub run-ran-requires-clause-prepared : goal.run-ran-requires-clause-prepared
+run-ran-requires-clause-prepared g c = c.self.invariant.prepared
+
+pub run-ran-requires-clause-few : goal.run-ran-requires-clause-few
+run-ran-requires-clause-few g c = c.self.invariant.few
+
 pub returns-clause-written : goal.returns-clause-written
 returns-clause-written g c =
     let u = outside g.W.World g.K.Sink c.args.world.now c.args.sink.now in
@@ -81,10 +87,10 @@ returns-clause-lawful g c =
     let none = g.met.W.World.log_is c.args.world.now [] c.requires.begun in
     let ran = subst (λ (p : Prepared). RunsTo c.run-ran.result u v (run p.scenario p.turns p.moves) c.run-ran.new.hub) c.self.view_is c.run-ran.ensures.ran in
     c.runs_are_lawful.ensures c.args.self.scenario (Source.Given (g.W.World.meaning c.run-ran.new.world).answers) c.args.self.turns c.args.self.moves
-    (subst (λ (p : Prepared). IsWellFormed p.scenario) c.self.view_is c.self.invariant.may_run.well_formed)
+    (subst (λ (p : Prepared). IsWellFormed p.scenario) c.self.view_is c.self.invariant.prepared.may_run.well_formed)
     (ran_legal u v c.args.self.scenario c.args.self.turns c.args.self.moves c.run-ran.result c.run-ran.new.hub (sym none.0) (sym none.1) ran)
 
 pub returns-clause-quiet : goal.returns-clause-quiet
 returns-clause-quiet g c =
     c.blocks_are_quiet.ensures c.args.self.scenario (Source.Given (g.W.World.meaning c.run-ran.new.world).answers) c.args.self.turns c.args.self.moves
-    (subst (λ (p : Prepared). IsWellFormed p.scenario) c.self.view_is c.self.invariant.may_run.well_formed)
+    (subst (λ (p : Prepared). IsWellFormed p.scenario) c.self.view_is c.self.invariant.prepared.may_run.well_formed)

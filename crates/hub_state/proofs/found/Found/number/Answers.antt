@@ -1,4 +1,4 @@
-use Rattle.std.proofs.Common.{List, false, ap, arith, length, subst, sym, ℕ, ◌∙◌}
+use Rattle.std.proofs.Common.{List, false, ap, arith, length, subst, sym, ℕ, ◌+◌, ◌≤◌, ◌^◌, ◌∙◌}
 use Rattle.std.proofs.lemmas.List.Sorted.{length_permutation}
 use Rattle.machine_settling.specs.Numbers.{gives_all, takes_all}
 use Rattle.hub_state.specs.Found.{AreReady, Numbers, SeenFound, sinces_in}
@@ -17,11 +17,8 @@ number_all-requires-clause-count c =
     let same = length_permutation c.self.inside.gained.items c.sort.new.gained.items c.sort.ensures.moved in
     let all = ap length c.deref-2.ensures.value in
     let next = c.unnumber_all.ensures.next in
-    let mark = c.mark.ensures in
-    let count = c.len.ensures in
-    let sum = c.saturating_add.ensures in
-    let few = c.if-saturating_add-gt-NUMBERS.false in
-    omega (arith, same, all, next, mark, count, sum, few)
+    let count = subst (λ (f : SeenFound). c.args.held.now.next + length f.gained ≤ 2 ^ 63) (sym c.self.view_is) c.requires.count in
+    omega (arith, same, all, next, count)
 
 pub returns : goal.returns
 returns c =
@@ -37,6 +34,4 @@ returns c =
             ∙ ap (gives_all (sinces_in gained)) (c.unnumber_all.ensures.taken s ∙ ap (λ (ps : List (ℕ × ℕ)). takes_all (sinces_in ps) (with_held c.args.held.now s)) c.deref.ensures.value);
       });
       room = ap (λ (f : SeenFound). f.room) c.self.view_is;
-      err = tt;
-      spent = tt;
     }

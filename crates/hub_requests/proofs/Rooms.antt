@@ -1,0 +1,75 @@
+-- Where there is room for small steps there is room for what they count: for a settling, which numbers each item at
+-- most, for a timeout's number, for a job's, and for the places of items.
+use Rattle.std.proofs.Common.{◌≡◌, ap, sym, ◌∙◌, subst, ℕ, ◌+◌, ◌<◌, ◌≤◌, ◌^◌, Bool, true, false, List, length, map, arith}
+use Rattle.std.proofs.lemmas.List.Sums.{count_by-le-length, length-filter}
+use Rattle.std.specs.Prelude.{not}
+use Rattle.gv_values.specs.declared.fault.FaultKind.{FaultKind}
+use Rattle.trace_text.specs.declared.line.Line.{Line}
+use Rattle.machine.specs.declared.items.Delivery.{Delivery}
+use Rattle.machine.specs.declared.items.Item.{Item}
+use Rattle.machine.specs.declared.items.Waiting.{Waiting}
+use Rattle.machine.specs.declared.state.Phase.{Phase}
+use Rattle.machine.specs.State.{State, say}
+use Rattle.machine.specs.Greenlets.{with_phase}
+use Rattle.machine.specs.Items.{add_item, drop_items}
+use Rattle.machine.specs.Objects.{without_member}
+use Rattle.machine.specs.Request.{sends, sends_all}
+use Rattle.machine_counts.specs.Rooms.{HasRoom, room_of_move}
+use Rattle.machine_counts.specs.Steps.{Fixed, HasSteps, wait_weight}
+use Rattle.machine_counts.proofs.Requests.{Sends, sends-counts, sends_all-counts}
+use Rattle.machine_counts.proofs.Rooms.{room-ample, room-fewer, room-kept}
+use Rattle.machine_counts.proofs.Tallies.{wait-weight-few}
+use Rattle.hub_requests.specs.Sendings.{sent}
+
+pub room_settles : (n : ℕ) (s : State) → HasRoom n s → s.next_ready + length s.items ≤ 2 ^ 63
+room_settles n s r = let far = room-ample n s r in omega (arith, far)
+
+pub room_drawn : (n : ℕ) (s : State) → HasRoom n s → s.timeouts + 1 < 2 ^ 32
+room_drawn n s r = let far = room-ample n s r in omega (arith, far)
+
+pub room_posted : (n : ℕ) (s : State) → HasRoom n s → length s.jobs + 1 < 2 ^ 32
+room_posted n s r = let far = room-ample n s r in omega (arith, far)
+
+-- and for so many items
+pub room_made : (n k : ℕ) (s : State) → k ≤ 2 ^ 62 → HasRoom n s → s.next_since + k < 2 ^ 64
+room_made n k s few r = let far = room-ample n s r in omega (arith, far, few)
+
+pub room_added : (n : ℕ) (s : State) → HasRoom n s → s.next_since + 1 < 2 ^ 64
+room_added n s r = room_made n 1 s (omega arith) r
+
+-- a move has room for the completion of each wait
+pub room_completed : (w : Waiting) (s : State) → HasRoom room_of_move s → HasRoom (2 + wait_weight w) s
+room_completed w s r = let light = wait-weight-few w in room-fewer room_of_move (2 + wait_weight w) s (omega (arith, light)) r
+
+-- neither a line nor an item draws a number
+pub drawn_still : (line : Line) (d : Delivery) (s t u : State) → t ≡ say line s → u ≡ add_item d t → s.timeouts + 1 < 2 ^ 32 → u.timeouts + 1 < 2 ^ 32
+drawn_still line d s t u e f fits = subst (λ (x : State). x.timeouts + 1 < 2 ^ 32) (sym (f ∙ ap (add_item d) e)) fits
+
+-- after an item there is a place for one more
+pub made_after : (line : Line) (d : Delivery) (s t u : State) → t ≡ say line s → u ≡ add_item d t → s.next_since + 2 < 2 ^ 64 → u.next_since + 1 < 2 ^ 64
+made_after line d s t u e f fits = subst (λ (x : State). x.next_since + 1 < 2 ^ 64) (sym (f ∙ ap (add_item d) e)) (omega (arith, fits))
+
+-- kills keep the room
+sent-kept : (x : Fixed) (b : Bool) (t : State) → Sends x (sent b t) → HasSteps x room_of_move t
+unfolding Sends
+sent-kept x true t h = h
+sent-kept x false t h = h
+
+pub room_sent : (f : FaultKind) (k : ℕ) (b : Bool) (s t : State) → sends f k s ≡ sent b t → HasRoom room_of_move s → HasRoom room_of_move t
+room_sent f k b s t e r = room-kept room_of_move room_of_move s t (λ x h. sent-kept x b t (subst (Sends x) e (sends-counts x f k s h))) r
+
+pub room_all_sent : (f : FaultKind) (ks : List ℕ) (b : Bool) (s t : State) → sends_all f ks s ≡ sent b t → HasRoom room_of_move s → HasRoom room_of_move t
+room_all_sent f ks b s t e r = room-kept room_of_move room_of_move s t (λ x h. sent-kept x b t (subst (Sends x) e (sends_all-counts x f ks s h))) r
+
+-- no item comes where a greenlet ends
+pub settles_at_end : (line : Line) (p : Phase) (test : Delivery → Bool) (g : ℕ) (s t u v w : State) → t ≡ say line s → u ≡ with_phase g p t → v ≡ drop_items test u → w ≡ record v { objects = map (without_member g) v.objects } →
+    s.next_ready + length s.items ≤ 2 ^ 63 → w.next_ready + length w.items ≤ 2 ^ 63
+settles_at_end line p test g s t u v w e f h k fits =
+    let goes = λ (i : Item). not (test i.delivery) in
+    let fewer = length-filter goes s.items in
+    let most = count_by-le-length goes s.items in
+    let dropped : (drop_items test s).next_ready + length (drop_items test s).items ≤ 2 ^ 63 = omega (arith, fewer, most, fits) in
+    let said : (drop_items test t).next_ready + length (drop_items test t).items ≤ 2 ^ 63 = subst (λ (x : State). (drop_items test x).next_ready + length (drop_items test x).items ≤ 2 ^ 63) (sym e) dropped in
+    let staged : (drop_items test u).next_ready + length (drop_items test u).items ≤ 2 ^ 63 = subst (λ (x : State). (drop_items test x).next_ready + length (drop_items test x).items ≤ 2 ^ 63) (sym f) said in
+    let gone : v.next_ready + length v.items ≤ 2 ^ 63 = subst (λ (x : State). x.next_ready + length x.items ≤ 2 ^ 63) (sym h) staged in
+    subst (λ (x : State). x.next_ready + length x.items ≤ 2 ^ 63) (sym k) gone

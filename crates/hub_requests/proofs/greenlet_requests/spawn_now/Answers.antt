@@ -1,0 +1,6 @@
+use Rattle.machine_counts.specs.Rooms.{room_of_move}
+use Rattle.hub_requests.proofs.Rooms.{room_added}
+use Rattle.hub_requests.proofs.greenlet_requests.spawn_now.Goals as goal
+
+pub spawn_greenlet-requires-clause-since : goal.spawn_greenlet-requires-clause-since
+spawn_greenlet-requires-clause-since c = room_added room_of_move c.args.hub.now c.requires.room
