@@ -80,6 +80,7 @@ impl Environ {
         ensures { OnOk result (self.new ≡ self.old ++ flat_map (entry_pairs class) (texts fields.now)) }
     {
         let mut key = Vec::new(alloc);
+        // That the map is sound is known of one whose names are counted.
         let _names = fields.keys_len();
         for name in fields.keys() {
             self.add_name(alloc, &mut key, fields, name, class)?;

@@ -60,6 +60,7 @@ fn add_field<'a>(
     ensures count { OnOk result (value_count fields.new ≡ value_count fields.old + 1) }
 {
     let name = name_of(alloc, header.name.of(head))?;
+    // That the map is sound is known of one whose names are counted.
     let _keys = fields.keys_len();
     match fields.append(name, header.value.of(head)) {
         Ok(_) => Ok(()),

@@ -24,7 +24,7 @@ use hub_state::Hub;
 use machine::request::Request;
 use std::alloc::{AllocError, Global};
 
-/// Performs the request of the greenlet, which is under way.
+/// Performs the request of the greenlet, which is under way. The body is long since each request has its arm.
 ///
 /// # Errors
 ///

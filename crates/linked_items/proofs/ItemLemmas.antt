@@ -17,7 +17,6 @@ pub items_joined : (xs ys : List (ℕ × ℕ)) → items_of (xs ++ ys) ≡ items
 items_joined [] ys = refl
 items_joined (x ∷ xs) ys = ap (λ l. x.0 ∷ l) (items_joined xs ys)
 
-
 pub items_without : (x : ℕ) (es : List (ℕ × ℕ)) → items_of (without_entry x es) ≡ without_number x (items_of es)
 items_without x [] = refl
 items_without x (e ∷ es) = elim (cases_eq e.0 x) [
@@ -58,7 +57,6 @@ lacks_without x y (z ∷ xs) a = elim (cases_eq z y) [
   | inr differs ↦ rw (test_keeps z y (λ h. differs (sym h))) (a.0, lacks_without x y xs a.1)
 ]
 
-
 -- lists of different items
 pub differ_snoc : (xs : List ℕ) (x : ℕ) → Differ xs → Lacks x xs → Differ (xs ++ x ∷ [])
 differ_snoc [] x a b = (tt, tt)
@@ -83,7 +81,6 @@ pub differ_from_back : (xs ys : List ℕ) (x : ℕ) → Differ (xs ++ x ∷ ys) 
 differ_from_back [] ys x a = a.0
 differ_from_back (y ∷ xs) ys x a = differ_from_back xs ys x a.1
 
-
 pub differ_of_without : (x : ℕ) (xs : List ℕ) → Differ xs → Differ (without_number x xs)
 differ_of_without x [] a = tt
 differ_of_without x (y ∷ xs) a = elim (cases_eq y x) [
@@ -98,7 +95,6 @@ without_absent x (y ∷ xs) l = rw (test_keeps y x l.0) (ap (λ r. y ∷ r) (wit
 
 pub without_joined : (x : ℕ) (xs ys : List ℕ) → without_number x (xs ++ ys) ≡ without_number x xs ++ without_number x ys
 without_joined x xs ys = filter-append (λ y. not (y == x)) xs ys
-
 
 pub without_back : (x : ℕ) (xs ys : List ℕ) → Lacks x xs → without_number x (xs ++ ys) ≡ xs ++ without_number x ys
 without_back x xs ys l = without_joined x xs ys ∙ ap (λ r. r ++ without_number x ys) (without_absent x xs l)
@@ -138,10 +134,8 @@ last_is (x ∷ y ∷ es) e h =
         let b : length (y ∷ es) - 1 ≡ length es = omega arith in
         ap (slice_get (y ∷ es)) b ∙ sym (ap (slice_get (x ∷ y ∷ es)) a) ∙ h
 
-
 pub entry_first_dropped : (e : ℕ × ℕ) (es : List (ℕ × ℕ)) → Lacks e.0 (items_of es) → without_entry e.0 (e ∷ es) ≡ es
 entry_first_dropped e es l = rw (test_drops e.0 e.0 refl) (entries_absent e.0 es l)
-
 
 -- an item leaves the middle
 pub differ_without : (xs ys : List ℕ) (x : ℕ) → Differ (xs ++ x ∷ ys) → Differ (xs ++ ys)

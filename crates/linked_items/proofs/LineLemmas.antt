@@ -187,7 +187,6 @@ pushed_last l mid l' es e is none up count f t h =
       count = let long = length-append es (e ∷ []) in let n = is.count in let m = set.count in omega arith;
     }
 
-
 -- a node is taken out
 pub taken : (l mid l' l'' : Links) (xs ys : List Linked) (e : Linked) (n : Node) → IsLine l (xs ++ e ∷ ys) → get l.nodes e.key ≡ Some n → Updates l.nodes mid.nodes e.key None → slab_len mid.nodes + 1 ≡ slab_len l.nodes → mid.first ≡ l.first → mid.last ≡ l.last → AfterIsSet mid n.before n.after l' → BeforeIsSet l' n.after n.before l'' → IsLine l'' (xs ++ ys)
 taken l mid l' l'' xs ys e n is found up count f t after before =

@@ -101,7 +101,6 @@ tied_last slots slots' es e t g = record {
   ];
 }
 
-
 pub tied_without : (slots slots' : List Slot) (xs ys : List Linked) (e : Linked) → Differ (node_items (xs ++ e ∷ ys)) → IsTied slots (xs ++ e ∷ ys) → Loses slots slots' e.item → IsTied slots' (xs ++ ys)
 tied_without slots slots' xs ys e d t g =
     let d' : Differ (node_items xs ++ e.item ∷ node_items ys) = subst Differ (node_items_joined xs (e ∷ ys)) d in
@@ -155,7 +154,6 @@ list_last l l' slots slots' es e is lacks line gains = record {
   tied = tied_last slots slots' es e is.tied gains;
   differ = subst Differ (sym (node_items_joined es (e ∷ []))) (differ_snoc (node_items es) e.item is.differ lacks);
 }
-
 
 pub list_without : (l l' : Links) (slots slots' : List Slot) (xs ys : List Linked) (e : Linked) → IsItemList l slots (xs ++ e ∷ ys) → IsLine l' (xs ++ ys) → Loses slots slots' e.item → IsItemList l' slots' (xs ++ ys)
 list_without l l' slots slots' xs ys e is line loses = record {
@@ -226,7 +224,6 @@ last_none l (e ∷ es) is h = let r = last_is_some e.key es in absurd (cc (is.ta
 last_line : (l : Links) (es : List Linked) (k : ℕ) → IsLine l es → l.last ≡ Some k → LastFound l.nodes (Some k) es
 last_line l [] k is h = absurd (cc (is.tail, h))
 last_line l (e ∷ es) k is h = subst (λ o. LastFound l.nodes o (e ∷ es)) (sym is.tail ∙ h) (last_found l.nodes None None e es is.segment)
-
 
 -- what the table finds is what the list has
 pub found_is : (slots : List Slot) (es : List Linked) (entries : List (ℕ × ℕ)) (item : ℕ) (o : Option ℕ) (b : Bool) → IsTied slots es → pairs es ≡ entries → b ≡ is_some o → IfSome o (λ k. Has slots item k) → IfNone o ((k : ℕ) → Has slots item k → ⊥) → IsTrue b ↔ Contains (items_of entries) item

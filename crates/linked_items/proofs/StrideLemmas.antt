@@ -25,7 +25,6 @@ pub record IsFilled (xs : List ℕ) (n : ℕ) : Type 0 where
   pub there : (q : ℕ) → q < n → Contains xs q
   pub below : (q : ℕ) → Contains xs q → q < n
 
-
 pub filled_absent : (xs : List ℕ) (n : ℕ) → IsFilled xs n → Contains xs n → ⊥
 filled_absent xs n is h = omega (arith, is.below n h)
 

@@ -259,7 +259,8 @@ impl Builder {
         self.close(alloc, block)
     }
 
-    /// Makes of a block that was the innermost what it becomes where it ends.
+    /// Makes of a block that was the innermost what it becomes where it ends. The body is long since each opening has
+    /// its arm.
     fn close(&mut self, alloc: Global, block: OpenBlock) -> Result<(), AllocError>
         ensures { OnOk result (building self.new ≡ closed_by (with_open (block ∷ open_of self.old) (building self.old)) block block.opening (open_of self.old)) }
     {

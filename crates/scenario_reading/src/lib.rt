@@ -41,6 +41,7 @@ fn check_read(alloc: Global, bytes: &[u8], scenario: Scenario) -> Result<Checked
 {
     rules_have_reasons();
     well_formed_scenarios_have_no_place();
+    // The contract alone speaks of them.
     let _ = bytes;
     check(alloc, scenario)
 }

@@ -3,5 +3,8 @@
 #![tactic(auto)]
 
 mod chains;
+mod limits;
+mod links;
 
 pub use chains::{Chains, Ends, Neighbours};
+pub use links::Link;

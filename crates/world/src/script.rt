@@ -153,6 +153,7 @@ impl ScriptWorld {
         ensures setting { OnOk result (SameSetting self.old self.new) }
         ensures refused { OnErr result (SameScript self.old self.new) }
     {
+        // The contract alone speaks of it.
         let _ = question;
         self.answers.push(answer)?;
         self.outstanding.take_off(answer);

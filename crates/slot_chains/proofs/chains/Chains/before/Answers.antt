@@ -9,7 +9,7 @@ pub returns-in-Some : goal.returns-in-Some
 returns-in-Some c = λ f key xs ys a e.
     let same : get_or c.deref.result.now c.args.slot (neighbours None None) ≡ around_of c.args.self.now.around c.args.slot =
     ap (λ (t : List Neighbours). around_of t c.args.slot) (c.deref.ensures.value ∙ ap (λ (t : SeenChains). t.around) c.self.view_is) in
-    ap (λ (n : Neighbours). n.before) (c.in-Some.ensures.lookup.3.1 (neighbours None None) ∙ same) ∙ before_is c.args.self.now f key c.args.slot xs ys a e
+    c.slot.ensures ∙ ap (λ (n : Neighbours). n.before) (c.in-Some.ensures.lookup.3.1 (neighbours None None) ∙ same) ∙ before_is c.args.self.now f key c.args.slot xs ys a e
 
 pub returns-in-None : goal.returns-in-None
 returns-in-None c = λ f key xs ys a e.
