@@ -1,12 +1,14 @@
 //! Blocks of a tree.
-ghost use Rattle.std.specs.Prelude.{◌≡◌, ◌++◌, List, map, IfOk};
-ghost use Rattle.scenario_tree.specs.declared.tree.Statement.{Statement as Line};
-ghost use Rattle.body_blocks.specs.Trees.{Grows, action_of, block_at, except_of, statement_of};
+ghost use Rattle.std.specs.Prelude.{◌≡◌, map, IfOk};
+ghost use Rattle.scenario_tree.specs.declared.tree.Action.TheVariants as action;
+ghost use Rattle.body_blocks.specs.Making.{IsMaking, made};
+ghost use Rattle.body_blocks.specs.Trees.{Coded, Grows, action_of, block_at, except_of, joined, statement_of};
 
-use crate::blocks::Blocks;
+use crate::making::Making;
 use crate::statement::{FlatAction, FlatExcept, FlatStatement};
 use crate::turning::turned;
-use scenario_tree::{Action, Except, Items, Statement};
+use gv_values::Name;
+use scenario_tree::{Action, Except, Giving, Items, Statement};
 use std::alloc::{AllocError, Global};
 use std::rc::Rc;
 
@@ -15,97 +17,128 @@ use std::rc::Rc;
 #[cycle(block)]
 pub fn add_block(
     alloc: Global,
-    blocks: &mut Blocks,
+    making: &mut Making,
     block: Items<Statement>,
 ) -> Result<usize, AllocError>
-    ensures grows { IfOk result (λ _. Grows blocks.old blocks.new) }
-    ensures same { IfOk result (λ n. (more : List (List Line)) → block_at n (blocks.new ++ more) ≡ block) }
+    requires { IsMaking making.old }
+    ensures kept { IfOk result (λ _. IsMaking making.new) }
+    ensures grows { IfOk result (λ _. Grows (made making.old) (made making.new)) }
+    ensures same { IfOk result (λ n. (more : Coded) → block_at n (joined (made making.new) more) ≡ block) }
 {
     let mut left = block;
     let mut statements = Vec::with_capacity(alloc, left.len())?;
     while let Some(statement) = left.pop() {
-        let flat = add_statement(alloc, blocks, statement)?;
+        let flat = add_statement(alloc, making, statement)?;
         statements.push(flat)?;
     }
-    Ok(blocks.push(turned(statements))?)
+    Ok(making.push(turned(statements))?)
 }
 
 #[cycle(block)]
 fn add_statement(
     alloc: Global,
-    blocks: &mut Blocks,
+    making: &mut Making,
     statement: Statement,
 ) -> Result<FlatStatement, AllocError>
-    ensures grows { IfOk result (λ _. Grows blocks.old blocks.new) }
-    ensures same { IfOk result (λ s. (more : List (List Line)) → statement_of (blocks.new ++ more) s ≡ statement) }
+    requires { IsMaking making.old }
+    ensures kept { IfOk result (λ _. IsMaking making.new) }
+    ensures grows { IfOk result (λ _. Grows (made making.old) (made making.new)) }
+    ensures same { IfOk result (λ s. (more : Coded) → statement_of (joined (made making.new) more) s ≡ statement) }
 {
     let Statement { line, action } = statement;
-    let action = add_action(alloc, blocks, action)?;
+    let action = add_action(alloc, making, action)?;
     Ok(FlatStatement { line, action })
 }
 
 #[cycle(block)]
-fn add_action(alloc: Global, blocks: &mut Blocks, action: Action) -> Result<FlatAction, AllocError>
-    ensures grows { IfOk result (λ _. Grows blocks.old blocks.new) }
-    ensures same { IfOk result (λ a. (more : List (List Line)) → action_of (blocks.new ++ more) a ≡ action) }
+fn add_action(alloc: Global, making: &mut Making, action: Action) -> Result<FlatAction, AllocError>
+    requires { IsMaking making.old }
+    ensures kept { IfOk result (λ _. IsMaking making.new) }
+    ensures grows { IfOk result (λ _. Grows (made making.old) (made making.new)) }
+    ensures same { IfOk result (λ a. (more : Coded) → action_of (joined (made making.new) more) a ≡ action) }
 {
     match action {
-        Action::Command(command) => Ok(FlatAction::Command(command)),
-        Action::Giving(name, giving) => Ok(FlatAction::Giving(name, giving)),
+        Action::Command(command) => Ok(FlatAction::Command(making.command(alloc, command)?)),
+        Action::Giving(name, giving) => Ok(add_giving(alloc, making, name, giving)?),
         Action::If(test, yes, no) => {
-            let yes = add_block(alloc, blocks, yes)?;
+            let test = making.expression(alloc, &test)?;
+            let yes = add_block(alloc, making, yes)?;
             match no {
                 None => Ok(FlatAction::If(test, yes, None)),
-                Some(no) => Ok(FlatAction::If(test, yes, Some(add_block(alloc, blocks, no)?))),
+                Some(no) => Ok(FlatAction::If(test, yes, Some(add_block(alloc, making, no)?))),
             }
         }
         Action::While(test, body) => {
+            let test = making.expression(alloc, &test)?;
             let test = Rc::new(alloc, test)?;
-            Ok(FlatAction::While(test, add_block(alloc, blocks, body)?))
+            Ok(FlatAction::While(test, add_block(alloc, making, body)?))
         }
         Action::Try(body, excepts, finally) => {
-            let body = add_block(alloc, blocks, body)?;
-            let excepts = add_excepts(alloc, blocks, excepts)?;
+            let body = add_block(alloc, making, body)?;
+            let excepts = add_excepts(alloc, making, excepts)?;
             let excepts = Rc::new(alloc, excepts)?;
             match finally {
                 None => Ok(FlatAction::Try(body, excepts, None)),
                 Some(finally) => Ok(FlatAction::Try(
                     body,
                     excepts,
-                    Some(add_block(alloc, blocks, finally)?),
+                    Some(add_block(alloc, making, finally)?),
                 )),
             }
         }
         Action::Timeout(time, silent, body) => Ok(FlatAction::Timeout(
             time,
             silent,
-            add_block(alloc, blocks, body)?,
+            add_block(alloc, making, body)?,
         )),
     }
+}
+
+/// A statement that gives a value is dropped by a call, at each exit.
+fn add_giving(
+    alloc: Global,
+    making: &mut Making,
+    name: Option<Name>,
+    giving: Giving,
+) -> Result<FlatAction, AllocError>
+    requires { IsMaking making.old }
+    ensures kept { IfOk result (λ _. IsMaking making.new) }
+    ensures grows { IfOk result (λ _. Grows (made making.old) (made making.new)) }
+    ensures same { IfOk result (λ a. (more : Coded) → action_of (joined (made making.new) more) a ≡ action.Giving name giving) }
+{
+    let Ok(slot) = making.slot(alloc, &name) else {
+        drop(giving);
+        return Err(AllocError);
+    };
+    Ok(FlatAction::Giving(slot, making.giving(alloc, giving)?))
 }
 
 #[cycle(block)]
 fn add_excepts(
     alloc: Global,
-    blocks: &mut Blocks,
+    making: &mut Making,
     excepts: Items<Except>,
 ) -> Result<Items<FlatExcept>, AllocError>
-    ensures grows { IfOk result (λ _. Grows blocks.old blocks.new) }
-    ensures same { IfOk result (λ es. (more : List (List Line)) → map (except_of (blocks.new ++ more)) es ≡ excepts) }
+    requires { IsMaking making.old }
+    ensures kept { IfOk result (λ _. IsMaking making.new) }
+    ensures grows { IfOk result (λ _. Grows (made making.old) (made making.new)) }
+    ensures same { IfOk result (λ es. (more : Coded) → map (except_of (joined (made making.new) more)) es ≡ excepts) }
 {
     let mut left = excepts;
     let mut flat = Vec::with_capacity(alloc, left.len())?;
     while let Some(except) = left.pop() {
-        let one = add_except(alloc, blocks, except)?;
+        let one = add_except(alloc, making, except)?;
         flat.push(one)?;
     }
     Ok(turned(flat))
 }
 
 #[cycle(block)]
-fn add_except(alloc: Global, blocks: &mut Blocks, except: Except) -> Result<FlatExcept, AllocError>
-    ensures grows { IfOk result (λ _. Grows blocks.old blocks.new) }
-    ensures same { IfOk result (λ e. (more : List (List Line)) → except_of (blocks.new ++ more) e ≡ except) }
+fn add_except(alloc: Global, making: &mut Making, except: Except) -> Result<FlatExcept, AllocError>
+    requires { IsMaking making.old }
+    ensures kept { IfOk result (λ _. IsMaking making.new) }
+    ensures grows { IfOk result (λ _. Grows (made making.old) (made making.new)) }
+    ensures same { IfOk result (λ e. (more : Coded) → except_of (joined (made making.new) more) e ≡ except) }
 {
     let Except {
         line,
@@ -113,7 +146,8 @@ fn add_except(alloc: Global, blocks: &mut Blocks, except: Except) -> Result<Flat
         name,
         body,
     } = except;
-    let body = add_block(alloc, blocks, body)?;
+    let name = making.slot(alloc, &name)?;
+    let body = add_block(alloc, making, body)?;
     Ok(FlatExcept {
         line,
         class,

@@ -1,43 +1,64 @@
-//! The blocks, and how they are made of a tree.
-ghost use Rattle.std.specs.Prelude.{◌≡◌, ◌++◌, ◌∷◌, [], map, length, IfOk, OnSome, slice_get, ◌+◌, ◌<◌, ◌^◌};
+//! The names and the blocks of some code.
+ghost use Rattle.std.specs.Prelude.{◌≡◌, OnSome, slice_get, ◌+◌, ◌<◌, ◌^◌};
 ghost use Rattle.std.specs.Option.{option_copied};
-ghost use Rattle.body_blocks.specs.Trees.{IsAhead, Stands, statement_of};
+ghost use Rattle.body_names.specs.Naming.{IsKept, IsNaming};
+ghost use Rattle.body_blocks.specs.Trees.{EachStands, IsAhead, start, trees};
 
 use crate::statement::FlatStatement;
+use body_names::Naming;
+use gv_values::Name;
 use scenario_tree::Items;
-use std::alloc::{AllocError, Global};
 use std::marker::Model;
 
-/// The blocks of the code. They are seen as the blocks of the tree that they stand for.
+/// The names and the blocks of the code. They are seen as these names, and the blocks of the tree that the blocks stand
+/// for.
 #[derive(Drop)]
 pub struct Blocks {
+    names: Items<Name>,
     all: Items<Items<FlatStatement>>,
 }
 
 impl Model for Blocks {
-    ghost use Rattle.std.specs.Prelude.{List, []};
-    ghost use Rattle.scenario_tree.specs.declared.tree.Statement.{Statement};
     ghost use Rattle.scenario_tree.specs.Trees.{trees as coded_trees};
-    ghost use Rattle.body_blocks.specs.Trees.{AllStand, trees};
+    ghost use Rattle.body_names.specs.Naming.{IsNaming};
+    ghost use Rattle.body_blocks.specs.Trees.{Coded, EachStands, start, trees};
 
-    ghost Value = { List (List Statement) };
+    ghost Value = { Coded };
 
     ghost coded = { Prim.hlevel coded_trees };
 
-    ghost view = { λ b. trees [] b.all };
+    ghost view = { λ b. trees (start b.names) b.all };
 
-    ghost invariant = { λ b. AllStand b.all (trees [] b.all) };
+    ghost invariant = { λ b. IsNaming b.names × EachStands (start b.names) b.all };
 }
 
 impl Blocks {
-    /// No block.
-    #[tactic(auto, using(crate::proofs::Growing::no_trees))]
-    pub fn new(alloc: Global) -> Blocks
-        ensures { result ≡ [] }
+    /// These names and blocks.
+    pub(crate) fn of(naming: Naming, blocks: Items<Items<FlatStatement>>) -> Blocks
+        requires kept { IsKept naming.numbers naming.names }
+        requires stand { EachStands (start naming.names) blocks }
+        ensures { result ≡ trees (start naming.names) blocks }
     {
         Blocks {
-            all: Items::new(alloc),
+            names: naming.names,
+            all: blocks,
         }
+    }
+
+    /// Numbers are one exactly where their names are.
+    #[inline(always)]
+    pub fn tell_names(&self)
+        ensures { IsNaming self.now.names }
+    {
+        // The invariant is known of a field that is looked at.
+        let _names = &self.names;
+    }
+
+    /// The name of this number, and none where there is none.
+    pub fn name(&self, number: u32) -> Option<&Name>
+        ensures { option_copied result ≡ slice_get self.now.names number }
+    {
+        self.names.get(number as usize)
     }
 
     /// What stands at this place of this block.
@@ -50,18 +71,6 @@ impl Blocks {
             None => None,
             Some(statements) => at_place(statements, at),
         }
-    }
-
-    /// One block more, after those inside it; its number.
-    #[tactic(auto, using(crate::proofs::Growing::own_tree, crate::proofs::Growing::trees_more, crate::proofs::Growing::all_stand_more, crate::proofs::Growing::last_block))]
-    pub(crate) fn push(&mut self, block: Items<FlatStatement>) -> Result<usize, AllocError>
-        requires { Stands self.old block (map (statement_of self.old) block) }
-        ensures grows { IfOk result (λ _. self.new ≡ self.old ++ map (statement_of self.old) block ∷ []) }
-        ensures number { IfOk result (λ n. n ≡ length self.old) }
-    {
-        let number = self.all.len();
-        self.all.push(block)?;
-        Ok(number)
     }
 }
 

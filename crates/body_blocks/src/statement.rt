@@ -1,5 +1,6 @@
-use gv_values::{Class, Name};
-use scenario_tree::{Command, Expression, Giving, Items};
+use body_names::{FlatCommand, FlatExpression, FlatGiving, Slot};
+use gv_values::Class;
+use scenario_tree::Items;
 use std::rc::Rc;
 
 /// A statement whose blocks stand beside it in the code, by their numbers.
@@ -13,11 +14,11 @@ pub struct FlatStatement {
 /// What a statement does. What a body under way has to keep of it is shared, and never copied.
 #[derive(Drop)]
 pub enum FlatAction {
-    Command(Command),
-    /// The name stands before `<-`.
-    Giving(Option<Name>, Giving),
-    If(Expression, usize, Option<usize>),
-    While(Rc<Expression>, usize),
+    Command(FlatCommand),
+    /// The local stands before `<-`.
+    Giving(Option<Slot>, FlatGiving),
+    If(FlatExpression, usize, Option<usize>),
+    While(Rc<FlatExpression>, usize),
     /// The body, the excepts and the finally.
     Try(usize, Rc<Items<FlatExcept>>, Option<usize>),
     /// The time, none where it never fires, and whether it is silent.
@@ -29,7 +30,7 @@ pub enum FlatAction {
 pub struct FlatExcept {
     pub line: u32,
     pub class: Class,
-    /// The name stands behind the class.
-    pub name: Option<Name>,
+    /// The local stands behind the class.
+    pub name: Option<Slot>,
     pub body: usize,
 }

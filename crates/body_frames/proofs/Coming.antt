@@ -1,18 +1,27 @@
--- What comes of one move.
-use Rattle.std.proofs.Common.{◌≡◌, refl, ap, sym, ◌∙◌, ℕ, List, [], None}
-use Rattle.scenario_tree.specs.declared.tree.Statement.{Statement}
+-- What comes of one move, of an answer, and of the entering of a timeout block.
+use Rattle.std.proofs.Common.{◌≡◌, refl, ap, sym, ◌∙◌, ℕ, Bool, List, [], ◌∷◌, Option, None}
+use Rattle.gv_values.specs.declared.value.Outcome.{Outcome}
 use Rattle.machine.specs.declared.state.Frame.{Frame}
+use Rattle.machine.specs.declared.state.Leaving.{Leaving}
 use Rattle.machine.specs.declared.state.Local.{Local}
+use Rattle.machine.specs.declared.state.Todo.{Todo}
 use Rattle.machine.specs.Bodies.{Body, Step, Stepped, after_move}
 use Rattle.machine.specs.BodyMoves.{Did, body_move}
+use Rattle.machine.specs.Ends.{leaving_of}
 use Rattle.machine.specs.Expressions.{Around}
-use Rattle.machine.specs.Unwinding.{Unwound}
+use Rattle.machine.specs.Landing.{given}
+use Rattle.machine.specs.Unwinding.{Unwound, unwind}
+use Rattle.body_names.specs.declared.locals.Bound.{Bound}
+use Rattle.body_names.specs.Locals.{locals_of}
+use Rattle.body_names.specs.declared.expression.Slot.{Slot}
+use Rattle.body_blocks.specs.Trees.{Coded, block_at, name_if}
 use Rattle.body_frames.specs.declared.entry.Entry.{Entry}
 use Rattle.body_frames.specs.declared.stack.Made.{Made}
 use Rattle.body_frames.specs.declared.stack.Stack.{Stack}
-use Rattle.body_frames.specs.Places.{Came, came_by, place_of}
+use Rattle.body_frames.specs.declared.unwind.Unwound.{Unwound as Left}
+use Rattle.body_frames.specs.Places.{Came, Entered, came_by, place_of}
 use Rattle.body_frames.specs.Entries.{todo_of}
-use Rattle.body_frames.specs.Standings.{came_of_made, made_of, stands}
+use Rattle.body_frames.specs.Standings.{came_of_made, goes_from, made_of, stands}
 
 -- what comes of a step, after which the body stands so
 came_from : Step → Body → Came
@@ -27,24 +36,44 @@ by_move locals (Did.GoesOn how after todo) = refl
 by_move locals (Did.Enters ms silent body todo) = refl
 by_move locals (Did.Asks request x todo) = refl
 
-by_made : (t : List (List Statement)) (made : Made) (s : Stack) → came_from (made_of t 0 stands made s).step (made_of t 0 stands made s).body ≡ came_of_made t made s
+by_made : (t : Coded) (made : Made) (s : Stack) → came_from (made_of t 0 stands made s).step (made_of t 0 stands made s).body ≡ came_of_made t made s
 unfolding came_from
 by_made t (Made.Asks request x) s = refl
 by_made t (Made.Enters ms silent b) s = refl
 by_made t (Made.Further at) s = refl
 
-pub comes_of_move : (t : List (List Statement)) (locals : List Local) (did : Did) (made : Made) (s : Stack) →
+pub comes_of_move : (t : Coded) (locals : List Local) (did : Did) (made : Made) (s : Stack) →
     ((moves : ℕ) (go : Unwound → Stepped) → after_move moves locals go did ≡ made_of t moves go made s) → came_of_made t made s ≡ came_by locals did
 comes_of_move t locals did made s e =
     sym (by_made t made s) ∙ ap (λ (x : Stepped). came_from x.step x.body) (sym (e 0 stands)) ∙ by_move locals did
 
 -- the same, of a body by its pile, where these are the blocks that it shares
-pub comes_as : (t u : List (List Statement)) (f : Frame) (locals : List Local) (todo : List Entry) (a : List Local → Around) (made came : Made) (s : Stack) → u ≡ t →
-    record { locals = locals; todo = todo_of t todo; gives = None } ≡ f → made ≡ came →
-    ((moves : ℕ) (go : Unwound → Stepped) → after_move moves locals go (body_move (todo_of u todo) (a locals)) ≡ made_of u moves go made s) →
+pub comes_as : (t u : Coded) (f : Frame) (locals : List Bound) (todo : List Entry) (a : List Local → Around) (made came : Made) (s : Stack) → u ≡ t →
+    record { locals = locals_of t.names locals; todo = todo_of t todo; gives = None } ≡ f → made ≡ came →
+    ((moves : ℕ) (go : Unwound → Stepped) → after_move moves (locals_of u.names locals) go (body_move (todo_of u todo) (a (locals_of u.names locals))) ≡ made_of u moves go made s) →
     came_of_made t came s ≡ came_by f.locals (body_move f.todo (a f.locals))
 comes_as t u f locals todo a made came s shared view same e =
-    ap (λ (w : List (List Statement)). came_of_made w came s) (sym shared) ∙ ap (λ (m : Made). came_of_made u m s) (sym same)
-    ∙ comes_of_move u locals (body_move (todo_of u todo) (a locals)) made s e
-    ∙ ap (λ (w : List (List Statement)). came_by locals (body_move (todo_of w todo) (a locals))) shared
+    ap (λ (w : Coded). came_of_made w came s) (sym shared) ∙ ap (λ (m : Made). came_of_made u m s) (sym same)
+    ∙ comes_of_move u (locals_of u.names locals) (body_move (todo_of u todo) (a (locals_of u.names locals))) made s e
+    ∙ ap (λ (w : Coded). came_by (locals_of w.names locals) (body_move (todo_of w todo) (a (locals_of w.names locals)))) shared
     ∙ ap (λ (g : Frame). came_by g.locals (body_move g.todo (a g.locals))) view
+
+-- an answer comes to a body by its pile
+pub answered_as : (t u : Coded) (f : Frame) (locals : List Bound) (todo : List Entry) (gives : Option Slot) (answer : Outcome) (at : Left) (s : Stack) → u ≡ t →
+    record { locals = locals_of t.names locals; todo = todo_of t todo; gives = name_if t gives } ≡ f →
+    unwind (todo_of u todo) [] (leaving_of answer) (given (record { locals = locals_of u.names locals; todo = todo_of u todo; gives = name_if u gives }) answer) ≡ goes_from u at s →
+    goes_from t at s ≡ unwind f.todo [] (leaving_of answer) (given f answer)
+answered_as t u f locals todo gives answer at s shared view goes =
+    ap (λ (w : Coded). goes_from w at s) (sym shared) ∙ sym goes
+    ∙ ap (λ (w : Coded). unwind (todo_of w todo) [] (leaving_of answer) (given (record { locals = locals_of w.names locals; todo = todo_of w todo; gives = name_if w gives }) answer)) shared
+    ∙ ap (λ (g : Frame). unwind g.todo [] (leaving_of answer) (given g answer)) view
+
+-- a body by its pile enters a timeout block
+pub entered_as : (t u : Coded) (e : Entered) (silent : Bool) (b number : ℕ) (locals : List Bound) (todo : List Entry) (at : Left) (s : Stack) → u ≡ t →
+    record { silent = silent; body = block_at b t; locals = locals_of t.names locals; todo = todo_of t todo } ≡ e →
+    unwind (Todo.Statements (block_at b u) ∷ Todo.Within number silent ∷ todo_of u todo) [] Leaving.Normally (locals_of u.names locals) ≡ goes_from u at s →
+    goes_from t at s ≡ unwind (Todo.Statements e.body ∷ Todo.Within number e.silent ∷ e.todo) [] Leaving.Normally e.locals
+entered_as t u e silent b number locals todo at s shared view goes =
+    ap (λ (w : Coded). goes_from w at s) (sym shared) ∙ sym goes
+    ∙ ap (λ (w : Coded). unwind (Todo.Statements (block_at b w) ∷ Todo.Within number silent ∷ todo_of w todo) [] Leaving.Normally (locals_of w.names locals)) shared
+    ∙ ap (λ (x : Entered). unwind (Todo.Statements x.body ∷ Todo.Within number x.silent ∷ x.todo) [] Leaving.Normally x.locals) view

@@ -1,13 +1,13 @@
 -- The move at the head, by the first entry of the pile.
 use Rattle.std.proofs.Common.{◌≡◌, ap, sym, ◌∙◌, ℕ, suc, ◌+◌, List, ◌∷◌, Some, drop, arith}
-use Rattle.scenario_tree.specs.declared.tree.Statement.{Statement}
 use Rattle.machine.specs.declared.state.Local.{Local}
 use Rattle.machine.specs.declared.state.Todo.{Todo}
 use Rattle.machine.specs.Bodies.{Stepped, after_move}
 use Rattle.machine.specs.BodyMoves.{Did, action_move, body_move}
 use Rattle.machine.specs.Expressions.{Around}
 use Rattle.machine.specs.Unwinding.{Unwound}
-use Rattle.body_blocks.specs.Trees.{IsAhead}
+use Rattle.body_names.specs.Locals.{locals_of}
+use Rattle.body_blocks.specs.Trees.{Coded, IsAhead}
 use Rattle.body_blocks.specs.declared.statement.FlatStatement.{FlatStatement}
 use Rattle.body_frames.specs.declared.entry.Entry.{Entry}
 use Rattle.body_frames.specs.declared.stack.Made.{Made}
@@ -18,15 +18,15 @@ use Rattle.body_frames.specs.Standings.{made_of}
 use Rattle.body_frames.proofs.Readings.{move_there}
 
 -- the statement at this place was passed, and its move made
-pub statement_moved : (t : List (List Statement)) (b p : ℕ) (s : FlatStatement) (near : List Local → Around) (old : Stack) (passed : List Entry) (made : Made) (new : Stack) →
+pub statement_moved : (t : Coded) (b p : ℕ) (s : FlatStatement) (near : List Local → Around) (old : Stack) (passed : List Entry) (made : Made) (new : Stack) →
     old.todo ≡ Entry.Rest b p ∷ drop 1 old.todo → IsAhead t b p (Some s) → passed ≡ Entry.Rest b (p + 1) ∷ drop 1 old.todo →
-    ((moves : ℕ) (go : Unwound → Stepped) → after_move moves old.locals go (action_move (form_of t s.action) (near old.locals) (todo_of t passed)) ≡ made_of t moves go made new) →
+    ((moves : ℕ) (go : Unwound → Stepped) → after_move moves (locals_of t.names old.locals) go (action_move (form_of t s.action) (near (locals_of t.names old.locals)) (todo_of t passed)) ≡ made_of t moves go made new) →
     HasMoved t near old made new
 statement_moved t b p s near old passed made new e here n h = λ moves go.
-    let a = near old.locals in
+    let a = near (locals_of t.names old.locals) in
     let next : suc p ≡ p + 1 = omega arith in
-    ap (λ es. after_move moves old.locals go (body_move (todo_of t es) a)) e
-    ∙ ap (λ (did : Did). after_move moves old.locals go did) (move_there t b p s (todo_of t (drop 1 old.todo)) a here)
-    ∙ ap (λ (q : ℕ). after_move moves old.locals go (action_move (form_of t s.action) a (Todo.Statements (rest t b q) ∷ todo_of t (drop 1 old.todo)))) next
-    ∙ ap (λ (es : List Entry). after_move moves old.locals go (action_move (form_of t s.action) a (todo_of t es))) (sym n)
+    ap (λ es. after_move moves (locals_of t.names old.locals) go (body_move (todo_of t es) a)) e
+    ∙ ap (λ (did : Did). after_move moves (locals_of t.names old.locals) go did) (move_there t b p s (todo_of t (drop 1 old.todo)) a here)
+    ∙ ap (λ (q : ℕ). after_move moves (locals_of t.names old.locals) go (action_move (form_of t s.action) a (Todo.Statements (rest t b q) ∷ todo_of t (drop 1 old.todo)))) next
+    ∙ ap (λ (es : List Entry). after_move moves (locals_of t.names old.locals) go (action_move (form_of t s.action) a (todo_of t es))) (sym n)
     ∙ h moves go

@@ -8,7 +8,7 @@ use Rattle.machine.specs.Expressions.{Around}
 use Rattle.machine.specs.BodyMoves.{Did, body_move}
 use Rattle.machine.specs.Unwinding.{Unwound, unwind}
 use Rattle.body_frames.specs.Few.{HasFewBody, HasFewDid, HasFewToDo, HasFewUnwound}
-use Rattle.scenario_tree.specs.declared.tree.Statement.{Statement}
+use Rattle.body_blocks.specs.Trees.{Coded}
 use Rattle.body_frames.specs.declared.stack.Made.{Made}
 use Rattle.body_frames.specs.declared.stack.Stack.{Stack}
 use Rattle.body_frames.specs.Standings.{body_after, made_of, stands}
@@ -24,6 +24,6 @@ after locals (Did.Enters ms silent body todo) h = h
 after locals (Did.Asks request x todo) h = h.1
 
 -- what a move comes to
-pub move_stays_few : (t : List (List Statement)) (todo : List Todo) (a : Around) (locals : List Local) (made : Made) (s : Stack) → HasFewToDo todo →
+pub move_stays_few : (t : Coded) (todo : List Todo) (a : Around) (locals : List Local) (made : Made) (s : Stack) → HasFewToDo todo →
     ((moves : ℕ) (go : Unwound → Stepped) → after_move moves locals go (body_move todo a) ≡ made_of t moves go made s) → HasFewBody (body_after t made s)
 move_stays_few t todo a locals made s h e = subst (λ (x : Stepped). HasFewBody x.body) (e 0 stands) (after locals (body_move todo a) (move-few todo a h))

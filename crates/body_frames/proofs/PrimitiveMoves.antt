@@ -4,18 +4,24 @@ use Rattle.std.specs.Prelude.{IsTrue, unwrap_or}
 use Rattle.gv_values.specs.declared.value.Outcome.{Outcome}
 use Rattle.gv_values.specs.declared.value.Value.{Value}
 use Rattle.scenario_tree.specs.declared.tree.Action.TheOpen.{Action-F}
-use Rattle.scenario_tree.specs.declared.tree.Command.{Command}
-use Rattle.scenario_tree.specs.declared.tree.Expression.{Expression}
 use Rattle.scenario_tree.specs.declared.tree.Scenario.{Scenario}
-use Rattle.scenario_tree.specs.declared.tree.Statement.{Statement}
 use Rattle.machine.specs.declared.state.Leaving.{Leaving}
 use Rattle.machine.specs.declared.state.Local.{Local}
 use Rattle.machine.specs.declared.state.Todo.{Todo}
 use Rattle.machine.specs.Bodies.{Stepped, after_move, around}
 use Rattle.machine.specs.BodyMoves.{Did, action_move, body_move, on_value, tested}
-use Rattle.machine.specs.Expressions.{Look, bind, meaning}
+use Rattle.machine.specs.Expressions.{Look, bind as bind_name, meaning}
 use Rattle.machine.specs.Unwinding.{Unwound, unwind}
-use Rattle.body_blocks.specs.Trees.{IsAhead, block_at}
+use Rattle.body_names.specs.declared.command.FlatCommand.{FlatCommand}
+use Rattle.body_names.specs.declared.expression.FlatExpression.{FlatExpression}
+use Rattle.body_names.specs.declared.expression.Slot.{Slot}
+use Rattle.body_names.specs.declared.locals.Bound.{Bound}
+use Rattle.body_names.specs.Expressions.{expression_of}
+use Rattle.body_names.specs.Locals.{bind, locals_of}
+use Rattle.body_names.specs.Naming.{IsNaming, name_of}
+use Rattle.body_names.proofs.Places.{bind_by_name}
+use Rattle.body_blocks.specs.Trees.{Coded, IsAhead, block_at}
+use Rattle.body_blocks.specs.declared.statement.FlatAction.{FlatAction}
 use Rattle.body_blocks.specs.declared.statement.FlatStatement.{FlatStatement}
 use Rattle.body_primitives.specs.Primitives.{IsBound, Means}
 use Rattle.body_frames.specs.declared.entry.Entry.{Entry}
@@ -29,93 +35,99 @@ use Rattle.body_frames.proofs.Readings.{move_there}
 
 -- ---- what is first to do
 
-pub passed_on : (t : List (List Statement)) (b p : ℕ) (old dropped new : List Entry) → dropped ≡ drop 1 old → new ≡ Entry.Rest b p ∷ dropped →
+pub passed_on : (t : Coded) (b p : ℕ) (old dropped new : List Entry) → dropped ≡ drop 1 old → new ≡ Entry.Rest b p ∷ dropped →
     IsPassed t (Entry.Rest b p ∷ drop 1 old) new
 passed_on t b p old dropped new d e = λ left locals.
     ap (λ es. unwind (todo_of t es) left Leaving.Normally locals) (ap (λ es. Entry.Rest b p ∷ es) (sym d) ∙ sym e)
 
-pub passed_out : (t : List (List Statement)) (b p : ℕ) (old new : List Entry) → new ≡ drop 1 old → begins (rest t b p) ≡ false →
+pub passed_out : (t : Coded) (b p : ℕ) (old new : List Entry) → new ≡ drop 1 old → begins (rest t b p) ≡ false →
     IsPassed t (Entry.Rest b p ∷ drop 1 old) new
 passed_out t b p old new d h = λ left locals.
     rest_ends (rest t b p) (todo_of t (drop 1 old)) left locals h ∙ ap (λ es. unwind (todo_of t es) left Leaving.Normally locals) (sym d)
 
-pub rest_is_move : (t : List (List Statement)) (todo : List Entry) (b p : ℕ) → todo ≡ Entry.Rest b p ∷ drop 1 todo → IsTrue (begins (rest t b p)) →
+pub rest_is_move : (t : Coded) (todo : List Entry) (b p : ℕ) → todo ≡ Entry.Rest b p ∷ drop 1 todo → IsTrue (begins (rest t b p)) →
     RunsAt (todo_of t todo)
 rest_is_move t todo b p e h = subst (λ es. RunsAt (todo_of t es)) (sym e) (λ left locals. rest_runs (rest t b p) (todo_of t (drop 1 todo)) left locals h)
 
-pub again_is_move : (t : List (List Statement)) (todo : List Entry) (test : _) (b : ℕ) → todo ≡ Entry.Again test b ∷ drop 1 todo → RunsAt (todo_of t todo)
+pub again_is_move : (t : Coded) (todo : List Entry) (test : _) (b : ℕ) → todo ≡ Entry.Again test b ∷ drop 1 todo → RunsAt (todo_of t todo)
 again_is_move t todo test b e = subst (λ es. RunsAt (todo_of t es)) (sym e) (λ left locals. refl)
 
 -- ---- the moves
 
--- a truth value that was told of the locals by their slice
-pub means_so : (e : Expression) (slice locals : List Local) (b v : Bool) → b ≡ v → slice ≡ locals → Means e slice (Value.Bool b) → Means e locals (Value.Bool v)
-means_so e slice locals b v h s m =
-    subst (λ (w : Bool). Means e locals (Value.Bool w)) h (subst (λ (ls : List Local). Means e ls (Value.Bool b)) s m)
+-- a truth value by the arm in which it stands
+pub means_so : (e : FlatExpression) (locals : List Bound) (b v : Bool) → b ≡ v → Means e locals (Value.Bool b) → Means e locals (Value.Bool v)
+means_so e locals b v h m = subst (λ (w : Bool). Means e locals (Value.Bool w)) h m
 
 -- what a test of such a value comes to
-tested_so : (t : List (List Statement)) (e : Expression) (b : Bool) (old new : Stack) (go_on : Bool → List Todo) (entries : List Entry) → Means e old.locals (Value.Bool b) →
+tested_so : (t : Coded) (e : FlatExpression) (b : Bool) (old new : Stack) (go_on : Bool → List Todo) (entries : List Entry) → Means e old.locals (Value.Bool b) →
     new.locals ≡ old.locals → new.todo ≡ entries →
     ((left : List ℕ) (locals : List Local) → unwind (go_on b) left Leaving.Normally locals ≡ unwind (todo_of t entries) left Leaving.Normally locals) →
-    GoesOn t (λ a. tested (meaning e a) a.locals go_on) old new
-tested_so t e b old new go_on entries m l n same = λ moves go s look.
-    ap (λ (o : Outcome). after_move moves old.locals go (tested o old.locals go_on)) (sym (m s look))
-    ∙ ap go (same [] old.locals ∙ ap (λ es. unwind (todo_of t es) [] Leaving.Normally old.locals) (sym n) ∙ ap (λ ls. unwind (todo_of t new.todo) [] Leaving.Normally ls) (sym l))
+    GoesOn t (λ a. tested (meaning (expression_of t.names e) a) a.locals go_on) old new
+tested_so t e b old new go_on entries m l n same = λ is moves go s look.
+    let locals = locals_of t.names old.locals in
+    ap (λ (o : Outcome). after_move moves locals go (tested o locals go_on)) (sym (m t.names is s look))
+    ∙ ap go
+    (same [] locals ∙ ap (λ es. unwind (todo_of t es) [] Leaving.Normally locals) (sym n)
+    ∙ ap (λ (ls : List Bound). unwind (todo_of t new.todo) [] Leaving.Normally (locals_of t.names ls)) (sym l))
 
-pub while_in : (t : List (List Statement)) (test : _) (b : ℕ) (old new : Stack) → old.todo ≡ Entry.Again test b ∷ drop 1 old.todo → Means test.value old.locals (Value.Bool true) →
+pub while_in : (t : Coded) (test : _) (b : ℕ) (old new : Stack) → old.todo ≡ Entry.Again test b ∷ drop 1 old.todo → Means test.value old.locals (Value.Bool true) →
     new.left ≡ old.left → new.locals ≡ old.locals → new.todo ≡ Entry.Rest b 0 ∷ old.todo → HasMade true t old new
 while_in t test b old new e m f l n = (
   f,
   subst (λ es. GoesOn t (body_move (todo_of t es)) old new) (sym e)
       (tested_so t test.value true old new
-      (λ on. if on then (Todo.Statements (block_at b t) ∷ Todo.Again test.value (block_at b t) ∷ todo_of t (drop 1 old.todo)) else todo_of t (drop 1 old.todo))
+      (λ on. if on then (Todo.Statements (block_at b t) ∷ Todo.Again (expression_of t.names test.value) (block_at b t) ∷ todo_of t (drop 1 old.todo)) else todo_of t (drop 1 old.todo))
       (Entry.Rest b 0 ∷ Entry.Again test b ∷ drop 1 old.todo) m l (n ∙ ap (λ es. Entry.Rest b 0 ∷ es) e) (λ left locals. refl)),
 )
 
-pub while_out : (t : List (List Statement)) (test : _) (b : ℕ) (old new : Stack) → old.todo ≡ Entry.Again test b ∷ drop 1 old.todo → Means test.value old.locals (Value.Bool false) →
+pub while_out : (t : Coded) (test : _) (b : ℕ) (old new : Stack) → old.todo ≡ Entry.Again test b ∷ drop 1 old.todo → Means test.value old.locals (Value.Bool false) →
     new.left ≡ old.left → new.locals ≡ old.locals → new.todo ≡ drop 1 old.todo → HasMade true t old new
 while_out t test b old new e m f l n = (
   f,
   subst (λ es. GoesOn t (body_move (todo_of t es)) old new) (sym e)
       (tested_so t test.value false old new
-      (λ on. if on then (Todo.Statements (block_at b t) ∷ Todo.Again test.value (block_at b t) ∷ todo_of t (drop 1 old.todo)) else todo_of t (drop 1 old.todo))
+      (λ on. if on then (Todo.Statements (block_at b t) ∷ Todo.Again (expression_of t.names test.value) (block_at b t) ∷ todo_of t (drop 1 old.todo)) else todo_of t (drop 1 old.todo))
       (drop 1 old.todo) m l n (λ left locals. refl)),
 )
 
-pub let_made : (t : List (List Statement)) (x : List ℕ) (e : Expression) (v : Value) (after : List Entry) (old new : Stack) → Means e old.locals v →
-    new.left ≡ old.left → new.locals ≡ bind x v old.locals → IsPassed t after new.todo → HasActed true t (Action-F.Command (Command.Let x e)) after old new
-let_made t x e v after old new m f l p = (
+pub let_made : (t : Coded) (slot : Slot) (e : FlatExpression) (v : Value) (after : List Entry) (old new : Stack) → Means e old.locals v →
+    new.left ≡ old.left → new.locals ≡ bind slot.number v old.locals → IsPassed t after new.todo → HasActed true t (form_of t (FlatAction.Command (FlatCommand.Let slot e))) after old new
+let_made t slot e v after old new m f l p = (
   f,
-  λ moves go s look.
-      ap (λ (o : Outcome). after_move moves old.locals go (on_value o (λ w. Did.GoesOn Leaving.Normally (bind x w old.locals) (todo_of t after)) old.locals (todo_of t after)))
-      (sym (m s look))
-      ∙ ap go (p [] (bind x v old.locals) ∙ ap (λ ls. unwind (todo_of t new.todo) [] Leaving.Normally ls) (sym l)),
+  λ is moves go s look.
+      let x = name_of t.names slot.number in
+      let locals = locals_of t.names old.locals in
+      ap (λ (o : Outcome). after_move moves locals go (on_value o (λ w. Did.GoesOn Leaving.Normally (bind_name x w locals) (todo_of t after)) locals (todo_of t after)))
+      (sym (m t.names is s look))
+      ∙ ap go
+      (p [] (bind_name x v locals)
+      ∙ ap (λ ls. unwind (todo_of t new.todo) [] Leaving.Normally ls) (bind_by_name t.names slot.number v old.locals is ∙ ap (λ (bs : List Bound). locals_of t.names bs) (sym l))),
 )
 
-pub let_bound : (t : List (List Statement)) (x : List ℕ) (e : Expression) (bound : Bool) (after : List Entry) (old new : Stack) → bound ≡ true →
-    IsBound bound x e old.locals new.locals → new.left ≡ old.left → IsPassed t after new.todo → HasActed true t (Action-F.Command (Command.Let x e)) after old new
-let_bound t x e true after old new h b f p = let_made t x e b.0 after old new b.1 f b.2 p
-let_bound t x e false after old new h b f p = cc
+pub let_bound : (t : Coded) (slot : Slot) (e : FlatExpression) (bound : Bool) (after : List Entry) (old new : Stack) → bound ≡ true →
+    IsBound bound slot.number e old.locals new.locals → new.left ≡ old.left → IsPassed t after new.todo → HasActed true t (form_of t (FlatAction.Command (FlatCommand.Let slot e))) after old new
+let_bound t slot e true after old new h b f p = let_made t slot e b.0 after old new b.1 f b.2 p
+let_bound t slot e false after old new h b f p = cc
 
-pub if_so : (t : List (List Statement)) (e : Expression) (y : ℕ) (n : Option ℕ) (after : List Entry) (old new : Stack) → Means e old.locals (Value.Bool true) →
-    new.left ≡ old.left → new.locals ≡ old.locals → new.todo ≡ Entry.Rest y 0 ∷ after → HasActed true t (Action-F.If e (block_at y t) (optional_block t n)) after old new
+pub if_so : (t : Coded) (e : FlatExpression) (y : ℕ) (n : Option ℕ) (after : List Entry) (old new : Stack) → Means e old.locals (Value.Bool true) →
+    new.left ≡ old.left → new.locals ≡ old.locals → new.todo ≡ Entry.Rest y 0 ∷ after → HasActed true t (Action-F.If (expression_of t.names e) (block_at y t) (optional_block t n)) after old new
 if_so t e y n after old new m f l k = (
   f,
   tested_so t e true old new (λ b. Todo.Statements (if b then block_at y t else unwrap_or (optional_block t n) []) ∷ todo_of t after)
       (Entry.Rest y 0 ∷ after) m l k (λ left locals. refl),
 )
 
-pub if_else : (t : List (List Statement)) (e : Expression) (y n : ℕ) (after : List Entry) (old new : Stack) → Means e old.locals (Value.Bool false) →
+pub if_else : (t : Coded) (e : FlatExpression) (y n : ℕ) (after : List Entry) (old new : Stack) → Means e old.locals (Value.Bool false) →
     new.left ≡ old.left → new.locals ≡ old.locals → new.todo ≡ Entry.Rest n 0 ∷ after →
-    HasActed true t (Action-F.If e (block_at y t) (optional_block t (Some n))) after old new
+    HasActed true t (Action-F.If (expression_of t.names e) (block_at y t) (optional_block t (Some n))) after old new
 if_else t e y n after old new m f l k = (
   f,
   tested_so t e false old new (λ b. Todo.Statements (if b then block_at y t else unwrap_or (optional_block t (Some n)) []) ∷ todo_of t after)
       (Entry.Rest n 0 ∷ after) m l k (λ left locals. refl),
 )
 
-pub if_not : (t : List (List Statement)) (e : Expression) (y : ℕ) (after : List Entry) (old new : Stack) → Means e old.locals (Value.Bool false) →
-    new.left ≡ old.left → new.locals ≡ old.locals → IsPassed t after new.todo → HasActed true t (Action-F.If e (block_at y t) (optional_block t None)) after old new
+pub if_not : (t : Coded) (e : FlatExpression) (y : ℕ) (after : List Entry) (old new : Stack) → Means e old.locals (Value.Bool false) →
+    new.left ≡ old.left → new.locals ≡ old.locals → IsPassed t after new.todo → HasActed true t (Action-F.If (expression_of t.names e) (block_at y t) (optional_block t None)) after old new
 if_not t e y after old new m f l p = (
   f,
   tested_so t e false old new (λ b. Todo.Statements (if b then block_at y t else unwrap_or (optional_block t None) []) ∷ todo_of t after)
@@ -123,24 +135,25 @@ if_not t e y after old new m f l p = (
 )
 
 -- a statement that was acted on is the move at the head
-pub statement_made : (made : Bool) (t : List (List Statement)) (b p : ℕ) (s : FlatStatement) (old new : Stack) → old.todo ≡ Entry.Rest b p ∷ drop 1 old.todo →
+pub statement_made : (made : Bool) (t : Coded) (b p : ℕ) (s : FlatStatement) (old new : Stack) → old.todo ≡ Entry.Rest b p ∷ drop 1 old.todo →
     IsAhead t b p (Some s) → HasActed made t (form_of t s.action) (Entry.Rest b (p + 1) ∷ drop 1 old.todo) old new → HasMade made t old new
 statement_made false t b p s old new e here h = h
 statement_made true t b p s old new e here h = (
   h.0,
-  λ moves go c look.
-      let a = around c look old.locals in
+  λ is moves go c look.
+      let locals = locals_of t.names old.locals in
+      let a = around c look locals in
       let next : suc p ≡ p + 1 = omega arith in
-      ap (λ es. after_move moves old.locals go (body_move (todo_of t es) a)) e
-      ∙ ap (λ (did : Did). after_move moves old.locals go did) (move_there t b p s (todo_of t (drop 1 old.todo)) a here)
-      ∙ ap (λ (q : ℕ). after_move moves old.locals go (action_move (form_of t s.action) a (Todo.Statements (rest t b q) ∷ todo_of t (drop 1 old.todo)))) next
-      ∙ h.1 moves go c look,
+      ap (λ es. after_move moves locals go (body_move (todo_of t es) a)) e
+      ∙ ap (λ (did : Did). after_move moves locals go did) (move_there t b p s (todo_of t (drop 1 old.todo)) a here)
+      ∙ ap (λ (q : ℕ). after_move moves locals go (action_move (form_of t s.action) a (Todo.Statements (rest t b q) ∷ todo_of t (drop 1 old.todo)))) next
+      ∙ h.1 is moves go c look,
 )
 
 -- the body comes from the move to where it goes on
-pub primitive_made : (made : Bool) (t : List (List Statement)) (old mid new : Stack) (at : Left) (s : Scenario) (look : Look) → made ≡ true → HasMade made t old mid → old.left ≡ [] →
-    unwind (todo_of t mid.todo) mid.left Leaving.Normally mid.locals ≡ goes_from t at new → (moves : ℕ) (go : Unwound → Stepped) →
-    after_move moves old.locals go (body_move (todo_of t old.todo) (around s look old.locals)) ≡ go (goes_from t at new)
-primitive_made true t old mid new at s look h m told e moves go =
-    m.1 moves go s look ∙ ap go (ap (λ left. unwind (todo_of t mid.todo) left Leaving.Normally mid.locals) (sym (m.0 ∙ told)) ∙ e)
-primitive_made false t old mid new at s look h m told e moves go = cc
+pub primitive_made : (made : Bool) (t : Coded) (old mid new : Stack) (at : Left) (s : Scenario) (look : Look) → IsNaming t.names → made ≡ true → HasMade made t old mid → old.left ≡ [] →
+    unwind (todo_of t mid.todo) mid.left Leaving.Normally (locals_of t.names mid.locals) ≡ goes_from t at new → (moves : ℕ) (go : Unwound → Stepped) →
+    after_move moves (locals_of t.names old.locals) go (body_move (todo_of t old.todo) (around s look (locals_of t.names old.locals))) ≡ go (goes_from t at new)
+primitive_made true t old mid new at s look is h m told e moves go =
+    m.1 is moves go s look ∙ ap go (ap (λ left. unwind (todo_of t mid.todo) left Leaving.Normally (locals_of t.names mid.locals)) (sym (m.0 ∙ told)) ∙ e)
+primitive_made false t old mid new at s look is h m told e moves go = cc

@@ -1,12 +1,13 @@
 -- Moves of a body one after another, with nothing of the hub between them. This project's own.
 use Rattle.std.specs.Prelude.{ℕ, zero, suc, ◌≡◌, List, []}
-use Rattle.scenario_tree.specs.declared.tree.Statement.{Statement}
 use Rattle.machine.specs.declared.state.Frame.{Frame}
 use Rattle.machine.specs.declared.state.Local.{Local}
 use Rattle.machine.specs.Bodies.{Stepped, after_move}
 use Rattle.machine.specs.BodyMoves.{body_move}
 use Rattle.machine.specs.Expressions.{Around}
 use Rattle.machine.specs.Unwinding.{Unwound}
+use Rattle.body_names.specs.Locals.{locals_of}
+use Rattle.body_blocks.specs.Trees.{Coded}
 use Rattle.body_frames.specs.declared.stack.Made.{Made}
 use Rattle.body_frames.specs.declared.stack.Stack.{Stack}
 use Rattle.body_frames.specs.declared.unwind.Unwound.{Unwound as Left}
@@ -26,14 +27,14 @@ MovesOn around zero a came = came ≡ came_of_move around a
 MovesOn around (suc n) a came = (b : Frame) × (Came.Comes (Place.AtMove [] b) ≡ came_of_move around a) × MovesOn around n b came
 
 -- this was made of the move
-abbrev pub HasMoved : List (List Statement) → (List Local → Around) → Stack → Made → Stack → Type 0
+abbrev pub HasMoved : Coded → (List Local → Around) → Stack → Made → Stack → Type 0
 HasMoved t around old made new = (moves : ℕ) (go : Unwound → Stepped) →
-    after_move moves old.locals go (body_move (todo_of t old.todo) (around old.locals)) ≡ made_of t moves go made new
+    after_move moves (locals_of t.names old.locals) go (body_move (todo_of t old.todo) (around (locals_of t.names old.locals))) ≡ made_of t moves go made new
 
 -- it was made so, and the body after it, if it goes on by itself, is at its next move, with few arguments in each call
-abbrev pub HasCome : List (List Statement) → (List Local → Around) → Stack → Made → Stack → Type 0
+abbrev pub HasCome : Coded → (List Local → Around) → Stack → Made → Stack → Type 0
 HasCome t around old made new = IsSteady (body_after t made new) × HasFewBody (body_after t made new) × HasMoved t around old made new
 
 -- it was made so, and the body is at its next move
-abbrev pub HasStayed : List (List Statement) → (List Local → Around) → Stack → Stack → Type 0
+abbrev pub HasStayed : Coded → (List Local → Around) → Stack → Stack → Type 0
 HasStayed t around old new = (new.left ≡ []) × HasFewToDo (todo_of t new.todo) × HasMoved t around old (Made.Further Left.Runs) new

@@ -1,7 +1,6 @@
 -- What the steps outwards through the blocks stand for.
 use Rattle.std.specs.Prelude.{ℕ, List, ⊤, ◌≡◌}
-use Rattle.scenario_tree.specs.declared.tree.Statement.{Statement}
-use Rattle.body_blocks.specs.Trees.{block_at}
+use Rattle.body_blocks.specs.Trees.{Coded, block_at, name_if}
 use Rattle.body_blocks.specs.declared.statement.FlatExcept.{FlatExcept}
 use Rattle.machine.specs.declared.state.Local.{Local}
 use Rattle.machine.specs.declared.state.Todo.{Todo}
@@ -14,8 +13,8 @@ abbrev pub unwound_of : Came → List ℕ → List Local → List Todo → Unwou
 unwound_of Came.Runs left locals todo = Unwound.Runs left locals todo
 unwound_of (Came.Out how) left locals todo = Unwound.Out left how
 
-abbrev pub caught_of : List (List Statement) → FlatExcept → Caught
-caught_of t e = record { name = e.name; body = block_at e.body t }
+abbrev pub caught_of : Coded → FlatExcept → Caught
+caught_of t e = record { name = name_if t e.name; body = block_at e.body t }
 
 abbrev pub stepped_of : Stepped → List ℕ → List Local → List Todo → Unwound
 stepped_of Stepped.Runs left locals todo = Unwound.Runs left locals todo

@@ -1,6 +1,7 @@
 use body_blocks::FlatExcept;
+use body_names::FlatExpression;
 use machine::state::Leaving;
-use scenario_tree::{Boxed, Expression, Items};
+use scenario_tree::{Boxed, Items};
 use std::rc::Rc;
 
 /// What is still to do in a body, one entry of its pile. What stands in the code is shared with it, or named by the
@@ -10,7 +11,7 @@ pub enum Entry {
     /// The rest of the block, from this place on.
     Rest { block: usize, at: usize },
     /// The test of a while, and its body.
-    Again(Rc<Expression>, usize),
+    Again(Rc<FlatExpression>, usize),
     /// The excepts of the try whose body is inside it, and its finally.
     Guard(Rc<Items<FlatExcept>>, Option<usize>),
     /// The finally of the try, where one of its excepts is inside it.

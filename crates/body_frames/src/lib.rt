@@ -8,7 +8,7 @@
 //!
 //! What an entry keeps of a statement besides its place (the test of a while, the excepts of a try) is shared with the
 //! code: an entry that named the place of its statement could name one of another kind. A frame shares the blocks of
-//! its code, and finds locals, objects and functions by name at each use, so that its contract holds for every code.
+//! its code with the names under which they stand, and is seen by these names; what it is run over may be any code.
 //! An input that comes where it is not looked at may be any.
 #![tactic(auto)]
 

@@ -3,6 +3,8 @@ ghost use Rattle.std.specs.Prelude.{◌≡◌, [], ℕ, false, IfOk};
 ghost use Rattle.machine.specs.Bodies.{around, after_move, Stepped as Went};
 ghost use Rattle.machine.specs.BodyMoves.{action_move, while_move};
 ghost use Rattle.machine.specs.Unwinding.{Unwound as Place};
+ghost use Rattle.body_names.specs.Expressions.{expression_of};
+ghost use Rattle.body_names.specs.Locals.{locals_of};
 ghost use Rattle.body_blocks.specs.Trees.{block_at};
 ghost use Rattle.body_values.specs.Few.{HasFewParts};
 ghost use Rattle.body_moves.specs.Chosen.{branch_move, came_of};
@@ -17,12 +19,13 @@ ghost use Rattle.body_frames.specs.Steady.{IsSteady};
 use crate::entry::Entry;
 use crate::primitive_moves::{advance, make_primitive_move};
 use crate::stack::{Made, Stack, go_inwards, leave};
+use crate::unwind::bind_if;
 use body_blocks::{Blocks, FlatAction};
 use body_moves::{Chosen, Evaluation, choose_command, choose_giving};
-use body_values::{Code, Look};
+use body_names::FlatExpression;
+use body_values::{Code, Look, Scope};
 use gv_values::{FaultKind, Outcome, Value};
 use machine::state::Leaving;
-use scenario_tree::Expression;
 use std::alloc::{AllocError, Global};
 use std::rc::Rc;
 
@@ -58,6 +61,7 @@ pub fn finish_move<L: Look>(
     ensures { (old : Stacks) → HasMade is_made context.now.blocks.now old stack.old → HasFewToDo (todo_of context.now.blocks.now old.todo) → old.left ≡ [] →
         IfOk result (λ made. HasCome context.now.blocks.now (around context.now.code.now (L.answers context.now.look.now)) old made stack.new) }
 {
+    context.blocks.tell_names();
     if is_made {
         return Ok(Made::Further(go_inwards(context.blocks, stack)?));
     }
@@ -104,7 +108,7 @@ fn act<L: Look>(
     requires few { HasFewParts (form_of context.now.blocks.now action.now) }
     ensures steady { IfOk result (λ made. IsSteady (body_after context.now.blocks.now made stack.new)) }
     ensures made { IfOk result (λ made. (moves : ℕ) (go : Place → Went) →
-        after_move moves stack.old.locals go (action_move (form_of context.now.blocks.now action.now) (around context.now.code.now (L.answers context.now.look.now) stack.old.locals) (todo_of context.now.blocks.now stack.old.todo))
+        after_move moves (locals_of context.now.blocks.now.names stack.old.locals) go (action_move (form_of context.now.blocks.now action.now) (around context.now.code.now (L.answers context.now.look.now) (locals_of context.now.blocks.now.names stack.old.locals)) (todo_of context.now.blocks.now stack.old.todo))
         ≡ made_of context.now.blocks.now moves go made stack.new) }
 {
     match action {
@@ -113,8 +117,9 @@ fn act<L: Look>(
                 &Evaluation {
                     alloc: context.alloc,
                     code: context.code,
+                    blocks: context.blocks,
                     look: context.look,
-                    locals: stack.locals.as_slice(),
+                    locals: &stack.locals,
                 },
                 command,
             )?;
@@ -125,8 +130,9 @@ fn act<L: Look>(
                 &Evaluation {
                     alloc: context.alloc,
                     code: context.code,
+                    blocks: context.blocks,
                     look: context.look,
-                    locals: stack.locals.as_slice(),
+                    locals: &stack.locals,
                 },
                 *name,
                 giving,
@@ -156,13 +162,13 @@ fn do_chosen(blocks: &Blocks, stack: &mut Stack, chosen: Chosen) -> Result<Made,
     requires told { stack.old.left ≡ [] }
     ensures steady { IfOk result (λ made. IsSteady (body_after blocks.now made stack.new)) }
     ensures done { IfOk result (λ made. (moves : ℕ) (go : Place → Went) →
-        came_of moves stack.old.locals go (todo_of blocks.now stack.old.todo) chosen ≡ made_of blocks.now moves go made stack.new) }
+        came_of blocks.now.names moves stack.old.locals go (todo_of blocks.now stack.old.todo) chosen ≡ made_of blocks.now moves go made stack.new) }
 {
     match chosen {
         Chosen::Asks(request, gives) => Ok(Made::Asks(request, gives)),
         Chosen::Goes(how) => Ok(Made::Further(leave(blocks, stack, how)?)),
-        Chosen::Binds(name, value) => {
-            stack.locals.bind(&name, value)?;
+        Chosen::Binds(slot, value) => {
+            bind_if(blocks, &mut stack.locals, Some(slot), value)?;
             Ok(Made::Further(go_inwards(blocks, stack)?))
         }
     }
@@ -173,19 +179,23 @@ fn do_chosen(blocks: &Blocks, stack: &mut Stack, chosen: Chosen) -> Result<Made,
 fn branch<L: Look>(
     context: &Context<'_, L>,
     stack: &mut Stack,
-    test: &Expression,
+    test: &FlatExpression,
     yes: usize,
     no: Option<usize>,
 ) -> Result<Made, AllocError>
     requires told { stack.old.left ≡ [] }
     ensures steady { IfOk result (λ made. IsSteady (body_after context.now.blocks.now made stack.new)) }
     ensures made { IfOk result (λ made. (moves : ℕ) (go : Place → Went) →
-        after_move moves stack.old.locals go (branch_move test.now (block_at yes context.now.blocks.now) (optional_block context.now.blocks.now no) (around context.now.code.now (L.answers context.now.look.now) stack.old.locals) (todo_of context.now.blocks.now stack.old.todo))
+        after_move moves (locals_of context.now.blocks.now.names stack.old.locals) go (branch_move (expression_of context.now.blocks.now.names test.now) (block_at yes context.now.blocks.now) (optional_block context.now.blocks.now no) (around context.now.code.now (L.answers context.now.look.now) (locals_of context.now.blocks.now.names stack.old.locals)) (todo_of context.now.blocks.now stack.old.todo))
         ≡ made_of context.now.blocks.now moves go made stack.new) }
 {
+    let scope = Scope {
+        blocks: context.blocks,
+        locals: &stack.locals,
+    };
     match context
         .code
-        .meaning(context.alloc, context.look, stack.locals.as_slice(), test)?
+        .meaning(context.alloc, context.look, scope, test)?
     {
         Outcome::Value(Value::Bool(true)) => {
             stack.todo.push(Entry::Rest { block: yes, at: 0 })?;
@@ -215,16 +225,23 @@ fn branch<L: Look>(
 fn test_while<L: Look>(
     context: &Context<'_, L>,
     stack: &mut Stack,
-    test: Rc<Expression>,
+    test: Rc<FlatExpression>,
     body: usize,
 ) -> Result<Made, AllocError>
     requires told { stack.old.left ≡ [] }
     ensures steady { IfOk result (λ made. IsSteady (body_after context.now.blocks.now made stack.new)) }
     ensures made { IfOk result (λ made. (moves : ℕ) (go : Place → Went) →
-        after_move moves stack.old.locals go (while_move test.value (block_at body context.now.blocks.now) (around context.now.code.now (L.answers context.now.look.now) stack.old.locals) (todo_of context.now.blocks.now stack.old.todo))
+        after_move moves (locals_of context.now.blocks.now.names stack.old.locals) go (while_move (expression_of context.now.blocks.now.names test.value) (block_at body context.now.blocks.now) (around context.now.code.now (L.answers context.now.look.now) (locals_of context.now.blocks.now.names stack.old.locals)) (todo_of context.now.blocks.now stack.old.todo))
         ≡ made_of context.now.blocks.now moves go made stack.new) }
 {
-    match context.code.meaning(context.alloc, context.look, stack.locals.as_slice(), &test)? {
+    let scope = Scope {
+        blocks: context.blocks,
+        locals: &stack.locals,
+    };
+    match context
+        .code
+        .meaning(context.alloc, context.look, scope, &test)?
+    {
         Outcome::Value(Value::Bool(true)) => {
             stack.todo.push(Entry::Again(test, body))?;
             stack.todo.push(Entry::Rest { block: body, at: 0 })?;

@@ -22,8 +22,9 @@ use crate::runs::make_moves;
 use crate::stack::{Begun, Made, Stack, begin_function, go_inside, go_on_with, outcome_of_leaving};
 use crate::unwind::Unwound;
 use body_blocks::Blocks;
-use body_values::{Code, Locals, Look};
-use gv_values::{Name, Outcome, Value};
+use body_names::{Locals, Slot};
+use body_values::{Code, Look};
+use gv_values::{Outcome, Value};
 use machine::request::Request;
 use scenario_tree::Items;
 use std::alloc::{AllocError, Global};
@@ -36,12 +37,14 @@ pub struct Parked {
     blocks: Rc<Blocks>,
     locals: Locals,
     todo: Pile<Entry>,
-    gives: Option<Name>,
+    gives: Option<Slot>,
 }
 
 impl Model for Parked {
     ghost use Rattle.machine.specs.declared.state.Frame.{Frame as Body};
     ghost use Rattle.scenario_tree.specs.Trees.{trees};
+    ghost use Rattle.body_names.specs.Locals.{locals_of};
+    ghost use Rattle.body_blocks.specs.Trees.{name_if};
     ghost use Rattle.body_frames.specs.Entries.{todo_of};
     ghost use Rattle.body_frames.specs.Few.{HasFewToDo};
 
@@ -49,7 +52,7 @@ impl Model for Parked {
 
     ghost coded = { Prim.hlevel trees };
 
-    ghost view = { λ p. record { locals = p.locals; todo = todo_of p.blocks.value p.todo; gives = p.gives } };
+    ghost view = { λ p. record { locals = locals_of p.blocks.value.names p.locals; todo = todo_of p.blocks.value p.todo; gives = name_if p.blocks.value p.gives } };
 
     ghost invariant = { λ p. HasFewToDo (todo_of p.blocks.value p.todo) };
 }
@@ -66,6 +69,7 @@ impl Model for Moving {
     ghost use Rattle.std.specs.Prelude.{None};
     ghost use Rattle.machine.specs.declared.state.Frame.{Frame as Body};
     ghost use Rattle.scenario_tree.specs.Trees.{trees};
+    ghost use Rattle.body_names.specs.Locals.{locals_of};
     ghost use Rattle.body_frames.specs.AtMove.{IsAtMove};
     ghost use Rattle.body_frames.specs.Entries.{todo_of};
     ghost use Rattle.body_frames.specs.Few.{HasFewToDo};
@@ -74,7 +78,7 @@ impl Model for Moving {
 
     ghost coded = { Prim.hlevel trees };
 
-    ghost view = { λ m. record { locals = m.locals; todo = todo_of m.blocks.value m.todo; gives = None } };
+    ghost view = { λ m. record { locals = locals_of m.blocks.value.names m.locals; todo = todo_of m.blocks.value m.todo; gives = None } };
 
     ghost invariant = { λ m. IsAtMove (todo_of m.blocks.value m.todo) × HasFewToDo (todo_of m.blocks.value m.todo) };
 }
@@ -91,6 +95,7 @@ pub struct Entering {
 
 impl Model for Entering {
     ghost use Rattle.scenario_tree.specs.Trees.{trees};
+    ghost use Rattle.body_names.specs.Locals.{locals_of};
     ghost use Rattle.body_blocks.specs.Trees.{block_at};
     ghost use Rattle.body_values.specs.Few.{HasFew};
     ghost use Rattle.body_frames.specs.Entries.{todo_of};
@@ -101,7 +106,7 @@ impl Model for Entering {
 
     ghost coded = { Prim.hlevel trees };
 
-    ghost view = { λ e. record { silent = e.silent; body = block_at e.body e.blocks.value; locals = e.locals; todo = todo_of e.blocks.value e.todo } };
+    ghost view = { λ e. record { silent = e.silent; body = block_at e.body e.blocks.value; locals = locals_of e.blocks.value.names e.locals; todo = todo_of e.blocks.value e.todo } };
 
     ghost invariant = { λ e. HasFew (block_at e.body e.blocks.value) × HasFewToDo (todo_of e.blocks.value e.todo) };
 }

@@ -10,8 +10,8 @@ use crate::pile::Pile;
 use crate::stack::Stack;
 use crate::unwind::begins;
 use body_blocks::{Blocks, FlatAction};
+use body_names::FlatCommand;
 use body_primitives::{bind_primitive, primitive_truth};
-use scenario_tree::Command;
 use std::alloc::AllocError;
 
 /// Makes the move that is first to do, where it is a `let`, an `if` or a later test of a while, of integers and truth
@@ -28,7 +28,7 @@ pub fn make_primitive_move(blocks: &Blocks, stack: &mut Stack) -> Result<bool, A
         }
         Some(Entry::Again(test, body)) => {
             let body = *body;
-            match primitive_truth(stack.locals.as_slice(), test) {
+            match primitive_truth(&stack.locals, test) {
                 Some(true) => {
                     stack.todo.push(Entry::Rest { block: body, at: 0 })?;
                     Ok(true)
@@ -72,28 +72,31 @@ fn act(
 ) -> Result<bool, AllocError>
     ensures { IfOk result (λ made. HasActed made blocks.now (form_of blocks.now action.now) (Listed.Rest block next ∷ drop 1 stack.old.todo) stack.old stack.new) }
 {
-    match action {
-        FlatAction::Command(command) => Ok(bind_value(blocks, stack, command, block, next)?),
-        FlatAction::If(test, yes, no) => match primitive_truth(stack.locals.as_slice(), test) {
-            Some(true) => {
+    // Two tests of the form cost less than a match of all.
+    if let FlatAction::Command(command) = action {
+        return Ok(bind_value(blocks, stack, command, block, next)?);
+    }
+    let FlatAction::If(test, yes, no) = action else {
+        return Ok(false);
+    };
+    match primitive_truth(&stack.locals, test) {
+        Some(true) => {
+            advance(&mut stack.todo, block, next)?;
+            put_rest(&mut stack.todo, *yes, 0)?;
+            Ok(true)
+        }
+        Some(false) => match *no {
+            Some(no) => {
                 advance(&mut stack.todo, block, next)?;
-                put_rest(&mut stack.todo, *yes, 0)?;
+                put_rest(&mut stack.todo, no, 0)?;
                 Ok(true)
             }
-            Some(false) => match *no {
-                Some(no) => {
-                    advance(&mut stack.todo, block, next)?;
-                    put_rest(&mut stack.todo, no, 0)?;
-                    Ok(true)
-                }
-                None => {
-                    pass(blocks, &mut stack.todo, block, next)?;
-                    Ok(true)
-                }
-            },
-            None => Ok(false),
+            None => {
+                pass(blocks, &mut stack.todo, block, next)?;
+                Ok(true)
+            }
         },
-        _ => Ok(false),
+        None => Ok(false),
     }
 }
 
@@ -102,15 +105,15 @@ fn act(
 fn bind_value(
     blocks: &Blocks,
     stack: &mut Stack,
-    command: &Command,
+    command: &FlatCommand,
     block: usize,
     next: usize,
 ) -> Result<bool, AllocError>
     ensures { IfOk result (λ made. HasActed made blocks.now (form_of blocks.now (Flat.Command command.now)) (Listed.Rest block next ∷ drop 1 stack.old.todo) stack.old stack.new) }
 {
     match command {
-        Command::Let(name, e) => {
-            if bind_primitive(name, e, &mut stack.locals)? {
+        FlatCommand::Let(slot, e) => {
+            if bind_primitive(*slot, e, &mut stack.locals)? {
                 pass(blocks, &mut stack.todo, block, next)?;
                 return Ok(true);
             }

@@ -33,6 +33,7 @@ pub fn make_moves<L: Look>(
     ensures few { IfOk result (λ on. HasFewBody (body_after context.now.blocks.now on.1 stack.new)) }
     ensures moved { IfOk result (λ on. MovesOn (around context.now.code.now (L.answers context.now.look.now)) on.0 (frame_of context.now.blocks.now stack.old) (came_of_made context.now.blocks.now on.1 stack.new)) }
 {
+    context.blocks.tell_names();
     let mut before = 0;
     'moves: loop {
         let is_made = make_primitive_move(context.blocks, stack)?;

@@ -5,9 +5,9 @@ ghost use Rattle.machine.specs.declared.state.Leaving.TheVariants as leaving;
 ghost use Rattle.machine.specs.Bodies.{Body, begins};
 ghost use Rattle.machine.specs.Landing.{given};
 ghost use Rattle.machine.specs.Ends.{leaving_of, outcome_of_leaving};
-ghost use Rattle.machine.specs.Greenlets.{named};
 ghost use Rattle.machine.specs.Unwinding.{unwind};
-ghost use Rattle.body_blocks.specs.Trees.{block_at};
+ghost use Rattle.body_names.specs.Locals.{locals_of};
+ghost use Rattle.body_blocks.specs.Trees.{block_at, name_if};
 ghost use Rattle.body_values.specs.Few.{HasFew};
 ghost use Rattle.body_values.specs.Functions.{IsFunction, function_at};
 ghost use Rattle.body_frames.specs.Entries.{todo_of};
@@ -18,10 +18,11 @@ ghost use Rattle.body_frames.specs.Steady.{HasMove};
 
 use crate::entry::Entry;
 use crate::pile::Pile;
-use crate::unwind::{Unwound, begins, unwind};
+use crate::unwind::{Unwound, begins, bind_if, unwind};
 use body_blocks::Blocks;
-use body_values::{Code, Locals, Start, named};
-use gv_values::{Name, Outcome, Value};
+use body_names::{Locals, Slot};
+use body_values::{Code, Start};
+use gv_values::{Outcome, Value};
 use machine::request::Request;
 use machine::state::Leaving;
 use scenario_tree::Items;
@@ -39,8 +40,8 @@ pub struct Stack {
 /// What came of a move.
 #[derive(Drop)]
 pub enum Made {
-    /// The body asks its hub, and the name takes the answer.
-    Asks(Request, Option<Name>),
+    /// The body asks its hub, and the local takes the answer.
+    Asks(Request, Option<Slot>),
     /// The body enters a timeout block: its time if it has one, whether it is silent, and its body.
     Enters(Option<u64>, bool, usize),
     /// The body goes on by itself.
@@ -67,28 +68,28 @@ pub fn begin_function(
     ensures moves { IfOk result (λ b. HasMove (goes_from b.blocks.value b.at b.stack)) }
     ensures few { IfOk result (λ b. HasFewUnwound (goes_from b.blocks.value b.at b.stack)) }
 {
-    let Start { blocks, body } = code.start(function)?;
-    let parameters = code.parameters(function);
-    let (stack, at) = begin_block(alloc, &blocks, body, parameters, arguments)?;
+    let Start {
+        blocks,
+        body,
+        locals,
+    } = code.start(alloc, function, arguments)?;
+    let (stack, at) = begin_block(alloc, &blocks, body, locals)?;
     Ok(Begun { blocks, stack, at })
 }
 
-/// A body of these statements, whose parameters take the arguments. It has no more room than it needs: many a body never
-/// enters a block.
+/// A body of these statements with these locals. It has no more room than it needs: many a body never enters a block.
 fn begin_block(
     alloc: Global,
     blocks: &Blocks,
     body: usize,
-    parameters: &[Name],
-    arguments: Items<Value>,
+    locals: Locals,
 ) -> Result<(Stack, Unwound), AllocError>
     requires { HasFew (block_at body blocks.now) }
     ensures begun { IfOk result (λ b.
-        unwind (Undone.Statements (block_at body blocks.now) ∷ []) [] leaving.Normally (named parameters.now arguments) ≡ goes_from blocks.now b.1 b.0) }
+        unwind (Undone.Statements (block_at body blocks.now) ∷ []) [] leaving.Normally (locals_of blocks.now.names locals) ≡ goes_from blocks.now b.1 b.0) }
     ensures moves { IfOk result (λ b. HasMove (goes_from blocks.now b.1 b.0)) }
     ensures few { IfOk result (λ b. HasFewUnwound (goes_from blocks.now b.1 b.0)) }
 {
-    let locals = named(alloc, parameters, arguments)?;
     let mut todo = Pile::with_capacity(alloc, 1)?;
     todo.push(Entry::Rest { block: body, at: 0 })?;
     let left = Items::new(alloc);
@@ -97,11 +98,11 @@ fn begin_block(
     Ok((stack, at))
 }
 
-/// The body goes on with the answer to its request, which the name takes.
+/// The body goes on with the answer to its request, which the local takes.
 pub fn go_on_with(
     blocks: &Blocks,
     stack: &mut Stack,
-    gives: Option<Name>,
+    gives: Option<Slot>,
     answer: Outcome,
 ) -> Result<Unwound, AllocError>
     requires told { stack.old.left ≡ [] }
@@ -109,10 +110,10 @@ pub fn go_on_with(
     ensures moves { IfOk result (λ at. HasMove (goes_from blocks.now at stack.new)) }
     ensures few { IfOk result (λ at. HasFewUnwound (goes_from blocks.now at stack.new)) }
     ensures goes { IfOk result (λ at.
-        unwind (todo_of blocks.now stack.old.todo) [] (leaving_of answer) (given (record { locals = stack.old.locals; todo = todo_of blocks.now stack.old.todo; gives = gives }) answer)
+        unwind (todo_of blocks.now stack.old.todo) [] (leaving_of answer) (given (record { locals = locals_of blocks.now.names stack.old.locals; todo = todo_of blocks.now stack.old.todo; gives = name_if blocks.now gives }) answer)
         ≡ goes_from blocks.now at stack.new) }
 {
-    match take_answer(gives, answer, &mut stack.locals)? {
+    match take_answer(blocks, gives, answer, &mut stack.locals)? {
         Leaving::Normally => Ok(go_inwards(blocks, stack)?),
         how => Ok(leave(blocks, stack, how)?),
     }
@@ -132,7 +133,7 @@ pub fn go_inside(
     ensures moves { IfOk result (λ at. HasMove (goes_from blocks.now at stack.new)) }
     ensures few { IfOk result (λ at. HasFewUnwound (goes_from blocks.now at stack.new)) }
     ensures goes { IfOk result (λ at.
-        unwind (Undone.Statements (block_at body blocks.now) ∷ Undone.Within number silent ∷ todo_of blocks.now stack.old.todo) [] leaving.Normally stack.old.locals
+        unwind (Undone.Statements (block_at body blocks.now) ∷ Undone.Within number silent ∷ todo_of blocks.now stack.old.todo) [] leaving.Normally (locals_of blocks.now.names stack.old.locals)
         ≡ goes_from blocks.now at stack.new) }
 {
     stack.todo.push(Entry::Within(number, silent))?;
@@ -145,7 +146,7 @@ pub fn go_inside(
 pub fn go_inwards(blocks: &Blocks, stack: &mut Stack) -> Result<Unwound, AllocError>
     ensures moves { IfOk result (λ at. HasMove (goes_from blocks.now at stack.new)) }
     ensures left { IfOk result (λ at.
-        unwind (todo_of blocks.now stack.old.todo) stack.old.left leaving.Normally stack.old.locals ≡ goes_from blocks.now at stack.new) }
+        unwind (todo_of blocks.now stack.old.todo) stack.old.left leaving.Normally (locals_of blocks.now.names stack.old.locals) ≡ goes_from blocks.now at stack.new) }
     ensures few { HasFewToDo (todo_of blocks.now stack.old.todo) → IfOk result (λ at. HasFewUnwound (goes_from blocks.now at stack.new)) }
 {
     if is_at_move(blocks, &stack.todo) {
@@ -172,7 +173,7 @@ pub fn is_at_move(blocks: &Blocks, todo: &Pile<Entry>) -> bool
 pub fn leave(blocks: &Blocks, stack: &mut Stack, how: Leaving) -> Result<Unwound, AllocError>
     ensures moves { IfOk result (λ at. HasMove (goes_from blocks.now at stack.new)) }
     ensures left { IfOk result (λ at.
-        unwind (todo_of blocks.now stack.old.todo) stack.old.left how stack.old.locals ≡ goes_from blocks.now at stack.new) }
+        unwind (todo_of blocks.now stack.old.todo) stack.old.left how (locals_of blocks.now.names stack.old.locals) ≡ goes_from blocks.now at stack.new) }
     ensures few { HasFewToDo (todo_of blocks.now stack.old.todo) → IfOk result (λ at. HasFewUnwound (goes_from blocks.now at stack.new)) }
 {
     Ok(unwind(
@@ -195,22 +196,21 @@ pub fn outcome_of_leaving(how: Leaving) -> Outcome
     }
 }
 
-/// Binds the answer to the name that takes it, and tells how the body goes on by it.
+/// Binds the answer to the local that takes it, and tells how the body goes on by it.
 fn take_answer(
-    gives: Option<Name>,
+    blocks: &Blocks,
+    gives: Option<Slot>,
     answer: Outcome,
     locals: &mut Locals,
 ) -> Result<Leaving, AllocError>
     ensures how { IfOk result (λ how. how ≡ leaving_of answer) }
     ensures locals { (todo : List Undone) →
-        OnOk result (locals.new ≡ given (record { locals = locals.old; todo = todo; gives = gives }) answer) }
+        OnOk result (locals_of blocks.now.names locals.new ≡ given (record { locals = locals_of blocks.now.names locals.old; todo = todo; gives = name_if blocks.now gives }) answer) }
 {
     match answer {
         Outcome::Fault(kind) => Ok(Leaving::Raising(kind)),
         Outcome::Value(value) => {
-            if let Some(name) = gives {
-                locals.bind(&name, value)?;
-            }
+            bind_if(blocks, locals, gives, value)?;
             Ok(Leaving::Normally)
         }
     }

@@ -5,15 +5,16 @@ ghost use Rattle.machine.specs.declared.state.Local.{Local as Named};
 ghost use Rattle.machine.specs.declared.state.Leaving.TheVariants as leaving;
 ghost use Rattle.machine.specs.declared.state.Todo.TheVariants as undone;
 ghost use Rattle.machine.specs.Unwinding.{unwind, catching, past_timeout, bind_if, finally_first};
-ghost use Rattle.body_blocks.specs.Trees.{except_of};
+ghost use Rattle.body_names.specs.Locals.{locals_of};
+ghost use Rattle.body_blocks.specs.Trees.{except_of, name_if};
 ghost use Rattle.body_frames.specs.Entries.{begins, entry_of, optional_block, rest, todo_of};
 ghost use Rattle.body_frames.specs.Unwinding.{unwound_of, caught_of, stepped_of, KeepsIfFurther};
 
 use crate::entry::Entry;
 use crate::pile::Pile;
 use body_blocks::{Blocks, FlatExcept};
-use body_values::Locals;
-use gv_values::{FaultKind, Name, Value};
+use body_names::{Locals, Slot};
+use gv_values::{FaultKind, Value};
 use machine::state::Leaving;
 use scenario_tree::{Boxed, Items};
 use std::alloc::AllocError;
@@ -47,17 +48,24 @@ fn past_timeout(n: u32, silent: bool, how: Leaving) -> Leaving
     }
 }
 
-fn bind_if(name: Option<Name>, f: FaultKind, locals: &mut Locals) -> Result<(), AllocError>
-    ensures { OnOk result (locals.new ≡ bind_if name (Value.Fault f) locals.old) }
+/// The local, if there is one, takes the value.
+#[tactic(auto, using(body_names::proofs::Places::bind_by_name))]
+pub fn bind_if(
+    blocks: &Blocks,
+    locals: &mut Locals,
+    local: Option<Slot>,
+    value: Value,
+) -> Result<(), AllocError>
+    ensures { OnOk result (locals_of blocks.now.names locals.new ≡ bind_if (name_if blocks.now local) value (locals_of blocks.now.names locals.old)) }
 {
-    if let Some(name) = name {
-        locals.bind(&name, Value::Fault(f))?;
+    blocks.tell_names();
+    if let Some(slot) = local {
+        locals.bind(slot, value)?;
     }
     Ok(())
 }
 
 /// The first except that catches the fault.
-#[tactic(auto, using(crate::proofs::Catches::catches_here, crate::proofs::Catches::passes_here))]
 fn catching<'a>(f: FaultKind, excepts: &'a [FlatExcept]) -> Option<&'a FlatExcept>
     ensures { (t : _) → option_map (caught_of t) (option_copied result) ≡ catching f (map (except_of t) excepts.now) }
 {
@@ -111,13 +119,13 @@ fn guard(
 ) -> Result<Stepped, AllocError>
     ensures keeps { IfOk result (λ s. KeepsIfFurther s todo.old todo.new) }
     ensures meaning { IfOk result (λ s. (left : List ℕ) →
-        unwind (undone.Guard (map (except_of blocks.now) excepts.now) (unwrap_or (optional_block blocks.now finally) []) ∷ todo_of blocks.now todo.old) left (leaving.Raising f) locals.old
-        ≡ stepped_of s left locals.new (todo_of blocks.now todo.new)) }
+        unwind (undone.Guard (map (except_of blocks.now) excepts.now) (unwrap_or (optional_block blocks.now finally) []) ∷ todo_of blocks.now todo.old) left (leaving.Raising f) (locals_of blocks.now.names locals.old)
+        ≡ stepped_of s left (locals_of blocks.now.names locals.new) (todo_of blocks.now todo.new)) }
 {
     match catching(f, excepts.as_slice()) {
         None => Ok(finally_first(blocks, todo, finally, Leaving::Raising(f))?),
         Some(except) => {
-            bind_if(except.name, f, locals)?;
+            bind_if(blocks, locals, except.name, Value::Fault(f))?;
             if begins(blocks, except.body, 0) {
                 todo.push(Entry::Final(finally))?;
                 todo.push(Entry::Rest {
@@ -142,7 +150,7 @@ fn step(
 ) -> Result<Stepped, AllocError>
     ensures keeps { IfOk result (λ s. KeepsIfFurther s todo.old todo.new) }
     ensures meaning { IfOk result (λ s.
-        unwind (entry_of blocks.now entry ∷ todo_of blocks.now todo.old) left.old how locals.old ≡ stepped_of s left.new locals.new (todo_of blocks.now todo.new)) }
+        unwind (entry_of blocks.now entry ∷ todo_of blocks.now todo.old) left.old how (locals_of blocks.now.names locals.old) ≡ stepped_of s left.new (locals_of blocks.now.names locals.new) (todo_of blocks.now todo.new)) }
 {
     match entry {
         Entry::Rest { block, at } => Ok(leave_rest(blocks, todo, how, block, at)?),
@@ -219,7 +227,7 @@ pub fn unwind(
     locals: &mut Locals,
 ) -> Result<Unwound, AllocError>
     ensures { IfOk result (λ u.
-        unwind (todo_of blocks.now todo.old) left.old how locals.old ≡ unwound_of u left.new locals.new (todo_of blocks.now todo.new)) }
+        unwind (todo_of blocks.now todo.old) left.old how (locals_of blocks.now.names locals.old) ≡ unwound_of u left.new (locals_of blocks.now.names locals.new) (todo_of blocks.now todo.new)) }
 {
     let mut how = how;
     loop {

@@ -1,28 +1,36 @@
 -- What a move comes to, as the code chooses it.
-use Rattle.std.specs.Prelude.{ℕ, ◌≡◌, List, [], ◌∷◌, Option, if◌then◌else◌, unwrap_or}
+use Rattle.std.specs.Prelude.{ℕ, ◌≡◌, List, [], ◌∷◌, Option, if◌then◌else◌, option_map, unwrap_or}
 use Rattle.scenario_tree.specs.declared.tree.Expression.{Expression}
 use Rattle.scenario_tree.specs.declared.tree.Giving.{Giving}
 use Rattle.scenario_tree.specs.declared.tree.Statement.{Statement}
 use Rattle.machine.specs.declared.state.Leaving.{Leaving}
-use Rattle.machine.specs.declared.state.Local.{Local}
 use Rattle.machine.specs.declared.state.Todo.{Todo}
 use Rattle.machine.specs.Expressions.{bind, meaning, Around}
 use Rattle.machine.specs.BodyMoves.{Did, tested, asked, giving_request}
 use Rattle.machine.specs.Unwinding.{Unwound, unwind}
 use Rattle.machine.specs.Bodies.{Body, Step, Stepped, after_move}
+use Rattle.body_names.specs.declared.expression.Slot.{Slot}
+use Rattle.body_names.specs.declared.locals.Bound.{Bound}
+use Rattle.body_names.specs.Locals.{locals_of}
+use Rattle.body_names.specs.Naming.{name_of}
 use Rattle.body_moves.specs.declared.chosen.Chosen.{Chosen}
 use Rattle.machine.specs.State.{Name}
 
--- with this to do after the statement, and these moves left
-abbrev pub came_of : ℕ → List Local → (Unwound → Stepped) → List Todo → Chosen → Stepped
-came_of moves locals go todo (Chosen.Goes how) = go (unwind todo [] how locals)
-came_of moves locals go todo (Chosen.Binds x v) = go (unwind todo [] Leaving.Normally (bind x v locals))
-came_of moves locals go todo (Chosen.Asks request x) =
-    record { step = Step.Asks request; body = Body.Waits (record { locals = locals; todo = todo; gives = x }); moves = moves }
+-- the name of a local that may be missing
+abbrev pub name_if : List Name → Option Slot → Option Name
+name_if names x = option_map (λ slot. name_of names slot.number) x
+
+-- with this to do after the statement, and these moves left, where these are the names
+abbrev pub came_of : List Name → ℕ → List Bound → (Unwound → Stepped) → List Todo → Chosen → Stepped
+came_of names moves locals go todo (Chosen.Goes how) = go (unwind todo [] how (locals_of names locals))
+came_of names moves locals go todo (Chosen.Binds x v) = go (unwind todo [] Leaving.Normally (bind (name_of names x.number) v (locals_of names locals)))
+came_of names moves locals go todo (Chosen.Asks request x) =
+    record { step = Step.Asks request; body = Body.Waits (record { locals = locals_of names locals; todo = todo; gives = name_if names x }); moves = moves }
 
 -- the choice does what the move does, whatever is to do after it
-abbrev pub DoesAs : Chosen → List Local → (List Todo → Did) → Type 0
-DoesAs chosen locals move = (moves : ℕ) (go : Unwound → Stepped) (todo : List Todo) → after_move moves locals go (move todo) ≡ came_of moves locals go todo chosen
+abbrev pub DoesAs : List Name → Chosen → List Bound → (List Todo → Did) → Type 0
+DoesAs names chosen locals move = (moves : ℕ) (go : Unwound → Stepped) (todo : List Todo) →
+    after_move moves (locals_of names locals) go (move todo) ≡ came_of names moves locals go todo chosen
 
 -- the rows of the definitions for `if` and for a statement that gives a value
 abbrev pub branch_move : Expression → List Statement → Option (List Statement) → Around → List Todo → Did

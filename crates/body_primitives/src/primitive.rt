@@ -1,16 +1,15 @@
 //! The evaluation.
-ghost use Rattle.std.specs.Prelude.{◌≡◌, IfOk, IfSome, pos, unwrap_or};
-ghost use Rattle.std.specs.Option.{option_copied};
+ghost use Rattle.std.specs.Prelude.{◌≡◌, IfOk, IfSome};
 ghost use Rattle.gv_values.specs.declared.value.Outcome.{Outcome as Outcomes};
 ghost use Rattle.gv_values.specs.declared.value.Value.TheVariants as value;
 ghost use Rattle.gv_values.specs.Arithmetic.{arith_of};
-ghost use Rattle.machine.specs.Expressions.{Look as Answers, and_then, binary, of_result, or_else, unary, value_of_local, with_value};
+ghost use Rattle.machine.specs.Expressions.{Look as Answers, and_then, binary, of_result, or_else, unary, with_value};
+ghost use Rattle.body_names.specs.Locals.{value_of};
 ghost use Rattle.body_primitives.specs.Primitives.{Agrees, IsBound, Means, MeansAs};
 
-use body_values::Locals;
-use gv_values::{Arith, Name, Value, arithmetic};
-use machine::state::Local;
-use scenario_tree::{Binary, Boxed, Expression, Unary};
+use body_names::{FlatExpression, Locals, Slot};
+use gv_values::{Arith, Value, arithmetic};
+use scenario_tree::{Binary, Boxed, Unary};
 use std::alloc::AllocError;
 
 /// What an expression of integers and truth values gives.
@@ -22,25 +21,25 @@ pub enum Primitive {
     Other,
 }
 
-/// The name takes the value of the expression, where that is an integer or a truth value of such operands; else the
+/// The local takes the value of the expression, where that is an integer or a truth value of such operands; else the
 /// locals stay as they are. `AllocError`: memory is wanting.
 pub fn bind_primitive(
-    name: &Name,
-    expression: &Expression,
+    slot: Slot,
+    expression: &FlatExpression,
     locals: &mut Locals,
 ) -> Result<bool, AllocError>
-    ensures { IfOk result (λ bound. IsBound bound name.now expression.now locals.old locals.new) }
+    ensures { IfOk result (λ bound. IsBound bound slot.number expression.now locals.old locals.new) }
 {
-    if let Some(n) = plain_integer(locals.as_slice(), expression) {
-        locals.bind(name, Value::Int(n))?;
+    if let Some(n) = plain_integer(locals, expression) {
+        locals.bind(slot, Value::Int(n))?;
         return Ok(true);
     }
-    Ok(bind_evaluated(name, expression, locals)?)
+    Ok(bind_evaluated(slot, expression, locals)?)
 }
 
 /// The truth value of the expression, where it is one of integers and truth values.
 #[inline(always)]
-pub fn primitive_truth(locals: &[Local], expression: &Expression) -> Option<bool>
+pub fn primitive_truth(locals: &Locals, expression: &FlatExpression) -> Option<bool>
     ensures { IfSome result (λ b. Means expression.now locals.now (value.Bool b)) }
 {
     match plain_truth(locals, expression) {
@@ -52,19 +51,19 @@ pub fn primitive_truth(locals: &[Local], expression: &Expression) -> Option<bool
 /// Binds what the expression gives, whatever its form.
 #[inline(never)]
 fn bind_evaluated(
-    name: &Name,
-    expression: &Expression,
+    slot: Slot,
+    expression: &FlatExpression,
     locals: &mut Locals,
 ) -> Result<bool, AllocError>
-    ensures { IfOk result (λ bound. IsBound bound name.now expression.now locals.old locals.new) }
+    ensures { IfOk result (λ bound. IsBound bound slot.number expression.now locals.old locals.new) }
 {
-    match evaluate(locals.as_slice(), expression) {
+    match evaluate(locals, expression) {
         Primitive::Int(n) => {
-            locals.bind(name, Value::Int(n))?;
+            locals.bind(slot, Value::Int(n))?;
             Ok(true)
         }
         Primitive::Bool(b) => {
-            locals.bind(name, Value::Bool(b))?;
+            locals.bind(slot, Value::Bool(b))?;
             Ok(true)
         }
         Primitive::Other => Ok(false),
@@ -73,7 +72,7 @@ fn bind_evaluated(
 
 /// The truth value that the expression gives, whatever its form.
 #[inline(never)]
-fn evaluated_truth(locals: &[Local], expression: &Expression) -> Option<bool>
+fn evaluated_truth(locals: &Locals, expression: &FlatExpression) -> Option<bool>
     ensures { IfSome result (λ b. Means expression.now locals.now (value.Bool b)) }
 {
     match evaluate(locals, expression) {
@@ -85,11 +84,11 @@ fn evaluated_truth(locals: &[Local], expression: &Expression) -> Option<bool>
 
 /// The truth value of a comparison of two plain integers.
 #[inline(always)]
-fn plain_truth(locals: &[Local], expression: &Expression) -> Option<bool>
+fn plain_truth(locals: &Locals, expression: &FlatExpression) -> Option<bool>
     ensures { IfSome result (λ b. Means expression.now locals.now (value.Bool b)) }
 {
     match expression {
-        Expression::Binary(operator, a, b) => {
+        FlatExpression::Binary(operator, a, b) => {
             let Some((x, y)) = two_plain(locals, a, b) else {
                 return None;
             };
@@ -101,11 +100,11 @@ fn plain_truth(locals: &[Local], expression: &Expression) -> Option<bool>
 
 /// A plain integer, or what an operation on two plain integers gives.
 #[inline(always)]
-fn plain_integer(locals: &[Local], expression: &Expression) -> Option<i64>
+fn plain_integer(locals: &Locals, expression: &FlatExpression) -> Option<i64>
     ensures { IfSome result (λ n. Means expression.now locals.now (value.Int n)) }
 {
     match expression {
-        Expression::Binary(operator, a, b) => {
+        FlatExpression::Binary(operator, a, b) => {
             let Some((x, y)) = two_plain(locals, a, b) else {
                 return None;
             };
@@ -117,7 +116,11 @@ fn plain_integer(locals: &[Local], expression: &Expression) -> Option<i64>
 
 /// The operands, where both are plain integers.
 #[inline(always)]
-fn two_plain(locals: &[Local], a: &Boxed<Expression>, b: &Boxed<Expression>) -> Option<(i64, i64)>
+fn two_plain(
+    locals: &Locals,
+    a: &Boxed<FlatExpression>,
+    b: &Boxed<FlatExpression>,
+) -> Option<(i64, i64)>
     ensures { IfSome result (λ n. Means a.now locals.now (value.Int n.0) × Means b.now locals.now (value.Int n.1)) }
 {
     let x = plain(locals, a.get())?;
@@ -127,18 +130,39 @@ fn two_plain(locals: &[Local], a: &Boxed<Expression>, b: &Boxed<Expression>) -> 
 
 /// The integer that is written there, or that the local has. Two tests of the form cost less than a match of all.
 #[inline(always)]
-#[tactic(auto, using(crate::proofs::Primitives::of_found))]
-fn plain(locals: &[Local], expression: &Expression) -> Option<i64>
+fn plain(locals: &Locals, expression: &FlatExpression) -> Option<i64>
     ensures { IfSome result (λ n. Means expression.now locals.now (value.Int n)) }
 {
-    if let Expression::Int(n) = expression {
+    if let FlatExpression::Int(n) = expression {
         return Some(*n);
     }
-    let Expression::Local(name) = expression else {
+    let FlatExpression::Local(slot) = expression else {
         return None;
     };
-    match find(name, locals) {
-        Some(Value::Int(n)) => Some(*n),
+    if let Some(value) = locals.there(*slot) {
+        return integer_of(value);
+    }
+    integer_searched(locals, *slot)
+}
+
+/// The integer that the local has, wherever it stands. It stays a call, so that its callers are short.
+#[inline(never)]
+fn integer_searched(locals: &Locals, slot: Slot) -> Option<i64>
+    ensures { IfSome result (λ n. value.Int n ≡ value_of slot.number locals.now) }
+{
+    match locals.get(slot) {
+        Some(value) => integer_of(value),
+        None => None,
+    }
+}
+
+/// The integer, where it is one.
+#[inline(always)]
+fn integer_of(found: &Value) -> Option<i64>
+    ensures { IfSome result (λ n. value.Int n ≡ found.now) }
+{
+    match found {
+        Value::Int(n) => Some(*n),
         _ => None,
     }
 }
@@ -162,81 +186,60 @@ fn compute(operator: Binary, x: i64, y: i64) -> Option<i64>
         Binary::Arithmetic(operation) => match operation {
             Arith::Add => x.checked_add(y),
             Arith::Sub => x.checked_sub(y),
-            _ => arithmetic::arith(operation, x, y).ok(),
+            _ => compute_rarer(operation, x, y),
         },
         _ => None,
     }
 }
 
+/// The other operations. It stays a call, so that its caller makes no room for their result.
+#[inline(never)]
+fn compute_rarer(operation: Arith, x: i64, y: i64) -> Option<i64>
+    ensures { IfSome result (λ z. Outcomes.Value (value.Int z) ≡ of_result (arith_of operation x y)) }
+{
+    arithmetic::arith(operation, x, y).ok()
+}
+
 /// The value of the expression. It has no effect, so that both operands of `and` and `or` may be evaluated.
-fn evaluate(locals: &[Local], expression: &Expression) -> Primitive
+#[tactic(auto, using(crate::proofs::Primitives::bool_meant))]
+fn evaluate(locals: &Locals, expression: &FlatExpression) -> Primitive
     ensures { MeansAs result expression.now locals.now }
 {
     match expression {
-        Expression::Bool(b) => Primitive::Bool(*b),
-        Expression::Int(n) => Primitive::Int(*n),
-        Expression::Local(name) => of_local(name, locals),
-        Expression::Unary(operator, e) => of_one(*operator, evaluate(locals, e.get())),
-        Expression::Binary(operator, a, b) => {
+        FlatExpression::Bool(b) => Primitive::Bool(*b),
+        FlatExpression::Int(n) => Primitive::Int(*n),
+        FlatExpression::Local(slot) => of_local(*slot, locals),
+        FlatExpression::Unary(operator, e) => of_one(*operator, evaluate(locals, e.get())),
+        FlatExpression::Binary(operator, a, b) => {
             let first = evaluate(locals, a.get());
             let second = evaluate(locals, b.get());
             of_two(*operator, first, second)
         }
-        Expression::And(a, b) => {
+        FlatExpression::And(a, b) => {
             let first = evaluate(locals, a.get());
             let second = evaluate(locals, b.get());
             of_both(first, second)
         }
-        Expression::Or(a, b) => {
+        FlatExpression::Or(a, b) => {
             let first = evaluate(locals, a.get());
             let second = evaluate(locals, b.get());
             of_either(first, second)
         }
-        Expression::Nothing => Primitive::Other,
-        Expression::Current => Primitive::Other,
-        Expression::Fault(_) => Primitive::Other,
-        Expression::List(_) => Primitive::Other,
-        Expression::Query(_, _) => Primitive::Other,
+        FlatExpression::Nothing => Primitive::Other,
+        FlatExpression::Current => Primitive::Other,
+        FlatExpression::Fault(_) => Primitive::Other,
+        FlatExpression::List(_) => Primitive::Other,
+        FlatExpression::Query(_, _) => Primitive::Other,
     }
 }
 
-fn of_local(name: &Name, locals: &[Local]) -> Primitive
-    ensures { Agrees result (Outcomes.Value (value_of_local name.now locals.now)) }
+fn of_local(slot: Slot, locals: &Locals) -> Primitive
+    ensures { Agrees result (Outcomes.Value (value_of slot.number locals.now)) }
 {
-    match find(name, locals) {
+    match locals.get(slot) {
         Some(value) => of_value(value),
         None => Primitive::Other,
     }
-}
-
-/// The value of the local, where it has one. A short name is compared with no call.
-#[inline(always)]
-fn find<'a>(name: &Name, locals: &'a [Local]) -> Option<&'a Value>
-    ensures { unwrap_or (option_copied result) value.Nothing ≡ value_of_local name.now locals.now }
-{
-    if name.bytes().len() < 4 {
-        return search(name, locals);
-    }
-    search_long(name, locals)
-}
-
-#[inline(never)]
-fn search_long<'a>(name: &Name, locals: &'a [Local]) -> Option<&'a Value>
-    ensures { unwrap_or (option_copied result) value.Nothing ≡ value_of_local name.now locals.now }
-{
-    search(name, locals)
-}
-
-#[inline(always)]
-fn search<'a>(name: &Name, locals: &'a [Local]) -> Option<&'a Value>
-    ensures { unwrap_or (option_copied result) value.Nothing ≡ value_of_local name.now locals.now }
-{
-    for local in locals {
-        if name.bytes() == local.name.bytes() {
-            return Some(&local.value);
-        }
-    }
-    None
 }
 
 fn of_value(value: &Value) -> Primitive

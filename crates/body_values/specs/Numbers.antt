@@ -1,6 +1,7 @@
 -- The numbers of objects and functions, in tables of their names.
-use Rattle.std.specs.Prelude.{ℕ, ◌+◌, List, [], ◌∷◌, map}
+use Rattle.std.specs.Prelude.{ℕ, ◌+◌, ◌≡◌, true, ⊤, List, [], ◌∷◌, map}
 use Rattle.gv_values.specs.declared.name.Name.{Name}
+use Rattle.gv_values.specs.Name.{is_name}
 use Rattle.name_table.specs.Tables.{Holds}
 use Rattle.name_table.specs.declared.names.Names.{Names}
 use Rattle.scenario_tree.specs.declared.tree.Declaration.{Declaration}
@@ -22,6 +23,15 @@ NumbersObjects numbers objects = Holds numbers (numbered 0 (map (λ d. d.name) o
 abbrev pub NumbersFunctions : Names ℕ → List Function → Type 0
 NumbersFunctions numbers functions = Holds numbers (numbered 0 (map (λ f. f.name) functions))
 
+-- each is a name
+abbrev pub AreNames : List Name → Type 0
+AreNames [] = ⊤
+AreNames (x ∷ xs) = (is_name x ≡ true) × AreNames xs
+
+-- the objects and the functions have names
+abbrev pub HasNames : Scenario → Type 0
+HasNames s = AreNames (map (λ d. d.name) s.objects) × AreNames (map (λ f. f.name) s.functions)
+
 -- what some code keeps of its scenario, with the numbers of objects and functions
 abbrev pub IsKept : Scenario → Names ℕ → Names ℕ → Type 0
-IsKept s objects functions = IsSmall s × HasFewCalls s × NumbersObjects objects s.objects × NumbersFunctions functions s.functions
+IsKept s objects functions = IsSmall s × HasFewCalls s × NumbersObjects objects s.objects × NumbersFunctions functions s.functions × HasNames s

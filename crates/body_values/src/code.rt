@@ -1,15 +1,20 @@
 //! What bodies are run from.
 ghost use Rattle.std.specs.Prelude.{◌≡◌, IfOk};
 ghost use Rattle.body_blocks.specs.Trees.{block_at};
+ghost use Rattle.body_names.specs.Locals.{locals_of};
+ghost use Rattle.body_names.specs.Naming.{name_of};
 ghost use Rattle.machine.specs.Expressions.{object_number, function_number};
+ghost use Rattle.machine.specs.Greenlets.{named};
 ghost use Rattle.body_values.specs.Few.{HasFew, HasFewCalls};
 ghost use Rattle.body_values.specs.Functions.{IsFunction, function_at};
 ghost use Rattle.body_values.specs.Small.{IsSmall};
 
 use crate::functions::{FlatFunction, add_functions, function_of_number};
-use crate::numbers::{number_functions, number_objects};
-use body_blocks::Blocks;
-use gv_values::Name;
+use crate::locals::given;
+use crate::numbers::{number_functions, number_objects, tell_function_names, tell_object_names};
+use body_blocks::{Blocks, Making};
+use body_names::Locals;
+use gv_values::{Name, Value};
 use name_table::Names;
 use scenario_tree::{Declaration, Items, Scenario};
 use std::alloc::{AllocError, Global};
@@ -44,11 +49,13 @@ impl Model for Code {
     ghost invariant = { λ c. IsKept (scenario_of c.profile c.objects c.functions c.blocks.value) c.object_numbers c.function_numbers };
 }
 
-/// Where a body of a function begins: the blocks of its code, and the number of its own.
+/// Where a body of a function begins: the blocks of its code, the number of its own, and its parameters with their
+/// arguments.
 #[derive(Drop)]
 pub struct Start {
     pub blocks: Rc<Blocks>,
     pub body: usize,
+    pub locals: Locals,
 }
 
 impl Code {
@@ -65,9 +72,11 @@ impl Code {
         } = scenario;
         let object_numbers = number_objects(alloc, objects.as_slice())?;
         let function_numbers = number_functions(alloc, functions.as_slice())?;
-        let mut blocks = Blocks::new(alloc);
-        let functions = add_functions(alloc, &mut blocks, functions)?;
-        let blocks = Rc::new(alloc, blocks)?;
+        tell_object_names(objects.as_slice());
+        tell_function_names(functions.as_slice());
+        let mut making = Making::new(alloc);
+        let functions = add_functions(alloc, &mut making, functions)?;
+        let blocks = Rc::new(alloc, making.finish())?;
         Ok(Code {
             profile,
             objects,
@@ -110,24 +119,47 @@ impl Code {
         function_of_number(self.functions.as_slice(), number).name
     }
 
-    /// The names that the arguments of the function of this number take, in order.
-    pub fn parameters(&self, number: u32) -> &[Name]
-        requires declared { IsFunction self.now number }
-        ensures { result.now ≡ (function_at number self.now).parameters }
+    /// The number of the object whose name has this number in these blocks, and past the last where there is none.
+    pub fn object_numbered(&self, blocks: &Blocks, number: u32) -> u32
+        ensures { result ≡ object_number (name_of blocks.now.names number) self.now.objects }
     {
-        function_of_number(self.functions.as_slice(), number)
-            .parameters
-            .as_slice()
+        match blocks.name(number) {
+            Some(name) => self.object(name),
+            None => self.objects.len() as u32,
+        }
     }
 
-    /// Where a body of the function of this number begins. `AllocError`: the blocks have too many owners.
-    pub fn start(&self, number: u32) -> Result<Start, AllocError>
+    /// The number of the function whose name has this number in these blocks, and past the last where there is none.
+    pub fn function_numbered(&self, blocks: &Blocks, number: u32) -> u32
+        ensures { result ≡ function_number (name_of blocks.now.names number) self.now.functions }
+    {
+        match blocks.name(number) {
+            Some(name) => self.function(name),
+            None => self.functions.len() as u32,
+        }
+    }
+
+    /// Where a body of the function of this number begins with these arguments. `AllocError`: memory is wanting, or the
+    /// blocks have too many owners.
+    pub fn start(
+        &self,
+        alloc: Global,
+        number: u32,
+        arguments: Items<Value>,
+    ) -> Result<Start, AllocError>
         requires declared { IsFunction self.now number }
         ensures same { IfOk result (λ start. block_at start.body start.blocks.value ≡ (function_at number self.now).body) }
+        ensures named { IfOk result (λ start. locals_of start.blocks.value.names start.locals ≡ named (function_at number self.now).parameters arguments) }
         ensures few { HasFew (function_at number self.now).body }
     {
-        let body = function_of_number(self.functions.as_slice(), number).body;
+        let function = function_of_number(self.functions.as_slice(), number);
+        let body = function.body;
+        let locals = given(alloc, function.parameters.as_slice(), arguments)?;
         let blocks = self.blocks.clone()?;
-        Ok(Start { blocks, body })
+        Ok(Start {
+            blocks,
+            body,
+            locals,
+        })
     }
 }

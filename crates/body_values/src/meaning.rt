@@ -1,17 +1,19 @@
 //! What an expression means.
-ghost use Rattle.std.specs.Prelude.{◌≡◌, IfOk};
+ghost use Rattle.std.specs.Prelude.{◌≡◌, map, IfOk};
 ghost use Rattle.machine.specs.Bodies.{around};
 ghost use Rattle.machine.specs.Expressions.{meaning, with_value, binary, and_then, or_else, listed};
 ghost use Rattle.machine.specs.BodyMoves.{values};
+ghost use Rattle.body_names.specs.Expressions.{expression_of};
+ghost use Rattle.body_names.specs.Locals.{locals_of};
 ghost use Rattle.body_values.specs.Operators.{as_truth};
 
 use crate::code::Code;
-use crate::locals::{find_operand, value_of_local};
+use crate::locals::{Scope, find_operand, value_of_local};
 use crate::look::Look;
 use crate::operators;
+use body_names::FlatExpression;
 use gv_values::{FaultKind, Outcome, Value};
-use machine::state::Local;
-use scenario_tree::{Binary, Boxed, Expression, Items};
+use scenario_tree::{Binary, Boxed, Items};
 use std::alloc::{AllocError, Global};
 
 /// An operator with its first operand, which has this value.
@@ -24,38 +26,38 @@ struct Applied<'a> {
 impl Code {
     /// The value of the expression, or its first fault. Operands are evaluated from left to right.
     #[cycle(meaning)]
-    #[tactic(auto, using(crate::proofs::Meanings::nothing_means, crate::proofs::Meanings::bool_means, crate::proofs::Meanings::int_means, crate::proofs::Meanings::local_means, crate::proofs::Meanings::current_means, crate::proofs::Meanings::fault_means, crate::proofs::Meanings::list_means, crate::proofs::Meanings::query_means))]
+    #[tactic(auto, using(crate::proofs::Meanings::flat_nothing, crate::proofs::Meanings::flat_bool, crate::proofs::Meanings::flat_int, crate::proofs::Meanings::flat_local, crate::proofs::Meanings::flat_current, crate::proofs::Meanings::flat_fault, crate::proofs::Meanings::flat_list, crate::proofs::Meanings::flat_query))]
     pub fn meaning<L: Look>(
         &self,
         alloc: Global,
         look: &L,
-        locals: &[Local],
-        expression: &Expression,
+        scope: Scope<'_>,
+        expression: &FlatExpression,
     ) -> Result<Outcome, AllocError>
-        ensures { IfOk result (λ o. o ≡ meaning expression.now (around self.now (L.answers look.now) locals.now)) }
+        ensures { IfOk result (λ o. o ≡ meaning (expression_of scope.entry.blocks.now.names expression.now) (around self.now (L.answers look.now) (locals_of scope.entry.blocks.now.names scope.entry.locals.now))) }
     {
         match expression {
-            Expression::Nothing => Ok(Outcome::Value(Value::Nothing)),
-            Expression::Bool(b) => Ok(Outcome::Value(Value::Bool(*b))),
-            Expression::Int(n) => Ok(Outcome::Value(Value::Int(*n))),
-            Expression::Local(name) => Ok(Outcome::Value(value_of_local(alloc, name, locals)?)),
-            Expression::Current => Ok(Outcome::Value(Value::Greenlet(look.current()))),
-            Expression::Fault(kind) => Ok(Outcome::Value(Value::Fault(*kind))),
-            Expression::Unary(unary, e) => {
+            FlatExpression::Nothing => Ok(Outcome::Value(Value::Nothing)),
+            FlatExpression::Bool(b) => Ok(Outcome::Value(Value::Bool(*b))),
+            FlatExpression::Int(n) => Ok(Outcome::Value(Value::Int(*n))),
+            FlatExpression::Local(slot) => Ok(Outcome::Value(value_of_local(alloc, scope, *slot)?)),
+            FlatExpression::Current => Ok(Outcome::Value(Value::Greenlet(look.current()))),
+            FlatExpression::Fault(kind) => Ok(Outcome::Value(Value::Fault(*kind))),
+            FlatExpression::Unary(unary, e) => {
                 let e = e.get();
-                if let Some(operand) = find_operand(e, locals) {
+                if let Some(operand) = find_operand(e, scope) {
                     return Ok(operators::unary(alloc, look, *unary, operand)?);
                 }
-                let operand = self.meaning(alloc, look, locals, e)?;
+                let operand = self.meaning(alloc, look, scope, e)?;
                 Ok(operators::of_one(alloc, look, *unary, operand)?)
             }
-            Expression::Binary(binary, a, b) => {
+            FlatExpression::Binary(binary, a, b) => {
                 let a = a.get();
-                if let Some(first) = find_operand(a, locals) {
+                if let Some(first) = find_operand(a, scope) {
                     return Ok(self.of_two(
                         alloc,
                         look,
-                        locals,
+                        scope,
                         Applied {
                             operator: *binary,
                             first,
@@ -63,12 +65,12 @@ impl Code {
                         b,
                     )?);
                 }
-                match self.meaning(alloc, look, locals, a)? {
+                match self.meaning(alloc, look, scope, a)? {
                     Outcome::Value(first) => {
                         Ok(self.of_two(
                             alloc,
                             look,
-                            locals,
+                            scope,
                             Applied {
                                 operator: *binary,
                                 first: &first,
@@ -79,19 +81,19 @@ impl Code {
                     Outcome::Fault(kind) => Ok(Outcome::Fault(kind)),
                 }
             }
-            Expression::And(a, b) => {
-                let first = self.meaning(alloc, look, locals, a.get())?;
-                Ok(self.of_both(alloc, look, locals, first, b)?)
+            FlatExpression::And(a, b) => {
+                let first = self.meaning(alloc, look, scope, a.get())?;
+                Ok(self.of_both(alloc, look, scope, first, b)?)
             }
-            Expression::Or(a, b) => {
-                let first = self.meaning(alloc, look, locals, a.get())?;
-                Ok(self.of_either(alloc, look, locals, first, b)?)
+            FlatExpression::Or(a, b) => {
+                let first = self.meaning(alloc, look, scope, a.get())?;
+                Ok(self.of_either(alloc, look, scope, first, b)?)
             }
-            Expression::List(items) => Ok(self.of_list(alloc, look, locals, items)?),
-            Expression::Query(query, name) => Ok(Outcome::Value(operators::query(
+            FlatExpression::List(items) => Ok(self.of_list(alloc, look, scope, items)?),
+            FlatExpression::Query(query, name) => Ok(Outcome::Value(operators::query(
                 look,
                 *query,
-                self.object(name),
+                self.object_numbered(scope.blocks, *name),
             ))),
         }
     }
@@ -102,18 +104,18 @@ impl Code {
         &self,
         alloc: Global,
         look: &L,
-        locals: &[Local],
+        scope: Scope<'_>,
         applied: Applied<'_>,
-        second: &Boxed<Expression>,
+        second: &Boxed<FlatExpression>,
     ) -> Result<Outcome, AllocError>
         ensures { IfOk result (λ o.
-            o ≡ with_value (meaning second.now (around self.now (L.answers look.now) locals.now)) (binary applied.entry.operator applied.entry.first.now)) }
+            o ≡ with_value (meaning (expression_of scope.entry.blocks.now.names second.now) (around self.now (L.answers look.now) (locals_of scope.entry.blocks.now.names scope.entry.locals.now))) (binary applied.entry.operator applied.entry.first.now)) }
     {
         let second = second.get();
-        if let Some(second) = find_operand(second, locals) {
+        if let Some(second) = find_operand(second, scope) {
             return Ok(operators::binary(alloc, applied.operator, applied.first, second)?);
         }
-        match self.meaning(alloc, look, locals, second)? {
+        match self.meaning(alloc, look, scope, second)? {
             Outcome::Value(second) => {
                 Ok(operators::binary(alloc, applied.operator, applied.first, &second)?)
             }
@@ -127,18 +129,18 @@ impl Code {
         &self,
         alloc: Global,
         look: &L,
-        locals: &[Local],
+        scope: Scope<'_>,
         first: Outcome,
-        second: &Boxed<Expression>,
+        second: &Boxed<FlatExpression>,
     ) -> Result<Outcome, AllocError>
         ensures { IfOk result (λ o.
             o ≡ with_value first (λ x.
-            and_then x (meaning second.now (around self.now (L.answers look.now) locals.now)))) }
+            and_then x (meaning (expression_of scope.entry.blocks.now.names second.now) (around self.now (L.answers look.now) (locals_of scope.entry.blocks.now.names scope.entry.locals.now))))) }
     {
         match first {
             Outcome::Value(Value::Bool(false)) => Ok(Outcome::Value(Value::Bool(false))),
             Outcome::Value(Value::Bool(true)) => {
-                Ok(truth(self.meaning(alloc, look, locals, second.get())?))
+                Ok(truth(self.meaning(alloc, look, scope, second.get())?))
             }
             Outcome::Value(_) => Ok(Outcome::Fault(FaultKind::TypeError)),
             Outcome::Fault(kind) => Ok(Outcome::Fault(kind)),
@@ -151,18 +153,18 @@ impl Code {
         &self,
         alloc: Global,
         look: &L,
-        locals: &[Local],
+        scope: Scope<'_>,
         first: Outcome,
-        second: &Boxed<Expression>,
+        second: &Boxed<FlatExpression>,
     ) -> Result<Outcome, AllocError>
         ensures { IfOk result (λ o.
             o ≡ with_value first (λ x.
-            or_else x (meaning second.now (around self.now (L.answers look.now) locals.now)))) }
+            or_else x (meaning (expression_of scope.entry.blocks.now.names second.now) (around self.now (L.answers look.now) (locals_of scope.entry.blocks.now.names scope.entry.locals.now))))) }
     {
         match first {
             Outcome::Value(Value::Bool(true)) => Ok(Outcome::Value(Value::Bool(true))),
             Outcome::Value(Value::Bool(false)) => {
-                Ok(truth(self.meaning(alloc, look, locals, second.get())?))
+                Ok(truth(self.meaning(alloc, look, scope, second.get())?))
             }
             Outcome::Value(_) => Ok(Outcome::Fault(FaultKind::TypeError)),
             Outcome::Fault(kind) => Ok(Outcome::Fault(kind)),
@@ -174,12 +176,12 @@ impl Code {
         &self,
         alloc: Global,
         look: &L,
-        locals: &[Local],
-        items: &Items<Expression>,
+        scope: Scope<'_>,
+        items: &Items<FlatExpression>,
     ) -> Result<Outcome, AllocError>
-        ensures { IfOk result (λ o. o ≡ listed (values items.now (around self.now (L.answers look.now) locals.now))) }
+        ensures { IfOk result (λ o. o ≡ listed (values (map (expression_of scope.entry.blocks.now.names) items.now) (around self.now (L.answers look.now) (locals_of scope.entry.blocks.now.names scope.entry.locals.now)))) }
     {
-        match self.values(alloc, look, locals, items.as_slice())? {
+        match self.values(alloc, look, scope, items.as_slice())? {
             Ok(values) => Ok(operators::listed(alloc, values.as_slice())?),
             Err(kind) => Ok(Outcome::Fault(kind)),
         }
@@ -191,14 +193,14 @@ impl Code {
         &self,
         alloc: Global,
         look: &L,
-        locals: &[Local],
-        expressions: &[Expression],
+        scope: Scope<'_>,
+        expressions: &[FlatExpression],
     ) -> Result<Result<Items<Value>, FaultKind>, AllocError>
-        ensures { IfOk result (λ vs. vs ≡ values expressions.now (around self.now (L.answers look.now) locals.now)) }
+        ensures { IfOk result (λ vs. vs ≡ values (map (expression_of scope.entry.blocks.now.names) expressions.now) (around self.now (L.answers look.now) (locals_of scope.entry.blocks.now.names scope.entry.locals.now))) }
     {
         let mut values = Items::from_vec(Vec::with_capacity(alloc, expressions.len())?);
         for expression in expressions {
-            match self.meaning(alloc, look, locals, expression)? {
+            match self.meaning(alloc, look, scope, expression)? {
                 Outcome::Value(value) => values.push(value)?,
                 Outcome::Fault(kind) => return Ok(Err(kind)),
             }

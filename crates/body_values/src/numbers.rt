@@ -1,6 +1,6 @@
 //! The numbers of objects and functions by their names.
-ghost use Rattle.std.specs.Prelude.{◌≤◌, length, IfOk};
-ghost use Rattle.body_values.specs.Numbers.{NumbersObjects, NumbersFunctions};
+ghost use Rattle.std.specs.Prelude.{◌≤◌, length, map, IfOk};
+ghost use Rattle.body_values.specs.Numbers.{AreNames, NumbersFunctions, NumbersObjects};
 
 use name_table::Names;
 use scenario_tree::{Declaration, Function};
@@ -28,4 +28,24 @@ pub fn number_functions(alloc: Global, functions: &[Function]) -> Result<Names<u
         numbers.give(alloc, functions[i].name.bytes(), i as u32)?;
     }
     Ok(numbers)
+}
+
+/// The objects have names.
+pub fn tell_object_names(objects: &[Declaration])
+    ensures { AreNames (map (λ d. d.name) objects.now) }
+{
+    for i in 0..objects.len() {
+        // That it is a name is known of one whose bytes are looked at.
+        let _name = objects[i].name.bytes();
+    }
+}
+
+/// The functions have names.
+pub fn tell_function_names(functions: &[Function])
+    ensures { AreNames (map (λ f. f.name) functions.now) }
+{
+    for i in 0..functions.len() {
+        // That it is a name is known of one whose bytes are looked at.
+        let _name = functions[i].name.bytes();
+    }
 }

@@ -1,12 +1,14 @@
 use Rattle.std.proofs.Common.{length}
+use Rattle.body_blocks.specs.Making.{IsMaking, made}
 use Rattle.body_blocks.specs.Trees.{Grows, except_of, statement_of}
 use Rattle.body_blocks.proofs.Growing.{Taken}
 use Rattle.body_blocks.proofs.adding.+block.Given as goal
 
 abbrev pub invariant-add_block-loop-statement : goal.invariant-add_block-loop-statement
 invariant-add_block-loop-statement l = record {
-  grows : Grows l.initial.blocks l.blocks;
-  taken : Taken statement_of l.blocks l.left l.statements.items l.fn.block;
+  kept : IsMaking l.making;
+  grows : Grows (made l.initial.making) (made l.making);
+  taken : Taken statement_of (made l.making) l.left l.statements.items l.fn.block;
 }
 
 abbrev pub decreases-add_block-loop-statement : goal.decreases-add_block-loop-statement
@@ -14,8 +16,9 @@ decreases-add_block-loop-statement l = length l.left
 
 abbrev pub invariant-add_excepts-loop-except : goal.invariant-add_excepts-loop-except
 invariant-add_excepts-loop-except l = record {
-  grows : Grows l.initial.blocks l.blocks;
-  taken : Taken except_of l.blocks l.left l.flat.items l.fn.excepts;
+  kept : IsMaking l.making;
+  grows : Grows (made l.initial.making) (made l.making);
+  taken : Taken except_of (made l.making) l.left l.flat.items l.fn.excepts;
 }
 
 abbrev pub decreases-add_excepts-loop-except : goal.decreases-add_excepts-loop-except

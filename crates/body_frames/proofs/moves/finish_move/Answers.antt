@@ -9,7 +9,7 @@ returns-then-is_made g c = λ old was few told.
     let t = c.args.context.now.blocks.now in
     let at = c.in_ok-go_inwards.field-0 in
     come_by t (around c.args.context.now.code.now (g.L.Look.answers c.args.context.now.look.now)) old (Made.Further at) c.go_inwards.new.stack few c.in_ok-go_inwards.ensures.moves
-    (primitive_made c.args.is_made t old c.args.stack.now c.go_inwards.new.stack at c.args.context.now.code.now (g.L.Look.answers c.args.context.now.look.now) c.if-is_made.true was
+    (primitive_made c.args.is_made t old c.args.stack.now c.go_inwards.new.stack at c.args.context.now.code.now (g.L.Look.answers c.args.context.now.look.now) c.tell_names.ensures c.if-is_made.true was
     told c.in_ok-go_inwards.ensures.left)
 
 pub returns : goal.returns

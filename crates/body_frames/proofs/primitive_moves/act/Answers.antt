@@ -15,8 +15,7 @@ returns-in_ok-pass-in-None-no c =
     let old = c.args.stack.now in
     let new : Stack = record { locals = old.locals; todo = c.pass.new.todo; left = old.left } in
     let after = Entry.Rest c.args.block c.args.next ∷ drop 1 old.todo in
-    let means : Means c.in-If.test old.locals (Value.Bool false) =
-    means_so c.in-If.test c.as_slice.result.now old.locals c.in-Some-false.field-0 false c.in-Some-false.field-0-test c.as_slice.ensures c.in-Some-false.ensures in
+    let means : Means c.in-If.test old.locals (Value.Bool false) = means_so c.in-If.test old.locals c.in-Some-false.field-0 false c.in-Some-false.field-0-test c.in-Some-false.ensures in
     subst (λ (a : FlatAction). HasActed true t (form_of t a) after old new) (sym c.in-If.is)
     (subst (λ (n : Option ℕ). HasActed true t (form_of t (FlatAction.If c.in-If.test c.in-If.yes n)) after old new) (sym c.in-None-no.is)
     (if_not t c.in-If.test c.in-If.yes after old new means refl refl c.in_ok-pass-in-None-no.ensures))

@@ -1,6 +1,6 @@
 use Rattle.std.proofs.Common.{refl, ap, subst, ◌∙◌, ◌∷◌, false, drop}
 use Rattle.gv_values.specs.declared.value.Value.{Value}
-use Rattle.scenario_tree.specs.declared.tree.Expression.{Expression}
+use Rattle.body_names.specs.declared.expression.FlatExpression.{FlatExpression}
 use Rattle.body_primitives.specs.Primitives.{Means}
 use Rattle.body_frames.specs.declared.entry.Entry.{Entry}
 use Rattle.body_frames.specs.declared.stack.Stack.{Stack}
@@ -12,7 +12,7 @@ returns-in-Some-false c =
     let old = c.args.stack.now in
     let new : Stack = record { locals = old.locals; todo = c.drop_first.new.self; left = old.left } in
     let means : Means c.in-Some-Again.test.value old.locals (Value.Bool false) =
-    subst (λ (e : Expression). Means e old.locals (Value.Bool false)) c.deref.ensures
-    (means_so c.deref.result.now c.as_slice.result.now old.locals c.in-Some-false.field-0 false c.in-Some-false.field-0-test c.as_slice.ensures c.in-Some-false.ensures) in
+    subst (λ (e : FlatExpression). Means e old.locals (Value.Bool false)) c.deref.ensures
+    (means_so c.deref.result.now old.locals c.in-Some-false.field-0 false c.in-Some-false.field-0-test c.in-Some-false.ensures) in
     while_out c.args.blocks.now c.in-Some-Again.test c.in-Some-Again.body old new
     (c.in-Some-Again.ensures ∙ ap (λ (e : Entry). e ∷ drop 1 old.todo) c.in-Some-Again.field-0-is) means refl refl c.drop_first.ensures

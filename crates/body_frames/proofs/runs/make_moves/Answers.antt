@@ -12,7 +12,7 @@ moves-preserved-then-stays g c =
     let stack = c.make_primitive_move.new.stack in
     let some = c.stays.ensures.some c.if-stays.true in
     let stayed : HasStayed t look c.moves.stack stack =
-    stayed_at_once t c.args.context.now.code.now (g.L.Look.answers c.args.context.now.look.now) c.moves.stack c.in_ok-is_made.is_made stack c.moves.invariant.few c.moves.invariant.told
+    stayed_at_once t c.args.context.now.code.now (g.L.Look.answers c.args.context.now.look.now) c.moves.stack c.in_ok-is_made.is_made stack c.tell_names.ensures c.moves.invariant.few c.moves.invariant.told
     (c.stays.ensures.made c.if-stays.true) c.in_ok-is_made.ensures (c.stays.ensures.runs c.if-stays.true) in
     record {
       counted = omega (arith, some);

@@ -1,0 +1,23 @@
+use Rattle.std.proofs.Common.{◌∙◌, sym}
+use Rattle.scenario_tree.specs.declared.tree.Expression.TheVariants as E
+use Rattle.body_names.specs.declared.expression.FlatExpression.TheVariants as F
+use Rattle.body_names.proofs.Expressions.{and_stands, binary_stands, or_stands, pair_stands}
+use Rattle.body_names.proofs.expression.+flat.Goals as goal
+
+pub flat_expression-returns-in_ok-flat_boxed-in-Binary-clause-same : goal.flat_expression-returns-in_ok-flat_boxed-in-Binary-clause-same
+flat_expression-returns-in_ok-flat_boxed-in-Binary-clause-same t c = λ more.
+    pair_stands (E.Binary c.in-Binary.binary) (F.Binary c.in-Binary.binary) (λ names e d. binary_stands names c.in-Binary.binary e d) c.flat_boxed-in-Binary.new.naming.names c.flat_boxed-in-Binary-2.new.naming.names c.in_ok-a-in-Binary.a
+    c.in_ok-flat_boxed-in-Binary.field-0 c.in-Binary.a c.in-Binary.b c.in_ok-flat_boxed-in-Binary.ensures.grows c.in_ok-a-in-Binary.ensures.same c.in_ok-flat_boxed-in-Binary.ensures.same more
+    ∙ sym c.in-Binary.is
+
+pub flat_expression-returns-in_ok-flat_boxed-in-And-clause-same : goal.flat_expression-returns-in_ok-flat_boxed-in-And-clause-same
+flat_expression-returns-in_ok-flat_boxed-in-And-clause-same t c = λ more.
+    pair_stands E.And F.And and_stands c.flat_boxed-in-And.new.naming.names c.flat_boxed-in-And-2.new.naming.names c.in_ok-a-in-And.a
+    c.in_ok-flat_boxed-in-And.field-0 c.in-And.a c.in-And.b c.in_ok-flat_boxed-in-And.ensures.grows c.in_ok-a-in-And.ensures.same c.in_ok-flat_boxed-in-And.ensures.same more
+    ∙ sym c.in-And.is
+
+pub flat_expression-returns-in_ok-flat_boxed-in-Or-clause-same : goal.flat_expression-returns-in_ok-flat_boxed-in-Or-clause-same
+flat_expression-returns-in_ok-flat_boxed-in-Or-clause-same t c = λ more.
+    pair_stands E.Or F.Or or_stands c.flat_boxed-in-Or.new.naming.names c.flat_boxed-in-Or-2.new.naming.names c.in_ok-a-in-Or.a
+    c.in_ok-flat_boxed-in-Or.field-0 c.in-Or.a c.in-Or.b c.in_ok-flat_boxed-in-Or.ensures.grows c.in_ok-a-in-Or.ensures.same c.in_ok-flat_boxed-in-Or.ensures.same more
+    ∙ sym c.in-Or.is

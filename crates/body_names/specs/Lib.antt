@@ -1,0 +1,4 @@
+pub mod Expressions
+pub mod Locals
+pub mod Naming
+pub mod Statements

@@ -1,0 +1,5 @@
+use Rattle.body_values.proofs.Named.{names_more}
+use Rattle.body_values.proofs.numbers.tell_function_names.Goals as goal
+
+pub loop-i-preserved : goal.loop-i-preserved
+loop-i-preserved c = names_more (λ f. f.name) c.args.functions.now c.loop-i.i c.index-functions-i.result c.loop-i-test.true c.loop-i.invariant c.bytes-name.ensures.name
