@@ -5,7 +5,7 @@ use Rattle.std.specs.List.{SwappedAt}
 use Rattle.due_timers.specs.declared.heap.Timer.{Timer}
 use Rattle.std.specs.List.Sorted.{IsPermutation}
 use Rattle.std.proofs.lemmas.List.Sorted.{IsPermutation-trans}
-use Rattle.linked_items.specs.declared.places.Slot.{Slot}
+use Rattle.item_places.specs.declared.places.Slot.{Slot}
 use Rattle.due_timers.specs.Heap.{IsTied, timer, rank, rank_at, IsNear, IsAbove, IsBelow, IsDown, IsOrdered}
 
 pub record IsSwapped (r r' : ℕ → ℕ) (i j : ℕ) : Type 0 where

@@ -5,10 +5,10 @@ use Rattle.std.specs.List.{All}
 use Rattle.std.specs.List.Sorted.{IsPermutation}
 use Rattle.std.proofs.lemmas.List.Sorted.{IsPermutation-sym, IsPermutation-map, Contains-permutation}
 use Rattle.std.proofs.lemmas.List.Elements.{Contains-append_cases}
-use Rattle.linked_items.specs.Items.{Differ}
-use Rattle.linked_items.proofs.ItemLemmas.{lacks_of_absent}
-use Rattle.linked_items.specs.declared.places.Slot.{Slot}
-use Rattle.linked_items.specs.Table.{Has, Gains, SameHeld}
+use Rattle.item_places.specs.Items.{Differ}
+use Rattle.item_places.proofs.ItemLemmas.{lacks_of_absent}
+use Rattle.item_places.specs.declared.places.Slot.{Slot}
+use Rattle.item_places.specs.Table.{Has, Gains, SameHeld}
 use Rattle.due_timers.specs.declared.heap.Timer.{Timer}
 use Rattle.due_timers.specs.Heap.{timer, timer_at, rank, rank_at, IsNear, IsOrdered, IsTied}
 use Rattle.due_timers.specs.SeenTimers.{items_in, deadlines_in, IsNotAfter}

@@ -2,11 +2,11 @@
 ghost use Rattle.std.specs.Prelude.{◌≡◌, ◌≢◌, ℕ, ◌+◌, ◌-◌, ◌*◌, ◌<◌, ◌≤◌, List, [], ◌∷◌, length, IsTrue, ◌↔◌, vec_capacity, IfSome, IfNone, OnOk, OnErr, IsOk, None};
 ghost use Rattle.std.specs.List.{SwappedAt, Contains, All};
 ghost use Rattle.std.specs.List.Sorted.{IsPermutation};
-ghost use Rattle.linked_items.specs.Items.{Differ};
+ghost use Rattle.item_places.specs.Items.{Differ};
 ghost use Rattle.due_timers.specs.Heap.{timer, timer_at, rank_at, IsNear, IsDown, IsOrdered, IsTied};
 ghost use Rattle.due_timers.specs.SeenTimers.{items_in, deadlines_in, TakesTimer, IsNotAfter};
 
-use linked_items::places::Places;
+use item_places::places::Places;
 use std::alloc::{AllocError, Global};
 use std::marker::Model;
 

@@ -1,20 +1,5 @@
-use crate::{DueLine, Timers};
+use crate::Timers;
 use std::test::*;
-
-#[test]
-fn million(rt: HostRuntime) -> Result<(), Fail> {
-    let mut line = DueLine::new(rt.alloc());
-    assert!(rt; line.reserve(1_000_000).is_ok());
-    for item in 0..1_000_000u32 {
-        line.ready(item);
-    }
-    for i in 0..1_000_000u64 {
-        line.unready((i * 7919 % 1_000_000) as u32);
-    }
-    assert!(rt; line.next_before(u64::MAX).is_none());
-    drop(line);
-    Ok(())
-}
 
 #[test]
 fn million_timers(rt: HostRuntime) -> Result<(), Fail> {

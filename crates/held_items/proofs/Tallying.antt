@@ -6,7 +6,7 @@ use Rattle.std.proofs.lemmas.Bool.{cases_eq}
 use Rattle.std.proofs.lemmas.Bool.Decides.{nat_tests}
 use Rattle.std.proofs.lemmas.List.Sums.{count_by-le-length, sum_by-cons, sum_by-le-sum_by}
 use Rattle.std.proofs.lemmas.List.{length-map}
-use Rattle.linked_items.specs.Items.{Differ}
+use Rattle.item_places.specs.Items.{Differ}
 use Rattle.machine.specs.declared.items.Delivery.{Delivery}
 use Rattle.machine.specs.declared.items.Item.{Item}
 use Rattle.machine.specs.declared.items.Waiting.{Waiting}
@@ -17,11 +17,11 @@ use Rattle.hub_items.specs.WaitKinds.{test_of}
 use Rattle.held_items.specs.declared.tallies.Tally.{Tally}
 use Rattle.held_items.specs.Entries.{Entry, item_in, slots_of, with_ready, without_slot, index, flat}
 use Rattle.held_items.specs.Indexed.{is_key}
-use Rattle.held_items.specs.Lined.{one_if}
+use Rattle.held_items.specs.Lined.{one_if, one}
 use Rattle.held_items.specs.Tallied.{is_numbered_by, no_tally, numbered_in_line, tally_at, tally_in, waiting_in_line, waits_by}
 use Rattle.held_items.specs.Waits.{line_column, object_place, waits_in_line, waits_key}
 use Rattle.held_items.proofs.EntryLemmas.{is_same, is_other}
-use Rattle.held_items.proofs.IndexLemmas.{count_pushed, count_without, count_renumbered, one, some}
+use Rattle.held_items.proofs.IndexLemmas.{count_pushed, count_without, count_renumbered, some}
 use Rattle.held_items.proofs.WaitPlaces.{line_key}
 
 -- ---- the slots of an index, counted

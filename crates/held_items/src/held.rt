@@ -1,6 +1,6 @@
 //! The items themselves: one comes, one goes.
 ghost use Rattle.std.specs.Prelude.{◌≡◌, ◌+◌, ◌<◌, ◌^◌, ℕ, List, [], ◌∷◌, ◌++◌, length, Option, Some, IsSome, is_some, IfOk, OnErr, OnOk};
-ghost use Rattle.linked_items.specs.Items.{Lacks, Differ};
+ghost use Rattle.item_places.specs.Items.{Lacks, Differ};
 ghost use Rattle.slot_chains.specs.Chained.{first_of};
 ghost use Rattle.machine.specs.Deliveries.{without};
 ghost use Rattle.hub_items.specs.Sound.{AscendTo};
@@ -46,14 +46,15 @@ impl Model for HeldItems {
 }
 
 /// Makes room for one more item everywhere, and gives its slot. `AllocError`: memory is wanting.
-#[tactic(auto, using(crate::proofs::Indexing::few_kills))]
+#[tactic(auto, using(crate::proofs::Indexing::few_kills, crate::proofs::Seeing::few_parked))]
 fn make_room(
     shelf: &mut Shelf,
     indexes: &mut Indexes,
     lines: &mut Lines,
     delivery: &Delivery,
 ) -> Result<u32, AllocError>
-    requires { AreIndexed indexes.old shelf.old.entries }
+    requires indexed { AreIndexed indexes.old shelf.old.entries }
+    requires lined { AreLined lines.old shelf.old.entries }
     ensures kept { shelf.new.entries ≡ shelf.old.entries }
     ensures indexed { (es : List Entry) → AreIndexed indexes.old es → AreIndexed indexes.new es }
     ensures lined { (es : List Entry) → AreLined lines.old es → AreLined lines.new es }
@@ -62,9 +63,8 @@ fn make_room(
     ensures room { IfOk result (λ slot. HasPlace shelf.new indexes.new lines.new slot delivery.now) }
 {
     let slot = shelf.reserve()?;
-    let more = shelf.len() + 1;
     indexes.reserve(slot, delivery)?;
-    lines.reserve(more)?;
+    lines.reserve(slot)?;
     Ok(slot)
 }
 

@@ -5,6 +5,7 @@
 mod borders;
 mod classes;
 mod drops;
+mod due;
 mod held;
 mod indexes;
 mod lines;

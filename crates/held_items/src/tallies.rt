@@ -1,6 +1,6 @@
 //! How many wait for each thing, and how many of them have a ready number.
 ghost use Rattle.std.specs.Prelude.{◌≡◌, ℕ, ◌+◌, ◌<◌, ◌≤◌, ◌^◌, true, List, [], ◌∷◌, ◌++◌, Some, None, is_some, slice_set, length, OnOk};
-ghost use Rattle.linked_items.specs.Items.{Differ};
+ghost use Rattle.item_places.specs.Items.{Differ};
 ghost use Rattle.hub_items.specs.declared.waits.WaitKind.{WaitKind};
 ghost use Rattle.held_items.specs.Entries.{Entry, item_in, slots_of, with_ready, without_slot};
 ghost use Rattle.held_items.specs.Lined.{new_item, one_if};

@@ -4,8 +4,8 @@ use Rattle.std.proofs.lemmas.Bool.{and_parts, eqb-true, or_cases, or_left, or_pa
 use Rattle.std.proofs.lemmas.List.Elements.{Contains-append_left, Contains-push, Contains-push_cases}
 use Rattle.std.specs.List.{Contains}
 use Rattle.std.specs.Prelude.{IsTrue, ◌==◌, ◌||◌, is_none, is_some}
-use Rattle.linked_items.specs.Items.{Differ, Lacks}
-use Rattle.linked_items.proofs.ItemLemmas.{absent_of_lacks, differ_from_front}
+use Rattle.item_places.specs.Items.{Differ, Lacks}
+use Rattle.item_places.proofs.ItemLemmas.{absent_of_lacks, differ_from_front}
 use Rattle.slot_chains.specs.Chained.{first_of}
 use Rattle.machine.specs.declared.items.Delivery.{Delivery}
 use Rattle.machine.specs.declared.items.Item.{Item}

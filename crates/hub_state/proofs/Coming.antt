@@ -5,8 +5,8 @@ use Rattle.std.proofs.lemmas.List.{map-append}
 use Rattle.std.proofs.lemmas.List.Elements.{Contains-append_cases, Contains-append_left, Contains-append_right}
 use Rattle.std.specs.List.{All, Contains}
 use Rattle.std.specs.Prelude.{is_none, is_some}
-use Rattle.linked_items.specs.Items.{Differ}
-use Rattle.linked_items.proofs.ItemLemmas.{lacks_joined, lacks_of_absent}
+use Rattle.item_places.specs.Items.{Differ}
+use Rattle.item_places.proofs.ItemLemmas.{lacks_joined, lacks_of_absent}
 use Rattle.machine.specs.declared.items.Delivery.{Delivery}
 use Rattle.machine.specs.declared.items.Item.{Item}
 use Rattle.machine.specs.declared.items.Waiting.{Waiting}

@@ -5,8 +5,8 @@ use Rattle.std.proofs.lemmas.List.{map-append}
 use Rattle.std.proofs.lemmas.List.Elements.{Contains-append_left, Contains-push, Contains-push_cases}
 use Rattle.std.specs.List.{Contains}
 use Rattle.std.specs.Prelude.{◌==◌, cond, map}
-use Rattle.linked_items.specs.Items.{Differ}
-use Rattle.linked_items.proofs.ItemLemmas.{absent_of_lacks, differ_snoc, lacks_of_absent}
+use Rattle.item_places.specs.Items.{Differ}
+use Rattle.item_places.proofs.ItemLemmas.{absent_of_lacks, differ_snoc, lacks_of_absent}
 use Rattle.machine.specs.declared.items.Item.{Item}
 use Rattle.machine.specs.Holds.{holds}
 use Rattle.machine.specs.State.{State}

@@ -5,7 +5,7 @@ use Rattle.std.specs.List.{AllByRecursion}
 use Rattle.std.proofs.lemmas.Bool.{and_cases, and_parts, lt-leb, ltb-false, ltb-true, true≢false}
 use Rattle.std.proofs.lemmas.List.{append_assoc, length-map, map-append}
 use Rattle.std.proofs.lemmas.List.Elements.{All-from_recursion, recursion_from_All}
-use Rattle.linked_items.specs.Items.{Differ}
+use Rattle.item_places.specs.Items.{Differ}
 use Rattle.slot_chains.specs.Chained.{first_of}
 use Rattle.gv_values.specs.declared.job.Answer.{Answer}
 use Rattle.trace_text.specs.declared.line.Line.{Line}

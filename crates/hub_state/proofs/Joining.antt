@@ -4,7 +4,7 @@ use Rattle.std.proofs.lemmas.Bool.{eqb-true, ne_eqb, or_left, or_right, true≢f
 use Rattle.std.proofs.lemmas.Bool.Decides.{nat_tests}
 use Rattle.std.specs.List.{list_any}
 use Rattle.std.specs.Prelude.{◌==◌, ◌&&◌, ◌||◌, IsTrue}
-use Rattle.linked_items.specs.Items.{Differ, Lacks}
+use Rattle.item_places.specs.Items.{Differ, Lacks}
 use Rattle.machine.specs.declared.items.Item.{Item}
 use Rattle.machine.specs.Holds.{holds}
 use Rattle.machine.specs.State.{State}

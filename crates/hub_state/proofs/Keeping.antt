@@ -3,7 +3,7 @@ use Rattle.std.proofs.Common.{◌≡◌, refl, sym, ap, subst, ◌∙◌, ℕ, �
 use Rattle.std.specs.Prelude.{◌||◌, Result, Ok, Err, OnOk, OnErr, IfSome, is_some, option_and_then}
 use Rattle.std.specs.List.{list_any}
 use Rattle.std.proofs.lemmas.List.{length-map, length-set, map-append}
-use Rattle.linked_items.specs.Items.{Lacks}
+use Rattle.item_places.specs.Items.{Lacks}
 use Rattle.gv_values.specs.declared.job.Job.{Job}
 use Rattle.gv_values.specs.declared.job.JobOutcome.{JobOutcome}
 use Rattle.gv_values.specs.declared.value.Value.{Value}

@@ -3,7 +3,7 @@ use Rattle.std.proofs.Common.{◌≡◌, refl, sym, ap, ◌∙◌, subst, ℕ, �
 use Rattle.std.proofs.lemmas.List.{length-map}
 use Rattle.std.specs.List.{Contains}
 use Rattle.std.specs.Prelude.{is_some}
-use Rattle.linked_items.specs.Items.{Differ}
+use Rattle.item_places.specs.Items.{Differ}
 use Rattle.slot_chains.specs.Chained.{first_of, last_of}
 use Rattle.slot_chains.proofs.Chaining.{IsSplit, split}
 use Rattle.machine.specs.declared.items.Delivery.{Delivery}

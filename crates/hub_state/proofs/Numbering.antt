@@ -5,8 +5,8 @@ use Rattle.std.proofs.lemmas.List.Sorted.{Contains-permutation, IsPermutation-ma
 use Rattle.std.specs.List.{Contains}
 use Rattle.std.specs.List.Sorted.{IsPermutation}
 use Rattle.std.specs.Prelude.{is_some, option_map}
-use Rattle.linked_items.specs.Items.{Differ, Lacks}
-use Rattle.linked_items.proofs.ItemLemmas.{absent_of_lacks}
+use Rattle.item_places.specs.Items.{Differ, Lacks}
+use Rattle.item_places.proofs.ItemLemmas.{absent_of_lacks}
 use Rattle.machine.specs.declared.items.Item.{Item}
 use Rattle.machine.specs.State.{State}
 use Rattle.machine_settling.specs.Numbers.{gives_all, gives_number, renumbered, takes_all, takes_number}

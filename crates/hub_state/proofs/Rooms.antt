@@ -6,8 +6,8 @@ use Rattle.std.proofs.lemmas.List.{length-map, take-append-drop, take_more}
 use Rattle.std.proofs.lemmas.List.Sums.{count_by-le-length, length-filter}
 use Rattle.std.specs.List.{Contains, list_any}
 use Rattle.std.specs.Prelude.{◌==◌, ◌&&◌, ◌||◌, IsTrue, count_by, filter, is_none, map, nat_le, nat_lt}
-use Rattle.linked_items.specs.Items.{Differ, Lacks, without_number}
-use Rattle.linked_items.proofs.ItemLemmas.{absent_of_lacks, differ_from_front, differ_of_without, lacks_of_absent, test_keeps, without_length}
+use Rattle.item_places.specs.Items.{Differ, Lacks, without_number}
+use Rattle.item_places.proofs.ItemLemmas.{absent_of_lacks, differ_from_front, differ_of_without, lacks_of_absent, test_keeps, without_length}
 use Rattle.machine.specs.declared.items.Delivery.{Delivery}
 use Rattle.machine.specs.declared.items.Item.{Item}
 use Rattle.machine.specs.declared.items.Waiting.{Waiting}

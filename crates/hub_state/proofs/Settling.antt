@@ -6,7 +6,7 @@ use Rattle.std.proofs.lemmas.List.Sorted.{Contains-permutation, IsPermutation-ma
 use Rattle.std.specs.List.{All, Contains}
 use Rattle.std.specs.List.Sorted.{IsNonDecreasingBy, IsPermutation}
 use Rattle.std.specs.Prelude.{◌↔◌, IsTrue, filter, is_none, is_some, map}
-use Rattle.linked_items.specs.Items.{Differ}
+use Rattle.item_places.specs.Items.{Differ}
 use Rattle.machine.specs.declared.items.Item.{Item}
 use Rattle.machine.specs.Holds.{holds}
 use Rattle.machine.specs.Settle.{number_after, settle, settled}

@@ -6,8 +6,8 @@ use Rattle.std.proofs.lemmas.List.Sorted.{sum_by-IsPermutation}
 use Rattle.std.proofs.lemmas.List.Sums.{sum_by-cons}
 use Rattle.std.specs.List.{Contains, sum_by}
 use Rattle.std.specs.List.Sorted.{IsNonDecreasingBy, IsPermutation, IsStrictlyIncreasing}
-use Rattle.linked_items.specs.Items.{Differ, Lacks}
-use Rattle.linked_items.proofs.ItemLemmas.{places_differ}
+use Rattle.item_places.specs.Items.{Differ, Lacks}
+use Rattle.item_places.proofs.ItemLemmas.{places_differ}
 use Rattle.held_items.specs.Moments.{slots_in}
 use Rattle.hub_state.specs.Found.{sinces_in}
 

@@ -1,7 +1,7 @@
 -- A walk over the items in order of making.
 use Rattle.std.proofs.Common.{◌≡◌, ◌≢◌, refl, ap, sym, ◌∙◌, subst, ℕ, suc, Bool, true, false, cond, not, List, [], ◌∷◌, ◌++◌, filter, length, Option, Some, None, IsSome, rules}
 use Rattle.std.proofs.lemmas.List.{map-append}
-use Rattle.linked_items.specs.Items.{Lacks, Differ}
+use Rattle.item_places.specs.Items.{Lacks, Differ}
 use Rattle.slot_chains.specs.Chained.{first_of}
 use Rattle.machine.specs.declared.items.Delivery.{Delivery}
 use Rattle.machine.specs.declared.items.Item.{Item}

@@ -1,7 +1,7 @@
 //! What a settling looks at.
 ghost use Rattle.std.specs.Prelude.{IsTrue, ◌≡◌, ◌≤◌, true, [], length, Some};
 ghost use Rattle.std.specs.List.{All};
-ghost use Rattle.linked_items.specs.Items.{Differ};
+ghost use Rattle.item_places.specs.Items.{Differ};
 ghost use Rattle.machine.specs.declared.items.Item.{Item as AnyItem};
 ghost use Rattle.machine.specs.State.{State as Shown};
 ghost use Rattle.machine_settling.specs.Classes.{is_at};

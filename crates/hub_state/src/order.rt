@@ -1,6 +1,6 @@
 //! What is known of all items that are held.
 ghost use Rattle.std.specs.Prelude.{◌<◌, ◌^◌, length};
-ghost use Rattle.linked_items.specs.Items.{Differ};
+ghost use Rattle.item_places.specs.Items.{Differ};
 ghost use Rattle.hub_items.specs.Sound.{AscendTo};
 ghost use Rattle.held_items.specs.Entries.{flat, slots_of};
 

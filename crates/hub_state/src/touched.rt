@@ -1,7 +1,7 @@
 //! What was touched since the last settling: it need look at nothing else.
 ghost use Rattle.std.specs.Prelude.{◌≡◌, ◌<◌, ◌≤◌, ◌^◌, Some, None, IfSome, OnOk, if◌then◌else◌, length};
 ghost use Rattle.std.specs.Option.{option_copied};
-ghost use Rattle.linked_items.specs.Items.{Differ};
+ghost use Rattle.item_places.specs.Items.{Differ};
 ghost use Rattle.machine_settling.specs.Classes.{class_of, class_of_wait};
 ghost use Rattle.machine_settling.specs.Steps.{has_member, has_offer_by};
 ghost use Rattle.held_items.specs.Entries.{flat};

@@ -6,8 +6,8 @@ use Rattle.std.proofs.lemmas.List.{get_or_past}
 use Rattle.std.proofs.lemmas.List.Folds.{list_any-append}
 use Rattle.std.proofs.lemmas.Map.Steps.{length-le_from_distinct_below}
 use Rattle.std.specs.List.{list_any, AllByRecursion, IsDistinct}
-use Rattle.linked_items.specs.Items.{Lacks, Differ}
-use Rattle.linked_items.proofs.ItemLemmas.{differ_front, differ_from_front, differ_snoc}
+use Rattle.item_places.specs.Items.{Lacks, Differ}
+use Rattle.item_places.proofs.ItemLemmas.{differ_front, differ_from_front, differ_snoc}
 use Rattle.number_set.specs.Sets.{is_among}
 use Rattle.number_set.specs.SetParts.{AreMarked}
 

@@ -1,6 +1,6 @@
 -- What holds of the fields of a `NumberSet`.
 use Rattle.std.specs.Prelude.{◌≡◌, ℕ, ◌≤◌, Bool, false, List, length, slice_index_or, vec_capacity}
-use Rattle.linked_items.specs.Items.{Differ}
+use Rattle.item_places.specs.Items.{Differ}
 use Rattle.number_set.specs.Sets.{is_among}
 use Rattle.number_set.specs.declared.set.NumberSet.TheInside.{Inside}
 

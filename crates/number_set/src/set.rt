@@ -1,6 +1,6 @@
 //! The set.
 ghost use Rattle.std.specs.Prelude.{◌≡◌, ℕ, ◌<◌, ◌≤◌, [], false, length, slice_index_or, vec_capacity, OnOk};
-ghost use Rattle.linked_items.specs.Items.{Differ};
+ghost use Rattle.item_places.specs.Items.{Differ};
 ghost use Rattle.number_set.specs.Sets.{inserted, no_numbers};
 ghost use Rattle.number_set.specs.SetParts.{AreMarked};
 

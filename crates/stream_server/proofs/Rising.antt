@@ -3,8 +3,8 @@ use Rattle.std.proofs.Common.{◌≡◌, ℕ, zero, suc, ◌<◌, ◌≤◌, ◌
 use Rattle.std.proofs.lemmas.Bool.{cases_lt}
 use Rattle.std.proofs.lemmas.Option.{slice_get-get_or}
 use Rattle.std.specs.List.{Contains, remove}
-use Rattle.linked_items.specs.Items.{without_number, Lacks, Differ}
-use Rattle.linked_items.proofs.ItemLemmas.{test_keeps, test_drops, without_absent}
+use Rattle.item_places.specs.Items.{without_number, Lacks, Differ}
+use Rattle.item_places.proofs.ItemLemmas.{test_keeps, test_drops, without_absent}
 use Rattle.stream_server.specs.Members.{AreAbove, AreBelow, IsRising}
 
 above_last : (m g : ℕ) (ms : List ℕ) → m < g → AreAbove m ms → AreAbove m (ms ++ g ∷ [])

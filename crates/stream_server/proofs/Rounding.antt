@@ -3,7 +3,7 @@ use Rattle.std.proofs.Common.{◌≡◌, ◌⊎◌, inl, inr, ℕ, ◌+◌, ◌<
 use Rattle.std.specs.List.{All}
 use Rattle.std.proofs.lemmas.Bool.Decides.{nat_tests}
 use Rattle.wsgi_core.specs.Applications.{App}
-use Rattle.linked_items.specs.Items.{without_number}
+use Rattle.item_places.specs.Items.{without_number}
 use Rattle.stream_net.specs.Accepts.{Gains, GainsNone}
 use Rattle.stream_net.specs.Net.{Changes, Connection, IsAtRest, IsFresh, IsLive, NetMeaning, closed_at, connection_at, held_as}
 use Rattle.stream_net.specs.Waits.{MayWait, TimePasses, woken}

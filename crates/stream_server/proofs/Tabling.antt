@@ -8,10 +8,10 @@ use Rattle.std.proofs.lemmas.List.Elements.{All-cons, All-head, All-tail, All-co
 use Rattle.std.proofs.lemmas.List.Sorted.{All-permutation, Contains-permutation, IsPermutation-map, length_permutation, sum_by-IsPermutation}
 use Rattle.std.proofs.lemmas.List.Sums.{sum_by-cons}
 use Rattle.slab.specs.Slab.{Slab, get, slab_len, Updates}
-use Rattle.linked_items.specs.declared.places.Slot.{Slot}
-use Rattle.linked_items.specs.declared.places.Slot.TheVariants.{Held}
-use Rattle.linked_items.specs.Table.{Has, Gains, IsOnce, Loses, slot_at}
-use Rattle.linked_items.specs.Items.{Differ, Lacks}
+use Rattle.item_places.specs.declared.places.Slot.{Slot}
+use Rattle.item_places.specs.declared.places.Slot.TheVariants.{Held}
+use Rattle.item_places.specs.Table.{Has, Gains, IsOnce, Loses, slot_at}
+use Rattle.item_places.specs.Items.{Differ, Lacks}
 use Rattle.due_timers.specs.declared.heap.Timer.{Timer}
 use Rattle.due_timers.specs.SeenTimers.{items_in}
 use Rattle.stream_server.specs.declared.client.Client.{Client}

@@ -2,8 +2,8 @@
 use Rattle.std.specs.Prelude.{◌≡◌, ℕ, ◌+◌, ◌≤◌, List, length, Some}
 use Rattle.std.specs.List.{All, Contains}
 use Rattle.slab.specs.Slab.{Slab, get, slab_len}
-use Rattle.linked_items.specs.declared.places.Slot.{Slot}
-use Rattle.linked_items.specs.Table.{Has}
+use Rattle.item_places.specs.declared.places.Slot.{Slot}
+use Rattle.item_places.specs.Table.{Has}
 use Rattle.due_timers.specs.declared.heap.Timer.{Timer}
 use Rattle.due_timers.specs.SeenTimers.{items_in}
 use Rattle.stream_server.specs.declared.client.Client.{Client}

@@ -1,7 +1,7 @@
 //! The numbers of the connections that a server has a place for.
 ghost use Rattle.std.specs.Prelude.{◌≡◌, ℕ, ◌+◌, List, [], ◌∷◌, ◌++◌, length, OnErr, OnOk, Some, slice_get};
 ghost use Rattle.std.specs.List.{Contains};
-ghost use Rattle.linked_items.specs.Items.{without_number};
+ghost use Rattle.item_places.specs.Items.{without_number};
 ghost use Rattle.stream_server.specs.Members.{AreBelow, IsRising};
 
 use std::alloc::{AllocError, Global};

@@ -2,14 +2,14 @@
 ghost use Rattle.std.specs.Prelude.{◌≡◌, ◌↔◌, ℕ, ◌+◌, ◌<◌, ◌≤◌, ◌==◌, ◌++◌, [], ◌∷◌, length, IfOk, IfNone, IfSome, IsSome, IsTrue, OnErr, OnOk, Option, Some, None};
 ghost use Rattle.std.specs.List.{Contains};
 ghost use Rattle.std.specs.Option.{option_copied};
-ghost use Rattle.linked_items.specs.Items.{Differ, without_number};
+ghost use Rattle.item_places.specs.Items.{Differ, without_number};
 ghost use Rattle.due_timers.specs.SeenTimers.{items_in};
 ghost use Rattle.stream_server.specs.Members.{AreBelow};
 
 use crate::client::Client;
 use crate::members::Members;
 use due_timers::Timers;
-use linked_items::places::Places;
+use item_places::places::Places;
 use slab::Slab;
 use std::alloc::{AllocError, Global};
 use std::marker::Model;

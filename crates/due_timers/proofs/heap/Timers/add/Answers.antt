@@ -4,7 +4,7 @@ use Rattle.std.specs.List.{All}
 use Rattle.std.specs.Vec.{with_items}
 use Rattle.std.proofs.lemmas.List.Elements.{All-push}
 use Rattle.std.proofs.lemmas.List.Sorted.{All-permutation, length_permutation, IsPermutation-trans, IsPermutation-sym, IsPermutation-to_front}
-use Rattle.linked_items.specs.Table.{Has, Gains}
+use Rattle.item_places.specs.Table.{Has, Gains}
 use Rattle.due_timers.specs.declared.heap.Timer.{Timer}
 use Rattle.due_timers.specs.Heap.{timer, rank_at, IsNear, IsTied}
 use Rattle.due_timers.specs.SeenTimers.{items_in}

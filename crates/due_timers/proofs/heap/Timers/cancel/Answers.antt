@@ -2,7 +2,7 @@ use Rattle.std.proofs.Common.{ap, arith, ◌^◌, sym, subst, ◌∙◌, ◌∷�
 use Rattle.std.specs.List.Sorted.{IsPermutation}
 use Rattle.std.proofs.lemmas.List.Elements.{All-tail}
 use Rattle.std.proofs.lemmas.List.Sorted.{All-permutation}
-use Rattle.linked_items.specs.Table.{Has}
+use Rattle.item_places.specs.Table.{Has}
 use Rattle.due_timers.specs.SeenTimers.{items_in}
 use Rattle.due_timers.proofs.Timing.{item_of_contains}
 use Rattle.due_timers.proofs.heap.Timers.cancel.Goals as goal

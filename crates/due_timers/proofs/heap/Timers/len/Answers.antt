@@ -1,5 +1,5 @@
 use Rattle.std.proofs.Common.{ap, subst}
-use Rattle.linked_items.specs.Items.{Differ}
+use Rattle.item_places.specs.Items.{Differ}
 use Rattle.due_timers.specs.SeenTimers.{items_in}
 use Rattle.due_timers.proofs.Timing.{items_differ}
 use Rattle.due_timers.proofs.heap.Timers.len.Goals as goal

@@ -1,6 +1,6 @@
 use Rattle.std.proofs.Common.{◌≡◌, ℕ, Option, subst}
 use Rattle.std.specs.Option.{option_copied}
-use Rattle.linked_items.specs.Table.{Has}
+use Rattle.item_places.specs.Table.{Has}
 use Rattle.stream_server.specs.declared.client.Client.{Client}
 use Rattle.stream_server.specs.Tables.{SeenTable, IsListed}
 use Rattle.stream_server.proofs.Tabling.{here_listed, nobody_listed, only_listed}

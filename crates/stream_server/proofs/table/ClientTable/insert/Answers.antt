@@ -1,7 +1,7 @@
 use Rattle.std.proofs.Common.{◌+◌, ◌≤◌, ℕ, subst, sym, arith, Some}
 use Rattle.std.proofs.lemmas.List.Sorted.{length_permutation}
 use Rattle.slab.specs.Slab.{slab_len}
-use Rattle.linked_items.specs.Table.{Has}
+use Rattle.item_places.specs.Table.{Has}
 use Rattle.stream_server.specs.Tables.{SeenTable, IsAbsent, Relists, client_count}
 use Rattle.stream_server.proofs.Tabling.{stands_more, all_tied_more, timed_more, relists_more, no_timer, no_place}
 use Rattle.stream_server.proofs.table.ClientTable.insert.Goals as goal

@@ -1,5 +1,5 @@
 use Rattle.std.proofs.Common.{ℕ, subst, refl, None}
-use Rattle.linked_items.specs.Table.{Has}
+use Rattle.item_places.specs.Table.{Has}
 use Rattle.stream_server.specs.Tables.{SeenTable, Relists}
 use Rattle.stream_server.proofs.Tabling.{key_is_held, its_number, less_sound, relists_less}
 use Rattle.stream_server.proofs.table.ClientTable.remove.Goals as goal

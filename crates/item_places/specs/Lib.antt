@@ -1,0 +1,4 @@
+pub mod Items
+pub mod PlacesParts
+pub mod Seen
+pub mod Table

@@ -1,5 +1,0 @@
-pub mod ItemLemmas
-pub mod LineLemmas
-pub mod ListLemmas
-pub mod TableLemmas
-pub mod StrideLemmas

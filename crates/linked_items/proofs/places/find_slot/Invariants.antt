@@ -1,6 +1,0 @@
-use Rattle.std.proofs.Common.{ℕ, ◌<◌, ◌≤◌}
-use Rattle.linked_items.specs.Table.{HeldAt}
-use Rattle.linked_items.proofs.places.find_slot.Given as goal
-
-abbrev pub invariant-loop-at : goal.invariant-loop-at
-invariant-loop-at l = (p k : ℕ) → HeldAt l.slots p l.item k → l.from ≤ p → p < l.at → ⊥
