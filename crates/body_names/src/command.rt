@@ -57,7 +57,7 @@ pub fn flat_optional(
     }
 }
 
-/// The statement with numbers. `AllocError`: memory is wanting.
+/// The statement with numbers. `AllocError`: memory is wanting. The body is long since each statement has its arm.
 pub fn flat_command(
     alloc: Global,
     naming: &mut Naming,

@@ -42,7 +42,7 @@ pub enum FlatGiving {
     ChannelGet(u32),
 }
 
-/// The statement with numbers. `AllocError`: memory is wanting.
+/// The statement with numbers. `AllocError`: memory is wanting. The body is long since each statement has its arm.
 pub fn flat_giving(
     alloc: Global,
     naming: &mut Naming,
