@@ -5,7 +5,6 @@ use Rattle.std.specs.List.{SwappedAt}
 use Rattle.due_timers.specs.declared.heap.Timer.{Timer}
 use Rattle.std.specs.List.Sorted.{IsPermutation}
 use Rattle.std.proofs.lemmas.List.Sorted.{IsPermutation-trans}
-use Rattle.item_places.specs.declared.places.Slot.{Slot}
 use Rattle.due_timers.specs.Heap.{IsTied, timer, rank, rank_at, IsNear, IsAbove, IsBelow, IsDown, IsOrdered}
 
 pub record IsSwapped (r r' : ℕ → ℕ) (i j : ℕ) : Type 0 where
@@ -140,31 +139,31 @@ module _ (r : ℕ → ℕ) (n : ℕ) where
     }
 
 -- the timer has come up to `at`
-pub record IsUp (first heap : List Timer) (slots : List Slot) (spare spare' start at : ℕ) : Type 0 where
+pub record IsUp (first heap : List Timer) (places : List ℕ) (reach reach' start at : ℕ) : Type 0 where
   pub within : at < length heap
   pub start_in : start < length heap
   pub near : IsNear (rank_at heap) (length heap) at
   pub below : at ≢ start → IsBelow (rank_at heap) (length heap) at
-  pub tied : IsTied heap slots
+  pub tied : IsTied heap places
   pub same : IsPermutation first heap
-  pub left : spare' ≡ spare
+  pub left : reach' ≡ reach
 
 -- the timer has come down to `at`
-pub record IsSinking (first heap : List Timer) (slots : List Slot) (spare spare' at : ℕ) : Type 0 where
+pub record IsSinking (first heap : List Timer) (places : List ℕ) (reach reach' at : ℕ) : Type 0 where
   pub within : at < length heap
   pub down : IsDown (rank_at heap) (length heap) at
-  pub tied : IsTied heap slots
+  pub tied : IsTied heap places
   pub same : IsPermutation first heap
-  pub left : spare' ≡ spare
+  pub left : reach' ≡ reach
 
-pub up_done : (first heap : List Timer) (slots : List Slot) (spare spare' start at : ℕ) → IsUp first heap slots spare spare' start at → IsAbove (rank_at heap) at → IsDown (rank_at heap) (length heap) start
-up_done first heap slots spare spare' start at is above = elim (cases_eq at start) [
+pub up_done : (first heap : List Timer) (places : List ℕ) (reach reach' start at : ℕ) → IsUp first heap places reach reach' start at → IsAbove (rank_at heap) at → IsDown (rank_at heap) (length heap) start
+up_done first heap places reach reach' start at is above = elim (cases_eq at start) [
   | inl same ↦ subst (λ i. IsDown (rank_at heap) (length heap) i) same (record { near = is.near; above = above })
   | inr differs ↦ down_of (rank_at heap) (length heap) start is.start_in (ordered_of (rank_at heap) (length heap) at is.near above (is.below differs))
 ]
 
-pub up_more : (first heap heap' : List Timer) (slots slots' : List Slot) (spare spare' spare'' start at parent : ℕ) → IsUp first heap slots spare spare' start at → parent * 2 + 1 ≤ at → at ≤ parent * 2 + 2 → rank_at heap at < rank_at heap parent → SwappedAt heap heap' at parent → IsPermutation heap heap' → length heap' ≡ length heap → IsTied heap' slots' → spare'' ≡ spare' → IsUp first heap' slots' spare spare'' start parent
-up_more first heap heap' slots slots' spare spare' spare'' start at parent is lo hi less s perm long tied left =
+pub up_more : (first heap heap' : List Timer) (places places' : List ℕ) (reach reach' reach'' start at parent : ℕ) → IsUp first heap places reach reach' start at → parent * 2 + 1 ≤ at → at ≤ parent * 2 + 2 → rank_at heap at < rank_at heap parent → SwappedAt heap heap' at parent → IsPermutation heap heap' → length heap' ≡ length heap → IsTied heap' places' → reach'' ≡ reach' → IsUp first heap' places' reach reach'' start parent
+up_more first heap heap' places places' reach reach' reach'' start at parent is lo hi less s perm long tied left =
     let step = up_step (rank_at heap) (length heap) (rank_at heap') at parent is.near lo hi is.within less (ranks_swapped heap heap' at parent s) in
     let w = is.within in let w' = is.start_in in record {
       within = omega arith;
@@ -176,8 +175,8 @@ up_more first heap heap' slots slots' spare spare' spare'' start at parent is lo
       left = left ∙ is.left;
     }
 
-pub sunk_more : (first heap heap' : List Timer) (slots slots' : List Slot) (spare spare' spare'' at child : ℕ) → IsSinking first heap slots spare spare' at → at * 2 + 1 ≤ child → child ≤ at * 2 + 2 → child < length heap → rank_at heap child < rank_at heap at → ((k : ℕ) → 2 * at + 1 ≤ k → k ≤ 2 * at + 1 + 1 → k < length heap → rank_at heap child ≤ rank_at heap k) → SwappedAt heap heap' at child → IsPermutation heap heap' → length heap' ≡ length heap → IsTied heap' slots' → spare'' ≡ spare' → IsSinking first heap' slots' spare spare'' child
-sunk_more first heap heap' slots slots' spare spare' spare'' at child is lo hi in' less least s perm long tied left =
+pub sunk_more : (first heap heap' : List Timer) (places places' : List ℕ) (reach reach' reach'' at child : ℕ) → IsSinking first heap places reach reach' at → at * 2 + 1 ≤ child → child ≤ at * 2 + 2 → child < length heap → rank_at heap child < rank_at heap at → ((k : ℕ) → 2 * at + 1 ≤ k → k ≤ 2 * at + 1 + 1 → k < length heap → rank_at heap child ≤ rank_at heap k) → SwappedAt heap heap' at child → IsPermutation heap heap' → length heap' ≡ length heap → IsTied heap' places' → reach'' ≡ reach' → IsSinking first heap' places' reach reach'' child
+sunk_more first heap heap' places places' reach reach' reach'' at child is lo hi in' less least s perm long tied left =
     let step = down_step (rank_at heap) (length heap) (rank_at heap') at child is.down.near is.down.above lo hi in' less (λ k a b d. least k (omega arith) (omega arith) d) (ranks_swapped heap heap' at child s) in record {
       within = omega arith;
       down = subst (λ n. IsDown (rank_at heap') n child) (sym long) step;

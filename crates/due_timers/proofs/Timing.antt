@@ -7,9 +7,9 @@ use Rattle.std.proofs.lemmas.List.Sorted.{IsPermutation-sym, IsPermutation-map, 
 use Rattle.std.proofs.lemmas.List.Elements.{Contains-append_cases}
 use Rattle.item_places.specs.Items.{Differ}
 use Rattle.item_places.proofs.ItemLemmas.{lacks_of_absent}
-use Rattle.item_places.specs.declared.places.Slot.{Slot}
-use Rattle.item_places.specs.Table.{Has, Gains, SameHeld}
+use Rattle.due_timers.specs.Places.{Has, Moves}
 use Rattle.due_timers.specs.declared.heap.Timer.{Timer}
+use Rattle.due_timers.specs.declared.limits.TheConstants.{MOST_TIMERS}
 use Rattle.due_timers.specs.Heap.{timer, timer_at, rank, rank_at, IsNear, IsOrdered, IsTied}
 use Rattle.due_timers.specs.SeenTimers.{items_in, deadlines_in, IsNotAfter}
 use Rattle.due_timers.proofs.Tying.{item_at, default_free}
@@ -138,10 +138,10 @@ near_pushed xs t is =
       skip = λ p k lo hi lo' hi' in'. absurd (omega arith);
     }
 
-pub tied_pushed : (xs : List Timer) (t : Timer) (slots s1 : List Slot) → IsTied xs slots → ((k : ℕ) → Has slots t.item k → ⊥) → Gains slots s1 t.item (length xs) → IsTied (xs ++ t ∷ []) s1
-tied_pushed xs t slots s1 tied absent g =
+pub tied_pushed : (xs : List Timer) (t : Timer) (places s1 : List ℕ) → IsTied xs places → ((k : ℕ) → Has places t.item k → ⊥) → Moves places s1 t.item (length xs) → length xs < MOST_TIMERS → IsTied (xs ++ t ∷ []) s1
+tied_pushed xs t places s1 tied absent g more =
     let long = length-append xs (t ∷ []) in
-    let fresh : (p : ℕ) → p < length xs → item_at xs p ≢ t.item = λ p in' h. absent p (subst (λ x. Has slots x p) h (tied.placed p in')) in
+    let fresh : (p : ℕ) → p < length xs → item_at xs p ≢ t.item = λ p in' h. absent p (subst (λ x. Has places x p) h (tied.placed p in')) in
     let old : (p : ℕ) → p < length xs → item_at (xs ++ t ∷ []) p ≡ item_at xs p = λ p in'. ap (λ y. y.item) (pushed_before xs t p in') in
     let new : item_at (xs ++ t ∷ []) (length xs) ≡ t.item = ap (λ y. y.item) (pushed_here xs t) in
     record {
@@ -149,10 +149,10 @@ tied_pushed xs t slots s1 tied absent g =
         | inl same ↦ subst (λ k. Has s1 (item_at (xs ++ t ∷ []) k) k) (sym same) (subst (λ x. Has s1 x (length xs)) (sym new) g.here)
         | inr away ↦
             let p_in : p < length xs = omega arith in
-            subst (λ x. Has s1 x p) (sym (old p p_in)) (g.kept (item_at xs p) p (tied.placed p p_in))
+            subst (λ x. Has s1 x p) (sym (old p p_in)) (g.kept (item_at xs p) p (tied.placed p p_in) (fresh p p_in))
       ];
       listed = λ q k h. elim (g.only q k h) [
-        | inl a ↦ let l = tied.listed q k a in (omega (arith, l.0), old k l.0 ∙ l.1)
+        | inl a ↦ let l = tied.listed q k a.0 in (omega (arith, l.0), old k l.0 ∙ l.1)
         | inr b ↦ (subst (λ x. x < length (xs ++ t ∷ [])) (sym b.1) (omega arith), ap (item_at (xs ++ t ∷ [])) b.1 ∙ new ∙ sym b.0)
       ];
       apart = λ p p' in' in'' same. elim (cases_eq p (length xs)) [
@@ -171,21 +171,25 @@ tied_pushed xs t slots s1 tied absent g =
                   tied.apart p p' p_in p_in' (sym (old p p_in) ∙ same ∙ old p' p_in')
             ]
       ];
+      few = omega arith;
     }
 
-pub tied_same : (xs ys : List Timer) (slots slots' : List Slot) → ys ≡ xs → IsTied xs slots → SameHeld slots slots' → IsTied ys slots'
-tied_same xs ys slots slots' e tied s = subst (λ l. IsTied l slots') (sym e) (record {
-  placed = λ p in'. s.kept (item_at xs p) p (tied.placed p in');
-  listed = λ q k h. tied.listed q k (s.only q k h);
+-- a table that says the same is tied to the same timers
+pub tied_same : (xs ys : List Timer) (places places' : List ℕ) → ys ≡ xs → IsTied xs places → ((q : ℕ) → get_or places' q MOST_TIMERS ≡ get_or places q MOST_TIMERS) → IsTied ys places'
+tied_same xs ys places places' e tied same = subst (λ l. IsTied l places') (sym e) (record {
+  placed = λ p in'. let h = tied.placed p in' in (h.0, same (item_at xs p) ∙ h.1);
+  listed = λ q k h. tied.listed q k (h.0, sym (same q) ∙ h.1);
   apart = tied.apart;
+  few = tied.few;
 })
 
-pub tied_none : (xs : List Timer) (slots : List Slot) → xs ≡ [] → ((q k : ℕ) → Has slots q k → ⊥) → IsTied xs slots
-tied_none xs slots e none = subst (λ l. IsTied l slots) (sym e) (record {
+pub tied_none : (xs : List Timer) (places : List ℕ) → xs ≡ [] → places ≡ [] → IsTied xs places
+tied_none xs places e none = subst (λ l. IsTied l places) (sym e) (subst (λ l. IsTied [] l) (sym none) (record {
   placed = λ p in'. absurd (omega arith);
-  listed = λ q k h. absurd (none q k h);
+  listed = λ q k h. absurd (let a = h.0 in let b = h.1 in omega arith);
   apart = λ p p' in' in'' same. absurd (omega arith);
-})
+  few = omega arith;
+}))
 
 pub ordered_same : (xs ys : List Timer) → ys ≡ xs → IsOrdered (rank_at xs) (length xs) → IsOrdered (rank_at ys) (length ys)
 ordered_same xs ys e is = subst (λ l. IsOrdered (rank_at l) (length l)) (sym e) is

@@ -3,10 +3,11 @@ use Rattle.std.specs.Prelude.{◌≡◌, ◌<◌, ◌≤◌, ◌⊎◌, ℕ, Lis
 use Rattle.std.specs.List.Sorted.{IsPermutation}
 use Rattle.due_timers.specs.declared.heap.Timer.{Timer}
 
--- the items with their deadlines, in any order, and how many more fit
+-- the items with their deadlines, in any order, how many more fit, and below which number all items are
 pub record SeenTimers : Type 0 where
   pub timers : List Timer
   pub spare : ℕ
+  pub reach : ℕ
 
 -- the items of the timers
 abbrev pub items_in : List Timer → List ℕ

@@ -6,7 +6,8 @@ ghost use Rattle.item_places.specs.Items.{Differ};
 ghost use Rattle.due_timers.specs.Heap.{timer, timer_at, rank_at, IsNear, IsDown, IsOrdered, IsTied};
 ghost use Rattle.due_timers.specs.SeenTimers.{items_in, deadlines_in, TakesTimer, IsNotAfter};
 
-use item_places::places::Places;
+use crate::limits::MOST_TIMERS;
+use crate::places::Places;
 use std::alloc::{AllocError, Global};
 use std::marker::Model;
 
@@ -42,11 +43,11 @@ fn exchange(heap: &mut [Timer], places: &mut Places, a: usize, b: usize)
     requires a_within { a < length heap.old }
     requires b_within { b < length heap.old }
     requires differ { a ≢ b }
-    requires tied { IsTied heap.old places.old.slots }
+    requires tied { IsTied heap.old places.old }
     ensures swapped { SwappedAt heap.old heap.new a b }
     ensures same { IsPermutation heap.old heap.new }
-    ensures tied { IsTied heap.new places.new.slots }
-    ensures spare { places.new.spare ≡ places.old.spare }
+    ensures tied { IsTied heap.new places.new }
+    ensures reach { length places.new ≡ length places.old }
 {
     heap.swap(a, b);
     places.set(heap[a].item, a);
@@ -70,11 +71,11 @@ fn lesser_child(heap: &[Timer], left: usize) -> usize
 pub fn sift_up(heap: &mut [Timer], places: &mut Places, start: usize)
     requires within { start < length heap.old }
     requires near { IsNear (rank_at heap.old) (length heap.old) start }
-    requires tied { IsTied heap.old places.old.slots }
+    requires tied { IsTied heap.old places.old }
     ensures down { IsDown (rank_at heap.new) (length heap.new) start }
-    ensures tied { IsTied heap.new places.new.slots }
+    ensures tied { IsTied heap.new places.new }
     ensures same { IsPermutation heap.old heap.new }
-    ensures spare { places.new.spare ≡ places.old.spare }
+    ensures reach { length places.new ≡ length places.old }
 {
     let mut at = start;
     while at > 0 {
@@ -91,11 +92,11 @@ pub fn sift_up(heap: &mut [Timer], places: &mut Places, start: usize)
 pub fn sift_down(heap: &mut [Timer], places: &mut Places, start: usize)
     requires within { start < length heap.old }
     requires down { IsDown (rank_at heap.old) (length heap.old) start }
-    requires tied { IsTied heap.old places.old.slots }
+    requires tied { IsTied heap.old places.old }
     ensures ordered { IsOrdered (rank_at heap.new) (length heap.new) }
-    ensures tied { IsTied heap.new places.new.slots }
+    ensures tied { IsTied heap.new places.new }
     ensures same { IsPermutation heap.old heap.new }
-    ensures spare { places.new.spare ≡ places.old.spare }
+    ensures reach { length places.new ≡ length places.old }
 {
     let mut at = start;
     while at < heap.len() / 2 {
@@ -112,12 +113,12 @@ pub fn sift_down(heap: &mut [Timer], places: &mut Places, start: usize)
 pub fn take_at(heap: &mut Vec<Timer>, places: &mut Places, at: usize) -> Timer
     requires within { at < length heap.old.items }
     requires ordered { IsOrdered (rank_at heap.old.items) (length heap.old.items) }
-    requires tied { IsTied heap.old.items places.old.slots }
+    requires tied { IsTied heap.old.items places.old }
     ensures ordered { IsOrdered (rank_at heap.new.items) (length heap.new.items) }
-    ensures tied { IsTied heap.new.items places.new.slots }
+    ensures tied { IsTied heap.new.items places.new }
     ensures same { IsPermutation heap.old.items (result ∷ heap.new.items) }
     ensures timer { result ≡ timer_at heap.old.items at }
-    ensures spare { places.new.spare ≡ places.old.spare + 1 }
+    ensures reach { length places.new ≡ length places.old }
     ensures len { length heap.new.items + 1 ≡ length heap.old.items }
     ensures capacity { vec_capacity heap.new ≡ vec_capacity heap.old }
 {
@@ -149,7 +150,7 @@ impl Model for Timers {
 
     ghost use Rattle.due_timers.specs.TimerParts.{IsSound};
 
-    ghost view = { λ t. record { timers = t.heap.items; spare = t.limit - length t.heap.items } };
+    ghost view = { λ t. record { timers = t.heap.items; spare = t.limit - length t.heap.items; reach = length t.places } };
 
     ghost invariant = { IsSound };
 }
@@ -159,6 +160,7 @@ impl Timers {
     pub fn new(alloc: Global) -> Self
         ensures none { result.timers ≡ [] }
         ensures spare { result.spare ≡ 0 }
+        ensures reach { result.reach ≡ 0 }
     {
         Timers {
             heap: Vec::new(alloc),
@@ -167,23 +169,26 @@ impl Timers {
         }
     }
 
-    /// Makes room for `n` more items, so that as many calls of `add` take no memory.
-    pub fn reserve(&mut self, n: usize) -> Result<(), AllocError>
+    /// Makes room for `n` more items, all below `reach`, so that as many calls of `add` take no memory. `AllocError`:
+    /// memory is wanting, as it is for more than `u32::MAX` items.
+    pub fn reserve(&mut self, n: usize, reach: usize) -> Result<(), AllocError>
         ensures room { OnOk result (n ≤ self.new.spare) }
+        ensures within { OnOk result (reach ≤ self.new.reach) }
         ensures kept { self.new.timers ≡ self.old.timers }
         ensures spare { self.old.spare ≤ self.new.spare }
-        ensures had_room { n ≤ self.old.spare → IsOk result }
+        ensures reach { self.old.reach ≤ self.new.reach }
+        ensures had_room { n ≤ self.old.spare → reach ≤ self.old.reach → IsOk result }
         ensures err { OnErr result (self.new ≡ self.old) }
     {
         let len = self.heap.len();
-        if n <= self.limit - len {
-            return Ok(());
+        if n > MOST_TIMERS as usize - len {
+            return Err(AllocError);
         }
-        self.places.reserve(n)?;
         self.heap.reserve(n)?;
+        self.places.reserve(reach)?;
         // That it fits `usize` is known of a room that is asked.
         let _room = self.heap.capacity();
-        self.limit = len + n;
+        self.limit = self.limit.max(len + n);
         Ok(())
     }
 
@@ -205,9 +210,11 @@ impl Timers {
     /// Gives an item a deadline.
     pub fn add(&mut self, item: u32, since: u64, deadline: u64)
         requires room { 0 < self.old.spare }
+        requires within { item < self.old.reach }
         requires absent { Contains (items_in self.old.timers) item → ⊥ }
         ensures added { IsPermutation (timer item since deadline ∷ self.old.timers) self.new.timers }
         ensures spare { self.new.spare + 1 ≡ self.old.spare }
+        ensures reach { self.new.reach ≡ self.old.reach }
     {
         let at = self.heap.len();
         self.heap.push_reserved(Timer {
@@ -215,7 +222,7 @@ impl Timers {
             since,
             deadline,
         });
-        self.places.insert(item, at);
+        self.places.set(item, at);
         sift_up(&mut self.heap, &mut self.places, at);
     }
 
@@ -224,13 +231,10 @@ impl Timers {
         requires { Contains (items_in self.old.timers) item }
         ensures taken { TakesTimer self.old.timers item self.new.timers (λ _. Unit {0}) }
         ensures spare { self.new.spare ≡ self.old.spare + 1 }
+        ensures reach { self.new.reach ≡ self.old.reach }
     {
-        match self.places.find(item) {
-            None => unreachable!(),
-            Some(at) => {
-                take_at(&mut self.heap, &mut self.places, at);
-            }
-        }
+        let at = self.places.at(item);
+        take_at(&mut self.heap, &mut self.places, at);
     }
 
     /// The least deadline.
@@ -253,6 +257,7 @@ impl Timers {
         ensures taken { IfSome result (λ item. TakesTimer self.old.timers item self.new.timers
             (λ t. (t.deadline ≤ now) × All (IsNotAfter t) self.old.timers)) }
         ensures spare { IfSome result (λ _. self.new.spare ≡ self.old.spare + 1) }
+        ensures reach { self.new.reach ≡ self.old.reach }
     {
         match self.least() {
             Some(deadline) if deadline <= now => {

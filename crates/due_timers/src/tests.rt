@@ -4,7 +4,7 @@ use std::test::*;
 #[test]
 fn million_timers(rt: HostRuntime) -> Result<(), Fail> {
     let mut timers = Timers::new(rt.alloc());
-    assert!(rt; timers.reserve(1_000_000).is_ok());
+    assert!(rt; timers.reserve(1_000_000, 1_000_000).is_ok());
     for i in 0..1_000_000u64 {
         timers.add(i as u32, i, i * 7919 % 1_000_000);
     }

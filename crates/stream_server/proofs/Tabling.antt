@@ -1,5 +1,5 @@
 -- The structures of a table against one another.
-use Rattle.std.proofs.Common.{◌≡◌, ◌≢◌, ◌⊎◌, inl, inr, ℕ, zero, suc, ◌+◌, ◌<◌, ◌≤◌, ◌==◌, Bool, true, false, cond, List, [], ◌∷◌, length, get_or, Option, Some, None, refl, sym, ap, ◌∙◌, subst, arith, IsSome, is_some, count_by}
+use Rattle.std.proofs.Common.{◌≡◌, ◌≢◌, ◌⊎◌, inl, inr, ℕ, zero, suc, ◌+◌, ◌^◌, ◌<◌, ◌≤◌, ◌==◌, Bool, true, false, cond, List, [], ◌∷◌, length, get_or, Option, Some, None, refl, sym, ap, ◌∙◌, subst, arith, IsSome, is_some, count_by}
 use Rattle.std.specs.List.{All, Contains, sum_by}
 use Rattle.std.specs.List.Sorted.{IsPermutation}
 use Rattle.std.proofs.lemmas.Bool.{cases_eq, eq-eqb, eqb-true}
@@ -129,35 +129,45 @@ module _ {T : Type 0} (old new : List Slot) (clients after : Slab (Client T)) (g
   old_key : (k j : ℕ) → Has old k j → j ≢ key
   old_key k j has e = let s = stands k j has in none_some (get clients key) s.client vacant (ap (get clients) (sym e) ∙ s.is)
 
+  -- who stood under a key stands there still
+  still : (j : ℕ) (client : Client T) → get clients j ≡ Some client → get after j ≡ Some client
+  still j client is = updates.others j (λ e. none_some (get clients key) client vacant (ap (get clients) (sym e) ∙ is)) ∙ is
+
   tied_more : (t : Timer) → IsTied old clients t → IsTied new after t
-  tied_more t h = record { key = h.key; placed = gains.kept t.item h.key h.placed; deadline = λ j client has is. by j client is (gains.only t.item j has) }
+  tied_more t h = record {
+    client = h.client;
+    is = still t.item h.client h.is;
+    placed = gains.kept h.client.conn t.item h.placed;
+    only = λ j has. by j (gains.only h.client.conn j has);
+    deadline = h.deadline;
+  }
     where
-      by : (j : ℕ) (client : Client T) → get after j ≡ Some client → Has old t.item j ⊎ ((t.item ≡ g.conn) × (j ≡ key)) → client.deadline ≡ t.deadline
-      by j client is (inl was) = h.deadline j client was (kept_before clients after key j (Some g) client updates (old_key t.item j was) is)
-      by j client is (inr e) = absurd (absent h.key (subst (λ (n : ℕ). Has old n h.key) e.0 h.placed))
+      by : (j : ℕ) → Has old h.client.conn j ⊎ ((h.client.conn ≡ g.conn) × (j ≡ key)) → j ≡ t.item
+      by j (inl was) = h.only j was
+      by j (inr e) = absurd (absent t.item (subst (λ (n : ℕ). Has old n t.item) e.0 h.placed))
 
-  tied_new : (since : ℕ) → IsTied new after record { item = g.conn; since = since; deadline = g.deadline }
-  tied_new since = record { key = key; placed = gains.here; deadline = λ j client has is. by j client is (gains.only g.conn j has) }
+  tied_new : (since : ℕ) → IsTied new after record { item = key; since = since; deadline = g.deadline }
+  tied_new since = record { client = g; is = updates.changed; placed = gains.here; only = λ j has. by j (gains.only g.conn j has); deadline = refl }
     where
-      by : (j : ℕ) (client : Client T) → get after j ≡ Some client → Has old g.conn j ⊎ ((g.conn ≡ g.conn) × (j ≡ key)) → client.deadline ≡ g.deadline
-      by j client is (inl was) = absurd (absent j was)
-      by j client is (inr e) = ap (λ (x : Client T). x.deadline) (some_same client g (sym is ∙ ap (get after) e.1 ∙ updates.changed))
+      by : (j : ℕ) → Has old g.conn j ⊎ ((g.conn ≡ g.conn) × (j ≡ key)) → j ≡ key
+      by j (inl was) = absurd (absent j was)
+      by j (inr e) = e.1
 
-  pub all_tied_more : (since : ℕ) (ts us : List Timer) → IsPermutation (record { item = g.conn; since = since; deadline = g.deadline } ∷ ts) us → All (IsTied old clients) ts → All (IsTied new after) us
+  pub all_tied_more : (since : ℕ) (ts us : List Timer) → IsPermutation (record { item = key; since = since; deadline = g.deadline } ∷ ts) us → All (IsTied old clients) ts → All (IsTied new after) us
   all_tied_more since ts us moves h =
-      let t : Timer = record { item = g.conn; since = since; deadline = g.deadline } in
+      let t : Timer = record { item = key; since = since; deadline = g.deadline } in
       All-permutation (IsTied new after) (t ∷ ts) us moves (All-cons (IsTied new after) t ts (tied_new since) (λ k d in'. tied_more (get_or ts k d) (h k d in')))
 
-  pub timed_more : (since : ℕ) (ts us : List Timer) → IsPermutation (record { item = g.conn; since = since; deadline = g.deadline } ∷ ts) us
-      → ((k j : ℕ) → Has old k j → Contains (items_in ts) k) → (k j : ℕ) → Has new k j → Contains (items_in us) k
-  timed_more since ts us moves timed k j has = Contains-permutation (items_in (t ∷ ts)) (items_in us) k (IsPermutation-map (λ (u : Timer). u.item) (t ∷ ts) us moves) (by (gains.only k j has))
+  pub timed_more : (since : ℕ) (ts us : List Timer) → IsPermutation (record { item = key; since = since; deadline = g.deadline } ∷ ts) us
+      → ((k j : ℕ) → Has old k j → Contains (items_in ts) j) → (k j : ℕ) → Has new k j → Contains (items_in us) j
+  timed_more since ts us moves timed k j has = Contains-permutation (items_in (t ∷ ts)) (items_in us) j (IsPermutation-map (λ (u : Timer). u.item) (t ∷ ts) us moves) (by (gains.only k j has))
     where
       t : Timer
-      t = record { item = g.conn; since = since; deadline = g.deadline }
+      t = record { item = key; since = since; deadline = g.deadline }
 
-      by : Has old k j ⊎ ((k ≡ g.conn) × (j ≡ key)) → Contains (items_in (t ∷ ts)) k
-      by (inl was) = Contains-append_right (g.conn ∷ []) (items_in ts) k (timed k j was)
-      by (inr e) = subst (λ (n : ℕ). Contains (items_in (t ∷ ts)) n) (sym e.0) (0, omega arith, refl)
+      by : Has old k j ⊎ ((k ≡ g.conn) × (j ≡ key)) → Contains (items_in (t ∷ ts)) j
+      by (inl was) = Contains-append_right (key ∷ []) (items_in ts) j (timed k j was)
+      by (inr e) = subst (λ (n : ℕ). Contains (items_in (t ∷ ts)) n) (sym e.1) (0, omega arith, refl)
 
   pub relists_more : (members : List ℕ) (limit : ℕ) → Relists (record { places = old; clients = clients; members = members; limit = limit }) (record { places = new; clients = after; members = members; limit = limit }) g.conn (Some g)
   relists_more members limit = record { here = (key, gains.here, updates.changed); only = only; others = others; members = refl; limit = refl }
@@ -191,26 +201,35 @@ module _ {T : Type 0} (old new : List Slot) (clients after : Slab (Client T)) (x
   other_key : (j : ℕ) (g : Client T) → get after j ≡ Some g → j ≢ key
   other_key j g is e = none_some (get after key) g updates.changed (ap (get after) (sym e) ∙ is)
 
-  tied_less : (t : Timer) → t.item ≢ x → IsTied old clients t → IsTied new after t
+  tied_less : (t : Timer) → t.item ≢ key → IsTied old clients t → IsTied new after t
   tied_less t other h = record {
-    key = h.key;
-    placed = loses.kept t.item h.key h.placed other;
-    deadline = λ j client has is. h.deadline j client (loses.only t.item j has) (kept_before clients after key j None client updates (other_key j client is) is);
+    client = h.client;
+    is = updates.others t.item other ∙ h.is;
+    placed = loses.kept h.client.conn t.item h.placed (λ e. other (sym (h.only key (subst (λ (n : ℕ). Has old n key) (sym e) here))));
+    only = λ j has. h.only j (loses.only h.client.conn j has);
+    deadline = h.deadline;
   }
 
-  pub all_tied_less : (ts us : List Timer) (t : Timer) → Differ (items_in ts) → t.item ≡ x → IsPermutation ts (t ∷ us) → All (IsTied old clients) ts → All (IsTied new after) us
+  pub all_tied_less : (ts us : List Timer) (t : Timer) → Differ (items_in ts) → t.item ≡ key → IsPermutation ts (t ∷ us) → All (IsTied old clients) ts → All (IsTied new after) us
   all_tied_less ts us t differ is moves h =
-      let left = others_left x ts us t differ is moves in
+      let left = others_left key ts us t differ is moves in
       let rest = All-tail (IsTied old clients) t us (All-permutation (IsTied old clients) ts (t ∷ us) moves h) in
       λ k d in'. tied_less (get_or us k d) (left k d in') (rest k d in')
 
-  pub timed_less : (ts us : List Timer) (t : Timer) → t.item ≡ x → IsPermutation ts (t ∷ us) → ((k j : ℕ) → Has old k j → Contains (items_in ts) k) → (k j : ℕ) → Has new k j → Contains (items_in us) k
+  pub timed_less : (ts us : List Timer) (t : Timer) → t.item ≡ key → IsPermutation ts (t ∷ us) → ((k j : ℕ) → Has old k j → Contains (items_in ts) j) → (k j : ℕ) → Has new k j → Contains (items_in us) j
   timed_less ts us t is moves timed k j has =
-      by (Contains-append_cases (t.item ∷ []) (items_in us) k (Contains-permutation (items_in ts) (items_in (t ∷ us)) k (IsPermutation-map (λ (u : Timer). u.item) ts (t ∷ us) moves) (timed k j (loses.only k j has))))
+      by (Contains-append_cases (t.item ∷ []) (items_in us) j (Contains-permutation (items_in ts) (items_in (t ∷ us)) j (IsPermutation-map (λ (u : Timer). u.item) ts (t ∷ us) moves) (timed k j (loses.only k j has))))
     where
-      by : Contains (t.item ∷ []) k ⊎ Contains (items_in us) k → Contains (items_in us) k
+      -- who stands under the key has the number
+      number : j ≡ key → k ≡ x
+      number e =
+          let s = stands k j (loses.only k j has) in
+          let u = stands x key here in
+          sym s.number ∙ ap (λ (h : Client T). h.conn) (some_same s.client u.client (sym s.is ∙ ap (get clients) e ∙ u.is)) ∙ u.number
+
+      by : Contains (t.item ∷ []) j ⊎ Contains (items_in us) j → Contains (items_in us) j
       by (inr y) = y
-      by (inl y) = absurd (loses.gone j (subst (λ (n : ℕ). Has new n j) (sym (first_of k t.item y) ∙ is) has))
+      by (inl y) = absurd (loses.gone j (subst (λ (n : ℕ). Has new n j) (number (sym (first_of j t.item y) ∙ is)) has))
 
   pub relists_less : (members : List ℕ) (limit : ℕ) → Relists (record { places = old; clients = clients; members = members; limit = limit }) (record { places = new; clients = after; members = members; limit = limit }) x None
   relists_less members limit = record { here = λ k has. loses.gone k has; only = only; others = others; members = refl; limit = refl }
@@ -229,12 +248,20 @@ module _ {T : Type 0} (old new : List Slot) (clients after : Slab (Client T)) (x
       others j None other h = λ k has. h k (loses.kept j k has other)
       others j (Some g) other h = (h.0, loses.only j h.0 h.1, kept_before clients after key h.0 None g updates (other_key h.0 g h.2) h.2)
 
--- nobody has a timer whom nobody has a place for
-pub no_timer : {T : Type 0} (places : List Slot) (clients : Slab (Client T)) (ts : List Timer) (x : ℕ) → All (IsTied places clients) ts → ((j : ℕ) → Has places x j → ⊥) → Contains (items_in ts) x → ⊥
-no_timer places clients ts x tied absent h =
-    let found = contains_item x ts h in
+-- a key that nobody stands under has no timer
+pub no_timer : {T : Type 0} (places : List Slot) (clients : Slab (Client T)) (ts : List Timer) (key : ℕ) → All (IsTied places clients) ts → get clients key ≡ None → Contains (items_in ts) key → ⊥
+no_timer places clients ts key tied vacant h =
+    let found = contains_item key ts h in
     let t = All-contains (IsTied places clients) ts found.0 tied found.1 in
-    absent t.key (subst (λ (n : ℕ). Has places n t.key) found.2 t.placed)
+    none_some (get clients key) t.client vacant (ap (get clients) (sym found.2) ∙ t.is)
+
+-- the keys in use are below the bound
+pub held_more : (old new : List Slot) (conn key most most' : ℕ) → ((k j : ℕ) → Has old k j → j < most) → Gains old new conn key → key < most' → most' ≡ most → (k j : ℕ) → Has new k j → j < most'
+held_more old new conn key most most' held gains below same k j has = by (gains.only k j has)
+  where
+    by : Has old k j ⊎ ((k ≡ conn) × (j ≡ key)) → j < most'
+    by (inl was) = let a = held k j was in omega (arith, a, same)
+    by (inr e) = let a = e.1 in omega (arith, a, below)
 
 pub no_place : {T : Type 0} (places : List Slot) (clients : Slab (Client T)) (members : List ℕ) (limit x : ℕ) → ((k j : ℕ) → Has places k j → Stands clients k j) → IsAbsent (record { places = places; clients = clients; members = members; limit = limit }) x → (j : ℕ) → Has places x j → ⊥
 no_place places clients members limit x stands absent j has = let s = stands x j has in absent s.client (j, has, s.is)
@@ -278,10 +305,10 @@ pub its_number : {T : Type 0} (clients : Slab (Client T)) (k key : ℕ) (g : Cli
 its_number clients k key g s is = ap (λ (x : Client _). x.conn) (some_same g s.client (sym is ∙ s.is)) ∙ s.number
 
 -- a table that a client has left
-pub less_sound : {T : Type 0} (h i : Inside T) (x key : ℕ) (t : Timer) → IsSound h → Differ (items_in h.timers.timers) → t.item ≡ x → IsPermutation h.timers.timers (t ∷ i.timers.timers)
+pub less_sound : {T : Type 0} (h i : Inside T) (x key : ℕ) (t : Timer) → IsSound h → Differ (items_in h.timers.timers) → t.item ≡ key → IsPermutation h.timers.timers (t ∷ i.timers.timers)
     → Has h.places.slots x key → Loses h.places.slots i.places.slots x → Updates h.clients i.clients key None → i.limit ≡ h.limit → slab_len i.clients + 1 ≡ slab_len h.clients
-    → i.clients.capacity ≡ h.clients.capacity → i.places.spare ≡ h.places.spare + 1 → i.timers.spare ≡ h.timers.spare + 1 → IsSound i
-less_sound h i x key t s differ is moves here loses updates limit len capacity places timers =
+    → i.clients.capacity ≡ h.clients.capacity → i.places.spare ≡ h.places.spare + 1 → i.timers.spare ≡ h.timers.spare + 1 → i.timers.reach ≡ h.timers.reach → IsSound i
+less_sound h i x key t s differ is moves here loses updates limit len capacity places timers reach =
     let long = length_permutation h.timers.timers (t ∷ i.timers.timers) moves in
     record {
       stands = stands_less h.places.slots i.places.slots h.clients i.clients x key s.stands here loses updates;
@@ -292,26 +319,42 @@ less_sound h i x key t s differ is moves here loses updates limit len capacity p
       room = omega (arith, s.room, capacity, limit);
       places_room = omega (arith, s.places_room, places, len, limit);
       timers_room = omega (arith, s.timers_room, timers, len, limit);
+      keys = omega (arith, s.keys, capacity, reach);
+      keys_fit = omega (arith, s.keys_fit, capacity);
+      held = λ k j has. let a = s.held k j (loses.only k j has) in omega (arith, a, capacity);
     }
 
 -- the client of a timer that was taken
-pub due_deadline : {T : Type 0} (places : List Slot) (clients : Slab (Client T)) (ts us : List Timer) (t : Timer) (x key now : ℕ) (g : Client T) → All (IsTied places clients) ts → IsPermutation ts (t ∷ us)
-    → t.item ≡ x → Has places x key → get clients key ≡ Some g → t.deadline ≤ now → g.deadline ≤ now
-due_deadline places clients ts us t x key now g tied moves is has at due =
-    let h : IsTied places clients t = All-head (IsTied places clients) t us (All-permutation (IsTied places clients) ts (t ∷ us) moves tied) in
-    let e = h.deadline key g (subst (λ (n : ℕ). Has places n key) (sym is) has) at in
-    omega (arith, e, due)
+pub record IsDue {T : Type 0} (places : List Slot) (clients : Slab (Client T)) (key now : ℕ) : Type 0 where
+  pub client : Client T
+  pub is : get clients key ≡ Some client
+  pub placed : Has places client.conn key
+  pub due : client.deadline ≤ now
 
-pub due_place : {T : Type 0} (places : List Slot) (clients : Slab (Client T)) (ts us : List Timer) (t : Timer) (x : ℕ) → All (IsTied places clients) ts → IsPermutation ts (t ∷ us)
-    → t.item ≡ x → (key : ℕ) × Has places x key
-due_place places clients ts us t x tied moves is =
+pub due_client : {T : Type 0} (places : List Slot) (clients : Slab (Client T)) (ts us : List Timer) (t : Timer) (key now : ℕ) → All (IsTied places clients) ts → IsPermutation ts (t ∷ us)
+    → t.item ≡ key → t.deadline ≤ now → IsDue places clients key now
+due_client places clients ts us t key now tied moves is due =
     let h : IsTied places clients t = All-head (IsTied places clients) t us (All-permutation (IsTied places clients) ts (t ∷ us) moves tied) in
-    (h.key, subst (λ (n : ℕ). Has places n h.key) is h.placed)
+    let e = h.deadline in record {
+      client = h.client;
+      is = ap (get clients) (sym is) ∙ h.is;
+      placed = subst (λ (n : ℕ). Has places h.client.conn n) is h.placed;
+      due = omega (arith, e, due);
+    }
+
+pub due_is_held : {T : Type 0} (places : List Slot) (clients : Slab (Client T)) (key now : ℕ) → IsDue places clients key now → IsSome (get clients key)
+due_is_held places clients key now d = some_is (get clients key) d.client d.is
+
+-- it is this one
+pub due_here : {T : Type 0} (places : List Slot) (clients : Slab (Client T)) (key now : ℕ) (g : Client T) → IsDue places clients key now → get clients key ≡ Some g → Has places g.conn key × (g.deadline ≤ now)
+due_here places clients key now g d is =
+    let same : d.client ≡ g = some_same d.client g (sym d.is ∙ is) in
+    (subst (λ (x : Client _). Has places x.conn key) same d.placed, subst (λ (x : Client _). x.deadline ≤ now) same d.due)
 
 -- an empty table
 pub new_sound : {T : Type 0} (h : Inside T) → h.clients.slots ≡ [] → ((q k : ℕ) → Has h.places.slots q k → ⊥) → h.timers.timers ≡ [] → slab_len h.clients + h.limit ≤ h.clients.capacity
-    → h.limit ≤ h.places.spare → h.limit ≤ h.timers.spare → IsSound h
-new_sound h clients places timers room places_room timers_room =
+    → h.limit ≤ h.places.spare → h.limit ≤ h.timers.spare → h.clients.capacity ≤ h.timers.reach → h.clients.capacity < 2 ^ 32 → IsSound h
+new_sound h clients places timers room places_room timers_room keys keys_fit =
     let len : slab_len h.clients ≡ 0 = ap (λ (xs : List (Option _)). count_by is_some xs) clients in
     let long : length h.timers.timers ≡ 0 = ap (λ (ts : List Timer). length ts) timers in
     record {
@@ -323,6 +366,9 @@ new_sound h clients places timers room places_room timers_room =
       room = omega (arith, len, room);
       places_room = omega (arith, places_room);
       timers_room = omega (arith, timers_room);
+      keys = keys;
+      keys_fit = keys_fit;
+      held = λ k key has. absurd (places k key has);
     }
 
 -- members come and go
@@ -336,4 +382,7 @@ members_sound h members s = record {
   room = s.room;
   places_room = s.places_room;
   timers_room = s.timers_room;
+  keys = s.keys;
+  keys_fit = s.keys_fit;
+  held = s.held;
 }

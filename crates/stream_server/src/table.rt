@@ -23,7 +23,7 @@ pub struct ClientTable<T> {
     clients: Slab<Client<T>>,
     // The key of each client.
     places: Places,
-    // The deadline of each client.
+    // The deadline of each client, by its key.
     timers: Timers,
     // The numbers of the live connections.
     members: Members,
@@ -31,7 +31,7 @@ pub struct ClientTable<T> {
     limit: u32,
 }
 
-/// No number has two timers. The call does nothing.
+/// No key has two timers. The call does nothing.
 fn timers_differ(timers: &Timers)
     ensures { Differ (items_in timers.now.timers) }
 {
@@ -63,10 +63,15 @@ impl<T: Drop> ClientTable<T> {
     {
         let mut clients = Slab::new(alloc);
         clients.reserve(limit as usize)?;
+        // Each key is below this, and a timer's has 32 bits.
+        let reach = clients.capacity();
+        if reach > u32::MAX as usize {
+            return Err(AllocError);
+        }
         let mut places = Places::new(alloc);
         places.reserve(limit as usize)?;
         let mut timers = Timers::new(alloc);
-        timers.reserve(limit as usize)?;
+        timers.reserve(limit as usize, reach)?;
         Ok(ClientTable {
             clients,
             places,
@@ -135,8 +140,9 @@ impl<T: Drop> ClientTable<T> {
         ensures count { client_count self.new ≡ client_count self.old + 1 }
     {
         let conn = client.conn;
-        self.timers.add(conn, 0, client.deadline);
+        let deadline = client.deadline;
         let key = self.clients.insert_reserved(client);
+        self.timers.add(key as u32, 0, deadline);
         self.places.insert(conn, key);
     }
 
@@ -152,7 +158,7 @@ impl<T: Drop> ClientTable<T> {
             return None;
         };
         timers_differ(&self.timers);
-        self.timers.cancel(conn);
+        self.timers.cancel(key as u32);
         self.places.remove(conn);
         Some(self.clients.remove(key))
     }
@@ -166,10 +172,11 @@ impl<T: Drop> ClientTable<T> {
         ensures same { IfNone result (self.new ≡ self.old) }
     {
         timers_differ(&self.timers);
-        let Some(conn) = self.timers.take_due(now) else {
+        let Some(key) = self.timers.take_due(now) else {
             return None;
         };
-        let key = self.places.remove(conn);
-        Some(self.clients.remove(key))
+        let client = self.clients.remove(key as usize);
+        self.places.remove(client.conn);
+        Some(client)
     }
 }

@@ -4,19 +4,22 @@ use Rattle.std.specs.List.{All}
 use Rattle.std.specs.Vec.{with_items}
 use Rattle.std.proofs.lemmas.List.Elements.{All-push}
 use Rattle.std.proofs.lemmas.List.Sorted.{All-permutation, length_permutation, IsPermutation-trans, IsPermutation-sym, IsPermutation-to_front}
-use Rattle.item_places.specs.Table.{Has, Gains}
+use Rattle.due_timers.specs.Places.{Has, Moves}
 use Rattle.due_timers.specs.declared.heap.Timer.{Timer}
 use Rattle.due_timers.specs.Heap.{timer, rank_at, IsNear, IsTied}
-use Rattle.due_timers.specs.SeenTimers.{items_in}
+use Rattle.due_timers.specs.declared.limits.TheConstants.{MOST_TIMERS}
+use Rattle.due_timers.specs.SeenTimers.{SeenTimers, items_in}
 use Rattle.due_timers.proofs.Sifting.{ordered_last}
 use Rattle.due_timers.proofs.Tying.{take_own}
 use Rattle.due_timers.proofs.Timing.{ordered_same, near_pushed, tied_pushed, contains_item}
 use Rattle.due_timers.proofs.heap.Timers.add.Goals as goal
 
-pub insert-requires-clause-absent : goal.insert-requires-clause-absent
-insert-requires-clause-absent c = λ k h.
-    let l = c.self.invariant.tied.listed c.args.item k h in
-    c.requires.absent (subst (λ xs. Contains (items_in xs) c.args.item) (ap (λ v. v.timers) c.self.view_is) (subst (λ q. Contains (items_in c.self.inside.heap.items) q) l.1 (contains_item c.self.inside.heap.items k l.0)))
+pub set-requires-clause-place : goal.set-requires-clause-place
+set-requires-clause-place c =
+    let room = subst (λ (t : SeenTimers). 0 < t.spare) (sym c.self.view_is) c.requires.room in
+    let n = c.len-at.ensures in
+    let most = c.self.invariant.most in
+    omega (arith, room, n, most)
 
 pub sift_up-requires-clause-near : goal.sift_up-requires-clause-near
 sift_up-requires-clause-near c =
@@ -32,11 +35,14 @@ sift_up-requires-clause-tied c =
     let t = timer c.args.item c.args.since c.args.deadline in
     let e : c.deref_mut.result.now ≡ xs ++ t ∷ [] = c.deref_mut.ensures.value ∙ c.push_reserved.ensures.items in
     let n : c.len-at.result ≡ length xs = (let l = c.len-at.ensures in omega arith) in
-    let gains : Gains c.self.inside.places.slots c.insert.new.self.slots t.item (length xs) = subst (λ m. Gains c.self.inside.places.slots c.insert.new.self.slots c.args.item m) n c.insert.ensures.gains in
-    let absent : (k : ℕ) → Has c.self.inside.places.slots c.args.item k → ⊥ = λ k h. (
+    let moves : Moves c.self.inside.places c.set.new.self t.item (length xs) = subst (λ m. Moves c.self.inside.places c.set.new.self c.args.item m) n c.set.ensures.moves in
+    let absent : (k : ℕ) → Has c.self.inside.places c.args.item k → ⊥ = λ k h. (
     let l = c.self.invariant.tied.listed c.args.item k h in
     c.requires.absent (subst (λ ys. Contains (items_in ys) c.args.item) (ap (λ v. v.timers) c.self.view_is) (subst (λ q. Contains (items_in xs) q) l.1 (contains_item xs k l.0)))) in
-    subst (λ (l : List Timer). IsTied l c.insert.new.self.slots) (sym e) (tied_pushed xs t c.self.inside.places.slots c.insert.new.self.slots c.self.invariant.tied absent gains)
+    let room = subst (λ (t : SeenTimers). 0 < t.spare) (sym c.self.view_is) c.requires.room in
+    let most = c.self.invariant.most in
+    let more : length xs < MOST_TIMERS = omega (arith, room, most) in
+    subst (λ (l : List Timer). IsTied l c.set.new.self) (sym e) (tied_pushed xs t c.self.inside.places c.set.new.self c.self.invariant.tied absent moves more)
 
 pub returns-clause-added : goal.returns-clause-added
 returns-clause-added c =
@@ -68,9 +74,9 @@ invariant_of-self c =
     let seen = ap (λ v. v.spare) c.self.view_is in
     record {
       ordered = ordered_same ys whole own last;
-      tied = subst (λ l. IsTied l c.sift_up.new.places.slots) (sym own) c.sift_up.ensures.tied;
+      tied = subst (λ l. IsTied l c.sift_up.new.places) (sym own) c.sift_up.ensures.tied;
       within = omega arith;
       fits = omega arith;
-      places = let a = c.self.invariant.places in let s = c.insert.ensures.spare in let s' = c.sift_up.ensures.spare in omega arith;
+      most = c.self.invariant.most;
       in_range = subst (λ l. All (λ x. x.since < 2 ^ 64) l) (sym own) (All-permutation (λ x. x.since < 2 ^ 64) (xs ++ t ∷ []) ys moved all);
     }

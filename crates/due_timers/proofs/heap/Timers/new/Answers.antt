@@ -7,9 +7,9 @@ invariant_of-result c =
     let z = ap length c.new.ensures.items in
     record {
       ordered = ordered_none c.new.result.items c.new.ensures.items;
-      tied = tied_none c.new.result.items c.new-2.result.slots c.new.ensures.items c.new-2.ensures.empty;
+      tied = tied_none c.new.result.items c.new-2.result c.new.ensures.items c.new-2.ensures;
       within = omega arith;
       fits = omega arith;
-      places = omega arith;
+      most = omega arith;
       in_range = λ p d lt. absurd (omega arith);
     }

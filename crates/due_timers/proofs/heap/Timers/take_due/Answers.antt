@@ -11,7 +11,6 @@ use Rattle.due_timers.proofs.heap.Timers.take_due.Goals as goal
 pub invariant_of-self : goal.invariant_of-self
 invariant_of-self c =
     let n = c.take_at-timer.ensures.len in
-    let s = c.take_at-timer.ensures.spare in
     let cap = c.take_at-timer.ensures.capacity in
     let f = c.self.invariant.fits in
     record {
@@ -19,7 +18,7 @@ invariant_of-self c =
       tied = c.take_at-timer.ensures.tied;
       within = let a = c.self.invariant.within in omega arith;
       fits = omega arith;
-      places = let a = c.self.invariant.places in omega arith;
+      most = c.self.invariant.most;
       in_range = All-tail (λ t. t.since < 2 ^ 64) c.take_at-timer.result c.take_at-timer.new.heap.items (All-permutation (λ t. t.since < 2 ^ 64) c.self.inside.heap.items (c.take_at-timer.result ∷ c.take_at-timer.new.heap.items) c.take_at-timer.ensures.same c.self.invariant.in_range);
     }
 

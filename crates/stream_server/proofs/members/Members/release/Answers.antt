@@ -1,9 +1,7 @@
-use Rattle.std.proofs.Common.{◌+◌, ◌≡◌, List, Some, length, slice_get, ℕ, ap, subst, sym, ◌∙◌}
-use Rattle.std.specs.List.{Contains}
+use Rattle.std.proofs.Common.{◌≡◌, List, Some, slice_get, ℕ, ap, subst, sym, ◌∙◌}
 use Rattle.item_places.specs.Items.{without_number}
-use Rattle.item_places.proofs.ItemLemmas.{without_length}
 use Rattle.stream_server.specs.Members.{IsRising}
-use Rattle.stream_server.proofs.Rising.{removed_is, rising_differ, rising_without}
+use Rattle.stream_server.proofs.Rising.{removed_is, rising_without}
 use Rattle.stream_server.proofs.members.Members.release.Goals as goal
 
 pub invariant_of-self : goal.invariant_of-self

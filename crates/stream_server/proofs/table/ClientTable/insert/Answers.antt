@@ -3,14 +3,19 @@ use Rattle.std.proofs.lemmas.List.Sorted.{length_permutation}
 use Rattle.slab.specs.Slab.{slab_len}
 use Rattle.item_places.specs.Table.{Has}
 use Rattle.stream_server.specs.Tables.{SeenTable, IsAbsent, Relists, client_count}
-use Rattle.stream_server.proofs.Tabling.{stands_more, all_tied_more, timed_more, relists_more, no_timer, no_place}
+use Rattle.stream_server.proofs.Tabling.{stands_more, all_tied_more, timed_more, relists_more, no_timer, no_place, held_more}
 use Rattle.stream_server.proofs.table.ClientTable.insert.Goals as goal
+
+pub add-requires-clause-within : goal.add-requires-clause-within
+add-requires-clause-within g c =
+    let put = c.insert_reserved-key.ensures in
+    let k = c.self.invariant.keys in
+    omega (arith, k, put.key_in_range, put.capacity)
 
 pub add-requires-clause-absent : goal.add-requires-clause-absent
 add-requires-clause-absent g c =
     let h = c.self.inside in
-    no_timer h.places.slots h.clients h.timers.timers c.args.client.conn c.self.invariant.tied
-    (no_place h.places.slots h.clients h.members h.limit c.args.client.conn c.self.invariant.stands (subst (λ (s : SeenTable g.row.T.Denot). IsAbsent s c.args.client.conn) (sym c.self.view_is) c.requires.absent))
+    no_timer h.places.slots h.clients h.timers.timers c.insert_reserved-key.result c.self.invariant.tied c.insert_reserved-key.ensures.was_vacant
 
 pub insert-requires-clause-absent : goal.insert-requires-clause-absent
 insert-requires-clause-absent g c =
@@ -37,6 +42,9 @@ invariant_of-self g c =
       room = omega (arith, was.room, put.capacity);
       places_room = omega (arith, was.places_room, place.spare, put.len);
       timers_room = omega (arith, was.timers_room, add.spare, put.len);
+      keys = omega (arith, was.keys, add.reach, put.capacity);
+      keys_fit = omega (arith, was.keys_fit, put.capacity);
+      held = held_more h.places.slots c.insert.new.self.slots c.args.client.conn c.insert_reserved-key.result h.clients.capacity c.insert_reserved-key.new.self.capacity was.held place.gains put.key_in_range put.capacity;
     }
 
 pub returns-clause-relists : goal.returns-clause-relists

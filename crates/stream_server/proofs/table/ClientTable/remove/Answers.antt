@@ -1,4 +1,4 @@
-use Rattle.std.proofs.Common.{ℕ, subst, refl, None}
+use Rattle.std.proofs.Common.{ℕ, subst, refl, None, arith}
 use Rattle.item_places.specs.Table.{Has}
 use Rattle.stream_server.specs.Tables.{SeenTable, Relists}
 use Rattle.stream_server.proofs.Tabling.{key_is_held, its_number, less_sound, relists_less}
@@ -6,6 +6,12 @@ use Rattle.stream_server.proofs.table.ClientTable.remove.Goals as goal
 
 pub returns-in_default-clause-was : goal.returns-in_default-clause-was
 returns-in_default-clause-was g c = subst (λ (s : SeenTable g.row.T.Denot). (key : ℕ) → Has s.places c.args.conn key → ⊥) c.self.view_is c.in_default.ensures.absent
+
+pub overflow_cast-key : goal.overflow_cast-key
+overflow_cast-key g c =
+    let below = c.self.invariant.held c.args.conn c.in-Some.key c.in-Some.ensures.found in
+    let fit = c.self.invariant.keys_fit in
+    omega (arith, below, fit)
 
 pub cancel-requires : goal.cancel-requires
 cancel-requires g c = c.self.invariant.timed c.args.conn c.in-Some.key c.in-Some.ensures.found
@@ -18,7 +24,7 @@ invariant_of-self g c =
     let h = c.self.inside in
     let t = c.cancel.ensures.taken in
     less_sound h _ c.args.conn c.in-Some.key t.timer c.self.invariant c.timers_differ.ensures t.item_is t.rest
-    c.in-Some.ensures.found c.remove.ensures.loses c.remove-2.ensures.updates refl c.remove-2.ensures.len c.remove-2.ensures.capacity c.remove.ensures.spare c.cancel.ensures.spare
+    c.in-Some.ensures.found c.remove.ensures.loses c.remove-2.ensures.updates refl c.remove-2.ensures.len c.remove-2.ensures.capacity c.remove.ensures.spare c.cancel.ensures.spare c.cancel.ensures.reach
 
 pub returns-clause-number : goal.returns-clause-number
 returns-clause-number g c =
