@@ -13,6 +13,7 @@ ghost use Rattle.machine_well_formed.specs.Texts.{fits_item, fits_link};
 ghost use Rattle.machine_counts.specs.Rooms.{HasRoom, room_of_delivery};
 ghost use Rattle.machine_counts.specs.Steps.{wait_weight};
 ghost use Rattle.hub_items.specs.Short.{DeliversShort, IsShort};
+ghost use Rattle.hub_objects.specs.Counted.{CountsFit};
 ghost use Rattle.hub_requests.specs.Making.{MayMake};
 ghost use Rattle.hub_requests.specs.Naming.{IsNamed};
 ghost use Rattle.hub_engine.specs.Delivering.{IsDelivered, late_answer};
@@ -170,6 +171,7 @@ fn call_link(
     requires declared { AreDeclared hub.old }
     requires fits { fits_link hub.old.scenario kind function ≡ true }
     requires settles { MaySettle (most_hops + 2) hub.old }
+    requires counts { CountsFit 1 hub.old.objects }
     ensures { IfOk result (λ at. called number g kind function hub.old ≡ next_at at hub.new) }
 {
     match kind {

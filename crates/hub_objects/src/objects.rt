@@ -5,7 +5,8 @@ ghost use Rattle.machine.specs.Objects.{with_flag, no_object, with_unit_taken, w
 ghost use Rattle.machine.specs.Run.{object_of};
 ghost use Rattle.machine.specs.declared.state.Object.{Object as Shown};
 ghost use Rattle.hub_objects.specs.Changes.{changed, member_of, with_unit, with_owner_gone, with_task_done};
-ghost use Rattle.hub_objects.specs.Counted.{AreCounted, IsCounted};
+ghost use Rattle.hub_objects.specs.Counted.{AreCounted, ChangeFits, IsCounted, MayCount};
+ghost use Rattle.hub_objects.specs.declared.objects.Change.{Change as AnyChange};
 ghost use Rattle.hub_objects.specs.Memberships.{IsMember};
 
 use crate::crews::leave_those;
@@ -17,9 +18,6 @@ use machine::state::Object;
 use scenario_tree::{Declaration, Items, Object as Kind};
 use std::alloc::{AllocError, Global};
 use std::marker::Model;
-
-/// The most that is counted of an object.
-const MOST_COUNTED: u64 = (1 << 63) - 1;
 
 /// What a step does to an object. An object of another kind stays as it is.
 #[derive(Drop)]
@@ -104,12 +102,9 @@ impl Objects {
         self.all.as_slice()
     }
 
-    /// What the step does to the object of this number.
-    ///
-    /// # Errors
-    ///
-    /// Memory is wanting, or a count would pass 2^63; nothing has changed.
+    /// What the step does to the object of this number. `AllocError`: memory is wanting; nothing has changed.
     pub fn change(&mut self, o: u32, change: Change) -> Result<(), AllocError>
+        requires { ChangeFits change (slice_get self.old o) }
         ensures changed { OnOk result (self.new ≡ slice_set self.old o (changed change (unwrap_or (slice_get self.old o) no_object))) }
         ensures err { OnErr result (self.new ≡ self.old) }
     {
@@ -185,7 +180,8 @@ fn objects_of(alloc: Global, declarations: &[Declaration]) -> Result<Vec<Object>
 
 /// What the step does to the object of this number.
 fn change_in(objects: &mut Vec<Object>, o: u32, change: Change) -> Result<(), AllocError>
-    requires { AreCounted objects.old.items }
+    requires counted { AreCounted objects.old.items }
+    requires fits { ChangeFits change (slice_get objects.old.items o) }
     ensures changed { OnOk result (objects.new.items ≡ slice_set objects.old.items o (changed change (unwrap_or (slice_get objects.old.items o) no_object))) }
     ensures err { OnErr result (objects.new.items ≡ objects.old.items) }
     ensures counted { AreCounted objects.new.items }
@@ -196,7 +192,8 @@ fn change_in(objects: &mut Vec<Object>, o: u32, change: Change) -> Result<(), Al
 /// What the step does to the object of this number, if there is one.
 #[tactic(auto, using(crate::proofs::ObjectSets::object_set, crate::proofs::ObjectSets::object_out))]
 fn change_at(objects: &mut [Object], o: u32, change: Change) -> Result<(), AllocError>
-    requires { AreCounted objects.old }
+    requires counted { AreCounted objects.old }
+    requires fits { ChangeFits change (slice_get objects.old o) }
     ensures changed { OnOk result (objects.new ≡ slice_set objects.old o (changed change (unwrap_or (slice_get objects.old o) no_object))) }
     ensures err { OnErr result (objects.new ≡ objects.old) }
     ensures counted { AreCounted objects.new }
@@ -210,22 +207,32 @@ fn change_at(objects: &mut [Object], o: u32, change: Change) -> Result<(), Alloc
 
 /// What the step does to the object.
 fn change_one(object: &mut Object, change: Change) -> Result<(), AllocError>
+    requires { ChangeFits change (Some object.old) }
     ensures changed { OnOk result (object.new ≡ changed change object.old) }
     ensures err { OnErr result (object.new ≡ object.old) }
     ensures counted { IsCounted object.old → IsCounted object.new }
 {
     match change {
-        Change::Flag(flag) => set_flag(object, flag),
+        Change::Flag(flag) => {
+            set_flag(object, flag);
+            Ok(())
+        }
         Change::Put(outcome) => {
             put(object, outcome);
             Ok(())
         }
-        Change::Unit => add_unit(object),
+        Change::Unit => {
+            add_unit(object);
+            Ok(())
+        }
         Change::UnitTaken => {
             take_unit(object);
             Ok(())
         }
-        Change::Owner(g) => own(object, g),
+        Change::Owner(g) => {
+            own(object, g);
+            Ok(())
+        }
         Change::OwnerGone(g) => {
             disown(object, g);
             Ok(())
@@ -249,7 +256,10 @@ fn change_one(object: &mut Object, change: Change) -> Result<(), AllocError>
             Ok(())
         }
         Change::Member(g) => add_member(object, g),
-        Change::SlotTaken => take_slot(object),
+        Change::SlotTaken => {
+            take_slot(object);
+            Ok(())
+        }
         Change::SlotFreed => {
             free_slot(object);
             Ok(())
@@ -257,18 +267,17 @@ fn change_one(object: &mut Object, change: Change) -> Result<(), AllocError>
     }
 }
 
-fn set_flag(object: &mut Object, flag: bool) -> Result<(), AllocError>
-    ensures changed { OnOk result (object.new ≡ with_flag flag object.old) }
-    ensures err { OnErr result (object.new ≡ object.old) }
+fn set_flag(object: &mut Object, flag: bool)
+    requires { ChangeFits (AnyChange.Flag flag) (Some object.old) }
+    ensures changed { object.new ≡ with_flag flag object.old }
     ensures counted { IsCounted object.old → IsCounted object.new }
 {
     if let Object::Event(is_set, sets) = object {
         if flag {
-            *sets = sets.checked_add(1).ok_or(AllocError)?;
+            *sets += 1;
         }
         *is_set = flag;
     }
-    Ok(())
 }
 
 fn put(object: &mut Object, outcome: Outcome)
@@ -278,18 +287,14 @@ fn put(object: &mut Object, outcome: Outcome)
     *object = Object::Result(Some(outcome));
 }
 
-fn add_unit(object: &mut Object) -> Result<(), AllocError>
-    ensures changed { OnOk result (object.new ≡ with_unit object.old) }
-    ensures err { OnErr result (object.new ≡ object.old) }
+fn add_unit(object: &mut Object)
+    requires { MayCount 1 (Some object.old) }
+    ensures changed { object.new ≡ with_unit object.old }
     ensures counted { IsCounted object.old → IsCounted object.new }
 {
     if let Object::Semaphore(counter, _) = object {
-        if *counter >= MOST_COUNTED {
-            return Err(AllocError);
-        }
         *counter += 1;
     }
-    Ok(())
 }
 
 fn take_unit(object: &mut Object)
@@ -301,16 +306,15 @@ fn take_unit(object: &mut Object)
     }
 }
 
-fn own(object: &mut Object, g: u32) -> Result<(), AllocError>
-    ensures changed { OnOk result (object.new ≡ with_owner g object.old) }
-    ensures err { OnErr result (object.new ≡ object.old) }
+fn own(object: &mut Object, g: u32)
+    requires { MayCount 1 (Some object.old) }
+    ensures changed { object.new ≡ with_owner g object.old }
     ensures counted { IsCounted object.old → IsCounted object.new }
 {
     if let Object::Lock(owner, depth) = object {
-        *depth = depth.checked_add(1).ok_or(AllocError)?;
+        *depth += 1;
         *owner = Some(g);
     }
-    Ok(())
 }
 
 fn disown(object: &mut Object, g: u32)
@@ -324,14 +328,12 @@ fn disown(object: &mut Object, g: u32)
 }
 
 fn add_item(object: &mut Object, value: Value) -> Result<(), AllocError>
+    requires { MayCount 1 (Some object.old) }
     ensures changed { OnOk result (object.new ≡ with_item value object.old) }
     ensures err { OnErr result (object.new ≡ object.old) }
     ensures counted { IsCounted object.old → IsCounted object.new }
 {
     if let Object::Queue(_, _, items, unfinished, _) = object {
-        if items.len() as u64 >= MOST_COUNTED || *unfinished >= MOST_COUNTED {
-            return Err(AllocError);
-        }
         items.push(value)?;
         *unfinished += 1;
     }
@@ -370,28 +372,25 @@ fn shut(object: &mut Object, immediate: bool)
 }
 
 fn add_member(object: &mut Object, g: u32) -> Result<(), AllocError>
+    requires { MayCount 1 (Some object.old) }
     ensures changed { OnOk result (object.new ≡ with_member g object.old) }
     ensures err { OnErr result (object.new ≡ object.old) }
     ensures counted { IsCounted object.old → IsCounted object.new }
 {
     if let Object::Crew(_, members) = object {
-        if members.len() as u64 >= MOST_COUNTED {
-            return Err(AllocError);
-        }
         members.push(g)?;
     }
     Ok(())
 }
 
-fn take_slot(object: &mut Object) -> Result<(), AllocError>
-    ensures changed { OnOk result (object.new ≡ with_slot_taken object.old) }
-    ensures err { OnErr result (object.new ≡ object.old) }
+fn take_slot(object: &mut Object)
+    requires { MayCount 1 (Some object.old) }
+    ensures changed { object.new ≡ with_slot_taken object.old }
     ensures counted { IsCounted object.old → IsCounted object.new }
 {
     if let Object::Native(_, outstanding) = object {
-        *outstanding = outstanding.checked_add(1).ok_or(AllocError)?;
+        *outstanding += 1;
     }
-    Ok(())
 }
 
 fn free_slot(object: &mut Object)

@@ -1,24 +1,28 @@
 -- Where there is room for small steps there is room for what they count: for a settling, which numbers each item at
--- most, for a timeout's number, for a job's, and for the places of items.
-use Rattle.std.proofs.Common.{◌≡◌, ap, sym, ◌∙◌, subst, ℕ, ◌+◌, ◌<◌, ◌≤◌, ◌^◌, Bool, true, false, List, length, map, arith}
+-- most, for a timeout's number, for a job's, for the places of items, and for what objects count.
+use Rattle.std.proofs.Common.{◌≡◌, ap, sym, ◌∙◌, subst, ℕ, ◌+◌, ◌<◌, ◌≤◌, ◌^◌, Bool, true, false, List, length, map, slice_get, arith}
 use Rattle.std.proofs.lemmas.List.Sums.{count_by-le-length, length-filter}
 use Rattle.std.specs.Prelude.{not}
 use Rattle.gv_values.specs.declared.fault.FaultKind.{FaultKind}
+use Rattle.gv_values.specs.declared.value.Value.{Value}
 use Rattle.trace_text.specs.declared.line.Line.{Line}
 use Rattle.machine.specs.declared.items.Delivery.{Delivery}
 use Rattle.machine.specs.declared.items.Item.{Item}
 use Rattle.machine.specs.declared.items.Waiting.{Waiting}
 use Rattle.machine.specs.declared.state.Phase.{Phase}
 use Rattle.machine.specs.State.{State, say}
-use Rattle.machine.specs.Greenlets.{with_phase}
+use Rattle.machine.specs.Greenlets.{add_greenlet, with_phase}
 use Rattle.machine.specs.Items.{add_item, drop_items}
-use Rattle.machine.specs.Objects.{without_member}
+use Rattle.machine.specs.Objects.{object_at, with_member, without_member}
 use Rattle.machine.specs.Request.{sends, sends_all}
+use Rattle.machine.specs.Waits.{add_member}
+use Rattle.machine_counts.specs.Counts.{object_count}
 use Rattle.machine_counts.specs.Rooms.{HasRoom, room_of_move}
 use Rattle.machine_counts.specs.Steps.{Fixed, HasSteps, wait_weight}
 use Rattle.machine_counts.proofs.Requests.{Sends, sends-counts, sends_all-counts}
 use Rattle.machine_counts.proofs.Rooms.{room-ample, room-fewer, room-kept}
-use Rattle.machine_counts.proofs.Tallies.{wait-weight-few}
+use Rattle.machine_counts.proofs.Tallies.{count-at, count-set, ends-few, member-counted, wait-weight-few}
+use Rattle.hub_objects.specs.Counted.{CountsFit, MayCount}
 use Rattle.hub_requests.specs.Sendings.{sent}
 
 pub room_settles : (n : ℕ) (s : State) → HasRoom n s → s.next_ready + length s.items ≤ 2 ^ 63
@@ -40,6 +44,37 @@ room_added n s r = room_made n 1 s (omega arith) r
 -- a move has room for the completion of each wait
 pub room_completed : (w : Waiting) (s : State) → HasRoom room_of_move s → HasRoom (2 + wait_weight w) s
 room_completed w s r = let light = wait-weight-few w in room-fewer room_of_move (2 + wait_weight w) s (omega (arith, light)) r
+
+-- so much more may be counted of each object
+pub room_counts : (n k : ℕ) (s : State) → k ≤ 2 ^ 32 → HasRoom n s → CountsFit k s.objects
+room_counts n k s few r = λ o.
+    let h = r.steps in
+    let paid = h.paid in
+    let made = h.greenlets in
+    let same = h.moves in
+    let moves = r.few_moves in
+    let ended = ends-few s.greenlets in
+    let own = h.objects o in
+    let far = r.countable o in
+    omega (arith, few, paid, made, same, moves, ended, own, far)
+
+pub room_counted : (n : ℕ) (s : State) → HasRoom n s → CountsFit 1 s.objects
+room_counted n s r = room_counts n 1 s (omega arith) r
+
+-- a member more is counted once
+pub member_counts : (o f : ℕ) (args : List Value) (s t : State) → t ≡ add_member o f args s → object_count (slice_get t.objects o) ≤ object_count (slice_get s.objects o) + 1
+member_counts o f args s t e =
+    let member = with_member (length s.greenlets) (object_at o s) in
+    let here = count-at s.objects o in
+    let one = member-counted (length s.greenlets) (object_at o s) in
+    subst (λ (x : State). object_count (slice_get x.objects o) ≤ object_count (slice_get s.objects o) + 1) (sym e) (count-set s.objects o o 1 member (omega (arith, here, one)))
+
+pub member_room : (k o f : ℕ) (args : List Value) (s t : State) → t ≡ add_member o f args s → MayCount (k + 1) (slice_get s.objects o) → MayCount k (slice_get t.objects o)
+member_room k o f args s t e fits = let one = member_counts o f args s t e in omega (arith, one, fits)
+
+-- no object counts a greenlet or an item
+pub counted_still : (d : Delivery) (k o f : ℕ) (args : List Value) (s t u : State) → t ≡ add_greenlet false 0 f args s → u ≡ add_item d t → MayCount k (slice_get s.objects o) → MayCount k (slice_get u.objects o)
+counted_still d k o f args s t u e g fits = subst (λ (x : State). MayCount k (slice_get x.objects o)) (sym (g ∙ ap (add_item d) e)) fits
 
 -- neither a line nor an item draws a number
 pub drawn_still : (line : Line) (d : Delivery) (s t u : State) → t ≡ say line s → u ≡ add_item d t → s.timeouts + 1 < 2 ^ 32 → u.timeouts + 1 < 2 ^ 32

@@ -1,5 +1,5 @@
 //! What a wait gives whose condition holds. A unit, an item, an offer, a place or a slot is taken here.
-ghost use Rattle.std.specs.Prelude.{◌≡◌, ◌+◌, ◌<◌, ◌^◌, IfOk, length, unwrap_or};
+ghost use Rattle.std.specs.Prelude.{◌≡◌, ◌+◌, ◌<◌, ◌^◌, IfOk, length, slice_get, unwrap_or};
 ghost use Rattle.std.specs.Option.{option_copied};
 ghost use Rattle.gv_values.specs.declared.value.Outcome.{Outcome as AnyOutcome};
 ghost use Rattle.gv_values.specs.declared.value.Value.{Value as AnyValue};
@@ -9,6 +9,7 @@ ghost use Rattle.machine.specs.Waits.{Performed as AnyPerformed, completes, noth
 ghost use Rattle.machine_counts.specs.Rooms.{HasRoom};
 ghost use Rattle.machine_counts.specs.Steps.{wait_weight};
 ghost use Rattle.hub_items.specs.Short.{IsShort};
+ghost use Rattle.hub_objects.specs.Counted.{MayCount};
 ghost use Rattle.hub_requests.specs.Making.{MayMake};
 ghost use Rattle.hub_requests.specs.Naming.{IsNamed};
 ghost use Rattle.hub_requests.specs.Performing.{performed_of};
@@ -61,7 +62,8 @@ fn ended_with(alloc: Global, hub: &Hub, whom: Whom) -> Result<Outcome, AllocErro
 
 /// Posts the job, whose handle is the answer.
 fn post_job(hub: &mut Hub, g: u32, o: u32, job: Job, takes: u64) -> Result<Performed, AllocError>
-    requires { length hub.old.jobs + 1 < 2 ^ 32 }
+    requires number { length hub.old.jobs + 1 < 2 ^ 32 }
+    requires slot { MayCount 1 (slice_get hub.old.objects o) }
     ensures { IfOk result (λ p. AnyPerformed.Answers (AnyOutcome.Value (AnyValue.Job (length hub.old.jobs + 1))) (posted g o job takes hub.old) ≡ performed_of p hub.new) }
 {
     let number = hub.post(g, o, job, takes)?;
@@ -70,6 +72,7 @@ fn post_job(hub: &mut Hub, g: u32, o: u32, job: Job, takes: u64) -> Result<Perfo
 
 /// Puts the value into the queue; one that is shut refuses it.
 fn put_item(hub: &mut Hub, o: u32, value: Value) -> Result<Performed, AllocError>
+    requires { MayCount 1 (slice_get hub.old.objects o) }
     ensures { IfOk result (λ p. puts_item o value (object_at o hub.old) hub.old ≡ performed_of p hub.new) }
 {
     if hub.is_shut(o) {

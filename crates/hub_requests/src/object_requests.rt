@@ -25,6 +25,7 @@ use std::alloc::{AllocError, Global};
 /// Sets the event's flag, and counts the set for those who wait for one. The answer is none.
 #[tactic(auto, unfolding(machine::specs::Request::performs))]
 pub fn set_event(hub: &mut Hub, g: u32, o: u32) -> Result<Performed, AllocError>
+    requires { HasRoom room_of_move hub.old }
     ensures { IfOk result (λ p. performs (Asked.Set o) g hub.old ≡ performed_of p hub.new) }
 {
     hub.change(o, Change::Flag(true))?;
@@ -166,6 +167,7 @@ pub fn refused(fault: Option<FaultKind>) -> Performed
 /// Gives a unit or a lock back.
 #[tactic(auto, unfolding(machine::specs::Request::performs))]
 pub fn release(hub: &mut Hub, g: u32, o: u32) -> Result<Performed, AllocError>
+    requires { HasRoom room_of_move hub.old }
     ensures { IfOk result (λ p. performs (Asked.Release o) g hub.old ≡ performed_of p hub.new) }
 {
     let fault = hub.release(g, o)?;

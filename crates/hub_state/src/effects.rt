@@ -7,6 +7,7 @@ ghost use Rattle.machine.specs.Objects.{item_of, is_left, is_shut, name_of_objec
 ghost use Rattle.machine.specs.Request.{finishes, releases};
 ghost use Rattle.machine.specs.Waits.{posted};
 ghost use Rattle.hub_objects.specs.Changes.{changed};
+ghost use Rattle.hub_objects.specs.Counted.{ChangeFits, MayCount};
 ghost use Rattle.hub_objects.specs.Releases.{refused};
 
 use crate::ahead::earlier;
@@ -40,12 +41,10 @@ impl Hub {
     }
 
     /// Changes the object of this number. Takes one step, but where an item of a queue or an offer goes: the others are
-    /// looked at or moved up. Where nobody waits at it, no later settling looks at it.
-    ///
-    /// # Errors
-    ///
-    /// Memory is wanting, or a count would pass 2^63, which no run within its budget comes to; the hub is given up.
+    /// looked at or moved up. Where nobody waits at it, no later settling looks at it. `AllocError`: memory is wanting;
+    /// the hub is given up.
     pub fn change(&mut self, o: u32, change: Change) -> Result<(), AllocError>
+        requires { ChangeFits change (slice_get self.old.objects o) }
         ensures { OnOk result (self.new ≡ with_object o (changed change (object_at o self.old)) self.old) }
     {
         items_stand_in_order(&self.held);
@@ -109,13 +108,11 @@ impl Hub {
         is_left(self.base.objects.get(o), before)
     }
 
-    /// The greenlet gives back a unit or a lock, or is refused by a fault.
-    ///
-    /// # Errors
-    ///
-    /// Memory is wanting, or the units would pass 2^63, which no run within its budget comes to; the hub is given up.
+    /// The greenlet gives back a unit or a lock, or is refused by a fault. `AllocError`: memory is wanting; the hub is
+    /// given up.
     #[tactic(auto, using(hub_objects::proofs::Releasing::released))]
     pub fn release(&mut self, g: u32, o: u32) -> Result<Option<FaultKind>, AllocError>
+        requires { MayCount 1 (slice_get self.old.objects o) }
         ensures { IfOk result (λ fault. releases g o (object_at o self.old) self.old ≡ refused fault self.new) }
     {
         match release_of(self.base.objects.get(o), g) {
@@ -146,14 +143,11 @@ impl Hub {
         }
     }
 
-    /// Posts a job of the greenlet to a native pool, and gives its number.
-    ///
-    /// # Errors
-    ///
-    /// Memory is wanting, or the pool's outstanding jobs would pass 2^63, which no run within its budget comes to; the
-    /// hub is given up.
+    /// Posts a job of the greenlet to a native pool, and gives its number. `AllocError`: memory is wanting; the hub is
+    /// given up.
     pub fn post(&mut self, g: u32, o: u32, job: Job, takes: u64) -> Result<u32, AllocError>
-        requires { length self.old.jobs + 1 < 2 ^ 32 }
+        requires number { length self.old.jobs + 1 < 2 ^ 32 }
+        requires slot { MayCount 1 (slice_get self.old.objects o) }
         ensures posted { OnOk result (self.new ≡ posted g o job takes self.old) }
         ensures number { IfOk result (λ n. n ≡ length self.old.jobs + 1) }
     {

@@ -1,6 +1,7 @@
 use Rattle.std.proofs.Common.{subst}
 use Rattle.machine.specs.declared.items.Delivery.{Delivery}
 use Rattle.machine_counts.specs.Rooms.{HasRoom, room_of_delivery}
+use Rattle.hub_requests.proofs.Rooms.{room_counted}
 use Rattle.hub_engine.proofs.Settlings.{room_settles}
 use Rattle.hub_engine.proofs.deliver.deliver_content.Goals as goal
 
@@ -21,3 +22,6 @@ throw_into-requires-in-Kill-clause-settles c = room_settles (room_of_delivery c.
 
 pub call_link-requires-clause-settles : goal.call_link-requires-clause-settles
 call_link-requires-clause-settles c = room_settles (room_of_delivery c.args.delivery) c.args.hub.now c.requires.room
+
+pub call_link-requires-clause-counts : goal.call_link-requires-clause-counts
+call_link-requires-clause-counts c = room_counted (room_of_delivery c.args.delivery) c.args.hub.now c.requires.room

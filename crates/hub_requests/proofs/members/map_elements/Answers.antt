@@ -3,6 +3,7 @@ use Rattle.gv_values.specs.declared.scalar.Scalar.{Scalar}
 use Rattle.machine.specs.State.{State}
 use Rattle.hub_requests.specs.Naming.{IsObject}
 use Rattle.hub_requests.proofs.Mapping.{few_more, map_next, map_parks, map_stops}
+use Rattle.hub_requests.proofs.Rooms.{member_counts}
 use Rattle.hub_requests.proofs.Soundly.{sound_member}
 use Rattle.hub_requests.proofs.members.map_elements.Goals as goal
 
@@ -25,6 +26,9 @@ park-requires-clause-since c = let fits = c.loop-at.invariant.since in let withi
 pub add_member-requires-clause-since : goal.add_member-requires-clause-since
 add_member-requires-clause-since c = let fits = c.loop-at.invariant.since in let within = c.loop-at.invariant.within in let short = c.requires.short in omega (arith, fits, within, short)
 
+pub add_member-requires-clause-count : goal.add_member-requires-clause-count
+add_member-requires-clause-count c = let fits = c.loop-at.invariant.count in let within = c.loop-at.invariant.within in let short = c.requires.short in omega (arith, fits, within, short)
+
 pub end_map-requires-clause-since : goal.end_map-requires-clause-since
 end_map-requires-clause-since c = let fits = c.loop-at.invariant.since in let within = c.loop-at.invariant.within in let short = c.requires.short in omega (arith, fits, within, short)
 
@@ -41,4 +45,6 @@ loop-at-preserved c =
       within = omega arith;
       few = few_more c.args.elements.now c.loop-at.made c.push.new.self c.in_ok-member.member c.loop-at.at c.in_ok-push.ensures.ok c.loop-at.invariant.few;
       since = let one = ap (λ (s : State). s.next_since) c.in_ok-member.ensures.added in let fits = c.loop-at.invariant.since in omega (arith, one, fits);
+      count = let one = member_counts c.args.mapping.crew c.args.mapping.function c.in_ok-arguments.arguments c.loop-at.hub c.add_member.new.hub c.in_ok-member.ensures.added in let fits = c.loop-at.invariant.count in
+          omega (arith, one, fits);
     }

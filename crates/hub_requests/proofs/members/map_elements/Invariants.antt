@@ -1,5 +1,6 @@
-use Rattle.std.proofs.Common.{◌≡◌, ◌<◌, ◌≤◌, ◌+◌, ◌-◌, ◌^◌, length, drop}
+use Rattle.std.proofs.Common.{◌≡◌, ◌<◌, ◌≤◌, ◌+◌, ◌-◌, ◌^◌, length, drop, slice_get}
 use Rattle.machine.specs.Waits.{maps}
+use Rattle.machine_counts.specs.Counts.{object_count}
 use Rattle.hub_requests.specs.Making.{MayMake}
 use Rattle.hub_requests.specs.Naming.{IsObject}
 use Rattle.hub_requests.proofs.members.map_elements.Given as goal
@@ -13,6 +14,7 @@ invariant-loop-at l = record {
   within : l.at ≤ length l.elements;
   few : length l.elements + length l.made ≤ MOST_ELEMENTS + l.at;
   since : l.hub.next_since + MOST_ELEMENTS + 1 < 2 ^ 64 + l.at;
+  count : object_count (slice_get l.hub.objects l.crew) + (MOST_ELEMENTS + 1) < 2 ^ 63 + l.at;
 }
 
 abbrev pub decreases-loop-at : goal.decreases-loop-at

@@ -1,10 +1,15 @@
-use Rattle.std.proofs.Common.{◌≡◌, ◌∙◌, ap, Some, None, if◌then◌else◌}
+use Rattle.std.proofs.Common.{◌≡◌, ◌∙◌, ap, sym, subst, slice_get, Some, None, if◌then◌else◌}
+use Rattle.machine.specs.State.{State}
+use Rattle.hub_objects.specs.Counted.{ChangeFits}
 use Rattle.hub_state.specs.HubParts.{state_of}
 use Rattle.hub_state.specs.Touched.{with_touched}
 use Rattle.hub_state.proofs.Keeping.{either_way, hub_changed_if, hub_failed}
 use Rattle.hub_state.proofs.Touching.{grows_is, grows_touched}
 use Rattle.hub_state.proofs.UpToDate.{ascending}
 use Rattle.hub_state.proofs.hub.Hub.change.Goals as goal
+
+pub change-requires : goal.change-requires
+change-requires c = subst (λ (s : State). ChangeFits c.args.change (slice_get s.objects c.args.o)) (sym c.self.view_is) c.requires
 
 pub invariant_of-self : goal.invariant_of-self
 invariant_of-self c =

@@ -1,10 +1,15 @@
-use Rattle.std.proofs.Common.{◌∙◌, ap, ◌++◌, ◌∷◌, [], List, Some}
+use Rattle.std.proofs.Common.{◌∙◌, ap, sym, subst, ◌++◌, ◌∷◌, [], List, slice_get, Some}
 use Rattle.machine.specs.declared.state.JobState.{JobState}
+use Rattle.machine.specs.State.{State}
+use Rattle.hub_objects.specs.Counted.{MayCount}
 use Rattle.hub_state.specs.HubParts.{state_of}
 use Rattle.hub_state.proofs.Keeping.{hub_posted, hub_unposted}
 use Rattle.hub_state.proofs.Touching.{grows_is, grows_touched}
 use Rattle.hub_state.proofs.UpToDate.{ascending}
 use Rattle.hub_state.proofs.hub.Hub.post.Goals as goal
+
+pub change-requires : goal.change-requires
+change-requires c = subst (λ (s : State). MayCount 1 (slice_get s.objects c.args.o)) (sym c.self.view_is) c.requires.slot
 
 pub invariant_of-self-in_err-change : goal.invariant_of-self-in_err-change
 invariant_of-self-in_err-change c =

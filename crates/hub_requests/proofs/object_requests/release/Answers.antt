@@ -1,0 +1,6 @@
+use Rattle.machine_counts.specs.Rooms.{room_of_move}
+use Rattle.hub_requests.proofs.Rooms.{room_counted}
+use Rattle.hub_requests.proofs.object_requests.release.Goals as goal
+
+pub release-requires : goal.release-requires
+release-requires c = room_counted room_of_move c.args.hub.now c.requires c.args.o
