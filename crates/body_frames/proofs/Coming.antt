@@ -1,6 +1,8 @@
 -- What comes of one move, of an answer, and of the entering of a timeout block.
-use Rattle.std.proofs.Common.{◌≡◌, refl, ap, sym, ◌∙◌, ℕ, Bool, List, [], ◌∷◌, Option, None}
+use Rattle.std.proofs.Common.{◌≡◌, refl, ap, subst, sym, ◌∙◌, ℕ, Bool, true, not, List, [], ◌∷◌, Option, Some, None, is_some}
+use Rattle.std.proofs.lemmas.Bool.{true≢false}
 use Rattle.gv_values.specs.declared.value.Outcome.{Outcome}
+use Rattle.gv_values.specs.declared.value.Value.{Value}
 use Rattle.machine.specs.declared.state.Frame.{Frame}
 use Rattle.machine.specs.declared.state.Leaving.{Leaving}
 use Rattle.machine.specs.declared.state.Local.{Local}
@@ -10,7 +12,7 @@ use Rattle.machine.specs.BodyMoves.{Did, body_move}
 use Rattle.machine.specs.Ends.{leaving_of}
 use Rattle.machine.specs.Expressions.{Around}
 use Rattle.machine.specs.Landing.{given}
-use Rattle.machine.specs.Unwinding.{Unwound, unwind}
+use Rattle.machine.specs.Unwinding.{Unwound, bind_if, unwind}
 use Rattle.body_names.specs.declared.locals.Bound.{Bound}
 use Rattle.body_names.specs.Locals.{locals_of}
 use Rattle.body_names.specs.declared.expression.Slot.{Slot}
@@ -19,8 +21,9 @@ use Rattle.body_frames.specs.declared.entry.Entry.{Entry}
 use Rattle.body_frames.specs.declared.stack.Made.{Made}
 use Rattle.body_frames.specs.declared.stack.Stack.{Stack}
 use Rattle.body_frames.specs.declared.unwind.Unwound.{Unwound as Left}
-use Rattle.body_frames.specs.Places.{Came, Entered, came_by, place_of}
+use Rattle.body_frames.specs.Places.{Came, Entered, Place, came_by, place_of}
 use Rattle.body_frames.specs.Entries.{todo_of}
+use Rattle.body_frames.specs.PrimitiveMoves.{RunsAt}
 use Rattle.body_frames.specs.Standings.{came_of_made, goes_from, made_of, stands}
 
 -- what comes of a step, after which the body stands so
@@ -39,6 +42,7 @@ by_move locals (Did.Asks request x todo) = refl
 by_made : (t : Coded) (made : Made) (s : Stack) → came_from (made_of t 0 stands made s).step (made_of t 0 stands made s).body ≡ came_of_made t made s
 unfolding came_from
 by_made t (Made.Asks request x) s = refl
+by_made t (Made.Quick q) s = refl
 by_made t (Made.Enters ms silent b) s = refl
 by_made t (Made.Further at) s = refl
 
@@ -77,3 +81,14 @@ entered_as t u e silent b number locals todo at s shared view goes =
     ap (λ (w : Coded). goes_from w at s) (sym shared) ∙ sym goes
     ∙ ap (λ (w : Coded). unwind (Todo.Statements (block_at b w) ∷ Todo.Within number silent ∷ todo_of w todo) [] Leaving.Normally (locals_of w.names locals)) shared
     ∙ ap (λ (x : Entered). unwind (Todo.Statements x.body ∷ Todo.Within number x.silent ∷ x.todo) [] Leaving.Normally x.locals) view
+
+-- a body is at its next move where its request, whose answer nobody takes, is answered with none
+pub unheard_as : (t u : Coded) (f : Frame) (locals : List Bound) (todo : List Entry) (gives : Option Slot) (left : List ℕ) (b : Bool) → u ≡ t →
+    record { locals = locals_of t.names locals; todo = todo_of t todo; gives = name_if t gives } ≡ f → left ≡ [] → is_some gives ≡ not b → b ≡ true → RunsAt (todo_of u todo) →
+    Place.AtMove left (record { locals = locals_of t.names locals; todo = todo_of t todo; gives = None }) ≡ place_of (unwind f.todo [] Leaving.Normally (bind_if f.gives Value.Nothing f.locals))
+unheard_as t u f locals todo None left b shared view none is so runs =
+    let own : RunsAt (todo_of t todo) = subst (λ (w : Coded). RunsAt (todo_of w todo)) shared runs in
+    ap (λ (ns : List ℕ). Place.AtMove ns (record { locals = locals_of t.names locals; todo = todo_of t todo; gives = None })) none
+    ∙ ap place_of (sym (own [] (locals_of t.names locals)))
+    ∙ ap (λ (g : Frame). place_of (unwind g.todo [] Leaving.Normally (bind_if g.gives Value.Nothing g.locals))) view
+unheard_as t u f locals todo (Some slot) left b shared view none is so runs = absurd (true≢false (is ∙ ap not so))

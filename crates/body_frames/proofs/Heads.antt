@@ -1,18 +1,21 @@
 -- The move at the head, by the first entry of the pile.
-use Rattle.std.proofs.Common.{◌≡◌, ap, sym, ◌∙◌, ℕ, suc, ◌+◌, List, ◌∷◌, Some, drop, arith}
+use Rattle.std.proofs.Common.{◌≡◌, ap, sym, ◌∙◌, ℕ, suc, ◌+◌, List, ◌∷◌, Some, None, drop, arith}
 use Rattle.machine.specs.declared.state.Local.{Local}
 use Rattle.machine.specs.declared.state.Todo.{Todo}
 use Rattle.machine.specs.Bodies.{Stepped, after_move}
 use Rattle.machine.specs.BodyMoves.{Did, action_move, body_move}
 use Rattle.machine.specs.Expressions.{Around}
 use Rattle.machine.specs.Unwinding.{Unwound}
+use Rattle.body_names.specs.declared.locals.Bound.{Bound}
 use Rattle.body_names.specs.Locals.{locals_of}
 use Rattle.body_blocks.specs.Trees.{Coded, IsAhead}
 use Rattle.body_blocks.specs.declared.statement.FlatStatement.{FlatStatement}
 use Rattle.body_frames.specs.declared.entry.Entry.{Entry}
+use Rattle.body_frames.specs.declared.quick.Quick.{Quick}
 use Rattle.body_frames.specs.declared.stack.Made.{Made}
 use Rattle.body_frames.specs.declared.stack.Stack.{Stack}
 use Rattle.body_frames.specs.Entries.{form_of, rest, todo_of}
+use Rattle.body_frames.specs.Quick.{request_of}
 use Rattle.body_frames.specs.Runs.{HasMoved}
 use Rattle.body_frames.specs.Standings.{made_of}
 use Rattle.body_frames.proofs.Readings.{move_there}
@@ -30,3 +33,13 @@ statement_moved t b p s near old passed made new e here n h = λ moves go.
     ∙ ap (λ (q : ℕ). after_move moves (locals_of t.names old.locals) go (action_move (form_of t s.action) a (Todo.Statements (rest t b q) ∷ todo_of t (drop 1 old.todo)))) next
     ∙ ap (λ (es : List Entry). after_move moves (locals_of t.names old.locals) go (action_move (form_of t s.action) a (todo_of t es))) (sym n)
     ∙ h moves go
+
+-- the statement at this place was passed, which asks what is answered at once
+pub quickly_asked : (t : Coded) (b p : ℕ) (s : FlatStatement) (near : List Local → Around) (old : Stack) (q : Quick) (new : Stack) →
+    old.todo ≡ Entry.Rest b p ∷ drop 1 old.todo → IsAhead t b p (Some s) → new.todo ≡ Entry.Rest b (p + 1) ∷ drop 1 old.todo → new.locals ≡ old.locals →
+    ((locals : List Local) (todo : List Todo) → action_move (form_of t s.action) (near locals) todo ≡ Did.Asks (request_of q) None todo) →
+    HasMoved t near old (Made.Quick q) new
+quickly_asked t b p s near old q new e here n l asks =
+    statement_moved t b p s near old new.todo (Made.Quick q) new e here n (λ moves go.
+    ap (λ (did : Did). after_move moves (locals_of t.names old.locals) go did) (asks (locals_of t.names old.locals) (todo_of t new.todo))
+    ∙ ap (λ (ls : List Bound). made_of t moves go (Made.Quick q) (record { locals = ls; todo = new.todo; left = new.left })) (sym l))

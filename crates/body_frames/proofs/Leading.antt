@@ -1,5 +1,5 @@
 -- Moves of a body one after another.
-use Rattle.std.proofs.Common.{◌≡◌, refl, ap, subst, sym, ◌∙◌, ℕ, suc, ◌+◌, Bool, true, false, List, [], None, arith}
+use Rattle.std.proofs.Common.{◌≡◌, refl, ap, subst, sym, ◌∙◌, ℕ, suc, ◌+◌, Bool, true, false, List, [], Option, None, Some, arith}
 use Rattle.scenario_tree.specs.declared.tree.Scenario.{Scenario}
 use Rattle.machine.specs.declared.state.Frame.{Frame}
 use Rattle.machine.specs.declared.state.Local.{Local}
@@ -11,6 +11,7 @@ use Rattle.body_names.specs.Locals.{locals_of}
 use Rattle.body_names.specs.Naming.{IsNaming}
 use Rattle.body_blocks.specs.Trees.{Coded}
 use Rattle.body_frames.specs.declared.entry.Entry.{Entry}
+use Rattle.body_frames.specs.declared.quick.Quick.{Quick}
 use Rattle.body_frames.specs.declared.stack.Made.{Made}
 use Rattle.body_frames.specs.declared.stack.Stack.{Stack}
 use Rattle.body_frames.specs.declared.unwind.Unwound.{Unwound as Left}
@@ -18,7 +19,7 @@ use Rattle.body_frames.specs.Entries.{todo_of}
 use Rattle.body_frames.specs.Few.{HasFewBody, HasFewToDo}
 use Rattle.body_frames.specs.Places.{Came, Place}
 use Rattle.body_frames.specs.PrimitiveMoves.{HasMade, RunsAt}
-use Rattle.body_frames.specs.Runs.{HasCome, HasMoved, HasStayed, MovesOn, came_of_move}
+use Rattle.body_frames.specs.Runs.{HasAsked, HasCome, HasMoved, HasStayed, MovesOn, came_of_move}
 use Rattle.body_frames.specs.Standings.{body_after, came_of_made, frame_of}
 use Rattle.body_frames.specs.Steady.{IsSteady}
 use Rattle.body_frames.proofs.Coming.{comes_of_move}
@@ -102,3 +103,19 @@ stayed_at_once t s look old true new is few told h made runs =
 pub leads_at_once : (t : Coded) (around : List Local → Around) (n : ℕ) (a : Frame) (old new : Stack) →
     LeadsTo around n a (frame_of t old) → HasStayed t around old new → LeadsTo around (n + 1) a (frame_of t new)
 leads_at_once t around n a old new leads h = leads_on t around n a old (Made.Further Left.Runs) new leads h.2 refl h.0
+
+-- ---- where a request is answered at once
+
+pub asked_once : (t : Coded) (look : List Local → Around) (n : ℕ) (a : Frame) (old mid new : Stack) (made : Bool) (asked : Option Quick) (q : Quick) → asked ≡ Some q →
+    HasAsked asked made t look mid new → HasMade made t old mid → HasFewToDo (todo_of t old.todo) → LeadsTo look n a (frame_of t old) →
+    HasFewBody (body_after t (Made.Quick q) new) × MovesOn look n a (came_of_made t (Made.Quick q) new)
+asked_once t look n a old mid new made asked q is h m few leads =
+    let once : HasAsked (Some q) made t look mid new = subst (λ (x : Option Quick). HasAsked x made t look mid new) is h in
+    let moved : HasMoved t look old (Made.Quick q) new = subst (λ (s : Stack). HasMoved t look s (Made.Quick q) new) (unmade t old mid made m once.0) once.1 in
+    (move_stays_few t (todo_of t old.todo) (look (locals_of t.names old.locals)) (locals_of t.names old.locals) (Made.Quick q) new few moved, leads_last t look n a old (Made.Quick q) new leads moved)
+
+-- where nothing was asked, what was made before stands
+pub still_made : (t : Coded) (old mid new : Stack) (made : Bool) (look : List Local → Around) (asked : Option Quick) → asked ≡ None → HasAsked asked made t look mid new → HasMade made t old mid →
+    HasMade made t old new
+still_made t old mid new made look None is h m = subst (HasMade made t old) (sym h) m
+still_made t old mid new made look (Some q) is h m = cc

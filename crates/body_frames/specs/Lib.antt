@@ -5,6 +5,7 @@ pub mod Few
 pub mod Laws
 pub mod Places
 pub mod PrimitiveMoves
+pub mod Quick
 pub mod Runs
 pub mod Standings
 pub mod Steady

@@ -1,5 +1,5 @@
 -- Moves of a body one after another, with nothing of the hub between them. This project's own.
-use Rattle.std.specs.Prelude.{ℕ, zero, suc, ◌≡◌, List, []}
+use Rattle.std.specs.Prelude.{ℕ, zero, suc, ◌≡◌, Bool, false, List, [], Option, Some, None}
 use Rattle.machine.specs.declared.state.Frame.{Frame}
 use Rattle.machine.specs.declared.state.Local.{Local}
 use Rattle.machine.specs.Bodies.{Stepped, after_move}
@@ -8,6 +8,7 @@ use Rattle.machine.specs.Expressions.{Around}
 use Rattle.machine.specs.Unwinding.{Unwound}
 use Rattle.body_names.specs.Locals.{locals_of}
 use Rattle.body_blocks.specs.Trees.{Coded}
+use Rattle.body_frames.specs.declared.quick.Quick.{Quick}
 use Rattle.body_frames.specs.declared.stack.Made.{Made}
 use Rattle.body_frames.specs.declared.stack.Stack.{Stack}
 use Rattle.body_frames.specs.declared.unwind.Unwound.{Unwound as Left}
@@ -34,6 +35,11 @@ HasMoved t around old made new = (moves : ℕ) (go : Unwound → Stepped) →
 -- it was made so, and the body after it, if it goes on by itself, is at its next move, with few arguments in each call
 abbrev pub HasCome : Coded → (List Local → Around) → Stack → Made → Stack → Type 0
 HasCome t around old made new = IsSteady (body_after t made new) × HasFewBody (body_after t made new) × HasMoved t around old made new
+
+-- the move at the head asked what is answered at once, where none was made before, or nothing was done
+abbrev pub HasAsked : Option Quick → Bool → Coded → (List Local → Around) → Stack → Stack → Type 0
+HasAsked None made t around old new = new ≡ old
+HasAsked (Some q) made t around old new = (made ≡ false) × HasMoved t around old (Made.Quick q) new
 
 -- it was made so, and the body is at its next move
 abbrev pub HasStayed : Coded → (List Local → Around) → Stack → Stack → Type 0

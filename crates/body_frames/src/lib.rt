@@ -19,6 +19,7 @@ mod moves;
 mod pile;
 mod places;
 mod primitive_moves;
+mod quick;
 mod runs;
 mod stack;
 mod step;
@@ -30,7 +31,8 @@ pub use laws::steps_keep_few;
 pub use machine::arguments::Arguments;
 pub use machine::request::Request;
 pub use places::{
-    Entering, Moved, Moving, Parked, Reached, answer_body, begin_body, enter_timeout, move_body,
-    move_on,
+    Entering, Moved, Moving, Parked, Reached, answer_body, answer_none, begin_body, enter_timeout,
+    move_body, move_on,
 };
+pub use quick::Quick;
 pub use step::{Input, Step};

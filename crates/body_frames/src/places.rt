@@ -1,5 +1,7 @@
 //! Bodies between the steps of their hub, each by where it stands.
 ghost use Rattle.std.specs.Prelude.{◌≡◌, ◌<◌, ◌∷◌, [], IfOk};
+ghost use Rattle.gv_values.specs.declared.value.Outcome.{Outcome as Answered};
+ghost use Rattle.gv_values.specs.declared.value.Value.{Value as Given};
 ghost use Rattle.machine.specs.declared.state.Leaving.{Leaving};
 ghost use Rattle.machine.specs.declared.state.Todo.{Todo};
 ghost use Rattle.machine.specs.Bodies.{around};
@@ -18,8 +20,11 @@ ghost use Rattle.body_frames.specs.Steady.{HasMove, IsSteady};
 use crate::entry::Entry;
 use crate::moves::{Context, make_move};
 use crate::pile::Pile;
+use crate::quick::Quick;
 use crate::runs::make_moves;
-use crate::stack::{Begun, Made, Stack, begin_function, go_inside, go_on_with, outcome_of_leaving};
+use crate::stack::{
+    Begun, Made, Stack, begin_function, go_inside, go_on_with, is_at_move, outcome_of_leaving,
+};
 use crate::unwind::Unwound;
 use body_blocks::Blocks;
 use body_names::{Locals, Slot};
@@ -127,6 +132,8 @@ pub enum Moved {
     Comes(Reached),
     /// It asks its hub.
     Asks(Request, Parked),
+    /// It asks its hub for what is answered at once.
+    Quick(Quick, Parked),
     /// It enters a timeout block, with its time in milliseconds if it has one.
     Enters(Option<u64>, Entering),
 }
@@ -163,6 +170,30 @@ pub fn answer_body(alloc: Global, body: Parked, answer: Outcome) -> Result<Reach
     };
     let at = go_on_with(&blocks, &mut stack, gives, answer)?;
     Ok(reach(blocks, stack, at))
+}
+
+/// Answers the request of the body with none, which mostly nobody takes: then the body is often at its next move.
+#[inline(always)]
+pub fn answer_none(alloc: Global, body: Parked) -> Result<Reached, AllocError>
+    ensures { IfOk result (λ reached. reached_of reached ≡ place_of (unwind body.todo [] Leaving.Normally (given body (Answered.Value Given.Nothing)))) }
+{
+    if body.gives.is_none() && is_at_move(&body.blocks, &body.todo) {
+        let Parked {
+            blocks,
+            locals,
+            todo,
+            ..
+        } = body;
+        return Ok(Reached::Move(
+            Items::new(alloc),
+            Moving {
+                blocks,
+                locals,
+                todo,
+            },
+        ));
+    }
+    Ok(answer_body(alloc, body, Outcome::Value(Value::Nothing))?)
 }
 
 /// Lets the body enter its timeout block, which has this number. `AllocError`: memory is wanting.
@@ -269,6 +300,18 @@ fn come(blocks: Rc<Blocks>, stack: Stack, made: Made) -> Moved
                     locals,
                     todo,
                     gives,
+                },
+            )
+        }
+        Made::Quick(quick) => {
+            let Stack { locals, todo, .. } = stack;
+            Moved::Quick(
+                quick,
+                Parked {
+                    blocks,
+                    locals,
+                    todo,
+                    gives: None,
                 },
             )
         }

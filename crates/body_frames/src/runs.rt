@@ -12,6 +12,7 @@ ghost use Rattle.body_frames.specs.Steady.{IsSteady};
 
 use crate::moves::{Context, finish_move};
 use crate::primitive_moves::make_primitive_move;
+use crate::quick::ask_quickly;
 use crate::stack::{Made, Stack, is_at_move};
 use crate::unwind::Unwound;
 use body_blocks::Blocks;
@@ -41,6 +42,10 @@ pub fn make_moves<L: Look>(
         if stays(context.blocks, stack, is_made, most - before) {
             before += 1;
             continue;
+        }
+        match ask_quickly(context, stack, is_made)? {
+            Some(quick) => return Ok((before, Made::Quick(quick))),
+            None => {}
         }
         let made = finish_move(context, stack, is_made)?;
         if !goes_on(&made, stack, most - before) {

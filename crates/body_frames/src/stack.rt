@@ -18,6 +18,7 @@ ghost use Rattle.body_frames.specs.Steady.{HasMove};
 
 use crate::entry::Entry;
 use crate::pile::Pile;
+use crate::quick::Quick;
 use crate::unwind::{Unwound, begins, bind_if, unwind};
 use body_blocks::Blocks;
 use body_names::{Locals, Slot};
@@ -42,6 +43,8 @@ pub struct Stack {
 pub enum Made {
     /// The body asks its hub, and the local takes the answer.
     Asks(Request, Option<Slot>),
+    /// The body asks its hub for what is answered at once.
+    Quick(Quick),
     /// The body enters a timeout block: its time if it has one, whether it is silent, and its body.
     Enters(Option<u64>, bool, usize),
     /// The body goes on by itself.

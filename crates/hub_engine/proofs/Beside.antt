@@ -2,6 +2,7 @@
 use Rattle.std.proofs.Common.{◌≡◌, refl, ap, sym, ◌∙◌, ℕ, zero, suc, ◌==◌, Bool, true, false, List, [], ◌∷◌, Option, Some, None, slice_set, if◌then◌else◌, arith}
 use Rattle.std.proofs.lemmas.Bool.{true≢false}
 use Rattle.gv_values.specs.Job.{job_of}
+use Rattle.gv_values.specs.declared.fault.FaultKind.{FaultKind}
 use Rattle.gv_values.specs.declared.value.Outcome.{Outcome}
 use Rattle.scenario_tree.specs.declared.tree.Wait.{Wait}
 use Rattle.trace_text.specs.declared.line.Awaited.{Awaited}
@@ -24,7 +25,10 @@ use Rattle.machine.specs.Unwinding.{unwind}
 use Rattle.machine.specs.Waits.{Performed, comes, completes, waits}
 use Rattle.machine_trace_laws.specs.Reached.{state_of_next}
 use Rattle.body_frames.specs.Places.{Place, place_of}
-use Rattle.hub_requests.specs.Performing.{performed_of}
+use Rattle.body_frames.specs.Quick.{request_of}
+use Rattle.body_frames.specs.declared.quick.Quick.{Quick}
+use Rattle.hub_objects.specs.Releases.{refused}
+use Rattle.hub_requests.specs.Performing.{nothing_answered, performed_of, raised}
 use Rattle.hub_requests.specs.declared.performed.Performed.{Performed as Came}
 use Rattle.hub_engine.specs.Asking.{leaves_greenlets}
 use Rattle.hub_engine.specs.Making.{MayMove}
@@ -219,3 +223,24 @@ answers_at_once g body o place s u t v hop at under e f h k =
     ∙ resumes_blind lands g body o p u
     ∙ start_goes lands g (unwind body.todo [] (leaving_of o) (given body o)) place u t hop f h
     ∙ k
+
+-- ---- what is answered at once
+
+-- the answer, or the fault
+abbrev pub answered_quickly : Option FaultKind → Came
+answered_quickly None = nothing_answered
+answered_quickly (Some f) = raised f
+
+pub leaves_quickly : (q : Quick) → leaves_greenlets (request_of q) ≡ true
+leaves_quickly (Quick.Set o) = refl
+leaves_quickly (Quick.Clear o) = refl
+leaves_quickly (Quick.Release o) = refl
+leaves_quickly (Quick.QueueDone o) = refl
+
+refused_as : (fault : Option FaultKind) (s : State) → refused fault s ≡ performed_of (answered_quickly fault) s
+refused_as None s = refl
+refused_as (Some f) s = refl
+
+pub quickly_performed : (q : Quick) (g : ℕ) (fault which : Option FaultKind) (s t : State) → fault ≡ which → performs (request_of q) g s ≡ refused fault t →
+    performs (request_of q) g s ≡ performed_of (answered_quickly which) t
+quickly_performed q g fault which s t is h = h ∙ refused_as fault t ∙ ap (λ (f : Option FaultKind). performed_of (answered_quickly f) t) is

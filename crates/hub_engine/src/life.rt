@@ -73,6 +73,7 @@ fn drop_left(hub: &mut Hub, g: u32, left: Items<u32>)
 }
 
 /// Lets the greenlet go on to where its body came.
+#[inline(always)]
 pub fn place_greenlet(
     alloc: Global,
     hub: &mut Hub,
@@ -185,6 +186,7 @@ pub fn land(alloc: Global, hub: &mut Hub, g: u32, input: Outcome) -> Result<Stan
 }
 
 /// Lets what goes up land.
+#[inline(always)]
 pub fn hop_on(alloc: Global, hub: &mut Hub, hop: Hop) -> Result<Stand, AllocError>
     requires declared { AreDeclared hub.old }
     requires settles { MaySettle most_hops hub.old }

@@ -1,5 +1,8 @@
 //! The moves of a greenlet.
 ghost use Rattle.std.specs.Prelude.{◌≡◌, ◌+◌, ◌<◌, ◌≤◌, ◌^◌, true, length, IsTrue, Some, OnOk, IfOk};
+ghost use Rattle.gv_values.specs.declared.value.Outcome.{Outcome as Answered};
+ghost use Rattle.gv_values.specs.declared.value.Value.{Value as Given};
+ghost use Rattle.body_frames.specs.Quick.{request_of};
 ghost use Rattle.body_frames.specs.Runs.{MovesOn};
 ghost use Rattle.body_frames.specs.Standings.{moved_of};
 ghost use Rattle.machine.specs.declared.state.Frame.{Frame};
@@ -24,9 +27,12 @@ ghost use Rattle.hub_engine.specs.Stands.{next_at};
 
 use crate::life::{answer_greenlet, hop_on, land, place_greenlet};
 use crate::stand::Stand;
-use body_frames::{Entering, Moved, Moving, Parked, Request, answer_body, enter_timeout, move_on};
+use body_frames::{
+    Entering, Moved, Moving, Parked, Quick, Request, answer_body, answer_none, enter_timeout,
+    move_on,
+};
 use gv_values::Outcome;
-use hub_requests::{Performed, perform};
+use hub_requests::{Performed, perform, perform_quick};
 use hub_state::{Hub, Seen, Stage};
 use machine::items::Delivery;
 use std::alloc::{AllocError, Global};
@@ -175,6 +181,25 @@ fn answer_at_once(
     Ok(hop_on(alloc, hub, hop)?)
 }
 
+/// Answers none to the body of the greenlet under way, with the settling before it.
+#[inline(always)]
+fn answer_none_at_once(
+    alloc: Global,
+    hub: &mut Hub,
+    g: u32,
+    body: Parked,
+) -> Result<Stand, AllocError>
+    requires declared { AreDeclared hub.old }
+    requires under_way { phase_of g hub.old.greenlets ≡ Some (Phase.Live no_frame) }
+    requires settles { MaySettle (most_hops + 2) hub.old }
+    ensures { IfOk result (λ at. answered g (Answered.Value Given.Nothing) (settle (with_phase g (Phase.Live body) hub.old)) ≡ next_at at hub.new) }
+{
+    settle_hub(hub);
+    let reached = answer_none(alloc, body)?;
+    let hop = place_greenlet(alloc, hub, g, reached)?;
+    Ok(hop_on(alloc, hub, hop)?)
+}
+
 /// Performs what the body asks, where that has nothing to do with greenlets: mostly it is answered at once, so that the
 /// body stands beside the hub until it has to wait.
 #[tactic(auto, using(crate::proofs::Soundly::sound_parked))]
@@ -224,6 +249,28 @@ fn serve_request(
     hub.set_stage(g, Stage::Parked(body));
     let performed = perform(alloc, hub, request, g)?;
     Ok(go_on_after(alloc, hub, g, performed)?)
+}
+
+/// Performs what the body asks, which is answered at once and has nothing to do with greenlets.
+#[inline(always)]
+fn serve_quick(
+    alloc: Global,
+    hub: &mut Hub,
+    g: u32,
+    quick: Quick,
+    body: Parked,
+) -> Result<Stand, AllocError>
+    requires may_move { MayMove g hub.old }
+    requires room { HasMoveRoom g hub.old }
+    requires after { AreDeclared (state_of_next (follows g (performs (request_of quick) g (with_phase g (Phase.Live body) hub.old)))) }
+    ensures { IfOk result (λ at. follows g (performs (request_of quick) g (with_phase g (Phase.Live body) hub.old)) ≡ next_at at hub.new) }
+{
+    go_under_way(hub, g);
+    let fault = perform_quick(hub, g, quick)?;
+    match fault {
+        None => Ok(answer_none_at_once(alloc, hub, g, body)?),
+        Some(kind) => Ok(answer_at_once(alloc, hub, g, body, Outcome::Fault(kind))?),
+    }
 }
 
 /// Makes the timeout item, where the block has a time.
@@ -280,6 +327,7 @@ fn go_on_by(alloc: Global, hub: &mut Hub, g: u32, moved: Moved) -> Result<Stand,
             Ok(hop_on(alloc, hub, hop)?)
         }
         Moved::Asks(request, body) => Ok(serve_request(alloc, hub, g, request, body)?),
+        Moved::Quick(quick, body) => Ok(serve_quick(alloc, hub, g, quick, body)?),
         Moved::Enters(after, body) => Ok(enter_block(alloc, hub, g, after, body)?),
     }
 }

@@ -20,6 +20,7 @@ mod parking;
 mod performed;
 mod performs;
 mod queue_requests;
+mod quick;
 mod raw_requests;
 mod waits;
 
@@ -29,3 +30,4 @@ pub use far::{Far, how_far};
 pub use late::late_outcome;
 pub use performed::Performed;
 pub use performs::perform;
+pub use quick::perform_quick;
