@@ -1,4 +1,4 @@
--- An input lands at a greenlet.
+-- An input lands at a greenlet, and what comes of an end.
 use Rattle.std.proofs.Common.{◌≡◌, refl, ap, sym, subst, ◌∙◌, ℕ, zero, suc, ◌-◌, ◌<◌, [], ◌∷◌, Option, Some, None, slice_get, unwrap_or, arith}
 use Rattle.gv_values.specs.declared.value.Outcome.{Outcome}
 use Rattle.gv_values.specs.declared.value.Value.{Value}
@@ -7,12 +7,13 @@ use Rattle.trace_text.specs.declared.line.Line.{Line}
 use Rattle.machine.specs.declared.state.Greenlet.{Greenlet}
 use Rattle.machine.specs.declared.state.Phase.{Phase}
 use Rattle.machine.specs.Soundness.{phase_of}
+use Rattle.machine.specs.Ends.{ended}
 use Rattle.machine.specs.Landing.{Landing, after_end, land, lands_once, resumes, starts}
 use Rattle.machine.specs.Greenlets.{frame_of, greenlet, nobody}
 use Rattle.gv_values.specs.Ends.{kept}
 use Rattle.machine.specs.State.{State, say}
 use Rattle.hub_requests.specs.Far.{far_of}
-use Rattle.hub_engine.specs.Stands.{hopped}
+use Rattle.hub_engine.specs.Stands.{end_goes, hopped}
 use Rattle.hub_requests.specs.declared.far.Far.{Far}
 use Rattle.hub_engine.specs.declared.stand.Hop.{Hop}
 
@@ -73,3 +74,12 @@ lands_fault far up g input k s u hop e f i r =
 pub land_step : (n g : ℕ) (input : Outcome) (s : State) → 0 < n → land n g input s ≡ lands_once (land (n - 1)) g input s
 land_step zero g input s h = absurd (omega (arith, h))
 land_step (suc n) g input s h = let one : suc n - 1 ≡ n = omega arith in ap (λ (m : ℕ). lands_once (land m) g input s) (sym one)
+
+-- the line was said, what comes of it was found, and the greenlet ended
+pub ended_goes : (up : Landing) (g : ℕ) (o k : Outcome) (s t u : State) (hop : Hop) → k ≡ kept o → t ≡ say (Line.End g k) s →
+    ((v : Landing) (after : State) → end_goes v g k t after ≡ hopped v hop after) → ((before : State) → t ≡ say (Line.End g k) before → u ≡ ended g k before) →
+    after_end up g o s ≡ hopped up hop u
+ended_goes up g o k s t u hop e f comes ends =
+    let now : u ≡ ended g k s = ends s f in
+    let said : end_goes up g k s u ≡ hopped up hop u = subst (λ (x : State). end_goes up g k x u ≡ hopped up hop u) f (comes up u) in
+    ap (λ (x : Outcome). end_goes up g x s (ended g x s)) (sym e) ∙ ap (end_goes up g k s) (sym now) ∙ said

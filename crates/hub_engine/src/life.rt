@@ -2,18 +2,19 @@
 ghost use Rattle.std.specs.Prelude.{◌≡◌, ◌+◌, IfOk};
 ghost use Rattle.body_values.specs.Functions.{IsFunction};
 ghost use Rattle.body_frames.specs.Standings.{reached_of};
+ghost use Rattle.machine.specs.State.{State};
 ghost use Rattle.machine.specs.Landing.{Landing, after_end, starts, resumes, answered, lands, lands_once};
 ghost use Rattle.machine.specs.Ends.{outcome_of_leaving, leaving_of, stop_of};
 ghost use Rattle.machine.specs.Greenlets.{frame_of, greenlet};
 ghost use Rattle.machine.specs.Items.{drop_items, is_timeout_of};
 ghost use Rattle.hub_engine.specs.Ready.{AreDeclared};
 ghost use Rattle.hub_engine.specs.Settlings.{MaySettle, most_hops};
-ghost use Rattle.hub_engine.specs.Stands.{goes_to, hopped, next_at};
+ghost use Rattle.hub_engine.specs.Stands.{end_goes, goes_to, hopped, next_at};
 
 use crate::stand::{Hop, Stand};
 use body_frames::{Reached, answer_body, begin_body};
 use gv_values::{Outcome, Value, kept_outcome};
-use hub_requests::{Far, end_greenlet, how_far};
+use hub_requests::{Far, end_greenlet, how_far, say_end};
 use hub_state::Hub;
 use scenario_tree::Items;
 use std::alloc::{AllocError, Global};
@@ -39,7 +40,20 @@ fn unheard(answer: Outcome) -> Outcome
     }
 }
 
-/// Ends the greenlet: the outcome of a raw one goes up to its parent, and with main the run ends.
+/// What comes of such an end of the greenlet: the outcome of a raw one goes up to its parent, and with main the run ends.
+fn hop_of_end(alloc: Global, hub: &Hub, g: u32, outcome: &Outcome) -> Result<Hop, AllocError>
+    ensures { IfOk result (λ hop. (up : Landing) (after : State) → end_goes up g outcome.now hub.now after ≡ hopped up hop after) }
+{
+    if hub.is_raw(g) {
+        return Ok(Hop::Up(hub.parent_of(g), outcome.copy(alloc)?));
+    }
+    if g == 0 {
+        return Ok(Hop::At(Stand::Over(stop_of(outcome.copy(alloc)?))));
+    }
+    Ok(Hop::At(Stand::Resting))
+}
+
+/// Ends the greenlet. All that takes memory comes before the end itself.
 fn go_on_after_end(
     alloc: Global,
     hub: &mut Hub,
@@ -49,17 +63,11 @@ fn go_on_after_end(
     requires { MaySettle 1 hub.old }
     ensures { IfOk result (λ hop. (up : Landing) → after_end up g outcome hub.old ≡ hopped up hop hub.new) }
 {
-    let raw = hub.is_raw(g);
-    let parent = hub.parent_of(g);
     let outcome = kept_outcome(outcome);
-    end_greenlet(alloc, hub, g, &outcome)?;
-    if raw {
-        return Ok(Hop::Up(parent, outcome));
-    }
-    if g == 0 {
-        return Ok(Hop::At(Stand::Over(stop_of(outcome))));
-    }
-    Ok(Hop::At(Stand::Resting))
+    say_end(alloc, hub, g, &outcome)?;
+    let hop = hop_of_end(alloc, hub, g, &outcome)?;
+    end_greenlet(hub, g, outcome);
+    Ok(hop)
 }
 
 /// Removes the timeouts of the blocks that the body left; mostly there are none.

@@ -96,15 +96,18 @@ room_sent f k b s t e r = room-kept room_of_move room_of_move s t (λ x h. sent-
 pub room_all_sent : (f : FaultKind) (ks : List ℕ) (b : Bool) (s t : State) → sends_all f ks s ≡ sent b t → HasRoom room_of_move s → HasRoom room_of_move t
 room_all_sent f ks b s t e r = room-kept room_of_move room_of_move s t (λ x h. sent-kept x b t (subst (Sends x) e (sends_all-counts x f ks s h))) r
 
+-- a line is no item
+pub settles_said : (line : Line) (s t : State) → t ≡ say line s → s.next_ready + length s.items ≤ 2 ^ 63 → t.next_ready + length t.items ≤ 2 ^ 63
+settles_said line s t e fits = subst (λ (x : State). x.next_ready + length x.items ≤ 2 ^ 63) (sym e) fits
+
 -- no item comes where a greenlet ends
-pub settles_at_end : (line : Line) (p : Phase) (test : Delivery → Bool) (g : ℕ) (s t u v w : State) → t ≡ say line s → u ≡ with_phase g p t → v ≡ drop_items test u → w ≡ record v { objects = map (without_member g) v.objects } →
-    s.next_ready + length s.items ≤ 2 ^ 63 → w.next_ready + length w.items ≤ 2 ^ 63
-settles_at_end line p test g s t u v w e f h k fits =
+pub settles_at_end : (test : Delivery → Bool) (p : Phase) (g : ℕ) (s t u v : State) → t ≡ drop_items test s → u ≡ with_phase g p t → v ≡ record u { objects = map (without_member g) u.objects } →
+    s.next_ready + length s.items ≤ 2 ^ 63 → v.next_ready + length v.items ≤ 2 ^ 63
+settles_at_end test p g s t u v e f h fits =
     let goes = λ (i : Item). not (test i.delivery) in
     let fewer = length-filter goes s.items in
     let most = count_by-le-length goes s.items in
     let dropped : (drop_items test s).next_ready + length (drop_items test s).items ≤ 2 ^ 63 = omega (arith, fewer, most, fits) in
-    let said : (drop_items test t).next_ready + length (drop_items test t).items ≤ 2 ^ 63 = subst (λ (x : State). (drop_items test x).next_ready + length (drop_items test x).items ≤ 2 ^ 63) (sym e) dropped in
-    let staged : (drop_items test u).next_ready + length (drop_items test u).items ≤ 2 ^ 63 = subst (λ (x : State). (drop_items test x).next_ready + length (drop_items test x).items ≤ 2 ^ 63) (sym f) said in
-    let gone : v.next_ready + length v.items ≤ 2 ^ 63 = subst (λ (x : State). x.next_ready + length x.items ≤ 2 ^ 63) (sym h) staged in
-    subst (λ (x : State). x.next_ready + length x.items ≤ 2 ^ 63) (sym k) gone
+    let gone : t.next_ready + length t.items ≤ 2 ^ 63 = subst (λ (x : State). x.next_ready + length x.items ≤ 2 ^ 63) (sym e) dropped in
+    let staged : u.next_ready + length u.items ≤ 2 ^ 63 = subst (λ (x : State). x.next_ready + length x.items ≤ 2 ^ 63) (sym f) gone in
+    subst (λ (x : State). x.next_ready + length x.items ≤ 2 ^ 63) (sym h) staged

@@ -12,7 +12,7 @@ ghost use Rattle.machine_soundness.specs.Going.{AreNotRaw};
 ghost use Rattle.machine_counts.specs.Rooms.{HasRoom, room_of_move};
 ghost use Rattle.hub_requests.specs.Sendings.{sent};
 
-use crate::ends::end_greenlet;
+use crate::ends::{end_greenlet, say_end};
 use crate::far::{Far, how_far};
 use crate::performed::Performed;
 use crate::waits::come_to_wait_as;
@@ -47,7 +47,9 @@ fn end_unrun(alloc: Global, hub: &mut Hub, kind: FaultKind, target: u32) -> Resu
         fault: kind,
     })?;
     let outcome = kept_outcome(Outcome::Fault(kind));
-    end_greenlet(alloc, hub, target, &outcome)
+    say_end(alloc, hub, target, &outcome)?;
+    end_greenlet(hub, target, outcome);
+    Ok(())
 }
 
 /// Sends a kill to the greenlet; false where one more may not stand.

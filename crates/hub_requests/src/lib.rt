@@ -25,7 +25,7 @@ mod raw_requests;
 mod waits;
 
 pub use completions::complete_wait;
-pub use ends::end_greenlet;
+pub use ends::{end_greenlet, say_end};
 pub use far::{Far, how_far};
 pub use late::late_outcome;
 pub use performed::Performed;
