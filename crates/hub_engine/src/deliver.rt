@@ -47,12 +47,12 @@ pub fn throw_into(
     requires settles { MaySettle (most_hops + 2) hub.old }
     ensures { IfOk result (λ at. interrupts g kind hub.old ≡ next_at at hub.new) }
 {
-    hub.withdraw_offer(g);
-    hub.drop_items(&Gone::WaitOf(g));
     hub.say(Line::Throw {
         greenlet: g,
         fault: kind,
     })?;
+    hub.withdraw_offer(g);
+    hub.drop_items(&Gone::WaitOf(g));
     hub.settle();
     Ok(answer_greenlet(alloc, hub, g, Outcome::Fault(kind))?)
 }
