@@ -27,12 +27,12 @@ use Rattle.machine.specs.State.{State, say}
 use Rattle.machine.specs.Unwinding.{Unwound, unwind}
 use Rattle.machine.specs.Waits.{Performed}
 use Rattle.machine_trace_laws.specs.Reached.{state_of_next}
-use Rattle.machine_counts.specs.Rooms.{HasRoom}
-use Rattle.machine_counts.specs.Steps.{Fixed, HasSteps, kill, other}
-use Rattle.machine_counts.proofs.Ledger.{counts-drop, counts-fewer}
-use Rattle.machine_counts.proofs.Requests.{Comes}
-use Rattle.machine_counts.proofs.Rooms.{room-ample, room-kept}
-use Rattle.machine_counts.proofs.Tallies.{ends-few, kills-and-others, numbers-few, tally-settled}
+use Rattle.machine_rooms.specs.Rooms.{HasRoom}
+use Rattle.machine_rooms.specs.Steps.{Fixed, HasSteps, kill, other}
+use Rattle.machine_rooms.proofs.Ledger.{counts-drop, counts-fewer}
+use Rattle.machine_rooms.proofs.Requests.{Comes}
+use Rattle.machine_rooms.proofs.Rooms.{room-ample, room-kept}
+use Rattle.machine_rooms.proofs.Tallies.{ends-few, kills-and-others, numbers-few, tally-settled}
 use Rattle.hub_requests.specs.Performing.{performed_of}
 use Rattle.hub_requests.specs.declared.performed.Performed.{Performed as Came}
 use Rattle.hub_engine.specs.Settlings.{MaySettle, most_hops}

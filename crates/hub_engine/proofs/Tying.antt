@@ -22,7 +22,7 @@ use Rattle.machine.specs.Greenlets.{with_phase}
 use Rattle.machine.specs.Landing.{Next, lands, starts}
 use Rattle.machine.specs.Run.{first_state, least_below, logged, silent}
 use Rattle.machine.proofs.Answered.{posts-answered}
-use Rattle.machine_counts.proofs.Tallies.{live-open}
+use Rattle.machine_rooms.proofs.Tallies.{live-open}
 use Rattle.machine_turns.specs.Logs.{KnowsJobs, StandsKnowing, posts_of_step}
 use Rattle.machine_turns.proofs.Knowing.{answers-know, delivers-know, exits-know, may-ask, moves-know, starts-know}
 use Rattle.hub_engine.specs.declared.stand.Came.{Came}

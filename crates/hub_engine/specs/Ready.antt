@@ -8,7 +8,7 @@ use Rattle.machine.specs.Greenlets.{greenlet}
 use Rattle.machine.specs.Landing.{Next}
 use Rattle.machine.specs.Run.{first_state, silent}
 use Rattle.machine_trace_laws.specs.Reached.{Reached}
-use Rattle.machine_counts.specs.Counts.{AreCountable}
+use Rattle.machine_rooms.specs.Counts.{AreCountable}
 use Rattle.machine_soundness.specs.Going.{IsSoundAt}
 use Rattle.machine_well_formed.specs.Texts.{HasMain}
 

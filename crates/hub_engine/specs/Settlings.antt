@@ -4,7 +4,7 @@ use Rattle.machine.specs.declared.state.Frame.{Frame}
 use Rattle.machine.specs.declared.state.Phase.{Phase}
 use Rattle.machine.specs.Greenlets.{with_phase}
 use Rattle.machine.specs.State.{State}
-use Rattle.machine_counts.specs.Rooms.{HasRoom, room_of_move}
+use Rattle.machine_rooms.specs.Rooms.{HasRoom, room_of_move}
 
 -- no landing goes up more often
 abbrev pub most_hops : ℕ

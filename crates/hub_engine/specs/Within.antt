@@ -7,7 +7,7 @@ use Rattle.machine.specs.Landing.{Next}
 use Rattle.machine.specs.Run.{first_state}
 use Rattle.machine.specs.State.{State}
 use Rattle.machine_trace_laws.specs.Reached.{state_of_next}
-use Rattle.machine_counts.specs.Counts.{AreCountable}
+use Rattle.machine_rooms.specs.Counts.{AreCountable}
 use Rattle.machine_counts.specs.Turns.{ReachedIn}
 use Rattle.hub_engine.specs.Ready.{IsPrepared}
 

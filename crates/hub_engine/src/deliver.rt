@@ -10,8 +10,8 @@ ghost use Rattle.machine.specs.Deliveries.{called, calls, deliver, delivers, int
 ghost use Rattle.machine.specs.Run.{least_below};
 ghost use Rattle.machine_trace_laws.specs.Reached.{state_of_next};
 ghost use Rattle.machine_well_formed.specs.Texts.{fits_item, fits_link};
-ghost use Rattle.machine_counts.specs.Rooms.{HasRoom, room_of_delivery};
-ghost use Rattle.machine_counts.specs.Steps.{wait_weight};
+ghost use Rattle.machine_rooms.specs.Rooms.{HasRoom, room_of_delivery};
+ghost use Rattle.machine_rooms.specs.Steps.{wait_weight};
 ghost use Rattle.hub_items.specs.Short.{DeliversShort, IsShort};
 ghost use Rattle.hub_objects.specs.Counted.{CountsFit};
 ghost use Rattle.hub_requests.specs.Making.{MayMake};

@@ -8,7 +8,7 @@ ghost use Rattle.machine.specs.Blocked.{blocked_states};
 ghost use Rattle.machine.specs.Run.{Source, first_state, run};
 ghost use Rattle.machine.specs.TraceLaws.{meets_laws};
 ghost use Rattle.machine_well_formed.specs.Texts.{HasMain};
-ghost use Rattle.machine_counts.specs.Counts.{AreCountable};
+ghost use Rattle.machine_rooms.specs.Counts.{AreCountable};
 ghost use Rattle.world.specs.Outside.{WorldGoesOn};
 ghost use Rattle.world_rules.specs.Legal.{AreLegal};
 ghost use Rattle.hub_objects.specs.Counted.{AreCounted};

@@ -16,12 +16,12 @@ use Rattle.machine.specs.Items.{add_item, drop_items}
 use Rattle.machine.specs.Objects.{object_at, with_member, without_member}
 use Rattle.machine.specs.Request.{sends, sends_all}
 use Rattle.machine.specs.Waits.{add_member}
-use Rattle.machine_counts.specs.Counts.{object_count}
-use Rattle.machine_counts.specs.Rooms.{HasRoom, room_of_move}
-use Rattle.machine_counts.specs.Steps.{Fixed, HasSteps, wait_weight}
-use Rattle.machine_counts.proofs.Requests.{Sends, sends-counts, sends_all-counts}
-use Rattle.machine_counts.proofs.Rooms.{room-ample, room-fewer, room-kept}
-use Rattle.machine_counts.proofs.Tallies.{count-at, count-set, ends-few, member-counted, wait-weight-few}
+use Rattle.machine_rooms.specs.Counts.{object_count}
+use Rattle.machine_rooms.specs.Rooms.{HasRoom, room_of_move}
+use Rattle.machine_rooms.specs.Steps.{Fixed, HasSteps, wait_weight}
+use Rattle.machine_rooms.proofs.Requests.{Sends, sends-counts, sends_all-counts}
+use Rattle.machine_rooms.proofs.Rooms.{room-ample, room-fewer, room-kept}
+use Rattle.machine_rooms.proofs.Tallies.{count-at, count-set, ends-few, member-counted, wait-weight-few}
 use Rattle.hub_objects.specs.Counted.{CountsFit, MayCount}
 use Rattle.hub_requests.specs.Sendings.{sent}
 

@@ -2,7 +2,7 @@
 ghost use Rattle.std.specs.Prelude.{◌≡◌, ◌+◌, ◌≤◌, min, unwrap_or, IfOk};
 ghost use Rattle.machine.specs.Request.{performs};
 ghost use Rattle.machine.specs.declared.request.Request.{Request as Asked};
-ghost use Rattle.machine_counts.specs.Rooms.{HasRoom, room_of_move};
+ghost use Rattle.machine_rooms.specs.Rooms.{HasRoom, room_of_move};
 ghost use Rattle.hub_requests.specs.Making.{MayMake};
 ghost use Rattle.hub_requests.specs.Performing.{performed_of};
 ghost use Rattle.gv_values.specs.declared.limits.TheConstants.{MOST_ELEMENTS};

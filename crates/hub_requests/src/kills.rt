@@ -9,7 +9,7 @@ ghost use Rattle.machine.specs.Request.{kills, sends, sends_all};
 ghost use Rattle.hub_requests.specs.Making.{MayMake};
 ghost use Rattle.hub_requests.specs.Performing.{performed_of};
 ghost use Rattle.machine_soundness.specs.Going.{AreNotRaw};
-ghost use Rattle.machine_counts.specs.Rooms.{HasRoom, room_of_move};
+ghost use Rattle.machine_rooms.specs.Rooms.{HasRoom, room_of_move};
 ghost use Rattle.hub_requests.specs.Sendings.{sent};
 
 use crate::ends::{end_greenlet, say_end};

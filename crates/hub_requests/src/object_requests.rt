@@ -6,7 +6,7 @@ ghost use Rattle.machine.specs.Request.{acquires, performs};
 ghost use Rattle.machine.specs.State.{State as AnyState};
 ghost use Rattle.machine.specs.declared.request.Request.{Request as Asked};
 ghost use Rattle.hub_objects.specs.Releases.{refused};
-ghost use Rattle.machine_counts.specs.Rooms.{HasRoom, room_of_move};
+ghost use Rattle.machine_rooms.specs.Rooms.{HasRoom, room_of_move};
 ghost use Rattle.hub_requests.specs.Making.{MayMake};
 ghost use Rattle.hub_requests.specs.Naming.{IsObject};
 ghost use Rattle.hub_requests.specs.Performing.{performed_of};

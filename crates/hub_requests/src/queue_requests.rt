@@ -5,7 +5,7 @@ ghost use Rattle.scenario_tree.specs.declared.tree.Wait.TheVariants as wait;
 ghost use Rattle.machine.specs.Objects.{no_object, takes_value};
 ghost use Rattle.machine.specs.Request.{performs};
 ghost use Rattle.machine.specs.declared.request.Request.{Request as Asked};
-ghost use Rattle.machine_counts.specs.Rooms.{HasRoom, room_of_move};
+ghost use Rattle.machine_rooms.specs.Rooms.{HasRoom, room_of_move};
 ghost use Rattle.hub_requests.specs.Making.{MayMake};
 ghost use Rattle.hub_requests.specs.Naming.{IsObject};
 ghost use Rattle.hub_requests.specs.Performing.{performed_of};

@@ -1,7 +1,7 @@
 //! Requests that are answered at once.
 ghost use Rattle.std.specs.Prelude.{◌≡◌, IfOk};
 ghost use Rattle.machine.specs.Request.{performs};
-ghost use Rattle.machine_counts.specs.Rooms.{HasRoom, room_of_move};
+ghost use Rattle.machine_rooms.specs.Rooms.{HasRoom, room_of_move};
 ghost use Rattle.body_frames.specs.Quick.{request_of};
 ghost use Rattle.hub_objects.specs.Releases.{refused};
 

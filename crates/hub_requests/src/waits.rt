@@ -1,7 +1,7 @@
 //! How a greenlet comes to a wait: it completes at once, parks, or does not wait.
 ghost use Rattle.std.specs.Prelude.{◌≡◌, ◌+◌, ◌<◌, ◌^◌, OnOk, IfOk, IfSome};
 ghost use Rattle.machine.specs.Waits.{comes, offered, waits};
-ghost use Rattle.machine_counts.specs.Rooms.{HasRoom, room_of_move};
+ghost use Rattle.machine_rooms.specs.Rooms.{HasRoom, room_of_move};
 ghost use Rattle.hub_items.specs.Short.{IsShort};
 ghost use Rattle.hub_requests.specs.Awaited.{awaited_of, object_of};
 ghost use Rattle.hub_requests.specs.Making.{MayMake};

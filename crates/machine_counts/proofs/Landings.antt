@@ -1,35 +1,26 @@
 -- Ends, starts and landings keep to what is paid for.
 use Rattle.std.proofs.Common.{◌≡◌, refl, ℕ, zero, suc, Bool, true, false, List, [], ◌∷◌, length, arith}
-use Rattle.std.specs.Prelude.{◌==◌, Option, Some, None, if◌then◌else◌, slice_get, unwrap_or}
+use Rattle.std.specs.Prelude.{◌==◌, Some, if◌then◌else◌}
 use Rattle.gv_values.specs.declared.value.Outcome.{Outcome}
 use Rattle.gv_values.specs.declared.value.Value.{Value}
 use Rattle.gv_values.specs.Ends.{kept}
 use Rattle.trace_text.specs.declared.line.Line.{Line}
 use Rattle.machine.specs.declared.items.Delivery.{Delivery}
-use Rattle.machine.specs.declared.state.Greenlet.{Greenlet}
 use Rattle.machine.specs.declared.state.Phase.{Phase}
 use Rattle.machine.specs.State.{State, say}
 use Rattle.machine.specs.Ends.{ended, outcome_of_leaving, stop_of}
-use Rattle.machine.specs.Greenlets.{function_of, greenlet, nobody}
+use Rattle.machine.specs.Greenlets.{function_of, greenlet}
 use Rattle.machine.specs.Items.{drop_items, is_timeout_of}
 use Rattle.machine.specs.Landing.{Landing, Next, after_end, answered, goes_on, land, lands, resumes, starts}
 use Rattle.machine.specs.Soundness.{phase_of}
 use Rattle.machine.specs.Unwinding.{Unwound}
-use Rattle.machine_soundness.proofs.Greenlets.{at}
-use Rattle.machine_counts.specs.Steps.{Fixed, HasSteps, Stands, kill}
-use Rattle.machine_counts.proofs.Ledger.{counts-drop, counts-ended, counts-fewer, counts-live}
-use Rattle.machine_counts.proofs.Tallies.{is_open}
+use Rattle.machine_rooms.specs.Steps.{Fixed, HasSteps, Stands, kill}
+use Rattle.machine_rooms.proofs.Ledger.{counts-drop, counts-ended, counts-fewer, counts-live}
+use Rattle.machine_rooms.proofs.Tallies.{is_open, open-at}
 
 -- a landing keeps to it
 abbrev pub Lets : Fixed → Landing → Type 0
 Lets b up = (g : ℕ) (o : Outcome) (s : State) → HasSteps b 2 s → Stands b (up g o s)
-
-pub open-at : (gs : List Greenlet) (g : ℕ) → is_open (Some (at gs g).phase) ≡ true → is_open (phase_of g gs) ≡ true
-open-at gs g h = by (slice_get gs g) h
-  where
-    by : (o : Option Greenlet) → is_open (Some (unwrap_or o nobody).phase) ≡ true → is_open (elim o [ None ↦ None | Some x ↦ Some x.phase ]) ≡ true
-    by None h = absurd (cc h)
-    by (Some x) h = h
 
 timeout-no-kill : (g : ℕ) (ns : List ℕ) (d : Delivery) → is_timeout_of g ns d ≡ true → kill d ≡ 0
 timeout-no-kill g ns (Delivery.Kill h f) e = absurd (cc e)

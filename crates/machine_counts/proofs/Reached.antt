@@ -20,13 +20,13 @@ use Rattle.machine_well_formed.specs.Texts.{IsFitText}
 use Rattle.machine_trace_laws.specs.Reached.{Reached, state_of_next}
 use Rattle.machine_reached.specs.Bounds.{IsBounded}
 use Rattle.machine_reached.proofs.Bounded.{reached-bounded, reached-stands, text-meant}
-use Rattle.machine_counts.specs.Counts.{AreFew, AreFewNumbers}
-use Rattle.machine_counts.specs.Steps.{Fixed, HasSteps, Stands, other, tally}
+use Rattle.machine_rooms.specs.Steps.{Fixed, HasSteps, Stands, other, tally}
+use Rattle.machine_rooms.proofs.Ledger.{counts-fewer}
+use Rattle.machine_rooms.proofs.Tallies.{ends-few, is_open, kills-and-others, kills-tallied, live-open}
+use Rattle.machine_counts.specs.Few.{AreFew, AreFewNumbers}
 use Rattle.machine_counts.specs.Turns.{ReachedIn}
 use Rattle.machine_counts.proofs.Landings.{lands-counts, starts-counts}
-use Rattle.machine_counts.proofs.Ledger.{counts-fewer}
 use Rattle.machine_counts.proofs.Steps.{block_line-counts, deliver-counts, interrupts-counts, move-counts, take_answer-counts}
-use Rattle.machine_counts.proofs.Tallies.{ends-few, is_open, kills-and-others, kills-tallied, live-open}
 
 -- ---- one step
 

@@ -22,14 +22,13 @@ use Rattle.machine_well_formed.specs.Texts.{IsFitText}
 use Rattle.machine_well_formed.proofs.WellFormed.{well-formed-fits}
 use Rattle.machine_trace_laws.specs.Reached.{Reached, state_of_next}
 use Rattle.machine_reached.proofs.Bounded.{reached-bounded}
-use Rattle.machine_counts.specs.Counts.{AreFarBelow}
+use Rattle.machine_rooms.specs.Rooms.{HasRoom, room_of_delivery, room_of_move}
+use Rattle.machine_rooms.specs.Steps.{Fixed, HasSteps, Stands, other, tally}
+use Rattle.machine_rooms.proofs.Ledger.{counts-fewer, counts-moved, counts-taken}
+use Rattle.machine_rooms.proofs.Tallies.{wait-weight-few}
 use Rattle.machine_counts.specs.Laws.{IsCountedOn, IsWithin}
-use Rattle.machine_counts.specs.Rooms.{HasRoom, room_of_delivery, room_of_move}
-use Rattle.machine_counts.specs.Steps.{Fixed, HasSteps, Stands, other, tally}
-use Rattle.machine_counts.proofs.Ledger.{counts-fewer, counts-moved, counts-taken}
 use Rattle.machine_counts.proofs.Reached.{StandsIn, StandsSo, after, at-rest, delivered, exited, in-counts, in-reached, moved, others-few, reached-counts, started}
 use Rattle.machine_counts.proofs.Steps.{take_answer-counts}
-use Rattle.machine_counts.proofs.Tallies.{ends-few, kills-and-others, wait-weight-few}
 
 -- ---- turns and moves
 
@@ -91,32 +90,6 @@ begun-counted c =
     record { turns = y.0; moves = omega (arith, none) }
 
 -- ---- room
-
--- more room is room
-pub room-fewer : (n m : ℕ) (s : State) → m ≤ n → HasRoom n s → HasRoom m s
-room-fewer n m s few r = record { fixed = r.fixed; few_moves = r.few_moves; few_answers = r.few_answers; countable = r.countable; steps = counts-fewer r.fixed n m s few r.steps }
-
--- what keeps steps keeps room
-pub room-kept : (n m : ℕ) (s t : State) → ((b : Fixed) → HasSteps b n s → HasSteps b m t) → HasRoom n s → HasRoom m t
-room-kept n m s t f r = record { fixed = r.fixed; few_moves = r.few_moves; few_answers = r.few_answers; countable = r.countable; steps = f r.fixed r.steps }
-
-pub room-ample : (n : ℕ) (s : State) → HasRoom n s → AreFarBelow s
-room-ample n s r =
-    let h = r.steps in
-    let moves = r.few_moves in
-    let answers = r.few_answers in
-    let ended = ends-few s.greenlets in
-    let all = kills-and-others s.items in
-    record {
-      timeouts = omega (arith, ended);
-      jobs = omega (arith, ended);
-      links = omega arith;
-      greenlets = omega arith;
-      items = omega (arith, ended, all);
-      objects = λ o. let own = h.objects o in let far = r.countable o in omega (arith, ended, own, far);
-      sinces = omega (arith, ended);
-      numbers = omega (arith, ended);
-    }
 
 pub moves-room : (c : Scenario) (g : ℕ) (s : State) → IsWithin c (Next.Going g s) → s.moves < MOST_MOVES → HasRoom room_of_move (record (silent s) { moves = s.moves + 1 })
 unfolding StandsIn

@@ -45,11 +45,11 @@ use Rattle.machine_soundness.proofs.Lists.{length-set}
 use Rattle.machine_soundness.proofs.Performs.{performs-fine}
 use Rattle.machine_soundness.proofs.Requests.{IsFine, completes-fine}
 use Rattle.machine_soundness.proofs.States.{Moves, ascends, kept-drop, kept-say, moves-live, moving, plain-phased}
-use Rattle.machine_counts.specs.Steps.{Fixed, HasSteps, Stands, kill, other, tally, wait_weight}
-use Rattle.machine_counts.proofs.Ledger.{counts-add, counts-answered, counts-drop, counts-fewer, counts-jobs, counts-live, counts-made, counts-moved, counts-object, counts-objects, counts-settle, counts-taken, counts-timeout}
+use Rattle.machine_rooms.specs.Steps.{Fixed, HasSteps, Stands, kill, other, tally, wait_weight}
+use Rattle.machine_rooms.proofs.Ledger.{counts-add, counts-answered, counts-drop, counts-fewer, counts-jobs, counts-live, counts-made, counts-moved, counts-object, counts-objects, counts-settle, counts-taken, counts-timeout}
+use Rattle.machine_rooms.proofs.Requests.{Comes, completes-counts, performs-counts}
+use Rattle.machine_rooms.proofs.Tallies.{flag-counted, freed-counted, is_open, live-open, offer-gone, unstarted-open, wait-weight-few}
 use Rattle.machine_counts.proofs.Landings.{answered-counts, goes_on-counts, lands-counts, starts-counts}
-use Rattle.machine_counts.proofs.Requests.{Comes, completes-counts, performs-counts}
-use Rattle.machine_counts.proofs.Tallies.{flag-counted, freed-counted, is_open, live-open, offer-gone, unstarted-open, wait-weight-few}
 
 -- ---- requests and moves
 

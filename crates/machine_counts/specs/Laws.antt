@@ -14,8 +14,9 @@ use Rattle.machine.specs.Moves.{move}
 use Rattle.machine.specs.Questions.{block_line, take_answer}
 use Rattle.machine.specs.Run.{Source, first_state, run_from, silent}
 use Rattle.machine_trace_laws.specs.Reached.{Reached, state_of_next}
-use Rattle.machine_counts.specs.Counts.{AreCountable, AreFarBelow, AreFew, AreFewNumbers}
-use Rattle.machine_counts.specs.Rooms.{HasRoom, room_of_delivery, room_of_move}
+use Rattle.machine_rooms.specs.Counts.{AreCountable, AreFarBelow}
+use Rattle.machine_rooms.specs.Rooms.{HasRoom, room_of_delivery, room_of_move}
+use Rattle.machine_counts.specs.Few.{AreFew, AreFewNumbers}
 use Rattle.machine_counts.specs.Turns.{ReachedIn}
 
 -- ---- where the hub stands
@@ -78,10 +79,6 @@ DeliveriesHaveRoom =
 -- and for an answer or LoopExit
 abbrev pub RestsHaveRoom : Type 0
 RestsHaveRoom = (c : Scenario) (s : State) → IsWithin c (Next.Resting s) → HasRoom 2 s
-
--- where there is room, in the midst of a step too, each count is far below what its type holds
-abbrev pub RoomIsAmple : Type 0
-RoomIsAmple = (left : ℕ) (s : State) → HasRoom left s → AreFarBelow s
 
 -- ---- a whole run
 

@@ -1,5 +1,3 @@
-pub mod Counts
+pub mod Few
 pub mod Laws
-pub mod Rooms
-pub mod Steps
 pub mod Turns

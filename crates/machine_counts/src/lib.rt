@@ -2,7 +2,7 @@
 //! Laws of the machine's definitions, each as the contract of a function without a body of its own.
 #![tactic(auto)]
 
-ghost use Rattle.machine_counts.specs.Laws.{AnswersAreNoMoves, CountsAreFew, DeliveriesAreNoMoves, DeliveriesHaveRoom, ExitsAreNoMoves, MovesAreCounted, MovesHaveRoom, NumbersAreFew, RestsHaveRoom, RoomIsAmple, RunsLeaveRoom, RunsStandIn, TurnsAreSteps};
+ghost use Rattle.machine_counts.specs.Laws.{AnswersAreNoMoves, CountsAreFew, DeliveriesAreNoMoves, DeliveriesHaveRoom, ExitsAreNoMoves, MovesAreCounted, MovesHaveRoom, NumbersAreFew, RestsHaveRoom, RunsLeaveRoom, RunsStandIn, TurnsAreSteps};
 
 /// In every state of a run of a well-formed scenario the counts are few for the moves that were made, whatever is
 /// answered.
@@ -25,13 +25,11 @@ pub fn moves_are_counted()
     ensures answered { AnswersAreNoMoves }
 {}
 
-/// Within the budgets that a run may be given there is room for the small steps of each move, delivery and answer, and
-/// where there is room each count is far below what its type holds.
+/// Within the budgets that a run may be given there is room for the small steps of each move, delivery and answer.
 pub fn steps_have_room()
     ensures moved { MovesHaveRoom }
     ensures delivered { DeliveriesHaveRoom }
     ensures rested { RestsHaveRoom }
-    ensures ample { RoomIsAmple }
 {}
 
 /// The last state of a run is one in which the hub stands where each turn is counted and takes one answer at most, after

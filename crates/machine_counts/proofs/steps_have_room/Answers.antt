@@ -1,4 +1,4 @@
-use Rattle.machine_counts.proofs.Rooms.{deliveries-room, moves-room, rests-room, room-ample}
+use Rattle.machine_counts.proofs.Rooms.{deliveries-room, moves-room, rests-room}
 use Rattle.machine_counts.proofs.steps_have_room.Goals as goal
 
 pub returns-clause-moved : goal.returns-clause-moved
@@ -9,6 +9,3 @@ returns-clause-delivered c = deliveries-room
 
 pub returns-clause-rested : goal.returns-clause-rested
 returns-clause-rested c = rests-room
-
-pub returns-clause-ample : goal.returns-clause-ample
-returns-clause-ample c = room-ample

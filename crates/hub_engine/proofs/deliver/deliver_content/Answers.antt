@@ -1,6 +1,6 @@
 use Rattle.std.proofs.Common.{subst}
 use Rattle.machine.specs.declared.items.Delivery.{Delivery}
-use Rattle.machine_counts.specs.Rooms.{HasRoom, room_of_delivery}
+use Rattle.machine_rooms.specs.Rooms.{HasRoom, room_of_delivery}
 use Rattle.hub_requests.proofs.Rooms.{room_counted}
 use Rattle.hub_engine.proofs.Settlings.{room_settles}
 use Rattle.hub_engine.proofs.deliver.deliver_content.Goals as goal

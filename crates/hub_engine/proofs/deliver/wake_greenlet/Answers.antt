@@ -1,7 +1,7 @@
 use Rattle.std.proofs.Common.{◌+◌}
 use Rattle.machine.specs.Waits.{completes}
-use Rattle.machine_counts.specs.Steps.{wait_weight}
-use Rattle.machine_counts.proofs.Requests.{completes-counts}
+use Rattle.machine_rooms.specs.Steps.{wait_weight}
+use Rattle.machine_rooms.proofs.Requests.{completes-counts}
 use Rattle.hub_engine.proofs.Settlings.{performed_settles, room_woken}
 use Rattle.hub_engine.proofs.deliver.wake_greenlet.Goals as goal
 

@@ -3,7 +3,7 @@ use Rattle.machine.specs.declared.state.Phase.{Phase}
 use Rattle.machine.specs.Greenlets.{no_frame}
 use Rattle.machine.specs.Landing.{lands}
 use Rattle.machine.specs.State.{State}
-use Rattle.machine_counts.specs.Rooms.{HasRoom, room_of_move}
+use Rattle.machine_rooms.specs.Rooms.{HasRoom, room_of_move}
 use Rattle.body_frames.specs.Standings.{reached_of}
 use Rattle.hub_requests.proofs.Rooms.{room_added, room_drawn}
 use Rattle.hub_engine.specs.Settlings.{most_hops}

@@ -2,7 +2,7 @@ use Rattle.std.proofs.Common.{◌≡◌, ◌+◌, ◌∙◌, ap, sym, subst, tru
 use Rattle.machine.specs.declared.state.Phase.{Phase}
 use Rattle.machine.specs.Landing.{lands}
 use Rattle.machine.specs.Greenlets.{no_frame, with_phase}
-use Rattle.machine_counts.specs.Rooms.{HasRoom, room_of_move}
+use Rattle.machine_rooms.specs.Rooms.{HasRoom, room_of_move}
 use Rattle.body_frames.specs.Quick.{request_of}
 use Rattle.body_frames.specs.Standings.{moved_of, reached_of}
 use Rattle.body_frames.specs.declared.places.Moved.{Moved}

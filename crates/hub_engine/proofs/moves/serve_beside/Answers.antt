@@ -2,8 +2,8 @@ use Rattle.std.proofs.Common.{◌+◌, ◌∙◌, ap, sym, subst}
 use Rattle.machine.specs.declared.state.Phase.{Phase}
 use Rattle.machine.specs.Greenlets.{no_frame, with_phase}
 use Rattle.machine.specs.Request.{follows, performs}
-use Rattle.machine_counts.specs.Rooms.{HasRoom, room_of_move}
-use Rattle.machine_counts.proofs.Requests.{performs-counts}
+use Rattle.machine_rooms.specs.Rooms.{HasRoom, room_of_move}
+use Rattle.machine_rooms.proofs.Requests.{performs-counts}
 use Rattle.hub_requests.specs.Performing.{performed_of}
 use Rattle.hub_requests.specs.declared.performed.Performed.{Performed}
 use Rattle.hub_engine.specs.Settlings.{most_hops}

@@ -1,8 +1,8 @@
 use Rattle.std.proofs.Common.{◌∙◌, ap, sym, subst, None, Some}
 use Rattle.machine.specs.Greenlets.{no_frame}
 use Rattle.machine.specs.Request.{follows, performs}
-use Rattle.machine_counts.specs.Rooms.{HasRoom, room_of_move}
-use Rattle.machine_counts.proofs.Requests.{performs-counts}
+use Rattle.machine_rooms.specs.Rooms.{HasRoom, room_of_move}
+use Rattle.machine_rooms.proofs.Requests.{performs-counts}
 use Rattle.body_frames.specs.Quick.{request_of}
 use Rattle.hub_engine.proofs.Beside.{answered_quickly, declared_beside, leaves_quickly, performed_beside, quickly_performed, still_under_way}
 use Rattle.hub_engine.proofs.Settlings.{performed_settles}

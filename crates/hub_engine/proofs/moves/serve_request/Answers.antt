@@ -1,7 +1,7 @@
 use Rattle.std.proofs.Common.{sym, subst}
 use Rattle.machine.specs.Request.{performs}
-use Rattle.machine_counts.specs.Rooms.{HasRoom, room_of_move}
-use Rattle.machine_counts.proofs.Requests.{performs-counts}
+use Rattle.machine_rooms.specs.Rooms.{HasRoom, room_of_move}
+use Rattle.machine_rooms.proofs.Requests.{performs-counts}
 use Rattle.hub_requests.specs.Making.{MayMake}
 use Rattle.hub_engine.proofs.Settlings.{performed_settles}
 use Rattle.hub_engine.proofs.moves.serve_request.Goals as goal

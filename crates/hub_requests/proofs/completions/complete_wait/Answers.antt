@@ -1,6 +1,6 @@
 use Rattle.std.proofs.Common.{◌+◌, ◌<◌, ◌^◌, arith}
 use Rattle.gv_values.specs.declared.limits.TheConstants.{MOST_ELEMENTS}
-use Rattle.machine_counts.specs.Steps.{wait_weight}
+use Rattle.machine_rooms.specs.Steps.{wait_weight}
 use Rattle.hub_requests.proofs.Rooms.{room_added, room_counted, room_counts, room_made, room_posted}
 use Rattle.hub_requests.proofs.completions.complete_wait.Goals as goal
 

@@ -1,6 +1,6 @@
 use Rattle.std.proofs.Common.{◌+◌, ◌<◌, ◌^◌, arith}
 use Rattle.gv_values.specs.declared.limits.TheConstants.{MOST_ELEMENTS}
-use Rattle.machine_counts.specs.Rooms.{room_of_move}
+use Rattle.machine_rooms.specs.Rooms.{room_of_move}
 use Rattle.hub_requests.proofs.Rooms.{room_counts, room_made}
 use Rattle.hub_requests.proofs.crew_requests.map_list.Goals as goal
 

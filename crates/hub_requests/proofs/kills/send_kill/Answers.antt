@@ -1,4 +1,4 @@
-use Rattle.machine_counts.specs.Rooms.{room_of_move}
+use Rattle.machine_rooms.specs.Rooms.{room_of_move}
 use Rattle.hub_requests.proofs.Rooms.{room_added, room_settles}
 use Rattle.hub_requests.proofs.kills.send_kill.Goals as goal
 

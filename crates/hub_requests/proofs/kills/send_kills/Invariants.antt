@@ -1,6 +1,6 @@
 use Rattle.std.proofs.Common.{◌≡◌, drop}
 use Rattle.machine.specs.Request.{sends_all}
-use Rattle.machine_counts.specs.Rooms.{HasRoom, room_of_move}
+use Rattle.machine_rooms.specs.Rooms.{HasRoom, room_of_move}
 use Rattle.hub_requests.proofs.kills.send_kills.Given as goal
 
 abbrev pub invariant-loop-target : goal.invariant-loop-target

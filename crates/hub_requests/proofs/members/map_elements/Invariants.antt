@@ -1,6 +1,6 @@
 use Rattle.std.proofs.Common.{◌≡◌, ◌<◌, ◌≤◌, ◌+◌, ◌-◌, ◌^◌, length, drop, slice_get}
 use Rattle.machine.specs.Waits.{maps}
-use Rattle.machine_counts.specs.Counts.{object_count}
+use Rattle.machine_rooms.specs.Counts.{object_count}
 use Rattle.hub_requests.specs.Making.{MayMake}
 use Rattle.hub_requests.specs.Naming.{IsObject}
 use Rattle.hub_requests.proofs.members.map_elements.Given as goal

@@ -1,5 +1,5 @@
 use Rattle.std.proofs.Common.{arith}
-use Rattle.machine_counts.specs.Rooms.{room_of_move}
+use Rattle.machine_rooms.specs.Rooms.{room_of_move}
 use Rattle.hub_requests.proofs.Rooms.{room_added, room_drawn, room_made}
 use Rattle.hub_requests.proofs.waits.park_or_pass.Goals as goal
 

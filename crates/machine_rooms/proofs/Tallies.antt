@@ -11,6 +11,7 @@ use Rattle.machine.specs.declared.state.Greenlet.{Greenlet}
 use Rattle.machine.specs.declared.state.Object.{Object}
 use Rattle.machine.specs.declared.state.Phase.{Phase}
 use Rattle.machine.specs.Deliveries.{without}
+use Rattle.machine.specs.Greenlets.{nobody}
 use Rattle.machine.specs.Objects.{next_place, no_object, with_flag, with_item, with_item_taken, with_member, with_offer, with_offer_taken, with_owner, with_shut, with_slot_freed, with_slot_taken, with_unit_taken, without_member, without_offer}
 use Rattle.machine.specs.Request.{is_kill}
 use Rattle.machine.specs.Settle.{number_after, numbers_after, settled}
@@ -18,8 +19,8 @@ use Rattle.machine.specs.Soundness.{ascend, is_live, is_unstarted, phase_of}
 use Rattle.machine.proofs.Halves.{right}
 use Rattle.machine_soundness.proofs.Deliveries.{later}
 use Rattle.machine_soundness.proofs.Greenlets.{at}
-use Rattle.machine_counts.specs.Counts.{object_count}
-use Rattle.machine_counts.specs.Steps.{ends, gone, kill, other, tally, wait_weight}
+use Rattle.machine_rooms.specs.Counts.{object_count}
+use Rattle.machine_rooms.specs.Steps.{ends, gone, kill, other, tally, wait_weight}
 
 -- ---- items
 
@@ -135,6 +136,14 @@ unstarted-open None h = absurd (cc h)
 unstarted-open (Some (Phase.New args)) h = refl
 unstarted-open (Some (Phase.Live frame)) h = refl
 unstarted-open (Some (Phase.Done o)) h = absurd (cc h)
+
+-- a greenlet that is looked at and has not ended is there
+pub open-at : (gs : List Greenlet) (g : ℕ) → is_open (Some (at gs g).phase) ≡ true → is_open (phase_of g gs) ≡ true
+open-at gs g h = by (slice_get gs g) h
+  where
+    by : (o : Option Greenlet) → is_open (Some (unwrap_or o nobody).phase) ≡ true → is_open (elim o [ None ↦ None | Some x ↦ Some x.phase ]) ≡ true
+    by None h = absurd (cc h)
+    by (Some x) h = h
 
 open-gone : (p : Phase) → is_open (Some p) ≡ true → gone p ≡ 0
 open-gone (Phase.New args) h = refl

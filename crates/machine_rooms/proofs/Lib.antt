@@ -1,0 +1,4 @@
+pub mod Ledger
+pub mod Requests
+pub mod Rooms
+pub mod Tallies
