@@ -3,6 +3,7 @@ ghost use Rattle.gv_io.specs.Streams.{Extends};
 ghost use Rattle.std.specs.Prelude.{◌≡◌, ◌≢◌, ◌≤◌, ◌<◌, ◌⊎◌, ℕ, List, true, false, IfNone, IfSome};
 ghost use Rattle.gv_values.specs.Counts.{HasRisen};
 ghost use Rattle.gv_values.specs.declared.limits.TheConstants.{MOST_WORKERS};
+ghost use Rattle.machine.specs.Budgets.{AreBudgets};
 ghost use Rattle.machine.specs.Run.{run, script_run};
 ghost use Rattle.machine.specs.TraceLaws.{meets_laws};
 ghost use Rattle.command_words.specs.Ranges.{IsWorldInRange};
@@ -18,7 +19,7 @@ ghost use Rattle.gv_top.specs.Words.{is_native_world};
 use crate::storming::is_broken_off;
 use command_words::{RunOptions, RunWorld};
 use gv_io::Sink;
-use hub_engine::{Budgets, Engine, EngineEnd};
+use hub_engine::{Budgets, Engine, EngineEnd, EngineRefusal};
 use machine_scripts::followers_run_scripts;
 use machine_told::posts_and_answers_are_told;
 use machine_trace_laws::{runs_are_lawful, scripts_run_lawfully};
@@ -169,6 +170,7 @@ pub fn run_scenario<K: Sink, W: World>(
     native: &mut W,
     out: &mut K,
 ) -> EngineEnd
+    requires budgets { AreBudgets options.turns options.moves }
     requires range { IsWorldInRange options.world }
     requires rests { (W.meaning native.old).runs ≡ false }
     ensures written { RanTo result (run_of options (W.meaning native.new).answers checked) (K.written out.old) (K.written out.new) }
@@ -190,8 +192,10 @@ pub fn run_scenario<K: Sink, W: World>(
     };
     // That a checked scenario is well formed is known of the one that is looked at.
     let _ = checked.scenario();
-    let Ok(engine) = Engine::new(alloc, checked, budgets) else {
-        return EngineEnd::Memory;
+    let engine = match Engine::new(alloc, checked, budgets) {
+        Ok(engine) => engine,
+        Err(EngineRefusal::Memory) => return EngineEnd::Memory,
+        Err(EngineRefusal::Budgets) => unreachable!(),
     };
     match options.world {
         RunWorld::Script(tick) => run_script(alloc, engine, tick, out),

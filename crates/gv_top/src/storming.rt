@@ -12,7 +12,7 @@ use crate::status::{Failure, Verdict, verdict_of_run, verdict_of_text};
 use crate::top::send;
 use gv_io::Sink;
 use gv_values::{MOST_MOVES, MOST_TURNS, decimal_text};
-use hub_engine::{Budgets, Engine, EngineEnd, Ran};
+use hub_engine::{Budgets, Engine, EngineEnd, EngineRefusal, Ran};
 use line_counter::LineCounter;
 use machine_scripts::followers_run_scripts;
 use scenario_check::Checked;
@@ -83,8 +83,10 @@ fn count_run(alloc: Global, checked: Checked) -> Option<CountedRun>
     ensures { IfSome result (λ run. WasCounted run.ran run.lines (storm_run checked)) }
 {
     followers_run_scripts();
-    let Ok(engine) = Engine::new(alloc, checked, BUDGETS) else {
-        return None;
+    let engine = match Engine::new(alloc, checked, BUDGETS) {
+        Ok(engine) => engine,
+        Err(EngineRefusal::Memory) => return None,
+        Err(EngineRefusal::Budgets) => unreachable!(),
     };
     let mut world = ScriptWorld::new(alloc, TICK);
     let Ok(()) = world.begin(WORKERS) else {

@@ -9,12 +9,18 @@ use Rattle.machine.specs.State.{State}
 use Rattle.machine_trace_laws.specs.Reached.{state_of_next}
 use Rattle.machine_rooms.specs.Counts.{AreCountable}
 use Rattle.machine_counts.specs.Turns.{ReachedIn}
+use Rattle.hub_engine.specs.declared.run.EngineRefusal.{EngineRefusal}
 use Rattle.hub_engine.specs.Ready.{IsPrepared}
 
 -- a run may be given no more turns and moves
 pub record AreFewBudgets (turns moves : ℕ) : Type 0 where
   pub few_turns : turns ≤ MOST_TURNS
   pub few_moves : moves ≤ MOST_MOVES
+
+-- an engine is refused for its budgets exactly where a run may not be given these
+abbrev pub IsRefusedFor : (turns moves : ℕ) → EngineRefusal → Type 0
+IsRefusedFor turns moves EngineRefusal.Budgets = AreFewBudgets turns moves → ⊥
+IsRefusedFor turns moves EngineRefusal.Memory = AreFewBudgets turns moves
 
 -- nothing of the run has begun, which is given so many turns and moves
 pub record IsGiven (turns moves : ℕ) (s : State) : Type 0 where

@@ -17,4 +17,4 @@ mod run;
 mod stand;
 mod turns;
 
-pub use run::{Budgets, Engine, EngineEnd, Ran};
+pub use run::{Budgets, Engine, EngineEnd, EngineRefusal, Ran};

@@ -1,5 +1,5 @@
 //! The engine as its callers see it: prepared, and then run once.
-ghost use Rattle.std.specs.Prelude.{◌≡◌, ◌≢◌, ◌≤◌, true, [], IfOk, OnOk};
+ghost use Rattle.std.specs.Prelude.{◌≡◌, ◌≢◌, ◌≤◌, true, [], IfOk, IfErr, OnOk};
 ghost use Rattle.std.specs.List.{list_all};
 ghost use Rattle.gv_values.specs.Counts.{HasRisen};
 ghost use Rattle.scenario_rules.specs.Rules.{IsWellFormed};
@@ -15,8 +15,9 @@ ghost use Rattle.hub_objects.specs.Counted.{AreCounted};
 ghost use Rattle.hub_engine.specs.Ends.{HasLogged, HasNumbers, RanTo};
 ghost use Rattle.hub_engine.specs.Run.{WroteAhead};
 ghost use Rattle.hub_engine.specs.Outside.{WritesPart};
-ghost use Rattle.hub_engine.specs.Within.{AreFewBudgets};
+ghost use Rattle.hub_engine.specs.Within.{AreFewBudgets, IsRefusedFor};
 ghost use Rattle.hub_engine.specs.declared.run.EngineEnd.TheVariants as ends;
+ghost use Rattle.hub_engine.specs.declared.run.EngineRefusal.TheVariants as refusals;
 
 use crate::turns::{ended_as, run};
 use flat_code::compile;
@@ -61,6 +62,26 @@ pub struct Budgets {
     pub moves: u64,
 }
 
+/// Why an engine was not prepared.
+#[derive(Clone, Copy, Debug, PartialEq, Eq)]
+pub enum EngineRefusal {
+    /// The budgets are more than a run may be given: `MOST_TURNS` turns and `MOST_MOVES` moves.
+    Budgets,
+    /// Memory ran out.
+    Memory,
+}
+
+impl From<AllocError> for EngineRefusal {
+    ghost use Rattle.std.specs.Prelude.{◌≡◌};
+    ghost use Rattle.hub_engine.specs.declared.run.EngineRefusal.TheVariants.{Memory};
+
+    ghost from_gives = { λ _ e. e ≡ Memory };
+
+    fn from(_: AllocError) -> EngineRefusal {
+        EngineRefusal::Memory
+    }
+}
+
 /// How a run ended, and the counts and the moment of its last state.
 #[derive(Clone, Copy, Debug, PartialEq, Eq)]
 pub struct Ran {
@@ -98,10 +119,16 @@ impl Model for Engine {
 }
 
 impl Engine {
-    /// The scenario before its run. `AllocError`: memory is wanting, or the budgets are more than a run may be given; the
-    /// scenario is given up.
-    pub fn new(alloc: Global, checked: Checked, budgets: Budgets) -> Result<Engine, AllocError>
-        ensures { IfOk result (λ engine. engine ≡ record { scenario = checked; turns = budgets.turns; moves = budgets.moves }) }
+    /// The scenario before its run.
+    ///
+    /// # Errors
+    ///
+    /// `Budgets` exactly where these are more than a run may be given; `Memory` where memory ran out. The scenario is
+    /// given up.
+    pub fn new(alloc: Global, checked: Checked, budgets: Budgets) -> Result<Engine, EngineRefusal>
+        ensures prepared { IfOk result (λ engine. engine ≡ record { scenario = checked; turns = budgets.turns; moves = budgets.moves }) }
+        ensures few { OnOk result (AreFewBudgets budgets.turns budgets.moves) }
+        ensures refused { IfErr result (IsRefusedFor budgets.turns budgets.moves) }
     {
         may_be_given(budgets)?;
         may_run(&checked);
@@ -160,15 +187,16 @@ fn may_run(checked: &Checked)
     let _written = checked.scenario().tree();
 }
 
-/// A run may be given no more turns and moves than the limits say. `AllocError`: these are more.
-fn may_be_given(budgets: Budgets) -> Result<(), AllocError>
-    ensures { OnOk result (AreFewBudgets budgets.turns budgets.moves) }
+/// A run may be given no more turns and moves than the limits say; these are refused exactly if they are more.
+fn may_be_given(budgets: Budgets) -> Result<(), EngineRefusal>
+    ensures few { OnOk result (AreFewBudgets budgets.turns budgets.moves) }
+    ensures refused { IfErr result (λ refusal. (refusal ≡ refusals.Budgets) × (AreFewBudgets budgets.turns budgets.moves → ⊥)) }
 {
     if budgets.turns > MOST_TURNS {
-        return Err(AllocError);
+        return Err(EngineRefusal::Budgets);
     }
     if budgets.moves > MOST_MOVES {
-        return Err(AllocError);
+        return Err(EngineRefusal::Budgets);
     }
     Ok(())
 }

@@ -37,7 +37,10 @@ fn runs(rt: &HostRuntime) -> io::Result<bool> {
     let Ok(scenario) = read_scenario(alloc, text.as_slice()) else {
         return Ok(false);
     };
-    let ran = Engine::new(alloc, scenario, BUDGETS)?.run(alloc, &mut world, &mut trace);
+    let Ok(engine) = Engine::new(alloc, scenario, BUDGETS) else {
+        return Ok(false);
+    };
+    let ran = engine.run(alloc, &mut world, &mut trace);
     let is_out = trace.flush().is_ok();
     println!(rt;
         "{} questions, {} bytes, moment {}",

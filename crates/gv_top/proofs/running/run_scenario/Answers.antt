@@ -5,6 +5,11 @@ use Rattle.gv_top.proofs.Handing.{began_held, began_natively}
 use Rattle.gv_top.proofs.Built.{few_held, few_workers, some_held, some_workers}
 use Rattle.gv_top.proofs.running.run_scenario.Goals as goal
 
+pub unreachable-requires : goal.unreachable-requires
+unreachable-requires g c =
+    let budgets = c.requires.budgets in
+    c.in-Budgets.ensures.refused (record { few_turns = budgets.few_turns; few_moves = budgets.few_moves })
+
 pub run_natively-requires-clause-some : goal.run_natively-requires-clause-some
 run_natively-requires-clause-some g c = some_workers c.args.options.world _ c.in-Native.is c.requires.range
 
@@ -19,19 +24,19 @@ returns-in_default-clause-begun g c = inr (refl, inr (inr refl))
 
 pub returns-in-Script-clause-written : goal.returns-in-Script-clause-written
 returns-in-Script-clause-written g c =
-    ran_by_script c.run_script.result c.args.options c.in-Script.tick _ c.args.checked c.in-Ok.engine _ _ c.in-Ok.ensures c.in-Script.is c.run_script.ensures.written
+    ran_by_script c.run_script.result c.args.options c.in-Script.tick _ c.args.checked c.in-Ok.engine _ _ c.in-Ok.ensures.prepared c.in-Script.is c.run_script.ensures.written
 
 pub returns-in-Native-clause-written : goal.returns-in-Native-clause-written
 returns-in-Native-clause-written g c =
-    ran_by_workers c.run_natively.result c.args.options c.in-Native.workers _ c.args.checked c.in-Ok.engine _ _ c.in-Ok.ensures c.in-Native.is c.run_natively.ensures.written
+    ran_by_workers c.run_natively.result c.args.options c.in-Native.workers _ c.args.checked c.in-Ok.engine _ _ c.in-Ok.ensures.prepared c.in-Native.is c.run_natively.ensures.written
 
 pub returns-in-Script-clause-begun : goal.returns-in-Script-clause-begun
 returns-in-Script-clause-begun g c =
-    begun_by_script _ c.args.options c.in-Script.tick _ c.args.checked c.in-Ok.engine _ _ c.in-Ok.ensures c.in-Script.is c.run_script.ensures.lawful
+    begun_by_script _ c.args.options c.in-Script.tick _ c.args.checked c.in-Ok.engine _ _ c.in-Ok.ensures.prepared c.in-Script.is c.run_script.ensures.lawful
 
 pub returns-in-Native-clause-begun : goal.returns-in-Native-clause-begun
 returns-in-Native-clause-begun g c =
-    begun_by_workers _ c.args.options c.in-Native.workers _ c.args.checked c.in-Ok.engine _ _ c.in-Ok.ensures c.in-Native.is c.run_natively.ensures.begun
+    begun_by_workers _ c.args.options c.in-Native.workers _ c.args.checked c.in-Ok.engine _ _ c.in-Ok.ensures.prepared c.in-Native.is c.run_natively.ensures.begun
 
 pub run_held-requires-clause-some : goal.run_held-requires-clause-some
 run_held-requires-clause-some g c = some_held c.args.options.world _ c.in-Held.is c.requires.range
@@ -41,15 +46,15 @@ run_held-requires-clause-few g c = few_held c.args.options.world _ c.in-Held.is 
 
 pub returns-in-Held-clause-written : goal.returns-in-Held-clause-written
 returns-in-Held-clause-written g c =
-    ran_by_held c.run_held.result c.args.options c.in-Held.workers _ c.args.checked c.in-Ok.engine _ _ c.in-Ok.ensures c.in-Held.is c.run_held.ensures.written
+    ran_by_held c.run_held.result c.args.options c.in-Held.workers _ c.args.checked c.in-Ok.engine _ _ c.in-Ok.ensures.prepared c.in-Held.is c.run_held.ensures.written
 
 pub returns-in-Held-clause-held : goal.returns-in-Held-clause-held
 returns-in-Held-clause-held g c = λ workers is wf m.
-    held_so c.args.options c.in-Held.workers workers _ c.args.checked c.in-Ok.engine _ _ c.in-Ok.ensures c.in-Held.is is (c.run_held.ensures.native wf m)
+    held_so c.args.options c.in-Held.workers workers _ c.args.checked c.in-Ok.engine _ _ c.in-Ok.ensures.prepared c.in-Held.is is (c.run_held.ensures.native wf m)
 
 pub returns-in-Held-clause-begun : goal.returns-in-Held-clause-begun
 returns-in-Held-clause-begun g c =
-    begun_by_held _ c.args.options c.in-Held.workers _ c.args.checked c.in-Ok.engine _ _ c.in-Ok.ensures c.in-Held.is c.run_held.ensures.lawful
+    begun_by_held _ c.args.options c.in-Held.workers _ c.args.checked c.in-Ok.engine _ _ c.in-Ok.ensures.prepared c.in-Held.is c.run_held.ensures.lawful
 
 pub returns-in_default-clause-began : goal.returns-in_default-clause-began
 returns-in_default-clause-began g c = inr refl
@@ -59,7 +64,7 @@ returns-in-Script-clause-began g c = inr refl
 
 pub returns-in-Native-clause-began : goal.returns-in-Native-clause-began
 returns-in-Native-clause-began g c =
-    began_natively _ c.args.options c.in-Native.workers c.args.checked _ _ c.in-Ok.engine _ _ _ c.in-Ok.ensures c.in-Native.is c.run_natively.ensures.began
+    began_natively _ c.args.options c.in-Native.workers c.args.checked _ _ c.in-Ok.engine _ _ _ c.in-Ok.ensures.prepared c.in-Native.is c.run_natively.ensures.began
 
 pub returns-in-Held-clause-began : goal.returns-in-Held-clause-began
 returns-in-Held-clause-began g c = began_held _ c.args.options c.in-Held.workers c.args.checked _ _ _ _ _ c.in-Held.is

@@ -13,6 +13,11 @@ use Rattle.gv_top.proofs.top.answer_scenario.Goals as goal
 pub run_scenario-requires-clause-range : goal.run_scenario-requires-clause-range
 run_scenario-requires-clause-range g c = (let P : TextCommand → Type 0 = λ d. IsInRange (named.Text d) in subst P c.in-Run.is c.requires.range).2
 
+pub run_scenario-requires-clause-budgets : goal.run_scenario-requires-clause-budgets
+run_scenario-requires-clause-budgets g c =
+    let r = (let P : TextCommand → Type 0 = λ d. IsInRange (named.Text d) in subst P c.in-Run.is c.requires.range) in
+    record { some_turns = r.0.0; few_turns = r.0.1; some_moves = r.1.0; few_moves = r.1.1 }
+
 pub returns-in-Run-clause-answer : goal.returns-in-Run-clause-answer
 returns-in-Run-clause-answer g c =
     let given = (g.W.World.meaning c.run_scenario.new.native).answers in

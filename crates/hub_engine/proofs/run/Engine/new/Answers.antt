@@ -9,5 +9,5 @@ invariant_of-result c =
     record {
       prepared = subst IsPrepared (sym (c.in_ok-hub.ensures ∙ ap first_state c.in_ok-compile.ensures))
           (record { may_run = record { well_formed = may.well_formed; main = may.main; countable = may.countable }; first = refl });
-      few = c.in_ok-may_be_given.ensures;
+      few = c.in_ok-may_be_given.ensures.few;
     }
