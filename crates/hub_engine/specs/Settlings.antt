@@ -10,10 +10,14 @@ use Rattle.machine_rooms.specs.Rooms.{HasRoom, room_of_move}
 abbrev pub most_hops : ℕ
 most_hops = 2 ^ 32
 
+-- no more items stand in a step
+abbrev pub most_items : ℕ
+most_items = 2 ^ 29
+
 -- so many settlings may follow, each of which numbers each item at most
 pub record MaySettle (times : ℕ) (s : State) : Type 0 where
-  pub items : length s.items ≤ 2 ^ 29
-  pub numbers : s.next_ready + 2 ^ 29 * times ≤ 2 ^ 63
+  pub items : length s.items ≤ most_items
+  pub numbers : s.next_ready + most_items * times ≤ 2 ^ 63
 
 -- there is room for a move of the greenlet, whatever body it has
 pub record HasMoveRoom (g : ℕ) (s : State) : Type 0 where
