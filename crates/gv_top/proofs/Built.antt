@@ -3,13 +3,14 @@ use Rattle.std.proofs.Common.{◌≡◌, ◌≤◌, ◌<◌, ℕ, List, Option, 
 use Rattle.machine.specs.Budgets.{AreBudgets}
 use Rattle.command_words.specs.Words.{Word}
 use Rattle.command_words.specs.Words as words
-use Rattle.command_words.specs.Ranges.{IsInRange, IsWorldInRange}
+use Rattle.command_words.specs.Ranges.{IsCheckInRange, IsInRange, IsWorldInRange}
 use Rattle.command_words.specs.declared.command.NamedCommand.{NamedCommand}
 use Rattle.command_words.specs.declared.command.NamedCommand.TheVariants as named
 use Rattle.command_words.specs.declared.command.RunOptions.{RunOptions}
 use Rattle.command_words.specs.declared.command.RunWorld.{RunWorld}
 use Rattle.command_words.specs.declared.command.TextCommand.{TextCommand}
 use Rattle.command_words.specs.declared.command.TextCommand.TheVariants.{Run}
+use Rattle.command_words.specs.declared.command.TraceCheck.{TraceCheck}
 use Rattle.gv_top.specs.declared.words.OfflineCommand.{OfflineCommand}
 use Rattle.gv_top.specs.Words.{built, offline_command_of}
 use Rattle.gv_values.specs.declared.limits.TheConstants.{MOST_WORKERS}
@@ -34,6 +35,24 @@ in_range law w text e = by (words.command_of w) refl e
   where
     by : (o : Option NamedCommand) → words.command_of w ≡ o → option_and_then built o ≡ Some (OfflineCommand.Text text) → IsInRange (named.Text text)
     by (Some command) is h = built_in_range text command h (law w command is)
+    by None is h = absurd (cc h)
+
+same_check : (a b : TraceCheck) → Some (OfflineCommand.Verify a) ≡ Some (OfflineCommand.Verify b) → a ≡ b
+same_check a b e = cc e
+
+built_check : (check : TraceCheck) (command : NamedCommand) → built command ≡ Some (OfflineCommand.Verify check) → IsInRange command → IsCheckInRange check
+built_check check (named.Text given) e h = absurd (cc e)
+built_check check (named.Wsgi gateway) e h = absurd (cc e)
+built_check check (named.Serve options) e h = absurd (cc e)
+built_check check (named.Storm n) e h = absurd (cc e)
+built_check check (named.Verify given) e h = subst IsCheckInRange (same_check given check e) h
+
+-- and so is a check
+pub check_in_range : NamedAreInRange → (w : List Word) (check : TraceCheck) → offline_command_of w ≡ Some (OfflineCommand.Verify check) → IsCheckInRange check
+check_in_range law w check e = by (words.command_of w) refl e
+  where
+    by : (o : Option NamedCommand) → words.command_of w ≡ o → option_and_then built o ≡ Some (OfflineCommand.Verify check) → IsCheckInRange check
+    by (Some command) is h = built_check check command h (law w command is)
     by None is h = absurd (cc h)
 
 pub are_budgets : NamedAreInRange → (w : List Word) (options : RunOptions) → offline_command_of w ≡ Some (OfflineCommand.Text (Run options)) → AreBudgets options.turns options.moves

@@ -6,7 +6,7 @@ ghost use Rattle.command_words.specs.declared.command.GatewayKind.{GatewayKind a
 ghost use Rattle.command_words.specs.declared.command.RunOptions.{RunOptions as AnyOptions};
 ghost use Rattle.command_words.specs.declared.command.NamedCommand.{NamedCommand};
 ghost use Rattle.command_words.specs.declared.command.TraceCheck.{TraceCheck as AnyCheck};
-ghost use Rattle.command_words.specs.Ranges.{IsInRange};
+ghost use Rattle.command_words.specs.Ranges.{IsCheckInRange, IsInRange};
 ghost use Rattle.scenario_grammar.specs.Spells.{Spells};
 ghost use Rattle.scenario_rules.specs.Rules.{IsWellFormed};
 ghost use Rattle.scenario_tree.specs.declared.tree.Scenario.{Scenario as AnyScenario};
@@ -102,6 +102,7 @@ fn answer_command<S: Source, K: Sink, W: World, A: Application>(
     app: &A,
 ) -> Verdict
     requires range { (text : TextCommand) → command ≡ Some (OfflineCommand.Text text) → IsInRange (NamedCommand.Text text) }
+    requires checked { (check : AnyCheck) → command ≡ Some (OfflineCommand.Verify check) → IsCheckInRange check }
     requires rests { (W.meaning native.old).runs ≡ false }
     ensures answer { (left : List ℕ) (a : Answer) → S.remaining input.old ≡ Some left → IsAnswerOf (A.answer_of app.now) command (W.meaning native.new).answers left a →
         Decided result a (K.written out.old) (K.written out.new) }

@@ -1,5 +1,6 @@
 //! Checks of a trace: whether it is the run of a scenario, or whether it meets the laws.
 ghost use Rattle.std.specs.Prelude.{◌≡◌, ◌≢◌, ℕ, List, Some, drop, take};
+ghost use Rattle.command_words.specs.Ranges.{IsCheckInRange};
 ghost use Rattle.gv_top.specs.Answers.{Answer};
 ghost use Rattle.gv_top.specs.Top.{Counts, Decided, FitsAnswer, HandsOn};
 ghost use Rattle.gv_top.specs.Status.{verdict_status};
@@ -22,6 +23,7 @@ pub fn answer_check<S: Source, K: Sink>(
     input: &mut S,
     out: &mut K,
 ) -> Verdict
+    requires { IsCheckInRange check }
     ensures answer { (left : List ℕ) (a : Answer) → S.remaining input.old ≡ Some left → IsCheckAnswer check (take most_checked_read left) a →
         Decided result a (K.written out.old) (K.written out.new) }
     ensures checked { (left : List ℕ) → S.remaining input.old ≡ Some left → verdict_status result ≢ 4 → verdict_status result ≢ 5 → verdict_status result ≢ 7 →
@@ -45,6 +47,7 @@ pub fn answer_check<S: Source, K: Sink>(
 
 /// Checks this of the bytes, and writes the number of lines to out where it comes out well.
 fn check_bytes<K: Sink>(alloc: Global, check: TraceCheck, bytes: &[u8], out: &mut K) -> Verdict
+    requires { IsCheckInRange check }
     ensures answer { (a : Answer) → IsCheckAnswer check bytes.now a → Decided result a (K.written out.old) (K.written out.new) }
     ensures checked { verdict_status result ≢ 5 → verdict_status result ≢ 7 → (a : Answer) × IsCheckAnswer check bytes.now a × FitsAnswer result a (K.written out.old) (K.written out.new) }
     ensures unprinted { verdict_status result ≢ 0 → verdict_status result ≢ 5 → K.written out.new ≡ K.written out.old }

@@ -1,5 +1,7 @@
 //! Whether an input is verified: that its trace is the run of its scenario, or that its lines meet the laws.
 ghost use Rattle.std.specs.Prelude.{◌≡◌, ◌+◌, ◌≤◌, drop, length, IfErr, Ok as Fine, Err as Refuses};
+ghost use Rattle.command_words.specs.Ranges.{IsCheckInRange};
+ghost use Rattle.machine.specs.Budgets.{AreBudgets};
 ghost use Rattle.scenario_reading.specs.Judged.{judged_text};
 ghost use Rattle.trace_check.specs.Parts.{parted};
 ghost use Rattle.verify_command.specs.Judged.{IsReasoned, IsSaid, IsSaidOf, IsSaidOfParts, IsSaidOfScenario, IsSaidOfTrace, IsSame, Verification, said_of_laws, said_of_run, said_of_text};
@@ -47,6 +49,7 @@ pub enum Unverified {
 /// within the turns and moves, under the answers that its turn lines name, each of them legal. `Laws`: the whole input is
 /// a trace, whose lines meet the laws. An input of which more than `MOST_CHECKED` bytes are here is too long.
 pub fn verify(alloc: Global, check: TraceCheck, bytes: &[u8]) -> Result<u64, Unverified>
+    requires { IsCheckInRange check }
     ensures said { IsSaid (IsSaidOf check bytes.now) result }
     ensures only { (right : Verification) → IsSaidOf check bytes.now right → IsSame right result }
     ensures reason { IfErr result IsReasoned }
@@ -76,6 +79,7 @@ fn verify_lines(alloc: Global, trace: &[u8]) -> Result<u64, Unverified>
 
 /// Whether the trace behind the first line of four equals signs is the run of the scenario before it.
 fn verify_parts(alloc: Global, budgets: Budgets, bytes: &[u8]) -> Result<u64, Unverified>
+    requires { AreBudgets budgets.turns budgets.moves }
     ensures said { IsSaid (IsSaidOfParts (parted bytes.now) bytes.now budgets.turns budgets.moves) result }
     ensures only { (right : Verification) → IsSaidOfParts (parted bytes.now) bytes.now budgets.turns budgets.moves right → IsSame right result }
     ensures reason { IfErr result IsReasoned }
@@ -106,6 +110,7 @@ fn verify_text(
     text: &[u8],
     trace: &[u8],
 ) -> Result<u64, Unverified>
+    requires { AreBudgets budgets.turns budgets.moves }
     ensures said { IsSaid (IsSaidOfScenario (judged_text text.now) budgets.turns budgets.moves trace.now) result }
     ensures only { (right : Verification) → IsSaidOfScenario (judged_text text.now) budgets.turns budgets.moves trace.now right → IsSame right result }
     ensures reason { IfErr result IsReasoned }
@@ -123,6 +128,7 @@ fn verify_trace(
     checked: Checked,
     trace: &[u8],
 ) -> Result<u64, Unverified>
+    requires { AreBudgets budgets.turns budgets.moves }
     ensures said { IsSaidOfScenario (Fine checked) budgets.turns budgets.moves trace.now result }
     ensures only { (right : Verification) → IsSaidOfScenario (Fine checked) budgets.turns budgets.moves trace.now right → IsSame right result }
     ensures reason { IfErr result IsReasoned }

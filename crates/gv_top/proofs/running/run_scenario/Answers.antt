@@ -8,7 +8,8 @@ use Rattle.gv_top.proofs.running.run_scenario.Goals as goal
 pub unreachable-requires : goal.unreachable-requires
 unreachable-requires g c =
     let budgets = c.requires.budgets in
-    c.in-Budgets.ensures.refused (record { few_turns = budgets.few_turns; few_moves = budgets.few_moves })
+    let refused = rw c.in-Err-Budgets.field-0-is at c.in-Err-Budgets.ensures.refused in
+    refused (record { few_turns = budgets.few_turns; few_moves = budgets.few_moves })
 
 pub run_natively-requires-clause-some : goal.run_natively-requires-clause-some
 run_natively-requires-clause-some g c = some_workers c.args.options.world _ c.in-Native.is c.requires.range
@@ -16,11 +17,11 @@ run_natively-requires-clause-some g c = some_workers c.args.options.world _ c.in
 pub run_natively-requires-clause-few : goal.run_natively-requires-clause-few
 run_natively-requires-clause-few g c = few_workers c.args.options.world _ c.in-Native.is c.requires.range
 
-pub returns-in_default-clause-written : goal.returns-in_default-clause-written
-returns-in_default-clause-written g c = AppendsPrefix-nothing _ _
+pub returns-in-Err-Memory-clause-written : goal.returns-in-Err-Memory-clause-written
+returns-in-Err-Memory-clause-written g c = AppendsPrefix-nothing _ _
 
-pub returns-in_default-clause-begun : goal.returns-in_default-clause-begun
-returns-in_default-clause-begun g c = inr (refl, inr (inr refl))
+pub returns-in-Err-Memory-clause-begun : goal.returns-in-Err-Memory-clause-begun
+returns-in-Err-Memory-clause-begun g c = inr (refl, inr (inr refl))
 
 pub returns-in-Script-clause-written : goal.returns-in-Script-clause-written
 returns-in-Script-clause-written g c =
@@ -56,8 +57,8 @@ pub returns-in-Held-clause-begun : goal.returns-in-Held-clause-begun
 returns-in-Held-clause-begun g c =
     begun_by_held _ c.args.options c.in-Held.workers _ c.args.checked c.in-Ok.engine _ _ c.in-Ok.ensures.prepared c.in-Held.is c.run_held.ensures.lawful
 
-pub returns-in_default-clause-began : goal.returns-in_default-clause-began
-returns-in_default-clause-began g c = inr refl
+pub returns-in-Err-Memory-clause-began : goal.returns-in-Err-Memory-clause-began
+returns-in-Err-Memory-clause-began g c = inr refl
 
 pub returns-in-Script-clause-began : goal.returns-in-Script-clause-began
 returns-in-Script-clause-began g c = inr refl
@@ -69,5 +70,5 @@ returns-in-Native-clause-began g c =
 pub returns-in-Held-clause-began : goal.returns-in-Held-clause-began
 returns-in-Held-clause-began g c = began_held _ c.args.options c.in-Held.workers c.args.checked _ _ _ _ _ c.in-Held.is
 
-pub returns-in_default-clause-hands : goal.returns-in_default-clause-hands
-returns-in_default-clause-hands g c = λ h5 h7 e. absurd (h7 refl)
+pub returns-in-Err-Memory-clause-hands : goal.returns-in-Err-Memory-clause-hands
+returns-in-Err-Memory-clause-hands g c = λ h5 h7 e. absurd (h7 refl)

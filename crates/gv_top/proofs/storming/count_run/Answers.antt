@@ -5,7 +5,9 @@ use Rattle.gv_top.proofs.Storms.{was_counted}
 use Rattle.gv_top.proofs.storming.count_run.Goals as goal
 
 pub unreachable-requires : goal.unreachable-requires
-unreachable-requires c = c.in-Budgets.ensures.refused (record { few_turns = omega arith; few_moves = omega arith })
+unreachable-requires c =
+    let refused = rw c.in-Err-Budgets.field-0-is at c.in-Err-Budgets.ensures.refused in
+    refused (record { few_turns = omega arith; few_moves = omega arith })
 
 pub returns : goal.returns
 returns c =

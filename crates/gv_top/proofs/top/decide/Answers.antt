@@ -4,7 +4,7 @@ use Rattle.gv_top.proofs.Deciding.{nothing_exchanged, nothing_handed_ahead}
 use Rattle.gv_top.proofs.Handing.{none_began}
 use Rattle.gv_top.proofs.ReadTexts.{spelt_is_judged}
 use Rattle.command_words.specs.declared.command.TextCommand.{TextCommand}
-use Rattle.gv_top.proofs.Built.{in_range}
+use Rattle.gv_top.proofs.Built.{check_in_range, in_range}
 use Rattle.gv_top.proofs.Servings.{is_some, none_named}
 use Rattle.gv_top.proofs.Tops.{came_as, left_alone, nothing_lawful, out_of_memory_at_once}
 use Rattle.gv_top.proofs.top.decide.Goals as goal
@@ -30,6 +30,11 @@ returns-in-Some-clause-serve g c = is_some _ _ (ap (option_and_then serving) (sy
 pub answer_command-requires-clause-range : goal.answer_command-requires-clause-range
 answer_command-requires-clause-range g c = λ text e.
     in_range (λ w command named. c.commands_are_in_range.ensures w command named) (map string_bytes c.args.words.now) text
+    (sym (c.without_a_net-command.ensures ∙ ap (option_and_then built) c.in-Ok.ensures) ∙ e)
+
+pub answer_command-requires-clause-checked : goal.answer_command-requires-clause-checked
+answer_command-requires-clause-checked g c = λ check e.
+    check_in_range (λ w command named. c.commands_are_in_range.ensures w command named) (map string_bytes c.args.words.now) check
     (sym (c.without_a_net-command.ensures ∙ ap (option_and_then built) c.in-Ok.ensures) ∙ e)
 
 pub returns-in-None-clause-came_to : goal.returns-in-None-clause-came_to
