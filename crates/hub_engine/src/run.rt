@@ -9,6 +9,7 @@ ghost use Rattle.machine.specs.Run.{Source, first_state, run};
 ghost use Rattle.machine.specs.TraceLaws.{meets_laws};
 ghost use Rattle.machine_well_formed.specs.Texts.{HasMain};
 ghost use Rattle.machine_rooms.specs.Counts.{AreCountable};
+ghost use Rattle.body_values.specs.Small.{IsSmall};
 ghost use Rattle.world.specs.Outside.{WorldGoesOn};
 ghost use Rattle.world_rules.specs.Legal.{AreLegal};
 ghost use Rattle.hub_objects.specs.Counted.{AreCounted};
@@ -175,11 +176,12 @@ impl Engine {
     }
 }
 
-/// A scenario that is checked may be run: its main has a number, and what its objects count fits, by far.
-#[tactic(auto, using(crate::proofs::Mains::main_there))]
+/// A scenario that is checked may be run: its main has a number, its objects are few, and what they count fits, by far.
+#[tactic(auto, using(crate::proofs::Mains::main_there, flat_code::proofs::Limits::well_formed_is_small))]
 fn may_run(checked: &Checked)
     ensures well_formed { IsWellFormed checked.now }
     ensures main { HasMain checked.now }
+    ensures small { IsSmall checked.now }
     ensures counted { AreCounted (first_state checked.now).objects }
     ensures countable { AreCountable (first_state checked.now).objects }
 {

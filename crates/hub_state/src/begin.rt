@@ -1,5 +1,6 @@
 //! The state before the first move.
-ghost use Rattle.std.specs.Prelude.{◌≡◌, IfOk, codes};
+ghost use Rattle.std.specs.Prelude.{◌≡◌, ◌≤◌, IfOk, codes, length};
+ghost use Rattle.scenario_tree.specs.declared.limits.TheConstants.{MOST_OBJECTS};
 ghost use Rattle.machine.specs.Expressions.{function_number};
 ghost use Rattle.machine.specs.Run.{first_state};
 ghost use Rattle.hub_objects.specs.Counted.{AreCounted};
@@ -27,19 +28,16 @@ fn number_of_main(code: &Code) -> u32
 
 impl Hub {
     /// The state at the beginning of a run of the code: nothing is made but main, which has not started.
-    /// `AllocError`: memory is wanting, or the number of an object would pass 32 bits.
+    /// `AllocError`: memory is wanting.
     #[tactic(auto, using(hub_items::proofs::Sounds::sound_none))]
     pub fn new(alloc: Global, code: Code) -> Result<Hub, AllocError>
         requires counted { AreCounted (first_state code).objects }
+        requires few { length code.objects ≤ MOST_OBJECTS }
         ensures { IfOk result (λ hub. hub ≡ first_state code) }
     {
         let objects = Objects::declared(alloc, code.objects())?;
-        let count = objects.as_slice().len();
-        if count > u32::MAX as usize {
-            return Err(AllocError);
-        }
         let mut touched = Touched::new(alloc);
-        touched.reserve(count)?;
+        touched.reserve(objects.as_slice().len())?;
         let greenlets = Greenlets::first(alloc, number_of_main(&code))?;
         Ok(Hub {
             base: Base {
