@@ -1,13 +1,13 @@
 //! Statements that give no value.
-ghost use Rattle.std.specs.Prelude.{◌≡◌, ◌++◌, List, IfOk, option_map};
+ghost use Rattle.std.specs.Prelude.{◌≡◌, ◌++◌, List, IfOk};
 ghost use Rattle.gv_values.specs.declared.name.Name.{Name as Word};
-ghost use Rattle.body_names.specs.Expressions.{expression_of};
 ghost use Rattle.body_names.specs.Naming.{Grows, IsKept};
 ghost use Rattle.body_names.specs.Statements.{command_of};
 
 use crate::expression::{FlatExpression, Slot, flat_expression};
 use crate::naming::Naming;
-use scenario_tree::{Command, Expression, Wait};
+use crate::operands::{expression_expression, expression_optional, name_expression, name_optional};
+use scenario_tree::{Command, Wait};
 use std::alloc::{AllocError, Global};
 
 /// A statement of one line that gives no value, with numbers in place of names.
@@ -40,23 +40,6 @@ pub enum FlatCommand {
     QueueShut(u32, bool),
 }
 
-/// An operand that may be missing.
-pub fn flat_optional(
-    alloc: Global,
-    naming: &mut Naming,
-    operand: &Option<Expression>,
-) -> Result<Option<FlatExpression>, AllocError>
-    requires kept { IsKept naming.old.numbers naming.old.names }
-    ensures kept { IfOk result (λ _. IsKept naming.new.numbers naming.new.names) }
-    ensures grows { IfOk result (λ _. Grows naming.old.names naming.new.names) }
-    ensures same { IfOk result (λ e. (more : List Word) → option_map (expression_of (naming.new.names ++ more)) e ≡ operand.now) }
-{
-    match operand {
-        None => Ok(None),
-        Some(e) => Ok(Some(flat_expression(alloc, naming, e)?)),
-    }
-}
-
 /// The statement with numbers. `AllocError`: memory is wanting. The body is long since each statement has its arm.
 pub fn flat_command(
     alloc: Global,
@@ -69,54 +52,54 @@ pub fn flat_command(
     ensures same { IfOk result (λ c. (more : List Word) → command_of (naming.new.names ++ more) c ≡ command.now) }
 {
     match command {
-        Command::Print(a) => Ok(FlatCommand::Print(flat_expression(alloc, naming, a)?)),
+        Command::Print(a) => Ok(FlatCommand::Print(got!(flat_expression(alloc, naming, a)))),
         Command::Let(a, b) => {
-            let a = naming.slot(alloc, a)?;
-            Ok(FlatCommand::Let(a, flat_expression(alloc, naming, b)?))
+            let a = got!(naming.slot(alloc, a));
+            Ok(FlatCommand::Let(a, got!(flat_expression(alloc, naming, b))))
         }
-        Command::Return(a) => Ok(FlatCommand::Return(flat_expression(alloc, naming, a)?)),
-        Command::Raise(a) => Ok(FlatCommand::Raise(flat_expression(alloc, naming, a)?)),
-        Command::Start(a) => Ok(FlatCommand::Start(flat_expression(alloc, naming, a)?)),
+        Command::Return(a) => Ok(FlatCommand::Return(got!(flat_expression(alloc, naming, a)))),
+        Command::Raise(a) => Ok(FlatCommand::Raise(got!(flat_expression(alloc, naming, a)))),
+        Command::Start(a) => Ok(FlatCommand::Start(got!(flat_expression(alloc, naming, a)))),
         Command::Sleep(a) => Ok(FlatCommand::Sleep(*a)),
-        Command::Join(a, b) => Ok(FlatCommand::Join(flat_expression(alloc, naming, a)?, *b)),
+        Command::Join(a, b) => Ok(FlatCommand::Join(got!(flat_expression(alloc, naming, a)), *b)),
         Command::Kill(a, b, c) => {
-            let a = flat_expression(alloc, naming, a)?;
-            Ok(FlatCommand::Kill(a, flat_optional(alloc, naming, b)?, *c))
+            let (a, b) = got!(expression_optional(alloc, naming, a, b));
+            Ok(FlatCommand::Kill(a, b, *c))
         }
         Command::KillAll(a, b, c) => {
-            let a = flat_expression(alloc, naming, a)?;
-            Ok(FlatCommand::KillAll(a, flat_optional(alloc, naming, b)?, *c))
+            let (a, b) = got!(expression_optional(alloc, naming, a, b));
+            Ok(FlatCommand::KillAll(a, b, *c))
         }
-        Command::Unlink(a) => Ok(FlatCommand::Unlink(flat_expression(alloc, naming, a)?)),
-        Command::Set(a) => Ok(FlatCommand::Set(naming.number(alloc, a)?)),
-        Command::Clear(a) => Ok(FlatCommand::Clear(naming.number(alloc, a)?)),
+        Command::Unlink(a) => Ok(FlatCommand::Unlink(got!(flat_expression(alloc, naming, a)))),
+        Command::Set(a) => Ok(FlatCommand::Set(got!(naming.number(alloc, a)))),
+        Command::Clear(a) => Ok(FlatCommand::Clear(got!(naming.number(alloc, a)))),
         Command::ResultSet(a, b) => {
-            let a = naming.number(alloc, a)?;
-            Ok(FlatCommand::ResultSet(a, flat_expression(alloc, naming, b)?))
+            let (a, b) = got!(name_expression(alloc, naming, a, b));
+            Ok(FlatCommand::ResultSet(a, b))
         }
         Command::ResultFail(a, b) => {
-            let a = naming.number(alloc, a)?;
-            Ok(FlatCommand::ResultFail(a, flat_expression(alloc, naming, b)?))
+            let (a, b) = got!(name_expression(alloc, naming, a, b));
+            Ok(FlatCommand::ResultFail(a, b))
         }
-        Command::Release(a) => Ok(FlatCommand::Release(naming.number(alloc, a)?)),
+        Command::Release(a) => Ok(FlatCommand::Release(got!(naming.number(alloc, a)))),
         Command::QueuePut(a, b, c) => {
-            let a = naming.number(alloc, a)?;
-            Ok(FlatCommand::QueuePut(a, flat_expression(alloc, naming, b)?, *c))
+            let (a, b) = got!(name_expression(alloc, naming, a, b));
+            Ok(FlatCommand::QueuePut(a, b, *c))
         }
-        Command::QueueDone(a) => Ok(FlatCommand::QueueDone(naming.number(alloc, a)?)),
-        Command::GroupJoin(a, b) => Ok(FlatCommand::GroupJoin(naming.number(alloc, a)?, *b)),
+        Command::QueueDone(a) => Ok(FlatCommand::QueueDone(got!(naming.number(alloc, a)))),
+        Command::GroupJoin(a, b) => Ok(FlatCommand::GroupJoin(got!(naming.number(alloc, a)), *b)),
         Command::GroupKill(a, b, c) => {
-            let a = naming.number(alloc, a)?;
-            Ok(FlatCommand::GroupKill(a, flat_optional(alloc, naming, b)?, *c))
+            let (a, b) = got!(name_optional(alloc, naming, a, b));
+            Ok(FlatCommand::GroupKill(a, b, *c))
         }
         Command::SetParent(a, b) => {
-            let a = flat_expression(alloc, naming, a)?;
-            Ok(FlatCommand::SetParent(a, flat_expression(alloc, naming, b)?))
+            let (a, b) = got!(expression_expression(alloc, naming, a, b));
+            Ok(FlatCommand::SetParent(a, b))
         }
         Command::ChannelPut(a, b) => {
-            let a = naming.number(alloc, a)?;
-            Ok(FlatCommand::ChannelPut(a, flat_expression(alloc, naming, b)?))
+            let (a, b) = got!(name_expression(alloc, naming, a, b));
+            Ok(FlatCommand::ChannelPut(a, b))
         }
-        Command::QueueShut(a, b) => Ok(FlatCommand::QueueShut(naming.number(alloc, a)?, *b)),
+        Command::QueueShut(a, b) => Ok(FlatCommand::QueueShut(got!(naming.number(alloc, a)), *b)),
     }
 }

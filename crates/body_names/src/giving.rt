@@ -4,9 +4,12 @@ ghost use Rattle.gv_values.specs.declared.name.Name.{Name as Word};
 ghost use Rattle.body_names.specs.Naming.{Grows, IsKept};
 ghost use Rattle.body_names.specs.Statements.{giving_of};
 
-use crate::command::flat_optional;
-use crate::expression::{FlatExpression, flat_expression, flat_items};
+use crate::expression::{FlatExpression, flat_expression};
 use crate::naming::Naming;
+use crate::operands::{
+    expression_expression, expression_name, expression_optional, name_expression, name_items,
+    name_optional,
+};
 use gv_values::JobKind;
 use scenario_tree::{Giving, Items, LinkEnd, Wait};
 use std::alloc::{AllocError, Global};
@@ -55,65 +58,68 @@ pub fn flat_giving(
 {
     match giving {
         Giving::Spawn(a, b) => {
-            let a = naming.number(alloc, a)?;
-            Ok(FlatGiving::Spawn(a, flat_items(alloc, naming, b)?))
+            let (a, b) = got!(name_items(alloc, naming, a, b));
+            Ok(FlatGiving::Spawn(a, b))
         }
         Giving::SpawnLater(a, b, c) => {
-            let b = naming.number(alloc, b)?;
-            Ok(FlatGiving::SpawnLater(*a, b, flat_items(alloc, naming, c)?))
+            let (b, c) = got!(name_items(alloc, naming, b, c));
+            Ok(FlatGiving::SpawnLater(*a, b, c))
         }
         Giving::New(a, b) => {
-            let a = naming.number(alloc, a)?;
-            Ok(FlatGiving::New(a, flat_items(alloc, naming, b)?))
+            let (a, b) = got!(name_items(alloc, naming, a, b));
+            Ok(FlatGiving::New(a, b))
         }
-        Giving::Get(a, b) => Ok(FlatGiving::Get(flat_expression(alloc, naming, a)?, *b)),
+        Giving::Get(a, b) => Ok(FlatGiving::Get(got!(flat_expression(alloc, naming, a)), *b)),
         Giving::JoinAll(a, b, c) => Ok(FlatGiving::JoinAll(
-            flat_expression(alloc, naming, a)?,
+            got!(flat_expression(alloc, naming, a)),
             *b,
             *c,
         )),
         Giving::Link(a, b, c) => {
-            let b = flat_expression(alloc, naming, b)?;
-            Ok(FlatGiving::Link(*a, b, naming.number(alloc, c)?))
+            let (b, c) = got!(expression_name(alloc, naming, b, c));
+            Ok(FlatGiving::Link(*a, b, c))
         }
-        Giving::LinkMark(a, b) => Ok(FlatGiving::LinkMark(flat_expression(alloc, naming, a)?, *b)),
+        Giving::LinkMark(a, b) => Ok(FlatGiving::LinkMark(
+            got!(flat_expression(alloc, naming, a)),
+            *b,
+        )),
         Giving::LinkSet(a, b) => {
-            let a = flat_expression(alloc, naming, a)?;
-            Ok(FlatGiving::LinkSet(a, naming.number(alloc, b)?))
+            let (a, b) = got!(expression_name(alloc, naming, a, b));
+            Ok(FlatGiving::LinkSet(a, b))
         }
-        Giving::WaitEvent(a, b) => Ok(FlatGiving::WaitEvent(naming.number(alloc, a)?, *b)),
-        Giving::ResultGet(a, b) => Ok(FlatGiving::ResultGet(naming.number(alloc, a)?, *b)),
-        Giving::ResultWait(a, b) => Ok(FlatGiving::ResultWait(naming.number(alloc, a)?, *b)),
-        Giving::Acquire(a, b) => Ok(FlatGiving::Acquire(naming.number(alloc, a)?, *b)),
-        Giving::QueueGet(a, b) => Ok(FlatGiving::QueueGet(naming.number(alloc, a)?, *b)),
-        Giving::QueuePeek(a, b) => Ok(FlatGiving::QueuePeek(naming.number(alloc, a)?, *b)),
-        Giving::QueueJoin(a, b) => Ok(FlatGiving::QueueJoin(naming.number(alloc, a)?, *b)),
+        Giving::WaitEvent(a, b) => Ok(FlatGiving::WaitEvent(got!(naming.number(alloc, a)), *b)),
+        Giving::ResultGet(a, b) => Ok(FlatGiving::ResultGet(got!(naming.number(alloc, a)), *b)),
+        Giving::ResultWait(a, b) => Ok(FlatGiving::ResultWait(got!(naming.number(alloc, a)), *b)),
+        Giving::Acquire(a, b) => Ok(FlatGiving::Acquire(got!(naming.number(alloc, a)), *b)),
+        Giving::QueueGet(a, b) => Ok(FlatGiving::QueueGet(got!(naming.number(alloc, a)), *b)),
+        Giving::QueuePeek(a, b) => Ok(FlatGiving::QueuePeek(got!(naming.number(alloc, a)), *b)),
+        Giving::QueueJoin(a, b) => Ok(FlatGiving::QueueJoin(got!(naming.number(alloc, a)), *b)),
         Giving::GroupSpawn(a, b, c) => {
-            let a = naming.number(alloc, a)?;
-            let b = naming.number(alloc, b)?;
-            Ok(FlatGiving::GroupSpawn(a, b, flat_items(alloc, naming, c)?))
+            let a = got!(naming.number(alloc, a));
+            let (b, c) = got!(name_items(alloc, naming, b, c));
+            Ok(FlatGiving::GroupSpawn(a, b, c))
         }
         Giving::Map(a, b, c) => {
-            let a = naming.number(alloc, a)?;
-            let b = naming.number(alloc, b)?;
-            Ok(FlatGiving::Map(a, b, flat_expression(alloc, naming, c)?))
+            let a = got!(naming.number(alloc, a));
+            let (b, c) = got!(name_expression(alloc, naming, b, c));
+            Ok(FlatGiving::Map(a, b, c))
         }
         Giving::NativeSpawn(a, b, c, d) => {
-            let a = naming.number(alloc, a)?;
-            Ok(FlatGiving::NativeSpawn(a, *b, flat_expression(alloc, naming, c)?, *d))
+            let (a, c) = got!(name_expression(alloc, naming, a, c));
+            Ok(FlatGiving::NativeSpawn(a, *b, c, *d))
         }
         Giving::Raw(a, b) => {
-            let a = naming.number(alloc, a)?;
-            Ok(FlatGiving::Raw(a, flat_optional(alloc, naming, b)?))
+            let (a, b) = got!(name_optional(alloc, naming, a, b));
+            Ok(FlatGiving::Raw(a, b))
         }
         Giving::Switch(a, b) => {
-            let a = flat_expression(alloc, naming, a)?;
-            Ok(FlatGiving::Switch(a, flat_expression(alloc, naming, b)?))
+            let (a, b) = got!(expression_expression(alloc, naming, a, b));
+            Ok(FlatGiving::Switch(a, b))
         }
         Giving::Throw(a, b) => {
-            let a = flat_expression(alloc, naming, a)?;
-            Ok(FlatGiving::Throw(a, flat_optional(alloc, naming, b)?))
+            let (a, b) = got!(expression_optional(alloc, naming, a, b));
+            Ok(FlatGiving::Throw(a, b))
         }
-        Giving::ChannelGet(a) => Ok(FlatGiving::ChannelGet(naming.number(alloc, a)?)),
+        Giving::ChannelGet(a) => Ok(FlatGiving::ChannelGet(got!(naming.number(alloc, a)))),
     }
 }
