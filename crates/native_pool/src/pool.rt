@@ -3,8 +3,8 @@ ghost use Rattle.std.specs.Prelude.{◌≡◌, ℕ, ◌<◌, ◌≤◌, ◌-◌,
 ghost use Rattle.std.specs.Arc.{arc_value};
 ghost use Rattle.gv_values.specs.declared.limits.TheConstants.{MOST_WORKERS};
 ghost use Rattle.native_board.specs.declared.views.HubCell.TheVariants.{Stopped};
-ghost use Rattle.native_board.specs.Rules.{hub_cell};
-ghost use Rattle.native_board.specs.Boards.{board_id, hub_view, worker_view};
+ghost use Rattle.native_board.specs.Rules.{begun, hub_cell};
+ghost use Rattle.native_board.specs.Boards.{board_id, hub_board, hub_view, worker_view};
 ghost use Rattle.native_board.specs.Given.{passes_board, next_cell, passes_left};
 ghost use Rattle.world_rules.specs.Legal.{moment_of, IsLegal};
 ghost use Rattle.world_rules.specs.declared.limits.TheConstants.{LAST_MOMENT};
@@ -175,6 +175,29 @@ fn tasks<B: Bell + Drop, G: Gate + Drop>(
         tasks.push(task)?;
     }
     Ok(tasks)
+}
+
+/// A new board with the hub's pass, and the tasks of its workers, by cell.
+fn crew<B: Bell + Drop, G: Gate + Drop>(
+    alloc: Global,
+    workers: u32,
+    bell: &Arc<B, Global>,
+    gate: &Arc<G, Global>,
+) -> Result<(Arc<Board, Global>, HubPass, Vec<WorkerTask<B, G>>), AllocError>
+    requires { (0 < workers) × (workers ≤ MOST_WORKERS) }
+    ensures board { IfOk result (λ it. hub_board it.1 ≡ board_id (arc_value it.0)) }
+    ensures view { IfOk result (λ it. hub_view it.1 ≡ begun workers workers) }
+    ensures cells { IfOk result (λ it. map (λ task. (worker_view task.pass).cell) it.2.items ≡ numbers_from 0 workers) }
+    ensures count { IfOk result (λ it. vec_len it.2 ≡ workers) }
+{
+    let Made {
+        board,
+        hub,
+        workers: passes,
+    } = Board::new(alloc, workers)?;
+    let board = Arc::new(alloc, board)?;
+    let tasks = tasks(alloc, &board, passes, bell, gate)?;
+    Ok((board, hub, tasks))
 }
 
 /// Starts each task in order, and keeps what each start answered.
@@ -373,16 +396,10 @@ impl<
         ensures began { OnOk result (self.new.began ≡ self.new.reading) }
         ensures unchanged { OnErr result (self.new ≡ self.old) }
     {
-        let Made {
-            board,
-            hub,
-            workers: passes,
-        } = Board::new(self.alloc, workers)?;
-        let board = Arc::new(self.alloc, board)?;
-        let tasks = tasks(self.alloc, &board, passes, &self.bell, &self.gate)?;
         let mut started = Vec::with_capacity(self.alloc, MOST_WORKERS as usize)?;
         let mut starts = Vec::with_capacity(self.alloc, MOST_WORKERS as usize)?;
         let held = Vec::with_capacity(self.alloc, MOST_WORKERS as usize)?;
+        let (board, hub, tasks) = crew(self.alloc, workers, &self.bell, &self.gate)?;
         start_all(&mut self.spawner, tasks, &mut starts, &mut started);
         self.history.restart(self.clock.now());
         self.workers = workers;
