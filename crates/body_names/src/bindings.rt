@@ -20,7 +20,7 @@ pub fn enter_function(
     for parameter in function.parameters.as_slice() {
         naming.note(alloc, parameter)?;
     }
-    Ok(note_block(alloc, naming, &function.body)?)
+    note_block(alloc, naming, &function.body)
 }
 
 #[cycle(note)]
@@ -46,28 +46,28 @@ fn note_action(alloc: Global, naming: &mut Naming, action: &Action) -> Result<()
     ensures grows { IfOk result (λ _. Grows naming.old.names naming.new.names) }
 {
     match action {
-        Action::Command(command) => Ok(note_command(alloc, naming, command)?),
+        Action::Command(command) => note_command(alloc, naming, command),
         Action::Giving(target, _) => match target {
-            Some(name) => Ok(naming.note(alloc, name)?),
+            Some(name) => naming.note(alloc, name),
             None => Ok(()),
         },
         Action::If(_, yes, no) => {
             note_block(alloc, naming, yes)?;
             match no {
-                Some(no) => Ok(note_block(alloc, naming, no)?),
+                Some(no) => note_block(alloc, naming, no),
                 None => Ok(()),
             }
         }
-        Action::While(_, body) => Ok(note_block(alloc, naming, body)?),
+        Action::While(_, body) => note_block(alloc, naming, body),
         Action::Try(body, excepts, finally) => {
             note_block(alloc, naming, body)?;
             note_excepts(alloc, naming, excepts)?;
             match finally {
-                Some(finally) => Ok(note_block(alloc, naming, finally)?),
+                Some(finally) => note_block(alloc, naming, finally),
                 None => Ok(()),
             }
         }
-        Action::Timeout(_, _, body) => Ok(note_block(alloc, naming, body)?),
+        Action::Timeout(_, _, body) => note_block(alloc, naming, body),
     }
 }
 
@@ -96,7 +96,7 @@ fn note_except(alloc: Global, naming: &mut Naming, except: &Except) -> Result<()
     if let Some(name) = &except.name {
         naming.note(alloc, name)?;
     }
-    Ok(note_block(alloc, naming, &except.body)?)
+    note_block(alloc, naming, &except.body)
 }
 
 fn note_command(alloc: Global, naming: &mut Naming, command: &Command) -> Result<(), AllocError>
@@ -105,7 +105,7 @@ fn note_command(alloc: Global, naming: &mut Naming, command: &Command) -> Result
     ensures grows { IfOk result (λ _. Grows naming.old.names naming.new.names) }
 {
     match command {
-        Command::Let(name, _) => Ok(naming.note(alloc, name)?),
+        Command::Let(name, _) => naming.note(alloc, name),
         _ => Ok(()),
     }
 }
