@@ -18,4 +18,5 @@ mod tallies;
 mod waits;
 
 pub use held::HeldItems;
+pub use tallies::Tally;
 pub use waits::{Target, target_of};

@@ -173,6 +173,14 @@ impl Tallies {
 }
 
 impl HeldItems {
+    /// How many wait in the line of this kind at the object, and how many of them have a ready number.
+    pub fn tally_in(&self, o: u32, kind: WaitKind) -> Tally
+        ensures waiting { result.waiting ≡ waiting_in_line kind o self.now.entries }
+        ensures numbered { result.numbered ≡ numbered_in_line kind o self.now.entries }
+    {
+        self.tallies.in_line(o, kind)
+    }
+
     /// How many wait in the line of this kind at the object.
     pub fn waiting_in(&self, o: u32, kind: WaitKind) -> u64
         ensures { result ≡ waiting_in_line kind o self.now.entries }

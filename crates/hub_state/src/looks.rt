@@ -19,7 +19,7 @@ use crate::found::Found;
 use crate::in_lines::is_in_line;
 use crate::order::items_stand_in_order;
 use crate::touched::Touched;
-use held_items::{HeldItems, Target};
+use held_items::{HeldItems, Tally, Target};
 use hub_items::WaitKind;
 use machine::items::{Delivery, Item};
 
@@ -100,11 +100,11 @@ fn is_settled(base: &Base, held: &HeldItems, o: u32, kind: WaitKind) -> bool
     requires { NumbersStandInFront (whole base.now held.now) }
     ensures { IsTrue result → AgreesAlong (waits_in_line kind o) (whole base.now held.now) held.now.entries }
 {
-    let numbered = held.numbered_in(o, kind);
+    let Tally { waiting, numbered } = held.tally_in(o, kind);
     if numbered != 0 && !base.holds_in_line(kind, o, numbered - 1) {
         return false;
     }
-    numbered == held.waiting_in(o, kind) || !base.holds_in_line(kind, o, numbered)
+    numbered == waiting || !base.holds_in_line(kind, o, numbered)
 }
 
 /// Whether the item of the slot is the last of the line that has a number.
