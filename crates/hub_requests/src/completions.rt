@@ -117,7 +117,7 @@ fn take_offer(alloc: Global, hub: &mut Hub, o: u32) -> Result<Performed, AllocEr
 ///
 /// # Errors
 ///
-/// Memory is wanting, or a number would pass its width, which no run within its budget comes to; the hub is given up.
+/// Memory is wanting; the hub is given up.
 pub fn complete_wait(
     alloc: Global,
     hub: &mut Hub,
