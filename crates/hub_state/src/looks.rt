@@ -96,6 +96,7 @@ fn look_at_ends(base: &Base, held: &HeldItems, ends: &[u32], found: &mut Found)
 
 /// Whether nothing changes in the line of this kind at the object: the last that has a number holds, and the first that has
 /// none doesn't. Goes by how many there are of both, and looks at nobody.
+#[inline(always)]
 fn is_settled(base: &Base, held: &HeldItems, o: u32, kind: WaitKind) -> bool
     requires { NumbersStandInFront (whole base.now held.now) }
     ensures { IsTrue result → AgreesAlong (waits_in_line kind o) (whole base.now held.now) held.now.entries }
@@ -161,8 +162,9 @@ fn begin_walk(base: &Base, held: &HeldItems, o: u32, kind: WaitKind) -> (Option<
     (front, 0)
 }
 
-/// Looks at those that wait in the line of this kind at the object, up to the first that has no number and doesn't hold,
-/// since so it is of all behind it. Passes by those that have numbers and hold, and looks at none where nothing changes.
+/// Looks at those that wait in the line of this kind at the object. Looks at none where nothing changes, as in a line in
+/// which nobody waits: that is told at once, so that such a line costs no call.
+#[inline(always)]
 fn look_at_line(base: &Base, held: &HeldItems, o: u32, kind: WaitKind, found: &mut Found)
     requires front { NumbersStandInFront (whole base.now held.now) }
     requires may { MayLookAlong (waits_in_line kind o) (whole base.now held.now) held.now.entries found.old }
@@ -171,6 +173,17 @@ fn look_at_line(base: &Base, held: &HeldItems, o: u32, kind: WaitKind, found: &m
     if is_settled(base, held, o, kind) {
         return;
     }
+    walk_line(base, held, o, kind, found);
+}
+
+/// Looks at those that wait in the line of this kind at the object, up to the first that has no number and doesn't hold,
+/// since so it is of all behind it. Passes by those that have numbers and hold.
+#[inline(never)]
+fn walk_line(base: &Base, held: &HeldItems, o: u32, kind: WaitKind, found: &mut Found)
+    requires front { NumbersStandInFront (whole base.now held.now) }
+    requires may { MayLookAlong (waits_in_line kind o) (whole base.now held.now) held.now.entries found.old }
+    ensures { LooksAlong (waits_in_line kind o) (whole base.now held.now) held.now.entries found.old found.new }
+{
     items_stand_in_order(held);
     let (first, passed) = begin_walk(base, held, o, kind);
     let mut before = passed;
