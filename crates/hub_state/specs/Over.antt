@@ -17,7 +17,7 @@ with_held held s = over (flat held.entries) held.next held.next_since s
 abbrev pub itemless : Base → State
 itemless b = record {
   scenario = b.code;
-  moment = b.moment;
+  moment = b.moment.at;
   next_ready = 0;
   next_since = 0;
   turns = b.turns;

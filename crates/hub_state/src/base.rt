@@ -1,5 +1,6 @@
 //! What the items stand over: all of the state but them.
 use crate::greenlets::Greenlets;
+use crate::moment::Moment;
 use body_frames::Code;
 use hub_objects::{Objects, Posted};
 use machine::state::Post;
@@ -9,7 +10,7 @@ use trace_text::Line;
 #[derive(Drop)]
 pub struct Base {
     pub(crate) code: Code,
-    pub(crate) moment: u64,
+    pub(crate) moment: Moment,
     pub(crate) turns: u64,
     pub(crate) moves: u64,
     pub(crate) timeouts: u32,

@@ -9,6 +9,7 @@ use crate::base::Base;
 use crate::found::Found;
 use crate::greenlets::Greenlets;
 use crate::hub::Hub;
+use crate::moment::Moment;
 use crate::touched::Touched;
 use body_frames::Code;
 use gv_values::Name;
@@ -42,7 +43,7 @@ impl Hub {
         Ok(Hub {
             base: Base {
                 code,
-                moment: 0,
+                moment: Moment { at: 0 },
                 turns: 0,
                 moves: 0,
                 timeouts: 0,

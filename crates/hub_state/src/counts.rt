@@ -19,7 +19,7 @@ impl Hub {
     pub fn moment(&self) -> u64
         ensures { result ≡ self.now.moment }
     {
-        self.base.moment
+        self.base.moment.at
     }
 
     /// How many turns have begun.

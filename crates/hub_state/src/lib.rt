@@ -16,6 +16,7 @@ mod hub;
 mod in_lines;
 mod items;
 mod looks;
+mod moment;
 mod moments;
 mod numbers;
 mod order;

@@ -1,9 +1,11 @@
 //! The moment is set. An item with a number waits for no later one.
-ghost use Rattle.std.specs.Prelude.{◌≡◌};
+ghost use Rattle.std.specs.Prelude.{◌≡◌, ◌+◌, ◌≤◌};
+ghost use Rattle.world_rules.specs.declared.limits.TheConstants.{LAST_MOMENT};
 ghost use Rattle.machine_settling.specs.Classes.{class_of, class_of_wait};
 ghost use Rattle.hub_state.specs.Forgotten.{all_forgotten, is_after, is_early, reached};
 
 use crate::hub::Hub;
+use crate::moment::Moment;
 use crate::order::items_stand_in_order;
 use held_items::HeldItems;
 use machine::items::{Delivery, Item, Waiting};
@@ -60,14 +62,23 @@ fn forget_early(held: &mut HeldItems, moment: u64)
 impl Hub {
     /// It is this moment. Looks at each item where it is an earlier one than before, which no legal world answers.
     pub(crate) fn reach(&mut self, moment: u64)
+        requires { moment ≤ LAST_MOMENT }
         ensures { self.new ≡ reached moment self.old }
     {
         items_stand_in_order(&self.held);
-        if moment >= self.base.moment {
-            self.base.moment = moment;
+        let reached = Moment { at: moment };
+        if moment >= self.base.moment.at {
+            self.base.moment = reached;
             return;
         }
         forget_early(&mut self.held, moment);
-        self.base.moment = moment;
+        self.base.moment = reached;
+    }
+
+    /// The moment so many milliseconds from now.
+    pub fn deadline_after(&self, time: u32) -> u64
+        ensures { result ≡ self.now.moment + time }
+    {
+        self.base.moment.after(time)
     }
 }

@@ -97,7 +97,7 @@ impl Base {
             → result ≡ wait_holds (whole self.now held) since waiting.now }
     {
         match waiting {
-            Waiting::Sleep(until) => *until <= self.moment,
+            Waiting::Sleep(until) => *until <= self.moment.at,
             Waiting::Join(g) => self.is_done(*g),
             Waiting::Get(whom) => self.has_ended(*whom),
             Waiting::Kill(gs) => self.all_done(gs.as_slice()),
@@ -144,10 +144,10 @@ impl Base {
     {
         match delivery {
             Delivery::Start(_, None) => true,
-            Delivery::Start(_, Some(deadline)) => *deadline <= self.moment,
+            Delivery::Start(_, Some(deadline)) => *deadline <= self.moment.at,
             Delivery::Wake(_, waiting) => self.wait_holds(since, waiting, before),
-            Delivery::Late(_, deadline, _) => *deadline <= self.moment,
-            Delivery::Timeout(_, _, deadline) => *deadline <= self.moment,
+            Delivery::Late(_, deadline, _) => *deadline <= self.moment.at,
+            Delivery::Timeout(_, _, deadline) => *deadline <= self.moment.at,
             Delivery::Kill(_, _) => true,
             Delivery::Link(_, g, kind, _) => match self.outcome_of_greenlet(*g) {
                 Some(outcome) => link_fits(*kind, outcome),

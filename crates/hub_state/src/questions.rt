@@ -3,6 +3,7 @@ ghost use Rattle.std.specs.Prelude.{◌≡◌, ◌+◌, ◌≤◌, ◌^◌, ℕ,
 ghost use Rattle.machine.specs.Questions.{question, block_line, arrives, take_answer};
 ghost use Rattle.machine.specs.Holds.{job_at};
 ghost use Rattle.hub_objects.specs.Jobs.{job_came};
+ghost use Rattle.world_rules.specs.Legal.{moment_of};
 ghost use Rattle.hub_state.specs.Forgotten.{came};
 
 use crate::hub::Hub;
@@ -81,6 +82,7 @@ impl Hub {
 
     /// The moment of the answer is reached, and its job has come.
     fn come(&mut self, answer: Answer) -> Result<(), AllocError>
+        requires { moment_of answer ≤ LAST_MOMENT }
         ensures { OnOk result (self.new ≡ came answer self.old) }
     {
         match answer {
@@ -110,7 +112,8 @@ impl Hub {
     /// Memory is wanting; the hub is given up, and may have a part of the answer already.
     #[tactic(auto, using(crate::proofs::Forgetting::taken_so))]
     pub fn take(&mut self, answer: Answer) -> Result<(), AllocError>
-        requires { self.old.next_ready + length self.old.items ≤ 2 ^ 63 }
+        requires room { self.old.next_ready + length self.old.items ≤ 2 ^ 63 }
+        requires moment { moment_of answer ≤ LAST_MOMENT }
         ensures { OnOk result (self.new ≡ take_answer answer self.old) }
     {
         let number = self.turns();

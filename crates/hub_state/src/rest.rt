@@ -27,7 +27,7 @@ impl Hub {
         if !self.touched.objects().is_empty() || !self.touched.made().is_empty() {
             return false;
         }
-        !has_come(self.held.least_deadline(), self.base.moment)
+        !has_come(self.held.least_deadline(), self.base.moment.at)
     }
 
     /// Counts so many moves more.

@@ -18,7 +18,7 @@ returns-in_err-answer-clause-ran g c = λ go.
     search (rules, broken)
 
 pub take-requires : goal.take-requires
-take-requires g c = rest_settles true _ _ c.args.hub.now c.requires.tied
+take-requires g c = record { room = rest_settles true _ _ c.args.hub.now c.requires.tied; moment = c.in_ok-answer.ensures.legal.2 }
 
 pub returns-in_err-take-clause-ran : goal.returns-in_err-take-clause-ran
 returns-in_err-take-clause-ran g c = λ go.
