@@ -22,7 +22,7 @@ pub enum FlatAction {
     /// The body, the excepts and the finally.
     Try(usize, Rc<Items<FlatExcept>>, Option<usize>),
     /// The time, none where it never fires, and whether it is silent.
-    Timeout(Option<u64>, bool, usize),
+    Timeout(Option<u32>, bool, usize),
 }
 
 /// One except of a try.

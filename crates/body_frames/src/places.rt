@@ -135,7 +135,7 @@ pub enum Moved {
     /// It asks its hub for what is answered at once.
     Quick(Quick, Parked),
     /// It enters a timeout block, with its time in milliseconds if it has one.
-    Enters(Option<u64>, Entering),
+    Enters(Option<u32>, Entering),
 }
 
 /// Begins a body of this function with these arguments. `AllocError`: memory is wanting.

@@ -46,7 +46,7 @@ pub enum Made {
     /// The body asks its hub for what is answered at once.
     Quick(Quick),
     /// The body enters a timeout block: its time if it has one, whether it is silent, and its body.
-    Enters(Option<u64>, bool, usize),
+    Enters(Option<u32>, bool, usize),
     /// The body goes on by itself.
     Further(Unwound),
 }

@@ -19,7 +19,7 @@ pub enum Step {
     Request(Request),
     /// The body enters a timeout block, with its time in milliseconds if it has one, and whether it is silent. It
     /// waits for the number of the block, an integer.
-    EnterTimeout(Option<u64>, bool),
+    EnterTimeout(Option<u32>, bool),
     /// The body left the timeout block of this number. It looks at no answer.
     LeaveTimeout(u32),
     /// The body ended, and is not resumed.

@@ -18,8 +18,8 @@ pub enum FlatCommand {
     Return(FlatExpression),
     Raise(FlatExpression),
     Start(FlatExpression),
-    Sleep(u64),
-    Join(FlatExpression, Option<u64>),
+    Sleep(u32),
+    Join(FlatExpression, Option<u32>),
     /// The fault stands after `with`.
     Kill(FlatExpression, Option<FlatExpression>, Wait),
     KillAll(FlatExpression, Option<FlatExpression>, Wait),
@@ -31,7 +31,7 @@ pub enum FlatCommand {
     Release(u32),
     QueuePut(u32, FlatExpression, Wait),
     QueueDone(u32),
-    GroupJoin(u32, Option<u64>),
+    GroupJoin(u32, Option<u32>),
     /// The fault, and whether `now` stands there.
     GroupKill(u32, Option<FlatExpression>, bool),
     SetParent(FlatExpression, FlatExpression),

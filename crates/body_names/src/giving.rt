@@ -18,21 +18,21 @@ use std::alloc::{AllocError, Global};
 #[derive(Drop)]
 pub enum FlatGiving {
     Spawn(u32, Items<FlatExpression>),
-    SpawnLater(u64, u32, Items<FlatExpression>),
+    SpawnLater(u32, u32, Items<FlatExpression>),
     New(u32, Items<FlatExpression>),
     Get(FlatExpression, Wait),
     /// The number stands after `count`.
-    JoinAll(FlatExpression, Option<u64>, Option<u64>),
+    JoinAll(FlatExpression, Option<u64>, Option<u32>),
     Link(LinkEnd, FlatExpression, u32),
     LinkMark(FlatExpression, u32),
     LinkSet(FlatExpression, u32),
-    WaitEvent(u32, Option<u64>),
+    WaitEvent(u32, Option<u32>),
     ResultGet(u32, Wait),
-    ResultWait(u32, Option<u64>),
+    ResultWait(u32, Option<u32>),
     Acquire(u32, Wait),
     QueueGet(u32, Wait),
     QueuePeek(u32, Wait),
-    QueueJoin(u32, Option<u64>),
+    QueueJoin(u32, Option<u32>),
     GroupSpawn(u32, u32, Items<FlatExpression>),
     Map(u32, u32, FlatExpression),
     /// The time stands after `takes`.

@@ -274,13 +274,13 @@ fn serve_quick(
 }
 
 /// Makes the timeout item, where the block has a time.
-fn add_timeout(hub: &mut Hub, g: u32, n: u32, after: Option<u64>) -> Result<(), AllocError>
+fn add_timeout(hub: &mut Hub, g: u32, n: u32, after: Option<u32>) -> Result<(), AllocError>
     requires free { is_unclaimed (Some (Claim.TimeoutNumbered n)) hub.old.items ≡ true }
     requires since { hub.old.next_since + 1 < 2 ^ 64 }
     ensures { OnOk result (hub.new ≡ timeout_item g n after hub.old) }
 {
     if let Some(time) = after {
-        let deadline = hub.moment().checked_add(time).ok_or(AllocError)?;
+        let deadline = hub.deadline_after(time);
         hub.add_item(Delivery::Timeout(g, n, deadline))?;
     }
     Ok(())
@@ -292,7 +292,7 @@ fn enter_block(
     alloc: Global,
     hub: &mut Hub,
     g: u32,
-    after: Option<u64>,
+    after: Option<u32>,
     body: Entering,
 ) -> Result<Stand, AllocError>
     requires may_move { MayMove g hub.old }

@@ -1,5 +1,5 @@
 //! Requests on greenlets: prints, new greenlets, waits for ends, kills, links.
-ghost use Rattle.std.specs.Prelude.{◌≡◌, ◌+◌, ◌≤◌, min, unwrap_or, IfOk};
+ghost use Rattle.std.specs.Prelude.{◌≡◌, ◌≤◌, min, unwrap_or, IfOk};
 ghost use Rattle.machine.specs.Request.{performs};
 ghost use Rattle.machine.specs.declared.request.Request.{Request as Asked};
 ghost use Rattle.machine_rooms.specs.Rooms.{HasRoom, room_of_move};
@@ -47,19 +47,12 @@ pub fn spawn_now(
     Ok(spawn_greenlet(hub, g, function, arguments.into_values(), None)?)
 }
 
-/// The moment so many milliseconds from now.
-fn deadline_after(hub: &Hub, time: u64) -> Result<u64, AllocError>
-    ensures { IfOk result (λ t. t ≡ hub.now.moment + time) }
-{
-    hub.moment().checked_add(time).ok_or(AllocError)
-}
-
 /// Makes a greenlet that starts after so many milliseconds.
 #[tactic(auto, unfolding(machine::specs::Request::performs))]
 pub fn spawn_later(
     hub: &mut Hub,
     g: u32,
-    time: u64,
+    time: u32,
     function: u32,
     arguments: Arguments,
 ) -> Result<Performed, AllocError>
@@ -67,7 +60,7 @@ pub fn spawn_later(
     requires room { HasRoom room_of_move hub.old }
     ensures { IfOk result (λ p. performs (Asked.SpawnLater time function arguments) g hub.old ≡ performed_of p hub.new) }
 {
-    let from = deadline_after(hub, time)?;
+    let from = hub.deadline_after(time);
     Ok(spawn_greenlet(hub, g, function, arguments.into_values(), Some(from))?)
 }
 
@@ -103,12 +96,12 @@ pub fn start_handle(hub: &mut Hub, g: u32, value: Value) -> Result<Performed, Al
 
 /// Lets the greenlet sleep for so many milliseconds.
 #[tactic(auto, unfolding(machine::specs::Request::performs))]
-pub fn sleep_for(alloc: Global, hub: &mut Hub, g: u32, time: u64) -> Result<Performed, AllocError>
+pub fn sleep_for(alloc: Global, hub: &mut Hub, g: u32, time: u32) -> Result<Performed, AllocError>
     requires may_make { MayMake g hub.old }
     requires room { HasRoom room_of_move hub.old }
     ensures { IfOk result (λ p. performs (Asked.Sleep time) g hub.old ≡ performed_of p hub.new) }
 {
-    let until = deadline_after(hub, time)?;
+    let until = hub.deadline_after(time);
     Ok(come_to_wait(alloc, hub, g, Waiting::Sleep(until), Wait::Block)?)
 }
 

@@ -28,7 +28,7 @@ use std::alloc::{AllocError, Global};
 ///
 /// # Errors
 ///
-/// Memory is wanting, or a deadline would pass 64 bits, which no run within its budgets comes to; the hub is given up.
+/// Memory is wanting; the hub is given up.
 #[tactic(auto, using(crate::proofs::Named::fits_there))]
 pub fn perform(
     alloc: Global,

@@ -41,7 +41,7 @@ fn park_or_pass(
             Ok(Performed::Parks)
         }
         Wait::Within(time) => {
-            let deadline = hub.moment().checked_add(time).ok_or(AllocError)?;
+            let deadline = hub.deadline_after(time);
             park_until(hub, g, awaited, waiting, deadline)?;
             Ok(Performed::Parks)
         }

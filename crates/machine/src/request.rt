@@ -10,11 +10,11 @@ pub enum Request {
     /// A new greenlet of this function with these arguments; its handle is the answer.
     Spawn(u32, Arguments),
     /// The same, started after so many milliseconds.
-    SpawnLater(u64, u32, Arguments),
+    SpawnLater(u32, u32, Arguments),
     /// The same, not started.
     New(u32, Arguments),
     Start(Value),
-    Sleep(u64),
+    Sleep(u32),
     Join(Value, Wait),
     Get(Value, Wait),
     /// The fault stands after `with`.

@@ -16,7 +16,7 @@ pub enum Opening {
     /// The body and the excepts.
     Finally(Block, Items<Except>),
     /// The time in milliseconds, none where it never fires, and whether it is silent.
-    Timeout(Option<u64>, bool),
+    Timeout(Option<u32>, bool),
 }
 
 /// A block whose end has not come, with its statements so far.

@@ -19,6 +19,6 @@ pub enum Phrase {
     Except(Class, Option<Name>),
     Finally,
     /// The time in milliseconds, none where it never fires, and whether it is silent.
-    Timeout(Option<u64>, bool),
+    Timeout(Option<u32>, bool),
     End,
 }

@@ -1,6 +1,6 @@
 ghost use Rattle.std.specs.Prelude.{◌≡◌, ◌≤◌, [], IfOk, IsTrue, ◌↔◌};
 ghost use Rattle.std.specs.Option.{option_copied};
-ghost use Rattle.scenario_grammar.specs.Reading.{name_at, number_at, integer_at, in_range_of, timed_at, wait_at};
+ghost use Rattle.scenario_grammar.specs.Reading.{name_at, number_at, integer_at, in_range_of, ms_at, timed_at, wait_at};
 ghost use Rattle.scenario_lines.specs.Reads.{Reads, NextToken};
 ghost use Rattle.scenario_lines.specs.Taken.{Takes};
 
@@ -85,7 +85,7 @@ impl<'a> Cursor<'a> {
         ensures { Reads (timed_at self.old) result self.new }
     {
         if self.takes(Keyword::Within) {
-            Ok(Some(self.number(0, MOST_MS)?))
+            Ok(Some(self.time()?))
         } else {
             Ok(None)
         }
@@ -97,7 +97,7 @@ impl<'a> Cursor<'a> {
         ensures { Reads (wait_at self.old) result self.new }
     {
         if self.takes(Keyword::Within) {
-            Ok(Wait::Within(self.number(0, MOST_MS)?))
+            Ok(Wait::Within(self.time()?))
         } else if self.takes(Keyword::Now) {
             Ok(Wait::Now)
         } else {
@@ -138,6 +138,13 @@ impl<'a> Cursor<'a> {
             Some(Token::Oversized) => Err(LineRefusal::Reason(TextReason::OutOfRange)),
             Some(_) => Err(LineRefusal::Reason(TextReason::MisspelledNumber)),
         }
+    }
+
+    /// Takes a time in milliseconds.
+    pub fn time(&mut self) -> Result<u32, LineRefusal>
+        ensures { Reads (ms_at self.old) result self.new }
+    {
+        Ok(self.bounded(0, MOST_MS)? as u32)
     }
 }
 

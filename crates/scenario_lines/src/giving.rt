@@ -279,11 +279,7 @@ fn read_spawn(alloc: Global, cursor: &mut Cursor<'_>) -> Result<Giving, LineRefu
 fn read_spawn_later(alloc: Global, cursor: &mut Cursor<'_>) -> Result<Giving, LineRefusal>
     ensures { Reads (giving_by Keyword.SpawnLater cursor.old) result cursor.new }
 {
-    Ok(Giving::SpawnLater(
-        cursor.number(0, MOST_MS)?,
-        cursor.name()?,
-        arguments(alloc, cursor)?,
-    ))
+    Ok(Giving::SpawnLater(cursor.time()?, cursor.name()?, arguments(alloc, cursor)?))
 }
 
 /// The rest of a new.

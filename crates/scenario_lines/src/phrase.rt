@@ -1,5 +1,6 @@
 //! Reading what a line says.
 ghost use Rattle.std.specs.Prelude.{◌≡◌, Ok, Some, if◌then◌else◌};
+ghost use Rattle.scenario_grammar.specs.declared.limits.TheConstants.{MOST_MS};
 ghost use Rattle.scenario_grammar.specs.Reading.{number_at, after_at, all_at, binding_at, class_at, fault_class_of, given_at, giving_at, immediate_at, name_at, now_at, phrase_by, phrase_of, queue_of, silent_at, size_at, unmarked_at, word_at, is_given};
 ghost use Rattle.scenario_lines.specs.Reads.{IsBoxed, Reads, ReadsWhole};
 ghost use Rattle.scenario_lines.specs.Kinds.{kind_by};
@@ -13,8 +14,7 @@ use crate::parts::both;
 use crate::refusal::LineRefusal;
 use gv_values::{Class, Name};
 use scenario_grammar::{
-    Keyword, MOST_MS, MOST_POOL_PLACES, MOST_QUEUE_PLACES, MOST_SLOTS, MOST_UNITS, Phrase,
-    TextReason, Token,
+    Keyword, MOST_POOL_PLACES, MOST_QUEUE_PLACES, MOST_SLOTS, MOST_UNITS, Phrase, TextReason, Token,
 };
 use scenario_tree::{Boxed, Command, Items, Object, QueueKind};
 use std::alloc::Global;
@@ -180,13 +180,20 @@ fn binding(cursor: &mut Cursor<'_>) -> Result<Option<Name>, LineRefusal>
 
 /// The time of a timeout block, or `none`.
 #[tactic(auto, using(crate::proofs::Unsaid::after_other))]
-fn after(cursor: &mut Cursor<'_>) -> Result<Option<u64>, LineRefusal>
+fn after(cursor: &mut Cursor<'_>) -> Result<Option<u32>, LineRefusal>
     ensures { Reads (after_at cursor.old) result cursor.new }
 {
     if cursor.takes(Keyword::Nothing) {
         return Ok(None);
     }
-    some_number(cursor, 0, MOST_MS)
+    some_time(cursor)
+}
+
+/// A time.
+fn some_time(cursor: &mut Cursor<'_>) -> Result<Option<u32>, LineRefusal>
+    ensures { Reads (some_number_at 0 MOST_MS cursor.old) result cursor.new }
+{
+    Ok(Some(cursor.time()?))
 }
 
 /// Whether `silent` stands there.
@@ -344,7 +351,7 @@ fn read_command(
         Keyword::Return => Ok(Phrase::Command(Command::Return(read_expression(alloc, cursor)?))),
         Keyword::Raise => Ok(Phrase::Command(Command::Raise(read_expression(alloc, cursor)?))),
         Keyword::Start => Ok(Phrase::Command(Command::Start(read_expression(alloc, cursor)?))),
-        Keyword::Sleep => Ok(Phrase::Command(Command::Sleep(cursor.number(0, MOST_MS)?))),
+        Keyword::Sleep => Ok(Phrase::Command(Command::Sleep(cursor.time()?))),
         Keyword::Join => read_join(alloc, cursor),
         Keyword::Kill => read_kill(alloc, cursor),
         Keyword::KillAll => read_kill_all(alloc, cursor),

@@ -139,7 +139,7 @@ pub(crate) fn push_except(
     }
 }
 
-fn start_timeout(after: Option<u64>, out: &mut Vec<u8>) -> Result<(), AllocError>
+fn start_timeout(after: Option<u32>, out: &mut Vec<u8>) -> Result<(), AllocError>
     ensures { Started out.old.items out.new.items result Keyword.Timeout (after_tokens after) }
 {
     match after {
@@ -153,7 +153,7 @@ fn start_timeout(after: Option<u64>, out: &mut Vec<u8>) -> Result<(), AllocError
 
 /// The line of a timeout block.
 pub(crate) fn push_timeout(
-    after: Option<u64>,
+    after: Option<u32>,
     is_silent: bool,
     out: &mut Vec<u8>,
 ) -> Result<(), AllocError>

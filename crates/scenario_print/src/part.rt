@@ -4,7 +4,7 @@
 ghost use Rattle.std.specs.Prelude.{◌≡◌, ℕ};
 ghost use Rattle.scenario_grammar.specs.Token.{◌▹◌, perhaps};
 ghost use Rattle.scenario_grammar.specs.Token.{number as in_range};
-ghost use Rattle.scenario_grammar.specs.Phrase.{count_tokens, flag, marked, takes_tokens, timed_tokens, wait_tokens};
+ghost use Rattle.scenario_grammar.specs.Phrase.{count_tokens, flag, marked, takes_tokens, timed_tokens, wait_tokens, within};
 ghost use Rattle.scenario_print.specs.Written.{Wrote};
 
 use crate::expression::push_expression;
@@ -30,7 +30,18 @@ fn push_numbered(word: Keyword, number: Option<u64>, out: &mut Vec<u8>) -> Resul
 pub(crate) fn push_timed(time: Timed, out: &mut Vec<u8>) -> Result<(), AllocError>
     ensures { Wrote out.old.items out.new.items result (timed_tokens time) }
 {
-    push_numbered(Keyword::Within, time, out)
+    match time {
+        None => Ok(()),
+        Some(time) => push_within(time, out),
+    }
+}
+
+/// `within` and the time.
+fn push_within(time: u32, out: &mut Vec<u8>) -> Result<(), AllocError>
+    ensures { Wrote out.old.items out.new.items result (within time) }
+{
+    push_fixed(Keyword::Within, out)?;
+    push_number(u64::from(time), out)
 }
 
 /// `count` and the number, where there is one.
@@ -69,7 +80,7 @@ pub(crate) fn push_wait(wait: Wait, out: &mut Vec<u8>) -> Result<(), AllocError>
 {
     match wait {
         Wait::Block => Ok(()),
-        Wait::Within(ms) => push_timed(Some(ms), out),
+        Wait::Within(time) => push_within(time, out),
         Wait::Now => push_fixed(Keyword::Now, out),
     }
 }

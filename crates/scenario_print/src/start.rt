@@ -24,12 +24,12 @@ pub(crate) fn start_name(word: Keyword, n: &Name, out: &mut Vec<u8>) -> Result<(
     push_name(n, out)
 }
 
-pub(crate) fn start_number(word: Keyword, number: u64, out: &mut Vec<u8>) -> Result<(), AllocError>
+pub(crate) fn start_number(word: Keyword, number: u32, out: &mut Vec<u8>) -> Result<(), AllocError>
     ensures words { (least greatest : ℕ) → Started out.old.items out.new.items result word (in_range least greatest number) }
     ensures front { BeginsWith out.new.items out.old.items }
 {
     push_first(word, out)?;
-    push_number(number, out)
+    push_number(u64::from(number), out)
 }
 
 pub(crate) fn start_expression(

@@ -145,7 +145,7 @@ pub(crate) fn push_except_line(
 
 pub(crate) fn push_timeout_line(
     level: usize,
-    after: Option<u64>,
+    after: Option<u32>,
     is_silent: bool,
     out: &mut Vec<u8>,
 ) -> Result<(), AllocError>

@@ -62,13 +62,13 @@ pub enum Expression {
 #[derive(Clone, Copy, Debug, PartialEq, Eq)]
 pub enum Wait {
     Block,
-    Within(u64),
+    Within(u32),
     Now,
 }
 
 /// How long a statement waits that can't say `now`, TIMED in the language: the time of `within`,
 /// none where it waits until it is served.
-pub type Timed = Option<u64>;
+pub type Timed = Option<u32>;
 
 /// A statement of one line that gives no value.
 #[derive(Drop)]
@@ -78,7 +78,7 @@ pub enum Command {
     Return(Expression),
     Raise(Expression),
     Start(Expression),
-    Sleep(u64),
+    Sleep(u32),
     Join(Expression, Timed),
     /// The fault stands after `with`.
     Kill(Expression, Option<Expression>, Wait),
@@ -112,7 +112,7 @@ pub enum LinkEnd {
 #[derive(Drop)]
 pub enum Giving {
     Spawn(Name, Items<Expression>),
-    SpawnLater(u64, Name, Items<Expression>),
+    SpawnLater(u32, Name, Items<Expression>),
     New(Name, Items<Expression>),
     Get(Expression, Wait),
     /// The number stands after `count`.
@@ -163,7 +163,7 @@ pub enum Action {
     /// The body, the excepts and the finally.
     Try(Items<Statement>, Items<Except>, Option<Items<Statement>>),
     /// The time, none where it never fires, and whether it is silent.
-    Timeout(Option<u64>, bool, Items<Statement>),
+    Timeout(Option<u32>, bool, Items<Statement>),
 }
 
 /// An except of a `try`: the faults that it catches, the name that takes the fault, and its body.
