@@ -1,5 +1,6 @@
 //! What bodies are run from.
-ghost use Rattle.std.specs.Prelude.{◌≡◌, IfOk};
+ghost use Rattle.std.specs.Prelude.{◌≡◌, IfOk, IfSome, IsTrue};
+ghost use Rattle.std.specs.Option.{option_copied};
 ghost use Rattle.body_blocks.specs.Trees.{block_at};
 ghost use Rattle.body_names.specs.Locals.{locals_of};
 ghost use Rattle.body_names.specs.Naming.{name_of};
@@ -7,11 +8,14 @@ ghost use Rattle.machine.specs.Expressions.{object_number, function_number};
 ghost use Rattle.machine.specs.Greenlets.{named};
 ghost use Rattle.body_values.specs.Few.{HasFew, HasFewCalls};
 ghost use Rattle.body_values.specs.Functions.{IsFunction, function_at};
+ghost use Rattle.body_values.specs.Numbers.{HasNumbersOf, HaveNumbers};
 ghost use Rattle.body_values.specs.Small.{IsSmall};
 
 use crate::functions::{FlatFunction, add_functions, function_of_number};
 use crate::locals::given;
-use crate::numbers::{number_functions, number_objects, tell_function_names, tell_object_names};
+use crate::numbers::{
+    NameNumbers, number_functions, number_objects, tell_function_names, tell_object_names,
+};
 use body_blocks::{Blocks, Making};
 use body_names::Locals;
 use gv_values::{Name, Value};
@@ -23,7 +27,8 @@ use std::rc::Rc;
 
 /// What bodies are run from: the objects, the functions and the blocks of a scenario, which has at most 256 objects
 /// and 256 functions, and no call with more arguments than a function may have parameters. Each name has its number in
-/// a table, so that a look-up compares O(log n) names. The bodies that run share its blocks.
+/// a table, so that a look-up compares O(log n) names. The names of the blocks have theirs beside them: where a body is
+/// run over its own code, what it names by number is found with one comparison. The bodies that run share the blocks.
 #[derive(Drop)]
 pub struct Code {
     profile: u8,
@@ -32,6 +37,9 @@ pub struct Code {
     object_numbers: Names<u32>,
     function_numbers: Names<u32>,
     blocks: Rc<Blocks>,
+    /// The names of the blocks in their order, with their numbers. No clause says that all are there: speed alone rests
+    /// on it.
+    own: Items<NameNumbers>,
 }
 
 impl Model for Code {
@@ -46,7 +54,7 @@ impl Model for Code {
 
     ghost view = { λ c. scenario_of c.profile c.objects c.functions c.blocks.value };
 
-    ghost invariant = { λ c. IsKept (scenario_of c.profile c.objects c.functions c.blocks.value) c.object_numbers c.function_numbers };
+    ghost invariant = { λ c. IsKept (scenario_of c.profile c.objects c.functions c.blocks.value) c.object_numbers c.function_numbers c.own };
 }
 
 /// Where a body of a function begins: the blocks of its code, the number of its own, and its parameters with their
@@ -77,14 +85,51 @@ impl Code {
         let mut making = Making::new(alloc);
         let functions = add_functions(alloc, &mut making, functions)?;
         let blocks = Rc::new(alloc, making.finish())?;
-        Ok(Code {
+        let code = Code {
             profile,
             objects,
             functions,
             object_numbers,
             function_numbers,
             blocks,
-        })
+            own: Items::new(alloc),
+        };
+        Ok(code.with_numbers(alloc)?)
+    }
+
+    /// The same, with the numbers of its blocks' names. `AllocError`: memory is wanting.
+    fn with_numbers(self, alloc: Global) -> Result<Code, AllocError>
+        ensures { IfOk result (λ code. code ≡ self) }
+    {
+        let own = self.own_numbers(alloc)?;
+        let mut code = self;
+        code.own = own;
+        Ok(code)
+    }
+
+    /// The names of the blocks in their order, with their numbers. `AllocError`: memory is wanting.
+    fn own_numbers(&self, alloc: Global) -> Result<Items<NameNumbers>, AllocError>
+        ensures { IfOk result (λ own. HaveNumbers self.now own) }
+    {
+        let mut own = Items::new(alloc);
+        for number in 0..u32::MAX {
+            match self.blocks.name(number) {
+                Some(name) => own.push(self.numbers_of(name))?,
+                None => return Ok(own),
+            }
+        }
+        Ok(own)
+    }
+
+    /// The name with its numbers.
+    fn numbers_of(&self, name: &Name) -> NameNumbers
+        ensures { HasNumbersOf result.name self.now result }
+    {
+        NameNumbers {
+            name: *name,
+            object: self.object(name),
+            function: self.function(name),
+        }
     }
 
     /// The objects in the order of their declarations.
@@ -124,7 +169,7 @@ impl Code {
         ensures { result ≡ object_number (name_of blocks.now.names number) self.now.objects }
     {
         match blocks.name(number) {
-            Some(name) => self.object(name),
+            Some(name) => self.known_object(number, name),
             None => self.objects.len() as u32,
         }
     }
@@ -134,9 +179,42 @@ impl Code {
         ensures { result ≡ function_number (name_of blocks.now.names number) self.now.functions }
     {
         match blocks.name(number) {
-            Some(name) => self.function(name),
+            Some(name) => self.known_function(number, name),
             None => self.functions.len() as u32,
         }
+    }
+
+    /// The number of the object with this name, which mostly has this number in the own blocks.
+    fn known_object(&self, number: u32, name: &Name) -> u32
+        ensures { result ≡ object_number name.now self.now.objects }
+    {
+        match self.known_numbers(number, name) {
+            Some(own) => own.object,
+            None => self.object(name),
+        }
+    }
+
+    /// The number of the function with this name, which mostly has this number in the own blocks.
+    fn known_function(&self, number: u32, name: &Name) -> u32
+        ensures { result ≡ function_number name.now self.now.functions }
+    {
+        match self.known_numbers(number, name) {
+            Some(own) => own.function,
+            None => self.function(name),
+        }
+    }
+
+    /// The numbers of this name, where it has this number in the own blocks.
+    #[inline(always)]
+    fn known_numbers(&self, number: u32, name: &Name) -> Option<&NameNumbers>
+        ensures { IfSome (option_copied result) (HasNumbersOf name.now self.now) }
+    {
+        if let Some(own) = self.own.get(number as usize) {
+            if is_same(&own.name, name) {
+                return Some(own);
+            }
+        }
+        None
     }
 
     /// Where a body of the function of this number begins with these arguments. `AllocError`: memory is wanting, or the
@@ -162,4 +240,12 @@ impl Code {
             locals,
         })
     }
+}
+
+/// Whether these are one name.
+#[inline(always)]
+fn is_same(a: &Name, b: &Name) -> bool
+    ensures { IsTrue result → a.now ≡ b.now }
+{
+    *a == *b
 }

@@ -2,9 +2,18 @@
 ghost use Rattle.std.specs.Prelude.{◌≤◌, length, map, IfOk};
 ghost use Rattle.body_values.specs.Numbers.{AreNames, NumbersFunctions, NumbersObjects};
 
+use gv_values::Name;
 use name_table::Names;
 use scenario_tree::{Declaration, Function};
 use std::alloc::{AllocError, Global};
+
+/// A name, with the number of the object and of the function that has it, each past the last where there is none.
+#[derive(Drop)]
+pub struct NameNumbers {
+    pub name: Name,
+    pub object: u32,
+    pub function: u32,
+}
 
 /// The number of the first object of each name.
 pub fn number_objects(alloc: Global, objects: &[Declaration]) -> Result<Names<u32>, AllocError>

@@ -8,7 +8,7 @@ use Rattle.body_values.proofs.code.Code.function_numbered.Goals as goal
 
 pub returns-in-Some : goal.returns-in-Some
 returns-in-Some c =
-    c.function.ensures ∙ function_named c.args.blocks.now.names c.args.number c.args.self.now.functions c.in-Some.name.now (sym c.in-Some.ensures)
+    c.known_function.ensures ∙ function_named c.args.blocks.now.names c.args.number c.args.self.now.functions c.in-Some.name.now (sym c.in-Some.ensures)
 
 pub returns-in-None : goal.returns-in-None
 returns-in-None c =

@@ -6,7 +6,7 @@ use Rattle.body_values.proofs.code.Code.object_numbered.Goals as goal
 
 pub returns-in-Some : goal.returns-in-Some
 returns-in-Some c =
-    c.object.ensures ∙ object_named c.args.blocks.now.names c.args.number c.args.self.now.objects c.in-Some.name.now (sym c.in-Some.ensures)
+    c.known_object.ensures ∙ object_named c.args.blocks.now.names c.args.number c.args.self.now.objects c.in-Some.name.now (sym c.in-Some.ensures)
 
 pub returns-in-None : goal.returns-in-None
 returns-in-None c =
