@@ -5,8 +5,8 @@ ghost use Rattle.std.specs.List.Sorted.{IsPermutation};
 ghost use Rattle.item_places.specs.Items.{Differ};
 ghost use Rattle.due_timers.specs.Heap.{timer, timer_at, rank_at, IsNear, IsDown, IsOrdered, IsTied};
 ghost use Rattle.due_timers.specs.SeenTimers.{items_in, deadlines_in, TakesTimer, IsNotAfter};
+ghost use Rattle.due_timers.specs.declared.limits.TheConstants.{MOST_TIMERS};
 
-use crate::limits::MOST_TIMERS;
 use crate::places::Places;
 use std::alloc::{AllocError, Global};
 use std::marker::Model;
@@ -170,8 +170,9 @@ impl Timers {
     }
 
     /// Makes room for `n` more items, all below `reach`, so that as many calls of `add` take no memory. `AllocError`:
-    /// memory is wanting, as it is for more than `u32::MAX` items.
+    /// memory is wanting.
     pub fn reserve(&mut self, n: usize, reach: usize) -> Result<(), AllocError>
+        requires { length self.old.timers + n ≤ MOST_TIMERS }
         ensures room { OnOk result (n ≤ self.new.spare) }
         ensures within { OnOk result (reach ≤ self.new.reach) }
         ensures kept { self.new.timers ≡ self.old.timers }
@@ -181,9 +182,6 @@ impl Timers {
         ensures err { OnErr result (self.new ≡ self.old) }
     {
         let len = self.heap.len();
-        if n > MOST_TIMERS as usize - len {
-            return Err(AllocError);
-        }
         self.heap.reserve(n)?;
         self.places.reserve(reach)?;
         // That it fits `usize` is known of a room that is asked.

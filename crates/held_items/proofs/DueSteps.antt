@@ -10,12 +10,40 @@ use Rattle.slot_chains.specs.Chained.{AreChains, pushed}
 use Rattle.slot_chains.proofs.Chaining.{chains_none, chains_alike, standing}
 use Rattle.machine.specs.declared.items.Item.{Item}
 use Rattle.held_items.specs.Entries.{Entry, item_in, with_ready, without_slot}
-use Rattle.held_items.specs.ShelfParts.{only}
-use Rattle.held_items.specs.Due.{AreDue, IsRising, IsDueLine, HasDueRoom}
+use Rattle.held_items.specs.Due.{AreDue, IsRising, IsDueLine, HasDueRoom, only}
 use Rattle.held_items.specs.declared.due.DueLine.{DueLine}
 use Rattle.held_items.proofs.EntryLemmas.{item_pushed, item_without, item_renumbered}
 use Rattle.held_items.proofs.LineSteps.{due_there, due_absent, due_ready, due_unready, due_gone}
-use Rattle.held_items.proofs.ShelfLemmas.{only_nothing, only_pushed, only_without, only_lacks}
+
+-- ---- one chain
+
+only_nothing : (k : ℕ) → only [] k ≡ []
+only_nothing k = by (k == 0)
+  where
+    by : (b : Bool) → ◌≡◌ {A = List ℕ} (cond b [] []) []
+    by true = refl
+    by false = refl
+
+only_pushed : (q : ℕ) (qs : List ℕ) (k : ℕ) → only (qs ++ q ∷ []) k ≡ pushed 0 q (only qs) k
+only_pushed q qs k = by (k == 0)
+  where
+    by : (b : Bool) → cond b (qs ++ q ∷ []) [] ≡ cond b (cond b qs [] ++ q ∷ []) (cond b qs [])
+    by true = refl
+    by false = refl
+
+only_without : (q : ℕ) (qs : List ℕ) (k : ℕ) → only (without_number q qs) k ≡ without_number q (only qs k)
+only_without q qs k = by (k == 0)
+  where
+    by : (b : Bool) → cond b (without_number q qs) [] ≡ without_number q (cond b qs [])
+    by true = refl
+    by false = refl
+
+only_lacks : (q : ℕ) (qs : List ℕ) (k : ℕ) → Lacks q qs → Lacks q (only qs k)
+only_lacks q qs k l = by (k == 0)
+  where
+    by : (b : Bool) → Lacks q (cond b qs [])
+    by true = l
+    by false = tt
 
 -- ---- numbers that rise
 

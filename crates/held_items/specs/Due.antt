@@ -1,10 +1,13 @@
 -- The line of the slots with a ready number.
-use Rattle.std.specs.Prelude.{◌≡◌, ℕ, ◌+◌, ◌<◌, ◌≤◌, List, [], ◌∷◌, length, Option, Some}
+use Rattle.std.specs.Prelude.{◌≡◌, ℕ, ◌+◌, ◌<◌, ◌≤◌, ◌==◌, List, [], ◌∷◌, length, Option, Some, if◌then◌else◌}
 use Rattle.std.specs.List.{Contains}
 use Rattle.item_places.specs.Items.{items_of}
 use Rattle.slot_chains.specs.Chained.{AreChains}
 use Rattle.held_items.specs.declared.due.DueLine.{DueLine}
-use Rattle.held_items.specs.ShelfParts.{only}
+
+-- one chain alone
+abbrev pub only : List ℕ → ℕ → List ℕ
+only qs k = if k == 0 then qs else []
 
 -- just these slots have numbers, and these
 pub record AreDue (line : List (ℕ × ℕ)) (m : ℕ → Option ℕ) : Type 0 where

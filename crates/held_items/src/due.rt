@@ -2,6 +2,7 @@
 ghost use Rattle.std.specs.Prelude.{◌≡◌, ℕ, ◌+◌, ◌^◌, ◌<◌, ◌==◌, Option, Some, None, is_some, true, OnOk, if◌then◌else◌};
 ghost use Rattle.slot_chains.specs.Chained.{first_of};
 ghost use Rattle.item_places.specs.Items.{items_of};
+ghost use Rattle.held_items.specs.declared.limits.TheConstants.{MOST_HELD};
 ghost use Rattle.held_items.specs.Due.{IsDueLine, HasDueRoom};
 
 use slot_chains::Chains;
@@ -30,6 +31,7 @@ impl DueLine {
 
     /// Makes room for the slot. `AllocError`: memory is wanting.
     pub fn reserve(&mut self, slot: u32) -> Result<(), AllocError>
+        requires { slot < MOST_HELD }
         ensures room { OnOk result (HasDueRoom self.new slot) }
         ensures kept { (q : ℕ) → HasDueRoom self.old q → HasDueRoom self.new q }
         ensures line { (m : ℕ → Option ℕ) → IsDueLine self.old m → IsDueLine self.new m }

@@ -4,6 +4,7 @@ ghost use Rattle.item_places.specs.Items.{Lacks, Differ};
 ghost use Rattle.slot_chains.specs.Chained.{first_of};
 ghost use Rattle.machine.specs.Deliveries.{without};
 ghost use Rattle.hub_items.specs.Sound.{AscendTo};
+ghost use Rattle.held_items.specs.declared.limits.TheConstants.{MOST_HELD};
 ghost use Rattle.held_items.specs.Entries.{Entry, item_in, slots_of, without_slot, flat};
 ghost use Rattle.held_items.specs.Indexed.{AreIndexed};
 ghost use Rattle.held_items.specs.Lined.{AreLined};
@@ -46,13 +47,14 @@ impl Model for HeldItems {
 }
 
 /// Makes room for one more item everywhere, and gives its slot. `AllocError`: memory is wanting.
-#[tactic(auto, using(crate::proofs::Indexing::few_kills, crate::proofs::Seeing::few_parked))]
+#[tactic(auto, using(crate::proofs::Indexing::few_kills))]
 fn make_room(
     shelf: &mut Shelf,
     indexes: &mut Indexes,
     lines: &mut Lines,
     delivery: &Delivery,
 ) -> Result<u32, AllocError>
+    requires few { length shelf.old.entries < MOST_HELD }
     requires indexed { AreIndexed indexes.old shelf.old.entries }
     requires lined { AreLined lines.old shelf.old.entries }
     ensures kept { shelf.new.entries ≡ shelf.old.entries }
@@ -64,6 +66,8 @@ fn make_room(
 {
     let slot = shelf.reserve()?;
     indexes.reserve(slot, delivery)?;
+    // That no number has two timers is known of timers whose length is asked.
+    let _timers = lines.timers.len();
     lines.reserve(slot)?;
     Ok(slot)
 }
@@ -89,7 +93,8 @@ impl HeldItems {
     ///
     /// Memory is wanting; nothing has changed.
     pub fn add(&mut self, delivery: Delivery) -> Result<u32, AllocError>
-        requires { self.old.next_since + 1 < 2 ^ 64 }
+        requires since { self.old.next_since + 1 < 2 ^ 64 }
+        requires few { length self.old.entries < MOST_HELD }
         ensures added { IfOk result (λ slot. self.new ≡ added slot delivery self.old) }
         ensures absent { IfOk result (λ slot. Lacks slot (slots_of self.old.entries)) }
         ensures err { OnErr result (self.new ≡ self.old) }

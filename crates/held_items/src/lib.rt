@@ -8,6 +8,7 @@ mod drops;
 mod due;
 mod held;
 mod indexes;
+mod limits;
 mod lines;
 mod moments;
 mod next;
@@ -18,5 +19,6 @@ mod tallies;
 mod waits;
 
 pub use held::HeldItems;
+pub use limits::MOST_HELD;
 pub use tallies::Tally;
 pub use waits::{Target, target_of};

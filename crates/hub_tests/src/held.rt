@@ -1,5 +1,5 @@
 use gv_values::{FaultKind, LinkKind, Outcome, Value, Whom};
-use held_items::{HeldItems, Target, target_of};
+use held_items::{HeldItems, MOST_HELD, Target, target_of};
 use hub_items::{Gone, WaitKind};
 use machine::items::{Delivery, Waiting};
 use scenario_tree::Items;
@@ -23,9 +23,9 @@ fn sinces(held: &HeldItems) -> u64 {
     all
 }
 
-/// Adds the item. `AllocError`: memory is wanting, or its place in order of making would pass 64 bits.
+/// Adds the item. `AllocError`: memory is wanting, or there are as many items as there may be.
 fn put(held: &mut HeldItems, delivery: Delivery) -> Result<(), AllocError> {
-    if held.next_since() == u64::MAX {
+    if held.next_since() == u64::MAX || held.len() >= MOST_HELD as usize {
         drop(delivery);
         return Err(AllocError);
     }

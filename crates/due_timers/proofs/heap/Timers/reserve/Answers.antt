@@ -1,5 +1,7 @@
-use Rattle.std.proofs.Common.{ap, sym, subst, arith, length, ◌≡◌, ◌<◌, ◌^◌}
+use Rattle.std.proofs.Common.{ap, sym, subst, arith, length, ◌≡◌, ◌<◌, ◌≤◌, ◌+◌, ◌^◌}
 use Rattle.std.specs.List.{All}
+use Rattle.due_timers.specs.declared.limits.TheConstants.{MOST_TIMERS}
+use Rattle.due_timers.specs.SeenTimers.{SeenTimers}
 use Rattle.due_timers.proofs.Timing.{tied_same, ordered_same}
 use Rattle.due_timers.proofs.heap.Timers.reserve.Goals as goal
 
@@ -25,7 +27,7 @@ invariant_of-self-2 c =
     let cap = c.reserve.ensures.capacity in
     let ok = c.in_ok-reserve.ensures.ok in
     let len = c.len-len.ensures in
-    let few = c.if-n-len.false in
+    let few = subst (λ (t : SeenTimers). length t.timers + c.args.n ≤ MOST_TIMERS) (sym c.self.view_is) c.requires in
     let most = c.max-self-inside.ensures in
     let is = c.self.invariant in
     record {

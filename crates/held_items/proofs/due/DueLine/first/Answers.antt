@@ -1,5 +1,5 @@
 use Rattle.item_places.specs.Items.{items_of}
-use Rattle.held_items.specs.ShelfParts.{only}
+use Rattle.held_items.specs.Due.{only}
 use Rattle.held_items.proofs.due.DueLine.first.Goals as goal
 
 pub returns : goal.returns
