@@ -1,5 +1,6 @@
 //! The server whose requests for jobs a world answers, over connections and answers that go by a script.
 ghost use Rattle.std.specs.Prelude.{◌≤◌};
+ghost use Rattle.gv_values.specs.declared.limits.TheConstants.{MOST_CONNECTIONS};
 ghost use Rattle.stream_server.specs.Ranges.{IsInRange};
 
 use gv_values::{Answer, FaultKind, JobOutcome};
@@ -53,7 +54,7 @@ fn done(number: u32, outcome: JobOutcome, at: u64) -> Answer {
 /// At most 100 connections at a time, so many in all, a second each.
 fn limits(conns: u32) -> Limits
     requires some { 1 ≤ conns }
-    requires few { conns ≤ 1000000 }
+    requires few { conns ≤ MOST_CONNECTIONS }
     ensures { IsInRange result }
 {
     Limits {
