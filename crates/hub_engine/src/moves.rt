@@ -16,6 +16,7 @@ ghost use Rattle.machine.specs.Moves.{enters, timeout_item};
 ghost use Rattle.machine.specs.Soundness.{Claim, is_unclaimed, phase_of};
 ghost use Rattle.machine_trace_laws.specs.Reached.{state_of_next};
 ghost use Rattle.machine_well_formed.specs.Texts.{fits_request};
+ghost use Rattle.hub_state.specs.Adding.{MayAdd};
 ghost use Rattle.hub_state.specs.Sights.{look_of};
 ghost use Rattle.hub_requests.specs.Performing.{performed_of};
 ghost use Rattle.hub_engine.specs.Asking.{IsDeclaredAfter, does_came, fits_came, leaves_greenlets};
@@ -276,7 +277,7 @@ fn serve_quick(
 /// Makes the timeout item, where the block has a time.
 fn add_timeout(hub: &mut Hub, g: u32, n: u32, after: Option<u32>) -> Result<(), AllocError>
     requires free { is_unclaimed (Some (Claim.TimeoutNumbered n)) hub.old.items ≡ true }
-    requires since { hub.old.next_since + 1 < 2 ^ 64 }
+    requires may_add { MayAdd 1 hub.old }
     ensures { OnOk result (hub.new ≡ timeout_item g n after hub.old) }
 {
     if let Some(time) = after {

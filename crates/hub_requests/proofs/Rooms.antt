@@ -1,6 +1,6 @@
 -- Where there is room for small steps there is room for what they count: for a settling, which numbers each item at
 -- most, for a timeout's number, for a job's, for the places of items, and for what objects count.
-use Rattle.std.proofs.Common.{◌≡◌, ap, sym, ◌∙◌, subst, ℕ, ◌+◌, ◌<◌, ◌≤◌, ◌^◌, Bool, true, false, List, length, map, slice_get, arith}
+use Rattle.std.proofs.Common.{◌≡◌, ap, sym, ◌∙◌, subst, ℕ, ◌+◌, ◌<◌, ◌≤◌, ◌^◌, Bool, true, false, List, [], ◌∷◌, None, length, length-append, map, slice_get, arith}
 use Rattle.std.proofs.lemmas.List.Sums.{count_by-le-length, length-filter}
 use Rattle.std.specs.Prelude.{not}
 use Rattle.gv_values.specs.declared.fault.FaultKind.{FaultKind}
@@ -23,6 +23,7 @@ use Rattle.machine_rooms.proofs.Requests.{Sends, sends-counts, sends_all-counts}
 use Rattle.machine_rooms.proofs.Rooms.{room-ample, room-fewer, room-kept}
 use Rattle.machine_rooms.proofs.Tallies.{count-at, count-set, ends-few, member-counted, wait-weight-few}
 use Rattle.hub_objects.specs.Counted.{CountsFit, MayCount}
+use Rattle.hub_state.specs.Adding.{MayAdd}
 use Rattle.hub_requests.specs.Sendings.{sent}
 
 pub room_settles : (n : ℕ) (s : State) → HasRoom n s → s.next_ready + length s.items ≤ 2 ^ 63
@@ -35,11 +36,25 @@ pub room_posted : (n : ℕ) (s : State) → HasRoom n s → length s.jobs + 1 < 
 room_posted n s r = let far = room-ample n s r in omega (arith, far)
 
 -- and for so many items
-pub room_made : (n k : ℕ) (s : State) → k ≤ 2 ^ 62 → HasRoom n s → s.next_since + k < 2 ^ 64
-room_made n k s few r = let far = room-ample n s r in omega (arith, far, few)
+pub room_made : (n k : ℕ) (s : State) → k ≤ 2 ^ 30 → HasRoom n s → MayAdd k s
+room_made n k s few r = let far = room-ample n s r in (omega (arith, far, few), omega (arith, far, few))
 
-pub room_added : (n : ℕ) (s : State) → HasRoom n s → s.next_since + 1 < 2 ^ 64
+pub room_added : (n : ℕ) (s : State) → HasRoom n s → MayAdd 1 s
 room_added n s r = room_made n 1 s (omega arith) r
+
+-- where there is room for more items there is room for fewer
+pub fewer_added : (k n : ℕ) (s : State) → k ≤ n → MayAdd n s → MayAdd k s
+fewer_added k n s less room = (let a = room.0 in omega (arith, a, less), let b = room.1 in omega (arith, b, less))
+
+-- and after one there is room for one less
+pub room_after : (n : ℕ) (d : Delivery) (s : State) → MayAdd (n + 1) s → MayAdd n (add_item d s)
+room_after n d s room =
+    let long = length-append s.items (record { since = s.next_since; delivery = d; ready = None } ∷ []) in
+    (let a = room.0 in omega (arith, a), let b = room.1 in omega (arith, b, long))
+
+-- so it is after a member
+pub room_member : (n o f : ℕ) (args : List Value) (s t : State) → t ≡ add_member o f args s → MayAdd (n + 1) s → MayAdd n t
+room_member n o f args s t e room = subst (MayAdd n) (sym e) (room_after n (Delivery.Start (length s.greenlets) None) (add_greenlet false 0 f args s) room)
 
 -- a move has room for the completion of each wait
 pub room_completed : (w : Waiting) (s : State) → HasRoom room_of_move s → HasRoom (2 + wait_weight w) s
@@ -80,9 +95,9 @@ counted_still d k o f args s t u e g fits = subst (λ (x : State). MayCount k (s
 pub drawn_still : (line : Line) (d : Delivery) (s t u : State) → t ≡ say line s → u ≡ add_item d t → s.timeouts + 1 < 2 ^ 32 → u.timeouts + 1 < 2 ^ 32
 drawn_still line d s t u e f fits = subst (λ (x : State). x.timeouts + 1 < 2 ^ 32) (sym (f ∙ ap (add_item d) e)) fits
 
--- after an item there is a place for one more
-pub made_after : (line : Line) (d : Delivery) (s t u : State) → t ≡ say line s → u ≡ add_item d t → s.next_since + 2 < 2 ^ 64 → u.next_since + 1 < 2 ^ 64
-made_after line d s t u e f fits = subst (λ (x : State). x.next_since + 1 < 2 ^ 64) (sym (f ∙ ap (add_item d) e)) (omega (arith, fits))
+-- after an item there is room for one more
+pub made_after : (line : Line) (d : Delivery) (s t u : State) → t ≡ say line s → u ≡ add_item d t → MayAdd 2 s → MayAdd 1 u
+made_after line d s t u e f room = subst (MayAdd 1) (sym (f ∙ ap (add_item d) e)) (room_after 1 d (say line s) room)
 
 -- kills keep the room
 sent-kept : (x : Fixed) (b : Bool) (t : State) → Sends x (sent b t) → HasSteps x room_of_move t

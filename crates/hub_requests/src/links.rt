@@ -1,9 +1,10 @@
 //! Links.
-ghost use Rattle.std.specs.Prelude.{◌≡◌, ◌+◌, ◌<◌, ◌^◌, IfOk};
+ghost use Rattle.std.specs.Prelude.{◌≡◌, IfOk};
 ghost use Rattle.gv_values.specs.declared.value.Whom.{Whom};
 ghost use Rattle.machine.specs.Holds.{outcome_of};
 ghost use Rattle.machine.specs.Items.{drop_items};
 ghost use Rattle.machine.specs.Request.{is_link, link_stands, links};
+ghost use Rattle.hub_state.specs.Adding.{MayAdd};
 ghost use Rattle.hub_requests.specs.Making.{MayMake};
 ghost use Rattle.hub_requests.specs.Performing.{performed_of};
 
@@ -36,7 +37,7 @@ pub fn link_to(
     function: u32,
 ) -> Result<Performed, AllocError>
     requires may_make { MayMake g hub.old }
-    requires since { hub.old.next_since + 1 < 2 ^ 64 }
+    requires may_add { MayAdd 1 hub.old }
     ensures { IfOk result (λ p. links target kind function hub.old ≡ performed_of p hub.new) }
 {
     if hub.links() >= MOST_LINKS {

@@ -1,6 +1,7 @@
 //! New greenlets, and their starts.
-ghost use Rattle.std.specs.Prelude.{◌≡◌, ◌+◌, ◌<◌, ◌^◌, false, OnOk, IfOk};
+ghost use Rattle.std.specs.Prelude.{◌≡◌, false, OnOk, IfOk};
 ghost use Rattle.machine.specs.Request.{makes, start_of, starts_at};
+ghost use Rattle.hub_state.specs.Adding.{MayAdd};
 ghost use Rattle.hub_requests.specs.Making.{MayMake};
 ghost use Rattle.hub_requests.specs.Performing.{performed_of};
 
@@ -23,7 +24,7 @@ pub fn spawn_greenlet(
     deadline: Option<u64>,
 ) -> Result<Performed, AllocError>
     requires may_make { MayMake g hub.old }
-    requires since { hub.old.next_since + 1 < 2 ^ 64 }
+    requires may_add { MayAdd 1 hub.old }
     ensures { IfOk result (λ p. makes false 0 function arguments (starts_at deadline) hub.old ≡ performed_of p hub.new) }
 {
     if !hub.has_greenlet_left() {
@@ -54,7 +55,7 @@ pub fn make_greenlet(
 /// Gives the greenlet a start item, where it is New and has none.
 #[tactic(auto, using(crate::proofs::Starting::start_made, crate::proofs::Starting::start_stands, crate::proofs::Starting::no_start_live, crate::proofs::Starting::no_start_done, crate::proofs::Soundly::start_missing))]
 pub fn start_greenlet(hub: &mut Hub, target: u32) -> Result<(), AllocError>
-    requires { hub.old.next_since + 1 < 2 ^ 64 }
+    requires { MayAdd 1 hub.old }
     ensures { OnOk result (hub.new ≡ start_of target hub.old) }
 {
     match how_far(hub, target) {

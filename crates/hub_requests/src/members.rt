@@ -1,8 +1,9 @@
 //! Members of groups and pools, and maps.
-ghost use Rattle.std.specs.Prelude.{◌≡◌, ◌<◌, ◌≤◌, ◌+◌, ◌^◌, ◌∷◌, [], drop, OnOk, IfOk, length, slice_get};
+ghost use Rattle.std.specs.Prelude.{◌≡◌, ◌<◌, ◌≤◌, ◌+◌, ◌∷◌, [], drop, OnOk, IfOk, length, slice_get};
 ghost use Rattle.gv_values.specs.Value.{value_of_scalar};
 ghost use Rattle.machine.specs.Waits.{made_member, map_ends, maps, map_goes_on, add_member};
 ghost use Rattle.hub_objects.specs.Counted.{MayCount};
+ghost use Rattle.hub_state.specs.Adding.{MayAdd};
 ghost use Rattle.hub_requests.specs.Making.{MayMake};
 ghost use Rattle.hub_requests.specs.Naming.{IsObject};
 ghost use Rattle.hub_requests.specs.Performing.{performed_of};
@@ -30,7 +31,7 @@ fn add_member(
     arguments: Items<Value>,
 ) -> Result<u32, AllocError>
     requires may_make { MayMake g hub.old }
-    requires since { hub.old.next_since + 1 < 2 ^ 64 }
+    requires may_add { MayAdd 1 hub.old }
     requires count { MayCount 1 (slice_get hub.old.objects o) }
     requires room { length hub.old.greenlets < MOST_GREENLETS }
     ensures added { OnOk result (hub.new ≡ add_member o function arguments hub.old) }
@@ -51,7 +52,7 @@ pub fn make_member(
     arguments: Items<Value>,
 ) -> Result<Performed, AllocError>
     requires may_make { MayMake g hub.old }
-    requires since { hub.old.next_since + 1 < 2 ^ 64 }
+    requires may_add { MayAdd 1 hub.old }
     requires count { MayCount 1 (slice_get hub.old.objects o) }
     ensures { IfOk result (λ p. made_member o function arguments hub.old ≡ performed_of p hub.new) }
 {
@@ -72,7 +73,7 @@ fn end_map(
 ) -> Result<Performed, AllocError>
     requires may_make { MayMake g hub.old }
     requires named { IsObject hub.old.scenario o }
-    requires since { hub.old.next_since + 1 < 2 ^ 64 }
+    requires may_add { MayAdd 1 hub.old }
     requires short { length made ≤ MOST_ELEMENTS }
     ensures { IfOk result (λ p. map_ends g o made hub.old ≡ performed_of p hub.new) }
 {
@@ -123,7 +124,7 @@ pub fn map_elements(
 ) -> Result<Performed, AllocError>
     requires may_make { MayMake g hub.old }
     requires named { IsObject hub.old.scenario mapping.crew }
-    requires since { hub.old.next_since + MOST_ELEMENTS + 1 < 2 ^ 64 }
+    requires may_add { MayAdd (MOST_ELEMENTS + 1) hub.old }
     requires count { MayCount (MOST_ELEMENTS + 1) (slice_get hub.old.objects mapping.crew) }
     requires short { length elements.now + length mapping.made ≤ MOST_ELEMENTS }
     ensures { IfOk result (λ p. maps elements.now g mapping.crew mapping.function mapping.made hub.old ≡ performed_of p hub.new) }
@@ -173,7 +174,7 @@ pub fn go_on_mapping(
 ) -> Result<Performed, AllocError>
     requires may_make { MayMake g hub.old }
     requires named { IsObject hub.old.scenario mapping.crew }
-    requires since { hub.old.next_since + MOST_ELEMENTS + 2 < 2 ^ 64 }
+    requires may_add { MayAdd (MOST_ELEMENTS + 2) hub.old }
     requires count { MayCount (MOST_ELEMENTS + 2) (slice_get hub.old.objects mapping.crew) }
     requires short { length elements + length mapping.made ≤ MOST_ELEMENTS }
     ensures { IfOk result (λ p. map_goes_on elements g mapping.crew mapping.function mapping.made hub.old ≡ performed_of p hub.new) }

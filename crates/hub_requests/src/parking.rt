@@ -2,6 +2,7 @@
 ghost use Rattle.std.specs.Prelude.{◌≡◌, ◌+◌, ◌<◌, ◌^◌, None, Some, IfSome, OnOk};
 ghost use Rattle.machine.specs.Waits.{parked, until_of};
 ghost use Rattle.hub_items.specs.Short.{IsShort};
+ghost use Rattle.hub_state.specs.Adding.{MayAdd};
 ghost use Rattle.hub_requests.specs.Awaited.{awaited_of, object_of};
 ghost use Rattle.hub_requests.specs.Making.{MayMake};
 ghost use Rattle.hub_requests.specs.Naming.{IsObject};
@@ -28,7 +29,7 @@ pub fn park(hub: &mut Hub, g: u32, waiting: Waiting) -> Result<(), AllocError>
     requires may_make { MayMake g hub.old }
     requires named { IfSome (object_of waiting) (IsObject hub.old.scenario) }
     requires short { IsShort waiting }
-    requires since { hub.old.next_since + 1 < 2 ^ 64 }
+    requires may_add { MayAdd 1 hub.old }
     ensures { OnOk result (hub.new ≡ parked g (awaited_of waiting hub.old) waiting None hub.old) }
 {
     let awaited = awaited_of(hub, &waiting);
@@ -40,7 +41,7 @@ pub fn park(hub: &mut Hub, g: u32, waiting: Waiting) -> Result<(), AllocError>
 pub fn park_as(hub: &mut Hub, g: u32, awaited: Awaited, waiting: Waiting) -> Result<(), AllocError>
     requires may_make { MayMake g hub.old }
     requires short { IsShort waiting }
-    requires since { hub.old.next_since + 1 < 2 ^ 64 }
+    requires may_add { MayAdd 1 hub.old }
     ensures { OnOk result (hub.new ≡ parked g awaited waiting None hub.old) }
 {
     hub.say(Line::Park {
@@ -63,7 +64,7 @@ pub fn park_until(
 ) -> Result<(), AllocError>
     requires may_make { MayMake g hub.old }
     requires short { IsShort waiting }
-    requires since { hub.old.next_since + 2 < 2 ^ 64 }
+    requires may_add { MayAdd 2 hub.old }
     requires drawn { hub.old.timeouts + 1 < 2 ^ 32 }
     ensures { OnOk result (hub.new ≡ parked g awaited waiting (Some deadline) hub.old) }
 {

@@ -1,8 +1,9 @@
 //! How a greenlet comes to a wait: it completes at once, parks, or does not wait.
-ghost use Rattle.std.specs.Prelude.{◌≡◌, ◌+◌, ◌<◌, ◌^◌, OnOk, IfOk, IfSome};
+ghost use Rattle.std.specs.Prelude.{◌≡◌, OnOk, IfOk, IfSome};
 ghost use Rattle.machine.specs.Waits.{comes, offered, waits};
 ghost use Rattle.machine_rooms.specs.Rooms.{HasRoom, room_of_move};
 ghost use Rattle.hub_items.specs.Short.{IsShort};
+ghost use Rattle.hub_state.specs.Adding.{MayAdd};
 ghost use Rattle.hub_requests.specs.Awaited.{awaited_of, object_of};
 ghost use Rattle.hub_requests.specs.Making.{MayMake};
 ghost use Rattle.hub_requests.specs.Naming.{IsNamed, IsObject};
@@ -100,7 +101,7 @@ pub fn come_to_wait_as(
 pub fn offer(hub: &mut Hub, g: u32, o: u32, value: Value) -> Result<(), AllocError>
     requires may_make { MayMake g hub.old }
     requires named { IsObject hub.old.scenario o }
-    requires since { hub.old.next_since + 1 < 2 ^ 64 }
+    requires may_add { MayAdd 1 hub.old }
     ensures { OnOk result (hub.new ≡ offered g o value hub.old) }
 {
     let since = hub.next_since();

@@ -1,3 +1,4 @@
+pub mod Adding
 pub mod Forgotten
 pub mod Found
 pub mod FoundParts

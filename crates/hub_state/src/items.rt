@@ -8,7 +8,9 @@ ghost use Rattle.machine.specs.Deliveries.{waiting_of};
 ghost use Rattle.machine.specs.Soundness.{claim_of, is_unclaimed};
 ghost use Rattle.hub_items.specs.Gone.{gone_of};
 ghost use Rattle.hub_items.specs.Short.{DeliversShort, IsShort};
+ghost use Rattle.held_items.specs.declared.limits.TheConstants.{MOST_HELD};
 ghost use Rattle.held_items.specs.Held.{added};
+ghost use Rattle.hub_state.specs.Adding.{MayAdd};
 ghost use Rattle.hub_state.specs.Touched.{IsRoomier};
 
 use crate::found::Found;
@@ -48,7 +50,8 @@ fn add_with_place(
     found: &mut Found,
     delivery: Delivery,
 ) -> Result<u32, AllocError>
-    requires { held.old.next_since + 1 < 2 ^ 64 }
+    requires since { held.old.next_since + 1 < 2 ^ 64 }
+    requires few { length held.old.entries < MOST_HELD }
     ensures added { IfOk result (λ slot. held.new ≡ added slot delivery held.old) }
     ensures place { IfOk result (λ slot. slot < touched.new.slots) }
     ensures room { OnOk result (length held.new.entries ≤ found.new.room) }
@@ -78,7 +81,7 @@ impl Hub {
     pub fn add_item(&mut self, delivery: Delivery) -> Result<(), AllocError>
         requires unclaimed { is_unclaimed (claim_of delivery) self.old.items ≡ true }
         requires short { DeliversShort delivery }
-        requires since { self.old.next_since + 1 < 2 ^ 64 }
+        requires may_add { MayAdd 1 self.old }
         ensures { OnOk result (self.new ≡ add_item delivery self.old) }
     {
         items_stand_in_order(&self.held);

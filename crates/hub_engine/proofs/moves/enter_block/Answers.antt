@@ -1,10 +1,10 @@
-use Rattle.std.proofs.Common.{◌+◌, ◌<◌, ◌^◌, sym, subst, arith}
+use Rattle.std.proofs.Common.{◌+◌, sym, subst, arith}
 use Rattle.machine.specs.declared.state.Phase.{Phase}
 use Rattle.machine.specs.Greenlets.{no_frame}
 use Rattle.machine.specs.Landing.{lands}
-use Rattle.machine.specs.State.{State}
 use Rattle.machine_rooms.specs.Rooms.{HasRoom, room_of_move}
 use Rattle.body_frames.specs.Standings.{reached_of}
+use Rattle.hub_state.specs.Adding.{MayAdd}
 use Rattle.hub_requests.proofs.Rooms.{room_added, room_drawn}
 use Rattle.hub_engine.specs.Settlings.{most_hops}
 use Rattle.hub_engine.proofs.Functions.{declared_limited, declared_phased, declared_placed, declared_settled, declared_timed}
@@ -21,7 +21,7 @@ add_timeout-requires c =
     let room = subst (HasRoom room_of_move) (sym c.go_under_way.ensures) (c.requires.room.any no_frame) in
     record {
       free = timeout_free c.args.g c.count_timeout-n.result c.args.hub.now c.go_under_way.new.hub c.count_timeout-n.new.self c.requires.may_move c.go_under_way.ensures c.count_timeout-n.ensures.number c.count_timeout-n.ensures.counted;
-      since = subst (λ (s : State). s.next_since + 1 < 2 ^ 64) (sym c.count_timeout-n.ensures.counted) (room_added room_of_move c.go_under_way.new.hub room);
+      may_add = subst (MayAdd 1) (sym c.count_timeout-n.ensures.counted) (room_added room_of_move c.go_under_way.new.hub room);
     }
 
 pub settle_hub-requires : goal.settle_hub-requires

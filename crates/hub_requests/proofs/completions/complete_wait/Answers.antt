@@ -1,4 +1,4 @@
-use Rattle.std.proofs.Common.{◌+◌, ◌<◌, ◌^◌, arith}
+use Rattle.std.proofs.Common.{◌+◌, arith}
 use Rattle.gv_values.specs.declared.limits.TheConstants.{MOST_ELEMENTS}
 use Rattle.machine_rooms.specs.Steps.{wait_weight}
 use Rattle.hub_requests.proofs.Rooms.{room_added, room_counted, room_counts, room_made, room_posted}
@@ -16,16 +16,14 @@ post_job-requires-clause-number c = room_posted (2 + wait_weight c.args.waiting)
 pub post_job-requires-clause-slot : goal.post_job-requires-clause-slot
 post_job-requires-clause-slot c = room_counted (2 + wait_weight c.args.waiting) c.args.hub.now c.requires.room c.in-Slot.o
 
-pub make_member-requires-clause-since : goal.make_member-requires-clause-since
-make_member-requires-clause-since c = room_added (2 + wait_weight c.args.waiting) c.args.hub.now c.requires.room
+pub make_member-requires-clause-may_add : goal.make_member-requires-clause-may_add
+make_member-requires-clause-may_add c = room_added (2 + wait_weight c.args.waiting) c.args.hub.now c.requires.room
 
 pub make_member-requires-clause-count : goal.make_member-requires-clause-count
 make_member-requires-clause-count c = room_counted (2 + wait_weight c.args.waiting) c.args.hub.now c.requires.room c.in-Place.o
 
-pub go_on_mapping-requires-clause-since : goal.go_on_mapping-requires-clause-since
-go_on_mapping-requires-clause-since c =
-    let fits : c.args.hub.now.next_since + (MOST_ELEMENTS + 2) < 2 ^ 64 = room_made (2 + wait_weight c.args.waiting) (MOST_ELEMENTS + 2) c.args.hub.now (omega arith) c.requires.room in
-    omega (arith, fits)
+pub go_on_mapping-requires-clause-may_add : goal.go_on_mapping-requires-clause-may_add
+go_on_mapping-requires-clause-may_add c = room_made (2 + wait_weight c.args.waiting) (MOST_ELEMENTS + 2) c.args.hub.now (omega arith) c.requires.room
 
 pub go_on_mapping-requires-clause-count : goal.go_on_mapping-requires-clause-count
 go_on_mapping-requires-clause-count c = room_counts (2 + wait_weight c.args.waiting) (MOST_ELEMENTS + 2) c.args.hub.now (omega arith) c.requires.room c.in-MapPlace.o

@@ -4,7 +4,7 @@ use Rattle.gv_values.specs.declared.scalar.Scalar.{Scalar}
 use Rattle.machine.specs.State.{State}
 use Rattle.hub_requests.specs.Naming.{IsObject}
 use Rattle.hub_requests.proofs.Mapping.{few_after}
-use Rattle.hub_requests.proofs.Rooms.{member_room}
+use Rattle.hub_requests.proofs.Rooms.{fewer_added, member_room, room_member}
 use Rattle.hub_requests.proofs.Soundly.{sound_member}
 use Rattle.hub_requests.proofs.members.go_on_mapping.Goals as goal
 
@@ -12,21 +12,22 @@ pub map_elements-requires-clause-may_make : goal.map_elements-requires-clause-ma
 map_elements-requires-clause-may_make c =
     sound_member c.args.mapping.crew c.args.mapping.function c.args.g c.in_ok-arguments.arguments c.args.hub.now c.add_member.new.hub c.requires.may_make c.in_ok-member.ensures.added
 
-pub map_elements-requires-clause-since : goal.map_elements-requires-clause-since
-map_elements-requires-clause-since c = let one = ap (λ (s : State). s.next_since) c.in_ok-member.ensures.added in let fits = c.requires.since in omega (arith, one, fits)
+pub map_elements-requires-clause-may_add : goal.map_elements-requires-clause-may_add
+map_elements-requires-clause-may_add c =
+    room_member (MOST_ELEMENTS + 1) c.args.mapping.crew c.args.mapping.function c.in_ok-arguments.arguments c.args.hub.now c.add_member.new.hub c.in_ok-member.ensures.added c.requires.may_add
 
 pub map_elements-requires-clause-count : goal.map_elements-requires-clause-count
 map_elements-requires-clause-count c =
     member_room (MOST_ELEMENTS + 1) c.args.mapping.crew c.args.mapping.function c.in_ok-arguments.arguments c.args.hub.now c.add_member.new.hub c.in_ok-member.ensures.added c.requires.count
 
-pub add_member-requires-clause-since : goal.add_member-requires-clause-since
-add_member-requires-clause-since c = let fits = c.requires.since in omega (arith, fits)
+pub add_member-requires-clause-may_add : goal.add_member-requires-clause-may_add
+add_member-requires-clause-may_add c = fewer_added 1 (MOST_ELEMENTS + 2) c.args.hub.now (omega arith) c.requires.may_add
 
 pub add_member-requires-clause-count : goal.add_member-requires-clause-count
 add_member-requires-clause-count c = let fits = c.requires.count in omega (arith, fits)
 
-pub end_map-requires-clause-since : goal.end_map-requires-clause-since
-end_map-requires-clause-since c = let fits = c.requires.since in omega (arith, fits)
+pub end_map-requires-clause-may_add : goal.end_map-requires-clause-may_add
+end_map-requires-clause-may_add c = fewer_added 1 (MOST_ELEMENTS + 2) c.args.hub.now (omega arith) c.requires.may_add
 
 pub map_elements-requires-clause-named : goal.map_elements-requires-clause-named
 map_elements-requires-clause-named c = subst (λ (x : State). IsObject x.scenario c.args.mapping.crew) (sym c.in_ok-member.ensures.added) c.requires.named

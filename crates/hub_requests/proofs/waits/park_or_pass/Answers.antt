@@ -9,8 +9,8 @@ park_until-requires-clause-drawn c = room_drawn room_of_move c.args.hub.now c.re
 pub draw-n-requires : goal.draw-n-requires
 draw-n-requires c = room_drawn room_of_move c.args.hub.now c.requires.room
 
-pub park_as-requires-clause-since : goal.park_as-requires-clause-since
-park_as-requires-clause-since c = room_added room_of_move c.args.hub.now c.requires.room
+pub park_as-requires-clause-may_add : goal.park_as-requires-clause-may_add
+park_as-requires-clause-may_add c = room_added room_of_move c.args.hub.now c.requires.room
 
-pub park_until-requires-clause-since : goal.park_until-requires-clause-since
-park_until-requires-clause-since c = room_made room_of_move 2 c.args.hub.now (omega arith) c.requires.room
+pub park_until-requires-clause-may_add : goal.park_until-requires-clause-may_add
+park_until-requires-clause-may_add c = room_made room_of_move 2 c.args.hub.now (omega arith) c.requires.room
