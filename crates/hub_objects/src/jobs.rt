@@ -83,11 +83,18 @@ fn outcome_of_job(outcome: JobOutcome) -> Outcome
     }
 }
 
-/// Whether a job has not arrived.
+/// Whether a job has not arrived. Looks at the last ones first: of many jobs the old ones have mostly arrived.
 pub fn any_outstanding(jobs: &[Posted]) -> bool
     ensures { result ≡ any_outstanding jobs.now }
 {
-    jobs.iter().any(|job| job.is_outstanding())
+    let mut left = jobs.len();
+    while left > 0 {
+        left -= 1;
+        if jobs[left].is_outstanding() {
+            return true;
+        }
+    }
+    false
 }
 
 /// The job of this number; they are counted from 1.
