@@ -1,5 +1,6 @@
 -- Statements and blocks, line by line.
-use Rattle.std.proofs.Common.{◌≡◌, ℕ, zero, suc, ◌+◌, ◌≤◌, ◌<◌, arith, Bool, List, [], length, take, get_or, Option, Some, None, Result, Ok, refl, sym, ap, subst, ◌∙◌, true, false}
+use Rattle.std.proofs.Common.{◌≡◌, ℕ, zero, suc, ◌+◌, ◌≤◌, ◌<◌, arith, Bool, List, [], length, take, get_or, Option, Some, None, Result, Ok, Err, refl, sym, ap, subst, ◌∙◌, true, false}
+use Rattle.std.specs.Result.{IsErr}
 use Rattle.gv_values.specs.Fronts.{BeginsWith}
 use Rattle.scenario_tree.specs.declared.tree.Action.{Action, Action-F, out-Action}
 use Rattle.gv_values.specs.declared.name.Name.{Name}
@@ -19,6 +20,19 @@ use Rattle.scenario_print.specs.TreeLines.{Deeper, WroteTreeLine, WroteFixedLine
 use Rattle.scenario_print.proofs.Each.{each_next}
 use Rattle.scenario_print.proofs.TreeLineLemmas.{laid, laid_back, laid_none, laid_nothing, laid_line, else_tree_line, end_tree_line, finally_tree_line, try_tree_line}
 use Rattle.scenario_print.proofs.Words.{through}
+
+-- where no memory was found
+pub broken_block : {T E : Type 0} {o n : List ℕ} {r : Result T E} {level : ℕ} {ss : List Statement} → IsErr r → BeginsWith n o → WroteBlock o n r level ss
+broken_block {r = Ok x} is front = cc
+broken_block {r = Err e} is front = record { lines = λ levels fits. tt; front = front }
+
+pub broken_statement : {T E : Type 0} {o n : List ℕ} {r : Result T E} {level : ℕ} {s : Statement} → IsErr r → BeginsWith n o → WroteStatement o n r level s
+broken_statement {r = Ok x} is front = cc
+broken_statement {r = Err e} is front = record { lines = λ levels fits. tt; front = front }
+
+pub broken_excepts : {T E : Type 0} {o n : List ℕ} {r : Result T E} {level : ℕ} {es : List Except} → IsErr r → BeginsWith n o → WroteExcepts o n r level es
+broken_excepts {r = Ok x} is front = cc
+broken_excepts {r = Err e} is front = record { lines = λ levels fits. tt; front = front }
 
 -- a block of a statement that has so many levels below it
 pub inner : {T E : Type 0} {o n : List ℕ} {r : Result T E} {d : ℕ} {fs es : List Statement} (level levels : ℕ) → Deeper level d → level + suc levels ≤ suc MOST_LEVELS → fs ≡ es → WroteBlock o n r d fs → Laid o n r (level + 1) (level + 1) (block_within levels es)

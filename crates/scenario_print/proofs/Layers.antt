@@ -1,5 +1,7 @@
 -- Expressions, level by level.
-use Rattle.std.proofs.Common.{◌≡◌, ℕ, zero, suc, ◌+◌, ◌<◌, List, [], length, take, get_or, Result, Ok, sym, subst, true, false, Bool, if◌then◌else◌}
+use Rattle.std.proofs.Common.{◌≡◌, ℕ, zero, suc, ◌+◌, ◌<◌, List, length, take, get_or, Result, Ok, Err, sym, subst, true, false, Bool, if◌then◌else◌}
+use Rattle.std.specs.Result.{IsErr}
+use Rattle.gv_values.specs.Fronts.{BeginsWith}
 use Rattle.scenario_tree.specs.declared.tree.Expression.{Expression, Expression-F, out-Expression}
 use Rattle.scenario_grammar.specs.declared.token.Token.{Token}
 use Rattle.scenario_grammar.specs.Expressions.{expression, tokens_within, layer_tokens}
@@ -11,6 +13,15 @@ use Rattle.scenario_print.specs.Written.{Wrote, WroteNumber, WroteExpression, Wr
 use Rattle.scenario_print.proofs.Each.{each_next}
 use Rattle.scenario_print.proofs.Words.{in_range, joined, no_words, through, worded}
 use Rattle.gv_values.specs.declared.limits.TheConstants.{MOST_ELEMENTS}
+
+-- where no memory was found
+pub broken_expression : {T E : Type 0} {o n : List ℕ} {r : Result T E} {e : Expression} → IsErr r → BeginsWith n o → WroteExpression o n r e
+broken_expression {r = Ok x} is front = cc
+broken_expression {r = Err x} is front = record { words = λ depth. tt; front = front }
+
+pub broken_expressions : {T E : Type 0} {o n : List ℕ} {r : Result T E} {es : List Expression} → IsErr r → BeginsWith n o → WroteExpressions o n r es
+broken_expressions {r = Ok x} is front = cc
+broken_expressions {r = Err x} is front = record { words = λ depth. tt; front = front }
 
 -- an expression to so many levels
 pub to_depth : {T E : Type 0} {o n : List ℕ} {r : Result T E} {e : Expression} (depth : ℕ) → WroteExpression o n r e → Wrote o n r (tokens_within depth e)

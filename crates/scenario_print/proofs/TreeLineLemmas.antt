@@ -1,6 +1,7 @@
 -- Lines, one after another.
 use Rattle.std.proofs.Common.{◌≡◌, ℕ, ◌+◌, ◌-◌, ◌*◌, arith, Bool, ◌&&◌, List, [], ◌∷◌, ◌++◌, map, replicate, Option, Some, None, Result, Ok, Err, IsTrue, refl, sym, ap, subst, ◌∙◌, append_assoc, true, false}
 use Rattle.std.specs.List.{list_all, join_with_byte}
+use Rattle.std.specs.Result.{IsErr}
 use Rattle.std.specs.Option.{IsSome, is_some}
 use Rattle.std.proofs.lemmas.List.{append-nil, replicate-append-replicate}
 use Rattle.gv_values.specs.Fronts.{BeginsWith}
@@ -17,6 +18,19 @@ use Rattle.scenario_print.specs.Texts.{has_words}
 use Rattle.scenario_print.specs.Written.{Appended, spaced, Started, AreWords, WroteLine}
 use Rattle.scenario_print.specs.TreeLines.{line_text, WroteTreeLine, WroteFixedLine, Laid}
 use Rattle.scenario_print.proofs.Words.{through, parted}
+
+-- where no memory was found
+pub broken_tree_line : {T E : Type 0} {o n : List ℕ} {r : Result T E} {level : ℕ} {p : Phrase} → IsErr r → BeginsWith n o → WroteTreeLine o n r level p
+broken_tree_line {r = Ok x} is front = cc
+broken_tree_line {r = Err x} is front = record { text = tt; front = front }
+
+pub broken_fixed_line : {T E : Type 0} {o n : List ℕ} {r : Result T E} {level : ℕ} {k : Keyword} → IsErr r → BeginsWith n o → WroteFixedLine o n r level k
+broken_fixed_line {r = Ok x} is front = cc
+broken_fixed_line {r = Err x} is front = record { text = tt; front = front }
+
+pub broken_lines : {T E : Type 0} {o n : List ℕ} {r : Result T E} {a b : ℕ} {w : Written TreeLine} → IsErr r → BeginsWith n o → Laid o n r a b w
+broken_lines {r = Ok x} is front = cc
+broken_lines {r = Err x} is front = record { lines = tt; front = front }
 
 joined_words : (t : Token) (ts : List Token) → token_word t ++ spaced ts ≡ join_with_byte 32 (map token_word (t ∷ ts))
 joined_words t [] = append-nil (token_word t)

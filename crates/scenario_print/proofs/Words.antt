@@ -1,5 +1,6 @@
 -- Pieces of a line, one after another.
 use Rattle.std.proofs.Common.{◌≡◌, ℕ, nat_le, ◌&&◌, Bool, ℤ, pos, List, [], ◌∷◌, ◌++◌, Some, None, Result, Ok, Err, refl, sym, ap, subst, ◌∙◌, append_assoc, true, false, codes}
+use Rattle.std.specs.Result.{IsErr}
 use Rattle.std.specs.Fmt.{decimal, signed_decimal}
 use Rattle.std.proofs.lemmas.List.{append-nil}
 use Rattle.gv_values.specs.Fronts.{BeginsWith}
@@ -13,6 +14,23 @@ use Rattle.scenario_print.specs.Written.{Appended, spaced, Wrote, WroteNumber, S
 
 pub through : (whole middle front : List ℕ) → BeginsWith whole middle → BeginsWith middle front → BeginsWith whole front
 through whole middle front b d = record { rest = d.rest ++ b.rest; is = b.is ∙ ap (λ z. z ++ b.rest) d.is ∙ append_assoc front d.rest b.rest }
+
+-- where no memory was found
+pub broken_bytes : {T E : Type 0} {o n : List ℕ} {r : Result T E} {text : List ℕ} → IsErr r → BeginsWith n o → Appended o n r text
+broken_bytes {r = Ok x} is front = cc
+broken_bytes {r = Err x} is front = record { bytes = tt; front = front }
+
+pub broken_words : {T E : Type 0} {o n : List ℕ} {r : Result T E} {w : Written Token} → IsErr r → BeginsWith n o → Wrote o n r w
+broken_words {r = Ok x} is front = cc
+broken_words {r = Err x} is front = record { words = tt; front = front }
+
+pub broken_start : {T E : Type 0} {o n : List ℕ} {r : Result T E} {k : Keyword} {w : Written Token} → IsErr r → BeginsWith n o → Started o n r k w
+broken_start {r = Ok x} is front = cc
+broken_start {r = Err x} is front = record { words = tt; front = front }
+
+pub broken_line : {T E : Type 0} {o n : List ℕ} {r : Result T E} {w : Written Token} → IsErr r → BeginsWith n o → WroteLine o n r w
+broken_line {r = Ok x} is front = cc
+broken_line {r = Err x} is front = record { words = tt; front = front }
 
 spaced_append : (xs ys : List Token) → spaced (xs ++ ys) ≡ spaced xs ++ spaced ys
 spaced_append [] ys = refl

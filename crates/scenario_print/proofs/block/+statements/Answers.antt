@@ -1,5 +1,4 @@
-use Rattle.std.proofs.Common.{rules}
-use Rattle.scenario_print.proofs.BlockLemmas.{command_statement, giving_statement, if_else_statement, if_statement, next_except, next_statement, no_statements, timeout_statement, try_finally_statement, try_statement, while_statement}
+use Rattle.scenario_print.proofs.BlockLemmas.{broken_block, broken_excepts, broken_statement, command_statement, giving_statement, if_else_statement, if_statement, next_except, next_statement, no_statements, timeout_statement, try_finally_statement, try_statement, while_statement}
 use Rattle.scenario_print.proofs.Words.{through}
 use Rattle.scenario_print.proofs.block.+statements.Goals as goal
 
@@ -56,61 +55,59 @@ push_statement-returns-in_ok-push_block-in-Some-finally t c =
     c.in_ok-push_block-in-Some-finally.ensures c.push_fixed_line-in-Some-finally-2.ensures
 
 pub push_block-returns-in_err-push_statement : goal.push_block-returns-in_err-push_statement
-push_block-returns-in_err-push_statement t c =
-    let front = through _ _ _ c.in_err-push_statement.ensures.front c.loop-statement.invariant.front in
-    search (rules, front)
+push_block-returns-in_err-push_statement t c = broken_block c.from_residual.ensures.0 (through _ _ _ c.in_err-push_statement.ensures.front c.loop-statement.invariant.front)
 
 pub push_excepts-returns-in_err-push_except_line : goal.push_excepts-returns-in_err-push_except_line
-push_excepts-returns-in_err-push_except_line t c =
-    let front = through _ _ _ c.in_err-push_except_line.ensures.front c.loop-except.invariant.front in
-    search (rules, front)
+push_excepts-returns-in_err-push_except_line t c = broken_excepts c.from_residual.ensures.0 (through _ _ _ c.in_err-push_except_line.ensures.front c.loop-except.invariant.front)
 
 pub push_excepts-returns-in_err-push_block : goal.push_excepts-returns-in_err-push_block
 push_excepts-returns-in_err-push_block t c =
-    let front = through _ _ _ c.in_err-push_block.ensures.front (through _ _ _ c.in_ok-push_except_line.ensures.front c.loop-except.invariant.front) in
-    search (rules, front)
+    broken_excepts c.from_residual-in_err-push_block.ensures.0 (through _ _ _ c.in_err-push_block.ensures.front (through _ _ _ c.in_ok-push_except_line.ensures.front c.loop-except.invariant.front))
+
+pub push_statement-returns-in_err-push_if_line-in-If : goal.push_statement-returns-in_err-push_if_line-in-If
+push_statement-returns-in_err-push_if_line-in-If t c = broken_statement c.from_residual.ensures.0 c.in_err-push_if_line-in-If.ensures.front
 
 pub push_statement-returns-in_err-push_block-in-If : goal.push_statement-returns-in_err-push_block-in-If
 push_statement-returns-in_err-push_block-in-If t c =
-    let front = through _ _ _ c.in_err-push_block-in-If.ensures.front c.in_ok-push_if_line-in-If.ensures.front in
-    search (rules, front)
+    broken_statement c.from_residual-in_err-push_block-in-If.ensures.0 (through _ _ _ c.in_err-push_block-in-If.ensures.front c.in_ok-push_if_line-in-If.ensures.front)
 
 pub push_statement-returns-in_err-push_fixed_line-in-Some : goal.push_statement-returns-in_err-push_fixed_line-in-Some
 push_statement-returns-in_err-push_fixed_line-in-Some t c =
-    let front = through _ _ _ c.in_err-push_fixed_line-in-Some.ensures.front (through _ _ _ c.in_ok-push_block-in-If.ensures.front c.in_ok-push_if_line-in-If.ensures.front) in
-    search (rules, front)
+    broken_statement c.from_residual-in_err-push_fixed_line-in-Some.ensures.0 (through _ _ _ c.in_err-push_fixed_line-in-Some.ensures.front (through _ _ _ c.in_ok-push_block-in-If.ensures.front c.in_ok-push_if_line-in-If.ensures.front))
 
 pub push_statement-returns-in_err-push_block-in-Some : goal.push_statement-returns-in_err-push_block-in-Some
 push_statement-returns-in_err-push_block-in-Some t c =
-    let front = through _ _ _ c.in_err-push_block-in-Some.ensures.front (through _ _ _ c.in_ok-push_fixed_line-in-Some.ensures.front (through _ _ _ c.in_ok-push_block-in-If.ensures.front c.in_ok-push_if_line-in-If.ensures.front)) in
-    search (rules, front)
+    broken_statement c.from_residual-in_err-push_block-in-Some.ensures.0 (through _ _ _ c.in_err-push_block-in-Some.ensures.front (through _ _ _ c.in_ok-push_fixed_line-in-Some.ensures.front (through _ _ _ c.in_ok-push_block-in-If.ensures.front c.in_ok-push_if_line-in-If.ensures.front)))
+
+pub push_statement-returns-in_err-push_while_line-in-While : goal.push_statement-returns-in_err-push_while_line-in-While
+push_statement-returns-in_err-push_while_line-in-While t c = broken_statement c.from_residual-in_err-push_while_line-in-While.ensures.0 c.in_err-push_while_line-in-While.ensures.front
 
 pub push_statement-returns-in_err-push_block-in-While : goal.push_statement-returns-in_err-push_block-in-While
 push_statement-returns-in_err-push_block-in-While t c =
-    let front = through _ _ _ c.in_err-push_block-in-While.ensures.front c.in_ok-push_while_line-in-While.ensures.front in
-    search (rules, front)
+    broken_statement c.from_residual-in_err-push_block-in-While.ensures.0 (through _ _ _ c.in_err-push_block-in-While.ensures.front c.in_ok-push_while_line-in-While.ensures.front)
+
+pub push_statement-returns-in_err-push_fixed_line-in-Try : goal.push_statement-returns-in_err-push_fixed_line-in-Try
+push_statement-returns-in_err-push_fixed_line-in-Try t c = broken_statement c.from_residual-in_err-push_fixed_line-in-Try.ensures.0 c.in_err-push_fixed_line-in-Try.ensures.front
 
 pub push_statement-returns-in_err-push_block-in-Try : goal.push_statement-returns-in_err-push_block-in-Try
 push_statement-returns-in_err-push_block-in-Try t c =
-    let front = through _ _ _ c.in_err-push_block-in-Try.ensures.front c.in_ok-push_fixed_line-in-Try.ensures.front in
-    search (rules, front)
+    broken_statement c.from_residual-in_err-push_block-in-Try.ensures.0 (through _ _ _ c.in_err-push_block-in-Try.ensures.front c.in_ok-push_fixed_line-in-Try.ensures.front)
 
 pub push_statement-returns-in_err-push_excepts-in-Try : goal.push_statement-returns-in_err-push_excepts-in-Try
 push_statement-returns-in_err-push_excepts-in-Try t c =
-    let front = through _ _ _ c.in_err-push_excepts-in-Try.ensures.front (through _ _ _ c.in_ok-push_block-in-Try.ensures.front c.in_ok-push_fixed_line-in-Try.ensures.front) in
-    search (rules, front)
+    broken_statement c.from_residual-in_err-push_excepts-in-Try.ensures.0 (through _ _ _ c.in_err-push_excepts-in-Try.ensures.front (through _ _ _ c.in_ok-push_block-in-Try.ensures.front c.in_ok-push_fixed_line-in-Try.ensures.front))
 
 pub push_statement-returns-in_err-push_fixed_line-in-Some-finally : goal.push_statement-returns-in_err-push_fixed_line-in-Some-finally
 push_statement-returns-in_err-push_fixed_line-in-Some-finally t c =
-    let front = through _ _ _ c.in_err-push_fixed_line-in-Some-finally.ensures.front (through _ _ _ c.in_ok-push_excepts-in-Try.ensures.front (through _ _ _ c.in_ok-push_block-in-Try.ensures.front c.in_ok-push_fixed_line-in-Try.ensures.front)) in
-    search (rules, front)
+    broken_statement c.from_residual-in_err-push_fixed_line-in-Some-finally.ensures.0 (through _ _ _ c.in_err-push_fixed_line-in-Some-finally.ensures.front (through _ _ _ c.in_ok-push_excepts-in-Try.ensures.front (through _ _ _ c.in_ok-push_block-in-Try.ensures.front c.in_ok-push_fixed_line-in-Try.ensures.front)))
 
 pub push_statement-returns-in_err-push_block-in-Some-finally : goal.push_statement-returns-in_err-push_block-in-Some-finally
 push_statement-returns-in_err-push_block-in-Some-finally t c =
-    let front = through _ _ _ c.in_err-push_block-in-Some-finally.ensures.front (through _ _ _ c.in_ok-push_fixed_line-in-Some-finally.ensures.front (through _ _ _ c.in_ok-push_excepts-in-Try.ensures.front (through _ _ _ c.in_ok-push_block-in-Try.ensures.front c.in_ok-push_fixed_line-in-Try.ensures.front))) in
-    search (rules, front)
+    broken_statement c.from_residual-in_err-push_block-in-Some-finally.ensures.0 (through _ _ _ c.in_err-push_block-in-Some-finally.ensures.front (through _ _ _ c.in_ok-push_fixed_line-in-Some-finally.ensures.front (through _ _ _ c.in_ok-push_excepts-in-Try.ensures.front (through _ _ _ c.in_ok-push_block-in-Try.ensures.front c.in_ok-push_fixed_line-in-Try.ensures.front))))
+
+pub push_statement-returns-in_err-push_timeout_line-in-Timeout : goal.push_statement-returns-in_err-push_timeout_line-in-Timeout
+push_statement-returns-in_err-push_timeout_line-in-Timeout t c = broken_statement c.from_residual-in_err-push_timeout_line-in-Timeout.ensures.0 c.in_err-push_timeout_line-in-Timeout.ensures.front
 
 pub push_statement-returns-in_err-push_block-in-Timeout : goal.push_statement-returns-in_err-push_block-in-Timeout
 push_statement-returns-in_err-push_block-in-Timeout t c =
-    let front = through _ _ _ c.in_err-push_block-in-Timeout.ensures.front c.in_ok-push_timeout_line-in-Timeout.ensures.front in
-    search (rules, front)
+    broken_statement c.from_residual-in_err-push_block-in-Timeout.ensures.0 (through _ _ _ c.in_err-push_block-in-Timeout.ensures.front c.in_ok-push_timeout_line-in-Timeout.ensures.front)

@@ -1,5 +1,5 @@
 use Rattle.scenario_grammar.specs.declared.limits.TheConstants.{MOST_MS}
-use Rattle.scenario_print.proofs.Words.{further, line}
+use Rattle.scenario_print.proofs.Words.{broken_line, further, line, through}
 use Rattle.scenario_print.proofs.command.push_command.Goals as goal
 
 pub returns-in-Print : goal.returns-in-Print
@@ -67,3 +67,19 @@ returns-in-ChannelPut c = rw c.in-ChannelPut.is (line c.start_name_expression-in
 
 pub returns-in_ok-start_name-in-QueueShut : goal.returns-in_ok-start_name-in-QueueShut
 returns-in_ok-start_name-in-QueueShut c = rw c.in-QueueShut.is (line (further c.in_ok-start_name-in-QueueShut.ensures c.push_flag-in-QueueShut.ensures))
+
+pub returns-in_err-start_expression-in-Join : goal.returns-in_err-start_expression-in-Join
+returns-in_err-start_expression-in-Join c = broken_line c.from_residual.ensures.0 c.in_err-start_expression-in-Join.ensures.front
+
+pub returns-in_err-start_name_expression-in-QueuePut : goal.returns-in_err-start_name_expression-in-QueuePut
+returns-in_err-start_name_expression-in-QueuePut c = broken_line c.from_residual-in_err-start_name_expression-in-QueuePut.ensures.0 c.in_err-start_name_expression-in-QueuePut.ensures.front
+
+pub returns-in_err-start_name-in-GroupKill : goal.returns-in_err-start_name-in-GroupKill
+returns-in_err-start_name-in-GroupKill c = broken_line c.from_residual-in_err-start_name-in-GroupKill.ensures.0 c.in_err-start_name-in-GroupKill.ensures.front
+
+pub returns-in_err-push_marked-in-GroupKill : goal.returns-in_err-push_marked-in-GroupKill
+returns-in_err-push_marked-in-GroupKill c =
+    broken_line c.from_residual-in_err-push_marked-in-GroupKill.ensures.0 (through _ _ _ c.in_err-push_marked-in-GroupKill.ensures.front c.in_ok-start_name-in-GroupKill.ensures.front)
+
+pub returns-in_err-start_name-in-QueueShut : goal.returns-in_err-start_name-in-QueueShut
+returns-in_err-start_name-in-QueueShut c = broken_line c.from_residual-in_err-start_name-in-QueueShut.ensures.0 c.in_err-start_name-in-QueueShut.ensures.front

@@ -2,7 +2,8 @@ use Rattle.std.proofs.Common.{rules, ◌≡◌, refl, to_z, of_z, w64, sym}
 use Rattle.scenario_tree.specs.declared.tree.Expression.TheViews as v
 use Rattle.scenario_grammar.specs.declared.keyword.Keyword.TheVariants as k
 use Rattle.scenario_grammar.specs.Expressions.{binary_keyword, query_keyword, tokens_within, unary_keyword}
-use Rattle.scenario_print.proofs.Layers.{asked, layer, next_expression, one_operand, some_operands, truth, two_operands}
+use Rattle.scenario_print.proofs.Layers.{asked, broken_expression, broken_expressions, layer, next_expression, one_operand, some_operands, truth, two_operands}
+use Rattle.scenario_print.proofs.Words.{through}
 use Rattle.scenario_print.proofs.expression.+expression.Goals as goal
 
 pub push_operand-returns-in-Nothing : goal.push_operand-returns-in-Nothing
@@ -57,3 +58,40 @@ push_operand-returns-in_ok-push_fixed-in-Query t c =
 
 pub push_operands-loop-item-preserved : goal.push_operands-loop-item-preserved
 push_operands-loop-item-preserved t c = next_expression c.loop-item.item-index c.args.items.now c.item-item.result c.loop-item-test.true c.item-item.is c.loop-item.invariant c.in_ok-push_operand.ensures
+
+pub push_operand-returns-in_err-push_fixed-in-Unary : goal.push_operand-returns-in_err-push_fixed-in-Unary
+push_operand-returns-in_err-push_fixed-in-Unary t c = broken_expression c.from_residual.ensures.0 c.in_err-push_fixed-in-Unary.ensures.front
+
+pub push_operand-returns-in_err-push_fixed-in-Binary : goal.push_operand-returns-in_err-push_fixed-in-Binary
+push_operand-returns-in_err-push_fixed-in-Binary t c = broken_expression c.from_residual-in_err-push_fixed-in-Binary.ensures.0 c.in_err-push_fixed-in-Binary.ensures.front
+
+pub push_operand-returns-in_err-push_operand-in-Binary : goal.push_operand-returns-in_err-push_operand-in-Binary
+push_operand-returns-in_err-push_operand-in-Binary t c =
+    broken_expression c.from_residual-in_err-push_operand-in-Binary.ensures.0 (through _ _ _ c.in_err-push_operand-in-Binary.ensures.front c.in_ok-push_fixed-in-Binary.ensures.front)
+
+pub push_operand-returns-in_err-push_fixed-in-And : goal.push_operand-returns-in_err-push_fixed-in-And
+push_operand-returns-in_err-push_fixed-in-And t c = broken_expression c.from_residual-in_err-push_fixed-in-And.ensures.0 c.in_err-push_fixed-in-And.ensures.front
+
+pub push_operand-returns-in_err-push_operand-in-And : goal.push_operand-returns-in_err-push_operand-in-And
+push_operand-returns-in_err-push_operand-in-And t c =
+    broken_expression c.from_residual-in_err-push_operand-in-And.ensures.0 (through _ _ _ c.in_err-push_operand-in-And.ensures.front c.in_ok-push_fixed-in-And.ensures.front)
+
+pub push_operand-returns-in_err-push_fixed-in-Or : goal.push_operand-returns-in_err-push_fixed-in-Or
+push_operand-returns-in_err-push_fixed-in-Or t c = broken_expression c.from_residual-in_err-push_fixed-in-Or.ensures.0 c.in_err-push_fixed-in-Or.ensures.front
+
+pub push_operand-returns-in_err-push_operand-in-Or : goal.push_operand-returns-in_err-push_operand-in-Or
+push_operand-returns-in_err-push_operand-in-Or t c =
+    broken_expression c.from_residual-in_err-push_operand-in-Or.ensures.0 (through _ _ _ c.in_err-push_operand-in-Or.ensures.front c.in_ok-push_fixed-in-Or.ensures.front)
+
+pub push_operand-returns-in_err-push_fixed-in-List : goal.push_operand-returns-in_err-push_fixed-in-List
+push_operand-returns-in_err-push_fixed-in-List t c = broken_expression c.from_residual-in_err-push_fixed-in-List.ensures.0 c.in_err-push_fixed-in-List.ensures.front
+
+pub push_operand-returns-in_err-push_number-in-List : goal.push_operand-returns-in_err-push_number-in-List
+push_operand-returns-in_err-push_number-in-List t c =
+    broken_expression c.from_residual-in_err-push_number-in-List.ensures.0 (through _ _ _ c.in_err-push_number-in-List.ensures.front c.in_ok-push_fixed-in-List.ensures.front)
+
+pub push_operand-returns-in_err-push_fixed-in-Query : goal.push_operand-returns-in_err-push_fixed-in-Query
+push_operand-returns-in_err-push_fixed-in-Query t c = broken_expression c.from_residual-in_err-push_fixed-in-Query.ensures.0 c.in_err-push_fixed-in-Query.ensures.front
+
+pub push_operands-returns-in_err-push_operand : goal.push_operands-returns-in_err-push_operand
+push_operands-returns-in_err-push_operand t c = broken_expressions c.from_residual.ensures.0 (through _ _ _ c.in_err-push_operand.ensures.front c.loop-item.invariant.front)

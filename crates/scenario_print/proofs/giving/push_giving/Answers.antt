@@ -1,6 +1,5 @@
-use Rattle.std.proofs.Common.{rules}
 use Rattle.scenario_grammar.specs.declared.limits.TheConstants.{MOST_MARK, MOST_MS}
-use Rattle.scenario_print.proofs.Words.{further, in_range, line, through}
+use Rattle.scenario_print.proofs.Words.{broken_line, further, in_range, line, through}
 use Rattle.scenario_print.proofs.Layers.{all_whole}
 use Rattle.scenario_print.proofs.giving.push_giving.Goals as goal
 
@@ -70,42 +69,66 @@ returns-in_ok-start_expression-in-Throw c = rw c.in-Throw.is (line (further c.in
 pub returns-in-ChannelGet : goal.returns-in-ChannelGet
 returns-in-ChannelGet c = rw c.in-ChannelGet.is (line c.start_name-in-ChannelGet.ensures)
 
+pub returns-in_err-start_number-in-SpawnLater : goal.returns-in_err-start_number-in-SpawnLater
+returns-in_err-start_number-in-SpawnLater c = broken_line c.from_residual.ensures.0 c.in_err-start_number-in-SpawnLater.ensures.front
+
 pub returns-in_err-push_name-in-SpawnLater : goal.returns-in_err-push_name-in-SpawnLater
 returns-in_err-push_name-in-SpawnLater c =
-    let front = through _ _ _ c.in_err-push_name-in-SpawnLater.ensures.front c.in_ok-start_number-in-SpawnLater.ensures.front in
-    search (rules, front)
+    broken_line c.from_residual-in_err-push_name-in-SpawnLater.ensures.0 (through _ _ _ c.in_err-push_name-in-SpawnLater.ensures.front c.in_ok-start_number-in-SpawnLater.ensures.front)
+
+pub returns-in_err-start_expression-in-Get : goal.returns-in_err-start_expression-in-Get
+returns-in_err-start_expression-in-Get c = broken_line c.from_residual-in_err-start_expression-in-Get.ensures.0 c.in_err-start_expression-in-Get.ensures.front
+
+pub returns-in_err-start_expression-in-JoinAll : goal.returns-in_err-start_expression-in-JoinAll
+returns-in_err-start_expression-in-JoinAll c = broken_line c.from_residual-in_err-start_expression-in-JoinAll.ensures.0 c.in_err-start_expression-in-JoinAll.ensures.front
 
 pub returns-in_err-push_count-in-JoinAll : goal.returns-in_err-push_count-in-JoinAll
 returns-in_err-push_count-in-JoinAll c =
-    let front = through _ _ _ c.in_err-push_count-in-JoinAll.ensures.front c.in_ok-start_expression-in-JoinAll.ensures.front in
-    search (rules, front)
+    broken_line c.from_residual-in_err-push_count-in-JoinAll.ensures.0 (through _ _ _ c.in_err-push_count-in-JoinAll.ensures.front c.in_ok-start_expression-in-JoinAll.ensures.front)
+
+pub returns-in_err-start_expression-in-Link : goal.returns-in_err-start_expression-in-Link
+returns-in_err-start_expression-in-Link c = broken_line c.from_residual-in_err-start_expression-in-Link.ensures.0 c.in_err-start_expression-in-Link.ensures.front
+
+pub returns-in_err-start_expression-in-LinkMark : goal.returns-in_err-start_expression-in-LinkMark
+returns-in_err-start_expression-in-LinkMark c = broken_line c.from_residual-in_err-start_expression-in-LinkMark.ensures.0 c.in_err-start_expression-in-LinkMark.ensures.front
 
 pub returns-in_err-push_fixed-in-LinkMark : goal.returns-in_err-push_fixed-in-LinkMark
 returns-in_err-push_fixed-in-LinkMark c =
-    let front = through _ _ _ c.in_err-push_fixed-in-LinkMark.ensures.front c.in_ok-start_expression-in-LinkMark.ensures.front in
-    search (rules, front)
+    broken_line c.from_residual-in_err-push_fixed-in-LinkMark.ensures.0 (through _ _ _ c.in_err-push_fixed-in-LinkMark.ensures.front c.in_ok-start_expression-in-LinkMark.ensures.front)
+
+pub returns-in_err-start_expression-in-LinkSet : goal.returns-in_err-start_expression-in-LinkSet
+returns-in_err-start_expression-in-LinkSet c = broken_line c.from_residual-in_err-start_expression-in-LinkSet.ensures.0 c.in_err-start_expression-in-LinkSet.ensures.front
 
 pub returns-in_err-push_fixed-in-LinkSet : goal.returns-in_err-push_fixed-in-LinkSet
 returns-in_err-push_fixed-in-LinkSet c =
-    let front = through _ _ _ c.in_err-push_fixed-in-LinkSet.ensures.front c.in_ok-start_expression-in-LinkSet.ensures.front in
-    search (rules, front)
+    broken_line c.from_residual-in_err-push_fixed-in-LinkSet.ensures.0 (through _ _ _ c.in_err-push_fixed-in-LinkSet.ensures.front c.in_ok-start_expression-in-LinkSet.ensures.front)
+
+pub returns-in_err-start_name-in-GroupSpawn : goal.returns-in_err-start_name-in-GroupSpawn
+returns-in_err-start_name-in-GroupSpawn c = broken_line c.from_residual-in_err-start_name-in-GroupSpawn.ensures.0 c.in_err-start_name-in-GroupSpawn.ensures.front
 
 pub returns-in_err-push_name-in-GroupSpawn : goal.returns-in_err-push_name-in-GroupSpawn
 returns-in_err-push_name-in-GroupSpawn c =
-    let front = through _ _ _ c.in_err-push_name-in-GroupSpawn.ensures.front c.in_ok-start_name-in-GroupSpawn.ensures.front in
-    search (rules, front)
+    broken_line c.from_residual-in_err-push_name-in-GroupSpawn.ensures.0 (through _ _ _ c.in_err-push_name-in-GroupSpawn.ensures.front c.in_ok-start_name-in-GroupSpawn.ensures.front)
+
+pub returns-in_err-start_name-in-Map : goal.returns-in_err-start_name-in-Map
+returns-in_err-start_name-in-Map c = broken_line c.from_residual-in_err-start_name-in-Map.ensures.0 c.in_err-start_name-in-Map.ensures.front
 
 pub returns-in_err-push_name-in-Map : goal.returns-in_err-push_name-in-Map
-returns-in_err-push_name-in-Map c =
-    let front = through _ _ _ c.in_err-push_name-in-Map.ensures.front c.in_ok-start_name-in-Map.ensures.front in
-    search (rules, front)
+returns-in_err-push_name-in-Map c = broken_line c.from_residual-in_err-push_name-in-Map.ensures.0 (through _ _ _ c.in_err-push_name-in-Map.ensures.front c.in_ok-start_name-in-Map.ensures.front)
+
+pub returns-in_err-start_name-in-NativeSpawn : goal.returns-in_err-start_name-in-NativeSpawn
+returns-in_err-start_name-in-NativeSpawn c = broken_line c.from_residual-in_err-start_name-in-NativeSpawn.ensures.0 c.in_err-start_name-in-NativeSpawn.ensures.front
 
 pub returns-in_err-push_fixed-in-NativeSpawn : goal.returns-in_err-push_fixed-in-NativeSpawn
 returns-in_err-push_fixed-in-NativeSpawn c =
-    let front = through _ _ _ c.in_err-push_fixed-in-NativeSpawn.ensures.front c.in_ok-start_name-in-NativeSpawn.ensures.front in
-    search (rules, front)
+    broken_line c.from_residual-in_err-push_fixed-in-NativeSpawn.ensures.0 (through _ _ _ c.in_err-push_fixed-in-NativeSpawn.ensures.front c.in_ok-start_name-in-NativeSpawn.ensures.front)
 
 pub returns-in_err-push_expression-in-NativeSpawn : goal.returns-in_err-push_expression-in-NativeSpawn
 returns-in_err-push_expression-in-NativeSpawn c =
-    let front = through _ _ _ c.in_err-push_expression-in-NativeSpawn.ensures.front (through _ _ _ c.in_ok-push_fixed-in-NativeSpawn.ensures.front c.in_ok-start_name-in-NativeSpawn.ensures.front) in
-    search (rules, front)
+    broken_line c.from_residual-in_err-push_expression-in-NativeSpawn.ensures.0 (through _ _ _ c.in_err-push_expression-in-NativeSpawn.ensures.front (through _ _ _ c.in_ok-push_fixed-in-NativeSpawn.ensures.front c.in_ok-start_name-in-NativeSpawn.ensures.front))
+
+pub returns-in_err-start_name-in-Raw : goal.returns-in_err-start_name-in-Raw
+returns-in_err-start_name-in-Raw c = broken_line c.from_residual-in_err-start_name-in-Raw.ensures.0 c.in_err-start_name-in-Raw.ensures.front
+
+pub returns-in_err-start_expression-in-Throw : goal.returns-in_err-start_expression-in-Throw
+returns-in_err-start_expression-in-Throw c = broken_line c.from_residual-in_err-start_expression-in-Throw.ensures.0 c.in_err-start_expression-in-Throw.ensures.front

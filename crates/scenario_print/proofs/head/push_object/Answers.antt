@@ -1,4 +1,4 @@
-use Rattle.scenario_print.proofs.Words.{further, in_range, line}
+use Rattle.scenario_print.proofs.Words.{broken_line, further, in_range, line, through}
 use Rattle.scenario_print.proofs.head.push_object.Goals as goal
 use Rattle.scenario_grammar.specs.declared.limits.TheConstants.{MOST_POOL_PLACES, MOST_SLOTS, MOST_UNITS}
 
@@ -31,3 +31,22 @@ returns-in_ok-start_name-in-Native c = rw c.in-Native.is (line (further c.in_ok-
 
 pub returns-in-Channel : goal.returns-in-Channel
 returns-in-Channel c = rw c.in-Channel.is (line c.start_name-in-Channel.ensures)
+
+pub returns-in_err-start_name-in-Semaphore : goal.returns-in_err-start_name-in-Semaphore
+returns-in_err-start_name-in-Semaphore c = broken_line c.from_residual.ensures.0 c.in_err-start_name-in-Semaphore.ensures.front
+
+pub returns-in_err-start_name-in-BoundedSemaphore : goal.returns-in_err-start_name-in-BoundedSemaphore
+returns-in_err-start_name-in-BoundedSemaphore c = broken_line c.from_residual-in_err-start_name-in-BoundedSemaphore.ensures.0 c.in_err-start_name-in-BoundedSemaphore.ensures.front
+
+pub returns-in_err-start_name-in-Queue : goal.returns-in_err-start_name-in-Queue
+returns-in_err-start_name-in-Queue c = broken_line c.from_residual-in_err-start_name-in-Queue.ensures.0 c.in_err-start_name-in-Queue.ensures.front
+
+pub returns-in_err-push_fixed-in-Queue : goal.returns-in_err-push_fixed-in-Queue
+returns-in_err-push_fixed-in-Queue c =
+    broken_line c.from_residual-in_err-push_fixed-in-Queue.ensures.0 (through _ _ _ c.in_err-push_fixed-in-Queue.ensures.front c.in_ok-start_name-in-Queue.ensures.front)
+
+pub returns-in_err-start_name-in-Pool : goal.returns-in_err-start_name-in-Pool
+returns-in_err-start_name-in-Pool c = broken_line c.from_residual-in_err-start_name-in-Pool.ensures.0 c.in_err-start_name-in-Pool.ensures.front
+
+pub returns-in_err-start_name-in-Native : goal.returns-in_err-start_name-in-Native
+returns-in_err-start_name-in-Native c = broken_line c.from_residual-in_err-start_name-in-Native.ensures.0 c.in_err-start_name-in-Native.ensures.front
