@@ -5,7 +5,7 @@ ghost use Rattle.scenario_grammar.specs.Place.{role_by};
 ghost use Rattle.scenario_grammar.specs.Reading.{gives};
 ghost use Rattle.scenario_keywords.specs.Roles.{gives_value, grammar_role, role_of_word};
 
-use crate::keyword::word_row;
+use crate::keyword::fixed_words;
 use scenario_grammar::Keyword;
 
 /// What a fixed word begins as the first word of a line, or as the first behind `<-`.
@@ -37,21 +37,47 @@ pub enum WordRole {
     Nothing,
 }
 
+/// What a word begins.
+macro_rules! role_of {
+    ($word:ident; $($first:literal { $($name:ident => $text:literal, $role:ident $(, $profile:literal)?;)* })*) => {
+        match $word {
+            $($(Keyword::$name => WordRole::$role,)*)*
+        }
+    };
+}
+
+/// The profile that brought a word.
+macro_rules! profile_of {
+    ($word:ident; $($first:literal { $($name:ident => $text:literal, $role:ident $(, $profile:literal)?;)* })*) => {
+        match $word {
+            $($($(Keyword::$name => $profile,)?)*)*
+            _ => 1,
+        }
+    };
+}
+
 /// What the word begins, by the table of the fixed words.
-#[tactic(auto, using(crate::proofs::Grammar::grammar_roles, crate::proofs::Grammar::grammar_gives))]
 pub fn word_role(word: Keyword) -> WordRole
     ensures role { result ≡ role_of_word word }
     ensures line { grammar_role result ≡ role_by word }
     ensures value { gives_value result ≡ gives word }
 {
-    word_row(word).role
+    table_role(word)
+}
+
+/// The role that the table has for the word.
+#[inline(always)]
+fn table_role(word: Keyword) -> WordRole
+    ensures { result ≡ role_of_word word }
+{
+    fixed_words!(role_of word)
 }
 
 /// The profile that brought the word. An earlier one does not have it.
 pub fn word_profile(word: Keyword) -> u8
     ensures { result ≡ profile_of word }
 {
-    word_row(word).profile
+    fixed_words!(profile_of word)
 }
 
 /// Whether the word begins a statement that gives a value.
