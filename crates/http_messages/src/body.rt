@@ -1,5 +1,6 @@
 //! Bodies.
-ghost use Rattle.std.specs.Prelude.{◌≡◌, ◌<◌, ◌≤◌, ℕ, length, option_map, IfOk};
+ghost use Rattle.std.specs.Prelude.{◌≡◌, ◌<◌, ◌≤◌, ◌+◌, ◌∷◌, [], ℕ, length, take, drop, option_map, IfOk};
+ghost use Rattle.std.specs.Str.{bytes_eq};
 ghost use Rattle.httparse.specs.Grammar.{chunk_size};
 ghost use Rattle.http_messages.specs.Body.{chunk_line};
 ghost use Rattle.http_messages.specs.AwaitedBody.{awaited_by};
@@ -79,6 +80,14 @@ fn read_size(body: Bytes, kept: &mut ByteQueue) -> BodyStep
     }
 }
 
+/// Whether a line end stands after the first `size` bytes.
+fn is_ended(bytes: &[u8], size: usize) -> bool
+    requires { size + 2 ≤ length bytes.now }
+    ensures { result ≡ bytes_eq (take 2 (drop size bytes.now)) (13 ∷ 10 ∷ []) }
+{
+    bytes[size] == b'\r' && bytes[size + 1] == b'\n'
+}
+
 /// Reads a chunk of `size` bytes with its line end, after the chunks that came.
 fn read_chunk(mut body: Bytes, size: usize, kept: &mut ByteQueue) -> Result<BodyStep, AllocError>
     ensures { IfOk result (λ step. StepsBody (AwaitedBody.InChunk body size) step kept.old kept.new) }
@@ -87,7 +96,7 @@ fn read_chunk(mut body: Bytes, size: usize, kept: &mut ByteQueue) -> Result<Body
         return Ok(BodyStep::Stops(BodyFound::BodyWaits(AwaitedBody::InChunk(body, size))));
     }
     let bytes = kept.items();
-    if bytes[size] != b'\r' || bytes[size + 1] != b'\n' {
+    if !is_ended(bytes, size) {
         return Ok(BodyStep::Stops(BodyFound::BodyRefused(Refusal::BadRequest)));
     }
     body.extend_from_slice(&bytes[..size])?;
@@ -99,14 +108,15 @@ fn read_chunk(mut body: Bytes, size: usize, kept: &mut ByteQueue) -> Result<Body
 fn read_trailers(body: Bytes, kept: &mut ByteQueue) -> BodyFound
     ensures { FindsBody (AwaitedBody.InTrailers body) result kept.old kept.new }
 {
-    match kept.empty_line_end(MOST_TRAILERS) {
-        Some(end) => {
-            kept.skip(end);
-            BodyFound::BodyWhole(body)
-        }
-        None if kept.len() < MOST_TRAILERS => BodyFound::BodyWaits(AwaitedBody::InTrailers(body)),
-        None => BodyFound::BodyRefused(Refusal::BadRequest),
-    }
+    let Some(end) = kept.empty_line_end(MOST_TRAILERS) else {
+        return if kept.len() < MOST_TRAILERS {
+            BodyFound::BodyWaits(AwaitedBody::InTrailers(body))
+        } else {
+            BodyFound::BodyRefused(Refusal::BadRequest)
+        };
+    };
+    kept.skip(end);
+    BodyFound::BodyWhole(body)
 }
 
 /// Reads the next part of what is left of a body.

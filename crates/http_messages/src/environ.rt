@@ -1,5 +1,5 @@
 //! The environ of a request (PEP 3333): keys and values in order.
-ghost use Rattle.std.specs.Prelude.{◌≡◌, ◌++◌, ℕ, List, [], ◌∷◌, IfOk, OnOk};
+ghost use Rattle.std.specs.Prelude.{◌≡◌, ◌++◌, ℕ, List, [], ◌∷◌, IfOk, OnOk, codes, decimal};
 ghost use Rattle.std.specs.List.{after_first, before_first, flat_map, list_any};
 ghost use Rattle.std.specs.Option.{option_copied};
 ghost use Rattle.http_header.specs.HeaderMap.{get_all};
@@ -253,18 +253,48 @@ fn path_info(alloc: Global, target: &[u8]) -> Result<Vec<u8>, AllocError>
     Ok(path)
 }
 
+/// Appends the pair of the path.
+fn push_path(
+    alloc: Global,
+    pairs: &mut Vec<(Bytes, Bytes)>,
+    target: &[u8],
+) -> Result<(), AllocError>
+    ensures { OnOk result (pairs.new.items ≡ pairs.old.items
+        ++ (codes "PATH_INFO", percent_decode (path_of (before_first is_question target.now))) ∷ []) }
+{
+    let path = path_info(alloc, target)?;
+    push_pair(alloc, pairs, b"PATH_INFO", &path)
+}
+
+/// Appends the pair of the server's port.
+fn push_port(alloc: Global, pairs: &mut Vec<(Bytes, Bytes)>, port: u16) -> Result<(), AllocError>
+    ensures { OnOk result (pairs.new.items ≡ pairs.old.items ++ (codes "SERVER_PORT", decimal port) ∷ []) }
+{
+    let number = format!(in alloc; "{port}")?;
+    push_pair(alloc, pairs, b"SERVER_PORT", number.as_bytes())
+}
+
+/// Appends the pair of the protocol.
+fn push_protocol(
+    alloc: Global,
+    pairs: &mut Vec<(Bytes, Bytes)>,
+    minor: u8,
+) -> Result<(), AllocError>
+    ensures { OnOk result (pairs.new.items ≡ pairs.old.items
+        ++ (codes "SERVER_PROTOCOL", codes "HTTP/1." ++ decimal minor) ∷ []) }
+{
+    let protocol = format!(in alloc; "HTTP/1.{minor}")?;
+    push_pair(alloc, pairs, b"SERVER_PROTOCOL", protocol.as_bytes())
+}
+
 /// The pairs that do not come from fields.
 fn request_pairs(alloc: Global, head: &Head<'_>) -> Result<Environ, AllocError>
     ensures { IfOk result (λ environ. environ ≡ request_pairs head.now.port head.now.method.now head.now.target.now head.now.minor) }
 {
-    let (port, minor) = (head.port, head.minor);
-    let path = path_info(alloc, head.target)?;
-    let number = format!(in alloc; "{port}")?;
-    let protocol = format!(in alloc; "HTTP/1.{minor}")?;
     let mut pairs = Vec::new(alloc);
     push_pair(alloc, &mut pairs, b"REQUEST_METHOD", head.method)?;
     push_pair(alloc, &mut pairs, b"SCRIPT_NAME", b"")?;
-    push_pair(alloc, &mut pairs, b"PATH_INFO", &path)?;
+    push_path(alloc, &mut pairs, head.target)?;
     push_pair(
         alloc,
         &mut pairs,
@@ -272,8 +302,8 @@ fn request_pairs(alloc: Global, head: &Head<'_>) -> Result<Environ, AllocError>
         after_question(head.target),
     )?;
     push_pair(alloc, &mut pairs, b"SERVER_NAME", b"localhost")?;
-    push_pair(alloc, &mut pairs, b"SERVER_PORT", number.as_bytes())?;
-    push_pair(alloc, &mut pairs, b"SERVER_PROTOCOL", protocol.as_bytes())?;
+    push_port(alloc, &mut pairs, head.port)?;
+    push_protocol(alloc, &mut pairs, head.minor)?;
     Ok(Environ { pairs })
 }
 
