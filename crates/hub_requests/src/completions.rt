@@ -161,9 +161,9 @@ pub fn complete_wait(
             let mapping = Mapping {
                 crew: o,
                 function,
-                made,
+                made: made.into_inner(),
             };
-            Ok(go_on_mapping(alloc, hub, g, mapping, elements)?)
+            Ok(go_on_mapping(alloc, hub, g, mapping, elements.into_inner())?)
         }
         Waiting::MapEnd(_, made) => Ok(Performed::Answers(gather(alloc, hub, made.as_slice())?)),
         Waiting::Members(_) => Ok(done()),

@@ -1,9 +1,12 @@
 //! Members of groups and pools, and maps.
-ghost use Rattle.std.specs.Prelude.{◌≡◌, ◌<◌, ◌≤◌, ◌+◌, ◌∷◌, [], drop, OnOk, IfOk, length, slice_get};
+ghost use Rattle.std.specs.Prelude.{◌≡◌, ◌<◌, ◌≤◌, ◌+◌, ◌∷◌, [], None, drop, OnOk, IfOk, length, slice_get};
 ghost use Rattle.gv_values.specs.Value.{value_of_scalar};
-ghost use Rattle.machine.specs.Waits.{made_member, map_ends, maps, map_goes_on, add_member};
+ghost use Rattle.machine.specs.declared.items.Waiting.{Waiting as AnyWaiting};
+ghost use Rattle.machine.specs.Waits.{made_member, map_ends, maps, map_goes_on, add_member, parked};
+ghost use Rattle.hub_items.specs.Short.{IsShort};
 ghost use Rattle.hub_objects.specs.Counted.{MayCount};
 ghost use Rattle.hub_state.specs.Adding.{MayAdd};
+ghost use Rattle.hub_requests.specs.Awaited.{awaited_of};
 ghost use Rattle.hub_requests.specs.Making.{MayMake};
 ghost use Rattle.hub_requests.specs.Naming.{IsObject};
 ghost use Rattle.hub_requests.specs.Performing.{performed_of};
@@ -17,7 +20,7 @@ use gv_values::{Outcome, Scalar, Value};
 use hub_objects::Change;
 use hub_state::Hub;
 use machine::items::{Delivery, Waiting};
-use scenario_tree::Items;
+use scenario_tree::{Boxed, Items};
 use std::alloc::{AllocError, Global};
 use trace_text::StopCause;
 
@@ -114,6 +117,43 @@ pub struct Mapping {
     pub made: Items<u32>,
 }
 
+/// The wait of the map for a place for the first of these elements.
+fn wait_for_place(
+    alloc: Global,
+    mapping: Mapping,
+    rest: Items<Scalar>,
+) -> Result<Waiting, AllocError>
+    ensures { IfOk result (λ waiting. waiting ≡ AnyWaiting.MapPlace mapping.crew mapping.function rest mapping.made) }
+{
+    let Mapping {
+        crew,
+        function,
+        made,
+    } = mapping;
+    let rest = Boxed::new(alloc, rest)?;
+    let made = Boxed::new(alloc, made)?;
+    Ok(Waiting::MapPlace(crew, function, rest, made))
+}
+
+/// Lets the greenlet of the map wait for a place for the first of these elements.
+fn park_mapping(
+    alloc: Global,
+    hub: &mut Hub,
+    g: u32,
+    mapping: Mapping,
+    rest: Items<Scalar>,
+) -> Result<(), AllocError>
+    requires may_make { MayMake g hub.old }
+    requires named { IsObject hub.old.scenario mapping.crew }
+    requires may_add { MayAdd 1 hub.old }
+    requires short { IsShort (AnyWaiting.MapPlace mapping.crew mapping.function rest mapping.made) }
+    ensures { OnOk result (hub.new ≡ parked g (awaited_of (AnyWaiting.MapPlace mapping.crew mapping.function rest mapping.made) hub.old) (AnyWaiting.MapPlace mapping.crew mapping.function rest mapping.made) None hub.old) }
+{
+    let waiting = wait_for_place(alloc, mapping, rest)?;
+    park(hub, g, waiting)?;
+    Ok(())
+}
+
 /// Goes on with a map at these elements: a member for each, where there is a place for it.
 pub fn map_elements(
     alloc: Global,
@@ -140,7 +180,12 @@ pub fn map_elements(
         let free = hub.has_place(crew);
         if !free {
             let rest = rest_of(alloc, elements, at)?;
-            park(hub, g, Waiting::MapPlace(crew, function, rest, made))?;
+            let mapping = Mapping {
+                crew,
+                function,
+                made,
+            };
+            park_mapping(alloc, hub, g, mapping, rest)?;
             return Ok(Performed::Parks);
         }
         let left = hub.has_greenlet_left();

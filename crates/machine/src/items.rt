@@ -1,5 +1,5 @@
 use gv_values::{FaultKind, Job, LinkKind, Scalar, Value, Whom};
-use scenario_tree::Items;
+use scenario_tree::{Boxed, Items};
 
 /// What a parked greenlet waits for. Greenlets, objects and functions are named by their numbers.
 #[derive(Drop)]
@@ -34,8 +34,9 @@ pub enum Waiting {
     Tasks(u32),
     /// A place in a group or pool, for this function and these arguments.
     Place(u32, u32, Items<Value>),
-    /// The same for a map: its function, the elements still to go, the members made.
-    MapPlace(u32, u32, Items<Scalar>, Items<u32>),
+    /// The same for a map: its function, the elements still to go, the members made. The lists are boxed, so that every
+    /// other wait takes less room.
+    MapPlace(u32, u32, Boxed<Items<Scalar>>, Boxed<Items<u32>>),
     /// The end of all members that a map made.
     MapEnd(u32, Items<u32>),
     /// That a group or pool has no member.

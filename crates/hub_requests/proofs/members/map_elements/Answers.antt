@@ -11,8 +11,8 @@ use Rattle.hub_requests.proofs.members.map_elements.Goals as goal
 pub returns-then-not-free : goal.returns-then-not-free
 returns-then-not-free c =
     let none : c.has_place-free.result ≡ false = search (rules, c.if-not-free.true) in
-    map_parks c.args.elements.now c.in_ok-rest.rest c.loop-at.at Scalar.Nothing c.args.g c.args.mapping.crew c.args.mapping.function c.loop-at.made c.has_place-free.result c.loop-at.hub c.park.new.hub _ (omega arith)
-    c.loop-at.invariant.same c.has_place-free.ensures none c.in_ok-rest.ensures.rest c.in_ok-park.ensures
+    map_parks c.args.elements.now c.in_ok-rest.rest c.loop-at.at Scalar.Nothing c.args.g c.args.mapping.crew c.args.mapping.function c.loop-at.made c.has_place-free.result c.loop-at.hub c.park_mapping.new.hub _ (omega arith)
+    c.loop-at.invariant.same c.has_place-free.ensures none c.in_ok-rest.ensures.rest c.in_ok-park_mapping.ensures
 
 pub returns-then-not-left : goal.returns-then-not-left
 returns-then-not-left c =
@@ -21,8 +21,8 @@ returns-then-not-left c =
     map_stops c.args.elements.now c.loop-at.at Scalar.Nothing c.args.g c.args.mapping.crew c.args.mapping.function c.loop-at.made c.has_place-free.result c.has_greenlet_left-left.result c.loop-at.hub _ (omega arith)
     c.loop-at.invariant.same c.has_place-free.ensures some c.has_greenlet_left-left.ensures none
 
-pub park-requires-clause-may_add : goal.park-requires-clause-may_add
-park-requires-clause-may_add c = let within = c.loop-at.invariant.within in let short = c.requires.short in fewer_added 1 (MOST_ELEMENTS + 1 - c.loop-at.at) c.loop-at.hub (omega (arith, within, short)) c.loop-at.invariant.may_add
+pub park_mapping-requires-clause-may_add : goal.park_mapping-requires-clause-may_add
+park_mapping-requires-clause-may_add c = let within = c.loop-at.invariant.within in let short = c.requires.short in fewer_added 1 (MOST_ELEMENTS + 1 - c.loop-at.at) c.loop-at.hub (omega (arith, within, short)) c.loop-at.invariant.may_add
 
 pub add_member-requires-clause-may_add : goal.add_member-requires-clause-may_add
 add_member-requires-clause-may_add c = let within = c.loop-at.invariant.within in let short = c.requires.short in fewer_added 1 (MOST_ELEMENTS + 1 - c.loop-at.at) c.loop-at.hub (omega (arith, within, short)) c.loop-at.invariant.may_add
