@@ -1,7 +1,7 @@
 -- The code with more names and blocks.
 use Prim.Native.Nat.{max}
 use denote.Param.Weighed.{most, most-append}
-use Rattle.std.proofs.Common.{◌≡◌, refl, ap, sym, subst, ◌∙◌, ℕ, zero, suc, ◌≤◌, List, [], ◌∷◌, ◌++◌, length, map, drop, reverse, Option, Some, None, slice_get, unwrap_or, option_map, arith}
+use Rattle.std.proofs.Common.{◌≡◌, refl, ap, sym, subst, ◌∙◌, ℕ, zero, suc, ◌≤◌, List, [], ◌∷◌, ◌++◌, length, map, drop, reverse, Option, Some, None, Result, Ok, Err, IfOk, slice_get, unwrap_or, option_map, arith}
 use Rattle.std.proofs.lemmas.List.{append_assoc, append-nil, length-map, map-append, reverse-append}
 use Rattle.gv_values.specs.declared.name.Name.{Name}
 use Rattle.scenario_tree.specs.declared.tree.Statement.{Statement}
@@ -30,6 +30,10 @@ same_grow c = (nothing, sym (joined_none c))
 
 pub grown : (c d e : Coded) → Grows c d → Grows d e → Grows c e
 grown c d e g h = (joined g.0 h.0, h.1 ∙ ap (λ (x : Coded). joined x h.0) g.1 ∙ joined_assoc c g.0 h.0)
+
+pub if_grown : {T E : Type 0} (r : Result T E) (c d e : Coded) → Grows c d → IfOk r (λ _. Grows d e) → IfOk r (λ _. Grows c e)
+if_grown (Ok x) c d e g h = grown c d e g h
+if_grown (Err u) c d e g h = tt
 
 -- what stands for something whatever is made later, does so still
 pub later : {X Y : Type 0} (f : Coded → X → Y) (c d : Coded) (x : X) (y : Y) → Grows c d → ((more : Coded) → f (joined c more) x ≡ y) → (more : Coded) → f (joined d more) x ≡ y
@@ -133,10 +137,26 @@ named_grow names new bs g h =
     subst (Grows (trees (start names) bs)) (sym (named_trees (start names) bs g.0 h)) (grows_named (trees (start names) bs) g.0) in
     subst (λ (ns : List Name). Grows (trees (start names) bs) (trees (start ns) bs)) (sym g.1) more
 
+-- so it is where something was made of them
+pub if_named_stand : {T E : Type 0} (r : Result T E) (K : Type 0) (names new : List Name) (bs : List (List FlatStatement)) → EachStands (start names) bs → IfOk r (λ _. K) →
+    IfOk r (λ _. NamesGrow names new) → IfOk r (λ _. K × EachStands (start new) bs)
+if_named_stand (Ok x) K names new bs h k g = (k, named_stand names new bs g h)
+if_named_stand (Err e) K names new bs h k g = tt
+
+pub if_named_grow : {T E : Type 0} (r : Result T E) (names new : List Name) (bs : List (List FlatStatement)) → EachStands (start names) bs → IfOk r (λ _. NamesGrow names new) →
+    IfOk r (λ _. Grows (trees (start names) bs) (trees (start new) bs))
+if_named_grow (Ok x) names new bs h g = named_grow names new bs g h
+if_named_grow (Err e) names new bs h g = tt
+
 -- what stands for something whatever names come, does so whatever names and blocks come
 pub named_same : {X Y : Type 0} (f : List Name → X → Y) (names : List Name) (bs : List (List FlatStatement)) (x : X) (y : Y) → ((more : List Name) → f (names ++ more) x ≡ y) →
     (more : Coded) → f (joined (trees (start names) bs) more).names x ≡ y
 named_same f names bs x y h more = ap (λ (ns : List Name). f (ns ++ more.names) x) (trees_names (start names) bs) ∙ h more.names
+
+pub if_named_same : {X Y E : Type 0} (f : List Name → X → Y) (r : Result X E) (names : List Name) (bs : List (List FlatStatement)) (y : Y) →
+    IfOk r (λ x. (more : List Name) → f (names ++ more) x ≡ y) → IfOk r (λ x. (more : Coded) → f (joined (trees (start names) bs) more).names x ≡ y)
+if_named_same f (Ok x) names bs y h = named_same f names bs x y h
+if_named_same f (Err e) names bs y h = tt
 
 -- ---- one block more
 

@@ -44,7 +44,7 @@ action_of c (FlatAction.Command x) = A.Command (command_of c.names x)
 action_of c (FlatAction.Giving x g) = A.Giving (name_if c x) (giving_of c.names g)
 action_of c (FlatAction.If e y n) = A.If (expression_of c.names e) (block_at y c) (option_map (λ i. block_at i c) n)
 action_of c (FlatAction.While e b) = A.While (expression_of c.names e.value) (block_at b c)
-action_of c (FlatAction.Try b es f) = A.Try (block_at b c) (map (except_of c) es.value) (option_map (λ i. block_at i c) f)
+action_of c (FlatAction.Try b h) = A.Try (block_at b c) (map (except_of c) h.value.excepts) (option_map (λ i. block_at i c) h.value.finally)
 action_of c (FlatAction.Timeout ms silent b) = A.Timeout ms silent (block_at b c)
 
 -- a statement

@@ -1,14 +1,14 @@
 //! Blocks of a tree.
-ghost use Rattle.std.specs.Prelude.{◌≡◌, map, IfOk};
+ghost use Rattle.std.specs.Prelude.{◌≡◌, map, option_map, IfOk, Ok};
 ghost use Rattle.scenario_tree.specs.declared.tree.Action.TheVariants as action;
 ghost use Rattle.body_blocks.specs.Making.{IsMaking, made};
 ghost use Rattle.body_blocks.specs.Trees.{Coded, Grows, action_of, block_at, except_of, joined, statement_of};
 
 use crate::making::Making;
-use crate::statement::{FlatAction, FlatExcept, FlatStatement};
+use crate::statement::{FlatAction, FlatExcept, FlatStatement, Handlers};
 use crate::turning::turned;
 use gv_values::Name;
-use scenario_tree::{Action, Except, Giving, Items, Statement};
+use scenario_tree::{Action, Command, Except, Expression, Giving, Items, Statement};
 use std::alloc::{AllocError, Global};
 use std::rc::Rc;
 
@@ -58,32 +58,24 @@ fn add_action(alloc: Global, making: &mut Making, action: Action) -> Result<Flat
     ensures same { IfOk result (λ a. (more : Coded) → action_of (joined (made making.new) more) a ≡ action) }
 {
     match action {
-        Action::Command(command) => Ok(FlatAction::Command(making.command(alloc, command)?)),
-        Action::Giving(name, giving) => Ok(add_giving(alloc, making, name, giving)?),
-        Action::If(test, yes, no) => {
-            let test = making.expression(alloc, &test)?;
-            let yes = add_block(alloc, making, yes)?;
-            match no {
-                None => Ok(FlatAction::If(test, yes, None)),
-                Some(no) => Ok(FlatAction::If(test, yes, Some(add_block(alloc, making, no)?))),
+        Action::Command(command) => add_command(alloc, making, command),
+        Action::Giving(name, giving) => add_giving(alloc, making, name, giving),
+        Action::If(test, yes, no) => match no {
+            None => add_if(alloc, making, yes, test, None),
+            Some(no) => {
+                let no = add_block(alloc, making, no)?;
+                add_if(alloc, making, yes, test, Some(no))
             }
-        }
-        Action::While(test, body) => {
-            let test = making.expression(alloc, &test)?;
-            let test = Rc::new(alloc, test)?;
-            Ok(FlatAction::While(test, add_block(alloc, making, body)?))
-        }
+        },
+        Action::While(test, body) => add_while(alloc, making, body, test),
         Action::Try(body, excepts, finally) => {
             let body = add_block(alloc, making, body)?;
-            let excepts = add_excepts(alloc, making, excepts)?;
-            let excepts = Rc::new(alloc, excepts)?;
             match finally {
-                None => Ok(FlatAction::Try(body, excepts, None)),
-                Some(finally) => Ok(FlatAction::Try(
-                    body,
-                    excepts,
-                    Some(add_block(alloc, making, finally)?),
-                )),
+                None => add_try(alloc, making, excepts, body, None),
+                Some(finally) => {
+                    let finally = add_block(alloc, making, finally)?;
+                    add_try(alloc, making, excepts, body, Some(finally))
+                }
             }
         }
         Action::Timeout(time, silent, body) => Ok(FlatAction::Timeout(
@@ -92,6 +84,98 @@ fn add_action(alloc: Global, making: &mut Making, action: Action) -> Result<Flat
             add_block(alloc, making, body)?,
         )),
     }
+}
+
+fn add_command(
+    alloc: Global,
+    making: &mut Making,
+    command: Command,
+) -> Result<FlatAction, AllocError>
+    requires { IsMaking making.old }
+    ensures kept { IfOk result (λ _. IsMaking making.new) }
+    ensures grows { IfOk result (λ _. Grows (made making.old) (made making.new)) }
+    ensures same { IfOk result (λ a. (more : Coded) → action_of (joined (made making.new) more) a ≡ action.Command command) }
+{
+    Ok(FlatAction::Command(making.command(alloc, command)?))
+}
+
+/// The block behind the `else` is there.
+#[cycle(block)]
+fn add_if(
+    alloc: Global,
+    making: &mut Making,
+    yes: Items<Statement>,
+    test: Expression,
+    no: Option<usize>,
+) -> Result<FlatAction, AllocError>
+    requires { IsMaking making.old }
+    ensures kept { IfOk result (λ _. IsMaking making.new) }
+    ensures grows { IfOk result (λ _. Grows (made making.old) (made making.new)) }
+    ensures same { IfOk result (λ a. (more : Coded) → action_of (joined (made making.new) more) a ≡ action.If test yes (option_map (λ n. block_at n (joined (made making.new) more)) no)) }
+{
+    let yes = add_block(alloc, making, yes)?;
+    let test = making.expression(alloc, &test)?;
+    Ok(FlatAction::If(test, yes, no))
+}
+
+#[cycle(block)]
+fn add_while(
+    alloc: Global,
+    making: &mut Making,
+    body: Items<Statement>,
+    test: Expression,
+) -> Result<FlatAction, AllocError>
+    requires { IsMaking making.old }
+    ensures kept { IfOk result (λ _. IsMaking making.new) }
+    ensures grows { IfOk result (λ _. Grows (made making.old) (made making.new)) }
+    ensures same { IfOk result (λ a. (more : Coded) → action_of (joined (made making.new) more) a ≡ action.While test body) }
+{
+    let body = add_block(alloc, making, body)?;
+    let test = shared(alloc, making.expression(alloc, &test))?;
+    Ok(FlatAction::While(test, body))
+}
+
+/// The body and the finally are there.
+#[cycle(block)]
+fn add_try(
+    alloc: Global,
+    making: &mut Making,
+    excepts: Items<Except>,
+    body: usize,
+    finally: Option<usize>,
+) -> Result<FlatAction, AllocError>
+    requires { IsMaking making.old }
+    ensures kept { IfOk result (λ _. IsMaking making.new) }
+    ensures grows { IfOk result (λ _. Grows (made making.old) (made making.new)) }
+    ensures same { IfOk result (λ a. (more : Coded) → action_of (joined (made making.new) more) a ≡ action.Try (block_at body (joined (made making.new) more)) excepts (option_map (λ n. block_at n (joined (made making.new) more)) finally)) }
+{
+    let handlers = shared(alloc, add_handlers(alloc, making, excepts, finally))?;
+    Ok(FlatAction::Try(body, handlers))
+}
+
+/// The finally is there.
+#[cycle(block)]
+fn add_handlers(
+    alloc: Global,
+    making: &mut Making,
+    excepts: Items<Except>,
+    finally: Option<usize>,
+) -> Result<Handlers, AllocError>
+    requires { IsMaking making.old }
+    ensures kept { IfOk result (λ _. IsMaking making.new) }
+    ensures grows { IfOk result (λ _. Grows (made making.old) (made making.new)) }
+    ensures excepts { IfOk result (λ h. (more : Coded) → map (except_of (joined (made making.new) more)) h.excepts ≡ excepts) }
+    ensures finally { IfOk result (λ h. h.finally ≡ finally) }
+{
+    let excepts = add_excepts(alloc, making, excepts)?;
+    Ok(Handlers { excepts, finally })
+}
+
+/// What was made is shared.
+fn shared<T: Drop>(alloc: Global, made: Result<T, AllocError>) -> Result<Rc<T>, AllocError>
+    ensures { IfOk result (λ rc. made ≡ Ok rc.value) }
+{
+    Ok(Rc::new(alloc, made?)?)
 }
 
 /// A statement that gives a value is dropped by a call, at each exit.

@@ -11,5 +11,5 @@ mod turning;
 pub use adding::add_block;
 pub use blocks::Blocks;
 pub use making::Making;
-pub use statement::{FlatAction, FlatExcept, FlatStatement};
+pub use statement::{FlatAction, FlatExcept, FlatStatement, Handlers};
 pub use turning::turned;

@@ -103,7 +103,7 @@ impl Making {
     {
         let flat = flat_command(alloc, &mut self.naming, &command);
         drop(command);
-        Ok(flat?)
+        flat
     }
 
     /// The statement with numbers in place of names. `AllocError`: memory is wanting.
@@ -115,7 +115,7 @@ impl Making {
     {
         let flat = flat_giving(alloc, &mut self.naming, &giving);
         drop(giving);
-        Ok(flat?)
+        flat
     }
 
     /// One block more, after those inside it; its number. `AllocError`: memory is wanting.

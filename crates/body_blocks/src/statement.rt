@@ -19,10 +19,17 @@ pub enum FlatAction {
     Giving(Option<Slot>, FlatGiving),
     If(FlatExpression, usize, Option<usize>),
     While(Rc<FlatExpression>, usize),
-    /// The body, the excepts and the finally.
-    Try(usize, Rc<Items<FlatExcept>>, Option<usize>),
+    /// The body, and what is done with what leaves it.
+    Try(usize, Rc<Handlers>),
     /// The time, none where it never fires, and whether it is silent.
     Timeout(Option<u32>, bool, usize),
+}
+
+/// What a try does with what leaves its body: its excepts, and its finally.
+#[derive(Drop)]
+pub struct Handlers {
+    pub excepts: Items<FlatExcept>,
+    pub finally: Option<usize>,
 }
 
 /// One except of a try.

@@ -22,7 +22,7 @@ out_form t (FlatAction.Command c) = A.outs-Command (command_of t.names c)
 out_form t (FlatAction.Giving x g) = A.outs-Giving (name_if t x) (giving_of t.names g)
 out_form t (FlatAction.If e y n) = A.outs-If (expression_of t.names e) (block_at y t) (optional_block t n)
 out_form t (FlatAction.While e b) = A.outs-While (expression_of t.names e.value) (block_at b t)
-out_form t (FlatAction.Try b es f) = A.outs-Try (block_at b t) (map (except_of t) es.value) (optional_block t f)
+out_form t (FlatAction.Try b h) = A.outs-Try (block_at b t) (map (except_of t) h.value.excepts) (optional_block t h.value.finally)
 out_form t (FlatAction.Timeout ms silent b) = A.outs-Timeout ms silent (block_at b t)
 
 pub begins_there : (t : Coded) (b p : ℕ) (s : FlatStatement) → IsAhead t b p (Some s) → begins (rest t b p) ≡ true

@@ -25,7 +25,7 @@ form_of t (FlatAction.Command c) = Action-F.Command (command_of t.names c)
 form_of t (FlatAction.Giving x g) = Action-F.Giving (name_if t x) (giving_of t.names g)
 form_of t (FlatAction.If e y n) = Action-F.If (expression_of t.names e) (block_at y t) (optional_block t n)
 form_of t (FlatAction.While e b) = Action-F.While (expression_of t.names e.value) (block_at b t)
-form_of t (FlatAction.Try b es f) = Action-F.Try (block_at b t) (map (except_of t) es.value) (optional_block t f)
+form_of t (FlatAction.Try b h) = Action-F.Try (block_at b t) (map (except_of t) h.value.excepts) (optional_block t h.value.finally)
 form_of t (FlatAction.Timeout ms silent b) = Action-F.Timeout ms silent (block_at b t)
 
 -- there is a statement
@@ -41,7 +41,7 @@ rest t b p = drop p (block_at b t)
 abbrev pub entry_of : Coded → Entry → Todo
 entry_of t (Entry.Rest b p) = Todo.Statements (rest t b p)
 entry_of t (Entry.Again e b) = Todo.Again (expression_of t.names e.value) (block_at b t)
-entry_of t (Entry.Guard es f) = Todo.Guard (map (except_of t) es.value) (unwrap_or (optional_block t f) [])
+entry_of t (Entry.Guard h) = Todo.Guard (map (except_of t) h.value.excepts) (unwrap_or (optional_block t h.value.finally) [])
 entry_of t (Entry.Final f) = Todo.Guard [] (unwrap_or (optional_block t f) [])
 entry_of t (Entry.Afterwards how) = Todo.Afterwards how
 entry_of t (Entry.Within n silent) = Todo.Within n silent

@@ -144,9 +144,9 @@ fn act<L: Look>(
             let test = test.clone()?;
             Ok(test_while(context, stack, test, *body)?)
         }
-        FlatAction::Try(body, excepts, finally) => {
-            let excepts = excepts.clone()?;
-            stack.todo.push(Entry::Guard(excepts, *finally))?;
+        FlatAction::Try(body, handlers) => {
+            let handlers = handlers.clone()?;
+            stack.todo.push(Entry::Guard(handlers))?;
             stack.todo.push(Entry::Rest {
                 block: *body,
                 at: 0,

@@ -12,7 +12,7 @@ ghost use Rattle.body_frames.specs.Unwinding.{unwound_of, caught_of, stepped_of,
 
 use crate::entry::Entry;
 use crate::pile::Pile;
-use body_blocks::{Blocks, FlatExcept};
+use body_blocks::{Blocks, FlatExcept, Handlers};
 use body_names::{Locals, Slot};
 use gv_values::{FaultKind, Value};
 use machine::state::Leaving;
@@ -114,15 +114,15 @@ fn guard(
     todo: &mut Pile<Entry>,
     f: FaultKind,
     locals: &mut Locals,
-    excepts: &Items<FlatExcept>,
-    finally: Option<usize>,
+    handlers: &Handlers,
 ) -> Result<Stepped, AllocError>
     ensures keeps { IfOk result (λ s. KeepsIfFurther s todo.old todo.new) }
     ensures meaning { IfOk result (λ s. (left : List ℕ) →
-        unwind (undone.Guard (map (except_of blocks.now) excepts.now) (unwrap_or (optional_block blocks.now finally) []) ∷ todo_of blocks.now todo.old) left (leaving.Raising f) (locals_of blocks.now.names locals.old)
+        unwind (undone.Guard (map (except_of blocks.now) handlers.now.excepts) (unwrap_or (optional_block blocks.now handlers.now.finally) []) ∷ todo_of blocks.now todo.old) left (leaving.Raising f) (locals_of blocks.now.names locals.old)
         ≡ stepped_of s left (locals_of blocks.now.names locals.new) (todo_of blocks.now todo.new)) }
 {
-    match catching(f, excepts.as_slice()) {
+    let finally = handlers.finally;
+    match catching(f, handlers.excepts.as_slice()) {
         None => Ok(finally_first(blocks, todo, finally, Leaving::Raising(f))?),
         Some(except) => {
             bind_if(blocks, locals, except.name, Value::Fault(f))?;
@@ -161,9 +161,9 @@ fn step(
             }
             how => Ok(Stepped::Further(how)),
         },
-        Entry::Guard(excepts, finally) => match how {
-            Leaving::Raising(f) => Ok(guard(blocks, todo, f, locals, &excepts, finally)?),
-            how => Ok(finally_first(blocks, todo, finally, how)?),
+        Entry::Guard(handlers) => match how {
+            Leaving::Raising(f) => Ok(guard(blocks, todo, f, locals, &handlers)?),
+            how => Ok(finally_first(blocks, todo, handlers.finally, how)?),
         },
         Entry::Final(finally) => match how {
             Leaving::Raising(f) => Ok(finally_first(blocks, todo, finally, Leaving::Raising(f))?),

@@ -1,72 +1,76 @@
-use Rattle.std.proofs.Common.{◌∙◌, ap, arith, sym}
+use Rattle.std.proofs.Common.{◌∙◌, Some, None, ap, arith, sym}
 use Rattle.scenario_tree.proofs.tree.Except.TheLaws as except
 use Rattle.scenario_tree.proofs.tree.Statement.TheLaws as statement
 use Rattle.scenario_tree.specs.declared.tree.Action.TheVariants as A
 use Rattle.body_blocks.specs.Making.{made}
-use Rattle.body_blocks.specs.Trees.{Stands, except_of, statement_of}
-use Rattle.body_blocks.proofs.Growing.{all_left, all_taken, grown, nothing, pushed_block, pushed_grow, same_grow, stand_own, taken_more, taken_within}
-use Rattle.body_blocks.proofs.Standing.{except_stands, if_else_stands, if_stands, try_finally_stands, try_stands, while_stands}
+use Rattle.body_blocks.specs.Trees.{Grows, Stands, block_at, except_of, joined, statement_of}
+use Rattle.body_blocks.proofs.Growing.{all_left, all_taken, grown, if_grown, nothing, pushed_block, pushed_grow, same_grow, stand_own, taken_more, taken_within}
+use Rattle.body_blocks.proofs.Standing.{IsTest, block_later, except_stands, if_action_stands, if_stands, was_made, while_stands}
 use Rattle.body_blocks.proofs.adding.+block.Goals as goal
 
-pub add_action-returns-in-None-clause-grows : goal.add_action-returns-in-None-clause-grows
-add_action-returns-in-None-clause-grows t c =
-    grown (made c.args.making.now) (made c.expression.new.self) (made c.add_block.new.making) c.in_ok-test-in-If.ensures.grows c.in_ok-yes-in-If.ensures.grows
+pub add_action-returns-in_ok-no-in-Some-clause-grows : goal.add_action-returns-in_ok-no-in-Some-clause-grows
+add_action-returns-in_ok-no-in-Some-clause-grows t c =
+    if_grown c.add_if-in-Some.result (made c.args.making.now) (made c.add_block.new.making) (made c.add_if-in-Some.new.making) c.in_ok-no-in-Some.ensures.grows c.add_if-in-Some.ensures.grows
 
-pub add_action-returns-in-None-clause-same : goal.add_action-returns-in-None-clause-same
-add_action-returns-in-None-clause-same t c = λ more.
-    if_stands (made c.expression.new.self) (made c.add_block.new.making) c.in_ok-test-in-If.test c.in_ok-yes-in-If.yes c.in-If.test c.in-If.yes c.in_ok-yes-in-If.ensures.grows
-    c.in_ok-test-in-If.ensures.same c.in_ok-yes-in-If.ensures.same more
-    ∙ sym (c.in-If.is ∙ ap (A.If c.in-If.test c.in-If.yes) c.in-None.is)
-
-pub add_action-returns-in-If-clause-grows : goal.add_action-returns-in-If-clause-grows
-add_action-returns-in-If-clause-grows t c =
-    grown (made c.args.making.now) (made c.add_block.new.making) (made c.add_block-in-Some.new.making)
-    (grown (made c.args.making.now) (made c.expression.new.self) (made c.add_block.new.making) c.in_ok-test-in-If.ensures.grows c.in_ok-yes-in-If.ensures.grows)
-    c.in_ok-add_block-in-Some.ensures.grows
-
-pub add_action-returns-in-If-clause-same : goal.add_action-returns-in-If-clause-same
-add_action-returns-in-If-clause-same t c = λ more.
-    if_else_stands (made c.expression.new.self) (made c.add_block.new.making) (made c.add_block-in-Some.new.making) c.in_ok-test-in-If.test c.in_ok-yes-in-If.yes
-    c.in_ok-add_block-in-Some.field-0 c.in-If.test c.in-If.yes c.in-Some.no c.in_ok-yes-in-If.ensures.grows c.in_ok-add_block-in-Some.ensures.grows
-    c.in_ok-test-in-If.ensures.same c.in_ok-yes-in-If.ensures.same c.in_ok-add_block-in-Some.ensures.same more
-    ∙ sym (c.in-If.is ∙ ap (A.If c.in-If.test c.in-If.yes) c.in-Some.is)
-
-pub add_action-returns-in-While-clause-grows : goal.add_action-returns-in-While-clause-grows
-add_action-returns-in-While-clause-grows t c =
-    grown (made c.args.making.now) (made c.expression-in-While.new.self) (made c.add_block-in-While.new.making) c.in_ok-test-in-While.ensures.grows
-    c.in_ok-add_block-in-While.ensures.grows
-
-pub add_action-returns-in-While-clause-same : goal.add_action-returns-in-While-clause-same
-add_action-returns-in-While-clause-same t c = λ more.
-    while_stands (made c.expression-in-While.new.self) (made c.add_block-in-While.new.making) c.in_ok-test-in-While.test c.in_ok-test-in-While-2.test.value
-    c.in_ok-add_block-in-While.field-0 c.in-While.test c.in-While.body c.in_ok-test-in-While-2.ensures.ok c.in_ok-add_block-in-While.ensures.grows
-    c.in_ok-test-in-While.ensures.same c.in_ok-add_block-in-While.ensures.same more
-    ∙ sym c.in-While.is
+pub add_action-returns-in_ok-no-in-Some-clause-same : goal.add_action-returns-in_ok-no-in-Some-clause-same
+add_action-returns-in_ok-no-in-Some-clause-same t c =
+    if_action_stands c.add_if-in-Some.result (λ e. A.If c.in-If.test c.in-If.yes (Some (block_at c.in_ok-no-in-Some.no e))) (made c.add_block.new.making) (made c.add_if-in-Some.new.making)
+    c.args.action
+    (λ more.
+    ap (λ z. A.If c.in-If.test c.in-If.yes (Some z)) (c.in_ok-no-in-Some.ensures.same more) ∙ sym (c.in-If.is ∙ ap (A.If c.in-If.test c.in-If.yes) c.in-Some.is))
+    c.add_if-in-Some.ensures.grows c.add_if-in-Some.ensures.same
 
 pub add_action-returns-in-None-finally-clause-grows : goal.add_action-returns-in-None-finally-clause-grows
 add_action-returns-in-None-finally-clause-grows t c =
-    grown (made c.args.making.now) (made c.add_block-in-Try.new.making) (made c.add_excepts.new.making) c.in_ok-body-in-Try.ensures.grows c.in_ok-excepts-in-Try.ensures.grows
+    if_grown c.add_try.result (made c.args.making.now) (made c.add_block-in-Try.new.making) (made c.add_try.new.making) c.in_ok-body-in-Try.ensures.grows c.add_try.ensures.grows
 
 pub add_action-returns-in-None-finally-clause-same : goal.add_action-returns-in-None-finally-clause-same
-add_action-returns-in-None-finally-clause-same t c = λ more.
-    try_stands (made c.add_block-in-Try.new.making) (made c.add_excepts.new.making) c.in_ok-body-in-Try.body c.in_ok-excepts-in-Try.excepts c.in_ok-excepts-in-Try-2.excepts.value
-    c.in-Try.body c.in-Try.excepts c.in_ok-excepts-in-Try-2.ensures.ok c.in_ok-excepts-in-Try.ensures.grows c.in_ok-body-in-Try.ensures.same
-    c.in_ok-excepts-in-Try.ensures.same more
-    ∙ sym (c.in-Try.is ∙ ap (A.Try c.in-Try.body c.in-Try.excepts) c.in-None-finally.is)
+add_action-returns-in-None-finally-clause-same t c =
+    if_action_stands c.add_try.result (λ e. A.Try (block_at c.in_ok-body-in-Try.body e) c.in-Try.excepts None) (made c.add_block-in-Try.new.making) (made c.add_try.new.making) c.args.action
+    (λ more.
+    ap (λ z. A.Try z c.in-Try.excepts None) (c.in_ok-body-in-Try.ensures.same more) ∙ sym (c.in-Try.is ∙ ap (A.Try c.in-Try.body c.in-Try.excepts) c.in-None-finally.is))
+    c.add_try.ensures.grows c.add_try.ensures.same
 
-pub add_action-returns-in-Try-clause-grows : goal.add_action-returns-in-Try-clause-grows
-add_action-returns-in-Try-clause-grows t c =
-    grown (made c.args.making.now) (made c.add_excepts.new.making) (made c.add_block-in-Some-finally.new.making)
-    (grown (made c.args.making.now) (made c.add_block-in-Try.new.making) (made c.add_excepts.new.making) c.in_ok-body-in-Try.ensures.grows c.in_ok-excepts-in-Try.ensures.grows)
-    c.in_ok-add_block-in-Some-finally.ensures.grows
+pub add_action-returns-in_ok-finally-in-Some-finally-clause-grows : goal.add_action-returns-in_ok-finally-in-Some-finally-clause-grows
+add_action-returns-in_ok-finally-in-Some-finally-clause-grows t c =
+    if_grown c.add_try-in-Some-finally.result (made c.args.making.now) (made c.add_block-in-Some-finally.new.making) (made c.add_try-in-Some-finally.new.making)
+    (grown (made c.args.making.now) (made c.add_block-in-Try.new.making) (made c.add_block-in-Some-finally.new.making) c.in_ok-body-in-Try.ensures.grows
+    c.in_ok-finally-in-Some-finally.ensures.grows)
+    c.add_try-in-Some-finally.ensures.grows
 
-pub add_action-returns-in-Try-clause-same : goal.add_action-returns-in-Try-clause-same
-add_action-returns-in-Try-clause-same t c = λ more.
-    try_finally_stands (made c.add_block-in-Try.new.making) (made c.add_excepts.new.making) (made c.add_block-in-Some-finally.new.making) c.in_ok-body-in-Try.body
-    c.in_ok-add_block-in-Some-finally.field-0 c.in_ok-excepts-in-Try.excepts c.in_ok-excepts-in-Try-2.excepts.value c.in-Try.body c.in-Some-finally.finally c.in-Try.excepts
-    c.in_ok-excepts-in-Try-2.ensures.ok c.in_ok-excepts-in-Try.ensures.grows c.in_ok-add_block-in-Some-finally.ensures.grows c.in_ok-body-in-Try.ensures.same
-    c.in_ok-excepts-in-Try.ensures.same c.in_ok-add_block-in-Some-finally.ensures.same more
-    ∙ sym (c.in-Try.is ∙ ap (A.Try c.in-Try.body c.in-Try.excepts) c.in-Some-finally.is)
+pub add_action-returns-in_ok-finally-in-Some-finally-clause-same : goal.add_action-returns-in_ok-finally-in-Some-finally-clause-same
+add_action-returns-in_ok-finally-in-Some-finally-clause-same t c =
+    if_action_stands c.add_try-in-Some-finally.result
+    (λ e. A.Try (block_at c.in_ok-body-in-Try.body e) c.in-Try.excepts (Some (block_at c.in_ok-finally-in-Some-finally.finally e)))
+    (made c.add_block-in-Some-finally.new.making) (made c.add_try-in-Some-finally.new.making) c.args.action
+    (λ more.
+    ap (λ z. A.Try z c.in-Try.excepts (Some (block_at c.in_ok-finally-in-Some-finally.finally (joined (made c.add_block-in-Some-finally.new.making) more))))
+    (block_later (made c.add_block-in-Try.new.making) (made c.add_block-in-Some-finally.new.making) c.in_ok-body-in-Try.body c.in-Try.body c.in_ok-finally-in-Some-finally.ensures.grows
+    c.in_ok-body-in-Try.ensures.same more)
+    ∙ ap (λ z. A.Try c.in-Try.body c.in-Try.excepts (Some z)) (c.in_ok-finally-in-Some-finally.ensures.same more)
+    ∙ sym (c.in-Try.is ∙ ap (A.Try c.in-Try.body c.in-Try.excepts) c.in-Some-finally.is))
+    c.add_try-in-Some-finally.ensures.grows c.add_try-in-Some-finally.ensures.same
+
+pub add_if-returns-clause-grows : goal.add_if-returns-clause-grows
+add_if-returns-clause-grows t c =
+    grown (made c.args.making.now) (made c.add_block.new.making) (made c.expression.new.self) c.in_ok-yes.ensures.grows c.in_ok-test.ensures.grows
+
+pub add_if-returns-clause-same : goal.add_if-returns-clause-same
+add_if-returns-clause-same t c =
+    if_stands (made c.add_block.new.making) (made c.expression.new.self) c.in_ok-test.test c.in_ok-yes.yes c.args.no c.args.test c.args.yes c.in_ok-test.ensures.grows
+    c.in_ok-yes.ensures.same c.in_ok-test.ensures.same
+
+pub add_while-returns-clause-grows : goal.add_while-returns-clause-grows
+add_while-returns-clause-grows t c =
+    grown (made c.args.making.now) (made c.add_block.new.making) (made c.expression.new.self) c.in_ok-body.ensures.grows
+    (was_made c.expression.result c.in_ok-test.test.value (λ _. Grows (made c.add_block.new.making) (made c.expression.new.self)) c.in_ok-test.ensures c.expression.ensures.grows)
+
+pub add_while-returns-clause-same : goal.add_while-returns-clause-same
+add_while-returns-clause-same t c =
+    while_stands (made c.add_block.new.making) (made c.expression.new.self) c.in_ok-test.test.value c.in_ok-body.body c.args.test c.args.body
+    (was_made c.expression.result c.in_ok-test.test.value (λ _. Grows (made c.add_block.new.making) (made c.expression.new.self)) c.in_ok-test.ensures c.expression.ensures.grows)
+    c.in_ok-body.ensures.same
+    (was_made c.expression.result c.in_ok-test.test.value (λ e. IsTest (made c.expression.new.self) e c.args.test) c.in_ok-test.ensures c.expression.ensures.same)
 
 pub add_block-loop-statement-init : goal.add_block-loop-statement-init
 add_block-loop-statement-init t c = record {

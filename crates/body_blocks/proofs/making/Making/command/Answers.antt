@@ -1,12 +1,16 @@
+use Rattle.body_names.specs.Naming.{IsKept}
 use Rattle.body_names.specs.Statements.{command_of}
-use Rattle.body_blocks.proofs.Growing.{named_grow, named_same, named_stand}
+use Rattle.body_blocks.proofs.Growing.{if_named_grow, if_named_same, if_named_stand}
 use Rattle.body_blocks.proofs.making.Making.command.Goals as goal
 
 pub returns-clause-kept : goal.returns-clause-kept
-returns-clause-kept c = (c.in_ok-flat.ensures.kept, named_stand c.args.self.now.naming.names c.flat_command-flat.new.naming.names c.args.self.now.blocks c.in_ok-flat.ensures.grows c.requires.1)
+returns-clause-kept c =
+    if_named_stand c.flat_command-flat.result (IsKept c.flat_command-flat.new.naming.numbers c.flat_command-flat.new.naming.names) c.args.self.now.naming.names c.flat_command-flat.new.naming.names c.args.self.now.blocks c.requires.1
+    c.flat_command-flat.ensures.kept c.flat_command-flat.ensures.grows
 
 pub returns-clause-grows : goal.returns-clause-grows
-returns-clause-grows c = named_grow c.args.self.now.naming.names c.flat_command-flat.new.naming.names c.args.self.now.blocks c.in_ok-flat.ensures.grows c.requires.1
+returns-clause-grows c =
+    if_named_grow c.flat_command-flat.result c.args.self.now.naming.names c.flat_command-flat.new.naming.names c.args.self.now.blocks c.requires.1 c.flat_command-flat.ensures.grows
 
 pub returns-clause-same : goal.returns-clause-same
-returns-clause-same c = named_same command_of c.flat_command-flat.new.naming.names c.args.self.now.blocks c.in_ok-flat.field-0 c.args.command c.in_ok-flat.ensures.same
+returns-clause-same c = if_named_same command_of c.flat_command-flat.result c.flat_command-flat.new.naming.names c.args.self.now.blocks c.args.command c.flat_command-flat.ensures.same
