@@ -15,6 +15,7 @@ mod next;
 mod numbers;
 mod owners;
 mod shelf;
+mod slot;
 mod tallies;
 mod waits;
 

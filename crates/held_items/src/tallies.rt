@@ -11,6 +11,7 @@ use crate::held::HeldItems;
 use crate::waits::{in_line, waits_key};
 use hub_items::WaitKind;
 use machine::items::{Delivery, Item};
+use machine::ready::Ready;
 use std::alloc::{AllocError, Global};
 
 /// How many wait for one thing.
@@ -34,10 +35,10 @@ pub struct Tallies {
 }
 
 /// 1 for a number.
-fn one_if(number: Option<u64>) -> u64
-    ensures { result ≡ one_if number }
+fn one_if(number: &Ready) -> u64
+    ensures { result ≡ one_if number.now }
 {
-    match number {
+    match number.place() {
         None => 0,
         Some(_) => 1,
     }
@@ -123,7 +124,7 @@ impl Tallies {
                 key,
                 Tally {
                     waiting: tally.waiting - 1,
-                    numbered: tally.numbered - one_if(item.ready),
+                    numbered: tally.numbered - one_if(&item.ready),
                 },
             );
         }

@@ -191,7 +191,7 @@ fn call_link(
                 greenlet: g,
                 call: LinkCall::Set(name),
             })?;
-            hub.change(o, Change::Flag(true))?;
+            hub.change(o, Change::Flag(true));
             hub.settle();
             Ok(Stand::Resting)
         }

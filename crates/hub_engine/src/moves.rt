@@ -267,8 +267,7 @@ fn serve_quick(
     ensures { IfOk result (λ at. follows g (performs (request_of quick) g (with_phase g (Phase.Live body) hub.old)) ≡ next_at at hub.new) }
 {
     go_under_way(hub, g);
-    let fault = perform_quick(hub, g, quick)?;
-    match fault {
+    match perform_quick(hub, g, quick) {
         None => Ok(answer_none_at_once(alloc, hub, g, body)?),
         Some(kind) => Ok(answer_at_once(alloc, hub, g, body, Outcome::Fault(kind))?),
     }

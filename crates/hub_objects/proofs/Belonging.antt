@@ -8,11 +8,12 @@ use Rattle.std.specs.Prelude.{filter, map, option_map, if◌then◌else◌}
 use Rattle.scenario_tree.specs.declared.tree.Declaration.{Declaration}
 use Rattle.scenario_tree.specs.declared.tree.Object.{Object as Kind}
 use Rattle.machine.specs.declared.state.Object.{Object}
-use Rattle.machine.specs.Objects.{no_object, without_member, without_offer}
+use Rattle.machine.specs.Objects.{no_object, with_item_taken, with_offer_taken, without_member, without_offer}
 use Rattle.machine.specs.Run.{object_of}
 use Rattle.machine_settling.specs.Steps.{has_member}
-use Rattle.hub_objects.specs.Changes.{changed, member_of}
+use Rattle.hub_objects.specs.Changes.{added, changed, member_of}
 use Rattle.hub_objects.specs.Memberships.{AreJoined, AreMembers, IsMember, IsMemberOnce, MayStand, is_outside, joined, members_of, membership_in, times}
+use Rattle.hub_objects.specs.declared.additions.Addition.{Addition}
 use Rattle.hub_objects.specs.declared.memberships.Membership.{Membership}
 use Rattle.hub_objects.specs.declared.objects.Change.{Change}
 use Rattle.hub_objects.proofs.Leaving.{kept_all}
@@ -91,66 +92,78 @@ no_member g (Some x) e = refl
 pub member_there : (g : ℕ) (m : Membership) (table : List Membership) (os : List Object) → m ≡ membership_in table g → AreMembers table os → IsMember g m os
 member_there g m table os there are = λ o e. no_member g (slice_get os o) (none_where o (membership_in table g) (times g (members_of (slice_get os o))) (ap (is_outside o) (sym there) ∙ e) (are g o))
 
--- ---- a change of one object
+-- ---- a change of one object, and an addition to one
 
--- its members are as before, none, or one more whom the change makes one
-changed_members : (P : List ℕ → Type 0) (change : Change) (x : Object) → P [] → ((k : ℕ) → member_of change ≡ Some k → P (members_of (Some x) ++ k ∷ [])) → P (members_of (Some x)) → P (members_of (Some (changed change x)))
-changed_members P (Change.Member k) (Object.Crew size members) none more same = more k refl
-changed_members P (Change.Member k) x none more same = same
-changed_members P (Change.Put outcome) x none more same = none
-changed_members P (Change.Flag true) (Object.Crew size members) none more same = same
-changed_members P (Change.Flag true) x none more same = none
-changed_members P (Change.Flag false) (Object.Crew size members) none more same = same
-changed_members P (Change.Flag false) x none more same = none
-changed_members P Change.Unit (Object.Crew size members) none more same = same
-changed_members P Change.Unit x none more same = none
-changed_members P Change.UnitTaken (Object.Crew size members) none more same = same
-changed_members P Change.UnitTaken x none more same = none
-changed_members P (Change.Owner k) (Object.Crew size members) none more same = same
-changed_members P (Change.Owner k) x none more same = none
-changed_members P (Change.OwnerGone k) (Object.Crew size members) none more same = same
-changed_members P (Change.OwnerGone k) x none more same = none
-changed_members P (Change.Item v) (Object.Crew size members) none more same = same
-changed_members P (Change.Item v) x none more same = none
-changed_members P Change.ItemTaken (Object.Crew size members) none more same = same
-changed_members P Change.ItemTaken x none more same = none
-changed_members P Change.TaskDone (Object.Crew size members) none more same = same
-changed_members P Change.TaskDone x none more same = none
-changed_members P (Change.Shut true) (Object.Crew size members) none more same = same
-changed_members P (Change.Shut true) x none more same = none
-changed_members P (Change.Shut false) (Object.Crew size members) none more same = same
-changed_members P (Change.Shut false) x none more same = none
-changed_members P (Change.Offer v since) (Object.Crew size members) none more same = same
-changed_members P (Change.Offer v since) x none more same = none
-changed_members P Change.OfferTaken (Object.Crew size members) none more same = same
-changed_members P Change.OfferTaken x none more same = none
-changed_members P Change.SlotTaken (Object.Crew size members) none more same = same
-changed_members P Change.SlotTaken x none more same = none
-changed_members P Change.SlotFreed (Object.Crew size members) none more same = same
-changed_members P Change.SlotFreed x none more same = none
+-- its members are as before, or none
+changed_members : (P : List ℕ → Type 0) (change : Change) (x : Object) → P [] → P (members_of (Some x)) → P (members_of (Some (changed change x)))
+changed_members P (Change.Put outcome) x none same = none
+changed_members P (Change.Flag true) (Object.Crew size members) none same = same
+changed_members P (Change.Flag true) x none same = none
+changed_members P (Change.Flag false) (Object.Crew size members) none same = same
+changed_members P (Change.Flag false) x none same = none
+changed_members P Change.Unit (Object.Crew size members) none same = same
+changed_members P Change.Unit x none same = none
+changed_members P Change.UnitTaken (Object.Crew size members) none same = same
+changed_members P Change.UnitTaken x none same = none
+changed_members P (Change.Owner k) (Object.Crew size members) none same = same
+changed_members P (Change.Owner k) x none same = none
+changed_members P (Change.OwnerGone k) (Object.Crew size members) none same = same
+changed_members P (Change.OwnerGone k) x none same = none
+changed_members P Change.TaskDone (Object.Crew size members) none same = same
+changed_members P Change.TaskDone x none same = none
+changed_members P (Change.Shut true) (Object.Crew size members) none same = same
+changed_members P (Change.Shut true) x none same = none
+changed_members P (Change.Shut false) (Object.Crew size members) none same = same
+changed_members P (Change.Shut false) x none same = none
+changed_members P Change.SlotTaken (Object.Crew size members) none same = same
+changed_members P Change.SlotTaken x none same = none
+changed_members P Change.SlotFreed (Object.Crew size members) none same = same
+changed_members P Change.SlotFreed x none same = none
+
+-- nobody stands more often
+fewer_changed : (g : ℕ) (change : Change) (x : Object) → times g (members_of (Some (changed change x))) ≤ times g (members_of (Some x))
+fewer_changed g change x = changed_members (λ ms. times g ms ≤ times g (members_of (Some x))) change x (omega arith) (omega arith)
+
+-- an item or an offer that is taken is no member
+item_taken_members : (x : Object) → members_of (Some (with_item_taken x)) ≡ members_of (Some x)
+item_taken_members (Object.Queue kind size items unfinished shut) = refl
+item_taken_members x = refl
+
+offer_taken_members : (x : Object) → members_of (Some (with_offer_taken x)) ≡ members_of (Some x)
+offer_taken_members (Object.Channel offers) = refl
+offer_taken_members x = refl
+
+-- after an addition its members are as before, or one more whom it makes one
+added_members : (P : List ℕ → Type 0) (addition : Addition) (x : Object) → ((k : ℕ) → member_of addition ≡ Some k → P (members_of (Some x) ++ k ∷ [])) → P (members_of (Some x)) → P (members_of (Some (added addition x)))
+added_members P (Addition.Member k) (Object.Crew size members) more same = more k refl
+added_members P (Addition.Member k) x more same = same
+added_members P (Addition.Item v) (Object.Queue kind size items unfinished shut) more same = same
+added_members P (Addition.Item v) x more same = same
+added_members P (Addition.Offer v since) (Object.Channel offers) more same = same
+added_members P (Addition.Offer v since) x more same = same
 
 times_more : (g k : ℕ) (members : List ℕ) → times g (members ++ k ∷ []) ≡ times g members + length (cond (k == g) (k ∷ []) [])
 times_more g k members = ap length (filter-append (λ h. h == g) members (k ∷ [])) ∙ length-append (filter (λ h. h == g) members) (cond (k == g) (k ∷ []) [])
 
 -- who is not made a member stands no more often
-few_after : (g : ℕ) (change : Change) (x : Object) → (member_of change ≡ Some g → ⊥) → times g (members_of (Some (changed change x))) ≤ times g (members_of (Some x))
-few_after g change x n = changed_members (λ ms. times g ms ≤ times g (members_of (Some x))) change x (omega arith) other (omega arith)
+few_after : (g : ℕ) (addition : Addition) (x : Object) → (member_of addition ≡ Some g → ⊥) → times g (members_of (Some (added addition x))) ≤ times g (members_of (Some x))
+few_after g addition x n = added_members (λ ms. times g ms ≤ times g (members_of (Some x))) addition x other (omega arith)
   where
-    other : (k : ℕ) → member_of change ≡ Some k → times g (members_of (Some x) ++ k ∷ []) ≤ times g (members_of (Some x))
+    other : (k : ℕ) → member_of addition ≡ Some k → times g (members_of (Some x) ++ k ∷ []) ≤ times g (members_of (Some x))
     other k e =
         let more = times_more g k (members_of (Some x)) in
         let no : length (cond (k == g) (k ∷ []) []) ≡ 0 = ap (λ b. length (cond b (k ∷ []) [])) (ne_eqb k g (λ s. n (e ∙ ap Some s))) in
         omega (arith, more, no)
 
 -- and who is, once more
-more_after : (g : ℕ) (change : Change) (x : Object) → times g (members_of (Some (changed change x))) ≤ suc (times g (members_of (Some x)))
-more_after g change x = changed_members (λ ms. times g ms ≤ suc (times g (members_of (Some x)))) change x (omega arith) one (omega arith)
+more_after : (g : ℕ) (addition : Addition) (x : Object) → times g (members_of (Some (added addition x))) ≤ suc (times g (members_of (Some x)))
+more_after g addition x = added_members (λ ms. times g ms ≤ suc (times g (members_of (Some x)))) addition x one (omega arith)
   where
     at_most : (k : ℕ) (b : Bool) → length (cond b (k ∷ []) []) ≤ 1
     at_most k true = omega arith
     at_most k false = omega arith
 
-    one : (k : ℕ) → member_of change ≡ Some k → times g (members_of (Some x) ++ k ∷ []) ≤ suc (times g (members_of (Some x)))
+    one : (k : ℕ) → member_of addition ≡ Some k → times g (members_of (Some x) ++ k ∷ []) ≤ suc (times g (members_of (Some x)))
     one k e =
         let more = times_more g k (members_of (Some x)) in
         let most = at_most k (k == g) in
@@ -193,34 +206,58 @@ joins_may k o table new joins g p n h = by (is_made k g)
 pub members_still : (k : Option ℕ) (o : ℕ) (table new : List Membership) (os : List Object) → AreJoined k o table new → AreMembers table os → AreMembers new os
 members_still k o table new os joins are = λ g p. joins_may k o table new joins g p (times g (members_of (slice_get os p))) (are g p)
 
-pub members_changed : (table new : List Membership) (change : Change) (os : List Object) (o : ℕ) → AreJoined (member_of change) o table new → AreMembers table os →
-    AreMembers new (slice_set os o (changed change (unwrap_or (slice_get os o) no_object)))
-members_changed table new change os o joins are = λ g p. by g p (object_either os o p y)
+-- another object is set, at whose place its members may stand so often
+members_set : (table new : List Membership) (os : List Object) (o : ℕ) (y : Object) → ((g p n : ℕ) → MayStand p (membership_in table g) n → MayStand p (membership_in new g) n) →
+    ((g : ℕ) → MayStand o (membership_in new g) (times g (members_of (Some y)))) → AreMembers table os → AreMembers new (slice_set os o y)
+members_set table new os o y still here are = λ g p. by g p (object_either os o p y)
+  where
+    by : (g p : ℕ) → (p ≡ o) × (slice_get (slice_set os o y) p ≡ Some y) ⊎ (slice_get (slice_set os o y) p ≡ slice_get os p) → MayStand p (membership_in new g) (times g (members_of (slice_get (slice_set os o y) p)))
+    by g p (inl s) = subst (λ z. MayStand p (membership_in new g) (times g (members_of z))) (sym s.1) (subst (λ q. MayStand q (membership_in new g) (times g (members_of (Some y)))) (sym s.0) (here g))
+    by g p (inr s) = subst (λ z. MayStand p (membership_in new g) (times g (members_of z))) (sym s) (still g p (times g (members_of (slice_get os p))) (are g p))
+
+-- so often its members might stand before
+might_stand : (table : List Membership) (os : List Object) (o : ℕ) → AreMembers table os → (g : ℕ) → MayStand o (membership_in table g) (times g (members_of (Some (unwrap_or (slice_get os o) no_object))))
+might_stand table os o are g = subst (λ ms. MayStand o (membership_in table g) (times g ms)) (sym (members_there (slice_get os o))) (are g o)
+
+-- nobody stands more often
+members_fewer : (table : List Membership) (os : List Object) (o : ℕ) (y : Object) → ((g : ℕ) → times g (members_of (Some y)) ≤ times g (members_of (Some (unwrap_or (slice_get os o) no_object)))) →
+    AreMembers table os → AreMembers table (slice_set os o y)
+members_fewer table os o y few are =
+    members_set table table os o y (λ g p n h. h)
+    (λ g. fewer_may o (membership_in table g) (times g (members_of (Some (unwrap_or (slice_get os o) no_object)))) (times g (members_of (Some y))) (few g) (might_stand table os o are g)) are
+
+pub members_changed : (table : List Membership) (change : Change) (os : List Object) (o : ℕ) → AreMembers table os → AreMembers table (slice_set os o (changed change (unwrap_or (slice_get os o) no_object)))
+members_changed table change os o are =
+    members_fewer table os o (changed change (unwrap_or (slice_get os o) no_object)) (λ g. fewer_changed g change (unwrap_or (slice_get os o) no_object)) are
+
+pub members_item_taken : (table : List Membership) (os : List Object) (o : ℕ) → AreMembers table os → AreMembers table (slice_set os o (with_item_taken (unwrap_or (slice_get os o) no_object)))
+members_item_taken table os o are =
+    members_fewer table os o (with_item_taken (unwrap_or (slice_get os o) no_object))
+    (λ g. let same = ap (times g) (item_taken_members (unwrap_or (slice_get os o) no_object)) in omega (arith, same)) are
+
+pub members_offer_taken : (table : List Membership) (os : List Object) (o : ℕ) → AreMembers table os → AreMembers table (slice_set os o (with_offer_taken (unwrap_or (slice_get os o) no_object)))
+members_offer_taken table os o are =
+    members_fewer table os o (with_offer_taken (unwrap_or (slice_get os o) no_object))
+    (λ g. let same = ap (times g) (offer_taken_members (unwrap_or (slice_get os o) no_object)) in omega (arith, same)) are
+
+-- who is made a member stands once more
+pub members_added : (table new : List Membership) (addition : Addition) (os : List Object) (o : ℕ) → AreJoined (member_of addition) o table new → AreMembers table os →
+    AreMembers new (slice_set os o (added addition (unwrap_or (slice_get os o) no_object)))
+members_added table new addition os o joins are = members_set table new os o y (joins_may (member_of addition) o table new joins) (λ g. here g (is_made (member_of addition) g)) are
   where
     x : Object
     x = unwrap_or (slice_get os o) no_object
 
     y : Object
-    y = changed change x
+    y = added addition x
 
-    was : (g : ℕ) → MayStand o (membership_in table g) (times g (members_of (Some x)))
-    was g = subst (λ ms. MayStand o (membership_in table g) (times g ms)) (sym (members_there (slice_get os o))) (are g o)
-
-    here : (g : ℕ) → (member_of change ≡ Some g) ⊎ (member_of change ≡ Some g → ⊥) → MayStand o (membership_in new g) (times g (members_of (Some y)))
+    here : (g : ℕ) → (member_of addition ≡ Some g) ⊎ (member_of addition ≡ Some g → ⊥) → MayStand o (membership_in new g) (times g (members_of (Some y)))
     here g (inl e) =
         subst (λ m. MayStand o m (times g (members_of (Some y)))) (sym ((joins g).0 e))
-        (more_may o (membership_in table g) (times g (members_of (Some x))) (times g (members_of (Some y))) (more_after g change x) (was g))
+        (more_may o (membership_in table g) (times g (members_of (Some x))) (times g (members_of (Some y))) (more_after g addition x) (might_stand table os o are g))
     here g (inr n) =
-        joins_may (member_of change) o table new joins g o (times g (members_of (Some y)))
-        (fewer_may o (membership_in table g) (times g (members_of (Some x))) (times g (members_of (Some y))) (few_after g change x n) (was g))
-
-    by : (g p : ℕ) → (p ≡ o) × (slice_get (slice_set os o y) p ≡ Some y) ⊎ (slice_get (slice_set os o y) p ≡ slice_get os p) → MayStand p (membership_in new g) (times g (members_of (slice_get (slice_set os o y) p)))
-    by g p (inl s) =
-        subst (λ z. MayStand p (membership_in new g) (times g (members_of z))) (sym s.1)
-        (subst (λ q. MayStand q (membership_in new g) (times g (members_of (Some y)))) (sym s.0) (here g (is_made (member_of change) g)))
-    by g p (inr s) =
-        subst (λ z. MayStand p (membership_in new g) (times g (members_of z))) (sym s)
-        (joins_may (member_of change) o table new joins g p (times g (members_of (slice_get os p))) (are g p))
+        joins_may (member_of addition) o table new joins g o (times g (members_of (Some y)))
+        (fewer_may o (membership_in table g) (times g (members_of (Some x))) (times g (members_of (Some y))) (few_after g addition x n) (might_stand table os o are g))
 
 -- ---- who leaves
 

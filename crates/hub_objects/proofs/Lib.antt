@@ -1,5 +1,6 @@
 pub mod Belonging
 pub mod JobSets
+pub mod Least
 pub mod Leaving
 pub mod ObjectSets
 pub mod Reading

@@ -1,23 +1,57 @@
 -- An object that a step changes, and what is counted of all.
 use Rattle.std.proofs.Common.{◌≡◌, refl, ap, ℕ, zero, suc, ◌<◌, ◌≤◌, ◌==◌, Bool, true, false, cond, not, List, [], ◌∷◌, length, slice_get, slice_set, slice_index_or, unwrap_or, arith}
 use Rattle.std.specs.Prelude.{filter, map}
+use Rattle.gv_values.specs.declared.value.Value.{Value}
 use Rattle.machine.specs.declared.state.Object.{Object}
-use Rattle.machine.specs.Objects.{without_member, without_offer, no_object}
-use Rattle.hub_objects.specs.Changes.{changed}
+use Rattle.machine.specs.Objects.{item_of, no_object, offer_of, with_item_taken, with_offer_taken, without_member, without_offer}
+use Rattle.hub_objects.specs.Changes.{added, changed}
+use Rattle.hub_objects.specs.declared.additions.Addition.{Addition}
 use Rattle.hub_objects.specs.declared.objects.Change.{Change}
 use Rattle.hub_objects.specs.Counted.{AreCounted, IsCounted}
 
+-- the object of a number that is declared
+there : (os : List Object) (o : ℕ) (d : Object) → o < length os → slice_index_or os o d ≡ unwrap_or (slice_get os o) no_object
+there [] o d h = absurd (omega (arith, h))
+there (x ∷ os) zero d h = refl
+there (x ∷ os) (suc o) d h = there os o d (omega (arith, h))
+
 pub object_set : (os : List Object) (o : ℕ) (d : Object) (change : Change) → o < length os →
     slice_set os o (changed change (slice_index_or os o d)) ≡ slice_set os o (changed change (unwrap_or (slice_get os o) no_object))
-object_set [] o d c h = refl
-object_set (x ∷ os) zero d c h = refl
-object_set (x ∷ os) (suc o) d c h = ap (λ ys. x ∷ ys) (object_set os o d c (omega (arith, h)))
+object_set os o d c h = ap (λ x. slice_set os o (changed c x)) (there os o d h)
+
+pub object_added : (os : List Object) (o : ℕ) (d : Object) (addition : Addition) → o < length os →
+    slice_set os o (added addition (slice_index_or os o d)) ≡ slice_set os o (added addition (unwrap_or (slice_get os o) no_object))
+object_added os o d a h = ap (λ x. slice_set os o (added a x)) (there os o d h)
 
 pub left_set : (os : List Object) (o : ℕ) (d : Object) (g : ℕ) → o < length os →
     slice_set os o (without_member g (slice_index_or os o d)) ≡ slice_set os o (without_member g (unwrap_or (slice_get os o) no_object))
-left_set [] o d g h = refl
-left_set (x ∷ os) zero d g h = refl
-left_set (x ∷ os) (suc o) d g h = ap (λ ys. x ∷ ys) (left_set os o d g (omega (arith, h)))
+left_set os o d g h = ap (λ x. slice_set os o (without_member g x)) (there os o d h)
+
+pub item_taken_set : (os : List Object) (o : ℕ) (d : Object) → o < length os →
+    slice_set os o (with_item_taken (slice_index_or os o d)) ≡ slice_set os o (with_item_taken (unwrap_or (slice_get os o) no_object))
+item_taken_set os o d h = ap (λ x. slice_set os o (with_item_taken x)) (there os o d h)
+
+pub item_there : (os : List Object) (o : ℕ) (d : Object) → o < length os → item_of (slice_index_or os o d) ≡ item_of (unwrap_or (slice_get os o) no_object)
+item_there os o d h = ap item_of (there os o d h)
+
+pub offer_taken_set : (os : List Object) (o : ℕ) (d : Object) → o < length os →
+    slice_set os o (with_offer_taken (slice_index_or os o d)) ≡ slice_set os o (with_offer_taken (unwrap_or (slice_get os o) no_object))
+offer_taken_set os o d h = ap (λ x. slice_set os o (with_offer_taken x)) (there os o d h)
+
+pub offer_there : (os : List Object) (o : ℕ) (d : Object) → o < length os → offer_of (slice_index_or os o d) ≡ offer_of (unwrap_or (slice_get os o) no_object)
+offer_there os o d h = ap offer_of (there os o d h)
+
+-- where none is declared, nothing is taken
+none_out : (os : List Object) (o : ℕ) → length os ≤ o → no_object ≡ unwrap_or (slice_get os o) no_object
+none_out [] o h = refl
+none_out (x ∷ os) zero h = absurd (omega (arith, h))
+none_out (x ∷ os) (suc o) h = none_out os o (omega (arith, h))
+
+pub item_out : (os : List Object) (o : ℕ) → length os ≤ o → Value.Nothing ≡ item_of (unwrap_or (slice_get os o) no_object)
+item_out os o h = ap item_of (none_out os o h)
+
+pub offer_out : (os : List Object) (o : ℕ) → length os ≤ o → Value.Nothing ≡ offer_of (unwrap_or (slice_get os o) no_object)
+offer_out os o h = ap offer_of (none_out os o h)
 
 pub object_out : (os : List Object) (o : ℕ) (x : Object) → length os ≤ o → os ≡ slice_set os o x
 object_out [] o y h = refl

@@ -1,7 +1,8 @@
 -- What a step does to one object.
 use Rattle.std.specs.Prelude.{ℕ, ◌+◌, ◌-◌, Option, Some, None}
 use Rattle.machine.specs.declared.state.Object.{Object}
-use Rattle.machine.specs.Objects.{after_release, with_flag, with_unit_taken, with_owner, with_item, with_item_taken, with_shut, with_member, with_offer, with_offer_taken, with_slot_taken, with_slot_freed}
+use Rattle.machine.specs.Objects.{after_release, with_flag, with_unit_taken, with_owner, with_item, with_shut, with_member, with_offer, with_slot_taken, with_slot_freed}
+use Rattle.hub_objects.specs.declared.additions.Addition.{Addition}
 use Rattle.hub_objects.specs.declared.objects.Change.{Change}
 
 -- a semaphore with one unit more
@@ -27,17 +28,18 @@ changed Change.Unit = with_unit
 changed Change.UnitTaken = with_unit_taken
 changed (Change.Owner g) = with_owner g
 changed (Change.OwnerGone g) = with_owner_gone g
-changed (Change.Item v) = with_item v
-changed Change.ItemTaken = with_item_taken
 changed Change.TaskDone = with_task_done
 changed (Change.Shut immediate) = with_shut immediate
-changed (Change.Offer v since) = with_offer v since
-changed Change.OfferTaken = with_offer_taken
-changed (Change.Member g) = with_member g
 changed Change.SlotTaken = with_slot_taken
 changed Change.SlotFreed = with_slot_freed
 
--- whom the change makes a member
-abbrev pub member_of : Change → Option ℕ
-member_of (Change.Member g) = Some g
-member_of change = None
+-- the object after the addition
+abbrev pub added : Addition → Object → Object
+added (Addition.Item v) = with_item v
+added (Addition.Offer v since) = with_offer v since
+added (Addition.Member g) = with_member g
+
+-- whom the addition makes a member
+abbrev pub member_of : Addition → Option ℕ
+member_of (Addition.Member g) = Some g
+member_of addition = None

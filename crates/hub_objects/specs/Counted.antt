@@ -3,6 +3,7 @@ use Rattle.std.specs.Prelude.{◌<◌, ◌+◌, ◌^◌, ⊤, ℕ, true, List, O
 use Rattle.machine.specs.declared.state.Object.{Object}
 use Rattle.machine.specs.Moves.{size_of_object, unfinished_of_object}
 use Rattle.machine_rooms.specs.Counts.{object_count}
+use Rattle.hub_objects.specs.declared.additions.Addition.{Addition}
 use Rattle.hub_objects.specs.declared.objects.Change.{Change}
 
 -- its counts are below 2^63
@@ -26,7 +27,11 @@ abbrev pub ChangeFits : Change → Option Object → Type 0
 ChangeFits (Change.Flag true) object = MayCount 1 object
 ChangeFits Change.Unit object = MayCount 1 object
 ChangeFits (Change.Owner g) object = MayCount 1 object
-ChangeFits (Change.Item v) object = MayCount 1 object
-ChangeFits (Change.Member g) object = MayCount 1 object
 ChangeFits Change.SlotTaken object = MayCount 1 object
 ChangeFits change object = ⊤
+
+-- and for what the addition does
+abbrev pub AdditionFits : Addition → Option Object → Type 0
+AdditionFits (Addition.Item v) object = MayCount 1 object
+AdditionFits (Addition.Member g) object = MayCount 1 object
+AdditionFits addition object = ⊤

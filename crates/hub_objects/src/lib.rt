@@ -4,6 +4,7 @@
 //! Nothing here knows who waits: a condition is told how many wait already.
 #![tactic(auto)]
 
+mod additions;
 mod conditions;
 mod crews;
 mod jobs;
@@ -14,6 +15,7 @@ mod queues;
 mod reads;
 mod releases;
 
+pub use additions::Addition;
 pub use conditions::{
     all_finished, has_item, has_offer, has_place, has_result, has_room, has_set_since, has_slot,
     has_unit, is_deserted, is_flagged, is_free, is_owner, is_taken,
@@ -21,7 +23,6 @@ pub use conditions::{
 pub use jobs::{Posted, any_outstanding, arrive_at, job_at};
 pub use memberships::Membership;
 pub use objects::{Change, Objects};
-pub use offers::offer_of;
 pub use queues::{is_left, is_shut, item_of};
 pub use reads::{
     has_member, has_offer_by, is_set_object, name_at, size_of_object, unfinished_of_object,

@@ -1,25 +1,27 @@
 //! The objects in order of declaration, and what a step does to one of them.
 ghost use Rattle.std.specs.Prelude.{◌≡◌, ◌<◌, ◌≤◌, ◌+◌, ◌-◌, length, map, slice_get, slice_set, unwrap_or, OnOk, OnErr, IfOk, Some};
 ghost use Rattle.std.specs.Option.{option_copied};
-ghost use Rattle.machine.specs.Objects.{with_flag, no_object, with_unit_taken, with_owner, with_item, with_item_taken, with_shut, with_member, without_member, with_offer, with_offer_taken, without_offer, with_slot_taken, with_slot_freed};
+ghost use Rattle.machine.specs.Objects.{item_of, offer_of, with_flag, no_object, with_unit_taken, with_owner, with_item_taken, with_shut, without_member, with_offer_taken, without_offer, with_slot_taken, with_slot_freed};
 ghost use Rattle.machine.specs.Run.{object_of};
 ghost use Rattle.machine.specs.declared.state.Object.{Object as Shown};
-ghost use Rattle.hub_objects.specs.Changes.{changed, member_of, with_unit, with_owner_gone, with_task_done};
-ghost use Rattle.hub_objects.specs.Counted.{AreCounted, ChangeFits, IsCounted, MayCount};
+ghost use Rattle.hub_objects.specs.Changes.{added, changed, with_unit, with_owner_gone, with_task_done};
+ghost use Rattle.hub_objects.specs.Counted.{AdditionFits, AreCounted, ChangeFits, IsCounted, MayCount};
 ghost use Rattle.hub_objects.specs.declared.objects.Change.{Change as AnyChange};
 ghost use Rattle.hub_objects.specs.Memberships.{IsMember};
 
+use crate::additions::{Addition, add_in, member_of};
 use crate::crews::leave_those;
 use crate::memberships::{Membership, forget, join, membership_in};
-use crate::offers::{add_offer, take_offer, withdraw_each};
-use crate::queues::{clear, take_next};
+use crate::offers::{take_offer_in, withdraw_each};
+use crate::queues::take_item_in;
+use deques::Deque;
 use gv_values::{Outcome, Value};
 use machine::state::Object;
 use scenario_tree::{Declaration, Items, Object as Kind};
 use std::alloc::{AllocError, Global};
 use std::marker::Model;
 
-/// What a step does to an object. An object of another kind stays as it is.
+/// What a step does to an object that takes no memory. An object of another kind stays as it is.
 #[derive(Drop)]
 pub enum Change {
     /// An event is set once more, or cleared.
@@ -34,20 +36,10 @@ pub enum Change {
     Owner(u32),
     /// This greenlet owns the lock once less.
     OwnerGone(u32),
-    /// A queue has one item and one unfinished task more.
-    Item(Value),
-    /// The item that is next goes.
-    ItemTaken,
-    /// One task less is unfinished.
+    /// A queue has one unfinished task less.
     TaskDone,
     /// A queue is shut, and whether its items go at once.
     Shut(bool),
-    /// A channel has one offer more, that of the Wake with this since.
-    Offer(Value, u64),
-    /// The oldest offer goes.
-    OfferTaken,
-    /// A group or pool has one member more.
-    Member(u32),
     /// A slot of a native pool is taken.
     SlotTaken,
     /// A slot of a native pool is free again.
@@ -102,15 +94,39 @@ impl Objects {
         self.all.as_slice()
     }
 
-    /// What the step does to the object of this number. `AllocError`: memory is wanting; nothing has changed.
-    pub fn change(&mut self, o: u32, change: Change) -> Result<(), AllocError>
+    /// Does this to the object of this number.
+    pub fn change(&mut self, o: u32, change: Change)
         requires { ChangeFits change (slice_get self.old o) }
-        ensures changed { OnOk result (self.new ≡ slice_set self.old o (changed change (unwrap_or (slice_get self.old o) no_object))) }
+        ensures { self.new ≡ slice_set self.old o (changed change (unwrap_or (slice_get self.old o) no_object)) }
+    {
+        change_in(&mut self.all, o, change);
+    }
+
+    /// Adds this to the object of this number. `AllocError`: memory is wanting; nothing has changed.
+    pub fn add(&mut self, o: u32, addition: Addition) -> Result<(), AllocError>
+        requires { AdditionFits addition (slice_get self.old o) }
+        ensures added { OnOk result (self.new ≡ slice_set self.old o (added addition (unwrap_or (slice_get self.old o) no_object))) }
         ensures err { OnErr result (self.new ≡ self.old) }
     {
-        join(&mut self.memberships, member_of(&change), o)?;
-        change_in(&mut self.all, o, change)?;
+        join(&mut self.memberships, member_of(&addition), o)?;
+        add_in(&mut self.all, o, addition)?;
         Ok(())
+    }
+
+    /// Takes the item of the queue that is next; none where there is no item.
+    pub fn take_item(&mut self, o: u32) -> Value
+        ensures item { result ≡ item_of (unwrap_or (slice_get self.old o) no_object) }
+        ensures taken { self.new ≡ slice_set self.old o (with_item_taken (unwrap_or (slice_get self.old o) no_object)) }
+    {
+        take_item_in(&mut self.all, o)
+    }
+
+    /// Takes the oldest offer of the channel, and gives its value; none where there is no offer.
+    pub fn take_offer(&mut self, o: u32) -> Value
+        ensures value { result ≡ offer_of (unwrap_or (slice_get self.old o) no_object) }
+        ensures taken { self.new ≡ slice_set self.old o (with_offer_taken (unwrap_or (slice_get self.old o) no_object)) }
+    {
+        take_offer_in(&mut self.all, o)
     }
 
     /// Where the greenlet may be a member. Looks at no object.
@@ -139,16 +155,6 @@ impl Objects {
     }
 }
 
-/// Whom the change makes a member.
-fn member_of(change: &Change) -> Option<u32>
-    ensures { result ≡ member_of change.now }
-{
-    match change {
-        Change::Member(g) => Some(*g),
-        _ => None,
-    }
-}
-
 /// The object before the first move.
 fn object_of(alloc: Global, kind: Kind) -> Object
     ensures { result ≡ object_of kind }
@@ -159,7 +165,7 @@ fn object_of(alloc: Global, kind: Kind) -> Object
         Kind::Semaphore(n) => Object::Semaphore(n, None),
         Kind::BoundedSemaphore(n) => Object::Semaphore(n, Some(n)),
         Kind::Lock => Object::Lock(None, 0),
-        Kind::Queue(order, size) => Object::Queue(order, size, Items::new(alloc), 0, false),
+        Kind::Queue(order, size) => Object::Queue(order, size, Deque::new(alloc), 0, false),
         Kind::Channel => Object::Channel(Items::new(alloc)),
         Kind::Group => Object::Crew(None, Items::new(alloc)),
         Kind::Pool(n) => Object::Crew(Some(n), Items::new(alloc)),
@@ -178,92 +184,48 @@ fn objects_of(alloc: Global, declarations: &[Declaration]) -> Result<Vec<Object>
     Ok(objects)
 }
 
-/// What the step does to the object of this number.
-fn change_in(objects: &mut Vec<Object>, o: u32, change: Change) -> Result<(), AllocError>
+/// Does this to the object of this number.
+fn change_in(objects: &mut Vec<Object>, o: u32, change: Change)
     requires counted { AreCounted objects.old.items }
     requires fits { ChangeFits change (slice_get objects.old.items o) }
-    ensures changed { OnOk result (objects.new.items ≡ slice_set objects.old.items o (changed change (unwrap_or (slice_get objects.old.items o) no_object))) }
-    ensures err { OnErr result (objects.new.items ≡ objects.old.items) }
+    ensures changed { objects.new.items ≡ slice_set objects.old.items o (changed change (unwrap_or (slice_get objects.old.items o) no_object)) }
     ensures counted { AreCounted objects.new.items }
 {
-    change_at(objects, o, change)
+    change_at(objects, o, change);
 }
 
-/// What the step does to the object of this number, if there is one.
+/// Does this to the object of this number, if there is one.
 #[tactic(auto, using(crate::proofs::ObjectSets::object_set, crate::proofs::ObjectSets::object_out))]
-fn change_at(objects: &mut [Object], o: u32, change: Change) -> Result<(), AllocError>
+fn change_at(objects: &mut [Object], o: u32, change: Change)
     requires counted { AreCounted objects.old }
     requires fits { ChangeFits change (slice_get objects.old o) }
-    ensures changed { OnOk result (objects.new ≡ slice_set objects.old o (changed change (unwrap_or (slice_get objects.old o) no_object))) }
-    ensures err { OnErr result (objects.new ≡ objects.old) }
+    ensures changed { objects.new ≡ slice_set objects.old o (changed change (unwrap_or (slice_get objects.old o) no_object)) }
     ensures counted { AreCounted objects.new }
 {
     if o as usize >= objects.len() {
         drop(change);
-        return Ok(());
+        return;
     }
-    change_one(&mut objects[o as usize], change)
+    change_one(&mut objects[o as usize], change);
 }
 
-/// What the step does to the object.
-fn change_one(object: &mut Object, change: Change) -> Result<(), AllocError>
+/// Does this to the object.
+fn change_one(object: &mut Object, change: Change)
     requires { ChangeFits change (Some object.old) }
-    ensures changed { OnOk result (object.new ≡ changed change object.old) }
-    ensures err { OnErr result (object.new ≡ object.old) }
+    ensures changed { object.new ≡ changed change object.old }
     ensures counted { IsCounted object.old → IsCounted object.new }
 {
     match change {
-        Change::Flag(flag) => {
-            set_flag(object, flag);
-            Ok(())
-        }
-        Change::Put(outcome) => {
-            put(object, outcome);
-            Ok(())
-        }
-        Change::Unit => {
-            add_unit(object);
-            Ok(())
-        }
-        Change::UnitTaken => {
-            take_unit(object);
-            Ok(())
-        }
-        Change::Owner(g) => {
-            own(object, g);
-            Ok(())
-        }
-        Change::OwnerGone(g) => {
-            disown(object, g);
-            Ok(())
-        }
-        Change::Item(value) => add_item(object, value),
-        Change::ItemTaken => {
-            take_item(object);
-            Ok(())
-        }
-        Change::TaskDone => {
-            end_task(object);
-            Ok(())
-        }
-        Change::Shut(immediate) => {
-            shut(object, immediate);
-            Ok(())
-        }
-        Change::Offer(value, since) => add_offer(object, value, since),
-        Change::OfferTaken => {
-            take_offer(object);
-            Ok(())
-        }
-        Change::Member(g) => add_member(object, g),
-        Change::SlotTaken => {
-            take_slot(object);
-            Ok(())
-        }
-        Change::SlotFreed => {
-            free_slot(object);
-            Ok(())
-        }
+        Change::Flag(flag) => set_flag(object, flag),
+        Change::Put(outcome) => put(object, outcome),
+        Change::Unit => add_unit(object),
+        Change::UnitTaken => take_unit(object),
+        Change::Owner(g) => own(object, g),
+        Change::OwnerGone(g) => disown(object, g),
+        Change::TaskDone => end_task(object),
+        Change::Shut(immediate) => shut(object, immediate),
+        Change::SlotTaken => take_slot(object),
+        Change::SlotFreed => free_slot(object),
     }
 }
 
@@ -327,28 +289,6 @@ fn disown(object: &mut Object, g: u32)
     }
 }
 
-fn add_item(object: &mut Object, value: Value) -> Result<(), AllocError>
-    requires { MayCount 1 (Some object.old) }
-    ensures changed { OnOk result (object.new ≡ with_item value object.old) }
-    ensures err { OnErr result (object.new ≡ object.old) }
-    ensures counted { IsCounted object.old → IsCounted object.new }
-{
-    if let Object::Queue(_, _, items, unfinished, _) = object {
-        items.push(value)?;
-        *unfinished += 1;
-    }
-    Ok(())
-}
-
-fn take_item(object: &mut Object)
-    ensures changed { object.new ≡ with_item_taken object.old }
-    ensures counted { IsCounted object.old → IsCounted object.new }
-{
-    if let Object::Queue(kind, _, items, _, _) = object {
-        take_next(*kind, items);
-    }
-}
-
 fn end_task(object: &mut Object)
     ensures changed { object.new ≡ with_task_done object.old }
     ensures counted { IsCounted object.old → IsCounted object.new }
@@ -365,22 +305,10 @@ fn shut(object: &mut Object, immediate: bool)
     if let Object::Queue(_, _, items, unfinished, shut) = object {
         if immediate {
             *unfinished = unfinished.saturating_sub(items.len() as u64);
-            clear(items);
+            items.clear();
         }
         *shut = true;
     }
-}
-
-fn add_member(object: &mut Object, g: u32) -> Result<(), AllocError>
-    requires { MayCount 1 (Some object.old) }
-    ensures changed { OnOk result (object.new ≡ with_member g object.old) }
-    ensures err { OnErr result (object.new ≡ object.old) }
-    ensures counted { IsCounted object.old → IsCounted object.new }
-{
-    if let Object::Crew(_, members) = object {
-        members.push(g)?;
-    }
-    Ok(())
 }
 
 fn take_slot(object: &mut Object)

@@ -1,18 +1,19 @@
 //! The offers of a channel: one comes, the oldest is taken, and one goes with its wait.
-ghost use Rattle.std.specs.Prelude.{◌≡◌, ◌<◌, length, map, filter, not, drop, remove, slice_get, Some, OnOk, OnErr, IfOk};
+ghost use Rattle.std.specs.Prelude.{◌≡◌, ◌<◌, length, map, filter, not, drop, remove, slice_get, slice_set, unwrap_or, Some, OnOk, OnErr};
+ghost use Rattle.machine.specs.declared.state.Object.{Object as AnyObject};
 ghost use Rattle.machine.specs.declared.state.Offer.{Offer as AnyOffer};
 ghost use Rattle.machine.specs.Holds.{is_offer_of};
-ghost use Rattle.machine.specs.Objects.{with_offer, with_offer_taken, without_offer, offer_of};
-ghost use Rattle.hub_objects.specs.Counted.{IsCounted};
+ghost use Rattle.machine.specs.Objects.{no_object, with_offer, with_offer_taken, without_offer, offer_of};
+ghost use Rattle.hub_objects.specs.Counted.{AreCounted, IsCounted};
 
 use gv_values::Value;
 use machine::state::{Object, Offer};
 use scenario_tree::Items;
-use std::alloc::{AllocError, Global};
+use std::alloc::AllocError;
 
 /// A channel has one offer more, the newest, that of the Wake with this since.
 pub fn add_offer(object: &mut Object, value: Value, since: u64) -> Result<(), AllocError>
-    ensures changed { OnOk result (object.new ≡ with_offer value since object.old) }
+    ensures added { OnOk result (object.new ≡ with_offer value since object.old) }
     ensures err { OnErr result (object.new ≡ object.old) }
     ensures counted { IsCounted object.old → IsCounted object.new }
 {
@@ -22,38 +23,53 @@ pub fn add_offer(object: &mut Object, value: Value, since: u64) -> Result<(), Al
     Ok(())
 }
 
-/// The oldest offer of a channel goes.
-pub fn take_offer(object: &mut Object)
-    ensures changed { object.new ≡ with_offer_taken object.old }
-    ensures counted { IsCounted object.old → IsCounted object.new }
-{
-    if let Object::Channel(offers) = object {
-        drop_first(offers);
-    }
-}
-
-/// The first offer goes, where there is one.
-#[tactic(auto, using(crate::proofs::Leaving::none_first))]
-fn drop_first(offers: &mut Items<Offer>)
-    ensures { offers.new ≡ drop 1 offers.old }
+/// Takes the first offer, and gives its value; none where there is no offer.
+#[tactic(auto, using(crate::proofs::Leaving::none_first, crate::proofs::Leaving::first_offer, crate::proofs::Leaving::no_offer))]
+fn take_first(offers: &mut Items<Offer>) -> Value
+    ensures value { result ≡ offer_of (AnyObject.Channel offers.old) }
+    ensures rest { offers.new ≡ drop 1 offers.old }
 {
     if offers.len() == 0 {
-        return;
+        return Value::Nothing;
     }
-    offers.remove(0);
+    let Offer { value, since: _ } = offers.remove(0);
+    value
 }
 
-/// The value of the oldest offer of a channel, again.
-pub fn offer_of(alloc: Global, object: &Object) -> Result<Value, AllocError>
-    ensures { IfOk result (λ value. value ≡ offer_of object.now) }
+/// Takes the oldest offer of a channel, and gives its value.
+fn take_offer(object: &mut Object) -> Value
+    ensures value { result ≡ offer_of object.old }
+    ensures taken { object.new ≡ with_offer_taken object.old }
+    ensures counted { IsCounted object.old → IsCounted object.new }
 {
     match object {
-        Object::Channel(offers) => match offers.get(0) {
-            Some(offer) => offer.value.copy(alloc),
-            None => Ok(Value::Nothing),
-        },
-        _ => Ok(Value::Nothing),
+        Object::Channel(offers) => take_first(offers),
+        _ => Value::Nothing,
     }
+}
+
+/// Takes the oldest offer of the object of this number.
+pub fn take_offer_in(objects: &mut Vec<Object>, o: u32) -> Value
+    requires { AreCounted objects.old.items }
+    ensures value { result ≡ offer_of (unwrap_or (slice_get objects.old.items o) no_object) }
+    ensures taken { objects.new.items ≡ slice_set objects.old.items o (with_offer_taken (unwrap_or (slice_get objects.old.items o) no_object)) }
+    ensures counted { AreCounted objects.new.items }
+{
+    take_offer_at(objects, o)
+}
+
+/// Takes the oldest offer of the object of this number, if there is one.
+#[tactic(auto, using(crate::proofs::ObjectSets::offer_taken_set, crate::proofs::ObjectSets::offer_there, crate::proofs::ObjectSets::offer_out, crate::proofs::ObjectSets::object_out))]
+fn take_offer_at(objects: &mut [Object], o: u32) -> Value
+    requires { AreCounted objects.old }
+    ensures value { result ≡ offer_of (unwrap_or (slice_get objects.old o) no_object) }
+    ensures taken { objects.new ≡ slice_set objects.old o (with_offer_taken (unwrap_or (slice_get objects.old o) no_object)) }
+    ensures counted { AreCounted objects.new }
+{
+    if o as usize >= objects.len() {
+        return Value::Nothing;
+    }
+    take_offer(&mut objects[o as usize])
 }
 
 /// No channel has an offer of the Wake with this since any more.

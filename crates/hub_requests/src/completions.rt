@@ -20,7 +20,7 @@ use crate::late::done_ones;
 use crate::members::{Mapping, go_on_mapping, make_member};
 use crate::performed::{Performed, done, raises, truth};
 use gv_values::{FaultKind, Job, Outcome, Value, Whom};
-use hub_objects::Change;
+use hub_objects::{Addition, Change};
 use hub_state::Hub;
 use machine::items::Waiting;
 use machine::state::Object;
@@ -78,20 +78,18 @@ fn put_item(hub: &mut Hub, o: u32, value: Value) -> Result<Performed, AllocError
     if hub.is_shut(o) {
         return Ok(raises(FaultKind::ShutDown));
     }
-    hub.change(o, Change::Item(value))?;
+    hub.add_to(o, Addition::Item(value))?;
     Ok(done())
 }
 
 /// Takes the item of the queue that is next, where the earlier getters leave one; else the queue is shut.
-fn take_item(alloc: Global, hub: &mut Hub, since: u64, o: u32) -> Result<Performed, AllocError>
-    ensures { IfOk result (λ p. takes_item o (earlier (is_take o) since hub.old.items) (object_at o hub.old) hub.old ≡ performed_of p hub.new) }
+fn take_item(hub: &mut Hub, since: u64, o: u32) -> Performed
+    ensures { takes_item o (earlier (is_take o) since hub.old.items) (object_at o hub.old) hub.old ≡ performed_of result hub.new }
 {
     if !hub.has_item_left(o, since) {
-        return Ok(raises(FaultKind::ShutDown));
+        return raises(FaultKind::ShutDown);
     }
-    let value = hub.item_of(alloc, o)?;
-    hub.change(o, Change::ItemTaken)?;
-    Ok(Performed::Answers(Outcome::Value(value)))
+    Performed::Answers(Outcome::Value(hub.take_item(o)))
 }
 
 /// Reads the item of the queue that is next, where the earlier getters leave one; else the queue is shut.
@@ -105,12 +103,10 @@ fn peek_item(alloc: Global, hub: &mut Hub, since: u64, o: u32) -> Result<Perform
 }
 
 /// Takes the oldest offer of the channel.
-fn take_offer(alloc: Global, hub: &mut Hub, o: u32) -> Result<Performed, AllocError>
-    ensures { IfOk result (λ p. AnyPerformed.Answers (AnyOutcome.Value (offer_of (object_at o hub.old))) (with_object o (with_offer_taken (object_at o hub.old)) hub.old) ≡ performed_of p hub.new) }
+fn take_offer(hub: &mut Hub, o: u32) -> Performed
+    ensures { AnyPerformed.Answers (AnyOutcome.Value (offer_of (object_at o hub.old))) (with_object o (with_offer_taken (object_at o hub.old)) hub.old) ≡ performed_of result hub.new }
 {
-    let value = hub.offer_of(alloc, o)?;
-    hub.change(o, Change::OfferTaken)?;
-    Ok(Performed::Answers(Outcome::Value(value)))
+    Performed::Answers(Outcome::Value(hub.take_offer(o)))
 }
 
 /// Completes the wait of the greenlet, which was begun with this since: what it waited for is taken.
@@ -145,15 +141,15 @@ pub fn complete_wait(
             Ok(Performed::Answers(value_or_none(result_of(alloc, hub.object(o))?)))
         }
         Waiting::Acquire(o) => {
-            hub.change(o, Change::UnitTaken)?;
+            hub.change(o, Change::UnitTaken);
             Ok(truth(true))
         }
         Waiting::Lock(o) => {
-            hub.change(o, Change::Owner(g))?;
+            hub.change(o, Change::Owner(g));
             Ok(truth(true))
         }
         Waiting::Put(o, value) => Ok(put_item(hub, o, value)?),
-        Waiting::Take(o) => Ok(take_item(alloc, hub, since, o)?),
+        Waiting::Take(o) => Ok(take_item(hub, since, o)),
         Waiting::Peek(o) => Ok(peek_item(alloc, hub, since, o)?),
         Waiting::Tasks(_) => Ok(truth(true)),
         Waiting::Place(o, function, arguments) => Ok(make_member(hub, g, o, function, arguments)?),
@@ -169,6 +165,6 @@ pub fn complete_wait(
         Waiting::Members(_) => Ok(done()),
         Waiting::Slot(o, job, time) => Ok(post_job(hub, g, o, job, time)?),
         Waiting::Offered(_) => Ok(done()),
-        Waiting::TakeOffer(o) => Ok(take_offer(alloc, hub, o)?),
+        Waiting::TakeOffer(o) => Ok(take_offer(hub, o)),
     }
 }

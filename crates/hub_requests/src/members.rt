@@ -17,7 +17,7 @@ use crate::gathering::gather;
 use crate::parking::park;
 use crate::performed::Performed;
 use gv_values::{Outcome, Scalar, Value};
-use hub_objects::Change;
+use hub_objects::Addition;
 use hub_state::Hub;
 use machine::items::{Delivery, Waiting};
 use scenario_tree::{Boxed, Items};
@@ -42,7 +42,7 @@ fn add_member(
 {
     let made = hub.add_greenlet(false, 0, function, arguments)?;
     hub.add_item(Delivery::Start(made, None))?;
-    hub.change(o, Change::Member(made))?;
+    hub.add_to(o, Addition::Member(made))?;
     Ok(made)
 }
 

@@ -24,21 +24,21 @@ use std::alloc::{AllocError, Global};
 
 /// Sets the event's flag, and counts the set for those who wait for one. The answer is none.
 #[tactic(auto, unfolding(machine::specs::Request::performs))]
-pub fn set_event(hub: &mut Hub, g: u32, o: u32) -> Result<Performed, AllocError>
+pub fn set_event(hub: &mut Hub, g: u32, o: u32) -> Performed
     requires { HasRoom room_of_move hub.old }
-    ensures { IfOk result (λ p. performs (Asked.Set o) g hub.old ≡ performed_of p hub.new) }
+    ensures { performs (Asked.Set o) g hub.old ≡ performed_of result hub.new }
 {
-    hub.change(o, Change::Flag(true))?;
-    Ok(done())
+    hub.change(o, Change::Flag(true));
+    done()
 }
 
 /// Clears the event's flag. The answer is none.
 #[tactic(auto, unfolding(machine::specs::Request::performs))]
-pub fn clear_event(hub: &mut Hub, g: u32, o: u32) -> Result<Performed, AllocError>
-    ensures { IfOk result (λ p. performs (Asked.Clear o) g hub.old ≡ performed_of p hub.new) }
+pub fn clear_event(hub: &mut Hub, g: u32, o: u32) -> Performed
+    ensures { performs (Asked.Clear o) g hub.old ≡ performed_of result hub.new }
 {
-    hub.change(o, Change::Flag(false))?;
-    Ok(done())
+    hub.change(o, Change::Flag(false));
+    done()
 }
 
 /// How many times the event was set.
@@ -71,23 +71,23 @@ pub fn wait_for_event(
 
 /// Puts a value into the result.
 #[tactic(auto, unfolding(machine::specs::Request::performs))]
-pub fn set_result(hub: &mut Hub, g: u32, o: u32, value: Value) -> Result<Performed, AllocError>
-    ensures { IfOk result (λ p. performs (Asked.ResultSet o value) g hub.old ≡ performed_of p hub.new) }
+pub fn set_result(hub: &mut Hub, g: u32, o: u32, value: Value) -> Performed
+    ensures { performs (Asked.ResultSet o value) g hub.old ≡ performed_of result hub.new }
 {
-    hub.change(o, Change::Put(Outcome::Value(value)))?;
-    Ok(done())
+    hub.change(o, Change::Put(Outcome::Value(value)));
+    done()
 }
 
 /// Puts a fault into the result.
 #[tactic(auto, unfolding(machine::specs::Request::performs))]
-pub fn fail_result(hub: &mut Hub, g: u32, o: u32, value: Value) -> Result<Performed, AllocError>
-    ensures { IfOk result (λ p. performs (Asked.ResultFail o value) g hub.old ≡ performed_of p hub.new) }
+pub fn fail_result(hub: &mut Hub, g: u32, o: u32, value: Value) -> Performed
+    ensures { performs (Asked.ResultFail o value) g hub.old ≡ performed_of result hub.new }
 {
     match fault_of(&value) {
-        None => Ok(raises(FaultKind::TypeError)),
+        None => raises(FaultKind::TypeError),
         Some(kind) => {
-            hub.change(o, Change::Put(Outcome::Fault(kind)))?;
-            Ok(done())
+            hub.change(o, Change::Put(Outcome::Fault(kind)));
+            done()
         }
     }
 }
@@ -166,10 +166,9 @@ pub fn refused(fault: Option<FaultKind>) -> Performed
 
 /// Gives a unit or a lock back.
 #[tactic(auto, unfolding(machine::specs::Request::performs))]
-pub fn release(hub: &mut Hub, g: u32, o: u32) -> Result<Performed, AllocError>
+pub fn release(hub: &mut Hub, g: u32, o: u32) -> Performed
     requires { HasRoom room_of_move hub.old }
-    ensures { IfOk result (λ p. performs (Asked.Release o) g hub.old ≡ performed_of p hub.new) }
+    ensures { performs (Asked.Release o) g hub.old ≡ performed_of result hub.new }
 {
-    let fault = hub.release(g, o)?;
-    Ok(refused(fault))
+    refused(hub.release(g, o))
 }

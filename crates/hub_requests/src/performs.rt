@@ -57,19 +57,19 @@ pub fn perform(
         Request::JoinAll(value, count, how) => Ok(join_all(alloc, hub, g, value, count, how)?),
         Request::Link(value, kind, function) => Ok(link_handle(hub, g, value, kind, function)?),
         Request::Unlink(value) => Ok(unlink(hub, g, value)?),
-        Request::Set(o) => Ok(set_event(hub, g, o)?),
-        Request::Clear(o) => Ok(clear_event(hub, g, o)?),
+        Request::Set(o) => Ok(set_event(hub, g, o)),
+        Request::Clear(o) => Ok(clear_event(hub, g, o)),
         Request::WaitEvent(o, how) => Ok(wait_for_event(alloc, hub, g, o, how)?),
-        Request::ResultSet(o, value) => Ok(set_result(hub, g, o, value)?),
-        Request::ResultFail(o, value) => Ok(fail_result(hub, g, o, value)?),
+        Request::ResultSet(o, value) => Ok(set_result(hub, g, o, value)),
+        Request::ResultFail(o, value) => Ok(fail_result(hub, g, o, value)),
         Request::ResultGet(o, how) => Ok(get_result(alloc, hub, g, o, how)?),
         Request::ResultWait(o, how) => Ok(wait_for_result(alloc, hub, g, o, how)?),
         Request::Acquire(o, how) => Ok(acquire(alloc, hub, g, o, how)?),
-        Request::Release(o) => Ok(release(hub, g, o)?),
+        Request::Release(o) => Ok(release(hub, g, o)),
         Request::QueuePut(o, value, how) => Ok(put_item(alloc, hub, g, o, value, how)?),
         Request::QueueGet(o, how) => Ok(get_item(alloc, hub, g, o, how)?),
         Request::QueuePeek(o, how) => Ok(peek_item(alloc, hub, g, o, how)?),
-        Request::QueueDone(o) => Ok(end_task(hub, g, o)?),
+        Request::QueueDone(o) => Ok(end_task(hub, g, o)),
         Request::QueueJoin(o, how) => Ok(join_queue(alloc, hub, g, o, how)?),
         Request::GroupSpawn(o, function, arguments) => {
             Ok(spawn_member(alloc, hub, g, o, function, arguments)?)
@@ -94,6 +94,6 @@ pub fn perform(
         Request::SetParent(value, other) => Ok(set_parent(hub, g, value, other)?),
         Request::ChannelPut(o, value) => Ok(put_offer(hub, g, o, value)?),
         Request::ChannelGet(o) => Ok(get_offer(alloc, hub, g, o)?),
-        Request::QueueShut(o, immediate) => Ok(shut_queue(hub, g, o, immediate)?),
+        Request::QueueShut(o, immediate) => Ok(shut_queue(hub, g, o, immediate)),
     }
 }

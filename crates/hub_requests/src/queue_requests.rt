@@ -106,20 +106,19 @@ pub fn join_queue(
 
 /// Ends a task of the queue.
 #[tactic(auto, unfolding(machine::specs::Request::performs))]
-pub fn end_task(hub: &mut Hub, g: u32, o: u32) -> Result<Performed, AllocError>
-    ensures { IfOk result (λ p. performs (Asked.QueueDone o) g hub.old ≡ performed_of p hub.new) }
+pub fn end_task(hub: &mut Hub, g: u32, o: u32) -> Performed
+    ensures { performs (Asked.QueueDone o) g hub.old ≡ performed_of result hub.new }
 {
-    let fault = hub.finish(o)?;
-    Ok(refused(fault))
+    refused(hub.finish(o))
 }
 
 /// Shuts the queue; at once its items go too.
 #[tactic(auto, unfolding(machine::specs::Request::performs))]
-pub fn shut_queue(hub: &mut Hub, g: u32, o: u32, immediate: bool) -> Result<Performed, AllocError>
-    ensures { IfOk result (λ p. performs (Asked.QueueShut o immediate) g hub.old ≡ performed_of p hub.new) }
+pub fn shut_queue(hub: &mut Hub, g: u32, o: u32, immediate: bool) -> Performed
+    ensures { performs (Asked.QueueShut o immediate) g hub.old ≡ performed_of result hub.new }
 {
-    hub.change(o, Change::Shut(immediate))?;
-    Ok(done())
+    hub.change(o, Change::Shut(immediate));
+    done()
 }
 
 /// Offers the value on the channel, and waits until it is taken.

@@ -15,7 +15,7 @@ use crate::late::{draw, late_outcome};
 use crate::parking::{park, park_as, park_until};
 use crate::performed::Performed;
 use gv_values::Value;
-use hub_objects::Change;
+use hub_objects::Addition;
 use hub_state::Hub;
 use machine::items::Waiting;
 use scenario_tree::Wait;
@@ -106,5 +106,5 @@ pub fn offer(hub: &mut Hub, g: u32, o: u32, value: Value) -> Result<(), AllocErr
 {
     let since = hub.next_since();
     park(hub, g, Waiting::Offered(o))?;
-    hub.change(o, Change::Offer(value, since))
+    hub.add_to(o, Addition::Offer(value, since))
 }

@@ -237,14 +237,6 @@ hub_posted g o job takes held t u s objects jobs lines posts a touched e f h =
     (hub_moved held t (with_touched (Some o) t) s (record (posted g o job takes s) { lines = lines; posts = posts }) (grows_touched (Some o) t) (length-set s.objects o _)
     (kept_beside s.next_ready s.next_since lines posts (with_touched (Some o) t) (posted g o job takes s) (kept_posted g o job takes t s a h.current)) h)))
 
--- no job is posted, since a call failed
-pub hub_unposted : (held : SeenItems) (t u : SeenTouched) (s : State) (objects : List Object) (jobs : List JobState) (lines : List Line) (posts : List Post) → Grows t u → objects ≡ s.objects → jobs ≡ s.jobs → IsKept held t s →
-    IsKept held u (record s { objects = objects; jobs = jobs; lines = lines; posts = posts })
-hub_unposted held t u s objects jobs lines posts g e f h =
-    subst (λ xs. IsKept held u (record s { objects = xs; jobs = jobs; lines = lines; posts = posts })) (sym e)
-    (subst (λ js. IsKept held u (record s { jobs = js; lines = lines; posts = posts })) (sym f)
-    (let k = hub_grown held t u s g h in record { sound = k.sound; current = kept_beside s.next_ready s.next_since lines posts u s k.current; pending = k.pending; few = k.few }))
-
 pub hub_arrived : (j : ℕ) (outcome : JobOutcome) (job : JobState) (pool : ℕ) (held : SeenItems) (t v u : SeenTouched) (s : State) (objects : List Object) (jobs : List JobState) → IsAscending s → job_at j s.jobs ≡ Some job →
     pool ≡ job.pool → v ≡ with_end true j t → u ≡ with_touched (Some pool) v → objects ≡ slice_set s.objects pool (with_slot_freed (object_at pool s)) → jobs ≡ slice_set s.jobs (j - 1) (record job { outcome = Some outcome }) →
     IsKept held t s → IsKept held u (record s { objects = objects; jobs = jobs })

@@ -3,22 +3,22 @@ ghost use Rattle.std.specs.Prelude.{◌≡◌, ◌<◌, ◌+◌, ◌^◌, length
 ghost use Rattle.std.specs.Option.{option_copied};
 ghost use Rattle.machine.specs.Deliveries.{since_of_wake, without_offer_by};
 ghost use Rattle.machine.specs.Holds.{earlier, is_take};
-ghost use Rattle.machine.specs.Objects.{item_of, is_left, is_shut, name_of_object, object_at, offer_of, with_object, without_member};
+ghost use Rattle.machine.specs.Objects.{item_of, is_left, is_shut, name_of_object, object_at, offer_of, with_item_taken, with_object, with_offer_taken, without_member};
 ghost use Rattle.machine.specs.Request.{finishes, releases};
 ghost use Rattle.machine.specs.Waits.{posted};
-ghost use Rattle.hub_objects.specs.Changes.{changed};
-ghost use Rattle.hub_objects.specs.Counted.{ChangeFits, MayCount};
+ghost use Rattle.hub_objects.specs.Changes.{added, changed};
+ghost use Rattle.hub_objects.specs.Counted.{AdditionFits, ChangeFits, MayCount};
 ghost use Rattle.hub_objects.specs.Releases.{refused};
 
 use crate::ahead::earlier;
 use crate::hub::Hub;
 use crate::order::items_stand_in_order;
-use crate::touched::{object_if, touch_crews, touch_offers};
-use crate::unawaited::is_awaited;
+use crate::touched::{touch_crews, touch_offers};
+use crate::unawaited::touch_awaited;
 use gv_values::{FaultKind, Job, Name, Value};
 use hub_items::WaitKind;
 use hub_objects::{
-    Change, Posted, Release, has_task, is_left, is_shut, item_of, name_at, offer_of, release_of,
+    Addition, Change, Posted, Release, has_task, is_left, is_shut, item_of, name_at, release_of,
 };
 use machine::state::{Object, Post};
 use std::alloc::{AllocError, Global};
@@ -40,16 +40,44 @@ impl Hub {
         name_at(self.base.code.objects(), o)
     }
 
-    /// Changes the object of this number. Takes one step, but where an item of a queue or an offer goes: the others are
-    /// looked at or moved up. Where nobody waits at it, no later settling looks at it. `AllocError`: memory is wanting;
-    /// the hub is given up.
-    pub fn change(&mut self, o: u32, change: Change) -> Result<(), AllocError>
+    /// Changes the object of this number, in one step. Where nobody waits at it, no later settling looks at it.
+    pub fn change(&mut self, o: u32, change: Change)
         requires { ChangeFits change (slice_get self.old.objects o) }
-        ensures { OnOk result (self.new ≡ with_object o (changed change (object_at o self.old)) self.old) }
+        ensures { self.new ≡ with_object o (changed change (object_at o self.old)) self.old }
     {
         items_stand_in_order(&self.held);
-        self.touched.touch(object_if(is_awaited(&self.held, o), o));
-        self.base.objects.change(o, change)
+        touch_awaited(&mut self.touched, &self.held, o);
+        self.base.objects.change(o, change);
+    }
+
+    /// Adds this to the object of this number, as `change` does. `AllocError`: memory is wanting; the hub is given up.
+    pub fn add_to(&mut self, o: u32, addition: Addition) -> Result<(), AllocError>
+        requires { AdditionFits addition (slice_get self.old.objects o) }
+        ensures { OnOk result (self.new ≡ with_object o (added addition (object_at o self.old)) self.old) }
+    {
+        items_stand_in_order(&self.held);
+        touch_awaited(&mut self.touched, &self.held, o);
+        self.base.objects.add(o, addition)
+    }
+
+    /// Takes the item of the queue that is next; none where there is no item. Looks at each item of a priority queue.
+    pub fn take_item(&mut self, o: u32) -> Value
+        ensures item { result ≡ item_of (object_at o self.old) }
+        ensures taken { self.new ≡ with_object o (with_item_taken (object_at o self.old)) self.old }
+    {
+        items_stand_in_order(&self.held);
+        touch_awaited(&mut self.touched, &self.held, o);
+        self.base.objects.take_item(o)
+    }
+
+    /// Takes the oldest offer of the channel, and gives its value; none where there is no offer. Moves the others up.
+    pub fn take_offer(&mut self, o: u32) -> Value
+        ensures value { result ≡ offer_of (object_at o self.old) }
+        ensures taken { self.new ≡ with_object o (with_offer_taken (object_at o self.old)) self.old }
+    {
+        items_stand_in_order(&self.held);
+        touch_awaited(&mut self.touched, &self.held, o);
+        self.base.objects.take_offer(o)
     }
 
     /// The greenlet leaves its group or pool. Looks at the members of that one alone.
@@ -83,16 +111,6 @@ impl Hub {
         }
     }
 
-    /// A copy of the value of the channel's oldest offer, which stays there. `AllocError`: memory is wanting.
-    pub fn offer_of(&self, alloc: Global, o: u32) -> Result<Value, AllocError>
-        ensures { IfOk result (λ value. value ≡ offer_of (object_at o self.now)) }
-    {
-        match self.base.objects.get(o) {
-            Some(object) => Ok(offer_of(alloc, object)?),
-            None => Ok(Value::Nothing),
-        }
-    }
-
     /// Whether the queue is shut.
     pub fn is_shut(&self, o: u32) -> bool
         ensures { result ≡ is_shut (object_at o self.now) }
@@ -108,38 +126,36 @@ impl Hub {
         is_left(self.base.objects.get(o), before)
     }
 
-    /// The greenlet gives back a unit or a lock, or is refused by a fault. `AllocError`: memory is wanting; the hub is
-    /// given up.
+    /// The greenlet gives back a unit or a lock, or is refused by a fault.
     #[tactic(auto, using(hub_objects::proofs::Releasing::released))]
-    pub fn release(&mut self, g: u32, o: u32) -> Result<Option<FaultKind>, AllocError>
+    pub fn release(&mut self, g: u32, o: u32) -> Option<FaultKind>
         requires { MayCount 1 (slice_get self.old.objects o) }
-        ensures { IfOk result (λ fault. releases g o (object_at o self.old) self.old ≡ refused fault self.new) }
+        ensures { releases g o (object_at o self.old) self.old ≡ refused result self.new }
     {
         match release_of(self.base.objects.get(o), g) {
-            Release::Refused(kind) => Ok(Some(kind)),
-            Release::Nothing => Ok(None),
+            Release::Refused(kind) => Some(kind),
+            Release::Nothing => None,
             Release::Unit => {
-                self.change(o, Change::Unit)?;
-                Ok(None)
+                self.change(o, Change::Unit);
+                None
             }
             Release::Owner => {
-                self.change(o, Change::OwnerGone(g))?;
-                Ok(None)
+                self.change(o, Change::OwnerGone(g));
+                None
             }
         }
     }
 
-    /// A task of the queue is done, or refused by a fault where none is unfinished. `AllocError`: memory is wanting;
-    /// the hub is given up.
+    /// A task of the queue is done, or refused by a fault where none is unfinished.
     #[tactic(auto, using(hub_objects::proofs::Releasing::finished))]
-    pub fn finish(&mut self, o: u32) -> Result<Option<FaultKind>, AllocError>
-        ensures { IfOk result (λ fault. finishes o (object_at o self.old) self.old ≡ refused fault self.new) }
+    pub fn finish(&mut self, o: u32) -> Option<FaultKind>
+        ensures { finishes o (object_at o self.old) self.old ≡ refused result self.new }
     {
         if has_task(self.base.objects.get(o)) {
-            self.change(o, Change::TaskDone)?;
-            Ok(None)
+            self.change(o, Change::TaskDone);
+            None
         } else {
-            Ok(Some(FaultKind::ValueError))
+            Some(FaultKind::ValueError)
         }
     }
 
@@ -157,7 +173,7 @@ impl Hub {
         self.base.lines.reserve(1)?;
         items_stand_in_order(&self.held);
         self.touched.touch(Some(o));
-        self.base.objects.change(o, Change::SlotTaken)?;
+        self.base.objects.change(o, Change::SlotTaken);
         self.base.jobs.push_reserved(Posted::new(job, o));
         self.base.posts.push_reserved(Post { number, job, takes });
         self.base.lines.push_reserved(Line::Job {

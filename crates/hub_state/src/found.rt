@@ -68,7 +68,7 @@ impl Found {
         requires { HasPlace self.old }
         ensures { self.new ≡ noted slot item.now holds self.old }
     {
-        match item.ready {
+        match item.ready.place() {
             Some(_) => {
                 if !holds {
                     self.lost.push_reserved((item.since, slot));

@@ -65,25 +65,24 @@ impl Hub {
     }
 
     /// The job that the answer names has come to this, and its slot is free.
-    fn arrive(&mut self, j: u32, outcome: JobOutcome) -> Result<(), AllocError>
-        ensures { OnOk result (self.new ≡ arrives j outcome (job_at j self.old.jobs) self.old) }
+    fn arrive(&mut self, j: u32, outcome: JobOutcome)
+        ensures { self.new ≡ arrives j outcome (job_at j self.old.jobs) self.old }
     {
         let Some(job) = job_at(&self.base.jobs, j) else {
-            return Ok(());
+            return;
         };
         let pool = job.pool();
         items_stand_in_order(&self.held);
         self.touched.touch_end(true, j);
         self.touched.touch(Some(pool));
-        self.base.objects.change(pool, Change::SlotFreed)?;
+        self.base.objects.change(pool, Change::SlotFreed);
         arrive_in(&mut self.base.jobs, j, outcome);
-        Ok(())
     }
 
     /// The moment of the answer is reached, and its job has come.
-    fn come(&mut self, answer: Answer) -> Result<(), AllocError>
+    fn come(&mut self, answer: Answer)
         requires { moment_of answer ≤ LAST_MOMENT }
-        ensures { OnOk result (self.new ≡ came answer self.old) }
+        ensures { self.new ≡ came answer self.old }
     {
         match answer {
             Answer::Done {
@@ -92,16 +91,10 @@ impl Hub {
                 at,
             } => {
                 self.reach(at);
-                Ok(self.arrive(number, outcome)?)
+                self.arrive(number, outcome);
             }
-            Answer::Elapsed { at } => {
-                self.reach(at);
-                Ok(())
-            }
-            Answer::Nothing { at } => {
-                self.reach(at);
-                Ok(())
-            }
+            Answer::Elapsed { at } => self.reach(at),
+            Answer::Nothing { at } => self.reach(at),
         }
     }
 
@@ -109,7 +102,7 @@ impl Hub {
     ///
     /// # Errors
     ///
-    /// Memory is wanting; the hub is given up, and may have a part of the answer already.
+    /// Memory is wanting for the line; the hub is given up, and has the answer already.
     #[tactic(auto, using(crate::proofs::Forgetting::taken_so))]
     pub fn take(&mut self, answer: Answer) -> Result<(), AllocError>
         requires room { self.old.next_ready + length self.old.items ≤ 2 ^ 63 }
@@ -117,7 +110,7 @@ impl Hub {
         ensures { OnOk result (self.new ≡ take_answer answer self.old) }
     {
         let number = self.turns();
-        self.come(answer)?;
+        self.come(answer);
         self.say(Line::Turn { number, answer })?;
         self.settle();
         Ok(())

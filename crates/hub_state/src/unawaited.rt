@@ -1,10 +1,12 @@
 //! Whether anybody waits at an object.
-ghost use Rattle.std.specs.Prelude.{◌≡◌};
+ghost use Rattle.std.specs.Prelude.{◌≡◌, None, Some, if◌then◌else◌};
 ghost use Rattle.std.specs.List.{list_any};
 ghost use Rattle.held_items.specs.Entries.{flat};
 ghost use Rattle.held_items.specs.Waits.{waits_at};
+ghost use Rattle.hub_state.specs.Touched.{with_touched};
 ghost use Rattle.hub_state.specs.Unawaited.{has_line, has_others, has_waiters};
 
+use crate::touched::{Touched, object_if};
 use held_items::HeldItems;
 use hub_items::WaitKind;
 
@@ -37,8 +39,15 @@ fn has_waiters(held: &HeldItems, o: u32) -> bool
 }
 
 /// Whether somebody waits at the object. Looks at nobody but the first of each line.
-pub(crate) fn is_awaited(held: &HeldItems, o: u32) -> bool
+fn is_awaited(held: &HeldItems, o: u32) -> bool
     ensures { result ≡ list_any (λ i. waits_at o i.delivery) (flat held.now.entries) }
 {
     has_waiters(held, o)
+}
+
+/// Touches the object, if somebody waits at it.
+pub(crate) fn touch_awaited(touched: &mut Touched, held: &HeldItems, o: u32)
+    ensures { touched.new ≡ with_touched (if list_any (λ i. waits_at o i.delivery) (flat held.now.entries) then Some o else None) touched.old }
+{
+    touched.touch(object_if(is_awaited(held, o), o));
 }

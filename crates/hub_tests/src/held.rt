@@ -89,7 +89,7 @@ fn number_some(held: &mut HeldItems) {
             return;
         };
         if held.has(slot) && held.mark() < 100 {
-            match held.get(slot).ready {
+            match held.get(slot).ready.place() {
                 None if n % 2 == 0 => held.number(slot),
                 Some(_) if n % 2 == 1 => held.unnumber(slot),
                 _ => {}

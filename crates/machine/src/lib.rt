@@ -12,5 +12,6 @@ pub mod arguments;
 pub mod items;
 pub mod laws;
 pub mod limits;
+pub mod ready;
 pub mod request;
 pub mod state;

@@ -14,4 +14,4 @@ change-requires c = subst (λ (s : State). MayCount 1 (slice_get s.objects c.in-
 pub settle-requires-in-Set : goal.settle-requires-in-Set
 settle-requires-in-Set c =
     let said = settles_said (most_hops + 2) _ c.args.hub.now c.say-in-Set.new.self c.in_ok-say-in-Set.ensures c.requires.settles in
-    settles_first c.change.new.self (settles_changed (most_hops + 2) c.in-Set.o _ c.say-in-Set.new.self c.change.new.self c.in_ok-change-in-Set.ensures said)
+    settles_first c.change.new.self (settles_changed (most_hops + 2) c.in-Set.o _ c.say-in-Set.new.self c.change.new.self c.change.ensures said)

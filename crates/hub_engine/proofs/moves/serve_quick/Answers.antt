@@ -15,7 +15,7 @@ pub answer_none_at_once-requires : goal.answer_none_at_once-requires
 answer_none_at_once-requires c =
     let request = request_of c.args.quick in
     let came = answered_quickly None in
-    let done = quickly_performed c.args.quick c.args.g c.in_ok-fault.fault None c.go_under_way.new.hub c.perform_quick.new.hub c.in-None.is c.in_ok-fault.ensures in
+    let done = quickly_performed c.args.quick c.args.g c.perform_quick.result None c.go_under_way.new.hub c.perform_quick.new.hub c.in-None.is c.perform_quick.ensures in
     let room = subst (HasRoom room_of_move) (sym c.go_under_way.ensures) (c.requires.room.any no_frame) in
     record {
       declared = declared_beside c.args.g c.args.body request came c.args.hub.now c.go_under_way.new.hub c.perform_quick.new.hub (leaves_quickly c.args.quick) c.go_under_way.ensures done c.requires.after;
@@ -28,7 +28,7 @@ pub answer_at_once-requires : goal.answer_at_once-requires
 answer_at_once-requires c =
     let request = request_of c.args.quick in
     let came = answered_quickly (Some c.in-Some.kind) in
-    let done = quickly_performed c.args.quick c.args.g c.in_ok-fault.fault (Some c.in-Some.kind) c.go_under_way.new.hub c.perform_quick.new.hub c.in-Some.is c.in_ok-fault.ensures in
+    let done = quickly_performed c.args.quick c.args.g c.perform_quick.result (Some c.in-Some.kind) c.go_under_way.new.hub c.perform_quick.new.hub c.in-Some.is c.perform_quick.ensures in
     let room = subst (HasRoom room_of_move) (sym c.go_under_way.ensures) (c.requires.room.any no_frame) in
     record {
       declared = declared_beside c.args.g c.args.body request came c.args.hub.now c.go_under_way.new.hub c.perform_quick.new.hub (leaves_quickly c.args.quick) c.go_under_way.ensures done c.requires.after;
@@ -39,14 +39,14 @@ answer_at_once-requires c =
 
 pub returns-in_ok-answer_none_at_once-in-None : goal.returns-in_ok-answer_none_at_once-in-None
 returns-in_ok-answer_none_at_once-in-None c =
-    let done = quickly_performed c.args.quick c.args.g c.in_ok-fault.fault None c.go_under_way.new.hub c.perform_quick.new.hub c.in-None.is c.in_ok-fault.ensures in
+    let done = quickly_performed c.args.quick c.args.g c.perform_quick.result None c.go_under_way.new.hub c.perform_quick.new.hub c.in-None.is c.perform_quick.ensures in
     ap (follows c.args.g)
     (performed_beside c.args.g c.args.body (request_of c.args.quick) (answered_quickly None) c.args.hub.now c.go_under_way.new.hub c.perform_quick.new.hub (leaves_quickly c.args.quick) c.go_under_way.ensures done)
     ∙ c.in_ok-answer_none_at_once-in-None.ensures
 
 pub returns-in_ok-answer_at_once-in-Some : goal.returns-in_ok-answer_at_once-in-Some
 returns-in_ok-answer_at_once-in-Some c =
-    let done = quickly_performed c.args.quick c.args.g c.in_ok-fault.fault (Some c.in-Some.kind) c.go_under_way.new.hub c.perform_quick.new.hub c.in-Some.is c.in_ok-fault.ensures in
+    let done = quickly_performed c.args.quick c.args.g c.perform_quick.result (Some c.in-Some.kind) c.go_under_way.new.hub c.perform_quick.new.hub c.in-Some.is c.perform_quick.ensures in
     ap (follows c.args.g)
     (performed_beside c.args.g c.args.body (request_of c.args.quick) (answered_quickly (Some c.in-Some.kind)) c.args.hub.now c.go_under_way.new.hub c.perform_quick.new.hub (leaves_quickly c.args.quick) c.go_under_way.ensures done)
     ∙ c.in_ok-answer_at_once-in-Some.ensures

@@ -23,7 +23,7 @@ invariant_of-self-2 c =
     record {
       entries = c.self.invariant.entries;
       vacant = c.self.invariant.vacant ++ c.len-slot.result ∷ [];
-      is = shelf_longer _ _ _ _ _ _ _ _ c.len-slot.result is few (let l = c.len-slot.ensures in omega (arith, l)) c.reserve.ensures.items c.push_reserved.ensures.items c.reserve-2.ensures.chains
+      is = shelf_longer _ _ _ _ _ _ _ _ c.len-slot.result is few (let l = c.len-slot.ensures in omega (arith, l)) c.reserve.ensures.items c.push_vacant.ensures c.reserve-2.ensures.chains
           (let k = c.in_ok-reserve-2.ensures.keys in omega (arith, k)) c.push.ensures.keys c.push.ensures.chains;
       len = c.self.invariant.len;
     }
@@ -35,7 +35,7 @@ returns-clause-room c =
     let few = slots_few _ _ _ _ _ is c.self.view_is (sym c.has_room.ensures ∙ none) c.requires in
     ap (λ (o : Option ℕ). is_some o)
     (vacant_first _ _ _ _
-    (shelf_longer _ _ _ _ _ _ _ _ c.len-slot.result is few (let l = c.len-slot.ensures in omega (arith, l)) c.reserve.ensures.items c.push_reserved.ensures.items c.reserve-2.ensures.chains
+    (shelf_longer _ _ _ _ _ _ _ _ c.len-slot.result is few (let l = c.len-slot.ensures in omega (arith, l)) c.reserve.ensures.items c.push_vacant.ensures c.reserve-2.ensures.chains
     (let k = c.in_ok-reserve-2.ensures.keys in omega (arith, k)) c.push.ensures.keys c.push.ensures.chains))
     ∙ some_vacant c.self.invariant.vacant c.len-slot.result
 
@@ -45,6 +45,6 @@ returns-clause-kept c =
     let none : c.has_room.result ≡ false = search (rules, c.if-has_room.false) in
     let few = slots_few _ _ _ _ _ is c.self.view_is (sym c.has_room.ensures ∙ none) c.requires in
     shelf_is _ _ _ _
-    (shelf_longer _ _ _ _ _ _ _ _ c.len-slot.result is few (let l = c.len-slot.ensures in omega (arith, l)) c.reserve.ensures.items c.push_reserved.ensures.items c.reserve-2.ensures.chains
+    (shelf_longer _ _ _ _ _ _ _ _ c.len-slot.result is few (let l = c.len-slot.ensures in omega (arith, l)) c.reserve.ensures.items c.push_vacant.ensures c.reserve-2.ensures.chains
     (let k = c.in_ok-reserve-2.ensures.keys in omega (arith, k)) c.push.ensures.keys c.push.ensures.chains)
     ∙ shelf_seen _ _ _ _ _ is c.self.view_is

@@ -1,15 +1,10 @@
 use Rattle.std.proofs.Common.{sym, subst}
-use Rattle.hub_objects.specs.Memberships.{AreJoined, AreMembers}
-use Rattle.hub_objects.proofs.Belonging.{members_changed, members_still}
+use Rattle.hub_objects.specs.Memberships.{AreMembers}
+use Rattle.hub_objects.proofs.Belonging.{members_changed}
 use Rattle.hub_objects.proofs.objects.Objects.change.Goals as goal
 
-pub invariant_of-self-in_err-change_in : goal.invariant_of-self-in_err-change_in
-invariant_of-self-in_err-change_in c =
-    let still = members_still c.member_of.result c.args.o c.self.inside.memberships.items c.join.new.table.items c.self.inside.all.items c.in_ok-join.ensures.joined c.self.invariant.members in
-    record { counted = c.change_in.ensures.counted; members = subst (AreMembers c.join.new.table.items) (sym c.in_err-change_in.ensures.err) still }
-
-pub invariant_of-self-2 : goal.invariant_of-self-2
-invariant_of-self-2 c =
-    let joins = subst (λ k. AreJoined k c.args.o c.self.inside.memberships.items c.join.new.table.items) c.member_of.ensures c.in_ok-join.ensures.joined in
-    let members = members_changed c.self.inside.memberships.items c.join.new.table.items c.args.change c.self.inside.all.items c.args.o joins c.self.invariant.members in
-    record { counted = c.change_in.ensures.counted; members = subst (AreMembers c.join.new.table.items) (sym c.in_ok-change_in.ensures.changed) members }
+pub invariant_of-self : goal.invariant_of-self
+invariant_of-self c =
+    let table = c.self.inside.memberships.items in
+    let members = members_changed table c.args.change c.self.inside.all.items c.args.o c.self.invariant.members in
+    record { counted = c.change_in.ensures.counted; members = subst (AreMembers table) (sym c.change_in.ensures.changed) members }

@@ -4,25 +4,12 @@ use Rattle.machine.specs.declared.state.JobState.{JobState}
 use Rattle.machine.specs.Holds.{job_at}
 use Rattle.hub_objects.specs.Jobs.{came_by}
 use Rattle.hub_state.specs.HubParts.{state_of}
-use Rattle.hub_state.proofs.Keeping.{hub_arrived, hub_failed}
-use Rattle.hub_state.proofs.Touching.{grows_end, grows_is, grows_on, grows_touched}
+use Rattle.hub_state.proofs.Keeping.{hub_arrived}
 use Rattle.hub_state.proofs.UpToDate.{ascending}
 use Rattle.hub_state.proofs.hub.Hub.arrive.Goals as goal
 
 pub invariant_of-self : goal.invariant_of-self
 invariant_of-self c =
-    let t = c.self.inside.touched in
-    let v = c.touch_end.new.self in
-    let u = c.touch.new.self in
-    let grows = grows_on t v u (grows_is t v _ c.touch_end.ensures (grows_end true c.args.j t)) (grows_is v u _ c.touch.ensures (grows_touched (Some c.pool-pool.result) v)) in
-    record {
-      kept =
-          hub_failed c.self.inside.held t u (state_of c.self.inside) c.change.new.self grows c.in_err-change.ensures.err c.self.invariant.kept;
-      room = c.self.invariant.room;
-    }
-
-pub invariant_of-self-2 : goal.invariant_of-self-2
-invariant_of-self-2 c =
     let s = state_of c.self.inside in
     let job = c.in-Some.job.now in
     let there : job_at c.args.j s.jobs ≡ Some job =
@@ -31,6 +18,6 @@ invariant_of-self-2 c =
     record {
       kept =
           hub_arrived c.args.j c.args.outcome job c.pool-pool.result c.self.inside.held c.self.inside.touched c.touch_end.new.self c.touch.new.self s c.change.new.self c.arrive_in.new.jobs.items
-          (ascending 0 _ _ c.items_stand_in_order.ensures.ascends) there c.pool-pool.ensures c.touch_end.ensures c.touch.ensures c.in_ok-change.ensures.changed came.1 c.self.invariant.kept;
+          (ascending 0 _ _ c.items_stand_in_order.ensures.ascends) there c.pool-pool.ensures c.touch_end.ensures c.touch.ensures c.change.ensures came.1 c.self.invariant.kept;
       room = c.self.invariant.room;
     }

@@ -3,24 +3,12 @@ use Rattle.machine.specs.declared.state.JobState.{JobState}
 use Rattle.machine.specs.State.{State}
 use Rattle.hub_objects.specs.Counted.{MayCount}
 use Rattle.hub_state.specs.HubParts.{state_of}
-use Rattle.hub_state.proofs.Keeping.{hub_posted, hub_unposted}
-use Rattle.hub_state.proofs.Touching.{grows_is, grows_touched}
+use Rattle.hub_state.proofs.Keeping.{hub_posted}
 use Rattle.hub_state.proofs.UpToDate.{ascending}
 use Rattle.hub_state.proofs.hub.Hub.post.Goals as goal
 
 pub change-requires : goal.change-requires
 change-requires c = subst (λ (s : State). MayCount 1 (slice_get s.objects c.args.o)) (sym c.self.view_is) c.requires.slot
-
-pub invariant_of-self-in_err-change : goal.invariant_of-self-in_err-change
-invariant_of-self-in_err-change c =
-    let t = c.self.inside.touched in
-    let u = c.touch.new.self in
-    record {
-      kept =
-          hub_unposted c.self.inside.held t u (state_of c.self.inside) c.change.new.self c.reserve.new.self.items c.reserve-3.new.self.items c.reserve-2.new.self.items
-          (grows_is t u _ c.touch.ensures (grows_touched (Some c.args.o) t)) c.in_err-change.ensures.err c.reserve.ensures.items c.self.invariant.kept;
-      room = c.self.invariant.room;
-    }
 
 pub invariant_of-self-2 : goal.invariant_of-self-2
 invariant_of-self-2 c =
@@ -29,6 +17,6 @@ invariant_of-self-2 c =
     record {
       kept =
           hub_posted c.args.g c.args.o c.args.job c.args.takes c.self.inside.held c.self.inside.touched c.touch.new.self s c.change.new.self c.push_reserved.new.self.items c.push_reserved-3.new.self.items
-          c.push_reserved-2.new.self.items (ascending 0 _ _ c.items_stand_in_order.ensures.ascends) c.touch.ensures c.in_ok-change.ensures.changed posted c.self.invariant.kept;
+          c.push_reserved-2.new.self.items (ascending 0 _ _ c.items_stand_in_order.ensures.ascends) c.touch.ensures c.change.ensures posted c.self.invariant.kept;
       room = c.self.invariant.room;
     }
