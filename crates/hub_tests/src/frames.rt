@@ -59,11 +59,15 @@ fn hub() -> StillHub {
 fn code_of(alloc: Global, text: &str) -> Result<Code, Fail>
     ensures { IfOk result (λ code. 0 < length code.functions) }
 {
-    let scenario = parse(alloc, text.as_bytes())?;
+    let Ok(scenario) = parse(alloc, text.as_bytes()) else {
+        return Err(Fail::from("no text of a scenario"));
+    };
     if scenario.tree().functions.len() == 0 {
         return Err(Fail::from("no function"));
     }
-    let checked = check(alloc, scenario)?;
+    let Ok(checked) = check(alloc, scenario) else {
+        return Err(Fail::from("no well-formed scenario"));
+    };
     Ok(compile(alloc, checked)?)
 }
 

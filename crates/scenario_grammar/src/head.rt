@@ -2,7 +2,7 @@ use gv_values::FaultKind;
 use scenario_tree::{Binary, Query, Unary};
 
 /// What a fixed word begins in the place of an expression.
-#[derive(Clone, Copy, Debug)]
+#[derive(Clone, Copy)]
 pub enum Head {
     Nothing,
     Bool(bool),

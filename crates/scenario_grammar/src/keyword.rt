@@ -1,5 +1,5 @@
 /// A fixed word of the language; those that profile 2 brought are reserved in profile 1.
-#[derive(Clone, Copy, Debug, PartialEq, Eq)]
+#[derive(Clone, Copy, PartialEq, Eq)]
 pub enum Keyword {
     Event,
     Result,

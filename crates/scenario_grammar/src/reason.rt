@@ -3,7 +3,7 @@ ghost use Rattle.std.specs.Prelude.{◌≡◌, ◌≤◌};
 ghost use Rattle.scenario_grammar.specs.Reason.{reason_text, rule_number, text_number};
 
 /// Why bytes are no text of a scenario.
-#[derive(Clone, Copy, Debug, PartialEq, Eq)]
+#[derive(Clone, Copy, PartialEq, Eq)]
 pub enum TextReason {
     /// The text is longer than `MOST_TEXT` bytes.
     TooLarge,
@@ -65,7 +65,7 @@ impl TextReason {
 }
 
 /// Why a scenario that has a text breaks the rules on its names, counts and limits.
-#[derive(Clone, Copy, Debug, PartialEq, Eq)]
+#[derive(Clone, Copy, PartialEq, Eq)]
 pub enum RuleReason {
     /// A name is used that nothing declares.
     Undeclared,

@@ -2,7 +2,7 @@ use crate::keyword::Keyword;
 use gv_values::Name;
 
 /// What a word is by itself.
-#[derive(Clone, Copy, Debug)]
+#[derive(Clone, Copy)]
 pub enum Token {
     Fixed(Keyword),
     /// A word of a name's form that is no fixed word.

@@ -9,7 +9,7 @@ use crate::keyword::fixed_words;
 use scenario_grammar::Keyword;
 
 /// What a fixed word begins as the first word of a line, or as the first behind `<-`.
-#[derive(Clone, Copy, Debug, PartialEq, Eq)]
+#[derive(Clone, Copy, PartialEq, Eq)]
 pub enum WordRole {
     /// The line that names the profile of the text.
     Profiles,

@@ -10,7 +10,7 @@ use scenario_grammar::{Opening, TextReason};
 use scenario_keywords::WordRole;
 
 /// What has come of an open block.
-#[derive(Clone, Copy, Debug)]
+#[derive(Clone, Copy)]
 pub(crate) enum Kind {
     Body,
     Then,
@@ -39,7 +39,7 @@ pub(crate) fn block_kind(opening: &Opening) -> Kind
 }
 
 /// What stands before a line, as far as the line's place depends on it.
-#[derive(Clone, Copy, Debug)]
+#[derive(Clone, Copy)]
 pub(crate) struct Standing {
     /// Whether a line that carries something does.
     pub(crate) any_line: bool,

@@ -10,7 +10,7 @@ use scenario_keywords::{WordRole, gives_value, word_role};
 use scenario_lines::is_given_line;
 
 /// What the first words make of a line.
-#[derive(Clone, Copy, Debug)]
+#[derive(Clone, Copy)]
 pub(crate) enum Role {
     /// What its first word begins.
     Begins(WordRole),

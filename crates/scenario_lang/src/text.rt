@@ -22,7 +22,7 @@ use scenario_tree::Scenario as Tree;
 use std::alloc::{AllocError, Global};
 
 /// Why a text gives no scenario.
-#[derive(Clone, Copy, Debug, PartialEq, Eq)]
+#[derive(Clone, Copy, PartialEq, Eq)]
 pub enum ParseRefusal {
     /// No scenario has this text; the first place that shows it.
     Refused(Place),

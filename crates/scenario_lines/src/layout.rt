@@ -9,7 +9,7 @@ use scenario_tree::Items;
 use std::alloc::{AllocError, Global};
 
 /// What stands at the front of a text.
-#[derive(Clone, Copy, Debug)]
+#[derive(Clone, Copy)]
 pub enum Front {
     /// A line of so many bytes, and then its LF.
     Line(usize),

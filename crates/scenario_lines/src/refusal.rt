@@ -2,7 +2,7 @@ use scenario_grammar::TextReason;
 use std::alloc::AllocError;
 
 /// Why the words of a line were not read.
-#[derive(Clone, Copy, Debug, PartialEq, Eq)]
+#[derive(Clone, Copy, PartialEq, Eq)]
 pub enum LineRefusal {
     /// Memory ran out; whether the line says something is open.
     Memory,

@@ -1,7 +1,7 @@
 use gv_values::{Answer, FaultKind, Job, Name, Outcome, Value, Whom};
 
 /// A line of the trace. Greenlets, jobs, links and turns are named by their numbers, moments are milliseconds.
-#[derive(Debug, Drop)]
+#[derive(Drop)]
 pub enum Line {
     /// The body of a greenlet starts, which is this function.
     Start {
@@ -67,7 +67,7 @@ pub enum Line {
 }
 
 /// What a greenlet parks in: the word of its statement, and what it waits on.
-#[derive(Clone, Copy, Debug, PartialEq, Eq)]
+#[derive(Clone, Copy, PartialEq, Eq)]
 pub enum Awaited {
     Sleep,
     Join(Whom),
@@ -93,14 +93,14 @@ pub enum Awaited {
 }
 
 /// How a wait ends: what it waited for has come, or its deadline has.
-#[derive(Clone, Copy, Debug, PartialEq, Eq)]
+#[derive(Clone, Copy, PartialEq, Eq)]
 pub enum Resumed {
     Wake,
     Late,
 }
 
 /// What the call of a link does.
-#[derive(Clone, Copy, Debug, PartialEq, Eq)]
+#[derive(Clone, Copy, PartialEq, Eq)]
 pub enum LinkCall {
     /// Its function runs as this new greenlet.
     Greenlet(u32),
@@ -111,7 +111,7 @@ pub enum LinkCall {
 }
 
 /// Until when the hub blocks.
-#[derive(Clone, Copy, Debug, PartialEq, Eq)]
+#[derive(Clone, Copy, PartialEq, Eq)]
 pub enum Blocked {
     /// Until this moment, or until a job ends.
     Until(u64),
@@ -122,7 +122,7 @@ pub enum Blocked {
 }
 
 /// Why a run stops.
-#[derive(Debug, Drop)]
+#[derive(Drop)]
 pub enum StopCause {
     /// The main greenlet ended with a value.
     Value(Value),
