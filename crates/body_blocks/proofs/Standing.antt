@@ -8,7 +8,7 @@ use Rattle.scenario_tree.specs.declared.tree.Expression.{Expression}
 use Rattle.scenario_tree.specs.declared.tree.Giving.{Giving}
 use Rattle.scenario_tree.specs.declared.tree.Statement.{Statement}
 use Rattle.body_names.specs.declared.expression.FlatExpression.{FlatExpression}
-use Rattle.body_names.specs.declared.expression.Slot.{Slot}
+use Rattle.body_names.specs.declared.expression.LocalSlot.{LocalSlot}
 use Rattle.body_names.specs.declared.giving.FlatGiving.{FlatGiving}
 use Rattle.body_names.specs.Expressions.{expression_of}
 use Rattle.body_names.specs.Statements.{giving_of}
@@ -20,7 +20,7 @@ use Rattle.body_blocks.proofs.Growing.{later}
 abbrev pub IsTest : Coded → FlatExpression → Expression → Type 0
 IsTest c e x = (more : Coded) → expression_of (joined c more).names e ≡ x
 
-abbrev pub IsTarget : Coded → Option Slot → Option Name → Type 0
+abbrev pub IsTarget : Coded → Option LocalSlot → Option Name → Type 0
 IsTarget c slot x = (more : Coded) → name_if (joined c more) slot ≡ x
 
 abbrev pub IsBlock : Coded → ℕ → List Statement → Type 0
@@ -29,7 +29,7 @@ IsBlock c n ss = (more : Coded) → block_at n (joined c more) ≡ ss
 pub block_later : (c d : Coded) (n : ℕ) (ss : List Statement) → Grows c d → IsBlock c n ss → IsBlock d n ss
 block_later c d n ss g h = later (λ (b : Coded) i. block_at i b) c d n ss g h
 
-pub giving_stands : (c d : Coded) (slot : Option Slot) (g : FlatGiving) (x : Option Name) (y : Giving) → Grows c d → IsTarget c slot x →
+pub giving_stands : (c d : Coded) (slot : Option LocalSlot) (g : FlatGiving) (x : Option Name) (y : Giving) → Grows c d → IsTarget c slot x →
     ((more : Coded) → giving_of (joined d more).names g ≡ y) → (more : Coded) → A.Giving (name_if (joined d more) slot) (giving_of (joined d more).names g) ≡ A.Giving x y
 giving_stands c d slot g x y grow h k more =
     ap (λ z. A.Giving z (giving_of (joined d more).names g)) (later name_if c d slot x grow h more) ∙ ap (A.Giving x) (k more)
@@ -54,7 +54,7 @@ if_action_stands (Err e) f c d x same g h = tt
 pub was_made : {T E : Type 0} (r : Result T E) (x : T) (P : T → Type 0) → r ≡ Ok x → IfOk r P → P x
 was_made {T} {E} r x P e h = subst (λ (s : Result T E). IfOk s P) e h
 
-pub except_stands : (c d : Coded) (e : Except) (slot : Option Slot) (n : ℕ) → Grows c d → IsTarget c slot (out-Except e).name → IsBlock d n (out-Except e).body → (more : Coded) →
+pub except_stands : (c d : Coded) (e : Except) (slot : Option LocalSlot) (n : ℕ) → Grows c d → IsTarget c slot (out-Except e).name → IsBlock d n (out-Except e).body → (more : Coded) →
     except_of (joined d more) (record { line = (out-Except e).line; class = (out-Except e).class; name = slot; body = n }) ≡ e
 except_stands c d e slot n g h k more =
     ap (λ z. roll-Except (record { line = (out-Except e).line; class = (out-Except e).class; name = z; body = block_at n (joined d more) })) (later name_if c d slot (out-Except e).name g h more)

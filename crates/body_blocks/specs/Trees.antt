@@ -5,7 +5,7 @@ use Rattle.scenario_tree.specs.declared.tree.Action.{Action}
 use Rattle.scenario_tree.specs.declared.tree.Action.TheVariants as A
 use Rattle.scenario_tree.specs.declared.tree.Except.{Except, roll-Except}
 use Rattle.scenario_tree.specs.declared.tree.Statement.{Statement}
-use Rattle.body_names.specs.declared.expression.Slot.{Slot}
+use Rattle.body_names.specs.declared.expression.LocalSlot.{LocalSlot}
 use Rattle.body_names.specs.Expressions.{expression_of}
 use Rattle.body_names.specs.Naming.{name_of}
 use Rattle.body_names.specs.Statements.{command_of, giving_of}
@@ -31,7 +31,7 @@ abbrev pub block_at : ℕ → Coded → List Statement
 block_at n c = unwrap_or (slice_get c.blocks n) []
 
 -- the name of a local that may be missing
-abbrev pub name_if : Coded → Option Slot → Option Name
+abbrev pub name_if : Coded → Option LocalSlot → Option Name
 name_if c x = option_map (λ slot. name_of c.names slot.number) x
 
 -- an except, where these are the names and the blocks

@@ -9,7 +9,7 @@ ghost use Rattle.body_blocks.specs.Trees.{Coded, Grows, Stands, joined, name_if,
 use crate::blocks::Blocks;
 use crate::statement::FlatStatement;
 use body_names::{
-    FlatCommand, FlatExpression, FlatGiving, Naming, Slot, enter_function, flat_command,
+    FlatCommand, FlatExpression, FlatGiving, LocalSlot, Naming, enter_function, flat_command,
     flat_expression, flat_giving,
 };
 use gv_values::Name;
@@ -60,7 +60,7 @@ impl Making {
         &mut self,
         alloc: Global,
         name: &Option<Name>,
-    ) -> Result<Option<Slot>, AllocError>
+    ) -> Result<Option<LocalSlot>, AllocError>
         requires { IsMaking self.old }
         ensures kept { IfOk result (λ _. IsMaking self.new) }
         ensures grows { IfOk result (λ _. Grows (made self.old) (made self.new)) }

@@ -1,4 +1,4 @@
-use body_names::{FlatCommand, FlatExpression, FlatGiving, Slot};
+use body_names::{FlatCommand, FlatExpression, FlatGiving, LocalSlot};
 use gv_values::Class;
 use scenario_tree::Items;
 use std::rc::Rc;
@@ -16,7 +16,7 @@ pub struct FlatStatement {
 pub enum FlatAction {
     Command(FlatCommand),
     /// The local stands before `<-`.
-    Giving(Option<Slot>, FlatGiving),
+    Giving(Option<LocalSlot>, FlatGiving),
     If(FlatExpression, usize, Option<usize>),
     While(Rc<FlatExpression>, usize),
     /// The body, and what is done with what leaves it.
@@ -38,6 +38,6 @@ pub struct FlatExcept {
     pub line: u32,
     pub class: Class,
     /// The local stands behind the class.
-    pub name: Option<Slot>,
+    pub name: Option<LocalSlot>,
     pub body: usize,
 }

@@ -15,7 +15,7 @@ use Rattle.machine.specs.Landing.{given}
 use Rattle.machine.specs.Unwinding.{Unwound, bind_if, unwind}
 use Rattle.body_names.specs.declared.locals.Bound.{Bound}
 use Rattle.body_names.specs.Locals.{locals_of}
-use Rattle.body_names.specs.declared.expression.Slot.{Slot}
+use Rattle.body_names.specs.declared.expression.LocalSlot.{LocalSlot}
 use Rattle.body_blocks.specs.Trees.{Coded, block_at, name_if}
 use Rattle.body_frames.specs.declared.entry.Entry.{Entry}
 use Rattle.body_frames.specs.declared.stack.Made.{Made}
@@ -63,7 +63,7 @@ comes_as t u f locals todo a made came s shared view same e =
     ∙ ap (λ (g : Frame). came_by g.locals (body_move g.todo (a g.locals))) view
 
 -- an answer comes to a body by its pile
-pub answered_as : (t u : Coded) (f : Frame) (locals : List Bound) (todo : List Entry) (gives : Option Slot) (answer : Outcome) (at : Left) (s : Stack) → u ≡ t →
+pub answered_as : (t u : Coded) (f : Frame) (locals : List Bound) (todo : List Entry) (gives : Option LocalSlot) (answer : Outcome) (at : Left) (s : Stack) → u ≡ t →
     record { locals = locals_of t.names locals; todo = todo_of t todo; gives = name_if t gives } ≡ f →
     unwind (todo_of u todo) [] (leaving_of answer) (given (record { locals = locals_of u.names locals; todo = todo_of u todo; gives = name_if u gives }) answer) ≡ goes_from u at s →
     goes_from t at s ≡ unwind f.todo [] (leaving_of answer) (given f answer)
@@ -83,7 +83,7 @@ entered_as t u e silent b number locals todo at s shared view goes =
     ∙ ap (λ (x : Entered). unwind (Todo.Statements x.body ∷ Todo.Within number x.silent ∷ x.todo) [] Leaving.Normally x.locals) view
 
 -- a body is at its next move where its request, whose answer nobody takes, is answered with none
-pub unheard_as : (t u : Coded) (f : Frame) (locals : List Bound) (todo : List Entry) (gives : Option Slot) (left : List ℕ) (b : Bool) → u ≡ t →
+pub unheard_as : (t u : Coded) (f : Frame) (locals : List Bound) (todo : List Entry) (gives : Option LocalSlot) (left : List ℕ) (b : Bool) → u ≡ t →
     record { locals = locals_of t.names locals; todo = todo_of t todo; gives = name_if t gives } ≡ f → left ≡ [] → is_some gives ≡ not b → b ≡ true → RunsAt (todo_of u todo) →
     Place.AtMove left (record { locals = locals_of t.names locals; todo = todo_of t todo; gives = None }) ≡ place_of (unwind f.todo [] Leaving.Normally (bind_if f.gives Value.Nothing f.locals))
 unheard_as t u f locals todo None left b shared view none is so runs =

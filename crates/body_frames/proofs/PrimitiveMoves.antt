@@ -14,7 +14,7 @@ use Rattle.machine.specs.Expressions.{Look, bind as bind_name, meaning}
 use Rattle.machine.specs.Unwinding.{Unwound, unwind}
 use Rattle.body_names.specs.declared.command.FlatCommand.{FlatCommand}
 use Rattle.body_names.specs.declared.expression.FlatExpression.{FlatExpression}
-use Rattle.body_names.specs.declared.expression.Slot.{Slot}
+use Rattle.body_names.specs.declared.expression.LocalSlot.{LocalSlot}
 use Rattle.body_names.specs.declared.locals.Bound.{Bound}
 use Rattle.body_names.specs.Expressions.{expression_of}
 use Rattle.body_names.specs.Locals.{bind, locals_of}
@@ -90,7 +90,7 @@ while_out t test b old new e m f l n = (
       (drop 1 old.todo) m l n (λ left locals. refl)),
 )
 
-pub let_made : (t : Coded) (slot : Slot) (e : FlatExpression) (v : Value) (after : List Entry) (old new : Stack) → Means e old.locals v →
+pub let_made : (t : Coded) (slot : LocalSlot) (e : FlatExpression) (v : Value) (after : List Entry) (old new : Stack) → Means e old.locals v →
     new.left ≡ old.left → new.locals ≡ bind slot.number v old.locals → IsPassed t after new.todo → HasActed true t (form_of t (FlatAction.Command (FlatCommand.Let slot e))) after old new
 let_made t slot e v after old new m f l p = (
   f,
@@ -104,7 +104,7 @@ let_made t slot e v after old new m f l p = (
       ∙ ap (λ ls. unwind (todo_of t new.todo) [] Leaving.Normally ls) (bind_by_name t.names slot.number v old.locals is ∙ ap (λ (bs : List Bound). locals_of t.names bs) (sym l))),
 )
 
-pub let_bound : (t : Coded) (slot : Slot) (e : FlatExpression) (bound : Bool) (after : List Entry) (old new : Stack) → bound ≡ true →
+pub let_bound : (t : Coded) (slot : LocalSlot) (e : FlatExpression) (bound : Bool) (after : List Entry) (old new : Stack) → bound ≡ true →
     IsBound bound slot.number e old.locals new.locals → new.left ≡ old.left → IsPassed t after new.todo → HasActed true t (form_of t (FlatAction.Command (FlatCommand.Let slot e))) after old new
 let_bound t slot e true after old new h b f p = let_made t slot e b.0 after old new b.1 f b.2 p
 let_bound t slot e false after old new h b f p = cc

@@ -17,7 +17,7 @@ use crate::stack::{Begun, Made, Stack, begin_function, go_inside, go_on_with, ou
 use crate::step::{Input, Step};
 use crate::unwind::Unwound;
 use body_blocks::Blocks;
-use body_names::Slot;
+use body_names::LocalSlot;
 use body_values::front::pop_first;
 use body_values::{Code, Look};
 use gv_values::{Outcome, Value};
@@ -33,7 +33,7 @@ pub enum Standing {
     /// It goes on by itself, to its next move or out of its block.
     Ready(Unwound),
     /// It waits for the answer to its request, which the local takes.
-    Waits(Option<Slot>),
+    Waits(Option<LocalSlot>),
     /// It waits for the number of the timeout block that it enters: whether that is silent, and its body.
     Enters(bool, usize),
     /// It has ended.

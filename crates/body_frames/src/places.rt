@@ -27,7 +27,7 @@ use crate::stack::{
 };
 use crate::unwind::Unwound;
 use body_blocks::Blocks;
-use body_names::{Locals, Slot};
+use body_names::{LocalSlot, Locals};
 use body_values::{Code, Look};
 use gv_values::{Outcome, Value};
 use machine::request::Request;
@@ -42,7 +42,7 @@ pub struct Parked {
     blocks: Rc<Blocks>,
     locals: Locals,
     todo: Pile<Entry>,
-    gives: Option<Slot>,
+    gives: Option<LocalSlot>,
 }
 
 impl Model for Parked {

@@ -21,7 +21,7 @@ use crate::pile::Pile;
 use crate::quick::Quick;
 use crate::unwind::{Unwound, begins, bind_if, unwind};
 use body_blocks::Blocks;
-use body_names::{Locals, Slot};
+use body_names::{LocalSlot, Locals};
 use body_values::{Code, Start};
 use gv_values::{Outcome, Value};
 use machine::request::Request;
@@ -42,7 +42,7 @@ pub struct Stack {
 #[derive(Drop)]
 pub enum Made {
     /// The body asks its hub, and the local takes the answer.
-    Asks(Request, Option<Slot>),
+    Asks(Request, Option<LocalSlot>),
     /// The body asks its hub for what is answered at once.
     Quick(Quick),
     /// The body enters a timeout block: its time if it has one, whether it is silent, and its body.
@@ -105,7 +105,7 @@ fn begin_block(
 pub fn go_on_with(
     blocks: &Blocks,
     stack: &mut Stack,
-    gives: Option<Slot>,
+    gives: Option<LocalSlot>,
     answer: Outcome,
 ) -> Result<Unwound, AllocError>
     requires told { stack.old.left ≡ [] }
@@ -202,7 +202,7 @@ pub fn outcome_of_leaving(how: Leaving) -> Outcome
 /// Binds the answer to the local that takes it, and tells how the body goes on by it.
 fn take_answer(
     blocks: &Blocks,
-    gives: Option<Slot>,
+    gives: Option<LocalSlot>,
     answer: Outcome,
     locals: &mut Locals,
 ) -> Result<Leaving, AllocError>

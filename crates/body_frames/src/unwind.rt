@@ -13,7 +13,7 @@ ghost use Rattle.body_frames.specs.Unwinding.{unwound_of, caught_of, stepped_of,
 use crate::entry::Entry;
 use crate::pile::Pile;
 use body_blocks::{Blocks, FlatExcept, Handlers};
-use body_names::{Locals, Slot};
+use body_names::{LocalSlot, Locals};
 use gv_values::{FaultKind, Value};
 use machine::state::Leaving;
 use scenario_tree::{Boxed, Items};
@@ -53,7 +53,7 @@ fn past_timeout(n: u32, silent: bool, how: Leaving) -> Leaving
 pub fn bind_if(
     blocks: &Blocks,
     locals: &mut Locals,
-    local: Option<Slot>,
+    local: Option<LocalSlot>,
     value: Value,
 ) -> Result<(), AllocError>
     ensures { OnOk result (locals_of blocks.now.names locals.new ≡ bind_if (name_if blocks.now local) value (locals_of blocks.now.names locals.old)) }

@@ -9,7 +9,7 @@ use Rattle.machine.specs.Expressions.{bind, meaning, Around}
 use Rattle.machine.specs.BodyMoves.{Did, tested, asked, giving_request}
 use Rattle.machine.specs.Unwinding.{Unwound, unwind}
 use Rattle.machine.specs.Bodies.{Body, Step, Stepped, after_move}
-use Rattle.body_names.specs.declared.expression.Slot.{Slot}
+use Rattle.body_names.specs.declared.expression.LocalSlot.{LocalSlot}
 use Rattle.body_names.specs.declared.locals.Bound.{Bound}
 use Rattle.body_names.specs.Locals.{locals_of}
 use Rattle.body_names.specs.Naming.{name_of}
@@ -17,7 +17,7 @@ use Rattle.body_moves.specs.declared.chosen.Chosen.{Chosen}
 use Rattle.machine.specs.State.{Name}
 
 -- the name of a local that may be missing
-abbrev pub name_if : List Name → Option Slot → Option Name
+abbrev pub name_if : List Name → Option LocalSlot → Option Name
 name_if names x = option_map (λ slot. name_of names slot.number) x
 
 -- with this to do after the statement, and these moves left, where these are the names

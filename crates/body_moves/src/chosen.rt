@@ -12,7 +12,7 @@ ghost use Rattle.body_values.specs.Few.{HasFewArguments};
 ghost use Rattle.body_moves.specs.Chosen.{DoesAs, giving_move, name_if};
 
 use crate::evaluation::Evaluation;
-use body_names::{FlatCommand, FlatExpression, FlatGiving, Slot};
+use body_names::{FlatCommand, FlatExpression, FlatGiving, LocalSlot};
 use body_values::Look;
 use gv_values::{FaultKind, LinkKind, Outcome, Value};
 use machine::request::Request;
@@ -24,11 +24,11 @@ use std::alloc::AllocError;
 #[derive(Drop)]
 pub enum Chosen {
     /// It asks the hub, and the local takes the answer.
-    Asks(Request, Option<Slot>),
+    Asks(Request, Option<LocalSlot>),
     /// It goes on in the body.
     Goes(Leaving),
     /// The local takes the value.
-    Binds(Slot, Value),
+    Binds(LocalSlot, Value),
 }
 
 /// The wait of a statement that may have a time of `within`.
@@ -229,7 +229,7 @@ fn set_parent<L: Look>(
 /// (`choose_command`).
 pub fn choose_giving<L: Look>(
     evaluation: &Evaluation<'_, L>,
-    name: Option<Slot>,
+    name: Option<LocalSlot>,
     giving: &FlatGiving,
 ) -> Result<Chosen, AllocError>
     requires { HasFewArguments (giving_of evaluation.now.blocks.now.names giving.now) }
@@ -352,7 +352,7 @@ pub fn choose_giving<L: Look>(
 /// A raw: its function, and the parent that may stand after `under`.
 fn raw<L: Look>(
     evaluation: &Evaluation<'_, L>,
-    name: Option<Slot>,
+    name: Option<LocalSlot>,
     function: u32,
     parent: &Option<FlatExpression>,
 ) -> Result<Chosen, AllocError>
@@ -365,7 +365,7 @@ fn raw<L: Look>(
 /// A switch: the greenlet, and the value that it takes.
 fn switch<L: Look>(
     evaluation: &Evaluation<'_, L>,
-    name: Option<Slot>,
+    name: Option<LocalSlot>,
     greenlet: &FlatExpression,
     value: &FlatExpression,
 ) -> Result<Chosen, AllocError>
@@ -379,7 +379,7 @@ fn switch<L: Look>(
 /// A throw: the greenlet, and the fault that may stand after `with`.
 fn throw<L: Look>(
     evaluation: &Evaluation<'_, L>,
-    name: Option<Slot>,
+    name: Option<LocalSlot>,
     greenlet: &FlatExpression,
     fault: &Option<FlatExpression>,
 ) -> Result<Chosen, AllocError>

@@ -13,7 +13,7 @@ use Rattle.body_names.specs.declared.expression.FlatExpression.TheBlock.{lays-Fl
 use Rattle.body_names.specs.declared.expression.FlatExpression.TheFolds.{family, steps}
 use Rattle.body_names.specs.declared.expression.FlatExpression.TheOpen.{FlatExpression-F}
 use Rattle.body_names.specs.declared.expression.FlatExpression.TheVariants as F
-use Rattle.body_names.specs.declared.expression.Slot.{Slot}
+use Rattle.body_names.specs.declared.expression.LocalSlot.{LocalSlot}
 use Rattle.body_names.specs.Expressions.{expression_of, expression_step}
 use Rattle.body_names.specs.Naming.{Grows, name_of}
 
@@ -37,7 +37,7 @@ bool_stands names b = one_level names (F.Bool b) (FlatExpression-F.Bool b) (F.ou
 pub int_stands : (names : List Name) (z : ℤ) → expression_of names (F.Int z) ≡ E.Int z
 int_stands names z = one_level names (F.Int z) (FlatExpression-F.Int z) (F.outs-Int z)
 
-pub local_stands : (names : List Name) (slot : Slot) → expression_of names (F.Local slot) ≡ E.Local (name_of names slot.number)
+pub local_stands : (names : List Name) (slot : LocalSlot) → expression_of names (F.Local slot) ≡ E.Local (name_of names slot.number)
 local_stands names slot = one_level names (F.Local slot) (FlatExpression-F.Local slot) (F.outs-Local slot)
 
 pub current_stands : (names : List Name) → expression_of names F.Current ≡ E.Current

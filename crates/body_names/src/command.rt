@@ -4,7 +4,7 @@ ghost use Rattle.gv_values.specs.declared.name.Name.{Name as Word};
 ghost use Rattle.body_names.specs.Naming.{Grows, IsKept};
 ghost use Rattle.body_names.specs.Statements.{command_of};
 
-use crate::expression::{FlatExpression, Slot, flat_expression};
+use crate::expression::{FlatExpression, LocalSlot, flat_expression};
 use crate::naming::Naming;
 use crate::operands::{expression_expression, expression_optional, name_expression, name_optional};
 use scenario_tree::{Command, Wait};
@@ -14,7 +14,7 @@ use std::alloc::{AllocError, Global};
 #[derive(Drop)]
 pub enum FlatCommand {
     Print(FlatExpression),
-    Let(Slot, FlatExpression),
+    Let(LocalSlot, FlatExpression),
     Return(FlatExpression),
     Raise(FlatExpression),
     Start(FlatExpression),

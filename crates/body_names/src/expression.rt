@@ -11,7 +11,7 @@ use std::alloc::{AllocError, Global};
 
 /// A local: the number of its name, and the place where it mostly stands among the locals of its body.
 #[derive(Clone, Copy, Debug, PartialEq, Eq)]
-pub struct Slot {
+pub struct LocalSlot {
     pub number: u32,
     pub place: usize,
 }
@@ -22,7 +22,7 @@ pub enum FlatExpression {
     Nothing,
     Bool(bool),
     Int(i64),
-    Local(Slot),
+    Local(LocalSlot),
     /// `self`, the current greenlet.
     Current,
     Fault(FaultKind),

@@ -24,7 +24,7 @@ mod operands;
 
 pub use bindings::enter_function;
 pub use command::{FlatCommand, flat_command};
-pub use expression::{FlatExpression, Slot, flat_expression};
+pub use expression::{FlatExpression, LocalSlot, flat_expression};
 pub use giving::{FlatGiving, flat_giving};
 pub use locals::{Bound, Locals};
 pub use naming::Naming;

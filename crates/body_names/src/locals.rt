@@ -4,7 +4,7 @@ ghost use Rattle.std.specs.Option.{option_copied};
 ghost use Rattle.gv_values.specs.declared.value.Value.TheVariants as value;
 ghost use Rattle.body_names.specs.Locals.{AreOnce, IsPlaceOf, StandsAt, bind, value_of};
 
-use crate::expression::Slot;
+use crate::expression::LocalSlot;
 use gv_values::Value;
 use std::alloc::{AllocError, Global};
 use std::marker::Model;
@@ -50,7 +50,7 @@ impl Locals {
 
     /// The value of the local, where it has one.
     #[inline(always)]
-    pub fn get(&self, slot: Slot) -> Option<&Value>
+    pub fn get(&self, slot: LocalSlot) -> Option<&Value>
         ensures { unwrap_or (option_copied result) value.Nothing ≡ value_of slot.number self.now }
     {
         get_in(self.all.as_slice(), self.is_once, slot)
@@ -59,7 +59,7 @@ impl Locals {
     /// The value of the local, where it stands at the place of its slot. A caller that goes on at once with it is shorter
     /// than one that goes on with what `get` found either way.
     #[inline(always)]
-    pub fn there(&self, slot: Slot) -> Option<&Value>
+    pub fn there(&self, slot: LocalSlot) -> Option<&Value>
         ensures { IfSome (option_copied result) (λ v. v ≡ value_of slot.number self.now) }
     {
         value_there(self.all.as_slice(), self.is_once, slot)
@@ -78,7 +78,7 @@ impl Locals {
     /// The local takes the value. `AllocError`: memory is wanting.
     #[inline(always)]
     #[tactic(auto, using(crate::proofs::Places::once_bound))]
-    pub fn bind(&mut self, slot: Slot, value: Value) -> Result<(), AllocError>
+    pub fn bind(&mut self, slot: LocalSlot, value: Value) -> Result<(), AllocError>
         ensures { OnOk result (self.new ≡ bind slot.number value self.old) }
     {
         bind_in(&mut self.all, self.is_once, slot, value)?;
@@ -88,7 +88,7 @@ impl Locals {
 
 /// The value of the local, where it has one: at the place of its slot, where it stands there.
 #[inline(always)]
-fn get_in(all: &[Bound], is_once: bool, slot: Slot) -> Option<&Value>
+fn get_in(all: &[Bound], is_once: bool, slot: LocalSlot) -> Option<&Value>
     requires { is_once ≡ true → AreOnce all.now }
     ensures { unwrap_or (option_copied result) value.Nothing ≡ value_of slot.number all.now }
 {
@@ -100,7 +100,7 @@ fn get_in(all: &[Bound], is_once: bool, slot: Slot) -> Option<&Value>
 
 /// The value of the local, where it stands at the place of its slot.
 #[inline(always)]
-fn value_there(all: &[Bound], is_once: bool, slot: Slot) -> Option<&Value>
+fn value_there(all: &[Bound], is_once: bool, slot: LocalSlot) -> Option<&Value>
     requires { is_once ≡ true → AreOnce all.now }
     ensures { IfSome (option_copied result) (λ v. v ≡ value_of slot.number all.now) }
 {
@@ -116,7 +116,12 @@ fn value_there(all: &[Bound], is_once: bool, slot: Slot) -> Option<&Value>
 
 /// The local takes the value. Where it has one already, that alone is written.
 #[inline(always)]
-fn bind_in(all: &mut Vec<Bound>, is_once: bool, slot: Slot, value: Value) -> Result<(), AllocError>
+fn bind_in(
+    all: &mut Vec<Bound>,
+    is_once: bool,
+    slot: LocalSlot,
+    value: Value,
+) -> Result<(), AllocError>
     requires { is_once ≡ true → AreOnce all.old.items }
     ensures ok { OnOk result (all.new.items ≡ bind slot.number value all.old.items) }
     ensures err { OnErr result (all.new.items ≡ all.old.items) }
@@ -144,7 +149,7 @@ fn bind_searched(all: &mut Vec<Bound>, number: u32, value: Value) -> Result<(), 
 /// Whether the local stands at the place of its slot.
 #[inline(always)]
 #[tactic(auto, using(crate::proofs::Places::stands_place))]
-fn is_there(all: &[Bound], is_once: bool, slot: Slot) -> bool
+fn is_there(all: &[Bound], is_once: bool, slot: LocalSlot) -> bool
     requires { is_once ≡ true → AreOnce all.now }
     ensures place { IsTrue result → IsPlaceOf slot.number all.now (Some slot.place) }
     ensures within { IsTrue result → slot.place < length all.now }

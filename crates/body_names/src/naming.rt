@@ -3,7 +3,7 @@ ghost use Rattle.std.specs.Prelude.{◌≡◌, ◌++◌, List, IfOk};
 ghost use Rattle.gv_values.specs.declared.name.Name.{Name as Word};
 ghost use Rattle.body_names.specs.Naming.{Grows, IsKept, name_of};
 
-use crate::expression::Slot;
+use crate::expression::LocalSlot;
 use gv_values::Name;
 use name_table::Names;
 use scenario_tree::Items;
@@ -52,7 +52,7 @@ impl Naming {
     }
 
     /// The slot of a local of the function under way: its number, and the place where it mostly stands.
-    pub fn slot(&mut self, alloc: Global, name: &Name) -> Result<Slot, AllocError>
+    pub fn slot(&mut self, alloc: Global, name: &Name) -> Result<LocalSlot, AllocError>
         requires kept { IsKept self.old.numbers self.old.names }
         ensures kept { IfOk result (λ _. IsKept self.new.numbers self.new.names) }
         ensures grows { IfOk result (λ _. Grows self.old.names self.new.names) }
@@ -60,7 +60,7 @@ impl Naming {
     {
         let number = self.number(alloc, name)?;
         let place = place_among(self.bound.as_slice(), number);
-        Ok(Slot { number, place })
+        Ok(LocalSlot { number, place })
     }
 
     /// The function under way binds the name.

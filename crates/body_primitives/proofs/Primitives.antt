@@ -12,7 +12,7 @@ use Rattle.machine.specs.Bodies.{around}
 use Rattle.machine.specs.Expressions.{Around, Look, and_then, binary, meaning, or_else, unary, with_value}
 use Rattle.body_names.specs.declared.expression.FlatExpression.{FlatExpression}
 use Rattle.body_names.specs.declared.expression.FlatExpression.TheVariants as F
-use Rattle.body_names.specs.declared.expression.Slot.{Slot}
+use Rattle.body_names.specs.declared.expression.LocalSlot.{LocalSlot}
 use Rattle.body_names.specs.declared.locals.Bound.{Bound}
 use Rattle.body_names.specs.Expressions.{expression_of}
 use Rattle.body_names.specs.Locals.{locals_of, value_of}
@@ -54,13 +54,13 @@ bool_meant names b a = form_means names (F.Bool b) _ a _ (bool_stands names b) (
 pub int_meant : (names : List Name) (z : ℤ) (a : Around) → meaning (expression_of names (F.Int z)) a ≡ Outcome.Value (Value.Int z)
 int_meant names z a = form_means names (F.Int z) _ a _ (int_stands names z) (int_means z a)
 
-local_meant : (names : List Name) (slot : Slot) (locals : List Bound) (s : Scenario) (look : Look) → IsNaming names →
+local_meant : (names : List Name) (slot : LocalSlot) (locals : List Bound) (s : Scenario) (look : Look) → IsNaming names →
     meaning (expression_of names (F.Local slot)) (around s look (locals_of names locals)) ≡ Outcome.Value (value_of slot.number locals)
 local_meant names slot locals s look is =
     form_means names (F.Local slot) _ (around s look (locals_of names locals)) _ (local_stands names slot) (local_means _ (around s look (locals_of names locals)))
     ∙ ap Outcome.Value (value_by_name names slot.number locals is)
 
-pub as_local : (r : Primitive) (slot : Slot) (locals : List Bound) → Agrees r (Outcome.Value (value_of slot.number locals)) → MeansAs r (F.Local slot) locals
+pub as_local : (r : Primitive) (slot : LocalSlot) (locals : List Bound) → Agrees r (Outcome.Value (value_of slot.number locals)) → MeansAs r (F.Local slot) locals
 as_local r slot locals h = λ names is s look. subst (Agrees r) (sym (local_meant names slot locals s look is)) h
 
 pub as_one : (r p : Primitive) (op : Unary) (e : FlatExpression) (locals : List Bound) → MeansAs p e locals →
@@ -105,17 +105,17 @@ int_has e locals z m is same = λ names naming s look.
     ap (λ (x : ℤ). Outcome.Value (Value.Int x)) same ∙ sym (int_meant names z a) ∙ ap (λ (x : FlatExpression). meaning (expression_of names x) a) (sym is)
 
 -- the local has this integer
-local_has : (slot : Slot) (locals : List Bound) (z : ℤ) → Value.Int z ≡ value_of slot.number locals → Means (F.Local slot) locals (Value.Int z)
+local_has : (slot : LocalSlot) (locals : List Bound) (z : ℤ) → Value.Int z ≡ value_of slot.number locals → Means (F.Local slot) locals (Value.Int z)
 local_has slot locals z h = λ names naming s look. ap Outcome.Value h ∙ sym (local_meant names slot locals s look naming)
 
 -- what was told of the local
-pub integer_has : (e : FlatExpression) (slot : Slot) (locals : List Bound) (r : Option ℤ) → e ≡ F.Local slot → IfSome r (λ z. Value.Int z ≡ value_of slot.number locals) →
+pub integer_has : (e : FlatExpression) (slot : LocalSlot) (locals : List Bound) (r : Option ℤ) → e ≡ F.Local slot → IfSome r (λ z. Value.Int z ≡ value_of slot.number locals) →
     IfSome r (λ z. Means e locals (Value.Int z))
 integer_has e slot locals (Some z) is h = subst (λ (x : FlatExpression). Means x locals (Value.Int z)) (sym is) (local_has slot locals z h)
 integer_has e slot locals None is h = tt
 
 -- so it is with the value that was found
-pub value_has : (e : FlatExpression) (slot : Slot) (locals : List Bound) (v : Value) (r : Option ℤ) → e ≡ F.Local slot → v ≡ value_of slot.number locals → IfSome r (λ z. Value.Int z ≡ v) →
+pub value_has : (e : FlatExpression) (slot : LocalSlot) (locals : List Bound) (v : Value) (r : Option ℤ) → e ≡ F.Local slot → v ≡ value_of slot.number locals → IfSome r (λ z. Value.Int z ≡ v) →
     IfSome r (λ z. Means e locals (Value.Int z))
 value_has e slot locals v (Some z) is same h = integer_has e slot locals (Some z) is (h ∙ same)
 value_has e slot locals v None is same h = tt

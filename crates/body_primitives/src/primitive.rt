@@ -7,7 +7,7 @@ ghost use Rattle.machine.specs.Expressions.{Look as Answers, and_then, binary, o
 ghost use Rattle.body_names.specs.Locals.{value_of};
 ghost use Rattle.body_primitives.specs.Primitives.{Agrees, IsBound, Means, MeansAs};
 
-use body_names::{FlatExpression, Locals, Slot};
+use body_names::{FlatExpression, LocalSlot, Locals};
 use gv_values::{Arith, Value, arithmetic};
 use scenario_tree::{Binary, Boxed, Unary};
 use std::alloc::AllocError;
@@ -24,7 +24,7 @@ pub enum Primitive {
 /// The local takes the value of the expression, where that is an integer or a truth value of such operands; else the
 /// locals stay as they are. `AllocError`: memory is wanting.
 pub fn bind_primitive(
-    slot: Slot,
+    slot: LocalSlot,
     expression: &FlatExpression,
     locals: &mut Locals,
 ) -> Result<bool, AllocError>
@@ -51,7 +51,7 @@ pub fn primitive_truth(locals: &Locals, expression: &FlatExpression) -> Option<b
 /// Binds what the expression gives, whatever its form.
 #[inline(never)]
 fn bind_evaluated(
-    slot: Slot,
+    slot: LocalSlot,
     expression: &FlatExpression,
     locals: &mut Locals,
 ) -> Result<bool, AllocError>
@@ -147,7 +147,7 @@ fn plain(locals: &Locals, expression: &FlatExpression) -> Option<i64>
 
 /// The integer that the local has, wherever it stands. It stays a call, so that its callers are short.
 #[inline(never)]
-fn integer_searched(locals: &Locals, slot: Slot) -> Option<i64>
+fn integer_searched(locals: &Locals, slot: LocalSlot) -> Option<i64>
     ensures { IfSome result (λ n. value.Int n ≡ value_of slot.number locals.now) }
 {
     match locals.get(slot) {
@@ -233,7 +233,7 @@ fn evaluate(locals: &Locals, expression: &FlatExpression) -> Primitive
     }
 }
 
-fn of_local(slot: Slot, locals: &Locals) -> Primitive
+fn of_local(slot: LocalSlot, locals: &Locals) -> Primitive
     ensures { Agrees result (Outcomes.Value (value_of slot.number locals.now)) }
 {
     match locals.get(slot) {

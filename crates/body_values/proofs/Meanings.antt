@@ -14,7 +14,7 @@ use Rattle.scenario_tree.specs.declared.tree.Expression.TheFolds.{family, steps}
 use Rattle.scenario_tree.specs.declared.tree.Expression.TheOpen.{Expression-F}
 use Rattle.body_names.specs.declared.expression.FlatExpression.{FlatExpression}
 use Rattle.body_names.specs.declared.expression.FlatExpression.TheVariants as F
-use Rattle.body_names.specs.declared.expression.Slot.{Slot}
+use Rattle.body_names.specs.declared.expression.LocalSlot.{LocalSlot}
 use Rattle.body_names.specs.Expressions.{expression_of}
 use Rattle.body_names.specs.Naming.{name_of}
 use Rattle.body_names.proofs.Expressions.{and_stands, binary_stands, bool_stands, current_stands, fault_stands, int_stands, list_stands, local_stands, nothing_stands, or_stands, query_stands, unary_stands}
@@ -99,7 +99,7 @@ flat_bool names b a = means_as (expression_of names (F.Bool b)) (E.Bool b) a (Ou
 pub flat_int : (names : List Name) (z : ℤ) (a : Around) → Outcome.Value (Value.Int z) ≡ meaning (expression_of names (F.Int z)) a
 flat_int names z a = means_as (expression_of names (F.Int z)) (E.Int z) a (Outcome.Value (Value.Int z)) (int_stands names z) (int_means z a)
 
-pub flat_local : (names : List Name) (slot : Slot) (a : Around) (v : Value) → v ≡ value_of_local (name_of names slot.number) a.locals →
+pub flat_local : (names : List Name) (slot : LocalSlot) (a : Around) (v : Value) → v ≡ value_of_local (name_of names slot.number) a.locals →
     Outcome.Value v ≡ meaning (expression_of names (F.Local slot)) a
 flat_local names slot a v h =
     ap Outcome.Value h
@@ -145,7 +145,7 @@ pub flat_either : (names : List Name) (e d : FlatExpression) (a : Around) (x : O
 flat_either names e d a x h = either_means (expression_of names e) (expression_of names d) a x h ∙ ap (λ (z : Expression). meaning z a) (sym (or_stands names e d))
 
 -- a local that is read where it stands
-pub local_found : (names : List Name) (slot : Slot) (locals : List Local) (o : Option Value) (e : FlatExpression) → e ≡ F.Local slot →
+pub local_found : (names : List Name) (slot : LocalSlot) (locals : List Local) (o : Option Value) (e : FlatExpression) → e ≡ F.Local slot →
     unwrap_or o Value.Nothing ≡ value_of_local (name_of names slot.number) locals →
     IfSome o (λ v. (s : Scenario) (look : Look) → Outcome.Value v ≡ meaning (expression_of names e) (around s look locals))
 local_found names slot locals None e same h = tt

@@ -13,7 +13,7 @@ ghost use Rattle.body_values.specs.Parameters.{given};
 
 use crate::front::pop_first;
 use body_blocks::Blocks;
-use body_names::{FlatExpression, Locals, Slot};
+use body_names::{FlatExpression, LocalSlot, Locals};
 use gv_values::Value;
 use scenario_tree::Items;
 use std::alloc::{AllocError, Global};
@@ -27,7 +27,7 @@ pub struct Scope<'a> {
 
 /// The value of the local, where it has one.
 #[inline(always)]
-pub fn find_local<'a>(scope: Scope<'a>, slot: Slot) -> Option<&'a Value>
+pub fn find_local<'a>(scope: Scope<'a>, slot: LocalSlot) -> Option<&'a Value>
     ensures { unwrap_or (option_copied result) value.Nothing
         ≡ value_of_local (name_of scope.entry.blocks.now.names slot.number) (locals_of scope.entry.blocks.now.names scope.entry.locals.now) }
 {
@@ -36,7 +36,7 @@ pub fn find_local<'a>(scope: Scope<'a>, slot: Slot) -> Option<&'a Value>
 }
 
 /// The value of the local, and none where it has none yet.
-pub fn value_of_local(alloc: Global, scope: Scope<'_>, slot: Slot) -> Result<Value, AllocError>
+pub fn value_of_local(alloc: Global, scope: Scope<'_>, slot: LocalSlot) -> Result<Value, AllocError>
     ensures { IfOk result (λ value.
         value ≡ value_of_local (name_of scope.entry.blocks.now.names slot.number) (locals_of scope.entry.blocks.now.names scope.entry.locals.now)) }
 {

@@ -17,7 +17,7 @@ use crate::shelf::Shelf;
 use crate::tallies::Tallies;
 use crate::waits::waits_key;
 use machine::items::{Delivery, Item};
-use machine::ready::Ready;
+use machine::ready::ReadyNumber;
 use std::alloc::{AllocError, Global};
 use std::marker::Model;
 
@@ -114,7 +114,7 @@ impl HeldItems {
         self.shelf.push(Item {
             since: self.next_since,
             delivery,
-            ready: Ready::none(),
+            ready: ReadyNumber::none(),
         });
         self.next_since += 1;
         Ok(slot)

@@ -6,17 +6,17 @@ ghost use Rattle.held_items.specs.declared.limits.TheConstants.{NO_SINCE};
 
 use crate::limits::NO_SINCE;
 use machine::items::{Delivery, Item};
-use machine::ready::Ready;
+use machine::ready::ReadyNumber;
 use std::marker::Model;
 
 /// An item or none, in the room of an item. A contract sees it as an `Option`.
 #[derive(Drop)]
-pub struct Slot {
+pub struct ShelfSlot {
     // Where there is none, one that was made at a place that no item has.
     item: Item,
 }
 
-impl Model for Slot {
+impl Model for ShelfSlot {
     ghost use Rattle.std.specs.Prelude.{Option, None, Some, nat_eq, if◌then◌else◌};
     ghost use Rattle.scenario_tree.specs.Trees.{trees};
     ghost use Rattle.machine.specs.declared.items.Item.{Item as AnyItem};
@@ -29,26 +29,26 @@ impl Model for Slot {
     ghost view = { λ s. if nat_eq s.item.since NO_SINCE then None else Some s.item };
 }
 
-impl Slot {
+impl ShelfSlot {
     /// No item.
-    pub fn vacant() -> Slot
+    pub fn vacant() -> ShelfSlot
         ensures { result ≡ None }
     {
-        Slot {
+        ShelfSlot {
             item: Item {
                 since: NO_SINCE,
                 delivery: Delivery::Start(0, None),
-                ready: Ready::none(),
+                ready: ReadyNumber::none(),
             },
         }
     }
 
     /// This item.
-    pub fn of(item: Item) -> Slot
+    pub fn of(item: Item) -> ShelfSlot
         requires { item.since < NO_SINCE }
         ensures { result ≡ Some item }
     {
-        Slot { item }
+        ShelfSlot { item }
     }
 
     /// The item, if there is one.
@@ -70,7 +70,7 @@ impl Slot {
     }
 
     /// Gives the item this ready number, or none.
-    pub fn set_ready(&mut self, ready: Ready)
+    pub fn set_ready(&mut self, ready: ReadyNumber)
         ensures { (i : AnyItem) → self.old ≡ Some i → self.new ≡ Some (record i { ready = ready }) }
     {
         self.item.ready = ready;

@@ -11,7 +11,7 @@ use crate::held::HeldItems;
 use crate::waits::{in_line, waits_key};
 use hub_items::WaitKind;
 use machine::items::{Delivery, Item};
-use machine::ready::Ready;
+use machine::ready::ReadyNumber;
 use std::alloc::{AllocError, Global};
 
 /// How many wait for one thing.
@@ -35,7 +35,7 @@ pub struct Tallies {
 }
 
 /// 1 for a number.
-fn one_if(number: &Ready) -> u64
+fn one_if(number: &ReadyNumber) -> u64
     ensures { result ≡ one_if number.now }
 {
     match number.place() {

@@ -1,4 +1,4 @@
-use crate::ready::Ready;
+use crate::ready::ReadyNumber;
 use gv_values::{FaultKind, Job, LinkKind, Scalar, Value, Whom};
 use scenario_tree::{Boxed, Items};
 
@@ -75,5 +75,5 @@ pub struct Item {
     pub since: u64,
     pub delivery: Delivery,
     /// Its place in order of delivery, where its condition holds.
-    pub ready: Ready,
+    pub ready: ReadyNumber,
 }

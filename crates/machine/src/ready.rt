@@ -4,12 +4,12 @@ use std::marker::Model;
 
 /// A place in order of delivery, if there is one. It takes no more room than the number itself.
 #[derive(Drop)]
-pub struct Ready {
+pub struct ReadyNumber {
     /// The place and one; 0 if there is none.
     after: u64,
 }
 
-impl Model for Ready {
+impl Model for ReadyNumber {
     ghost use Rattle.std.specs.Prelude.{ℕ, ◌-◌, if◌then◌else◌, Option, None, Some, nat_eq};
     ghost use Rattle.std.specs.Coded.{coded_option, coded_ℕ};
 
@@ -20,20 +20,20 @@ impl Model for Ready {
     ghost view = { λ r. if nat_eq r.after 0 then None else Some (r.after - 1) };
 }
 
-impl Ready {
+impl ReadyNumber {
     /// No place.
-    pub fn none() -> Ready
+    pub fn none() -> ReadyNumber
         ensures { result ≡ None }
     {
-        Ready { after: 0 }
+        ReadyNumber { after: 0 }
     }
 
     /// This place.
-    pub fn at(place: u64) -> Ready
+    pub fn at(place: u64) -> ReadyNumber
         requires { place < 2 ^ 63 }
         ensures { result ≡ Some place }
     {
-        Ready { after: place + 1 }
+        ReadyNumber { after: place + 1 }
     }
 
     /// The place, if there is one.
