@@ -247,5 +247,5 @@ impl Code {
 fn is_same(a: &Name, b: &Name) -> bool
     ensures { IsTrue result → a.now ≡ b.now }
 {
-    *a == *b
+    a.bytes() == b.bytes()
 }
