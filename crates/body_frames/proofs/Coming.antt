@@ -1,8 +1,6 @@
 -- What comes of one move, of an answer, and of the entering of a timeout block.
-use Rattle.std.proofs.Common.{◌≡◌, refl, ap, subst, sym, ◌∙◌, ℕ, Bool, true, not, List, [], ◌∷◌, Option, Some, None, is_some}
-use Rattle.std.proofs.lemmas.Bool.{true≢false}
+use Rattle.std.proofs.Common.{◌≡◌, refl, ap, subst, sym, ◌∙◌, ℕ, Bool, List, [], ◌∷◌, Option, None}
 use Rattle.gv_values.specs.declared.value.Outcome.{Outcome}
-use Rattle.gv_values.specs.declared.value.Value.{Value}
 use Rattle.machine.specs.declared.state.Frame.{Frame}
 use Rattle.machine.specs.declared.state.Leaving.{Leaving}
 use Rattle.machine.specs.declared.state.Local.{Local}
@@ -12,7 +10,7 @@ use Rattle.machine.specs.BodyMoves.{Did, body_move}
 use Rattle.machine.specs.Ends.{leaving_of}
 use Rattle.machine.specs.Expressions.{Around}
 use Rattle.machine.specs.Landing.{given}
-use Rattle.machine.specs.Unwinding.{Unwound, bind_if, unwind}
+use Rattle.machine.specs.Unwinding.{Unwound, unwind}
 use Rattle.body_names.specs.declared.locals.Bound.{Bound}
 use Rattle.body_names.specs.Locals.{locals_of}
 use Rattle.body_names.specs.declared.expression.LocalSlot.{LocalSlot}
@@ -21,10 +19,10 @@ use Rattle.body_frames.specs.declared.entry.Entry.{Entry}
 use Rattle.body_frames.specs.declared.stack.Made.{Made}
 use Rattle.body_frames.specs.declared.stack.Stack.{Stack}
 use Rattle.body_frames.specs.declared.unwind.Unwound.{Unwound as Left}
-use Rattle.body_frames.specs.Places.{Came, Entered, Place, came_by, place_of}
+use Rattle.body_frames.specs.Places.{Came, Entered, came_by, place_of}
 use Rattle.body_frames.specs.Entries.{todo_of}
-use Rattle.body_frames.specs.PrimitiveMoves.{RunsAt}
-use Rattle.body_frames.specs.Standings.{came_of_made, goes_from, made_of, stands}
+use Rattle.body_frames.specs.Few.{HasFewToDo}
+use Rattle.body_frames.specs.Standings.{came_of_made, frame_of, goes_from, made_of, stands}
 
 -- what comes of a step, after which the body stands so
 came_from : Step → Body → Came
@@ -42,7 +40,6 @@ by_move locals (Did.Asks request x todo) = refl
 by_made : (t : Coded) (made : Made) (s : Stack) → came_from (made_of t 0 stands made s).step (made_of t 0 stands made s).body ≡ came_of_made t made s
 unfolding came_from
 by_made t (Made.Asks request x) s = refl
-by_made t (Made.Quick q) s = refl
 by_made t (Made.Enters ms silent b) s = refl
 by_made t (Made.Further at) s = refl
 
@@ -51,13 +48,19 @@ pub comes_of_move : (t : Coded) (locals : List Local) (did : Did) (made : Made) 
 comes_of_move t locals did made s e =
     sym (by_made t made s) ∙ ap (λ (x : Stepped). came_from x.step x.body) (sym (e 0 stands)) ∙ by_move locals did
 
--- the same, of a body by its pile, where these are the blocks that it shares
-pub comes_as : (t u : Coded) (f : Frame) (locals : List Bound) (todo : List Entry) (a : List Local → Around) (made came : Made) (s : Stack) → u ≡ t →
-    record { locals = locals_of t.names locals; todo = todo_of t todo; gives = None } ≡ f → made ≡ came →
+-- what comes of a move by which the body goes on so by itself
+pub comes_where : (locals : List Local) (did : Did) (u : Unwound) → ((moves : ℕ) (go : Unwound → Stepped) → after_move moves locals go did ≡ go u) →
+    Came.Comes (place_of u) ≡ came_by locals did
+unfolding came_from
+comes_where locals did u e = ap (λ (x : Stepped). came_from x.step x.body) (sym (e 0 stands)) ∙ by_move locals did
+
+-- what comes of the move of a body by its pile, where these are the blocks that it shares
+pub comes_as : (t u : Coded) (f : Frame) (locals : List Bound) (todo : List Entry) (a : List Local → Around) (made : Made) (s : Stack) → u ≡ t →
+    record { locals = locals_of t.names locals; todo = todo_of t todo; gives = None } ≡ f →
     ((moves : ℕ) (go : Unwound → Stepped) → after_move moves (locals_of u.names locals) go (body_move (todo_of u todo) (a (locals_of u.names locals))) ≡ made_of u moves go made s) →
-    came_of_made t came s ≡ came_by f.locals (body_move f.todo (a f.locals))
-comes_as t u f locals todo a made came s shared view same e =
-    ap (λ (w : Coded). came_of_made w came s) (sym shared) ∙ ap (λ (m : Made). came_of_made u m s) (sym same)
+    came_of_made t made s ≡ came_by f.locals (body_move f.todo (a f.locals))
+comes_as t u f locals todo a made s shared view e =
+    ap (λ (w : Coded). came_of_made w made s) (sym shared)
     ∙ comes_of_move u (locals_of u.names locals) (body_move (todo_of u todo) (a (locals_of u.names locals))) made s e
     ∙ ap (λ (w : Coded). came_by (locals_of w.names locals) (body_move (todo_of w todo) (a (locals_of w.names locals)))) shared
     ∙ ap (λ (g : Frame). came_by g.locals (body_move g.todo (a g.locals))) view
@@ -72,6 +75,20 @@ answered_as t u f locals todo gives answer at s shared view goes =
     ∙ ap (λ (w : Coded). unwind (todo_of w todo) [] (leaving_of answer) (given (record { locals = locals_of w.names locals; todo = todo_of w todo; gives = name_if w gives }) answer)) shared
     ∙ ap (λ (g : Frame). unwind g.todo [] (leaving_of answer) (given g answer)) view
 
+-- a body by its pile goes on by itself
+pub goes_as : (t u : Coded) (f : Frame) (old : Stack) (at : Left) (s : Stack) → u ≡ t → frame_of t old ≡ f → old.left ≡ [] →
+    unwind (todo_of u old.todo) old.left Leaving.Normally (locals_of u.names old.locals) ≡ goes_from u at s → goes_from t at s ≡ unwind f.todo [] Leaving.Normally f.locals
+goes_as t u f old at s shared view told goes =
+    ap (λ (w : Coded). goes_from w at s) (sym shared) ∙ sym goes
+    ∙ ap (λ (left : List ℕ). unwind (todo_of u old.todo) left Leaving.Normally (locals_of u.names old.locals)) told
+    ∙ ap (λ (w : Coded). unwind (todo_of w old.todo) [] Leaving.Normally (locals_of w.names old.locals)) shared
+    ∙ ap (λ (g : Frame). unwind g.todo [] Leaving.Normally g.locals) view
+
+-- so each call of it has few arguments where it is shared
+pub few_shared : (t u : Coded) (f : Frame) (s : Stack) → u ≡ t → frame_of t s ≡ f → HasFewToDo f.todo → HasFewToDo (todo_of u s.todo)
+few_shared t u f s shared view few =
+    subst (λ (w : Coded). HasFewToDo (todo_of w s.todo)) (sym shared) (subst (λ (g : Frame). HasFewToDo g.todo) (sym view) few)
+
 -- a body by its pile enters a timeout block
 pub entered_as : (t u : Coded) (e : Entered) (silent : Bool) (b number : ℕ) (locals : List Bound) (todo : List Entry) (at : Left) (s : Stack) → u ≡ t →
     record { silent = silent; body = block_at b t; locals = locals_of t.names locals; todo = todo_of t todo } ≡ e →
@@ -81,14 +98,3 @@ entered_as t u e silent b number locals todo at s shared view goes =
     ap (λ (w : Coded). goes_from w at s) (sym shared) ∙ sym goes
     ∙ ap (λ (w : Coded). unwind (Todo.Statements (block_at b w) ∷ Todo.Within number silent ∷ todo_of w todo) [] Leaving.Normally (locals_of w.names locals)) shared
     ∙ ap (λ (x : Entered). unwind (Todo.Statements x.body ∷ Todo.Within number x.silent ∷ x.todo) [] Leaving.Normally x.locals) view
-
--- a body is at its next move where its request, whose answer nobody takes, is answered with none
-pub unheard_as : (t u : Coded) (f : Frame) (locals : List Bound) (todo : List Entry) (gives : Option LocalSlot) (left : List ℕ) (b : Bool) → u ≡ t →
-    record { locals = locals_of t.names locals; todo = todo_of t todo; gives = name_if t gives } ≡ f → left ≡ [] → is_some gives ≡ not b → b ≡ true → RunsAt (todo_of u todo) →
-    Place.AtMove left (record { locals = locals_of t.names locals; todo = todo_of t todo; gives = None }) ≡ place_of (unwind f.todo [] Leaving.Normally (bind_if f.gives Value.Nothing f.locals))
-unheard_as t u f locals todo None left b shared view none is so runs =
-    let own : RunsAt (todo_of t todo) = subst (λ (w : Coded). RunsAt (todo_of w todo)) shared runs in
-    ap (λ (ns : List ℕ). Place.AtMove ns (record { locals = locals_of t.names locals; todo = todo_of t todo; gives = None })) none
-    ∙ ap place_of (sym (own [] (locals_of t.names locals)))
-    ∙ ap (λ (g : Frame). place_of (unwind g.todo [] Leaving.Normally (bind_if g.gives Value.Nothing g.locals))) view
-unheard_as t u f locals todo (Some slot) left b shared view none is so runs = absurd (true≢false (is ∙ ap not so))

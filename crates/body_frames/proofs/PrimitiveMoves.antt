@@ -28,22 +28,28 @@ use Rattle.body_frames.specs.declared.entry.Entry.{Entry}
 use Rattle.body_frames.specs.declared.stack.Stack.{Stack}
 use Rattle.body_frames.specs.declared.unwind.Unwound.{Unwound as Left}
 use Rattle.body_frames.specs.Entries.{begins, form_of, optional_block, rest, todo_of}
+use Rattle.body_frames.specs.Few.{HasFewToDo}
 use Rattle.body_frames.specs.PrimitiveMoves.{GoesOn, HasActed, HasMade, IsPassed, RunsAt}
 use Rattle.body_frames.specs.Standings.{goes_from}
 use Rattle.body_frames.proofs.Leavings.{rest_ends, rest_runs}
-use Rattle.body_frames.proofs.Readings.{move_there}
+use Rattle.body_frames.proofs.Readings.{few_behind, few_there, move_there}
 
 -- ---- what is first to do
 
 pub passed_on : (t : Coded) (b p : ℕ) (old dropped new : List Entry) → dropped ≡ drop 1 old → new ≡ Entry.Rest b p ∷ dropped →
     IsPassed t (Entry.Rest b p ∷ drop 1 old) new
-passed_on t b p old dropped new d e = λ left locals.
-    ap (λ es. unwind (todo_of t es) left Leaving.Normally locals) (ap (λ es. Entry.Rest b p ∷ es) (sym d) ∙ sym e)
+passed_on t b p old dropped new d e =
+    let same : Entry.Rest b p ∷ drop 1 old ≡ new = ap (λ es. Entry.Rest b p ∷ es) (sym d) ∙ sym e in (
+      λ left locals. ap (λ es. unwind (todo_of t es) left Leaving.Normally locals) same,
+      λ few. subst (λ (es : List Entry). HasFewToDo (todo_of t es)) same few,
+    )
 
 pub passed_out : (t : Coded) (b p : ℕ) (old new : List Entry) → new ≡ drop 1 old → begins (rest t b p) ≡ false →
     IsPassed t (Entry.Rest b p ∷ drop 1 old) new
-passed_out t b p old new d h = λ left locals.
-    rest_ends (rest t b p) (todo_of t (drop 1 old)) left locals h ∙ ap (λ es. unwind (todo_of t es) left Leaving.Normally locals) (sym d)
+passed_out t b p old new d h = (
+  λ left locals. rest_ends (rest t b p) (todo_of t (drop 1 old)) left locals h ∙ ap (λ es. unwind (todo_of t es) left Leaving.Normally locals) (sym d),
+  λ few. subst (λ (es : List Entry). HasFewToDo (todo_of t es)) (sym d) few.1,
+)
 
 pub rest_is_move : (t : Coded) (todo : List Entry) (b p : ℕ) → todo ≡ Entry.Rest b p ∷ drop 1 todo → IsTrue (begins (rest t b p)) →
     RunsAt (todo_of t todo)
@@ -78,6 +84,7 @@ while_in t test b old new e m f l n = (
       (tested_so t test.value true old new
       (λ on. if on then (Todo.Statements (block_at b t) ∷ Todo.Again (expression_of t.names test.value) (block_at b t) ∷ todo_of t (drop 1 old.todo)) else todo_of t (drop 1 old.todo))
       (Entry.Rest b 0 ∷ Entry.Again test b ∷ drop 1 old.todo) m l (n ∙ ap (λ es. Entry.Rest b 0 ∷ es) e) (λ left locals. refl)),
+  λ few. subst (λ (es : List Entry). HasFewToDo (todo_of t es)) (sym n) ((subst (λ (es : List Entry). HasFewToDo (todo_of t es)) e few).0, few),
 )
 
 pub while_out : (t : Coded) (test : _) (b : ℕ) (old new : Stack) → old.todo ≡ Entry.Again test b ∷ drop 1 old.todo → Means test.value old.locals (Value.Bool false) →
@@ -88,6 +95,7 @@ while_out t test b old new e m f l n = (
       (tested_so t test.value false old new
       (λ on. if on then (Todo.Statements (block_at b t) ∷ Todo.Again (expression_of t.names test.value) (block_at b t) ∷ todo_of t (drop 1 old.todo)) else todo_of t (drop 1 old.todo))
       (drop 1 old.todo) m l n (λ left locals. refl)),
+  λ few. subst (λ (es : List Entry). HasFewToDo (todo_of t es)) (sym n) (subst (λ (es : List Entry). HasFewToDo (todo_of t es)) e few).1,
 )
 
 pub let_made : (t : Coded) (slot : LocalSlot) (e : FlatExpression) (v : Value) (after : List Entry) (old new : Stack) → Means e old.locals v →
@@ -100,8 +108,9 @@ let_made t slot e v after old new m f l p = (
       ap (λ (o : Outcome). after_move moves locals go (on_value o (λ w. Did.GoesOn Leaving.Normally (bind_name x w locals) (todo_of t after)) locals (todo_of t after)))
       (sym (m t.names is s look))
       ∙ ap go
-      (p [] (bind_name x v locals)
+      (p.0 [] (bind_name x v locals)
       ∙ ap (λ ls. unwind (todo_of t new.todo) [] Leaving.Normally ls) (bind_by_name t.names slot.number v old.locals is ∙ ap (λ (bs : List Bound). locals_of t.names bs) (sym l))),
+  λ parts few. p.1 few,
 )
 
 pub let_bound : (t : Coded) (slot : LocalSlot) (e : FlatExpression) (bound : Bool) (after : List Entry) (old new : Stack) → bound ≡ true →
@@ -115,6 +124,7 @@ if_so t e y n after old new m f l k = (
   f,
   tested_so t e true old new (λ b. Todo.Statements (if b then block_at y t else unwrap_or (optional_block t n) []) ∷ todo_of t after)
       (Entry.Rest y 0 ∷ after) m l k (λ left locals. refl),
+  λ parts few. subst (λ (es : List Entry). HasFewToDo (todo_of t es)) (sym k) (parts.0, few),
 )
 
 pub if_else : (t : Coded) (e : FlatExpression) (y n : ℕ) (after : List Entry) (old new : Stack) → Means e old.locals (Value.Bool false) →
@@ -124,6 +134,7 @@ if_else t e y n after old new m f l k = (
   f,
   tested_so t e false old new (λ b. Todo.Statements (if b then block_at y t else unwrap_or (optional_block t (Some n)) []) ∷ todo_of t after)
       (Entry.Rest n 0 ∷ after) m l k (λ left locals. refl),
+  λ parts few. subst (λ (es : List Entry). HasFewToDo (todo_of t es)) (sym k) (parts.1, few),
 )
 
 pub if_not : (t : Coded) (e : FlatExpression) (y : ℕ) (after : List Entry) (old new : Stack) → Means e old.locals (Value.Bool false) →
@@ -131,7 +142,8 @@ pub if_not : (t : Coded) (e : FlatExpression) (y : ℕ) (after : List Entry) (ol
 if_not t e y after old new m f l p = (
   f,
   tested_so t e false old new (λ b. Todo.Statements (if b then block_at y t else unwrap_or (optional_block t None) []) ∷ todo_of t after)
-      new.todo m l refl (λ left locals. rest_ends [] (todo_of t after) left locals refl ∙ p left locals),
+      new.todo m l refl (λ left locals. rest_ends [] (todo_of t after) left locals refl ∙ p.0 left locals),
+  λ parts few. p.1 few,
 )
 
 -- a statement that was acted on is the move at the head
@@ -148,6 +160,9 @@ statement_made true t b p s old new e here h = (
       ∙ ap (λ (did : Did). after_move moves locals go did) (move_there t b p s (todo_of t (drop 1 old.todo)) a here)
       ∙ ap (λ (q : ℕ). after_move moves locals go (action_move (form_of t s.action) a (Todo.Statements (rest t b q) ∷ todo_of t (drop 1 old.todo)))) next
       ∙ h.1 is moves go c look,
+  λ few.
+      let own = subst (λ (es : List Entry). HasFewToDo (todo_of t es)) e few in
+      h.2 (few_there t b p s here own.0) (few_behind t b p s here own.0, own.1),
 )
 
 -- the body comes from the move to where it goes on

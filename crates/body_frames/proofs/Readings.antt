@@ -1,5 +1,5 @@
 -- What is read at a place of the code.
-use Rattle.std.proofs.Common.{◌≡◌, ap, subst, ◌∙◌, ℕ, suc, true, false, List, ◌∷◌, Some, None}
+use Rattle.std.proofs.Common.{◌≡◌, ap, subst, ◌∙◌, ℕ, suc, ◌+◌, true, false, List, ◌∷◌, Some, None, arith}
 use Rattle.std.specs.Prelude.{map}
 use Rattle.scenario_tree.specs.declared.tree.Action.{out-Action}
 use Rattle.scenario_tree.specs.declared.tree.Action.TheVariants as A
@@ -13,7 +13,7 @@ use Rattle.body_blocks.specs.Trees.{Coded, IsAhead, action_of, block_at, except_
 use Rattle.body_blocks.specs.declared.statement.FlatAction.{FlatAction}
 use Rattle.body_blocks.specs.declared.statement.FlatStatement.{FlatStatement}
 use Rattle.body_values.specs.Few.{HasFew, HasFewParts}
-use Rattle.body_values.proofs.Few.{head-few}
+use Rattle.body_values.proofs.Few.{head-few, rest-few}
 use Rattle.body_frames.specs.Entries.{Form, begins, form_of, optional_block, rest}
 
 -- one level of a flat statement is that of its tree
@@ -42,3 +42,9 @@ move_there t b p s todo a h =
 
 pub few_there : (t : Coded) (b p : ℕ) (s : FlatStatement) → IsAhead t b p (Some s) → HasFew (rest t b p) → HasFewParts (form_of t s.action)
 few_there t b p s h few = subst HasFewParts (out_form t s.action) (head-few (statement_of t s) (rest t b (suc p)) (subst HasFew h few))
+
+-- so it is with what is behind it
+pub few_behind : (t : Coded) (b p : ℕ) (s : FlatStatement) → IsAhead t b p (Some s) → HasFew (rest t b p) → HasFew (rest t b (p + 1))
+few_behind t b p s h few =
+    let next : suc p ≡ p + 1 = omega arith in
+    subst (λ (q : ℕ). HasFew (rest t b q)) next (rest-few (statement_of t s) (rest t b (suc p)) (subst HasFew h few))

@@ -14,7 +14,6 @@ use Rattle.body_frames.specs.declared.step.Step.{Step as Told}
 use Rattle.body_frames.specs.declared.unwind.Unwound.{Unwound as Left}
 use Rattle.body_frames.specs.Entries.{todo_of}
 use Rattle.body_frames.specs.Places.{Came, Place, place_of}
-use Rattle.body_frames.specs.Quick.{request_of}
 use Rattle.body_frames.specs.Steps.{step_of}
 use Rattle.body_frames.specs.Unwinding.{unwound_of}
 
@@ -36,7 +35,6 @@ stepped step body moves = record { step = step_of step; body = body; moves = mov
 -- what came of a move, where the body goes on so by itself
 abbrev pub made_of : Coded → ℕ → (Unwound → Stepped) → Made → Stack → Stepped
 made_of t moves go (Made.Asks request x) s = record { step = Step.Asks request; body = Body.Waits (record { locals = locals_of t.names s.locals; todo = todo_of t s.todo; gives = name_if t x }); moves = moves }
-made_of t moves go (Made.Quick q) s = record { step = Step.Asks (request_of q); body = Body.Waits (record { locals = locals_of t.names s.locals; todo = todo_of t s.todo; gives = None }); moves = moves }
 made_of t moves go (Made.Enters ms silent b) s = record { step = Step.EntersTimeout ms silent; body = Body.Enters silent (block_at b t) (locals_of t.names s.locals) (todo_of t s.todo); moves = moves }
 made_of t moves go (Made.Further at) s = go (goes_from t at s)
 
@@ -57,13 +55,11 @@ reached_of (Reached.End left outcome) = Place.AtEnd left outcome
 abbrev pub moved_of : Moved → Came
 moved_of (Moved.Comes reached) = Came.Comes (reached_of reached)
 moved_of (Moved.Asks request parked) = Came.Asks request parked
-moved_of (Moved.Quick q parked) = Came.Asks (request_of q) parked
 moved_of (Moved.Enters time entering) = Came.Enters time entering
 
 -- what was made of the move
 abbrev pub came_of_made : Coded → Made → Stack → Came
 came_of_made t (Made.Asks request x) s = Came.Asks request (record { locals = locals_of t.names s.locals; todo = todo_of t s.todo; gives = name_if t x })
-came_of_made t (Made.Quick q) s = Came.Asks (request_of q) (record { locals = locals_of t.names s.locals; todo = todo_of t s.todo; gives = None })
 came_of_made t (Made.Enters ms silent b) s = Came.Enters ms (record { silent = silent; body = block_at b t; locals = locals_of t.names s.locals; todo = todo_of t s.todo })
 came_of_made t (Made.Further at) s = Came.Comes (place_of (goes_from t at s))
 

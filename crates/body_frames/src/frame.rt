@@ -12,7 +12,6 @@ ghost use Rattle.body_frames.specs.Steady.{HasMove, IsSteady};
 ghost use Rattle.body_frames.specs.Steps.{answer_of, step_of};
 
 use crate::moves::{Context, make_move};
-use crate::quick::request_of;
 use crate::stack::{Begun, Made, Stack, begin_function, go_inside, go_on_with, outcome_of_leaving};
 use crate::step::{Input, Step};
 use crate::unwind::Unwound;
@@ -231,9 +230,6 @@ fn go_on<L: Look>(
         match make_move(context, stack)? {
             Made::Asks(request, gives) => {
                 return Ok((Step::Request(request), Standing::Waits(gives)));
-            }
-            Made::Quick(quick) => {
-                return Ok((Step::Request(request_of(quick)), Standing::Waits(None)));
             }
             Made::Enters(time, silent, body) => {
                 return Ok((

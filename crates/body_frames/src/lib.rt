@@ -20,6 +20,7 @@ mod pile;
 mod places;
 mod primitive_moves;
 mod quick;
+mod running;
 mod runs;
 mod stack;
 mod step;
@@ -31,8 +32,9 @@ pub use laws::steps_keep_few;
 pub use machine::arguments::Arguments;
 pub use machine::request::Request;
 pub use places::{
-    Entering, Moved, Moving, Parked, Reached, answer_body, answer_none, begin_body, enter_timeout,
-    move_body, move_on,
+    Entering, Moved, Moving, Parked, Reached, answer_body, begin_body, enter_timeout,
 };
 pub use quick::Quick;
+pub use running::Running;
+pub use runs::{Halt, Ran};
 pub use step::{Input, Step};

@@ -70,7 +70,10 @@ pub fn finish_move<L: Look>(
 
 /// Makes the move at the head, whatever it is. Where no move stands there, the body goes on inwards, as the definition
 /// says.
-fn make_any_move<L: Look>(context: &Context<'_, L>, stack: &mut Stack) -> Result<Made, AllocError>
+pub fn make_any_move<L: Look>(
+    context: &Context<'_, L>,
+    stack: &mut Stack,
+) -> Result<Made, AllocError>
     requires told { stack.old.left ≡ [] }
     requires few { HasFewToDo (todo_of context.now.blocks.now stack.old.todo) }
     ensures steady { IfOk result (λ made. IsSteady (body_after context.now.blocks.now made stack.new)) }

@@ -1,7 +1,9 @@
 //! A list that is read and grown at its front, at a cost that does not depend on its length.
-ghost use Rattle.std.specs.Prelude.{◌≡◌, [], ◌∷◌, ◌++◌, IfOk, OnOk, MatchOption, drop};
+ghost use Rattle.std.specs.Prelude.{◌≡◌, ◌<◌, ◌-◌, false, [], ◌∷◌, ◌++◌, IfOk, IsTrue, OnOk, MatchOption, drop, length, slice_set};
 ghost use Rattle.std.specs.Option.{option_copied};
+ghost use Rattle.body_frames.specs.declared.entry.Entry.{Entry as Listed};
 
+use crate::entry::Entry;
 use std::alloc::{AllocError, Global};
 use std::marker::Model;
 
@@ -73,6 +75,50 @@ impl<T: Drop> Pile<T> {
     {
         push_last(&mut self.items, first)?;
         Ok(())
+    }
+}
+
+impl Pile<Entry> {
+    /// The rest of a block that is first is the rest of this block from this place on: the entry is changed where it
+    /// stands. Where another entry is first, nothing is done.
+    #[inline(always)]
+    #[tactic(auto, using(crate::proofs::Piles::last_set))]
+    pub fn set_rest(&mut self, block: usize, at: usize) -> bool
+        ensures set { IsTrue result → self.new ≡ Listed.Rest block at ∷ drop 1 self.old }
+        ensures not { result ≡ false → self.new ≡ self.old }
+    {
+        set_last(&mut self.items, block, at)
+    }
+}
+
+#[inline(always)]
+fn set_last(items: &mut Vec<Entry>, block: usize, at: usize) -> bool
+    ensures some { IsTrue result → 0 < length items.old.items }
+    ensures set { IsTrue result → items.new.items ≡ slice_set items.old.items (length items.old.items - 1) (Listed.Rest block at) }
+    ensures not { result ≡ false → items.new.items ≡ items.old.items }
+{
+    let count = items.len();
+    if count == 0 {
+        return false;
+    }
+    set_entry(&mut items[count - 1], block, at)
+}
+
+#[inline(always)]
+fn set_entry(entry: &mut Entry, block: usize, at: usize) -> bool
+    ensures set { IsTrue result → entry.new ≡ Listed.Rest block at }
+    ensures not { result ≡ false → entry.new ≡ entry.old }
+{
+    match entry {
+        Entry::Rest {
+            block: own,
+            at: place,
+        } => {
+            *own = block;
+            *place = at;
+            true
+        }
+        _ => false,
     }
 }
 

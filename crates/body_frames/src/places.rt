@@ -1,34 +1,24 @@
 //! Bodies between the steps of their hub, each by where it stands.
-ghost use Rattle.std.specs.Prelude.{◌≡◌, ◌<◌, ◌∷◌, [], IfOk};
-ghost use Rattle.gv_values.specs.declared.value.Outcome.{Outcome as Answered};
-ghost use Rattle.gv_values.specs.declared.value.Value.{Value as Given};
+ghost use Rattle.std.specs.Prelude.{◌≡◌, ◌∷◌, [], IfOk};
 ghost use Rattle.machine.specs.declared.state.Leaving.{Leaving};
 ghost use Rattle.machine.specs.declared.state.Todo.{Todo};
-ghost use Rattle.machine.specs.Bodies.{around};
-ghost use Rattle.machine.specs.BodyMoves.{body_move};
 ghost use Rattle.machine.specs.Landing.{given};
 ghost use Rattle.machine.specs.Ends.{leaving_of};
 ghost use Rattle.machine.specs.Greenlets.{named};
 ghost use Rattle.machine.specs.Unwinding.{unwind};
 ghost use Rattle.body_values.specs.Functions.{IsFunction, function_at};
 ghost use Rattle.body_frames.specs.Few.{HasFewBody, HasFewUnwound};
-ghost use Rattle.body_frames.specs.Places.{place_of, came_by};
-ghost use Rattle.body_frames.specs.Runs.{MovesOn};
+ghost use Rattle.body_frames.specs.Places.{place_of};
 ghost use Rattle.body_frames.specs.Standings.{body_after, came_of_made, goes_from, reached_of, moved_of};
 ghost use Rattle.body_frames.specs.Steady.{HasMove, IsSteady};
 
 use crate::entry::Entry;
-use crate::moves::{Context, make_move};
 use crate::pile::Pile;
-use crate::quick::Quick;
-use crate::runs::make_moves;
-use crate::stack::{
-    Begun, Made, Stack, begin_function, go_inside, go_on_with, is_at_move, outcome_of_leaving,
-};
+use crate::stack::{Begun, Made, Stack, begin_function, go_inside, go_on_with, outcome_of_leaving};
 use crate::unwind::Unwound;
 use body_blocks::Blocks;
 use body_names::{LocalSlot, Locals};
-use body_values::{Code, Look};
+use body_values::Code;
 use gv_values::{Outcome, Value};
 use machine::request::Request;
 use scenario_tree::Items;
@@ -39,10 +29,10 @@ use std::rc::Rc;
 /// A body that waits for the answer to its request.
 #[derive(Drop)]
 pub struct Parked {
-    blocks: Rc<Blocks>,
-    locals: Locals,
-    todo: Pile<Entry>,
-    gives: Option<LocalSlot>,
+    pub(crate) blocks: Rc<Blocks>,
+    pub(crate) locals: Locals,
+    pub(crate) todo: Pile<Entry>,
+    pub(crate) gives: Option<LocalSlot>,
 }
 
 impl Model for Parked {
@@ -65,9 +55,9 @@ impl Model for Parked {
 /// A body at its next move.
 #[derive(Drop)]
 pub struct Moving {
-    blocks: Rc<Blocks>,
-    locals: Locals,
-    todo: Pile<Entry>,
+    pub(crate) blocks: Rc<Blocks>,
+    pub(crate) locals: Locals,
+    pub(crate) todo: Pile<Entry>,
 }
 
 impl Model for Moving {
@@ -132,8 +122,6 @@ pub enum Moved {
     Comes(Reached),
     /// It asks its hub.
     Asks(Request, Parked),
-    /// It asks its hub for what is answered at once.
-    Quick(Quick, Parked),
     /// It enters a timeout block, with its time in milliseconds if it has one.
     Enters(Option<u32>, Entering),
 }
@@ -172,30 +160,6 @@ pub fn answer_body(alloc: Global, body: Parked, answer: Outcome) -> Result<Reach
     Ok(reach(blocks, stack, at))
 }
 
-/// Answers the request of the body with none, which mostly nobody takes: then the body is often at its next move.
-#[inline(always)]
-pub fn answer_none(alloc: Global, body: Parked) -> Result<Reached, AllocError>
-    ensures { IfOk result (λ reached. reached_of reached ≡ place_of (unwind body.todo [] Leaving.Normally (given body (Answered.Value Given.Nothing)))) }
-{
-    if body.gives.is_none() && is_at_move(&body.blocks, &body.todo) {
-        let Parked {
-            blocks,
-            locals,
-            todo,
-            ..
-        } = body;
-        return Ok(Reached::Move(
-            Items::new(alloc),
-            Moving {
-                blocks,
-                locals,
-                todo,
-            },
-        ));
-    }
-    Ok(answer_body(alloc, body, Outcome::Value(Value::Nothing))?)
-}
-
 /// Lets the body enter its timeout block, which has this number. `AllocError`: memory is wanting.
 pub fn enter_timeout(alloc: Global, body: Entering, number: u32) -> Result<Reached, AllocError>
     ensures { IfOk result (λ reached. reached_of reached
@@ -217,75 +181,8 @@ pub fn enter_timeout(alloc: Global, body: Entering, number: u32) -> Result<Reach
     Ok(reach(blocks, stack, at))
 }
 
-/// Makes the next move of the body, where this may be asked of its hub. `AllocError`: memory is wanting.
-pub fn move_body<L: Look>(
-    alloc: Global,
-    code: &Code,
-    look: &L,
-    body: Moving,
-) -> Result<Moved, AllocError>
-    ensures { IfOk result (λ moved. moved_of moved ≡ came_by body.locals (body_move body.todo (around code.now (L.answers look.now) body.locals))) }
-{
-    let Moving {
-        blocks,
-        locals,
-        todo,
-    } = body;
-    let mut stack = Stack {
-        locals,
-        todo,
-        left: Items::new(alloc),
-    };
-    let made = make_move(
-        &Context {
-            alloc,
-            code,
-            blocks: &blocks,
-            look,
-        },
-        &mut stack,
-    )?;
-    Ok(come(blocks, stack, made))
-}
-
-/// Makes moves of the body until one does not stay in the body, one leaves a timeout block, or so many are made: how
-/// many were made before the last, and what came of the last. `AllocError`: memory is wanting.
-pub fn move_on<L: Look>(
-    alloc: Global,
-    code: &Code,
-    look: &L,
-    body: Moving,
-    most: u64,
-) -> Result<(u64, Moved), AllocError>
-    requires some { 0 < most }
-    ensures few { IfOk result (λ on. on.0 < most) }
-    ensures moved { IfOk result (λ on. MovesOn (around code.now (L.answers look.now)) on.0 body (moved_of on.1)) }
-{
-    let Moving {
-        blocks,
-        locals,
-        todo,
-    } = body;
-    let mut stack = Stack {
-        locals,
-        todo,
-        left: Items::new(alloc),
-    };
-    let (before, made) = make_moves(
-        &Context {
-            alloc,
-            code,
-            blocks: &blocks,
-            look,
-        },
-        &mut stack,
-        most,
-    )?;
-    Ok((before, come(blocks, stack, made)))
-}
-
 /// What comes of the move that was made.
-fn come(blocks: Rc<Blocks>, stack: Stack, made: Made) -> Moved
+pub(crate) fn come(blocks: Rc<Blocks>, stack: Stack, made: Made) -> Moved
     requires steady { IsSteady (body_after blocks.value made stack) }
     requires few { HasFewBody (body_after blocks.value made stack) }
     ensures { moved_of result ≡ came_of_made blocks.value made stack }
@@ -300,18 +197,6 @@ fn come(blocks: Rc<Blocks>, stack: Stack, made: Made) -> Moved
                     locals,
                     todo,
                     gives,
-                },
-            )
-        }
-        Made::Quick(quick) => {
-            let Stack { locals, todo, .. } = stack;
-            Moved::Quick(
-                quick,
-                Parked {
-                    blocks,
-                    locals,
-                    todo,
-                    gives: None,
                 },
             )
         }
@@ -333,7 +218,7 @@ fn come(blocks: Rc<Blocks>, stack: Stack, made: Made) -> Moved
 }
 
 /// Where the body comes to.
-fn reach(blocks: Rc<Blocks>, stack: Stack, at: Unwound) -> Reached
+pub(crate) fn reach(blocks: Rc<Blocks>, stack: Stack, at: Unwound) -> Reached
     requires moves { HasMove (goes_from blocks.value at stack) }
     requires few { HasFewUnwound (goes_from blocks.value at stack) }
     ensures { reached_of result ≡ place_of (goes_from blocks.value at stack) }

@@ -18,7 +18,8 @@ use std::alloc::AllocError;
 /// values. The body then goes on at what is first to do. Else nothing is done.
 #[tactic(auto, using(crate::proofs::PrimitiveMoves::while_in, crate::proofs::PrimitiveMoves::while_out))]
 pub fn make_primitive_move(blocks: &Blocks, stack: &mut Stack) -> Result<bool, AllocError>
-    ensures { IfOk result (λ made. HasMade made blocks.now stack.old stack.new) }
+    ensures left { stack.new.left ≡ stack.old.left }
+    ensures made { IfOk result (λ made. HasMade made blocks.now stack.old stack.new) }
 {
     match stack.todo.first() {
         Some(Entry::Rest { block, at }) => {
@@ -53,7 +54,8 @@ fn make_statement(
     at: usize,
 ) -> Result<bool, AllocError>
     requires { stack.old.todo ≡ Listed.Rest block at ∷ drop 1 stack.old.todo }
-    ensures { IfOk result (λ made. HasMade made blocks.now stack.old stack.new) }
+    ensures left { stack.new.left ≡ stack.old.left }
+    ensures made { IfOk result (λ made. HasMade made blocks.now stack.old stack.new) }
 {
     match blocks.ahead(block, at) {
         Some(statement) => Ok(act(blocks, stack, &statement.action, block, at + 1)?),
@@ -70,7 +72,8 @@ fn act(
     block: usize,
     next: usize,
 ) -> Result<bool, AllocError>
-    ensures { IfOk result (λ made. HasActed made blocks.now (form_of blocks.now action.now) (Listed.Rest block next ∷ drop 1 stack.old.todo) stack.old stack.new) }
+    ensures left { stack.new.left ≡ stack.old.left }
+    ensures made { IfOk result (λ made. HasActed made blocks.now (form_of blocks.now action.now) (Listed.Rest block next ∷ drop 1 stack.old.todo) stack.old stack.new) }
 {
     // Two tests of the form cost less than a match of all.
     if let FlatAction::Command(command) = action {
@@ -109,7 +112,8 @@ fn bind_value(
     block: usize,
     next: usize,
 ) -> Result<bool, AllocError>
-    ensures { IfOk result (λ made. HasActed made blocks.now (form_of blocks.now (Flat.Command command.now)) (Listed.Rest block next ∷ drop 1 stack.old.todo) stack.old stack.new) }
+    ensures left { stack.new.left ≡ stack.old.left }
+    ensures made { IfOk result (λ made. HasActed made blocks.now (form_of blocks.now (Flat.Command command.now)) (Listed.Rest block next ∷ drop 1 stack.old.todo) stack.old stack.new) }
 {
     match command {
         FlatCommand::Let(slot, e) => {
@@ -123,8 +127,21 @@ fn bind_value(
     }
 }
 
-/// The first entry gives way to the rest of the block from this place on.
+/// The first entry gives way to the rest of the block from this place on. A rest does where it stands.
+#[inline(always)]
 pub fn advance(todo: &mut Pile<Entry>, block: usize, next: usize) -> Result<(), AllocError>
+    ensures { OnOk result (todo.new ≡ Listed.Rest block next ∷ drop 1 todo.old) }
+{
+    if todo.set_rest(block, next) {
+        return Ok(());
+    }
+    replace_first(todo, block, next)?;
+    Ok(())
+}
+
+/// The same, whatever the entry is.
+#[inline(never)]
+fn replace_first(todo: &mut Pile<Entry>, block: usize, next: usize) -> Result<(), AllocError>
     ensures { OnOk result (todo.new ≡ Listed.Rest block next ∷ drop 1 todo.old) }
 {
     todo.drop_first();
@@ -143,11 +160,11 @@ fn pass(
 ) -> Result<(), AllocError>
     ensures { IfOk result (λ _. IsPassed blocks.now (Listed.Rest block next ∷ drop 1 todo.old) todo.new) }
 {
-    todo.drop_first();
     if begins(blocks, block, next) {
-        put_rest(todo, block, next)?;
+        advance(todo, block, next)?;
         return Ok(());
     }
+    todo.drop_first();
     Ok(())
 }
 

@@ -18,7 +18,6 @@ ghost use Rattle.body_frames.specs.Steady.{HasMove};
 
 use crate::entry::Entry;
 use crate::pile::Pile;
-use crate::quick::Quick;
 use crate::unwind::{Unwound, begins, bind_if, unwind};
 use body_blocks::Blocks;
 use body_names::{LocalSlot, Locals};
@@ -43,8 +42,6 @@ pub struct Stack {
 pub enum Made {
     /// The body asks its hub, and the local takes the answer.
     Asks(Request, Option<LocalSlot>),
-    /// The body asks its hub for what is answered at once.
-    Quick(Quick),
     /// The body enters a timeout block: its time if it has one, whether it is silent, and its body.
     Enters(Option<u32>, bool, usize),
     /// The body goes on by itself.

@@ -10,4 +10,4 @@
 
 mod primitive;
 
-pub use primitive::{bind_primitive, primitive_truth};
+pub use primitive::{Primitive, bind_primitive, primitive_of, primitive_truth};

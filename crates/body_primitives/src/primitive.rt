@@ -48,6 +48,17 @@ pub fn primitive_truth(locals: &Locals, expression: &FlatExpression) -> Option<b
     }
 }
 
+/// What the expression gives, where that is an integer or a truth value of such operands.
+#[inline(always)]
+pub fn primitive_of(locals: &Locals, expression: &FlatExpression) -> Primitive
+    ensures { MeansAs result expression.now locals.now }
+{
+    match plain_integer(locals, expression) {
+        Some(n) => Primitive::Int(n),
+        None => evaluate(locals, expression),
+    }
+}
+
 /// Binds what the expression gives, whatever its form.
 #[inline(never)]
 fn bind_evaluated(

@@ -232,6 +232,8 @@ answered_quickly None = nothing_answered
 answered_quickly (Some f) = raised f
 
 pub leaves_quickly : (q : Quick) → leaves_greenlets (request_of q) ≡ true
+leaves_quickly (Quick.PrintInteger z) = refl
+leaves_quickly (Quick.PrintTruth b) = refl
 leaves_quickly (Quick.Set o) = refl
 leaves_quickly (Quick.Clear o) = refl
 leaves_quickly (Quick.Release o) = refl

@@ -24,11 +24,9 @@ use Rattle.machine.specs.State.{State}
 use Rattle.body_frames.specs.Places.{Came, Place}
 use Rattle.body_frames.specs.Runs.{MovesOn, came_of_move}
 use Rattle.hub_state.specs.Sights.{look_of}
-use Rattle.hub_engine.specs.declared.stand.Stand.{Stand}
-use Rattle.hub_engine.specs.Asking.{IsDeclaredAfter, does_came, fits_came}
-use Rattle.hub_engine.specs.Making.{MayMove}
+use Rattle.hub_engine.specs.Legs.{GoesBy}
 use Rattle.hub_engine.specs.Onward.{IsAtRest, MovesTo}
-use Rattle.hub_engine.specs.Ready.{AreDeclared, IsReadyAt, IsReadyToMove}
+use Rattle.hub_engine.specs.Ready.{IsReadyAt, IsReadyToMove}
 use Rattle.hub_engine.specs.Stands.{goes_to, next_at}
 use Rattle.hub_engine.proofs.Blind.{phased, with_phase_twice}
 use Rattle.hub_engine.proofs.Moving.{ended_at, holds_same, look_counted, move_came, moved, moves_declared, moves_fit, seen_at, settled_by}
@@ -155,15 +153,6 @@ pub stays : (g n : ℕ) (a : Frame) (s : State) (came : Came) → (0 < n → IsA
 stays g n a s came rest ready on = stays-on g n (s.moves + n) a s came refl (λ some body m. rests_under_way g body m s (rest some)) ready on
 
 -- ---- the last of them
-
--- with what the hub goes on, where all the moves are counted
-pub record GoesBy (g n : ℕ) (a : Frame) (s t : State) (came : Came) : Type 0 where
-  pub may_move : MayMove g t
-  pub fits : fits_came t.scenario came ≡ true
-  pub declared : AreDeclared t
-  pub after : IsDeclaredAfter g came t
-  pub moves : (v : State) (at : Stand) → ((before : Frame) → does_came g came (with_phase g (Phase.Live before) t) ≡ next_at at v) → MovesTo g n (with_phase g (Phase.Live a) s) (next_at at v)
-  pub ready : (v : State) (at : Stand) → ((before : Frame) → does_came g came (with_phase g (Phase.Live before) t) ≡ next_at at v) → IsReadyAt (next_at at v)
 
 pub goes_by : (g n most : ℕ) (a : Frame) (s t : State) (came : Came) → (1 < most → IsAtRest g s) → n < most → IsReadyToMove g (with_phase g (Phase.Live a) s) →
     MovesOn (around s.scenario (look_of (record { current = g; state = s }))) n a came → t ≡ record s { moves = s.moves + (n + 1) } → GoesBy g n a s t came

@@ -22,7 +22,6 @@ use Rattle.machine.specs.Greenlets.{with_phase}
 use Rattle.machine.specs.Landing.{Next, lands, starts}
 use Rattle.machine.specs.Run.{first_state, least_below, logged, silent}
 use Rattle.machine.proofs.Answered.{posts-answered}
-use Rattle.machine_rooms.proofs.Tallies.{live-open}
 use Rattle.machine_turns.specs.Logs.{KnowsJobs, StandsKnowing, posts_of_step}
 use Rattle.machine_turns.proofs.Knowing.{answers-know, delivers-know, exits-know, may-ask, moves-know, starts-know}
 use Rattle.hub_engine.specs.declared.stand.Came.{Came}
@@ -30,15 +29,15 @@ use Rattle.hub_engine.specs.declared.stand.Stand.{Stand}
 use Rattle.hub_engine.specs.Onward.{MovesTo}
 use Rattle.hub_engine.specs.Outside.{ArePostable, HasDone, HasGiven, Outside}
 use Rattle.hub_engine.specs.Ready.{AreDeclared, IsReadyAt, IsReadyToMove, MayRun}
-use Rattle.hub_engine.specs.Settlings.{HasMovesRoom, MaySettle, most_hops}
+use Rattle.hub_engine.specs.Settlings.{MaySettle, most_hops}
 use Rattle.hub_engine.specs.Stands.{next_at}
 use Rattle.hub_engine.specs.Tied.{IsTied, IsTiedAfter, IsTiedAt}
-use Rattle.hub_engine.specs.Within.{IsWithinAt}
+use Rattle.hub_engine.specs.Within.{IsWithinAt, IsWithinToMove}
 use Rattle.hub_engine.proofs.Giving.{answers_of_logged, posts_of_logged}
 use Rattle.hub_engine.proofs.Posting.{standing_postable}
 use Rattle.hub_engine.proofs.Readily.{declared_first, declared_ready, ready_answered, ready_at_rest, ready_blocked, ready_exit, ready_going, ready_started, ready_turned, some_item}
 use Rattle.hub_engine.proofs.Settlings.{room_settles, settles_first}
-use Rattle.hub_engine.proofs.Within.{HasMoved, moves_room, rest_room, standing_moves, within_answered, within_blocked, within_delivered, within_exit, within_given, within_moved, within_started, within_turned, within_unanswered}
+use Rattle.hub_engine.proofs.Within.{HasMoved, rest_room, standing_moves, within_answered, within_blocked, within_delivered, within_exit, within_given, within_moved, within_started, within_turned, within_unanswered}
 
 -- ---- a state and its jobs
 
@@ -80,12 +79,12 @@ to_move may turns m at g body s t k h e =
     let own : IsTiedAt may turns m (Next.Going g (with_phase g (Phase.Live body) s)) = subst (λ (x : Stand). IsTiedAt may turns m (next_at x s)) k h in
     ready_going g (with_phase g (Phase.Live body) s) (with_phase g (Phase.Live body) t) own.ready (ap (λ (x : State). with_phase g (Phase.Live body) x) e)
 
--- there is room for its moves
-pub to_room : (may : Bool) (turns : ℕ) (m : WorldMeaning) (at : Stand) (g left : ℕ) (body : Frame) (s t : State) → at ≡ Stand.Going g body → IsTiedAt may turns m (next_at at s) → t ≡ silent s →
-    t.moves + left ≤ MOST_MOVES → HasMovesRoom left g t
-to_room may turns m at g left body s t k h e few =
+-- and is within the budgets
+pub to_within : (may : Bool) (turns : ℕ) (m : WorldMeaning) (at : Stand) (g : ℕ) (body : Frame) (s t : State) → at ≡ Stand.Going g body → IsTiedAt may turns m (next_at at s) → t ≡ silent s →
+    IsWithinToMove g (with_phase g (Phase.Live body) t)
+to_within may turns m at g body s t k h e =
     let own : IsTiedAt may turns m (Next.Going g (with_phase g (Phase.Live body) s)) = subst (λ (x : Stand). IsTiedAt may turns m (next_at x s)) k h in
-    moves_room may turns left g body s t own.within (live-open _ own.ready.sound.1.live) e few
+    record { may = may; turns = turns; before = with_phase g (Phase.Live body) s; within = own.within; same = ap (λ (x : State). with_phase g (Phase.Live body) x) e }
 
 -- moves one after another leave the hub knowing of its jobs
 knows_moved : (posts : List PostedJob) (answers : List Answer) (g n : ℕ) (s : State) (next : Next) → KnowsJobs posts answers s → MovesTo g n s next → StandsKnowing posts answers next

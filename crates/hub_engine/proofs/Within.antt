@@ -33,7 +33,7 @@ use Rattle.hub_engine.specs.Onward.{MovesTo}
 use Rattle.hub_engine.specs.Ready.{MayRun}
 use Rattle.hub_engine.specs.Settlings.{HasMoveRoom, HasMovesRoom}
 use Rattle.hub_engine.specs.Stands.{next_at}
-use Rattle.hub_engine.specs.Within.{IsWithinAt, IsWithinSomehow}
+use Rattle.hub_engine.specs.Within.{IsWithinAt, IsWithinSomehow, IsWithinToMove}
 use Rattle.hub_engine.proofs.Blind.{with_phase_twice}
 use Rattle.hub_engine.proofs.Readily.{some_item}
 
@@ -251,18 +251,20 @@ later-room n m k s more few r =
     }
 
 -- for each of so many moves, whatever body the greenlet has
-pub moves_room : (may : Bool) (turns most g : ℕ) (body : Frame) (s t : State) → IsWithinAt may turns (Next.Going g (with_phase g (Phase.Live body) s)) → is_open (phase_of g (with_phase g (Phase.Live body) s).greenlets) ≡ true →
-    t ≡ silent s → t.moves + most ≤ MOST_MOVES → HasMovesRoom most g t
-moves_room may turns most g body s t h open-here e few = record { each = each }
+pub moves_room : (most g : ℕ) (body : Frame) (s : State) → IsWithinToMove g (with_phase g (Phase.Live body) s) → is_open (phase_of g (with_phase g (Phase.Live body) s).greenlets) ≡ true →
+    s.moves + most ≤ MOST_MOVES → HasMovesRoom most g s
+moves_room most g body s h open-here few = record { each = each }
   where
-    each : (n : ℕ) → n < most → HasMoveRoom g (record t { moves = t.moves + (n + 1) })
+    each : (n : ℕ) → n < most → HasMoveRoom g (record s { moves = s.moves + (n + 1) })
     each n less =
-        let u = with_phase g (Phase.Live body) s in
-        let same : t.moves ≡ s.moves = ap (λ (x : State). x.moves) e in
-        let first : HasRoom room_of_move (record (silent u) { moves = u.moves + 1 }) = moves-room h.scenario g u (is-law may turns (Next.Going g u) h) (omega (arith, less, same, few)) in
-        let later : HasRoom room_of_move (record (silent u) { moves = s.moves + (n + 1) }) = later-room room_of_move (u.moves + 1) (s.moves + (n + 1)) (silent u) (omega arith) (omega (arith, less, same, few)) first in
-        let here = record (silent s) { moves = s.moves + (n + 1) } in
+        let u = h.before in
+        let own = h.within in
+        let same : s.moves ≡ u.moves = ap (λ (x : State). x.moves) h.same in
+        let first : HasRoom room_of_move (record (silent u) { moves = u.moves + 1 }) = moves-room own.scenario g u (is-law h.may h.turns (Next.Going g u) own) (omega (arith, less, same, few)) in
+        let later : HasRoom room_of_move (record (silent u) { moves = s.moves + (n + 1) }) = later-room room_of_move (u.moves + 1) (s.moves + (n + 1)) (silent u) (omega (arith, same)) (omega (arith, less, same, few)) first in
+        let here = record s { moves = s.moves + (n + 1) } in
+        let own-room : HasRoom room_of_move (with_phase g (Phase.Live body) here) = subst (λ (x : State). HasRoom room_of_move (record x { moves = s.moves + (n + 1) })) (sym h.same) later in
         let any : (frame : Frame) → HasRoom room_of_move (with_phase g (Phase.Live frame) here) = λ frame.
         subst (HasRoom room_of_move) (with_phase_twice g (Phase.Live body) (Phase.Live frame) here)
-        (room-kept room_of_move room_of_move (with_phase g (Phase.Live body) here) (with_phase g (Phase.Live frame) (with_phase g (Phase.Live body) here)) (λ b k. counts-live b room_of_move g frame (with_phase g (Phase.Live body) here) open-here k) later) in
-        subst (λ (x : State). HasMoveRoom g (record x { moves = x.moves + (n + 1) })) (sym e) (record { any = any })
+        (room-kept room_of_move room_of_move (with_phase g (Phase.Live body) here) (with_phase g (Phase.Live frame) (with_phase g (Phase.Live body) here)) (λ b k. counts-live b room_of_move g frame (with_phase g (Phase.Live body) here) open-here k) own-room) in
+        record { any = any }

@@ -1,6 +1,7 @@
 pub mod Asking
 pub mod Delivering
 pub mod Ends
+pub mod Legs
 pub mod Making
 pub mod Onward
 pub mod Outside

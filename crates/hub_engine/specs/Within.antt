@@ -4,7 +4,7 @@ use Rattle.gv_values.specs.declared.limits.TheConstants.{MOST_MOVES, MOST_TURNS}
 use Rattle.scenario_tree.specs.declared.tree.Scenario.{Scenario}
 use Rattle.scenario_rules.specs.Rules.{IsWellFormed}
 use Rattle.machine.specs.Landing.{Next}
-use Rattle.machine.specs.Run.{first_state}
+use Rattle.machine.specs.Run.{first_state, silent}
 use Rattle.machine.specs.State.{State}
 use Rattle.machine_trace_laws.specs.Reached.{state_of_next}
 use Rattle.machine_rooms.specs.Counts.{AreCountable}
@@ -44,3 +44,11 @@ pub record IsWithinSomehow (s : State) : Type 0 where
   pub may : Bool
   pub turns : ℕ
   pub within : IsWithinAt may turns (Next.Resting s)
+
+-- the greenlet is at its next move so, however far the run has come, and all that was said is given out
+pub record IsWithinToMove (g : ℕ) (s : State) : Type 0 where
+  pub may : Bool
+  pub turns : ℕ
+  pub before : State
+  pub within : IsWithinAt may turns (Next.Going g before)
+  pub same : s ≡ silent before

@@ -1,5 +1,10 @@
+//! Where the hub stands between two steps.
+ghost use Rattle.std.specs.Prelude.{◌≡◌, IsTrue};
+ghost use Rattle.machine.specs.Run.{silent};
+
 use body_frames::Moving;
 use gv_values::Outcome;
+use hub_state::Hub;
 use trace_text::StopCause;
 
 /// Where the hub stands between two steps.
@@ -29,4 +34,14 @@ pub enum Came {
     ToRest,
     /// The run is over, for this cause.
     ToAnEnd(StopCause),
+}
+
+/// Whether the step under way said and posted nothing.
+pub fn is_silent(hub: &Hub) -> bool
+    ensures { IsTrue result → hub.now ≡ silent hub.now }
+{
+    if !hub.lines().is_empty() {
+        return false;
+    }
+    hub.posts().is_empty()
 }

@@ -21,7 +21,7 @@ use crate::deliver::{deliver_item, throw_into};
 use crate::life::start_body;
 use crate::moves::step_greenlet;
 use crate::run::EngineEnd;
-use crate::stand::{Came, Stand};
+use crate::stand::{Came, Stand, is_silent};
 use gv_io::Sink;
 use gv_values::FaultKind;
 use hub_state::Hub;
@@ -58,16 +58,6 @@ fn post_all<W: World>(world: &mut W, posts: &[Post]) -> Result<(), AllocError>
         world.post(post.number, post.job, post.takes)?;
     }
     Ok(())
-}
-
-/// Whether the step under way said and posted nothing.
-fn is_silent(hub: &Hub) -> bool
-    ensures { IsTrue result → hub.now ≡ silent hub.now }
-{
-    if !hub.lines().is_empty() {
-        return false;
-    }
-    hub.posts().is_empty()
 }
 
 /// The lines and posts of the step under way are given out; mostly there are none. The text is written over: it has room

@@ -9,8 +9,8 @@ use Rattle.body_frames.specs.PrimitiveMoves.{HasActed}
 use Rattle.body_frames.proofs.PrimitiveMoves.{if_not, means_so}
 use Rattle.body_frames.proofs.primitive_moves.act.Goals as goal
 
-pub returns-in_ok-pass-in-None-no : goal.returns-in_ok-pass-in-None-no
-returns-in_ok-pass-in-None-no c =
+pub returns-in_ok-pass-in-None-no-clause-made : goal.returns-in_ok-pass-in-None-no-clause-made
+returns-in_ok-pass-in-None-no-clause-made c =
     let t = c.args.blocks.now in
     let old = c.args.stack.now in
     let new : Stack = record { locals = old.locals; todo = c.pass.new.todo; left = old.left } in

@@ -8,8 +8,8 @@ use Rattle.body_frames.specs.PrimitiveMoves.{HasActed}
 use Rattle.body_frames.proofs.PrimitiveMoves.{let_bound}
 use Rattle.body_frames.proofs.primitive_moves.bind_value.Goals as goal
 
-pub returns-then-branch : goal.returns-then-branch
-returns-then-branch c =
+pub returns-then-branch-clause-made : goal.returns-then-branch-clause-made
+returns-then-branch-clause-made c =
     let t = c.args.blocks.now in
     let old = c.args.stack.now in
     let new : Stack = record { locals = c.bind_primitive.new.locals; todo = c.pass.new.todo; left = old.left } in

@@ -3,7 +3,6 @@ use Rattle.machine.specs.declared.state.Phase.{Phase}
 use Rattle.machine.specs.Landing.{lands}
 use Rattle.machine.specs.Greenlets.{no_frame, with_phase}
 use Rattle.machine_rooms.specs.Rooms.{HasRoom, room_of_move}
-use Rattle.body_frames.specs.Quick.{request_of}
 use Rattle.body_frames.specs.Standings.{moved_of, reached_of}
 use Rattle.body_frames.specs.declared.places.Moved.{Moved}
 use Rattle.hub_engine.specs.Asking.{IsDeclaredAfter, does_came, fits_came}
@@ -52,12 +51,3 @@ serve_request-requires-clause-fits c = subst (λ (m : Moved). fits_came c.args.h
 pub serve_request-requires-clause-after : goal.serve_request-requires-clause-after
 serve_request-requires-clause-after c =
     asks_declared c.args.g c.in-Asks.request c.in-Asks.body c.args.hub.now (subst (λ (m : Moved). IsDeclaredAfter c.args.g (moved_of m) c.args.hub.now) c.in-Asks.is c.requires.after)
-
-pub returns-in_ok-serve_quick-in-Quick : goal.returns-in_ok-serve_quick-in-Quick
-returns-in_ok-serve_quick-in-Quick c = λ before.
-    ap (λ (m : Moved). does_came c.args.g (moved_of m) (with_phase c.args.g (Phase.Live before) c.args.hub.now)) c.in-Quick.is
-    ∙ asks_blind c.args.g before c.in-Quick.body (request_of c.in-Quick.quick) c.args.hub.now c.serve_quick.new.hub c.in_ok-serve_quick-in-Quick.field-0 c.in_ok-serve_quick-in-Quick.ensures
-
-pub serve_quick-requires-clause-after : goal.serve_quick-requires-clause-after
-serve_quick-requires-clause-after c =
-    asks_declared c.args.g (request_of c.in-Quick.quick) c.in-Quick.body c.args.hub.now (subst (λ (m : Moved). IsDeclaredAfter c.args.g (moved_of m) c.args.hub.now) c.in-Quick.is c.requires.after)

@@ -1,52 +1,43 @@
-use Rattle.std.proofs.Common.{◌∙◌, ap, sym, subst, None, Some}
-use Rattle.machine.specs.Greenlets.{no_frame}
-use Rattle.machine.specs.Request.{follows, performs}
+use Rattle.std.proofs.Common.{◌≡◌, ◌+◌, ◌∙◌, ap, sym, subst, None, Some}
+use Rattle.machine.specs.declared.state.Phase.{Phase}
+use Rattle.machine.specs.Greenlets.{no_frame, with_phase}
+use Rattle.machine.specs.Request.{performs}
+use Rattle.machine.specs.State.{State}
 use Rattle.machine_rooms.specs.Rooms.{HasRoom, room_of_move}
 use Rattle.machine_rooms.proofs.Requests.{performs-counts}
 use Rattle.body_frames.specs.Quick.{request_of}
-use Rattle.hub_engine.proofs.Beside.{answered_quickly, declared_beside, leaves_quickly, performed_beside, quickly_performed, still_under_way}
-use Rattle.hub_engine.proofs.Settlings.{performed_settles}
+use Rattle.hub_engine.proofs.Beside.{answered_quickly, quickly_performed}
+use Rattle.hub_engine.proofs.Legs.{answers_by, stays_answered}
+use Rattle.hub_engine.proofs.Settlings.{performed_settles, settles_first}
 use Rattle.hub_engine.proofs.moves.serve_quick.Goals as goal
 
 pub perform_quick-requires : goal.perform_quick-requires
-perform_quick-requires c = subst (HasRoom room_of_move) (sym c.go_under_way.ensures) (c.requires.room.any no_frame)
+perform_quick-requires c =
+    let counted = c.go_under_way.ensures ∙ ap (λ (x : State). with_phase c.args.g (Phase.Live no_frame) x) c.count_moves.ensures in
+    subst (HasRoom room_of_move) (sym counted) (c.requires.room.any no_frame)
 
-pub answer_none_at_once-requires : goal.answer_none_at_once-requires
-answer_none_at_once-requires c =
-    let request = request_of c.args.quick in
-    let came = answered_quickly None in
-    let done = quickly_performed c.args.quick c.args.g c.perform_quick.result None c.go_under_way.new.hub c.perform_quick.new.hub c.in-None.is c.perform_quick.ensures in
-    let room = subst (HasRoom room_of_move) (sym c.go_under_way.ensures) (c.requires.room.any no_frame) in
-    record {
-      declared = declared_beside c.args.g c.args.body request came c.args.hub.now c.go_under_way.new.hub c.perform_quick.new.hub (leaves_quickly c.args.quick) c.go_under_way.ensures done c.requires.after;
-      under_way = still_under_way c.args.g request came c.args.hub.now c.go_under_way.new.hub c.perform_quick.new.hub c.requires.may_move (leaves_quickly c.args.quick) c.go_under_way.ensures done;
-      settles = performed_settles room_of_move c.go_under_way.new.hub (performs request c.args.g c.go_under_way.new.hub) came c.perform_quick.new.hub (λ b h. performs-counts b request c.args.g c.go_under_way.new.hub h)
-          room done;
-    }
+pub settle_hub-requires : goal.settle_hub-requires
+settle_hub-requires c =
+    let r = request_of c.args.quick in
+    let u = c.go_under_way.new.hub in
+    let counted = c.go_under_way.ensures ∙ ap (λ (x : State). with_phase c.args.g (Phase.Live no_frame) x) c.count_moves.ensures in
+    let room = subst (HasRoom room_of_move) (sym counted) (c.requires.room.any no_frame) in
+    let done = quickly_performed c.args.quick c.args.g c.in_ok-refusal.refusal None u c.perform_quick.new.hub c.in-None.is c.in_ok-refusal.ensures in
+    settles_first c.perform_quick.new.hub (performed_settles room_of_move u (performs r c.args.g u) (answered_quickly None) c.perform_quick.new.hub (λ b h. performs-counts b r c.args.g u h) room done)
 
-pub answer_at_once-requires : goal.answer_at_once-requires
-answer_at_once-requires c =
-    let request = request_of c.args.quick in
-    let came = answered_quickly (Some c.in-Some.kind) in
-    let done = quickly_performed c.args.quick c.args.g c.perform_quick.result (Some c.in-Some.kind) c.go_under_way.new.hub c.perform_quick.new.hub c.in-Some.is c.perform_quick.ensures in
-    let room = subst (HasRoom room_of_move) (sym c.go_under_way.ensures) (c.requires.room.any no_frame) in
-    record {
-      declared = declared_beside c.args.g c.args.body request came c.args.hub.now c.go_under_way.new.hub c.perform_quick.new.hub (leaves_quickly c.args.quick) c.go_under_way.ensures done c.requires.after;
-      under_way = still_under_way c.args.g request came c.args.hub.now c.go_under_way.new.hub c.perform_quick.new.hub c.requires.may_move (leaves_quickly c.args.quick) c.go_under_way.ensures done;
-      settles = performed_settles room_of_move c.go_under_way.new.hub (performs request c.args.g c.go_under_way.new.hub) came c.perform_quick.new.hub (λ b h. performs-counts b request c.args.g c.go_under_way.new.hub h)
-          room done;
-    }
+pub returns-in-Some-clause-comes : goal.returns-in-Some-clause-comes
+returns-in-Some-clause-comes c = λ a s by.
+    answers_by c.args.g c.args.before a c.args.running.now s _ c.go_under_way.new.hub c.perform_quick.new.hub c.args.quick c.in_ok-refusal.refusal (Some c.in-Some.kind) by c.requires.room
+    (c.go_under_way.ensures ∙ ap (λ (x : State). with_phase c.args.g (Phase.Live no_frame) x) c.count_moves.ensures) c.in_ok-refusal.ensures c.in-Some.is
 
-pub returns-in_ok-answer_none_at_once-in-None : goal.returns-in_ok-answer_none_at_once-in-None
-returns-in_ok-answer_none_at_once-in-None c =
-    let done = quickly_performed c.args.quick c.args.g c.perform_quick.result None c.go_under_way.new.hub c.perform_quick.new.hub c.in-None.is c.perform_quick.ensures in
-    ap (follows c.args.g)
-    (performed_beside c.args.g c.args.body (request_of c.args.quick) (answered_quickly None) c.args.hub.now c.go_under_way.new.hub c.perform_quick.new.hub (leaves_quickly c.args.quick) c.go_under_way.ensures done)
-    ∙ c.in_ok-answer_none_at_once-in-None.ensures
+pub returns-then-is_at_move-clause-comes : goal.returns-then-is_at_move-clause-comes
+returns-then-is_at_move-clause-comes c = λ a s by.
+    stays_answered c.args.g c.args.before a c.args.running.now s c.perform_quick.new.hub c.settle_hub.new.hub
+    (answers_by c.args.g c.args.before a c.args.running.now s _ c.go_under_way.new.hub c.perform_quick.new.hub c.args.quick c.in_ok-refusal.refusal None by c.requires.room
+    (c.go_under_way.ensures ∙ ap (λ (x : State). with_phase c.args.g (Phase.Live no_frame) x) c.count_moves.ensures) c.in_ok-refusal.ensures c.in-None.is)
+    c.is_at_move.ensures.unheard (c.is_at_move.ensures.runs c.if-is_at_move.true) c.settle_hub.ensures
 
-pub returns-in_ok-answer_at_once-in-Some : goal.returns-in_ok-answer_at_once-in-Some
-returns-in_ok-answer_at_once-in-Some c =
-    let done = quickly_performed c.args.quick c.args.g c.perform_quick.result (Some c.in-Some.kind) c.go_under_way.new.hub c.perform_quick.new.hub c.in-Some.is c.perform_quick.ensures in
-    ap (follows c.args.g)
-    (performed_beside c.args.g c.args.body (request_of c.args.quick) (answered_quickly (Some c.in-Some.kind)) c.args.hub.now c.go_under_way.new.hub c.perform_quick.new.hub (leaves_quickly c.args.quick) c.go_under_way.ensures done)
-    ∙ c.in_ok-answer_at_once-in-Some.ensures
+pub returns-else-is_at_move-clause-comes : goal.returns-else-is_at_move-clause-comes
+returns-else-is_at_move-clause-comes c = λ a s by.
+    answers_by c.args.g c.args.before a c.args.running.now s _ c.go_under_way.new.hub c.perform_quick.new.hub c.args.quick c.in_ok-refusal.refusal None by c.requires.room
+    (c.go_under_way.ensures ∙ ap (λ (x : State). with_phase c.args.g (Phase.Live no_frame) x) c.count_moves.ensures) c.in_ok-refusal.ensures c.in-None.is

@@ -7,7 +7,7 @@ use Rattle.hub_engine.specs.declared.stand.Came.{Came}
 use Rattle.hub_engine.specs.Stands.{next_at}
 use Rattle.hub_engine.specs.Written.{CameTo}
 use Rattle.hub_engine.proofs.Passing.{ended, move_given_up, moved_on, out_of_budget, passing, rested, runs_broken}
-use Rattle.hub_engine.proofs.Tying.{counted_moved, postable_at, runs_at, tied_at_rest, tied_moved, to_move, to_room}
+use Rattle.hub_engine.proofs.Tying.{counted_moved, postable_at, runs_at, tied_at_rest, tied_moved, to_move, to_within}
 use Rattle.hub_engine.proofs.turns.run_greenlet.Goals as goal
 
 pub loop-text-init : goal.loop-text-init
@@ -28,7 +28,7 @@ step_greenlet-requires g c =
     record {
       some = omega (arith, c.if-left-eq0.false);
       few = omega (arith, same, most);
-      room = to_room first.may first.turns _ c.loop-text.at _ c.loop-text.left _ c.loop-text.hub c.give_out.new.hub c.in-Going.is tied c.in_ok-give_out.ensures.silent (omega (arith, same, most));
+      within = to_within first.may first.turns _ c.loop-text.at _ _ c.loop-text.hub c.give_out.new.hub c.in-Going.is tied c.in_ok-give_out.ensures.silent;
       ready = to_move first.may first.turns _ c.loop-text.at _ _ c.loop-text.hub c.give_out.new.hub c.in-Going.is tied c.in_ok-give_out.ensures.silent;
     }
 
