@@ -101,6 +101,8 @@ changed_members P (Change.Flag true) (Object.Crew size members) none same = same
 changed_members P (Change.Flag true) x none same = none
 changed_members P (Change.Flag false) (Object.Crew size members) none same = same
 changed_members P (Change.Flag false) x none same = none
+changed_members P (Change.Item v) (Object.Crew size members) none same = same
+changed_members P (Change.Item v) x none same = none
 changed_members P Change.Unit (Object.Crew size members) none same = same
 changed_members P Change.Unit x none same = none
 changed_members P Change.UnitTaken (Object.Crew size members) none same = same
@@ -137,8 +139,6 @@ offer_taken_members x = refl
 added_members : (P : List ℕ → Type 0) (addition : Addition) (x : Object) → ((k : ℕ) → member_of addition ≡ Some k → P (members_of (Some x) ++ k ∷ [])) → P (members_of (Some x)) → P (members_of (Some (added addition x)))
 added_members P (Addition.Member k) (Object.Crew size members) more same = more k refl
 added_members P (Addition.Member k) x more same = same
-added_members P (Addition.Item v) (Object.Queue kind size items unfinished shut) more same = same
-added_members P (Addition.Item v) x more same = same
 added_members P (Addition.Offer v since) (Object.Channel offers) more same = same
 added_members P (Addition.Offer v since) x more same = same
 

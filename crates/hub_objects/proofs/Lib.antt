@@ -5,3 +5,4 @@ pub mod Leaving
 pub mod ObjectSets
 pub mod Reading
 pub mod Releasing
+pub mod Taking

@@ -24,6 +24,7 @@ with_task_done object = object
 abbrev pub changed : Change → Object → Object
 changed (Change.Flag b) = with_flag b
 changed (Change.Put outcome) = λ object. Object.Result (Some outcome)
+changed (Change.Item v) = with_item v
 changed Change.Unit = with_unit
 changed Change.UnitTaken = with_unit_taken
 changed (Change.Owner g) = with_owner g
@@ -35,7 +36,6 @@ changed Change.SlotFreed = with_slot_freed
 
 -- the object after the addition
 abbrev pub added : Addition → Object → Object
-added (Addition.Item v) = with_item v
 added (Addition.Offer v since) = with_offer v since
 added (Addition.Member g) = with_member g
 

@@ -25,6 +25,7 @@ CountsFit k objects = (o : ℕ) → MayCount k (slice_get objects o)
 -- there is room for what the change counts of the object
 abbrev pub ChangeFits : Change → Option Object → Type 0
 ChangeFits (Change.Flag true) object = MayCount 1 object
+ChangeFits (Change.Item v) object = MayCount 1 object
 ChangeFits Change.Unit object = MayCount 1 object
 ChangeFits (Change.Owner g) object = MayCount 1 object
 ChangeFits Change.SlotTaken object = MayCount 1 object
@@ -32,6 +33,5 @@ ChangeFits change object = ⊤
 
 -- and for what the addition does
 abbrev pub AdditionFits : Addition → Option Object → Type 0
-AdditionFits (Addition.Item v) object = MayCount 1 object
 AdditionFits (Addition.Member g) object = MayCount 1 object
 AdditionFits addition object = ⊤

@@ -3,6 +3,6 @@ use Rattle.std.specs.Prelude.{Option, Some, None, ℤ, if◌then◌else◌, int_
 use Rattle.gv_values.specs.declared.value.Value.{Value}
 
 -- the integer, if it is one, and less than this
-abbrev pub lesser : Option Value → ℤ → Option ℤ
-lesser (Some (Value.Int y)) z = if int_lt y z then Some y else None
+abbrev pub lesser : Value → ℤ → Option ℤ
+lesser (Value.Int y) z = if int_lt y z then Some y else None
 lesser value z = None

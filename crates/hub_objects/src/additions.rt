@@ -1,6 +1,6 @@
 //! What a step adds to an object.
 ghost use Rattle.std.specs.Prelude.{◌≡◌, slice_get, slice_set, unwrap_or, OnOk, OnErr, Some};
-ghost use Rattle.machine.specs.Objects.{no_object, with_item, with_member};
+ghost use Rattle.machine.specs.Objects.{no_object, with_member};
 ghost use Rattle.hub_objects.specs.Changes.{added, member_of};
 ghost use Rattle.hub_objects.specs.Counted.{AdditionFits, AreCounted, IsCounted, MayCount};
 
@@ -12,8 +12,6 @@ use std::alloc::AllocError;
 /// What a step adds to an object, which takes memory. An object of another kind stays as it is.
 #[derive(Drop)]
 pub enum Addition {
-    /// A queue has one item and one unfinished task more.
-    Item(Value),
     /// A channel has one offer more, that of the Wake with this since.
     Offer(Value, u64),
     /// A group or pool has one member more.
@@ -65,23 +63,9 @@ fn add_one(object: &mut Object, addition: Addition) -> Result<(), AllocError>
     ensures counted { IsCounted object.old → IsCounted object.new }
 {
     match addition {
-        Addition::Item(value) => add_item(object, value),
         Addition::Offer(value, since) => add_offer(object, value, since),
         Addition::Member(g) => add_member(object, g),
     }
-}
-
-fn add_item(object: &mut Object, value: Value) -> Result<(), AllocError>
-    requires { MayCount 1 (Some object.old) }
-    ensures added { OnOk result (object.new ≡ with_item value object.old) }
-    ensures err { OnErr result (object.new ≡ object.old) }
-    ensures counted { IsCounted object.old → IsCounted object.new }
-{
-    if let Object::Queue(_, _, items, unfinished, _) = object {
-        items.push_back(value)?;
-        *unfinished += 1;
-    }
-    Ok(())
 }
 
 fn add_member(object: &mut Object, g: u32) -> Result<(), AllocError>

@@ -1,7 +1,7 @@
 //! The objects in order of declaration, and what a step does to one of them.
 ghost use Rattle.std.specs.Prelude.{◌≡◌, ◌<◌, ◌≤◌, ◌+◌, ◌-◌, length, map, slice_get, slice_set, unwrap_or, OnOk, OnErr, IfOk, Some};
 ghost use Rattle.std.specs.Option.{option_copied};
-ghost use Rattle.machine.specs.Objects.{item_of, offer_of, with_flag, no_object, with_unit_taken, with_owner, with_item_taken, with_shut, without_member, with_offer_taken, without_offer, with_slot_taken, with_slot_freed};
+ghost use Rattle.machine.specs.Objects.{item_of, offer_of, with_flag, no_object, with_item, with_unit_taken, with_owner, with_item_taken, with_shut, without_member, with_offer_taken, without_offer, with_slot_taken, with_slot_freed};
 ghost use Rattle.machine.specs.Run.{object_of};
 ghost use Rattle.machine.specs.declared.state.Object.{Object as Shown};
 ghost use Rattle.hub_objects.specs.Changes.{added, changed, with_unit, with_owner_gone, with_task_done};
@@ -14,11 +14,12 @@ use crate::crews::leave_those;
 use crate::memberships::{Membership, forget, join, membership_in};
 use crate::offers::{take_offer_in, withdraw_each};
 use crate::queues::take_item_in;
-use deques::Deque;
 use gv_values::{Outcome, Value};
+use machine::queued::Queued;
 use machine::state::Object;
 use scenario_tree::{Declaration, Items, Object as Kind};
 use std::alloc::{AllocError, Global};
+use std::collections::LinkedList;
 use std::marker::Model;
 
 /// What a step does to an object that takes no memory. An object of another kind stays as it is.
@@ -28,6 +29,8 @@ pub enum Change {
     Flag(bool),
     /// This is in the result, in place of what stood.
     Put(Outcome),
+    /// A queue has one item and one unfinished task more.
+    Item(Queued),
     /// A semaphore has one unit more.
     Unit,
     /// It has one unit less.
@@ -165,7 +168,7 @@ fn object_of(alloc: Global, kind: Kind) -> Object
         Kind::Semaphore(n) => Object::Semaphore(n, None),
         Kind::BoundedSemaphore(n) => Object::Semaphore(n, Some(n)),
         Kind::Lock => Object::Lock(None, 0),
-        Kind::Queue(order, size) => Object::Queue(order, size, Deque::new(alloc), 0, false),
+        Kind::Queue(order, size) => Object::Queue(order, size, LinkedList::new(alloc), 0, false),
         Kind::Channel => Object::Channel(Items::new(alloc)),
         Kind::Group => Object::Crew(None, Items::new(alloc)),
         Kind::Pool(n) => Object::Crew(Some(n), Items::new(alloc)),
@@ -218,6 +221,7 @@ fn change_one(object: &mut Object, change: Change)
     match change {
         Change::Flag(flag) => set_flag(object, flag),
         Change::Put(outcome) => put(object, outcome),
+        Change::Item(item) => put_item(object, item),
         Change::Unit => add_unit(object),
         Change::UnitTaken => take_unit(object),
         Change::Owner(g) => own(object, g),
@@ -247,6 +251,17 @@ fn put(object: &mut Object, outcome: Outcome)
     ensures counted { IsCounted object.new }
 {
     *object = Object::Result(Some(outcome));
+}
+
+fn put_item(object: &mut Object, item: Queued)
+    requires { MayCount 1 (Some object.old) }
+    ensures changed { object.new ≡ with_item item object.old }
+    ensures counted { IsCounted object.old → IsCounted object.new }
+{
+    if let Object::Queue(_, _, items, unfinished, _) = object {
+        item.put_behind(items);
+        *unfinished += 1;
+    }
 }
 
 fn add_unit(object: &mut Object)

@@ -20,9 +20,10 @@ use crate::late::done_ones;
 use crate::members::{Mapping, go_on_mapping, make_member};
 use crate::performed::{Performed, done, raises, truth};
 use gv_values::{FaultKind, Job, Outcome, Value, Whom};
-use hub_objects::{Addition, Change};
+use hub_objects::Change;
 use hub_state::Hub;
 use machine::items::Waiting;
+use machine::queued::Queued;
 use machine::state::Object;
 use std::alloc::{AllocError, Global};
 
@@ -71,15 +72,15 @@ fn post_job(hub: &mut Hub, g: u32, o: u32, job: Job, takes: u64) -> Result<Perfo
 }
 
 /// Puts the value into the queue; one that is shut refuses it.
-fn put_item(hub: &mut Hub, o: u32, value: Value) -> Result<Performed, AllocError>
+fn put_item(hub: &mut Hub, o: u32, value: Queued) -> Performed
     requires { MayCount 1 (slice_get hub.old.objects o) }
-    ensures { IfOk result (λ p. puts_item o value (object_at o hub.old) hub.old ≡ performed_of p hub.new) }
+    ensures { puts_item o value (object_at o hub.old) hub.old ≡ performed_of result hub.new }
 {
     if hub.is_shut(o) {
-        return Ok(raises(FaultKind::ShutDown));
+        return raises(FaultKind::ShutDown);
     }
-    hub.add_to(o, Addition::Item(value))?;
-    Ok(done())
+    hub.change(o, Change::Item(value));
+    done()
 }
 
 /// Takes the item of the queue that is next, where the earlier getters leave one; else the queue is shut.
@@ -148,7 +149,7 @@ pub fn complete_wait(
             hub.change(o, Change::Owner(g));
             Ok(truth(true))
         }
-        Waiting::Put(o, value) => Ok(put_item(hub, o, value)?),
+        Waiting::Put(o, value) => Ok(put_item(hub, o, value)),
         Waiting::Take(o) => Ok(take_item(hub, since, o)),
         Waiting::Peek(o) => Ok(peek_item(alloc, hub, since, o)?),
         Waiting::Tasks(_) => Ok(truth(true)),

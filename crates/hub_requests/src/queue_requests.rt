@@ -17,6 +17,7 @@ use gv_values::{FaultKind, Value};
 use hub_objects::Change;
 use hub_state::Hub;
 use machine::items::Waiting;
+use machine::queued::Queued;
 use machine::state::Object;
 use scenario_tree::{QueueKind, Wait};
 use std::alloc::{AllocError, Global};
@@ -50,7 +51,8 @@ pub fn put_item(
     if !takes_value(hub.object(o), &value) {
         return Ok(raises(FaultKind::TypeError));
     }
-    Ok(come_to_wait(alloc, hub, g, Waiting::Put(o, value), how)?)
+    let queued = Queued::new(alloc, value)?;
+    Ok(come_to_wait(alloc, hub, g, Waiting::Put(o, queued), how)?)
 }
 
 /// Waits for an item of the queue, and takes it.

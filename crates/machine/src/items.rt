@@ -1,3 +1,4 @@
+use crate::queued::Queued;
 use crate::ready::ReadyNumber;
 use gv_values::{FaultKind, Job, LinkKind, Scalar, Value, Whom};
 use scenario_tree::{Boxed, Items};
@@ -26,7 +27,7 @@ pub enum Waiting {
     /// The ownership of a lock.
     Lock(u32),
     /// A free place of a queue, for this value.
-    Put(u32, Value),
+    Put(u32, Queued),
     /// An item of a queue, to take it.
     Take(u32),
     /// An item of a queue, to read it.

@@ -12,6 +12,7 @@ pub mod arguments;
 pub mod items;
 pub mod laws;
 pub mod limits;
+pub mod queued;
 pub mod ready;
 pub mod request;
 pub mod state;
