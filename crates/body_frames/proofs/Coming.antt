@@ -1,5 +1,5 @@
 -- What comes of one move, of an answer, and of the entering of a timeout block.
-use Rattle.std.proofs.Common.{◌≡◌, refl, ap, subst, sym, ◌∙◌, ℕ, Bool, List, [], ◌∷◌, Option, None}
+use Rattle.std.proofs.Common.{◌≡◌, refl, ap, subst, sym, ◌∙◌, ℕ, Bool, List, [], ◌∷◌, Option}
 use Rattle.gv_values.specs.declared.value.Outcome.{Outcome}
 use Rattle.machine.specs.declared.state.Frame.{Frame}
 use Rattle.machine.specs.declared.state.Leaving.{Leaving}
@@ -19,10 +19,11 @@ use Rattle.body_frames.specs.declared.entry.Entry.{Entry}
 use Rattle.body_frames.specs.declared.stack.Made.{Made}
 use Rattle.body_frames.specs.declared.stack.Stack.{Stack}
 use Rattle.body_frames.specs.declared.unwind.Unwound.{Unwound as Left}
-use Rattle.body_frames.specs.Places.{Came, Entered, came_by, place_of}
+use Rattle.body_frames.specs.Places.{Came, came_by, place_of}
 use Rattle.body_frames.specs.Entries.{todo_of}
 use Rattle.body_frames.specs.Few.{HasFewToDo}
-use Rattle.body_frames.specs.Standings.{came_of_made, frame_of, goes_from, made_of, stands}
+use Rattle.body_frames.specs.Runs.{HasMoved, came_of_move}
+use Rattle.body_frames.specs.Standings.{came_of_made, goes_from, made_of, stands}
 
 -- what comes of a step, after which the body stands so
 came_from : Step → Body → Came
@@ -54,16 +55,18 @@ pub comes_where : (locals : List Local) (did : Did) (u : Unwound) → ((moves : 
 unfolding came_from
 comes_where locals did u e = ap (λ (x : Stepped). came_from x.step x.body) (sym (e 0 stands)) ∙ by_move locals did
 
--- what comes of the move of a body by its pile, where these are the blocks that it shares
-pub comes_as : (t u : Coded) (f : Frame) (locals : List Bound) (todo : List Entry) (a : List Local → Around) (made : Made) (s : Stack) → u ≡ t →
-    record { locals = locals_of t.names locals; todo = todo_of t todo; gives = None } ≡ f →
-    ((moves : ℕ) (go : Unwound → Stepped) → after_move moves (locals_of u.names locals) go (body_move (todo_of u todo) (a (locals_of u.names locals))) ≡ made_of u moves go made s) →
-    came_of_made t made s ≡ came_by f.locals (body_move f.todo (a f.locals))
-comes_as t u f locals todo a made s shared view e =
-    ap (λ (w : Coded). came_of_made w made s) (sym shared)
-    ∙ comes_of_move u (locals_of u.names locals) (body_move (todo_of u todo) (a (locals_of u.names locals))) made s e
-    ∙ ap (λ (w : Coded). came_by (locals_of w.names locals) (body_move (todo_of w todo) (a (locals_of w.names locals)))) shared
-    ∙ ap (λ (g : Frame). came_by g.locals (body_move g.todo (a g.locals))) view
+-- a body by its pile, of which this local takes the answer that it waits for
+abbrev pub frame_with : Coded → Stack → Option LocalSlot → Frame
+frame_with t s x = record { locals = locals_of t.names s.locals; todo = todo_of t s.todo; gives = name_if t x }
+
+-- what comes of its move, where these are the blocks that it shares
+pub comes_as : (t u : Coded) (f : Frame) (old : Stack) (x : Option LocalSlot) (near : List Local → Around) (made : Made) (s : Stack) → u ≡ t → frame_with t old x ≡ f →
+    HasMoved u near old made s → came_of_move near f ≡ came_of_made t made s
+comes_as t u f old x near made s shared view e =
+    ap (λ (g : Frame). came_of_move near g) (sym view)
+    ∙ ap (λ (w : Coded). came_of_move near (frame_with w old x)) (sym shared)
+    ∙ sym (comes_of_move u (locals_of u.names old.locals) (body_move (todo_of u old.todo) (near (locals_of u.names old.locals))) made s e)
+    ∙ ap (λ (w : Coded). came_of_made w made s) shared
 
 -- an answer comes to a body by its pile
 pub answered_as : (t u : Coded) (f : Frame) (locals : List Bound) (todo : List Entry) (gives : Option LocalSlot) (answer : Outcome) (at : Left) (s : Stack) → u ≡ t →
@@ -76,25 +79,23 @@ answered_as t u f locals todo gives answer at s shared view goes =
     ∙ ap (λ (g : Frame). unwind g.todo [] (leaving_of answer) (given g answer)) view
 
 -- a body by its pile goes on by itself
-pub goes_as : (t u : Coded) (f : Frame) (old : Stack) (at : Left) (s : Stack) → u ≡ t → frame_of t old ≡ f → old.left ≡ [] →
+pub goes_as : (t u : Coded) (f : Frame) (old : Stack) (x : Option LocalSlot) (at : Left) (s : Stack) → u ≡ t → frame_with t old x ≡ f → old.left ≡ [] →
     unwind (todo_of u old.todo) old.left Leaving.Normally (locals_of u.names old.locals) ≡ goes_from u at s → goes_from t at s ≡ unwind f.todo [] Leaving.Normally f.locals
-goes_as t u f old at s shared view told goes =
+goes_as t u f old x at s shared view told goes =
     ap (λ (w : Coded). goes_from w at s) (sym shared) ∙ sym goes
     ∙ ap (λ (left : List ℕ). unwind (todo_of u old.todo) left Leaving.Normally (locals_of u.names old.locals)) told
     ∙ ap (λ (w : Coded). unwind (todo_of w old.todo) [] Leaving.Normally (locals_of w.names old.locals)) shared
     ∙ ap (λ (g : Frame). unwind g.todo [] Leaving.Normally g.locals) view
 
 -- so each call of it has few arguments where it is shared
-pub few_shared : (t u : Coded) (f : Frame) (s : Stack) → u ≡ t → frame_of t s ≡ f → HasFewToDo f.todo → HasFewToDo (todo_of u s.todo)
-few_shared t u f s shared view few =
+pub few_shared : (t u : Coded) (f : Frame) (s : Stack) (x : Option LocalSlot) → u ≡ t → frame_with t s x ≡ f → HasFewToDo f.todo → HasFewToDo (todo_of u s.todo)
+few_shared t u f s x shared view few =
     subst (λ (w : Coded). HasFewToDo (todo_of w s.todo)) (sym shared) (subst (λ (g : Frame). HasFewToDo g.todo) (sym view) few)
 
 -- a body by its pile enters a timeout block
-pub entered_as : (t u : Coded) (e : Entered) (silent : Bool) (b number : ℕ) (locals : List Bound) (todo : List Entry) (at : Left) (s : Stack) → u ≡ t →
-    record { silent = silent; body = block_at b t; locals = locals_of t.names locals; todo = todo_of t todo } ≡ e →
-    unwind (Todo.Statements (block_at b u) ∷ Todo.Within number silent ∷ todo_of u todo) [] Leaving.Normally (locals_of u.names locals) ≡ goes_from u at s →
-    goes_from t at s ≡ unwind (Todo.Statements e.body ∷ Todo.Within number e.silent ∷ e.todo) [] Leaving.Normally e.locals
-entered_as t u e silent b number locals todo at s shared view goes =
+pub entered_as : (t u : Coded) (silent : Bool) (b number : ℕ) (old : Stack) (at : Left) (s : Stack) → u ≡ t →
+    unwind (Todo.Statements (block_at b u) ∷ Todo.Within number silent ∷ todo_of u old.todo) [] Leaving.Normally (locals_of u.names old.locals) ≡ goes_from u at s →
+    goes_from t at s ≡ unwind (Todo.Statements (block_at b t) ∷ Todo.Within number silent ∷ todo_of t old.todo) [] Leaving.Normally (locals_of t.names old.locals)
+entered_as t u silent b number old at s shared goes =
     ap (λ (w : Coded). goes_from w at s) (sym shared) ∙ sym goes
-    ∙ ap (λ (w : Coded). unwind (Todo.Statements (block_at b w) ∷ Todo.Within number silent ∷ todo_of w todo) [] Leaving.Normally (locals_of w.names locals)) shared
-    ∙ ap (λ (x : Entered). unwind (Todo.Statements x.body ∷ Todo.Within number x.silent ∷ x.todo) [] Leaving.Normally x.locals) view
+    ∙ ap (λ (w : Coded). unwind (Todo.Statements (block_at b w) ∷ Todo.Within number silent ∷ todo_of w old.todo) [] Leaving.Normally (locals_of w.names old.locals)) shared

@@ -1,5 +1,5 @@
 -- Moves of a body one after another.
-use Rattle.std.proofs.Common.{◌≡◌, refl, ap, subst, sym, ◌∙◌, ℕ, zero, suc, ◌+◌, Bool, true, false, List, [], ◌∷◌, Option, None, Some, Result, IfOk, arith}
+use Rattle.std.proofs.Common.{◌≡◌, refl, ap, subst, sym, ◌∙◌, ℕ, suc, ◌+◌, Bool, true, false, List, [], ◌∷◌, Option, None, Some, Result, IfOk, arith}
 use Rattle.scenario_tree.specs.declared.tree.Scenario.{Scenario}
 use Rattle.machine.specs.declared.state.Frame.{Frame}
 use Rattle.machine.specs.declared.state.Leaving.{Leaving}
@@ -9,9 +9,11 @@ use Rattle.machine.specs.Bodies.{around}
 use Rattle.machine.specs.BodyMoves.{body_move}
 use Rattle.machine.specs.Expressions.{Around, Look}
 use Rattle.machine.specs.Unwinding.{unwind}
+use Rattle.gv_values.specs.declared.name.Name.{Name}
+use Rattle.body_names.specs.declared.expression.LocalSlot.{LocalSlot}
 use Rattle.body_names.specs.Locals.{locals_of}
 use Rattle.body_names.specs.Naming.{IsNaming}
-use Rattle.body_blocks.specs.Trees.{Coded}
+use Rattle.body_blocks.specs.Trees.{Coded, name_if}
 use Rattle.body_frames.specs.declared.quick.Quick.{Quick}
 use Rattle.body_frames.specs.declared.runs.Halt.{Halt}
 use Rattle.body_frames.specs.declared.runs.Ran.{Ran}
@@ -27,7 +29,7 @@ use Rattle.body_frames.specs.Quick.{request_of}
 use Rattle.body_frames.specs.Runs.{HasAsked, HasCome, HasMoved, HasRun, HasStayed, MovesOn, came_of_move, halt_of}
 use Rattle.body_frames.specs.Standings.{body_after, came_of_made, frame_of}
 use Rattle.body_frames.specs.Steady.{IsSteady}
-use Rattle.body_frames.proofs.Coming.{comes_of_move, comes_where}
+use Rattle.body_frames.proofs.Coming.{comes_of_move, comes_where, frame_with}
 use Rattle.body_frames.proofs.Keeping.{move_stays_few}
 use Rattle.body_frames.proofs.PrimitiveMoves.{primitive_made}
 
@@ -101,15 +103,6 @@ ran_on t around n a old new leads h =
     subst (λ m. HasRun around m Halt.Ahead a (frame_of t new)) next
     (subst (λ left. MovesOn around n a (Came.Comes (Place.AtMove left (frame_of t new)))) h.0 (leads_last t around n a old (Made.Further Left.Runs) new leads h.2))
 
-run_leaves : (around : List Local → Around) (n : ℕ) (a b : Frame) → MovesOn around n a (Came.Comes (place_of (unwind b.todo [] Leaving.Normally b.locals))) →
-    HasRun around n Halt.Leaves a b
-run_leaves around zero a b h = h
-run_leaves around (suc n) a b h = h
-
-run_asks : (around : List Local → Around) (n : ℕ) (q : Quick) (a b : Frame) → MovesOn around n a (Came.Asks (request_of q) b) → HasRun around n (Halt.Asks q) a b
-run_asks around zero q a b h = h
-run_asks around (suc n) q a b h = h
-
 -- the body leaves a block after a move of integers and truth values
 pub ran_out : (t : Coded) (s : Scenario) (look : Look) (n : ℕ) (a : Frame) (old new : Stack) (made : Bool) → IsNaming t.names → made ≡ true → HasMade made t old new →
     LeadsTo (around s look) n a (frame_of t old) → HasRun (around s look) n Halt.Leaves a (frame_of t new)
@@ -118,9 +111,8 @@ ran_out t s look n a old new true is so h leads =
     let locals = locals_of t.names old.locals in
     let left = unwind (todo_of t new.todo) [] Leaving.Normally (locals_of t.names new.locals) in
     let same : 0 + n ≡ n = omega arith in
-    run_leaves (around s look) n a (frame_of t new)
-    (subst (λ m. MovesOn (around s look) m a (Came.Comes (place_of left))) same
-    (leads 0 (Came.Comes (place_of left)) (comes_where locals (body_move (todo_of t old.todo) (around s look locals)) left (λ moves go. h.1 is moves go s look))))
+    subst (λ m. MovesOn (around s look) m a (Came.Comes (place_of left))) same
+    (leads 0 (Came.Comes (place_of left)) (comes_where locals (body_move (todo_of t old.todo) (around s look locals)) left (λ moves go. h.1 is moves go s look)))
 
 -- the body asked what is answered at once, or no move was made
 pub ran_asked : (t : Coded) (near : List Local → Around) (n : ℕ) (a : Frame) (old mid new : Stack) (made : Bool) (asked : Option Quick) (halt : Halt) →
@@ -132,7 +124,7 @@ ran_asked t near n a old mid new made None halt not m h is ran leads =
 ran_asked t near n a old mid new made (Some q) halt not m h is ran leads =
     let request = Made.Asks (request_of q) None in
     let moved : HasMoved t near old request new = subst (λ (s : Stack). HasMoved t near s request new) (unmade t old mid made m not) h in
-    subst (λ (x : Halt). HasRun near n x a (frame_of t new)) (sym is) (run_asks near n q a (frame_of t new) (leads_last t near n a old request new leads moved))
+    subst (λ (x : Halt). HasRun near n x a (frame_of t new)) (sym is) (leads_last t near n a old request new leads moved)
 
 -- where none was made, it is at its next move still
 pub asked_runs : (t : Coded) (near : List Local → Around) (old mid new : Stack) (made : Bool) (asked : Option Quick) (halt : Halt) →
@@ -163,11 +155,17 @@ runs_at_move (Todo.Afterwards how ∷ todo) h = absurd h
 runs_at_move (Todo.Within n silent ∷ todo) h = absurd h
 
 -- the blocks are those that it shares
-pub runs_shared : (t u : Coded) (f : Frame) (s : Stack) → u ≡ t → frame_of t s ≡ f → RunsAt (todo_of u s.todo) → RunsAt f.todo
-runs_shared t u f s shared view runs = subst (λ (g : Frame). RunsAt g.todo) view (subst (λ (w : Coded). RunsAt (todo_of w s.todo)) shared runs)
+pub runs_shared : (t u : Coded) (f : Frame) (s : Stack) (x : Option LocalSlot) → u ≡ t → frame_with t s x ≡ f → RunsAt (todo_of u s.todo) → RunsAt f.todo
+runs_shared t u f s x shared view runs = subst (λ (g : Frame). RunsAt g.todo) view (subst (λ (w : Coded). RunsAt (todo_of w s.todo)) shared runs)
 
-pub ran_shared : {E : Type 0} (t u : Coded) (near : List Local → Around) (r : Result Ran E) (f : Frame) (old new : Stack) → u ≡ t → frame_of t old ≡ f →
-    IfOk r (λ ran. HasRun near ran.moves ran.halt (frame_of u old) (frame_of u new)) → IfOk r (λ ran. HasRun near ran.moves ran.halt f (frame_of t new))
-ran_shared t u near r f old new shared view h =
-    subst (λ (g : Frame). IfOk r (λ ran. HasRun near ran.moves ran.halt g (frame_of t new))) view
-    (subst (λ (w : Coded). IfOk r (λ ran. HasRun near ran.moves ran.halt (frame_of w old) (frame_of w new))) shared h)
+-- nobody takes an answer
+pub none_takes : (t : Coded) (f : Frame) (s : Stack) (x : Option LocalSlot) → frame_with t s x ≡ f → f.gives ≡ None → name_if t x ≡ None
+none_takes t f s x view unheard = ap (λ (g : Frame). g.gives) view ∙ unheard
+
+pub ran_shared : {E : Type 0} (t u : Coded) (near : List Local → Around) (r : Result Ran E) (f : Frame) (old new : Stack) (x : Option LocalSlot) → u ≡ t → frame_with t old x ≡ f →
+    name_if t x ≡ None → IfOk r (λ ran. HasRun near ran.moves ran.halt (frame_of u old) (frame_of u new)) → IfOk r (λ ran. HasRun near ran.moves ran.halt f (frame_with t new x))
+ran_shared t u near r f old new x shared view unheard h =
+    let with : Option Name → Stack → Frame = λ name s. record { locals = locals_of t.names s.locals; todo = todo_of t s.todo; gives = name } in
+    subst (λ (g : Frame). IfOk r (λ ran. HasRun near ran.moves ran.halt g (frame_with t new x))) view
+    (subst (λ (name : Option Name). IfOk r (λ ran. HasRun near ran.moves ran.halt (with name old) (with name new))) (sym unheard)
+    (subst (λ (w : Coded). IfOk r (λ ran. HasRun near ran.moves ran.halt (frame_of w old) (frame_of w new))) shared h))

@@ -1,4 +1,5 @@
 pub mod Answered
+pub mod Arriving
 pub mod AtMoves
 pub mod Catches
 pub mod Coming

@@ -1,20 +1,25 @@
 -- What a request that is answered at once stands for.
-use Rattle.std.specs.Prelude.{◌≡◌, List}
+use Rattle.std.specs.Prelude.{ℕ, ◌≡◌, List}
 use Rattle.gv_values.specs.declared.value.Value.{Value}
 use Rattle.machine.specs.declared.request.Request.{Request}
 use Rattle.body_names.specs.declared.expression.FlatExpression.{FlatExpression}
 use Rattle.body_names.specs.declared.locals.Bound.{Bound}
 use Rattle.body_primitives.specs.Primitives.{Means}
+use Rattle.body_frames.specs.declared.quick.Deed.{Deed}
 use Rattle.body_frames.specs.declared.quick.Quick.{Quick}
+
+-- the request that this is done at the object
+abbrev pub request_at : ℕ → Deed → Request
+request_at o Deed.Set = Request.Set o
+request_at o Deed.Clear = Request.Clear o
+request_at o Deed.Release = Request.Release o
+request_at o Deed.QueueDone = Request.QueueDone o
 
 -- the request
 abbrev pub request_of : Quick → Request
 request_of (Quick.PrintInteger z) = Request.Print (Value.Int z)
 request_of (Quick.PrintTruth b) = Request.Print (Value.Bool b)
-request_of (Quick.Set o) = Request.Set o
-request_of (Quick.Clear o) = Request.Clear o
-request_of (Quick.Release o) = Request.Release o
-request_of (Quick.QueueDone o) = Request.QueueDone o
+request_of (Quick.At o deed) = request_at o deed
 
 -- it prints the value of the expression
 abbrev pub Prints : Quick → FlatExpression → List Bound → Type 0

@@ -57,10 +57,10 @@ more_of Halt.Leaves = 1
 
 -- the body made so many moves, each of which stays in it and leaves no timeout block, and then what stopped it
 abbrev pub HasRun : (List Local → Around) → ℕ → Halt → Frame → Frame → Type 0
-HasRun around zero Halt.Ahead a b = b ≡ a
-HasRun around (suc n) Halt.Ahead a b = MovesOn around n a (Came.Comes (Place.AtMove [] b))
 HasRun around n (Halt.Asks q) a b = MovesOn around n a (Came.Asks (request_of q) b)
 HasRun around n Halt.Leaves a b = MovesOn around n a (Came.Comes (place_of (unwind b.todo [] Leaving.Normally b.locals)))
+HasRun around zero Halt.Ahead a b = b ≡ a
+HasRun around (suc n) Halt.Ahead a b = MovesOn around n a (Came.Comes (Place.AtMove [] b))
 
 -- it was made so, and the body is at its next move
 abbrev pub HasStayed : Coded → (List Local → Around) → Stack → Stack → Type 0

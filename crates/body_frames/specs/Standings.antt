@@ -6,7 +6,6 @@ use Rattle.machine.specs.Unwinding.{Unwound}
 use Rattle.body_names.specs.Locals.{locals_of}
 use Rattle.body_blocks.specs.Trees.{Coded, block_at, name_if}
 use Rattle.body_frames.specs.declared.frame.Standing.{Standing}
-use Rattle.body_frames.specs.declared.places.Moved.{Moved}
 use Rattle.body_frames.specs.declared.places.Reached.{Reached}
 use Rattle.body_frames.specs.declared.stack.Made.{Made}
 use Rattle.body_frames.specs.declared.stack.Stack.{Stack}
@@ -50,12 +49,6 @@ body_after t made s = (made_of t 0 stands made s).body
 abbrev pub reached_of : Reached → Place
 reached_of (Reached.Move left moving) = Place.AtMove left moving
 reached_of (Reached.End left outcome) = Place.AtEnd left outcome
-
--- what came of its move
-abbrev pub moved_of : Moved → Came
-moved_of (Moved.Comes reached) = Came.Comes (reached_of reached)
-moved_of (Moved.Asks request parked) = Came.Asks request parked
-moved_of (Moved.Enters time entering) = Came.Enters time entering
 
 -- what was made of the move
 abbrev pub came_of_made : Coded → Made → Stack → Came

@@ -21,16 +21,22 @@ use body_primitives::{Primitive, primitive_of};
 use body_values::Code;
 use std::alloc::AllocError;
 
-/// A request that is answered at once, whatever the hub is, and has nothing to do with greenlets: what is printed, or
-/// what is done at the object of this number.
+/// What is done at an object at once, whatever the hub is.
+#[derive(Clone, Copy)]
+pub enum Deed {
+    Set,
+    Clear,
+    Release,
+    QueueDone,
+}
+
+/// A request that is answered at once, whatever the hub is, and has nothing to do with greenlets.
 #[derive(Clone, Copy)]
 pub enum Quick {
     PrintInteger(i64),
     PrintTruth(bool),
-    Set(u32),
-    Clear(u32),
-    Release(u32),
-    QueueDone(u32),
+    /// This is done at the object of this number.
+    At(u32, Deed),
 }
 
 /// Makes the move that is first to do, where it asks what is answered at once. Else nothing is done.
@@ -77,11 +83,17 @@ fn quick_of(code: &Code, blocks: &Blocks, locals: &Locals, action: &FlatAction) 
     };
     match command {
         FlatCommand::Print(e) => print_of(locals, e),
-        FlatCommand::Set(name) => Some(Quick::Set(code.object_numbered(blocks, *name))),
-        FlatCommand::Clear(name) => Some(Quick::Clear(code.object_numbered(blocks, *name))),
-        FlatCommand::Release(name) => Some(Quick::Release(code.object_numbered(blocks, *name))),
+        FlatCommand::Set(name) => {
+            Some(Quick::At(code.object_numbered(blocks, *name), Deed::Set))
+        }
+        FlatCommand::Clear(name) => {
+            Some(Quick::At(code.object_numbered(blocks, *name), Deed::Clear))
+        }
+        FlatCommand::Release(name) => {
+            Some(Quick::At(code.object_numbered(blocks, *name), Deed::Release))
+        }
         FlatCommand::QueueDone(name) => {
-            Some(Quick::QueueDone(code.object_numbered(blocks, *name)))
+            Some(Quick::At(code.object_numbered(blocks, *name), Deed::QueueDone))
         }
         _ => None,
     }

@@ -15,7 +15,7 @@ use Rattle.machine.specs.declared.state.Phase.{Phase}
 use Rattle.machine.specs.Ends.{leaving_of}
 use Rattle.machine.specs.Greenlets.{no_frame, with_phase}
 use Rattle.machine.specs.Holds.{earlier, is_take, newcomer_completes}
-use Rattle.machine.specs.Landing.{answered, given, lands, resumes}
+use Rattle.machine.specs.Landing.{Next, answered, given, lands, resumes}
 use Rattle.machine.specs.Objects.{at_bound, is_left, is_shut, name_of_object, object_at, sets_of, takes_value}
 use Rattle.machine.specs.Request.{acquires, fault_operand, finishes, follows, int_operand, performs, releases, typed}
 use Rattle.machine.specs.Settle.{settle}
@@ -24,8 +24,9 @@ use Rattle.machine.specs.State.{State}
 use Rattle.machine.specs.Unwinding.{unwind}
 use Rattle.machine.specs.Waits.{Performed, comes, completes, waits}
 use Rattle.machine_trace_laws.specs.Reached.{state_of_next}
-use Rattle.body_frames.specs.Places.{Place, place_of}
+use Rattle.body_frames.specs.Places.{place_of}
 use Rattle.body_frames.specs.Quick.{request_of}
+use Rattle.body_frames.specs.declared.quick.Deed.{Deed}
 use Rattle.body_frames.specs.declared.quick.Quick.{Quick}
 use Rattle.hub_objects.specs.Releases.{refused}
 use Rattle.hub_requests.specs.Performing.{nothing_answered, performed_of, raised}
@@ -33,11 +34,9 @@ use Rattle.hub_requests.specs.declared.performed.Performed.{Performed as Came}
 use Rattle.hub_engine.specs.Asking.{leaves_greenlets}
 use Rattle.hub_engine.specs.Making.{MayMove}
 use Rattle.hub_engine.specs.Ready.{AreDeclared}
-use Rattle.hub_engine.specs.Stands.{goes_to, hopped, next_at}
-use Rattle.hub_engine.specs.declared.stand.Hop.{Hop}
-use Rattle.hub_engine.specs.declared.stand.Stand.{Stand}
+use Rattle.hub_engine.specs.Stands.{goes_to}
 use Rattle.hub_engine.proofs.Blind.{phase_same, phase_twice, phased, resumes_blind}
-use Rattle.hub_engine.proofs.Bodies.{start_goes}
+use Rattle.hub_engine.proofs.Bodies.{goes_as_placed}
 use Rattle.hub_engine.proofs.Functions.{declared_followed, declared_unphased}
 use Rattle.hub_engine.proofs.Moving.{body-at, settle-under-way}
 
@@ -208,10 +207,9 @@ phase-set [] g p q h = absurd (grind (arith, h))
 phase-set (x ∷ gs) zero p q h = refl
 phase-set (x ∷ gs) (suc g) p q h = phase-set gs g p q h
 
-pub answers_at_once : (g : ℕ) (body : Frame) (o : Outcome) (place : Place) (s u t v : State) (hop : Hop) (at : Stand) → phase_of g s.greenlets ≡ Some (Phase.Live no_frame) → u ≡ settle s →
-    place ≡ place_of (unwind body.todo [] (leaving_of o) (given body o)) → goes_to lands g place u ≡ hopped lands hop t → hopped lands hop t ≡ next_at at v →
-    answered g o (settle (with_phase g (Phase.Live body) s)) ≡ next_at at v
-answers_at_once g body o place s u t v hop at under e f h k =
+pub answers_at_once : (g : ℕ) (body : Frame) (o : Outcome) (s u : State) (next : Next) → phase_of g s.greenlets ≡ Some (Phase.Live no_frame) → u ≡ settle s →
+    goes_to lands g (place_of (unwind body.todo [] (leaving_of o) (given body o))) u ≡ next → answered g o (settle (with_phase g (Phase.Live body) s)) ≡ next
+answers_at_once g body o s u next under e h =
     let p = Phase.Live body in
     let same : with_phase g (Phase.Live no_frame) s ≡ s = ap (λ gs. with_all gs s) (phase_same s.greenlets g (Phase.Live no_frame) under) in
     let settled : settle (with_phase g p s) ≡ with_phase g p u =
@@ -221,8 +219,8 @@ answers_at_once g body o place s u t v hop at under e f h k =
     ap (answered g o) settled
     ∙ ap (λ (b : Frame). resumes lands g b o (with_phase g p u)) (body-at u.greenlets g body live)
     ∙ resumes_blind lands g body o p u
-    ∙ start_goes lands g (unwind body.todo [] (leaving_of o) (given body o)) place u t hop f h
-    ∙ k
+    ∙ goes_as_placed lands g (unwind body.todo [] (leaving_of o) (given body o)) u
+    ∙ h
 
 -- ---- what is answered at once
 
@@ -234,10 +232,10 @@ answered_quickly (Some f) = raised f
 pub leaves_quickly : (q : Quick) → leaves_greenlets (request_of q) ≡ true
 leaves_quickly (Quick.PrintInteger z) = refl
 leaves_quickly (Quick.PrintTruth b) = refl
-leaves_quickly (Quick.Set o) = refl
-leaves_quickly (Quick.Clear o) = refl
-leaves_quickly (Quick.Release o) = refl
-leaves_quickly (Quick.QueueDone o) = refl
+leaves_quickly (Quick.At o Deed.Set) = refl
+leaves_quickly (Quick.At o Deed.Clear) = refl
+leaves_quickly (Quick.At o Deed.Release) = refl
+leaves_quickly (Quick.At o Deed.QueueDone) = refl
 
 refused_as : (fault : Option FaultKind) (s : State) → refused fault s ≡ performed_of (answered_quickly fault) s
 refused_as None s = refl

@@ -8,7 +8,7 @@ pub mod Ending
 pub mod Functions
 pub mod Giving
 pub mod Landing
-pub mod Legs
+pub mod LegByLeg
 pub mod Mains
 pub mod Moving
 pub mod Passing

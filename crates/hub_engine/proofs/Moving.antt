@@ -6,7 +6,6 @@ use Rattle.std.specs.Prelude.{is_some, nat_le, count_by}
 use Rattle.std.specs.List.{list_all}
 use Rattle.gv_values.specs.declared.value.Outcome.{Outcome}
 use Rattle.gv_values.specs.declared.value.Whom.{Whom}
-use Rattle.scenario_tree.specs.declared.tree.Statement.{Statement}
 use Rattle.machine.specs.declared.items.Delivery.{Delivery}
 use Rattle.machine.specs.declared.items.Item.{Item}
 use Rattle.machine.specs.declared.items.Waiting.{Waiting}
@@ -28,7 +27,8 @@ use Rattle.machine.specs.Request.{follows, performs}
 use Rattle.machine.specs.Unwinding.{unwind}
 use Rattle.machine.specs.Settle.{numbers_after, settle, settled}
 use Rattle.machine.specs.State.{State}
-use Rattle.body_frames.specs.Places.{Came, Place, came_by, place_of}
+use Rattle.body_frames.specs.Destinations.{inside}
+use Rattle.body_frames.specs.Places.{Came, Entered, Place, came_by}
 use Rattle.hub_state.specs.Sights.{look_of, outcome_seen}
 use Rattle.hub_engine.specs.Asking.{IsDeclaredAfter, does_came, fits_came}
 use Rattle.hub_engine.specs.Ready.{AreDeclared, IsReadyToMove}
@@ -38,9 +38,7 @@ use Rattle.machine_reached.specs.Meant.{fits_did}
 use Rattle.machine_soundness.specs.Going.{next_did}
 use Rattle.scenario_tree.specs.declared.tree.Scenario.{Scenario}
 use Rattle.machine.specs.declared.request.Request.{Request}
-use Rattle.hub_engine.specs.Stands.{goes_to, hopped, next_at}
-use Rattle.hub_engine.specs.declared.stand.Hop.{Hop}
-use Rattle.hub_engine.specs.declared.stand.Stand.{Stand}
+use Rattle.hub_engine.specs.Stands.{goes_to}
 use Rattle.hub_engine.proofs.Blind.{goes_on_blind, goes_to_blind, phased, with_phase_twice}
 use Rattle.hub_engine.proofs.Bodies.{goes_as_placed}
 
@@ -126,45 +124,44 @@ settle-under-way g body s =
     ap outcome_of (with_phase_twice g (Phase.Live no_frame) (Phase.Live body) s) ∙ outcomes-seen g body s ∙ sym (outcomes-seen g no_frame s) in
     ap (settled_by u) (holds_same t u.greenlets t.moves same)
 
-pub settles_under_way : (g : ℕ) (before : Frame) (place : Place) (s t u v w : State) (hop : Hop) (at : Stand) → t ≡ with_phase g (Phase.Live no_frame) s → u ≡ settle t →
-    goes_to lands g place u ≡ hopped lands hop v → hopped lands hop v ≡ next_at at w → goes_to lands g place (settle (with_phase g (Phase.Live before) s)) ≡ next_at at w
-settles_under_way g before place s t u v w hop at e f h k =
+pub settles_under_way : (g : ℕ) (before : Frame) (place : Place) (s t u : State) (next : Next) → t ≡ with_phase g (Phase.Live no_frame) s → u ≡ settle t →
+    goes_to lands g place u ≡ next → goes_to lands g place (settle (with_phase g (Phase.Live before) s)) ≡ next
+settles_under_way g before place s t u next e f h =
     let x = with_phase g (Phase.Live no_frame) s in
     ap (λ (y : State). goes_to lands g place (settle y)) (sym (with_phase_twice g (Phase.Live no_frame) (Phase.Live before) s))
     ∙ ap (goes_to lands g place) (settle-under-way g before s)
     ∙ goes_to_blind lands g place (Phase.Live before) (settle x)
     ∙ ap (goes_to lands g place) (ap settle (sym e) ∙ sym f)
-    ∙ h ∙ k
+    ∙ h
 
 -- a timeout item comes whatever phase its greenlet has
 timeout-blind : (g n : ℕ) (ms : Option ℕ) (p : Phase) (s : State) → timeout_item g n ms (with_phase g p s) ≡ with_phase g p (timeout_item g n ms s)
 timeout-blind g n None p s = refl
 timeout-blind g n (Some ms) p s = refl
 
-pub enters_under_way : (g n : ℕ) (ms : Option ℕ) (silent : Bool) (body : List Statement) (locals : List Local) (todo : List Todo) (before : Frame) (place : Place) (s t u v w x y : State)
-    (hop : Hop) (at : Stand) → t ≡ with_phase g (Phase.Live no_frame) s → n ≡ t.timeouts + 1 → u ≡ record t { timeouts = t.timeouts + 1 } → v ≡ timeout_item g n ms u → w ≡ settle v →
-    place ≡ place_of (unwind (Todo.Statements body ∷ Todo.Within n silent ∷ todo) [] Leaving.Normally locals) → goes_to lands g place w ≡ hopped lands hop x → hopped lands hop x ≡ next_at at y →
-    enters g ms silent body locals todo (with_phase g (Phase.Live before) s) ≡ next_at at y
-enters_under_way g n ms silent body locals todo before place s t u v w x y hop at e f k l m p q r =
+pub enters_under_way : (g n : ℕ) (ms : Option ℕ) (e : Entered) (before : Frame) (s t u v w : State) (next : Next) → t ≡ with_phase g (Phase.Live no_frame) s → n ≡ t.timeouts + 1 →
+    u ≡ record t { timeouts = t.timeouts + 1 } → v ≡ timeout_item g n ms u → w ≡ settle v → goes_to lands g (inside (s.timeouts + 1) e) w ≡ next →
+    enters g ms e.silent e.body e.locals e.todo (with_phase g (Phase.Live before) s) ≡ next
+enters_under_way g n ms e before s t u v w next is_t is_n is_u is_v is_w h =
     let s1 = record s { timeouts = s.timeouts + 1 } in
-    let number : n ≡ s.timeouts + 1 = f ∙ ap (λ (z : State). z.timeouts + 1) e in
-    let there = λ (m : ℕ). unwind (Todo.Statements body ∷ Todo.Within m silent ∷ todo) [] Leaving.Normally locals in
+    let number : n ≡ s.timeouts + 1 = is_n ∙ ap (λ (z : State). z.timeouts + 1) is_t in
+    let there = λ (m : ℕ). unwind (Todo.Statements e.body ∷ Todo.Within m e.silent ∷ e.todo) [] Leaving.Normally e.locals in
     let item = timeout_item g n ms s1 in
     let gone : with_phase g (Phase.Live no_frame) item ≡ v =
-    sym (timeout-blind g n ms (Phase.Live no_frame) s1) ∙ ap (timeout_item g n ms) (sym (k ∙ ap (λ (z : State). record z { timeouts = z.timeouts + 1 }) e)) ∙ sym l in
+    sym (timeout-blind g n ms (Phase.Live no_frame) s1) ∙ ap (timeout_item g n ms) (sym (is_u ∙ ap (λ (z : State). record z { timeouts = z.timeouts + 1 }) is_t)) ∙ sym is_v in
     ap (λ (m : ℕ). goes_on lands g (there m) (settle (timeout_item g m ms (with_phase g (Phase.Live before) s1)))) (sym number)
     ∙ ap (λ (z : State). goes_on lands g (there n) (settle z)) (timeout-blind g n ms (Phase.Live before) s1 ∙ sym (with_phase_twice g (Phase.Live no_frame) (Phase.Live before) item))
     ∙ ap (goes_on lands g (there n)) (settle-under-way g before item)
     ∙ goes_on_blind lands g (there n) (Phase.Live before) (settle (with_phase g (Phase.Live no_frame) item))
     ∙ ap (λ (z : State). goes_on lands g (there n) (settle z)) gone
-    ∙ ap (goes_on lands g (there n)) (sym m)
+    ∙ ap (goes_on lands g (there n)) (sym is_w)
     ∙ goes_as_placed lands g (there n) w
-    ∙ ap (λ (z : Place). goes_to lands g z w) (sym p)
-    ∙ q ∙ r
+    ∙ ap (λ (m : ℕ). goes_to lands g (inside m e) w) number
+    ∙ h
 
-pub asks_blind : (g : ℕ) (before body : Frame) (request : Request) (s v : State) (at : Stand) → follows g (performs request g (with_phase g (Phase.Live body) s)) ≡ next_at at v →
-    follows g (performs request g (with_phase g (Phase.Live body) (with_phase g (Phase.Live before) s))) ≡ next_at at v
-asks_blind g before body request s v at h =
+pub asks_blind : (g : ℕ) (before body : Frame) (request : Request) (s : State) (next : Next) → follows g (performs request g (with_phase g (Phase.Live body) s)) ≡ next →
+    follows g (performs request g (with_phase g (Phase.Live body) (with_phase g (Phase.Live before) s))) ≡ next
+asks_blind g before body request s next h =
     ap (λ (y : State). follows g (performs request g y)) (with_phase_twice g (Phase.Live before) (Phase.Live body) s) ∙ h
 
 -- where what is asked is done, functions are known
@@ -213,11 +210,11 @@ move_came g body s t came h e f =
     ∙ ap (λ (c : Came). does_came g c (record u { moves = u.moves + 1 })) (sym (came-same g body s t came e f))
     ∙ ap (λ (x : State). does_came g came (with_phase g (Phase.Live body) x)) (sym f)
 
-pub moved : (g : ℕ) (body : Frame) (s t v : State) (came : Came) (at : Stand) → IsReadyToMove g (with_phase g (Phase.Live body) s) →
+pub moved : (g : ℕ) (body : Frame) (s t : State) (came : Came) (next : Next) → IsReadyToMove g (with_phase g (Phase.Live body) s) →
     came ≡ came_by body.locals (body_move body.todo (around t.scenario (look_of (record { current = g; state = t })) body.locals)) →
-    t ≡ record s { moves = s.moves + 1 } → ((before : Frame) → does_came g came (with_phase g (Phase.Live before) t) ≡ next_at at v) →
-    move g (with_phase g (Phase.Live body) s) ≡ next_at at v
-moved g body s t v came at h e f d = move_came g body s t came (going_sound g _ h).1.live e f ∙ d body
+    t ≡ record s { moves = s.moves + 1 } → ((before : Frame) → does_came g came (with_phase g (Phase.Live before) t) ≡ next) →
+    move g (with_phase g (Phase.Live body) s) ≡ next
+moved g body s t came next h e f d = move_came g body s t came (going_sound g _ h).1.live e f ∙ d body
 
 -- functions are known after the move
 pub moves_declared : (g : ℕ) (body : Frame) (s t : State) (came : Came) → IsReadyToMove g (with_phase g (Phase.Live body) s) →

@@ -86,8 +86,8 @@ ready_move g s h =
       sound = move-soundly g (silent h.before) (m.meant g h.before h.ready.reached) (kept-silent h.before h.ready.sound.0) (going-silent g h.before h.ready.sound.1);
     })
 
-pub ready_moved : (g : ℕ) (s t : State) (at : Stand) → IsReadyToMove g s → move g s ≡ next_at at t → IsReadyAt (next_at at t)
-ready_moved g s t at h e = subst IsReadyAt e (ready_move g s h)
+pub ready_moved : (g : ℕ) (s : State) (next : Next) → IsReadyToMove g s → move g s ≡ next → IsReadyAt next
+ready_moved g s next h e = subst IsReadyAt e (ready_move g s h)
 
 pub ready_going : (g : ℕ) (s t : State) → IsReadyAt (Next.Going g s) → t ≡ silent s → IsReadyToMove g t
 ready_going g s t h e = record { before = s; ready = h; same = e }

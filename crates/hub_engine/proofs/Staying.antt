@@ -27,7 +27,7 @@ use Rattle.hub_state.specs.Sights.{look_of}
 use Rattle.hub_engine.specs.Legs.{GoesBy}
 use Rattle.hub_engine.specs.Onward.{IsAtRest, MovesTo}
 use Rattle.hub_engine.specs.Ready.{IsReadyAt, IsReadyToMove}
-use Rattle.hub_engine.specs.Stands.{goes_to, next_at}
+use Rattle.hub_engine.specs.Stands.{goes_to}
 use Rattle.hub_engine.proofs.Blind.{phased, with_phase_twice}
 use Rattle.hub_engine.proofs.Moving.{ended_at, holds_same, look_counted, move_came, moved, moves_declared, moves_fit, seen_at, settled_by}
 use Rattle.hub_engine.proofs.Readily.{declared_counted, going_sound, ready_going, ready_move, ready_moved}
@@ -166,6 +166,6 @@ goes_by g n most a s t came rest few ready on e =
       fits = moves_fit g last.body x t came last.ready comes counted;
       declared = declared_counted g last.body x t last.ready counted;
       after = moves_declared g last.body x t came last.ready comes counted;
-      moves = λ v at d. last.moves (next_at at v) (moved g last.body x t v came at last.ready comes counted d);
-      ready = λ v at d. ready_moved g (with_phase g (Phase.Live last.body) x) v at last.ready (moved g last.body x t v came at last.ready comes counted d);
+      moves = λ next d. last.moves next (moved g last.body x t came next last.ready comes counted d);
+      ready = λ next d. ready_moved g (with_phase g (Phase.Live last.body) x) next last.ready (moved g last.body x t came next last.ready comes counted d);
     }

@@ -6,6 +6,7 @@ pub mod Making
 pub mod Onward
 pub mod Outside
 pub mod Prepared
+pub mod Progress
 pub mod Ready
 pub mod Settlings
 pub mod Stands

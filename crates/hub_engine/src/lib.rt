@@ -11,6 +11,7 @@
 
 mod broken;
 mod deliver;
+mod legs;
 mod life;
 mod moves;
 mod run;

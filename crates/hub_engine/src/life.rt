@@ -1,18 +1,22 @@
 //! Greenlets: how one starts, goes on and ends, and how an input lands at a raw one.
 ghost use Rattle.std.specs.Prelude.{◌≡◌, ◌+◌, IfOk};
+ghost use Rattle.body_frames.specs.Destinations.{Arrives};
+ghost use Rattle.body_frames.specs.Places.{Place};
 ghost use Rattle.body_values.specs.Functions.{IsFunction};
 ghost use Rattle.body_frames.specs.Standings.{reached_of};
 ghost use Rattle.machine.specs.State.{State};
+ghost use Rattle.machine.specs.declared.state.Frame.{Frame};
 ghost use Rattle.machine.specs.Landing.{Landing, after_end, starts, resumes, answered, lands, lands_once};
 ghost use Rattle.machine.specs.Ends.{outcome_of_leaving, leaving_of, stop_of};
 ghost use Rattle.machine.specs.Greenlets.{frame_of, greenlet};
 ghost use Rattle.machine.specs.Items.{drop_items, is_timeout_of};
+ghost use Rattle.hub_engine.specs.Progress.{ProgressesTo};
 ghost use Rattle.hub_engine.specs.Ready.{AreDeclared};
 ghost use Rattle.hub_engine.specs.Settlings.{MaySettle, most_hops};
 ghost use Rattle.hub_engine.specs.Stands.{end_goes, goes_to, hopped, next_at};
 
-use crate::stand::{Hop, Stand};
-use body_frames::{Reached, answer_body, begin_body};
+use crate::stand::{Hop, Progress, Stand};
+use body_frames::{Destination, Reached, answer_body, begin_body};
 use gv_values::{Outcome, Value, kept_outcome};
 use hub_requests::{Far, end_greenlet, how_far, say_end};
 use hub_state::Hub;
@@ -203,6 +207,24 @@ pub fn hop_on(alloc: Global, hub: &mut Hub, hop: Hop) -> Result<Stand, AllocErro
     match hop {
         Hop::At(stand) => Ok(stand),
         Hop::Up(parent, outcome) => Ok(land(alloc, hub, parent, outcome)?),
+    }
+}
+
+/// Lets the greenlet go on to where its body came, which stays where it is.
+pub fn arrive(alloc: Global, hub: &mut Hub, g: u32, to: Destination) -> Result<Progress, AllocError>
+    requires declared { AreDeclared hub.old }
+    requires settles { MaySettle (most_hops + 1) hub.old }
+    ensures { (place : Place) (body : Frame) → Arrives place to body → IfOk result (λ p. ProgressesTo (goes_to lands g place hub.old) p g body hub.new) }
+{
+    match to {
+        Destination::Move(left) => {
+            drop_left(hub, g, left);
+            Ok(Progress::Stays)
+        }
+        Destination::End(left, outcome) => {
+            let hop = place_greenlet(alloc, hub, g, Reached::End(left, outcome))?;
+            Ok(Progress::At(hop_on(alloc, hub, hop)?))
+        }
     }
 }
 

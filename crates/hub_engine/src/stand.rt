@@ -2,8 +2,9 @@
 ghost use Rattle.std.specs.Prelude.{◌≡◌, IsTrue};
 ghost use Rattle.machine.specs.Run.{silent};
 
-use body_frames::Moving;
+use body_frames::{Moving, Request};
 use gv_values::Outcome;
+use hub_requests::Performed;
 use hub_state::Hub;
 use trace_text::StopCause;
 
@@ -25,6 +26,19 @@ pub enum Hop {
     At(Stand),
     /// This input is to land at this greenlet.
     Up(u32, Outcome),
+}
+
+/// What is left of the step of a greenlet after its move, whose body stays where it is.
+#[derive(Drop)]
+pub enum Progress {
+    /// The body is at its next move.
+    Stays,
+    /// Nothing: the body has ended, and the hub stands here.
+    At(Stand),
+    /// The body waits for the answer to its request, of which this came.
+    Waits(Performed),
+    /// The body waits for the answer to this request, which is not performed yet.
+    Asks(Request),
 }
 
 /// Whether a part of the run came to rest, or the run is over.

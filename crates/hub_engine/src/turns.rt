@@ -18,8 +18,8 @@ ghost use Rattle.hub_engine.specs.Written.{CameTo, Counts, RunsTo, Rounds, RunsO
 
 use crate::broken::Broken;
 use crate::deliver::{deliver_item, throw_into};
+use crate::legs::step_greenlet;
 use crate::life::start_body;
-use crate::moves::step_greenlet;
 use crate::run::EngineEnd;
 use crate::stand::{Came, Stand, is_silent};
 use gv_io::Sink;

@@ -14,6 +14,7 @@ use crate::operands::{
     fault_operand, int_operand, plain_greenlet, plain_greenlet_list, whom_operand,
 };
 use crate::performed::{Performed, done, raises};
+use crate::quick::say_print;
 use crate::waits::come_to_wait;
 use gv_values::{FaultKind, LinkKind, Value, Whom};
 use hub_state::Hub;
@@ -21,14 +22,14 @@ use machine::arguments::Arguments;
 use machine::items::Waiting;
 use scenario_tree::{Items, Wait};
 use std::alloc::{AllocError, Global};
-use trace_text::{Awaited, Line};
+use trace_text::Awaited;
 
 /// Says what is printed.
 #[tactic(auto, unfolding(machine::specs::Request::performs))]
 pub fn print_value(hub: &mut Hub, g: u32, value: Value) -> Result<Performed, AllocError>
     ensures { IfOk result (λ p. performs (Asked.Print value) g hub.old ≡ performed_of p hub.new) }
 {
-    hub.say(Line::Print { greenlet: g, value })?;
+    say_print(hub, g, value)?;
     Ok(done())
 }
 

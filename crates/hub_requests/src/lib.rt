@@ -30,4 +30,4 @@ pub use far::{Far, how_far};
 pub use late::late_outcome;
 pub use performed::Performed;
 pub use performs::perform;
-pub use quick::perform_quick;
+pub use quick::{do_at, say_print};

@@ -1,4 +1,4 @@
-use Rattle.std.proofs.Common.{◌+◌, ◌∙◌, ap, sym, subst}
+use Rattle.std.proofs.Common.{◌+◌, ◌∙◌, refl, ap, sym, subst}
 use Rattle.machine.specs.declared.state.Phase.{Phase}
 use Rattle.machine.specs.Greenlets.{no_frame, with_phase}
 use Rattle.machine.specs.Request.{follows, performs}
@@ -14,38 +14,42 @@ use Rattle.hub_engine.proofs.moves.serve_beside.Goals as goal
 pub perform-requires-clause-room : goal.perform-requires-clause-room
 perform-requires-clause-room c = subst (HasRoom room_of_move) (sym c.go_under_way.ensures) (c.requires.room.any no_frame)
 
-pub answer_at_once-requires : goal.answer_at_once-requires
-answer_at_once-requires c =
+pub answer_running-requires : goal.answer_running-requires
+answer_running-requires c =
     let came = c.in_ok-performed.performed in
     let room = subst (HasRoom room_of_move) (sym c.go_under_way.ensures) (c.requires.room.any no_frame) in
     record {
-      declared = declared_beside c.args.g c.args.body c.args.request came c.args.hub.now c.go_under_way.new.hub c.perform.new.hub c.requires.leaves c.go_under_way.ensures c.in_ok-performed.ensures c.requires.after;
+      few = c.requires.few;
+      declared = declared_beside c.args.g c.args.running.now c.args.request came c.args.hub.now c.go_under_way.new.hub c.perform.new.hub c.requires.leaves c.go_under_way.ensures c.in_ok-performed.ensures c.requires.after;
       under_way = still_under_way c.args.g c.args.request came c.args.hub.now c.go_under_way.new.hub c.perform.new.hub c.requires.may_move c.requires.leaves c.go_under_way.ensures c.in_ok-performed.ensures;
       settles = performed_settles room_of_move c.go_under_way.new.hub (performs c.args.request c.args.g c.go_under_way.new.hub) came c.perform.new.hub (λ b h. performs-counts b c.args.request c.args.g c.go_under_way.new.hub h)
           room c.in_ok-performed.ensures;
     }
 
-pub go_on_after-requires : goal.go_on_after-requires
-go_on_after-requires c =
-    let room = subst (HasRoom room_of_move) (sym c.go_under_way.ensures) (c.requires.room.any no_frame) in
-    let after = performed_settles room_of_move c.go_under_way.new.hub (performs c.args.request c.args.g c.go_under_way.new.hub) c.in_ok-performed.performed c.perform.new.hub
-    (λ b h. performs-counts b c.args.request c.args.g c.go_under_way.new.hub h) room c.in_ok-performed.ensures in
+pub returns-in_ok-answer_running-in-Answers : goal.returns-in_ok-answer_running-in-Answers
+returns-in_ok-answer_running-in-Answers c =
+    let pr = c.in_ok-answer_running-in-Answers.ensures in
     record {
-      declared = declared_waiting c.args.g c.args.body c.args.request c.in_ok-performed.performed c.args.hub.now c.go_under_way.new.hub c.perform.new.hub c.set_stage.new.self c.requires.leaves c.go_under_way.ensures c.in_ok-performed.ensures
-          c.requires.after c.set_stage.ensures;
-      settles = settles_phased (most_hops + 2) c.args.g (Phase.Live c.args.body) c.perform.new.hub c.set_stage.new.self c.set_stage.ensures after;
+      comes = ap (follows c.args.g)
+          (performed_beside c.args.g c.args.running.now c.args.request c.in_ok-performed.performed c.args.hub.now c.go_under_way.new.hub c.perform.new.hub c.requires.leaves c.go_under_way.ensures c.in_ok-performed.ensures
+          ∙ ap (λ (p : Performed). performed_of p (with_phase c.args.g (Phase.Live c.args.running.now) c.perform.new.hub)) c.in-Answers.is)
+          ∙ pr.comes;
+      may = pr.may;
     }
 
-pub returns-in_ok-answer_at_once-in-Answers : goal.returns-in_ok-answer_at_once-in-Answers
-returns-in_ok-answer_at_once-in-Answers c =
-    ap (follows c.args.g)
-    (performed_beside c.args.g c.args.body c.args.request c.in_ok-performed.performed c.args.hub.now c.go_under_way.new.hub c.perform.new.hub c.requires.leaves c.go_under_way.ensures c.in_ok-performed.ensures
-    ∙ ap (λ (p : Performed). performed_of p (with_phase c.args.g (Phase.Live c.args.body) c.perform.new.hub)) c.in-Answers.is)
-    ∙ c.in_ok-answer_at_once-in-Answers.ensures
-
-pub returns-in_ok-go_on_after-in_default : goal.returns-in_ok-go_on_after-in_default
-returns-in_ok-go_on_after-in_default c =
-    ap (follows c.args.g)
-    (performed_beside c.args.g c.args.body c.args.request c.in_ok-performed.performed c.args.hub.now c.go_under_way.new.hub c.perform.new.hub c.requires.leaves c.go_under_way.ensures c.in_ok-performed.ensures
-    ∙ ap (performed_of c.in_ok-performed.performed) (sym c.set_stage.ensures))
-    ∙ c.in_ok-go_on_after-in_default.ensures
+pub returns-in_default : goal.returns-in_default
+returns-in_default c =
+    let came = c.in_ok-performed.performed in
+    let b = c.args.running.now in
+    let room = subst (HasRoom room_of_move) (sym c.go_under_way.ensures) (c.requires.room.any no_frame) in
+    let after = performed_settles room_of_move c.go_under_way.new.hub (performs c.args.request c.args.g c.go_under_way.new.hub) came c.perform.new.hub
+    (λ b h. performs-counts b c.args.request c.args.g c.go_under_way.new.hub h) room c.in_ok-performed.ensures in
+    record {
+      comes = ap (follows c.args.g) (performed_beside c.args.g b c.args.request came c.args.hub.now c.go_under_way.new.hub c.perform.new.hub c.requires.leaves c.go_under_way.ensures c.in_ok-performed.ensures);
+      may = record {
+        few = c.requires.few;
+        declared = declared_waiting c.args.g b c.args.request came c.args.hub.now c.go_under_way.new.hub c.perform.new.hub (with_phase c.args.g (Phase.Live b) c.perform.new.hub) c.requires.leaves c.go_under_way.ensures
+            c.in_ok-performed.ensures c.requires.after refl;
+        settles = settles_phased (most_hops + 2) c.args.g (Phase.Live b) c.perform.new.hub (with_phase c.args.g (Phase.Live b) c.perform.new.hub) refl after;
+      };
+    }

@@ -1,22 +1,18 @@
-use Rattle.std.proofs.Common.{ap, ◌∙◌, subst}
-use Rattle.body_blocks.specs.Trees.{Coded}
-use Rattle.body_frames.specs.Few.{HasFewUnwound}
-use Rattle.body_frames.specs.Places.{place_of}
-use Rattle.body_frames.specs.Standings.{goes_from}
-use Rattle.body_frames.specs.Steady.{HasMove}
+use Rattle.std.proofs.Common.{[]}
+use Rattle.machine.specs.declared.state.Leaving.{Leaving}
+use Rattle.machine.specs.Unwinding.{unwind}
+use Rattle.body_frames.proofs.Arriving.{arrives_as}
 use Rattle.body_frames.proofs.Coming.{few_shared, goes_as}
 use Rattle.body_frames.proofs.running.Running.go_on.Goals as goal
 
-pub reach-requires-clause-moves : goal.reach-requires-clause-moves
-reach-requires-clause-moves c = subst (λ (w : Coded). HasMove (goes_from w c.in_ok-at.at c.go_inwards.new.stack)) c.deref.ensures c.in_ok-at.ensures.moves
-
-pub reach-requires-clause-few : goal.reach-requires-clause-few
-reach-requires-clause-few c =
-    subst (λ (w : Coded). HasFewUnwound (goes_from w c.in_ok-at.at c.go_inwards.new.stack)) c.deref.ensures
-    (c.in_ok-at.ensures.few (few_shared c.self.inside.blocks.value c.deref.result.now c.args.self c.self.inside.stack c.deref.ensures c.self.view_is c.requires))
-
 pub returns : goal.returns
 returns c =
-    c.reach.ensures
-    ∙ ap place_of (goes_as c.self.inside.blocks.value c.deref.result.now c.args.self c.self.inside.stack c.in_ok-at.at c.go_inwards.new.stack c.deref.ensures c.self.view_is c.self.invariant
-    c.in_ok-at.ensures.left)
+    let t = c.self.inside.blocks.value in
+    let u = c.deref.result.now in
+    let f = c.args.self.now in
+    let old = c.self.inside.stack in
+    let x = c.self.inside.gives in
+    let new = c.go_inwards-at.new.stack in
+    arrives_as t u c.in_ok-at.field-0 new c.take_left-left.result (unwind f.todo [] Leaving.Normally f.locals) c.destination_of.result c.deref.ensures c.take_left-left.ensures.taken
+    (goes_as t u f old x c.in_ok-at.field-0 new c.deref.ensures c.self.view_is c.self.invariant c.in_ok-at.ensures.left)
+    c.in_ok-at.ensures.moves (c.in_ok-at.ensures.few (few_shared t u f old x c.deref.ensures c.self.view_is c.requires)) c.destination_of.ensures

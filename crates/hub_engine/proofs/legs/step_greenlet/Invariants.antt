@@ -1,8 +1,8 @@
 use Rattle.std.proofs.Common.{◌-◌}
 use Rattle.machine.specs.declared.state.Phase.{Phase}
 use Rattle.machine.specs.Greenlets.{with_phase}
-use Rattle.hub_engine.proofs.Legs.{GoesOn}
-use Rattle.hub_engine.proofs.moves.step_greenlet.Given as goal
+use Rattle.hub_engine.proofs.LegByLeg.{GoesOn}
+use Rattle.hub_engine.proofs.legs.step_greenlet.Given as goal
 
 abbrev pub invariant-moves : goal.invariant-moves
 invariant-moves l = GoesOn l.g l.made l.most (with_phase l.g (Phase.Live l.fn.body) l.initial.hub) l.running l.hub

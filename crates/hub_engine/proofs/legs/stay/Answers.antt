@@ -4,7 +4,7 @@ use Rattle.machine.specs.Greenlets.{no_frame, with_phase}
 use Rattle.machine.specs.State.{State}
 use Rattle.machine_rooms.specs.Rooms.{HasRoom, room_of_move}
 use Rattle.hub_engine.proofs.Settlings.{room_settles, settles_first}
-use Rattle.hub_engine.proofs.moves.stay.Goals as goal
+use Rattle.hub_engine.proofs.legs.stay.Goals as goal
 
 pub settle_hub-requires : goal.settle_hub-requires
 settle_hub-requires c =
