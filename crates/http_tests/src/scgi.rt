@@ -1,11 +1,9 @@
 //! SCGI connections, answered piece by piece.
-ghost use Rattle.std.specs.Prelude.{◌<◌};
-
-use gv_io::{MemorySink, MemorySource};
+use crate::connections::{Row, is_answered};
 use scgi_core::ScgiSession;
-use std::alloc::{AllocError, Global};
-use std::test::Fail;
-use wsgi_connection::{ConnectionEnd, answer_connection};
+use std::alloc::Global;
+use std::process::Abort;
+use wsgi_connection::ConnectionEnd;
 use wsgi_core::{SessionPhase, ShippedApp, Talk};
 
 const BAD_REQUEST: &[u8] = b"Status: 400 Bad Request\r\nContent-Length: 0\r\n\r\n";
@@ -15,30 +13,19 @@ const TOO_LARGE: &[u8] = b"Status: 413 Request Entity Too Large\r\nContent-Lengt
 const HELLO: &[u8] =
     b"Status: 200 OK\r\nContent-Type: text/plain\r\nContent-Length: 6\r\n\r\nhello\n";
 
-/// Whether this is written for the input, in pieces of so many bytes, up to the connection's end.
-fn is_answer(alloc: Global, input: &[u8], piece: usize, wanted: &[u8]) -> Result<bool, AllocError>
-    requires { 0 < piece }
-{
-    let bytes = Vec::from_slice(alloc, input)?;
-    let mut source = MemorySource::new(bytes, piece, Vec::new(alloc));
-    let mut out = MemorySink::new(alloc, 1000)?;
-    let end = answer_connection::<ScgiSession, _, _, _>(
-        alloc,
-        0,
-        &mut source,
-        &mut out,
-        &ShippedApp,
-    );
-    Ok(end == ConnectionEnd::Closed && out.bytes() == wanted)
-}
-
-/// Whether this is written for the input, in small pieces and in one.
-fn is_answered(alloc: Global, input: &[u8], wanted: &[u8]) -> Result<bool, AllocError> {
-    Ok(
-        is_answer(alloc, input, 1, wanted)?
-            && is_answer(alloc, input, 19, wanted)?
-            && is_answer(alloc, input, 4096, wanted)?,
-    )
+/// Asserts that each input is answered so up to the connection's end, in small pieces and in one.
+fn assert_answered(rt: &impl Abort, alloc: Global, rows: &[(&[u8], &[u8])]) {
+    for (input, written) in rows {
+        let row = Row {
+            input: *input,
+            pieces: &[1, 19, 4096],
+            failing: &[],
+            room: 1000,
+            end: ConnectionEnd::Closed,
+            written: *written,
+        };
+        assert!(rt; is_answered::<ScgiSession>(alloc, 0, &row) == Ok(true));
+    }
 }
 
 /// Requests, and the answer to each.
@@ -70,11 +57,8 @@ const ANSWERED: &[(&[u8], &[u8])] = &[
 ];
 
 #[test]
-fn requests_are_answered_in_any_pieces(rt: HostRuntime) -> Result<(), Fail> {
-    for (input, wanted) in ANSWERED {
-        assert!(rt; is_answered(rt.alloc(), input, wanted)?);
-    }
-    Ok(())
+fn requests_are_answered_in_any_pieces(rt: HostRuntime) {
+    assert_answered(&rt, rt.alloc(), ANSWERED);
 }
 
 /// Inputs that are no request, and what is written for each.
@@ -110,11 +94,8 @@ const REFUSED: &[(&[u8], &[u8])] = &[
 ];
 
 #[test]
-fn what_is_no_request_is_refused(rt: HostRuntime) -> Result<(), Fail> {
-    for (input, wanted) in REFUSED {
-        assert!(rt; is_answered(rt.alloc(), input, wanted)?);
-    }
-    Ok(())
+fn what_is_no_request_is_refused(rt: HostRuntime) {
+    assert_answered(&rt, rt.alloc(), REFUSED);
 }
 
 /// Whether the session is in this phase once it was fed this, with nothing pending, or what is pending ends so.
@@ -123,29 +104,27 @@ fn says(
     piece: &[u8],
     phase: SessionPhase,
     ending: Option<&[u8]>,
-) -> Result<bool, Fail> {
-    session.feed(piece, &ShippedApp)?;
-    let says = match ending {
+) -> bool {
+    let is_fed = session.feed(piece, &ShippedApp).is_ok();
+    let is_pending = match ending {
         Some(ending) => session.pending().ends_with(ending),
         None => session.pending().is_empty(),
     };
-    Ok(says && session.phase() == phase)
+    is_fed && is_pending && session.phase() == phase
 }
 
 /// Whether nothing is said where a request is whole but for its last byte, and what follows it is ignored.
-fn answers_at_the_last_byte(session: &mut ScgiSession) -> Result<bool, Fail> {
+fn answers_at_the_last_byte(session: &mut ScgiSession) -> bool {
     let request = b"60:CONTENT_LENGTH\03\0SCGI\01\0REQUEST_METHOD\0POST\0PATH_INFO\0/echo\0,ab";
     let answer = Some(b"\r\n\r\nabc".as_slice());
-    Ok(
-        says(session, request, SessionPhase::Serving, None)?
-            && says(session, b"c", SessionPhase::Closing, answer)?
-            && says(session, b"55:", SessionPhase::Closing, answer)?,
-    )
+    says(session, request, SessionPhase::Serving, None)
+        && says(session, b"c", SessionPhase::Closing, answer)
+        && says(session, b"55:", SessionPhase::Closing, answer)
 }
 
 #[test]
-fn it_answers_at_the_last_byte_of_the_body(rt: HostRuntime) -> Result<(), Fail> {
+fn it_answers_at_the_last_byte_of_the_body(rt: HostRuntime) {
     let mut session = ScgiSession::begin(rt.alloc(), 0);
-    assert!(rt; answers_at_the_last_byte(&mut session)?);
-    Ok(())
+    assert!(rt; answers_at_the_last_byte(&mut session));
+    drop(session);
 }

@@ -2,8 +2,7 @@
 ghost use Rattle.std.specs.Prelude.{IsSome, IsTrue};
 ghost use Rattle.wsgi_core.specs.Steps.{asked_of};
 
-use std::alloc::Global;
-use std::test::Fail;
+use std::alloc::{AllocError, Global};
 use wsgi_core::{Environ, Reply, Session, SessionPhase, ShippedApp};
 
 const BAD_REQUEST: &[u8] =
@@ -15,7 +14,7 @@ const TOO_LARGE: &[u8] =
 const TOO_LONG: &[u8] =
     b"HTTP/1.1 414 Request URI Too Long\r\nConnection: close\r\nContent-Length: 0\r\n\r\n";
 
-const HELLO: &[u8] =
+pub(crate) const HELLO: &[u8] =
     b"HTTP/1.1 200 OK\r\nContent-Type: text/plain\r\nContent-Length: 6\r\n\r\nhello\n";
 
 const NOT_FOUND: &[u8] =
@@ -28,7 +27,7 @@ const FAULT: &[u8] =
     b"HTTP/1.1 500 Internal Server Error\r\nContent-Type: text/plain\r\nConnection: close\r\nContent-Length: 21\r\n\r\n";
 
 /// Feeds a piece, and takes what is pending.
-fn answer_piece(session: &mut Session, piece: &[u8], out: &mut Vec<u8>) -> Result<(), Fail> {
+fn answer_piece(session: &mut Session, piece: &[u8], out: &mut Vec<u8>) -> Result<(), AllocError> {
     session.feed(piece, &ShippedApp)?;
     out.extend_from_slice(session.pending())?;
     let sent = session.pending().len();
@@ -42,7 +41,7 @@ fn answer_pieces(
     input: &[u8],
     piece: usize,
     out: &mut Vec<u8>,
-) -> Result<(), Fail> {
+) -> Result<(), AllocError> {
     for part in input.chunks(piece.max(1)) {
         answer_piece(session, part, out)?;
     }
@@ -50,30 +49,38 @@ fn answer_pieces(
     Ok(())
 }
 
-/// What the shipped application's session sends for the input, fed in pieces of this size.
-fn said(alloc: Global, input: &[u8], piece: usize) -> Result<Vec<u8>, Fail> {
+/// Whether the shipped application's session sends this for the input, fed in pieces of this size.
+fn is_said_in(alloc: Global, input: &[u8], piece: usize, wanted: &[u8]) -> bool {
+    let mut session = Session::new(alloc, 0);
     let mut out = Vec::new(alloc);
-    answer_pieces(&mut Session::new(alloc, 0), input, piece, &mut out)?;
-    Ok(out)
+    let is_fed = answer_pieces(&mut session, input, piece, &mut out).is_ok();
+    drop(session);
+    is_fed && out.as_slice() == wanted
 }
 
 /// Whether it sends this, fed in pieces of each of these sizes.
-fn is_said(alloc: Global, input: &[u8], pieces: &[usize], wanted: &[u8]) -> Result<bool, Fail> {
+fn is_said(alloc: Global, input: &[u8], pieces: &[usize], wanted: &[u8]) -> bool {
     for piece in pieces {
-        if said(alloc, input, *piece)?.as_slice() != wanted {
-            return Ok(false);
+        if !is_said_in(alloc, input, *piece, wanted) {
+            return false;
         }
     }
-    Ok(true)
+    true
+}
+
+/// Appends these one after the other.
+pub(crate) fn push_all(out: &mut Vec<u8>, parts: &[&[u8]]) -> Result<(), AllocError> {
+    for part in parts {
+        out.extend_from_slice(part)?;
+    }
+    Ok(())
 }
 
 /// Whether it sends these answers one after the other, in any pieces.
-fn are_said(alloc: Global, input: &[u8], answers: &[&[u8]]) -> Result<bool, Fail> {
+fn are_said(alloc: Global, input: &[u8], answers: &[&[u8]]) -> bool {
     let mut wanted = Vec::new(alloc);
-    for answer in answers {
-        wanted.extend_from_slice(answer)?;
-    }
-    is_said(alloc, input, &[1, 19, 4096], &wanted)
+    let is_whole = push_all(&mut wanted, answers).is_ok();
+    is_whole && is_said(alloc, input, &[1, 19, 4096], &wanted)
 }
 
 /// Inputs, and the answers to each.
@@ -127,11 +134,10 @@ const ANSWERED: &[(&[u8], &[&[u8]])] = &[
 ];
 
 #[test]
-fn answers_are_the_same_in_any_pieces(rt: HostRuntime) -> Result<(), Fail> {
+fn answers_are_the_same_in_any_pieces(rt: HostRuntime) {
     for (input, answers) in ANSWERED {
-        assert!(rt; are_said(rt.alloc(), input, answers)?);
+        assert!(rt; are_said(rt.alloc(), input, answers));
     }
-    Ok(())
 }
 
 const CHUNKED: &[u8] = b"POST /echo HTTP/1.1\r\nTransfer-Encoding: chunked\r\n\r\n3";
@@ -183,28 +189,28 @@ const LIMITS: &[Limit] = &[
     (LAST_CHUNK, b"x", 8189, b"\r\n\r\n", BAD_REQUEST),
 ];
 
-/// Whether the session answers so where the input is the front, so many of the unit and the back.
-fn limits_to(alloc: Global, limit: &Limit) -> Result<bool, Fail> {
-    let (front, unit, count, back, wanted) = *limit;
-    let mut input = Vec::new(alloc);
+/// Appends the front, so many of the unit, and the back.
+fn push_limit(input: &mut Vec<u8>, limit: &Limit) -> Result<(), AllocError> {
+    let (front, unit, count, back, _) = *limit;
     input.extend_from_slice(front)?;
     for _ in 0..count {
         input.extend_from_slice(unit)?;
     }
-    input.extend_from_slice(back)?;
-    is_said(alloc, &input, &[1, 4096], wanted)
+    input.extend_from_slice(back)
+}
+
+/// Whether the session answers so where the input is the front, so many of the unit and the back.
+fn limits_to(alloc: Global, limit: &Limit) -> bool {
+    let mut input = Vec::new(alloc);
+    let is_whole = push_limit(&mut input, limit).is_ok();
+    is_whole && is_said(alloc, &input, &[1, 4096], limit.4)
 }
 
 #[test]
-fn limits_hold_on_both_sides(rt: HostRuntime) -> Result<(), Fail> {
+fn limits_hold_on_both_sides(rt: HostRuntime) {
     for limit in LIMITS {
-        assert!(rt;
-            limits_to(rt.alloc(), limit)?,
-            "after {} of a unit",
-            limit.2
-        );
+        assert!(rt; limits_to(rt.alloc(), limit), "after {} of a unit", limit.2);
     }
-    Ok(())
 }
 
 /// Whether a request for `/a` without a body waits in the session, and nothing is pending.
@@ -228,7 +234,7 @@ fn closes_at_a_fault(session: &Session) -> bool {
 }
 
 /// Whether the request that comes waits in the session, and a reply that raised closes it.
-fn waits_for_its_reply(session: &mut Session) -> Result<bool, Fail> {
+fn waits_for_its_reply(session: &mut Session) -> Result<bool, AllocError> {
     session.take_in(b"GET /a HTTP/1.1\r\n\r\nGET")?;
     if !asks_for_a(session) {
         return Ok(false);
@@ -238,8 +244,8 @@ fn waits_for_its_reply(session: &mut Session) -> Result<bool, Fail> {
 }
 
 #[test]
-fn a_request_waits_for_its_reply(rt: HostRuntime) -> Result<(), Fail> {
+fn a_request_waits_for_its_reply(rt: HostRuntime) {
     let mut session = Session::new(rt.alloc(), 0);
-    assert!(rt; waits_for_its_reply(&mut session)?);
-    Ok(())
+    assert!(rt; waits_for_its_reply(&mut session) == Ok(true));
+    drop(session);
 }

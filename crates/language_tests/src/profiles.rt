@@ -1,19 +1,10 @@
 //! Texts of both profiles.
 #![tactic(auto)]
 
-use crate::texts::{is_printed, place};
-use std::alloc::Global;
-use std::test::Fail;
-
-/// The place of a text that begins so.
-fn place_behind(alloc: Global, front: &str) -> Result<(u32, u8), Fail> {
-    let mut text = String::from_str(alloc, front)?;
-    text.push_str("\ndef main\nend\n")?;
-    Ok(place(alloc, text.as_str()))
-}
+use crate::texts::{Row, assert_places, assert_printed};
 
 /// First lines, and the place of the text that each begins.
-const FIRST_LINES: &[(&str, (u32, u8))] = &[
+const FIRST_LINES: &[Row] = &[
     ("profile 2", (0, 0)),
     ("# a comment\n\n  profile 2", (0, 0)),
     ("profile", (1, 6)),
@@ -32,15 +23,12 @@ const FIRST_LINES: &[(&str, (u32, u8))] = &[
 ];
 
 #[test]
-fn first_lines_that_name_a_profile(rt: HostRuntime) -> Result<(), Fail> {
-    for (line, expected) in FIRST_LINES {
-        assert!(rt; place_behind(rt.alloc(), line)? == *expected, "{line}");
-    }
-    Ok(())
+fn first_lines_that_name_a_profile(rt: HostRuntime) {
+    assert_places(&rt, rt.alloc(), "", FIRST_LINES, "\ndef main\nend\n");
 }
 
 /// Texts with a profile behind their first line, and the place of each.
-const LATER_LINES: &[(&str, (u32, u8))] = &[
+const LATER_LINES: &[Row] = &[
     ("event e\nprofile 2\ndef main\nend\n", (2, 13)),
     ("profile 2\nprofile 2\ndef main\nend\n", (2, 13)),
     ("def main\nprofile 2\nend\n", (2, 13)),
@@ -53,13 +41,11 @@ const LATER_LINES: &[(&str, (u32, u8))] = &[
 
 #[test]
 fn later_lines_that_name_a_profile(rt: HostRuntime) {
-    for (text, expected) in LATER_LINES {
-        assert!(rt; place(rt.alloc(), text) == *expected, "{text}");
-    }
+    assert_places(&rt, rt.alloc(), "", LATER_LINES, "");
 }
 
 /// Texts with words of profile 2 where they are refused, and the place of each.
-const WORDS: &[(&str, (u32, u8))] = &[
+const WORDS: &[Row] = &[
     ("channel c\ndef main\nend\n", (1, 5)),
     ("def main\nchannel c\nend\n", (2, 5)),
     ("cput c 1\ndef main\nend\n", (1, 5)),
@@ -78,17 +64,16 @@ const WORDS: &[(&str, (u32, u8))] = &[
 
 #[test]
 fn words_of_the_second_profile(rt: HostRuntime) {
-    for (text, expected) in WORDS {
-        assert!(rt; place(rt.alloc(), text) == *expected, "{text}");
-    }
+    assert_places(&rt, rt.alloc(), "", WORDS, "");
 }
 
+/// A text, and its printed form.
+const BOTH: &[(&str, &str)] = &[(
+    "# both\n profile 2\nchannel c\nqueue q join 2\ndef main\ncput c 1\nx <- cget c\nqshut q\nqshut q immediate\nend\n",
+    "profile 2\nchannel c\nqueue q join 2\ndef main\n  cput c 1\n  x <- cget c\n  qshut q\n  qshut q immediate\nend\n",
+)];
+
 #[test]
-fn the_printed_form_names_the_second_profile(rt: HostRuntime) -> Result<(), Fail> {
-    let text =
-        "# both\n profile 2\nchannel c\nqueue q join 2\ndef main\ncput c 1\nx <- cget c\nqshut q\nqshut q immediate\nend\n";
-    let printed =
-        "profile 2\nchannel c\nqueue q join 2\ndef main\n  cput c 1\n  x <- cget c\n  qshut q\n  qshut q immediate\nend\n";
-    assert!(rt; is_printed(rt.alloc(), text, printed)?);
-    Ok(())
+fn the_printed_form_names_the_second_profile(rt: HostRuntime) {
+    assert_printed(&rt, rt.alloc(), BOTH);
 }

@@ -1,31 +1,18 @@
 //! Scenarios that keep the rules, and scenarios that break one.
 #![tactic(auto)]
 
-use scenario_check::check;
-use scenario_grammar::Place;
-use scenario_lang::{ParseRefusal, Scenario, parse};
+use crate::texts::{Row, place_of};
+use scenario_check::{Checked, check};
+use scenario_lang::{ParseRefusal, parse};
 use std::alloc::Global;
 
-/// The line and the reason of a refusal; zeros where the scenario is taken.
-fn place(alloc: Global, scenario: Scenario) -> (u32, u8) {
-    match check(alloc, scenario) {
-        Ok(_) => (0, 0),
-        Err(ParseRefusal::Refused(Place { line, reason })) => (line, reason),
-        Err(ParseRefusal::Memory) => (0, 255),
-    }
-}
-
-/// The same of a text; where it spells no scenario, a reason of the grammar.
-fn place_of_text(alloc: Global, text: &str) -> (u32, u8) {
-    match parse(alloc, text.as_bytes()) {
-        Ok(scenario) => place(alloc, scenario),
-        Err(ParseRefusal::Refused(Place { line, reason })) => (line, reason),
-        Err(ParseRefusal::Memory) => (0, 255),
-    }
+/// The scenario of a text that keeps the rules.
+fn checked(alloc: Global, text: &str) -> Result<Checked, ParseRefusal> {
+    check(alloc, parse(alloc, text.as_bytes())?)
 }
 
 /// Texts, and the place of each.
-const ROWS: &[(&str, (u32, u8))] = &[
+const ROWS: &[Row] = &[
     ("event e\ndef main\nset e\nend\n", (0, 0)),
     ("event e\ndef main\nset f\nend\n", (3, 15)),
     ("def main\nprint x\nend\n", (2, 15)),
@@ -56,6 +43,6 @@ const ROWS: &[(&str, (u32, u8))] = &[
 #[test]
 fn taken_and_refused(rt: HostRuntime) {
     for (text, expected) in ROWS {
-        assert!(rt; place_of_text(rt.alloc(), text) == *expected, "{text}");
+        assert!(rt; place_of(checked(rt.alloc(), text)) == *expected, "{text}");
     }
 }

@@ -3,28 +3,37 @@
 
 use scenario_grammar::Place;
 use scenario_lang::{ParseRefusal, parse, print, reason_text};
-use std::alloc::Global;
-use std::test::Fail;
+use std::alloc::{AllocError, Global};
+use std::process::Abort;
 
-/// The line and the reason of a refusal; zeros where the text is taken.
-pub(crate) fn place(alloc: Global, text: &str) -> (u32, u8) {
-    match parse(alloc, text.as_bytes()) {
+/// A text, and the line and the reason of its refusal; zeros where it is taken.
+pub(crate) type Row = (&'static str, (u32, u8));
+
+/// The line and the reason of a refusal; zeros where there is none.
+pub(crate) fn place_of<T: Drop>(read: Result<T, ParseRefusal>) -> (u32, u8) {
+    match read {
         Ok(_) => (0, 0),
         Err(ParseRefusal::Refused(Place { line, reason })) => (line, reason),
         Err(ParseRefusal::Memory) => (0, 255),
     }
 }
 
-/// The place of a body's only line.
-fn place_of_line(alloc: Global, line: &str) -> Result<(u32, u8), Fail> {
-    let mut text = String::from_str(alloc, "def main\n")?;
-    text.push_str(line)?;
-    text.push_str("\nend\n")?;
-    Ok(place(alloc, text.as_str()))
+/// Asserts that the text of each row, put between these two, has its place.
+pub(crate) fn assert_places(
+    rt: &impl Abort,
+    alloc: Global,
+    front: &'static str,
+    rows: &[Row],
+    back: &'static str,
+) {
+    for (text, expected) in rows {
+        let place = place_of_parts(alloc, &(front, *text, 1, back, "", ""));
+        assert!(rt; place == *expected, "{text}");
+    }
 }
 
 /// Lines, and the place of the body of each.
-const SPELLINGS: &[(&str, (u32, u8))] = &[
+const SPELLINGS: &[Row] = &[
     ("print  1", (2, 4)),
     ("print 1 ", (2, 4)),
     ("foo 1", (2, 5)),
@@ -38,15 +47,12 @@ const SPELLINGS: &[(&str, (u32, u8))] = &[
 ];
 
 #[test]
-fn refused_spellings(rt: HostRuntime) -> Result<(), Fail> {
-    for (line, expected) in SPELLINGS {
-        assert!(rt; place_of_line(rt.alloc(), line)? == *expected, "{line}");
-    }
-    Ok(())
+fn refused_spellings(rt: HostRuntime) {
+    assert_places(&rt, rt.alloc(), "def main\n", SPELLINGS, "\nend\n");
 }
 
 /// Texts, and the place of each.
-const WHOLE_TEXTS: &[(&str, (u32, u8))] = &[
+const WHOLE_TEXTS: &[Row] = &[
     ("", (1, 14)),
     ("# x\ndef main\n     print 1\n\nend\n", (0, 0)),
     ("def main\nend", (2, 3)),
@@ -68,9 +74,7 @@ const WHOLE_TEXTS: &[(&str, (u32, u8))] = &[
 
 #[test]
 fn whole_texts(rt: HostRuntime) {
-    for (text, expected) in WHOLE_TEXTS {
-        assert!(rt; place(rt.alloc(), text) == *expected, "{text}");
-    }
+    assert_places(&rt, rt.alloc(), "", WHOLE_TEXTS, "");
 }
 
 /// A head, a part and how often it is repeated, a middle, a tail that is repeated as often, and a rest.
@@ -83,25 +87,31 @@ type Parts = (
     &'static str,
 );
 
-/// The text of these parts.
-fn repeated(alloc: Global, parts: &Parts) -> Result<String, Fail> {
-    let (head, part, count, middle, tail, rest) = *parts;
-    let mut text = String::from_str(alloc, head)?;
+/// Appends the part so often.
+fn push_repeated(text: &mut String, part: &str, count: u32) -> Result<(), AllocError> {
     for _ in 0..count {
         text.push_str(part)?;
     }
+    Ok(())
+}
+
+/// Appends the text of these parts.
+fn push_parts(text: &mut String, parts: &Parts) -> Result<(), AllocError> {
+    let (head, part, count, middle, tail, rest) = *parts;
+    text.push_str(head)?;
+    push_repeated(text, part, count)?;
     text.push_str(middle)?;
-    for _ in 0..count {
-        text.push_str(tail)?;
-    }
-    text.push_str(rest)?;
-    Ok(text)
+    push_repeated(text, tail, count)?;
+    text.push_str(rest)
 }
 
 /// The place of the text of these parts.
-fn place_of_parts(alloc: Global, parts: &Parts) -> Result<(u32, u8), Fail> {
-    let text = repeated(alloc, parts)?;
-    Ok(place(alloc, text.as_str()))
+fn place_of_parts(alloc: Global, parts: &Parts) -> (u32, u8) {
+    let mut text = String::new(alloc);
+    match push_parts(&mut text, parts) {
+        Ok(()) => place_of(parse(alloc, text.as_bytes())),
+        Err(_) => (0, 255),
+    }
 }
 
 /// Texts at both sides of each border, and the place of each.
@@ -187,25 +197,37 @@ const BORDERS: &[(Parts, (u32, u8))] = &[
 ];
 
 #[test]
-fn borders(rt: HostRuntime) -> Result<(), Fail> {
+fn borders(rt: HostRuntime) {
     for (parts, expected) in BORDERS {
         assert!(rt;
-            place_of_parts(rt.alloc(), parts)? == *expected,
+            place_of_parts(rt.alloc(), parts) == *expected,
             "{} of a part",
             parts.2
         );
     }
-    Ok(())
 }
 
-/// Whether this is the printed form of what the text is read as; nothing is printed of a text that is refused.
-pub(crate) fn is_printed(alloc: Global, text: &str, expected: &str) -> Result<bool, Fail> {
-    let mut out = Vec::new(alloc);
-    out.push(b'>')?;
-    if let Ok(scenario) = parse(alloc, text.as_bytes()) {
-        print(&scenario, &mut out)?;
+/// Appends the printed form of what the text is read as; nothing of a text that is refused.
+fn print_text(alloc: Global, text: &str, out: &mut Vec<u8>) -> Result<(), AllocError> {
+    match parse(alloc, text.as_bytes()) {
+        Ok(scenario) => print(&scenario, out),
+        Err(_) => Ok(()),
     }
-    Ok(out.strip_prefix(b">") == Some(expected.as_bytes()))
+}
+
+/// Whether this is printed of the text.
+fn is_printed(alloc: Global, text: &str, expected: &str) -> bool {
+    let mut out = Vec::new(alloc);
+    let is_begun = out.push(b'>').is_ok();
+    let is_printed = print_text(alloc, text, &mut out).is_ok();
+    is_begun && is_printed && out.strip_prefix(b">") == Some(expected.as_bytes())
+}
+
+/// Asserts that each text has its printed form.
+pub(crate) fn assert_printed(rt: &impl Abort, alloc: Global, rows: &[(&str, &str)]) {
+    for (text, expected) in rows {
+        assert!(rt; is_printed(alloc, text, expected), "{text}");
+    }
 }
 
 /// Texts, and the printed form of each.
@@ -222,11 +244,8 @@ const PRINTED: &[(&str, &str)] = &[
 ];
 
 #[test]
-fn printed_forms(rt: HostRuntime) -> Result<(), Fail> {
-    for (text, expected) in PRINTED {
-        assert!(rt; is_printed(rt.alloc(), text, expected)?, "{text}");
-    }
-    Ok(())
+fn printed_forms(rt: HostRuntime) {
+    assert_printed(&rt, rt.alloc(), PRINTED);
 }
 
 /// Reasons, and the text of each.
