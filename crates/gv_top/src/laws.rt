@@ -2,7 +2,7 @@
 ghost use Rattle.std.specs.Prelude.{◌≡◌, ◌<◌, ◌^◌, ℕ, List, Some, None};
 ghost use Rattle.scenario_tree.specs.declared.tree.Scenario.{Scenario};
 ghost use Rattle.machine.specs.Budgets.{AreBudgets};
-ghost use Rattle.machine_counts.specs.Laws.{RunsLeaveRoom, RunsStandIn};
+ghost use Rattle.machine_reached.specs.Laws.{RunsLeaveRoom, RunsStandIn};
 ghost use Rattle.command_words.specs.declared.command.RunOptions.{RunOptions};
 ghost use Rattle.command_words.specs.declared.command.TextCommand.{TextCommand};
 ghost use Rattle.gv_top.specs.declared.words.OfflineCommand.{OfflineCommand};
@@ -12,7 +12,7 @@ ghost use Rattle.gv_top.specs.Storming.{IsStorm};
 ghost use Rattle.gv_top.specs.Words.{offline_command_of, serve_of};
 
 use command_words::commands_are_in_range;
-use machine_counts::runs_leave_room;
+use machine_reached::runs_leave_room;
 
 /// No words name both a server and a command that needs no net.
 pub fn words_name_one()

@@ -24,7 +24,7 @@ use Rattle.machine_soundness.proofs.Deliveries.{begins-soundly, deliver-soundly,
 use Rattle.machine_soundness.proofs.Performs.{move-soundly}
 use Rattle.machine_well_formed.specs.Texts.{HasMain, IsKnown, is_function}
 use Rattle.machine_well_formed.proofs.WellFormed.{well-formed-fits}
-use Rattle.machine_histories.proofs.Goings.{function-known}
+use Rattle.machine_trace_laws.proofs.Goings.{function-known}
 use Rattle.machine_trace_laws.specs.Reached.{Reached, state_of_next}
 use Rattle.machine_trace_laws.proofs.Runs.{least-found}
 use Rattle.machine_reached.specs.Meant.{IsMeantText, fits_did}

@@ -24,10 +24,10 @@ use Rattle.machine_rooms.specs.Rooms.{HasRoom, room_of_delivery, room_of_move}
 use Rattle.machine_rooms.proofs.Ledger.{counts-live}
 use Rattle.machine_rooms.proofs.Rooms.{room-kept}
 use Rattle.machine_rooms.proofs.Tallies.{is_open}
-use Rattle.machine_counts.specs.Laws.{IsCountedOn, IsWithin}
-use Rattle.machine_counts.specs.Turns.{ReachedIn}
-use Rattle.machine_counts.proofs.Reached.{in-reached}
-use Rattle.machine_counts.proofs.Rooms.{answered-counted, begun-counted, blocked-counted, delivered-counted, deliveries-room, exited-counted, moved-counted, moves-room, rests-room}
+use Rattle.machine_reached.specs.Laws.{IsCountedOn, IsWithin}
+use Rattle.machine_reached.specs.Turns.{ReachedIn}
+use Rattle.machine_reached.proofs.Reached.{in-reached}
+use Rattle.machine_reached.proofs.Rooms.{answered-counted, begun-counted, blocked-counted, delivered-counted, deliveries-room, exited-counted, moved-counted, moves-room, rests-room}
 use Rattle.hub_engine.specs.declared.stand.Stand.{Stand}
 use Rattle.hub_engine.specs.Onward.{MovesTo}
 use Rattle.hub_engine.specs.Ready.{MayRun}

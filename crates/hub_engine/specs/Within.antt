@@ -8,7 +8,7 @@ use Rattle.machine.specs.Run.{first_state, silent}
 use Rattle.machine.specs.State.{State}
 use Rattle.machine_trace_laws.specs.Reached.{state_of_next}
 use Rattle.machine_rooms.specs.Counts.{AreCountable}
-use Rattle.machine_counts.specs.Turns.{ReachedIn}
+use Rattle.machine_reached.specs.Turns.{ReachedIn}
 use Rattle.hub_engine.specs.declared.run.EngineRefusal.{EngineRefusal}
 use Rattle.hub_engine.specs.Ready.{IsPrepared}
 

@@ -37,13 +37,13 @@ use Rattle.machine_reached.specs.Offers.{AreOffered}
 use Rattle.machine_reached.specs.Meant.{IsMeantText, KnowsText, fits_did}
 use Rattle.machine_trace_laws.specs.Reached.{Reached, state_of_next}
 use Rattle.machine_well_formed.specs.Texts.{IsFitText, fits_phase, fits_rest, fits_todo, is_among, is_fit_greenlet, is_held, is_raw_function, left_in, withins, withins_at}
-use Rattle.machine_histories.proofs.Histories.{History, at_first}
-use Rattle.machine_histories.proofs.Settled.{count-same}
+use Rattle.machine_trace_laws.proofs.Histories.{History, at_first}
+use Rattle.machine_trace_laws.proofs.Settled.{count-same}
 use Rattle.machine_offers.proofs.Anys.{any-imply}
-use Rattle.machine_histories.proofs.Landed.{cons-distinct, goes-frame}
-use Rattle.machine_histories.proofs.Placed.{any-both, frame-fits}
+use Rattle.machine_trace_laws.proofs.Landed.{cons-distinct, goes-frame}
+use Rattle.machine_trace_laws.proofs.Placed.{any-both, frame-fits}
 use Rattle.machine_well_formed.proofs.Bodies.{IsFitDid, body_move-fit}
-use Rattle.machine_histories.proofs.Goings.{AreHeld, At, Sides, Goes}
+use Rattle.machine_trace_laws.proofs.Goings.{AreHeld, At, Sides, Goes}
 use Rattle.machine_trace_laws.proofs.Moved.{move-at, plain-not-raw}
 use Rattle.machine_trace_laws.proofs.Delivered.{begins-at, deliver-at, interrupts-at}
 use Rattle.machine_trace_laws.proofs.Runs.{ends-silent, goes-silent, rests-block_line, rests-silent, rests-turned, settled-block_line}

@@ -12,7 +12,7 @@ use Rattle.machine.specs.Run.{GoingOn, Source, after_exit, after_question, after
 use Rattle.machine_reached.specs.Bounds.{IsBounded}
 use Rattle.machine_trace_laws.specs.Reached.{Reached}
 use Rattle.machine_well_formed.specs.Texts.{IsFitText}
-use Rattle.machine_histories.proofs.Histories.{History, at_first}
+use Rattle.machine_trace_laws.proofs.Histories.{History, at_first}
 use Rattle.machine_reached.proofs.Bounded.{bounded}
 use Rattle.machine_trace_laws.proofs.Delivered.{begins-at}
 use Rattle.machine_trace_laws.proofs.Quieted.{ready-answered, ready-silent, with_silence}

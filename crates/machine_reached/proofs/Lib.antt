@@ -1,4 +1,9 @@
 pub mod Bounded
+pub mod Landings
 pub mod Last
 pub mod Offered
+pub mod Reached
+pub mod Rooms
+pub mod Runs
 pub mod Same
+pub mod Steps

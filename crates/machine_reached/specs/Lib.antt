@@ -1,3 +1,6 @@
 pub mod Bounds
+pub mod Few
+pub mod Laws
 pub mod Meant
 pub mod Offers
+pub mod Turns

@@ -56,17 +56,17 @@ use Rattle.machine.proofs.Soundness.{same-symmetric}
 use Rattle.machine_soundness.proofs.States.{all-settle, ascends, kept-drop, kept-made, kept-object, kept-say, kept-settle, meants, singles}
 use Rattle.machine_well_formed.specs.Kinds.{kinds}
 use Rattle.machine_well_formed.proofs.KindLemmas.{first-kinds, flag-kept, freed-kept, kinds-map, kinds-set, offer_gone-kept}
-use Rattle.machine_histories.proofs.Histories.{History, IsLawful, Tells, at_first, tells-line, tells-nothing, with_line}
-use Rattle.machine_histories.proofs.Settled.{is_settled, outcome-phase, outcome_at, same-equal, same_bool, settled-more, settled-settle, settled-taken}
+use Rattle.machine_trace_laws.proofs.Histories.{History, IsLawful, Tells, at_first, tells-line, tells-nothing, with_line}
+use Rattle.machine_trace_laws.proofs.Settled.{is_settled, outcome-phase, outcome_at, same-equal, same_bool, settled-more, settled-settle, settled-taken}
 use Rattle.machine_offers.specs.Offers.{awaits_taking, offers_at, offers_of}
 use Rattle.machine_offers.proofs.Offers.{AreKeptOffers, HasNoOffer, fewer-same, flag-offers, freed-offers, late-offerless, numbered-unawaited, offers-broken_off, offers-drop_of, offers-first, offers-gone, offers-items, offers-set, unclaimed-offerless, unfound-offerless, waits-spared}
 use Rattle.machine_offers.proofs.Anys.{any-end, any-kept}
-use Rattle.machine_histories.proofs.Ties.{IsJobTold, IsOwn, Ties, any-settle, begun-more, count-other, free-wakeless, is_over, lawful-own, live-begun, live-not-over, over-more, told-other, ties-drop, ties-greenlets, ties-items, ties-loose, ties-own, ties-say, ties-settle}
+use Rattle.machine_trace_laws.proofs.Ties.{IsJobTold, IsOwn, Ties, any-settle, begun-more, count-other, free-wakeless, is_over, lawful-own, live-begun, live-not-over, over-more, told-other, ties-drop, ties-greenlets, ties-items, ties-loose, ties-own, ties-say, ties-settle}
 use Rattle.machine_well_formed.specs.Texts.{IsFitText, is_fit_greenlet, is_held, HasMain, fits_item, fits_link, is_function}
-use Rattle.machine_histories.proofs.Placed.{placed-start}
-use Rattle.machine_histories.proofs.Goings.{AreHeld, AreParkedBut, At, Ends, Goes, Loose, Rests, Sides, goes-settle, held-more, parked-more, rests-objects, rests-settle, sides-drop, sides-settle, known-items, known-made, known-objects}
-use Rattle.machine_histories.proofs.Landed.{answered-at, goes_on-plain-at, loose-say, own-start}
-use Rattle.machine_histories.proofs.Asked.{completes-at}
+use Rattle.machine_trace_laws.proofs.Placed.{placed-start}
+use Rattle.machine_trace_laws.proofs.Goings.{AreHeld, AreParkedBut, At, Ends, Goes, Loose, Rests, Sides, goes-settle, held-more, parked-more, rests-objects, rests-settle, sides-drop, sides-settle, known-items, known-made, known-objects}
+use Rattle.machine_trace_laws.proofs.Landed.{answered-at, goes_on-plain-at, loose-say, own-start}
+use Rattle.machine_trace_laws.proofs.Asked.{completes-at}
 use Rattle.machine_trace_laws.proofs.Moved.{follows-at, own-throw}
 
 -- ---- an item is taken

@@ -57,18 +57,18 @@ use Rattle.machine_soundness.proofs.Requests.{members-raw, moves-flag, moves-shu
 use Rattle.machine_soundness.proofs.States.{Moves, all-settle, kept-settle, kept-timeout, host-settle, moves-add, moves-ended, moves-link, moves-live, moves-object, moves-say, moves-settle, moves-timeout, plain-phased}
 use Rattle.machine_well_formed.specs.Kinds.{kind_of}
 use Rattle.machine_well_formed.proofs.KindLemmas.{acquires-fits, flag-kept, result-kept, shut-kept}
-use Rattle.machine_histories.proofs.Histories.{History, tells-line, with_line}
-use Rattle.machine_histories.proofs.Settled.{settled-settle}
+use Rattle.machine_trace_laws.proofs.Histories.{History, tells-line, with_line}
+use Rattle.machine_trace_laws.proofs.Settled.{settled-settle}
 use Rattle.machine_offers.specs.Offers.{offers_at, offers_of}
 use Rattle.machine_offers.proofs.Offers.{fewer-none, flag-offers, offers-add, shut-offers}
 use Rattle.machine_offers.proofs.Anys.{any-end}
-use Rattle.machine_histories.proofs.Ties.{IsOwn, Ties, any-settle, phase-here, free-wakeless, is_over, is_begun, lawful-own, live-not-over, ties-add, ties-greenlets, ties-live, ties-loose, ties-own, ties-say, ties-settle}
-use Rattle.machine_histories.proofs.Goings.{AreHeldBy, At, Ends, Goes, Loose, greenlet-fit, held-by, held-ended, held-phases, is_held_by, count-end, goes-add, goes-drop, goes-made, goes-object, goes-put, goes-say, goes-settle, hosted-settle, lawful-ended, main-ended, parked-ended, rests-settle, sides-add, sides-ended, sides-settle, ties-ended, known-add, known-set}
+use Rattle.machine_trace_laws.proofs.Ties.{IsOwn, Ties, any-settle, phase-here, free-wakeless, is_over, is_begun, lawful-own, live-not-over, ties-add, ties-greenlets, ties-live, ties-loose, ties-own, ties-say, ties-settle}
+use Rattle.machine_trace_laws.proofs.Goings.{AreHeldBy, At, Ends, Goes, Loose, greenlet-fit, held-by, held-ended, held-phases, is_held_by, count-end, goes-add, goes-drop, goes-made, goes-object, goes-put, goes-say, goes-settle, hosted-settle, lawful-ended, main-ended, parked-ended, rests-settle, sides-add, sides-ended, sides-settle, ties-ended, known-add, known-set}
 use Rattle.machine_well_formed.specs.Texts.{fits_phase, fits_request, fits_rest, is_among, is_fit_greenlet, is_raw_function, withins, withins_at, HasMain, fits_link, is_function, is_wanted}
 use Rattle.machine_well_formed.proofs.Bodies.{IsFitDid, IsFitUnwound, body_move-fit, unwind-fit}
-use Rattle.machine_histories.proofs.Placed.{frame-fits, placed-of, unstarted-free}
-use Rattle.machine_histories.proofs.Landed.{answered-at, goes-frame, goes-loose, goes_on-at, lands-at}
-use Rattle.machine_histories.proofs.Asked.{IsFineAt, is_offer, comes-at, goes-ends, goes-hosted, goes-spawned, maps-at, offered-at, on_host-at, own-print, typed-at}
+use Rattle.machine_trace_laws.proofs.Placed.{frame-fits, placed-of, unstarted-free}
+use Rattle.machine_trace_laws.proofs.Landed.{answered-at, goes-frame, goes-loose, goes_on-at, lands-at}
+use Rattle.machine_trace_laws.proofs.Asked.{IsFineAt, is_offer, comes-at, goes-ends, goes-hosted, goes-spawned, maps-at, offered-at, on_host-at, own-print, typed-at}
 use Rattle.machine.specs.declared.limits.TheConstants.{MOST_KILLS, MOST_LINKS}
 
 -- ---- kills

@@ -37,13 +37,13 @@ use Rattle.machine_well_formed.specs.Texts.{IsFitText, is_held}
 use Rattle.machine_trace_laws.specs.Reached.{Reached}
 use Rattle.machine_well_formed.specs.Kinds.{kinds}
 use Rattle.machine_well_formed.proofs.KindLemmas.{freed-kept, kinds-set}
-use Rattle.machine_histories.proofs.Histories.{History, at_first, tells-nothing}
-use Rattle.machine_histories.proofs.Settled.{is_settled, same_bool, settled-settle}
+use Rattle.machine_trace_laws.proofs.Histories.{History, at_first, tells-nothing}
+use Rattle.machine_trace_laws.proofs.Settled.{is_settled, same_bool, settled-settle}
 use Rattle.machine_offers.specs.Offers.{offers_at, offers_of}
 use Rattle.machine_offers.proofs.Offers.{AreKeptOffers, fewer-same, freed-offers, offers-set}
 use Rattle.machine_offers.proofs.Anys.{any-all, any-end}
-use Rattle.machine_histories.proofs.Ties.{IsJobTold, Ties, any-settle, count-other, told-other, ties-say, ties-settle}
-use Rattle.machine_histories.proofs.Goings.{Rests, sides-settle, known-objects}
+use Rattle.machine_trace_laws.proofs.Ties.{IsJobTold, Ties, any-settle, count-other, told-other, ties-say, ties-settle}
+use Rattle.machine_trace_laws.proofs.Goings.{Rests, sides-settle, known-objects}
 use Rattle.machine.specs.TraceLaws.{is_job_line}
 use Rattle.machine_trace_laws.proofs.Delivered.{begins-at, last-end, still-open}
 use Rattle.machine_trace_laws.proofs.Runs.{IsReady, Left, exit-passed, ready-block_line, rests-silent, runs-passed, turn-passed}

@@ -22,11 +22,11 @@ use Rattle.machine.proofs.Answered.{posts-answered}
 use Rattle.machine_soundness.proofs.States.{kept-say}
 use Rattle.machine_well_formed.specs.Texts.{IsFitText}
 use Rattle.machine_trace_laws.specs.Reached.{Reached}
-use Rattle.machine_histories.proofs.Histories.{AreLawful, History, Tells, at_first, lawful-append, lawful-meets, legal-after, tells-line, tells-nothing, tells-then, with_line}
-use Rattle.machine_histories.proofs.Settled.{is_settled}
-use Rattle.machine_histories.proofs.Ties.{count-other, told-other}
-use Rattle.machine_histories.proofs.Goings.{At, Ends, Goes, Rests}
-use Rattle.machine_histories.proofs.Asked.{goes-ends}
+use Rattle.machine_trace_laws.proofs.Histories.{AreLawful, History, Tells, at_first, lawful-append, lawful-meets, legal-after, tells-line, tells-nothing, tells-then, with_line}
+use Rattle.machine_trace_laws.proofs.Settled.{is_settled}
+use Rattle.machine_trace_laws.proofs.Ties.{count-other, told-other}
+use Rattle.machine_trace_laws.proofs.Goings.{At, Ends, Goes, Rests}
+use Rattle.machine_trace_laws.proofs.Asked.{goes-ends}
 use Rattle.machine_trace_laws.proofs.Moved.{move-at}
 use Rattle.machine_trace_laws.proofs.Delivered.{begins-at, deliver-at, interrupts-at, take_answer-at, with_answer}
 

@@ -28,9 +28,9 @@ use Rattle.machine.proofs.Answered.{posts-answered}
 use Rattle.machine_soundness.proofs.Lists.{equal}
 use Rattle.machine_trace_laws.specs.Reached.{Reached}
 use Rattle.machine_well_formed.specs.Texts.{IsFitText}
-use Rattle.machine_histories.proofs.Histories.{History, Tells, as_posted, at_first}
-use Rattle.machine_histories.proofs.Ties.{IsHeard, are_counted}
-use Rattle.machine_histories.proofs.Goings.{Rests}
+use Rattle.machine_trace_laws.proofs.Histories.{History, Tells, as_posted, at_first}
+use Rattle.machine_trace_laws.proofs.Ties.{IsHeard, are_counted}
+use Rattle.machine_trace_laws.proofs.Goings.{Rests}
 use Rattle.machine_trace_laws.proofs.Delivered.{begins-at, last-end, take_answer-at, with_answer}
 use Rattle.machine_trace_laws.proofs.Runs.{IsReady, Left, exit-passed, posts-block_line, ready-block_line, rests-silent, runs-passed, turn-passed}
 

@@ -1,7 +1,7 @@
 use Rattle.std.proofs.Common.{rules, ◌≡◌, ◌-◌, ap, ◌∙◌, None, true, false, arith}
 use Rattle.machine.specs.Run.{Source, after_question}
 use Rattle.machine.specs.State.{State}
-use Rattle.machine_counts.proofs.Rooms.{blocked-counted}
+use Rattle.machine_reached.proofs.Rooms.{blocked-counted}
 use Rattle.hub_engine.specs.Outside.{outside}
 use Rattle.hub_engine.proofs.Running.{broken_first, exit_broken_at, exited_at}
 use Rattle.hub_engine.proofs.Tying.{counted_exit, declared_blocked, exit_settles, tied_exit, tied_unanswered}

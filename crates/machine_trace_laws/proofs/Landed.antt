@@ -33,15 +33,15 @@ use Rattle.machine_soundness.proofs.Greenlets.{at, host-plain, host-more, live-h
 use Rattle.machine_soundness.proofs.Chains.{Climbs, climb-of, distinct, below, found-below, host-of-climb, length-visited, test_differs, visited}
 use Rattle.machine_soundness.proofs.Landings.{goes_on-plain, goes_on-raw, land-soundly, raw-free}
 use Rattle.machine_soundness.proofs.States.{IsHost, Moves, host_of-phased, length-phased, host-drop, host-ended, host-say, kept-drop, kept-ended, kept-say, live-unclaimed, moving, plain-phased}
-use Rattle.machine_histories.proofs.Histories.{History, tells-line, with_line}
-use Rattle.machine_histories.proofs.Settled.{is_settled, settled-live, settled-timeouts}
+use Rattle.machine_trace_laws.proofs.Histories.{History, tells-line, with_line}
+use Rattle.machine_trace_laws.proofs.Settled.{is_settled, settled-live, settled-timeouts}
 use Rattle.machine_offers.specs.Offers.{is_offered_on}
 use Rattle.machine_offers.proofs.Offers.{offers-drop}
 use Rattle.machine_offers.proofs.Anys.{any-kept}
-use Rattle.machine_histories.proofs.Ties.{IsOwn, is_over, free-wakeless, has_wake, lawful-own, live-not-over, ties-drop, ties-live, ties-loose, ties-own, ties-say}
+use Rattle.machine_trace_laws.proofs.Ties.{IsOwn, is_over, free-wakeless, has_wake, lawful-own, live-not-over, ties-drop, ties-live, ties-loose, ties-own, ties-say}
 use Rattle.machine_well_formed.specs.Texts.{fits_phase, fits_rest, is_fit_greenlet, is_raw_function}
-use Rattle.machine_histories.proofs.Placed.{IsPlaced, held-live, placed-frame, placed-start, unstarted-free}
-use Rattle.machine_histories.proofs.Goings.{AreHeld, AreHeldBy, At, Ends, Goes, Hosted, Loose, greenlet-fit, held-ended, lawful-ended, main-ended, parked-all, parked-ended, settled-ended, sides-drop, sides-ended, ties-ended, known-set}
+use Rattle.machine_trace_laws.proofs.Placed.{IsPlaced, held-live, placed-frame, placed-start, unstarted-free}
+use Rattle.machine_trace_laws.proofs.Goings.{AreHeld, AreHeldBy, At, Ends, Goes, Hosted, Loose, greenlet-fit, held-ended, lawful-ended, main-ended, parked-all, parked-ended, settled-ended, sides-drop, sides-ended, ties-ended, known-set}
 
 -- ---- ways up
 

@@ -27,8 +27,8 @@ use Rattle.machine.proofs.Halves.{left, right}
 use Rattle.machine_soundness.proofs.Lists.{all-filter, all-get, all-imply, equal, unequal}
 use Rattle.machine_well_formed.specs.Texts.{IsFitText, fits_block, fits_phase, fits_rest, is_among, is_fit_function, is_fit_greenlet, is_held, is_raw_function, may_say, withins, withins_at}
 use Rattle.machine_well_formed.proofs.Bodies.{IsFitUnwound, unwind-fit}
-use Rattle.machine_histories.proofs.Goings.{AreHeld, AreHeldBy, greenlet-fit, held-by, is_held_by}
-use Rattle.machine_histories.proofs.Ties.{phase-here}
+use Rattle.machine_trace_laws.proofs.Goings.{AreHeld, AreHeldBy, greenlet-fit, held-by, is_held_by}
+use Rattle.machine_trace_laws.proofs.Ties.{phase-here}
 
 -- the numbers of the blocks that were left or are open
 abbrev pub numbers_of : Unwound → List ℕ

@@ -26,9 +26,9 @@ use Rattle.machine_rooms.specs.Rooms.{HasRoom, room_of_delivery, room_of_move}
 use Rattle.machine_rooms.specs.Steps.{Fixed, HasSteps, Stands, other, tally}
 use Rattle.machine_rooms.proofs.Ledger.{counts-fewer, counts-moved, counts-taken}
 use Rattle.machine_rooms.proofs.Tallies.{wait-weight-few}
-use Rattle.machine_counts.specs.Laws.{IsCountedOn, IsWithin}
-use Rattle.machine_counts.proofs.Reached.{StandsIn, StandsSo, after, at-rest, delivered, exited, in-counts, in-reached, moved, others-few, reached-counts, started}
-use Rattle.machine_counts.proofs.Steps.{take_answer-counts}
+use Rattle.machine_reached.specs.Laws.{IsCountedOn, IsWithin}
+use Rattle.machine_reached.proofs.Reached.{StandsIn, StandsSo, after, at-rest, delivered, exited, in-counts, in-reached, moved, others-few, reached-counts, started}
+use Rattle.machine_reached.proofs.Steps.{take_answer-counts}
 
 -- ---- turns and moves
 

@@ -30,7 +30,7 @@ use Rattle.machine_soundness.proofs.Lists.{all-imply, all-end, all-filter, equal
 use Rattle.machine_soundness.proofs.Greenlets.{phase-other}
 use Rattle.machine_soundness.proofs.States.{all-settle}
 use Rattle.machine_offers.proofs.Anys.{any-all, any-end}
-use Rattle.machine_histories.proofs.Histories.{History, IsLawful, with_line}
+use Rattle.machine_trace_laws.proofs.Histories.{History, IsLawful, with_line}
 
 -- ---- how far greenlets came
 

@@ -21,10 +21,10 @@ use Rattle.machine_trace_laws.specs.Reached.{state_of_next}
 use Rattle.machine_trace_laws.proofs.Runs.{IsFound, least-found}
 use Rattle.machine_rooms.specs.Counts.{AreCountable, AreFarBelow}
 use Rattle.machine_rooms.proofs.Rooms.{room-ample}
-use Rattle.machine_counts.specs.Laws.{IsOfRun, IsWithin}
-use Rattle.machine_counts.specs.Turns.{ReachedIn}
-use Rattle.machine_counts.proofs.Reached.{in-reached}
-use Rattle.machine_counts.proofs.Rooms.{answered-counted, begun-counted, blocked-counted, delivered-counted, exited-counted, moved-counted, room-standing}
+use Rattle.machine_reached.specs.Laws.{IsOfRun, IsWithin}
+use Rattle.machine_reached.specs.Turns.{ReachedIn}
+use Rattle.machine_reached.proofs.Reached.{in-reached}
+use Rattle.machine_reached.proofs.Rooms.{answered-counted, begun-counted, blocked-counted, delivered-counted, exited-counted, moved-counted, room-standing}
 
 -- what stands where a part of a run was given out, within so many moves: no greenlet is left at a move
 abbrev Left : Scenario → Bool → ℕ → ℕ → Next → Type 0

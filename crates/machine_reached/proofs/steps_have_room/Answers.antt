@@ -1,5 +1,5 @@
-use Rattle.machine_counts.proofs.Rooms.{deliveries-room, moves-room, rests-room}
-use Rattle.machine_counts.proofs.steps_have_room.Goals as goal
+use Rattle.machine_reached.proofs.Rooms.{deliveries-room, moves-room, rests-room}
+use Rattle.machine_reached.proofs.steps_have_room.Goals as goal
 
 pub returns-clause-moved : goal.returns-clause-moved
 returns-clause-moved c = moves-room

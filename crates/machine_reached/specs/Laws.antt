@@ -16,8 +16,8 @@ use Rattle.machine.specs.Run.{Source, first_state, run_from, silent}
 use Rattle.machine_trace_laws.specs.Reached.{Reached, state_of_next}
 use Rattle.machine_rooms.specs.Counts.{AreCountable, AreFarBelow}
 use Rattle.machine_rooms.specs.Rooms.{HasRoom, room_of_delivery, room_of_move}
-use Rattle.machine_counts.specs.Few.{AreFew, AreFewNumbers}
-use Rattle.machine_counts.specs.Turns.{ReachedIn}
+use Rattle.machine_reached.specs.Few.{AreFew, AreFewNumbers}
+use Rattle.machine_reached.specs.Turns.{ReachedIn}
 
 -- ---- where the hub stands
 

@@ -36,12 +36,12 @@ use Rattle.machine_soundness.proofs.States.{IsHost, Moves, all-settle, going, pl
 use Rattle.machine_well_formed.specs.Kinds.{declared_kinds, kinds}
 use Rattle.machine_well_formed.specs.Texts.{IsFitText, fits_phase, is_among, is_fit_greenlet, is_held, is_raw_function, withins_at, HasMain, IsKnown, fits_item, is_function}
 use Rattle.machine_well_formed.proofs.KindLemmas.{KeepsKind, kinds-map, kinds-set, left-kept}
-use Rattle.machine_histories.proofs.Histories.{History, IsLawful, Tells, tells-line, with_line}
-use Rattle.machine_histories.proofs.Settled.{count-settled, is_settled, settled-settle}
+use Rattle.machine_trace_laws.proofs.Histories.{History, IsLawful, Tells, tells-line, with_line}
+use Rattle.machine_trace_laws.proofs.Settled.{count-settled, is_settled, settled-settle}
 use Rattle.machine_offers.specs.Offers.{is_offered_on, offers_at, offers_of}
 use Rattle.machine_offers.proofs.Offers.{AreKeptOffers, FitsTwins, IsFewer, fewer-same, free-offerless, is_offering, member-offers, offers-add, offers-drop, offers-drop_of, offers-map, offers-set, offers-settle, waits-spared}
 use Rattle.machine_offers.proofs.Anys.{any-all, any-end, any-filter, any-kept}
-use Rattle.machine_histories.proofs.Ties.{Ties, IsOwn, is_over, is_begun, has_wake, any-settle, begun-more, count-other, find-other, free-wakeless, lawful-own, live-begun, live-not-over, over-more, phase-here, ties-add, ties-drop, ties-greenlets, ties-own, ties-say, ties-settle, told-other}
+use Rattle.machine_trace_laws.proofs.Ties.{Ties, IsOwn, is_over, is_begun, has_wake, any-settle, begun-more, count-other, find-other, free-wakeless, lawful-own, live-begun, live-not-over, over-more, phase-here, ties-add, ties-drop, ties-greenlets, ties-own, ties-say, ties-settle, told-other}
 use Rattle.machine.specs.declared.limits.TheConstants.{MOST_KILLS}
 
 -- ---- what is parked

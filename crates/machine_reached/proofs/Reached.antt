@@ -23,10 +23,10 @@ use Rattle.machine_reached.proofs.Bounded.{reached-bounded, reached-stands, text
 use Rattle.machine_rooms.specs.Steps.{Fixed, HasSteps, Stands, other, tally}
 use Rattle.machine_rooms.proofs.Ledger.{counts-fewer}
 use Rattle.machine_rooms.proofs.Tallies.{ends-few, is_open, kills-and-others, kills-tallied, live-open}
-use Rattle.machine_counts.specs.Few.{AreFew, AreFewNumbers}
-use Rattle.machine_counts.specs.Turns.{ReachedIn}
-use Rattle.machine_counts.proofs.Landings.{lands-counts, starts-counts}
-use Rattle.machine_counts.proofs.Steps.{block_line-counts, deliver-counts, interrupts-counts, move-counts, take_answer-counts}
+use Rattle.machine_reached.specs.Few.{AreFew, AreFewNumbers}
+use Rattle.machine_reached.specs.Turns.{ReachedIn}
+use Rattle.machine_reached.proofs.Landings.{lands-counts, starts-counts}
+use Rattle.machine_reached.proofs.Steps.{block_line-counts, deliver-counts, interrupts-counts, move-counts, take_answer-counts}
 
 -- ---- one step
 

@@ -49,7 +49,7 @@ use Rattle.machine_rooms.specs.Steps.{Fixed, HasSteps, Stands, kill, other, tall
 use Rattle.machine_rooms.proofs.Ledger.{counts-add, counts-answered, counts-drop, counts-fewer, counts-jobs, counts-live, counts-made, counts-moved, counts-object, counts-objects, counts-settle, counts-taken, counts-timeout}
 use Rattle.machine_rooms.proofs.Requests.{Comes, completes-counts, performs-counts}
 use Rattle.machine_rooms.proofs.Tallies.{flag-counted, freed-counted, is_open, live-open, offer-gone, unstarted-open, wait-weight-few}
-use Rattle.machine_counts.proofs.Landings.{answered-counts, goes_on-counts, lands-counts, starts-counts}
+use Rattle.machine_reached.proofs.Landings.{answered-counts, goes_on-counts, lands-counts, starts-counts}
 
 -- ---- requests and moves
 

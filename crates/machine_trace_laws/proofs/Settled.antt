@@ -26,7 +26,7 @@ use Rattle.machine.proofs.Halves.{right}
 use Rattle.machine_soundness.proofs.Lists.{all-imply, all-filter, equal, unequal}
 use Rattle.machine_soundness.proofs.Greenlets.{phase-other}
 use Rattle.machine_soundness.proofs.Deliveries.{all-without, later}
-use Rattle.machine_histories.proofs.Ties.{is_over, phase-here}
+use Rattle.machine_trace_laws.proofs.Ties.{is_over, phase-here}
 
 abbrev pub same_bool : Bool → Bool → Bool
 same_bool true b = b

@@ -46,12 +46,12 @@ use Rattle.machine_soundness.proofs.Requests.{completes-fine, item-plain, kept-p
 use Rattle.machine_soundness.proofs.States.{Moves, going}
 use Rattle.machine_well_formed.specs.Texts.{HasMain, fits_wait, is_function, is_wanted}
 use Rattle.machine_well_formed.proofs.KindLemmas.{item-kept, kinds-set, member-kept, offer-kept, offer_taken-kept, owner-kept, slot-kept, taken-kept, unit-kept}
-use Rattle.machine_histories.proofs.Histories.{History, IsLawful, Tells, as_posted, tells-line, tells-post, with_line, with_post}
+use Rattle.machine_trace_laws.proofs.Histories.{History, IsLawful, Tells, as_posted, tells-line, tells-post, with_line, with_post}
 use Rattle.machine_offers.specs.Offers.{offers_at, offers_of}
 use Rattle.machine_offers.proofs.Offers.{HasNoOffer, fewer-same, free-lateless, free-offerless, is_offering, item-offers, more-offers, offers-offered, offers-set, owner-offers, slot-offers, taken-fewer, taken-offers, unit-offers}
 use Rattle.machine_offers.proofs.Anys.{any-end}
-use Rattle.machine_histories.proofs.Ties.{IsHeard, IsJobTold, are_counted, IsOwn, Ties, count-other, find-other, free-wakeless, has_wake, is_begun, live-begun, live-not-over, lawful-own, told-other, ties-add, ties-own, ties-say}
-use Rattle.machine_histories.proofs.Goings.{AreHeld, AreParkedBut, Ends, Goes, Hosted, Rests, Sides, goes-add, goes-made, goes-object, goes-put, goes-timeout, rests-objects, sides-add, known-objects}
+use Rattle.machine_trace_laws.proofs.Ties.{IsHeard, IsJobTold, are_counted, IsOwn, Ties, count-other, find-other, free-wakeless, has_wake, is_begun, live-begun, live-not-over, lawful-own, told-other, ties-add, ties-own, ties-say}
+use Rattle.machine_trace_laws.proofs.Goings.{AreHeld, AreParkedBut, Ends, Goes, Hosted, Rests, Sides, goes-add, goes-made, goes-object, goes-put, goes-timeout, rests-objects, sides-add, known-objects}
 
 -- what comes of a request of a greenlet with this host
 abbrev pub IsFineAt : History → ℕ → ℕ → Performed → Type 0

@@ -1,6 +1,6 @@
 use Rattle.machine_well_formed.proofs.WellFormed.{well-formed-fits}
-use Rattle.machine_counts.proofs.Rooms.{answered-counted, delivered-counted, exited-counted, moved-counted}
-use Rattle.machine_counts.proofs.moves_are_counted.Goals as goal
+use Rattle.machine_reached.proofs.Rooms.{answered-counted, delivered-counted, exited-counted, moved-counted}
+use Rattle.machine_reached.proofs.moves_are_counted.Goals as goal
 
 pub returns-clause-moved : goal.returns-clause-moved
 returns-clause-moved c d g s w r = moved-counted d g s (well-formed-fits d w) r
