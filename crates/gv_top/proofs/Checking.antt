@@ -4,8 +4,8 @@ use Rattle.gv_io.specs.Streams.{appended}
 use Rattle.gv_io.proofs.StreamLaws.{appended-nothing, AppendsPrefix-nothing}
 use Rattle.command_words.specs.declared.command.TextCommand.{TextCommand}
 use Rattle.command_words.specs.declared.command.TraceCheck.{TraceCheck}
-use Rattle.verify_command.specs.Judged.{IsReasoned, IsSaid, IsSaidOf, IsSame, Verification}
-use Rattle.verify_command.specs.declared.checking.Unverified.{Unverified}
+use Rattle.trace_check.specs.Said.{IsReasoned, IsSaid, IsSaidOf, IsSame, Verification}
+use Rattle.trace_check.specs.declared.verifying.Unverified.{Unverified}
 use Rattle.gv_top.specs.Answers.{Answer}
 use Rattle.gv_top.specs.Top.{Decided, FitsAnswer}
 use Rattle.gv_top.specs.Status.{verdict_line, verdict_of_check, verdict_status}

@@ -1,9 +1,9 @@
 -- From what a check of a trace says of an input to what the call leaves of it.
 use Rattle.std.proofs.Common.{◌≡◌, ◌≢◌, ◌⊎◌, inl, inr, refl, ap, sym, subst, ◌∙◌, ℕ, List, take, Option, Some, Ok, Err, arith}
 use Rattle.command_words.specs.declared.command.TraceCheck.{TraceCheck}
-use Rattle.verify_command.specs.Lines.{most_checked_read}
-use Rattle.verify_command.specs.Judged.{Verification}
-use Rattle.verify_command.specs.declared.checking.Unverified.{Unverified}
+use Rattle.trace_check.specs.Inputs.{most_checked_read}
+use Rattle.trace_check.specs.Said.{Verification}
+use Rattle.trace_check.specs.declared.verifying.Unverified.{Unverified}
 use Rattle.world.specs.Outside.{WorldMeaning}
 use Rattle.world_rules.specs.declared.question.LogEntry.{LogEntry}
 use Rattle.wsgi_core.specs.Applications.{App}

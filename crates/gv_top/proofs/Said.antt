@@ -13,10 +13,10 @@ use Rattle.trace_check.specs.Parts.{parted}
 use Rattle.trace_check.specs.declared.lawful.LawlessTrace.{LawlessTrace}
 use Rattle.trace_check.specs.declared.refusal.Cause.{Cause}
 use Rattle.trace_check.specs.declared.refusal.TraceRefusal.{TraceRefusal}
-use Rattle.verify_command.specs.Lines.{end_line}
-use Rattle.verify_command.specs.declared.lines.TheConstants.{MOST_CHECKED}
-use Rattle.verify_command.specs.Judged.{IsSaidIf, IsSaidOf, IsSaidOfParts, IsSaidOfScenario, Verification, said_of_laws, said_of_run}
-use Rattle.verify_command.specs.declared.checking.Unverified.{Unverified}
+use Rattle.trace_check.specs.Inputs.{end_line}
+use Rattle.trace_check.specs.declared.inputs.TheConstants.{MOST_CHECKED}
+use Rattle.trace_check.specs.Said.{IsSaidIf, IsSaidOf, IsSaidOfParts, IsSaidOfScenario, Verification, said_of_laws, said_of_run}
+use Rattle.trace_check.specs.declared.verifying.Unverified.{Unverified}
 use Rattle.gv_top.specs.Answers.{Answer, IsRefusedAt}
 use Rattle.gv_top.specs.Outcomes.{Fails, HasTrace, Passes, Refuses}
 use Rattle.gv_top.specs.Verifying.{IsCheckAnswer, unverified}

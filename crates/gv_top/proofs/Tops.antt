@@ -21,7 +21,7 @@ use Rattle.trace_text.specs.Line.{text_of}
 use Rattle.scenario_tree.specs.declared.tree.Scenario.{Scenario}
 use Rattle.scenario_grammar.specs.Spells.{Spells}
 use Rattle.scenario_rules.specs.Rules.{IsWellFormed}
-use Rattle.verify_command.specs.Lines.{most_checked_read}
+use Rattle.trace_check.specs.Inputs.{most_checked_read}
 use Rattle.gv_top.specs.Answers.{Answer, memory_line, most_read, read_fault_line, write_fault_line}
 use Rattle.gv_top.specs.Commands.{IsLeftAlone}
 use Rattle.gv_top.specs.Running.{IsBegun, IsUnbegun, RanWith}

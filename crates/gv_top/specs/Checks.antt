@@ -1,8 +1,8 @@
 -- What `verify` leaves behind.
 use Rattle.std.specs.Prelude.{◌≡◌, ◌≢◌, ◌⊎◌, ℕ, List, Option, Some, drop, take}
 use Rattle.command_words.specs.declared.command.TraceCheck.{TraceCheck}
-use Rattle.verify_command.specs.Lines.{most_checked_read}
-use Rattle.verify_command.specs.declared.checking.Unverified.{Unverified}
+use Rattle.trace_check.specs.Inputs.{most_checked_read}
+use Rattle.trace_check.specs.declared.verifying.Unverified.{Unverified}
 use Rattle.gv_top.specs.Top.{IsAnswered, Stream}
 use Rattle.gv_top.specs.Verifying.{unverified, verified}
 use Rattle.gv_top.specs.declared.words.OfflineCommand.{OfflineCommand}

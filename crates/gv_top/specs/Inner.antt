@@ -13,7 +13,7 @@ use Rattle.machine.specs.Run.{Ran}
 use Rattle.hub_engine.specs.Ends.{IsPartLogged, RanTo}
 use Rattle.hub_engine.specs.Run.{WroteAhead}
 use Rattle.hub_engine.specs.declared.run.EngineEnd.{EngineEnd}
-use Rattle.verify_command.specs.Judged.{Verification}
+use Rattle.trace_check.specs.Said.{Verification}
 use Rattle.wsgi_core.specs.Applications.{App}
 use Rattle.wsgi_connection.specs.Connection.{Exchanged}
 use Rattle.wsgi_connection.specs.declared.connection.ConnectionEnd.{ConnectionEnd}
@@ -24,7 +24,7 @@ use Rattle.gv_top.specs.Status.{verdict_of_connection, verdict_status}
 use Rattle.gv_top.specs.declared.status.Conclusion.{Conclusion}
 use Rattle.gv_top.specs.declared.status.Failure.{Failure}
 use Rattle.gv_top.specs.declared.status.Verdict.{Verdict}
-use Rattle.verify_command.specs.declared.checking.Unverified.{Unverified}
+use Rattle.trace_check.specs.declared.verifying.Unverified.{Unverified}
 use Rattle.gv_top.specs.Verifying.{unverified, verified}
 
 -- ---- verdicts

@@ -10,9 +10,9 @@ use Rattle.trace_check.specs.Check.{IsVerified, IsWrong}
 use Rattle.trace_check.specs.Lawful.{IsLawful, IsLawless, IsUnread}
 use Rattle.trace_check.specs.Parts.{parted}
 use Rattle.trace_check.specs.declared.refusal.Cause.{Cause}
-use Rattle.verify_command.specs.Lines.{end_line}
-use Rattle.verify_command.specs.declared.lines.TheConstants.{MOST_CHECKED}
-use Rattle.verify_command.specs.declared.checking.Unverified.{Unverified}
+use Rattle.trace_check.specs.Inputs.{end_line}
+use Rattle.trace_check.specs.declared.inputs.TheConstants.{MOST_CHECKED}
+use Rattle.trace_check.specs.declared.verifying.Unverified.{Unverified}
 use Rattle.gv_top.specs.Answers.{IsRefusedAt}
 
 -- not too long: the text of a well-formed scenario, the first line of four equals signs, and behind it the trace

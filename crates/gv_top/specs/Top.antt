@@ -28,7 +28,7 @@ use Rattle.gv_top.specs.Answers.{Answer, IsStormAnswer, most_read, no_port, writ
 use Rattle.gv_top.specs.Gateway.{answers_by}
 use Rattle.gv_top.specs.Status.{verdict_line, verdict_of_connection, verdict_status}
 use Rattle.gv_top.specs.Verifying.{IsAnswerOf, IsCheckAnswer}
-use Rattle.verify_command.specs.Lines.{most_checked_read}
+use Rattle.trace_check.specs.Inputs.{most_checked_read}
 use Rattle.gv_top.specs.Running.{RanWith}
 
 -- a stream before the call and after it: its bytes, left to read or written, where they are told; how often it failed

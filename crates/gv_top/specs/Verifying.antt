@@ -5,8 +5,8 @@ use Rattle.gv_values.specs.Texts.{decimal}
 use Rattle.command_words.specs.declared.command.TraceCheck.{TraceCheck}
 use Rattle.serve_command.specs.Lines.{number_line}
 use Rattle.trace_check.specs.Refusal.{cause_number, check_cause_text}
-use Rattle.verify_command.specs.Lines.{most_checked_read}
-use Rattle.verify_command.specs.declared.checking.Unverified.{Unverified}
+use Rattle.trace_check.specs.Inputs.{most_checked_read}
+use Rattle.trace_check.specs.declared.verifying.Unverified.{Unverified}
 use Rattle.wsgi_core.specs.Applications.{App}
 use Rattle.wsgi_connection.specs.Connection.{whole_session}
 use Rattle.gv_top.specs.Answers.{Answer, IsStormAnswer, IsTextAnswer, answer_of_session, most_read, no_port, place_text, refused_answer, on_err, usage}

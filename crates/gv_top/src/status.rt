@@ -9,8 +9,7 @@ use scenario_grammar::{Place, reason_text};
 use scenario_lang::ParseRefusal;
 use serve_command::Served;
 use std::alloc::{AllocError, Global};
-use trace_check::Cause;
-use verify_command::Unverified;
+use trace_check::{Cause, Unverified};
 use wsgi_connection::ConnectionEnd;
 
 /// What broke a call off.

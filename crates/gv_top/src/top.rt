@@ -20,7 +20,7 @@ ghost use Rattle.gv_top.specs.Top.{CameTo, Counts, Decided, FitsAnswer, HandsOn,
 ghost use Rattle.gv_top.specs.Status.{verdict_line, verdict_status};
 ghost use Rattle.gv_top.specs.Checks.{AnswersCheck};
 ghost use Rattle.gv_top.specs.Verifying.{IsAnswerOf, IsCheckAnswer};
-ghost use Rattle.verify_command.specs.Lines.{most_checked_read};
+ghost use Rattle.trace_check.specs.Inputs.{most_checked_read};
 ghost use Rattle.wsgi_connection.specs.Connection.{HandedAhead};
 ghost use Rattle.gv_top.specs.Words.{offline_command_of, is_native, is_native_text, reads_input, serve_of};
 

@@ -6,7 +6,7 @@ ghost use Rattle.gv_top.specs.Top.{Counts, Decided, FitsAnswer, HandsOn};
 ghost use Rattle.gv_top.specs.Status.{verdict_status};
 ghost use Rattle.gv_top.specs.Inner.{IsExplained};
 ghost use Rattle.gv_top.specs.Verifying.{IsCheckAnswer, verified};
-ghost use Rattle.verify_command.specs.Lines.{most_checked_read};
+ghost use Rattle.trace_check.specs.Inputs.{most_checked_read};
 
 use crate::status::{Conclusion, Failure, Verdict, verdict_of_check};
 use crate::top::send;
@@ -14,7 +14,7 @@ use command_words::TraceCheck;
 use gv_io::{ReadRefusal, Sink, Source, read_limited};
 use serve_command::push_number_line;
 use std::alloc::Global;
-use verify_command::{MOST_CHECKED, verify};
+use trace_check::{MOST_CHECKED, verify};
 
 /// Reads the input and checks this of it. Where it comes out well, the number of its lines is written to out.
 pub fn answer_check<S: Source, K: Sink>(

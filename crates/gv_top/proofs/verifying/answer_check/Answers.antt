@@ -1,6 +1,6 @@
 use Rattle.std.proofs.Common.{List, ℕ, refl, subst, sym, ◌∙◌}
 use Rattle.gv_io.proofs.StreamLaws.{AppendsPrefix-nothing}
-use Rattle.verify_command.specs.Lines.{most_checked_read}
+use Rattle.trace_check.specs.Inputs.{most_checked_read}
 use Rattle.gv_top.specs.Answers.{Answer}
 use Rattle.gv_top.specs.Top.{FitsAnswer}
 use Rattle.gv_top.specs.Verifying.{IsCheckAnswer}

@@ -1,6 +1,6 @@
 use Rattle.std.proofs.Common.{Ok, Err, refl}
-use Rattle.verify_command.proofs.Saying.{only_of_run}
-use Rattle.verify_command.proofs.checking.verify_trace.Goals as goal
+use Rattle.trace_check.proofs.Saying.{only_of_run}
+use Rattle.trace_check.proofs.verifying.verify_trace.Goals as goal
 
 pub returns-in-Ok-clause-said : goal.returns-in-Ok-clause-said
 returns-in-Ok-clause-said c = (Ok c.in-Ok.lines, c.in-Ok.ensures.judged, refl)

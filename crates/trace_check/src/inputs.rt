@@ -2,7 +2,7 @@
 ghost use Rattle.std.specs.Prelude.{◌≡◌, ◌≤◌, count_by, length};
 ghost use Rattle.scenario_grammar.specs.Layout.{is_end};
 ghost use Rattle.scenario_grammar.specs.Place.{line_at};
-ghost use Rattle.verify_command.specs.Lines.{end_line};
+ghost use Rattle.trace_check.specs.Inputs.{end_line};
 
 /// The most bytes of an input.
 pub const MOST_CHECKED: usize = 67108864;

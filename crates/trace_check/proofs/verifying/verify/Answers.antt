@@ -1,8 +1,8 @@
 use Rattle.std.proofs.Common.{arith, subst}
 use Rattle.command_words.specs.Ranges.{IsCheckInRange}
 use Rattle.command_words.specs.declared.command.TraceCheck.{TraceCheck}
-use Rattle.verify_command.proofs.Saying.{only_of_long, only_of_short, said_of_long, said_of_short}
-use Rattle.verify_command.proofs.checking.verify.Goals as goal
+use Rattle.trace_check.proofs.Saying.{only_of_long, only_of_short, said_of_long, said_of_short}
+use Rattle.trace_check.proofs.verifying.verify.Goals as goal
 
 pub returns-then-bytes-gt-MOST_CHECKED-clause-said : goal.returns-then-bytes-gt-MOST_CHECKED-clause-said
 returns-then-bytes-gt-MOST_CHECKED-clause-said c = said_of_long c.args.check c.args.bytes.now _ (omega (arith, c.if-bytes-gt-MOST_CHECKED.true)) c.line_at.ensures

@@ -17,10 +17,10 @@ use Rattle.trace_check.specs.declared.refusal.TraceRefusal.{TraceRefusal}
 use Rattle.trace_check.specs.Places.{parts_at}
 use Rattle.scenario_grammar.specs.Place.{line_at}
 use Rattle.scenario_reading.specs.Judged.{IsRefusedWithReason, judged_text}
-use Rattle.verify_command.specs.Lines.{end_line}
-use Rattle.verify_command.specs.declared.lines.TheConstants.{MOST_CHECKED}
-use Rattle.verify_command.specs.Judged.{IsReasoned, IsSaid, IsSaidIf, IsSaidOf, IsSaidOfParts, IsSaidOfScenario, IsSaidOfTrace, IsSame, Verification, said_of_laws, said_of_run, said_of_text}
-use Rattle.verify_command.specs.declared.checking.Unverified.{Unverified}
+use Rattle.trace_check.specs.Inputs.{end_line}
+use Rattle.trace_check.specs.declared.inputs.TheConstants.{MOST_CHECKED}
+use Rattle.trace_check.specs.Said.{IsReasoned, IsSaid, IsSaidIf, IsSaidOf, IsSaidOfParts, IsSaidOfScenario, IsSaidOfTrace, IsSame, Verification, said_of_laws, said_of_run, said_of_text}
+use Rattle.trace_check.specs.declared.verifying.Unverified.{Unverified}
 
 same : (v w : Verification) → v ≡ w → IsSame v w
 same v w e = λ f g. e

@@ -1,7 +1,7 @@
 -- Inputs that are checked: how long they may be, and their last line.
 use Rattle.std.specs.Prelude.{ℕ, ◌+◌, ◌-◌, List, length}
 use Rattle.scenario_grammar.specs.Place.{line_at}
-use Rattle.verify_command.specs.declared.lines.TheConstants.{MOST_CHECKED}
+use Rattle.trace_check.specs.declared.inputs.TheConstants.{MOST_CHECKED}
 
 -- the most bytes that are read of an input: one more than it may have
 abbrev pub most_checked_read : ℕ

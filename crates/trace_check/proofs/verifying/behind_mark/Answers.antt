@@ -1,6 +1,6 @@
 use Rattle.std.proofs.Common.{arith}
-use Rattle.verify_command.proofs.Saying.{behind_last, behind_line}
-use Rattle.verify_command.proofs.checking.behind_mark.Goals as goal
+use Rattle.trace_check.proofs.Saying.{behind_last, behind_line}
+use Rattle.trace_check.proofs.verifying.behind_mark.Goals as goal
 
 pub returns-then-bytes-place-lt-MARK_BYTES : goal.returns-then-bytes-place-lt-MARK_BYTES
 returns-then-bytes-place-lt-MARK_BYTES c =

@@ -1,5 +1,5 @@
-use Rattle.verify_command.proofs.Saying.{only_as, only_refused, refusal_reasoned, refused_as, said_as}
-use Rattle.verify_command.proofs.checking.verify_text.Goals as goal
+use Rattle.trace_check.proofs.Saying.{only_as, only_refused, refusal_reasoned, refused_as, said_as}
+use Rattle.trace_check.proofs.verifying.verify_text.Goals as goal
 
 pub returns-in-Ok-clause-said : goal.returns-in-Ok-clause-said
 returns-in-Ok-clause-said c = said_as _ _ c.args.budgets.turns c.args.budgets.moves c.args.trace.now _ c.in-Ok.ensures.judged c.verify_trace.ensures.said

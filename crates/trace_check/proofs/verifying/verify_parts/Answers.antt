@@ -1,6 +1,6 @@
 use Rattle.std.proofs.Common.{refl}
-use Rattle.verify_command.proofs.Saying.{marked_as, only_marked, only_unmarked, unmarked_as}
-use Rattle.verify_command.proofs.checking.verify_parts.Goals as goal
+use Rattle.trace_check.proofs.Saying.{marked_as, only_marked, only_unmarked, unmarked_as}
+use Rattle.trace_check.proofs.verifying.verify_parts.Goals as goal
 
 pub returns-in-None-clause-said : goal.returns-in-None-clause-said
 returns-in-None-clause-said c = unmarked_as _ c.args.bytes.now c.args.budgets.turns c.args.budgets.moves _ c.in-None.ensures.parts c.end_line.ensures

@@ -13,9 +13,9 @@ use Rattle.trace_check.specs.Parts.{parted}
 use Rattle.trace_check.specs.declared.lawful.LawlessTrace.{LawlessTrace}
 use Rattle.trace_check.specs.declared.refusal.Cause.{Cause}
 use Rattle.trace_check.specs.declared.refusal.TraceRefusal.{TraceRefusal}
-use Rattle.verify_command.specs.Lines.{end_line}
-use Rattle.verify_command.specs.declared.lines.TheConstants.{MOST_CHECKED}
-use Rattle.verify_command.specs.declared.checking.Unverified.{Unverified}
+use Rattle.trace_check.specs.Inputs.{end_line}
+use Rattle.trace_check.specs.declared.inputs.TheConstants.{MOST_CHECKED}
+use Rattle.trace_check.specs.declared.verifying.Unverified.{Unverified}
 
 -- the number of lines, or why there is none
 abbrev pub Verification : Type 0
