@@ -7,18 +7,19 @@ use Rattle.machine.specs.declared.state.Local.{Local}
 use Rattle.machine.specs.declared.state.Todo.{Todo}
 use Rattle.machine.specs.Expressions.{Around}
 use Rattle.machine.specs.Unwinding.{Unwound, unwind}
-use Rattle.body_names.specs.Locals.{locals_of}
+use Rattle.body_locals.specs.Locals.{locals_of}
 use Rattle.body_names.specs.declared.expression.LocalSlot.{LocalSlot}
 use Rattle.body_blocks.specs.Trees.{Coded, block_at}
-use Rattle.body_values.specs.Few.{HasFew}
+use Rattle.body_blocks.specs.Few.{HasFew}
 use Rattle.body_frames.specs.declared.running.Destination.{Destination}
 use Rattle.body_frames.specs.declared.running.Moved.{Moved}
 use Rattle.body_frames.specs.declared.stack.Made.{Made}
 use Rattle.body_frames.specs.declared.stack.Stack.{Stack}
 use Rattle.body_frames.specs.declared.unwind.Unwound.{Unwound as Left}
 use Rattle.body_frames.specs.Destinations.{Arrives, HasMovedOn}
-use Rattle.body_frames.specs.Entries.{todo_of}
-use Rattle.body_frames.specs.Few.{HasFewBody, HasFewToDo, HasFewUnwound}
+use Rattle.body_entries.specs.Entries.{todo_of}
+use Rattle.body_entries.specs.Few.{HasFewToDo}
+use Rattle.body_frames.specs.Few.{HasFewBody, HasFewUnwound}
 use Rattle.body_frames.specs.Places.{place_of}
 use Rattle.body_frames.specs.Runs.{HasMoved, came_of_move}
 use Rattle.body_frames.specs.Standings.{body_after, frame_of, goes_from}

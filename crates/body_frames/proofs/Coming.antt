@@ -11,17 +11,17 @@ use Rattle.machine.specs.Ends.{leaving_of}
 use Rattle.machine.specs.Expressions.{Around}
 use Rattle.machine.specs.Landing.{given}
 use Rattle.machine.specs.Unwinding.{Unwound, unwind}
-use Rattle.body_names.specs.declared.locals.Bound.{Bound}
-use Rattle.body_names.specs.Locals.{locals_of}
+use Rattle.body_locals.specs.declared.locals.Bound.{Bound}
+use Rattle.body_locals.specs.Locals.{locals_of}
 use Rattle.body_names.specs.declared.expression.LocalSlot.{LocalSlot}
 use Rattle.body_blocks.specs.Trees.{Coded, block_at, name_if}
-use Rattle.body_frames.specs.declared.entry.Entry.{Entry}
+use Rattle.body_entries.specs.declared.entry.Entry.{Entry}
 use Rattle.body_frames.specs.declared.stack.Made.{Made}
 use Rattle.body_frames.specs.declared.stack.Stack.{Stack}
 use Rattle.body_frames.specs.declared.unwind.Unwound.{Unwound as Left}
 use Rattle.body_frames.specs.Places.{Came, came_by, place_of}
-use Rattle.body_frames.specs.Entries.{todo_of}
-use Rattle.body_frames.specs.Few.{HasFewToDo}
+use Rattle.body_entries.specs.Entries.{todo_of}
+use Rattle.body_entries.specs.Few.{HasFewToDo}
 use Rattle.body_frames.specs.Runs.{HasMoved, came_of_move}
 use Rattle.body_frames.specs.Standings.{came_of_made, goes_from, made_of, stands}
 

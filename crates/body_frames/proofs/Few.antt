@@ -26,8 +26,9 @@ use Rattle.machine.specs.Landing.{given}
 use Rattle.machine.specs.Ends.{leaving_of}
 use Rattle.machine.specs.Greenlets.{named}
 use Rattle.machine.specs.Unwinding.{Caught, Unwound, bind_if, block_first, catching, finally_first, unwind}
-use Rattle.body_values.specs.Few.{HasFew, HasFewArguments, HasFewExcepts, HasFewParts}
-use Rattle.body_frames.specs.Few.{AsksFew, HasFewBody, HasFewDid, HasFewStep, HasFewToDo, HasFewUnwound}
+use Rattle.body_blocks.specs.Few.{HasFew, HasFewArguments, HasFewExcepts, HasFewParts}
+use Rattle.body_entries.specs.Few.{HasFewToDo}
+use Rattle.body_frames.specs.Few.{AsksFew, HasFewBody, HasFewDid, HasFewStep, HasFewUnwound}
 use Rattle.body_values.proofs.Few.{caught-few, head-few, others-few, rest-few}
 use Rattle.body_moves.proofs.Counts.{HasLength, values-length}
 

@@ -9,16 +9,16 @@ use Rattle.machine.specs.BodyMoves.{Did, action_move, body_move}
 use Rattle.machine.specs.Expressions.{Around}
 use Rattle.machine.specs.Unwinding.{Unwound}
 use Rattle.body_names.specs.declared.expression.FlatExpression.{FlatExpression}
-use Rattle.body_names.specs.declared.locals.Bound.{Bound}
-use Rattle.body_names.specs.Locals.{locals_of}
+use Rattle.body_locals.specs.declared.locals.Bound.{Bound}
+use Rattle.body_locals.specs.Locals.{locals_of}
 use Rattle.body_blocks.specs.Trees.{Coded, IsAhead}
 use Rattle.body_blocks.specs.declared.statement.FlatStatement.{FlatStatement}
 use Rattle.body_primitives.specs.Primitives.{Means}
-use Rattle.body_frames.specs.declared.entry.Entry.{Entry}
+use Rattle.body_entries.specs.declared.entry.Entry.{Entry}
 use Rattle.body_frames.specs.declared.quick.Quick.{Quick}
 use Rattle.body_frames.specs.declared.stack.Made.{Made}
 use Rattle.body_frames.specs.declared.stack.Stack.{Stack}
-use Rattle.body_frames.specs.Entries.{form_of, rest, todo_of}
+use Rattle.body_entries.specs.Entries.{form_of, rest, todo_of}
 use Rattle.body_frames.specs.Quick.{Prints, request_of}
 use Rattle.body_frames.specs.Runs.{HasMoved}
 use Rattle.body_frames.specs.Standings.{made_of}

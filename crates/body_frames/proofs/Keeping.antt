@@ -7,7 +7,8 @@ use Rattle.machine.specs.Bodies.{Stepped, after_move}
 use Rattle.machine.specs.Expressions.{Around}
 use Rattle.machine.specs.BodyMoves.{Did, body_move}
 use Rattle.machine.specs.Unwinding.{Unwound, unwind}
-use Rattle.body_frames.specs.Few.{HasFewBody, HasFewDid, HasFewToDo, HasFewUnwound}
+use Rattle.body_entries.specs.Few.{HasFewToDo}
+use Rattle.body_frames.specs.Few.{HasFewBody, HasFewDid, HasFewUnwound}
 use Rattle.body_blocks.specs.Trees.{Coded}
 use Rattle.body_frames.specs.declared.stack.Made.{Made}
 use Rattle.body_frames.specs.declared.stack.Stack.{Stack}

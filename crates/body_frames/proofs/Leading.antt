@@ -11,7 +11,7 @@ use Rattle.machine.specs.Expressions.{Around, Look}
 use Rattle.machine.specs.Unwinding.{unwind}
 use Rattle.gv_values.specs.declared.name.Name.{Name}
 use Rattle.body_names.specs.declared.expression.LocalSlot.{LocalSlot}
-use Rattle.body_names.specs.Locals.{locals_of}
+use Rattle.body_locals.specs.Locals.{locals_of}
 use Rattle.body_names.specs.Naming.{IsNaming}
 use Rattle.body_blocks.specs.Trees.{Coded, name_if}
 use Rattle.body_frames.specs.declared.quick.Quick.{Quick}
@@ -21,8 +21,8 @@ use Rattle.body_frames.specs.declared.stack.Made.{Made}
 use Rattle.body_frames.specs.declared.stack.Stack.{Stack}
 use Rattle.body_frames.specs.declared.unwind.Unwound.{Unwound as Left}
 use Rattle.body_frames.specs.AtMove.{IsAtMove}
-use Rattle.body_frames.specs.Entries.{todo_of}
-use Rattle.body_frames.specs.Few.{HasFewToDo}
+use Rattle.body_entries.specs.Entries.{todo_of}
+use Rattle.body_entries.specs.Few.{HasFewToDo}
 use Rattle.body_frames.specs.Places.{Came, Place, place_of}
 use Rattle.body_frames.specs.PrimitiveMoves.{HasMade, RunsAt}
 use Rattle.body_frames.specs.Quick.{request_of}

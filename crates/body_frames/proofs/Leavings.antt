@@ -7,7 +7,7 @@ use Rattle.machine.specs.declared.state.Leaving.{Leaving}
 use Rattle.machine.specs.declared.state.Local.{Local}
 use Rattle.machine.specs.declared.state.Todo.{Todo}
 use Rattle.machine.specs.Unwinding.{Unwound, block_first, finally_first, unwind}
-use Rattle.body_frames.specs.Entries.{begins}
+use Rattle.body_entries.specs.Entries.{begins}
 
 -- ---- the rest of a block
 

@@ -8,6 +8,5 @@ pub mod Heads
 pub mod Keeping
 pub mod Leading
 pub mod Leavings
-pub mod Piles
 pub mod PrimitiveMoves
 pub mod Readings

@@ -15,20 +15,20 @@ use Rattle.machine.specs.Unwinding.{Unwound, unwind}
 use Rattle.body_names.specs.declared.command.FlatCommand.{FlatCommand}
 use Rattle.body_names.specs.declared.expression.FlatExpression.{FlatExpression}
 use Rattle.body_names.specs.declared.expression.LocalSlot.{LocalSlot}
-use Rattle.body_names.specs.declared.locals.Bound.{Bound}
+use Rattle.body_locals.specs.declared.locals.Bound.{Bound}
 use Rattle.body_names.specs.Expressions.{expression_of}
-use Rattle.body_names.specs.Locals.{bind, locals_of}
+use Rattle.body_locals.specs.Locals.{bind, locals_of}
 use Rattle.body_names.specs.Naming.{IsNaming, name_of}
-use Rattle.body_names.proofs.Places.{bind_by_name}
+use Rattle.body_locals.proofs.Places.{bind_by_name}
 use Rattle.body_blocks.specs.Trees.{Coded, IsAhead, block_at}
 use Rattle.body_blocks.specs.declared.statement.FlatAction.{FlatAction}
 use Rattle.body_blocks.specs.declared.statement.FlatStatement.{FlatStatement}
 use Rattle.body_primitives.specs.Primitives.{IsBound, Means}
-use Rattle.body_frames.specs.declared.entry.Entry.{Entry}
+use Rattle.body_entries.specs.declared.entry.Entry.{Entry}
 use Rattle.body_frames.specs.declared.stack.Stack.{Stack}
 use Rattle.body_frames.specs.declared.unwind.Unwound.{Unwound as Left}
-use Rattle.body_frames.specs.Entries.{begins, form_of, optional_block, rest, todo_of}
-use Rattle.body_frames.specs.Few.{HasFewToDo}
+use Rattle.body_entries.specs.Entries.{begins, form_of, optional_block, rest, todo_of}
+use Rattle.body_entries.specs.Few.{HasFewToDo}
 use Rattle.body_frames.specs.PrimitiveMoves.{GoesOn, HasActed, HasMade, IsPassed, RunsAt}
 use Rattle.body_frames.specs.Standings.{goes_from}
 use Rattle.body_frames.proofs.Leavings.{rest_ends, rest_runs}

@@ -12,9 +12,9 @@ use Rattle.body_names.specs.Statements.{command_of, giving_of}
 use Rattle.body_blocks.specs.Trees.{Coded, IsAhead, action_of, block_at, except_of, name_if, statement_of}
 use Rattle.body_blocks.specs.declared.statement.FlatAction.{FlatAction}
 use Rattle.body_blocks.specs.declared.statement.FlatStatement.{FlatStatement}
-use Rattle.body_values.specs.Few.{HasFew, HasFewParts}
+use Rattle.body_blocks.specs.Few.{HasFew, HasFewParts}
 use Rattle.body_values.proofs.Few.{head-few, rest-few}
-use Rattle.body_frames.specs.Entries.{Form, begins, form_of, optional_block, rest}
+use Rattle.body_entries.specs.Entries.{Form, begins, form_of, optional_block, rest}
 
 -- one level of a flat statement is that of its tree
 pub out_form : (t : Coded) (a : FlatAction) → out-Action (action_of t a) ≡ form_of t a

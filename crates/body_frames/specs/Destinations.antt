@@ -6,7 +6,7 @@ use Rattle.machine.specs.declared.state.Todo.{Todo}
 use Rattle.machine.specs.Unwinding.{unwind}
 use Rattle.body_frames.specs.declared.running.Destination.{Destination}
 use Rattle.body_frames.specs.declared.running.Moved.{Moved}
-use Rattle.body_frames.specs.Few.{HasFewToDo}
+use Rattle.body_entries.specs.Few.{HasFewToDo}
 use Rattle.body_frames.specs.Places.{Came, Entered, Place, place_of}
 use Rattle.body_frames.specs.PrimitiveMoves.{RunsAt}
 

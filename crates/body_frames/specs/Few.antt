@@ -1,28 +1,15 @@
 -- That a body under way has few arguments in each call: no more than a function may have parameters. This project's
 -- own.
-use Rattle.std.specs.Prelude.{◌≤◌, List, [], ◌∷◌, length}
+use Rattle.std.specs.Prelude.{◌≤◌, length}
 use Rattle.scenario_tree.specs.declared.limits.TheConstants.{MOST_PARAMETERS}
 use Rattle.machine.specs.declared.request.Request.{Request}
-use Rattle.machine.specs.declared.state.Todo.{Todo}
 use Rattle.machine.specs.Bodies.{Body, Step}
 use Rattle.machine.specs.BodyMoves.{Did}
 use Rattle.machine.specs.Unwinding.{Unwound}
-use Rattle.body_values.specs.Few.{HasFew, HasFewExcepts}
+use Rattle.body_blocks.specs.Few.{HasFew}
+use Rattle.body_entries.specs.Few.{HasFewToDo}
 
--- each call of an entry of what is still to do is few
-abbrev pub HasFewEntry : Todo → Type 0
-HasFewEntry (Todo.Statements ss) = HasFew ss
-HasFewEntry (Todo.Again e body) = HasFew body
-HasFewEntry (Todo.Guard excepts finally) = HasFewExcepts excepts × HasFew finally
-HasFewEntry (Todo.Afterwards how) = Unit {0}
-HasFewEntry (Todo.Within n silent) = Unit {0}
-
--- so is each call of all that is still to do
-abbrev pub HasFewToDo : List Todo → Type 0
-HasFewToDo [] = Unit {0}
-HasFewToDo (entry ∷ todo) = HasFewEntry entry × HasFewToDo todo
-
--- so it is where a block was left
+-- where a block was left, each call of what is still to do is few
 abbrev pub HasFewUnwound : Unwound → Type 0
 HasFewUnwound (Unwound.Runs left locals todo) = HasFewToDo todo
 HasFewUnwound (Unwound.Out left how) = Unit {0}

@@ -12,8 +12,9 @@ use Rattle.machine.specs.Bodies.{Body, begins, resume}
 use Rattle.machine.specs.Expressions.{Around}
 use Rattle.machine.specs.BodyMoves.{body_move}
 use Rattle.machine.specs.Unwinding.{unwind}
-use Rattle.body_values.specs.Few.{HasFew, HasFewParts}
-use Rattle.body_frames.specs.Few.{HasFewBody, HasFewDid, HasFewStep, HasFewToDo, HasFewUnwound}
+use Rattle.body_blocks.specs.Few.{HasFew, HasFewParts}
+use Rattle.body_entries.specs.Few.{HasFewToDo}
+use Rattle.body_frames.specs.Few.{HasFewBody, HasFewDid, HasFewStep, HasFewUnwound}
 
 -- so it is where a body of such a function begins
 abbrev pub BeginsFew : Type 0

@@ -1,7 +1,6 @@
 pub mod Answers
 pub mod AtMove
 pub mod Destinations
-pub mod Entries
 pub mod Few
 pub mod Laws
 pub mod Places

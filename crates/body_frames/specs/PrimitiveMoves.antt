@@ -9,14 +9,14 @@ use Rattle.machine.specs.Bodies.{Stepped, after_move, around}
 use Rattle.machine.specs.BodyMoves.{Did, action_move, body_move}
 use Rattle.machine.specs.Expressions.{Around, Look}
 use Rattle.machine.specs.Unwinding.{Unwound, unwind}
-use Rattle.body_names.specs.Locals.{locals_of}
+use Rattle.body_locals.specs.Locals.{locals_of}
 use Rattle.body_names.specs.Naming.{IsNaming}
 use Rattle.body_blocks.specs.Trees.{Coded}
-use Rattle.body_frames.specs.declared.entry.Entry.{Entry}
+use Rattle.body_entries.specs.declared.entry.Entry.{Entry}
 use Rattle.body_frames.specs.declared.stack.Stack.{Stack}
-use Rattle.body_values.specs.Few.{HasFewParts}
-use Rattle.body_frames.specs.Entries.{Form, todo_of}
-use Rattle.body_frames.specs.Few.{HasFewToDo}
+use Rattle.body_blocks.specs.Few.{HasFewParts}
+use Rattle.body_entries.specs.Entries.{Form, todo_of}
+use Rattle.body_entries.specs.Few.{HasFewToDo}
 
 -- the move goes on in the body, at what is then first to do
 abbrev pub GoesOn : Coded → (Around → Did) → Stack → Stack → Type 0

@@ -1,19 +1,12 @@
 -- What a request that is answered at once stands for.
-use Rattle.std.specs.Prelude.{ℕ, ◌≡◌, List}
+use Rattle.std.specs.Prelude.{◌≡◌, List}
 use Rattle.gv_values.specs.declared.value.Value.{Value}
 use Rattle.machine.specs.declared.request.Request.{Request}
+use Rattle.machine.specs.Deeds.{request_at}
 use Rattle.body_names.specs.declared.expression.FlatExpression.{FlatExpression}
-use Rattle.body_names.specs.declared.locals.Bound.{Bound}
+use Rattle.body_locals.specs.declared.locals.Bound.{Bound}
 use Rattle.body_primitives.specs.Primitives.{Means}
-use Rattle.body_frames.specs.declared.quick.Deed.{Deed}
 use Rattle.body_frames.specs.declared.quick.Quick.{Quick}
-
--- the request that this is done at the object
-abbrev pub request_at : ℕ → Deed → Request
-request_at o Deed.Set = Request.Set o
-request_at o Deed.Clear = Request.Clear o
-request_at o Deed.Release = Request.Release o
-request_at o Deed.QueueDone = Request.QueueDone o
 
 -- the request
 abbrev pub request_of : Quick → Request

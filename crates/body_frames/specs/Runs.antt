@@ -7,15 +7,16 @@ use Rattle.machine.specs.Bodies.{Stepped, after_move}
 use Rattle.machine.specs.BodyMoves.{body_move}
 use Rattle.machine.specs.Expressions.{Around}
 use Rattle.machine.specs.Unwinding.{Unwound, unwind}
-use Rattle.body_names.specs.Locals.{locals_of}
+use Rattle.body_locals.specs.Locals.{locals_of}
 use Rattle.body_blocks.specs.Trees.{Coded}
 use Rattle.body_frames.specs.declared.quick.Quick.{Quick}
 use Rattle.body_frames.specs.declared.runs.Halt.{Halt}
 use Rattle.body_frames.specs.declared.stack.Made.{Made}
 use Rattle.body_frames.specs.declared.stack.Stack.{Stack}
 use Rattle.body_frames.specs.declared.unwind.Unwound.{Unwound as Left}
-use Rattle.body_frames.specs.Entries.{todo_of}
-use Rattle.body_frames.specs.Few.{HasFewBody, HasFewToDo}
+use Rattle.body_entries.specs.Entries.{todo_of}
+use Rattle.body_entries.specs.Few.{HasFewToDo}
+use Rattle.body_frames.specs.Few.{HasFewBody}
 use Rattle.body_frames.specs.Places.{Came, Place, came_by, place_of}
 use Rattle.body_frames.specs.Quick.{request_of}
 use Rattle.body_frames.specs.Standings.{body_after, made_of}

@@ -3,7 +3,7 @@ use Rattle.std.specs.Prelude.{ℕ, None}
 use Rattle.machine.specs.declared.state.Frame.{Frame}
 use Rattle.machine.specs.Bodies.{Body, Step, Stepped}
 use Rattle.machine.specs.Unwinding.{Unwound}
-use Rattle.body_names.specs.Locals.{locals_of}
+use Rattle.body_locals.specs.Locals.{locals_of}
 use Rattle.body_blocks.specs.Trees.{Coded, block_at, name_if}
 use Rattle.body_frames.specs.declared.frame.Standing.{Standing}
 use Rattle.body_frames.specs.declared.places.Reached.{Reached}
@@ -11,7 +11,7 @@ use Rattle.body_frames.specs.declared.stack.Made.{Made}
 use Rattle.body_frames.specs.declared.stack.Stack.{Stack}
 use Rattle.body_frames.specs.declared.step.Step.{Step as Told}
 use Rattle.body_frames.specs.declared.unwind.Unwound.{Unwound as Left}
-use Rattle.body_frames.specs.Entries.{todo_of}
+use Rattle.body_entries.specs.Entries.{todo_of}
 use Rattle.body_frames.specs.Places.{Came, Place, place_of}
 use Rattle.body_frames.specs.Steps.{step_of}
 use Rattle.body_frames.specs.Unwinding.{unwound_of}

@@ -5,7 +5,7 @@ use Rattle.body_blocks.specs.declared.statement.FlatExcept.{FlatExcept}
 use Rattle.machine.specs.declared.state.Local.{Local}
 use Rattle.machine.specs.declared.state.Todo.{Todo}
 use Rattle.machine.specs.Unwinding.{Caught, Unwound, unwind}
-use Rattle.body_frames.specs.declared.entry.Entry.{Entry}
+use Rattle.body_entries.specs.declared.entry.Entry.{Entry}
 use Rattle.body_frames.specs.declared.unwind.Unwound.{Unwound as Came}
 use Rattle.body_frames.specs.declared.unwind.Stepped.{Stepped}
 

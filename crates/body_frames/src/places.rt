@@ -12,44 +12,17 @@ ghost use Rattle.body_frames.specs.Places.{place_of};
 ghost use Rattle.body_frames.specs.Standings.{goes_from, reached_of};
 ghost use Rattle.body_frames.specs.Steady.{HasMove};
 
-use crate::entry::Entry;
-use crate::pile::Pile;
 use crate::stack::{Begun, Stack, begin_function, go_on_with, outcome_of_leaving};
 use crate::unwind::Unwound;
 use body_blocks::Blocks;
-use body_names::{LocalSlot, Locals};
+use body_entries::{Entry, Parked, ParkedParts, Pile};
+use body_locals::Locals;
 use body_values::Code;
 use gv_values::{Outcome, Value};
 use scenario_tree::Items;
 use std::alloc::{AllocError, Global};
 use std::marker::Model;
 use std::rc::Rc;
-
-/// A body that waits for the answer to its request.
-#[derive(Drop)]
-pub struct Parked {
-    pub(crate) blocks: Rc<Blocks>,
-    pub(crate) locals: Locals,
-    pub(crate) todo: Pile<Entry>,
-    pub(crate) gives: Option<LocalSlot>,
-}
-
-impl Model for Parked {
-    ghost use Rattle.machine.specs.declared.state.Frame.{Frame as Body};
-    ghost use Rattle.scenario_tree.specs.Trees.{trees};
-    ghost use Rattle.body_names.specs.Locals.{locals_of};
-    ghost use Rattle.body_blocks.specs.Trees.{name_if};
-    ghost use Rattle.body_frames.specs.Entries.{todo_of};
-    ghost use Rattle.body_frames.specs.Few.{HasFewToDo};
-
-    ghost Value = { Body };
-
-    ghost coded = { Prim.hlevel trees };
-
-    ghost view = { λ p. record { locals = locals_of p.blocks.value.names p.locals; todo = todo_of p.blocks.value p.todo; gives = name_if p.blocks.value p.gives } };
-
-    ghost invariant = { λ p. HasFewToDo (todo_of p.blocks.value p.todo) };
-}
 
 /// A body at its next move.
 #[derive(Drop)]
@@ -63,10 +36,10 @@ impl Model for Moving {
     ghost use Rattle.std.specs.Prelude.{None};
     ghost use Rattle.machine.specs.declared.state.Frame.{Frame as Body};
     ghost use Rattle.scenario_tree.specs.Trees.{trees};
-    ghost use Rattle.body_names.specs.Locals.{locals_of};
+    ghost use Rattle.body_locals.specs.Locals.{locals_of};
     ghost use Rattle.body_frames.specs.AtMove.{IsAtMove};
-    ghost use Rattle.body_frames.specs.Entries.{todo_of};
-    ghost use Rattle.body_frames.specs.Few.{HasFewToDo};
+    ghost use Rattle.body_entries.specs.Entries.{todo_of};
+    ghost use Rattle.body_entries.specs.Few.{HasFewToDo};
 
     ghost Value = { Body };
 
@@ -105,12 +78,12 @@ pub fn begin_body(
 pub fn answer_body(alloc: Global, body: Parked, answer: Outcome) -> Result<Reached, AllocError>
     ensures { IfOk result (λ reached. reached_of reached ≡ place_of (unwind body.todo [] (leaving_of answer) (given body answer))) }
 {
-    let Parked {
+    let ParkedParts {
         blocks,
         locals,
         todo,
         gives,
-    } = body;
+    } = body.into_parts();
     let mut stack = Stack {
         locals,
         todo,

@@ -1,15 +1,14 @@
 //! Moves that compute integers and truth values alone. They copy nothing, and the entries that stay are not touched.
 ghost use Rattle.std.specs.Prelude.{◌≡◌, ◌∷◌, drop, IfOk, OnOk};
 ghost use Rattle.body_blocks.specs.declared.statement.FlatAction.{FlatAction as Flat};
-ghost use Rattle.body_frames.specs.declared.entry.Entry.{Entry as Listed};
-ghost use Rattle.body_frames.specs.Entries.{form_of};
+ghost use Rattle.body_entries.specs.declared.entry.Entry.{Entry as Listed};
+ghost use Rattle.body_entries.specs.Entries.{form_of};
 ghost use Rattle.body_frames.specs.PrimitiveMoves.{HasActed, HasMade, IsPassed};
 
-use crate::entry::Entry;
-use crate::pile::Pile;
 use crate::stack::Stack;
 use crate::unwind::begins;
 use body_blocks::{Blocks, FlatAction};
+use body_entries::{Entry, Pile};
 use body_names::FlatCommand;
 use body_primitives::{bind_primitive, primitive_truth};
 use std::alloc::AllocError;

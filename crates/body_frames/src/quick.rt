@@ -6,29 +6,22 @@ ghost use Rattle.machine.specs.declared.state.Todo.{Todo};
 ghost use Rattle.machine.specs.Bodies.{around};
 ghost use Rattle.machine.specs.BodyMoves.{Did, action_move};
 ghost use Rattle.machine.specs.Expressions.{Look as Answers, object_number};
-ghost use Rattle.body_names.specs.Locals.{locals_of};
+ghost use Rattle.body_locals.specs.Locals.{locals_of};
 ghost use Rattle.body_names.specs.Naming.{IsNaming, name_of};
-ghost use Rattle.body_frames.specs.Entries.{form_of};
+ghost use Rattle.body_entries.specs.Entries.{form_of};
 ghost use Rattle.body_frames.specs.Quick.{Prints, request_of};
 ghost use Rattle.body_frames.specs.Runs.{HasAsked};
 
-use crate::entry::Entry;
 use crate::primitive_moves::advance;
 use crate::stack::Stack;
 use body_blocks::{Blocks, FlatAction};
-use body_names::{FlatCommand, FlatExpression, Locals};
+use body_entries::Entry;
+use body_locals::Locals;
+use body_names::{FlatCommand, FlatExpression};
 use body_primitives::{Primitive, primitive_of};
 use body_values::Code;
+use machine::deed::Deed;
 use std::alloc::AllocError;
-
-/// What is done at an object at once, whatever the hub is.
-#[derive(Clone, Copy)]
-pub enum Deed {
-    Set,
-    Clear,
-    Release,
-    QueueDone,
-}
 
 /// A request that is answered at once, whatever the hub is, and has nothing to do with greenlets.
 #[derive(Clone, Copy)]

@@ -9,7 +9,8 @@ ghost use Rattle.machine.specs.Landing.{given};
 ghost use Rattle.machine.specs.Unwinding.{unwind};
 ghost use Rattle.body_frames.specs.declared.runs.Halt.TheVariants as halt;
 ghost use Rattle.body_frames.specs.Destinations.{Arrives, HasMovedOn, IsMoving};
-ghost use Rattle.body_frames.specs.Few.{HasFewToDo, HasFewUnwound};
+ghost use Rattle.body_entries.specs.Few.{HasFewToDo};
+ghost use Rattle.body_frames.specs.Few.{HasFewUnwound};
 ghost use Rattle.body_frames.specs.Places.{place_of};
 ghost use Rattle.body_frames.specs.PrimitiveMoves.{RunsAt};
 ghost use Rattle.body_frames.specs.Runs.{HasRun, came_of_move, more_of};
@@ -17,13 +18,14 @@ ghost use Rattle.body_frames.specs.Steady.{HasMove};
 ghost use Rattle.body_frames.specs.Unwinding.{unwound_of};
 
 use crate::moves::{Context, make_any_move};
-use crate::places::{Moving, Parked};
+use crate::places::Moving;
 use crate::runs::{Ran, run_moves};
 use crate::stack::{
     Made, Stack, go_inside, go_inwards, go_on_with, is_at_move, outcome_of_leaving,
 };
 use crate::unwind::Unwound;
 use body_blocks::Blocks;
+use body_entries::{Parked, ParkedParts};
 use body_names::LocalSlot;
 use body_values::{Code, Look};
 use gv_values::Outcome;
@@ -47,9 +49,9 @@ impl Model for Running {
     ghost use Rattle.std.specs.Prelude.{◌≡◌, []};
     ghost use Rattle.machine.specs.declared.state.Frame.{Frame as Body};
     ghost use Rattle.scenario_tree.specs.Trees.{trees};
-    ghost use Rattle.body_names.specs.Locals.{locals_of};
+    ghost use Rattle.body_locals.specs.Locals.{locals_of};
     ghost use Rattle.body_blocks.specs.Trees.{name_if};
-    ghost use Rattle.body_frames.specs.Entries.{todo_of};
+    ghost use Rattle.body_entries.specs.Entries.{todo_of};
 
     ghost Value = { Body };
 
@@ -135,12 +137,12 @@ impl Running {
             gives,
         } = self;
         let Stack { locals, todo, .. } = stack;
-        Parked {
+        Parked::of(ParkedParts {
             blocks,
             locals,
             todo,
             gives,
-        }
+        })
     }
 
     /// Makes moves of integers and truth values, and one that asks what is answered at once, until one is another, the

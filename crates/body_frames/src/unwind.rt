@@ -5,15 +5,15 @@ ghost use Rattle.machine.specs.declared.state.Local.{Local as Named};
 ghost use Rattle.machine.specs.declared.state.Leaving.TheVariants as leaving;
 ghost use Rattle.machine.specs.declared.state.Todo.TheVariants as undone;
 ghost use Rattle.machine.specs.Unwinding.{unwind, catching, past_timeout, bind_if, finally_first};
-ghost use Rattle.body_names.specs.Locals.{locals_of};
+ghost use Rattle.body_locals.specs.Locals.{locals_of};
 ghost use Rattle.body_blocks.specs.Trees.{except_of, name_if};
-ghost use Rattle.body_frames.specs.Entries.{begins, entry_of, optional_block, rest, todo_of};
+ghost use Rattle.body_entries.specs.Entries.{begins, entry_of, optional_block, rest, todo_of};
 ghost use Rattle.body_frames.specs.Unwinding.{unwound_of, caught_of, stepped_of, KeepsIfFurther};
 
-use crate::entry::Entry;
-use crate::pile::Pile;
 use body_blocks::{Blocks, FlatExcept, Handlers};
-use body_names::{LocalSlot, Locals};
+use body_entries::{Entry, Pile};
+use body_locals::Locals;
+use body_names::LocalSlot;
 use gv_values::{FaultKind, Value};
 use machine::state::Leaving;
 use scenario_tree::{Boxed, Items};
@@ -49,7 +49,7 @@ fn past_timeout(n: u32, silent: bool, how: Leaving) -> Leaving
 }
 
 /// The local, if there is one, takes the value.
-#[tactic(auto, using(body_names::proofs::Places::bind_by_name))]
+#[tactic(auto, using(body_locals::proofs::Places::bind_by_name))]
 pub fn bind_if(
     blocks: &Blocks,
     locals: &mut Locals,

@@ -10,8 +10,8 @@ use Rattle.machine.specs.BodyMoves.{Did, tested, asked, giving_request}
 use Rattle.machine.specs.Unwinding.{Unwound, unwind}
 use Rattle.machine.specs.Bodies.{Body, Step, Stepped, after_move}
 use Rattle.body_names.specs.declared.expression.LocalSlot.{LocalSlot}
-use Rattle.body_names.specs.declared.locals.Bound.{Bound}
-use Rattle.body_names.specs.Locals.{locals_of}
+use Rattle.body_locals.specs.declared.locals.Bound.{Bound}
+use Rattle.body_locals.specs.Locals.{locals_of}
 use Rattle.body_names.specs.Naming.{name_of}
 use Rattle.body_moves.specs.declared.chosen.Chosen.{Chosen}
 use Rattle.machine.specs.State.{Name}

@@ -6,9 +6,9 @@ ghost use Rattle.machine.specs.Bodies.{around};
 ghost use Rattle.machine.specs.BodyMoves.{command_move, raised, timed, at_once, link_kind};
 ghost use Rattle.body_names.specs.declared.command.FlatCommand.{FlatCommand as Word};
 ghost use Rattle.body_names.specs.declared.giving.FlatGiving.{FlatGiving as Grant};
-ghost use Rattle.body_names.specs.Locals.{locals_of};
+ghost use Rattle.body_locals.specs.Locals.{locals_of};
 ghost use Rattle.body_names.specs.Statements.{command_of, giving_of};
-ghost use Rattle.body_values.specs.Few.{HasFewArguments};
+ghost use Rattle.body_blocks.specs.Few.{HasFewArguments};
 ghost use Rattle.body_moves.specs.Chosen.{DoesAs, giving_move, name_if};
 
 use crate::evaluation::Evaluation;

@@ -5,12 +5,13 @@ ghost use Rattle.machine.specs.Bodies.{around};
 ghost use Rattle.machine.specs.BodyMoves.{meaning_if, values};
 ghost use Rattle.machine.specs.Expressions.{function_number, meaning, object_number};
 ghost use Rattle.body_names.specs.Expressions.{expression_of};
-ghost use Rattle.body_names.specs.Locals.{locals_of};
+ghost use Rattle.body_locals.specs.Locals.{locals_of};
 ghost use Rattle.body_names.specs.Naming.{name_of};
 ghost use Rattle.body_moves.specs.Operands.{outcome_if};
 
 use body_blocks::Blocks;
-use body_names::{FlatExpression, Locals};
+use body_locals::Locals;
+use body_names::FlatExpression;
 use body_values::{Code, Look, Scope};
 use gv_values::{FaultKind, Outcome, Value};
 use machine::arguments::Arguments;

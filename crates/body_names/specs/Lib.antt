@@ -1,4 +1,3 @@
 pub mod Expressions
-pub mod Locals
 pub mod Naming
 pub mod Statements

@@ -18,7 +18,6 @@ mod bindings;
 mod command;
 mod expression;
 mod giving;
-mod locals;
 mod naming;
 mod operands;
 
@@ -26,5 +25,4 @@ pub use bindings::enter_function;
 pub use command::{FlatCommand, flat_command};
 pub use expression::{FlatExpression, LocalSlot, flat_expression};
 pub use giving::{FlatGiving, flat_giving};
-pub use locals::{Bound, Locals};
 pub use naming::Naming;

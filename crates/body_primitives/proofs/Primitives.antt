@@ -13,12 +13,12 @@ use Rattle.machine.specs.Expressions.{Around, Look, and_then, binary, meaning, o
 use Rattle.body_names.specs.declared.expression.FlatExpression.{FlatExpression}
 use Rattle.body_names.specs.declared.expression.FlatExpression.TheVariants as F
 use Rattle.body_names.specs.declared.expression.LocalSlot.{LocalSlot}
-use Rattle.body_names.specs.declared.locals.Bound.{Bound}
+use Rattle.body_locals.specs.declared.locals.Bound.{Bound}
 use Rattle.body_names.specs.Expressions.{expression_of}
-use Rattle.body_names.specs.Locals.{locals_of, value_of}
+use Rattle.body_locals.specs.Locals.{locals_of, value_of}
 use Rattle.body_names.specs.Naming.{IsNaming}
 use Rattle.body_names.proofs.Expressions.{and_stands, binary_stands, bool_stands, int_stands, local_stands, or_stands, unary_stands}
-use Rattle.body_names.proofs.Places.{value_by_name}
+use Rattle.body_locals.proofs.Places.{value_by_name}
 use Rattle.body_primitives.specs.declared.primitive.Primitive.{Primitive}
 use Rattle.body_primitives.specs.Primitives.{Agrees, Means, MeansAs}
 use Rattle.body_values.proofs.Meanings.{and_means, binary_means, bool_means, int_means, local_means, or_means, unary_means}

@@ -7,9 +7,9 @@ use Rattle.scenario_tree.specs.declared.tree.Scenario.{Scenario}
 use Rattle.machine.specs.Bodies.{around}
 use Rattle.machine.specs.Expressions.{Look, meaning}
 use Rattle.body_names.specs.declared.expression.FlatExpression.{FlatExpression}
-use Rattle.body_names.specs.declared.locals.Bound.{Bound}
+use Rattle.body_locals.specs.declared.locals.Bound.{Bound}
 use Rattle.body_names.specs.Expressions.{expression_of}
-use Rattle.body_names.specs.Locals.{bind, locals_of}
+use Rattle.body_locals.specs.Locals.{bind, locals_of}
 use Rattle.body_names.specs.Naming.{IsNaming}
 use Rattle.body_primitives.specs.declared.primitive.Primitive.{Primitive}
 

@@ -4,10 +4,11 @@ ghost use Rattle.gv_values.specs.declared.value.Outcome.{Outcome as Outcomes};
 ghost use Rattle.gv_values.specs.declared.value.Value.TheVariants as value;
 ghost use Rattle.gv_values.specs.Arithmetic.{arith_of};
 ghost use Rattle.machine.specs.Expressions.{Look as Answers, and_then, binary, of_result, or_else, unary, with_value};
-ghost use Rattle.body_names.specs.Locals.{value_of};
+ghost use Rattle.body_locals.specs.Locals.{value_of};
 ghost use Rattle.body_primitives.specs.Primitives.{Agrees, IsBound, Means, MeansAs};
 
-use body_names::{FlatExpression, LocalSlot, Locals};
+use body_locals::Locals;
+use body_names::{FlatExpression, LocalSlot};
 use gv_values::{Arith, Value, arithmetic};
 use scenario_tree::{Binary, Boxed, Unary};
 use std::alloc::AllocError;

@@ -15,7 +15,7 @@ use Rattle.scenario_tree.specs.declared.tree.Scenario.{Scenario}
 use Rattle.scenario_tree.specs.declared.tree.Statement.{Statement, out-Statement}
 use Rattle.scenario_tree.specs.declared.limits.TheConstants.{MOST_PARAMETERS}
 use Rattle.machine.specs.Greenlets.{no_function}
-use Rattle.body_values.specs.Few.{HasFew, HasFewArguments, HasFewCalls, HasFewExcepts, HasFewParts, action_few, all_few, except_few, gives_few, has_few, has_few_action, has_few_except, has_few_function, statement_few}
+use Rattle.body_blocks.specs.Few.{HasFew, HasFewArguments, HasFewCalls, HasFewExcepts, HasFewParts, action_few, all_few, except_few, gives_few, has_few, has_few_action, has_few_except, has_few_function, statement_few}
 
 -- ---- one level
 

@@ -5,9 +5,9 @@ use Rattle.gv_values.specs.declared.name.Name.{Name}
 use Rattle.gv_values.specs.declared.value.Value.{Value}
 use Rattle.scenario_tree.specs.declared.tree.Function.{Function}
 use Rattle.machine.specs.declared.state.Local.{Local}
-use Rattle.body_names.specs.declared.locals.Bound.{Bound}
+use Rattle.body_locals.specs.declared.locals.Bound.{Bound}
 use Rattle.machine.specs.Greenlets.{named}
-use Rattle.body_names.specs.Locals.{locals_of}
+use Rattle.body_locals.specs.Locals.{locals_of}
 use Rattle.body_names.specs.Naming.{name_of}
 use Rattle.body_blocks.specs.Trees.{Coded, Grows, joined}
 use Rattle.body_blocks.proofs.Growing.{later}

@@ -9,7 +9,7 @@ use Rattle.scenario_tree.specs.declared.tree.Function.{Function}
 use Rattle.scenario_tree.specs.declared.tree.Scenario.{Scenario}
 use Rattle.machine.specs.Expressions.{function_number, object_number}
 use Rattle.body_values.specs.declared.numbers.NameNumbers.{NameNumbers}
-use Rattle.body_values.specs.Few.{HasFewCalls}
+use Rattle.body_blocks.specs.Few.{HasFewCalls}
 use Rattle.body_values.specs.Small.{IsSmall}
 
 -- each name with its number, where this is the first's

@@ -2,11 +2,11 @@
 ghost use Rattle.std.specs.Prelude.{◌≡◌, IfOk, IfSome, IsTrue};
 ghost use Rattle.std.specs.Option.{option_copied};
 ghost use Rattle.body_blocks.specs.Trees.{block_at};
-ghost use Rattle.body_names.specs.Locals.{locals_of};
+ghost use Rattle.body_locals.specs.Locals.{locals_of};
 ghost use Rattle.body_names.specs.Naming.{name_of};
 ghost use Rattle.machine.specs.Expressions.{object_number, function_number};
 ghost use Rattle.machine.specs.Greenlets.{named};
-ghost use Rattle.body_values.specs.Few.{HasFew, HasFewCalls};
+ghost use Rattle.body_blocks.specs.Few.{HasFew, HasFewCalls};
 ghost use Rattle.body_values.specs.Functions.{IsFunction, function_at};
 ghost use Rattle.body_values.specs.Numbers.{HasNumbersOf, HaveNumbers};
 ghost use Rattle.body_values.specs.Small.{IsSmall};
@@ -17,7 +17,7 @@ use crate::numbers::{
     NameNumbers, number_functions, number_objects, tell_function_names, tell_object_names,
 };
 use body_blocks::{Blocks, Making};
-use body_names::Locals;
+use body_locals::Locals;
 use gv_values::{Name, Value};
 use name_table::Names;
 use scenario_tree::{Declaration, Items, Scenario};

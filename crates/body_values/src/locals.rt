@@ -7,13 +7,14 @@ ghost use Rattle.scenario_tree.specs.declared.tree.Scenario.{Scenario};
 ghost use Rattle.machine.specs.Bodies.{around};
 ghost use Rattle.machine.specs.Expressions.{Look as Answers, meaning, value_of_local};
 ghost use Rattle.body_names.specs.Expressions.{expression_of};
-ghost use Rattle.body_names.specs.Locals.{locals_of};
+ghost use Rattle.body_locals.specs.Locals.{locals_of};
 ghost use Rattle.body_names.specs.Naming.{name_of};
 ghost use Rattle.body_values.specs.Parameters.{given};
 
 use crate::front::pop_first;
 use body_blocks::Blocks;
-use body_names::{FlatExpression, LocalSlot, Locals};
+use body_locals::Locals;
+use body_names::{FlatExpression, LocalSlot};
 use gv_values::Value;
 use scenario_tree::Items;
 use std::alloc::{AllocError, Global};

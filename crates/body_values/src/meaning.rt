@@ -4,7 +4,7 @@ ghost use Rattle.machine.specs.Bodies.{around};
 ghost use Rattle.machine.specs.Expressions.{meaning, with_value, binary, and_then, or_else, listed};
 ghost use Rattle.machine.specs.BodyMoves.{values};
 ghost use Rattle.body_names.specs.Expressions.{expression_of};
-ghost use Rattle.body_names.specs.Locals.{locals_of};
+ghost use Rattle.body_locals.specs.Locals.{locals_of};
 ghost use Rattle.body_values.specs.Operators.{as_truth};
 
 use crate::code::Code;

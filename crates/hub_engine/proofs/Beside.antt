@@ -26,7 +26,7 @@ use Rattle.machine.specs.Waits.{Performed, comes, completes, waits}
 use Rattle.machine_trace_laws.specs.Reached.{state_of_next}
 use Rattle.body_frames.specs.Places.{place_of}
 use Rattle.body_frames.specs.Quick.{request_of}
-use Rattle.body_frames.specs.declared.quick.Deed.{Deed}
+use Rattle.machine.specs.declared.deed.Deed.{Deed}
 use Rattle.body_frames.specs.declared.quick.Quick.{Quick}
 use Rattle.hub_objects.specs.Releases.{refused}
 use Rattle.hub_requests.specs.Performing.{nothing_answered, performed_of, raised}

@@ -18,7 +18,8 @@ use Rattle.scenario_grammar.specs.Phrase.{object_tokens, phrase_tokens}
 use Rattle.scenario_grammar.specs.Token.{Written, ◌⊕◌, ◌▹◌, each, name, number, only_if}
 use Rattle.scenario_print.specs.Texts.{HasText, has_words}
 use Rattle.machine.specs.Run.{first_state, object_of}
-use Rattle.machine_rooms.specs.Counts.{AreCountable, object_count}
+use Rattle.machine.specs.Counts.{object_count}
+use Rattle.machine_rooms.specs.Counts.{AreCountable}
 use Rattle.hub_objects.specs.Counted.{AreCounted, IsCounted}
 use Rattle.scenario_grammar.specs.declared.limits.TheConstants.{MOST_UNITS}
 

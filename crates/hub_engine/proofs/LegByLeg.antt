@@ -27,7 +27,7 @@ use Rattle.machine_rooms.specs.Rooms.{HasRoom, room_of_move}
 use Rattle.machine_rooms.proofs.Requests.{performs-counts}
 use Rattle.machine_rooms.proofs.Tallies.{live-open}
 use Rattle.body_frames.specs.Destinations.{Arrives, HasMovedOn, IsMoving, inside}
-use Rattle.body_frames.specs.Few.{HasFewToDo}
+use Rattle.body_entries.specs.Few.{HasFewToDo}
 use Rattle.body_frames.specs.Places.{Came, Entered, Place, place_of}
 use Rattle.body_frames.specs.Quick.{request_of}
 use Rattle.body_frames.specs.Runs.{HasRun, MovesOn, came_of_move, more_of}

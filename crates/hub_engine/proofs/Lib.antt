@@ -9,6 +9,7 @@ pub mod Functions
 pub mod Giving
 pub mod Landing
 pub mod LegByLeg
+pub mod Limits
 pub mod Mains
 pub mod Moving
 pub mod Passing

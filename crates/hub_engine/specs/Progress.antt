@@ -10,7 +10,7 @@ use Rattle.machine.specs.State.{State}
 use Rattle.machine_trace_laws.specs.Reached.{state_of_next}
 use Rattle.machine_well_formed.specs.Texts.{fits_request}
 use Rattle.body_frames.specs.Destinations.{IsMoving}
-use Rattle.body_frames.specs.Few.{HasFewToDo}
+use Rattle.body_entries.specs.Few.{HasFewToDo}
 use Rattle.hub_requests.specs.Performing.{performed_of}
 use Rattle.hub_engine.specs.declared.stand.Progress.{Progress}
 use Rattle.hub_engine.specs.Making.{MayMove}

@@ -2,7 +2,7 @@
 ghost use Rattle.std.specs.Prelude.{◌≡◌, ◌+◌, ◌<◌, ◌≤◌, ◌^◌, None, IsTrue, IfOk};
 ghost use Rattle.gv_values.specs.declared.limits.TheConstants.{MOST_MOVES};
 ghost use Rattle.body_frames.specs.Destinations.{IsMoving};
-ghost use Rattle.body_frames.specs.Few.{HasFewToDo};
+ghost use Rattle.body_entries.specs.Few.{HasFewToDo};
 ghost use Rattle.body_frames.specs.Places.{Came};
 ghost use Rattle.body_frames.specs.Quick.{request_of};
 ghost use Rattle.machine.specs.declared.state.Frame.{Frame};

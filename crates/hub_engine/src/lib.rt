@@ -1,5 +1,4 @@
-//! The engine: the steps of the machine over the state of the hub, and the run whose trace is given out
-//! step by step.
+//! The engine: the steps of the machine over the state of the hub, and the run whose trace is given out step by step.
 //!
 //! The hub settles after every move. Where there is nothing to settle, moves that stay in their body change nothing but
 //! the count of moves, so that the engine hands a body as many of them as it makes, and counts them at once. The body
@@ -18,4 +17,4 @@ mod run;
 mod stand;
 mod turns;
 
-pub use run::{Budgets, Engine, EngineEnd, EngineRefusal, Ran};
+pub use run::{Budgets, Engine, EngineEnd, EngineRefusal, Ran, compile};

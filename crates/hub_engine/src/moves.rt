@@ -1,7 +1,7 @@
 //! One move of a greenlet whose body stays where it is: what the hub does by what came of it.
 ghost use Rattle.std.specs.Prelude.{◌≡◌, ◌+◌, ◌<◌, ◌≤◌, ◌^◌, length, true, IsTrue, Some, OnOk, IfOk};
 ghost use Rattle.body_frames.specs.Destinations.{Arrives, inside};
-ghost use Rattle.body_frames.specs.Few.{HasFewToDo};
+ghost use Rattle.body_entries.specs.Few.{HasFewToDo};
 ghost use Rattle.body_frames.specs.Places.{Came, Entered, Place};
 ghost use Rattle.machine.specs.declared.state.Frame.{Frame};
 ghost use Rattle.machine.specs.declared.state.Phase.{Phase};

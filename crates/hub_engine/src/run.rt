@@ -21,10 +21,11 @@ ghost use Rattle.hub_engine.specs.declared.run.EngineEnd.TheVariants as ends;
 ghost use Rattle.hub_engine.specs.declared.run.EngineRefusal.TheVariants as refusals;
 
 use crate::turns::{ended_as, run};
-use flat_code::compile;
+use body_values::Code;
 use gv_io::Sink;
 use gv_values::{FaultKind, MOST_MOVES, MOST_TURNS};
 use hub_state::Hub;
+use machine_arguments::calls_have_few;
 use machine_trace_laws::{blocks_are_quiet, runs_are_lawful};
 use scenario_check::Checked;
 use std::alloc::{AllocError, Global};
@@ -176,8 +177,17 @@ impl Engine {
     }
 }
 
+/// The code of a scenario, which is given up, with its blocks by number. `AllocError`: memory is wanting.
+#[tactic(auto, using(crate::proofs::Limits::well_formed_is_small))]
+pub fn compile(alloc: Global, checked: Checked) -> Result<Code, AllocError>
+    ensures { IfOk result (λ code. code ≡ checked) }
+{
+    calls_have_few();
+    Ok(Code::new(alloc, checked.into_tree())?)
+}
+
 /// A scenario that is checked may be run: its main has a number, its objects are few, and what they count fits, by far.
-#[tactic(auto, using(crate::proofs::Mains::main_there, flat_code::proofs::Limits::well_formed_is_small))]
+#[tactic(auto, using(crate::proofs::Mains::main_there, crate::proofs::Limits::well_formed_is_small))]
 fn may_run(checked: &Checked)
     ensures well_formed { IsWellFormed checked.now }
     ensures main { HasMain checked.now }

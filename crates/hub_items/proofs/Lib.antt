@@ -1,4 +1,2 @@
-pub mod LineCounts
 pub mod Shorts
-pub mod Sounds
 pub mod WaitKinds

@@ -2,7 +2,7 @@
 use Rattle.std.specs.Prelude.{◌<◌, ◌+◌, ◌^◌, ⊤, ℕ, true, List, Option, Some, slice_get}
 use Rattle.machine.specs.declared.state.Object.{Object}
 use Rattle.machine.specs.Moves.{size_of_object, unfinished_of_object}
-use Rattle.machine_rooms.specs.Counts.{object_count}
+use Rattle.machine.specs.Counts.{object_count}
 use Rattle.hub_objects.specs.declared.additions.Addition.{Addition}
 use Rattle.hub_objects.specs.declared.objects.Change.{Change}
 

@@ -16,7 +16,7 @@ use Rattle.machine.specs.Items.{add_item, drop_items}
 use Rattle.machine.specs.Objects.{object_at, with_member, without_member}
 use Rattle.machine.specs.Request.{sends, sends_all}
 use Rattle.machine.specs.Waits.{add_member}
-use Rattle.machine_rooms.specs.Counts.{object_count}
+use Rattle.machine.specs.Counts.{object_count}
 use Rattle.machine_rooms.specs.Rooms.{HasRoom, room_of_move}
 use Rattle.machine_rooms.specs.Steps.{Fixed, HasSteps, wait_weight}
 use Rattle.machine_rooms.proofs.Requests.{Sends, sends-counts, sends_all-counts}

@@ -3,13 +3,13 @@ ghost use Rattle.std.specs.Prelude.{◌≡◌, None, OnOk};
 ghost use Rattle.machine.specs.Request.{performs};
 ghost use Rattle.machine.specs.declared.request.Request.{Request as Asked};
 ghost use Rattle.machine_rooms.specs.Rooms.{HasRoom, room_of_move};
-ghost use Rattle.body_frames.specs.Quick.{request_at};
+ghost use Rattle.machine.specs.Deeds.{request_at};
 ghost use Rattle.hub_objects.specs.Releases.{refused};
 
-use body_frames::Deed;
 use gv_values::{FaultKind, Value};
 use hub_objects::Change;
 use hub_state::Hub;
+use machine::deed::Deed;
 use std::alloc::AllocError;
 use trace_text::Line;
 

@@ -12,7 +12,7 @@ use Rattle.machine_settling.specs.Lasting.{is_off_objects}
 use Rattle.machine_settling.specs.Links.{fits_end}
 use Rattle.machine_settling.specs.Locality.{HoldsAs}
 use Rattle.machine_settling.proofs.Readings.{holds-as}
-use Rattle.hub_items.proofs.LineCounts.{none_ahead}
+use Rattle.hub_state.proofs.LineCounts.{none_ahead}
 use Rattle.held_items.specs.Waits.{is_for, is_of_ends}
 use Rattle.held_items.specs.declared.waits.Target.{Target}
 use Rattle.hub_state.specs.Found.{is_always, is_moment}

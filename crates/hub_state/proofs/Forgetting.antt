@@ -28,7 +28,7 @@ use Rattle.machine_settling.proofs.Members.{In}
 use Rattle.machine_settling.proofs.Parts.{at_in}
 use Rattle.machine_settling.proofs.Settles.{bare, holds-numbered}
 use Rattle.hub_items.specs.Sound.{AscendTo, IsSound}
-use Rattle.hub_items.proofs.Sounds.{sound_settled}
+use Rattle.hub_state.proofs.Sounds.{sound_settled}
 use Rattle.held_items.specs.Entries.{Entry, SeenItems, flat, item_in, slots_of, with_ready}
 use Rattle.held_items.specs.Held.{unnumbered}
 use Rattle.held_items.proofs.Dropping.{behind}

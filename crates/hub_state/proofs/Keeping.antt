@@ -35,7 +35,7 @@ use Rattle.hub_items.specs.Short.{DeliversShort}
 use Rattle.hub_items.specs.Sound.{AscendTo, IsSound}
 use Rattle.hub_items.specs.declared.gone.Gone.{Gone}
 use Rattle.hub_items.proofs.Shorts.{short_least}
-use Rattle.hub_items.proofs.Sounds.{sound_filter, sound_more, sound_settled, sound_without}
+use Rattle.hub_state.proofs.Sounds.{sound_filter, sound_more, sound_settled, sound_without}
 use Rattle.held_items.specs.Entries.{Entry, SeenItems, flat, item_in, slots_of, without_slot}
 use Rattle.held_items.specs.Held.{added, taken, without_all}
 use Rattle.held_items.specs.Lined.{new_item}

@@ -9,6 +9,7 @@ pub mod Forgetting
 pub mod Joining
 pub mod Keeping
 pub mod LineBegins
+pub mod LineCounts
 pub mod Looking
 pub mod Numbering
 pub mod PhaseSets
@@ -17,6 +18,7 @@ pub mod Rooms
 pub mod SettledLines
 pub mod Settling
 pub mod Sorting
+pub mod Sounds
 pub mod Touching
 pub mod UpToDate
 pub mod Walks

@@ -1,7 +1,7 @@
 //! What the items stand over: all of the state but them.
 use crate::greenlets::Greenlets;
 use crate::moment::Moment;
-use body_frames::Code;
+use body_values::Code;
 use hub_objects::{Objects, Posted};
 use machine::state::Post;
 use trace_text::Line;

@@ -11,7 +11,7 @@ use crate::greenlets::Greenlets;
 use crate::hub::Hub;
 use crate::moment::Moment;
 use crate::touched::Touched;
-use body_frames::Code;
+use body_values::Code;
 use gv_values::Name;
 use held_items::HeldItems;
 use hub_objects::Objects;
@@ -30,7 +30,7 @@ fn number_of_main(code: &Code) -> u32
 impl Hub {
     /// The state at the beginning of a run of the code: nothing is made but main, which has not started.
     /// `AllocError`: memory is wanting.
-    #[tactic(auto, using(hub_items::proofs::Sounds::sound_none))]
+    #[tactic(auto, using(crate::proofs::Sounds::sound_none))]
     pub fn new(alloc: Global, code: Code) -> Result<Hub, AllocError>
         requires counted { AreCounted (first_state code).objects }
         requires few { length code.objects ≤ MOST_OBJECTS }

@@ -3,7 +3,7 @@ ghost use Rattle.std.specs.Prelude.{◌≡◌, ◌+◌, ◌<◌, ◌^◌, length
 ghost use Rattle.machine.specs.Run.{silent};
 
 use crate::hub::Hub;
-use body_frames::Code;
+use body_values::Code;
 use machine::state::Post;
 use trace_text::Line;
 

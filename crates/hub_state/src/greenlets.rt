@@ -8,7 +8,7 @@ ghost use Rattle.machine.specs.Greenlets.{nobody};
 ghost use Rattle.hub_state.specs.Phases.{phase_of_stage, shown};
 ghost use Rattle.machine.specs.declared.limits.TheConstants.{MOST_GREENLETS};
 
-use body_frames::Parked;
+use body_entries::Parked;
 use gv_values::{Outcome, Value};
 use machine::limits::MOST_GREENLETS;
 use scenario_tree::Items;

@@ -12,7 +12,7 @@ ghost use Rattle.machine.specs.declared.limits.TheConstants.{MOST_GREENLETS};
 use crate::greenlets::{Greenlet, Stage};
 use crate::hub::Hub;
 use crate::order::items_stand_in_order;
-use body_frames::Parked;
+use body_entries::Parked;
 use gv_values::Value;
 use scenario_tree::Items;
 use std::alloc::{AllocError, Global};

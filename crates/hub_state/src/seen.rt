@@ -2,7 +2,7 @@
 ghost use Rattle.std.specs.Prelude.{◌≡◌};
 
 use crate::hub::Hub;
-use body_frames::Look;
+use body_values::Look;
 use gv_values::{Outcome, Whom};
 use hub_objects::{is_set_object, size_of_object, unfinished_of_object};
 use std::marker::Model;

@@ -1,8 +1,10 @@
 //! Frames over the code of a text: expressions, blocks, and moves that run out.
 ghost use Rattle.std.specs.Prelude.{◌<◌, length, IfOk};
 
-use flat_code::{Code, Frame, Input, Look, Step, compile};
+use body_frames::{Frame, Input, Step};
+use body_values::{Code, Look};
 use gv_values::{FaultKind, Outcome, Whom, outcome_text};
+use hub_engine::compile;
 use scenario_check::check;
 use scenario_lang::parse;
 use scenario_tree::Items;

@@ -9,6 +9,7 @@
 #![tactic(auto)]
 
 pub mod arguments;
+pub mod deed;
 pub mod items;
 pub mod laws;
 pub mod limits;

@@ -28,7 +28,7 @@ use Rattle.scenario_rules.specs.Mention.{block_mentions, mentions, on}
 use Rattle.scenario_rules.specs.declared.limits.TheConstants.{MOST_TIMEOUTS}
 use Rattle.scenario_rules.specs.Rules.{IsWellFormed, function_refusals, is_undeclared, is_wrong_count, is_wrong_kind, past, refused, refused_names, word_refusals}
 use Rattle.scenario_tree.specs.declared.limits.TheConstants.{MOST_PARAMETERS}
-use Rattle.body_values.specs.Few.{HasFewCalls, has_few_function}
+use Rattle.body_blocks.specs.Few.{HasFewCalls, has_few_function}
 use Rattle.machine_arguments.proofs.Parts.{AreFew, are_few, every-block, few-right, is_few}
 
 -- ---- what is not refused

@@ -20,7 +20,7 @@ use Rattle.scenario_rules.specs.declared.mention.Says.TheVariants as says
 use Rattle.scenario_rules.specs.Mention.{all_say, block_mentions, expression_says, giving_says, on, statement_mentions, target_says, timeout_says}
 use Rattle.scenario_rules.specs.Layers.{action_mentions, except_mentions, handler_mentions}
 use Rattle.scenario_rules.proofs.Layers as words
-use Rattle.body_values.specs.Few.{HasFew, HasFewExcepts, gives_few, has_few, has_few_action, has_few_except}
+use Rattle.body_blocks.specs.Few.{HasFew, HasFewExcepts, gives_few, has_few, has_few_action, has_few_except}
 use Rattle.body_values.proofs.Few.{action-few, except-few, has_few_form, statement-out}
 
 -- ---- lines

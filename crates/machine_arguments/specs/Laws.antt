@@ -3,7 +3,7 @@ use Rattle.std.specs.Prelude.{◌≡◌, ℕ, Some, slice_get}
 use Rattle.scenario_tree.specs.declared.tree.Function.{Function}
 use Rattle.scenario_tree.specs.declared.tree.Scenario.{Scenario}
 use Rattle.scenario_rules.specs.Rules.{IsWellFormed}
-use Rattle.body_values.specs.Few.{HasFew, HasFewCalls}
+use Rattle.body_blocks.specs.Few.{HasFew, HasFewCalls}
 
 -- each call of a well-formed scenario has few arguments
 abbrev pub CallsFew : Type 0

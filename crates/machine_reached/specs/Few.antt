@@ -3,7 +3,7 @@ use Rattle.std.specs.Prelude.{ℕ, ◌+◌, ◌*◌, ◌≤◌, List, length, sl
 use Rattle.machine.specs.declared.limits.TheConstants.{MOST_GREENLETS, MOST_KILLS, MOST_LINKS}
 use Rattle.machine.specs.declared.state.Object.{Object}
 use Rattle.machine.specs.State.{State}
-use Rattle.machine_rooms.specs.Counts.{object_count}
+use Rattle.machine.specs.Counts.{object_count}
 
 -- no more small steps than this are taken within so many moves: a move takes twelve at most, and a greenlet seven
 abbrev pub most_steps : ℕ → ℕ

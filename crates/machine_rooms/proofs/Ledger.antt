@@ -29,7 +29,7 @@ use Rattle.machine.specs.Settle.{settle}
 use Rattle.machine.specs.Soundness.{ascend, phase_of}
 use Rattle.machine.specs.Waits.{drawn, draws, posted}
 use Rattle.machine_soundness.proofs.Lists.{length-set}
-use Rattle.machine_rooms.specs.Counts.{object_count}
+use Rattle.machine.specs.Counts.{object_count}
 use Rattle.machine_rooms.specs.Steps.{Fixed, HasSteps, ends, kill, other, tally, weight}
 use Rattle.machine_rooms.proofs.Tallies.{count-at, count-map, count-set, ends-few, ends-made, ends-set, is_open, kill-or-other, kills-and-others, kills-tallied, member-gone, numbers-few, slot-counted, tally-end, tally-filter, tally-kept, tally-settled, tally-without}
 

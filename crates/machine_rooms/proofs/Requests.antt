@@ -30,7 +30,7 @@ use Rattle.machine.specs.Objects.{after_release, at_bound, is_left, is_shut, ite
 use Rattle.machine.specs.Request.{Sending, acquires, any_greenlet, done, fault_operand, finishes, greenlet_value, has_start, int_operand, is_link, is_new, kills, kills_standing, link_stands, links, list_operand, makes, on_host, performs, plain_greenlet, plain_greenlet_list, put_result, raw_greenlet, releases, sends, sends_all, sets_parent, start_of, starts_at, typed, whom_operand}
 use Rattle.machine.specs.Soundness.{phase_of}
 use Rattle.machine.specs.Waits.{Performed, add_member, comes, completes, drawn, draws, gathered, made_member, map_ends, map_goes_on, maps, nothing, offered, outcome_of_greenlet, parked, peeks_item, puts_item, raises, takes_item, waits}
-use Rattle.machine_rooms.specs.Counts.{object_count}
+use Rattle.machine.specs.Counts.{object_count}
 use Rattle.machine_rooms.specs.Steps.{Fixed, HasSteps, kill, wait_weight}
 use Rattle.machine_rooms.proofs.Ledger.{counts-add, counts-drawn, counts-drop, counts-ended, counts-fewer, counts-greenlets, counts-kill, counts-link, counts-made, counts-object, counts-posted}
 use Rattle.machine_rooms.proofs.Tallies.{ends-same, flag-counted, is_open, item-counted, member-counted, offer-counted, offer_taken-counted, open-at, owner-counted, shut-counted, taken-counted, unit-counted, wait-weight-few}

@@ -19,7 +19,7 @@ use Rattle.machine.specs.Soundness.{ascend, is_live, is_unstarted, phase_of}
 use Rattle.machine.proofs.Halves.{right}
 use Rattle.machine_soundness.proofs.Deliveries.{later}
 use Rattle.machine_soundness.proofs.Greenlets.{at}
-use Rattle.machine_rooms.specs.Counts.{object_count}
+use Rattle.machine.specs.Counts.{object_count}
 use Rattle.machine_rooms.specs.Steps.{ends, gone, kill, other, tally, wait_weight}
 
 -- ---- items

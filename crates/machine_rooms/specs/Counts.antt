@@ -1,17 +1,8 @@
 -- What a run counts, and when its counts are far below their types. This project's own.
-use Rattle.std.specs.Prelude.{ℕ, ◌+◌, ◌^◌, ◌<◌, List, Option, Some, length, slice_get}
+use Rattle.std.specs.Prelude.{ℕ, ◌^◌, ◌<◌, List, length, slice_get}
 use Rattle.machine.specs.declared.state.Object.{Object}
+use Rattle.machine.specs.Counts.{object_count}
 use Rattle.machine.specs.State.{State}
-
--- all that the object counts
-abbrev pub object_count : Option Object → ℕ
-object_count (Some (Object.Event flag sets)) = sets
-object_count (Some (Object.Semaphore counter bound)) = counter
-object_count (Some (Object.Lock owner depth)) = depth
-object_count (Some (Object.Queue kind size items unfinished shut)) = length items + unfinished
-object_count (Some (Object.Crew size members)) = length members
-object_count (Some (Object.Native slots outstanding)) = outstanding
-object_count object = 0
 
 -- the objects count no further than this as they are declared
 abbrev pub AreCountable : List Object → Type 0

@@ -12,7 +12,7 @@ use Rattle.machine.specs.declared.state.Object.{Object}
 use Rattle.machine.specs.declared.state.Phase.{Phase}
 use Rattle.machine.specs.State.{State}
 use Rattle.machine.specs.Landing.{Next}
-use Rattle.machine_rooms.specs.Counts.{object_count}
+use Rattle.machine.specs.Counts.{object_count}
 
 -- ---- sums
 

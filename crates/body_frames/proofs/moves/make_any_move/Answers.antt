@@ -1,8 +1,8 @@
 use Rattle.std.proofs.Common.{◌≡◌, ◌∙◌, ap, subst, List, ◌∷◌, drop}
 use Rattle.machine.specs.Bodies.{around}
-use Rattle.body_frames.specs.declared.entry.Entry.{Entry}
-use Rattle.body_frames.specs.Entries.{todo_of}
-use Rattle.body_frames.specs.Few.{HasFewToDo}
+use Rattle.body_entries.specs.declared.entry.Entry.{Entry}
+use Rattle.body_entries.specs.Entries.{todo_of}
+use Rattle.body_entries.specs.Few.{HasFewToDo}
 use Rattle.body_frames.proofs.Heads.{statement_moved}
 use Rattle.body_frames.proofs.Readings.{few_there}
 use Rattle.body_frames.proofs.moves.make_any_move.Goals as goal

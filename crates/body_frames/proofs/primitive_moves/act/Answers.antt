@@ -2,9 +2,9 @@ use Rattle.std.proofs.Common.{refl, sym, subst, ◌∷◌, ℕ, Option, true, fa
 use Rattle.gv_values.specs.declared.value.Value.{Value}
 use Rattle.body_blocks.specs.declared.statement.FlatAction.{FlatAction}
 use Rattle.body_primitives.specs.Primitives.{Means}
-use Rattle.body_frames.specs.declared.entry.Entry.{Entry}
+use Rattle.body_entries.specs.declared.entry.Entry.{Entry}
 use Rattle.body_frames.specs.declared.stack.Stack.{Stack}
-use Rattle.body_frames.specs.Entries.{form_of}
+use Rattle.body_entries.specs.Entries.{form_of}
 use Rattle.body_frames.specs.PrimitiveMoves.{HasActed}
 use Rattle.body_frames.proofs.PrimitiveMoves.{if_not, means_so}
 use Rattle.body_frames.proofs.primitive_moves.act.Goals as goal

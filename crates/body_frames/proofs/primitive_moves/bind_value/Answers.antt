@@ -1,9 +1,9 @@
 use Rattle.std.proofs.Common.{refl, sym, subst, true, ◌∷◌, drop}
 use Rattle.body_names.specs.declared.command.FlatCommand.{FlatCommand}
 use Rattle.body_blocks.specs.declared.statement.FlatAction.{FlatAction}
-use Rattle.body_frames.specs.declared.entry.Entry.{Entry}
+use Rattle.body_entries.specs.declared.entry.Entry.{Entry}
 use Rattle.body_frames.specs.declared.stack.Stack.{Stack}
-use Rattle.body_frames.specs.Entries.{form_of}
+use Rattle.body_entries.specs.Entries.{form_of}
 use Rattle.body_frames.specs.PrimitiveMoves.{HasActed}
 use Rattle.body_frames.proofs.PrimitiveMoves.{let_bound}
 use Rattle.body_frames.proofs.primitive_moves.bind_value.Goals as goal

@@ -2,7 +2,7 @@ use Rattle.std.proofs.Common.{refl, ap, subst, ◌∙◌, ◌∷◌, true, false
 use Rattle.gv_values.specs.declared.value.Value.{Value}
 use Rattle.body_names.specs.declared.expression.FlatExpression.{FlatExpression}
 use Rattle.body_primitives.specs.Primitives.{Means}
-use Rattle.body_frames.specs.declared.entry.Entry.{Entry}
+use Rattle.body_entries.specs.declared.entry.Entry.{Entry}
 use Rattle.body_frames.specs.declared.stack.Stack.{Stack}
 use Rattle.body_frames.proofs.PrimitiveMoves.{means_so, while_in, while_out}
 use Rattle.body_frames.proofs.primitive_moves.make_primitive_move.Goals as goal

@@ -1,6 +1,6 @@
 use Rattle.std.proofs.Common.{◌≡◌, ◌∙◌, ap, refl, ◌∷◌, drop}
 use Rattle.machine.specs.Bodies.{around}
-use Rattle.body_frames.specs.declared.entry.Entry.{Entry}
+use Rattle.body_entries.specs.declared.entry.Entry.{Entry}
 use Rattle.body_frames.specs.declared.stack.Stack.{Stack}
 use Rattle.body_frames.proofs.Heads.{quickly_asked}
 use Rattle.body_frames.proofs.quick.ask_quickly.Goals as goal

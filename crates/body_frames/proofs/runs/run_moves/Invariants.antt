@@ -2,8 +2,8 @@ use Rattle.std.proofs.Common.{◌≡◌, ◌≤◌, ◌-◌}
 use Rattle.machine.specs.Bodies.{around}
 use Rattle.machine.specs.Expressions.{Look}
 use Rattle.body_frames.specs.declared.runs.Halt.{Halt}
-use Rattle.body_frames.specs.Entries.{todo_of}
-use Rattle.body_frames.specs.Few.{HasFewToDo}
+use Rattle.body_entries.specs.Entries.{todo_of}
+use Rattle.body_entries.specs.Few.{HasFewToDo}
 use Rattle.body_frames.specs.PrimitiveMoves.{RunsAt}
 use Rattle.body_frames.specs.Runs.{HasRun}
 use Rattle.body_frames.specs.Standings.{frame_of}

@@ -1,8 +1,8 @@
 use Rattle.std.proofs.Common.{[]}
 use Rattle.machine.specs.declared.state.Leaving.{Leaving}
 use Rattle.machine.specs.Unwinding.{Unwound}
-use Rattle.body_names.specs.Locals.{locals_of}
-use Rattle.body_frames.specs.Entries.{todo_of}
+use Rattle.body_locals.specs.Locals.{locals_of}
+use Rattle.body_entries.specs.Entries.{todo_of}
 use Rattle.body_frames.proofs.AtMoves.{moves_as}
 use Rattle.body_frames.proofs.stack.go_inwards.Goals as goal
 

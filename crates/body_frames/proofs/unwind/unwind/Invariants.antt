@@ -1,7 +1,7 @@
 use Rattle.std.proofs.Common.{◌≡◌, length}
 use Rattle.machine.specs.Unwinding.{unwind}
-use Rattle.body_names.specs.Locals.{locals_of}
-use Rattle.body_frames.specs.Entries.{todo_of}
+use Rattle.body_locals.specs.Locals.{locals_of}
+use Rattle.body_entries.specs.Entries.{todo_of}
 use Rattle.body_frames.proofs.unwind.unwind.Given as goal
 
 abbrev pub invariant-loop-how : goal.invariant-loop-how

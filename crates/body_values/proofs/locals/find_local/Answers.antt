@@ -1,5 +1,5 @@
 use Rattle.std.proofs.Common.{sym, ◌∙◌}
-use Rattle.body_names.proofs.Places.{value_by_name}
+use Rattle.body_locals.proofs.Places.{value_by_name}
 use Rattle.body_values.proofs.locals.find_local.Goals as goal
 
 pub returns : goal.returns

@@ -1,5 +1,5 @@
 use Rattle.std.specs.Option.{option_copied}
-use Rattle.body_names.specs.Locals.{locals_of}
+use Rattle.body_locals.specs.Locals.{locals_of}
 use Rattle.body_values.proofs.Meanings.{local_found}
 use Rattle.body_values.proofs.locals.find_operand.Goals as goal
 

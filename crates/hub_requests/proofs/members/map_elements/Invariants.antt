@@ -1,6 +1,6 @@
 use Rattle.std.proofs.Common.{◌≡◌, ◌<◌, ◌≤◌, ◌+◌, ◌-◌, ◌^◌, length, drop, slice_get}
 use Rattle.machine.specs.Waits.{maps}
-use Rattle.machine_rooms.specs.Counts.{object_count}
+use Rattle.machine.specs.Counts.{object_count}
 use Rattle.hub_state.specs.Adding.{MayAdd}
 use Rattle.hub_requests.specs.Making.{MayMake}
 use Rattle.hub_requests.specs.Naming.{IsObject}

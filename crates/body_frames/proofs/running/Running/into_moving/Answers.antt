@@ -2,8 +2,8 @@ use Rattle.std.proofs.Common.{[], subst, sym}
 use Rattle.machine.specs.declared.state.Frame.{Frame}
 use Rattle.machine.specs.declared.state.Leaving.{Leaving}
 use Rattle.machine.specs.Unwinding.{Unwound}
-use Rattle.body_frames.specs.Entries.{todo_of}
-use Rattle.body_frames.specs.Few.{HasFewToDo}
+use Rattle.body_entries.specs.Entries.{todo_of}
+use Rattle.body_entries.specs.Few.{HasFewToDo}
 use Rattle.body_frames.specs.PrimitiveMoves.{RunsAt}
 use Rattle.body_frames.proofs.AtMoves.{moves_as}
 use Rattle.body_frames.proofs.running.Running.into_moving.Goals as goal

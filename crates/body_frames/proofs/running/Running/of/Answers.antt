@@ -1,5 +1,5 @@
 use Rattle.std.proofs.Common.{refl}
-use Rattle.body_frames.specs.Entries.{todo_of}
+use Rattle.body_entries.specs.Entries.{todo_of}
 use Rattle.body_frames.proofs.Leading.{runs_at_move}
 use Rattle.body_frames.proofs.running.Running.of.Goals as goal
 

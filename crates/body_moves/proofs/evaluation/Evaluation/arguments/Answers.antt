@@ -3,7 +3,7 @@ use Rattle.machine.specs.Bodies.{around}
 use Rattle.machine.specs.BodyMoves.{values}
 use Rattle.body_names.specs.declared.expression.FlatExpression.{FlatExpression}
 use Rattle.body_names.specs.Expressions.{expression_of}
-use Rattle.body_names.specs.Locals.{locals_of}
+use Rattle.body_locals.specs.Locals.{locals_of}
 use Rattle.body_moves.proofs.Counts.{HasLength, values-length}
 use Rattle.body_moves.proofs.evaluation.Evaluation.arguments.Goals as goal
 

@@ -2,7 +2,7 @@ use Rattle.std.proofs.Common.{◌∙◌, ap, sym}
 use Rattle.gv_values.specs.declared.value.Outcome.{Outcome}
 use Rattle.body_names.specs.declared.expression.FlatExpression.{FlatExpression}
 use Rattle.body_names.specs.Expressions.{expression_of}
-use Rattle.body_names.specs.Locals.{locals_of}
+use Rattle.body_locals.specs.Locals.{locals_of}
 use Rattle.machine.specs.Bodies.{around}
 use Rattle.machine.specs.Expressions.{meaning}
 use Rattle.body_values.proofs.Meanings.{flat_one, flat_two, flat_both, flat_either}

@@ -1,6 +1,6 @@
 use Rattle.std.proofs.Common.{◌≡◌, drop, map}
 use Rattle.body_names.specs.Expressions.{expression_of}
-use Rattle.body_names.specs.Locals.{locals_of}
+use Rattle.body_locals.specs.Locals.{locals_of}
 use Rattle.machine.specs.Bodies.{around}
 use Rattle.machine.specs.BodyMoves.{values}
 use Rattle.body_values.proofs.Operands.{prepended}

@@ -6,7 +6,7 @@ use Rattle.body_names.specs.Naming.{name_of}
 use Rattle.machine.specs.Greenlets.{no_function}
 use Rattle.body_values.specs.declared.functions.FlatFunction.{FlatFunction}
 use Rattle.body_values.specs.Codes.{function_of}
-use Rattle.body_values.specs.Few.{HasFewCalls}
+use Rattle.body_blocks.specs.Few.{HasFewCalls}
 use Rattle.body_values.specs.Functions.{function_at}
 use Rattle.body_values.specs.Parameters.{given}
 use Rattle.body_values.proofs.Few.{function-at-few}

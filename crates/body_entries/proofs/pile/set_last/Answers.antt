@@ -1,7 +1,7 @@
 use Rattle.std.proofs.Common.{◌∙◌, ◌-◌, ap, slice_set}
 use Rattle.std.proofs.lemmas.List.{set-get_or}
-use Rattle.body_frames.specs.declared.entry.Entry.{Entry}
-use Rattle.body_frames.proofs.pile.set_last.Goals as goal
+use Rattle.body_entries.specs.declared.entry.Entry.{Entry}
+use Rattle.body_entries.proofs.pile.set_last.Goals as goal
 
 pub returns-clause-not : goal.returns-clause-not
 returns-clause-not c = λ not.

@@ -1,7 +1,7 @@
 //! A list that is read and grown at its front, at a cost that does not depend on its length.
 ghost use Rattle.std.specs.Prelude.{◌≡◌, ◌<◌, ◌-◌, false, [], ◌∷◌, ◌++◌, IfOk, IsTrue, OnOk, MatchOption, drop, length, slice_set};
 ghost use Rattle.std.specs.Option.{option_copied};
-ghost use Rattle.body_frames.specs.declared.entry.Entry.{Entry as Listed};
+ghost use Rattle.body_entries.specs.declared.entry.Entry.{Entry as Listed};
 
 use crate::entry::Entry;
 use std::alloc::{AllocError, Global};

@@ -3,7 +3,7 @@ use Rattle.std.specs.Prelude.{ℕ, ◌≡◌, false, List, [], ◌∷◌, ◌++�
 use Rattle.gv_values.specs.declared.name.Name.{Name}
 use Rattle.gv_values.specs.declared.value.Value.{Value}
 use Rattle.machine.specs.declared.state.Local.{Local}
-use Rattle.body_names.specs.declared.locals.Bound.{Bound}
+use Rattle.body_locals.specs.declared.locals.Bound.{Bound}
 use Rattle.body_names.specs.Naming.{name_of}
 
 -- the value of the local of this number; one that has none yet is none

@@ -1,7 +1,7 @@
 use Rattle.std.proofs.Common.{◌∙◌, ap, sym, Some}
 use Rattle.std.proofs.lemmas.Option.{slice_get-get_or}
-use Rattle.body_names.proofs.Places.{stands_value}
-use Rattle.body_names.proofs.locals.value_there.Goals as goal
+use Rattle.body_locals.proofs.Places.{stands_value}
+use Rattle.body_locals.proofs.locals.value_there.Goals as goal
 
 pub returns-then-bound-slot : goal.returns-then-bound-slot
 returns-then-bound-slot c =

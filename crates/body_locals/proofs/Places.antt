@@ -5,8 +5,8 @@ use Rattle.gv_values.specs.declared.name.Name.{Name}
 use Rattle.gv_values.specs.declared.value.Value.{Value}
 use Rattle.machine.specs.declared.state.Local.{Local}
 use Rattle.machine.specs.Expressions.{bind as bind_name, value_of_local}
-use Rattle.body_names.specs.declared.locals.Bound.{Bound}
-use Rattle.body_names.specs.Locals.{AreOnce, IsAbsent, IsPlaceOf, StandsAt, bind, local_of, locals_of, value_of}
+use Rattle.body_locals.specs.declared.locals.Bound.{Bound}
+use Rattle.body_locals.specs.Locals.{AreOnce, IsAbsent, IsPlaceOf, StandsAt, bind, local_of, locals_of, value_of}
 use Rattle.body_names.specs.Naming.{IsNaming, name_of}
 
 -- ---- by names

@@ -1,6 +1,6 @@
 use Rattle.std.proofs.Common.{◌∙◌, get_or}
-use Rattle.body_names.proofs.Places.{bind_here, same_tests}
-use Rattle.body_names.proofs.locals.place_of.Goals as goal
+use Rattle.body_locals.proofs.Places.{bind_here, same_tests}
+use Rattle.body_locals.proofs.locals.place_of.Goals as goal
 
 pub returns-then-all-i-clause-place : goal.returns-then-all-i-clause-place
 returns-then-all-i-clause-place c = λ d v.

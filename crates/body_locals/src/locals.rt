@@ -2,9 +2,9 @@
 ghost use Rattle.std.specs.Prelude.{◌≡◌, ◌<◌, [], ◌∷◌, ◌++◌, None, Some, true, length, unwrap_or, IsTrue, IfSome, OnOk, OnErr, IfOk};
 ghost use Rattle.std.specs.Option.{option_copied};
 ghost use Rattle.gv_values.specs.declared.value.Value.TheVariants as value;
-ghost use Rattle.body_names.specs.Locals.{AreOnce, IsPlaceOf, StandsAt, bind, value_of};
+ghost use Rattle.body_locals.specs.Locals.{AreOnce, IsPlaceOf, StandsAt, bind, value_of};
 
-use crate::expression::LocalSlot;
+use body_names::LocalSlot;
 use gv_values::Value;
 use std::alloc::{AllocError, Global};
 use std::marker::Model;
@@ -27,8 +27,8 @@ pub struct Locals {
 impl Model for Locals {
     ghost use Rattle.std.specs.Prelude.{◌≡◌, List, true};
     ghost use Rattle.scenario_tree.specs.Trees.{trees};
-    ghost use Rattle.body_names.specs.declared.locals.Bound.{Bound as Numbered};
-    ghost use Rattle.body_names.specs.Locals.{AreOnce};
+    ghost use Rattle.body_locals.specs.declared.locals.Bound.{Bound as Numbered};
+    ghost use Rattle.body_locals.specs.Locals.{AreOnce};
 
     ghost Value = { List Numbered };
 

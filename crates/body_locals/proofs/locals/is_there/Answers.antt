@@ -1,5 +1,5 @@
-use Rattle.body_names.proofs.Places.{stands_place}
-use Rattle.body_names.proofs.locals.is_there.Goals as goal
+use Rattle.body_locals.proofs.Places.{stands_place}
+use Rattle.body_locals.proofs.locals.is_there.Goals as goal
 
 pub returns-then-is_once-clause-place : goal.returns-then-is_once-clause-place
 returns-then-is_once-clause-place c = λ there.

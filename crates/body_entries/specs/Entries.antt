@@ -4,12 +4,16 @@ use Rattle.scenario_tree.specs.declared.tree.Action.{Action}
 use Rattle.scenario_tree.specs.declared.tree.Action.TheOpen.{Action-F}
 use Rattle.scenario_tree.specs.declared.tree.Except.{Except}
 use Rattle.scenario_tree.specs.declared.tree.Statement.{Statement}
+use Rattle.machine.specs.declared.state.Frame.{Frame}
 use Rattle.machine.specs.declared.state.Todo.{Todo}
+use Rattle.body_names.specs.declared.expression.LocalSlot.{LocalSlot}
 use Rattle.body_names.specs.Expressions.{expression_of}
 use Rattle.body_names.specs.Statements.{command_of, giving_of}
+use Rattle.body_locals.specs.declared.locals.Bound.{Bound}
+use Rattle.body_locals.specs.Locals.{locals_of}
 use Rattle.body_blocks.specs.Trees.{Coded, block_at, except_of, name_if}
 use Rattle.body_blocks.specs.declared.statement.FlatAction.{FlatAction}
-use Rattle.body_frames.specs.declared.entry.Entry.{Entry}
+use Rattle.body_entries.specs.declared.entry.Entry.{Entry}
 
 -- what stands on a line, opened by one level
 abbrev pub Form : Type 0
@@ -49,3 +53,7 @@ entry_of t (Entry.Within n silent) = Todo.Within n silent
 -- what is still to do
 abbrev pub todo_of : Coded → List Entry → List Todo
 todo_of t entries = map (entry_of t) entries
+
+-- a body that stands so
+abbrev pub frame_at : Coded → List Bound → List Entry → Option LocalSlot → Frame
+frame_at t locals entries gives = record { locals = locals_of t.names locals; todo = todo_of t entries; gives = name_if t gives }

@@ -1,0 +1,13 @@
+-- What an object counts. This project's own.
+use Rattle.std.specs.Prelude.{ℕ, ◌+◌, Option, Some, length}
+use Rattle.machine.specs.declared.state.Object.{Object}
+
+-- all that the object counts
+abbrev pub object_count : Option Object → ℕ
+object_count (Some (Object.Event flag sets)) = sets
+object_count (Some (Object.Semaphore counter bound)) = counter
+object_count (Some (Object.Lock owner depth)) = depth
+object_count (Some (Object.Queue kind size items unfinished shut)) = length items + unfinished
+object_count (Some (Object.Crew size members)) = length members
+object_count (Some (Object.Native slots outstanding)) = outstanding
+object_count object = 0
