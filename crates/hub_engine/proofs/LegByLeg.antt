@@ -291,6 +291,26 @@ goes_further g made most n p from a b s t h ends is left e =
       moving = by.may;
     }
 
+-- the last leg, after so many moves
+pub last_leg : (g made most n : ℕ) (p : Progress) (from a b : Frame) (s t u : State) → GoesOn g made most (with_phase g (Phase.Live from) s) a t → EndsBy p g n a t b u → EndsBy p g (made + n) from s b u
+last_leg g made most n p from a b s t u h ends = record { moves = h.leads n (next_of p g b u) ends.moves; ready = ends.ready; may = ends.may }
+
+-- the step is finished: after so many moves and one more, of which it comes to stand there
+pub record HasStepped (g n : ℕ) (s : State) (next : Next) : Type 0 where
+  pub moved : MovesTo g n s next
+  pub ready : IsReadyAt next
+
+pub has_stepped : (p : Progress) (g n : ℕ) (body a b : Frame) (s t u : State) (at : Stand) → a ≡ body → EndsBy p g n a s b t → next_of p g b t ≡ next_at at u →
+    HasStepped g n (with_phase g (Phase.Live body) s) (next_at at u)
+has_stepped p g n body a b s t u at same ends is = record {
+  moved = subst (λ (x : Frame). MovesTo g n (with_phase g (Phase.Live x) s) (next_at at u)) same (subst (MovesTo g n (with_phase g (Phase.Live a) s)) is ends.moves);
+  ready = subst IsReadyAt is ends.ready;
+}
+
+-- what is left, where the body that it was made from is as before
+pub ends_as_before : {p : Progress} {g : ℕ} {s : State} {c : Frame} {t : State} (a b : Frame) → b ≡ a → EndsBy p g 0 a s c t → EndsBy p g 0 b s c t
+ends_as_before {p} {g} {s} {c} {t} a b same h = subst (λ (x : Frame). EndsBy p g 0 x s c t) (sym same) h
+
 -- where none was made, all is as before
 pub as_before : (P : Frame → Type 0) (a b : Frame) → b ≡ a → P a → P b
 as_before P a b same h = subst P (sym same) h

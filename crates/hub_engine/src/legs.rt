@@ -1,5 +1,5 @@
 //! The moves of a greenlet, made one leg after another where its body stands.
-ghost use Rattle.std.specs.Prelude.{◌≡◌, ◌+◌, ◌<◌, ◌≤◌, ◌^◌, None, IsTrue, IfOk};
+ghost use Rattle.std.specs.Prelude.{◌≡◌, ◌+◌, ◌<◌, ◌≤◌, ◌^◌, ℕ, None, IsTrue, OnOk, IfOk};
 ghost use Rattle.gv_values.specs.declared.limits.TheConstants.{MOST_MOVES};
 ghost use Rattle.body_frames.specs.Destinations.{IsMoving};
 ghost use Rattle.body_entries.specs.Few.{HasFewToDo};
@@ -18,15 +18,14 @@ ghost use Rattle.hub_engine.specs.declared.stand.Progress.TheVariants as progres
 ghost use Rattle.hub_engine.specs.Asking.{IsDeclaredAfter};
 ghost use Rattle.hub_engine.specs.Legs.{EndsBy, GoesBy};
 ghost use Rattle.hub_engine.specs.Making.{MayMove};
-ghost use Rattle.hub_engine.specs.Onward.{IsAtRest, MovesTo};
-ghost use Rattle.hub_engine.specs.Ready.{IsReadyAt, IsReadyToMove};
+ghost use Rattle.hub_engine.specs.Onward.{IsAtRest};
+ghost use Rattle.hub_engine.specs.Ready.{IsReadyToMove};
 ghost use Rattle.hub_engine.specs.Settlings.{HasMoveRoom, HasMovesRoom};
-ghost use Rattle.hub_engine.specs.Stands.{next_at};
 ghost use Rattle.hub_engine.specs.Within.{IsWithinToMove};
 
-use crate::moves::{answer_running, come_to, finish, go_under_way, settle_hub, step_any};
-use crate::stand::{Progress, Stand, is_silent};
-use body_frames::{Halt, Moving, Quick, Running};
+use crate::moves::{answer_running, come_to, go_under_way, settle_hub, step_any};
+use crate::stand::{Progress, is_silent};
+use body_frames::{Halt, Quick, Running};
 use gv_values::{FaultKind, Outcome, Value};
 use hub_requests::{do_at, say_print};
 use hub_state::Hub;
@@ -80,7 +79,8 @@ fn perform_quick(hub: &mut Hub, g: u32, quick: Quick) -> Result<Option<FaultKind
     }
 }
 
-/// Performs what the last of so many moves asked, which is answered at once and has nothing to do with greenlets.
+/// Performs what the last move asked, which is counted, is answered at once and has nothing to do with greenlets. What is
+/// left of the move then is put into `left`, where the body does not stay.
 #[inline(always)]
 fn serve_quick(
     alloc: Global,
@@ -88,34 +88,37 @@ fn serve_quick(
     g: u32,
     running: &mut Running,
     quick: Quick,
-    before: u64,
-) -> Result<Progress, AllocError>
+    left: &mut Progress,
+) -> Result<(), AllocError>
+    requires stays { left.old ≡ progresses.Stays }
     requires to_do { HasFewToDo running.old.todo }
     requires unheard { running.old.gives ≡ None }
-    requires few { hub.old.moves + (before + 1) < 2 ^ 64 }
-    requires room { HasMoveRoom g (record hub.old { moves = hub.old.moves + (before + 1) }) }
-    requires may_move { MayMove g (record hub.old { moves = hub.old.moves + (before + 1) }) }
-    requires after { IsDeclaredAfter g (Came.Asks (request_of quick) running.old) (record hub.old { moves = hub.old.moves + (before + 1) }) }
-    ensures { (a : Frame) (s : State) → GoesBy g before a s (record hub.old { moves = hub.old.moves + (before + 1) }) (Came.Asks (request_of quick) running.old) →
-        IfOk result (λ p. EndsBy p g before a s running.new hub.new) }
+    requires room { HasMoveRoom g hub.old }
+    requires may_move { MayMove g hub.old }
+    requires after { IsDeclaredAfter g (Came.Asks (request_of quick) running.old) hub.old }
+    ensures { (n : ℕ) (a : Frame) (s : State) → GoesBy g n a s hub.old (Came.Asks (request_of quick) running.old) →
+        OnOk result (EndsBy left.new g n a s running.new hub.new) }
 {
-    hub.count_moves(before + 1);
     go_under_way(hub, g);
     let refusal = perform_quick(hub, g, quick)?;
     match refusal {
-        Some(kind) => Ok(answer_running(alloc, hub, g, running, Outcome::Fault(kind))?),
+        Some(kind) => {
+            *left = answer_running(alloc, hub, g, running, Outcome::Fault(kind))?;
+            Ok(())
+        }
         None => {
             if running.is_at_move() {
                 settle_hub(hub);
-                return Ok(Progress::Stays);
+                return Ok(());
             }
-            Ok(answer_running(alloc, hub, g, running, Outcome::Value(Value::Nothing))?)
+            *left = answer_running(alloc, hub, g, running, Outcome::Value(Value::Nothing))?;
+            Ok(())
         }
     }
 }
 
-/// Lets the body make moves where it stands, at most so many: how many it made before the last, and what is left of
-/// that.
+/// Lets the body make moves where it stands, at most so many: how many it made before the last. What is left of that is
+/// put into `left`, where the body does not stay.
 #[inline(always)]
 fn make_leg(
     alloc: Global,
@@ -123,47 +126,40 @@ fn make_leg(
     g: u32,
     running: &mut Running,
     most: u64,
-) -> Result<(u64, Progress), AllocError>
+    left: &mut Progress,
+) -> Result<u64, AllocError>
+    requires stays { left.old ≡ progresses.Stays }
     requires ready { IsReadyToMove g (with_phase g (Phase.Live running.old) hub.old) }
     requires moving { IsMoving running.old }
     requires some { 0 < most }
     requires few { hub.old.moves + most < 2 ^ 64 }
     requires room { HasMovesRoom most g hub.old }
-    ensures few { IfOk result (λ leg. leg.0 < most) }
-    ensures ends { IfOk result (λ leg. EndsBy leg.1 g leg.0 running.old hub.old running.new hub.new) }
+    ensures few { IfOk result (λ before. before < most) }
+    ensures ends { IfOk result (λ before. EndsBy left.new g before running.old hub.old running.new hub.new) }
 {
     let ahead = moves_ahead(hub, g, most);
     let ran = running.run(hub.code(), ahead)?;
     match ran.halt {
         Halt::Ahead => {
             if ran.moves == 0 {
-                return Ok((0, step_any(alloc, hub, g, running)?));
+                *left = step_any(alloc, hub, g, running)?;
+                return Ok(0);
             }
             stay(hub, g, ran.moves);
-            Ok((ran.moves - 1, Progress::Stays))
+            Ok(ran.moves - 1)
         }
         Halt::Leaves => {
             hub.count_moves(ran.moves + 1);
             let to = running.go_on(alloc)?;
-            Ok((ran.moves, come_to(alloc, hub, g, to)?))
+            *left = come_to(alloc, hub, g, to)?;
+            Ok(ran.moves)
         }
         Halt::Asks(quick) => {
-            let progress = serve_quick(alloc, hub, g, running, quick, ran.moves)?;
-            Ok((ran.moves, progress))
+            hub.count_moves(ran.moves + 1);
+            serve_quick(alloc, hub, g, running, quick, left)?;
+            Ok(ran.moves)
         }
     }
-}
-
-/// Whether more than one move is left, and there is nothing to give out.
-#[inline(always)]
-fn may_go_on(hub: &Hub, left: u64) -> bool
-    ensures some { IsTrue result → 1 < left }
-    ensures silent { IsTrue result → hub.now ≡ silent hub.now }
-{
-    if 1 < left {
-        return is_silent(hub);
-    }
-    false
 }
 
 /// Whether the body stays where it is, more than one move is left, and there is nothing to give out.
@@ -173,37 +169,39 @@ fn stays_on(hub: &Hub, progress: &Progress, left: u64) -> bool
     ensures some { IsTrue result → 1 < left }
     ensures silent { IsTrue result → hub.now ≡ silent hub.now }
 {
-    match progress {
-        Progress::Stays => may_go_on(hub, left),
-        _ => false,
+    if 1 < left {
+        return match progress {
+            Progress::Stays => is_silent(hub),
+            _ => false,
+        };
     }
+    false
 }
 
-/// Lets the greenlet make its next moves, from this body and at most so many: how many it made before the last, and
-/// where the hub stands after that. The body makes them where it stands, as long as it has to wait for nothing and there
-/// is nothing to give out.
+/// Lets the greenlet make its next moves where its body stands, at most so many, until it has to wait or there is
+/// something to give out: how many it made before the last. What is left of that is put into `left`, as above.
 pub fn step_greenlet(
     alloc: Global,
     hub: &mut Hub,
     g: u32,
-    body: Moving,
+    running: &mut Running,
     most: u64,
-) -> Result<(u64, Stand), AllocError>
-    requires ready { IsReadyToMove g (with_phase g (Phase.Live body) hub.old) }
-    requires within { IsWithinToMove g (with_phase g (Phase.Live body) hub.old) }
+    left: &mut Progress,
+) -> Result<u64, AllocError>
+    requires stays { left.old ≡ progresses.Stays }
+    requires ready { IsReadyToMove g (with_phase g (Phase.Live running.old) hub.old) }
+    requires within { IsWithinToMove g (with_phase g (Phase.Live running.old) hub.old) }
+    requires moving { IsMoving running.old }
     requires some { 0 < most }
     requires few { hub.old.moves + most ≤ MOST_MOVES }
-    ensures few { IfOk result (λ went. went.0 < most) }
-    ensures moved { IfOk result (λ went. MovesTo g went.0 (with_phase g (Phase.Live body) hub.old) (next_at went.1 hub.new)) }
-    ensures ready { IfOk result (λ went. IsReadyAt (next_at went.1 hub.new)) }
+    ensures few { IfOk result (λ before. before < most) }
+    ensures ends { IfOk result (λ before. EndsBy left.new g before running.old hub.old running.new hub.new) }
 {
-    let mut running = Running::of(alloc, body);
     let mut made = 0;
     'moves: loop {
-        let (before, progress) = make_leg(alloc, hub, g, &mut running, most - made)?;
-        if !stays_on(hub, &progress, most - made - before) {
-            let at = finish(alloc, hub, g, running, progress)?;
-            return Ok((made + before, at));
+        let before = make_leg(alloc, hub, g, running, most - made, left)?;
+        if !stays_on(hub, left, most - made - before) {
+            return Ok(made + before);
         }
         made += before + 1;
     }

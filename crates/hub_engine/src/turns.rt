@@ -20,8 +20,10 @@ use crate::broken::Broken;
 use crate::deliver::{deliver_item, throw_into};
 use crate::legs::step_greenlet;
 use crate::life::start_body;
+use crate::moves::finish;
 use crate::run::EngineEnd;
-use crate::stand::{Came, Stand, is_silent};
+use crate::stand::{Came, Progress, Stand, is_silent};
+use body_frames::Running;
 use gv_io::Sink;
 use gv_values::FaultKind;
 use hub_state::Hub;
@@ -169,9 +171,11 @@ fn run_greenlet<W: World, K: Sink>(
                 if left == 0 {
                     return Ok(Came::ToAnEnd(StopCause::NoMoves));
                 }
-                let (before, next) = step_greenlet(alloc, hub, g, body, left)?;
+                let mut running = Running::of(alloc, body);
+                let mut progress = Progress::Stays;
+                let before = step_greenlet(alloc, hub, g, &mut running, left, &mut progress)?;
                 left -= before + 1;
-                at = next;
+                at = finish(alloc, hub, g, running, progress)?;
             }
         }
     }

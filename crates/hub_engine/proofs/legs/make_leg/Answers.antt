@@ -9,11 +9,12 @@ use Rattle.body_frames.specs.Quick.{request_of}
 use Rattle.body_frames.specs.Places.{Came, Place, place_of}
 use Rattle.body_frames.specs.declared.runs.Halt.{Halt}
 use Rattle.hub_state.specs.Sights.{look_of}
+use Rattle.hub_engine.specs.declared.stand.Progress.{Progress}
 use Rattle.hub_engine.specs.Legs.{EndsBy}
 use Rattle.hub_engine.specs.Ready.{IsReadyToMove}
 use Rattle.hub_engine.specs.Settlings.{HasMoveRoom}
 use Rattle.hub_engine.proofs.Staying.{goes_by}
-use Rattle.hub_engine.proofs.LegByLeg.{as_before, came_out, counted_as, ends_by, ran_ahead, ran_as, ran_nowhere, room_for, stays_by}
+use Rattle.hub_engine.proofs.LegByLeg.{as_before, came_out, counted_as, ends_as_before, ends_by, ran_ahead, ran_as, ran_nowhere, room_for, stays_by}
 use Rattle.hub_engine.proofs.legs.make_leg.Goals as goal
 
 pub stay-requires : goal.stay-requires
@@ -44,7 +45,8 @@ returns-else-ran-eq0-clause-ends c =
     let on = ran_ahead (around s.scenario look) n a b some (ran_as s.scenario c.code.result.now look n halt Halt.Ahead a b c.code.ensures c.in-Ahead.is (c.in_ok-ran.ensures.ran look)) in
     let t = record s { moves = s.moves + n } in
     let by = goes_by g (n - 1) most a s t (Came.Comes (Place.AtMove [] b)) c.moves_ahead-ahead.ensures.rest (omega (arith, some, counted)) c.requires.ready on (ap (λ m. record s { moves = s.moves + m }) one) in
-    stays_by g (n - 1) a b s t c.stay.new.hub by c.stay.ensures (record { runs = c.in_ok-ran.ensures.runs c.in-Ahead.is; unheard = c.run.ensures.unheard; few = c.in_ok-ran.ensures.few })
+    subst (λ (p : Progress). EndsBy p g (n - 1) a s b c.stay.new.hub) (sym c.requires.stays)
+    (stays_by g (n - 1) a b s t c.stay.new.hub by c.stay.ensures (record { runs = c.in_ok-ran.ensures.runs c.in-Ahead.is; unheard = c.run.ensures.unheard; few = c.in_ok-ran.ensures.few }))
 
 pub step_any-requires : goal.step_any-requires
 step_any-requires c =
@@ -73,7 +75,7 @@ returns-then-ran-eq0-clause-ends c =
     let none : n ≡ 0 = omega (arith, c.if-ran-eq0.true) in
     let same = ran_nowhere (around s.scenario look) n c.args.running.now c.run.new.self none
     (ran_as s.scenario c.code.result.now look n halt Halt.Ahead c.args.running.now c.run.new.self c.code.ensures c.in-Ahead.is (c.in_ok-ran.ensures.ran look)) in
-    as_before (λ (b : Frame). EndsBy c.in_ok-step_any-in-Ahead.field-0 c.args.g 0 b s c.step_any.new.running c.step_any.new.hub) c.run.new.self c.args.running.now (sym same) c.in_ok-step_any-in-Ahead.ensures
+    ends_as_before c.run.new.self c.args.running.now (sym same) c.in_ok-left-in-Ahead.ensures
 
 pub count_moves-requires : goal.count_moves-requires
 count_moves-requires c =
@@ -99,8 +101,8 @@ come_to-requires c =
     let by = goes_by g n most a s c.count_moves.new.self (came_out b) c.moves_ahead-ahead.ensures.rest (omega (arith, counted)) c.requires.ready on c.count_moves.ensures in
     record { declared = by.declared; room = subst (HasMoveRoom g) (sym c.count_moves.ensures) (c.requires.room.each n (omega (arith, counted, ahead))) }
 
-pub returns-in_ok-come_to-in-Leaves-clause-ends : goal.returns-in_ok-come_to-in-Leaves-clause-ends
-returns-in_ok-come_to-in-Leaves-clause-ends c =
+pub returns-in_ok-left-in-Leaves-clause-ends : goal.returns-in_ok-left-in-Leaves-clause-ends
+returns-in_ok-left-in-Leaves-clause-ends c =
     let g = c.args.g in
     let s = c.args.hub.now in
     let a = c.args.running.now in
@@ -112,8 +114,8 @@ returns-in_ok-come_to-in-Leaves-clause-ends c =
     let counted : n + 1 ≤ most = counted_as n most halt Halt.Leaves c.in-Leaves.is c.in_ok-ran.ensures.counted in
     let on = ran_as s.scenario c.code.result.now look n halt Halt.Leaves a b c.code.ensures c.in-Leaves.is (c.in_ok-ran.ensures.ran look) in
     let by = goes_by g n most a s c.count_moves.new.self (came_out b) c.moves_ahead-ahead.ensures.rest (omega (arith, counted)) c.requires.ready on c.count_moves.ensures in
-    ends_by c.in_ok-come_to-in-Leaves.field-0 g n a c.go_on.new.self s c.count_moves.new.self c.come_to.new.hub (came_out b) by
-    (c.in_ok-come_to-in-Leaves.ensures (place_of (unwind b.todo [] Leaving.Normally b.locals)) c.go_on.new.self c.in_ok-to-in-Leaves.ensures)
+    ends_by _ g n a c.go_on.new.self s c.count_moves.new.self c.come_to.new.hub (came_out b) by
+    (c.in_ok-left-in-Leaves.ensures (place_of (unwind b.todo [] Leaving.Normally b.locals)) c.go_on.new.self c.in_ok-to-in-Leaves.ensures)
 
 pub serve_quick-requires : goal.serve_quick-requires
 serve_quick-requires c =
@@ -128,20 +130,19 @@ serve_quick-requires c =
     let most = c.moves_ahead-ahead.result in
     let counted : n + 1 ≤ most = counted_as n most halt (Halt.Asks q) c.in-Asks.is c.in_ok-ran.ensures.counted in
     let ahead : most ≤ c.args.most = c.moves_ahead-ahead.ensures.few in
-    let few : s.moves + c.args.most < 2 ^ 64 = c.requires.few in
     let on = ran_as s.scenario c.code.result.now look n halt (Halt.Asks q) a b c.code.ensures c.in-Asks.is (c.in_ok-ran.ensures.ran look) in
-    let by = goes_by g n most a s (record s { moves = s.moves + (n + 1) }) (Came.Asks (request_of q) b) c.moves_ahead-ahead.ensures.rest (omega (arith, counted)) c.requires.ready on refl in
+    let by = goes_by g n most a s c.count_moves-in-Asks.new.self (Came.Asks (request_of q) b) c.moves_ahead-ahead.ensures.rest (omega (arith, counted)) c.requires.ready on c.count_moves-in-Asks.ensures in
     record {
+      stays = c.requires.stays;
       to_do = c.in_ok-ran.ensures.few;
       unheard = c.run.ensures.unheard;
-      few = omega (arith, counted, ahead, few);
-      room = c.requires.room.each n (omega (arith, counted, ahead));
+      room = subst (HasMoveRoom g) (sym c.count_moves-in-Asks.ensures) (c.requires.room.each n (omega (arith, counted, ahead)));
       may_move = by.may_move;
       after = by.after;
     }
 
-pub returns-in_ok-progress-in-Asks-clause-ends : goal.returns-in_ok-progress-in-Asks-clause-ends
-returns-in_ok-progress-in-Asks-clause-ends c =
+pub returns-in_ok-serve_quick-in-Asks-clause-ends : goal.returns-in_ok-serve_quick-in-Asks-clause-ends
+returns-in_ok-serve_quick-in-Asks-clause-ends c =
     let g = c.args.g in
     let s = c.args.hub.now in
     let a = c.args.running.now in
@@ -153,5 +154,5 @@ returns-in_ok-progress-in-Asks-clause-ends c =
     let most = c.moves_ahead-ahead.result in
     let counted : n + 1 ≤ most = counted_as n most halt (Halt.Asks q) c.in-Asks.is c.in_ok-ran.ensures.counted in
     let on = ran_as s.scenario c.code.result.now look n halt (Halt.Asks q) a b c.code.ensures c.in-Asks.is (c.in_ok-ran.ensures.ran look) in
-    c.in_ok-progress-in-Asks.ensures a s
-    (goes_by g n most a s (record s { moves = s.moves + (n + 1) }) (Came.Asks (request_of q) b) c.moves_ahead-ahead.ensures.rest (omega (arith, counted)) c.requires.ready on refl)
+    c.in_ok-serve_quick-in-Asks.ensures n a s
+    (goes_by g n most a s c.count_moves-in-Asks.new.self (Came.Asks (request_of q) b) c.moves_ahead-ahead.ensures.rest (omega (arith, counted)) c.requires.ready on c.count_moves-in-Asks.ensures)
