@@ -1,13 +1,12 @@
 //! Requests that are answered at once, and whose answer nobody takes. They are small, and the body that makes one stays
 //! where it is.
 ghost use Rattle.std.specs.Prelude.{◌≡◌, None, List, IfOk, IfSome};
-ghost use Rattle.machine.specs.declared.state.Local.{Local as Named};
 ghost use Rattle.machine.specs.declared.state.Todo.{Todo};
 ghost use Rattle.machine.specs.Bodies.{around};
 ghost use Rattle.machine.specs.BodyMoves.{Did, action_move};
-ghost use Rattle.machine.specs.Expressions.{Look as Answers, object_number};
+ghost use Rattle.machine.specs.Expressions.{Look as Answers};
 ghost use Rattle.body_locals.specs.Locals.{locals_of};
-ghost use Rattle.body_names.specs.Naming.{IsNaming, name_of};
+ghost use Rattle.body_names.specs.Naming.{IsNaming};
 ghost use Rattle.body_entries.specs.Entries.{form_of};
 ghost use Rattle.body_frames.specs.Quick.{Prints, request_of};
 ghost use Rattle.body_frames.specs.Runs.{HasAsked};
