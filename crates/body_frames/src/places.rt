@@ -75,6 +75,7 @@ pub fn begin_body(
 }
 
 /// Answers the request of the body, with a value or a fault. `AllocError`: memory is wanting.
+#[inline(always)]
 pub fn answer_body(alloc: Global, body: Parked, answer: Outcome) -> Result<Reached, AllocError>
     ensures { IfOk result (λ reached. reached_of reached ≡ place_of (unwind body.todo [] (leaving_of answer) (given body answer))) }
 {
@@ -94,6 +95,7 @@ pub fn answer_body(alloc: Global, body: Parked, answer: Outcome) -> Result<Reach
 }
 
 /// Where the body comes to.
+#[inline(always)]
 fn reach(blocks: Rc<Blocks>, stack: Stack, at: Unwound) -> Reached
     requires moves { HasMove (goes_from blocks.value at stack) }
     requires few { HasFewUnwound (goes_from blocks.value at stack) }

@@ -69,6 +69,7 @@ fn start_greenlet(alloc: Global, hub: &mut Hub, g: u32) -> Result<Stand, AllocEr
 }
 
 /// Completes the wait of the greenlet, which was begun with this since.
+#[inline(always)]
 #[tactic(auto, using(crate::proofs::Soundly::sound_woken, crate::proofs::Functions::declared_followed))]
 fn wake_greenlet(
     alloc: Global,
@@ -202,6 +203,7 @@ fn call_link(
 }
 
 /// Does what the item delivers, which is gone and was made with this since.
+#[inline(always)]
 #[tactic(auto, using(crate::proofs::Delivered::named_wait))]
 fn deliver_content(
     alloc: Global,
@@ -230,6 +232,7 @@ fn deliver_content(
 }
 
 /// Takes the item with the least number below the mark away, and delivers it.
+#[inline(always)]
 #[tactic(auto, using(crate::proofs::Delivered::delivered_as, crate::proofs::Readily::ready_delivered))]
 pub fn deliver_item(alloc: Global, hub: &mut Hub, mark: u64) -> Result<Stand, AllocError>
     requires there { IsSome (least_below mark hub.old.items) }

@@ -130,6 +130,7 @@ fn begin_greenlet(
 }
 
 /// Gives the answer to the statement of the greenlet.
+#[inline(always)]
 #[tactic(auto, using(crate::proofs::Bodies::answer_goes, crate::proofs::Bodies::answer_unheard))]
 fn resume_greenlet(alloc: Global, hub: &mut Hub, g: u32, answer: Outcome) -> Result<Hop, AllocError>
     requires { MaySettle 1 hub.old }
@@ -245,6 +246,7 @@ pub fn start_body(
 }
 
 /// Answers the statement of the greenlet.
+#[inline(always)]
 #[tactic(auto, using(crate::proofs::Functions::declared_resumed))]
 pub fn answer_greenlet(
     alloc: Global,

@@ -65,6 +65,7 @@ pub fn settle_hub(hub: &mut Hub)
 }
 
 /// Goes on after a request of the greenlet.
+#[inline(always)]
 #[tactic(auto, using(crate::proofs::Functions::declared_settled))]
 pub fn go_on_after(
     alloc: Global,

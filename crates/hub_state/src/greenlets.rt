@@ -1,5 +1,5 @@
 //! The greenlets in order of making, and how far each has come.
-ghost use Rattle.std.specs.Prelude.{◌≡◌, ◌<◌, ◌≤◌, [], ◌∷◌, ◌++◌, false, length, slice_get, slice_set, unwrap_or, option_map, nat_lt, OnOk, OnErr, IfOk};
+ghost use Rattle.std.specs.Prelude.{◌≡◌, ◌<◌, ◌≤◌, [], ◌∷◌, ◌++◌, false, length, slice_get, slice_set, unwrap_or, nat_lt, OnOk, OnErr, IfOk};
 ghost use Rattle.std.specs.Option.{option_copied};
 ghost use Rattle.machine.specs.declared.state.Phase.{Phase};
 ghost use Rattle.machine.specs.Holds.{outcome_of_phase};
@@ -106,12 +106,12 @@ impl Greenlet {
         }
     }
 
-    /// Gives it this stage, and answers the one that it had.
-    fn swap(&mut self, stage: Stage) -> Stage
-        ensures set { self.new ≡ record self.old { phase = phase_of_stage stage } }
-        ensures was { phase_of_stage result ≡ self.old.phase }
+    /// Gives it this stage, in whose place is then the one that it had.
+    fn swap(&mut self, stage: &mut Stage)
+        ensures set { self.new ≡ record self.old { phase = phase_of_stage stage.old } }
+        ensures was { phase_of_stage stage.new ≡ self.old.phase }
     {
-        mem::replace(&mut self.stage, stage)
+        mem::swap(&mut self.stage, stage);
     }
 }
 
@@ -191,12 +191,12 @@ impl Greenlets {
         set_parent_at(&mut self.all, g, parent);
     }
 
-    /// Gives the greenlet this stage, and answers the one that it had.
-    pub(crate) fn swap(&mut self, g: u32, stage: Stage) -> Option<Stage>
-        ensures set { self.new ≡ slice_set self.old g (record (unwrap_or (slice_get self.old g) nobody) { phase = phase_of_stage stage }) }
-        ensures was { option_map phase_of_stage result ≡ phase_of_greenlet g self.old }
+    /// Gives the greenlet this stage, in whose place is then the one that it had, if it was made.
+    pub(crate) fn swap(&mut self, g: u32, stage: &mut Stage)
+        ensures set { self.new ≡ slice_set self.old g (record (unwrap_or (slice_get self.old g) nobody) { phase = phase_of_stage stage.old }) }
+        ensures was { phase_of_stage stage.new ≡ unwrap_or (phase_of_greenlet g self.old) (phase_of_stage stage.old) }
     {
-        swap_stage(&mut self.all, g, stage)
+        swap_stage(&mut self.all, g, stage);
     }
 }
 
@@ -212,15 +212,15 @@ fn set_parent_at(greenlets: &mut [Greenlet], g: u32, parent: u32)
     greenlet.set_parent(parent);
 }
 
-/// Gives the greenlet this stage, and answers the one that it had.
+/// Gives the greenlet this stage, in whose place is then the one that it had, if it was made.
 #[tactic(auto, using(crate::proofs::PhaseSets::phase_set, crate::proofs::PhaseSets::phase_was, crate::proofs::PhaseSets::phase_none, crate::proofs::PhaseSets::phase_out))]
-fn swap_stage(greenlets: &mut [Greenlet], g: u32, stage: Stage) -> Option<Stage>
-    ensures set { greenlets.new ≡ slice_set greenlets.old g (record (unwrap_or (slice_get greenlets.old g) nobody) { phase = phase_of_stage stage }) }
-    ensures was { option_map phase_of_stage result ≡ phase_of_greenlet g greenlets.old }
+fn swap_stage(greenlets: &mut [Greenlet], g: u32, stage: &mut Stage)
+    ensures set { greenlets.new ≡ slice_set greenlets.old g (record (unwrap_or (slice_get greenlets.old g) nobody) { phase = phase_of_stage stage.old }) }
+    ensures was { phase_of_stage stage.new ≡ unwrap_or (phase_of_greenlet g greenlets.old) (phase_of_stage stage.old) }
 {
     if g as usize >= greenlets.len() {
-        return None;
+        return;
     }
     let greenlet = &mut greenlets[g as usize];
-    Some(greenlet.swap(stage))
+    greenlet.swap(stage);
 }

@@ -1,5 +1,5 @@
 //! What the steps of the hub do to its greenlets.
-ghost use Rattle.std.specs.Prelude.{◌≡◌, ◌<◌, ◌||◌, length, option_map, is_some, OnOk, IfOk, IfSome, IfNone};
+ghost use Rattle.std.specs.Prelude.{◌≡◌, ◌<◌, ◌||◌, length, option_map, unwrap_or, is_some, OnOk, IfOk, IfSome, IfNone};
 ghost use Rattle.std.specs.Option.{option_copied};
 ghost use Rattle.machine.specs.declared.state.Phase.{Phase};
 ghost use Rattle.machine.specs.Holds.{is_done, outcome_of_phase};
@@ -48,44 +48,53 @@ impl Hub {
         }
     }
 
-    /// Lets the greenlet have come so far, and gives how far it had come before.
-    fn swap_stage(&mut self, g: u32, stage: Stage) -> Option<Stage>
-        ensures set { self.new ≡ with_phase g (phase_of_stage stage) self.old }
-        ensures was { option_map phase_of_stage result ≡ phase_of_greenlet g self.old.greenlets }
+    /// Lets the greenlet have come so far; in its place is then how far it had come before, if it was made.
+    fn swap_stage(&mut self, g: u32, stage: &mut Stage)
+        ensures set { self.new ≡ with_phase g (phase_of_stage stage.old) self.old }
+        ensures was { phase_of_stage stage.new ≡ unwrap_or (phase_of_greenlet g self.old.greenlets) (phase_of_stage stage.old) }
     {
-        let ended = self.is_end(g, &stage);
+        let ended = self.is_end(g, stage);
         self.touched.touch_end(ended, g);
         items_stand_in_order(&self.held);
-        self.base.greenlets.swap(g, stage)
+        self.base.greenlets.swap(g, stage);
     }
 
     /// Lets the greenlet have come so far.
     pub fn set_stage(&mut self, g: u32, stage: Stage)
         ensures { self.new ≡ with_phase g (phase_of_stage stage) self.old }
     {
-        drop(self.swap_stage(g, stage));
+        let mut stage = stage;
+        self.swap_stage(g, &mut stage);
     }
 
     /// Takes the body of the greenlet, which is then under way. None only where no body of it waits for
     /// an answer.
+    #[tactic(auto, using(crate::proofs::PhaseSets::frame_was))]
     pub fn take_body(&mut self, g: u32) -> Option<Parked>
         ensures body { IfSome result (λ body. body ≡ frame_of (greenlet g self.old).phase) }
         ensures none { IfNone result (frame_of (greenlet g self.old).phase ≡ no_frame) }
         ensures taken { self.new ≡ with_phase g (Phase.Live no_frame) self.old }
     {
-        match self.swap_stage(g, Stage::UnderWay) {
-            Some(Stage::Parked(body)) => Some(body),
+        let mut stage = Stage::UnderWay;
+        self.swap_stage(g, &mut stage);
+        let before = stage;
+        match before {
+            Stage::Parked(body) => Some(body),
             _ => None,
         }
     }
 
     /// Takes the arguments of a greenlet that has not started, which is then under way.
+    #[tactic(auto, using(crate::proofs::PhaseSets::arguments_were))]
     pub fn take_arguments(&mut self, alloc: Global, g: u32) -> Items<Value>
         ensures arguments { result ≡ arguments (greenlet g self.old).phase }
         ensures taken { self.new ≡ with_phase g (Phase.Live no_frame) self.old }
     {
-        match self.swap_stage(g, Stage::UnderWay) {
-            Some(Stage::New(arguments)) => arguments,
+        let mut stage = Stage::UnderWay;
+        self.swap_stage(g, &mut stage);
+        let before = stage;
+        match before {
+            Stage::New(arguments) => arguments,
             _ => Items::new(alloc),
         }
     }
