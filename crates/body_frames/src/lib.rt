@@ -23,11 +23,8 @@ mod stack;
 mod step;
 mod unwind;
 
-pub use body_values::{Code, Look};
 pub use frame::Frame;
 pub use laws::steps_keep_few;
-pub use machine::arguments::Arguments;
-pub use machine::request::Request;
 pub use places::{Moving, Reached, answer_body, begin_body};
 pub use quick::Quick;
 pub use running::{Destination, Moved, Running};

@@ -195,6 +195,7 @@ pub fn run_scenario<K: Sink, W: World>(
     let engine = match Engine::new(alloc, checked, budgets) {
         Ok(engine) => engine,
         Err(EngineRefusal::Memory) => return EngineEnd::Memory,
+        // The budgets are within what a run may be given.
         Err(EngineRefusal::Budgets) => unreachable!(),
     };
     match options.world {

@@ -1,5 +1,5 @@
 //! How a call ends: its status and its line on err.
-ghost use Rattle.std.specs.Prelude.{◌≡◌, List, OnOk, IfOk};
+ghost use Rattle.std.specs.Prelude.{◌≡◌, IfOk};
 ghost use Rattle.gv_top.specs.Status.{verdict_line, verdict_of_check, verdict_of_connection, verdict_of_run, verdict_of_server, verdict_of_text, verdict_status};
 ghost use Rattle.gv_top.specs.Inner.{IsExplained};
 

@@ -86,6 +86,7 @@ fn count_run(alloc: Global, checked: Checked) -> Option<CountedRun>
     let engine = match Engine::new(alloc, checked, BUDGETS) {
         Ok(engine) => engine,
         Err(EngineRefusal::Memory) => return None,
+        // The budgets are within what a run may be given.
         Err(EngineRefusal::Budgets) => unreachable!(),
     };
     let mut world = ScriptWorld::new(alloc, TICK);

@@ -79,8 +79,8 @@ fn perform_quick(hub: &mut Hub, g: u32, quick: Quick) -> Result<Option<FaultKind
     }
 }
 
-/// Performs what the last move asked, which is counted, is answered at once and has nothing to do with greenlets. What is
-/// left of the move then is put into `left`, where the body does not stay.
+/// Performs what the last move asked, which is counted, is answered at once and has nothing to do with greenlets. If the
+/// body does not stay, what is left of the move is put into `left`.
 #[inline(always)]
 fn serve_quick(
     alloc: Global,
@@ -117,8 +117,8 @@ fn serve_quick(
     }
 }
 
-/// Lets the body make moves where it stands, at most so many: how many it made before the last. What is left of that is
-/// put into `left`, where the body does not stay.
+/// Lets the body make moves where it stands, at most so many: how many it made before the last. If the body does not
+/// stay, what is left of that is put into `left`.
 #[inline(always)]
 fn make_leg(
     alloc: Global,
@@ -179,7 +179,8 @@ fn stays_on(hub: &Hub, progress: &Progress, left: u64) -> bool
 }
 
 /// Lets the greenlet make its next moves where its body stands, at most so many, until it has to wait or there is
-/// something to give out: how many it made before the last. What is left of that is put into `left`, as above.
+/// something to give out: how many it made before the last. If the body does not stay, what is left of that is put into
+/// `left`.
 pub fn step_greenlet(
     alloc: Global,
     hub: &mut Hub,

@@ -25,11 +25,12 @@ ghost use Rattle.hub_engine.specs.Stands.{next_at};
 
 use crate::life::{answer_greenlet, arrive, land};
 use crate::stand::{Progress, Stand};
-use body_frames::{Destination, Moved, Request, Running};
+use body_frames::{Destination, Moved, Running};
 use gv_values::Outcome;
 use hub_requests::{Performed, perform};
 use hub_state::{Hub, Seen, Stage};
 use machine::items::Delivery;
+use machine::request::Request;
 use std::alloc::{AllocError, Global};
 
 /// Whether the greenlet is under way.

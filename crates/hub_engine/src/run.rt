@@ -1,4 +1,4 @@
-//! The engine as its callers see it: prepared, and then run once.
+//! The engine as its callers see it: a scenario is compiled, and the engine prepared and then run once.
 ghost use Rattle.std.specs.Prelude.{◌≡◌, ◌≢◌, ◌≤◌, true, [], IfOk, IfErr, OnOk};
 ghost use Rattle.std.specs.List.{list_all};
 ghost use Rattle.gv_values.specs.Counts.{HasRisen};

@@ -2,10 +2,11 @@
 ghost use Rattle.std.specs.Prelude.{◌≡◌, IsTrue};
 ghost use Rattle.machine.specs.Run.{silent};
 
-use body_frames::{Moving, Request};
+use body_frames::Moving;
 use gv_values::Outcome;
 use hub_requests::Performed;
 use hub_state::Hub;
+use machine::request::Request;
 use trace_text::StopCause;
 
 /// Where the hub stands between two steps.

@@ -1,5 +1,5 @@
 //! Turns, and the whole run, whose trace is given out step by step.
-ghost use Rattle.std.specs.Prelude.{◌≡◌, ◌+◌, ◌<◌, ◌≤◌, ℕ, suc, Bool, true, false, [], IsTrue, OnOk, IfOk, IsSome, None, Some};
+ghost use Rattle.std.specs.Prelude.{◌≡◌, ◌+◌, ◌<◌, ◌≤◌, ℕ, suc, Bool, true, false, [], OnOk, IfOk, IsSome, None, Some};
 ghost use Rattle.trace_text.specs.Line.{text_of};
 ghost use Rattle.trace_reader.specs.Ranges.{LinesFit};
 ghost use Rattle.gv_io.specs.Streams.{Extends};

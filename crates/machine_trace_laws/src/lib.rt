@@ -1,6 +1,6 @@
 //! Lemmas on what the lines told so far say of the hub's state, which each step of a greenlet keeps; and the laws that
-//! stand on them: the lines of a run meet the laws of a trace, and the hub blocks at quiet states. Each is a law of the
-//! machine's definitions, as the contract of a function without a body of its own.
+//! stand on them: the lines of a run meet the laws of a trace, and the hub blocks at quiet states. A law of the machine's
+//! definitions is the contract of a function without a body of its own.
 #![tactic(auto)]
 
 ghost use Rattle.machine_trace_laws.specs.Laws.{BlocksQuietly, RunsLawfully, ScriptsRunLawfully};
