@@ -48,8 +48,8 @@ returns-else-ran-eq0-clause-ends c =
     subst (λ (p : Progress). EndsBy p g (n - 1) a s b c.stay.new.hub) (sym c.requires.stays)
     (stays_by g (n - 1) a b s t c.stay.new.hub by c.stay.ensures (record { runs = c.in_ok-ran.ensures.runs c.in-Ahead.is; unheard = c.run.ensures.unheard; few = c.in_ok-ran.ensures.few }))
 
-pub step_any-requires : goal.step_any-requires
-step_any-requires c =
+pub step_into-requires : goal.step_into-requires
+step_into-requires c =
     let s = c.args.hub.now in
     let n = c.in_ok-ran.ran.moves in
     let halt = c.in_ok-ran.ran.halt in
@@ -75,7 +75,7 @@ returns-then-ran-eq0-clause-ends c =
     let none : n ≡ 0 = omega (arith, c.if-ran-eq0.true) in
     let same = ran_nowhere (around s.scenario look) n c.args.running.now c.run.new.self none
     (ran_as s.scenario c.code.result.now look n halt Halt.Ahead c.args.running.now c.run.new.self c.code.ensures c.in-Ahead.is (c.in_ok-ran.ensures.ran look)) in
-    ends_as_before c.run.new.self c.args.running.now (sym same) c.in_ok-left-in-Ahead.ensures
+    ends_as_before c.run.new.self c.args.running.now (sym same) c.in_ok-step_into-in-Ahead.ensures
 
 pub count_moves-requires : goal.count_moves-requires
 count_moves-requires c =
@@ -85,8 +85,8 @@ count_moves-requires c =
     let few : c.args.hub.now.moves + c.args.most < 2 ^ 64 = c.requires.few in
     omega (arith, counted, ahead, few)
 
-pub come_to-requires : goal.come_to-requires
-come_to-requires c =
+pub go_on_into-requires : goal.go_on_into-requires
+go_on_into-requires c =
     let g = c.args.g in
     let s = c.args.hub.now in
     let a = c.args.running.now in
@@ -99,10 +99,10 @@ come_to-requires c =
     let ahead : most ≤ c.args.most = c.moves_ahead-ahead.ensures.few in
     let on = ran_as s.scenario c.code.result.now look n halt Halt.Leaves a b c.code.ensures c.in-Leaves.is (c.in_ok-ran.ensures.ran look) in
     let by = goes_by g n most a s c.count_moves.new.self (came_out b) c.moves_ahead-ahead.ensures.rest (omega (arith, counted)) c.requires.ready on c.count_moves.ensures in
-    record { declared = by.declared; room = subst (HasMoveRoom g) (sym c.count_moves.ensures) (c.requires.room.each n (omega (arith, counted, ahead))) }
+    record { to_do = c.in_ok-ran.ensures.few; declared = by.declared; room = subst (HasMoveRoom g) (sym c.count_moves.ensures) (c.requires.room.each n (omega (arith, counted, ahead))) }
 
-pub returns-in_ok-left-in-Leaves-clause-ends : goal.returns-in_ok-left-in-Leaves-clause-ends
-returns-in_ok-left-in-Leaves-clause-ends c =
+pub returns-in_ok-go_on_into-in-Leaves-clause-ends : goal.returns-in_ok-go_on_into-in-Leaves-clause-ends
+returns-in_ok-go_on_into-in-Leaves-clause-ends c =
     let g = c.args.g in
     let s = c.args.hub.now in
     let a = c.args.running.now in
@@ -114,8 +114,7 @@ returns-in_ok-left-in-Leaves-clause-ends c =
     let counted : n + 1 ≤ most = counted_as n most halt Halt.Leaves c.in-Leaves.is c.in_ok-ran.ensures.counted in
     let on = ran_as s.scenario c.code.result.now look n halt Halt.Leaves a b c.code.ensures c.in-Leaves.is (c.in_ok-ran.ensures.ran look) in
     let by = goes_by g n most a s c.count_moves.new.self (came_out b) c.moves_ahead-ahead.ensures.rest (omega (arith, counted)) c.requires.ready on c.count_moves.ensures in
-    ends_by _ g n a c.go_on.new.self s c.count_moves.new.self c.come_to.new.hub (came_out b) by
-    (c.in_ok-left-in-Leaves.ensures (place_of (unwind b.todo [] Leaving.Normally b.locals)) c.go_on.new.self c.in_ok-to-in-Leaves.ensures)
+    ends_by _ g n a c.go_on_into.new.running s c.count_moves.new.self c.go_on_into.new.hub (came_out b) by c.in_ok-go_on_into-in-Leaves.ensures
 
 pub serve_quick-requires : goal.serve_quick-requires
 serve_quick-requires c =
