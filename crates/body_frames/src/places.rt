@@ -36,16 +36,15 @@ impl Model for Moving {
     ghost use Rattle.std.specs.Prelude.{None};
     ghost use Rattle.machine.specs.declared.state.Frame.{Frame as Body};
     ghost use Rattle.scenario_tree.specs.Trees.{trees};
-    ghost use Rattle.body_locals.specs.Locals.{locals_of};
     ghost use Rattle.body_frames.specs.AtMove.{IsAtMove};
-    ghost use Rattle.body_entries.specs.Entries.{todo_of};
+    ghost use Rattle.body_entries.specs.Entries.{frame_at, todo_of};
     ghost use Rattle.body_entries.specs.Few.{HasFewToDo};
 
     ghost Value = { Body };
 
     ghost coded = { Prim.hlevel trees };
 
-    ghost view = { λ m. record { locals = locals_of m.blocks.value.names m.locals; todo = todo_of m.blocks.value m.todo; gives = None } };
+    ghost view = { λ m. frame_at m.blocks.value m.locals m.todo None };
 
     ghost invariant = { λ m. IsAtMove (todo_of m.blocks.value m.todo) × HasFewToDo (todo_of m.blocks.value m.todo) };
 }

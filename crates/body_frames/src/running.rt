@@ -49,15 +49,13 @@ impl Model for Running {
     ghost use Rattle.std.specs.Prelude.{◌≡◌, []};
     ghost use Rattle.machine.specs.declared.state.Frame.{Frame as Body};
     ghost use Rattle.scenario_tree.specs.Trees.{trees};
-    ghost use Rattle.body_locals.specs.Locals.{locals_of};
-    ghost use Rattle.body_blocks.specs.Trees.{name_if};
-    ghost use Rattle.body_entries.specs.Entries.{todo_of};
+    ghost use Rattle.body_entries.specs.Entries.{frame_at};
 
     ghost Value = { Body };
 
     ghost coded = { Prim.hlevel trees };
 
-    ghost view = { λ r. record { locals = locals_of r.blocks.value.names r.stack.locals; todo = todo_of r.blocks.value r.stack.todo; gives = name_if r.blocks.value r.gives } };
+    ghost view = { λ r. frame_at r.blocks.value r.stack.locals r.stack.todo r.gives };
 
     ghost invariant = { λ r. r.stack.left ≡ [] };
 }
