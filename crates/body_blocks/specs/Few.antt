@@ -1,4 +1,6 @@
--- That calls have few arguments: no more than a function may have parameters. This project's own.
+-- That calls have few arguments: no more than a function may have parameters. It stands here since `body_entries` says
+-- it of what a body has still to do, and `body_values` of the code, and neither of these stands on the other. This
+-- project's own.
 use Rattle.std.specs.Prelude.{◌≡◌, ◌≤◌, Bool, true, ◌&&◌, nat_le, List, [], Option, Some, None, length, unwrap_or}
 use Rattle.std.specs.List.{list_all}
 use Rattle.scenario_tree.specs.declared.tree.Action.TheBlock.{laid-Action, laid-Except, laid-Statement}

@@ -218,6 +218,7 @@ pub fn listed(alloc: Global, values: &[Value]) -> Result<Outcome, AllocError>
         match list.push(scalar) {
             Ok(()) => {}
             Err(PushRefusal::Memory) => return Err(AllocError),
+            // There are at most `MOST_ELEMENTS` values.
             Err(PushRefusal::Full) => unreachable!(),
         }
     }

@@ -42,6 +42,7 @@ fn name_of(alloc: Global, name: &[u8]) -> Result<HeaderName, AllocError>
     match HeaderName::from_bytes(alloc, name) {
         Ok(found) => Ok(found),
         Err(HeaderNameError::OutOfMemory) => Err(AllocError),
+        // The requires says that it is a name.
         Err(HeaderNameError::Invalid) => unreachable!(),
     }
 }
@@ -65,6 +66,7 @@ fn add_field<'a>(
     match fields.append(name, header.value.of(head)) {
         Ok(_) => Ok(()),
         Err(HeaderMapError::OutOfMemory) => Err(AllocError),
+        // The requires says that there are fewer than `MOST_FIELDS` values.
         Err(HeaderMapError::MaxSizeReached) => unreachable!(),
     }
 }

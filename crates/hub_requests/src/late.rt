@@ -40,6 +40,7 @@ pub fn push_scalar(list: &mut List, scalar: Scalar) -> Result<(), AllocError>
 {
     match list.push(scalar) {
         Ok(()) => Ok(()),
+        // The requires says that there is room.
         Err(PushRefusal::Full) => unreachable!(),
         Err(PushRefusal::Memory) => Err(AllocError),
     }

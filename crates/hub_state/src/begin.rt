@@ -23,6 +23,7 @@ fn number_of_main(code: &Code) -> u32
 {
     match Name::new(b"main") {
         Some(main) => code.function(&main),
+        // `main` has the form of a name.
         None => unreachable!(),
     }
 }

@@ -31,6 +31,7 @@ impl Hub {
                 self.touched.touch(object_of(&item.delivery));
                 item
             }
+            // The requires says that there is an item below the mark.
             None => unreachable!(),
         }
     }

@@ -57,6 +57,7 @@ fn free_slot(slots: &[Slot], from: usize) -> usize
             return at;
         }
     }
+    // The requires says that a slot from here on is empty.
     unreachable!()
 }
 
@@ -214,6 +215,7 @@ impl Places {
         ensures spare { self.new.spare ≡ self.old.spare + 1 }
     {
         match find_slot(&self.slots, home(item, self.homes), item) {
+            // The requires says that the item is there.
             None => unreachable!(),
             Some(at) => match self.slots[at] {
                 Slot::Held { place, .. } => {
@@ -221,6 +223,7 @@ impl Places {
                     self.len -= 1;
                     place
                 }
+                // The slot that was found holds the item.
                 _ => unreachable!(),
             },
         }
@@ -233,6 +236,7 @@ impl Places {
         ensures spare { self.new.spare ≡ self.old.spare }
     {
         match find_slot(&self.slots, home(item, self.homes), item) {
+            // The requires says that the item is there.
             None => unreachable!(),
             Some(at) => self.slots[at] = Slot::Held { item, place },
         }

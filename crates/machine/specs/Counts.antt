@@ -1,4 +1,5 @@
--- What an object counts. This project's own.
+-- What an object counts. It stands here since `machine_rooms` says by it how far a run counts, and `hub_objects` what
+-- its numbers have room for, and neither of these stands on the other. This project's own.
 use Rattle.std.specs.Prelude.{ℕ, ◌+◌, Option, Some, length}
 use Rattle.machine.specs.declared.state.Object.{Object}
 

@@ -131,6 +131,7 @@ impl Board {
             return None;
         };
         let HubCell::Sent(number, job) = hub.cells[at] else {
+            // A cell that is done has a job that the hub sent.
             unreachable!()
         };
         let value = load_value(top, &mut hub.seat, at, number, job);

@@ -340,6 +340,7 @@ fn await_answer<H: Wait, R: Ear, C: Clock>(
         }
         ear.rest(rest_of(question, history.moment));
     }
+    // `forever` has no end: the loop is left by a return alone.
     unreachable!()
 }
 
@@ -356,6 +357,7 @@ fn wind_down<H: Wait, R: Ear>(rt: &H, ear: &mut R, mut desk: Desk) -> HubPass
         }
         ear.rest(Some(REST));
     }
+    // `forever` has no end: the loop is left by a return alone.
     unreachable!()
 }
 
@@ -424,6 +426,7 @@ impl<
         ensures same_began { self.new.began ≡ self.old.began }
     {
         let Some(desk) = &mut self.desk else {
+            // The requires says that it runs, and then it has a desk.
             unreachable!()
         };
         self.history.reserve_post()?;
@@ -451,6 +454,7 @@ impl<
         ensures same_began { self.new.began ≡ self.old.began }
     {
         let Some(desk) = &mut self.desk else {
+            // The requires says that it runs, and then it has a desk.
             unreachable!()
         };
         self.history.reserve()?;
@@ -477,6 +481,7 @@ impl<
         ensures joined { self.new.joins ≡ joined_each self.old.starts self.old.joins }
     {
         let Some(desk) = self.desk.take() else {
+            // The requires says that it runs, and then it has a desk.
             unreachable!()
         };
         self.ended = Some(wind_down(&self.rt, &mut self.ear, desk));

@@ -46,6 +46,7 @@ pub fn worker<R: Wait, B: Bell, G: Gate>(
             Looked::Stop => return pass,
         }
     }
+    // `forever` has no end: the loop is left by a return alone.
     unreachable!()
 }
 

@@ -53,6 +53,8 @@ fn start_call(
     push_expressions(arguments, out)
 }
 
+/// The words of a statement that gives a value. It has one arm a form, as the grammar has one row, and so is longer than
+/// a screen: forms in groups would be a second table, of which is in which.
 pub(crate) fn push_giving(giving: &Giving, out: &mut Vec<u8>) -> Result<(), AllocError>
     ensures { WroteLine out.old.items out.new.items result (giving_tokens giving.now) }
 {

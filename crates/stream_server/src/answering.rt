@@ -117,6 +117,7 @@ fn end_of(end: ServiceEnd) -> ServeEnd
     match end {
         ServiceEnd::Finished => ServeEnd::Finished,
         ServiceEnd::Listener => ServeEnd::Listener,
+        // The requires says that it did not end so.
         ServiceEnd::Spent => unreachable!(),
         ServiceEnd::Memory => ServeEnd::Memory,
     }

@@ -162,5 +162,6 @@ pub fn proceed<T: Drop, W, V: Service<T, W>, N: Net, H: Wait>(
             end => return end,
         }
     }
+    // `forever` has no end: the loop is left by a return alone.
     unreachable!()
 }

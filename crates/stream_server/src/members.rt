@@ -35,6 +35,7 @@ fn place_of(numbers: &[u32], conn: u32) -> usize
 {
     match numbers.binary_search(&conn) {
         Ok(at) => at,
+        // The requires say that the number is there, and the list in order.
         Err(_) => unreachable!(),
     }
 }

@@ -53,6 +53,7 @@ fn take_result<W: World>(
             };
             Ok(())
         }
+        // A wait with no limit, while a job is owed, is answered with a result.
         Answer::Elapsed { .. } => unreachable!(),
         Answer::Nothing { .. } => unreachable!(),
     }
@@ -121,6 +122,7 @@ impl<'a, W: World> Held<'a, W> {
     {
         loop {
             match self.places.get(&number) {
+                // The requires say that the job waits for an answer, and such a job has a place.
                 None => unreachable!(),
                 Some(Some(outcome)) => return Ok(*outcome),
                 Some(None) => take_result(self.inner, &mut self.places)?,

@@ -1,7 +1,7 @@
 //! What is asked of a world and what it may answer: the jobs of native threads, the questions at the end of a turn,
 //! the legal answers to them, and the rule of a script.
 //!
-//! The definitions stand in `specs/`: `Jobs` says what a job comes to, `Legal` which answers are legal, and `Script`
+//! The definitions stand in `specs/`: `Evaluate` says what a job comes to, `Legal` which answers are legal, and `Script`
 //! what a script answers.
 #![tactic(auto)]
 

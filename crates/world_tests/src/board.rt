@@ -70,9 +70,11 @@ fn rings_once_for_each_report_that_found_the_signal_low(rt: HostRuntime) -> Resu
     } = Board::new(rt.alloc(), 2)?;
     let hub = &mut hub;
     let Some(mut first) = workers.next() else {
+        // A board for two workers has two passes.
         unreachable!()
     };
     let Some(mut second) = workers.next() else {
+        // This is the second of its two passes.
         unreachable!()
     };
     let bell = Rings::new();
@@ -124,6 +126,7 @@ fn work<R: Wait>(rt: &R, board: &Board, mut pass: WorkerPass, bell: &Rings)
             Looked::Stop => return,
         }
     }
+    // `forever` has no end: the loop is left by a return alone.
     unreachable!()
 }
 
@@ -225,9 +228,11 @@ fn both<R: Threads + Wait + Sync>(rt: &R, alloc: Global) -> Result<Vec<Finished>
     } = Board::new(alloc, 2)?;
     let bell = Rings::new();
     let Some(first) = workers.next() else {
+        // A board for two workers has two passes.
         unreachable!()
     };
     let Some(second) = workers.next() else {
+        // This is the second of its two passes.
         unreachable!()
     };
     let workers = TwoPasses { first, second };

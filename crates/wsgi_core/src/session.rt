@@ -267,6 +267,7 @@ impl Session {
         ensures err { OnErr result (self.new.pending ≡ self.old.pending) }
     {
         match mem::replace(&mut self.stage, SessionStage::AtHead) {
+            // The requires says that a request waits, so that the stage is `Asked`.
             SessionStage::AtHead => unreachable!(),
             SessionStage::InBody(..) => unreachable!(),
             SessionStage::Asked(request, _) => {
