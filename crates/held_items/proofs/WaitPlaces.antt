@@ -10,6 +10,7 @@ use Rattle.hub_items.specs.Lines.{is_line, waiting_line, line_of_delivery}
 use Rattle.hub_items.specs.WaitKinds.{same_kind}
 use Rattle.hub_items.proofs.WaitKinds.{wakes_line}
 use Rattle.held_items.specs.declared.waits.Target.{Target}
+use Rattle.held_items.specs.declared.waits.TheConstants.{COLUMNS}
 use Rattle.held_items.specs.Indexed.{has_key, is_key}
 use Rattle.held_items.specs.Waits.{ends_key, is_for, line_column, object_place, same_target, target_of, target_of_class, target_place, wait_place, waits_for, waits_in_line, waits_in_none, waits_key}
 use Rattle.held_items.proofs.EntryLemmas.{is_other}
@@ -34,7 +35,7 @@ same_column WaitKind.Slot WaitKind.Slot = refl
 same_column WaitKind.TakeOffer WaitKind.TakeOffer = refl
 same_column a b = refl
 
-one_place : (o p a b : ℕ) → a < 8 → b < 8 → (object_place o a == object_place p b) ≡ ((a == b) && (o == p))
+one_place : (o p a b : ℕ) → a < COLUMNS → b < COLUMNS → (object_place o a == object_place p b) ≡ ((a == b) && (o == p))
 one_place o p a b s t = grid o p a b s t
 
 line_place : (kind other : WaitKind) (o p : ℕ) → (object_place o (line_column kind) == object_place p (line_column other)) ≡ (same_kind kind other && o == p)

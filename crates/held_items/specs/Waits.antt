@@ -8,6 +8,7 @@ use Rattle.hub_items.specs.declared.waits.WaitKind.{WaitKind}
 use Rattle.hub_items.specs.Lines.{line_of_delivery}
 use Rattle.hub_items.specs.WaitKinds.{test_of}
 use Rattle.held_items.specs.declared.waits.Target.{Target}
+use Rattle.held_items.specs.declared.waits.TheConstants.{COLUMNS}
 
 -- the item waits for the object of this number
 abbrev pub waits_at : ℕ → Delivery → Bool
@@ -86,7 +87,7 @@ wait_column (Some line) = line_column line.0
 
 -- the place of this object and column
 abbrev pub object_place : ℕ → ℕ → ℕ
-object_place o column = o * 8 + column
+object_place o column = o * COLUMNS + column
 
 -- where those of this class and line stand
 abbrev pub wait_place : Option (WaitKind × ℕ) → Class → Option ℕ

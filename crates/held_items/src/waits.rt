@@ -8,6 +8,7 @@ ghost use Rattle.hub_items.specs.declared.waits.WaitKind.{WaitKind};
 ghost use Rattle.hub_items.specs.Lines.{waiting_line};
 ghost use Rattle.held_items.specs.Entries.{index};
 ghost use Rattle.held_items.specs.declared.waits.Target.{Target as AnyTarget};
+ghost use Rattle.held_items.specs.declared.waits.TheConstants.{COLUMNS};
 ghost use Rattle.held_items.specs.Waits.{ends_key, line_column, number_of, object_place, target_of, target_of_class, target_place, wait_place, waits_for, waits_in_line, waits_in_none, waits_key};
 
 use crate::held::HeldItems;
@@ -29,7 +30,7 @@ const COLUMNS: usize = 8;
 
 fn line_column(kind: WaitKind) -> usize
     ensures value { result ≡ line_column kind }
-    ensures within { result < 8 }
+    ensures within { result < COLUMNS }
 {
     match kind {
         WaitKind::Acquire => 0,

@@ -4,7 +4,7 @@ use Rattle.std.specs.List.{list_all, take_while, prefix_len}
 use Rattle.std.specs.Str.{bytes_eq}
 use Rattle.std.specs.Char.{is_ascii_hexdigit}
 use Rattle.httparse.specs.Grammar.{is_ows, is_extension_byte, ChunkLine, print_chunk_line, chunk_size}
-use Rattle.http_messages.specs.declared.limits.TheConstants.{MOST_BODY, MOST_CHUNK_LINE, MOST_TRAILERS}
+use Rattle.http_messages.specs.declared.limits.TheConstants.{MOST_BODY, MOST_CHUNK_LINE, MOST_SIZE_DIGITS, MOST_TRAILERS}
 use Rattle.http_messages.specs.declared.refusal.Refusal.TheVariants.{BadRequest, TooLarge}
 use Rattle.http_messages.specs.Cuts.{Cut, waits, refused, whole, and_then, within, line_end, empty_line_end}
 use Rattle.http_messages.specs.declared.request.Framing.{Framing}
@@ -38,7 +38,7 @@ is_extension (Some text) = list_all is_extension_byte text
 
 abbrev pub is_chunk_line : ChunkLine → Bool
 is_chunk_line l =
-    (nat_lt 0 (length l.digits) && nat_le (length l.digits) 16 && list_all is_ascii_hexdigit l.digits)
+    (nat_lt 0 (length l.digits) && nat_le (length l.digits) MOST_SIZE_DIGITS && list_all is_ascii_hexdigit l.digits)
     && list_all is_ows l.pad
     && is_extension l.extension
 

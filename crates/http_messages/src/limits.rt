@@ -15,6 +15,9 @@ pub const MOST_LENGTH_DIGITS: usize = 19;
 /// The most bytes of a body.
 pub const MOST_BODY: usize = 1048576;
 
+/// The most hexadecimal digits of a chunk's size.
+pub const MOST_SIZE_DIGITS: usize = 16;
+
 /// The most bytes of a chunk line, with its end.
 pub const MOST_CHUNK_LINE: usize = 1024;
 

@@ -24,8 +24,8 @@ use stream_net::{Accepted, Account, Net, Ports, ReadEnd, Ready, WriteEnd};
 /// How many events one poll takes.
 const EVENTS: usize = 256;
 
-/// The most connections, so that each has a number.
-const MOST_CONNECTIONS: usize = 4294967295;
+/// The most connections that are accepted, so that each has a number.
+const MOST_NUMBERED: usize = 4294967295;
 
 /// How often the last closed connections are waited for.
 const LAST_WAITS: usize = 65536;
@@ -250,7 +250,7 @@ impl<R: std::net::Net + Clock + Drop> Net for MioNet<R> {
 
     fn accept(&mut self) -> Accepted {
         self.blocked = false;
-        if self.endpoints.len() >= MOST_CONNECTIONS {
+        if self.endpoints.len() >= MOST_NUMBERED {
             return Accepted::Memory;
         }
         if !self.arrived {

@@ -37,7 +37,7 @@ signal_in (suc n) = High
 
 -- the number of the job in an order
 abbrev pub number_in : ℕ → ℕ
-number_in w = w / 4 % 4294967296
+number_in w = w / 4 % 2 ^ 32
 
 -- the kind of the job in an order
 abbrev pub kind_in : ℕ → JobKind

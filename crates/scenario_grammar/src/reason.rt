@@ -1,6 +1,7 @@
 //! Why a text or a scenario is refused, by names; the numbers are those that a refusal shows.
 ghost use Rattle.std.specs.Prelude.{◌≡◌, ◌≤◌};
 ghost use Rattle.scenario_grammar.specs.Reason.{reason_text, rule_number, text_number};
+ghost use Rattle.scenario_grammar.specs.ReasonNumbers.{last_reason};
 
 /// Why bytes are no text of a scenario.
 #[derive(Clone, Copy, PartialEq, Eq)]
@@ -103,7 +104,7 @@ impl RuleReason {
 /// The text that a refusal shows for the reason of this number, of which there are 22.
 pub fn reason_text(reason: u8) -> &'static str
     requires from_one { 1 ≤ reason }
-    requires to_22 { reason ≤ 22 }
+    requires to_last { reason ≤ last_reason }
     ensures { result.now ≡ reason_text reason }
 {
     match reason {
@@ -129,6 +130,7 @@ pub fn reason_text(reason: u8) -> &'static str
         20 => "timeout blocks nested past 8",
         21 => "nesting past 32",
         22 => "too many declarations",
+        // The requires say that it is one of these.
         _ => unreachable!(),
     }
 }

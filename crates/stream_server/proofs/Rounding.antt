@@ -10,6 +10,7 @@ use Rattle.stream_net.specs.Waits.{MayWait, TimePasses, woken}
 use Rattle.stream_net.specs.declared.net.Ready.{Ready}
 use Rattle.stream_net.proofs.Lists.{all_from, at_all}
 use Rattle.stream_server.specs.declared.client.Client.{Client}
+use Rattle.stream_server.specs.declared.client.TheConstants.{NEVER}
 use Rattle.stream_server.specs.declared.limits.Terms.{Terms}
 use Rattle.stream_server.specs.declared.rounds.RoundFault.{RoundFault}
 use Rattle.stream_server.specs.Protocols.{Apps, IsLawful, Protocol, side_of}
@@ -160,7 +161,7 @@ module _ {T : Type 0} (P : Protocol T) (law : (app : App) (port : ℕ) → IsLaw
 
   -- it goes on from the start of its talk
   pub begun_going : (F : Apps → Type 0) (v w : NetMeaning) (k : ℕ) (talk : T) (moment deadline : ℕ) → Gains v w k → ((app : App) → P.at app terms.port [] false [] talk) → P.holds talk ≡ false → moment ≡ w.moment
-      → deadline ≡ min (moment + terms.limits.idle) 18446744073709551615 → IsUnderWay P F terms w record { conn = k; talk = talk; ended = false; deadline = deadline }
+      → deadline ≡ min (moment + terms.limits.idle) NEVER → IsUnderWay P F terms w record { conn = k; talk = talk; ended = false; deadline = deadline }
   begun_going F v w k talk moment deadline x begins free now last apps fits =
       turns.new_going (side_of P (apps k) terms.port) terms.limits (law (apps k) terms.port) v w k talk moment deadline x (begins (apps k)) free now last
 
@@ -293,11 +294,11 @@ module _ {T : Type 0} (P : Protocol T) (law : (app : App) (port : ℕ) → IsLaw
   -- ---- idle connections
 
   -- one whose deadline has come isn't held
-  pub idle_free : (c : Connection) (g : Client T) (moment : ℕ) (app : App) → IsOpen (side_of P app terms.port) terms.limits.idle c g → IsCalm (side_of P app terms.port) terms.limits.idle c g → g.deadline ≤ moment → moment < 18446744073709551615 → c.held ≡ false
+  pub idle_free : (c : Connection) (g : Client T) (moment : ℕ) (app : App) → IsOpen (side_of P app terms.port) terms.limits.idle c g → IsCalm (side_of P app terms.port) terms.limits.idle c g → g.deadline ≤ moment → moment < NEVER → c.held ≡ false
   idle_free c g moment app o calm due short = o.held ∙ (turns.due_rests (side_of P app terms.port) terms.limits (law app terms.port) c g moment calm due short).0
 
   pub running_idle : (F : Apps → Type 0) (A : SeenTable T → ℕ → Type 0) (B : SeenTable T → ℕ → ℕ → Type 0) (v w : NetMeaning) (table less now : SeenTable T) (moment : ℕ) (g : Client T) (one : Apps) → F one → IsRunning P F A terms v table
-      → IsListed table g.conn (Some g) → Relists table less g.conn None → client_count less + 1 ≡ client_count table → Changes v w g.conn (closed_at w.moment) → g.deadline ≤ moment → moment < 18446744073709551615 → moment ≤ v.moment
+      → IsListed table g.conn (Some g) → Relists table less g.conn None → client_count less + 1 ≡ client_count table → Changes v w g.conn (closed_at w.moment) → g.deadline ≤ moment → moment < NEVER → moment ≤ v.moment
       → ((n : ℕ) → A table n → IsListed table g.conn (Some g) → P.holds g.talk ≡ false → AreBeside table less g.conn → B less n g.conn) → ((n : ℕ) → B less n g.conn → AreBeside less now g.conn → A now n)
       → now ≡ with_members (without_number g.conn less.members) less → length now.members + 1 ≡ length less.members → IsRunning P F A terms w now
   running_idle F A B v w table less now moment g one fits_one h row relists count closes due short past out again is fewer =

@@ -12,6 +12,7 @@ use Rattle.stream_net.specs.Writes.{after_write, Writes}
 use Rattle.stream_server.specs.Protocols.{IsLawful, Side}
 use Rattle.stream_server.specs.Steps.{Closes, HasEnded, IsCut, IsGoing, IsOpen, IsOver, OnlyAt}
 use Rattle.stream_server.specs.declared.client.Client.{Client}
+use Rattle.stream_server.specs.declared.client.TheConstants.{NEVER}
 
 -- what stands at a place that was changed
 pub changed_at : (v w : NetMeaning) (k : ℕ) (change : Connection → Connection) → Changes v w k change → k < length v.connections
@@ -29,7 +30,7 @@ unfolding appended
 told_more None all piece h = h
 told_more (Some bytes) all piece h = ap (λ (z : List ℕ). z ++ piece) h
 
-pub timely_after : (moment idle deadline : ℕ) → deadline ≡ min (moment + idle) 18446744073709551615 → deadline < 18446744073709551615 → moment + idle ≤ deadline
+pub timely_after : (moment idle deadline : ℕ) → deadline ≡ min (moment + idle) NEVER → deadline < NEVER → moment + idle ≤ deadline
 timely_after moment idle deadline e h = omega (arith, e, h)
 
 -- ---- one connection alone
@@ -96,7 +97,7 @@ module _ {T : Type 0} (S : Side T) (idle k : ℕ) where
   -- a piece was read
   pub was_read : (v w : NetMeaning) (g : Client T) (t : T) (n moment deadline : ℕ) (bytes piece : List ℕ) → Reads v w k (Got n) bytes
       → k < length v.connections → IsOpen S idle (connection_at v.connections k) g → g.ended ≡ false
-      → moment ≡ w.moment → deadline ≡ min (moment + idle) 18446744073709551615 → piece ≡ take n bytes → S.holds t ≡ S.holds g.talk
+      → moment ≡ w.moment → deadline ≡ min (moment + idle) NEVER → piece ≡ take n bytes → S.holds t ≡ S.holds g.talk
       → ((fed taken : List ℕ) → S.at fed false taken g.talk → S.at (fed ++ piece) false taken t)
       → IsGoing S idle (connection_at w.connections k) record { conn = g.conn; talk = t; ended = g.ended; deadline = deadline }
   was_read v w g t n moment deadline bytes piece r within h goes now at_last is held feeds =
@@ -106,7 +107,7 @@ module _ {T : Type 0} (S : Side T) (idle k : ℕ) where
       let still : c.ended ≡ false = sym h.same_end ∙ goes in
       let before : S.at h.fed false h.taken g.talk = subst (λ (b : Bool). S.at h.fed b h.taken g.talk) still h.is_at in
       let after : S.at (h.fed ++ take n bytes) false h.taken t = subst (λ (z : List ℕ). S.at (h.fed ++ z) false h.taken t) is (feeds h.fed h.taken before) in
-      let last : deadline ≡ min (w.moment + idle) 18446744073709551615 = at_last ∙ ap (λ (m : ℕ). min (m + idle) 18446744073709551615) now in
+      let last : deadline ≡ min (w.moment + idle) NEVER = at_last ∙ ap (λ (m : ℕ). min (m + idle) NEVER) now in
       subst P (sym (changed_at v w k (after_read (Got n) bytes w.moment r.faults) r.changes within)) record {
         is_open = record {
           fed = h.fed ++ take n bytes;
@@ -242,14 +243,14 @@ module _ {T : Type 0} (S : Side T) (idle k : ℕ) where
   -- some of what was pending was written
   pub was_written : (v w : NetMeaning) (g : Client T) (t : T) (n moment deadline : ℕ) (bytes pending : List ℕ) → Writes v w k (Took n) bytes
       → k < length v.connections → IsOpen S idle (connection_at v.connections k) g
-      → moment ≡ w.moment → deadline ≡ min (moment + idle) 18446744073709551615 → bytes ≡ pending → S.holds t ≡ S.holds g.talk
+      → moment ≡ w.moment → deadline ≡ min (moment + idle) NEVER → bytes ≡ pending → S.holds t ≡ S.holds g.talk
       → ((fed : List ℕ) (ended : Bool) (taken : List ℕ) → S.at fed ended taken g.talk → S.at fed ended (taken ++ take n pending) t)
       → IsGoing S idle (connection_at w.connections k) record { conn = g.conn; talk = t; ended = g.ended; deadline = deadline }
   was_written v w g t n moment deadline bytes pending r within h now at_last is held takes =
       let c = connection_at v.connections k in
       let client : Client T = record { conn = g.conn; talk = t; ended = g.ended; deadline = deadline } in
       let P : Connection → Type 0 = λ d. IsGoing S idle d client in
-      let last : deadline ≡ min (w.moment + idle) 18446744073709551615 = at_last ∙ ap (λ (m : ℕ). min (m + idle) 18446744073709551615) now in
+      let last : deadline ≡ min (w.moment + idle) NEVER = at_last ∙ ap (λ (m : ℕ). min (m + idle) NEVER) now in
       let after : S.at h.fed c.ended (h.taken ++ take n bytes) t = subst (λ (z : List ℕ). S.at h.fed c.ended (h.taken ++ take n z) t) (sym is) (takes h.fed c.ended h.taken h.is_at) in
       subst P (sym (changed_at v w k (after_write (Took n) bytes w.moment r.faults) r.changes within)) record {
         is_open = record {

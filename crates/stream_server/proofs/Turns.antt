@@ -13,6 +13,7 @@ use Rattle.stream_net.specs.Waits.{TimePasses, named, woken, woken_if}
 use Rattle.stream_net.specs.declared.net.Ready.{Ready}
 use Rattle.stream_net.specs.declared.net.Ready.TheVariants.{Incoming, Readable, Writable, Elapsed}
 use Rattle.stream_server.specs.declared.client.Client.{Client}
+use Rattle.stream_server.specs.declared.client.TheConstants.{NEVER}
 use Rattle.stream_server.specs.declared.limits.Limits.{Limits}
 use Rattle.stream_server.specs.Speeches.{BeginsSaid, IsServed, IsTimely}
 use Rattle.stream_server.specs.Serving.{Cause, Closing, Ended, Failing, Idle, Rests, RestsBy}
@@ -175,15 +176,15 @@ module _ {T : Type 0} (S : Side T) (limits : Limits) (law : IsLawful S) where
   }
 
   -- one whose deadline has come isn't held
-  pub due_rests : (c : Connection) (g : Client T) (moment : ℕ) → IsCalm S limits.idle c g → g.deadline ≤ moment → moment < 18446744073709551615 → (S.holds g.talk ≡ false) × IsResting S c g
+  pub due_rests : (c : Connection) (g : Client T) (moment : ℕ) → IsCalm S limits.idle c g → g.deadline ≤ moment → moment < NEVER → (S.holds g.talk ≡ false) × IsResting S c g
   due_rests c g moment (Free free rests) has_come short = (free, rests)
   due_rests c g moment (Held held e never_ timely) has_come short = absurd (omega (arith, never_, has_come, short))
 
-  pub new_going : (v w : NetMeaning) (k : ℕ) (talk : T) (moment deadline : ℕ) → (x : Gains v w k) → S.at [] false [] talk → S.holds talk ≡ false → moment ≡ w.moment → deadline ≡ min (moment + limits.idle) 18446744073709551615
+  pub new_going : (v w : NetMeaning) (k : ℕ) (talk : T) (moment deadline : ℕ) → (x : Gains v w k) → S.at [] false [] talk → S.holds talk ≡ false → moment ≡ w.moment → deadline ≡ min (moment + limits.idle) NEVER
       → IsGoing S limits.idle (connection_at w.connections k) record { conn = k; talk = talk; ended = false; deadline = deadline }
   new_going v w k talk moment deadline x begins free now last =
       let client : Client T = record { conn = k; talk = talk; ended = false; deadline = deadline } in
-      let e : deadline ≡ min (x.connection.last + limits.idle) 18446744073709551615 = last ∙ ap (λ (m : ℕ). min (m + limits.idle) 18446744073709551615) (now ∙ sym x.is_new.last_is) in
+      let e : deadline ≡ min (x.connection.last + limits.idle) NEVER = last ∙ ap (λ (m : ℕ). min (m + limits.idle) NEVER) (now ∙ sym x.is_new.last_is) in
       subst (λ (d : Connection). IsGoing S limits.idle d client) (sym (new_here v w k x)) record {
         is_open = record {
           fed = [];
@@ -356,7 +357,7 @@ module _ {T : Type 0} (P : Protocol T) (law : (app : App) (port : ℕ) → IsLaw
 
   -- its connection is held for a job
   pub client_held : (u v w : NetMeaning) (listed now : Listing T) (count total room room' k : ℕ) (g h : Client T) → IsServingBut P apps port limits u listed count room k → IsLive u k → OnlyAt u v k
-      → IsGoing (S k) limits.idle (connection_at v.connections k) g → Changes v w k (held_as true) → h.ended ≡ g.ended → h.deadline ≡ 18446744073709551615 → P.holds h.talk ≡ true → P.kept h.talk ≡ g.deadline
+      → IsGoing (S k) limits.idle (connection_at v.connections k) g → Changes v w k (held_as true) → h.ended ≡ g.ended → h.deadline ≡ NEVER → P.holds h.talk ≡ true → P.kept h.talk ≡ g.deadline
       → ((fed : List ℕ) (ended : Bool) (taken : List ℕ) → (S k).at fed ended taken g.talk → (S k).at fed ended taken h.talk) → total ≡ count + 1 → room' ≡ room
       → ((s : Option (Client T)) → now k s → s ≡ Some h) → ((i : ℕ) (s : Option (Client T)) → i ≢ k → now i s → listed i s)
       → IsServing P apps port limits w now total room'
@@ -574,7 +575,7 @@ module _ {T : Type 0} (P : Protocol T) (law : (app : App) (port : ℕ) → IsLaw
 
   pub idle_closed : (v w : NetMeaning) (listed now : Listing T) (count left room room' k moment : ℕ) (g : Client T) → IsServing P apps port limits v listed count room → listed k (Some g)
       → left + 1 ≡ count → room' ≡ room → ((s : Option (Client T)) → now k s → s ≡ None) → ((j : ℕ) (s : Option (Client T)) → j ≢ k → now j s → listed j s)
-      → Changes v w k (closed_at w.moment) → g.deadline ≤ moment → moment < 18446744073709551615 → moment ≤ v.moment
+      → Changes v w k (closed_at w.moment) → g.deadline ≤ moment → moment < NEVER → moment ≤ v.moment
       → IsServing P apps port limits w now left room'
   idle_closed v w listed now count left room room' k moment g h row counts limit only others closes has_come short past =
       let was = h.kept k (Some g) row in

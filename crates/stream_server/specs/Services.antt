@@ -2,6 +2,7 @@
 use Rattle.std.specs.Prelude.{◌≡◌, ◌≢◌, ℕ, ◌+◌, ◌≤◌, Bool, true, false, List, ◌++◌, Option, Some, None}
 use Rattle.wsgi_core.specs.Applications.{App}
 use Rattle.stream_server.specs.declared.client.Client.{Client}
+use Rattle.stream_server.specs.declared.client.TheConstants.{NEVER}
 use Rattle.stream_server.specs.declared.service.Polled.{Polled}
 use Rattle.stream_server.specs.declared.service.Polled.TheVariants.{Nobody, Released, Memory}
 use Rattle.stream_server.specs.Protocols.{Apps, IsFront, Protocol}
@@ -29,7 +30,7 @@ Closes P talk = (app : App) (port : ℕ) (fed : List ℕ) (ended : Bool) (taken 
 pub record IsHeldFrom {T : Type 0} (P : Protocol T) (old new : Client T) : Type 0 where
   pub conn : new.conn ≡ old.conn
   pub ended : new.ended ≡ old.ended
-  pub never : new.deadline ≡ 18446744073709551615
+  pub never : new.deadline ≡ NEVER
   pub held : P.holds new.talk ≡ true
   pub kept : P.kept new.talk ≡ old.deadline
   pub stands : (app : App) → IsGiven P app old.talk new.talk

@@ -1,8 +1,9 @@
 -- What a talk says, and what of it a connection was sent.
-use Rattle.std.specs.Prelude.{◌≡◌, ℕ, ◌+◌, ◌-◌, ◌^◌, ◌<◌, ◌≤◌, Bool, true, false, List, ◌++◌, IfSome}
+use Rattle.std.specs.Prelude.{◌≡◌, ℕ, ◌+◌, ◌<◌, ◌≤◌, Bool, true, false, List, ◌++◌, IfSome}
 use Rattle.wsgi_core.specs.Answer.{Sent}
 use Rattle.stream_net.specs.Net.{Connection}
 use Rattle.stream_net.specs.declared.net.Quiet.TheVariants.{ByRead}
+use Rattle.stream_server.specs.declared.client.TheConstants.{NEVER}
 use Rattle.stream_server.specs.Serving.{Cause}
 
 -- what a talk says: the bytes due for all that was read, whose end has come or not, and whether it closes
@@ -26,4 +27,4 @@ pub record IsServed (said : Speech) (idle : ℕ) (c : Connection) : Type 0 where
 
 -- a deadline that can come is at least so long after the last byte
 abbrev pub IsTimely : ℕ → Connection → ℕ → Type 0
-IsTimely idle c deadline = deadline < 2 ^ 64 - 1 → c.last + idle ≤ deadline
+IsTimely idle c deadline = deadline < NEVER → c.last + idle ≤ deadline

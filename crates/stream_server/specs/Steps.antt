@@ -5,6 +5,7 @@ use Rattle.stream_net.specs.declared.net.Quiet.TheVariants.{Awake, ByRead, ByWri
 use Rattle.stream_server.specs.Speeches.{BeginsSaid, IsTimely, Speech}
 use Rattle.stream_server.specs.Protocols.{Apps, Protocol, Side, side_of}
 use Rattle.stream_server.specs.declared.client.Client.{Client}
+use Rattle.stream_server.specs.declared.client.TheConstants.{NEVER}
 use Rattle.stream_server.specs.declared.exchange.Step.{Step}
 use Rattle.stream_server.specs.declared.exchange.Step.TheVariants.{Goes, Waits, Asks, Over, Memory}
 
@@ -34,7 +35,7 @@ pub data IsResting {T : Type 0} (S : Side T) (c : Connection) (g : Client T) : T
 -- it rests and isn't held; or it is held, its deadline never comes, and the one that it had before is timely
 pub data IsCalm {T : Type 0} (S : Side T) (idle : ℕ) (c : Connection) (g : Client T) : Type 0 where
   Free : S.holds g.talk ≡ false → IsResting S c g → IsCalm S idle c g
-  Held : S.holds g.talk ≡ true → c.quiet ≡ Awake → g.deadline ≡ 18446744073709551615 → IsTimely idle c (S.kept g.talk) → IsCalm S idle c g
+  Held : S.holds g.talk ≡ true → c.quiet ≡ Awake → g.deadline ≡ NEVER → IsTimely idle c (S.kept g.talk) → IsCalm S idle c g
 
 -- why a client's connection is to be closed at once
 pub data IsDone {T : Type 0} (S : Side T) (fed : List ℕ) (c : Connection) (g : Client T) : Type 0 where

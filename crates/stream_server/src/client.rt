@@ -1,5 +1,8 @@
 //! The server's side of a connection.
 
+/// The deadline that never comes: the greatest moment.
+pub const NEVER: u64 = u64::MAX;
+
 /// A connection with the talk that its bytes go through.
 #[derive(Drop)]
 pub struct Client<T> {
@@ -9,6 +12,6 @@ pub struct Client<T> {
     pub talk: T,
     /// Whether its input has ended.
     pub ended: bool,
-    /// The moment, in milliseconds, at which it has been idle for too long. The greatest moment never comes.
+    /// The moment, in milliseconds, at which it has been idle for too long. `NEVER` doesn't come.
     pub deadline: u64,
 }

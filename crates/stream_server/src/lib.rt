@@ -11,7 +11,7 @@ mod service;
 mod table;
 
 pub use answering::{serve, serve_with};
-pub use client::Client;
+pub use client::{Client, NEVER};
 pub use limits::{Limits, ServeEnd, Terms};
 pub use rounds::{ServiceEnd, serve_on};
 pub use service::{HoldRefusal, Polled, Replied, Service};

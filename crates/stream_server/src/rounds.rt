@@ -11,7 +11,7 @@ ghost use Rattle.stream_server.specs.Ranges.{IsInRange};
 ghost use Rattle.stream_server.specs.Tables.{IsListed, SeenTable, client_count};
 ghost use Rattle.stream_server.specs.declared.client.Client.{Client};
 
-use crate::client::Client;
+use crate::client::{Client, NEVER};
 use crate::exchange::{Step, proceed};
 use crate::limits::Terms;
 use crate::service::{HoldRefusal, Polled, Service};
@@ -137,6 +137,7 @@ fn serve_client<T: Drop, W, V: Service<T, W>, N: Net, H: Wait>(
             Ok(())
         }
         Step::Memory => Err(RoundFault::Memory),
+        // `proceed` ensures that it never ends so.
         Step::Goes => unreachable!(),
     }
 }
@@ -350,8 +351,8 @@ fn close_idle<T: Drop, W, V: Service<T, W>, N: Net, H>(
     ensures running { IsRunning V.protocol (V.fits service.now world.now) (V.tied service.now world.now) serving.now.terms (N.meaning net.new) table.new }
     ensures keeps { Keeps (N.meaning net.old) (N.meaning net.new) }
 {
-    // The greatest deadline stands for those that never come.
-    let now = net.now().min(u64::MAX - 1);
+    // Whose deadline is `NEVER` is not due even at the greatest moment.
+    let now = net.now().min(NEVER - 1);
     while let Some(client) = table.remove_due(now) {
         net.close(client.conn);
         table.release(client.conn);
@@ -447,5 +448,6 @@ pub fn serve_on<T: Drop, W, V: Service<T, W>, N: Net, H: Wait>(
             Err(RoundFault::Memory) => return ServiceEnd::Memory,
         }
     }
+    // `forever` has no end: the loop is left by a return alone.
     unreachable!()
 }

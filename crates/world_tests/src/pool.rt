@@ -2,6 +2,7 @@ ghost use Rattle.std.specs.Prelude.{◌≡◌, ◌<◌, ◌≤◌, ◌^◌, true
 ghost use Rattle.std.specs.Arc.{arc_value};
 ghost use Rattle.native_board.specs.Boards.{board_id, hub_board, worker_view};
 ghost use Rattle.gv_values.specs.Counts.{HasRisen};
+ghost use Rattle.gv_values.specs.declared.limits.TheConstants.{MOST_WORKERS};
 
 use gv_io::one_more;
 use gv_values::{Answer, Job, JobOutcome};
@@ -44,6 +45,7 @@ fn first_result<R: Wait>(
         }
         ear.rest(Some(1000));
     }
+    // `forever` has no end: the loop is left by a return alone.
     unreachable!()
 }
 
@@ -56,6 +58,7 @@ fn a_thread_takes_a_job_and_its_bell_is_heard(rt: HostRuntime) -> Result<(), Fai
     } = Board::new(rt.alloc(), 1)?;
     let board = Arc::new(rt.alloc(), board)?;
     let Some(pass) = workers.next() else {
+        // A board for one worker has one pass.
         unreachable!()
     };
     let (mut ear, bell) = PollEar::new(&rt, rt.alloc())?;
@@ -98,6 +101,7 @@ fn no_threads_refuses(rt: HostRuntime) -> Result<(), Fail> {
     } = Board::new(rt.alloc(), 1)?;
     let board = Arc::new(rt.alloc(), board)?;
     let Some(pass) = workers.next() else {
+        // A board for one worker has one pass.
         unreachable!()
     };
     let (_, bell) = PollEar::new(&rt, rt.alloc())?;
@@ -160,7 +164,7 @@ fn answers_of<W: World>(
     count: u32,
 ) -> Result<Vec<Answer>, Fail>
     requires stopped { (W.meaning world.old).runs ≡ false }
-    requires workers { (0 < workers) × (workers ≤ 16) }
+    requires workers { (0 < workers) × (workers ≤ MOST_WORKERS) }
     ensures { OnOk result ((W.meaning world.new).runs ≡ false) }
 {
     world.begin(workers)?;
@@ -218,7 +222,7 @@ fn answers_all<W: World>(
     count: u32,
 ) -> Result<bool, Fail>
     requires stopped { (W.meaning world.old).runs ≡ false }
-    requires workers { (0 < workers) × (workers ≤ 16) }
+    requires workers { (0 < workers) × (workers ≤ MOST_WORKERS) }
     ensures { OnOk result ((W.meaning world.new).runs ≡ false) }
 {
     let mut answers = answers_of(world, alloc, workers, count)?;

@@ -18,6 +18,7 @@ use Rattle.stream_server.specs.declared.service.Polled.{Polled}
 use Rattle.stream_server.specs.declared.service.Polled.TheVariants.{Nobody, Released, Memory}
 use Rattle.stream_server.specs.Tables.{IsListed, Relists, SeenTable, client_count}
 use Rattle.stream_server.specs.declared.client.Client.{Client}
+use Rattle.stream_server.specs.declared.client.TheConstants.{NEVER}
 use Rattle.wsgi_core.specs.Steps.{StandsAt, asked_of}
 use Rattle.wsgi_core.specs.declared.session.Session.{Session}
 use Rattle.wsgi_native.specs.Agreeing.{Agrees, Owner}
@@ -58,7 +59,7 @@ wants_asked t job w = by (request_of t) w.asked
     by (Some r) e = refl
 
 -- the client was held
-pub is_held : (g h : Client JobTalk) (number : ℕ) → h.conn ≡ g.conn → h.talk.session ≡ g.talk.session → held_number h.talk ≡ Some number → deadline_in h.talk.held ≡ g.deadline → h.ended ≡ g.ended → h.deadline ≡ 18446744073709551615
+pub is_held : (g h : Client JobTalk) (number : ℕ) → h.conn ≡ g.conn → h.talk.session ≡ g.talk.session → held_number h.talk ≡ Some number → deadline_in h.talk.held ≡ g.deadline → h.ended ≡ g.ended → h.deadline ≡ NEVER
     → IsHeldFrom job_protocol g h
 is_held g h number conn session number_is kept ended never_ = record {
   conn = conn;

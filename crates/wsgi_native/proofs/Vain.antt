@@ -30,6 +30,7 @@ use Rattle.wsgi_native.specs.JobApp.{job_app, job_asked}
 use Rattle.wsgi_native.specs.Laws.{job_agrees}
 use Rattle.wsgi_native.specs.Owning.{AllAgree}
 use Rattle.wsgi_native.specs.Talks.{job_protocol}
+use Rattle.wsgi_native.specs.declared.jobs.TheConstants.{LAST_JOB}
 use Rattle.wsgi_native.specs.declared.serving.JobsEnd.{JobsEnd}
 use Rattle.wsgi_native.specs.declared.serving.JobsEnd.TheVariants.{Finished, Listener, NoJobs, Memory}
 use Rattle.wsgi_native.proofs.Earning.{going_at}
@@ -63,7 +64,7 @@ answer_follows app port bytes out more s request body at opened stage none stand
 
 -- ---- the ends
 
-pub out_of_jobs : (owner : Owner) (terms : Terms) (m : NetMeaning) (w : World) → AsksInVain job_protocol (AllAgree owner w) AsksForJob (is_posted 4294967295 w.posts ≡ true) terms m → IsOutOfJobs terms.port m w
+pub out_of_jobs : (owner : Owner) (terms : Terms) (m : NetMeaning) (w : World) → AsksInVain job_protocol (AllAgree owner w) AsksForJob (is_posted LAST_JOB w.posts ≡ true) terms m → IsOutOfJobs terms.port m w
 out_of_jobs owner terms m w h = record {
   owner = owner;
   spent = h.spent;

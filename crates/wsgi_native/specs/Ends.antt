@@ -8,6 +8,7 @@ use Rattle.world.specs.Outside.{WorldMeaning as World}
 use Rattle.wsgi_core.specs.Answer.{◌⨾◌, answer}
 use Rattle.wsgi_core.specs.Applications.{App, from}
 use Rattle.wsgi_core.specs.Session.{answers}
+use Rattle.wsgi_native.specs.declared.jobs.TheConstants.{LAST_JOB}
 use Rattle.wsgi_native.specs.Agreeing.{Agrees, Owner}
 use Rattle.wsgi_native.specs.JobApp.{job_asked}
 
@@ -26,7 +27,7 @@ pub record IsAtJob (owner : Owner) (port : ℕ) (w : World) (conn : ℕ) (bytes 
 -- the job of the last number was posted, and the next that is due on a connection which isn't at rest is one more
 pub record IsOutOfJobs (port : ℕ) (m : NetMeaning) (w : World) : Type 0 where
   pub owner : Owner
-  pub spent : is_posted 4294967295 w.posts ≡ true
+  pub spent : is_posted LAST_JOB w.posts ≡ true
   pub conn : ℕ
   pub accepted : conn < length m.connections
   pub not_at_rest : IsAtRest (connection_at m.connections conn) → ⊥

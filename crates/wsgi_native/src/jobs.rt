@@ -8,6 +8,7 @@ ghost use Rattle.world_rules.specs.Legal.{is_posted};
 ghost use Rattle.stream_server.specs.Tables.{IsListed, SeenTable};
 ghost use Rattle.stream_server.specs.declared.client.Client.{Client};
 ghost use Rattle.wsgi_native.specs.declared.job_talk.JobTalk.{JobTalk};
+ghost use Rattle.wsgi_native.specs.declared.jobs.TheConstants.{LAST_JOB};
 ghost use Rattle.wsgi_native.specs.Asking.{AsksForJob, HasAsked, WantsJob};
 ghost use Rattle.wsgi_native.specs.Giving.{Gives};
 ghost use Rattle.wsgi_native.specs.JobApp.{job_app};
@@ -21,12 +22,15 @@ use crate::owners::{OwnedJob, Owners};
 use gv_values::{Answer, Job, JobOutcome};
 use std::alloc::{AllocError, Global};
 use std::collections::HashMap;
-use stream_server::{Client, ClientTable, HoldRefusal, Polled, Replied, Service};
+use stream_server::{Client, ClientTable, HoldRefusal, NEVER, Polled, Replied, Service};
 use world::{Question, World};
 use wsgi_core::{Session, SessionPhase};
 
+/// The greatest number of a job.
+pub const LAST_JOB: u32 = u32::MAX;
+
 /// The connections that wait for a job, by the numbers of the jobs. Jobs are numbered from 1 in the order of their
-/// posts, up to 4294967295.
+/// posts, up to `LAST_JOB`.
 #[derive(Drop)]
 pub struct Jobs {
     alloc: Global,
@@ -79,8 +83,10 @@ fn wanted_job(talk: &JobTalk) -> Job
     ensures { WantsJob talk.now result }
 {
     match talk.session.asked() {
+        // The requires says that a request waits.
         None => unreachable!(),
         Some((environ, _)) => match job_asked(environ) {
+            // The requires says that it asks for a job.
             None => unreachable!(),
             Some(job) => job,
         },
@@ -102,7 +108,7 @@ impl<W: World> Service<JobTalk, W> for Jobs {
 
     ghost wants = { AsksForJob };
 
-    ghost spent = { λ jobs world. is_posted 4294967295 (W.meaning world).posts ≡ true };
+    ghost spent = { λ jobs world. is_posted LAST_JOB (W.meaning world).posts ≡ true };
 
     ghost workers = { λ world. (W.meaning world).workers };
 
@@ -152,7 +158,7 @@ impl<W: World> Service<JobTalk, W> for Jobs {
 
     /// Posts the job that the client asks for under the next number.
     fn hold(&mut self, world: &mut W, client: &mut Client<JobTalk>) -> Result<(), HoldRefusal> {
-        if self.posted == u32::MAX {
+        if self.posted == LAST_JOB {
             return Err(HoldRefusal::Spent);
         }
         let job = wanted_job(&client.talk);
@@ -173,7 +179,7 @@ impl<W: World> Service<JobTalk, W> for Jobs {
             job: number,
             deadline: client.deadline,
         });
-        client.deadline = u64::MAX;
+        client.deadline = NEVER;
         Ok(())
     }
 
@@ -193,9 +199,11 @@ impl<W: World> Service<JobTalk, W> for Jobs {
                 ..
             } => {
                 let Some(conn) = self.waiting.remove(&number) else {
+                    // Each posted job that has no answer has its connection here.
                     unreachable!()
                 };
                 let Some(client) = table.remove(conn) else {
+                    // A connection that waits for a job is listed.
                     unreachable!()
                 };
                 give(self.alloc, client, outcome, deadline)

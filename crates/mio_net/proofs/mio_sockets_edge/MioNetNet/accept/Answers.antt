@@ -1,4 +1,4 @@
-use Rattle.std.proofs.Common.{◌≡◌, ◌<◌, ◌+◌, ◌++◌, ◌∷◌, [], ◌∙◌, ap, List, length, map, Some, None, false, arith}
+use Rattle.std.proofs.Common.{◌≡◌, ◌<◌, ◌+◌, ◌^◌, ◌++◌, ◌∷◌, [], ◌∙◌, ap, List, length, map, Some, None, false, arith}
 use Rattle.std.proofs.lemmas.List.{length-append}
 use Rattle.stream_net.specs.Net.{live_count}
 use Rattle.mio_net.specs.declared.endpoint.Endpoint.{Endpoint}
@@ -26,5 +26,5 @@ invariant_of-self-in-Stream g c =
     let live : live_count (map endpoint_meaning c.push_reserved.new.self.items) ≡ live_count (map endpoint_meaning n.endpoints.items) + 1 =
     ap (λ (xs : List Endpoint). live_count (map endpoint_meaning xs)) grows ∙ one_more_live n.endpoints.items p ((new None None tt tt).still_open) in
     let long : length c.push_reserved.new.self.items ≡ length n.endpoints.items + 1 = ap (λ (xs : List Endpoint). length xs) grows ∙ length-append n.endpoints.items (p ∷ []) in
-    let few : length c.push_reserved.new.self.items < 4294967296 = omega (arith, long, c.if-len-ge-MOST_CONNECTIONS.false, c.len.ensures, n.endpoints.ok) in
+    let few : length c.push_reserved.new.self.items < 2 ^ 32 = omega (arith, long, c.if-len-ge-MOST_NUMBERED.false, c.len.ensures, n.endpoints.ok) in
     record { live_is = omega (arith, n.live_is, live); few = few }

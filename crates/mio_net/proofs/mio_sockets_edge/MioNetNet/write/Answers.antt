@@ -1,4 +1,4 @@
-use Rattle.std.proofs.Common.{◌<◌, ap, ◌∙◌, sym, length, slice_set, arith}
+use Rattle.std.proofs.Common.{◌<◌, ◌^◌, ap, ◌∙◌, sym, length, slice_set, arith}
 use Rattle.std.proofs.lemmas.List.{length-set}
 use Rattle.stream_net.specs.Net.{Connection}
 use Rattle.mio_net.proofs.EndpointLemmas.{one_written, kept_count, write_closed}
@@ -8,7 +8,7 @@ pub invariant_of-self : goal.invariant_of-self
 invariant_of-self g c =
     let n = c.args.self.now in
     let w = c.write_endpoint.ensures in
-    let few : length (slice_set n.endpoints.items c.args.conn c.write_endpoint.new.endpoint) < 4294967296 = omega (arith, n.few, length-set n.endpoints.items c.args.conn c.write_endpoint.new.endpoint) in
+    let few : length (slice_set n.endpoints.items c.args.conn c.write_endpoint.new.endpoint) < 2 ^ 32 = omega (arith, n.few, length-set n.endpoints.items c.args.conn c.write_endpoint.new.endpoint) in
     record {
       live_is = n.live_is ∙ sym (kept_count n.endpoints.items c.args.conn c.index_mut.result.now c.write_endpoint.new.endpoint c.requires.live.accepted c.index_mut.ensures.value
           (ap (λ (x : Connection). x.closed) w.after ∙ write_closed c.write_endpoint.result c.args.bytes.now c.reading-self.result c.write_endpoint.new.endpoint.account.faults _));

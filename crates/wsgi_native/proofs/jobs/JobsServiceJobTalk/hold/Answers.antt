@@ -5,7 +5,9 @@ use Rattle.world.specs.Outside.{WorldMeaning as World}
 use Rattle.world.proofs.Ranking.{at_ok}
 use Rattle.stream_server.specs.Tables.{IsListed}
 use Rattle.stream_server.specs.declared.client.Client.{Client}
+use Rattle.stream_server.specs.declared.client.TheConstants.{NEVER}
 use Rattle.wsgi_native.specs.declared.job_talk.JobTalk.{JobTalk}
+use Rattle.wsgi_native.specs.declared.jobs.TheConstants.{LAST_JOB}
 use Rattle.wsgi_core.specs.Steps.{answered_of}
 use Rattle.wsgi_native.specs.Owning.{owner_in}
 use Rattle.wsgi_native.specs.Tied.{IsInOrder}
@@ -20,7 +22,7 @@ pub post-requires-clause-new : goal.post-requires-clause-new
 post-requires-clause-new g c = c.requires.tied.2.tied.fresh (c.args.self.now.posted + 1) (omega arith)
 
 pub returns-then-self-clause-spent : goal.returns-then-self-clause-spent
-returns-then-self-clause-spent g c = λ _. c.requires.tied.2.tied.numbered 4294967295 (omega arith) (omega arith)
+returns-then-self-clause-spent g c = λ _. c.requires.tied.2.tied.numbered LAST_JOB (omega arith) (omega arith)
 
 pub returns-then-self-clause-sound : goal.returns-then-self-clause-sound
 returns-then-self-clause-sound g c = c.requires.tied.2.tied.order
@@ -48,7 +50,7 @@ pub returns-clause-tied : goal.returns-clause-tied
 returns-clause-tied g c = λ table now accepted tied within relists.
     let was = c.args.client.now in
     let number = c.args.self.now.posted + 1 in
-    let client : Client JobTalk = record { conn = was.conn; talk = record { session = was.talk.session; held = Some (record { job = number; deadline = was.deadline }) }; ended = was.ended; deadline = 18446744073709551615 } in
+    let client : Client JobTalk = record { conn = was.conn; talk = record { session = was.talk.session; held = Some (record { job = number; deadline = was.deadline }) }; ended = was.ended; deadline = NEVER } in
     tied_posted (g.W.World.meaning c.args.world.now) (g.W.World.meaning c.post.new.self) (owner_in c.args.self.now.owners.list) (owner_in c.and-self.result.list) c.args.self.now.posted (get nat_eq c.args.self.now.waiting) (get nat_eq c.insert.new.self) (IsListed table) (IsListed now) accepted was.conn c.wanted_job-job.result client tied within
     (at_ok c.post.result c.if-is_err-2.ensures.value c.post.ensures.posted) (at_ok c.insert.result c.if-is_err.ensures.value c.insert.ensures.updates).0 (λ n. ap (λ (owned : List (ℕ × (ℕ × ℕ))). owner_in owned n) c.and-self.ensures) refl
     (wants_same was.talk client.talk c.wanted_job-job.result refl c.wanted_job-job.ensures) relists.only relists.others
