@@ -6,6 +6,7 @@ use Rattle.command_words.specs.declared.command.TraceCheck.{TraceCheck}
 use Rattle.serve_command.specs.Lines.{number_line}
 use Rattle.trace_check.specs.Refusal.{cause_number, check_cause_text}
 use Rattle.trace_check.specs.Inputs.{most_checked_read}
+use Rattle.trace_check.specs.declared.inputs.TheConstants.{MOST_CHECKED}
 use Rattle.trace_check.specs.declared.verifying.Unverified.{Unverified}
 use Rattle.wsgi_core.specs.Applications.{App}
 use Rattle.wsgi_connection.specs.Connection.{whole_session}
@@ -26,7 +27,7 @@ trace_text number text = codes "trace line " ++ decimal number ++ codes ": " ++ 
 -- an input that is not verified: it is too long, has no line of four equals signs or is refused at a place; or a line of
 -- the trace is wrong, for a cause, or breaks a law
 abbrev pub unverified : Unverified → Answer
-unverified (Unverified.Overlong number) = on_err 3 (place_text number 25 (codes "input longer than 67108864 bytes"))
+unverified (Unverified.Overlong number) = on_err 3 (place_text number 25 (codes "input longer than " ++ decimal MOST_CHECKED ++ codes " bytes"))
 unverified (Unverified.Unmarked number) = on_err 3 (place_text number 24 (codes "no line of four equals signs"))
 unverified (Unverified.Refused place) = refused_answer place
 unverified (Unverified.Wrong number cause) = on_err 9 (trace_text number (codes "cause " ++ decimal (cause_number cause) ++ codes ": " ++ check_cause_text cause))

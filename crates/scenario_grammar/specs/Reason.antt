@@ -1,5 +1,7 @@
 -- Why a text or a scenario is refused: the numbers that a refusal shows, and their texts.
-use Rattle.std.specs.Prelude.{ℕ, ◌-◌, List, [], ◌∷◌, codes, slice_index_or}
+use Rattle.std.specs.Prelude.{ℕ, ◌-◌, List, [], ◌∷◌, ◌++◌, codes, slice_index_or}
+use Rattle.gv_values.specs.Texts.{decimal}
+use Rattle.scenario_grammar.specs.declared.limits.TheConstants.{MOST_LEVELS, MOST_TEXT}
 use Rattle.scenario_grammar.specs.declared.reason.TextReason.{TextReason}
 use Rattle.scenario_grammar.specs.declared.reason.TextReason.TheVariants as text
 use Rattle.scenario_grammar.specs.declared.reason.RuleReason.{RuleReason}
@@ -36,7 +38,7 @@ rule_number rule.TooMany = 22
 -- what a refusal says, from number 1 on
 abbrev pub texts : List (List ℕ)
 texts =
-    codes "text longer than 1048576 bytes"
+    (codes "text longer than " ++ decimal MOST_TEXT ++ codes " bytes")
     ∷ codes "byte that is not printable ASCII"
     ∷ codes "last line not ended"
     ∷ codes "blank out of place"
@@ -56,7 +58,7 @@ texts =
     ∷ codes "wrong count of parameters or arguments"
     ∷ codes "hub statement in a raw body"
     ∷ codes "timeout blocks nested past 8"
-    ∷ codes "nesting past 32"
+    ∷ (codes "nesting past " ++ decimal MOST_LEVELS)
     ∷ codes "too many declarations"
     ∷ []
 
