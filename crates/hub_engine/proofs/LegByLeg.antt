@@ -63,11 +63,12 @@ use Rattle.hub_engine.proofs.Within.{moves_room, within_moved}
 goes-there : (g : ℕ) (b : Frame) (v : State) → goes_to lands g (Place.AtMove [] b) v ≡ next_of Progress.Stays g b v
 goes-there g b v = ap (λ (x : State). Next.Going g (with_phase g (Phase.Live b) x)) (sym (none_left g [] v refl))
 
-pub arrives_at_move : (g : ℕ) (left : List ℕ) (place : Place) (to : Destination) (b : Frame) (s t : State) → to ≡ Destination.Move left → Arrives place to b → t ≡ drop_items (is_timeout_of g left) s →
-    ProgressesTo (goes_to lands g place s) Progress.Stays g b t
-arrives_at_move g left place to b s t is h e =
+pub arrives_at_move : (p : Progress) (g : ℕ) (left : List ℕ) (place : Place) (to : Destination) (b : Frame) (s t : State) → p ≡ Progress.Stays → to ≡ Destination.Move left → Arrives place to b →
+    t ≡ drop_items (is_timeout_of g left) s → ProgressesTo (goes_to lands g place s) p g b t
+arrives_at_move p g left place to b s t stays is h e =
     let there : Arrives place (Destination.Move left) b = subst (λ (x : Destination). Arrives place x b) is h in
-    record { comes = ap (λ (p : Place). goes_to lands g p s) there.0 ∙ ap (λ (x : State). Next.Going g (with_phase g (Phase.Live b) x)) (sym e); may = there.1 }
+    subst (λ (x : Progress). ProgressesTo (goes_to lands g place s) x g b t) (sym stays)
+    (record { comes = ap (λ (p : Place). goes_to lands g p s) there.0 ∙ ap (λ (x : State). Next.Going g (with_phase g (Phase.Live b) x)) (sym e); may = there.1 })
 
 pub arrives_at_end : (g : ℕ) (left : List ℕ) (o : Outcome) (place : Place) (to : Destination) (b : Frame) (s t u : State) (hop : Hop) (at : Stand) → to ≡ Destination.End left o → Arrives place to b →
     goes_to lands g (Place.AtEnd left o) s ≡ hopped lands hop t → hopped lands hop t ≡ next_at at u → ProgressesTo (goes_to lands g place s) (Progress.At at) g b u

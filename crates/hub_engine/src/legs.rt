@@ -1,5 +1,5 @@
 //! The moves of a greenlet, made one leg after another where its body stands.
-ghost use Rattle.std.specs.Prelude.{◌≡◌, ◌+◌, ◌<◌, ◌≤◌, ◌^◌, ℕ, [], None, Some, IsTrue, OnOk, IfOk};
+ghost use Rattle.std.specs.Prelude.{◌≡◌, ◌+◌, ◌<◌, ◌≤◌, ◌^◌, ℕ, [], None, IsTrue, OnOk, IfOk};
 ghost use Rattle.gv_values.specs.declared.limits.TheConstants.{MOST_MOVES};
 ghost use Rattle.body_frames.specs.Destinations.{IsMoving};
 ghost use Rattle.body_entries.specs.Few.{HasFewToDo};
@@ -9,11 +9,9 @@ ghost use Rattle.machine.specs.declared.state.Frame.{Frame};
 ghost use Rattle.machine.specs.declared.state.Leaving.{Leaving};
 ghost use Rattle.machine.specs.declared.state.Phase.{Phase};
 ghost use Rattle.machine.specs.Greenlets.{no_frame, with_phase};
-ghost use Rattle.machine.specs.Landing.{answered};
 ghost use Rattle.machine.specs.Request.{performs};
 ghost use Rattle.machine.specs.Run.{silent};
 ghost use Rattle.machine.specs.Settle.{settle};
-ghost use Rattle.machine.specs.Soundness.{phase_of};
 ghost use Rattle.machine.specs.State.{State};
 ghost use Rattle.machine.specs.Unwinding.{unwind};
 ghost use Rattle.machine_rooms.specs.Rooms.{HasRoom, room_of_move};
@@ -23,9 +21,8 @@ ghost use Rattle.hub_engine.specs.Asking.{IsDeclaredAfter};
 ghost use Rattle.hub_engine.specs.Legs.{ComesBy, EndsBy, GoesBy};
 ghost use Rattle.hub_engine.specs.Making.{MayMove};
 ghost use Rattle.hub_engine.specs.Onward.{IsAtRest};
-ghost use Rattle.hub_engine.specs.Progress.{ProgressesTo};
 ghost use Rattle.hub_engine.specs.Ready.{AreDeclared, IsReadyToMove};
-ghost use Rattle.hub_engine.specs.Settlings.{HasMoveRoom, HasMovesRoom, MaySettle, most_hops};
+ghost use Rattle.hub_engine.specs.Settlings.{HasMoveRoom, HasMovesRoom};
 ghost use Rattle.hub_engine.specs.Within.{IsWithinToMove};
 
 use crate::moves::{answer_running, come_to, go_under_way, settle_hub, step_any};
@@ -84,24 +81,6 @@ fn perform_quick(hub: &mut Hub, g: u32, quick: Quick) -> Result<Option<FaultKind
     }
 }
 
-/// Makes the next move of the body, whatever it is. What is left of that is put into `left`.
-fn step_into(
-    alloc: Global,
-    hub: &mut Hub,
-    g: u32,
-    running: &mut Running,
-    left: &mut Progress,
-) -> Result<(), AllocError>
-    requires ready { IsReadyToMove g (with_phase g (Phase.Live running.old) hub.old) }
-    requires to_do { HasFewToDo running.old.todo }
-    requires few { hub.old.moves + 1 < 2 ^ 64 }
-    requires room { HasMovesRoom 1 g hub.old }
-    ensures { OnOk result (EndsBy left.new g 0 running.old hub.old running.new hub.new) }
-{
-    *left = step_any(alloc, hub, g, running)?;
-    Ok(())
-}
-
 /// Lets the body go on by itself. What is left of that is put into `left`.
 fn go_on_into(
     alloc: Global,
@@ -110,33 +89,14 @@ fn go_on_into(
     running: &mut Running,
     left: &mut Progress,
 ) -> Result<(), AllocError>
+    requires stays { left.old ≡ progresses.Stays }
     requires to_do { HasFewToDo running.old.todo }
     requires declared { AreDeclared hub.old }
     requires room { HasMoveRoom g hub.old }
     ensures { OnOk result (ComesBy g (Came.Comes (place_of (unwind running.old.todo [] Leaving.Normally running.old.locals))) hub.old left.new running.new hub.new) }
 {
     let to = running.go_on(alloc)?;
-    *left = come_to(alloc, hub, g, to)?;
-    Ok(())
-}
-
-/// Gives the body the answer to what it asked. What is left of that is put into `left`.
-fn answer_into(
-    alloc: Global,
-    hub: &mut Hub,
-    g: u32,
-    running: &mut Running,
-    answer: Outcome,
-    left: &mut Progress,
-) -> Result<(), AllocError>
-    requires few { HasFewToDo running.old.todo }
-    requires declared { AreDeclared hub.old }
-    requires under_way { phase_of g hub.old.greenlets ≡ Some (Phase.Live no_frame) }
-    requires settles { MaySettle (most_hops + 2) hub.old }
-    ensures { OnOk result (ProgressesTo (answered g answer (settle (with_phase g (Phase.Live running.old) hub.old))) left.new g running.new hub.new) }
-{
-    *left = answer_running(alloc, hub, g, running, answer)?;
-    Ok(())
+    Ok(come_to(alloc, hub, g, to, left)?)
 }
 
 /// Performs what the last move asked, which is counted, is answered at once and has nothing to do with greenlets. If the
@@ -162,13 +122,13 @@ fn serve_quick(
     go_under_way(hub, g);
     let refusal = perform_quick(hub, g, quick)?;
     match refusal {
-        Some(kind) => Ok(answer_into(alloc, hub, g, running, Outcome::Fault(kind), left)?),
+        Some(kind) => Ok(answer_running(alloc, hub, g, running, Outcome::Fault(kind), left)?),
         None => {
             if running.is_at_move() {
                 settle_hub(hub);
                 return Ok(());
             }
-            Ok(answer_into(alloc, hub, g, running, Outcome::Value(Value::Nothing), left)?)
+            Ok(answer_running(alloc, hub, g, running, Outcome::Value(Value::Nothing), left)?)
         }
     }
 }
@@ -198,7 +158,7 @@ fn make_leg(
     match ran.halt {
         Halt::Ahead => {
             if ran.moves == 0 {
-                step_into(alloc, hub, g, running, left)?;
+                step_any(alloc, hub, g, running, left)?;
                 return Ok(0);
             }
             stay(hub, g, ran.moves);

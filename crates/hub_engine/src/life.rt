@@ -1,5 +1,5 @@
 //! Greenlets: how one starts, goes on and ends, and how an input lands at a raw one.
-ghost use Rattle.std.specs.Prelude.{◌≡◌, ◌+◌, IfOk};
+ghost use Rattle.std.specs.Prelude.{◌≡◌, ◌+◌, IfOk, OnOk};
 ghost use Rattle.body_frames.specs.Destinations.{Arrives};
 ghost use Rattle.body_frames.specs.Places.{Place};
 ghost use Rattle.body_values.specs.Functions.{IsFunction};
@@ -10,6 +10,7 @@ ghost use Rattle.machine.specs.Landing.{Landing, after_end, starts, resumes, ans
 ghost use Rattle.machine.specs.Ends.{outcome_of_leaving, leaving_of, stop_of};
 ghost use Rattle.machine.specs.Greenlets.{frame_of, greenlet};
 ghost use Rattle.machine.specs.Items.{drop_items, is_timeout_of};
+ghost use Rattle.hub_engine.specs.declared.stand.Progress.TheVariants as progresses;
 ghost use Rattle.hub_engine.specs.Progress.{ProgressesTo};
 ghost use Rattle.hub_engine.specs.Ready.{AreDeclared};
 ghost use Rattle.hub_engine.specs.Settlings.{MaySettle, most_hops};
@@ -211,20 +212,29 @@ pub fn hop_on(alloc: Global, hub: &mut Hub, hop: Hop) -> Result<Stand, AllocErro
     }
 }
 
-/// Lets the greenlet go on to where its body came, which stays where it is.
-pub fn arrive(alloc: Global, hub: &mut Hub, g: u32, to: Destination) -> Result<Progress, AllocError>
+/// Lets the greenlet go on to where its body came, which stays where it is. If it has ended, where the hub stands then is
+/// put into `left`.
+pub fn arrive(
+    alloc: Global,
+    hub: &mut Hub,
+    g: u32,
+    to: Destination,
+    left: &mut Progress,
+) -> Result<(), AllocError>
+    requires stays { left.old ≡ progresses.Stays }
     requires declared { AreDeclared hub.old }
     requires settles { MaySettle (most_hops + 1) hub.old }
-    ensures { (place : Place) (body : Frame) → Arrives place to body → IfOk result (λ p. ProgressesTo (goes_to lands g place hub.old) p g body hub.new) }
+    ensures { (place : Place) (body : Frame) → Arrives place to body → OnOk result (ProgressesTo (goes_to lands g place hub.old) left.new g body hub.new) }
 {
     match to {
-        Destination::Move(left) => {
-            drop_left(hub, g, left);
-            Ok(Progress::Stays)
+        Destination::Move(timeouts) => {
+            drop_left(hub, g, timeouts);
+            Ok(())
         }
-        Destination::End(left, outcome) => {
-            let hop = place_greenlet(alloc, hub, g, Reached::End(left, outcome))?;
-            Ok(Progress::At(hop_on(alloc, hub, hop)?))
+        Destination::End(timeouts, outcome) => {
+            let hop = place_greenlet(alloc, hub, g, Reached::End(timeouts, outcome))?;
+            *left = Progress::At(hop_on(alloc, hub, hop)?);
+            Ok(())
         }
     }
 }

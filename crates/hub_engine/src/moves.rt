@@ -15,6 +15,7 @@ ghost use Rattle.machine_trace_laws.specs.Reached.{state_of_next};
 ghost use Rattle.machine_well_formed.specs.Texts.{fits_request};
 ghost use Rattle.hub_state.specs.Adding.{MayAdd};
 ghost use Rattle.hub_requests.specs.Performing.{performed_of};
+ghost use Rattle.hub_engine.specs.declared.stand.Progress.TheVariants as progresses;
 ghost use Rattle.hub_engine.specs.Asking.{leaves_greenlets};
 ghost use Rattle.hub_engine.specs.Legs.{ComesBy, EndsBy};
 ghost use Rattle.hub_engine.specs.Making.{MayMove};
@@ -125,27 +126,30 @@ fn leaves_greenlets(request: &Request) -> bool
     }
 }
 
-/// Gives the body, which is under way and waits, the answer to what it asked, with the settling before it.
+/// Gives the body, which is under way and waits, the answer to what it asked, with the settling before it. What is left
+/// of that is put into `left`.
 pub fn answer_running(
     alloc: Global,
     hub: &mut Hub,
     g: u32,
     running: &mut Running,
     answer: Outcome,
-) -> Result<Progress, AllocError>
+    left: &mut Progress,
+) -> Result<(), AllocError>
+    requires stays { left.old ≡ progresses.Stays }
     requires few { HasFewToDo running.old.todo }
     requires declared { AreDeclared hub.old }
     requires under_way { phase_of g hub.old.greenlets ≡ Some (Phase.Live no_frame) }
     requires settles { MaySettle (most_hops + 2) hub.old }
-    ensures { IfOk result (λ p. ProgressesTo (answered g answer (settle (with_phase g (Phase.Live running.old) hub.old))) p g running.new hub.new) }
+    ensures { OnOk result (ProgressesTo (answered g answer (settle (with_phase g (Phase.Live running.old) hub.old))) left.new g running.new hub.new) }
 {
     settle_hub(hub);
     let to = running.answer(alloc, answer)?;
-    Ok(arrive(alloc, hub, g, to)?)
+    Ok(arrive(alloc, hub, g, to, left)?)
 }
 
 /// Performs what the body asks, where that has nothing to do with greenlets: mostly it is answered at once, and the
-/// body stands beside the hub until it has to wait.
+/// body stands beside the hub until it has to wait. What is left of that is put into `left`.
 #[inline(always)]
 #[tactic(auto, using(crate::proofs::Soundly::sound_parked))]
 fn serve_beside(
@@ -154,20 +158,27 @@ fn serve_beside(
     g: u32,
     request: Request,
     running: &mut Running,
-) -> Result<Progress, AllocError>
+    left: &mut Progress,
+) -> Result<(), AllocError>
+    requires stays { left.old ≡ progresses.Stays }
     requires few { HasFewToDo running.old.todo }
     requires may_move { MayMove g hub.old }
     requires fits { fits_request hub.old.scenario request ≡ true }
     requires leaves { leaves_greenlets request ≡ true }
     requires room { HasMoveRoom g hub.old }
     requires after { AreDeclared (state_of_next (follows g (performs request g (with_phase g (Phase.Live running.old) hub.old)))) }
-    ensures { IfOk result (λ p. ProgressesTo (follows g (performs request g (with_phase g (Phase.Live running.old) hub.old))) p g running.new hub.new) }
+    ensures { OnOk result (ProgressesTo (follows g (performs request g (with_phase g (Phase.Live running.old) hub.old))) left.new g running.new hub.new) }
 {
     go_under_way(hub, g);
     let performed = perform(alloc, hub, request, g)?;
     match performed {
-        Performed::Answers(outcome) => Ok(answer_running(alloc, hub, g, running, outcome)?),
-        other => Ok(Progress::Waits(other)),
+        Performed::Answers(outcome) => {
+            Ok(answer_running(alloc, hub, g, running, outcome, left)?)
+        }
+        other => {
+            *left = Progress::Waits(other);
+            Ok(())
+        }
     }
 }
 
@@ -184,7 +195,8 @@ fn add_timeout(hub: &mut Hub, g: u32, n: u32, after: Option<u32>) -> Result<(), 
     Ok(())
 }
 
-/// The body is inside the timeout block that it entered, and came there, whatever body the greenlet had before.
+/// The body is inside the timeout block that it entered, and came there, whatever body the greenlet had before. What is
+/// left of that is put into `left`.
 #[tactic(auto, using(crate::proofs::Soundly::timeout_free))]
 fn enter_block(
     alloc: Global,
@@ -192,61 +204,69 @@ fn enter_block(
     g: u32,
     after: Option<u32>,
     to: Destination,
-) -> Result<Progress, AllocError>
+    left: &mut Progress,
+) -> Result<(), AllocError>
+    requires stays { left.old ≡ progresses.Stays }
     requires may_move { MayMove g hub.old }
     requires declared { AreDeclared hub.old }
     requires room { HasMoveRoom g hub.old }
     ensures { (e : Entered) (body : Frame) → Arrives (inside (hub.old.timeouts + 1) e) to body →
-        IfOk result (λ p. ComesBy g (Came.Enters after e) hub.old p body hub.new) }
+        OnOk result (ComesBy g (Came.Enters after e) hub.old left.new body hub.new) }
 {
     go_under_way(hub, g);
     let n = hub.count_timeout();
     add_timeout(hub, g, n, after)?;
     settle_hub(hub);
-    Ok(arrive(alloc, hub, g, to)?)
+    Ok(arrive(alloc, hub, g, to, left)?)
 }
 
-/// The body goes on by itself and came there, whatever body the greenlet had before.
+/// The body goes on by itself and came there, whatever body the greenlet had before. What is left of that is put into
+/// `left`.
 pub fn come_to(
     alloc: Global,
     hub: &mut Hub,
     g: u32,
     to: Destination,
-) -> Result<Progress, AllocError>
+    left: &mut Progress,
+) -> Result<(), AllocError>
+    requires stays { left.old ≡ progresses.Stays }
     requires declared { AreDeclared hub.old }
     requires room { HasMoveRoom g hub.old }
-    ensures { (place : Place) (body : Frame) → Arrives place to body → IfOk result (λ p. ComesBy g (Came.Comes place) hub.old p body hub.new) }
+    ensures { (place : Place) (body : Frame) → Arrives place to body → OnOk result (ComesBy g (Came.Comes place) hub.old left.new body hub.new) }
 {
     go_under_way(hub, g);
     settle_hub(hub);
-    Ok(arrive(alloc, hub, g, to)?)
+    Ok(arrive(alloc, hub, g, to, left)?)
 }
 
-/// Makes the next move of the body, whatever it is.
+/// Makes the next move of the body, whatever it is. What is left of that is put into `left`.
 pub fn step_any(
     alloc: Global,
     hub: &mut Hub,
     g: u32,
     running: &mut Running,
-) -> Result<Progress, AllocError>
+    left: &mut Progress,
+) -> Result<(), AllocError>
+    requires stays { left.old ≡ progresses.Stays }
     requires ready { IsReadyToMove g (with_phase g (Phase.Live running.old) hub.old) }
     requires to_do { HasFewToDo running.old.todo }
     requires few { hub.old.moves + 1 < 2 ^ 64 }
     requires room { HasMovesRoom 1 g hub.old }
-    ensures { IfOk result (λ p. EndsBy p g 0 running.old hub.old running.new hub.new) }
+    ensures { OnOk result (EndsBy left.new g 0 running.old hub.old running.new hub.new) }
 {
     let timeout = hub.timeouts() + 1;
     let moved = running.step(alloc, hub.code(), &Seen::new(hub, g), timeout)?;
     hub.count_moves(1);
     match moved {
-        Moved::Comes(to) => Ok(come_to(alloc, hub, g, to)?),
+        Moved::Comes(to) => Ok(come_to(alloc, hub, g, to, left)?),
         Moved::Asks(request) => {
             if !leaves_greenlets(&request) {
-                return Ok(Progress::Asks(request));
+                *left = Progress::Asks(request);
+                return Ok(());
             }
-            Ok(serve_beside(alloc, hub, g, request, running)?)
+            Ok(serve_beside(alloc, hub, g, request, running, left)?)
         }
-        Moved::Enters(after, to) => Ok(enter_block(alloc, hub, g, after, to)?),
+        Moved::Enters(after, to) => Ok(enter_block(alloc, hub, g, after, to, left)?),
     }
 }
 

@@ -7,4 +7,4 @@ use Rattle.hub_engine.proofs.legs.go_on_into.Goals as goal
 pub returns : goal.returns
 returns c =
     let b = c.args.running.now in
-    c.in_ok-left.ensures (place_of (unwind b.todo [] Leaving.Normally b.locals)) c.go_on.new.self c.in_ok-to.ensures
+    c.in_ok-come_to.ensures (place_of (unwind b.todo [] Leaving.Normally b.locals)) c.go_on.new.self c.in_ok-to.ensures

@@ -48,8 +48,8 @@ returns-else-ran-eq0-clause-ends c =
     subst (λ (p : Progress). EndsBy p g (n - 1) a s b c.stay.new.hub) (sym c.requires.stays)
     (stays_by g (n - 1) a b s t c.stay.new.hub by c.stay.ensures (record { runs = c.in_ok-ran.ensures.runs c.in-Ahead.is; unheard = c.run.ensures.unheard; few = c.in_ok-ran.ensures.few }))
 
-pub step_into-requires : goal.step_into-requires
-step_into-requires c =
+pub step_any-requires : goal.step_any-requires
+step_any-requires c =
     let s = c.args.hub.now in
     let n = c.in_ok-ran.ran.moves in
     let halt = c.in_ok-ran.ran.halt in
@@ -60,6 +60,7 @@ step_into-requires c =
     let same = ran_nowhere (around s.scenario look) n c.args.running.now c.run.new.self none
     (ran_as s.scenario c.code.result.now look n halt Halt.Ahead c.args.running.now c.run.new.self c.code.ensures c.in-Ahead.is (c.in_ok-ran.ensures.ran look)) in
     record {
+      stays = c.requires.stays;
       ready = as_before (λ (b : Frame). IsReadyToMove c.args.g (with_phase c.args.g (Phase.Live b) s)) c.args.running.now c.run.new.self same c.requires.ready;
       to_do = c.in_ok-ran.ensures.few;
       few = omega (arith, few, some);
@@ -75,7 +76,7 @@ returns-then-ran-eq0-clause-ends c =
     let none : n ≡ 0 = omega (arith, c.if-ran-eq0.true) in
     let same = ran_nowhere (around s.scenario look) n c.args.running.now c.run.new.self none
     (ran_as s.scenario c.code.result.now look n halt Halt.Ahead c.args.running.now c.run.new.self c.code.ensures c.in-Ahead.is (c.in_ok-ran.ensures.ran look)) in
-    ends_as_before c.run.new.self c.args.running.now (sym same) c.in_ok-step_into-in-Ahead.ensures
+    ends_as_before c.run.new.self c.args.running.now (sym same) c.in_ok-step_any-in-Ahead.ensures
 
 pub count_moves-requires : goal.count_moves-requires
 count_moves-requires c =
@@ -99,7 +100,7 @@ go_on_into-requires c =
     let ahead : most ≤ c.args.most = c.moves_ahead-ahead.ensures.few in
     let on = ran_as s.scenario c.code.result.now look n halt Halt.Leaves a b c.code.ensures c.in-Leaves.is (c.in_ok-ran.ensures.ran look) in
     let by = goes_by g n most a s c.count_moves.new.self (came_out b) c.moves_ahead-ahead.ensures.rest (omega (arith, counted)) c.requires.ready on c.count_moves.ensures in
-    record { to_do = c.in_ok-ran.ensures.few; declared = by.declared; room = subst (HasMoveRoom g) (sym c.count_moves.ensures) (c.requires.room.each n (omega (arith, counted, ahead))) }
+    record { stays = c.requires.stays; to_do = c.in_ok-ran.ensures.few; declared = by.declared; room = subst (HasMoveRoom g) (sym c.count_moves.ensures) (c.requires.room.each n (omega (arith, counted, ahead))) }
 
 pub returns-in_ok-go_on_into-in-Leaves-clause-ends : goal.returns-in_ok-go_on_into-in-Leaves-clause-ends
 returns-in_ok-go_on_into-in-Leaves-clause-ends c =

@@ -11,17 +11,17 @@ pub perform_quick-requires : goal.perform_quick-requires
 perform_quick-requires c =
     subst (HasRoom room_of_move) (sym c.go_under_way.ensures) (c.requires.room.any no_frame)
 
-pub answer_into-requires : goal.answer_into-requires
-answer_into-requires c =
+pub answer_running-requires : goal.answer_running-requires
+answer_running-requires c =
     let asked = asked_quickly c.args.g c.args.running.now c.args.hub.now c.go_under_way.new.hub c.perform_quick.new.hub c.args.quick c.in_ok-refusal.refusal (Some c.in-Some.kind) c.requires.may_move c.requires.room c.requires.after c.go_under_way.ensures
     c.in_ok-refusal.ensures c.in-Some.is in
-    record { few = c.requires.to_do; declared = asked.declared; under_way = asked.under_way; settles = asked.settles }
+    record { stays = c.requires.stays; few = c.requires.to_do; declared = asked.declared; under_way = asked.under_way; settles = asked.settles }
 
-pub answer_into-requires-in-None : goal.answer_into-requires-in-None
-answer_into-requires-in-None c =
+pub answer_running-requires-in-None : goal.answer_running-requires-in-None
+answer_running-requires-in-None c =
     let asked = asked_quickly c.args.g c.args.running.now c.args.hub.now c.go_under_way.new.hub c.perform_quick.new.hub c.args.quick c.in_ok-refusal.refusal None c.requires.may_move c.requires.room c.requires.after c.go_under_way.ensures
     c.in_ok-refusal.ensures c.in-None.is in
-    record { few = c.requires.to_do; declared = asked.declared; under_way = asked.under_way; settles = asked.settles }
+    record { stays = c.requires.stays; few = c.requires.to_do; declared = asked.declared; under_way = asked.under_way; settles = asked.settles }
 
 pub settle_hub-requires : goal.settle_hub-requires
 settle_hub-requires c =
@@ -38,16 +38,16 @@ returns-then-is_at_move c = λ n a s by.
     (answers_by Progress.Stays c.args.g n a b b s c.args.hub.now c.go_under_way.new.hub v c.settle_hub.new.hub c.args.quick None by asked
     (stays_answered c.args.g b v c.settle_hub.new.hub asked.under_way c.settle_hub.ensures (record { runs = c.is_at_move.ensures c.if-is_at_move.true; unheard = c.requires.unheard; few = c.requires.to_do })))
 
-pub returns-in_ok-answer_into-in-Some : goal.returns-in_ok-answer_into-in-Some
-returns-in_ok-answer_into-in-Some c = λ n a s by.
+pub returns-in_ok-answer_running-in-Some : goal.returns-in_ok-answer_running-in-Some
+returns-in_ok-answer_running-in-Some c = λ n a s by.
     let b = c.args.running.now in
     let v = c.perform_quick.new.hub in
     let asked = asked_quickly c.args.g b c.args.hub.now c.go_under_way.new.hub v c.args.quick c.in_ok-refusal.refusal (Some c.in-Some.kind) c.requires.may_move c.requires.room c.requires.after c.go_under_way.ensures c.in_ok-refusal.ensures c.in-Some.is in
-    answers_by _ c.args.g n a b c.answer_into.new.running s c.args.hub.now c.go_under_way.new.hub v c.answer_into.new.hub c.args.quick (Some c.in-Some.kind) by asked c.in_ok-answer_into-in-Some.ensures
+    answers_by _ c.args.g n a b c.answer_running.new.running s c.args.hub.now c.go_under_way.new.hub v c.answer_running.new.hub c.args.quick (Some c.in-Some.kind) by asked c.in_ok-answer_running-in-Some.ensures
 
-pub returns-in_ok-answer_into-in-None : goal.returns-in_ok-answer_into-in-None
-returns-in_ok-answer_into-in-None c = λ n a s by.
+pub returns-in_ok-answer_running-in-None : goal.returns-in_ok-answer_running-in-None
+returns-in_ok-answer_running-in-None c = λ n a s by.
     let b = c.args.running.now in
     let v = c.perform_quick.new.hub in
     let asked = asked_quickly c.args.g b c.args.hub.now c.go_under_way.new.hub v c.args.quick c.in_ok-refusal.refusal None c.requires.may_move c.requires.room c.requires.after c.go_under_way.ensures c.in_ok-refusal.ensures c.in-None.is in
-    answers_by _ c.args.g n a b c.answer_into-in-None.new.running s c.args.hub.now c.go_under_way.new.hub v c.answer_into-in-None.new.hub c.args.quick None by asked c.in_ok-answer_into-in-None.ensures
+    answers_by _ c.args.g n a b c.answer_running-in-None.new.running s c.args.hub.now c.go_under_way.new.hub v c.answer_running-in-None.new.hub c.args.quick None by asked c.in_ok-answer_running-in-None.ensures

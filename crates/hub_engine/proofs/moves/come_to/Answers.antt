@@ -17,11 +17,12 @@ arrive-requires c =
     let staged = declared_phased c.args.g (Phase.Live no_frame) c.args.hub.now c.go_under_way.new.hub c.requires.declared c.go_under_way.ensures in
     let room = subst (HasRoom room_of_move) (sym c.go_under_way.ensures) (c.requires.room.any no_frame) in
     record {
+      stays = c.requires.stays;
       declared = declared_settled c.go_under_way.new.hub c.settle_hub.new.hub staged c.settle_hub.ensures;
       settles = settles_then c.go_under_way.new.hub c.settle_hub.new.hub c.settle_hub.ensures (room_settles room_of_move c.go_under_way.new.hub room);
     }
 
 pub returns : goal.returns
 returns c = λ place body h.
-    comes_where c.in_ok-arrive.field-0 c.args.g place body c.args.hub.now c.go_under_way.new.hub c.settle_hub.new.hub c.arrive.new.hub c.go_under_way.ensures c.settle_hub.ensures
+    comes_where c.arrive.new.left c.args.g place body c.args.hub.now c.go_under_way.new.hub c.settle_hub.new.hub c.arrive.new.hub c.go_under_way.ensures c.settle_hub.ensures
     (c.in_ok-arrive.ensures place body h)

@@ -35,12 +35,13 @@ arrive-requires c =
     let room = subst (HasRoom room_of_move) (sym c.go_under_way.ensures) (c.requires.room.any no_frame) in
     let timed = timed_settles room_of_move c.args.g c.count_timeout-n.result c.args.after c.go_under_way.new.hub c.count_timeout-n.new.self c.add_timeout.new.hub room c.count_timeout-n.ensures.counted c.in_ok-add_timeout.ensures in
     record {
+      stays = c.requires.stays;
       declared = declared_settled c.add_timeout.new.hub c.settle_hub.new.hub limited c.settle_hub.ensures;
       settles = settles_then c.add_timeout.new.hub c.settle_hub.new.hub c.settle_hub.ensures timed;
     }
 
 pub returns : goal.returns
 returns c = λ e body h.
-    comes_inside c.in_ok-arrive.field-0 c.args.g c.count_timeout-n.result c.args.after e body c.args.hub.now c.go_under_way.new.hub c.count_timeout-n.new.self c.add_timeout.new.hub c.settle_hub.new.hub c.arrive.new.hub
+    comes_inside c.arrive.new.left c.args.g c.count_timeout-n.result c.args.after e body c.args.hub.now c.go_under_way.new.hub c.count_timeout-n.new.self c.add_timeout.new.hub c.settle_hub.new.hub c.arrive.new.hub
     c.go_under_way.ensures c.count_timeout-n.ensures.number c.count_timeout-n.ensures.counted c.in_ok-add_timeout.ensures c.settle_hub.ensures
     (c.in_ok-arrive.ensures (inside (c.args.hub.now.timeouts + 1) e) body h)

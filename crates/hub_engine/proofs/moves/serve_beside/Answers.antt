@@ -19,6 +19,7 @@ answer_running-requires c =
     let came = c.in_ok-performed.performed in
     let room = subst (HasRoom room_of_move) (sym c.go_under_way.ensures) (c.requires.room.any no_frame) in
     record {
+      stays = c.requires.stays;
       few = c.requires.few;
       declared = declared_beside c.args.g c.args.running.now c.args.request came c.args.hub.now c.go_under_way.new.hub c.perform.new.hub c.requires.leaves c.go_under_way.ensures c.in_ok-performed.ensures c.requires.after;
       under_way = still_under_way c.args.g c.args.request came c.args.hub.now c.go_under_way.new.hub c.perform.new.hub c.requires.may_move c.requires.leaves c.go_under_way.ensures c.in_ok-performed.ensures;

@@ -27,7 +27,7 @@ come_to-requires c =
     let s = c.args.hub.now in
     let a = c.args.running.now in
     let by = goes_once g a s c.count_moves.new.self (came_from g s a) c.requires.ready refl c.count_moves.ensures in
-    record { declared = by.declared; room = subst (HasMoveRoom g) (sym c.count_moves.ensures) (c.requires.room.each 0 (omega arith)) }
+    record { stays = c.requires.stays; declared = by.declared; room = subst (HasMoveRoom g) (sym c.count_moves.ensures) (c.requires.room.each 0 (omega arith)) }
 
 pub enter_block-requires : goal.enter_block-requires
 enter_block-requires c =
@@ -35,7 +35,7 @@ enter_block-requires c =
     let s = c.args.hub.now in
     let a = c.args.running.now in
     let by = goes_once g a s c.count_moves.new.self (came_from g s a) c.requires.ready refl c.count_moves.ensures in
-    record { may_move = by.may_move; declared = by.declared; room = subst (HasMoveRoom g) (sym c.count_moves.ensures) (c.requires.room.each 0 (omega arith)) }
+    record { stays = c.requires.stays; may_move = by.may_move; declared = by.declared; room = subst (HasMoveRoom g) (sym c.count_moves.ensures) (c.requires.room.each 0 (omega arith)) }
 
 pub serve_beside-requires : goal.serve_beside-requires
 serve_beside-requires c =
@@ -51,6 +51,7 @@ serve_beside-requires c =
     let asks = asks_so n (came_from g s a) request c.in_ok-moved.moved b c.in-Asks.is on in
     let by = subst (GoesBy g 0 a s t) asks.0 (goes_once g a s t (came_from g s a) c.requires.ready refl c.count_moves.ensures) in
     record {
+      stays = c.requires.stays;
       few = asks.1;
       may_move = by.may_move;
       fits = by.fits;
@@ -68,7 +69,7 @@ returns-in_ok-come_to-in-Comes c =
     let b = c.step.new.self in
     let n = t.timeouts + 1 in
     let same : c.timeouts-timeout.result + 1 ≡ n = ap (λ (k : ℕ). k + 1) c.timeouts-timeout.ensures ∙ ap (λ (x : State). x.timeouts + 1) (sym c.count_moves.ensures) in
-    let p = c.in_ok-come_to-in-Comes.field-0 in
+    let p = c.come_to.new.left in
     let v = c.come_to.new.hub in
     let on = moved_so g (c.timeouts-timeout.result + 1) n s a c.code.result.now c.new.result c.in_ok-moved.moved b same c.code.ensures c.new.ensures c.in_ok-moved.ensures in
     ends_by p g 0 a b s t v (came_from g s a) (goes_once g a s t (came_from g s a) c.requires.ready refl c.count_moves.ensures)
@@ -83,7 +84,7 @@ returns-in_ok-enter_block-in-Enters c =
     let b = c.step.new.self in
     let n = t.timeouts + 1 in
     let same : c.timeouts-timeout.result + 1 ≡ n = ap (λ (k : ℕ). k + 1) c.timeouts-timeout.ensures ∙ ap (λ (x : State). x.timeouts + 1) (sym c.count_moves.ensures) in
-    let p = c.in_ok-enter_block-in-Enters.field-0 in
+    let p = c.enter_block.new.left in
     let v = c.enter_block.new.hub in
     let on = moved_so g (c.timeouts-timeout.result + 1) n s a c.code.result.now c.new.result c.in_ok-moved.moved b same c.code.ensures c.new.ensures c.in_ok-moved.ensures in
     ends_by p g 0 a b s t v (came_from g s a) (goes_once g a s t (came_from g s a) c.requires.ready refl c.count_moves.ensures)
@@ -125,7 +126,7 @@ returns-in_ok-serve_beside-in-Asks c =
     let n = t.timeouts + 1 in
     let same : c.timeouts-timeout.result + 1 ≡ n = ap (λ (k : ℕ). k + 1) c.timeouts-timeout.ensures ∙ ap (λ (x : State). x.timeouts + 1) (sym c.count_moves.ensures) in
     let request = c.in-Asks.request in
-    let p = c.in_ok-serve_beside-in-Asks.field-0 in
+    let p = c.serve_beside.new.left in
     let on = moved_so g (c.timeouts-timeout.result + 1) n s a c.code.result.now c.new.result c.in_ok-moved.moved b same c.code.ensures c.new.ensures c.in_ok-moved.ensures in
     let asks = asks_so n (came_from g s a) request c.in_ok-moved.moved b c.in-Asks.is on in
     let by = subst (GoesBy g 0 a s t) asks.0 (goes_once g a s t (came_from g s a) c.requires.ready refl c.count_moves.ensures) in
