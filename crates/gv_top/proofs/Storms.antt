@@ -27,8 +27,8 @@ use Rattle.hub_engine.specs.declared.run.Ran.{Ran as Came}
 use Rattle.hub_engine.specs.Ends.{CountsOf, HasLogged, HasNumbers, HasNumbersAt, RanTo, end_of_run}
 use Rattle.hub_engine.specs.Outside.{WritesPart}
 use Rattle.hub_engine.specs.Prepared.{Prepared}
-use Rattle.trace_check.proofs.Lines.{text_of_append}
-use Rattle.trace_check.proofs.Placing.{feeds_append, feeds_lines, few_feeds}
+use Rattle.trace_laws.proofs.Lines.{text_of_append}
+use Rattle.trace_laws.proofs.Placing.{feeds_append, feeds_lines, few_feeds}
 use Rattle.gv_top.specs.declared.status.Verdict.{Verdict}
 use Rattle.gv_top.specs.declared.words.OfflineCommand.{OfflineCommand}
 use Rattle.scenario_reading.specs.Judged.{judged_text}

@@ -6,10 +6,10 @@ use Rattle.scenario_grammar.specs.Place.{line_at}
 use Rattle.scenario_grammar.specs.Spells.{Spells}
 use Rattle.scenario_rules.specs.Rules.{IsWellFormed}
 use Rattle.machine.specs.Run.{run}
-use Rattle.trace_check.specs.Check.{IsVerified, IsWrong}
-use Rattle.trace_check.specs.Lawful.{IsLawful, IsLawless, IsUnread}
-use Rattle.trace_check.specs.Parts.{parted}
-use Rattle.trace_check.specs.declared.refusal.Cause.{Cause}
+use Rattle.trace_laws.specs.Check.{IsVerified, IsWrong}
+use Rattle.trace_laws.specs.Lawful.{IsLawful, IsLawless, IsUnread}
+use Rattle.trace_laws.specs.Parts.{parted}
+use Rattle.trace_laws.specs.declared.refusal.Cause.{Cause}
 use Rattle.trace_check.specs.Inputs.{end_line}
 use Rattle.trace_check.specs.declared.inputs.TheConstants.{MOST_CHECKED}
 use Rattle.trace_check.specs.declared.verifying.Unverified.{Unverified}

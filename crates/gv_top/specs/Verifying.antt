@@ -4,7 +4,7 @@ use Rattle.gv_values.specs.declared.job.Answer.{Answer as Given}
 use Rattle.gv_values.specs.Texts.{decimal}
 use Rattle.command_words.specs.declared.command.TraceCheck.{TraceCheck}
 use Rattle.serve_command.specs.Lines.{number_line}
-use Rattle.trace_check.specs.Refusal.{cause_number, check_cause_text}
+use Rattle.trace_laws.specs.Refusal.{cause_number, check_cause_text}
 use Rattle.trace_check.specs.Inputs.{most_checked_read}
 use Rattle.trace_check.specs.declared.inputs.TheConstants.{MOST_CHECKED}
 use Rattle.trace_check.specs.declared.verifying.Unverified.{Unverified}

@@ -9,7 +9,8 @@ use scenario_grammar::{Place, reason_text};
 use scenario_lang::ParseRefusal;
 use serve_command::Served;
 use std::alloc::{AllocError, Global};
-use trace_check::{Cause, Unverified};
+use trace_check::Unverified;
+use trace_laws::Cause;
 use wsgi_connection::ConnectionEnd;
 
 /// What broke a call off.

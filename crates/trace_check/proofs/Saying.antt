@@ -11,10 +11,10 @@ use Rattle.scenario_lang.specs.declared.text.ParseRefusal.{ParseRefusal}
 use Rattle.scenario_lang.specs.declared.text.ParseRefusal.TheVariants as parse
 use Rattle.scenario_lang.specs.Lines.{Parses}
 use Rattle.machine.specs.Run.{run}
-use Rattle.trace_check.specs.Answers.{IsJudged, IsSameAnswer, IsJudgedLawful, IsSameLawful}
-use Rattle.trace_check.specs.declared.lawful.LawlessTrace.{LawlessTrace}
-use Rattle.trace_check.specs.declared.refusal.TraceRefusal.{TraceRefusal}
-use Rattle.trace_check.specs.Places.{parts_at}
+use Rattle.trace_laws.specs.Answers.{IsJudged, IsSameAnswer, IsJudgedLawful, IsSameLawful}
+use Rattle.trace_laws.specs.declared.lawful.LawlessTrace.{LawlessTrace}
+use Rattle.trace_laws.specs.declared.refusal.TraceRefusal.{TraceRefusal}
+use Rattle.trace_laws.specs.Places.{parts_at}
 use Rattle.scenario_grammar.specs.Place.{line_at}
 use Rattle.scenario_reading.specs.Judged.{IsRefusedWithReason, judged_text}
 use Rattle.trace_check.specs.Inputs.{end_line}

@@ -8,11 +8,11 @@ use Rattle.scenario_lang.specs.declared.text.ParseRefusal.{ParseRefusal}
 use Rattle.scenario_lang.specs.declared.text.ParseRefusal.TheVariants as parse
 use Rattle.scenario_reading.specs.Judged.{HasReason, judged_text}
 use Rattle.machine.specs.Run.{run}
-use Rattle.trace_check.specs.Answers.{IsJudged, IsJudgedLawful}
-use Rattle.trace_check.specs.Parts.{parted}
-use Rattle.trace_check.specs.declared.lawful.LawlessTrace.{LawlessTrace}
-use Rattle.trace_check.specs.declared.refusal.Cause.{Cause}
-use Rattle.trace_check.specs.declared.refusal.TraceRefusal.{TraceRefusal}
+use Rattle.trace_laws.specs.Answers.{IsJudged, IsJudgedLawful}
+use Rattle.trace_laws.specs.Parts.{parted}
+use Rattle.trace_laws.specs.declared.lawful.LawlessTrace.{LawlessTrace}
+use Rattle.trace_laws.specs.declared.refusal.Cause.{Cause}
+use Rattle.trace_laws.specs.declared.refusal.TraceRefusal.{TraceRefusal}
 use Rattle.trace_check.specs.Inputs.{end_line}
 use Rattle.trace_check.specs.declared.inputs.TheConstants.{MOST_CHECKED}
 use Rattle.trace_check.specs.declared.verifying.Unverified.{Unverified}

@@ -3,14 +3,11 @@ ghost use Rattle.std.specs.Prelude.{◌≡◌, ◌+◌, ◌≤◌, drop, length,
 ghost use Rattle.command_words.specs.Ranges.{IsCheckInRange};
 ghost use Rattle.machine.specs.Budgets.{AreBudgets};
 ghost use Rattle.scenario_reading.specs.Judged.{judged_text};
-ghost use Rattle.trace_check.specs.Parts.{parted};
+ghost use Rattle.trace_laws.specs.Parts.{parted};
 ghost use Rattle.trace_check.specs.Said.{IsReasoned, IsSaid, IsSaidOf, IsSaidOfParts, IsSaidOfScenario, IsSaidOfTrace, IsSame, Verification, said_of_laws, said_of_run, said_of_text};
 
 use crate::check::check_run;
 use crate::inputs::{MOST_CHECKED, end_line, line_at};
-use crate::lawful::{LawlessTrace, check_laws};
-use crate::parts::mark_place;
-use crate::refusal::{Cause, TraceRefusal};
 use command_words::TraceCheck;
 use hub_engine::Budgets;
 use scenario_check::Checked;
@@ -19,6 +16,7 @@ use scenario_lang::ParseRefusal;
 use scenario_reading::read_scenario;
 use std::alloc::Global;
 use thiserror::Error;
+use trace_laws::{Cause, LawlessTrace, TraceRefusal, check_laws, mark_place};
 
 /// The bytes of a line of four equals signs, with its line feed.
 const MARK_BYTES: usize = 5;

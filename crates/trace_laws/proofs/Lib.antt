@@ -1,0 +1,15 @@
+pub mod Printed
+pub mod Pieces
+pub mod Lines
+pub mod Answering
+pub mod Judging
+pub mod Locating
+pub mod Listing
+pub mod Checking
+pub mod Matching
+pub mod Feeds
+pub mod Placing
+pub mod Causes
+pub mod Keeping
+pub mod LawReads
+pub mod Parting

@@ -1,0 +1,12 @@
+pub mod Traces
+pub mod Check
+pub mod Seen
+pub mod Comparing
+pub mod Places
+pub mod Kept
+pub mod Lawful
+pub mod Refusal
+pub mod Parts
+pub mod Counting
+pub mod Answers
+pub mod Reads
