@@ -1,19 +1,17 @@
 -- The numbers of the commands that words name, of those that are built.
-use Rattle.std.proofs.Common.{◌≡◌, ◌≤◌, ◌<◌, ℕ, List, Option, Some, None, option_and_then, refl, subst, arith}
+use Rattle.std.proofs.Common.{◌≡◌, List, Option, Some, None, option_and_then, refl, subst}
 use Rattle.machine.specs.Budgets.{AreBudgets}
 use Rattle.command_words.specs.Words.{Word}
 use Rattle.command_words.specs.Words as words
-use Rattle.command_words.specs.Ranges.{IsCheckInRange, IsInRange, IsWorldInRange}
+use Rattle.command_words.specs.Ranges.{IsCheckInRange, IsInRange}
 use Rattle.command_words.specs.declared.command.NamedCommand.{NamedCommand}
 use Rattle.command_words.specs.declared.command.NamedCommand.TheVariants as named
 use Rattle.command_words.specs.declared.command.RunOptions.{RunOptions}
-use Rattle.command_words.specs.declared.command.RunWorld.{RunWorld}
 use Rattle.command_words.specs.declared.command.TextCommand.{TextCommand}
 use Rattle.command_words.specs.declared.command.TextCommand.TheVariants.{Run}
 use Rattle.command_words.specs.declared.command.TraceCheck.{TraceCheck}
 use Rattle.gv_top.specs.declared.words.OfflineCommand.{OfflineCommand}
 use Rattle.gv_top.specs.Words.{built, offline_command_of}
-use Rattle.gv_values.specs.declared.limits.TheConstants.{MOST_WORKERS}
 
 -- the commands that words name are in their ranges
 abbrev pub NamedAreInRange : Type 0
@@ -59,17 +57,3 @@ pub are_budgets : NamedAreInRange → (w : List Word) (options : RunOptions) →
 are_budgets law w options e =
     let r : IsInRange (named.Text (Run options)) = in_range law w (Run options) e in
     record { some_turns = r.0.0; few_turns = r.0.1; some_moves = r.1.0; few_moves = r.1.1 }
-
--- how many native workers a world in range has
-pub some_workers : (world : RunWorld) (workers : ℕ) → world ≡ RunWorld.Native workers → IsWorldInRange world → 0 < workers
-some_workers world workers e h = let r : (1 ≤ workers) × (workers ≤ MOST_WORKERS) = subst IsWorldInRange e h in omega (arith, r.0)
-
-pub few_workers : (world : RunWorld) (workers : ℕ) → world ≡ RunWorld.Native workers → IsWorldInRange world → workers ≤ MOST_WORKERS
-few_workers world workers e h = let r : (1 ≤ workers) × (workers ≤ MOST_WORKERS) = subst IsWorldInRange e h in r.1
-
--- the same of those whose results are told in the order of a script
-pub some_held : (world : RunWorld) (workers : ℕ) → world ≡ RunWorld.Held workers → IsWorldInRange world → 0 < workers
-some_held world workers e h = let r : (1 ≤ workers) × (workers ≤ MOST_WORKERS) = subst IsWorldInRange e h in omega (arith, r.0)
-
-pub few_held : (world : RunWorld) (workers : ℕ) → world ≡ RunWorld.Held workers → IsWorldInRange world → workers ≤ MOST_WORKERS
-few_held world workers e h = let r : (1 ≤ workers) × (workers ≤ MOST_WORKERS) = subst IsWorldInRange e h in r.1

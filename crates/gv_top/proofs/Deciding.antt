@@ -2,11 +2,10 @@
 use Rattle.std.proofs.Common.{◌≡◌, ◌≢◌, ℕ, List, [], ◌++◌, take, drop, Option, Some, None, Ok, Err, refl, ap, sym, subst, ◌∙◌, unwrap_or, IfSome, take-append-drop, arith}
 use Rattle.std.proofs.lemmas.List.{append_cancel_left}
 use Rattle.gv_values.specs.declared.job.Answer.{Answer as Given}
-use Rattle.trace_text.specs.Line.{text_of}
 use Rattle.trace_text.specs.declared.line.StopCause.{StopCause}
 use Rattle.scenario_tree.specs.declared.tree.Scenario.{Scenario}
-use Rattle.gv_io.specs.Streams.{appended, prepended, AppendsPrefix}
-use Rattle.gv_io.proofs.StreamLaws.{appended-nothing, AppendsPrefix-all, AppendsPrefix-nothing, prepended-nothing}
+use Rattle.gv_io.specs.Streams.{appended, prepended}
+use Rattle.gv_io.proofs.StreamLaws.{appended-nothing, AppendsPrefix-nothing, prepended-nothing}
 use Rattle.machine.specs.Run.{Ran, End as RunEnd}
 use Rattle.machine.specs.Status.{status, err_line}
 use Rattle.hub_engine.specs.declared.run.EngineEnd.{EngineEnd}
@@ -37,20 +36,6 @@ use Rattle.wsgi_connection.specs.Wholes.{IsWhole}
 use Rattle.wsgi_connection.specs.declared.connection.ConnectionEnd.{ConnectionEnd}
 use Rattle.gv_top.specs.Top.{Decided}
 use Rattle.gv_top.specs.Verifying.{IsAnswerOf}
-
--- ---- the run
-
--- out has a prefix of the trace, whatever the end
-pub prefix_of_trace : (end : EngineEnd) (r : Ran) (old new : Option (List ℕ)) → RanTo end r old new → AppendsPrefix old new (text_of r.lines)
-prefix_of_trace EngineEnd.WriteFault r old new h = h
-prefix_of_trace EngineEnd.Memory r old new h = h
-prefix_of_trace EngineEnd.MainValue r old new h = AppendsPrefix-all old new (text_of r.lines) h.0
-prefix_of_trace (EngineEnd.MainFault f) r old new h = AppendsPrefix-all old new (text_of r.lines) h.0
-prefix_of_trace EngineEnd.NoTurns r old new h = AppendsPrefix-all old new (text_of r.lines) h.0
-prefix_of_trace EngineEnd.NoMoves r old new h = AppendsPrefix-all old new (text_of r.lines) h.0
-prefix_of_trace EngineEnd.NoGreenlets r old new h = AppendsPrefix-all old new (text_of r.lines) h.0
-prefix_of_trace EngineEnd.NoLinks r old new h = AppendsPrefix-all old new (text_of r.lines) h.0
-prefix_of_trace EngineEnd.NoKills r old new h = AppendsPrefix-all old new (text_of r.lines) h.0
 
 -- ---- the verdict of a run
 

@@ -6,7 +6,6 @@ pub mod InWorlds
 pub mod Built
 pub mod Servings
 pub mod Storms
-pub mod StormTexts
 pub mod Handing
 pub mod ChecksTold
 pub mod Said

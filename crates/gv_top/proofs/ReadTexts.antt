@@ -17,7 +17,7 @@ use Rattle.world.specs.Outside.{WorldMeaning}
 use Rattle.world_rules.specs.declared.question.LogEntry.{LogEntry}
 use Rattle.command_words.specs.declared.command.RunOptions.{RunOptions}
 use Rattle.gv_top.specs.Commands.{Headline}
-use Rattle.gv_top.specs.Running.{run_of}
+use Rattle.run_command.specs.Running.{run_of}
 use Rattle.gv_top.specs.Top.{BlocksAtQuiet, Ended, IsAnswered, Stream}
 use Rattle.gv_top.proofs.Tops.{is_answered, ran_so}
 use Rattle.scenario_reading.specs.Judged.{checked, judged_text}

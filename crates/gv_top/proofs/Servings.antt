@@ -36,7 +36,8 @@ use Rattle.gv_top.specs.Inner.{IsOr}
 use Rattle.gv_top.specs.Status.{verdict_line, verdict_of_server, verdict_status}
 use Rattle.gv_top.specs.Words.{built, offline_command_of, serve_of, serving}
 use Rattle.gv_top.proofs.Built.{NamedAreInRange}
-use Rattle.gv_top.proofs.Tops.{HasFailed, fails, left_as_it_was, no_memory_line, read_line, status_or}
+use Rattle.run_command.proofs.InWorlds.{left_as_it_was}
+use Rattle.gv_top.proofs.Tops.{HasFailed, fails, no_memory_line, read_line, status_or}
 use Rattle.gv_values.specs.declared.limits.TheConstants.{MOST_WORKERS}
 
 -- ---- words that name it

@@ -33,11 +33,13 @@ use Rattle.gv_top.specs.declared.status.Verdict.{Verdict}
 use Rattle.gv_top.specs.declared.words.OfflineCommand.{OfflineCommand}
 use Rattle.scenario_reading.specs.Judged.{judged_text}
 use Rattle.gv_top.specs.Answers.{Answer, IsStormAnswer, answer_of_storm}
-use Rattle.gv_top.specs.Counted.{WasCounted, is_broken_off}
-use Rattle.gv_top.specs.Storming.{IsStorm, storm_run, storm_text}
+use Rattle.run_command.specs.Ends.{is_broken_off}
+use Rattle.gv_top.specs.Counted.{WasCounted}
+use Rattle.run_command.specs.Storming.{IsStorm, storm_text}
+use Rattle.gv_top.specs.Storming.{storm_run}
 use Rattle.gv_top.specs.Top.{Decided, Ended, IsAnswered, Stream}
 use Rattle.gv_top.specs.Status.{verdict_of_run, verdict_of_text}
-use Rattle.gv_top.proofs.InWorlds.{part_logged}
+use Rattle.run_command.proofs.InWorlds.{part_logged}
 use Rattle.gv_top.proofs.ReadTexts.{spelt_is_judged}
 use Rattle.gv_top.proofs.Tops.{answered, status_is}
 use Rattle.gv_values.specs.declared.limits.TheConstants.{MOST_MOVES, MOST_TURNS}

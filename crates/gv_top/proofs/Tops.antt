@@ -24,15 +24,13 @@ use Rattle.scenario_rules.specs.Rules.{IsWellFormed}
 use Rattle.trace_check.specs.Inputs.{most_checked_read}
 use Rattle.gv_top.specs.Answers.{Answer, memory_line, most_read, read_fault_line, write_fault_line}
 use Rattle.gv_top.specs.Commands.{IsLeftAlone}
-use Rattle.gv_top.specs.Running.{IsBegun, IsUnbegun, RanWith}
+use Rattle.run_command.specs.Running.{IsBegun}
+use Rattle.gv_top.specs.Running.{IsUnbegun, RanWith}
 use Rattle.gv_top.specs.Status.{verdict_line, verdict_of_connection, verdict_of_run, verdict_of_server, verdict_status}
 use Rattle.gv_top.specs.Verifying.{IsAnswerOf, IsCheckAnswer}
-use Rattle.gv_top.specs.Top.{Counts, FitsAnswer, Decided, CameTo, Ended, FailsToWrite, IsStatusOf, IsVerdictTold, AnswersConnection, IsAnswered, HasLawfulLines, Stream}
+use Rattle.run_command.specs.Faults.{Counts}
+use Rattle.gv_top.specs.Top.{FitsAnswer, Decided, CameTo, Ended, FailsToWrite, IsStatusOf, IsVerdictTold, AnswersConnection, IsAnswered, HasLawfulLines, Stream}
 use Rattle.gv_top.specs.Inner.{IsExplained, IsOfConnection, IsOr}
-
--- nothing was appended
-pub left_as_it_was : (old new : Option (List ℕ)) (text : List ℕ) → new ≡ old → AppendsPrefix old new text
-left_as_it_was old new text e = let P : Option (List ℕ) → Type 0 = λ x. AppendsPrefix old x text in subst P (sym e) (AppendsPrefix-nothing old text)
 
 -- ---- faults
 

@@ -8,8 +8,9 @@ use Rattle.scenario_grammar.specs.declared.place.Place.{Place}
 use Rattle.scenario_grammar.specs.Printed.{printed}
 use Rattle.scenario_grammar.specs.Reason.{reason_text}
 use Rattle.wsgi_core.specs.Answer.{Sent}
-use Rattle.gv_top.specs.Running.{run_of}
-use Rattle.gv_top.specs.Storming.{IsStorm, storm_run, summary}
+use Rattle.run_command.specs.Running.{run_of}
+use Rattle.run_command.specs.Storming.{IsStorm}
+use Rattle.gv_top.specs.Storming.{storm_run, summary}
 use Rattle.command_words.specs.declared.command.TextCommand.{TextCommand}
 use Rattle.command_words.specs.declared.command.TextCommand.TheVariants.{Run, Format}
 use Rattle.machine.specs.Run.{Ran, End}

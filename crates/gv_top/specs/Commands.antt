@@ -14,8 +14,10 @@ use Rattle.world_rules.specs.declared.question.LogEntry.{LogEntry}
 use Rattle.wsgi_core.specs.Applications.{App}
 use Rattle.gv_top.specs.declared.words.OfflineCommand.{OfflineCommand}
 use Rattle.gv_top.specs.Answers.{answer_of_run, answer_of_storm, formatted, memory_line, most_read, read_fault_line, refused_answer, IsRefusedAt}
-use Rattle.gv_top.specs.Running.{RanWith, run_of}
-use Rattle.gv_top.specs.Storming.{IsStorm, storm_run}
+use Rattle.run_command.specs.Running.{run_of}
+use Rattle.gv_top.specs.Running.{RanWith}
+use Rattle.run_command.specs.Storming.{IsStorm}
+use Rattle.gv_top.specs.Storming.{storm_run}
 use Rattle.machine.specs.Run.{End}
 use Rattle.gv_top.specs.Top.{AnswersConnection, BlocksAtQuiet, Ended, FailsToWrite, HasLawfulLines, IsAnswered, Stream}
 

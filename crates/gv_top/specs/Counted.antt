@@ -1,15 +1,8 @@
 -- The numbers of a run whose lines were counted.
-use Rattle.std.specs.Prelude.{◌≡◌, ℕ, Bool, true, false, length, Some}
+use Rattle.std.specs.Prelude.{◌≡◌, ℕ, length, Some}
 use Rattle.machine.specs.Run.{Ran}
-use Rattle.hub_engine.specs.declared.run.EngineEnd.{EngineEnd}
 use Rattle.hub_engine.specs.declared.run.Ran.{Ran as Came}
 use Rattle.hub_engine.specs.Ends.{CountsOf, end_of_run}
-
--- the run was broken off: its trace could not be written, or memory ran out
-abbrev pub is_broken_off : EngineEnd → Bool
-is_broken_off EngineEnd.WriteFault = true
-is_broken_off EngineEnd.Memory = true
-is_broken_off end = false
 
 -- the run came to this end, with these numbers of its last state, and its trace has so many lines
 pub record WasCounted (came : Came) (lines : ℕ) (r : Ran) : Type 0 where

@@ -1,5 +1,5 @@
 -- What the functions behind the call say to one another. No clause of a public call cites it.
-use Rattle.std.specs.Prelude.{◌≡◌, ◌≢◌, ◌⊎◌, ℕ, Bool, false, List, [], Option, Ok, Err}
+use Rattle.std.specs.Prelude.{◌≡◌, ◌≢◌, ◌⊎◌, ℕ, Bool, List, Option, Ok, Err}
 use Rattle.gv_values.specs.declared.job.Answer.{Answer as Given}
 use Rattle.command_words.specs.declared.command.GatewayKind.{GatewayKind}
 use Rattle.command_words.specs.declared.command.RunOptions.{RunOptions}
@@ -7,19 +7,15 @@ use Rattle.command_words.specs.declared.command.TextCommand.{TextCommand}
 use Rattle.scenario_tree.specs.declared.tree.Scenario.{Scenario}
 use Rattle.scenario_reading.specs.Judged.{HasReason, judged_text}
 use Rattle.world.specs.Outside.{WorldMeaning}
-use Rattle.world_rules.specs.Legal.{AreLegal}
 use Rattle.world_rules.specs.declared.question.LogEntry.{LogEntry}
-use Rattle.machine.specs.Run.{Ran}
-use Rattle.hub_engine.specs.Ends.{IsPartLogged, RanTo}
-use Rattle.hub_engine.specs.Run.{WroteAhead}
-use Rattle.hub_engine.specs.declared.run.EngineEnd.{EngineEnd}
 use Rattle.trace_check.specs.Said.{Verification}
 use Rattle.wsgi_core.specs.Applications.{App}
 use Rattle.wsgi_connection.specs.Connection.{Exchanged}
 use Rattle.wsgi_connection.specs.declared.connection.ConnectionEnd.{ConnectionEnd}
 use Rattle.gv_top.specs.Answers.{no_port, Answer, answer_to_scenario, refused_answer}
 use Rattle.gv_top.specs.Gateway.{answers_by}
-use Rattle.gv_top.specs.Running.{BeganSo, RanWith}
+use Rattle.run_command.specs.Running.{BeganSo}
+use Rattle.gv_top.specs.Running.{RanWith}
 use Rattle.gv_top.specs.Status.{verdict_of_connection, verdict_status}
 use Rattle.gv_top.specs.declared.status.Conclusion.{Conclusion}
 use Rattle.gv_top.specs.declared.status.Failure.{Failure}
@@ -39,19 +35,6 @@ abbrev pub IsOr : Verdict → Verdict → Type 0
 IsOr v w = (w ≡ v) ⊎ ((w ≡ Verdict.Broke Failure.Memory) × (verdict_status v ≢ 0) × (verdict_status v ≢ 4) × (verdict_status v ≢ 5) × (verdict_status v ≢ 10))
 
 -- ---- what was done
-
--- What a world is after the scenario ran in it to this end, where `whole` is the run under each list of answers: it had
--- so many workers and runs no longer; it stands for the log of the run, or for the part up to the break.
-pub record RanInWorld (end : EngineEnd) (whole : List Given → Ran) (workers : ℕ) (before after : WorldMeaning) (stands : List LogEntry → Type 0) (out0 out1 : Option (List ℕ)) : Type 0 where
-  pub written : RanTo end (whole after.answers) out0 out1
-  pub ahead : WroteAhead whole after.answers out0 out1
-  pub part : IsPartLogged (whole after.answers).log after.answers stands
-  pub log : end ≢ EngineEnd.WriteFault → end ≢ EngineEnd.Memory → stands (whole after.answers).log
-  pub legal : AreLegal [] [] (whole after.answers).log
-  pub workers_are : after.workers ≡ workers
-  pub tick : after.tick ≡ before.tick
-  pub reference : after.reference ≡ before.reference
-  pub rests : after.runs ≡ false
 
 -- where the command is a run of the scenario that the bytes spell, native workers ran so
 abbrev pub BeganText : Bool → TextCommand → List ℕ → WorldMeaning → WorldMeaning → Option (List ℕ) → Option (List ℕ) → Option (List ℕ) → Type 0

@@ -1,68 +1,15 @@
--- Runs of a scenario in a world, which is begun before and finished after.
-use Rattle.std.specs.Prelude.{◌≡◌, ◌≢◌, ◌⊎◌, ℕ, Bool, true, false, List, [], Option}
-use Rattle.gv_values.specs.declared.job.Answer.{Answer}
+-- The run of a scenario, by the status of the call.
+use Rattle.std.specs.Prelude.{◌≡◌, ◌≢◌, ◌⊎◌, ℕ, List, Option}
 use Rattle.world_rules.specs.declared.question.LogEntry.{LogEntry}
-use Rattle.world_rules.specs.Legal.{AreLegal, is_answered}
-use Rattle.world.specs.LegalLogs.{HasLegalLog}
 use Rattle.world.specs.Outside.{WorldMeaning}
 use Rattle.scenario_tree.specs.declared.tree.Scenario.{Scenario}
-use Rattle.machine.specs.Run.{Ran, run, script_run}
-use Rattle.machine.specs.TraceLaws.{meets_laws}
-use Rattle.trace_text.specs.Line.{answers_told}
-use Rattle.machine_told.specs.Told.{posts_told}
-use Rattle.hub_engine.specs.Run.{WroteAhead}
 use Rattle.command_words.specs.declared.command.RunOptions.{RunOptions}
-use Rattle.command_words.specs.declared.command.RunWorld.TheVariants.{Script, Native, Held}
-
--- the run of the scenario with these options: under the rule of a script, also where native workers do the jobs and
--- their results are told in its order; or under the answers of native workers
-abbrev pub run_of : RunOptions → List Answer → Scenario → Ran
-run_of options answers s = elim options.world [
-  | Script tick ↦ script_run s options.turns options.moves tick
-  | Native workers ↦ run s options.turns options.moves answers
-  | Held workers ↦ script_run s options.turns options.moves 0
-]
-
--- what holds of a run with these options that was begun: its lines meet the laws of a trace; and with native workers
--- what it says before the last question stood in out when that was answered
-pub record IsBegun (options : RunOptions) (s : Scenario) (answers : List Answer) (out0 out1 : Option (List ℕ)) : Type 0 where
-  pub lawful : meets_laws (run_of options answers s).lines ≡ true
-  pub ahead : (workers : ℕ) → options.world ≡ Native workers → WroteAhead (λ given. run_of options given s) answers out0 out1
+use Rattle.command_words.specs.declared.command.RunWorld.TheVariants.{Native, Held}
+use Rattle.run_command.specs.Running.{IsBegun, RanHeld, RanNatively, run_of}
 
 -- no run was begun: out is as it was, and the status is that of a fault or of want of memory
 abbrev pub IsUnbegun : ℕ → Option (List ℕ) → Option (List ℕ) → Type 0
 IsUnbegun n out0 out1 = (out1 ≡ out0) × ((n ≡ 4) ⊎ (n ≡ 5) ⊎ (n ≡ 7))
-
--- With native workers, what a run says before its last question stood in out when that was answered, and was handed on
--- where they may be long in answering.
-pub record IsRunAhead (waits : Bool) (options : RunOptions) (s : Scenario) (answers : List Answer) (out0 out1 handed1 : Option (List ℕ)) : Type 0 where
-  pub written : (workers : ℕ) → options.world ≡ Native workers → WroteAhead (λ given. run_of options given s) answers out0 out1
-  pub handed : (workers : ℕ) → options.world ≡ Native workers → waits ≡ true → WroteAhead (λ given. run_of options given s) answers out0 handed1
-
--- the run was begun so; or native workers are as they were: nothing was posted to them, and they answered nothing
-abbrev pub BeganSo : Bool → RunOptions → Scenario → WorldMeaning → WorldMeaning → Option (List ℕ) → Option (List ℕ) → Option (List ℕ) → Type 0
-BeganSo waits options s before after out0 out1 handed1 = IsRunAhead waits options s after.answers out0 out1 handed1 ⊎ (after ≡ before)
-
--- What native workers are after a whole run: so many were begun, and run no longer; they were posted the jobs of the
--- job lines, in order, and the turn lines have their answers, each of which is legal; and they stand for the log of the
--- run.
-pub record RanNatively (workers : ℕ) (r : Ran) (after : WorldMeaning) (stands : List LogEntry → Type 0) : Type 0 where
-  pub workers_are : after.workers ≡ workers
-  pub rests : after.runs ≡ false
-  pub posts : posts_told r.lines ≡ after.posts
-  pub answers : answers_told r.lines ≡ after.answers
-  pub legal : AreLegal [] [] r.log
-  pub log : stands r.log
-
--- What native workers are after a whole run whose results were told in the order of a script: so many were begun, and
--- run no longer; they were posted the jobs of the job lines, in order; they answered that a job is done for each of
--- which a turn line says so; and they stand for a log of those posts and of their answers, each of which is legal.
-pub record RanHeld (workers : ℕ) (r : Ran) (after : WorldMeaning) (stands : List LogEntry → Type 0) : Type 0 where
-  pub workers_are : after.workers ≡ workers
-  pub rests : after.runs ≡ false
-  pub posts : posts_told r.lines ≡ after.posts
-  pub done : (number : ℕ) → is_answered number (answers_told r.lines) ≡ true → is_answered number after.answers ≡ true
-  pub logged : ∥ HasLegalLog after stands ∥₁
 
 -- What holds of the run of a scenario with these options, by the status.
 pub record RanWith (n : ℕ) (options : RunOptions) (s : Scenario) (after : WorldMeaning) (stands : List LogEntry → Type 0) (out0 out1 : Option (List ℕ)) : Type 0 where

@@ -1,5 +1,5 @@
 -- What the call leaves behind.
-use Rattle.std.specs.Prelude.{◌≡◌, ◌≢◌, ◌≤◌, ◌⊎◌, ℕ, true, List, Option, Some, None, drop, filter, take}
+use Rattle.std.specs.Prelude.{◌≡◌, ◌≢◌, ◌⊎◌, ℕ, true, List, Option, Some, None, drop, filter, take}
 use Rattle.std.specs.List.{list_all, flat_map}
 use Rattle.gv_values.specs.Counts.{HasRisen}
 use Rattle.gv_io.specs.Streams.{appended, AppendsPrefix}
@@ -21,6 +21,7 @@ use Rattle.machine_blocks.specs.Blocks.{block_lines, is_block}
 use Rattle.wsgi_core.specs.Applications.{App}
 use Rattle.wsgi_connection.specs.Connection.{Exchanged}
 use Rattle.wsgi_connection.specs.declared.connection.ConnectionEnd.{ConnectionEnd}
+use Rattle.run_command.specs.Faults.{Counts}
 use Rattle.gv_top.specs.declared.status.Failure.{Failure}
 use Rattle.gv_top.specs.declared.status.Verdict.{Verdict}
 use Rattle.gv_top.specs.declared.words.OfflineCommand.{OfflineCommand}
@@ -41,12 +42,6 @@ pub record Stream : Type 0 where
 -- what is seen of a stream that was the one and is the other
 abbrev pub seen : {A : Type 0} → (A → Option (List ℕ)) → (A → ℕ) → A → A → Stream
 seen bytes faults old new = record { before = bytes old; after = bytes new; faults_before = faults old; faults_after = faults new }
-
--- the count of a stream's faults never falls: it rose where the stream failed so, and is as it was where it did not
-pub record Counts (fails : Type 0) (old new : ℕ) : Type 0 where
-  pub failed : fails → HasRisen old new
-  pub unfailed : (fails → ⊥) → new ≡ old
-  pub never_falls : old ≤ new
 
 -- nothing that was written is kept back, where nothing was before; but where a write failed or memory ran out
 abbrev pub HandsOn : ℕ → Option (List ℕ) → Option (List ℕ) → Option (List ℕ) → Option (List ℕ) → Type 0

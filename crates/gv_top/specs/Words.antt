@@ -4,13 +4,12 @@ use Rattle.command_words.specs.Words.{Word}
 use Rattle.command_words.specs.Words as words
 use Rattle.command_words.specs.declared.command.NamedCommand.{NamedCommand}
 use Rattle.command_words.specs.declared.command.NamedCommand.TheVariants as named
-use Rattle.command_words.specs.declared.command.RunWorld.{RunWorld}
-use Rattle.command_words.specs.declared.command.RunWorld.TheVariants.{Script, Native, Held}
 use Rattle.command_words.specs.declared.command.ServeAnswers.{ServeAnswers}
 use Rattle.command_words.specs.declared.command.ServeAnswers.TheVariants.{Application, Jobs}
 use Rattle.command_words.specs.declared.command.ServeOptions.{ServeOptions}
 use Rattle.command_words.specs.declared.command.TextCommand.{TextCommand}
 use Rattle.command_words.specs.declared.command.TextCommand.TheVariants.{Run, Format}
+use Rattle.run_command.specs.Running.{is_native_world}
 use Rattle.gv_top.specs.declared.words.OfflineCommand.{OfflineCommand}
 use Rattle.gv_top.specs.declared.words.OfflineCommand.TheVariants.{Text, Wsgi, Storm, Verify}
 
@@ -34,11 +33,6 @@ serving command = None
 -- the options of the server that the words ask for, if they name `serve`
 abbrev pub serve_of : List Word → Option ServeOptions
 serve_of w = option_and_then serving (words.command_of w)
-
-abbrev pub is_native_world : RunWorld → Bool
-is_native_world (Script tick) = false
-is_native_world (Native workers) = true
-is_native_world (Held workers) = true
 
 -- the command is a run with native workers
 abbrev pub is_native_text : TextCommand → Bool

@@ -7,7 +7,7 @@ ghost use Rattle.wsgi_connection.specs.Connection.{Exchanged, HandedAhead, whole
 ghost use Rattle.wsgi_connection.specs.Wholes.{IsWhole};
 ghost use Rattle.gv_top.specs.Answers.{no_port};
 ghost use Rattle.gv_top.specs.Gateway.{answers_by};
-ghost use Rattle.gv_top.specs.Top.{Counts};
+ghost use Rattle.run_command.specs.Faults.{Counts};
 
 use command_words::GatewayKind;
 use gv_io::{Sink, Source};

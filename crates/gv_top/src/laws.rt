@@ -1,6 +1,5 @@
 //! Laws of the definitions: each function only says that its clauses hold.
-ghost use Rattle.std.specs.Prelude.{◌≡◌, ◌<◌, ◌^◌, ℕ, List, Some, None};
-ghost use Rattle.scenario_tree.specs.declared.tree.Scenario.{Scenario};
+ghost use Rattle.std.specs.Prelude.{◌≡◌, ℕ, List, Some, None};
 ghost use Rattle.machine.specs.Budgets.{AreBudgets};
 ghost use Rattle.machine_reached.specs.Laws.{RunsLeaveRoom, RunsStandIn};
 ghost use Rattle.command_words.specs.declared.command.RunOptions.{RunOptions};
@@ -8,7 +7,6 @@ ghost use Rattle.command_words.specs.declared.command.TextCommand.{TextCommand};
 ghost use Rattle.gv_top.specs.declared.words.OfflineCommand.{OfflineCommand};
 ghost use Rattle.gv_values.specs.declared.job.Answer.{Answer as Given};
 ghost use Rattle.gv_top.specs.Answers.{Answer, IsTextAnswer};
-ghost use Rattle.gv_top.specs.Storming.{IsStorm};
 ghost use Rattle.gv_top.specs.Words.{offline_command_of, serve_of};
 
 use command_words::commands_are_in_range;
@@ -24,11 +22,6 @@ pub fn words_name_one()
 pub fn texts_are_answered()
     ensures answered { (command : TextCommand) (given : List Given) (bytes : List ℕ) → (a : Answer) × IsTextAnswer command given bytes a }
     ensures one { (command : TextCommand) (given : List Given) (bytes : List ℕ) (a b : Answer) → IsTextAnswer command given bytes a → IsTextAnswer command given bytes b → a ≡ b }
-{}
-
-/// The text of the storm of any number of greenlets spells a well-formed scenario.
-pub fn storms_are_spelt()
-    ensures { (size : ℕ) → size < 2 ^ 63 → (s : Scenario) × IsStorm size s }
 {}
 
 /// The budgets that words name are in their ranges.

@@ -3,7 +3,6 @@
 
 mod gateway;
 mod laws;
-mod running;
 mod serving;
 mod status;
 mod storming;
@@ -11,8 +10,6 @@ mod top;
 mod verifying;
 mod words;
 
-pub use laws::{
-    budgets_are_in_range, counts_stay_small, storms_are_spelt, texts_are_answered, words_name_one,
-};
+pub use laws::{budgets_are_in_range, counts_stay_small, texts_are_answered, words_name_one};
 pub use serving::gvr;
 pub use top::offline;

@@ -18,10 +18,11 @@ ghost use Rattle.scenario_rules.specs.Rules.{IsWellFormed};
 ghost use Rattle.scenario_tree.specs.declared.tree.Scenario.{Scenario as AnyScenario};
 ghost use Rattle.gv_top.specs.Answers.{most_read, no_port};
 ghost use Rattle.gv_top.specs.Gateway.{answers_by};
-ghost use Rattle.gv_top.specs.Running.{BeganSo};
+ghost use Rattle.run_command.specs.Running.{BeganSo};
 ghost use Rattle.gv_top.specs.declared.words.OfflineCommand.{OfflineCommand};
 ghost use Rattle.gv_top.specs.Serving.{Serves, ServesNatively, ServesWith, limits_of};
-ghost use Rattle.gv_top.specs.Top.{Counts, HandsOn, seen};
+ghost use Rattle.run_command.specs.Faults.{Counts};
+ghost use Rattle.gv_top.specs.Top.{HandsOn, seen};
 ghost use Rattle.gv_top.specs.Words.{are_native, offline_command_of, is_native, is_native_server, reads_input, serve_of};
 
 use crate::gateway::{AppServer, serve_through};

@@ -1,20 +1,22 @@
-//! The storm of many greenlets: its text, its run into a sink that counts lines, and the summary of that.
+//! The storm of many greenlets: its run into a sink that counts lines, and the summary of that.
 ghost use Rattle.std.specs.Prelude.{◌≡◌, ◌≢◌, IfOk, IfSome};
 ghost use Rattle.machine.specs.Run.{Ran as AnyRan};
 ghost use Rattle.gv_top.specs.Answers.{Answer, IsStormAnswer, answer_of_storm};
-ghost use Rattle.gv_top.specs.Counted.{WasCounted, is_broken_off};
-ghost use Rattle.gv_top.specs.Storming.{storm_run, storm_text, summary};
-ghost use Rattle.gv_top.specs.Top.{Counts, Decided, HandsOn};
+ghost use Rattle.gv_top.specs.Counted.{WasCounted};
+ghost use Rattle.gv_top.specs.Storming.{storm_run, summary};
+ghost use Rattle.run_command.specs.Faults.{Counts};
+ghost use Rattle.gv_top.specs.Top.{Decided, HandsOn};
 ghost use Rattle.gv_top.specs.Status.{verdict_of_run, verdict_status};
 ghost use Rattle.gv_top.specs.Inner.{IsExplained};
 
 use crate::status::{Failure, Verdict, verdict_of_run, verdict_of_text};
 use crate::top::send;
 use gv_io::Sink;
-use gv_values::{MOST_MOVES, MOST_TURNS, decimal_text};
+use gv_values::{MOST_MOVES, MOST_TURNS};
 use hub_engine::{Budgets, Engine, EngineEnd, EngineRefusal, Ran};
 use line_counter::LineCounter;
 use machine_scripts::followers_run_scripts;
+use run_command::{is_broken_off, storm_text};
 use scenario_check::Checked;
 use scenario_reading::read_scenario;
 use serve_command::push_number_line;
@@ -40,22 +42,6 @@ struct CountedRun {
     lines: u64,
 }
 
-/// The text of the storm of so many greenlets.
-#[tactic(auto, unfolding(crate::specs::Storming::storm_text))]
-fn storm_text(alloc: Global, size: u32) -> Result<Vec<u8>, AllocError>
-    ensures { IfOk result (λ text. text.items ≡ storm_text size) }
-{
-    let mut text = Vec::new(alloc);
-    text.extend_from_slice(
-        b"sem s 0\ngroup g\ndef w i\nacquire s within 1000\nrelease s\nend\ndef main\nlet i 1\nwhile <= i ",
-    )?;
-    decimal_text(u64::from(size), &mut text)?;
-    text.extend_from_slice(
-        b"\ngspawn g w i\nlet i + i 1\nend\nsleep 0\nrelease s\ngjoin g\nprint counter s\nend\n",
-    )?;
-    Ok(text)
-}
-
 /// The summary of a run as the storm of so many greenlets.
 fn summary_text(alloc: Global, size: u32, run: &CountedRun) -> Result<Vec<u8>, AllocError>
     ensures { IfOk result (λ text. (r : AnyRan) → WasCounted run.now.ran run.now.lines r → text.items ≡ summary size r) }
@@ -68,13 +54,6 @@ fn summary_text(alloc: Global, size: u32, run: &CountedRun) -> Result<Vec<u8>, A
     push_number_line(b"moment", run.ran.moment, &mut text)?;
     push_number_line(b"lines", run.lines, &mut text)?;
     Ok(text)
-}
-
-/// The run was broken off: its trace could not be written, or memory ran out.
-pub(crate) fn is_broken_off(end: EngineEnd) -> bool
-    ensures { result ≡ is_broken_off end }
-{
-    matches!(end, EngineEnd::WriteFault | EngineEnd::Memory)
 }
 
 /// Runs the scenario as a storm, and counts the lines of its trace. None: memory ran out, or there were more lines than

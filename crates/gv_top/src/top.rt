@@ -14,9 +14,10 @@ ghost use Rattle.gv_top.specs.Answers.{Answer, IsStormAnswer, answer_to_scenario
 ghost use Rattle.gv_top.specs.Inner.{answer_to_text, BeganText, IsExplained, IsOfConnection, IsOr, RanScenarioSo, RanSo};
 ghost use Rattle.gv_top.specs.Gateway.{answers_by};
 ghost use Rattle.gv_top.specs.Commands.{AnswersCommand, IsBorneOut, IsLeftAlone};
-ghost use Rattle.gv_top.specs.Running.{BeganSo};
+ghost use Rattle.run_command.specs.Running.{BeganSo};
 ghost use Rattle.gv_top.specs.declared.status.Verdict.{Verdict as AnyVerdict};
-ghost use Rattle.gv_top.specs.Top.{CameTo, Counts, Decided, FitsAnswer, HandsOn, HasLawfulLines, IsVerdictTold, seen};
+ghost use Rattle.run_command.specs.Faults.{Counts};
+ghost use Rattle.gv_top.specs.Top.{CameTo, Decided, FitsAnswer, HandsOn, HasLawfulLines, IsVerdictTold, seen};
 ghost use Rattle.gv_top.specs.Status.{verdict_line, verdict_status};
 ghost use Rattle.gv_top.specs.Checks.{AnswersCheck};
 ghost use Rattle.gv_top.specs.Verifying.{IsAnswerOf, IsCheckAnswer};
@@ -25,7 +26,6 @@ ghost use Rattle.wsgi_connection.specs.Connection.{HandedAhead};
 ghost use Rattle.gv_top.specs.Words.{offline_command_of, is_native, is_native_text, reads_input, serve_of};
 
 use crate::gateway::answer_through;
-use crate::running::run_scenario;
 use crate::status::{
     Conclusion, Failure, Verdict, verdict_of_connection, verdict_of_run, verdict_of_text,
 };
@@ -36,6 +36,7 @@ use command_words::{TextCommand, command_of, commands_are_in_range};
 use gv_io::{Failed, ReadRefusal, Sink, Source, read_limited};
 use machine_blocks::blocks_are_told;
 use machine_trace_laws::blocks_are_quiet;
+use run_command::run_scenario;
 use scenario_check::Checked;
 use scenario_lang::{MOST_TEXT, Scenario, print};
 use scenario_reading::read_scenario;

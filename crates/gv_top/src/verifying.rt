@@ -2,7 +2,8 @@
 ghost use Rattle.std.specs.Prelude.{◌≡◌, ◌≢◌, ℕ, List, Some, drop, take};
 ghost use Rattle.command_words.specs.Ranges.{IsCheckInRange};
 ghost use Rattle.gv_top.specs.Answers.{Answer};
-ghost use Rattle.gv_top.specs.Top.{Counts, Decided, FitsAnswer, HandsOn};
+ghost use Rattle.run_command.specs.Faults.{Counts};
+ghost use Rattle.gv_top.specs.Top.{Decided, FitsAnswer, HandsOn};
 ghost use Rattle.gv_top.specs.Status.{verdict_status};
 ghost use Rattle.gv_top.specs.Inner.{IsExplained};
 ghost use Rattle.gv_top.specs.Verifying.{IsCheckAnswer, verified};

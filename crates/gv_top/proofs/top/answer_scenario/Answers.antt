@@ -2,10 +2,10 @@ use Rattle.std.proofs.Common.{arith, sym, ap, subst, ◌∙◌}
 use Rattle.command_words.specs.declared.command.NamedCommand.TheVariants as named
 use Rattle.command_words.specs.declared.command.TextCommand.{TextCommand}
 use Rattle.command_words.specs.Ranges.{IsInRange}
-use Rattle.gv_top.specs.Running.{run_of}
+use Rattle.run_command.specs.Running.{run_of}
 use Rattle.gv_top.specs.Words.{is_native_text}
 use Rattle.gv_top.proofs.Deciding.{decided_of_this, run_decided}
-use Rattle.gv_top.proofs.Handing.{run_hands, scenario_began}
+use Rattle.gv_top.proofs.Handing.{scenario_began, scenario_hands}
 use Rattle.gv_top.proofs.InWorlds.{format_runs_nothing, run_lawful, scenario_ran}
 use Rattle.gv_top.proofs.Tops.{run_counts, run_explained, run_status}
 use Rattle.gv_top.proofs.top.answer_scenario.Goals as goal
@@ -54,7 +54,7 @@ pub returns-in-Format-clause-began : goal.returns-in-Format-clause-began
 returns-in-Format-clause-began g c = λ options e. format_runs_nothing c.args.command options _ c.in-Format.is e
 
 pub returns-in-Run-clause-hands : goal.returns-in-Run-clause-hands
-returns-in-Run-clause-hands g c = run_hands c.run_scenario.result _ _ _ _ _ c.verdict_of_run.ensures c.run_scenario.ensures.hands
+returns-in-Run-clause-hands g c = scenario_hands c.run_scenario.result _ _ _ _ _ c.verdict_of_run.ensures c.run_scenario.ensures.hands
 
 pub returns-in-Run-clause-command : goal.returns-in-Run-clause-command
 returns-in-Run-clause-command g c = λ h. run_status c.run_scenario.result _ 2 c.verdict_of_run.ensures h (λ e. omega arith) (λ e. omega arith) (λ e. omega arith) (λ e. omega arith) (λ e. omega arith) (λ e. omega arith)

@@ -1,8 +1,7 @@
 use Rattle.std.proofs.Common.{inl, inr, refl}
-use Rattle.gv_top.proofs.Tops.{left_as_it_was}
 use Rattle.machine.specs.Run.{Source}
-use Rattle.gv_top.proofs.InWorlds.{ran_natively}
-use Rattle.gv_top.proofs.running.run_natively.Goals as goal
+use Rattle.run_command.proofs.InWorlds.{left_as_it_was, ran_natively}
+use Rattle.run_command.proofs.running.run_natively.Goals as goal
 
 pub returns-in-Some-clause-native : goal.returns-in-Some-clause-native
 returns-in-Some-clause-native g c = λ w m.
@@ -20,7 +19,7 @@ pub returns-in-None-clause-written : goal.returns-in-None-clause-written
 returns-in-None-clause-written g c = left_as_it_was _ _ _ c.in-None.ensures.unwritten
 
 pub returns-in-None-clause-begun : goal.returns-in-None-clause-begun
-returns-in-None-clause-begun g c = inr (c.in-None.ensures.unwritten, inr (inr refl))
+returns-in-None-clause-begun g c = inr (c.in-None.ensures.unwritten, refl)
 
 pub returns-in-Some-clause-began : goal.returns-in-Some-clause-began
 returns-in-Some-clause-began g c = inl (c.in-Some.ensures.ran.ahead, c.in-Some.ensures.ahead)
@@ -29,7 +28,7 @@ pub returns-in-None-clause-began : goal.returns-in-None-clause-began
 returns-in-None-clause-began g c = inr c.in-None.ensures.kept
 
 pub returns-in-Some-clause-hands : goal.returns-in-Some-clause-hands
-returns-in-Some-clause-hands g c = λ h5 h7 e. c.in-Some.ensures.hands h5 h7
+returns-in-Some-clause-hands g c = c.in-Some.ensures.hands
 
 pub returns-in-None-clause-hands : goal.returns-in-None-clause-hands
-returns-in-None-clause-hands g c = λ h5 h7 e. absurd (h7 refl)
+returns-in-None-clause-hands g c = λ w m. absurd (m refl)

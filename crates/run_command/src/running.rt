@@ -10,13 +10,11 @@ ghost use Rattle.command_words.specs.Ranges.{IsWorldInRange};
 ghost use Rattle.hub_engine.specs.Ends.{RanTo};
 ghost use Rattle.hub_engine.specs.Run.{WroteAhead};
 ghost use Rattle.scenario_rules.specs.Rules.{IsWellFormed};
-ghost use Rattle.gv_top.specs.Running.{BeganSo, IsBegun, IsUnbegun, RanHeld, RanNatively, run_of};
-ghost use Rattle.gv_top.specs.Inner.{RanInWorld};
-ghost use Rattle.gv_top.specs.Top.{Counts, HandsOn};
-ghost use Rattle.gv_top.specs.Status.{verdict_of_run, verdict_status};
-ghost use Rattle.gv_top.specs.Words.{is_native_world};
+ghost use Rattle.run_command.specs.Ends.{HadNoMemory, is_broken_off};
+ghost use Rattle.run_command.specs.Faults.{Counts};
+ghost use Rattle.run_command.specs.Inner.{RanInWorld};
+ghost use Rattle.run_command.specs.Running.{BeganSo, IsBegun, RanHeld, RanNatively, is_native_world, run_of};
 
-use crate::storming::is_broken_off;
 use command_words::{RunOptions, RunWorld};
 use gv_io::Sink;
 use hub_engine::{Budgets, Engine, EngineEnd, EngineRefusal};
@@ -30,11 +28,18 @@ use world::{Held, ScriptWorld, World};
 /// The workers of a script, which has none to start.
 const SCRIPT_WORKERS: u32 = 1;
 
+/// The run was broken off: its trace could not be written, or memory ran out.
+pub fn is_broken_off(end: EngineEnd) -> bool
+    ensures { result ≡ is_broken_off end }
+{
+    matches!(end, EngineEnd::WriteFault | EngineEnd::Memory)
+}
+
 /// The end of the run, once out has handed on what was written to it.
 #[tactic(auto, using(gv_io::proofs::StreamLaws::hands))]
 fn handed_on<K: Sink>(end: EngineEnd, out: &mut K) -> EngineEnd
     ensures same { K.written out.new ≡ K.written out.old }
-    ensures hands { verdict_status (verdict_of_run result) ≢ 5 → verdict_status (verdict_of_run result) ≢ 7 → K.handed out.new ≡ K.written out.new }
+    ensures hands { result ≢ EngineEnd.WriteFault → result ≢ EngineEnd.Memory → K.handed out.new ≡ K.written out.new }
     ensures never_taken_back { Extends (K.handed out.old) (K.handed out.new) }
     ensures end { (result ≡ end) ⊎ (result ≡ EngineEnd.WriteFault) }
     ensures failed { result ≡ EngineEnd.WriteFault → (end ≡ EngineEnd.WriteFault) ⊎ HasRisen (K.faults out.old) (K.faults out.new) }
@@ -66,7 +71,7 @@ fn run_in_world<K: Sink, W: World>(
         (W.meaning world.old) (W.meaning world.new) (W.stands_for world.new) (K.written out.old) (K.written out.new)) }
     ensures counts { IfSome result (λ end. Counts (end ≡ EngineEnd.WriteFault) (K.faults out.old) (K.faults out.new)) }
     ensures ahead { IfSome result (λ end. W.waits ≡ true → WroteAhead (run engine.scenario engine.turns engine.moves) (W.meaning world.new).answers (K.written out.old) (K.handed out.new)) }
-    ensures hands { IfSome result (λ end. verdict_status (verdict_of_run end) ≢ 5 → verdict_status (verdict_of_run end) ≢ 7 → K.handed out.new ≡ K.written out.new) }
+    ensures hands { IfSome result (λ end. end ≢ EngineEnd.WriteFault → end ≢ EngineEnd.Memory → K.handed out.new ≡ K.written out.new) }
     ensures kept { IfNone result (W.meaning world.new ≡ W.meaning world.old) }
     ensures unwritten { IfNone result (K.written out.new ≡ K.written out.old) }
     ensures untried { IfNone result (K.faults out.new ≡ K.faults out.old) }
@@ -84,7 +89,7 @@ fn run_script<K: Sink>(alloc: Global, engine: Engine, tick: u64, out: &mut K) ->
     requires well_formed { IsWellFormed engine.scenario }
     ensures written { RanTo result (script_run engine.scenario engine.turns engine.moves tick) (K.written out.old) (K.written out.new) }
     ensures lawful { meets_laws (script_run engine.scenario engine.turns engine.moves tick).lines ≡ true }
-    ensures hands { HandsOn (verdict_status (verdict_of_run result)) (K.written out.old) (K.handed out.old) (K.written out.new) (K.handed out.new) }
+    ensures hands { result ≢ EngineEnd.WriteFault → result ≢ EngineEnd.Memory → K.handed out.new ≡ K.written out.new }
     ensures counts { Counts (result ≡ EngineEnd.WriteFault) (K.faults out.old) (K.faults out.new) }
 {
     followers_run_scripts();
@@ -110,7 +115,7 @@ fn run_natively<K: Sink, W: World>(
     requires well_formed { IsWellFormed engine.scenario }
     ensures begun { ((meets_laws (run engine.scenario engine.turns engine.moves (W.meaning native.new).answers).lines ≡ true)
         × WroteAhead (run engine.scenario engine.turns engine.moves) (W.meaning native.new).answers (K.written out.old) (K.written out.new))
-        ⊎ IsUnbegun (verdict_status (verdict_of_run result)) (K.written out.old) (K.written out.new) }
+        ⊎ HadNoMemory result (K.written out.old) (K.written out.new) }
     ensures began { (WroteAhead (run engine.scenario engine.turns engine.moves) (W.meaning native.new).answers (K.written out.old) (K.written out.new)
         × (W.waits ≡ true → WroteAhead (run engine.scenario engine.turns engine.moves) (W.meaning native.new).answers (K.written out.old) (K.handed out.new)))
         ⊎ (W.meaning native.new ≡ W.meaning native.old) }
@@ -118,7 +123,7 @@ fn run_natively<K: Sink, W: World>(
     ensures native { result ≢ EngineEnd.WriteFault → result ≢ EngineEnd.Memory →
         RanNatively workers (run engine.scenario engine.turns engine.moves (W.meaning native.new).answers) (W.meaning native.new) (W.stands_for native.new) }
     ensures rests { (W.meaning native.new).runs ≡ false }
-    ensures hands { HandsOn (verdict_status (verdict_of_run result)) (K.written out.old) (K.handed out.old) (K.written out.new) (K.handed out.new) }
+    ensures hands { result ≢ EngineEnd.WriteFault → result ≢ EngineEnd.Memory → K.handed out.new ≡ K.written out.new }
     ensures counts { Counts (result ≡ EngineEnd.WriteFault) (K.faults out.old) (K.faults out.new) }
 {
     posts_and_answers_are_told();
@@ -146,7 +151,7 @@ fn run_held<K: Sink, W: World>(
     ensures native { result ≢ EngineEnd.WriteFault → result ≢ EngineEnd.Memory →
         RanHeld workers (script_run engine.scenario engine.turns engine.moves 0) (W.meaning native.new) (W.stands_for native.new) }
     ensures rests { (W.meaning native.new).runs ≡ false }
-    ensures hands { HandsOn (verdict_status (verdict_of_run result)) (K.written out.old) (K.handed out.old) (K.written out.new) (K.handed out.new) }
+    ensures hands { result ≢ EngineEnd.WriteFault → result ≢ EngineEnd.Memory → K.handed out.new ≡ K.written out.new }
     ensures counts { Counts (result ≡ EngineEnd.WriteFault) (K.faults out.old) (K.faults out.new) }
 {
     followers_run_scripts();
@@ -179,11 +184,11 @@ pub fn run_scenario<K: Sink, W: World>(
     ensures held { (workers : ℕ) → options.world ≡ RunWorld.Held workers → result ≢ EngineEnd.WriteFault → result ≢ EngineEnd.Memory →
         RanHeld workers (run_of options (W.meaning native.new).answers checked) (W.meaning native.new) (W.stands_for native.new) }
     ensures begun { IsBegun options checked (W.meaning native.new).answers (K.written out.old) (K.written out.new)
-        ⊎ IsUnbegun (verdict_status (verdict_of_run result)) (K.written out.old) (K.written out.new) }
+        ⊎ HadNoMemory result (K.written out.old) (K.written out.new) }
     ensures began { BeganSo W.waits options checked (W.meaning native.old) (W.meaning native.new) (K.written out.old) (K.written out.new) (K.handed out.new) }
     ensures untouched { is_native_world options.world ≡ false → native.new ≡ native.old }
     ensures rests { (W.meaning native.new).runs ≡ false }
-    ensures hands { HandsOn (verdict_status (verdict_of_run result)) (K.written out.old) (K.handed out.old) (K.written out.new) (K.handed out.new) }
+    ensures hands { result ≢ EngineEnd.WriteFault → result ≢ EngineEnd.Memory → K.handed out.new ≡ K.written out.new }
     ensures counts { Counts (result ≡ EngineEnd.WriteFault) (K.faults out.old) (K.faults out.new) }
 {
     let budgets = Budgets {

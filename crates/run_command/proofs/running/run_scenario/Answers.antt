@@ -1,9 +1,8 @@
 use Rattle.std.proofs.Common.{inr, refl}
-use Rattle.gv_top.proofs.InWorlds.{begun_by_held, begun_by_script, begun_by_workers, held_so, ran_by_held, ran_by_script, ran_by_workers}
+use Rattle.run_command.proofs.InWorlds.{begun_by_held, begun_by_script, begun_by_workers, few_held, few_workers, held_so, ran_by_held, ran_by_script, ran_by_workers, some_held, some_workers}
 use Rattle.gv_io.proofs.StreamLaws.{AppendsPrefix-nothing}
-use Rattle.gv_top.proofs.Handing.{began_held, began_natively}
-use Rattle.gv_top.proofs.Built.{few_held, few_workers, some_held, some_workers}
-use Rattle.gv_top.proofs.running.run_scenario.Goals as goal
+use Rattle.run_command.proofs.Handing.{began_held, began_natively}
+use Rattle.run_command.proofs.running.run_scenario.Goals as goal
 
 pub unreachable-requires : goal.unreachable-requires
 unreachable-requires g c =
@@ -21,7 +20,7 @@ pub returns-in-Err-Memory-clause-written : goal.returns-in-Err-Memory-clause-wri
 returns-in-Err-Memory-clause-written g c = AppendsPrefix-nothing _ _
 
 pub returns-in-Err-Memory-clause-begun : goal.returns-in-Err-Memory-clause-begun
-returns-in-Err-Memory-clause-begun g c = inr (refl, inr (inr refl))
+returns-in-Err-Memory-clause-begun g c = inr (refl, refl)
 
 pub returns-in-Script-clause-written : goal.returns-in-Script-clause-written
 returns-in-Script-clause-written g c =
@@ -71,4 +70,4 @@ pub returns-in-Held-clause-began : goal.returns-in-Held-clause-began
 returns-in-Held-clause-began g c = began_held _ c.args.options c.in-Held.workers c.args.checked _ _ _ _ _ c.in-Held.is
 
 pub returns-in-Err-Memory-clause-hands : goal.returns-in-Err-Memory-clause-hands
-returns-in-Err-Memory-clause-hands g c = λ h5 h7 e. absurd (h7 refl)
+returns-in-Err-Memory-clause-hands g c = λ w m. absurd (m refl)

@@ -1,9 +1,8 @@
 use Rattle.std.proofs.Common.{rules, ◌≡◌, refl, subst}
 use Rattle.machine.specs.Run.{script_run}
-use Rattle.gv_top.specs.Running.{RanHeld}
-use Rattle.gv_top.proofs.Tops.{left_as_it_was}
-use Rattle.gv_top.proofs.InWorlds.{ran_held, script_ran}
-use Rattle.gv_top.proofs.running.run_held.Goals as goal
+use Rattle.run_command.specs.Running.{RanHeld}
+use Rattle.run_command.proofs.InWorlds.{left_as_it_was, ran_held, script_ran}
+use Rattle.run_command.proofs.running.run_held.Goals as goal
 
 -- what holds of the world that was given back holds of the one that was lent
 held_there : {W : Type 0} (P : W → Type 0) (back lent : W) → back ≡ lent → P back → P lent
@@ -29,7 +28,7 @@ pub returns-in-None-clause-written : goal.returns-in-None-clause-written
 returns-in-None-clause-written g c = left_as_it_was _ _ _ c.in-None.ensures.unwritten
 
 pub returns-in-Some-clause-hands : goal.returns-in-Some-clause-hands
-returns-in-Some-clause-hands g c = λ h5 h7 e. c.in-Some.ensures.hands h5 h7
+returns-in-Some-clause-hands g c = c.in-Some.ensures.hands
 
 pub returns-in-None-clause-hands : goal.returns-in-None-clause-hands
-returns-in-None-clause-hands g c = λ h5 h7 e. absurd (h7 refl)
+returns-in-None-clause-hands g c = λ w m. absurd (m refl)

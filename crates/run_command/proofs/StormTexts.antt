@@ -44,7 +44,7 @@ use Rattle.scenario_grammar.specs.Spells.{AreTreeLines, Spells}
 use Rattle.scenario_grammar.specs.Token.{◌⊕◌, ◌▹◌, only_if, name, token_of, token_in, known_in, number_token, in_64_bits, begins_number}
 use Rattle.scenario_rules.specs.Mention.{statement_mentions}
 use Rattle.scenario_rules.specs.Rules.{IsWellFormed}
-use Rattle.gv_top.specs.Storming.{storm_text, storm_head, storm_tail}
+use Rattle.run_command.specs.Storming.{storm_text, storm_head, storm_tail}
 
 -- ---- the scenario
 

@@ -1,8 +1,7 @@
 use Rattle.std.proofs.Common.{refl}
-use Rattle.gv_top.proofs.Tops.{left_as_it_was}
 use Rattle.world.specs.Kept.{script_meaning}
-use Rattle.gv_top.proofs.InWorlds.{script_ran}
-use Rattle.gv_top.proofs.running.run_script.Goals as goal
+use Rattle.run_command.proofs.InWorlds.{left_as_it_was, script_ran}
+use Rattle.run_command.proofs.running.run_script.Goals as goal
 
 pub returns-in-Some-clause-written : goal.returns-in-Some-clause-written
 returns-in-Some-clause-written g c =
@@ -21,7 +20,7 @@ returns-clause-lawful g c =
     (c.scripts_run_lawfully.ensures c.args.engine.scenario c.args.engine.turns c.args.engine.moves c.args.tick c.requires.well_formed).lawful
 
 pub returns-in-Some-clause-hands : goal.returns-in-Some-clause-hands
-returns-in-Some-clause-hands g c = λ h5 h7 e. c.in-Some.ensures.hands h5 h7
+returns-in-Some-clause-hands g c = c.in-Some.ensures.hands
 
 pub returns-clause-hands : goal.returns-clause-hands
-returns-clause-hands g c = λ h5 h7 e. absurd (h7 refl)
+returns-clause-hands g c = λ w m. absurd (m refl)

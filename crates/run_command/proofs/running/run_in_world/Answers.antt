@@ -1,9 +1,9 @@
 use Rattle.std.proofs.Common.{ap}
 use Rattle.machine.specs.Run.{run}
 use Rattle.world.specs.Outside.{WorldMeaning}
-use Rattle.gv_top.proofs.Handing.{ahead_later}
-use Rattle.gv_top.proofs.InWorlds.{counts_handed, ran_in_world}
-use Rattle.gv_top.proofs.running.run_in_world.Goals as goal
+use Rattle.run_command.proofs.Handing.{ahead_later}
+use Rattle.run_command.proofs.InWorlds.{counts_handed, ran_in_world}
+use Rattle.run_command.proofs.running.run_in_world.Goals as goal
 
 pub returns-clause-ran : goal.returns-clause-ran
 returns-clause-ran g c =

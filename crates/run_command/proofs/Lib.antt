@@ -1,0 +1,3 @@
+pub mod InWorlds
+pub mod Handing
+pub mod StormTexts

@@ -1,0 +1,5 @@
+pub mod Running
+pub mod Ends
+pub mod Faults
+pub mod Inner
+pub mod Storming
