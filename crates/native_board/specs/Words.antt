@@ -1,5 +1,5 @@
 -- How the words of a cell are read. Any word can be read, as something.
-use Rattle.std.specs.Prelude.{ℕ, zero, suc, ◌+◌, ◌*◌, ◌/◌, ◌%◌, List, slice_index, ℤ, pos}
+use Rattle.std.specs.Prelude.{ℕ, zero, suc, ◌+◌, ◌*◌, ◌/◌, ◌%◌, ◌^◌, List, slice_index, ℤ, pos}
 use mir.Val.{to_z}
 use mir.Syntax.{w64}
 use Rattle.gv_values.specs.declared.job.JobKind.{JobKind}
