@@ -130,7 +130,7 @@ function rowsOf(lines, lanes) {
     const isLast = number + 1 === lines.length;
     const isNear = isOwn || at === number;
     const isKept = own(words).some((it) => lanes.includes(it)) || (LOOP.includes(words[0]) && isNear) || isLast;
-    if (!isKept || (rows.length >= MOST_ROWS - 2 && !isLast)) return;
+    if (!isKept || (rows.length >= MOST_ROWS - 3 && !isLast)) return;
     if (at < number) rows.push(new Row(at, number - 1, null));
     rows.push(new Row(number, number, words));
     isOwn = !LOOP.includes(words[0]);
