@@ -156,10 +156,13 @@ fn below_zero(magnitude: u64) -> Result<i64, LineFault>
     ensures reads { (rest : Text) → Reads (below_zero magnitude rest) result rest }
     ensures fits { IfOk result IntFits }
 {
-    if magnitude == 0 || magnitude > 1 << 63 {
+    if magnitude == 0 {
         return Err(LineFault::NotALine);
     }
-    Ok(-((magnitude - 1) as i64) - 1)
+    match 0_i64.checked_sub_unsigned(magnitude) {
+        Some(number) => Ok(number),
+        None => Err(LineFault::NotALine),
+    }
 }
 
 #[tactic(auto, unfolding(crate::specs::Fronts::not_below_zero))]

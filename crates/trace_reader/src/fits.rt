@@ -3,96 +3,97 @@
 #![tactic(auto)]
 
 ghost use Rattle.std.specs.Prelude.{◌<◌, ◌^◌};
-ghost use Rattle.trace_reader.specs.Ranges.{IntFits, FaultFits, ScalarFits, ScalarsFit, ValueFits, OutcomeFits, WhomFits, NameFits, AwaitedFits, UntilFits, LinkCallFits, JobFits, BlockedFits, JobOutcomeFits, AnswerFits, CauseFits, LineFits};
+ghost use Rattle.trace_reader.specs.Ranges.{IntFits, FaultFits, ScalarFits, ScalarsFit, ValueFits, OutcomeFits, NameFits, AwaitedFits, UntilFits, LinkCallFits, JobFits, BlockedFits, AnswerFits, CauseFits, LineFits};
 
-use gv_values::{Answer, FaultKind, Job, JobOutcome, Name, Outcome, Scalar, Value, Whom};
+use gv_values::{Answer, FaultKind, Job, Name, Outcome, Scalar, Value};
 use trace_text::{Awaited, Blocked, Line, LinkCall, StopCause};
 
 /// A line is one that there is: its numbers fit their types, its names are names, its lists have at most
-/// `MOST_ELEMENTS` scalars. The body is long since each kind of line has its arm, with a call for each field.
+/// `MOST_ELEMENTS` scalars. Each kind of line has one call, which is cheaper to prove than a call for each field.
 pub fn line_fits(line: &Line)
     ensures { LineFits line.now }
 {
     match line {
-        Line::Start { greenlet, function } => {
-            u32_fits(*greenlet);
-            name_fits(*function);
-        }
-        Line::Print { greenlet, value } => {
-            u32_fits(*greenlet);
-            value_fits(value);
-        }
+        Line::Start { greenlet, function } => start_fits(*greenlet, *function),
+        Line::Print { greenlet, value } => print_fits(*greenlet, value),
         Line::Park {
             greenlet,
             awaited,
             until,
-        } => {
-            u32_fits(*greenlet);
-            awaited_fits(*awaited);
-            until_fits(*until);
-        }
+        } => park_fits(*greenlet, *awaited, *until),
         Line::Resume { greenlet, by: _ } => u32_fits(*greenlet),
-        Line::Throw { greenlet, fault } => {
-            u32_fits(*greenlet);
-            fault_fits(*fault);
-        }
-        Line::Into { greenlet, input } => {
-            u32_fits(*greenlet);
-            outcome_fits(input);
-        }
-        Line::End { greenlet, outcome } => {
-            u32_fits(*greenlet);
-            outcome_fits(outcome);
-        }
+        Line::Throw { greenlet, fault } => throw_fits(*greenlet, *fault),
+        Line::Into { greenlet, input } => with_outcome_fits(*greenlet, input),
+        Line::End { greenlet, outcome } => with_outcome_fits(*greenlet, outcome),
         Line::Link {
             number,
             greenlet,
             call,
-        } => {
-            u32_fits(*number);
-            u32_fits(*greenlet);
-            link_call_fits(*call);
-        }
+        } => link_fits(*number, *greenlet, *call),
         Line::Job {
             number,
             greenlet,
             job,
-        } => {
-            u32_fits(*number);
-            u32_fits(*greenlet);
-            job_fits(*job);
-        }
+        } => job_fits(*number, *greenlet, *job),
         Line::Block(blocked) => blocked_fits(*blocked),
-        Line::Turn { number, answer } => {
-            u64_fits(*number);
-            answer_fits(*answer);
-        }
+        Line::Turn { number, answer } => turn_fits(*number, *answer),
         Line::Stop {
             cause,
             turns,
             moves,
-        } => {
-            cause_fits(cause);
-            u64_fits(*turns);
-            u64_fits(*moves);
-        }
+        } => stop_fits(cause, *turns, *moves),
     }
+}
+
+fn start_fits(greenlet: u32, function: Name)
+    ensures { (greenlet < 2 ^ 32) × NameFits function }
+{}
+
+fn print_fits(greenlet: u32, value: &Value)
+    ensures { (greenlet < 2 ^ 32) × ValueFits value.now }
+{
+    value_fits(value)
+}
+
+fn park_fits(greenlet: u32, awaited: Awaited, until: Option<u64>)
+    ensures { (greenlet < 2 ^ 32) × AwaitedFits awaited × UntilFits until }
+{}
+
+fn throw_fits(greenlet: u32, fault: FaultKind)
+    ensures { (greenlet < 2 ^ 32) × FaultFits fault }
+{}
+
+/// The greenlet and the outcome of a line `into` or `end`.
+fn with_outcome_fits(greenlet: u32, outcome: &Outcome)
+    ensures { (greenlet < 2 ^ 32) × OutcomeFits outcome.now }
+{
+    outcome_fits(outcome)
+}
+
+fn link_fits(number: u32, greenlet: u32, call: LinkCall)
+    ensures { (number < 2 ^ 32) × (greenlet < 2 ^ 32) × LinkCallFits call }
+{}
+
+fn job_fits(number: u32, greenlet: u32, job: Job)
+    ensures { (number < 2 ^ 32) × (greenlet < 2 ^ 32) × JobFits job }
+{}
+
+fn turn_fits(number: u64, answer: Answer)
+    ensures { (number < 2 ^ 64) × AnswerFits answer }
+{}
+
+fn stop_fits(cause: &StopCause, turns: u64, moves: u64)
+    ensures { CauseFits cause.now × (turns < 2 ^ 64) × (moves < 2 ^ 64) }
+{
+    cause_fits(cause)
 }
 
 fn u32_fits(number: u32)
     ensures { number < 2 ^ 32 }
 {}
 
-fn u64_fits(number: u64)
-    ensures { number < 2 ^ 64 }
-{}
-
 fn i64_fits(integer: i64)
     ensures { IntFits integer }
-{}
-
-fn name_fits(name: Name)
-    ensures { NameFits name }
 {}
 
 fn fault_fits(fault: FaultKind)
@@ -138,36 +139,8 @@ fn outcome_fits(outcome: &Outcome)
     }
 }
 
-fn whom_fits(whom: Whom)
-    ensures { WhomFits whom }
-{}
-
-fn awaited_fits(awaited: Awaited)
-    ensures { AwaitedFits awaited }
-{}
-
-fn until_fits(until: Option<u64>)
-    ensures { UntilFits until }
-{}
-
-fn link_call_fits(call: LinkCall)
-    ensures { LinkCallFits call }
-{}
-
-fn job_fits(job: Job)
-    ensures { JobFits job }
-{}
-
 fn blocked_fits(blocked: Blocked)
     ensures { BlockedFits blocked }
-{}
-
-fn job_outcome_fits(outcome: JobOutcome)
-    ensures { JobOutcomeFits outcome }
-{}
-
-fn answer_fits(answer: Answer)
-    ensures { AnswerFits answer }
 {}
 
 fn cause_fits(cause: &StopCause)
