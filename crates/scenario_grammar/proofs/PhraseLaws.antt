@@ -1,5 +1,5 @@
 -- A line's tokens say a phrase exactly where they are those of the phrase.
-use Rattle.std.proofs.Common.{◌≡◌, ℕ, nat_le, Bool, true, false, if◌then◌else◌, List, [], ◌∷◌, ◌++◌, map, Option, Some, None, Result, Ok, Err, refl, sym, ap, subst, ◌∙◌, append-nil}
+use Rattle.std.proofs.Common.{◌≡◌, ℕ, nat_le, Bool, true, false, if◌then◌else◌, List, [], ◌∷◌, ◌++◌, map, Option, Some, None, Result, Ok, Err, is_ok, refl, sym, ap, subst, ◌∙◌, append-nil}
 use Rattle.std.specs.List.{list_all}
 use Rattle.std.specs.Str.Parse.{signed_digits_value}
 use Rattle.gv_values.specs.declared.name.Name.{Name}
@@ -237,18 +237,22 @@ unmarked (phrase.Timeout after silent) ts h w = line_read l.timeout_line (after,
 unmarked phrase.End ts h w = line_read l.end_line tt ts refl w
 
 -- no line has `<-` behind a fixed word
-no_arrow : (word : Keyword) (us : List Token) (p : Phrase) → phrase_by word (token.Fixed k.Arrow ∷ us) ≡ Ok (p, []) → ⊥
+arrow_refused : (word : Keyword) (us : List Token) → is_ok (whole (phrase_by word (token.Fixed k.Arrow ∷ us))) ≡ false
 unfolding name_at number_at nested_at
-no_arrow k.Else us p e = let none = ok_second phrase.Else p (token.Fixed k.Arrow ∷ us) [] e in cc
-no_arrow k.Try us p e = let none = ok_second phrase.Try p (token.Fixed k.Arrow ∷ us) [] e in cc
-no_arrow k.Finally us p e = let none = ok_second phrase.Finally p (token.Fixed k.Arrow ∷ us) [] e in cc
-no_arrow k.End us p e = let none = ok_second phrase.End p (token.Fixed k.Arrow ∷ us) [] e in cc
-no_arrow word us p e = cc
+arrow_refused k.Else us = refl
+arrow_refused _ us = refl
+
+no_arrow : (word : Keyword) (us : List Token) (p : Phrase) → phrase_by word (token.Fixed k.Arrow ∷ us) ≡ Ok (p, []) → ⊥
+no_arrow word us p e = cc (arrow_refused word us, ap (λ r. is_ok (whole r)) e)
+
+-- of use where there is a case for each word: `cc` in each would be dear
+unlike : false ≡ true → ⊥
+unlike e = cc
 
 -- the second token is `<-`
 given_shape : (ts : List Token) → is_given ts ≡ true → (t : Token) × (us : List Token) × (ts ≡ t ∷ token.Fixed k.Arrow ∷ us)
 given_shape (t ∷ token.Fixed k.Arrow ∷ us) e = (t, us, refl)
-given_shape _ e = cc
+given_shape _ e = absurd (unlike e)
 
 not_given : (word : Keyword) (front : List Token) (p : Phrase) → phrase_by word front ≡ Ok (p, []) → (b : Bool) → is_given (token.Fixed word ∷ front) ≡ b → b ≡ false
 not_given word front p read false e = refl
