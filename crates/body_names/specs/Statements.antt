@@ -1,5 +1,5 @@
 -- What the statements of one line with numbers stand for, where these are the names.
-use Rattle.std.specs.Prelude.{List, map, option_map}
+use Rattle.std.specs.Prelude.{⊤, List, map, option_map}
 use Rattle.gv_values.specs.declared.name.Name.{Name}
 use Rattle.scenario_tree.specs.declared.tree.Command.{Command}
 use Rattle.scenario_tree.specs.declared.tree.Giving.{Giving}
@@ -57,3 +57,49 @@ giving_of names (Grant.Raw f e) = Giving.Raw (name_of names f) (option_map (expr
 giving_of names (Grant.Switch e d) = Giving.Switch (expression_of names e) (expression_of names d)
 giving_of names (Grant.Throw e f) = Giving.Throw (expression_of names e) (option_map (expression_of names) f)
 giving_of names (Grant.ChannelGet n) = Giving.ChannelGet (name_of names n)
+
+-- ---- statements by what they do
+
+-- one that does something to greenlets
+abbrev pub ChangesGreenlet : Command → Type 0
+ChangesGreenlet (Command.Start e) = ⊤
+ChangesGreenlet (Command.Join e t) = ⊤
+ChangesGreenlet (Command.Kill e f w) = ⊤
+ChangesGreenlet (Command.KillAll e f w) = ⊤
+ChangesGreenlet (Command.Unlink e) = ⊤
+ChangesGreenlet (Command.SetParent e d) = ⊤
+ChangesGreenlet c = ⊥
+
+-- one that does something to an object, and gives it no value
+abbrev pub ChangesObject : Command → Type 0
+ChangesObject (Command.Set n) = ⊤
+ChangesObject (Command.Clear n) = ⊤
+ChangesObject (Command.Release n) = ⊤
+ChangesObject (Command.QueueDone n) = ⊤
+ChangesObject (Command.QueueShut n immediate) = ⊤
+ChangesObject (Command.GroupJoin n t) = ⊤
+ChangesObject (Command.GroupKill n f now) = ⊤
+ChangesObject c = ⊥
+
+-- one that makes greenlets or a job
+abbrev pub Makes : Giving → Type 0
+Makes (Giving.Spawn f es) = ⊤
+Makes (Giving.SpawnLater ms f es) = ⊤
+Makes (Giving.New f es) = ⊤
+Makes (Giving.GroupSpawn n f es) = ⊤
+Makes (Giving.Map n f e) = ⊤
+Makes (Giving.NativeSpawn n job e takes) = ⊤
+Makes (Giving.Raw f e) = ⊤
+Makes g = ⊥
+
+-- one that asks an object for what it gives
+abbrev pub AsksObject : Giving → Type 0
+AsksObject (Giving.WaitEvent n t) = ⊤
+AsksObject (Giving.ResultGet n w) = ⊤
+AsksObject (Giving.ResultWait n t) = ⊤
+AsksObject (Giving.Acquire n w) = ⊤
+AsksObject (Giving.QueueGet n w) = ⊤
+AsksObject (Giving.QueuePeek n w) = ⊤
+AsksObject (Giving.QueueJoin n t) = ⊤
+AsksObject (Giving.ChannelGet n) = ⊤
+AsksObject g = ⊥

@@ -2,7 +2,7 @@
 ghost use Rattle.std.specs.Prelude.{◌≡◌, ◌++◌, List, IfOk};
 ghost use Rattle.gv_values.specs.declared.name.Name.{Name as Word};
 ghost use Rattle.body_names.specs.Naming.{Grows, IsKept};
-ghost use Rattle.body_names.specs.Statements.{giving_of};
+ghost use Rattle.body_names.specs.Statements.{AsksObject, Makes, giving_of};
 
 use crate::expression::{FlatExpression, flat_expression};
 use crate::naming::Naming;
@@ -45,7 +45,8 @@ pub enum FlatGiving {
     ChannelGet(u32),
 }
 
-/// The statement with numbers. `AllocError`: memory is wanting. The body is long since each statement has its arm.
+/// The statement with numbers. `AllocError`: memory is wanting. Its forms stand in three functions, which are proved in
+/// less time than one.
 pub fn flat_giving(
     alloc: Global,
     naming: &mut Naming,
@@ -57,18 +58,6 @@ pub fn flat_giving(
     ensures same { IfOk result (λ g. (more : List Word) → giving_of (naming.new.names ++ more) g ≡ giving.now) }
 {
     match giving {
-        Giving::Spawn(a, b) => {
-            let (a, b) = got!(name_items(alloc, naming, a, b));
-            Ok(FlatGiving::Spawn(a, b))
-        }
-        Giving::SpawnLater(a, b, c) => {
-            let (b, c) = got!(name_items(alloc, naming, b, c));
-            Ok(FlatGiving::SpawnLater(*a, b, c))
-        }
-        Giving::New(a, b) => {
-            let (a, b) = got!(name_items(alloc, naming, a, b));
-            Ok(FlatGiving::New(a, b))
-        }
         Giving::Get(a, b) => Ok(FlatGiving::Get(got!(flat_expression(alloc, naming, a)), *b)),
         Giving::JoinAll(a, b, c) => Ok(FlatGiving::JoinAll(
             got!(flat_expression(alloc, naming, a)),
@@ -87,13 +76,57 @@ pub fn flat_giving(
             let (a, b) = got!(expression_name(alloc, naming, a, b));
             Ok(FlatGiving::LinkSet(a, b))
         }
-        Giving::WaitEvent(a, b) => Ok(FlatGiving::WaitEvent(got!(naming.number(alloc, a)), *b)),
-        Giving::ResultGet(a, b) => Ok(FlatGiving::ResultGet(got!(naming.number(alloc, a)), *b)),
-        Giving::ResultWait(a, b) => Ok(FlatGiving::ResultWait(got!(naming.number(alloc, a)), *b)),
-        Giving::Acquire(a, b) => Ok(FlatGiving::Acquire(got!(naming.number(alloc, a)), *b)),
-        Giving::QueueGet(a, b) => Ok(FlatGiving::QueueGet(got!(naming.number(alloc, a)), *b)),
-        Giving::QueuePeek(a, b) => Ok(FlatGiving::QueuePeek(got!(naming.number(alloc, a)), *b)),
-        Giving::QueueJoin(a, b) => Ok(FlatGiving::QueueJoin(got!(naming.number(alloc, a)), *b)),
+        Giving::Switch(a, b) => {
+            let (a, b) = got!(expression_expression(alloc, naming, a, b));
+            Ok(FlatGiving::Switch(a, b))
+        }
+        Giving::Throw(a, b) => {
+            let (a, b) = got!(expression_optional(alloc, naming, a, b));
+            Ok(FlatGiving::Throw(a, b))
+        }
+        Giving::Spawn(..)
+        | Giving::SpawnLater(..)
+        | Giving::New(..)
+        | Giving::GroupSpawn(..)
+        | Giving::Map(..)
+        | Giving::NativeSpawn(..)
+        | Giving::Raw(..) => flat_making(alloc, naming, giving),
+        Giving::WaitEvent(..)
+        | Giving::ResultGet(..)
+        | Giving::ResultWait(..)
+        | Giving::Acquire(..)
+        | Giving::QueueGet(..)
+        | Giving::QueuePeek(..)
+        | Giving::QueueJoin(..)
+        | Giving::ChannelGet(..) => flat_object_giving(alloc, naming, giving),
+    }
+}
+
+/// The statement makes greenlets or a job.
+fn flat_making(
+    alloc: Global,
+    naming: &mut Naming,
+    giving: &Giving,
+) -> Result<FlatGiving, AllocError>
+    requires kept { IsKept naming.old.numbers naming.old.names }
+    requires makes { Makes giving.now }
+    ensures kept { IfOk result (λ _. IsKept naming.new.numbers naming.new.names) }
+    ensures grows { IfOk result (λ _. Grows naming.old.names naming.new.names) }
+    ensures same { IfOk result (λ g. (more : List Word) → giving_of (naming.new.names ++ more) g ≡ giving.now) }
+{
+    match giving {
+        Giving::Spawn(a, b) => {
+            let (a, b) = got!(name_items(alloc, naming, a, b));
+            Ok(FlatGiving::Spawn(a, b))
+        }
+        Giving::SpawnLater(a, b, c) => {
+            let (b, c) = got!(name_items(alloc, naming, b, c));
+            Ok(FlatGiving::SpawnLater(*a, b, c))
+        }
+        Giving::New(a, b) => {
+            let (a, b) = got!(name_items(alloc, naming, a, b));
+            Ok(FlatGiving::New(a, b))
+        }
         Giving::GroupSpawn(a, b, c) => {
             let a = got!(naming.number(alloc, a));
             let (b, c) = got!(name_items(alloc, naming, b, c));
@@ -112,14 +145,31 @@ pub fn flat_giving(
             let (a, b) = got!(name_optional(alloc, naming, a, b));
             Ok(FlatGiving::Raw(a, b))
         }
-        Giving::Switch(a, b) => {
-            let (a, b) = got!(expression_expression(alloc, naming, a, b));
-            Ok(FlatGiving::Switch(a, b))
-        }
-        Giving::Throw(a, b) => {
-            let (a, b) = got!(expression_optional(alloc, naming, a, b));
-            Ok(FlatGiving::Throw(a, b))
-        }
+        _ => unreachable!(),
+    }
+}
+
+/// The statement asks an object for what it gives.
+fn flat_object_giving(
+    alloc: Global,
+    naming: &mut Naming,
+    giving: &Giving,
+) -> Result<FlatGiving, AllocError>
+    requires kept { IsKept naming.old.numbers naming.old.names }
+    requires object { AsksObject giving.now }
+    ensures kept { IfOk result (λ _. IsKept naming.new.numbers naming.new.names) }
+    ensures grows { IfOk result (λ _. Grows naming.old.names naming.new.names) }
+    ensures same { IfOk result (λ g. (more : List Word) → giving_of (naming.new.names ++ more) g ≡ giving.now) }
+{
+    match giving {
+        Giving::WaitEvent(a, b) => Ok(FlatGiving::WaitEvent(got!(naming.number(alloc, a)), *b)),
+        Giving::ResultGet(a, b) => Ok(FlatGiving::ResultGet(got!(naming.number(alloc, a)), *b)),
+        Giving::ResultWait(a, b) => Ok(FlatGiving::ResultWait(got!(naming.number(alloc, a)), *b)),
+        Giving::Acquire(a, b) => Ok(FlatGiving::Acquire(got!(naming.number(alloc, a)), *b)),
+        Giving::QueueGet(a, b) => Ok(FlatGiving::QueueGet(got!(naming.number(alloc, a)), *b)),
+        Giving::QueuePeek(a, b) => Ok(FlatGiving::QueuePeek(got!(naming.number(alloc, a)), *b)),
+        Giving::QueueJoin(a, b) => Ok(FlatGiving::QueueJoin(got!(naming.number(alloc, a)), *b)),
         Giving::ChannelGet(a) => Ok(FlatGiving::ChannelGet(got!(naming.number(alloc, a)))),
+        _ => unreachable!(),
     }
 }
