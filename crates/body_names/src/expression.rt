@@ -36,7 +36,6 @@ pub enum FlatExpression {
 
 /// The expression with numbers, for which its names are given them. `AllocError`: memory is wanting.
 #[cycle(flat)]
-#[tactic(auto, using(crate::proofs::Expressions::nothing_stands, crate::proofs::Expressions::bool_stands, crate::proofs::Expressions::int_stands, crate::proofs::Expressions::local_stands, crate::proofs::Expressions::current_stands, crate::proofs::Expressions::fault_stands, crate::proofs::Expressions::unary_stands, crate::proofs::Expressions::binary_stands, crate::proofs::Expressions::and_stands, crate::proofs::Expressions::or_stands, crate::proofs::Expressions::list_stands, crate::proofs::Expressions::query_stands))]
 pub fn flat_expression(
     alloc: Global,
     naming: &mut Naming,
