@@ -1,5 +1,5 @@
 -- What stands on a line, of parts that were made one after another.
-use Rattle.std.proofs.Common.{◌≡◌, ap, subst, ◌∙◌, ℕ, List, Option, Result, Ok, Err, IfOk, option_map}
+use Rattle.std.proofs.Common.{◌≡◌, ap, subst, ◌∙◌, ℕ, List, [], ◌∷◌, ◌++◌, Option, Result, Ok, Err, IfOk, option_map}
 use Rattle.gv_values.specs.declared.name.Name.{Name}
 use Rattle.scenario_tree.specs.declared.tree.Action.{Action}
 use Rattle.scenario_tree.specs.declared.tree.Action.TheVariants as A
@@ -13,8 +13,9 @@ use Rattle.body_names.specs.declared.giving.FlatGiving.{FlatGiving}
 use Rattle.body_names.specs.Expressions.{expression_of}
 use Rattle.body_names.specs.Statements.{giving_of}
 use Rattle.body_blocks.specs.declared.statement.FlatAction.{FlatAction}
+use Rattle.body_blocks.specs.Making.{IsPushed}
 use Rattle.body_blocks.specs.Trees.{Coded, Grows, action_of, block_at, except_of, joined, name_if}
-use Rattle.body_blocks.proofs.Growing.{later}
+use Rattle.body_blocks.proofs.Growing.{Taken, later, taken_more}
 
 -- the expression, the name and the block, whatever is made after them
 abbrev pub IsTest : Coded → FlatExpression → Expression → Type 0
@@ -53,6 +54,12 @@ if_action_stands (Err e) f c d x same g h = tt
 -- what was shared was made
 pub was_made : {T E : Type 0} (r : Result T E) (x : T) (P : T → Type 0) → r ≡ Ok x → IfOk r P → P x
 was_made {T} {E} r x P e h = subst (λ (s : Result T E). IfOk s P) e h
+
+-- one more is taken, and what was made of it is put behind the others
+pub made_more : {X Y E : Type 0} (f : Coded → X → Y) (c d : Coded) (old new : List Y) (xs done : List X) (r : Result X E) (y : Y) (whole : List Y) → Taken f c old xs whole →
+    IfOk r (λ _. Grows c d) → IfOk r (λ x. (more : Coded) → f (joined d more) x ≡ y) → old ≡ new ++ y ∷ [] → IsPushed r xs done → Taken f d new done whole
+made_more f c d old new xs done r y whole taken g h e p =
+    taken_more f c d old new xs p.0 y whole taken (was_made r p.0 (λ _. Grows c d) p.1 g) (was_made r p.0 (λ x. (more : Coded) → f (joined d more) x ≡ y) p.1 h) e done p.2
 
 pub except_stands : (c d : Coded) (e : Except) (slot : Option LocalSlot) (n : ℕ) → Grows c d → IsTarget c slot (out-Except e).name → IsBlock d n (out-Except e).body → (more : Coded) →
     except_of (joined d more) (record { line = (out-Except e).line; class = (out-Except e).class; name = slot; body = n }) ≡ e

@@ -1,7 +1,7 @@
 //! Blocks of a tree.
 ghost use Rattle.std.specs.Prelude.{◌≡◌, map, option_map, IfOk, Ok};
 ghost use Rattle.scenario_tree.specs.declared.tree.Action.TheVariants as action;
-ghost use Rattle.body_blocks.specs.Making.{IsMaking, made};
+ghost use Rattle.body_blocks.specs.Making.{IsMaking, IsPushed, made};
 ghost use Rattle.body_blocks.specs.Trees.{Coded, Grows, action_of, block_at, except_of, joined, statement_of};
 
 use crate::making::Making;
@@ -28,8 +28,7 @@ pub fn add_block(
     let mut left = block;
     let mut statements = Vec::with_capacity(alloc, left.len())?;
     while let Some(statement) = left.pop() {
-        let flat = add_statement(alloc, making, statement)?;
-        statements.push(flat)?;
+        push_made(&mut statements, add_statement(alloc, making, statement))?;
     }
     Ok(making.push(turned(statements))?)
 }
@@ -46,8 +45,10 @@ fn add_statement(
     ensures same { IfOk result (λ s. (more : Coded) → statement_of (joined (made making.new) more) s ≡ statement) }
 {
     let Statement { line, action } = statement;
-    let action = add_action(alloc, making, action)?;
-    Ok(FlatStatement { line, action })
+    match add_action(alloc, making, action) {
+        Ok(action) => Ok(FlatStatement { line, action }),
+        Err(e) => Err(e),
+    }
 }
 
 #[cycle(block)]
@@ -96,7 +97,10 @@ fn add_command(
     ensures grows { IfOk result (λ _. Grows (made making.old) (made making.new)) }
     ensures same { IfOk result (λ a. (more : Coded) → action_of (joined (made making.new) more) a ≡ action.Command command) }
 {
-    Ok(FlatAction::Command(making.command(alloc, command)?))
+    match making.command(alloc, command) {
+        Ok(command) => Ok(FlatAction::Command(command)),
+        Err(e) => Err(e),
+    }
 }
 
 /// The block behind the `else` is there.
@@ -171,6 +175,15 @@ fn add_handlers(
     Ok(Handlers { excepts, finally })
 }
 
+/// What was made is put behind the others. A caller holds nothing that it would have to drop where memory is wanting.
+fn push_made<T: Drop>(others: &mut Vec<T>, made: Result<T, AllocError>) -> Result<(), AllocError>
+    ensures { IfOk result (λ _. IsPushed made others.old.items others.new.items) }
+{
+    let one = made?;
+    others.push(one)?;
+    Ok(())
+}
+
 /// What was made is shared.
 fn shared<T: Drop>(alloc: Global, made: Result<T, AllocError>) -> Result<Rc<T>, AllocError>
     ensures { IfOk result (λ rc. made ≡ Ok rc.value) }
@@ -211,8 +224,7 @@ fn add_excepts(
     let mut left = excepts;
     let mut flat = Vec::with_capacity(alloc, left.len())?;
     while let Some(except) = left.pop() {
-        let one = add_except(alloc, making, except)?;
-        flat.push(one)?;
+        push_made(&mut flat, add_except(alloc, making, except))?;
     }
     Ok(turned(flat))
 }

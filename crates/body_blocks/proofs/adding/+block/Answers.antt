@@ -2,10 +2,10 @@ use Rattle.std.proofs.Common.{◌∙◌, Some, None, ap, arith, sym}
 use Rattle.scenario_tree.proofs.tree.Except.TheLaws as except
 use Rattle.scenario_tree.proofs.tree.Statement.TheLaws as statement
 use Rattle.scenario_tree.specs.declared.tree.Action.TheVariants as A
-use Rattle.body_blocks.specs.Making.{made}
+use Rattle.body_blocks.specs.Making.{IsMaking, made}
 use Rattle.body_blocks.specs.Trees.{Grows, Stands, block_at, except_of, joined, statement_of}
-use Rattle.body_blocks.proofs.Growing.{all_left, all_taken, grown, if_grown, nothing, pushed_block, pushed_grow, same_grow, stand_own, taken_more, taken_within}
-use Rattle.body_blocks.proofs.Standing.{IsTest, block_later, except_stands, if_action_stands, if_stands, was_made, while_stands}
+use Rattle.body_blocks.proofs.Growing.{all_left, all_taken, grown, if_grown, nothing, pushed_block, pushed_grow, same_grow, stand_own, taken_within}
+use Rattle.body_blocks.proofs.Standing.{IsTest, block_later, except_stands, if_action_stands, if_stands, made_more, was_made, while_stands}
 use Rattle.body_blocks.proofs.adding.+block.Goals as goal
 
 pub add_action-returns-in_ok-no-in-Some-clause-grows : goal.add_action-returns-in_ok-no-in-Some-clause-grows
@@ -86,16 +86,18 @@ add_block-add_statement-requires t c =
 
 pub add_block-loop-statement-preserved : goal.add_block-loop-statement-preserved
 add_block-loop-statement-preserved t c = record {
-  kept = c.in_ok-flat.ensures.kept;
-  grows = grown (made c.args.making.now) (made c.loop-statement.making) (made c.add_statement.new.making) c.loop-statement.invariant.grows c.in_ok-flat.ensures.grows;
+  kept = was_made c.add_statement.result c.in_ok-push_made.ensures.0 (λ _. IsMaking c.add_statement.new.making) c.in_ok-push_made.ensures.1 c.add_statement.ensures.kept;
+  grows =
+      grown (made c.args.making.now) (made c.loop-statement.making) (made c.add_statement.new.making) c.loop-statement.invariant.grows
+      (was_made c.add_statement.result c.in_ok-push_made.ensures.0 (λ _. Grows (made c.loop-statement.making) (made c.add_statement.new.making)) c.in_ok-push_made.ensures.1 c.add_statement.ensures.grows);
   taken =
-      taken_more statement_of (made c.loop-statement.making) (made c.add_statement.new.making) c.loop-statement.left c.pop.new.self c.loop-statement.statements.items c.in_ok-flat.flat
-      c.in-Some.statement c.args.block c.loop-statement.invariant.taken c.in_ok-flat.ensures.grows c.in_ok-flat.ensures.same c.in-Some.ensures c.push.new.self.items
-      c.in_ok-push.ensures.items;
+      made_more statement_of (made c.loop-statement.making) (made c.add_statement.new.making) c.loop-statement.left c.pop.new.self c.loop-statement.statements.items c.push_made.new.others.items
+      c.add_statement.result c.in-Some.statement c.args.block c.loop-statement.invariant.taken c.add_statement.ensures.grows c.add_statement.ensures.same c.in-Some.ensures
+      c.in_ok-push_made.ensures;
 }
 
-pub add_block-push-requires-2-clause-stands : goal.add_block-push-requires-2-clause-stands
-add_block-push-requires-2-clause-stands t c =
+pub add_block-push-requires-clause-stands : goal.add_block-push-requires-clause-stands
+add_block-push-requires-clause-stands t c =
     let stands : Stands (made c.loop-statement.making) c.turned.result c.args.block =
     all_taken statement_of (made c.loop-statement.making) c.loop-statement.left c.loop-statement.statements.items c.turned.result c.args.block
     c.loop-statement.invariant.taken c.in_default.ensures.0 c.turned.ensures in
@@ -103,15 +105,15 @@ add_block-push-requires-2-clause-stands t c =
 
 pub add_block-returns-clause-grows : goal.add_block-returns-clause-grows
 add_block-returns-clause-grows t c =
-    pushed_grow (made c.args.making.now) (made c.loop-statement.making) (made c.push-2.new.self) c.turned.result c.loop-statement.invariant.grows c.in_ok-push-2.ensures.grows
+    pushed_grow (made c.args.making.now) (made c.loop-statement.making) (made c.push.new.self) c.turned.result c.loop-statement.invariant.grows c.in_ok-push.ensures.grows
 
 pub add_block-returns-clause-same : goal.add_block-returns-clause-same
 add_block-returns-clause-same t c =
     let stands : Stands (made c.loop-statement.making) c.turned.result c.args.block =
     all_taken statement_of (made c.loop-statement.making) c.loop-statement.left c.loop-statement.statements.items c.turned.result c.args.block
     c.loop-statement.invariant.taken c.in_default.ensures.0 c.turned.ensures in
-    pushed_block (made c.loop-statement.making) (made c.push-2.new.self) c.turned.result c.args.block c.in_ok-push-2.field-0 stands c.in_ok-push-2.ensures.grows
-    c.in_ok-push-2.ensures.number
+    pushed_block (made c.loop-statement.making) (made c.push.new.self) c.turned.result c.args.block c.in_ok-push.field-0 stands c.in_ok-push.ensures.grows
+    c.in_ok-push.ensures.number
 
 pub add_except-returns-clause-grows : goal.add_except-returns-clause-grows
 add_except-returns-clause-grows t c =
@@ -136,12 +138,14 @@ add_excepts-add_except-requires t c =
 
 pub add_excepts-loop-except-preserved : goal.add_excepts-loop-except-preserved
 add_excepts-loop-except-preserved t c = record {
-  kept = c.in_ok-one.ensures.kept;
-  grows = grown (made c.args.making.now) (made c.loop-except.making) (made c.add_except.new.making) c.loop-except.invariant.grows c.in_ok-one.ensures.grows;
+  kept = was_made c.add_except.result c.in_ok-push_made.ensures.0 (λ _. IsMaking c.add_except.new.making) c.in_ok-push_made.ensures.1 c.add_except.ensures.kept;
+  grows =
+      grown (made c.args.making.now) (made c.loop-except.making) (made c.add_except.new.making) c.loop-except.invariant.grows
+      (was_made c.add_except.result c.in_ok-push_made.ensures.0 (λ _. Grows (made c.loop-except.making) (made c.add_except.new.making)) c.in_ok-push_made.ensures.1 c.add_except.ensures.grows);
   taken =
-      taken_more except_of (made c.loop-except.making) (made c.add_except.new.making) c.loop-except.left c.pop.new.self c.loop-except.flat.items c.in_ok-one.one
-      c.in-Some.except c.args.excepts c.loop-except.invariant.taken c.in_ok-one.ensures.grows c.in_ok-one.ensures.same c.in-Some.ensures c.push.new.self.items
-      c.in_ok-push.ensures.items;
+      made_more except_of (made c.loop-except.making) (made c.add_except.new.making) c.loop-except.left c.pop.new.self c.loop-except.flat.items c.push_made.new.others.items
+      c.add_except.result c.in-Some.except c.args.excepts c.loop-except.invariant.taken c.add_except.ensures.grows c.add_except.ensures.same c.in-Some.ensures
+      c.in_ok-push_made.ensures;
 }
 
 pub add_excepts-returns-clause-same : goal.add_excepts-returns-clause-same
