@@ -3,3 +3,4 @@ mod Numbers
 mod Spaced
 mod Whole
 pub mod Unsaid
+pub mod Arrow

@@ -1,52 +1,53 @@
 -- The statements that give a value, by what follows their word.
-use Rattle.std.specs.Prelude.{◌≡◌, Bool, true, false, List, Result, Ok, Err}
-use Rattle.scenario_grammar.specs.declared.keyword.Keyword.{Keyword}
-use Rattle.scenario_grammar.specs.declared.keyword.Keyword.TheVariants as k
-use Rattle.scenario_grammar.specs.Reading.{Reader, ◌<$>◌, ◌<*>◌, expression_at, name_at, raw_link_at}
+use Rattle.std.specs.Prelude.{◌≡◌, ℕ, List, Option, Result, Ok, Err}
+use Rattle.gv_values.specs.declared.name.Name.{Name}
+use Rattle.scenario_grammar.specs.Reading.{Reader, ◌<$>◌, ◌<*>◌, all_at, expression_at, name_at, raw_link_at, timed_at, wait_at}
 use Rattle.scenario_grammar.specs.declared.token.Token.{Token}
+use Rattle.scenario_lines.specs.declared.giving.Awaiting.{Awaiting}
+use Rattle.scenario_lines.specs.declared.giving.Awaiting.TheVariants as awaiting
+use Rattle.scenario_lines.specs.declared.giving.Call.{Call}
+use Rattle.scenario_lines.specs.declared.giving.Call.TheVariants as call
 use Rattle.scenario_lines.specs.declared.giving.RawTarget.{RawTarget}
 use Rattle.scenario_lines.specs.declared.giving.RawTarget.TheVariants as target
+use Rattle.scenario_lines.specs.declared.giving.Taking.{Taking}
+use Rattle.scenario_lines.specs.declared.giving.Taking.TheVariants as taking
 use Rattle.scenario_lines.specs.declared.refusal.LineRefusal.{LineRefusal}
 use Rattle.scenario_lines.specs.declared.refusal.LineRefusal.TheVariants as refusal
 use Rattle.scenario_tree.specs.declared.tree.Expression.{Expression}
 use Rattle.scenario_tree.specs.declared.tree.Giving.{Giving}
 use Rattle.scenario_tree.specs.declared.tree.Giving.TheVariants as giving
 use Rattle.scenario_tree.specs.declared.tree.LinkEnd.{LinkEnd}
+use Rattle.scenario_tree.specs.declared.tree.Wait.{Wait}
 
--- a greenlet follows, or a list of them
-abbrev pub asks_greenlet : Keyword → Bool
-asks_greenlet k.Get = true
-asks_greenlet k.JoinAll = true
-asks_greenlet k.Switch = true
-asks_greenlet k.Throw = true
-asks_greenlet k.Link = true
-asks_greenlet k.LinkValue = true
-asks_greenlet k.LinkFault = true
-asks_greenlet k.RawLink = true
-asks_greenlet _ = false
+-- a function, and its arguments
+abbrev pub called : Call → Name → List Expression → Giving
+called call.Spawn = giving.Spawn
+called call.New = giving.New
 
--- an object follows, of which something is taken or awaited
-abbrev pub asks_object : Keyword → Bool
-asks_object k.Wait = true
-asks_object k.ResultGet = true
-asks_object k.ResultWait = true
-asks_object k.Acquire = true
-asks_object k.QueueGet = true
-asks_object k.QueuePeek = true
-asks_object k.QueueJoin = true
-asks_object k.ChannelGet = true
-asks_object _ = false
+-- such a call, behind its word
+abbrev pub called_at : Call → Reader Giving
+called_at by = called by <$> name_at <*> all_at expression_at
 
--- greenlets are made, or a job is posted
-abbrev pub makes : Keyword → Bool
-makes k.Spawn = true
-makes k.SpawnLater = true
-makes k.New = true
-makes k.GroupSpawn = true
-makes k.Map = true
-makes k.NativeSpawn = true
-makes k.Raw = true
-makes _ = false
+-- an object, and how long what it gives is waited for
+abbrev pub taken : Taking → Name → Wait → Giving
+taken taking.Result = giving.ResultGet
+taken taking.Unit = giving.Acquire
+taken taking.Item = giving.QueueGet
+taken taking.Peek = giving.QueuePeek
+
+-- the same behind its word
+abbrev pub taken_at : Taking → Reader Giving
+taken_at what = taken what <$> name_at <*> wait_at
+
+-- an object, and how long it is waited for
+abbrev pub awaited : Awaiting → Name → Option ℕ → Giving
+awaited awaiting.Event = giving.WaitEvent
+awaited awaiting.Result = giving.ResultWait
+awaited awaiting.Queue = giving.QueueJoin
+
+-- the same behind its word
+abbrev pub awaited_at : Awaiting → Reader Giving
+awaited_at what = awaited what <$> name_at <*> timed_at
 
 -- the greenlet of a link to this end, and the function that it calls
 abbrev pub link_at : LinkEnd → Reader Giving

@@ -5,3 +5,5 @@ pub mod Numbers
 pub mod Taken
 pub mod Givings
 pub mod Joints
+pub mod Parts
+pub mod Phrases

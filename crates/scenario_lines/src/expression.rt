@@ -6,7 +6,7 @@ ghost use Rattle.scenario_lines.specs.Joints.{joined, of_two_at};
 
 use crate::cursor::Cursor;
 use crate::head::expression_head;
-use crate::parts::both;
+use crate::parts::{both, push_part};
 use crate::refusal::LineRefusal;
 use gv_values::{FaultKind, MOST_ELEMENTS};
 use scenario_grammar::{Head, MOST_NESTED, TextReason, Token};
@@ -139,8 +139,7 @@ fn counted(
 {
     let mut items = Items::new(alloc);
     for _ in 0..count {
-        let item = nested(alloc, cursor, depth)?;
-        items.push(item)?;
+        push_part(&mut items, nested(alloc, cursor, depth))?;
     }
     Ok(items)
 }

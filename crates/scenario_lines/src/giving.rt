@@ -1,13 +1,13 @@
 //! Reading the rest of a statement that gives a value.
-ghost use Rattle.std.specs.Prelude.{◌≡◌, ◌-◌, length, true};
+ghost use Rattle.std.specs.Prelude.{◌-◌, length};
 ghost use Rattle.scenario_grammar.specs.declared.limits.TheConstants.{MOST_MARK};
 ghost use Rattle.scenario_grammar.specs.Reading.{with_at, under_at, job_kind_of, word_at, all_at, expression_at, count_of_at, number_at, takes_at, giving_by};
-ghost use Rattle.scenario_lines.specs.Givings.{ReadsRawTarget, asks_greenlet, asks_object, link_at, makes};
+ghost use Rattle.scenario_lines.specs.Givings.{ReadsRawTarget, awaited_at, called_at, link_at, taken_at};
 ghost use Rattle.scenario_lines.specs.Reads.{Reads};
 
 use crate::cursor::Cursor;
 use crate::expression::read_expression;
-use crate::parts::both;
+use crate::parts::{both, push_part};
 use crate::refusal::LineRefusal;
 use gv_values::{JobKind, MOST_ELEMENTS, Name};
 use scenario_grammar::{Keyword, MOST_MARK, MOST_MS, TextReason, Token};
@@ -19,6 +19,31 @@ use std::alloc::Global;
 enum RawTarget {
     Mark(u32),
     Event(Name),
+}
+
+/// What a function is called for.
+#[derive(Clone, Copy)]
+enum Call {
+    Spawn,
+    New,
+}
+
+/// What is taken from an object, which may be waited for.
+#[derive(Clone, Copy)]
+enum Taking {
+    Result,
+    Unit,
+    Item,
+    /// An item that stays in its queue.
+    Peek,
+}
+
+/// What is waited for at an object.
+#[derive(Clone, Copy)]
+enum Awaiting {
+    Event,
+    Result,
+    Queue,
 }
 
 /// `with` and an expression, where that stands there.
@@ -94,8 +119,7 @@ fn arguments(alloc: Global, cursor: &mut Cursor<'_>) -> Result<Items<Expression>
         if cursor.is_empty() {
             return Ok(arguments);
         }
-        let argument = read_expression(alloc, cursor)?;
-        arguments.push(argument)?;
+        push_part(&mut arguments, read_expression(alloc, cursor))?;
     }
     Ok(arguments)
 }
@@ -116,51 +140,29 @@ pub fn read_giving(
     ensures { Reads (giving_by word cursor.old) result cursor.new }
 {
     match word {
-        Keyword::Get
-        | Keyword::JoinAll
-        | Keyword::Switch
-        | Keyword::Throw
-        | Keyword::Link
-        | Keyword::LinkValue
-        | Keyword::LinkFault
-        | Keyword::RawLink => read_of_greenlet(alloc, cursor, word),
-        Keyword::Wait
-        | Keyword::ResultGet
-        | Keyword::ResultWait
-        | Keyword::Acquire
-        | Keyword::QueueGet
-        | Keyword::QueuePeek
-        | Keyword::QueueJoin
-        | Keyword::ChannelGet => read_of_object(cursor, word),
-        Keyword::Spawn
-        | Keyword::SpawnLater
-        | Keyword::New
-        | Keyword::GroupSpawn
-        | Keyword::Map
-        | Keyword::NativeSpawn
-        | Keyword::Raw => read_making(alloc, cursor, word),
-        _ => Err(LineRefusal::Reason(TextReason::UnknownWord)),
-    }
-}
-
-/// The rest of a statement that names a greenlet first, or a list of them.
-fn read_of_greenlet(
-    alloc: Global,
-    cursor: &mut Cursor<'_>,
-    word: Keyword,
-) -> Result<Giving, LineRefusal>
-    requires { asks_greenlet word ≡ true }
-    ensures { Reads (giving_by word cursor.old) result cursor.new }
-{
-    match word {
+        Keyword::Spawn => read_call(alloc, cursor, Call::Spawn),
+        Keyword::SpawnLater => read_spawn_later(alloc, cursor),
+        Keyword::New => read_call(alloc, cursor, Call::New),
         Keyword::Get => read_get(alloc, cursor),
         Keyword::JoinAll => read_join_all(alloc, cursor),
-        Keyword::Switch => read_switch(alloc, cursor),
-        Keyword::Throw => read_throw(alloc, cursor),
         Keyword::Link => read_link(alloc, cursor, LinkEnd::Any),
         Keyword::LinkValue => read_link(alloc, cursor, LinkEnd::Value),
         Keyword::LinkFault => read_link(alloc, cursor, LinkEnd::Fault),
         Keyword::RawLink => read_raw_link(alloc, cursor),
+        Keyword::Wait => read_awaiting(cursor, Awaiting::Event),
+        Keyword::ResultGet => read_taking(cursor, Taking::Result),
+        Keyword::ResultWait => read_awaiting(cursor, Awaiting::Result),
+        Keyword::Acquire => read_taking(cursor, Taking::Unit),
+        Keyword::QueueGet => read_taking(cursor, Taking::Item),
+        Keyword::QueuePeek => read_taking(cursor, Taking::Peek),
+        Keyword::QueueJoin => read_awaiting(cursor, Awaiting::Queue),
+        Keyword::GroupSpawn => read_group_spawn(alloc, cursor),
+        Keyword::Map => read_map(alloc, cursor),
+        Keyword::NativeSpawn => read_native_spawn(alloc, cursor),
+        Keyword::Raw => read_raw(alloc, cursor),
+        Keyword::Switch => read_switch(alloc, cursor),
+        Keyword::Throw => read_throw(alloc, cursor),
+        Keyword::ChannelGet => read_channel_get(cursor),
         _ => Err(LineRefusal::Reason(TextReason::UnknownWord)),
     }
 }
@@ -232,47 +234,50 @@ fn raw_target(cursor: &mut Cursor<'_>) -> Result<RawTarget, LineRefusal>
     }
 }
 
-/// The rest of a statement that names an object first, and takes from it or waits for it.
-fn read_of_object(cursor: &mut Cursor<'_>, word: Keyword) -> Result<Giving, LineRefusal>
-    requires { asks_object word ≡ true }
-    ensures { Reads (giving_by word cursor.old) result cursor.new }
+/// The object that something is taken from, and how long it is waited for.
+fn read_taking(cursor: &mut Cursor<'_>, taking: Taking) -> Result<Giving, LineRefusal>
+    ensures { Reads (taken_at taking cursor.old) result cursor.new }
 {
     let object = cursor.name()?;
-    match word {
-        Keyword::Wait => Ok(Giving::WaitEvent(object, cursor.timed()?)),
-        Keyword::ResultGet => Ok(Giving::ResultGet(object, cursor.wait()?)),
-        Keyword::ResultWait => Ok(Giving::ResultWait(object, cursor.timed()?)),
-        Keyword::Acquire => Ok(Giving::Acquire(object, cursor.wait()?)),
-        Keyword::QueueGet => Ok(Giving::QueueGet(object, cursor.wait()?)),
-        Keyword::QueuePeek => Ok(Giving::QueuePeek(object, cursor.wait()?)),
-        Keyword::QueueJoin => Ok(Giving::QueueJoin(object, cursor.timed()?)),
-        Keyword::ChannelGet => Ok(Giving::ChannelGet(object)),
-        _ => Err(LineRefusal::Reason(TextReason::UnknownWord)),
-    }
+    let wait = cursor.wait()?;
+    Ok(match taking {
+        Taking::Result => Giving::ResultGet(object, wait),
+        Taking::Unit => Giving::Acquire(object, wait),
+        Taking::Item => Giving::QueueGet(object, wait),
+        Taking::Peek => Giving::QueuePeek(object, wait),
+    })
 }
 
-/// The rest of a statement that makes greenlets or posts a job.
-fn read_making(alloc: Global, cursor: &mut Cursor<'_>, word: Keyword) -> Result<Giving, LineRefusal>
-    requires { makes word ≡ true }
-    ensures { Reads (giving_by word cursor.old) result cursor.new }
+/// The object that is waited for, and for how long.
+fn read_awaiting(cursor: &mut Cursor<'_>, awaiting: Awaiting) -> Result<Giving, LineRefusal>
+    ensures { Reads (awaited_at awaiting cursor.old) result cursor.new }
 {
-    match word {
-        Keyword::Spawn => read_spawn(alloc, cursor),
-        Keyword::SpawnLater => read_spawn_later(alloc, cursor),
-        Keyword::New => read_new(alloc, cursor),
-        Keyword::GroupSpawn => read_group_spawn(alloc, cursor),
-        Keyword::Map => read_map(alloc, cursor),
-        Keyword::NativeSpawn => read_native_spawn(alloc, cursor),
-        Keyword::Raw => read_raw(alloc, cursor),
-        _ => Err(LineRefusal::Reason(TextReason::UnknownWord)),
-    }
+    let object = cursor.name()?;
+    let time = cursor.timed()?;
+    Ok(match awaiting {
+        Awaiting::Event => Giving::WaitEvent(object, time),
+        Awaiting::Result => Giving::ResultWait(object, time),
+        Awaiting::Queue => Giving::QueueJoin(object, time),
+    })
 }
 
-/// The rest of a spawn.
-fn read_spawn(alloc: Global, cursor: &mut Cursor<'_>) -> Result<Giving, LineRefusal>
-    ensures { Reads (giving_by Keyword.Spawn cursor.old) result cursor.new }
+/// The rest of a channel's get.
+fn read_channel_get(cursor: &mut Cursor<'_>) -> Result<Giving, LineRefusal>
+    ensures { Reads (giving_by Keyword.ChannelGet cursor.old) result cursor.new }
 {
-    Ok(Giving::Spawn(cursor.name()?, arguments(alloc, cursor)?))
+    Ok(Giving::ChannelGet(cursor.name()?))
+}
+
+/// The function that is called, and its arguments.
+fn read_call(alloc: Global, cursor: &mut Cursor<'_>, call: Call) -> Result<Giving, LineRefusal>
+    ensures { Reads (called_at call cursor.old) result cursor.new }
+{
+    let function = cursor.name()?;
+    let arguments = arguments(alloc, cursor)?;
+    Ok(match call {
+        Call::Spawn => Giving::Spawn(function, arguments),
+        Call::New => Giving::New(function, arguments),
+    })
 }
 
 /// The rest of a spawnlater.
@@ -280,13 +285,6 @@ fn read_spawn_later(alloc: Global, cursor: &mut Cursor<'_>) -> Result<Giving, Li
     ensures { Reads (giving_by Keyword.SpawnLater cursor.old) result cursor.new }
 {
     Ok(Giving::SpawnLater(cursor.time()?, cursor.name()?, arguments(alloc, cursor)?))
-}
-
-/// The rest of a new.
-fn read_new(alloc: Global, cursor: &mut Cursor<'_>) -> Result<Giving, LineRefusal>
-    ensures { Reads (giving_by Keyword.New cursor.old) result cursor.new }
-{
-    Ok(Giving::New(cursor.name()?, arguments(alloc, cursor)?))
 }
 
 /// The rest of a group's spawn.

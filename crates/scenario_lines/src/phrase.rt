@@ -2,6 +2,8 @@
 ghost use Rattle.std.specs.Prelude.{◌≡◌, Ok, Some, if◌then◌else◌};
 ghost use Rattle.scenario_grammar.specs.declared.limits.TheConstants.{MOST_MS};
 ghost use Rattle.scenario_grammar.specs.Reading.{number_at, after_at, all_at, binding_at, class_at, fault_class_of, given_at, giving_at, immediate_at, name_at, now_at, phrase_by, phrase_of, queue_of, silent_at, size_at, unmarked_at, word_at, is_given};
+ghost use Rattle.scenario_lines.specs.Parts.{Makes};
+ghost use Rattle.scenario_lines.specs.Phrases.{killed_at, said_at};
 ghost use Rattle.scenario_lines.specs.Reads.{IsBoxed, Reads, ReadsWhole};
 ghost use Rattle.scenario_lines.specs.Kinds.{kind_by};
 ghost use Rattle.scenario_lines.specs.Taken.{some_number_at};
@@ -10,14 +12,33 @@ use crate::cursor::Cursor;
 use crate::expression::read_expression;
 use crate::giving::{read_giving, with_fault};
 use crate::kind::{LineKind, line_kind};
-use crate::parts::both;
+use crate::parts::{both, push_part};
 use crate::refusal::LineRefusal;
 use gv_values::{Class, Name};
 use scenario_grammar::{
     Keyword, MOST_POOL_PLACES, MOST_QUEUE_PLACES, MOST_SLOTS, MOST_UNITS, Phrase, TextReason, Token,
 };
-use scenario_tree::{Boxed, Command, Items, Object, QueueKind};
+use scenario_tree::{Boxed, Command, Giving, Items, Object, QueueKind};
 use std::alloc::Global;
+
+/// What a line says of its one expression.
+#[derive(Clone, Copy)]
+enum Said {
+    If,
+    While,
+    Print,
+    Return,
+    Raise,
+    Start,
+    Unlink,
+}
+
+/// Whom a line kills: one greenlet, or all of a list.
+#[derive(Clone, Copy)]
+enum Killed {
+    One,
+    All,
+}
 
 /// What the line of these tokens says.
 ///
@@ -51,10 +72,15 @@ fn boxed<T: Drop>(alloc: Global, read: Result<T, LineRefusal>) -> Result<Boxed<T
 }
 
 /// Whether the second word is `<-`.
+#[tactic(auto, using(crate::proofs::Arrow::is_arrow_second))]
 pub fn is_given_line(tokens: &[Token]) -> bool
     ensures { result ≡ is_given tokens.now }
 {
-    matches!(tokens, [_, Token::Fixed(Keyword::Arrow), ..])
+    let mut cursor = Cursor::new(tokens);
+    match cursor.next() {
+        None => false,
+        Some(_) => cursor.takes(Keyword::Arrow),
+    }
 }
 
 fn read_line(
@@ -81,10 +107,18 @@ fn read_given(alloc: Global, cursor: &mut Cursor<'_>) -> Result<Phrase, LineRefu
     }
     match cursor.next() {
         None => Err(LineRefusal::Reason(TextReason::TooShort)),
-        Some(Token::Fixed(word)) => {
-            Ok(Phrase::Giving(Some(name), read_giving(alloc, cursor, *word)?))
-        }
+        Some(Token::Fixed(word)) => given_to(Some(name), read_giving(alloc, cursor, *word)),
         Some(_) => Err(LineRefusal::Reason(TextReason::UnknownWord)),
+    }
+}
+
+/// The line whose value this name takes, where it has one.
+fn given_to(name: Option<Name>, giving: Result<Giving, LineRefusal>) -> Result<Phrase, LineRefusal>
+    ensures { Makes (Phrase.Giving name) giving result }
+{
+    match giving {
+        Ok(giving) => Ok(Phrase::Giving(name, giving)),
+        Err(refusal) => Err(refusal),
     }
 }
 
@@ -221,7 +255,6 @@ fn immediate(cursor: &mut Cursor<'_>) -> bool
 }
 
 /// Names up to the line's end.
-#[tactic(auto, using(crate::proofs::Counted::end_refused))]
 fn parameters(alloc: Global, cursor: &mut Cursor<'_>) -> Result<Items<Name>, LineRefusal>
     ensures { Reads (all_at name_at cursor.old) result cursor.new }
 {
@@ -230,8 +263,7 @@ fn parameters(alloc: Global, cursor: &mut Cursor<'_>) -> Result<Items<Name>, Lin
         if cursor.is_empty() {
             return Ok(parameters);
         }
-        let parameter = cursor.name()?;
-        parameters.push(parameter)?;
+        push_part(&mut parameters, cursor.name())?;
     }
     Ok(parameters)
 }
@@ -275,7 +307,7 @@ fn read_by_word(
         LineKind::Block => read_block(alloc, cursor, word),
         LineKind::Command => read_command(alloc, cursor, word),
         LineKind::ObjectCommand => read_object_command(alloc, cursor, word),
-        LineKind::Other => Ok(Phrase::Giving(None, read_giving(alloc, cursor, word)?)),
+        LineKind::Other => given_to(None, read_giving(alloc, cursor, word)),
     }
 }
 
@@ -324,9 +356,9 @@ fn read_block(alloc: Global, cursor: &mut Cursor<'_>, word: Keyword) -> Result<P
         Keyword::Profile => read_profile(cursor),
         Keyword::Function => read_function(alloc, cursor),
         Keyword::RawFunction => raw_function(alloc, cursor),
-        Keyword::If => Ok(Phrase::If(read_expression(alloc, cursor)?)),
+        Keyword::If => read_said(alloc, cursor, Said::If),
         Keyword::Else => Ok(Phrase::Else),
-        Keyword::While => Ok(Phrase::While(read_expression(alloc, cursor)?)),
+        Keyword::While => read_said(alloc, cursor, Said::While),
         Keyword::Try => Ok(Phrase::Try),
         Keyword::Except => Ok(Phrase::Except(class(cursor)?, binding(cursor)?)),
         Keyword::Finally => Ok(Phrase::Finally),
@@ -346,19 +378,35 @@ fn read_command(
     ensures { Reads (phrase_by word cursor.old) result cursor.new }
 {
     match word {
-        Keyword::Print => Ok(Phrase::Command(Command::Print(read_expression(alloc, cursor)?))),
+        Keyword::Print => read_said(alloc, cursor, Said::Print),
         Keyword::Let => read_let(alloc, cursor),
-        Keyword::Return => Ok(Phrase::Command(Command::Return(read_expression(alloc, cursor)?))),
-        Keyword::Raise => Ok(Phrase::Command(Command::Raise(read_expression(alloc, cursor)?))),
-        Keyword::Start => Ok(Phrase::Command(Command::Start(read_expression(alloc, cursor)?))),
+        Keyword::Return => read_said(alloc, cursor, Said::Return),
+        Keyword::Raise => read_said(alloc, cursor, Said::Raise),
+        Keyword::Start => read_said(alloc, cursor, Said::Start),
         Keyword::Sleep => Ok(Phrase::Command(Command::Sleep(cursor.time()?))),
         Keyword::Join => read_join(alloc, cursor),
-        Keyword::Kill => read_kill(alloc, cursor),
-        Keyword::KillAll => read_kill_all(alloc, cursor),
-        Keyword::Unlink => Ok(Phrase::Command(Command::Unlink(read_expression(alloc, cursor)?))),
+        Keyword::Kill => read_kill(alloc, cursor, Killed::One),
+        Keyword::KillAll => read_kill(alloc, cursor, Killed::All),
+        Keyword::Unlink => read_said(alloc, cursor, Said::Unlink),
         Keyword::SetParent => read_set_parent(alloc, cursor),
         _ => Err(LineRefusal::Reason(TextReason::UnknownWord)),
     }
+}
+
+/// The rest of a line that says this of an expression, and no more.
+fn read_said(alloc: Global, cursor: &mut Cursor<'_>, said: Said) -> Result<Phrase, LineRefusal>
+    ensures { Reads (said_at said cursor.old) result cursor.new }
+{
+    let e = read_expression(alloc, cursor)?;
+    Ok(match said {
+        Said::If => Phrase::If(e),
+        Said::While => Phrase::While(e),
+        Said::Print => Phrase::Command(Command::Print(e)),
+        Said::Return => Phrase::Command(Command::Return(e)),
+        Said::Raise => Phrase::Command(Command::Raise(e)),
+        Said::Start => Phrase::Command(Command::Start(e)),
+        Said::Unlink => Phrase::Command(Command::Unlink(e)),
+    })
 }
 
 /// The rest of a let.
@@ -376,22 +424,16 @@ fn read_join(alloc: Global, cursor: &mut Cursor<'_>) -> Result<Phrase, LineRefus
     Ok(Phrase::Command(Command::Join(greenlet, time)))
 }
 
-/// The rest of a kill.
-fn read_kill(alloc: Global, cursor: &mut Cursor<'_>) -> Result<Phrase, LineRefusal>
-    ensures { Reads (phrase_by Keyword.Kill cursor.old) result cursor.new }
+/// The rest of a kill of one greenlet, or of a list of them.
+fn read_kill(alloc: Global, cursor: &mut Cursor<'_>, killed: Killed) -> Result<Phrase, LineRefusal>
+    ensures { Reads (killed_at killed cursor.old) result cursor.new }
 {
-    let killed = both(read_expression(alloc, cursor)?, with_fault(alloc, cursor))?;
-    let ((greenlet, fault), wait) = both(killed, cursor.wait())?;
-    Ok(Phrase::Command(Command::Kill(greenlet, fault, wait)))
-}
-
-/// The rest of a killall.
-fn read_kill_all(alloc: Global, cursor: &mut Cursor<'_>) -> Result<Phrase, LineRefusal>
-    ensures { Reads (phrase_by Keyword.KillAll cursor.old) result cursor.new }
-{
-    let killed = both(read_expression(alloc, cursor)?, with_fault(alloc, cursor))?;
-    let ((greenlets, fault), wait) = both(killed, cursor.wait())?;
-    Ok(Phrase::Command(Command::KillAll(greenlets, fault, wait)))
+    let faulted = both(read_expression(alloc, cursor)?, with_fault(alloc, cursor))?;
+    let ((victims, fault), wait) = both(faulted, cursor.wait())?;
+    Ok(Phrase::Command(match killed {
+        Killed::One => Command::Kill(victims, fault, wait),
+        Killed::All => Command::KillAll(victims, fault, wait),
+    }))
 }
 
 /// The rest of a setparent.

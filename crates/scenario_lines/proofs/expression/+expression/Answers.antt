@@ -6,8 +6,7 @@ use Rattle.scenario_lines.proofs.expression.+expression.Goals as goal
 
 pub counted-loop-preserved : goal.counted-loop-preserved
 counted-loop-preserved t c =
-    rw (c.in_ok-push.ensures.ok)
-    (count_next (nested_at c.args.depth) c.args.count c.loop.counter c.loop.items c.loop.cursor c.nested.new.cursor c.in_ok-item.item c.loop-test.true c.in_ok-item.ensures ∙ c.loop.invariant)
+    count_next (nested_at c.args.depth) c.args.count c.loop.counter c.loop.items c.push_part.new.parts c.loop.cursor c.nested.new.cursor c.nested.result c.loop-test.true c.nested.ensures c.in_ok-push_part.ensures ∙ c.loop.invariant
 
 pub nested-returns-in-Fixed : goal.nested-returns-in-Fixed
 nested-returns-in-Fixed t c =

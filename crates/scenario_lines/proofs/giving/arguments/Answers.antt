@@ -2,6 +2,7 @@ use Rattle.std.proofs.Common.{rules, List, Err, ◌-◌, ◌≡◌, ◌<◌, len
 use Rattle.scenario_grammar.specs.Reading.{Reading, to_the_end, expression_at}
 use Rattle.scenario_tree.specs.declared.tree.Expression.{Expression}
 use Rattle.scenario_lines.specs.declared.refusal.LineRefusal.{LineRefusal}
+use Rattle.scenario_lines.specs.Parts.{Refuses}
 use Rattle.scenario_lines.specs.Reads.{Reads}
 use Rattle.scenario_lines.proofs.Counted.{end_next, end_refused, with_front}
 use Rattle.scenario_lines.proofs.giving.arguments.Goals as goal
@@ -9,14 +10,13 @@ use Rattle.scenario_lines.proofs.giving.arguments.Goals as goal
 pub loop-preserved : goal.loop-preserved
 loop-preserved c =
     let unended : c.loop.cursor ≡ [] → ⊥ = λ e. let t = c.is_empty.ensures.1 e in let f = c.if-is_empty.false in cc in
-    rw (c.in_ok-push.ensures.ok)
-    (end_next expression_at (length c.args.cursor.now) c.loop.counter c.loop.arguments c.loop.cursor c.read_expression.new.cursor c.in_ok-argument.argument (rw (sym c.cursor.view_is) c.loop-test.true) unended c.in_ok-argument.ensures ∙ c.loop.invariant)
+    end_next expression_at (length c.args.cursor.now) c.loop.counter c.loop.arguments c.push_part.new.parts c.loop.cursor c.read_expression.new.cursor c.read_expression.result (rw (sym c.cursor.view_is) c.loop-test.true) unended c.read_expression.ensures c.in_ok-push_part.ensures ∙ c.loop.invariant
 
-pub returns-in_err-argument : goal.returns-in_err-argument
-returns-in_err-argument c =
+pub returns-in_err-push_part : goal.returns-in_err-push_part
+returns-in_err-push_part c =
     let unended : c.loop.cursor ≡ [] → ⊥ = λ e. let t = c.is_empty.ensures.1 e in let f = c.if-is_empty.false in cc in
     let below : c.loop.counter < length c.args.cursor.now = rw (sym c.cursor.view_is) c.loop-test.true in
-    let refused : (e : LineRefusal) (r : Reading (List Expression)) → Reads (expression_at c.loop.cursor) (Err e) c.read_expression.new.cursor →
+    let refused : (e : LineRefusal) (r : Reading (List Expression)) → Refuses c.read_expression.result e →
     with_front c.loop.arguments (to_the_end expression_at (length c.args.cursor.now - c.loop.counter) c.loop.cursor) ≡ r → Reads r (Err e) c.read_expression.new.cursor
-    = λ e r read same. end_refused expression_at (length c.args.cursor.now) c.loop.counter c.loop.arguments c.loop.cursor c.read_expression.new.cursor e r below unended read same in
+    = λ e r read same. end_refused expression_at (length c.args.cursor.now) c.loop.counter c.loop.arguments c.loop.cursor c.read_expression.new.cursor c.read_expression.result e r below unended c.read_expression.ensures read same in
     search (rules, refused)
