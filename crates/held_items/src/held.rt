@@ -9,6 +9,8 @@ ghost use Rattle.held_items.specs.Entries.{Entry, item_in, slots_of, without_slo
 ghost use Rattle.held_items.specs.Indexed.{AreIndexed};
 ghost use Rattle.held_items.specs.Lined.{AreLined};
 ghost use Rattle.held_items.specs.Held.{HasPlace, no_items, added, taken};
+ghost use Rattle.held_items.specs.Tallied.{AreTallied, HasTally};
+ghost use Rattle.held_items.specs.Waits.{waits_key};
 
 use crate::borders::Borders;
 use crate::indexes::Indexes;
@@ -53,23 +55,29 @@ fn make_room(
     shelf: &mut Shelf,
     indexes: &mut Indexes,
     lines: &mut Lines,
+    tallies: &mut Tallies,
+    borders: &mut Borders,
     delivery: &Delivery,
 ) -> Result<u32, AllocError>
     requires few { length shelf.old.entries < MOST_HELD }
     requires indexed { AreIndexed indexes.old shelf.old.entries }
     requires lined { AreLined lines.old shelf.old.entries }
+    requires tallied { AreTallied tallies.old shelf.old.entries }
     ensures kept { shelf.new.entries ≡ shelf.old.entries }
     ensures indexed { (es : List Entry) → AreIndexed indexes.old es → AreIndexed indexes.new es }
     ensures lined { (es : List Entry) → AreLined lines.old es → AreLined lines.new es }
+    ensures tallied { (es : List Entry) → AreTallied tallies.old es → AreTallied tallies.new es }
     ensures next { lines.new.due.next ≡ lines.old.due.next }
-    ensures few { OnOk result (length shelf.old.entries + 1 < 2 ^ 64) }
     ensures room { IfOk result (λ slot. HasPlace shelf.new indexes.new lines.new slot delivery.now) }
+    ensures tally { OnOk result (HasTally tallies.new (waits_key delivery.now)) }
 {
     let slot = shelf.reserve()?;
     indexes.reserve(slot, delivery)?;
     // That no number has two timers is known of timers whose length is asked.
     let _timers = lines.timers.len();
     lines.reserve(slot)?;
+    tallies.reserve(delivery)?;
+    borders.make_place(waits_key(delivery))?;
     Ok(slot)
 }
 
@@ -100,14 +108,17 @@ impl HeldItems {
         ensures absent { IfOk result (λ slot. Lacks slot (slots_of self.old.entries)) }
         ensures err { OnErr result (self.new ≡ self.old) }
     {
-        let slot = make_room(
+        let Ok(slot) = make_room(
             &mut self.shelf,
             &mut self.indexes,
             &mut self.lines,
+            &mut self.tallies,
+            &mut self.borders,
             &delivery,
-        )?;
-        self.tallies.reserve(&delivery)?;
-        self.borders.make_place(waits_key(&delivery))?;
+        ) else {
+            drop(delivery);
+            return Err(AllocError);
+        };
         self.indexes.enter(slot, &delivery);
         self.lines.enter(slot, self.next_since, &delivery);
         self.tallies.enter(&delivery);

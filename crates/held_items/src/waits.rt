@@ -65,11 +65,6 @@ fn place_of_wait(waiting: &Waiting) -> Option<usize>
     ensures within { IfSome result (λ place. place + 1 < 2 ^ 64) }
 {
     match waiting {
-        Waiting::Sleep(_) => None,
-        Waiting::Join(_) => None,
-        Waiting::Get(_) => None,
-        Waiting::Kill(_) => None,
-        Waiting::JoinAll(_, _) => None,
         Waiting::Event(o, _) => Some(in_none(*o)),
         Waiting::ResultGet(o) => Some(in_none(*o)),
         Waiting::ResultWait(o) => Some(in_none(*o)),
@@ -81,11 +76,11 @@ fn place_of_wait(waiting: &Waiting) -> Option<usize>
         Waiting::Tasks(o) => Some(in_none(*o)),
         Waiting::Place(o, _, _) => Some(in_line(*o, WaitKind::Place)),
         Waiting::MapPlace(o, _, _, _) => Some(in_line(*o, WaitKind::Place)),
-        Waiting::MapEnd(_, _) => None,
         Waiting::Members(o) => Some(in_none(*o)),
         Waiting::Slot(o, _, _) => Some(in_line(*o, WaitKind::Slot)),
         Waiting::Offered(o) => Some(in_none(*o)),
         Waiting::TakeOffer(o) => Some(in_line(*o, WaitKind::TakeOffer)),
+        _ => None,
     }
 }
 
