@@ -21,6 +21,7 @@ use scenario_tree::{Declaration, Items, Object as Kind};
 use std::alloc::{AllocError, Global};
 use std::collections::LinkedList;
 use std::marker::Model;
+use std::mem;
 
 /// What a step does to an object that takes no memory. An object of another kind stays as it is.
 #[derive(Drop)]
@@ -111,7 +112,10 @@ impl Objects {
         ensures added { OnOk result (self.new ≡ slice_set self.old o (added addition (unwrap_or (slice_get self.old o) no_object))) }
         ensures err { OnErr result (self.new ≡ self.old) }
     {
-        join(&mut self.memberships, member_of(&addition), o)?;
+        let Ok(()) = join(&mut self.memberships, member_of(&addition), o) else {
+            drop(addition);
+            return Err(AllocError);
+        };
         add_in(&mut self.all, o, addition)?;
         Ok(())
     }
@@ -250,7 +254,7 @@ fn put(object: &mut Object, outcome: Outcome)
     ensures changed { object.new ≡ Shown.Result (Some outcome) }
     ensures counted { IsCounted object.new }
 {
-    *object = Object::Result(Some(outcome));
+    drop(mem::replace(object, Object::Result(Some(outcome))));
 }
 
 fn put_item(object: &mut Object, item: Queued)
