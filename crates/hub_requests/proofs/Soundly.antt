@@ -41,12 +41,6 @@ late_free g w line s t u h e f =
     subst (λ (x : State). is_unclaimed (Some (Claim.LateOf g)) x.items ≡ true) (sym f)
     (all-end _ t.items _ (subst (λ (x : State). is_unclaimed (Some (Claim.LateOf g)) x.items ≡ true) (sym e) (late-unclaimed g s h)) refl)
 
--- also where it draws a number in between
-pub late_drawn_free : (g m : ℕ) (w : Waiting) (line : Line) (s t u v : State) → MayMake g s → t ≡ say line s → u ≡ add_item (Delivery.Wake g w) t →
-    v ≡ record u { timeouts = m } → is_unclaimed (Some (Claim.LateOf g)) v.items ≡ true
-late_drawn_free g m w line s t u v h e f k =
-    subst (λ (x : State). is_unclaimed (Some (Claim.LateOf g)) x.items ≡ true) (sym k) (late_free g w line s t u h e f)
-
 -- the greenlet that was made has no start yet
 pub start_free : (g made f : ℕ) (args : List Value) (s t : State) → MayMake g s → made ≡ length s.greenlets → t ≡ add_greenlet false 0 f args s →
     is_unclaimed (Some (Claim.StartOf made)) t.items ≡ true

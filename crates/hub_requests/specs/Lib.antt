@@ -4,6 +4,7 @@ pub mod Gathering
 pub mod Making
 pub mod Naming
 pub mod Operands
+pub mod Parking
 pub mod Performing
 pub mod Results
 pub mod Sendings

@@ -89,7 +89,7 @@ pub fn kill_crew(
     requires room { HasRoom room_of_move hub.old }
     ensures { IfOk result (λ p. performs (Asked.GroupKill o fault how) g hub.old ≡ performed_of p hub.new) }
 {
-    let Some(kind) = fault_operand(&fault) else {
+    let Some(kind) = fault_operand(fault) else {
         return Ok(raises(FaultKind::TypeError));
     };
     let name = hub.name_of_object(o);
@@ -163,7 +163,7 @@ pub fn spawn_job(
     requires room { HasRoom room_of_move hub.old }
     ensures { IfOk result (λ p. performs (Asked.NativeSpawn o job.kind job.operand job.takes) g hub.old ≡ performed_of p hub.new) }
 {
-    match int_operand(&job.operand) {
+    match int_operand(job.operand) {
         None => Ok(raises(FaultKind::TypeError)),
         Some(z) => {
             Ok(come_to_wait(

@@ -86,7 +86,7 @@ pub fn start_handle(hub: &mut Hub, g: u32, value: Value) -> Result<Performed, Al
     requires room { HasRoom room_of_move hub.old }
     ensures { IfOk result (λ p. performs (Asked.Start value) g hub.old ≡ performed_of p hub.new) }
 {
-    match plain_greenlet(hub, &value) {
+    match plain_greenlet(hub, value) {
         None => Ok(raises(FaultKind::TypeError)),
         Some(target) => {
             start_greenlet(hub, target)?;
@@ -119,7 +119,7 @@ pub fn join_handle(
     requires room { HasRoom room_of_move hub.old }
     ensures { IfOk result (λ p. performs (Asked.Join value how) g hub.old ≡ performed_of p hub.new) }
 {
-    match plain_greenlet(hub, &value) {
+    match plain_greenlet(hub, value) {
         None => Ok(raises(FaultKind::TypeError)),
         Some(target) => Ok(come_to_wait(alloc, hub, g, Waiting::Join(target), how)?),
     }
@@ -138,7 +138,7 @@ pub fn get_outcome(
     requires room { HasRoom room_of_move hub.old }
     ensures { IfOk result (λ p. performs (Asked.Get value how) g hub.old ≡ performed_of p hub.new) }
 {
-    match whom_operand(hub, &value) {
+    match whom_operand(hub, value) {
         None => Ok(raises(FaultKind::TypeError)),
         Some(whom) => Ok(come_to_wait(alloc, hub, g, Waiting::Get(whom), how)?),
     }
@@ -158,10 +158,11 @@ pub fn kill_one(
     requires room { HasRoom room_of_move hub.old }
     ensures { IfOk result (λ p. performs (Asked.Kill value fault how) g hub.old ≡ performed_of p hub.new) }
 {
-    let Some(target) = plain_greenlet(hub, &value) else {
+    let fault = fault_operand(fault);
+    let Some(target) = plain_greenlet(hub, value) else {
         return Ok(raises(FaultKind::TypeError));
     };
-    let Some(kind) = fault_operand(&fault) else {
+    let Some(kind) = fault else {
         return Ok(raises(FaultKind::TypeError));
     };
     let mut targets = Items::new(alloc);
@@ -193,11 +194,12 @@ pub fn kill_all(
     requires room { HasRoom room_of_move hub.old }
     ensures { IfOk result (λ p. performs (Asked.KillAll value fault how) g hub.old ≡ performed_of p hub.new) }
 {
-    let listed = plain_greenlet_list(alloc, hub, &value)?;
+    let fault = fault_operand(fault);
+    let listed = plain_greenlet_list(alloc, hub, value)?;
     let Some(targets) = listed else {
         return Ok(raises(FaultKind::TypeError));
     };
-    let Some(kind) = fault_operand(&fault) else {
+    let Some(kind) = fault else {
         return Ok(raises(FaultKind::TypeError));
     };
     Ok(kill_greenlets(
@@ -238,7 +240,7 @@ pub fn join_all(
     requires room { HasRoom room_of_move hub.old }
     ensures { IfOk result (λ p. performs (Asked.JoinAll value count how) g hub.old ≡ performed_of p hub.new) }
 {
-    let Some(targets) = plain_greenlet_list(alloc, hub, &value)? else {
+    let Some(targets) = plain_greenlet_list(alloc, hub, value)? else {
         return Ok(raises(FaultKind::TypeError));
     };
     let need = need_of(count, targets.len());
@@ -258,7 +260,7 @@ pub fn link_handle(
     requires room { HasRoom room_of_move hub.old }
     ensures { IfOk result (λ p. performs (Asked.Link value kind function) g hub.old ≡ performed_of p hub.new) }
 {
-    match plain_greenlet(hub, &value) {
+    match plain_greenlet(hub, value) {
         None => Ok(raises(FaultKind::TypeError)),
         Some(target) => Ok(link_to(hub, g, target, kind, function)?),
     }
@@ -270,7 +272,7 @@ pub fn unlink(hub: &mut Hub, g: u32, value: Value) -> Result<Performed, AllocErr
     requires { MayMake g hub.old }
     ensures { IfOk result (λ p. performs (Asked.Unlink value) g hub.old ≡ performed_of p hub.new) }
 {
-    let number = int_operand(&value);
+    let number = int_operand(value);
     let Some(number) = number else {
         return Ok(raises(FaultKind::TypeError));
     };

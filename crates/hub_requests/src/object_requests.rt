@@ -83,7 +83,7 @@ pub fn set_result(hub: &mut Hub, g: u32, o: u32, value: Value) -> Performed
 pub fn fail_result(hub: &mut Hub, g: u32, o: u32, value: Value) -> Performed
     ensures { performs (Asked.ResultFail o value) g hub.old ≡ performed_of result hub.new }
 {
-    match fault_of(&value) {
+    match fault_of(value) {
         None => raises(FaultKind::TypeError),
         Some(kind) => {
             hub.change(o, Change::Put(Outcome::Fault(kind)));

@@ -1,11 +1,13 @@
 //! How a greenlet parks.
-ghost use Rattle.std.specs.Prelude.{◌≡◌, ◌+◌, ◌<◌, ◌^◌, None, Some, IfSome, OnOk};
+ghost use Rattle.std.specs.Prelude.{◌≡◌, ◌+◌, ◌<◌, ◌^◌, true, None, Some, IfSome, OnOk};
+ghost use Rattle.machine.specs.Soundness.{Claim, is_unclaimed};
 ghost use Rattle.machine.specs.Waits.{parked, until_of};
 ghost use Rattle.hub_items.specs.Short.{IsShort};
 ghost use Rattle.hub_state.specs.Adding.{MayAdd};
 ghost use Rattle.hub_requests.specs.Awaited.{awaited_of, object_of};
 ghost use Rattle.hub_requests.specs.Making.{MayMake};
 ghost use Rattle.hub_requests.specs.Naming.{IsObject};
+ghost use Rattle.hub_requests.specs.Parking.{with_late};
 
 use crate::awaited::awaited_of;
 use crate::late::draws;
@@ -53,8 +55,22 @@ pub fn park_as(hub: &mut Hub, g: u32, awaited: Awaited, waiting: Waiting) -> Res
     Ok(())
 }
 
+/// Makes the Late of the greenlet, whose wait draws a number or not.
+fn add_late(hub: &mut Hub, g: u32, deadline: u64, numbered: bool) -> Result<(), AllocError>
+    requires unclaimed { is_unclaimed (Some (Claim.LateOf g)) hub.old.items ≡ true }
+    requires may_add { MayAdd 1 hub.old }
+    requires drawn { hub.old.timeouts + 1 < 2 ^ 32 }
+    ensures { OnOk result (hub.new ≡ with_late g deadline numbered hub.old) }
+{
+    if numbered {
+        let n = hub.count_timeout();
+        hub.add_item(Delivery::Late(g, deadline, n))
+    } else {
+        hub.add_item(Delivery::Late(g, deadline, 0))
+    }
+}
+
 /// As `park_as`, until a deadline: right after its Wake stands its Late.
-#[tactic(auto, using(crate::proofs::Soundly::wake_free, crate::proofs::Soundly::late_free, crate::proofs::Soundly::late_drawn_free))]
 pub fn park_until(
     hub: &mut Hub,
     g: u32,
@@ -75,11 +91,5 @@ pub fn park_until(
     })?;
     let numbered = draws(&waiting);
     hub.add_item(Delivery::Wake(g, waiting))?;
-    if numbered {
-        let n = hub.count_timeout();
-        hub.add_item(Delivery::Late(g, deadline, n))?;
-    } else {
-        hub.add_item(Delivery::Late(g, deadline, 0))?;
-    }
-    Ok(())
+    add_late(hub, g, deadline, numbered)
 }

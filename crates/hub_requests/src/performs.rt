@@ -29,7 +29,6 @@ use std::alloc::{AllocError, Global};
 /// # Errors
 ///
 /// Memory is wanting; the hub is given up.
-#[tactic(auto, using(crate::proofs::Named::fits_there))]
 pub fn perform(
     alloc: Global,
     hub: &mut Hub,
@@ -42,58 +41,55 @@ pub fn perform(
     ensures { IfOk result (λ p. performs request g hub.old ≡ performed_of p hub.new) }
 {
     match request {
-        Request::Print(value) => Ok(print_value(hub, g, value)?),
-        Request::Spawn(function, arguments) => Ok(spawn_now(hub, g, function, arguments)?),
-        Request::SpawnLater(time, function, arguments) => {
-            Ok(spawn_later(hub, g, time, function, arguments)?)
-        }
-        Request::New(function, arguments) => Ok(make_new(hub, g, function, arguments)?),
-        Request::Start(value) => Ok(start_handle(hub, g, value)?),
-        Request::Sleep(time) => Ok(sleep_for(alloc, hub, g, time)?),
-        Request::Join(value, how) => Ok(join_handle(alloc, hub, g, value, how)?),
-        Request::Get(value, how) => Ok(get_outcome(alloc, hub, g, value, how)?),
-        Request::Kill(value, fault, how) => Ok(kill_one(alloc, hub, g, value, fault, how)?),
-        Request::KillAll(value, fault, how) => Ok(kill_all(alloc, hub, g, value, fault, how)?),
-        Request::JoinAll(value, count, how) => Ok(join_all(alloc, hub, g, value, count, how)?),
-        Request::Link(value, kind, function) => Ok(link_handle(hub, g, value, kind, function)?),
-        Request::Unlink(value) => Ok(unlink(hub, g, value)?),
+        Request::Print(value) => print_value(hub, g, value),
+        Request::Spawn(function, arguments) => spawn_now(hub, g, function, arguments),
+        Request::SpawnLater(time, function, arguments) => spawn_later(
+            hub, g, time, function, arguments,
+        ),
+        Request::New(function, arguments) => make_new(hub, g, function, arguments),
+        Request::Start(value) => start_handle(hub, g, value),
+        Request::Sleep(time) => sleep_for(alloc, hub, g, time),
+        Request::Join(value, how) => join_handle(alloc, hub, g, value, how),
+        Request::Get(value, how) => get_outcome(alloc, hub, g, value, how),
+        Request::Kill(value, fault, how) => kill_one(alloc, hub, g, value, fault, how),
+        Request::KillAll(value, fault, how) => kill_all(alloc, hub, g, value, fault, how),
+        Request::JoinAll(value, count, how) => join_all(alloc, hub, g, value, count, how),
+        Request::Link(value, kind, function) => link_handle(hub, g, value, kind, function),
+        Request::Unlink(value) => unlink(hub, g, value),
         Request::Set(o) => Ok(set_event(hub, g, o)),
         Request::Clear(o) => Ok(clear_event(hub, g, o)),
-        Request::WaitEvent(o, how) => Ok(wait_for_event(alloc, hub, g, o, how)?),
+        Request::WaitEvent(o, how) => wait_for_event(alloc, hub, g, o, how),
         Request::ResultSet(o, value) => Ok(set_result(hub, g, o, value)),
         Request::ResultFail(o, value) => Ok(fail_result(hub, g, o, value)),
-        Request::ResultGet(o, how) => Ok(get_result(alloc, hub, g, o, how)?),
-        Request::ResultWait(o, how) => Ok(wait_for_result(alloc, hub, g, o, how)?),
-        Request::Acquire(o, how) => Ok(acquire(alloc, hub, g, o, how)?),
+        Request::ResultGet(o, how) => get_result(alloc, hub, g, o, how),
+        Request::ResultWait(o, how) => wait_for_result(alloc, hub, g, o, how),
+        Request::Acquire(o, how) => acquire(alloc, hub, g, o, how),
         Request::Release(o) => Ok(release(hub, g, o)),
-        Request::QueuePut(o, value, how) => Ok(put_item(alloc, hub, g, o, value, how)?),
-        Request::QueueGet(o, how) => Ok(get_item(alloc, hub, g, o, how)?),
-        Request::QueuePeek(o, how) => Ok(peek_item(alloc, hub, g, o, how)?),
+        Request::QueuePut(o, value, how) => put_item(alloc, hub, g, o, value, how),
+        Request::QueueGet(o, how) => get_item(alloc, hub, g, o, how),
+        Request::QueuePeek(o, how) => peek_item(alloc, hub, g, o, how),
         Request::QueueDone(o) => Ok(end_task(hub, g, o)),
-        Request::QueueJoin(o, how) => Ok(join_queue(alloc, hub, g, o, how)?),
-        Request::GroupSpawn(o, function, arguments) => {
-            Ok(spawn_member(alloc, hub, g, o, function, arguments)?)
-        }
-        Request::GroupJoin(o, how) => Ok(join_crew(alloc, hub, g, o, how)?),
-        Request::GroupKill(o, fault, how) => Ok(kill_crew(alloc, hub, g, o, fault, how)?),
-        Request::Map(o, function, value) => Ok(map_list(alloc, hub, g, o, function, value)?),
-        Request::NativeSpawn(o, kind, operand, takes) => Ok(spawn_job(
-            alloc,
-            hub,
-            g,
-            o,
-            JobAsked {
+        Request::QueueJoin(o, how) => join_queue(alloc, hub, g, o, how),
+        Request::GroupSpawn(o, function, arguments) => spawn_member(
+            alloc, hub, g, o, function, arguments,
+        ),
+        Request::GroupJoin(o, how) => join_crew(alloc, hub, g, o, how),
+        Request::GroupKill(o, fault, how) => kill_crew(alloc, hub, g, o, fault, how),
+        Request::Map(o, function, value) => map_list(alloc, hub, g, o, function, value),
+        Request::NativeSpawn(o, kind, operand, takes) => {
+            let job = JobAsked {
                 kind,
                 operand,
                 takes,
-            },
-        )?),
-        Request::Raw(function, under) => Ok(make_raw(alloc, hub, g, function, under)?),
-        Request::Switch(value, input) => Ok(switch_to(hub, g, value, input)?),
-        Request::Throw(value, fault) => Ok(throw_to(hub, g, value, fault)?),
-        Request::SetParent(value, other) => Ok(set_parent(hub, g, value, other)?),
-        Request::ChannelPut(o, value) => Ok(put_offer(hub, g, o, value)?),
-        Request::ChannelGet(o) => Ok(get_offer(alloc, hub, g, o)?),
+            };
+            spawn_job(alloc, hub, g, o, job)
+        }
+        Request::Raw(function, under) => make_raw(alloc, hub, g, function, under),
+        Request::Switch(value, input) => switch_to(hub, g, value, input),
+        Request::Throw(value, fault) => throw_to(hub, g, value, fault),
+        Request::SetParent(value, other) => set_parent(hub, g, value, other),
+        Request::ChannelPut(o, value) => put_offer(hub, g, o, value),
+        Request::ChannelGet(o) => get_offer(alloc, hub, g, o),
         Request::QueueShut(o, immediate) => Ok(shut_queue(hub, g, o, immediate)),
     }
 }

@@ -35,7 +35,7 @@ pub fn make_raw(
     let Some(value) = under else {
         return Ok(make_greenlet(hub, true, g, function, Items::new(alloc))?);
     };
-    let Some(parent) = any_greenlet(&value) else {
+    let Some(parent) = any_greenlet(value) else {
         return Ok(raises(FaultKind::TypeError));
     };
     if !share_host(hub, g, parent) {
@@ -49,7 +49,7 @@ pub fn make_raw(
 pub fn switch_to(hub: &mut Hub, g: u32, value: Value, input: Value) -> Result<Performed, AllocError>
     ensures { IfOk result (λ p. performs (Asked.Switch value input) g hub.old ≡ performed_of p hub.new) }
 {
-    let Some(target) = any_greenlet(&value) else {
+    let Some(target) = any_greenlet(value) else {
         return Ok(raises(FaultKind::TypeError));
     };
     if !share_host(hub, g, target) {
@@ -68,10 +68,11 @@ pub fn throw_to(
 ) -> Result<Performed, AllocError>
     ensures { IfOk result (λ p. performs (Asked.Throw value fault) g hub.old ≡ performed_of p hub.new) }
 {
-    let Some(target) = any_greenlet(&value) else {
+    let fault = fault_operand(fault);
+    let Some(target) = any_greenlet(value) else {
         return Ok(raises(FaultKind::TypeError));
     };
-    let Some(kind) = fault_operand(&fault) else {
+    let Some(kind) = fault else {
         return Ok(raises(FaultKind::TypeError));
     };
     if !share_host(hub, g, target) {
@@ -90,10 +91,11 @@ pub fn set_parent(
 ) -> Result<Performed, AllocError>
     ensures { IfOk result (λ p. performs (Asked.SetParent value other) g hub.old ≡ performed_of p hub.new) }
 {
-    let Some(child) = raw_greenlet(hub, &value) else {
+    let other = any_greenlet(other);
+    let Some(child) = raw_greenlet(hub, value) else {
         return Ok(raises(FaultKind::TypeError));
     };
-    let Some(parent) = any_greenlet(&other) else {
+    let Some(parent) = other else {
         return Ok(raises(FaultKind::TypeError));
     };
     if !share_host(hub, g, child) {

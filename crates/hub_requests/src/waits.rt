@@ -55,7 +55,6 @@ fn park_or_pass(
 }
 
 /// Lets a newcomer wait, unless its wait completes at once.
-#[tactic(auto, using(crate::proofs::Named::named_there))]
 pub fn come_to_wait(
     alloc: Global,
     hub: &mut Hub,
@@ -74,7 +73,6 @@ pub fn come_to_wait(
 }
 
 /// As `come_to_wait`, with a park line that says this is waited for.
-#[tactic(auto, using(crate::proofs::Rooms::room_completed))]
 pub fn come_to_wait_as(
     alloc: Global,
     hub: &mut Hub,
