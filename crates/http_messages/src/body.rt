@@ -49,8 +49,7 @@ fn read_counted(alloc: Global, size: usize, kept: &mut ByteQueue) -> Result<Body
     if kept.len() < size {
         return Ok(BodyFound::BodyWaits(AwaitedBody::Counted(size)));
     }
-    let mut body = Sequence::new(alloc);
-    body.extend_from_slice(&kept.items()[..size])?;
+    let body = Sequence::copy_of(alloc, &kept.items()[..size])?;
     kept.skip(size);
     Ok(BodyFound::BodyWhole(body))
 }

@@ -106,32 +106,45 @@ impl Environ {
         if !is_in(class, key) {
             return Ok(());
         }
-        let value = joined(alloc, key, fields, name)?;
+        let mut value = Vec::new(alloc);
+        write_joined(&mut value, key, fields, name)?;
         push_pair(alloc, &mut self.pairs, key, &value)
+    }
+
+    /// Appends to none the pairs of the request that the head asks for.
+    fn add_request(&mut self, alloc: Global, head: &Head<'_>) -> Result<(), AllocError>
+        requires { self.old ≡ [] }
+        ensures { OnOk result ((pairs : List Pair) → AreFields head.now.fields pairs
+            → self.new ≡ environ_of head.now.port head.now.method.now head.now.target.now head.now.minor pairs) }
+    {
+        push_request_pairs(alloc, &mut self.pairs, head)?;
+        self.add_fields(alloc, &head.fields, KeyClass::ContentType)?;
+        self.add_fields(alloc, &head.fields, KeyClass::ContentLength)?;
+        self.add_fields(alloc, &head.fields, KeyClass::Other)
     }
 }
 
-/// The values of the name as one, in order.
-fn joined(
-    alloc: Global,
+/// Makes `value` the values of the name as one, in order.
+fn write_joined(
+    value: &mut Vec<u8>,
     key: &[u8],
     fields: &Fields<'_>,
     name: &HeaderName,
-) -> Result<Vec<u8>, AllocError>
-    ensures { IfOk result (λ value. value.items ≡ joined key.now (get_all (texts fields.now) name.now)) }
+) -> Result<(), AllocError>
+    ensures { OnOk result (value.new.items ≡ joined key.now (get_all (texts fields.now) name.now)) }
 {
-    let mut value = Vec::new(alloc);
+    value.clear();
     let found = fields.get_all(name);
     let mut values = found.iter();
     let Some(first) = values.next() else {
-        return Ok(value);
+        return Ok(());
     };
     value.extend_from_slice(*first)?;
     for more in values {
         value.extend_from_slice(joint(key))?;
         value.extend_from_slice(*more)?;
     }
-    Ok(value)
+    Ok(())
 }
 
 /// What stands between the values of repeated fields.
@@ -154,10 +167,8 @@ fn push_pair(
 ) -> Result<(), AllocError>
     ensures { OnOk result (pairs.new.items ≡ pairs.old.items ++ (key.now, value.now) ∷ []) }
 {
-    let mut name = Sequence::new(alloc);
-    name.extend_from_slice(key)?;
-    let mut text = Sequence::new(alloc);
-    text.extend_from_slice(value)?;
+    let name = Sequence::copy_of(alloc, key)?;
+    let text = Sequence::copy_of(alloc, value)?;
     pairs.push((name, text))?;
     Ok(())
 }
@@ -287,24 +298,23 @@ fn push_protocol(
     push_pair(alloc, pairs, b"SERVER_PROTOCOL", protocol.as_bytes())
 }
 
-/// The pairs that do not come from fields.
-fn request_pairs(alloc: Global, head: &Head<'_>) -> Result<Environ, AllocError>
-    ensures { IfOk result (λ environ. environ ≡ request_pairs head.now.port head.now.method.now head.now.target.now head.now.minor) }
+/// Appends to none the pairs that do not come from fields.
+fn push_request_pairs(
+    alloc: Global,
+    pairs: &mut Vec<(Bytes, Bytes)>,
+    head: &Head<'_>,
+) -> Result<(), AllocError>
+    requires { pairs.old.items ≡ [] }
+    ensures { OnOk result (pairs.new.items
+        ≡ request_pairs head.now.port head.now.method.now head.now.target.now head.now.minor) }
 {
-    let mut pairs = Vec::new(alloc);
-    push_pair(alloc, &mut pairs, b"REQUEST_METHOD", head.method)?;
-    push_pair(alloc, &mut pairs, b"SCRIPT_NAME", b"")?;
-    push_path(alloc, &mut pairs, head.target)?;
-    push_pair(
-        alloc,
-        &mut pairs,
-        b"QUERY_STRING",
-        after_question(head.target),
-    )?;
-    push_pair(alloc, &mut pairs, b"SERVER_NAME", b"localhost")?;
-    push_port(alloc, &mut pairs, head.port)?;
-    push_protocol(alloc, &mut pairs, head.minor)?;
-    Ok(Environ { pairs })
+    push_pair(alloc, pairs, b"REQUEST_METHOD", head.method)?;
+    push_pair(alloc, pairs, b"SCRIPT_NAME", b"")?;
+    push_path(alloc, pairs, head.target)?;
+    push_pair(alloc, pairs, b"QUERY_STRING", after_question(head.target))?;
+    push_pair(alloc, pairs, b"SERVER_NAME", b"localhost")?;
+    push_port(alloc, pairs, head.port)?;
+    push_protocol(alloc, pairs, head.minor)
 }
 
 /// The environ of the request that the head asks for (PEP 3333, "environ Variables"). The path is decoded (RFC 3986,
@@ -313,9 +323,9 @@ pub fn environ_of(alloc: Global, head: &Head<'_>) -> Result<Environ, AllocError>
     ensures { IfOk result (λ environ. (pairs : List Pair) → AreFields head.now.fields pairs
         → environ ≡ environ_of head.now.port head.now.method.now head.now.target.now head.now.minor pairs) }
 {
-    let mut environ = request_pairs(alloc, head)?;
-    environ.add_fields(alloc, &head.fields, KeyClass::ContentType)?;
-    environ.add_fields(alloc, &head.fields, KeyClass::ContentLength)?;
-    environ.add_fields(alloc, &head.fields, KeyClass::Other)?;
+    let mut environ = Environ {
+        pairs: Vec::new(alloc),
+    };
+    environ.add_request(alloc, head)?;
     Ok(environ)
 }

@@ -108,7 +108,5 @@ pub fn values(
 fn push_copy(alloc: Global, found: &mut Sequence<Bytes>, value: &[u8]) -> Result<(), AllocError>
     ensures { OnOk result (found.new ≡ found.old ++ value.now ∷ []) }
 {
-    let mut copy = Sequence::new(alloc);
-    copy.extend_from_slice(value)?;
-    found.push(copy)
+    found.push(Sequence::copy_of(alloc, value)?)
 }

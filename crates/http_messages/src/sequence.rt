@@ -1,5 +1,5 @@
 //! The one list type of the crates on HTTP.
-ghost use Rattle.std.specs.Prelude.{◌≡◌, ◌↔◌, [], ◌∷◌, ◌++◌, ◌<◌, length, take, slice_get, IsTrue, OnOk, OnErr, OnSome};
+ghost use Rattle.std.specs.Prelude.{◌≡◌, ◌↔◌, [], ◌∷◌, ◌++◌, ◌<◌, length, take, slice_get, IsTrue, IfOk, OnOk, OnErr, OnSome};
 ghost use Rattle.std.specs.Option.{option_copied};
 
 use std::alloc::{AllocError, Global};
@@ -97,6 +97,15 @@ impl<T: Drop> Sequence<T> {
 }
 
 impl Sequence<u8> {
+    /// A copy of the bytes.
+    pub(crate) fn copy_of(alloc: Global, bytes: &[u8]) -> Result<Sequence<u8>, AllocError>
+        ensures { IfOk result (λ copy. copy ≡ bytes.now) }
+    {
+        Ok(Sequence {
+            items: bytes.to_vec(alloc)?,
+        })
+    }
+
     /// Appends bytes. After an `Err` nothing has changed.
     pub fn extend_from_slice(&mut self, bytes: &[u8]) -> Result<(), AllocError>
         ensures ok { OnOk result (self.new ≡ self.old ++ bytes.now) }

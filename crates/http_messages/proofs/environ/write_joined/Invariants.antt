@@ -4,7 +4,7 @@ use Rattle.std.specs.Borrow.{Bor}
 use Rattle.http_header.specs.HeaderMap.{get_all}
 use Rattle.http_messages.specs.Environ.{joint}
 use Rattle.http_messages.specs.Fields.{joined}
-use Rattle.http_messages.proofs.environ.joined.Given as goal
+use Rattle.http_messages.proofs.environ.write_joined.Given as goal
 
 abbrev pub invariant-loop-more : goal.invariant-loop-more
 invariant-loop-more l =
