@@ -1,5 +1,5 @@
 //! The application that comes with the server.
-ghost use Rattle.std.specs.Prelude.{◌≡◌, ◌++◌, [], ◌∷◌, IfOk, OnOk};
+ghost use Rattle.std.specs.Prelude.{◌≡◌, ◌++◌, [], ◌∷◌, IfOk, OnOk, codes, decimal};
 ghost use Rattle.wsgi_core.specs.Shipped.{bad_reply, chunks_reply, content_type, environ_text, late_reply, pair_text, path_of, reply_at, route_of, shipped, whole_reply};
 
 use crate::reply::{Application, Pieces, Reply, Response};
@@ -77,9 +77,7 @@ fn route_of(path: &[u8]) -> Route
 fn copied(alloc: Global, bytes: &[u8]) -> Result<Bytes, AllocError>
     ensures { IfOk result (λ copy. copy ≡ bytes.now) }
 {
-    let mut copy = Sequence::new(alloc);
-    copy.extend_from_slice(bytes)?;
-    Ok(copy)
+    Ok(Sequence::from_vec(bytes.to_vec(alloc)?))
 }
 
 /// Appends a header.
@@ -116,6 +114,43 @@ fn one_piece(alloc: Global, body: &[u8]) -> Result<Pieces, AllocError>
     Ok(pieces)
 }
 
+/// Appends the header of the length.
+fn push_length(alloc: Global, headers: &mut Headers, length: usize) -> Result<(), AllocError>
+    ensures { OnOk result (headers.new ≡ headers.old ++ (codes "Content-Length", decimal length) ∷ []) }
+{
+    let digits = format!(in alloc; "{length}")?;
+    push_header(alloc, headers, b"Content-Length", digits.as_bytes())
+}
+
+/// The headers of the type and of the length.
+fn sized(alloc: Global, kind: &[u8], length: usize) -> Result<Headers, AllocError>
+    ensures { IfOk result (λ headers. headers ≡ content_type kind.now ∷ (codes "Content-Length", decimal length) ∷ []) }
+{
+    let mut headers = typed(alloc, kind)?;
+    push_length(alloc, &mut headers, length)?;
+    Ok(headers)
+}
+
+/// The reply of these parts.
+fn started(
+    alloc: Global,
+    status: &[u8],
+    headers: Headers,
+    pieces: Pieces,
+    raised: bool,
+) -> Result<Reply, AllocError>
+    ensures { IfOk result (λ reply. reply
+        ≡ Reply.Started (record { status = status.now; headers = headers; pieces = pieces; raised = raised })) }
+{
+    let status = copied(alloc, status)?;
+    Ok(Reply::Started(Response {
+        status,
+        headers,
+        pieces,
+        raised,
+    }))
+}
+
 /// A reply of one piece, with its type and its length.
 pub fn whole_reply(
     alloc: Global,
@@ -125,18 +160,9 @@ pub fn whole_reply(
 ) -> Result<Reply, AllocError>
     ensures { IfOk result (λ reply. reply ≡ whole_reply status.now kind.now body.now) }
 {
-    let status = copied(alloc, status)?;
-    let mut headers = typed(alloc, kind)?;
-    let length = body.len();
-    let digits = format!(in alloc; "{length}")?;
-    push_header(alloc, &mut headers, b"Content-Length", digits.as_bytes())?;
+    let headers = sized(alloc, kind, body.len())?;
     let pieces = one_piece(alloc, body)?;
-    Ok(Reply::Started(Response {
-        status,
-        headers,
-        pieces,
-        raised: false,
-    }))
+    Ok(started(alloc, status, headers, pieces, false)?)
 }
 
 /// A line for each pair.
@@ -153,52 +179,42 @@ fn environ_text(alloc: Global, environ: &Environ) -> Result<Vec<u8>, AllocError>
     Ok(text)
 }
 
-/// The reply of three pieces, of which one is empty.
+/// Three pieces, of which one is empty.
+fn three_pieces(alloc: Global) -> Result<Pieces, AllocError>
+    ensures { IfOk result (λ pieces. pieces ≡ codes "one" ∷ [] ∷ codes "two" ∷ []) }
+{
+    let mut pieces = one_piece(alloc, b"one")?;
+    pieces.push(Sequence::new(alloc))?;
+    pieces.push(copied(alloc, b"two")?)?;
+    Ok(pieces)
+}
+
+/// The reply of three pieces.
 fn chunks_reply(alloc: Global) -> Result<Reply, AllocError>
     ensures { IfOk result (λ reply. reply ≡ chunks_reply) }
 {
-    let status = copied(alloc, b"200 OK")?;
     let headers = typed(alloc, b"text/plain")?;
-    let mut pieces = one_piece(alloc, b"one")?;
-    pieces.push(Sequence::new(alloc))?;
-    let last = copied(alloc, b"two")?;
-    pieces.push(last)?;
-    Ok(Reply::Started(Response {
-        status,
-        headers,
-        pieces,
-        raised: false,
-    }))
+    let pieces = three_pieces(alloc)?;
+    Ok(started(alloc, b"200 OK", headers, pieces, false)?)
 }
 
 /// The reply that the application breaks off.
 fn late_reply(alloc: Global) -> Result<Reply, AllocError>
     ensures { IfOk result (λ reply. reply ≡ late_reply) }
 {
-    let status = copied(alloc, b"200 OK")?;
     let headers = typed(alloc, b"text/plain")?;
     let pieces = one_piece(alloc, b"part")?;
-    Ok(Reply::Started(Response {
-        status,
-        headers,
-        pieces,
-        raised: true,
-    }))
+    Ok(started(alloc, b"200 OK", headers, pieces, true)?)
 }
 
 /// The reply with a header that is not the application's to send.
 fn bad_reply(alloc: Global) -> Result<Reply, AllocError>
     ensures { IfOk result (λ reply. reply ≡ bad_reply) }
 {
-    let status = copied(alloc, b"200 OK")?;
     let mut headers = typed(alloc, b"text/plain")?;
     push_header(alloc, &mut headers, b"Connection", b"close")?;
-    Ok(Reply::Started(Response {
-        status,
-        headers,
-        pieces: Sequence::new(alloc),
-        raised: false,
-    }))
+    let pieces = Sequence::new(alloc);
+    Ok(started(alloc, b"200 OK", headers, pieces, false)?)
 }
 
 /// The reply that a route asks for.
